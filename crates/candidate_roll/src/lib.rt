@@ -1,0 +1,19 @@
+//! An election as it was announced: the [`Roll`] of its seats, the candidates' [`Names`], its title
+//! and who was withdrawn; and the [`States`] that candidates go through in a count.
+#![tactic(auto)]
+
+mod name;
+mod names;
+mod no_memory;
+mod push_back;
+mod roll;
+mod state;
+mod states;
+
+pub use name::Name;
+pub use names::Names;
+pub use no_memory::NoMemory;
+pub use push_back::PushBack;
+pub use roll::Roll;
+pub use state::State;
+pub use states::States;

@@ -1,0 +1,74 @@
+// The names of all candidates.
+ghost use Rattle.std.specs.Prelude.{◌≡◌, ◌<◌, ◌↔◌, [], ◌∷◌, ◌++◌, length, reverse, slice_get, OnOk, OnErr, IfErr, IfSome, IfNone, IsNone};
+
+use crate::{Name, PushBack};
+use std::alloc::Global;
+use std::marker::Model;
+
+/// The names of all candidates: candidate c's stands at index c - 1.
+#[derive(Debug, Drop)]
+pub struct Names {
+    list: Vec<Name<200>>,
+}
+
+impl Model for Names {
+    ghost use Rattle.std.specs.Prelude.{List, ℕ};
+
+    ghost Value = { List (List ℕ) };
+
+    ghost view = { λ s. s.list.items };
+}
+
+impl Names {
+    pub fn new(alloc: Global) -> Names
+        ensures { result ≡ [] }
+    {
+        Names {
+            list: Vec::new(alloc),
+        }
+    }
+
+    pub fn push(&mut self, item: Name<200>) -> Result<(), PushBack<Name<200>>>
+        ensures ok { OnOk result (self.new ≡ self.old ++ item ∷ []) }
+        ensures refused { OnErr result (self.new ≡ self.old) }
+        ensures handed_back { IfErr result (λ back. back.item ≡ item) }
+    {
+        match self.list.push(item) {
+            Ok(()) => Ok(()),
+            Err(failed) => Err(PushBack { item: failed.value }),
+        }
+    }
+
+    pub fn pop(&mut self) -> Option<Name<200>>
+        ensures last { IfSome result (λ item. self.old ≡ self.new ++ item ∷ []) }
+        ensures empty { IsNone result ↔ (self.old ≡ []) }
+        ensures kept { IfNone result (self.new ≡ self.old) }
+    {
+        self.list.pop()
+    }
+
+    pub fn reverse(&mut self)
+        ensures { self.new ≡ reverse self.old }
+    {
+        self.list.reverse();
+    }
+
+    pub fn len(&self) -> usize
+        ensures { result ≡ length self.now }
+    {
+        self.list.len()
+    }
+
+    pub fn items(&self) -> &[Name<200>]
+        ensures { result.now ≡ self.now }
+    {
+        self.list.as_slice()
+    }
+
+    pub fn get(&self, i: usize) -> &Name<200>
+        requires { i < length self.now }
+        ensures { slice_get self.now i ≡ Some result.now }
+    {
+        &self.list[i]
+    }
+}

@@ -1,0 +1,22 @@
+//! The arithmetic of a count: amounts of votes and keep values as whole numbers of units, at `P`
+//! decimal places, and their roundings. An [`Amount`] is so many votes, a [`Keep`] the share of a
+//! vote that a candidate keeps; [`Amounts`] and [`Keeps`] have one for each candidate.
+#![tactic(auto)]
+
+mod amount;
+mod amounts;
+mod keep;
+mod keeps;
+mod no_memory;
+mod rounding;
+mod scale;
+mod worked;
+
+pub use amount::Amount;
+pub use amounts::Amounts;
+pub use keep::Keep;
+pub use keeps::Keeps;
+pub use no_memory::NoMemory;
+pub use rounding::{div_down, div_up_capped, mul_up, sum_checked};
+pub use scale::scale_of;
+pub use worked::worked_amounts;

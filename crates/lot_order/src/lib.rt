@@ -1,0 +1,11 @@
+//! The recorded order of lots by which ties are broken: [`Lots`], an order of all candidates, and
+//! [`Flags`], a mark for each candidate.
+#![tactic(auto)]
+
+mod flags;
+mod lots;
+mod no_memory;
+
+pub use flags::Flags;
+pub use lots::Lots;
+pub use no_memory::NoMemory;
