@@ -1,0 +1,10 @@
+pub mod Places
+pub mod Weights
+pub mod Situation
+pub mod Row
+pub mod Quota
+pub mod Winners
+pub mod Surplus
+pub mod KeepValues
+pub mod Ties
+pub mod Iteration

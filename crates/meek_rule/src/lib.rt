@@ -1,0 +1,16 @@
+//! The counting rule: [`Spread`], which distributes ballots among the candidates, [`FlatSpread`],
+//! which walks them line by line, the [`Situation`] between two iterations, and the [`Row`] that is
+//! written down of each, with the [`Step`] that was taken.
+#![tactic(auto)]
+
+mod no_memory;
+mod row;
+mod situation;
+mod spread;
+mod step;
+
+pub use no_memory::NoMemory;
+pub use row::Row;
+pub use situation::Situation;
+pub use spread::Spread;
+pub use step::Step;
