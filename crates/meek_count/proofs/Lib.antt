@@ -1,0 +1,5 @@
+pub mod TotalLemmas
+pub mod UniqueLemmas
+pub mod OneIteration
+pub mod NextIteration
+pub mod WholeCount
