@@ -3,3 +3,4 @@ pub mod UniqueLemmas
 pub mod OneIteration
 pub mod NextIteration
 pub mod WholeCount
+pub mod WorkedHolds

@@ -3,6 +3,8 @@
 
 mod laws;
 mod turn;
+mod worked;
 
 pub use laws::counts_are_unique;
 pub use turn::Turn;
+pub use worked::worked_counts;
