@@ -8,3 +8,4 @@ pub mod Surplus
 pub mod KeepValues
 pub mod Ties
 pub mod Iteration
+pub mod Precedence

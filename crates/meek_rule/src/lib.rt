@@ -3,12 +3,21 @@
 //! written down of each, with the [`Step`] that was taken.
 #![tactic(auto)]
 
+mod ending;
+mod flat_spread;
+mod keep_values;
 mod no_memory;
+mod quota;
 mod row;
 mod situation;
 mod spread;
+mod states;
 mod step;
+mod surplus;
+mod ties;
+mod winners;
 
+pub use flat_spread::FlatSpread;
 pub use no_memory::NoMemory;
 pub use row::Row;
 pub use situation::Situation;

@@ -1,0 +1,56 @@
+use Rattle.std.proofs.Common.{◌≡◌, ℕ, ◌≤◌, false, List, length, sum, arith, ap, sym, subst, ◌∙◌}
+use Rattle.std.proofs.lemmas.List.FromFn.{length-map-range_with_len}
+use Rattle.fixed_place.specs.Rounding.{scale, most}
+use Rattle.fixed_place.proofs.RoundingLemmas.{scale_pos}
+use Rattle.meek_rule.specs.Situation.{Situation, is_complete, finished}
+use Rattle.meek_rule.specs.Iteration.{HasOnlyRunningVotes}
+use Rattle.meek_rule.specs.Weights.{votes}
+use Rattle.meek_count.specs.Progress.{Progress, IsCounting}
+use Rattle.meek_count.proofs.EndLemmas.{finished-twice, on_its_way-finished}
+use Rattle.meek_count.proofs.StepLemmas.{round_fits, iteration_fits, only_running, votes_fit}
+use Rattle.meek_count.proofs.WholeCount.{rows_exist}
+use Rattle.meek_count.proofs.count.Count.next.Goals as goal
+
+-- the end keeps what a count keeps
+pub invariant_of-self : goal.invariant_of-self
+invariant_of-self g c =
+    let same : length c.finish.new.self.states ≡ length c.self.inside.situation.states = c.finish.ensures.same_candidates in
+    (c.self.invariant.0, c.self.invariant.1, c.self.invariant.2, c.self.invariant.3 ∙ sym same, c.self.invariant.4 ∙ sym same,
+      record {
+        valid = c.finish.ensures.valid;
+        on_its_way = rw c.finish.ensures.finished (on_its_way-finished _ c.self.inside.situation c.self.invariant.5.on_its_way);
+        order_of_lots = c.self.invariant.5.order_of_lots;
+        lots_of_all = c.self.invariant.5.lots_of_all ∙ sym same;
+        names_of_all = c.self.invariant.5.names_of_all ∙ sym same;
+        row_of_all = rw same c.self.invariant.5.row_of_all;
+        few_ballots = c.self.invariant.5.few_ballots;
+      })
+
+pub returns-then-is_complete-clause-settled : goal.returns-then-is_complete-clause-settled
+returns-then-is_complete-clause-settled g c = λ is. rw c.finish.ensures.finished (finished-twice c.self.inside.situation)
+
+-- the votes are those of the ballots, so the rule can settle them
+pub settle-requires : goal.settle-requires
+settle-requires g c =
+    let now : Situation = c.self.inside.situation in
+    let going : is_complete now ≡ false = sym c.is_complete.ensures ∙ c.if-is_complete.false in
+    let cast : List ℕ = votes (scale g.row.P) now.keeps (g.D.Spread.ballots c.self.inside.spread) (length now.states) in
+    let tally : c.spread.new.tally ≡ cast =
+      c.spread.ensures.votes
+      ∙ (ap (λ k. votes (scale g.row.P) k (g.D.Spread.ballots c.self.inside.spread) (g.D.Spread.candidates c.self.inside.spread)) c.keeps.ensures
+      ∙ ap (votes (scale g.row.P) now.keeps (g.D.Spread.ballots c.self.inside.spread)) c.self.invariant.3) in
+    let running : HasOnlyRunningVotes now.states c.spread.new.tally =
+      subst (λ (v : List ℕ). HasOnlyRunningVotes now.states v) (sym tally)
+      (only_running (scale g.row.P) (g.D.Spread.ballots c.self.inside.spread) now (scale_pos g.row.P) c.self.invariant.5.valid) in
+    let within : sum c.spread.new.tally ≤ most g.row.P =
+      rw tally (votes_fit g.row.P (g.D.Spread.ballots c.self.inside.spread) now c.self.invariant.5.valid c.self.invariant.5.few_ballots) in
+    let of_all : length c.spread.new.tally ≡ length now.states = ap (λ (v : List ℕ). length v) tally ∙ length-map-range_with_len _ 0 (length now.states) in
+    (omega arith, (omega arith, (omega arith, (going,
+      (round_fits (scale g.row.P) _ now c.self.invariant.5.valid c.self.invariant.5.on_its_way going,
+      (iteration_fits g.row.P now c.self.invariant.1 c.self.invariant.5.on_its_way,
+      (of_all, (c.self.invariant.5.lots_of_all, (c.self.invariant.5.row_of_all, (running, within))))))))))
+
+pub returns-clause-rest : goal.returns-clause-rest
+returns-clause-rest g c =
+    rows_exist (scale g.row.P) (g.D.Spread.ballots c.spread.new.self) c.self.inside.lots.now c.settle.new.self (scale_pos g.row.P) c.settle.ensures.valid c.self.invariant.5.order_of_lots
+    (c.self.invariant.5.lots_of_all ∙ sym c.settle.ensures.same_candidates)
