@@ -14,13 +14,13 @@ pub struct CalmSource {
 }
 
 impl Model for CalmSource {
-    ghost use Rattle.std.specs.Prelude.{ℕ, ◌≤◌, List, drop, length as list_length};
+    ghost use Rattle.std.specs.Prelude.{ℕ, ◌≤◌, List, drop, length};
 
     ghost Value = { List ℕ };
 
     ghost view = { λ s. drop s.at s.bytes.items };
 
-    ghost invariant = { λ s. s.at ≤ list_length s.bytes.items };
+    ghost invariant = { λ s. s.at ≤ length s.bytes.items };
 }
 
 impl CalmSource {

@@ -7,6 +7,7 @@ ghost use Rattle.byte_edge.specs.Bytes.{IsLongerThan, IsWithin, LosesFront};
 use crate::{Failed, Source};
 use std::alloc::{AllocError, Global};
 
+// How many bytes are asked for at a time.
 const CHUNK: usize = 1 << 16;
 
 /// Why a source was not read to its end.

@@ -1,0 +1,9 @@
+-- The reader of a source and the writer of a sink that are std's.
+use Rattle.byte_edge.specs.declared.std_source.StdSource.{StdSource}
+use Rattle.byte_edge.specs.declared.std_sink.StdSink.{StdSink}
+
+abbrev pub reader_of : {R : Type 0} → StdSource R → R
+reader_of source = source.reader
+
+abbrev pub writer_of : {W : Type 0} → StdSink W → W
+writer_of sink = sink.writer
