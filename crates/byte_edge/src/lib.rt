@@ -1,11 +1,11 @@
 //! Where bytes come from and where they go: sources, sinks, and how often a read or a write failed.
 //!
-//! A [`Source`] stands for the bytes still to come and a [`Sink`] for the bytes that it took, where they tell
-//! them, and each counts its faults. [`MemorySource`] and [`MemorySink`] fail at the calls that they are told;
-//! [`CalmSource`] and [`CountSink`] never fail; [`StdSource`] and [`StdSink`] are std's readers and writers.
-//! [`read_all`] and [`write_all`] move everything or say what stopped them, as a [`ReadStop`] or as [`Failed`].
-//! A [`Gate`] is passed at a [`Place`] of the work that is shared among threads, and [`FreeGate`] is the one
-//! that does nothing. [`NoMemory`] is want of memory.
+//! A [`Source`] stands for the bytes still to come and a [`Sink`] for the bytes that it took, where they
+//! tell them, and each counts its faults. [`MemorySource`] and [`MemorySink`] fail at the calls that they
+//! are told, [`CalmSource`] and [`CountSink`] never fail, and [`StdSource`] and [`StdSink`] are std's
+//! readers and writers. [`read_all`] and [`write_all`] move everything or say what stopped them, as a
+//! [`ReadStop`] or as [`Failed`]. A [`Gate`] is passed at a [`Place`] of the work that is shared among
+//! threads, and [`FreeGate`] is the one that does nothing. [`NoMemory`] is want of memory.
 #![tactic(auto)]
 
 mod calls;

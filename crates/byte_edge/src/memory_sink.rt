@@ -1,4 +1,4 @@
-// A sink over memory that takes at most so many bytes at a write and fails at the calls that it is told.
+// A sink over memory that takes so many bytes at a write and fails at the calls that it is told.
 ghost use Rattle.std.specs.Prelude.{◌≡◌, ◌<◌, ◌-◌, ◌⊎◌, ◌↔◌, Some, [], min, length, IfOk, IsErr};
 ghost use Rattle.std.specs.Io.{WritesAtMost};
 ghost use Rattle.std.specs.Io.KnownBytes.{WriteAppends};
@@ -25,14 +25,21 @@ impl Model for MemorySink {
 
     ghost Value = { SinkScript };
 
-    ghost view = { λ s. record { taken = s.bytes.items; room = s.room - vec_len s.bytes; chunk = s.chunk; calls = s.calls } };
+    ghost view = { λ s. record {
+      taken = s.bytes.items;
+      room = s.room - vec_len s.bytes;
+      chunk = s.chunk;
+      calls = s.calls;
+    } };
 
-    ghost invariant = { λ s. (0 < s.chunk) × (vec_len s.bytes ≤ s.room) × (s.room ≤ vec_capacity s.bytes) };
+    ghost invariant = { λ s. (0 < s.chunk)
+        × (vec_len s.bytes ≤ s.room)
+        × (s.room ≤ vec_capacity s.bytes) };
 }
 
 impl MemorySink {
-    /// Takes at most `room` bytes, at most `chunk` at a write. The calls with the numbers in `failing`, from 1,
-    /// fail, writes and flushes numbered together. So does a write that finds no room left.
+    /// Takes at most `room` bytes, at most `chunk` at a write. The calls with the numbers in `failing`,
+    /// from 1, fail, writes and flushes numbered together. So does a write that finds no room left.
     pub fn with_room(
         alloc: Global,
         room: usize,
@@ -75,7 +82,8 @@ impl Sink for MemorySink {
 
         // Which calls fail, and how many bytes the others take.
         ensures failing { IsErr result ↔ (IsNextToFail self.old.calls ⊎ (self.old.room ≡ 0)) }
-        ensures count { IfOk result (λ n. n ≡ min (length piece.now) (min self.old.chunk self.old.room)) }
+        ensures count { IfOk result (λ n.
+            n ≡ min (length piece.now) (min self.old.chunk self.old.room)) }
         ensures room { IfOk result (λ n. self.new.room ≡ self.old.room - n) }
         ensures room_kept { IsErr result → self.new.room ≡ self.old.room }
         ensures calls { self.new.calls ≡ with_call self.old.calls result }

@@ -1,4 +1,4 @@
-// A source over memory that gives at most so many bytes at a read and fails at the calls that it is told.
+// A source over memory that gives so many bytes at a read and fails at the calls that it is told.
 ghost use Rattle.std.specs.Prelude.{◌≡◌, ◌<◌, ◌↔◌, Some, min, length, IfOk, IsErr};
 ghost use Rattle.std.specs.Io.{ReadsAtMost};
 ghost use Rattle.std.specs.Io.KnownBytes.{ReadConsumes};
@@ -29,7 +29,8 @@ impl Model for MemorySource {
 }
 
 impl MemorySource {
-    /// Gives the bytes, at most `chunk` at a read. The reads with the numbers in `failing`, from 1, fail.
+    /// Gives the bytes, at most `chunk` at a read. The reads with the numbers in `failing`, from 1,
+    /// fail.
     pub fn new(bytes: Vec<u8>, chunk: usize, failing: Vec<u64>) -> Self
         requires { 0 < chunk }
         ensures left { result.left ≡ bytes.items }
@@ -57,7 +58,8 @@ impl Source for MemorySource {
 
         // Which calls fail, and how many bytes the others give.
         ensures failing { IsErr result ↔ IsNextToFail self.old.calls }
-        ensures count { IfOk result (λ n. n ≡ min (length self.old.left) (min (length buf.old) self.old.chunk)) }
+        ensures count { IfOk result (λ n.
+            n ≡ min (length self.old.left) (min (length buf.old) self.old.chunk)) }
         ensures calls { self.new.calls ≡ with_call self.old.calls result }
         ensures chunk { self.new.chunk ≡ self.old.chunk }
     {

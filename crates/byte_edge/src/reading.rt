@@ -43,9 +43,10 @@ impl From<AllocError> for ReadStop {
     }
 }
 
-/// Reads all that is left. After a refusal the bytes read so far are given up, so the source has lost them.
-/// The answer is `TooLong` exactly where more than `limit` bytes were left, no read failed and there was
-/// enough memory; of a source that doesn't tell its bytes a contract can't say how many were left.
+/// Reads all that is left. After a refusal the bytes read so far are given up, so the source has lost
+/// them. The answer is `TooLong` exactly where more than `limit` bytes were left, no read failed and
+/// there was enough memory; of a source that doesn't tell its bytes a contract can't say how many
+/// were left.
 pub fn read_all<S: Source>(alloc: Global, source: &mut S, limit: usize) -> Result<Vec<u8>, ReadStop>
     ensures all { IfOk result (λ bytes. Consumes (S.left source.old) (S.left source.new) bytes.items) }
     ensures end { OnOk result (IsAtEnd (S.left source.new)) }

@@ -15,10 +15,10 @@ pub struct StdSource<R> {
 }
 
 impl<R: Read> StdSource<R> {
-    ghost use Rattle.byte_edge.specs.StdStreams.{reader_of};
+    ghost use Rattle.byte_edge.specs.StdStreams.{reader_of, read_faults};
 
     pub fn new(reader: R) -> Self
-        ensures faults { ⟦<StdSource<R> as Source>⟧.faults result ≡ 0 }
+        ensures faults { read_faults result ≡ 0 }
         ensures reader { reader_of result ≡ reader }
     {
         StdSource { reader, faults: 0 }
@@ -26,19 +26,20 @@ impl<R: Read> StdSource<R> {
 }
 
 impl<R: Read> Source for StdSource<R> {
-    ghost use Rattle.byte_edge.specs.StdStreams.{reader_of};
+    ghost use Rattle.byte_edge.specs.StdStreams.{reader_of, read_faults};
 
     ghost left = { λ _. None };
 
-    ghost faults = { λ s. s.faults };
+    ghost faults = { read_faults };
 
     fn read(&mut self, buf: &mut [u8]) -> Result<usize, Failed>
         requires { 0 < length buf.old }
         ensures bound { ReadsAtMost result buf.new }
-        ensures faults { CountsFault (⟦<StdSource<R> as Source>⟧.faults self.old) (⟦<StdSource<R> as Source>⟧.faults self.new) result }
+        ensures faults { CountsFault (read_faults self.old) (read_faults self.new) result }
 
         // What the reader itself tells of its bytes.
-        ensures reader { ReadConsumes (R.remaining (reader_of self.old)) (R.remaining (reader_of self.new)) result buf.new }
+        ensures reader { ReadConsumes (R.remaining (reader_of self.old)) (R.remaining (reader_of self.new))
+            result buf.new }
     {
         if let Ok(n) = self.reader.read(buf) {
             return Ok(n);
