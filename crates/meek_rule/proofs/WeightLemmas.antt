@@ -1,6 +1,6 @@
 -- What ballots give, step by step and in all.
-use Rattle.std.proofs.Common.{◌≡◌, ℕ, ◌+◌, ◌-◌, ◌*◌, ◌<◌, ◌≤◌, ◌==◌, ◌≢◌, Bool, true, false, cond, List, [], ◌∷◌, ◌++◌, length, slice_index, get_or, set, drop, take, sum_by, replicate, arith, refl, ap, sym, subst, ◌∙◌, inl, inr}
-use Rattle.std.specs.List.{All, flat_map}
+use Rattle.std.proofs.Common.{◌≡◌, ℕ, ◌+◌, ◌-◌, ◌*◌, ◌<◌, ◌≤◌, ◌==◌, ◌≢◌, true, false, cond, List, [], ◌∷◌, length, get_or, set, drop, take, sum_by, replicate, arith, refl, ap, sym, subst, ◌∙◌, inl, inr}
+use Rattle.std.specs.List.{All}
 use Rattle.std.specs.Int.{div_ceil}
 use Rattle.std.proofs.Math.Nat.{div-eq_of_lt, mod-eq_of_lt, mul-le-mul_left, mul-le-mul_right, mul-add, add-mul}
 use Rattle.std.proofs.lemmas.List.{drop_more, get_or_past, get_or-set_same, get_or-set_other, length-append, length-replicate}
@@ -13,7 +13,7 @@ use Rattle.fixed_place.specs.Rounding.{up}
 use Rattle.fixed_place.proofs.RoundingLemmas.{up-le}
 use Rattle.plain_ballots.specs.declared.ballot_line.BallotLine.{BallotLine}
 use Rattle.plain_ballots.specs.Ballots.{plain}
-use Rattle.meek_rule.specs.Weights.{kept, weight, given, vote, votes}
+use Rattle.meek_rule.specs.Weights.{kept, given, vote, votes}
 
 -- a candidate keeps no more of a ballot than its weight
 pub kept-le : (s : ℕ) (keeps : List ℕ) (w c : ℕ) → 1 ≤ s → All (λ k. k ≤ s) keeps → kept s keeps w c ≤ w
@@ -64,8 +64,8 @@ given-nothing s keeps (r ∷ ranks) c pos =
     let none : kept s keeps 0 r ≡ 0 = up-nothing s (get_or keeps (r - 1) 0) pos in
     let rest : given s keeps (0 - kept s keeps 0 r) ranks c ≡ 0 = ap (λ w. given s keeps w ranks c) (ap (λ k. 0 - k) none) ∙ given-nothing s keeps ranks c pos in
     elim (r == c) as (λ b. cond b (kept s keeps 0 r) 0 + given s keeps (0 - kept s keeps 0 r) ranks c ≡ 0) [
-      true ↦ omega arith
-    | false ↦ omega arith
+      | true ↦ omega arith
+      | false ↦ omega arith
     ]
   where
     up-nothing : (s k : ℕ) → 1 ≤ s → up s 0 k ≡ 0
