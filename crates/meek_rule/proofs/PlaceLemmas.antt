@@ -1,12 +1,12 @@
 -- Lists and sums by places.
-use Rattle.std.proofs.Common.{◌≡◌, ℕ, ◌+◌, ◌<◌, ◌≤◌, Bool, true, false, cond, List, [], ◌∷◌, ◌++◌, ◌&&◌, length, get_or, set, sum, map, arith, refl, ap, sym, ◌∙◌, inl, inr, zero, suc, ◌⊎◌}
+use Rattle.std.proofs.Common.{◌≡◌, ℕ, ◌+◌, ◌<◌, Bool, true, false, cond, List, [], ◌∷◌, ◌&&◌, length, get_or, set, sum, map, arith, refl, ap, sym, ◌∙◌, inl, inr, zero, suc, subst, add-one}
 use Rattle.std.specs.List.{range_with_len, list_all}
 use Rattle.std.proofs.lemmas.List.FromFn.{sum_by-map-range_with_len_more, get_or-range_with_len, length-range_with_len, map-range_with_len_more}
 use Rattle.std.proofs.lemmas.List.Folds.{list_all_at, list_all-map, list_all-append}
 use Rattle.std.proofs.lemmas.Bool.{cases_Bool, cases_eq}
 use Rattle.std.proofs.lemmas.List.{get_or-set_other}
 use Rattle.std.proofs.lemmas.Grind.{get_or-set_at}
-use Rattle.meek_rule.specs.Places.{each_place, marked_count, count_places}
+use Rattle.meek_rule.specs.Places.{each_place, count_places}
 
 -- one more place in a sum
 pub sum_more : (f : ℕ → ℕ) (i : ℕ) → sum (each_place (i + 1) f) ≡ sum (each_place i f) + f i
@@ -36,15 +36,14 @@ all_grows test n before here =
     ∙ (list_all-append test (map (λ (x : ℕ). x) (range_with_len 0 n)) (n ∷ [])
     ∙ (ap (λ b. b && list_all test (n ∷ [])) front ∙ last)))
 
+pub all_from : (test : ℕ → Bool) (n : ℕ) → ((b : ℕ) → b < n → test b ≡ true) → list_all test (range_with_len 0 n) ≡ true
+all_from test zero f = refl
+all_from test (suc n) f = subst (λ (m : ℕ). list_all test (range_with_len 0 m) ≡ true) (add-one n) (all_grows test n (all_from test n (λ b below. f b (omega arith))) (f n (omega arith)))
+
 -- what fails at a place doesn't hold at all
 pub all_fails : (test : ℕ → Bool) (n p : ℕ) → p < n → test p ≡ false → list_all test (range_with_len 0 n) ≡ false
 all_fails test n p below fails =
     list_all_at test (range_with_len 0 n) p 0 (rw length-range_with_len below) (ap test (get_or-range_with_len 0 n p 0 below ∙ omega arith) ∙ fails)
-
--- a conjunction with what is false
-pub and_false : (a b : Bool) → b ≡ false → (a && b) ≡ false
-and_false true b fails = fails
-and_false false b fails = refl
 
 -- a write at a place of a list of which all before is done
 pub done_more : {X : Type 0} (f : ℕ → X) (xs : List X) (n : ℕ) (y d : X) → n < length xs → y ≡ f n → ((q : ℕ) → q < n → get_or xs q d ≡ f q) → (q : ℕ) → q < n + 1 → get_or (set xs n y) q d ≡ f q

@@ -1,7 +1,8 @@
 -- What ballots give, step by step and in all.
-use Rattle.std.proofs.Common.{◌≡◌, ℕ, ◌+◌, ◌-◌, ◌*◌, ◌<◌, ◌≤◌, ◌==◌, ◌≢◌, Bool, true, false, cond, List, [], ◌∷◌, ◌++◌, length, slice_index, get_or, set, drop, take, sum_by, replicate, arith, refl, ap, sym, subst, ◌∙◌, inl, inr}
-use Rattle.std.specs.List.{All, flat_map}
-use Rattle.std.proofs.Math.Nat.{mul-le-mul_left, mul-le-mul_right, mul-add, add-mul}
+use Rattle.std.proofs.Common.{◌≡◌, ℕ, ◌+◌, ◌-◌, ◌*◌, ◌<◌, ◌≤◌, ◌==◌, ◌≢◌, true, false, cond, List, [], ◌∷◌, length, get_or, set, drop, take, sum_by, replicate, arith, refl, ap, sym, subst, ◌∙◌, inl, inr}
+use Rattle.std.specs.List.{All}
+use Rattle.std.specs.Int.{div_ceil}
+use Rattle.std.proofs.Math.Nat.{div-eq_of_lt, mod-eq_of_lt, mul-le-mul_left, mul-le-mul_right, mul-add, add-mul}
 use Rattle.std.proofs.lemmas.List.{drop_more, get_or_past, get_or-set_same, get_or-set_other, length-append, length-replicate}
 use Rattle.std.proofs.lemmas.List.FromFn.{fill_by_all}
 use Rattle.std.proofs.lemmas.Bool.{cases_lt, cases_eq, eq-eqb, ne_eqb}
@@ -12,7 +13,7 @@ use Rattle.fixed_place.specs.Rounding.{up}
 use Rattle.fixed_place.proofs.RoundingLemmas.{up-le}
 use Rattle.plain_ballots.specs.declared.ballot_line.BallotLine.{BallotLine}
 use Rattle.plain_ballots.specs.Ballots.{plain}
-use Rattle.meek_rule.specs.Weights.{kept, weight, given, vote, votes}
+use Rattle.meek_rule.specs.Weights.{kept, given, vote, votes}
 
 -- a candidate keeps no more of a ballot than its weight
 pub kept-le : (s : ℕ) (keeps : List ℕ) (w c : ℕ) → 1 ≤ s → All (λ k. k ≤ s) keeps → kept s keeps w c ≤ w
@@ -55,6 +56,27 @@ given-past s keeps w ranks i c below other =
     (λ b. cond b (kept s keeps w (get_or ranks i 0)) 0 + given s keeps (w - kept s keeps w (get_or ranks i 0)) (drop (i + 1) ranks) c)
     (ne_eqb _ _ other)
     ∙ omega arith)
+
+-- of no weight nothing is given
+pub given-nothing : (s : ℕ) (keeps : List ℕ) (ranks : List ℕ) (c : ℕ) → 1 ≤ s → given s keeps 0 ranks c ≡ 0
+given-nothing s keeps [] c pos = refl
+given-nothing s keeps (r ∷ ranks) c pos =
+    let none : kept s keeps 0 r ≡ 0 = up-nothing s (get_or keeps (r - 1) 0) pos in
+    let rest : given s keeps (0 - kept s keeps 0 r) ranks c ≡ 0 = ap (λ w. given s keeps w ranks c) (ap (λ k. 0 - k) none) ∙ given-nothing s keeps ranks c pos in
+    elim (r == c) as (λ b. cond b (kept s keeps 0 r) 0 + given s keeps (0 - kept s keeps 0 r) ranks c ≡ 0) [
+      | true ↦ omega arith
+      | false ↦ omega arith
+    ]
+  where
+    up-nothing : (s k : ℕ) → 1 ≤ s → up s 0 k ≡ 0
+    up-nothing s k pos = let none : 0 * k ≡ 0 = omega arith in ap (λ n. div_ceil n s) none ∙ omega (arith, div-eq_of_lt {n = 0} {m = s} pos, mod-eq_of_lt {n = 0} {m = s} pos)
+
+-- where no weight is left all is given
+pub all_given : (s : ℕ) (keeps : List ℕ) (w : ℕ) (ranks : List ℕ) (c count now whole : ℕ) → 1 ≤ s → w ≡ 0 → now + count * given s keeps w ranks c ≡ whole → now ≡ whole
+all_given s keeps w ranks c count now whole pos none missing =
+    let nothing : given s keeps w ranks c ≡ 0 = ap (λ k. given s keeps k ranks c) none ∙ given-nothing s keeps ranks c pos in
+    let times : count * given s keeps w ranks c ≡ 0 = ap (λ k. count * k) nothing ∙ omega arith in
+    omega arith
 
 -- a vote that grows by what the candidate keeps of each ballot stays within what there is room for
 pub gain_fits : (s : ℕ) (keeps : List ℕ) (w : ℕ) (ranks : List ℕ) (i c count old now room : ℕ) → i < length ranks → get_or ranks i 0 ≡ c → 1 ≤ s → All (λ k. k ≤ s) keeps → now + count * given s keeps w (drop i ranks) c ≡ old + count * given s keeps s ranks c → old + count * s ≤ room → now + count * kept s keeps w (get_or ranks i 0) ≤ room

@@ -9,3 +9,6 @@ pub mod KeepValues
 pub mod Ties
 pub mod Iteration
 pub mod Precedence
+pub mod LowestVote
+pub mod Worked
+pub mod Laws

@@ -5,7 +5,7 @@ ghost use Rattle.plain_ballots.specs.Ballots.{BallotList, IsSound, plain};
 ghost use Rattle.meek_rule.specs.Weights.{given, votes};
 
 use crate::Spread;
-use fixed_place::{Amount, Amounts, Keeps, mul_up, scale_of};
+use fixed_place::{Amount, Amounts, Keep, Keeps, keep_part, scale_of};
 use plain_ballots::{BallotLine, Ballots};
 use std::marker::Model;
 
@@ -63,12 +63,12 @@ fn spread_lines<const P: usize>(lines: &[BallotLine], keeps: &Keeps<P>, tally: &
         tally.set(i, Amount::from_units(0));
     }
     for line in lines {
-        give_line(line.count, line.ranking.ranks(), keeps, tally);
+        give_line(line.count, line.ranking.ranks(), keeps.items(), tally);
     }
 }
 
 /// Gives each candidate what a line of equal ballots gives to it.
-fn give_line<const P: usize>(count: u32, ranks: &[u32], keeps: &Keeps<P>, tally: &mut Amounts<P>)
+fn give_line<const P: usize>(count: u32, ranks: &[u32], keeps: &[Keep<P>], tally: &mut Amounts<P>)
     requires places { (6 ≤ P) × (P ≤ 9) }
     requires numbers { All (λ r. (1 ≤ r) × (r ≤ length tally.old)) ranks.now }
     requires keeps_of_all { length keeps.now ≡ length tally.old }
@@ -80,9 +80,12 @@ fn give_line<const P: usize>(count: u32, ranks: &[u32], keeps: &Keeps<P>, tally:
     let mut weight = scale_of::<P>();
     for rank in ranks {
         let place = (*rank - 1) as usize;
-        let kept = mul_up(Amount::from_units(weight), *keeps.get(place)).units();
+        let kept = keep_part(weight, keeps[place]);
         let vote = tally.get(place).units() + count as u64 * kept;
         tally.set(place, Amount::from_units(vote));
         weight -= kept;
+        if weight == 0 {
+            return;
+        }
     }
 }

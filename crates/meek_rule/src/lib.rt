@@ -6,6 +6,7 @@
 mod ending;
 mod flat_spread;
 mod keep_values;
+mod laws;
 mod no_memory;
 mod quota;
 mod row;
@@ -16,10 +17,13 @@ mod step;
 mod surplus;
 mod ties;
 mod winners;
+mod worked;
 
 pub use flat_spread::FlatSpread;
+pub use laws::distribution_laws;
 pub use no_memory::NoMemory;
 pub use row::Row;
 pub use situation::Situation;
 pub use spread::Spread;
 pub use step::Step;
+pub use worked::worked_iterations;

@@ -11,7 +11,7 @@ use crate::quota::{quota_of, total_of};
 use crate::states::{count_elected, count_hopeful};
 use crate::surplus::surplus_of;
 use crate::ties::mark_tied;
-use crate::winners::{elect, is_anybody, mark_winners};
+use crate::winners::{count_marked, elect, mark_winners};
 use crate::{NoMemory, Row, Step};
 use candidate_roll::{Roll, State, States};
 use fixed_place::{Amount, Amounts, Keep, Keeps, scale_of};
@@ -149,7 +149,7 @@ impl<const P: usize> Situation<P> {
         let free = self.seats - count_elected(&self.states);
         mark_winners(&self.states, votes, row.quota, free, lots, &mut row.elected);
         row.surplus = surplus_of(&self.states, &row.elected, votes, row.quota);
-        if is_anybody(&row.elected) {
+        if count_marked(&row.elected) > 0 {
             elect(&mut self.states, &row.elected);
             self.round += 1;
             self.iteration = 1;

@@ -1,6 +1,6 @@
 // Who is elected in an iteration.
-ghost use Rattle.std.specs.Prelude.{◌≡◌, ◌&&◌, ◌<◌, ◌≤◌, nat_lt, length};
-ghost use Rattle.meek_rule.specs.Places.{marked_count};
+ghost use Rattle.std.specs.Prelude.{◌≡◌, ◌&&◌, ◌<◌, ◌≤◌, length};
+ghost use Rattle.meek_rule.specs.Places.{each_place, marked_count};
 ghost use Rattle.meek_rule.specs.Quota.{has_reached};
 ghost use Rattle.meek_rule.specs.Winners.{AreWinners, comes_before};
 ghost use Rattle.meek_rule.specs.Precedence.{has_won, count_before};
@@ -11,8 +11,46 @@ use candidate_roll::{State, States};
 use fixed_place::{Amount, Amounts};
 use lot_order::{Flags, Lots};
 
-/// Marks the winners among the hopeful.
+/// Marks the winners among the hopeful: all that have the quota where there is room for them, and
+/// otherwise those before whom few come.
 pub(crate) fn mark_winners<const P: usize>(
+    states: &States,
+    votes: &Amounts<P>,
+    quota: Amount<P>,
+    free: u32,
+    lots: &Lots,
+    marks: &mut Flags,
+)
+    requires candidates { length states.now ≤ 250 }
+    requires votes_of_all { length votes.now ≡ length states.now }
+    requires lots_of_all { length lots.now ≡ length states.now }
+    requires marks_of_all { length marks.old ≡ length states.now }
+    ensures { AreWinners states.now free votes.now lots.now quota.entry marks.new }
+{
+    mark_reached(states, votes, quota, marks);
+    if count_marked(marks) > free as usize {
+        mark_first(states, votes, quota, free, lots, marks);
+    }
+}
+
+/// Marks all that have the quota.
+fn mark_reached<const P: usize>(
+    states: &States,
+    votes: &Amounts<P>,
+    quota: Amount<P>,
+    marks: &mut Flags,
+)
+    requires votes_of_all { length votes.now ≡ length states.now }
+    requires marks_of_all { length marks.old ≡ length states.now }
+    ensures { marks.new ≡ each_place (length states.now) (has_reached states.now votes.now quota.entry) }
+{
+    for p in 0..states.len() {
+        marks.set(p, has_reached(states, votes, quota, p));
+    }
+}
+
+/// Marks those that have the quota and before whom fewer come than there are seats left.
+fn mark_first<const P: usize>(
     states: &States,
     votes: &Amounts<P>,
     quota: Amount<P>,
@@ -131,9 +169,9 @@ pub(crate) fn elect(states: &mut States, winners: &Flags)
     }
 }
 
-/// Whether anybody is marked.
-pub(crate) fn is_anybody(marks: &Flags) -> bool
-    ensures { result ≡ nat_lt 0 (marked_count marks.now) }
+/// How many are marked.
+pub(crate) fn count_marked(marks: &Flags) -> usize
+    ensures { result ≡ marked_count marks.now }
 {
-    marks.items().iter().filter(|mark| **mark).count() > 0
+    marks.items().iter().filter(|mark| **mark).count()
 }

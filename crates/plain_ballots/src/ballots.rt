@@ -3,7 +3,7 @@ ghost use Rattle.std.specs.Prelude.{◌≡◌, ◌+◌, ◌<◌, ◌≤◌, ◌�
 ghost use Rattle.plain_ballots.specs.Ballots.{IsSound, ballot_count, HandsBack};
 ghost use Rattle.plain_ballots.specs.Ranking.{IsRanking};
 
-use crate::{BallotLine, LineStop, NoMemory};
+use crate::{AppendStop, BallotLine, LineStop, NoMemory};
 use std::alloc::Global;
 use std::marker::Model;
 
@@ -61,6 +61,29 @@ impl Ballots {
             }
             Err(failed) => Err(LineStop::NoMemory(failed.value)),
         }
+    }
+
+    /// Adds copies of the lines of another list at the end, in their order.
+    pub fn append_copy(&mut self, other: &Ballots) -> Result<(), AppendStop>
+        requires { other.now.candidates ≡ self.old.candidates }
+        ensures ok { OnOk result (self.new ≡ record self.old { lines = self.old.lines ++ other.now.lines }) }
+        ensures too_many {
+            (result ≡ Err AppendStop.TooMany) ↔ (999999999 < ballot_count self.old.lines + ballot_count other.now.lines)
+        }
+        ensures refused { OnErr result (self.new ≡ self.old) }
+    {
+        let total = self.total + other.total;
+        if total > MOST {
+            return Err(AppendStop::TooMany);
+        }
+        let Ok(mut copied) = copy_lines(*self.lines.allocator(), other.lines()) else {
+            return Err(AppendStop::NoMemory);
+        };
+        if self.lines.append(&mut copied).is_err() {
+            return Err(AppendStop::NoMemory);
+        }
+        self.total = total;
+        Ok(())
     }
 
     pub fn copy(&self, alloc: Global) -> Result<Ballots, NoMemory>

@@ -1,5 +1,5 @@
 use Rattle.std.proofs.Common.{◌≡◌, ℕ, ◌+◌, ◌*◌, ◌<◌, ◌≤◌, length, slice_index, drop}
-use Rattle.fixed_place.specs.Rounding.{scale, most}
+use Rattle.fixed_place.specs.Rounding.{scale}
 use Rattle.meek_rule.specs.Weights.{given}
 use Rattle.meek_rule.proofs.flat_spread.give_line.Given as goal
 

@@ -1,4 +1,4 @@
-use Rattle.std.proofs.Common.{◌≡◌, ℕ, List, ◌+◌, ◌-◌, ◌*◌, ◌<◌, ◌≤◌, length, slice_index, get_or, take, sum_by, arith, rules, ap, sym, ◌∙◌, subst}
+use Rattle.std.proofs.Common.{◌≡◌, ℕ, List, ◌+◌, ◌*◌, ◌<◌, ◌≤◌, length, get_or, sum_by, arith, ap, sym, ◌∙◌, subst}
 use Rattle.std.specs.List.{All}
 use Rattle.std.proofs.lemmas.List.{take_all}
 use Rattle.std.proofs.lemmas.List.Elements.{All-get_or}
@@ -20,28 +20,13 @@ give_line-requires g c =
     let line = c.line-item.result in
     let ranking : IsRanking n line.ranking =
     subst (λ (l : BallotLine). IsRanking n l.ranking) (sym c.line-item.is) (All-get_or (λ (l : BallotLine). IsRanking n l.ranking) c.args.lines.now i line c.loop-line-test.true c.requires.sound.rankings) in
-    let numbers : All (λ (r : ℕ). (1 ≤ r) × (r ≤ length c.loop-line.tally)) c.ranks.result.now =
-    rw c.ranks.ensures (subst (λ (m : ℕ). All (λ (r : ℕ). (1 ≤ r) × (r ≤ m)) line.ranking) same ranking.numbers) in (
-      omega arith,
-      (
-        omega arith,
-        (
-          c.len-bound.ensures.places,
-          (
-            numbers,
-            (
-              omega arith,
-              (
-                c.len-bound.ensures.bound,
-                λ p below.
-                    rw c.line-item.is
-                    (room_for_line s (most g.row.P) c.args.keeps.now c.args.lines.now i (p + 1) _ line (scale_pos g.row.P) c.len-bound.ensures.bound (most_votes g.row.P) c.loop-line-test.true c.requires.sound.bounded (c.loop-line.invariant.so_far p (omega arith))),
-              ),
-            ),
-          ),
-        ),
-      ),
-    )
+    let read : c.ranks.result.now ≡ line.ranking = cc in
+    let numbers : All (λ (r : ℕ). (1 ≤ r) × (r ≤ length c.loop-line.tally)) c.ranks.result.now = rw read (subst (λ (m : ℕ). All (λ (r : ℕ). (1 ≤ r) × (r ≤ m)) line.ranking) same ranking.numbers) in
+    let keeps : length c.items.result.now ≡ length c.loop-line.tally = ap length c.items.ensures ∙ (c.requires.keeps_of_all ∙ same) in
+    let room : (p : ℕ) → p < length c.loop-line.tally → get_or c.loop-line.tally p 0 + line.count * s ≤ most g.row.P = λ p below.
+    rw c.line-item.is
+    (room_for_line s (most g.row.P) c.args.keeps.now c.args.lines.now i (p + 1) _ line (scale_pos g.row.P) c.len-bound.ensures.bound (most_votes g.row.P) c.loop-line-test.true c.requires.sound.bounded (c.loop-line.invariant.so_far p (omega arith))) in
+    (omega arith, (omega arith, (c.len-bound.ensures.places, (numbers, (keeps, (rw c.items.ensures c.len-bound.ensures.bound, room))))))
 
 pub returns : goal.returns
 returns g c =

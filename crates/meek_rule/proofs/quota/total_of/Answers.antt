@@ -1,4 +1,4 @@
-use Rattle.std.proofs.Common.{◌≡◌, ℕ, ◌+◌, ◌<◌, ◌≤◌, get_or, sum, take, arith}
+use Rattle.std.proofs.Common.{◌≡◌, ℕ, ◌≤◌, sum, take, arith}
 use Rattle.std.proofs.lemmas.List.Sums.{sum_by_more_le}
 use Rattle.fixed_place.specs.Rounding.{most}
 use Rattle.meek_rule.proofs.RuleLemmas.{most_bound}

@@ -1,6 +1,5 @@
-use Rattle.std.proofs.Common.{◌≡◌, ℕ, Bool, true, false, cond, ◌+◌, ◌<◌, ◌≤◌, get_or, slice_index, length, sum, take, arith, ap, sym, ◌∙◌}
-use Rattle.std.proofs.lemmas.List.Sums.{sum_by_more, sum_by-take-le, sum_by_more_le}
-use Rattle.fixed_place.specs.Rounding.{most}
+use Rattle.std.proofs.Common.{◌≡◌, ℕ, Bool, true, false, cond, ◌+◌, ◌≤◌, get_or, slice_index, sum, take, arith, ap}
+use Rattle.std.proofs.lemmas.List.Sums.{sum_by_more, sum_by_more_le}
 use Rattle.meek_rule.specs.Places.{each_place, count_places}
 use Rattle.meek_rule.specs.Surplus.{holds_seat}
 use Rattle.meek_rule.proofs.PlaceLemmas.{sum_more, count_more}

@@ -1,4 +1,4 @@
-use Rattle.std.proofs.Common.{◌≡◌, ℕ, ◌≤◌, cond, slice_index, sum, take}
+use Rattle.std.proofs.Common.{◌≡◌, ◌≤◌, cond, slice_index, sum, take}
 use Rattle.meek_rule.specs.Places.{each_place, count_places}
 use Rattle.meek_rule.specs.Surplus.{holds_seat}
 use Rattle.meek_rule.proofs.surplus.surplus_of.Given as goal

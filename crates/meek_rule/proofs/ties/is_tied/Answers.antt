@@ -1,21 +1,13 @@
-use Rattle.std.proofs.Common.{◌≡◌, ℕ, Bool, true, false, ◌&&◌, arith, ap, sym, ◌∙◌, length}
-use Rattle.std.specs.List.{range_with_len, list_all}
+use Rattle.std.proofs.Common.{◌≡◌, ℕ, ◌-◌, true, nat_le, slice_index, ap, sym, ◌∙◌}
 use Rattle.candidate_roll.specs.State.{state_at}
 use Rattle.meek_rule.specs.Situation.{is_hopeful}
-use Rattle.meek_rule.specs.Ties.{is_within_surplus}
-use Rattle.meek_rule.proofs.PlaceLemmas.{all_grows, all_fails, and_false}
+use Rattle.meek_rule.proofs.TieLemmas.{is_tied-lowest}
 use Rattle.meek_rule.proofs.ties.is_tied.Goals as goal
 
--- one hopeful candidate is too low
-pub returns-then-not-is_within_surplus : goal.returns-then-not-is_within_surplus
-returns-then-not-is_within_surplus g c =
-    let low : ℕ → Bool = is_within_surplus c.args.states.now c.args.votes.now c.args.surplus c.args.p in
-    let here : low c.loop-b.b ≡ false = cc in
-    let none : list_all low (range_with_len 0 (length c.args.states.now)) ≡ false = all_fails low _ c.loop-b.b (omega arith) here in
-    sym (and_false (is_hopeful (state_at c.args.states.now c.args.p)) _ none)
-
-pub loop-b-preserved : goal.loop-b-preserved
-loop-b-preserved g c =
-    let low : ℕ → Bool = is_within_surplus c.args.states.now c.args.votes.now c.args.surplus c.args.p in
-    let here : low c.loop-b.b ≡ true = cc in
-    all_grows low c.loop-b.b c.loop-b.invariant here
+pub returns-then-is_hopeful : goal.returns-then-is_hopeful
+returns-then-is_hopeful g c =
+    let vote : c.units.result ≡ slice_index c.args.votes.now c.args.p = c.units.ensures.value ∙ c.get.ensures in
+    let hopeful : is_hopeful (state_at c.args.states.now c.args.p) ≡ true = sym c.is_hopeful.ensures ∙ c.if-is_hopeful.true in
+    ap (λ (k : ℕ). nat_le (k - c.args.lowest) c.units-then-is_hopeful.result) vote
+    ∙ (ap (λ (k : ℕ). nat_le (slice_index c.args.votes.now c.args.p - c.args.lowest) k) c.units-then-is_hopeful.ensures.value
+    ∙ sym (is_tied-lowest c.args.states.now c.args.votes.now c.args.surplus c.args.lowest c.args.p c.requires.lowest c.requires.place hopeful))

@@ -1,4 +1,4 @@
-use Rattle.std.proofs.Common.{◌≡◌, ◌≤◌, ◌&&◌, length}
+use Rattle.std.proofs.Common.{◌≡◌, ◌≤◌, ◌&&◌}
 use Rattle.meek_rule.specs.Places.{count_places}
 use Rattle.meek_rule.specs.Quota.{has_reached}
 use Rattle.meek_rule.specs.Winners.{comes_before}

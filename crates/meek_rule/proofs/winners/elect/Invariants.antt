@@ -1,7 +1,6 @@
 use Rattle.std.proofs.Common.{◌≡◌, ℕ, ◌<◌, ◌≤◌, cond, length}
 use Rattle.candidate_roll.specs.State.{state_at}
 use Rattle.lot_order.specs.Flags.{mark_at}
-use Rattle.candidate_roll.specs.declared.state.State.{State}
 use Rattle.candidate_roll.specs.declared.state.State.TheVariants.{Elected}
 use Rattle.meek_rule.proofs.winners.elect.Given as goal
 

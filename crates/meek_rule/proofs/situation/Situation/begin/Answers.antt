@@ -1,14 +1,13 @@
-use Rattle.std.proofs.Common.{◌≡◌, ◌^◌, ℕ, ◌+◌, Bool, true, false, cond, List, None, length, slice_index, arith, refl, ap, sym, subst, ◌∙◌}
+use Rattle.std.proofs.Common.{◌≡◌, ◌^◌, ℕ, Bool, cond, List, length, arith, refl, sym, ◌∙◌}
 use Rattle.std.proofs.lemmas.List.FromFn.{fill_by_all}
 use Rattle.fixed_place.specs.Rounding.{scale, most}
 use Rattle.candidate_roll.specs.Roll.{IsRoll}
-use Rattle.candidate_roll.specs.State.{state_at}
 use Rattle.lot_order.specs.Flags.{mark_at}
 use Rattle.candidate_roll.specs.declared.state.State.{State}
 use Rattle.candidate_roll.specs.declared.state.State.TheVariants.{Hopeful, Withdrawn}
-use Rattle.meek_rule.specs.Situation.{Situation, IsValid, opening}
 use Rattle.meek_rule.specs.Places.{each_place}
-use Rattle.meek_rule.proofs.ValidLemmas.{valid-opening, on_its_way-opening}
+use Rattle.meek_rule.proofs.ValidLemmas.{valid-opening}
+use Rattle.meek_rule.proofs.ProgressLemmas.{on_its_way-opening}
 use Rattle.meek_rule.proofs.situation.Situation.begin.Goals as goal
 
 pub invariant_of-result : goal.invariant_of-result

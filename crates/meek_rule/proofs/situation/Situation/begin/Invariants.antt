@@ -2,7 +2,6 @@ use Rattle.std.proofs.Common.{◌≡◌, ℕ, ◌+◌, ◌<◌, ◌≤◌, cond,
 use Rattle.fixed_place.specs.Rounding.{scale}
 use Rattle.candidate_roll.specs.State.{state_at}
 use Rattle.lot_order.specs.Flags.{mark_at}
-use Rattle.candidate_roll.specs.declared.state.State.{State}
 use Rattle.candidate_roll.specs.declared.state.State.TheVariants.{Hopeful, Withdrawn}
 use Rattle.meek_rule.proofs.situation.Situation.begin.Given as goal
 

@@ -1,9 +1,9 @@
-use Rattle.std.proofs.Common.{◌≡◌, ◌^◌, ℕ, Bool, true, false, List, ◌==◌, length, slice_index, arith, ap, sym, subst, ◌∙◌}
+use Rattle.std.proofs.Common.{◌≡◌, ◌^◌, ℕ, Bool, true, ◌==◌, length, slice_index, ap, ◌∙◌}
 use Rattle.std.proofs.lemmas.List.FromFn.{length-map-range_with_len}
 use Rattle.candidate_roll.specs.State.{state_at}
-use Rattle.meek_rule.specs.Situation.{Situation, is_complete, is_full, final_state, final_keep, final_states, final_keeps, finished, elected_count}
+use Rattle.meek_rule.specs.Situation.{Situation, is_complete, is_full, final_state, final_keep, final_states, final_keeps}
 use Rattle.meek_rule.specs.Places.{each_place}
-use Rattle.meek_rule.proofs.ValidLemmas.{valid-finished, complete-finished}
+use Rattle.meek_rule.proofs.EndLemmas.{valid-finished, complete-finished}
 use Rattle.meek_rule.proofs.situation.Situation.finish.Goals as goal
 
 pub invariant_of-self : goal.invariant_of-self

@@ -1,22 +1,21 @@
-use Rattle.std.proofs.Common.{◌≡◌, ℕ, ◌+◌, ◌-◌, ◌*◌, ◌^◌, ◌<◌, ◌≤◌, Bool, true, false, List, None, Some, length, set, unwrap_or, arith, refl, ap, sym, subst, ◌∙◌}
+use Rattle.std.proofs.Common.{◌≡◌, ℕ, ◌+◌, ◌-◌, ◌^◌, ◌<◌, ◌≤◌, Bool, true, false, List, length, set, unwrap_or, arith, refl, ap, sym, subst, ◌∙◌}
 use Rattle.std.proofs.lemmas.Bool.{and_parts}
 use Rattle.std.proofs.lemmas.List.{length-set, length-replicate}
 use Rattle.std.proofs.lemmas.List.FromFn.{length-map-range_with_len, get_or-map-range_with_len}
-use borrow.Author.Tests.{ltb-true}
-use Rattle.fixed_place.specs.Rounding.{scale, most}
-use Rattle.lot_order.specs.Lots.{IsOrder}
+use Rattle.fixed_place.specs.Rounding.{most}
 use Rattle.candidate_roll.specs.State.{state_at}
 use Rattle.lot_order.specs.Flags.{mark_at}
-use Rattle.candidate_roll.specs.declared.state.State.{State}
 use Rattle.candidate_roll.specs.declared.state.State.TheVariants.{Defeated}
-use Rattle.meek_rule.specs.Situation.{Situation, IsValid, is_complete, is_hopeful, elected_count, hopeful_count, steps_left}
+use Rattle.meek_rule.specs.Situation.{Situation, is_complete, is_hopeful, elected_count, hopeful_count}
 use Rattle.meek_rule.specs.Row.{Row}
 use Rattle.meek_rule.specs.Winners.{AreWinners}
-use Rattle.meek_rule.specs.Iteration.{elect, with_elected, with_defeated, with_keeps}
-use Rattle.meek_rule.specs.KeepValues.{new_keeps}
+use Rattle.meek_rule.specs.Iteration.{elect}
 use Rattle.meek_rule.specs.Places.{marked_count}
-use Rattle.meek_rule.specs.Ties.{tied, is_tied}
-use Rattle.meek_rule.proofs.ValidLemmas.{valid-with_elected, valid-with_keeps, valid-with_defeated, hopeful_count-elect, hopeful_count-defeat, nearer_by_round, on_its_way-round, on_its_way-iteration, somebody_tied, somebody_hopeful}
+use Rattle.meek_rule.specs.Ties.{is_tied}
+use Rattle.meek_rule.proofs.ValidLemmas.{valid-with_elected, valid-with_keeps, valid-with_defeated}
+use Rattle.meek_rule.proofs.StateCounts.{hopeful_count-elect, hopeful_count-defeat}
+use Rattle.meek_rule.proofs.ProgressLemmas.{nearer_by_round, on_its_way-round}
+use Rattle.meek_rule.proofs.TieLemmas.{somebody_tied, somebody_hopeful}
 use Rattle.meek_rule.proofs.situation.Situation.settle.Goals as goal
 
 pub invariant_of-self : goal.invariant_of-self
@@ -58,37 +57,37 @@ invariant_of-self-else-is_exhausted g c =
     let now : Situation = record { seats = c.self.inside.seats; states = c.self.inside.states; keeps = c.self.inside.keeps; round = c.self.inside.round; iteration = c.self.inside.iteration; previous = c.self.inside.previous; omega = c.self.inside.omega } in
     rw c.update_keeps.ensures.keeps (c.self.invariant.0, c.self.invariant.1, valid-with_keeps (10 ^ g.row.P) now c.args.votes.now c.quota_of-row-inside.result c.surplus_of-row-inside.result c.self.invariant.2)
 
-pub returns-then-is_anybody-clause-valid : goal.returns-then-is_anybody-clause-valid
-returns-then-is_anybody-clause-valid g c =
+pub returns-then-count_marked-gt0-clause-valid : goal.returns-then-count_marked-gt0-clause-valid
+returns-then-count_marked-gt0-clause-valid g c =
     let now : Situation = record { seats = c.self.inside.seats; states = c.self.inside.states; keeps = c.self.inside.keeps; round = c.self.inside.round; iteration = c.self.inside.iteration; previous = c.self.inside.previous; omega = c.self.inside.omega } in
     let winners : AreWinners now.states (now.seats - elected_count now.states) c.args.votes.now c.args.lots.now c.quota_of-row-inside.result c.mark_winners.new.marks =
     subst (λ (k : ℕ). AreWinners now.states (now.seats - k) c.args.votes.now c.args.lots.now c.quota_of-row-inside.result c.mark_winners.new.marks) c.count_elected.ensures.value c.mark_winners.ensures in
     rw c.elect.ensures (valid-with_elected (10 ^ g.row.P) now c.args.votes.now c.args.lots.now c.quota_of-row-inside.result c.mark_winners.new.marks c.self.invariant.2 winners)
 
-pub returns-then-is_anybody-clause-on_its_way : goal.returns-then-is_anybody-clause-on_its_way
-returns-then-is_anybody-clause-on_its_way g c =
+pub returns-then-count_marked-gt0-clause-on_its_way : goal.returns-then-count_marked-gt0-clause-on_its_way
+returns-then-count_marked-gt0-clause-on_its_way g c =
     let now : Situation = record { seats = c.self.inside.seats; states = c.self.inside.states; keeps = c.self.inside.keeps; round = c.self.inside.round; iteration = c.self.inside.iteration; previous = c.self.inside.previous; omega = c.self.inside.omega } in
     let winners : AreWinners now.states (now.seats - elected_count now.states) c.args.votes.now c.args.lots.now c.quota_of-row-inside.result c.mark_winners.new.marks =
     subst (λ (k : ℕ). AreWinners now.states (now.seats - k) c.args.votes.now c.args.lots.now c.quota_of-row-inside.result c.mark_winners.new.marks) c.count_elected.ensures.value c.mark_winners.ensures in
     let hopeful : (p : ℕ) → mark_at c.mark_winners.new.marks p ≡ true → is_hopeful (state_at now.states p) ≡ true = λ p marked. (and_parts _ _ (winners.reached p marked)).0 in
     let fewer : hopeful_count (elect now.states c.mark_winners.new.marks) + marked_count c.mark_winners.new.marks ≡ hopeful_count now.states = hopeful_count-elect now.states c.mark_winners.new.marks winners.same_length hopeful in
-    let some : 0 < marked_count c.mark_winners.new.marks = ltb-true _ _ (sym c.is_anybody.ensures ∙ c.if-is_anybody.true) in
+    let some : 0 < marked_count c.mark_winners.new.marks = omega (arith, c.count_marked.ensures) in
     let less : hopeful_count (elect now.states c.mark_winners.new.marks) < hopeful_count now.states = omega arith in
     rw (c.elect.ensures, ← c.self.view_is) (λ on. on_its_way-round (most g.row.P) now _ on refl refl refl less (length-map-range_with_len _ 0 (length now.states)))
 
-pub returns-then-is_anybody-clause-nearer : goal.returns-then-is_anybody-clause-nearer
-returns-then-is_anybody-clause-nearer g c =
+pub returns-then-count_marked-gt0-clause-nearer : goal.returns-then-count_marked-gt0-clause-nearer
+returns-then-count_marked-gt0-clause-nearer g c =
     let now : Situation = record { seats = c.self.inside.seats; states = c.self.inside.states; keeps = c.self.inside.keeps; round = c.self.inside.round; iteration = c.self.inside.iteration; previous = c.self.inside.previous; omega = c.self.inside.omega } in
     let winners : AreWinners now.states (now.seats - elected_count now.states) c.args.votes.now c.args.lots.now c.quota_of-row-inside.result c.mark_winners.new.marks =
     subst (λ (k : ℕ). AreWinners now.states (now.seats - k) c.args.votes.now c.args.lots.now c.quota_of-row-inside.result c.mark_winners.new.marks) c.count_elected.ensures.value c.mark_winners.ensures in
     let hopeful : (p : ℕ) → mark_at c.mark_winners.new.marks p ≡ true → is_hopeful (state_at now.states p) ≡ true = λ p marked. (and_parts _ _ (winners.reached p marked)).0 in
     let fewer : hopeful_count (elect now.states c.mark_winners.new.marks) + marked_count c.mark_winners.new.marks ≡ hopeful_count now.states = hopeful_count-elect now.states c.mark_winners.new.marks winners.same_length hopeful in
-    let some : 0 < marked_count c.mark_winners.new.marks = ltb-true _ _ (sym c.is_anybody.ensures ∙ c.if-is_anybody.true) in
+    let some : 0 < marked_count c.mark_winners.new.marks = omega (arith, c.count_marked.ensures) in
     let less : hopeful_count (elect now.states c.mark_winners.new.marks) < hopeful_count now.states = omega arith in
     rw (c.elect.ensures, ← c.self.view_is) (nearer_by_round (most g.row.P) (hopeful_count (elect now.states c.mark_winners.new.marks)) (hopeful_count now.states) (unwrap_or now.previous (most g.row.P + 1)) less)
 
-pub returns-then-is_anybody-clause-row_of_all : goal.returns-then-is_anybody-clause-row_of_all
-returns-then-is_anybody-clause-row_of_all g c =
+pub returns-then-count_marked-gt0-clause-row_of_all : goal.returns-then-count_marked-gt0-clause-row_of_all
+returns-then-count_marked-gt0-clause-row_of_all g c =
     let view : length c.self.inside.states ≡ length c.args.self.now.states = ap (λ (x : Situation). length x.states) c.self.view_is in
     let capped_view : length c.row.inside.capped ≡ length c.args.row.now.capped = ap (λ (x : Row). length x.capped) c.row.view_is in
     let tied_view : length c.row.inside.tied ≡ length c.args.row.now.tied = ap (λ (x : Row). length x.tied) c.row.view_is in
@@ -175,7 +174,7 @@ returns-else-is_exhausted-clause-row_of_all g c =
     let marks : length c.update_keeps.new.marks ≡ length c.self.inside.states = ap length c.update_keeps.ensures.capped ∙ length-map-range_with_len _ 0 (length c.self.inside.states) in
     record { states = omega arith; keeps = omega arith; votes = omega (arith, c.requires.votes_of_all); elected = omega arith; capped = omega (arith, c.requires.row_of_all.capped); tied = omega (arith, c.requires.row_of_all.tied) }
 
-pub returns-then-is_anybody-clause-same_candidates : goal.returns-then-is_anybody-clause-same_candidates
-returns-then-is_anybody-clause-same_candidates g c =
+pub returns-then-count_marked-gt0-clause-same_candidates : goal.returns-then-count_marked-gt0-clause-same_candidates
+returns-then-count_marked-gt0-clause-same_candidates g c =
     let view : length c.self.inside.states ≡ length c.args.self.now.states = ap (λ (x : Situation). length x.states) c.self.view_is in
     ap length c.elect.ensures ∙ (length-map-range_with_len _ 0 _ ∙ view)

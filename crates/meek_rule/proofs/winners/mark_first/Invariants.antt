@@ -1,7 +1,7 @@
 use Rattle.std.proofs.Common.{◌≡◌, ℕ, ◌<◌, length}
 use Rattle.lot_order.specs.Flags.{mark_at}
 use Rattle.meek_rule.specs.Precedence.{has_won}
-use Rattle.meek_rule.proofs.winners.mark_winners.Given as goal
+use Rattle.meek_rule.proofs.winners.mark_first.Given as goal
 
 abbrev pub invariant-loop-p : goal.invariant-loop-p
 invariant-loop-p g l = record {

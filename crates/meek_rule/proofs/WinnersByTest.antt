@@ -1,49 +1,15 @@
 -- Winners by a test that computes.
-use Rattle.std.proofs.Common.{◌≡◌, ℕ, ◌+◌, ◌-◌, ◌<◌, ◌≤◌, ◌==◌, ◌&&◌, ◌||◌, not, min, Bool, true, false, cond, List, [], ◌∷◌, length, get_or, slice_index, arith, refl, ap, sym, subst, ◌∙◌, inl, inr, zero, suc, ◌⊎◌}
+use Rattle.std.proofs.Common.{◌≡◌, ℕ, Bool, true, List, ◌&&◌, length, arith, ap, ◌∙◌, ◌==◌, ◌||◌, not, min}
 use Rattle.std.specs.List.{range_with_len, list_all}
-use Rattle.std.proofs.lemmas.List.{get_or_past}
-use Rattle.std.proofs.lemmas.Bool.{cases_lt, cases_Bool, eqb-true}
-use Rattle.candidate_roll.specs.State.{state_at}
-use Rattle.lot_order.specs.Flags.{mark_at}
+use Rattle.std.proofs.lemmas.Bool.{eqb-true}
+use Rattle.meek_rule.specs.Places.{marked_count, count_places}
 use Rattle.candidate_roll.specs.declared.state.State.{State}
-use Rattle.candidate_roll.specs.declared.state.State.TheVariants.{Withdrawn}
-use Rattle.meek_rule.specs.Situation.{is_hopeful}
+use Rattle.lot_order.specs.Flags.{mark_at}
 use Rattle.meek_rule.specs.Winners.{AreWinners, comes_before}
 use Rattle.meek_rule.specs.Quota.{has_reached}
-use Rattle.meek_rule.specs.Places.{marked_count, count_places}
 use Rattle.meek_rule.proofs.PlaceLemmas.{all_places}
-
-pub and_first : (a b : Bool) → (a && b) ≡ true → a ≡ true
-and_first true b both = refl
-and_first false b both = both
-
-pub and_second : (a b : Bool) → (a && b) ≡ true → b ≡ true
-and_second true b both = both
-and_second false b both = cc
-
--- what an implication says where its premise holds
-pub implied : (a b : Bool) → (not a || b) ≡ true → a ≡ true → b ≡ true
-implied true b holds is = holds
-implied false b holds is = cc
-
--- who is marked has a place
-pub marked_place : (marks : List Bool) (p : ℕ) → mark_at marks p ≡ true → p < length marks
-marked_place marks p marked =
-    elim (cases_lt p (length marks)) [
-      | inl below ↦ below
-      | inr past ↦ absurd (let none = get_or_past marks p false past in cc)
-    ]
-
--- who has reached the quota has a place
-pub reached_place : (states : List State) (votes : List ℕ) (q p : ℕ) → has_reached states votes q p ≡ true → p < length states
-reached_place states votes q p reached =
-    elim (cases_lt p (length states)) [
-      | inl below ↦ below
-      | inr past ↦
-          let hopeful : is_hopeful (state_at states p) ≡ true = and_first _ _ reached in
-          let withdrawn : state_at states p ≡ Withdrawn = get_or_past states p Withdrawn past in
-          absurd (let not_so = ap is_hopeful withdrawn in cc)
-    ]
+use Rattle.meek_rule.proofs.TestLemmas.{and_first, and_second, implied}
+use Rattle.meek_rule.proofs.WinnersByCount.{marked_place, reached_place}
 
 -- the test of winners
 abbrev pub pass_as_winners : List State → (free : ℕ) → (votes lots : List ℕ) → (q : ℕ) → List Bool → Bool
