@@ -1,5 +1,5 @@
 // The roundings of a count.
-ghost use Rattle.std.specs.Prelude.{◌≡◌, ◌+◌, ◌/◌, ◌<◌, ◌≤◌, ◌≢◌, ◌↔◌, IsTrue, min};
+ghost use Rattle.std.specs.Prelude.{◌≡◌, ◌+◌, ◌-◌, ◌*◌, ◌/◌, ◌<◌, ◌≤◌, ◌≢◌, ◌↔◌, IsTrue, min};
 ghost use Rattle.std.specs.Option.{SomeIff};
 ghost use Rattle.fixed_place.specs.Rounding.{scale, most, up, upover};
 
@@ -16,6 +16,29 @@ pub fn mul_up<const P: usize>(a: Amount<P>, k: Keep<P>) -> Amount<P>
     let one = scale_of::<P>();
     let kept = product.div_ceil(one as u128);
     Amount::from_units(kept as u64)
+}
+
+/// [`mul_up`] of a weight, which is at most one vote: 64 bits serve.
+#[tactic(auto, using(crate::proofs::RoundingLemmas::roundings))]
+pub fn keep_part<const P: usize>(w: Amount<P>, k: Keep<P>) -> Amount<P>
+    requires { w ≤ scale P }
+    ensures kept { result ≡ up (scale P) w.entry k.entry }
+    ensures part { result ≤ w.entry }
+{
+    let product = w.units() * k.units();
+    Amount::from_units(product.div_ceil(scale_of::<P>()))
+}
+
+/// What goes on of a weight behind a candidate of keep value `k`: its share `1 - k`, rounded down,
+/// which is just what is left of it.
+#[tactic(auto, using(crate::proofs::RoundingLemmas::roundings))]
+pub fn rounding_law<const P: usize>(w: Amount<P>, k: Keep<P>) -> Amount<P>
+    requires { w ≤ scale P }
+    ensures share { result ≡ w.entry * (scale P - k.entry) / scale P }
+    ensures rest { result ≡ w.entry - up (scale P) w.entry k.entry }
+{
+    let one = scale_of::<P>();
+    Amount::from_units(w.units() * (one - k.units()) / one)
 }
 
 /// `a` over `v` as a keep value, rounded up and at most 1, and whether it would have been above 1.
@@ -56,3 +79,6 @@ pub fn sum_checked<const P: usize>(a: Amount<P>, b: Amount<P>) -> Option<Amount<
         None
     }
 }
+
+#[cfg(test)]
+mod tests;
