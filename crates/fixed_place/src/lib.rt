@@ -20,6 +20,6 @@ pub use keep::Keep;
 pub use keeps::Keeps;
 pub use no_memory::NoMemory;
 pub use round_case::{RoundCase, check_cases};
-pub use rounding::{div_down, div_up_capped, keep_part, mul_up, rounding_law, sum_checked};
+pub use rounding::{div_down, div_up_capped, mul_up, rounding_law, sum_checked};
 pub use scale::scale_of;
 pub use worked::worked_amounts;

@@ -18,17 +18,6 @@ pub fn mul_up<const P: usize>(a: Amount<P>, k: Keep<P>) -> Amount<P>
     Amount::from_units(kept as u64)
 }
 
-/// [`mul_up`] of a weight, which is at most one vote: 64 bits serve.
-#[tactic(auto, using(crate::proofs::RoundingLemmas::roundings))]
-pub fn keep_part<const P: usize>(w: Amount<P>, k: Keep<P>) -> Amount<P>
-    requires { w ≤ scale P }
-    ensures kept { result ≡ up (scale P) w.entry k.entry }
-    ensures part { result ≤ w.entry }
-{
-    let product = w.units() * k.units();
-    Amount::from_units(product.div_ceil(scale_of::<P>()))
-}
-
 /// What goes on of a weight behind a candidate of keep value `k`: its share `1 - k`, rounded down,
 /// which is just what is left of it.
 #[tactic(auto, using(crate::proofs::RoundingLemmas::roundings))]
