@@ -1,10 +1,10 @@
 // A count in steps.
-ghost use Rattle.std.specs.Prelude.{◌≡◌, ◌≤◌, ◌<◌, ◌↔◌, true, length, IfOk};
+ghost use Rattle.std.specs.Prelude.{◌≡◌, ◌≤◌, ◌<◌, ◌↔◌, true, [], ◌∷◌, length, IfOk};
 ghost use Rattle.fixed_place.specs.Rounding.{scale, most};
 ghost use Rattle.meek_rule.specs.Situation.{is_complete, finished, final_states, opening, steps_left};
 ghost use Rattle.meek_rule.specs.Row.{HasRoomFor};
 ghost use Rattle.meek_count.specs.Rows.{IteratesTo};
-ghost use Rattle.meek_count.specs.Progress.{IsSameElection, HasJustBegun, HasRest};
+ghost use Rattle.meek_count.specs.Progress.{IsSameElection, HasJustBegun, HasRest, Leads};
 
 use crate::Turn;
 use candidate_roll::{Roll, States};
@@ -93,6 +93,7 @@ impl<'e, const P: usize, D: Spread<P> + Drop> Count<'e, P, D> {
 
         // An iteration.
         ensures iterated { result ≡ Turn.Iterated → IteratesTo (scale P) self.old.ballots self.old.lots self.old.now self.new.row self.new.now }
+        ensures leads { result ≡ Turn.Iterated → Leads (scale P) self.old (self.new.row ∷ []) self.new }
         ensures has_row { result ≡ Turn.Iterated → self.new.has_row ≡ true }
         ensures nearer { result ≡ Turn.Iterated → steps_left (most P) self.new.now < steps_left (most P) self.old.now }
 

@@ -1,13 +1,15 @@
-use Rattle.std.proofs.Common.{◌≡◌, ℕ, ◌≤◌, false, List, length, sum, arith, ap, sym, subst, ◌∙◌}
+use Rattle.std.proofs.Common.{◌≡◌, ℕ, ◌≤◌, true, false, List, [], ◌∷◌, length, sum, arith, refl, ap, sym, subst, ◌∙◌}
 use Rattle.std.proofs.lemmas.List.FromFn.{length-map-range_with_len}
 use Rattle.fixed_place.specs.Rounding.{scale, most}
 use Rattle.fixed_place.proofs.RoundingLemmas.{scale_pos}
 use Rattle.meek_rule.specs.Situation.{Situation, is_complete, finished}
-use Rattle.meek_rule.specs.Iteration.{HasOnlyRunningVotes}
+use Rattle.meek_rule.specs.Iteration.{HasOnlyRunningVotes, Settle}
 use Rattle.meek_rule.specs.Weights.{votes}
-use Rattle.meek_count.specs.Progress.{Progress, IsCounting}
+use Rattle.meek_count.specs.Progress.{Progress, Leads}
 use Rattle.meek_count.proofs.EndLemmas.{finished-twice, on_its_way-finished}
-use Rattle.meek_count.proofs.StepLemmas.{round_fits, iteration_fits, only_running, votes_fit}
+use Rattle.meek_count.proofs.StepLemmas.{round_fits, iteration_fits, only_running, votes_fit, votes-same}
+use Rattle.meek_count.specs.Rows.{IteratesTo}
+use Rattle.meek_count.proofs.Leading.{leads_one}
 use Rattle.meek_count.proofs.WholeCount.{rows_exist}
 use Rattle.meek_count.proofs.count.Count.next.Goals as goal
 
@@ -35,10 +37,7 @@ settle-requires g c =
     let now : Situation = c.self.inside.situation in
     let going : is_complete now ≡ false = sym c.is_complete.ensures ∙ c.if-is_complete.false in
     let cast : List ℕ = votes (scale g.row.P) now.keeps (g.D.Spread.ballots c.self.inside.spread) (length now.states) in
-    let tally : c.spread.new.tally ≡ cast =
-      c.spread.ensures.votes
-      ∙ (ap (λ k. votes (scale g.row.P) k (g.D.Spread.ballots c.self.inside.spread) (g.D.Spread.candidates c.self.inside.spread)) c.keeps.ensures
-      ∙ ap (votes (scale g.row.P) now.keeps (g.D.Spread.ballots c.self.inside.spread)) c.self.invariant.3) in
+    let tally : c.spread.new.tally ≡ cast = c.spread.ensures.votes ∙ votes-same (scale g.row.P) c.keeps.result.now now.keeps (g.D.Spread.ballots c.self.inside.spread) (g.D.Spread.candidates c.self.inside.spread) (length now.states) c.keeps.ensures c.self.invariant.3 in
     let running : HasOnlyRunningVotes now.states c.spread.new.tally =
       subst (λ (v : List ℕ). HasOnlyRunningVotes now.states v) (sym tally)
       (only_running (scale g.row.P) (g.D.Spread.ballots c.self.inside.spread) now (scale_pos g.row.P) c.self.invariant.5.valid) in
@@ -54,3 +53,17 @@ pub returns-clause-rest : goal.returns-clause-rest
 returns-clause-rest g c =
     rows_exist (scale g.row.P) (g.D.Spread.ballots c.spread.new.self) c.self.inside.lots.now c.settle.new.self (scale_pos g.row.P) c.settle.ensures.valid c.self.invariant.5.order_of_lots
     (c.self.invariant.5.lots_of_all ∙ sym c.settle.ensures.same_candidates)
+
+-- the row leads on
+pub returns-clause-leads : goal.returns-clause-leads
+returns-clause-leads g c = λ is.
+    let now : Situation = c.self.inside.situation in
+    let going : is_complete now ≡ false = sym c.is_complete.ensures ∙ c.if-is_complete.false in
+    let old : Progress = record { roll = c.self.inside.roll.now; lots = c.self.inside.lots.now; ballots = g.D.Spread.ballots c.self.inside.spread; now = now; has_row = c.self.inside.has_row; row = c.self.inside.row } in
+    let new : Progress = record { roll = c.self.inside.roll.now; lots = c.self.inside.lots.now; ballots = g.D.Spread.ballots c.spread.new.self; now = c.settle.new.self; has_row = true; row = c.settle.new.row } in
+    let tally : c.spread.new.tally ≡ votes (scale g.row.P) now.keeps old.ballots (length now.states) =
+      c.spread.ensures.votes ∙ votes-same (scale g.row.P) c.keeps.result.now now.keeps (g.D.Spread.ballots c.self.inside.spread) (g.D.Spread.candidates c.self.inside.spread) (length now.states) c.keeps.ensures c.self.invariant.3 in
+    let iterates : IteratesTo (scale g.row.P) old.ballots old.lots now new.row new.now =
+      subst (λ (v : List ℕ). Settle (scale g.row.P) now v old.lots new.row new.now) tally c.settle.ensures.settle in
+    subst (λ (p : Progress). Leads (scale g.row.P) p (new.row ∷ []) new) c.self.view_is
+    (leads_one (scale g.row.P) old new going iterates (record { roll = refl; lots = refl; ballots = c.spread.ensures.same }))
