@@ -1,8 +1,8 @@
 -- The first of the marked, and who stands in an order.
-use Rattle.std.proofs.Common.{◌≡◌, ◌≢◌, ℕ, ◌+◌, ◌-◌, ◌<◌, ◌≤◌, ◌⊎◌, Bool, true, false, cond, List, [], ◌∷◌, length, slice_index, slice_index_or, get_or, Contains, arith, refl, rules, ap, sym, ◌∙◌, inl, inr, zero, suc}
+use Rattle.std.proofs.Common.{◌≡◌, ℕ, ◌+◌, ◌-◌, ◌<◌, ◌≤◌, Bool, true, false, cond, List, [], ◌∷◌, length, get_or, Contains, arith, ◌∙◌, inl, inr, zero, suc}
 use Rattle.std.proofs.lemmas.List.{get_or_past, get_or_default}
 use Rattle.std.proofs.lemmas.Bool.{cases_lt}
-use Rattle.lot_order.specs.Lots.{IsOrder, first_marked, place_in}
+use Rattle.lot_order.specs.Lots.{IsOrder, first_marked}
 use Rattle.lot_order.specs.Flags.{mark_at}
 
 -- a marked candidate of a list is found in it, or another before it

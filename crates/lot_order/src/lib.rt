@@ -4,8 +4,10 @@
 
 mod flags;
 mod lots;
+mod lots_stop;
 mod no_memory;
 
 pub use flags::Flags;
 pub use lots::Lots;
+pub use lots_stop::LotsStop;
 pub use no_memory::NoMemory;

@@ -1,10 +1,14 @@
 // The order of lots.
-ghost use Rattle.std.specs.Prelude.{◌≡◌, ◌-◌, ◌<◌, ◌≤◌, ℕ, true, nat_lt, length};
+ghost use Rattle.std.specs.Prelude.{◌≡◌, ◌-◌, ◌<◌, ◌≤◌, ℕ, true, nat_lt, length, All, IfOk, IfErr, IfSome, IfNone, OnOk};
 ghost use Rattle.lot_order.specs.Flags.{mark_at};
-ghost use Rattle.lot_order.specs.Lots.{IsOrder, first_marked, place_in};
+ghost use Rattle.lot_order.specs.Lots.{IsOrder, IsLotsStop, AreLots, Sees, IsFirstUnmarked, first_marked, place_in};
 
-use crate::Flags;
+use crate::{Flags, LotsStop};
+use std::alloc::Global;
 use std::marker::Model;
+
+/// An election has at most this many candidates.
+const MOST: usize = 250;
 
 /// An order of all candidates, withdrawn ones included, by which ties are broken.
 #[derive(Debug, Drop)]
@@ -24,6 +28,21 @@ impl Model for Lots {
 }
 
 impl Lots {
+    /// An order in which each candidate from 1 to `candidates` stands once. A roll has at most 250
+    /// candidates, so no caller has more.
+    pub fn try_new(alloc: Global, order: &[u32], candidates: u32) -> Result<Lots, LotsStop>
+        requires few { candidates ≤ 250 }
+        ensures ok { IfOk result (λ lots. lots ≡ order.now) }
+        ensures all { OnOk result (length order.now ≡ candidates) }
+        ensures stop { IfErr result (IsLotsStop candidates order.now) }
+    {
+        check_order(order, candidates)?;
+        match Vec::from_slice(alloc, order) {
+            Ok(order) => Ok(Lots { order }),
+            Err(_) => Err(LotsStop::NoMemory),
+        }
+    }
+
     pub fn candidates(&self) -> u32
         ensures count { result ≡ length self.now }
         ensures order { IsOrder self.now }
@@ -63,4 +82,54 @@ impl Lots {
         }
         false
     }
+}
+
+/// Whether each candidate stands in the order once.
+fn check_order(order: &[u32], candidates: u32) -> Result<(), LotsStop>
+    requires { candidates ≤ 250 }
+    ensures ok { OnOk result (IsOrder order.now × (length order.now ≡ candidates)) }
+    ensures stop { IfErr result (IsLotsStop candidates order.now) }
+{
+    let mut table = [false; MOST];
+    let seen = &mut table[..candidates as usize];
+    mark_seen(order, candidates as usize, seen)?;
+    match first_unmarked(seen) {
+        Some(number) => Err(LotsStop::NotAll(number)),
+        None => Ok(()),
+    }
+}
+
+/// Marks who stands in the order, or answers the first place at fault.
+fn mark_seen(order: &[u32], candidates: usize, seen: &mut [bool]) -> Result<(), LotsStop>
+    requires { length seen.old ≡ candidates }
+    ensures sound { OnOk result (AreLots candidates order.now) }
+    ensures marks { OnOk result (Sees seen.new order.now) }
+    ensures stop { IfErr result (IsLotsStop candidates order.now) }
+{
+    seen.fill(false);
+    for (i, c) in order.iter().enumerate() {
+        let c = *c as usize;
+        if c == 0 || c > candidates {
+            return Err(LotsStop::OutOfRange(i + 1));
+        }
+        if seen[c - 1] {
+            return Err(LotsStop::Twice(i + 1));
+        }
+        seen[c - 1] = true;
+    }
+    Ok(())
+}
+
+/// The least candidate that has no mark.
+fn first_unmarked(seen: &[bool]) -> Option<u32>
+    requires { length seen.now ≤ 250 }
+    ensures none { IfNone result (All (λ mark. mark ≡ true) seen.now) }
+    ensures some { IfSome result (IsFirstUnmarked seen.now) }
+{
+    for (i, mark) in seen.iter().enumerate() {
+        if !*mark {
+            return Some(i as u32 + 1);
+        }
+    }
+    None
 }

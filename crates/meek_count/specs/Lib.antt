@@ -1,2 +1,4 @@
 pub mod Rows
 pub mod Progress
+pub mod Laws
+pub mod Worked

@@ -1,9 +1,10 @@
 -- How far a count has come.
-use Rattle.std.specs.Prelude.{◌≡◌, ℕ, Bool, List}
+use Rattle.std.specs.Prelude.{◌≡◌, ℕ, ◌≤◌, ◌++◌, Bool, List, length}
 use Rattle.candidate_roll.specs.Roll.{RollList}
 use Rattle.candidate_roll.specs.declared.state.State.{State}
-use Rattle.meek_rule.specs.Situation.{Situation}
-use Rattle.meek_rule.specs.Row.{Row}
+use Rattle.lot_order.specs.Lots.{IsOrder}
+use Rattle.meek_rule.specs.Situation.{Situation, IsValid, IsOnItsWay, opening}
+use Rattle.meek_rule.specs.Row.{Row, HasRoomFor}
 use Rattle.meek_count.specs.Rows.{Rows}
 
 -- the election that is counted, where the count stands, and the row of the last iteration once one was made
@@ -21,9 +22,28 @@ pub record IsSameElection (old new : Progress) : Type 0 where
   pub lots : new.lots ≡ old.lots
   pub ballots : new.ballots ≡ old.ballots
 
--- Rows that lead on from the later situation make, behind some rows, rows from the earlier one.
-pub record Leads (s : ℕ) (old new : Progress) : Type 0 where
+-- the count was just begun: it stands where its roll opens, with the omega that it keeps
+abbrev pub HasJustBegun : (s : ℕ) → Progress → Type 0
+HasJustBegun s count = count.now ≡ opening s count.now.omega count.roll.seats count.roll.withdrawn
+
+-- some rows lead from here to the end
+abbrev pub HasRest : (s : ℕ) → Progress → Type 0
+HasRest s count = (rows : List Row) × (last : List State) × Rows s count.ballots count.lots count.now rows last
+
+-- These rows lead from the earlier to the later standing: rows that lead on from there lead, behind these,
+-- from the earlier one to the same end.
+pub record Leads (s : ℕ) (old : Progress) (done : List Row) (new : Progress) : Type 0 where
   pub same : IsSameElection old new
   pub onward :
       (rows : List Row) (last : List State) → Rows s new.ballots new.lots new.now rows last
-      → (all : List Row) × Rows s old.ballots old.lots old.now all last
+      → Rows s old.ballots old.lots old.now (done ++ rows) last
+
+-- What a count keeps: it can go on from where it stands, and never comes to the end of a number's type.
+pub record IsCounting (s most : ℕ) (count : Progress) : Type 0 where
+  pub valid : IsValid s count.now
+  pub on_its_way : IsOnItsWay most count.now
+  pub order_of_lots : IsOrder count.lots
+  pub lots_of_all : length count.lots ≡ length count.now.states
+  pub names_of_all : length count.roll.names ≡ length count.now.states
+  pub row_of_all : HasRoomFor (length count.now.states) count.row
+  pub few_ballots : length count.ballots ≤ 999999999

@@ -8,3 +8,7 @@ pub mod Surplus
 pub mod KeepValues
 pub mod Ties
 pub mod Iteration
+pub mod Precedence
+pub mod LowestVote
+pub mod Worked
+pub mod Laws

@@ -3,14 +3,27 @@
 //! written down of each, with the [`Step`] that was taken.
 #![tactic(auto)]
 
+mod ending;
+mod flat_spread;
+mod keep_values;
+mod laws;
 mod no_memory;
+mod quota;
 mod row;
 mod situation;
 mod spread;
+mod states;
 mod step;
+mod surplus;
+mod ties;
+mod winners;
+mod worked;
 
+pub use flat_spread::FlatSpread;
+pub use laws::distribution_laws;
 pub use no_memory::NoMemory;
 pub use row::Row;
 pub use situation::Situation;
 pub use spread::Spread;
 pub use step::Step;
+pub use worked::worked_iterations;

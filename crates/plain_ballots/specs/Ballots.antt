@@ -1,7 +1,9 @@
 -- A list of ballots in lines of equal ones.
-use Rattle.std.specs.Prelude.{ℕ, ◌≤◌, List, sum_by, replicate, All}
+use Rattle.std.specs.Prelude.{◌≡◌, ℕ, ◌≤◌, List, sum_by, replicate, All}
 use Rattle.std.specs.List.{flat_map}
 use Rattle.plain_ballots.specs.declared.ballot_line.BallotLine.{BallotLine}
+use Rattle.plain_ballots.specs.declared.line_stop.LineStop.{LineStop}
+use Rattle.plain_ballots.specs.declared.line_stop.LineStop.TheVariants.{TooMany, NoMemory}
 use Rattle.plain_ballots.specs.Ranking.{IsRanking}
 
 -- lines of ballots among so many candidates
@@ -22,3 +24,8 @@ pub record IsSound (n : ℕ) (lines : List BallotLine) : Type 0 where
   pub rankings : All (λ line. IsRanking n line.ranking) lines
   pub counted : All (λ line. 1 ≤ line.count) lines
   pub bounded : ballot_count lines ≤ 999999999
+
+-- a refusal hands this line back
+abbrev pub HandsBack : BallotLine → LineStop → Type 0
+HandsBack line (TooMany back) = back ≡ line
+HandsBack line (NoMemory back) = back ≡ line

@@ -1,10 +1,14 @@
 // The ballots of an election.
-ghost use Rattle.std.specs.Prelude.{◌≡◌, []};
-ghost use Rattle.plain_ballots.specs.Ballots.{IsSound, ballot_count};
+ghost use Rattle.std.specs.Prelude.{◌≡◌, ◌+◌, ◌<◌, ◌≤◌, ◌↔◌, [], ◌∷◌, ◌++◌, IfOk, IfErr, OnOk, OnErr};
+ghost use Rattle.plain_ballots.specs.Ballots.{IsSound, ballot_count, HandsBack};
+ghost use Rattle.plain_ballots.specs.Ranking.{IsRanking};
 
-use crate::BallotLine;
+use crate::{AppendStop, BallotLine, LineStop, NoMemory};
 use std::alloc::Global;
 use std::marker::Model;
+
+/// An election has at most this many ballots, empty ones included.
+const MOST: u64 = 999_999_999;
 
 /// Lines of ballots among so many candidates, with their total of at most 999,999,999.
 #[derive(Debug, Drop)]
@@ -37,6 +41,61 @@ impl Ballots {
         }
     }
 
+    /// Adds a line at the end.
+    pub fn push_line(&mut self, line: BallotLine) -> Result<(), LineStop>
+        requires ranking { IsRanking self.old.candidates line.ranking }
+        requires counted { 1 ≤ line.count }
+        ensures ok { OnOk result (self.new ≡ record self.old { lines = self.old.lines ++ line ∷ [] }) }
+        ensures too_many { (result ≡ Err (LineStop.TooMany line)) ↔ (999999999 < ballot_count self.old.lines + line.count) }
+        ensures handed_back { IfErr result (HandsBack line) }
+        ensures refused { OnErr result (self.new ≡ self.old) }
+    {
+        let total = self.total + line.count as u64;
+        if total > MOST {
+            return Err(LineStop::TooMany(line));
+        }
+        match self.lines.push(line) {
+            Ok(()) => {
+                self.total = total;
+                Ok(())
+            }
+            Err(failed) => Err(LineStop::NoMemory(failed.value)),
+        }
+    }
+
+    /// Adds copies of the lines of another list at the end, in their order.
+    pub fn append_copy(&mut self, other: &Ballots) -> Result<(), AppendStop>
+        requires { other.now.candidates ≡ self.old.candidates }
+        ensures ok { OnOk result (self.new ≡ record self.old { lines = self.old.lines ++ other.now.lines }) }
+        ensures too_many {
+            (result ≡ Err AppendStop.TooMany) ↔ (999999999 < ballot_count self.old.lines + ballot_count other.now.lines)
+        }
+        ensures refused { OnErr result (self.new ≡ self.old) }
+    {
+        let total = self.total + other.total;
+        if total > MOST {
+            return Err(AppendStop::TooMany);
+        }
+        let Ok(mut copied) = copy_lines(*self.lines.allocator(), other.lines()) else {
+            return Err(AppendStop::NoMemory);
+        };
+        if self.lines.append(&mut copied).is_err() {
+            return Err(AppendStop::NoMemory);
+        }
+        self.total = total;
+        Ok(())
+    }
+
+    pub fn copy(&self, alloc: Global) -> Result<Ballots, NoMemory>
+        ensures { IfOk result (λ ballots. ballots ≡ self.now) }
+    {
+        Ok(Ballots {
+            candidates: self.candidates,
+            total: self.total,
+            lines: copy_lines(alloc, self.lines())?,
+        })
+    }
+
     pub fn candidates(&self) -> u32
         ensures { result ≡ self.now.candidates }
     {
@@ -56,4 +115,19 @@ impl Ballots {
     {
         self.lines.as_slice()
     }
+}
+
+fn copy_lines(alloc: Global, lines: &[BallotLine]) -> Result<Vec<BallotLine>, NoMemory>
+    ensures { IfOk result (λ copied. copied.items ≡ lines.now) }
+{
+    let Ok(mut copied) = Vec::with_capacity(alloc, lines.len()) else {
+        return Err(NoMemory);
+    };
+    for line in lines {
+        let copy = line.copy(alloc)?;
+        if copied.push(copy).is_err() {
+            return Err(NoMemory);
+        }
+    }
+    Ok(copied)
 }

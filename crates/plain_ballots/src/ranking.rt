@@ -1,6 +1,9 @@
 // A ballot's candidates in order of rank.
-ghost use Rattle.std.specs.Prelude.{◌≡◌};
+ghost use Rattle.std.specs.Prelude.{◌≡◌, IfOk, IfErr, OnOk};
+ghost use Rattle.plain_ballots.specs.Ranking.{AreRanks, IsRanking, IsRankStop};
 
+use crate::{NoMemory, RankStop};
+use std::alloc::Global;
 use std::marker::Model;
 
 /// A ballot's candidates in order of rank, all different.
@@ -11,15 +14,54 @@ pub struct Ranking {
 
 impl Model for Ranking {
     ghost use Rattle.std.specs.Prelude.{List, ℕ};
+    ghost use Rattle.plain_ballots.specs.Ranking.{AreRanks};
 
     ghost Value = { List ℕ };
 
     ghost view = { λ r. r.ranks.items };
+
+    ghost invariant = { λ r. AreRanks r.ranks.items };
 }
 
 impl Ranking {
+    /// A ranking of ranks that were looked at already. It takes memory for just these ranks, once.
+    pub fn new(alloc: Global, ranks: &[u32]) -> Result<Ranking, NoMemory>
+        requires { AreRanks ranks.now }
+        ensures { IfOk result (λ ranking. ranking ≡ ranks.now) }
+    {
+        match Vec::from_slice(alloc, ranks) {
+            Ok(ranks) => Ok(Ranking { ranks }),
+            Err(_) => Err(NoMemory),
+        }
+    }
+
+    /// A ranking of candidates with the numbers 1 to `candidates`, or the first place at fault.
+    pub fn try_new(alloc: Global, candidates: u32, ranks: &[u32]) -> Result<Ranking, RankStop>
+        ensures ok { IfOk result (λ ranking. ranking ≡ ranks.now) }
+        ensures sound { OnOk result (IsRanking candidates ranks.now) }
+        ensures stop { IfErr result (IsRankStop candidates ranks.now) }
+    {
+        for (i, rank) in ranks.iter().enumerate() {
+            if *rank == 0 || *rank > candidates {
+                return Err(RankStop::OutOfRange(i + 1));
+            }
+            if ranks[..i].contains(rank) {
+                return Err(RankStop::Repeated(i + 1));
+            }
+        }
+        let ranking = Ranking::new(alloc, ranks)?;
+        Ok(ranking)
+    }
+
+    pub fn copy(&self, alloc: Global) -> Result<Ranking, NoMemory>
+        ensures { IfOk result (λ ranking. ranking ≡ self.now) }
+    {
+        Ranking::new(alloc, self.ranks())
+    }
+
     pub fn ranks(&self) -> &[u32]
-        ensures { result.now ≡ self.now }
+        ensures value { result.now ≡ self.now }
+        ensures ranks { AreRanks self.now }
     {
         self.ranks.as_slice()
     }

@@ -1,6 +1,6 @@
-use Rattle.std.proofs.Common.{◌≡◌, ◌≤◌, ℕ, List, [], length, arith, rules, drop, ap, ◌∙◌, sym}
+use Rattle.std.proofs.Common.{◌≡◌, ◌≤◌, length, arith, ap, ◌∙◌, sym}
 use Rattle.std.proofs.lemmas.List.{drop_all}
-use Rattle.lot_order.specs.Lots.{IsOrder, first_marked}
+use Rattle.lot_order.specs.Lots.{first_marked}
 use Rattle.lot_order.proofs.LotsLemmas.{first_marked-order}
 use Rattle.lot_order.proofs.lots.Lots.first_of.Goals as goal
 

@@ -1,5 +1,5 @@
-use Rattle.std.proofs.Common.{◌≡◌, ℕ, ◌+◌, ◌-◌, ◌<◌, ◌≤◌, ◌↔◌, List, [], ◌∷◌, ◌++◌, length, reverse, replicate, slice_get, slice_set, IfOk, IfErr, OnOk, OnErr, IfSome, IfNone, IsNone, Contains, Bool, true, nat_lt, drop}
-use Rattle.lot_order.specs.Lots.{IsOrder, first_marked, place_in}
+use Rattle.std.proofs.Common.{◌≡◌, drop}
+use Rattle.lot_order.specs.Lots.{first_marked}
 use Rattle.lot_order.proofs.lots.Lots.first_of.Given as goal
 
 abbrev pub invariant-loop-c : goal.invariant-loop-c

@@ -1,0 +1,82 @@
+// A source over memory that never fails.
+ghost use Rattle.std.specs.Prelude.{◌≡◌, ◌<◌, Some, Ok, min, length};
+ghost use Rattle.std.specs.Io.{ReadsAtMost};
+ghost use Rattle.std.specs.Io.KnownBytes.{ReadConsumes};
+
+use crate::{Failed, Source};
+use std::marker::Model;
+
+/// A source that has its bytes in memory, gives as many as the buffer holds and never fails.
+#[derive(Drop)]
+pub struct CalmSource {
+    bytes: Vec<u8>,
+    at: usize,
+}
+
+impl Model for CalmSource {
+    ghost use Rattle.std.specs.Prelude.{ℕ, ◌≤◌, List, drop, length};
+
+    ghost Value = { List ℕ };
+
+    ghost view = { λ s. drop s.at s.bytes.items };
+
+    ghost invariant = { λ s. s.at ≤ length s.bytes.items };
+}
+
+impl CalmSource {
+    pub fn new(bytes: Vec<u8>) -> Self
+        ensures { result ≡ bytes.items }
+    {
+        CalmSource { bytes, at: 0 }
+    }
+}
+
+impl Source for CalmSource {
+    ghost left = { λ s. Some s };
+
+    ghost faults = { λ _. 0 };
+
+    fn read(&mut self, buf: &mut [u8]) -> Result<usize, Failed>
+        requires { 0 < length buf.old }
+        ensures bound { ReadsAtMost result buf.new }
+        ensures bytes { ReadConsumes (Some self.old) (Some self.new) result buf.new }
+        ensures count { result ≡ Ok (min (length self.old) (length buf.old)) }
+    {
+        let left = &self.bytes[self.at..];
+        let n = left.len().min(buf.len());
+        buf[..n].copy_from_slice(&left[..n]);
+        self.at += n;
+        Ok(n)
+    }
+}
+
+#[cfg(test)]
+mod tests {
+    use super::*;
+    use crate::{ReadStop, read_all};
+    use std::test::Fail;
+
+    #[test]
+    fn it_gives_its_bytes(rt: HostRuntime) -> Result<(), Fail> {
+        let mut source = CalmSource::new(b"abcde".to_vec(rt.alloc())?);
+        let mut buf = [0; 3];
+        assert_eq!(rt; source.read(&mut buf), Ok(3));
+        assert_eq!(rt; buf, *b"abc");
+        assert_eq!(rt; source.read(&mut buf), Ok(2));
+        assert_eq!(rt; buf, *b"dec");
+        assert_eq!(rt; source.read(&mut buf), Ok(0));
+        Ok(())
+    }
+
+    // That no read of it fails is proved at the arm that can't be reached.
+    #[test]
+    fn reading_all_of_it_never_fails(rt: HostRuntime) -> Result<(), Fail> {
+        let mut source = CalmSource::new(b"abcde".to_vec(rt.alloc())?);
+        match read_all(rt.alloc(), &mut source, 5) {
+            Ok(bytes) => assert_eq!(rt; bytes.as_slice(), b"abcde".as_slice()),
+            Err(ReadStop::Failed) => unreachable!(),
+            Err(stop) => return Err(Fail::from(stop)),
+        }
+        Ok(())
+    }
+}

@@ -1,0 +1,90 @@
+// A source over memory that gives so many bytes at a read and fails at the calls that it is told.
+ghost use Rattle.std.specs.Prelude.{◌≡◌, ◌<◌, ◌↔◌, Some, min, length, IfOk, IsErr};
+ghost use Rattle.std.specs.Io.{ReadsAtMost};
+ghost use Rattle.std.specs.Io.KnownBytes.{ReadConsumes};
+ghost use Rattle.byte_edge.specs.Faults.{CountsFault};
+ghost use Rattle.byte_edge.specs.Scripts.{none_made, with_call, IsNextToFail};
+
+use crate::calls::CallCount;
+use crate::{CalmSource, Failed, Source};
+use std::marker::Model;
+
+/// A source that has its bytes in memory and fails by a script, for tests of a fault in mid-stream.
+#[derive(Drop)]
+pub struct MemorySource {
+    bytes: CalmSource,
+    chunk: usize,
+    calls: CallCount,
+}
+
+impl Model for MemorySource {
+    ghost use Rattle.std.specs.Prelude.{◌<◌};
+    ghost use Rattle.byte_edge.specs.Scripts.{SourceScript};
+
+    ghost Value = { SourceScript };
+
+    ghost view = { λ s. record { left = s.bytes; chunk = s.chunk; calls = s.calls } };
+
+    ghost invariant = { λ s. 0 < s.chunk };
+}
+
+impl MemorySource {
+    /// Gives the bytes, at most `chunk` at a read. The reads with the numbers in `failing`, from 1,
+    /// fail.
+    pub fn new(bytes: Vec<u8>, chunk: usize, failing: Vec<u64>) -> Self
+        requires { 0 < chunk }
+        ensures left { result.left ≡ bytes.items }
+        ensures chunk { result.chunk ≡ chunk }
+        ensures calls { result.calls ≡ none_made failing.items }
+    {
+        MemorySource {
+            bytes: CalmSource::new(bytes),
+            chunk,
+            calls: CallCount::new(failing),
+        }
+    }
+}
+
+impl Source for MemorySource {
+    ghost left = { λ s. Some s.left };
+
+    ghost faults = { λ s. s.calls.faults };
+
+    fn read(&mut self, buf: &mut [u8]) -> Result<usize, Failed>
+        requires { 0 < length buf.old }
+        ensures bound { ReadsAtMost result buf.new }
+        ensures bytes { ReadConsumes (Some self.old.left) (Some self.new.left) result buf.new }
+        ensures faults { CountsFault self.old.calls.faults self.new.calls.faults result }
+
+        // Which calls fail, and how many bytes the others give.
+        ensures failing { IsErr result ↔ IsNextToFail self.old.calls }
+        ensures count { IfOk result (λ n.
+            n ≡ min (length self.old.left) (min (length buf.old) self.old.chunk)) }
+        ensures calls { self.new.calls ≡ with_call self.old.calls result }
+        ensures chunk { self.new.chunk ≡ self.old.chunk }
+    {
+        self.calls.begin()?;
+        let n = buf.len().min(self.chunk);
+        self.bytes.read(&mut buf[..n])
+    }
+}
+
+#[cfg(test)]
+mod tests {
+    use super::*;
+    use std::test::Fail;
+
+    #[test]
+    fn it_gives_and_fails_as_told(rt: HostRuntime) -> Result<(), Fail> {
+        let alloc = rt.alloc();
+        let mut source = MemorySource::new(b"abcde".to_vec(alloc)?, 2, vec![in alloc; 2, 5]?);
+        let mut buf = [0; 4];
+        let answers = [Ok(2), Err(Failed), Ok(2), Ok(1), Err(Failed), Ok(0), Ok(0)];
+        let fronts: [&[u8]; 7] = [b"ab", b"ab", b"cd", b"ed", b"ed", b"ed", b"ed"];
+        for (answer, front) in answers.iter().zip(fronts) {
+            assert_eq!(rt; source.read(&mut buf), *answer);
+            assert_eq!(rt; &buf[..2], front);
+        }
+        Ok(())
+    }
+}

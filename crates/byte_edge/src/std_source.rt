@@ -1,0 +1,90 @@
+// A reader of std as a source. It tells no bytes.
+ghost use Rattle.std.specs.Prelude.{◌≡◌, ◌<◌, None, length};
+ghost use Rattle.std.specs.Io.{ReadsAtMost};
+ghost use Rattle.std.specs.Io.KnownBytes.{ReadConsumes};
+ghost use Rattle.byte_edge.specs.Faults.{CountsFault};
+
+use crate::{Failed, Source};
+use std::io::Read;
+
+/// A source that reads from a reader of std. Each error of the reader is a fault.
+#[derive(Drop)]
+pub struct StdSource<R> {
+    reader: R,
+    faults: u64,
+}
+
+impl<R: Read> StdSource<R> {
+    ghost use Rattle.byte_edge.specs.StdStreams.{reader_of, read_faults};
+
+    pub fn new(reader: R) -> Self
+        ensures faults { read_faults result ≡ 0 }
+        ensures reader { reader_of result ≡ reader }
+    {
+        StdSource { reader, faults: 0 }
+    }
+}
+
+impl<R: Read> Source for StdSource<R> {
+    ghost use Rattle.byte_edge.specs.StdStreams.{reader_of, read_faults};
+
+    ghost left = { λ _. None };
+
+    ghost faults = { read_faults };
+
+    fn read(&mut self, buf: &mut [u8]) -> Result<usize, Failed>
+        requires { 0 < length buf.old }
+        ensures bound { ReadsAtMost result buf.new }
+        ensures faults { CountsFault (read_faults self.old) (read_faults self.new) result }
+
+        // What the reader itself tells of its bytes.
+        ensures reader { ReadConsumes (R.remaining (reader_of self.old)) (R.remaining (reader_of self.new))
+            result buf.new }
+    {
+        if let Ok(n) = self.reader.read(buf) {
+            return Ok(n);
+        }
+        self.faults = self.faults.saturating_add(1);
+        Err(Failed)
+    }
+}
+
+#[cfg(test)]
+mod tests {
+    use super::*;
+    use std::io;
+    use std::test::Fail;
+
+    #[test]
+    fn it_reads_a_slice(rt: HostRuntime) -> Result<(), Fail> {
+        let mut source = StdSource::new(b"abcde".as_slice());
+        let mut buf = [0; 3];
+        assert_eq!(rt; source.read(&mut buf), Ok(3));
+        assert_eq!(rt; buf, *b"abc");
+        assert_eq!(rt; source.read(&mut buf), Ok(2));
+        assert_eq!(rt; buf, *b"dec");
+        assert_eq!(rt; source.read(&mut buf), Ok(0));
+        assert_eq!(rt; source.faults, 0);
+        Ok(())
+    }
+
+    #[derive(Drop)]
+    struct Broken;
+
+    impl Read for Broken {
+        fn read(&mut self, _: &mut [u8]) -> io::Result<usize> {
+            Err(io::Error::from(io::ErrorKind::Other))
+        }
+    }
+
+    #[test]
+    fn each_error_is_a_fault(rt: HostRuntime) -> Result<(), Fail> {
+        let mut source = StdSource::new(Broken);
+        let mut buf = [0; 3];
+        for faults in [1, 2] {
+            assert_eq!(rt; source.read(&mut buf), Err(Failed));
+            assert_eq!(rt; source.faults, faults);
+        }
+        Ok(())
+    }
+}

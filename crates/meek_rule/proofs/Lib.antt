@@ -1,0 +1,17 @@
+pub mod Counting
+pub mod EndLemmas
+pub mod PlaceLemmas
+pub mod ProgressLemmas
+pub mod RuleLemmas
+pub mod StateCounts
+pub mod StrictOrder
+pub mod TestLemmas
+pub mod TieLemmas
+pub mod TotalLemmas
+pub mod ValidLemmas
+pub mod WeightLemmas
+pub mod WinnersByCount
+pub mod WinnersByTest
+pub mod WinnersOrder
+pub mod WinnersUnique
+pub mod WorkedHolds

@@ -1,0 +1,10 @@
+use Rattle.std.proofs.Common.{◌≡◌, ℕ, ◌<◌, length}
+use Rattle.lot_order.specs.Flags.{mark_at}
+use Rattle.meek_rule.specs.Quota.{has_reached}
+use Rattle.meek_rule.proofs.winners.mark_reached.Given as goal
+
+abbrev pub invariant-loop-p : goal.invariant-loop-p
+invariant-loop-p g l = record {
+  same_length : length l.marks ≡ length l.fn.marks;
+  marked : (q : ℕ) → q < l.p → mark_at l.marks q ≡ has_reached l.states l.votes l.quota q;
+}

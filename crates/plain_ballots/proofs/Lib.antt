@@ -1,0 +1,4 @@
+pub mod RankingLemmas
+pub mod BallotsLemmas
+pub mod PermutationLemmas
+pub mod PlainLemmas
