@@ -5,4 +5,5 @@ pub mod NextIteration
 pub mod WholeCount
 pub mod EndLemmas
 pub mod StepLemmas
+pub mod Leading
 pub mod WorkedHolds

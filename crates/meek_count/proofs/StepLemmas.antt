@@ -21,6 +21,10 @@ use Rattle.meek_count.proofs.WholeCount.{rows_exist, sum-votes-valid}
 pub rest_exists : (places bound : ℕ) (count : Progress) → IsCounting (scale places) bound count → HasRest (scale places) count
 rest_exists places bound count is = rows_exist (scale places) count.ballots count.lots count.now (scale_pos places) is.valid is.order_of_lots is.lots_of_all
 
+-- the votes at the same keep values, of as many candidates
+pub votes-same : (s : ℕ) (kept keeps : List ℕ) (ballots : List (List ℕ)) (m n : ℕ) → kept ≡ keeps → m ≡ n → votes s kept ballots m ≡ votes s keeps ballots n
+votes-same s kept keeps ballots m n same of_all = ap (λ k. votes s k ballots m) same ∙ ap (votes s keeps ballots) of_all
+
 -- there is another number for a round
 pub round_fits : (s bound : ℕ) (now : Situation) → IsValid s now → IsOnItsWay bound now → is_complete now ≡ false → now.round + 1 < 2 ^ 32
 round_fits s bound now valid way going =

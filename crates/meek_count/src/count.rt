@@ -1,16 +1,17 @@
 // A count in steps.
-ghost use Rattle.std.specs.Prelude.{◌≡◌, ◌≤◌, ◌<◌, ◌↔◌, true, length, IfOk};
+ghost use Rattle.std.specs.Prelude.{◌≡◌, ◌≤◌, ◌<◌, ◌↔◌, true, [], ◌∷◌, length, IfOk, IsTrue};
 ghost use Rattle.fixed_place.specs.Rounding.{scale, most};
 ghost use Rattle.meek_rule.specs.Situation.{is_complete, finished, final_states, opening, steps_left};
 ghost use Rattle.meek_rule.specs.Row.{HasRoomFor};
+ghost use Rattle.meek_rule.specs.Weights.{votes};
 ghost use Rattle.meek_count.specs.Rows.{IteratesTo};
-ghost use Rattle.meek_count.specs.Progress.{IsSameElection, HasJustBegun, HasRest};
+ghost use Rattle.meek_count.specs.Progress.{IsSameElection, HasJustBegun, HasRest, Leads};
 
 use crate::Turn;
 use candidate_roll::{Roll, States};
-use fixed_place::{Amount, Amounts};
+use fixed_place::{Amount, Amounts, Keeps};
 use lot_order::Lots;
-use meek_rule::{NoMemory, Row, Situation, Spread};
+use meek_rule::{NoMemory, Row, Situation, Spread, Step};
 use std::alloc::Global;
 use std::marker::Model;
 
@@ -21,13 +22,15 @@ pub struct Count<'e, const P: usize, D: Spread<P> + Drop> {
     lots: &'e Lots,
     spread: D,
     situation: Situation<P>,
-    votes: Amounts<P>,
+    tally: Amounts<P>,
+    tally_stands: bool,
     row: Row<P>,
     has_row: bool,
 }
 
 impl<'e, const P: usize, D: Spread<P> + Drop> Model for Count<'e, P, D> {
-    ghost use Rattle.std.specs.Prelude.{◌≡◌, ◌≤◌, ◌+◌, ◌^◌, length};
+    ghost use Rattle.std.specs.Prelude.{◌≡◌, ◌≤◌, ◌+◌, ◌^◌, length, IsTrue};
+    ghost use Rattle.meek_rule.specs.Weights.{votes};
     ghost use Rattle.meek_count.specs.Progress.{Progress, IsCounting};
 
     ghost Value = { Progress };
@@ -38,7 +41,8 @@ impl<'e, const P: usize, D: Spread<P> + Drop> Model for Count<'e, P, D> {
         (6 ≤ P) × (P ≤ 9)
         × D.can_spread c.spread
         × (D.candidates c.spread ≡ length c.situation.states)
-        × (length c.votes ≡ length c.situation.states)
+        × (length c.tally ≡ length c.situation.states)
+        × (IsTrue c.tally_stands → c.tally ≡ votes (10 ^ P) c.situation.keeps (D.ballots c.spread) (D.candidates c.spread))
         × IsCounting (10 ^ P) (10 ^ (P + 9)) (record { roll = c.roll.now; lots = c.lots.now; ballots = D.ballots c.spread; now = c.situation; has_row = c.has_row; row = c.row }) };
 }
 
@@ -67,14 +71,15 @@ impl<'e, const P: usize, D: Spread<P> + Drop> Count<'e, P, D> {
         let _order = lots.candidates();
         let n = roll.candidates();
         let situation = Situation::begin(alloc, roll, omega)?;
-        let votes = Amounts::filled(alloc, n as usize, Amount::from_units(0))?;
+        let tally = Amounts::filled(alloc, n as usize, Amount::from_units(0))?;
         let row = Row::new(alloc, n)?;
         Ok(Count {
             roll,
             lots,
             spread,
             situation,
-            votes,
+            tally,
+            tally_stands: false,
             row,
             has_row: false,
         })
@@ -93,6 +98,7 @@ impl<'e, const P: usize, D: Spread<P> + Drop> Count<'e, P, D> {
 
         // An iteration.
         ensures iterated { result ≡ Turn.Iterated → IteratesTo (scale P) self.old.ballots self.old.lots self.old.now self.new.row self.new.now }
+        ensures leads { result ≡ Turn.Iterated → Leads (scale P) self.old (self.new.row ∷ []) self.new }
         ensures has_row { result ≡ Turn.Iterated → self.new.has_row ≡ true }
         ensures nearer { result ≡ Turn.Iterated → steps_left (most P) self.new.now < steps_left (most P) self.old.now }
 
@@ -101,10 +107,17 @@ impl<'e, const P: usize, D: Spread<P> + Drop> Count<'e, P, D> {
     {
         if self.situation.is_complete() {
             self.situation.finish();
+            self.tally_stands = false;
             return Turn::Finished;
         }
-        self.spread.spread(self.situation.keeps(), &mut self.votes);
-        self.situation.settle(&self.votes, self.lots, &mut self.row);
+        distribute(
+            &mut self.spread,
+            self.situation.keeps(),
+            &mut self.tally,
+            self.tally_stands,
+        );
+        self.situation.settle(&self.tally, self.lots, &mut self.row);
+        self.tally_stands = is_election(&self.row);
         self.has_row = true;
         Turn::Iterated
     }
@@ -141,4 +154,32 @@ impl<'e, const P: usize, D: Spread<P> + Drop> Count<'e, P, D> {
     {
         self.spread.ballots()
     }
+}
+
+/// Distributes the ballots, unless the tally stands at these keep values already.
+fn distribute<const P: usize, D: Spread<P>>(
+    spread: &mut D,
+    keeps: &Keeps<P>,
+    tally: &mut Amounts<P>,
+    stands: bool,
+)
+    requires can { D.can_spread spread.old }
+    requires keeps_of_all { length keeps.now ≡ D.candidates spread.old }
+    requires votes_of_all { length tally.old ≡ D.candidates spread.old }
+    requires stands { IsTrue stands → tally.old ≡ votes (scale P) keeps.now (D.ballots spread.old) (D.candidates spread.old) }
+    ensures votes { tally.new ≡ votes (scale P) keeps.now (D.ballots spread.old) (D.candidates spread.old) }
+    ensures still_can { D.can_spread spread.new }
+    ensures same { D.ballots spread.new ≡ D.ballots spread.old }
+    ensures same_candidates { D.candidates spread.new ≡ D.candidates spread.old }
+{
+    if !stands {
+        spread.spread(keeps, tally);
+    }
+}
+
+/// Whether somebody was elected, so that no keep value changed.
+fn is_election<const P: usize>(row: &Row<P>) -> bool
+    ensures { IsTrue result ↔ (row.now.step ≡ Step.Elected) }
+{
+    row.step == Step::Elected
 }

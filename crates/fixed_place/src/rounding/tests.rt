@@ -1,5 +1,4 @@
 use super::*;
-use crate::keep_part;
 
 #[test]
 fn keeps_the_part_rounded_up(rt: HostRuntime) {
@@ -11,7 +10,6 @@ fn keeps_the_part_rounded_up(rt: HostRuntime) {
     let weight = Amount::<9>::from_units(428_571_428);
     let keep = Keep::from_units(666_666_667);
     assert_eq!(rt; mul_up(weight, keep).units(), 285_714_286);
-    assert_eq!(rt; keep_part(weight.units(), keep), 285_714_286);
     assert_eq!(rt; rounding_law(weight, keep).units(), 142_857_142);
 }
 

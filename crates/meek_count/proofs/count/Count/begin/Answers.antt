@@ -14,7 +14,7 @@ invariant_of-result g c =
       ap (λ (now : Situation). length now.states) c.in_ok-situation.ensures.opening ∙ length-opening (scale g.row.P) c.args.omega c.args.roll.now c.candidates-n.ensures.sound in
     let all : c.candidates-n.result ≡ length c.in_ok-situation.situation.states = c.candidates-n.ensures.value ∙ sym states in
     (c.units-places.ensures.places.0, c.units-places.ensures.places.1, c.requires.can_spread, c.requires.spread_of_all ∙ sym states,
-      ap (λ (v : List ℕ). length v) c.in_ok-votes.ensures ∙ (length-replicate _ _ ∙ all),
+      ap (λ (v : List ℕ). length v) c.in_ok-tally.ensures ∙ (length-replicate _ _ ∙ all), λ stand. absurd (cc),
       record {
         valid = c.in_ok-situation.ensures.valid;
         on_its_way = c.in_ok-situation.ensures.on_its_way;

@@ -1,13 +1,15 @@
-use Rattle.std.proofs.Common.{◌≡◌, ℕ, ◌≤◌, false, List, length, sum, arith, ap, sym, subst, ◌∙◌}
+use Rattle.std.proofs.Common.{◌≡◌, ℕ, ◌≤◌, true, false, List, [], ◌∷◌, length, sum, arith, refl, ap, sym, subst, ◌∙◌}
 use Rattle.std.proofs.lemmas.List.FromFn.{length-map-range_with_len}
 use Rattle.fixed_place.specs.Rounding.{scale, most}
 use Rattle.fixed_place.proofs.RoundingLemmas.{scale_pos}
 use Rattle.meek_rule.specs.Situation.{Situation, is_complete, finished}
-use Rattle.meek_rule.specs.Iteration.{HasOnlyRunningVotes}
+use Rattle.meek_rule.specs.Iteration.{HasOnlyRunningVotes, Settle}
 use Rattle.meek_rule.specs.Weights.{votes}
-use Rattle.meek_count.specs.Progress.{Progress, IsCounting}
+use Rattle.meek_count.specs.Progress.{Progress, Leads}
 use Rattle.meek_count.proofs.EndLemmas.{finished-twice, on_its_way-finished}
-use Rattle.meek_count.proofs.StepLemmas.{round_fits, iteration_fits, only_running, votes_fit}
+use Rattle.meek_count.proofs.StepLemmas.{round_fits, iteration_fits, only_running, votes_fit, votes-same}
+use Rattle.meek_count.specs.Rows.{IteratesTo}
+use Rattle.meek_count.proofs.Leading.{leads_one}
 use Rattle.meek_count.proofs.WholeCount.{rows_exist}
 use Rattle.meek_count.proofs.count.Count.next.Goals as goal
 
@@ -15,15 +17,15 @@ use Rattle.meek_count.proofs.count.Count.next.Goals as goal
 pub invariant_of-self : goal.invariant_of-self
 invariant_of-self g c =
     let same : length c.finish.new.self.states ≡ length c.self.inside.situation.states = c.finish.ensures.same_candidates in
-    (c.self.invariant.0, c.self.invariant.1, c.self.invariant.2, c.self.invariant.3 ∙ sym same, c.self.invariant.4 ∙ sym same,
+    (c.self.invariant.0, c.self.invariant.1, c.self.invariant.2, c.self.invariant.3 ∙ sym same, c.self.invariant.4 ∙ sym same, λ stand. absurd (cc),
       record {
         valid = c.finish.ensures.valid;
-        on_its_way = rw c.finish.ensures.finished (on_its_way-finished _ c.self.inside.situation c.self.invariant.5.on_its_way);
-        order_of_lots = c.self.invariant.5.order_of_lots;
-        lots_of_all = c.self.invariant.5.lots_of_all ∙ sym same;
-        names_of_all = c.self.invariant.5.names_of_all ∙ sym same;
-        row_of_all = rw same c.self.invariant.5.row_of_all;
-        few_ballots = c.self.invariant.5.few_ballots;
+        on_its_way = rw c.finish.ensures.finished (on_its_way-finished _ c.self.inside.situation c.self.invariant.6.on_its_way);
+        order_of_lots = c.self.invariant.6.order_of_lots;
+        lots_of_all = c.self.invariant.6.lots_of_all ∙ sym same;
+        names_of_all = c.self.invariant.6.names_of_all ∙ sym same;
+        row_of_all = rw same c.self.invariant.6.row_of_all;
+        few_ballots = c.self.invariant.6.few_ballots;
       })
 
 pub returns-then-is_complete-clause-settled : goal.returns-then-is_complete-clause-settled
@@ -35,22 +37,33 @@ settle-requires g c =
     let now : Situation = c.self.inside.situation in
     let going : is_complete now ≡ false = sym c.is_complete.ensures ∙ c.if-is_complete.false in
     let cast : List ℕ = votes (scale g.row.P) now.keeps (g.D.Spread.ballots c.self.inside.spread) (length now.states) in
-    let tally : c.spread.new.tally ≡ cast =
-      c.spread.ensures.votes
-      ∙ (ap (λ k. votes (scale g.row.P) k (g.D.Spread.ballots c.self.inside.spread) (g.D.Spread.candidates c.self.inside.spread)) c.keeps.ensures
-      ∙ ap (votes (scale g.row.P) now.keeps (g.D.Spread.ballots c.self.inside.spread)) c.self.invariant.3) in
-    let running : HasOnlyRunningVotes now.states c.spread.new.tally =
+    let tally : c.distribute.new.tally ≡ cast = c.distribute.ensures.votes ∙ votes-same (scale g.row.P) c.keeps.result.now now.keeps (g.D.Spread.ballots c.self.inside.spread) (g.D.Spread.candidates c.self.inside.spread) (length now.states) c.keeps.ensures c.self.invariant.3 in
+    let running : HasOnlyRunningVotes now.states c.distribute.new.tally =
       subst (λ (v : List ℕ). HasOnlyRunningVotes now.states v) (sym tally)
-      (only_running (scale g.row.P) (g.D.Spread.ballots c.self.inside.spread) now (scale_pos g.row.P) c.self.invariant.5.valid) in
-    let within : sum c.spread.new.tally ≤ most g.row.P =
-      rw tally (votes_fit g.row.P (g.D.Spread.ballots c.self.inside.spread) now c.self.invariant.5.valid c.self.invariant.5.few_ballots) in
-    let of_all : length c.spread.new.tally ≡ length now.states = ap (λ (v : List ℕ). length v) tally ∙ length-map-range_with_len _ 0 (length now.states) in
+      (only_running (scale g.row.P) (g.D.Spread.ballots c.self.inside.spread) now (scale_pos g.row.P) c.self.invariant.6.valid) in
+    let within : sum c.distribute.new.tally ≤ most g.row.P =
+      rw tally (votes_fit g.row.P (g.D.Spread.ballots c.self.inside.spread) now c.self.invariant.6.valid c.self.invariant.6.few_ballots) in
+    let of_all : length c.distribute.new.tally ≡ length now.states = ap (λ (v : List ℕ). length v) tally ∙ length-map-range_with_len _ 0 (length now.states) in
     (omega arith, (omega arith, (omega arith, (going,
-      (round_fits (scale g.row.P) _ now c.self.invariant.5.valid c.self.invariant.5.on_its_way going,
-      (iteration_fits g.row.P now c.self.invariant.1 c.self.invariant.5.on_its_way,
-      (of_all, (c.self.invariant.5.lots_of_all, (c.self.invariant.5.row_of_all, (running, within))))))))))
+      (round_fits (scale g.row.P) _ now c.self.invariant.6.valid c.self.invariant.6.on_its_way going,
+      (iteration_fits g.row.P now c.self.invariant.1 c.self.invariant.6.on_its_way,
+      (of_all, (c.self.invariant.6.lots_of_all, (c.self.invariant.6.row_of_all, (running, within))))))))))
 
 pub returns-clause-rest : goal.returns-clause-rest
 returns-clause-rest g c =
-    rows_exist (scale g.row.P) (g.D.Spread.ballots c.spread.new.self) c.self.inside.lots.now c.settle.new.self (scale_pos g.row.P) c.settle.ensures.valid c.self.invariant.5.order_of_lots
-    (c.self.invariant.5.lots_of_all ∙ sym c.settle.ensures.same_candidates)
+    rows_exist (scale g.row.P) (g.D.Spread.ballots c.distribute.new.spread) c.self.inside.lots.now c.settle.new.self (scale_pos g.row.P) c.settle.ensures.valid c.self.invariant.6.order_of_lots
+    (c.self.invariant.6.lots_of_all ∙ sym c.settle.ensures.same_candidates)
+
+-- the row leads on
+pub returns-clause-leads : goal.returns-clause-leads
+returns-clause-leads g c = λ is.
+    let now : Situation = c.self.inside.situation in
+    let going : is_complete now ≡ false = sym c.is_complete.ensures ∙ c.if-is_complete.false in
+    let old : Progress = record { roll = c.self.inside.roll.now; lots = c.self.inside.lots.now; ballots = g.D.Spread.ballots c.self.inside.spread; now = now; has_row = c.self.inside.has_row; row = c.self.inside.row } in
+    let new : Progress = record { roll = c.self.inside.roll.now; lots = c.self.inside.lots.now; ballots = g.D.Spread.ballots c.distribute.new.spread; now = c.settle.new.self; has_row = true; row = c.settle.new.row } in
+    let tally : c.distribute.new.tally ≡ votes (scale g.row.P) now.keeps old.ballots (length now.states) =
+      c.distribute.ensures.votes ∙ votes-same (scale g.row.P) c.keeps.result.now now.keeps (g.D.Spread.ballots c.self.inside.spread) (g.D.Spread.candidates c.self.inside.spread) (length now.states) c.keeps.ensures c.self.invariant.3 in
+    let iterates : IteratesTo (scale g.row.P) old.ballots old.lots now new.row new.now =
+      subst (λ (v : List ℕ). Settle (scale g.row.P) now v old.lots new.row new.now) tally c.settle.ensures.settle in
+    subst (λ (p : Progress). Leads (scale g.row.P) p (new.row ∷ []) new) c.self.view_is
+    (leads_one (scale g.row.P) old new going iterates (record { roll = refl; lots = refl; ballots = c.distribute.ensures.same }))
