@@ -203,3 +203,6 @@ impl<const P: usize> Situation<P> {
         end_states(&mut self.states, full);
     }
 }
+
+#[cfg(test)]
+mod tests;
