@@ -7,9 +7,10 @@ ghost use Rattle.meek_rule.specs.Iteration.{HasOnlyRunningVotes};
 
 use super::*;
 use crate::states::{is_elected, is_hopeful};
-use crate::{FlatSpread, Spread};
+use crate::{FlatSpread, Row, Spread, Step};
 use candidate_roll::{Name, Names};
-use fixed_place::sum_checked;
+use fixed_place::{Amounts, sum_checked};
+use lot_order::Lots;
 use plain_ballots::{BallotLine, Ballots, Ranking};
 use std::process::Abort;
 use std::test::Fail;
