@@ -1,0 +1,9 @@
+//! The text of a count, line by line: [`write_sheet`] makes the whole sheet of a count that was just
+//! begun; [`write_head`], [`write_row`] and [`write_result`] write its parts.
+#![tactic(auto)]
+
+mod head;
+mod line_end;
+mod words;
+
+pub use head::write_head;
