@@ -1,2 +1,3 @@
+pub mod EachPlace
 pub mod Rooms
 pub mod WritingLemmas

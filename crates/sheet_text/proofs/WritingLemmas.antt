@@ -2,7 +2,7 @@
 use Rattle.std.proofs.Common.{◌≡◌, ℕ, ◌<◌, List, [], ◌∷◌, ◌++◌, Option, Result, Ok, Err, IsErr, arith, sym, ap, subst, refl, ◌∙◌, append_assoc, append-nil}
 use Rattle.std.specs.Prelude.{OnOk, OnErr}
 use Rattle.std.specs.Io.KnownBytes.{Appends}
-use Rattle.std.proofs.KnownBytes.{Appends-trans}
+use Rattle.std.proofs.KnownBytes.{Appends-nil, Appends-trans}
 use Rattle.std.proofs.lemmas.List.Concat.{flat_map-append}
 use Rattle.byte_edge.specs.Bytes.{AppendsFront}
 use Rattle.byte_edge.specs.Faults.{Rose, CountsFault}
@@ -17,13 +17,17 @@ pub text_of_lines-one : (line : List ℕ) → text_of_lines (line ∷ []) ≡ li
 unfolding text_of_lines
 text_of_lines-one line = append-nil (line ++ 10 ∷ [])
 
-wrote_later : {S : Type 0} {w : S → Option (List ℕ)} {f : S → ℕ} {a b c : S} {first second : List (List ℕ)} → Wrote w f a b first → Wrote w f b c second → Wrote w f a c (first ++ second)
+pub wrote_nothing : {S : Type 0} (w : S → Option (List ℕ)) (f : S → ℕ) (a : S) → Wrote w f a a []
+unfolding text_of_lines
+wrote_nothing w f a = record { whole = Appends-nil (w a); calm = refl }
+
+pub wrote_later : {S : Type 0} {w : S → Option (List ℕ)} {f : S → ℕ} {a b c : S} {first second : List (List ℕ)} → Wrote w f a b first → Wrote w f b c second → Wrote w f a c (first ++ second)
 wrote_later {w} {a} {b} {c} {first} {second} done next = record {
   whole = rw text_of_lines-append (Appends-trans (w a) (w b) (w c) (text_of_lines first) (text_of_lines second) done.whole next.whole);
   calm = next.calm ∙ done.calm;
 }
 
-stopped_later : {S : Type 0} {w : S → Option (List ℕ)} {f : S → ℕ} {a b c : S} {first second : List (List ℕ)} → Wrote w f a b first → Stopped w f b c second → Stopped w f a c (first ++ second)
+pub stopped_later : {S : Type 0} {w : S → Option (List ℕ)} {f : S → ℕ} {a b c : S} {first second : List (List ℕ)} → Wrote w f a b first → Stopped w f b c second → Stopped w f a c (first ++ second)
 stopped_later {w} {f} {a} {b} {c} {first} {second} done next =
     let head = text_of_lines first in
     let front = next.part.0 in

@@ -61,16 +61,28 @@ head_lines roll ballots =
     ∷ (codes "ballots " ++ decimal ballots)
     ∷ []
 
+-- which iteration of which round it is
+abbrev pub number_line : Row → List ℕ
+number_line row = codes "round " ++ decimal row.round ++ codes " iteration " ++ decimal row.iteration
+
+abbrev pub amount_lines : (places : ℕ) → Row → List (List ℕ)
+amount_lines places row =
+    (codes "total " ++ text_of places row.total)
+    ∷ (codes "quota " ++ text_of places row.quota)
+    ∷ (codes "surplus " ++ text_of places row.surplus)
+    ∷ []
+
+-- what the iteration decided
+abbrev pub decision_lines : Row → List (List ℕ)
+decision_lines row =
+    marked_lines (codes "elected") row.elected
+    ++ (marked_lines (codes "capped") row.capped ++ step_line row.step row.tied ∷ [])
+
 -- an iteration
 abbrev pub row_lines : (places : ℕ) → Row → List (List ℕ)
 row_lines places row =
-    (codes "round " ++ decimal row.round ++ codes " iteration " ++ decimal row.iteration)
-    ∷ each_place (length row.states) (candidate_line places row)
-    ++ ((codes "total " ++ text_of places row.total)
-      ∷ (codes "quota " ++ text_of places row.quota)
-      ∷ (codes "surplus " ++ text_of places row.surplus)
-      ∷ marked_lines (codes "elected") row.elected
-      ++ (marked_lines (codes "capped") row.capped ++ step_line row.step row.tied ∷ []))
+    number_line row ∷ each_place (length row.states) (candidate_line places row)
+    ++ (amount_lines places row ++ decision_lines row)
 
 -- how a sheet ends
 abbrev pub result_lines : (names : List (List ℕ)) → List State → List (List ℕ)

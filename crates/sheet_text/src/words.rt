@@ -1,5 +1,5 @@
 // Words and lists of candidates within a line.
-ghost use Rattle.std.specs.Prelude.{◌≡◌, ◌+◌, ◌*◌, ◌≤◌, ◌++◌, ◌∷◌, length, decimal};
+ghost use Rattle.std.specs.Prelude.{◌≡◌, ◌+◌, ◌*◌, ◌<◌, ◌≤◌, ◌++◌, [], ◌∷◌, length, decimal};
 ghost use Rattle.std.specs.List.{list_any};
 ghost use Rattle.sheet_text.specs.Lines.{state_word, listed};
 
@@ -17,6 +17,20 @@ pub(crate) fn word_of(state: State) -> &'static [u8]
         State::Defeated => b"defeated",
         State::Withdrawn => b"withdrawn",
     }
+}
+
+/// Begins the line of the candidate at place `p`: its number and its state, with a space behind.
+#[tactic(auto, using(crate::proofs::Rooms::rooms))]
+pub(crate) fn begin_candidate(line: &mut Line, p: usize, state: State)
+    requires { p < 250 }
+    ensures text { line.new ≡ decimal (p + 1) ++ 32 ∷ state_word state ++ 32 ∷ [] }
+    ensures short { length line.new ≤ 14 }
+{
+    line.clear();
+    line.push_count(p as u64 + 1);
+    line.push_bytes(b" ");
+    line.push_bytes(word_of(state));
+    line.push_bytes(b" ");
 }
 
 /// Whether somebody is marked.
