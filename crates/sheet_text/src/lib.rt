@@ -6,8 +6,10 @@ mod head;
 mod line_end;
 mod outcome;
 mod row_text;
+mod sheet;
 mod words;
 
 pub use head::write_head;
 pub use outcome::write_result;
 pub use row_text::write_row;
+pub use sheet::write_sheet;
