@@ -5,7 +5,7 @@ use Rattle.candidate_roll.specs.State.{state_at}
 use Rattle.candidate_roll.specs.declared.state.State.{State}
 use Rattle.candidate_roll.specs.declared.state.State.TheVariants.{Hopeful, Elected, Defeated, Withdrawn}
 use Rattle.meek_rule.specs.Situation.{Situation, IsOnItsWay, final_state, final_keep, final_states, final_keeps, finished, is_full, hopeful_count}
-use Rattle.meek_rule.proofs.ValidLemmas.{final-hopeful}
+use Rattle.meek_rule.proofs.EndLemmas.{final-hopeful}
 
 -- a final state and its keep value stay
 pub record Stays (again : Bool) (state : State) (keep : ℕ) : Type 0 where

@@ -1,9 +1,7 @@
-pub mod TotalLemmas
-pub mod UniqueLemmas
 pub mod OneIteration
 pub mod NextIteration
 pub mod WholeCount
-pub mod EndLemmas
-pub mod StepLemmas
 pub mod Leading
+pub mod StepLemmas
+pub mod EndLemmas
 pub mod WorkedHolds

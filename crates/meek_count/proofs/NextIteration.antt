@@ -21,9 +21,12 @@ use Rattle.meek_rule.specs.Surplus.{surplus, holds_seat}
 use Rattle.meek_rule.specs.KeepValues.{new_keeps, capped, next_keep}
 use Rattle.meek_rule.specs.Ties.{tied, is_tied}
 use Rattle.meek_rule.specs.Iteration.{Settle, Leaves, nobody, is_exhausted, is_not_falling, elect, with_elected, with_defeated, with_keeps}
-use Rattle.meek_rule.proofs.ValidLemmas.{valid-with_elected, valid-with_keeps, valid-with_defeated, hopeful_count-elect, hopeful_count-defeat, nearer_by_round, somebody_tied, somebody_hopeful}
+use Rattle.meek_rule.proofs.ValidLemmas.{valid-with_elected, valid-with_keeps, valid-with_defeated}
+use Rattle.meek_rule.proofs.StateCounts.{hopeful_count-elect, hopeful_count-defeat}
+use Rattle.meek_rule.proofs.ProgressLemmas.{nearer_by_round}
+use Rattle.meek_rule.proofs.TieLemmas.{somebody_tied, somebody_hopeful}
 use Rattle.meek_rule.specs.Precedence.{has_won}
-use Rattle.meek_rule.proofs.RankLemmas.{winners_by_rank}
+use Rattle.meek_rule.proofs.WinnersByCount.{winners_by_rank}
 use Rattle.meek_rule.proofs.PlaceLemmas.{sum_more}
 
 -- a row of the rule, with the situation after it, which is valid and nearer to the end

@@ -20,9 +20,7 @@ use Rattle.meek_rule.specs.Surplus.{surplus, holds_seat}
 use Rattle.meek_rule.specs.KeepValues.{new_keeps, capped, next_keep}
 use Rattle.meek_rule.specs.Ties.{tied, is_tied}
 use Rattle.meek_rule.specs.Iteration.{Settle, Leaves, nobody, is_exhausted, is_not_falling, elect, with_elected, with_defeated, with_keeps}
-use Rattle.meek_rule.proofs.ValidLemmas.{valid-with_elected, valid-with_keeps, valid-with_defeated, hopeful_count-elect, hopeful_count-defeat, nearer_by_round, somebody_tied, somebody_hopeful}
-use Rattle.meek_rule.proofs.PlaceLemmas.{sum_more}
-use Rattle.meek_count.proofs.UniqueLemmas.{winners-unique}
+use Rattle.meek_rule.proofs.WinnersUnique.{winners-unique}
 
 -- ONE AT MOST
 

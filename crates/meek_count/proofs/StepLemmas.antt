@@ -11,10 +11,10 @@ use Rattle.candidate_roll.specs.declared.state.State.TheVariants.{Hopeful, Elect
 use Rattle.meek_rule.specs.Situation.{Situation, IsValid, IsOnItsWay, FitsState, is_complete, is_hopeful, is_elected, hopeful_count}
 use Rattle.meek_rule.specs.Iteration.{HasOnlyRunningVotes}
 use Rattle.meek_rule.specs.Weights.{given, vote, votes}
-use Rattle.meek_rule.proofs.ValidLemmas.{somebody_hopeful}
+use Rattle.meek_rule.proofs.TieLemmas.{somebody_hopeful}
 use Rattle.meek_rule.proofs.RuleLemmas.{most_bound}
 use Rattle.meek_count.specs.Progress.{Progress, IsCounting, HasRest}
-use Rattle.meek_count.proofs.TotalLemmas.{given-none}
+use Rattle.meek_rule.proofs.TotalLemmas.{given-none}
 use Rattle.meek_count.proofs.WholeCount.{rows_exist, sum-votes-valid}
 
 -- some rows lead from where a count stands to the end

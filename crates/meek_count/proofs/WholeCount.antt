@@ -20,7 +20,7 @@ use Rattle.meek_rule.specs.Weights.{given, vote, votes}
 use Rattle.meek_rule.proofs.ValidLemmas.{valid-opening}
 use Rattle.meek_count.specs.Rows.{Rows, IteratesTo, IsCount}
 use Rattle.meek_count.specs.Laws.{AreOnly, IsElection}
-use Rattle.meek_count.proofs.TotalLemmas.{sum-votes-le}
+use Rattle.meek_rule.proofs.TotalLemmas.{sum-votes-le}
 use Rattle.meek_count.proofs.OneIteration.{settle-unique}
 use Rattle.meek_count.proofs.NextIteration.{goes_on, GoesOn}
 

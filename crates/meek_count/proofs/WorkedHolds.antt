@@ -3,8 +3,8 @@ use Rattle.std.proofs.Common.{ℕ, List, refl, lit≤, [], ◌∷◌, Some, None
 use Rattle.candidate_roll.specs.declared.state.State.{State}
 use Rattle.candidate_roll.specs.declared.state.State.TheVariants.{Hopeful, Elected, Defeated, Withdrawn}
 use Rattle.meek_rule.specs.Situation.{Situation}
-use Rattle.meek_rule.proofs.WinnerLemmas.{winners_by_test}
-use Rattle.meek_count.specs.Worked.{three_iterations, at_six_places, sample_election}
+use Rattle.meek_rule.proofs.WinnersByTest.{winners_by_test}
+use Rattle.meek_count.specs.Worked.{ThreeIterations, AtSixPlaces, SampleElection}
 
 abbrev between : (omega : ℕ) → List State → (keeps : List ℕ) → (round iteration : ℕ) → Option ℕ → Situation
 between units states keeps round iteration previous = record {
@@ -17,8 +17,8 @@ between units states keeps round iteration previous = record {
   omega = units;
 }
 
-pub three_iterations-holds : three_iterations
-three_iterations-holds =
+pub ThreeIterations-holds : ThreeIterations
+ThreeIterations-holds =
     let hopeful_two : List State = Elected ∷ Hopeful ∷ Hopeful ∷ [] in
     (refl, (between 1000 hopeful_two (1000000000 ∷ 1000000000 ∷ 1000000000 ∷ []) 2 1 None, record {
       round = refl; iteration = refl; states = refl; keeps = refl; votes_are = refl; total = refl; quota_is = refl;
@@ -46,8 +46,8 @@ three_iterations-holds =
     },
     (refl, refl)))))))))
 
-pub at_six_places-holds : at_six_places
-at_six_places-holds =
+pub AtSixPlaces-holds : AtSixPlaces
+AtSixPlaces-holds =
     let hopeful_two : List State = Elected ∷ Hopeful ∷ Hopeful ∷ [] in
     (refl, (between 1 hopeful_two (1000000 ∷ 1000000 ∷ 1000000 ∷ []) 2 1 None, record {
       round = refl; iteration = refl; states = refl; keeps = refl; votes_are = refl; total = refl; quota_is = refl;
@@ -75,8 +75,8 @@ at_six_places-holds =
     },
     (refl, refl)))))))))
 
-pub sample_election-holds : sample_election
-sample_election-holds =
+pub SampleElection-holds : SampleElection
+SampleElection-holds =
     let hopeful_two : List State = Elected ∷ Withdrawn ∷ Hopeful ∷ Hopeful ∷ [] in
     (refl, (between 1000 hopeful_two (1000000000 ∷ 0 ∷ 1000000000 ∷ 1000000000 ∷ []) 2 1 None, record {
       round = refl; iteration = refl; states = refl; keeps = refl; votes_are = refl; total = refl; quota_is = refl;

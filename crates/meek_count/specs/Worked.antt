@@ -26,8 +26,8 @@ none_of_three = false ∷ false ∷ false ∷ []
 abbrev pub first_is_elected : List State
 first_is_elected = IsElected ∷ Hopeful ∷ Hopeful ∷ []
 
-abbrev pub three_iterations : Type 0
-three_iterations =
+abbrev pub ThreeIterations : Type 0
+ThreeIterations =
     let first : Row = record {
       round = 1;
       iteration = 1;
@@ -88,8 +88,8 @@ three_iterations =
     (IsElected ∷ IsElected ∷ Defeated ∷ [])
 
 -- The same ballots at six places, with an omega of one unit.
-abbrev pub at_six_places : Type 0
-at_six_places =
+abbrev pub AtSixPlaces : Type 0
+AtSixPlaces =
     let first : Row = record {
       round = 1;
       iteration = 1;
@@ -168,8 +168,8 @@ sample_roll = record {
 abbrev pub none_of_four : List Bool
 none_of_four = false ∷ false ∷ false ∷ false ∷ []
 
-abbrev pub sample_election : Type 0
-sample_election =
+abbrev pub SampleElection : Type 0
+SampleElection =
     let first : Row = record {
       round = 1;
       iteration = 1;

@@ -1,7 +1,7 @@
 // A count in steps.
-ghost use Rattle.std.specs.Prelude.{◌≡◌, ◌≤◌, ◌<◌, ◌↔◌, true, [], ◌∷◌, length, IfOk, IsTrue};
+ghost use Rattle.std.specs.Prelude.{◌≡◌, ◌≤◌, ◌<◌, ◌↔◌, true, false, [], ◌∷◌, length, IfOk, IsTrue};
 ghost use Rattle.fixed_place.specs.Rounding.{scale, most};
-ghost use Rattle.meek_rule.specs.Situation.{is_complete, finished, final_states, opening, steps_left};
+ghost use Rattle.meek_rule.specs.Situation.{IsValid, is_complete, finished, final_states, opening, steps_left};
 ghost use Rattle.meek_rule.specs.Row.{HasRoomFor};
 ghost use Rattle.meek_rule.specs.Weights.{votes};
 ghost use Rattle.meek_count.specs.Rows.{IteratesTo};
@@ -65,6 +65,7 @@ impl<'e, const P: usize, D: Spread<P> + Drop> Count<'e, P, D> {
         ensures roll { IfOk result (λ count. count.roll ≡ roll.now) }
         ensures lots { IfOk result (λ count. count.lots ≡ lots.now) }
         ensures ballots { IfOk result (λ count. count.ballots ≡ D.ballots spread) }
+        ensures no_row { IfOk result (λ count. count.has_row ≡ false) }
         ensures rest { IfOk result (HasRest (scale P)) }
     {
         let _places = omega.units();
@@ -103,6 +104,7 @@ impl<'e, const P: usize, D: Spread<P> + Drop> Count<'e, P, D> {
         ensures nearer { result ≡ Turn.Iterated → steps_left (most P) self.new.now < steps_left (most P) self.old.now }
 
         ensures same { IsSameElection self.old self.new }
+        ensures valid { IsValid (scale P) self.new.now }
         ensures rest { HasRest (scale P) self.new }
     {
         if self.situation.is_complete() {
@@ -183,3 +185,6 @@ fn is_election<const P: usize>(row: &Row<P>) -> bool
 {
     row.step == Step::Elected
 }
+
+#[cfg(test)]
+mod tests;

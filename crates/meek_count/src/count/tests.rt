@@ -1,0 +1,157 @@
+// Counts of small elections, with the figures that their rules give by hand.
+ghost use Rattle.std.specs.Prelude.{◌≡◌, ◌≤◌, length, OnOk};
+
+use super::*;
+use candidate_roll::{Name, Names, State};
+use fixed_place::Keep;
+use meek_rule::FlatSpread;
+use plain_ballots::{BallotLine, Ballots, Ranking, lines_stand_for_ballots};
+use std::process::Abort;
+use std::test::Fail;
+
+/// Adds so many ballots of one ranking.
+fn add(alloc: Global, ballots: &mut Ballots, count: u32, ranks: &[u32]) -> Result<(), Fail>
+    requires { 1 ≤ count }
+    ensures { OnOk result (ballots.new.candidates ≡ ballots.old.candidates) }
+{
+    let ranking = Ranking::try_new(alloc, ballots.candidates(), ranks)?;
+    ballots.push_line(BallotLine { count, ranking })?;
+    Ok(())
+}
+
+/// Adds a candidate of this name.
+fn name(alloc: Global, names: &mut Names, bytes: &[u8]) -> Result<(), Fail>
+    ensures { OnOk result (length names.new ≡ length names.old + 1) }
+{
+    names.push(Name::try_new(alloc, bytes)?)?;
+    Ok(())
+}
+
+/// A roll of `A`, `B` and, where there are three, `C`.
+fn roll(alloc: Global, seats: u32, three: bool) -> Result<Roll, Fail> {
+    let mut names = Names::new(alloc);
+    name(alloc, &mut names, b"A")?;
+    name(alloc, &mut names, b"B")?;
+    if three {
+        name(alloc, &mut names, b"C")?;
+    }
+    Ok(Roll::try_new(alloc, seats, names, Name::try_new(alloc, b"T")?, &[])?)
+}
+
+/// The count of these ballots, line by line.
+fn begin<'e, const P: usize>(
+    rt: &impl Abort,
+    alloc: Global,
+    roll: &'e Roll,
+    lots: &'e Lots,
+    ballots: Ballots,
+    omega: Amount<P>,
+) -> Result<Count<'e, P, FlatSpread>, Fail>
+    requires { (1 ≤ omega) × (omega ≤ 1000000) }
+{
+    assert_eq!(rt; lots.candidates(), roll.candidates());
+    assert_eq!(rt; ballots.candidates(), roll.candidates());
+    let _sound = ballots.lines();
+    lines_stand_for_ballots();
+    Ok(Count::begin(alloc, roll, lots, FlatSpread::new(ballots), omega)?)
+}
+
+/// What candidate 1 keeps and has, the total, the quota and the surplus are these, and the step.
+fn check<const P: usize>(rt: &impl Abort, row: &Row<P>, amounts: [u64; 5], step: Step) {
+    assert!(rt; row.keeps.len() > 0);
+    assert!(rt; row.votes.len() > 0);
+    assert_eq!(rt; row.keeps.get(0).units(), amounts[0]);
+    assert_eq!(rt; row.votes.get(0).units(), amounts[1]);
+    assert_eq!(rt; row.total.units(), amounts[2]);
+    assert_eq!(rt; row.quota.units(), amounts[3]);
+    assert_eq!(rt; row.surplus.units(), amounts[4]);
+    assert_eq!(rt; row.step, step);
+}
+
+#[test]
+fn all_are_elected_at_once(rt: HostRuntime) -> Result<(), Fail> {
+    let alloc = rt.alloc();
+    let roll = roll(alloc, 3, false)?;
+    let lots = Lots::try_new(alloc, &[1, 2], 2)?;
+    let mut ballots = Ballots::new(alloc, 2);
+    add(alloc, &mut ballots, 1, &[1])?;
+    let mut count = begin::<9>(&rt, alloc, &roll, &lots, ballots, Amount::from_units(1_000))?;
+    assert_eq!(rt; count.ballots(), 1);
+    assert_eq!(rt; count.roll().seats(), 3);
+    for _ in 0..2 {
+        assert_eq!(rt; count.next(), Turn::Finished);
+        assert_eq!(rt; count.states().items(), [State::Elected, State::Elected].as_slice());
+    }
+    Ok(())
+}
+
+#[test]
+fn a_tie_is_broken_by_lots(rt: HostRuntime) -> Result<(), Fail> {
+    let alloc = rt.alloc();
+    let roll = roll(alloc, 1, false)?;
+    let lots = Lots::try_new(alloc, &[2, 1], 2)?;
+    let mut ballots = Ballots::new(alloc, 2);
+    add(alloc, &mut ballots, 1, &[1])?;
+    add(alloc, &mut ballots, 1, &[2])?;
+    let mut count = begin::<9>(&rt, alloc, &roll, &lots, ballots, Amount::from_units(1_000))?;
+    assert_eq!(rt; count.next(), Turn::Iterated);
+    let row = count.row();
+    assert_eq!(rt; row.step, Step::Defeat(2));
+    assert_eq!(rt; row.total.units(), 2_000_000_000);
+    assert_eq!(rt; row.quota.units(), 1_000_000_001);
+    assert_eq!(rt; row.surplus.units(), 0);
+    assert_eq!(rt; row.tied.items(), [true, true].as_slice());
+    assert_eq!(rt; count.next(), Turn::Finished);
+    assert_eq!(rt; count.states().items(), [State::Elected, State::Defeated].as_slice());
+    Ok(())
+}
+
+/// 10 ballots for A, 4 for B and 3 for C.
+fn ten_four_three(alloc: Global) -> Result<Ballots, Fail> {
+    let mut ballots = Ballots::new(alloc, 3);
+    add(alloc, &mut ballots, 10, &[1])?;
+    add(alloc, &mut ballots, 4, &[2])?;
+    add(alloc, &mut ballots, 3, &[3])?;
+    Ok(ballots)
+}
+
+#[test]
+fn a_surplus_is_transferred_at_nine_places(rt: HostRuntime) -> Result<(), Fail> {
+    let alloc = rt.alloc();
+    let roll = roll(alloc, 2, true)?;
+    let lots = Lots::try_new(alloc, &[1, 2, 3], 3)?;
+    let ballots = ten_four_three(alloc)?;
+    let mut count = begin::<9>(&rt, alloc, &roll, &lots, ballots, Amount::from_units(1_000))?;
+    for (amounts, step) in [
+        ([1_000_000_000, 10_000_000_000, 17_000_000_000, 5_666_666_667, 4_333_333_333], Step::Elected),
+        ([1_000_000_000, 10_000_000_000, 17_000_000_000, 5_666_666_667, 4_333_333_333], Step::Iterate),
+        ([566_666_667, 5_666_666_670, 12_666_666_670, 4_222_222_224, 1_444_444_446], Step::Iterate),
+        ([422_222_223, 4_222_222_230, 11_222_222_230, 3_740_740_744, 740_740_742], Step::Elected),
+    ] {
+        assert_eq!(rt; count.next(), Turn::Iterated);
+        check(&rt, count.row(), amounts, step);
+    }
+    assert_eq!(rt; count.next(), Turn::Finished);
+    assert_eq!(rt; count.states().items(), [State::Elected, State::Elected, State::Defeated].as_slice());
+    Ok(())
+}
+
+#[test]
+fn a_surplus_is_transferred_at_six_places(rt: HostRuntime) -> Result<(), Fail> {
+    let alloc = rt.alloc();
+    let roll = roll(alloc, 2, true)?;
+    let lots = Lots::try_new(alloc, &[1, 2, 3], 3)?;
+    let ballots = ten_four_three(alloc)?;
+    let mut count = begin::<6>(&rt, alloc, &roll, &lots, ballots, Amount::from_units(1))?;
+    for (amounts, step) in [
+        ([1_000_000, 10_000_000, 17_000_000, 5_666_667, 4_333_333], Step::Elected),
+        ([1_000_000, 10_000_000, 17_000_000, 5_666_667, 4_333_333], Step::Iterate),
+        ([566_667, 5_666_670, 12_666_670, 4_222_224, 1_444_446], Step::Iterate),
+        ([422_223, 4_222_230, 11_222_230, 3_740_744, 740_742], Step::Elected),
+    ] {
+        assert_eq!(rt; count.next(), Turn::Iterated);
+        check(&rt, count.row(), amounts, step);
+    }
+    assert_eq!(rt; count.next(), Turn::Finished);
+    Ok(())
+}
