@@ -1,0 +1,4 @@
+pub mod EachPlace
+pub mod Rooms
+pub mod SheetLemmas
+pub mod WritingLemmas

@@ -1,0 +1,9 @@
+use Rattle.sheet_text.proofs.WritingLemmas.{all-Writes, front-Writes, faults-Writes}
+use Rattle.sheet_text.proofs.row_text.write_row.Goals as goal
+
+pub returns : goal.returns
+returns g c = record {
+  all = all-Writes _ _ _ _ _ _ c.write_row_by.ensures;
+  front = front-Writes _ _ _ _ _ _ c.write_row_by.ensures;
+  faults = faults-Writes _ _ _ _ _ _ c.write_row_by.ensures;
+}

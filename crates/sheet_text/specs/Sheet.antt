@@ -1,0 +1,45 @@
+-- The sheet of a count.
+use Rattle.std.specs.Prelude.{◌≡◌, ℕ, true, List, ◌++◌, length, Option}
+use Rattle.std.specs.List.{flat_map}
+use Rattle.std.specs.Io.KnownBytes.{Appends}
+use Rattle.byte_edge.specs.Bytes.{AppendsFront}
+use Rattle.candidate_roll.specs.Roll.{RollList}
+use Rattle.candidate_roll.specs.declared.state.State.{State}
+use Rattle.meek_rule.specs.Situation.{is_complete, finished}
+use Rattle.meek_rule.specs.Row.{Row}
+use Rattle.meek_count.specs.Rows.{IsCount}
+use Rattle.meek_count.specs.Progress.{Progress}
+use Rattle.sheet_text.specs.Lines.{text_of_lines, head_lines, row_lines, result_lines}
+
+-- how the sheet of a count of so many ballots begins, up to these rows
+abbrev pub lines_up_to : (places : ℕ) → RollList → (ballots : ℕ) → List Row → List (List ℕ)
+lines_up_to places roll ballots rows = head_lines roll ballots ++ flat_map (row_lines places) rows
+
+-- the lines of the count of so many ballots that had these rows and ended with these states
+abbrev pub sheet_lines : (places : ℕ) → RollList → (ballots : ℕ) → List Row → List State → List (List ℕ)
+sheet_lines places roll ballots rows last =
+    lines_up_to places roll ballots rows ++ result_lines roll.names last
+
+-- The text is the sheet of these ballots at so many places and with this omega: that of the rows and the last
+-- states of their count.
+abbrev pub IsSheet : (places omega : ℕ) → List (List ℕ) → RollList → (lots : List ℕ) → List ℕ → Type 0
+IsSheet places omega ballots roll lots text =
+    (rows : List Row) × (last : List State)
+    × IsCount places omega ballots roll lots rows last
+    × (text ≡ text_of_lines (sheet_lines places roll (length ballots) rows last))
+
+-- the sheet of a count that was just begun
+abbrev pub IsSheetOf : (places : ℕ) → Progress → List ℕ → Type 0
+IsSheetOf places count text = IsSheet places count.now.omega count.ballots count.roll count.lots text
+
+abbrev pub AppendsSheet : (places : ℕ) → Progress → (old new : Option (List ℕ)) → Type 0
+AppendsSheet places count old new = (text : List ℕ) × IsSheetOf places count text × Appends old new text
+
+-- some front of the sheet, maybe all of it
+abbrev pub AppendsFrontOfSheet : (places : ℕ) → Progress → (old new : Option (List ℕ)) → Type 0
+AppendsFrontOfSheet places count old new = (text : List ℕ) × IsSheetOf places count text × AppendsFront old new text
+
+-- The count is at its end: it is complete, and ending it changes nothing any more.
+pub record HasEnded (count : Progress) : Type 0 where
+  pub complete : is_complete count.now ≡ true
+  pub settled : finished count.now ≡ count.now
