@@ -1,0 +1,11 @@
+pub mod Runs
+pub mod Cutting
+pub mod Judgements
+pub mod Tables
+pub mod BallotSoundness
+pub mod BallotCompleteness
+pub mod BltSoundness
+pub mod BltCompleteness
+pub mod Ruling
+pub mod FrontRuling
+pub mod BltLaws
