@@ -3,17 +3,21 @@
 #![tactic(auto)]
 
 mod name;
+mod name_stop;
 mod names;
 mod no_memory;
 mod push_back;
 mod roll;
+mod roll_stop;
 mod state;
 mod states;
 
 pub use name::Name;
+pub use name_stop::NameStop;
 pub use names::Names;
 pub use no_memory::NoMemory;
 pub use push_back::PushBack;
 pub use roll::Roll;
+pub use roll_stop::RollStop;
 pub use state::State;
 pub use states::States;

@@ -1,7 +1,9 @@
 // A name or a title.
-ghost use Rattle.std.specs.Prelude.{◌≡◌};
-ghost use Rattle.candidate_roll.specs.Name.{IsName};
+ghost use Rattle.std.specs.Prelude.{◌≡◌, IfOk, IfErr, OnOk};
+ghost use Rattle.candidate_roll.specs.Name.{IsName, IsNameStop};
 
+use crate::{NameStop, NoMemory};
+use std::alloc::Global;
 use std::marker::Model;
 
 /// A candidate's name or an election's title: at most `MAX` bytes, none of them a control byte or a
@@ -23,6 +25,35 @@ impl<const MAX: usize> Model for Name<MAX> {
 }
 
 impl<const MAX: usize> Name<MAX> {
+    /// A name of these bytes, or why they are none.
+    pub fn try_new(alloc: Global, bytes: &[u8]) -> Result<Name<MAX>, NameStop>
+        ensures ok { IfOk result (λ name. name ≡ bytes.now) }
+        ensures sound { OnOk result (IsName MAX bytes.now) }
+        ensures stop { IfErr result (IsNameStop MAX bytes.now) }
+    {
+        if bytes.len() > MAX {
+            return Err(NameStop::TooLong);
+        }
+        for (at, byte) in bytes.iter().enumerate() {
+            if *byte < 32 || *byte == b'"' {
+                return Err(NameStop::BadByte(at));
+            }
+        }
+        match Vec::from_slice(alloc, bytes) {
+            Ok(bytes) => Ok(Name { bytes }),
+            Err(_) => Err(NameStop::NoMemory),
+        }
+    }
+
+    pub fn copy(&self, alloc: Global) -> Result<Name<MAX>, NoMemory>
+        ensures { IfOk result (λ name. name ≡ self.now) }
+    {
+        match Vec::from_slice(alloc, self.bytes()) {
+            Ok(bytes) => Ok(Name { bytes }),
+            Err(_) => Err(NoMemory),
+        }
+    }
+
     pub fn bytes(&self) -> &[u8]
         ensures value { result.now ≡ self.now }
         ensures name { IsName MAX result.now }

@@ -1,7 +1,7 @@
 // The names of all candidates.
-ghost use Rattle.std.specs.Prelude.{◌≡◌, ◌<◌, ◌↔◌, [], ◌∷◌, ◌++◌, length, reverse, slice_get, OnOk, OnErr, IfErr, IfSome, IfNone, IsNone};
+ghost use Rattle.std.specs.Prelude.{◌≡◌, ◌<◌, ◌↔◌, [], ◌∷◌, ◌++◌, length, reverse, slice_get, IfOk, OnOk, OnErr, IfErr, IfSome, IfNone, IsNone};
 
-use crate::{Name, PushBack};
+use crate::{Name, NoMemory, PushBack};
 use std::alloc::Global;
 use std::marker::Model;
 
@@ -37,6 +37,21 @@ impl Names {
             Ok(()) => Ok(()),
             Err(failed) => Err(PushBack { item: failed.value }),
         }
+    }
+
+    pub fn copy(&self, alloc: Global) -> Result<Names, NoMemory>
+        ensures { IfOk result (λ names. names ≡ self.now) }
+    {
+        let Ok(mut list) = Vec::with_capacity(alloc, self.list.len()) else {
+            return Err(NoMemory);
+        };
+        for name in &self.list {
+            let copy = name.copy(alloc)?;
+            if list.push(copy).is_err() {
+                return Err(NoMemory);
+            }
+        }
+        Ok(Names { list })
     }
 
     pub fn pop(&mut self) -> Option<Name<200>>

@@ -1,8 +1,9 @@
 // An election as it was announced.
-ghost use Rattle.std.specs.Prelude.{◌≡◌, ◌-◌, ◌≤◌, length, slice_get};
-ghost use Rattle.candidate_roll.specs.Roll.{IsRoll, is_withdrawn};
+ghost use Rattle.std.specs.Prelude.{◌≡◌, ◌-◌, ◌≤◌, length, slice_get, All, IfOk, IfErr};
+ghost use Rattle.candidate_roll.specs.Roll.{IsRoll, IsRollStop, is_withdrawn, withdrawn_marks, marks_with};
 
-use crate::{Name, Names};
+use crate::{Name, Names, NoMemory, RollStop};
+use std::alloc::Global;
 use std::marker::Model;
 
 /// An election as it was announced: its seats, its candidates by number, its title, and who was
@@ -26,6 +27,60 @@ impl Model for Roll {
 }
 
 impl Roll {
+    /// The roll of these seats and candidates, of whom the listed ones are withdrawn. A number may
+    /// be listed more than once.
+    pub fn try_new(
+        alloc: Global,
+        seats: u32,
+        names: Names,
+        title: Name<1000>,
+        withdrawn: &[u32],
+    ) -> Result<Roll, RollStop>
+        requires { All (λ c. (1 ≤ c) × (c ≤ length names)) withdrawn.now }
+        ensures ok { IfOk result (λ roll. roll ≡ record {
+          seats = seats;
+          names = names;
+          title = title;
+          withdrawn = withdrawn_marks (length names) withdrawn.now;
+        }) }
+        ensures sound { IfOk result IsRoll }
+        ensures stop { IfErr result (IsRollStop seats (length names)) }
+    {
+        if names.len() < 1 || names.len() > 250 {
+            return Err(RollStop::BadCount);
+        }
+        if seats < 1 || seats > 250 {
+            return Err(RollStop::BadSeats);
+        }
+        let Ok(mut marks) = vec![in alloc; false; names.len()] else {
+            return Err(RollStop::NoMemory);
+        };
+        mark_listed(marks.as_mut_slice(), withdrawn);
+        Ok(Roll {
+            seats,
+            names,
+            title,
+            withdrawn: marks,
+        })
+    }
+
+    /// The same roll with these candidates withdrawn besides. A number may be listed more than once.
+    pub fn with_struck(&self, alloc: Global, struck: &[u32]) -> Result<Roll, NoMemory>
+        requires { All (λ c. (1 ≤ c) × (c ≤ length self.now.names)) struck.now }
+        ensures { IfOk result (λ roll. roll ≡ record self.now { withdrawn = marks_with self.now.withdrawn struck.now }) }
+    {
+        let Ok(mut marks) = Vec::from_slice(alloc, self.withdrawn.as_slice()) else {
+            return Err(NoMemory);
+        };
+        mark_listed(marks.as_mut_slice(), struck);
+        Ok(Roll {
+            seats: self.seats,
+            names: self.names.copy(alloc)?,
+            title: self.title.copy(alloc)?,
+            withdrawn: marks,
+        })
+    }
+
     pub fn seats(&self) -> u32
         ensures value { result ≡ self.now.seats }
         ensures sound { IsRoll self.now }
@@ -58,5 +113,14 @@ impl Roll {
         ensures { result ≡ is_withdrawn self.now.withdrawn c }
     {
         self.withdrawn[(c - 1) as usize]
+    }
+}
+
+fn mark_listed(marks: &mut [bool], listed: &[u32])
+    requires { All (λ c. (1 ≤ c) × (c ≤ length marks.old)) listed.now }
+    ensures { marks.new ≡ marks_with marks.old listed.now }
+{
+    for c in listed {
+        marks[(*c - 1) as usize] = true;
     }
 }

@@ -1,0 +1,11 @@
+// Why there is no such roll.
+
+/// Why there is no such roll. The number of candidates is looked at first.
+#[derive(Clone, Copy, Debug, PartialEq, Eq, Drop)]
+pub enum RollStop {
+    /// The candidates aren't 1 to 250.
+    BadCount,
+    /// The seats aren't 1 to 250.
+    BadSeats,
+    NoMemory,
+}
