@@ -6,7 +6,8 @@ use Rattle.std.proofs.lemmas.List.{append-nil, map-append, length_push}
 use Rattle.std.proofs.lemmas.List.Elements.{All-nil, All-push}
 use Rattle.plain_ballots.specs.declared.ballot_line.BallotLine.{BallotLine}
 use Rattle.blt_reader.specs.Token.{Item, Number, Minus, Text}
-use Rattle.blt_reader.specs.Poll.{Poll, marked}
+use Rattle.candidate_roll.specs.Roll.{withdrawn_marks}
+use Rattle.blt_reader.specs.Poll.{Poll}
 use Rattle.blt_reader.specs.Blt.{IsIn, AreLines, opening, ballots, IsUpToTitle, IsBlt}
 use Rattle.blt_reader.specs.Judged.{Judged, Progress, GoesOn, Ends}
 use Rattle.blt_reader.specs.BallotTable.{Limit, Lines, Between, Within, at_line}
@@ -84,7 +85,7 @@ module _ (most : ℕ) (heading : Heading) where
     candidates = subst (IsIn 250) (sym same) front.numbers.candidates;
     seats = front.numbers.seats;
     each_withdrawn = subst (λ (c : ℕ). All (IsIn c) heading.withdrawn) (sym same) front.numbers.each_withdrawn;
-    marks = ap (λ (c : ℕ). marked c heading.withdrawn) (sym same);
+    marks = ap (λ (c : ℕ). withdrawn_marks c heading.withdrawn) (sym same);
     lines = subst (λ (c : ℕ). AreLines c most lines) (sym same) front.all_lines;
     names = front.so_far;
     title = short;

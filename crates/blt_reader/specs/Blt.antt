@@ -5,7 +5,8 @@ use Rattle.plain_ballots.specs.Ballots.{ballot_count}
 use Rattle.plain_ballots.specs.Ranking.{IsRanking}
 use Rattle.plain_ballots.specs.declared.ballot_line.BallotLine.{BallotLine}
 use Rattle.blt_reader.specs.Token.{Item, Number, Minus, Text}
-use Rattle.blt_reader.specs.Poll.{Poll, marked}
+use Rattle.candidate_roll.specs.Roll.{withdrawn_marks}
+use Rattle.blt_reader.specs.Poll.{Poll}
 
 -- from 1 to the greatest
 pub record IsIn (greatest n : ℕ) : Type 0 where
@@ -39,7 +40,7 @@ pub record IsUpToTitle (most : ℕ) (items : List Item) (poll : Poll) : Type 0 w
   pub candidates : IsIn 250 (length poll.roll.names)
   pub seats : IsIn 250 poll.roll.seats
   pub each_withdrawn : All (IsIn (length poll.roll.names)) withdrawn
-  pub marks : poll.roll.withdrawn ≡ marked (length poll.roll.names) withdrawn
+  pub marks : poll.roll.withdrawn ≡ withdrawn_marks (length poll.roll.names) withdrawn
   pub lines : AreLines (length poll.roll.names) most poll.lines
   pub names : All (λ name. length name ≤ 200) poll.roll.names
   pub title : length poll.roll.title ≤ 1000

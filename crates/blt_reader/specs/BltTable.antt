@@ -3,7 +3,8 @@ use Rattle.std.specs.Prelude.{ℕ, List, [], ◌∷◌, ◌++◌, length, Bool, 
 use Rattle.plain_ballots.specs.declared.ballot_line.BallotLine.{BallotLine}
 use Rattle.blt_reader.specs.declared.fault_kind.FaultKind.TheVariants.{BadNumber, BadHeader, BadWithdrawn, NameExpected, TooLongName, Trailing}
 use Rattle.blt_reader.specs.Token.{Item, Number, Minus, Text}
-use Rattle.blt_reader.specs.Poll.{Poll, marked}
+use Rattle.candidate_roll.specs.Roll.{withdrawn_marks}
+use Rattle.blt_reader.specs.Poll.{Poll}
 use Rattle.blt_reader.specs.Judged.{Judged, Progress, GoesOn, Ends, carried, going_on}
 use Rattle.blt_reader.specs.BallotTable.{Limit, Lines, Between, at_line}
 
@@ -54,7 +55,7 @@ at_name heading lines names name =
 
 abbrev pub poll_of : Heading → List BallotLine → List (List ℕ) → List ℕ → Poll
 poll_of heading lines names title =
-    record { roll = record { seats = heading.seats; names = names; title = title; withdrawn = marked heading.candidates heading.withdrawn }; lines = lines }
+    record { roll = record { seats = heading.seats; names = names; title = title; withdrawn = withdrawn_marks heading.candidates heading.withdrawn }; lines = lines }
 
 abbrev pub at_title : Heading → List BallotLine → List (List ℕ) → List ℕ → Judged (Progress Expected Poll)
 at_title heading lines names title = if nat_le (length title) 1000 then Ok (Ends (poll_of heading lines names title)) else Err TooLongName
