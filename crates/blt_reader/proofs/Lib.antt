@@ -9,3 +9,5 @@ pub mod BltCompleteness
 pub mod Ruling
 pub mod FrontRuling
 pub mod BltLaws
+pub mod Stamps
+pub mod Reading

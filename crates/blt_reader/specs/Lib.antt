@@ -9,4 +9,5 @@ pub mod BallotTable
 pub mod BltTable
 pub mod Front
 pub mod Refusal
+pub mod Reads
 pub mod Said

@@ -1,7 +1,9 @@
 // The tokens of an input, one after another.
-ghost use Rattle.std.specs.Prelude.{◌≡◌, ◌≤◌, ◌<◌, length, slice_range, ◌+◌, ◌-◌};
+ghost use Rattle.std.specs.Prelude.{◌≡◌, ◌≤◌, length, IfOk, IfErr};
+ghost use Rattle.blt_reader.specs.Token.{Number, with_front};
 ghost use Rattle.blt_reader.specs.Scan.{scan, cut};
-ghost use Rattle.blt_reader.specs.Reader.{Reader, Gives, GivesText, IsTextOf, IsSaid};
+ghost use Rattle.blt_reader.specs.Reader.{Gives, placed, GivesText, MayBeText, IsTextOf, IsSaid};
+ghost use Rattle.blt_reader.specs.Reads.{IsBehind, IsEnded, Stops, as_number};
 
 use crate::pieces::{Piece, first_piece};
 use crate::{FaultKind, InputFault, Next, Token, What};
@@ -15,6 +17,10 @@ pub struct Tokens<'a> {
 }
 
 impl<'a> Model for Tokens<'a> {
+    ghost use Rattle.std.specs.Prelude.{◌≤◌, length};
+    ghost use Rattle.blt_reader.specs.Scan.{cut};
+    ghost use Rattle.blt_reader.specs.Reader.{Reader};
+
     ghost Value = { Reader };
 
     ghost view = { λ t. record { bytes = t.bytes.now; rest = cut t.letters 0 t.at t.bytes.now } };
@@ -79,6 +85,39 @@ impl<'a> Tokens<'a> {
         let (next, at) = next_from(self.bytes, self.letters, self.at);
         self.at = at;
         next
+    }
+
+    /// The next token, where the input may not end: its end is a fault too.
+    pub fn next_token(&mut self) -> Result<Token, InputFault>
+        ensures text { IfOk result (λ token. MayBeText self.old.bytes token.at token.stop token.what) }
+        ensures token { IfOk result (λ token. self.old.rest ≡ with_front (placed self.old.bytes token) self.new.rest) }
+        ensures fault { IfErr result (λ fault. IsEnded self.old.rest fault self.new.rest) }
+        ensures behind { IsBehind self.old self.new }
+    {
+        match self.next() {
+            Next::Token(token) => Ok(token),
+            Next::End => Err(InputFault {
+                kind: FaultKind::Ended,
+                at: self.len(),
+            }),
+            Next::Fault(fault) => Err(fault),
+        }
+    }
+
+    /// The next token, which has to be a number, and its place.
+    pub fn next_number(&mut self) -> Result<(u32, usize), InputFault>
+        ensures number { IfOk result (λ found. self.old.rest ≡ with_front (record { at = found.1; item = Number found.0 }) self.new.rest) }
+        ensures fault { IfErr result (λ fault. Stops as_number self.old.rest fault self.new.rest) }
+        ensures behind { IsBehind self.old self.new }
+    {
+        let token = self.next_token()?;
+        match token.what {
+            What::Number(n) => Ok((n, token.at)),
+            _ => Err(InputFault {
+                kind: FaultKind::BadNumber,
+                at: token.at,
+            }),
+        }
     }
 
     /// A string without its quotes, or a word.
