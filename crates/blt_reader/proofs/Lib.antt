@@ -11,3 +11,4 @@ pub mod FrontRuling
 pub mod BltLaws
 pub mod Stamps
 pub mod Reading
+pub mod LineSteps

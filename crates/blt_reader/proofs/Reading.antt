@@ -5,10 +5,13 @@ use Rattle.std.proofs.lemmas.List.{append-nil}
 use Rattle.blt_reader.specs.declared.fault_kind.FaultKind.{FaultKind}
 use Rattle.blt_reader.specs.declared.fault_kind.FaultKind.TheVariants.{BadNumber}
 use Rattle.blt_reader.specs.declared.input_fault.InputFault.{InputFault}
+use Rattle.blt_reader.specs.declared.blt_stop.BltStop.{BltStop}
+use Rattle.blt_reader.specs.declared.blt_stop.BltStop.TheVariants as stop
 use Rattle.blt_reader.specs.Token.{Item, Number, Minus, Text, Word, Placed, Ending, Scan, with_front, ends}
 use Rattle.blt_reader.specs.Reader.{Reader}
-use Rattle.blt_reader.specs.Judged.{Judged, Progress, GoesOn, Ends, Stopped, ended_by, on_progress, front_of, reads}
-use Rattle.blt_reader.specs.Reads.{IsBehind, tokens_left, IsEnded, IsRefusedNext, Stops, as_number}
+use Rattle.blt_reader.specs.Judged.{Judged, Progress, GoesOn, Ends, Stopped, ended_by, on_progress, front_of, carried, reads}
+use Rattle.blt_reader.specs.Reads.{IsBehind, tokens_left, IsEnded, IsRefusedNext, Stops, Reads}
+use Rattle.blt_reader.proofs.Tables.{behind_inner, reads_inner}
 
 -- ---- where the reader stands
 
@@ -65,3 +68,20 @@ module _ {S V : Type 0} (table : S → Item → Judged (Progress S V)) (expected
   pub stops : {A : Type 0} (judge : Item → Judged A) (fault : InputFault) → ((item : Item) (kind : FaultKind) → judge item ≡ Err kind → table expected item ≡ Err kind) → Stops judge old fault new → reads table expected old ≡ Err (record { fault = fault; rest = new })
   stops judge fault alike (inl is) = ended_so fault is
   stops judge fault alike (inr is) = refused_at is.token fault.kind is.given (alike is.token.item fault.kind is.kind) ∙ ap (λ (at : ℕ). Err (record { fault = record { kind = fault.kind; at = at }; rest = new })) is.place
+
+-- ---- what a table makes of a front that an inner table reads
+
+module _ {S V T W : Type 0} (inner : S → Item → Judged (Progress S V)) (outer : T → Item → Judged (Progress T W)) (inside : S → T) (behind : V → T)
+    (same : (expected : S) (item : Item) → outer (inside expected) item ≡ carried {W = W} inside behind (inner expected item)) (expected : S) (old : Scan) where
+  in_two : reads outer (inside expected) old ≡ behind_inner (reads inner expected old) (λ value rest. reads outer (behind value) rest)
+  in_two = reads_inner inner outer inside behind same old.tokens old.ending expected
+
+  pub inner_read : (value : V) (new : Scan) → reads inner expected old ≡ Ok (value, new) → reads outer (inside expected) old ≡ reads outer (behind value) new
+  inner_read value new e = in_two ∙ ap (λ (r : Result (V × Scan) Stopped). behind_inner r (λ value rest. reads outer (behind value) rest)) e
+
+  pub inner_stopped : (stopped : Stopped) → reads inner expected old ≡ Err stopped → reads outer (inside expected) old ≡ Err stopped
+  inner_stopped stopped e = in_two ∙ ap (λ (r : Result (V × Scan) Stopped). behind_inner r (λ value rest. reads outer (behind value) rest)) e
+
+  pub inner_fails : {R Q : Type 0} (found : R → V) (value : Q → W) (begun : T) (start new : Scan) (why : BltStop) → reads outer begun start ≡ reads outer (inside expected) old → Reads inner expected found old (Err why) new → Reads outer begun value start (Err why) new
+  inner_fails found value begun start new (stop.Fault fault) so_far is = so_far ∙ inner_stopped (record { fault = fault; rest = new }) is
+  inner_fails found value begun start new stop.NoMemory so_far is = tt

@@ -15,6 +15,7 @@ use std::alloc::Global;
 
 /// Ballot lines up to the 0 behind them, of together at most `most` ballots. `refusal` is the kind
 /// of fault of a count that goes past them.
+#[tactic(auto, using(crate::proofs::Reading::behind_trans))]
 pub fn read_lines(
     alloc: Global,
     tokens: &mut Tokens<'_>,
@@ -33,6 +34,7 @@ pub fn read_lines(
 }
 
 /// The same, where the first count was taken already, with its place.
+#[tactic(auto, using(crate::proofs::Reading::behind_trans))]
 pub(crate) fn read_lines_from(
     alloc: Global,
     tokens: &mut Tokens<'_>,
@@ -66,6 +68,7 @@ pub(crate) fn read_lines_from(
 }
 
 // Candidates in order of rank, up to the 0 behind them.
+#[tactic(auto, using(crate::proofs::Reading::behind_trans))]
 fn read_ranks(
     tokens: &mut Tokens<'_>,
     candidates: u32,
