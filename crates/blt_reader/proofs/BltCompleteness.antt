@@ -2,7 +2,7 @@
 use Rattle.std.proofs.Common.{◌≡◌, ℕ, ◌+◌, ◌-◌, ◌<◌, ◌≤◌, List, [], ◌∷◌, ◌++◌, length, map, Bool, true, false, refl, sym, ◌∙◌, ap, subst, arith, append_assoc, nat_le, ◌==◌, Ok}
 use Rattle.std.specs.Prelude.{All, replicate}
 use Rattle.std.specs.List.{flat_map}
-use Rattle.std.proofs.lemmas.Bool.{le-leb, eq-eqb, ne_eqb}
+use Rattle.std.proofs.lemmas.Bool.{le-leb}
 use Rattle.std.proofs.lemmas.List.{append-nil, length_push, length-append, length-replicate}
 use Rattle.std.proofs.lemmas.List.Elements.{All-head, All-tail, All-replicate}
 use Rattle.plain_ballots.specs.declared.ballot_line.BallotLine.{BallotLine}
@@ -15,6 +15,7 @@ use Rattle.blt_reader.specs.BltTable.{Heading, Expected, Candidates, Seats, With
 use Rattle.blt_reader.specs.Front.{opening_of, begun, AreBegun, IsFront}
 use Rattle.blt_reader.proofs.Judgements.{to_range}
 use Rattle.blt_reader.proofs.Tables.{in_parts, closed, carried_is, place_of, carries}
+use Rattle.blt_reader.proofs.NameSteps.{name_expected, title_expected}
 use Rattle.blt_reader.proofs.BallotCompleteness.{reads_begun_line, reads_lines, reads_ballots}
 
 short_names : (n : ℕ) → All (λ (name : List ℕ). length name ≤ 200) (replicate n [])
@@ -76,16 +77,6 @@ module _ (limit : Limit) (behind : Poll → Item → Judged (Progress Expected P
   first_begun (Between lines) h some = first_lines lines h some
   first_begun (Within [] count ranks) h some = first_number h count _
   first_begun (Within (line ∷ lines) count ranks) h some = first_number h line.count _
-
-  name_expected : (h : Heading) (lines : List BallotLine) (names : List (List ℕ)) → length names < h.candidates → behind_name h lines names ≡ Name h lines names
-  name_expected h lines names fewer =
-      let differs : (length names == h.candidates) ≡ false = ne_eqb (length names) h.candidates (λ same. absurd (omega (arith, fewer, same))) in
-      rw differs refl
-
-  title_expected : (h : Heading) (lines : List BallotLine) (names : List (List ℕ)) → length names ≡ h.candidates → behind_name h lines names ≡ Title h lines names
-  title_expected h lines names same =
-      let full : (length names == h.candidates) ≡ true = eq-eqb (length names) h.candidates same in
-      rw full refl
 
   reads_names : (more names : List (List ℕ)) (h : Heading) (lines : List BallotLine) → All (λ name. length name ≤ 200) more → length names + length more ≤ h.candidates
       → Reads (behind_name h lines names) (map Text more) (GoesOn (behind_name h lines (names ++ more)))

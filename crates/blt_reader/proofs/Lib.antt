@@ -12,3 +12,4 @@ pub mod BltLaws
 pub mod Stamps
 pub mod Reading
 pub mod LineSteps
+pub mod NameSteps

@@ -1,5 +1,6 @@
 -- What reading functions give, and how they leave a reader.
 use Rattle.std.specs.Prelude.{◌≡◌, ℕ, List, [], ◌++◌, length, if◌then◌else◌, nat_le, Result, Ok, Err, ◌⊎◌}
+use Rattle.plain_ballots.specs.declared.ballot_line.BallotLine.{BallotLine}
 use Rattle.blt_reader.specs.declared.fault_kind.FaultKind.TheVariants.{BadNumber, BadHeader, NameExpected, TooLongName}
 use Rattle.blt_reader.specs.declared.input_fault.InputFault.{InputFault}
 use Rattle.blt_reader.specs.declared.blt_stop.BltStop.{BltStop}
@@ -7,7 +8,8 @@ use Rattle.blt_reader.specs.declared.blt_stop.BltStop.TheVariants as stop
 use Rattle.blt_reader.specs.Token.{Item, Number, Text, Placed, Scan, with_front}
 use Rattle.blt_reader.specs.Reader.{Reader}
 use Rattle.blt_reader.specs.Judged.{Judged, ended_by, Progress, reads}
-use Rattle.blt_reader.specs.BltTable.{is_in}
+use Rattle.blt_reader.specs.BallotTable.{Limit}
+use Rattle.blt_reader.specs.BltTable.{Heading, is_in, behind_name, at_token}
 
 -- A reader of the same bytes, behind tokens that it has given.
 pub record IsBehind (old new : Reader) : Type 0 where
@@ -59,10 +61,14 @@ abbrev pub as_name : ℕ → Item → Judged (List ℕ)
 as_name most (Text bytes) = if nat_le (length bytes) most then Ok bytes else Err TooLongName
 as_name most item = Err NameExpected
 
--- what a refusal says
+-- what a refusal says; want of memory says nothing
+abbrev pub OnFault : BltStop → (InputFault → Type 0) → Type 0
+OnFault (stop.Fault fault) P = P fault
+OnFault stop.NoMemory P = Unit {0}
+
 abbrev pub IfFault : {R : Type 0} → Result R BltStop → (InputFault → Type 0) → Type 0
-IfFault (Err (stop.Fault fault)) P = P fault
-IfFault other P = Unit {0}
+IfFault (Ok found) P = Unit {0}
+IfFault (Err why) P = OnFault why P
 
 -- ---- the front of a text
 
@@ -71,3 +77,13 @@ abbrev pub Reads : {S V R : Type 0} → (S → Item → Judged (Progress S V)) �
 Reads table expected value old (Ok found) new = reads table expected old ≡ Ok (value found, new)
 Reads table expected value old (Err (stop.Fault fault)) new = reads table expected old ≡ Err (record { fault = fault; rest = new })
 Reads table expected value old (Err stop.NoMemory) new = Unit {0}
+
+-- ---- parts of a ballot file
+
+-- the names behind any ballots of so many candidates
+abbrev pub ReadsNames : ℕ → Scan → Result (List (List ℕ)) BltStop → Scan → Type 0
+ReadsNames candidates old (Ok names) new = (limit : Limit) (heading : Heading) (lines : List BallotLine) → heading.candidates ≡ candidates
+    → reads (at_token limit) (behind_name heading lines []) old ≡ reads (at_token limit) (behind_name heading lines names) new
+ReadsNames candidates old (Err (stop.Fault fault)) new = (limit : Limit) (heading : Heading) (lines : List BallotLine) → heading.candidates ≡ candidates
+    → reads (at_token limit) (behind_name heading lines []) old ≡ Err (record { fault = fault; rest = new })
+ReadsNames candidates old (Err stop.NoMemory) new = Unit {0}

@@ -3,6 +3,8 @@ ghost use Rattle.std.specs.Prelude.{◌≡◌};
 ghost use Rattle.blt_reader.specs.declared.blt_stop.BltStop.TheVariants.{NoMemory as no_memory, Fault as fault};
 
 use crate::{FaultKind, InputFault};
+use candidate_roll::PushBack;
+use plain_ballots::NoMemory;
 use std::alloc::{AllocError, AllocFailed};
 
 /// Why no election was read: the input is refused, or memory is wanted.
@@ -44,10 +46,18 @@ impl<T: Drop> From<AllocFailed<T>> for BltStop {
     }
 }
 
-impl From<plain_ballots::NoMemory> for BltStop {
+impl From<NoMemory> for BltStop {
     ghost from_gives = { λ _ stop. stop ≡ no_memory };
 
-    fn from(_: plain_ballots::NoMemory) -> BltStop {
+    fn from(_: NoMemory) -> BltStop {
+        BltStop::NoMemory
+    }
+}
+
+impl<T: Drop> From<PushBack<T>> for BltStop {
+    ghost from_gives = { λ _ stop. stop ≡ no_memory };
+
+    fn from(_: PushBack<T>) -> BltStop {
         BltStop::NoMemory
     }
 }

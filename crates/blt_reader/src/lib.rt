@@ -9,6 +9,7 @@ mod input_fault;
 mod laws;
 mod lines;
 mod named;
+mod names;
 mod next;
 mod pieces;
 mod token;
