@@ -13,3 +13,4 @@ pub mod Stamps
 pub mod Reading
 pub mod LineSteps
 pub mod NameSteps
+pub mod OpeningSteps

@@ -56,7 +56,7 @@ module _ {S V : Type 0} (table : S → Item → Judged (Progress S V)) (expected
   pub refused_at : (token : Placed) (kind : FaultKind) → old ≡ with_front token new → table expected token.item ≡ Err kind → reads table expected old ≡ Err (record { fault = record { kind = kind; at = token.at }; rest = new })
   refused_at token kind given is = taken token (Err kind) given is
 
-  ended_so : (fault : InputFault) → IsEnded old fault new → reads table expected old ≡ Err (record { fault = fault; rest = new })
+  pub ended_so : (fault : InputFault) → IsEnded old fault new → reads table expected old ≡ Err (record { fault = fault; rest = new })
   unfolding front_of
   ended_so fault is =
       let whole : old ≡ ends old.ending = ap (λ (l : List Placed). record { tokens = l; ending = old.ending }) is.none_left in

@@ -10,4 +10,5 @@ pub mod BltTable
 pub mod Front
 pub mod Refusal
 pub mod Reads
+pub mod Opening
 pub mod Said

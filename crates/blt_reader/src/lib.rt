@@ -11,6 +11,7 @@ mod lines;
 mod named;
 mod names;
 mod next;
+mod opening;
 mod pieces;
 mod token;
 mod tokens;
