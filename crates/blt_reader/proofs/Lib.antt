@@ -14,3 +14,5 @@ pub mod Reading
 pub mod LineSteps
 pub mod NameSteps
 pub mod OpeningSteps
+pub mod RollSteps
+pub mod RollAnswers

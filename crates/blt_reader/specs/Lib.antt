@@ -3,6 +3,7 @@ pub mod Scan
 pub mod Reader
 pub mod Pieces
 pub mod Poll
+pub mod Election
 pub mod Judged
 pub mod Blt
 pub mod BallotTable

@@ -3,13 +3,16 @@ use Rattle.std.specs.Prelude.{◌≡◌, ℕ, List, [], ◌++◌, length, if◌t
 use Rattle.plain_ballots.specs.declared.ballot_line.BallotLine.{BallotLine}
 use Rattle.blt_reader.specs.declared.fault_kind.FaultKind.TheVariants.{BadNumber, BadHeader, NameExpected, TooLongName}
 use Rattle.blt_reader.specs.declared.input_fault.InputFault.{InputFault}
+use Rattle.blt_reader.specs.declared.election.Election.{Election}
 use Rattle.blt_reader.specs.declared.blt_stop.BltStop.{BltStop}
 use Rattle.blt_reader.specs.declared.blt_stop.BltStop.TheVariants as stop
 use Rattle.blt_reader.specs.Token.{Item, Number, Text, Placed, Scan, with_front}
 use Rattle.blt_reader.specs.Reader.{Reader}
-use Rattle.blt_reader.specs.Judged.{Judged, ended_by, Progress, reads}
+use Rattle.blt_reader.specs.Poll.{Poll}
+use Rattle.blt_reader.specs.Election.{poll}
+use Rattle.blt_reader.specs.Judged.{Judged, ended_by, outcome, Progress, Ends, ended, reads}
 use Rattle.blt_reader.specs.BallotTable.{Limit}
-use Rattle.blt_reader.specs.BltTable.{Heading, is_in, behind_name, at_token}
+use Rattle.blt_reader.specs.BltTable.{Heading, is_in, behind_name, at_token, at_file_token}
 
 -- A reader of the same bytes, behind tokens that it has given.
 pub record IsBehind (old new : Reader) : Type 0 where
@@ -87,3 +90,14 @@ ReadsNames candidates old (Ok names) new = (limit : Limit) (heading : Heading) (
 ReadsNames candidates old (Err (stop.Fault fault)) new = (limit : Limit) (heading : Heading) (lines : List BallotLine) → heading.candidates ≡ candidates
     → reads (at_token limit) (behind_name heading lines []) old ≡ Err (record { fault = fault; rest = new })
 ReadsNames candidates old (Err stop.NoMemory) new = Unit {0}
+
+-- the end of a whole file, behind its title
+abbrev pub ReadsFurther : Scan → Result (Unit {0}) InputFault → Type 0
+ReadsFurther text (Ok done) = (limit : Limit) (poll : Poll) → outcome (at_file_token limit) ended (Ends poll) text.tokens text.ending ≡ Ok poll
+ReadsFurther text (Err fault) = (limit : Limit) (poll : Poll) → outcome (at_file_token limit) ended (Ends poll) text.tokens text.ending ≡ Err fault
+
+-- the election is the poll that was said, and the fault the refusal
+abbrev pub SaysFile : Result Poll InputFault → Result Election BltStop → Type 0
+SaysFile said (Ok election) = said ≡ Ok (poll election)
+SaysFile said (Err (stop.Fault fault)) = said ≡ Err fault
+SaysFile said (Err stop.NoMemory) = Unit {0}

@@ -20,6 +20,10 @@ of_a_file = record { most = 999999999; refusal = TooManyBallots }
 abbrev pub of_a_roll : Limit
 of_a_roll = record { most = 0; refusal = BallotsInRoll }
 
+abbrev pub limit_of : Bool → Limit
+limit_of true = of_a_file
+limit_of false = of_a_roll
+
 -- ---- a whole file
 
 -- what a text says, read by the table

@@ -5,6 +5,7 @@
 mod blt_stop;
 mod election;
 mod fault_kind;
+mod files;
 mod input_fault;
 mod laws;
 mod lines;
@@ -13,6 +14,7 @@ mod names;
 mod next;
 mod opening;
 mod pieces;
+mod rolls;
 mod token;
 mod tokens;
 mod what;
@@ -20,6 +22,7 @@ mod what;
 pub use blt_stop::BltStop;
 pub use election::Election;
 pub use fault_kind::FaultKind;
+pub use files::read_blt;
 pub use input_fault::InputFault;
 pub use laws::{
     accepts_files, accepts_rolls, expects_rightly, follows_open_lists, has_one_poll,
@@ -27,6 +30,7 @@ pub use laws::{
 };
 pub use lines::read_lines;
 pub use next::Next;
+pub use rolls::read_roll;
 pub use token::Token;
 pub use tokens::Tokens;
 pub use what::What;

@@ -10,6 +10,7 @@ use crate::{FaultKind, InputFault, Next, Token, What};
 use std::marker::Model;
 
 /// The tokens of an input that are still to come, one after another.
+#[derive(Drop)]
 pub struct Tokens<'a> {
     bytes: &'a [u8],
     at: usize,
