@@ -66,7 +66,7 @@ module _ {S V : Type 0} (table : S → Item → Judged (Progress S V)) where
 
   -- ---- a front that is refused
 
-  itself : (judged : Judged (Progress S V)) → judged ≡ carried_to GoesOn Ends judged
+  pub itself : (judged : Judged (Progress S V)) → judged ≡ carried_to GoesOn Ends judged
   itself (Ok (GoesOn next)) = refl
   itself (Ok (Ends value)) = refl
   itself (Err kind) = refl

@@ -16,3 +16,4 @@ pub mod NameSteps
 pub mod OpeningSteps
 pub mod RollSteps
 pub mod RollAnswers
+pub mod FileSteps

@@ -17,6 +17,13 @@ pub fn read_blt(alloc: Global, bytes: &[u8]) -> Result<Election, BltStop>
     ensures says { SaysFile (reading bytes.now) result }
     ensures candidates { IfOk result (λ e. e.ballots.candidates ≡ length e.roll.names) }
 {
+    read_file(alloc, bytes)
+}
+
+fn read_file(alloc: Global, bytes: &[u8]) -> Result<Election, BltStop>
+    ensures says { SaysFile (reading bytes.now) result }
+    ensures candidates { IfOk result (λ e. e.ballots.candidates ≡ length e.roll.names) }
+{
     let mut tokens = Tokens::new(bytes, false);
     let election = read_roll(alloc, &mut tokens, true)?;
     read_further(&mut tokens)?;
@@ -29,14 +36,15 @@ fn read_further(tokens: &mut Tokens<'_>) -> Result<(), InputFault>
 {
     loop {
         match tokens.next() {
-            Next::Token(token) => {
-                if !matches!(token.what, What::Text) {
+            Next::Token(token) => match token.what {
+                What::Text => {}
+                _ => {
                     return Err(InputFault {
                         kind: FaultKind::Trailing,
                         at: token.at,
                     });
                 }
-            }
+            },
             Next::End => return Ok(()),
             Next::Fault(fault) => return Err(fault),
         }
