@@ -1,5 +1,5 @@
 -- The tables of ballots accept all ballots.
-use Rattle.std.proofs.Common.{◌≡◌, ℕ, ◌+◌, ◌<◌, ◌≤◌, ◌≢◌, List, [], ◌∷◌, ◌++◌, length, map, Bool, true, false, refl, sym, ◌∙◌, ap, subst, arith, append_assoc, get_or, nat_le, ◌==◌, Ok}
+use Rattle.std.proofs.Common.{◌≡◌, ℕ, ◌+◌, ◌≤◌, ◌≢◌, List, [], ◌∷◌, ◌++◌, length, map, false, refl, sym, ◌∙◌, ap, subst, arith, append_assoc, get_or, ◌==◌, Ok}
 use Rattle.std.specs.Prelude.{All, AllPairs}
 use Rattle.std.specs.List.{flat_map, list_any}
 use Rattle.std.proofs.lemmas.Bool.{le-leb, ne_eqb}
@@ -12,7 +12,7 @@ use Rattle.plain_ballots.specs.Ranking.{IsRanking}
 use Rattle.plain_ballots.specs.declared.ballot_line.BallotLine.{BallotLine}
 use Rattle.blt_reader.specs.Token.{Item, Number}
 use Rattle.blt_reader.specs.Blt.{AreLines, ballot, ballots}
-use Rattle.blt_reader.specs.Judged.{Judged, after, Progress, GoesOn, Ends, carried}
+use Rattle.blt_reader.specs.Judged.{Judged, after, Progress, GoesOn, Ends}
 use Rattle.blt_reader.specs.BallotTable.{at_rank, Limit, Lines, Between, Within, with_line, at_line}
 use Rattle.blt_reader.proofs.Judgements.{nonzero}
 use Rattle.blt_reader.proofs.Tables.{in_parts, closed, carried_is, place_of, carries}

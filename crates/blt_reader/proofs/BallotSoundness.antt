@@ -1,6 +1,5 @@
 -- What the tables of ballots accept so far is a front part of ballots.
-use Rattle.std.proofs.Common.{◌≡◌, ℕ, ◌+◌, ◌<◌, ◌≤◌, ◌≢◌, List, [], ◌∷◌, ◌++◌, length, map, Bool, true, false, refl, sym, ◌∙◌, ap, subst, arith, inl, inr, append_assoc, get_or, nat_le, ◌==◌, Ok, Err}
-use Rattle.std.specs.Prelude.{All, AllPairs}
+use Rattle.std.proofs.Common.{◌≡◌, ℕ, ◌+◌, ◌≤◌, ◌≢◌, List, [], ◌∷◌, ◌++◌, map, false, refl, sym, ◌∙◌, ap, subst, arith, inl, inr, append_assoc, get_or, nat_le, ◌==◌, Ok, Err}
 use Rattle.std.specs.List.{flat_map, list_any}
 use Rattle.std.proofs.lemmas.Bool.{true≢false, leb-true, eqb-true, eq-eqb}
 use Rattle.std.proofs.lemmas.List.{append-nil, map-append}
@@ -12,7 +11,7 @@ use Rattle.std.proofs.lemmas.Grind.{flat_map-append}
 use Rattle.plain_ballots.specs.Ballots.{ballot_count}
 use Rattle.plain_ballots.specs.Ranking.{IsRanking}
 use Rattle.plain_ballots.specs.declared.ballot_line.BallotLine.{BallotLine}
-use Rattle.blt_reader.specs.Token.{Item, Number, Minus}
+use Rattle.blt_reader.specs.Token.{Item, Number}
 use Rattle.blt_reader.specs.Blt.{AreLines, ballot, ballots}
 use Rattle.blt_reader.specs.Judged.{Judged, Progress, GoesOn, Ends, carried}
 use Rattle.blt_reader.specs.BallotTable.{at_number, at_rank, Limit, Lines, Between, Within, at_count, with_line, at_line}

@@ -1,14 +1,14 @@
 -- The tables of ballot files and of rolls follow their files.
-use Rattle.std.proofs.Common.{◌≡◌, List, [], ◌∷◌, ◌++◌, refl, subst, Ok}
-use Rattle.std.specs.Prelude.{Option, Some, None}
+use Rattle.std.proofs.Common.{◌≡◌, List, [], refl, subst, Ok}
+use Rattle.std.specs.Prelude.{Some}
 use Rattle.blt_reader.specs.declared.fault_kind.FaultKind.TheVariants.{TooManyBallots}
 use Rattle.blt_reader.specs.Token.{Item}
 use Rattle.blt_reader.specs.Poll.{Poll}
 use Rattle.blt_reader.specs.Blt.{IsUpToTitle, IsBlt}
-use Rattle.blt_reader.specs.Judged.{Judged, after, Progress, GoesOn, Ends, ended, going_on}
+use Rattle.blt_reader.specs.Judged.{Judged, after, Progress, GoesOn, Ends, ended}
 use Rattle.blt_reader.specs.BallotTable.{Limit}
 use Rattle.blt_reader.specs.BltTable.{Expected, Candidates, at_token, behind_title, at_file_token}
-use Rattle.blt_reader.specs.Front.{IsFront, IsRollFront, IsFileFront}
+use Rattle.blt_reader.specs.Front.{IsRollFront, IsFileFront}
 use Rattle.blt_reader.specs.Said.{nothing_more, at_roll_token, HasOnePoll, FollowsOpenLists, ExpectsRightly, AcceptsFiles, RefusesByTheRule, RefusesAllElse, AcceptsRolls, RefusesRollsByTheRule}
 use Rattle.blt_reader.proofs.Judgements.{same_some, none_not}
 use Rattle.blt_reader.proofs.BltSoundness.{roll_goes_on, file_goes_on}

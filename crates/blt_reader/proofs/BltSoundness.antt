@@ -1,5 +1,5 @@
 -- What the table of ballot files accepts so far is a front part of a file.
-use Rattle.std.proofs.Common.{◌≡◌, ℕ, ◌+◌, ◌<◌, ◌≤◌, List, [], ◌∷◌, ◌++◌, length, map, Bool, true, false, refl, sym, ◌∙◌, ap, subst, arith, append_assoc, nat_le, ◌==◌, Ok, Err}
+use Rattle.std.proofs.Common.{◌≡◌, ℕ, ◌+◌, ◌<◌, ◌≤◌, List, [], ◌∷◌, ◌++◌, length, map, false, refl, sym, ◌∙◌, ap, subst, arith, append_assoc, nat_le, ◌==◌, Ok, Err}
 use Rattle.std.specs.Prelude.{All}
 use Rattle.std.proofs.lemmas.Bool.{leb-true, eqb-true, cond_both}
 use Rattle.std.proofs.lemmas.List.{append-nil, map-append, length_push}
@@ -10,9 +10,9 @@ use Rattle.candidate_roll.specs.Roll.{withdrawn_marks}
 use Rattle.blt_reader.specs.Poll.{Poll}
 use Rattle.blt_reader.specs.Blt.{IsIn, AreLines, opening, ballots, IsUpToTitle, IsBlt}
 use Rattle.blt_reader.specs.Judged.{Judged, Progress, GoesOn, Ends}
-use Rattle.blt_reader.specs.BallotTable.{Limit, Lines, Between, Within, at_line}
-use Rattle.blt_reader.specs.BltTable.{Heading, Expected, Candidates, Seats, Withdrawn, Ballots, Name, Title, is_in, within_ballots, behind_name, poll_of, at_token, behind_title, at_file_token}
-use Rattle.blt_reader.specs.Front.{IsHeading, opening_of, begun, AreBegun, IsInBallots, IsInNames, IsFront, IsRollFront, IsFileFront}
+use Rattle.blt_reader.specs.BallotTable.{Limit, Lines, Between, at_line}
+use Rattle.blt_reader.specs.BltTable.{Heading, Expected, Candidates, Seats, Withdrawn, Ballots, Name, Title, is_in, within_ballots, behind_name, poll_of, at_token, at_file_token}
+use Rattle.blt_reader.specs.Front.{opening_of, begun, AreBegun, IsInBallots, IsInNames, IsFront, IsRollFront, IsFileFront}
 use Rattle.blt_reader.specs.Said.{at_roll_token}
 use Rattle.blt_reader.proofs.Judgements.{refused, same_value, passed, in_range}
 use Rattle.blt_reader.proofs.BallotSoundness.{no_lines, line_goes_on}

@@ -1,5 +1,5 @@
 -- A whole file: its front up to the title, and the strings behind it.
-use Rattle.std.proofs.Common.{◌≡◌, ℕ, List, refl, sym, ◌∙◌, ap, Ok, Err}
+use Rattle.std.proofs.Common.{◌≡◌, ℕ, List, refl, ◌∙◌, ap, Ok, Err}
 use Rattle.std.specs.Prelude.{Result, IfOk}
 use Rattle.blt_reader.specs.declared.fault_kind.FaultKind.TheVariants.{Trailing}
 use Rattle.blt_reader.specs.declared.input_fault.InputFault.{InputFault}
@@ -8,7 +8,7 @@ use Rattle.blt_reader.specs.declared.blt_stop.BltStop.{BltStop}
 use Rattle.blt_reader.specs.declared.blt_stop.BltStop.TheVariants as stop
 use Rattle.blt_reader.specs.declared.what.What.{What}
 use Rattle.blt_reader.specs.declared.what.What.TheVariants as code
-use Rattle.blt_reader.specs.Token.{Item, Number, Minus, Text, Word, Placed, AtEnd, AtFault, Scan, ends, with_front}
+use Rattle.blt_reader.specs.Token.{AtEnd, AtFault, Scan, ends, with_front}
 use Rattle.blt_reader.specs.Reader.{said}
 use Rattle.blt_reader.specs.Poll.{Poll}
 use Rattle.blt_reader.specs.Election.{poll}

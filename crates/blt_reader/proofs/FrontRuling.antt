@@ -1,6 +1,6 @@
 -- A table that follows files reads the front of a text, and refuses by the rule what has no such front.
-use Rattle.std.proofs.Common.{◌≡◌, List, [], ◌∷◌, ◌++◌, refl, sym, ◌∙◌, ap, subst, Ok, Err}
-use Rattle.std.specs.Prelude.{Result, Option, Some, None, ◌↔◌}
+use Rattle.std.proofs.Common.{◌≡◌, List, [], ◌∷◌, ◌++◌, refl, sym, ◌∙◌, ap, Ok, Err}
+use Rattle.std.specs.Prelude.{Result, Some, ◌↔◌}
 use Rattle.blt_reader.specs.declared.input_fault.InputFault.{InputFault}
 use Rattle.blt_reader.specs.Token.{Item, Placed, Ending, Scan}
 use Rattle.blt_reader.specs.Judged.{Judged, then_on, after, outcome, Progress, GoesOn, Ends, ended, Stopped, on_progress, front_of, reads}

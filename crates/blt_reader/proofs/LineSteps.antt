@@ -1,8 +1,7 @@
 -- One number more within ballots.
-use Rattle.std.proofs.Common.{◌≡◌, ℕ, ◌+◌, ◌-◌, ◌<◌, ◌≤◌, List, [], ◌∷◌, ◌++◌, length, Bool, true, false, ◌==◌, ◌||◌, refl, sym, ◌∙◌, ap, arith, get_or, set, Ok, Err}
+use Rattle.std.proofs.Common.{◌≡◌, ℕ, ◌+◌, ◌<◌, ◌≤◌, List, [], ◌∷◌, ◌++◌, length, Bool, true, false, ◌==◌, ◌||◌, refl, sym, ◌∙◌, ap, arith, get_or, set, Ok, Err}
 use Rattle.std.specs.List.{list_any}
-use Rattle.std.proofs.lemmas.Bool.{eq-eqb, ne_eqb, eqb-true, le-leb, lt-leb}
-use Rattle.std.proofs.lemmas.List.{get_or-set_same, get_or-set_other}
+use Rattle.std.proofs.lemmas.Bool.{eq-eqb, ne_eqb, le-leb, lt-leb}
 use Rattle.std.proofs.lemmas.List.Folds.{list_any-append}
 use Rattle.std.proofs.lemmas.Grind.{common_steps}
 use Rattle.plain_ballots.specs.Ballots.{ballot_count}
@@ -12,8 +11,8 @@ use Rattle.blt_reader.specs.declared.fault_kind.FaultKind.TheVariants.{NoSuchCan
 use Rattle.blt_reader.specs.declared.input_fault.InputFault.{InputFault}
 use Rattle.blt_reader.specs.declared.blt_stop.BltStop.{BltStop}
 use Rattle.blt_reader.specs.Token.{Item, Number, Minus, Text, Word, Scan, with_front}
-use Rattle.blt_reader.specs.Judged.{Progress, GoesOn, Ends, reads}
-use Rattle.blt_reader.specs.BallotTable.{at_number, at_rank, Limit, Lines, Between, Within, at_count, with_line, at_line}
+use Rattle.blt_reader.specs.Judged.{reads}
+use Rattle.blt_reader.specs.BallotTable.{at_rank, Limit, Lines, Between, Within, with_line, at_line}
 use Rattle.blt_reader.specs.Reads.{Stops, as_number, Reads}
 use Rattle.blt_reader.proofs.Judgements.{accepted, same_kind}
 use Rattle.blt_reader.proofs.Reading.{goes_on, ends_with, refused_at, stops, inner_read, inner_fails}

@@ -1,6 +1,5 @@
 -- One name more, and the title.
-use Rattle.std.proofs.Common.{◌≡◌, ℕ, ◌+◌, ◌<◌, ◌≤◌, List, [], ◌∷◌, ◌++◌, length, true, false, ◌==◌, nat_le, refl, sym, ◌∙◌, ap, arith, Ok, Err}
-use Rattle.std.specs.Prelude.{Result}
+use Rattle.std.proofs.Common.{◌≡◌, ℕ, ◌<◌, List, [], ◌∷◌, ◌++◌, length, true, false, ◌==◌, nat_le, refl, ◌∙◌, ap, arith, Ok, Err}
 use Rattle.std.proofs.lemmas.Bool.{eq-eqb, ne_eqb}
 use Rattle.plain_ballots.specs.declared.ballot_line.BallotLine.{BallotLine}
 use Rattle.blt_reader.specs.declared.fault_kind.FaultKind.{FaultKind}
@@ -8,11 +7,11 @@ use Rattle.blt_reader.specs.declared.input_fault.InputFault.{InputFault}
 use Rattle.blt_reader.specs.declared.blt_stop.BltStop.{BltStop}
 use Rattle.blt_reader.specs.declared.blt_stop.BltStop.TheVariants as stop
 use Rattle.blt_reader.specs.Token.{Item, Number, Minus, Text, Word, Scan}
-use Rattle.blt_reader.specs.Judged.{Judged, Progress, GoesOn, Ends, reads}
+use Rattle.blt_reader.specs.Judged.{GoesOn, Ends, reads}
 use Rattle.blt_reader.specs.BallotTable.{Limit}
 use Rattle.blt_reader.specs.BltTable.{Heading, Expected, Name, Title, behind_name, poll_of, at_token}
 use Rattle.blt_reader.specs.Reads.{Stops, Accepts, as_name, OnFault, ReadsNames}
-use Rattle.blt_reader.proofs.Judgements.{refused, accepted, same_kind, passed, failed}
+use Rattle.blt_reader.proofs.Judgements.{refused, same_kind, passed, failed}
 use Rattle.blt_reader.proofs.Reading.{goes_on, ends_with, stops}
 
 pub name_expected : (h : Heading) (lines : List BallotLine) (names : List (List ℕ)) → length names < h.candidates → behind_name h lines names ≡ Name h lines names

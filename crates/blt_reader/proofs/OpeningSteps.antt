@@ -1,7 +1,7 @@
 -- The numbers of candidates and seats, and one withdrawn candidate more.
-use Rattle.std.proofs.Common.{◌≡◌, ℕ, ◌+◌, ◌<◌, ◌≤◌, List, [], ◌∷◌, ◌++◌, map, Bool, true, false, ◌==◌, ◌||◌, nat_le, refl, sym, ◌∙◌, ap, subst, arith, inl, inr, ◌⊎◌, Ok, Err}
+use Rattle.std.proofs.Common.{◌≡◌, ℕ, ◌+◌, List, [], ◌∷◌, ◌++◌, map, Bool, true, false, ◌==◌, ◌||◌, refl, sym, ◌∙◌, ap, subst, inl, inr, Ok, Err}
 use Rattle.std.specs.Prelude.{All}
-use Rattle.std.specs.List.{list_any, range_with_len}
+use Rattle.std.specs.List.{range_with_len}
 use Rattle.std.proofs.lemmas.Bool.{eqb-true}
 use Rattle.std.proofs.lemmas.List.Elements.{All-push}
 use Rattle.std.proofs.lemmas.List.Folds.{list_any-append}
@@ -22,7 +22,7 @@ use Rattle.blt_reader.specs.BallotTable.{Limit, Between}
 use Rattle.blt_reader.specs.BltTable.{Heading, Expected, Candidates, Seats, Withdrawn, Ballots, is_in, at_token}
 use Rattle.blt_reader.specs.Reads.{IsEnded, Stops, Accepts, as_size}
 use Rattle.blt_reader.specs.Opening.{IsListedMore, IsWithdrawn, ReadsWithdrawn, IsOpened, ReadsOpening}
-use Rattle.blt_reader.proofs.Judgements.{refused, accepted, same_kind, passed, failed, in_range, to_range}
+use Rattle.blt_reader.proofs.Judgements.{refused, same_kind, passed, failed, in_range, to_range}
 use Rattle.blt_reader.proofs.Reading.{goes_on, refused_at, ended_so, stops}
 
 -- ---- sizes

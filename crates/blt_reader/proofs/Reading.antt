@@ -1,16 +1,14 @@
 -- One token more: what a table makes of it, and where the reader then stands.
-use Rattle.std.proofs.Common.{◌≡◌, ℕ, ◌+◌, ◌<◌, List, [], ◌∷◌, ◌++◌, length, refl, sym, ◌∙◌, ap, arith, inl, inr, append_assoc, Ok, Err}
+use Rattle.std.proofs.Common.{◌≡◌, ℕ, ◌<◌, List, [], ◌∷◌, ◌++◌, length, refl, sym, ◌∙◌, ap, arith, inl, inr, append_assoc, Ok, Err}
 use Rattle.std.specs.Prelude.{Result}
-use Rattle.std.proofs.lemmas.List.{append-nil}
 use Rattle.blt_reader.specs.declared.fault_kind.FaultKind.{FaultKind}
-use Rattle.blt_reader.specs.declared.fault_kind.FaultKind.TheVariants.{BadNumber}
 use Rattle.blt_reader.specs.declared.input_fault.InputFault.{InputFault}
 use Rattle.blt_reader.specs.declared.blt_stop.BltStop.{BltStop}
 use Rattle.blt_reader.specs.declared.blt_stop.BltStop.TheVariants as stop
-use Rattle.blt_reader.specs.Token.{Item, Number, Minus, Text, Word, Placed, Ending, Scan, with_front, ends}
+use Rattle.blt_reader.specs.Token.{Item, Placed, Scan, with_front, ends}
 use Rattle.blt_reader.specs.Reader.{Reader}
-use Rattle.blt_reader.specs.Judged.{Judged, Progress, GoesOn, Ends, Stopped, ended_by, on_progress, front_of, carried, reads}
-use Rattle.blt_reader.specs.Reads.{IsBehind, tokens_left, IsEnded, IsRefusedNext, Stops, Reads}
+use Rattle.blt_reader.specs.Judged.{Judged, Progress, GoesOn, Ends, Stopped, on_progress, front_of, carried, reads}
+use Rattle.blt_reader.specs.Reads.{IsBehind, IsEnded, Stops, Reads}
 use Rattle.blt_reader.proofs.Tables.{behind_inner, reads_inner}
 
 -- ---- where the reader stands

@@ -1,5 +1,5 @@
 -- What the readers of rolls and files answer, by the laws.
-use Rattle.std.proofs.Common.{◌≡◌, ◌∙◌, sym, ap, Ok, Err}
+use Rattle.std.proofs.Common.{Ok, Err}
 use Rattle.std.specs.Prelude.{Result, IfOk}
 use Rattle.blt_reader.specs.declared.election.Election.{Election}
 use Rattle.blt_reader.specs.declared.blt_stop.BltStop.{BltStop}

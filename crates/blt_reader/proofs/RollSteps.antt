@@ -1,6 +1,5 @@
 -- The parts of a file up to its title, one behind another.
-use Rattle.std.proofs.Common.{◌≡◌, ℕ, ◌<◌, ◌≤◌, List, [], length, Bool, true, false, refl, sym, ◌∙◌, ap, arith, Ok, Err}
-use Rattle.std.specs.Prelude.{Result}
+use Rattle.std.proofs.Common.{◌≡◌, ℕ, ◌<◌, List, [], length, Bool, refl, sym, ◌∙◌, ap, Ok, Err}
 use Rattle.plain_ballots.specs.Ballots.{BallotList}
 use Rattle.plain_ballots.specs.declared.ballot_line.BallotLine.{BallotLine}
 use Rattle.candidate_roll.specs.Roll.{RollList, withdrawn_marks}
@@ -13,7 +12,7 @@ use Rattle.blt_reader.specs.Judged.{carried, reads}
 use Rattle.blt_reader.specs.BallotTable.{Limit, Lines, Between, at_line}
 use Rattle.blt_reader.specs.BltTable.{Heading, Expected, Candidates, Ballots, Name, behind_name, poll_of, at_token}
 use Rattle.blt_reader.specs.Reads.{Stops, Accepts, as_name, OnFault, Reads, ReadsNames}
-use Rattle.blt_reader.specs.Opening.{IsOpening, IsOpened}
+use Rattle.blt_reader.specs.Opening.{IsOpened}
 use Rattle.blt_reader.proofs.Reading.{inner_read, inner_fails}
 use Rattle.blt_reader.proofs.NameSteps.{name_expected, title_stops, title_read}
 

@@ -1,5 +1,5 @@
 -- A table that follows files refuses by the rule, and accepts the files.
-use Rattle.std.proofs.Common.{◌≡◌, ℕ, List, [], ◌∷◌, ◌++◌, refl, sym, ◌∙◌, ap, subst, inl, inr, ◌⊎◌, append_assoc, Ok, Err}
+use Rattle.std.proofs.Common.{◌≡◌, ℕ, List, [], ◌∷◌, ◌++◌, refl, sym, ◌∙◌, ap, subst, inl, inr, append_assoc, Ok, Err}
 use Rattle.std.specs.Prelude.{Result, is_ok, IsOk, Option, Some, None, ◌↔◌}
 use Rattle.std.proofs.lemmas.Bool.{false≢true}
 use Rattle.std.proofs.lemmas.List.{append-nil, map-append}
@@ -8,7 +8,7 @@ use Rattle.blt_reader.specs.declared.fault_kind.FaultKind.TheVariants.{Ended}
 use Rattle.blt_reader.specs.declared.input_fault.InputFault.{InputFault}
 use Rattle.blt_reader.specs.Token.{Item, Placed, Ending, AtEnd, AtFault, Scan}
 use Rattle.blt_reader.specs.Judged.{Judged, then_on, after, at_place, at_ending, outcome}
-use Rattle.blt_reader.specs.Refusal.{items_of, IsOpen, IsAccepted, ByToken, ByEnding, ByLength, IsRefusal}
+use Rattle.blt_reader.specs.Refusal.{items_of, IsOpen, IsAccepted, ByToken, ByLength, IsRefusal}
 use Rattle.blt_reader.proofs.Judgements.{refused, accepted, same_value, same_kind, same_some, none_not}
 use Rattle.blt_reader.proofs.Tables.{in_parts, front_read}
 

@@ -1,7 +1,6 @@
 -- Lists of items in parts, and a table within another.
-use Rattle.std.proofs.Common.{◌≡◌, List, [], ◌∷◌, ◌++◌, refl, sym, ◌∙◌, ap, Ok, Err}
+use Rattle.std.proofs.Common.{◌≡◌, List, [], ◌∷◌, ◌++◌, refl, ◌∙◌, ap, Ok, Err}
 use Rattle.std.specs.Prelude.{Option, None, Result, IsOk}
-use Rattle.blt_reader.specs.declared.fault_kind.FaultKind.{FaultKind}
 use Rattle.blt_reader.specs.declared.fault_kind.FaultKind.TheVariants.{Trailing}
 use Rattle.blt_reader.specs.declared.input_fault.InputFault.{InputFault}
 use Rattle.blt_reader.specs.Token.{Item, Placed, Ending, AtEnd, AtFault, Scan}

@@ -1,5 +1,5 @@
 -- What is expected within ballots, and what an item leads to there. Ballot files and batches share it.
-use Rattle.std.specs.Prelude.{ℕ, ◌+◌, List, [], ◌∷◌, ◌++◌, ◌==◌, if◌then◌else◌, nat_le, nat_eq, Ok, Err}
+use Rattle.std.specs.Prelude.{ℕ, ◌+◌, List, [], ◌∷◌, ◌++◌, ◌==◌, if◌then◌else◌, nat_le, Ok, Err}
 use Rattle.std.specs.List.{list_any}
 use Rattle.plain_ballots.specs.Ballots.{ballot_count}
 use Rattle.plain_ballots.specs.declared.ballot_line.BallotLine.{BallotLine}

@@ -1,7 +1,7 @@
 -- What is expected in a ballot file, and what an item leads to there.
 use Rattle.std.specs.Prelude.{ℕ, List, [], ◌∷◌, ◌++◌, length, Bool, ◌&&◌, ◌==◌, if◌then◌else◌, nat_le, Ok, Err}
 use Rattle.plain_ballots.specs.declared.ballot_line.BallotLine.{BallotLine}
-use Rattle.blt_reader.specs.declared.fault_kind.FaultKind.TheVariants.{BadNumber, BadHeader, BadWithdrawn, NameExpected, TooLongName, Trailing}
+use Rattle.blt_reader.specs.declared.fault_kind.FaultKind.TheVariants.{BadHeader, BadWithdrawn, NameExpected, TooLongName, Trailing}
 use Rattle.blt_reader.specs.Token.{Item, Number, Minus, Text}
 use Rattle.candidate_roll.specs.Roll.{withdrawn_marks}
 use Rattle.blt_reader.specs.Poll.{Poll}

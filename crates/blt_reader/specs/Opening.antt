@@ -1,5 +1,5 @@
 -- What stands before the ballots of a file, as the code reads it.
-use Rattle.std.specs.Prelude.{◌≡◌, ◌<◌, ◌≤◌, ℕ, List, [], ◌∷◌, ◌++◌, length, Bool, true, false, slice_index_or, All, Result, Ok, Err, ◌⊎◌}
+use Rattle.std.specs.Prelude.{◌≡◌, ◌<◌, ℕ, List, [], ◌∷◌, ◌++◌, length, Bool, true, false, slice_index_or, All, Result, Ok, Err, ◌⊎◌}
 use Rattle.candidate_roll.specs.Roll.{is_listed, withdrawn_marks}
 use Rattle.blt_reader.specs.declared.blt_stop.BltStop.{BltStop}
 use Rattle.blt_reader.specs.declared.blt_stop.BltStop.TheVariants as stop
@@ -8,7 +8,7 @@ use Rattle.blt_reader.specs.Token.{Number, Scan, with_front}
 use Rattle.blt_reader.specs.Blt.{IsIn}
 use Rattle.blt_reader.specs.Judged.{reads}
 use Rattle.blt_reader.specs.BallotTable.{Limit, Between}
-use Rattle.blt_reader.specs.BltTable.{Heading, Candidates, Withdrawn, Ballots, at_token}
+use Rattle.blt_reader.specs.BltTable.{Candidates, Withdrawn, Ballots, at_token}
 
 -- marks of the listed numbers
 abbrev pub Marks : List Bool → List ℕ → Type 0

@@ -1,8 +1,8 @@
 -- What a ballot file says, or why it is refused.
-use Rattle.std.specs.Prelude.{◌≡◌, ℕ, List, ◌++◌, Bool, true, false, Result, Ok, Err, IsOk, ◌↔◌}
+use Rattle.std.specs.Prelude.{◌≡◌, ℕ, List, Bool, true, false, Result, Ok, Err, IsOk, ◌↔◌}
 use Rattle.blt_reader.specs.declared.fault_kind.FaultKind.TheVariants.{TooManyBallots, BallotsInRoll, Trailing}
 use Rattle.blt_reader.specs.declared.input_fault.InputFault.{InputFault}
-use Rattle.blt_reader.specs.Token.{Item, Placed, Scan}
+use Rattle.blt_reader.specs.Token.{Item, Scan}
 use Rattle.blt_reader.specs.Scan.{scan}
 use Rattle.blt_reader.specs.Poll.{Poll}
 use Rattle.blt_reader.specs.Blt.{IsUpToTitle, IsBlt}

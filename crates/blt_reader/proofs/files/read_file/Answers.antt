@@ -1,6 +1,5 @@
 use Rattle.std.proofs.Common.{◌≡◌, false, ap, subst, Ok, Err}
 use Rattle.std.proofs.lemmas.Result.{err_from_is_err_and}
-use Rattle.blt_reader.specs.declared.blt_stop.BltStop.{BltStop}
 use Rattle.blt_reader.specs.Token.{Scan}
 use Rattle.blt_reader.specs.Reader.{Reader}
 use Rattle.blt_reader.specs.Scan.{scan}

@@ -1,8 +1,8 @@
-use Rattle.std.proofs.Common.{◌≡◌, ◌≤◌, sym, ◌∙◌, ap, subst, arith}
+use Rattle.std.proofs.Common.{sym, ◌∙◌, ap, subst, arith}
 use Rattle.std.proofs.lemmas.Result.{err_from_is_err_and}
 use Rattle.blt_reader.specs.declared.fault_kind.FaultKind.TheVariants.{BadWithdrawn, BadNumber}
 use Rattle.blt_reader.specs.declared.what.What.{What}
-use Rattle.blt_reader.specs.Token.{Item, with_front}
+use Rattle.blt_reader.specs.Token.{with_front}
 use Rattle.blt_reader.specs.Reader.{said}
 use Rattle.blt_reader.specs.Blt.{IsIn}
 use Rattle.blt_reader.proofs.Reading.{behind_trans}

@@ -1,7 +1,6 @@
 use Rattle.std.proofs.Common.{◌≡◌, ℕ, ◌<◌, List, length, refl, ◌∙◌, ap, arith}
 use Rattle.std.proofs.lemmas.Result.{err_from_is_err_and}
-use Rattle.candidate_roll.specs.Roll.{RollList, withdrawn_marks}
-use Rattle.blt_reader.specs.declared.election.Election.{Election}
+use Rattle.candidate_roll.specs.Roll.{withdrawn_marks}
 use Rattle.blt_reader.specs.BallotTable.{Limit}
 use Rattle.blt_reader.specs.Election.{poll}
 use Rattle.blt_reader.proofs.RollSteps.{HeadingOf, ballots_fail, ballots_read, names_stop, title_stop, all_read}

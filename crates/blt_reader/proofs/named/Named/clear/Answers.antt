@@ -1,5 +1,4 @@
-use Rattle.std.proofs.Common.{◌≡◌, ℕ, ◌+◌, ◌≤◌, List, length, vec_len, map, rules, replicate, false, ◌==◌, sym, ◌∙◌, ap, subst}
-use Rattle.std.specs.Prelude.{All}
+use Rattle.std.proofs.Common.{◌≡◌, ℕ, ◌+◌, List, length, vec_len, map, rules, replicate, false, ◌==◌, sym, ◌∙◌, ap, subst}
 use Rattle.std.proofs.lemmas.List.{length-map}
 use Rattle.blt_reader.specs.declared.named.Named.TheInside.{Inside}
 use Rattle.blt_reader.proofs.Stamps.{none_marked, none_marked_first}

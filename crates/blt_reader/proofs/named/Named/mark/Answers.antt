@@ -1,4 +1,4 @@
-use Rattle.std.proofs.Common.{ℕ, Bool, true, List, set, ◌∙◌, ap}
+use Rattle.std.proofs.Common.{Bool, true, List, set, ◌∙◌, ap}
 use Rattle.blt_reader.proofs.Stamps.{one_marked}
 use Rattle.blt_reader.proofs.named.Named.mark.Goals as goal
 

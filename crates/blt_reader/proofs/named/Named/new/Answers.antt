@@ -1,4 +1,4 @@
-use Rattle.std.proofs.Common.{◌≡◌, ℕ, List, map, ◌==◌, ◌∙◌, ap}
+use Rattle.std.proofs.Common.{ℕ, List, map, ◌==◌, ◌∙◌, ap}
 use Rattle.blt_reader.proofs.Stamps.{none_marked_first}
 use Rattle.blt_reader.proofs.named.Named.new.Goals as goal
 
