@@ -1,3 +1,5 @@
 pub mod DigitLemmas
 pub mod SplitLemmas
 pub mod LotListLemmas
+pub mod CutLemmas
+pub mod FormLemmas

@@ -2,7 +2,7 @@
 use Rattle.std.specs.Prelude.{◌≡◌, ℕ, List, [], ◌∷◌, codes, All}
 use Rattle.std.specs.List.{flat_map}
 use Rattle.meek_words.specs.Numerals.{Word, IsNumeralUpTo, IsLotList, number_of}
-use Rattle.meek_words.specs.Parts.{Part, Given, given_of, words_of, value_of, IsValue}
+use Rattle.meek_words.specs.Parts.{Part, Given, given_of, words_of, HasValue}
 use Rattle.meek_words.specs.declared.command.Command.{Command}
 use Rattle.meek_words.specs.declared.command.Command.TheVariants.{Count, Day, Trial}
 
@@ -41,7 +41,7 @@ Says (Trial number shards workers) given =
 pub record HasForm (words : List Word) (command : Command) : Type 0 where
   pub parts : List Part
   pub spelled : words ≡ first_word command ∷ flat_map words_of parts
-  pub values : All (λ part. IsValue (value_of part)) parts
+  pub values : All HasValue parts
   pub says : Says command (given_of parts)
 
 -- words have at most one command

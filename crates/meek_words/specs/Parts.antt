@@ -41,6 +41,9 @@ abbrev pub IsValue : Word → Type 0
 IsValue [] = ⊥
 IsValue (b ∷ rest) = b ≢ 45
 
+abbrev pub HasValue : Part → Type 0
+HasValue part = IsValue (value_of part)
+
 -- ---- what the parts give
 
 abbrev pub same_name : OptionName → OptionName → Bool
@@ -62,7 +65,7 @@ values_of option parts = map value_of (filter (λ part. same_option option (opti
 -- two plain words
 pub record AreParts (words : List Word) (parts : List Part) : Type 0 where
   pub spelled : words ≡ flat_map words_of parts
-  pub values : All (λ part. IsValue (value_of part)) parts
+  pub values : All HasValue parts
   pub once : (option : Option OptionName) → length (values_of option parts) ≤ 1
 
 -- the values of each option, and the plain words

@@ -8,12 +8,15 @@
 mod command;
 mod lot_words;
 mod lots;
+mod laws;
 mod numeral;
 mod option_name;
 mod push_back;
+mod spelling;
 mod words_stop;
 
 pub use command::Command;
+pub use laws::words_have_one_command;
 pub use lot_words::LotWords;
 pub use lots::read_lots;
 pub use push_back::PushBack;
