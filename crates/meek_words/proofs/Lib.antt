@@ -2,4 +2,5 @@ pub mod DigitLemmas
 pub mod SplitLemmas
 pub mod LotListLemmas
 pub mod CutLemmas
+pub mod FrontLemmas
 pub mod FormLemmas

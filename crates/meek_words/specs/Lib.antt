@@ -1,4 +1,5 @@
 pub mod Numerals
 pub mod Parts
+pub mod Stands
 pub mod Spellings
 pub mod Forms

@@ -68,6 +68,10 @@ pub record AreParts (words : List Word) (parts : List Part) : Type 0 where
   pub values : All HasValue parts
   pub once : (option : Option OptionName) → length (values_of option parts) ≤ 1
 
+-- the words are parts, in one way or another
+abbrev pub AreSpelled : List Word → Type 0
+AreSpelled words = (parts : List Part) × AreParts words parts
+
 -- the values of each option, and the plain words
 pub record Given : Type 0 where
   pub lots : List Word

@@ -13,6 +13,7 @@ mod numeral;
 mod option_name;
 mod push_back;
 mod spelling;
+mod stood;
 mod words_stop;
 
 pub use command::Command;

@@ -1,10 +1,11 @@
 //! The test that words are options with their values and plain words, before anybody reads a value.
 ghost use Rattle.std.specs.Prelude.{◌≡◌, ◌≢◌, ◌↔◌, List, ◌++◌, IsTrue, IfNone, IfSome, map, string_bytes};
 ghost use Rattle.meek_words.specs.Numerals.{Word};
-ghost use Rattle.meek_words.specs.Parts.{HasValue, IsValue, Part, option_of, words_of};
+ghost use Rattle.meek_words.specs.Parts.{AreSpelled, HasValue, IsValue, Part, option_of, words_of};
 ghost use Rattle.meek_words.specs.Spellings.{IsSpelled};
 
 use crate::option_name::OptionName;
+use crate::stood::Stood;
 
 /// What a word is by its spelling.
 #[derive(Clone, Copy)]
@@ -57,4 +58,22 @@ fn first_part(words: &[String]) -> Option<(Option<OptionName>, &[String])>
         Spelling::Plain => (None, word.as_str(), rest),
     };
     if is_value(value) { Some((name, rest)) } else { None }
+}
+
+/// Whether the words are options, each with a value and none twice, and at most one plain word.
+pub(crate) fn is_spelled(words: &[String]) -> bool
+    ensures { IsTrue result ↔ AreSpelled (map string_bytes words.now) }
+{
+    let mut stood = Stood::nothing();
+    let mut rest = words;
+    while !rest.is_empty() {
+        let Some((option, behind)) = first_part(rest) else {
+            return false;
+        };
+        if !stood.is_first(option) {
+            return false;
+        }
+        rest = behind;
+    }
+    true
 }
