@@ -3,7 +3,8 @@ use Rattle.std.proofs.Common.{◌≡◌, ℕ, List, [], ◌∷◌, ap, sym, subs
 use Rattle.std.specs.List.{flat_map}
 use Rattle.meek_words.specs.Numerals.{Word, IsNumeralUpTo, IsLotList, number_of}
 use Rattle.meek_words.specs.Parts.{Given, given_of, words_of}
-use Rattle.meek_words.specs.Forms.{HasForm, HasSettings, IsSetting, IsOnce, Says, first_word, HaveOneCommand}
+use Rattle.meek_words.specs.Settings.{IsSetting}
+use Rattle.meek_words.specs.Forms.{HasForm, HasSettings, IsOnce, Says, first_word, HaveOneCommand}
 use Rattle.meek_words.specs.declared.command.Command.{Command}
 use Rattle.meek_words.specs.declared.command.Command.TheVariants.{Count, Day, Trial}
 use Rattle.meek_words.proofs.CutLemmas.{same_parts}

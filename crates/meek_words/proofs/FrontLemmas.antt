@@ -85,7 +85,7 @@ twice stood done behind part once again few =
     let option = option_of part in
     let one : length (values_of option done) ≡ 1 = once option ∙ ap (λ b. cond b 1 0) again in
     let two : length (values_of option (done ++ part ∷ [])) ≡ length (values_of option done) + 1 =
-        count_push option done part ∙ ap (λ b. length (values_of option done) + cond b 1 0) (same_option-refl option) in
+    count_push option done part ∙ ap (λ b. length (values_of option done) + cond b 1 0) (same_option-refl option) in
     let all = ap length (values_of-append option (done ++ part ∷ []) behind) ∙ length-append (values_of option (done ++ part ∷ [])) (values_of option behind) in
     omega (arith, one, two, all, few)
 

@@ -2,15 +2,10 @@
 use Rattle.std.specs.Prelude.{◌≡◌, ℕ, List, [], ◌∷◌, codes, All}
 use Rattle.std.specs.List.{flat_map}
 use Rattle.meek_words.specs.Numerals.{Word, IsNumeralUpTo, IsLotList, number_of}
+use Rattle.meek_words.specs.Settings.{IsSetting}
 use Rattle.meek_words.specs.Parts.{Part, Given, given_of, words_of, HasValue}
 use Rattle.meek_words.specs.declared.command.Command.{Command}
 use Rattle.meek_words.specs.declared.command.Command.TheVariants.{Count, Day, Trial}
-
--- at most once a numeral from 1 to the greatest, else the default
-abbrev pub IsSetting : ℕ → ℕ → List Word → ℕ → Type 0
-IsSetting greatest default [] n = n ≡ default
-IsSetting greatest default (word ∷ []) n = IsNumeralUpTo greatest word × (n ≡ number_of word)
-IsSetting greatest default (word ∷ again ∷ words) n = ⊥
 
 -- just one word, of which P holds
 abbrev pub IsOnce : (Word → Type 0) → List Word → Type 0

@@ -2,4 +2,6 @@ pub mod Numerals
 pub mod Parts
 pub mod Stands
 pub mod Spellings
+pub mod Values
+pub mod Settings
 pub mod Forms

@@ -6,14 +6,15 @@
 #![tactic(auto)]
 
 mod command;
+mod laws;
 mod lot_words;
 mod lots;
-mod laws;
 mod numeral;
 mod option_name;
 mod push_back;
 mod spelling;
 mod stood;
+mod values;
 mod words_stop;
 
 pub use command::Command;

@@ -57,7 +57,11 @@ fn first_part(words: &[String]) -> Option<(Option<OptionName>, &[String])>
         }
         Spelling::Plain => (None, word.as_str(), rest),
     };
-    if is_value(value) { Some((name, rest)) } else { None }
+    if is_value(value) {
+        Some((name, rest))
+    } else {
+        None
+    }
 }
 
 /// Whether the words are options, each with a value and none twice, and at most one plain word.

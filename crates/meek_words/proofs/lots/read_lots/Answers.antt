@@ -12,14 +12,14 @@ pub returns-in_default-clause-refused : goal.returns-in_default-clause-refused
 returns-in_default-clause-refused c _ lots list =
     let is = c.into_iter-part-iterator.ensures.into_iter_gives in
     let turn = YieldsList-turn (YieldsList-from_slice_split _ (λ b. nat_eq b 44) c.args.word.now (ap (λ s. slice.split_rest s) is ∙ c.split-part-items.ensures.rest) (ap (λ s. slice.split_done s) is ∙ c.split-part-items.ensures.done) refl (λ x r q k. search (rules, tests)))
-        c.loop-part.yielded _ c.loop-part.yielded_by _ _ c.in-Some.part c.in-Some.is c.next.ensures.steps in
+    c.loop-part.yielded _ c.loop-part.yielded_by _ _ c.in-Some.part c.in-Some.is c.next.ensures.steps in
     c.in_default.ensures (piece_is_numeral c.args.word.now lots list (length c.loop-part.yielded) c.in-Some.part.now turn.0 turn.1)
 
 pub returns-then-len-eq-MOST_LOTS-clause-refused : goal.returns-then-len-eq-MOST_LOTS-clause-refused
 returns-then-len-eq-MOST_LOTS-clause-refused c _ lots list =
     let is = c.into_iter-part-iterator.ensures.into_iter_gives in
     let turn = YieldsList-turn (YieldsList-from_slice_split _ (λ b. nat_eq b 44) c.args.word.now (ap (λ s. slice.split_rest s) is ∙ c.split-part-items.ensures.rest) (ap (λ s. slice.split_done s) is ∙ c.split-part-items.ensures.done) refl (λ x r q k. search (rules, tests)))
-        c.loop-part.yielded _ c.loop-part.yielded_by _ _ c.in-Some.part c.in-Some.is c.next.ensures.steps in
+    c.loop-part.yielded _ c.loop-part.yielded_by _ _ c.in-Some.part c.in-Some.is c.next.ensures.steps in
     let so_far = ap length c.loop-part.invariant.numbers ∙ length-map (map (λ piece. piece.now) c.loop-part.yielded) number_of ∙ length-map c.loop-part.yielded (λ piece. piece.now) in
     omega (arith, so_far, turn.0, pieces_at_most c.args.word.now lots list)
 
@@ -27,6 +27,6 @@ pub returns-clause-accepted : goal.returns-clause-accepted
 returns-clause-accepted c =
     let is = c.into_iter-part-iterator.ensures.into_iter_gives in
     let end = YieldsList-end (YieldsList-from_slice_split _ (λ b. nat_eq b 44) c.args.word.now (ap (λ s. slice.split_rest s) is ∙ c.split-part-items.ensures.rest) (ap (λ s. slice.split_done s) is ∙ c.split-part-items.ensures.done) refl (λ x r q k. search (rules, tests)))
-        c.loop-part.yielded _ c.loop-part.yielded_by _ _ c.in-None.is c.next.ensures.steps in
+    c.loop-part.yielded _ c.loop-part.yielded_by _ _ c.in-None.is c.next.ensures.steps in
     lot_list_from_pieces c.args.word.now c.loop-part.lots (map (λ piece. piece.now) c.loop-part.yielded) end.0 c.loop-part.invariant.numbers c.loop-part.invariant.numerals
-        (simp length-map c.loop-part.invariant.few)
+    (simp length-map c.loop-part.invariant.few)
