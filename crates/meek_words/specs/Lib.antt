@@ -1,5 +1,6 @@
 pub mod Numerals
 pub mod Parts
+pub mod ClapCommand
 pub mod Stands
 pub mod Spellings
 pub mod Values

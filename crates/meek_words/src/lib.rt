@@ -6,6 +6,7 @@
 #![tactic(auto)]
 
 mod command;
+mod found;
 mod laws;
 mod lot_words;
 mod lots;
