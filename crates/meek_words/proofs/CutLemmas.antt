@@ -45,7 +45,7 @@ abbrev pub first_part : List Word → Cut
 first_part [] = None
 first_part (word ∷ rest) = cut_by (flagged (at_equals word).0) (at_equals word).1 word rest
 
-no_hyphen : (b : ℕ) → b ≢ 45 → nat_eq b 45 ≡ false
+pub no_hyphen : (b : ℕ) → b ≢ 45 → nat_eq b 45 ≡ false
 no_hyphen b h = grind (arith, nat_tests)
 
 pub is_value-true : (word : Word) → IsValue word → is_value word ≡ true

@@ -40,7 +40,7 @@ values_of-append option xs ys =
     let p : Part → Bool = λ part. same_option option (option_of part) in
     ap (map value_of) (filter-append p xs ys) ∙ map-append value_of (filter p xs) (filter p ys)
 
-count_push : (option : Option OptionName) (done : List Part) (part : Part) → length (values_of option (done ++ part ∷ [])) ≡ length (values_of option done) + cond (same_option option (option_of part)) 1 0
+pub count_push : (option : Option OptionName) (done : List Part) (part : Part) → length (values_of option (done ++ part ∷ [])) ≡ length (values_of option done) + cond (same_option option (option_of part)) 1 0
 count_push option done part =
     ap length (values_of-append option done (part ∷ [])) ∙ length-append (values_of option done) (values_of option (part ∷ [])) ∙ ap (λ n. length (values_of option done) + n) (one (same_option option (option_of part)))
   where

@@ -4,4 +4,6 @@ pub mod LotListLemmas
 pub mod CutLemmas
 pub mod FrontLemmas
 pub mod ClapSteps
+pub mod ClapRows
+pub mod ClapWalk
 pub mod FormLemmas
