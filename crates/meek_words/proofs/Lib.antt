@@ -6,4 +6,5 @@ pub mod FrontLemmas
 pub mod ClapSteps
 pub mod ClapRows
 pub mod ClapWalk
+pub mod ClapTakes
 pub mod FormLemmas

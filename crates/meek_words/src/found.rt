@@ -1,9 +1,14 @@
 //! The values as clap finds them, once it is known that clap takes the words.
-ghost use Rattle.std.specs.Prelude.{◌≡◌, IfOk, false};
+ghost use Rattle.std.specs.Prelude.{◌≡◌, IfErr, IfOk, List, false, map, string_bytes};
 ghost use Rattle.clap.specs.Walk.{rule_of};
 ghost use Rattle.clap.specs.Simple.{app_of};
+ghost use Rattle.meek_words.specs.Parts.{AreParts, AreSpelled, Part, given_of};
+ghost use Rattle.meek_words.specs.Values.{given_by};
 ghost use Rattle.meek_words.specs.ClapCommand.{option_rule, plain_rule, command_line, three_options};
 
+use crate::WordsStop;
+use crate::values::Values;
+use clap::error::ErrorKind;
 use clap::{Arg, ArgAction, Command};
 use std::alloc::{AllocError, Global};
 
@@ -42,4 +47,26 @@ fn command<'a>(alloc: Global) -> Result<Command<'a>, AllocError>
     let command = options(alloc)?;
     let command = command.arg(plain_word(alloc))?;
     Ok(command)
+}
+
+/// The values of words that are options and plain words, as clap finds them.
+///
+/// clap takes all such words, so that only memory can be wanting.
+pub(crate) fn values<'a>(alloc: Global, words: &'a [String]) -> Result<Values<'a>, WordsStop>
+    requires { AreSpelled (map string_bytes words.now) }
+    ensures found { IfOk result (λ values. (parts : List Part) → AreParts (map string_bytes words.entry.now) parts → given_by values ≡ given_of parts) }
+    ensures memory { IfErr result (λ stop. stop ≡ WordsStop.NoMemory) }
+{
+    match command(alloc)?.try_get_matches_from(words) {
+        Ok(matches) => Ok(Values {
+            lots: matches.get_str("lots"),
+            shards: matches.get_str("shards"),
+            workers: matches.get_str("workers"),
+            plain: matches.get_str("plain"),
+        }),
+        Err(error) => match error.kind() {
+            ErrorKind::OutOfMemory => Err(WordsStop::NoMemory),
+            _ => unreachable!(),
+        },
+    }
 }

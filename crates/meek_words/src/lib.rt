@@ -16,6 +16,7 @@ mod push_back;
 mod spelling;
 mod stood;
 mod values;
+mod words;
 mod words_stop;
 
 pub use command::Command;
@@ -23,4 +24,5 @@ pub use laws::words_have_one_command;
 pub use lot_words::LotWords;
 pub use lots::read_lots;
 pub use push_back::PushBack;
+pub use words::read_words;
 pub use words_stop::WordsStop;
