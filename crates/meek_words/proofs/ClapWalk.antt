@@ -173,7 +173,7 @@ walk_parts done [] stand values once =
 walk_parts done (part ∷ parts) stand values once =
     let one = step done stand part (All-head HasValue part parts values) (unused done part parts (once (option_of part))) in
     let more = walk_parts (done ++ part ∷ []) parts one.next (All-tail HasValue part parts values)
-        (λ option. subst (λ list. length (values_of option list) ≤ 1) (sym (append_assoc done (part ∷ []) parts)) (once option)) in
+    (λ option. subst (λ list. length (values_of option list) ≤ 1) (sym (append_assoc done (part ∷ []) parts)) (once option)) in
     record {
       all = more.all;
       are = more.are ∙ append_assoc done (part ∷ []) parts;

@@ -99,3 +99,12 @@ form_parts first behind command form = record {
 
 pub form_first : (first : Word) (behind : List Word) (command : Command) → HasForm (first ∷ behind) command → first ≡ first_word command
 form_first first behind command form = let e = form.spelled in cc
+
+pub form_from_parts : (first : Word) (behind : List Word) (parts : List Part) (command : Command) → AreParts behind parts → first ≡ first_word command → Says command (given_of parts)
+    → HasForm (first ∷ behind) command
+form_from_parts first behind parts command are same says = record {
+  parts = parts;
+  spelled = λ i. same i ∷ are.spelled i;
+  values = are.values;
+  says = says;
+}

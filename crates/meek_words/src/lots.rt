@@ -13,6 +13,7 @@ pub(crate) const MOST_LOTS: usize = 250;
 /// Whether they are an order of somebody's candidates is left to the caller.
 pub fn read_lots(alloc: Global, word: &[u8]) -> Result<LotWords, WordsStop>
     ensures accepted { IfOk result (IsLotList word.now) }
+    ensures one { (lots : List ℕ) → IsLotList word.now lots → IfOk result (λ read. read ≡ lots) }
     ensures refused { result ≡ Err WordsStop.BadWords → (lots : List ℕ) → ¬ (IsLotList word.now lots) }
 {
     let mut lots = LotWords::new(alloc);

@@ -11,7 +11,8 @@ use std::alloc::Global;
 /// They are first tested to be options and plain words, so that clap, which reads the options, never
 /// has a text to print.
 pub fn read_words(alloc: Global, words: &[String]) -> Result<Command, WordsStop>
-    ensures accepted { IfOk result (λ command. HasForm (map string_bytes words.now) command) }
+    ensures accepted { IfOk result (HasForm (map string_bytes words.now)) }
+    ensures one { (command : Command) → HasForm (map string_bytes words.now) command → IfOk result (λ read. read ≡ command) }
     ensures refused { result ≡ Err WordsStop.BadWords → (command : Command) → ¬ (HasForm (map string_bytes words.now) command) }
 {
     let Some((first, behind)) = words.split_first() else {
