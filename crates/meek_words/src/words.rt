@@ -24,3 +24,6 @@ pub fn read_words(alloc: Global, words: &[String]) -> Result<Command, WordsStop>
     let values = found::values(alloc, behind)?;
     Command::from_values(alloc, first, values)
 }
+
+#[cfg(test)]
+mod tests;

@@ -35,7 +35,7 @@ lots_read c =
     let is = c.into_iter-part-iterator.ensures.into_iter_gives in
     let end = YieldsList-end (YieldsList-from_slice_split _ (λ b. nat_eq b 44) c.args.word.now (ap (λ s. slice.split_rest s) is ∙ c.split-part-items.ensures.rest)
     (ap (λ s. slice.split_done s) is ∙ c.split-part-items.ensures.done) refl (λ x r q k. search (rules, tests)))
-        c.loop-part.yielded _ c.loop-part.yielded_by _ _ c.in-None.is c.next.ensures.steps in
+    c.loop-part.yielded _ c.loop-part.yielded_by _ _ c.in-None.is c.next.ensures.steps in
     lot_list_from_pieces c.args.word.now c.loop-part.lots (map (λ piece. piece.now) c.loop-part.yielded) end.0 c.loop-part.invariant.numbers c.loop-part.invariant.numerals
     (simp length-map c.loop-part.invariant.few)
 
