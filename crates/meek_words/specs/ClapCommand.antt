@@ -23,10 +23,16 @@ plain_rule = record (new_rule (codes "plain")) { action = Some Set }
 
 -- a command without help and version, whose words begin behind the program's name
 abbrev pub bare : App
-bare = on_top (λ s. record s { no_binary_name = true; disable_help_flag = true; disable_version_flag = true }) (new_app (codes "meek"))
+bare = on_top (λ s. record s {
+  no_binary_name = true;
+  disable_help_flag = true;
+  disable_version_flag = true;
+}) (new_app (codes "meek"))
 
 abbrev pub three_options : App
-three_options = with_rule (with_rule (with_rule bare (option_rule (codes "lots"))) (option_rule (codes "shards"))) (option_rule (codes "workers"))
+three_options =
+    with_rule (with_rule (with_rule bare (option_rule (codes "lots"))) (option_rule (codes "shards")))
+    (option_rule (codes "workers"))
 
 -- the three options and the plain word
 abbrev pub command_line : App

@@ -26,8 +26,10 @@ first_word (Trial number shards workers) = codes "trial"
 -- number from 1 to 1,000, and none has anything else
 abbrev pub Says : Command → Given → Type 0
 Says (Count lots shards workers) given =
-    HasSettings given shards workers × IsOnce (λ word. IsLotList word lots) given.lots × (given.plain ≡ [])
-Says (Day shards workers) given = HasSettings given shards workers × (given.lots ≡ []) × (given.plain ≡ [])
+    HasSettings given shards workers
+    × IsOnce (λ word. IsLotList word lots) given.lots × (given.plain ≡ [])
+Says (Day shards workers) given =
+    HasSettings given shards workers × (given.lots ≡ []) × (given.plain ≡ [])
 Says (Trial number shards workers) given =
     HasSettings given shards workers × (given.lots ≡ [])
     × IsOnce (λ word. IsNumeralUpTo 1000 word × (number ≡ number_of word)) given.plain
@@ -41,4 +43,6 @@ pub record HasForm (words : List Word) (command : Command) : Type 0 where
 
 -- words have at most one command
 abbrev pub HaveOneCommand : Type 0
-HaveOneCommand = (words : List Word) (one other : Command) → HasForm words one → HasForm words other → one ≡ other
+HaveOneCommand =
+    (words : List Word) (one other : Command) → HasForm words one → HasForm words other
+    → one ≡ other

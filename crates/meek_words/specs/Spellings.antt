@@ -11,4 +11,5 @@ abbrev pub IsSpelled : Word → Spelling → Type 0
 IsSpelled word (OneWord name value) = word ≡ flag_of name ++ 61 ∷ value.now
 IsSpelled word (FirstOfTwo name) = word ≡ flag_of name
 IsSpelled word Plain =
-    ((name : OptionName) → word ≢ flag_of name) × ((name : OptionName) (value : Word) → word ≢ flag_of name ++ 61 ∷ value)
+    ((name : OptionName) → word ≢ flag_of name)
+    × ((name : OptionName) (value : Word) → word ≢ flag_of name ++ 61 ∷ value)

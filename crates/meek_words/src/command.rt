@@ -7,10 +7,20 @@ use crate::values::Values;
 use crate::{LotWords, WordsStop, read_lots};
 use std::alloc::Global;
 
+const MOST_SHARDS: u32 = 64;
+
+const MOST_WORKERS: u32 = 32;
+
+const MOST_TRIAL: u32 = 1000;
+
+/// How many shards and workers there are where the words say nothing of them.
+const SHARDS: u32 = 8;
+
+const WORKERS: u32 = 4;
+
 /// What the program is asked to do.
 ///
-/// The parts of a day are dealt to `shards` books, 1 to 64 of them, and a count is shared by
-/// `workers` threads, 1 to 32 of them.
+/// Ballots are kept in `shards` parts, 1 to 64, and counted by `workers` threads, 1 to 32.
 #[derive(Debug, Drop)]
 pub enum Command {
     /// Counts one election, its ties broken by these lots.
@@ -44,12 +54,13 @@ impl Command {
         first: &str,
         values: Values<'_>,
     ) -> Result<Command, WordsStop>
-        ensures accepted { IfOk result (λ command. (first.now ≡ first_word command) × Says command (given_by values.entry)) }
-        ensures refused { result ≡ Err WordsStop.BadWords
-            → (command : Command) → first.now ≡ first_word command → ¬ (Says command (given_by values.entry)) }
+        ensures accepted { IfOk result (λ command.
+            (first.now ≡ first_word command) × Says command (given_by values.entry)) }
+        ensures refused { result ≡ Err WordsStop.BadWords → (command : Command)
+            → first.now ≡ first_word command → ¬ (Says command (given_by values.entry)) }
     {
-        let shards = setting(values.shards, 64, 8).ok_or(WordsStop::BadWords)?;
-        let workers = setting(values.workers, 32, 4).ok_or(WordsStop::BadWords)?;
+        let shards = setting(values.shards, MOST_SHARDS, SHARDS).ok_or(WordsStop::BadWords)?;
+        let workers = setting(values.workers, MOST_WORKERS, WORKERS).ok_or(WordsStop::BadWords)?;
         match (first, values.lots, values.plain) {
             ("count", Some(lots), None) => Ok(Command::Count {
                 lots: read_lots(alloc, lots.as_bytes())?,
@@ -58,7 +69,7 @@ impl Command {
             }),
             ("day", None, None) => Ok(Command::Day { shards, workers }),
             ("trial", None, Some(number)) => Ok(Command::Trial {
-                number: numeral_up_to(1000, number).ok_or(WordsStop::BadWords)?,
+                number: numeral_up_to(MOST_TRIAL, number).ok_or(WordsStop::BadWords)?,
                 shards,
                 workers,
             }),

@@ -54,7 +54,8 @@ fn command<'a>(alloc: Global) -> Result<Command<'a>, AllocError>
 /// clap takes all such words, so that only memory can be wanting.
 pub(crate) fn values<'a>(alloc: Global, words: &'a [String]) -> Result<Values<'a>, WordsStop>
     requires { AreSpelled (map string_bytes words.now) }
-    ensures found { IfOk result (λ values. (parts : List Part) → AreParts (map string_bytes words.entry.now) parts → given_by values ≡ given_of parts) }
+    ensures found { IfOk result (λ values. (parts : List Part)
+        → AreParts (map string_bytes words.entry.now) parts → given_by values ≡ given_of parts) }
     ensures memory { IfErr result (λ stop. stop ≡ WordsStop.NoMemory) }
 {
     match command(alloc)?.try_get_matches_from(words) {

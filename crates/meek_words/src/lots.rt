@@ -14,7 +14,8 @@ pub(crate) const MOST_LOTS: usize = 250;
 pub fn read_lots(alloc: Global, word: &[u8]) -> Result<LotWords, WordsStop>
     ensures accepted { IfOk result (IsLotList word.now) }
     ensures one { (lots : List ℕ) → IsLotList word.now lots → IfOk result (λ read. read ≡ lots) }
-    ensures refused { result ≡ Err WordsStop.BadWords → (lots : List ℕ) → ¬ (IsLotList word.now lots) }
+    ensures refused { result ≡ Err WordsStop.BadWords
+        → (lots : List ℕ) → ¬ (IsLotList word.now lots) }
 {
     let mut lots = LotWords::new(alloc);
     for part in word.split(|byte| *byte == b',') {

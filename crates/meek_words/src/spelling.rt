@@ -46,7 +46,8 @@ fn is_value(word: &str) -> bool
 fn first_part(words: &[String]) -> Option<(Option<OptionName>, &[String])>
     ensures cut { IfSome result (λ cut. (part : Part) × HasValue part × (option_of part ≡ cut.0)
         × (map string_bytes words.now ≡ words_of part ++ map string_bytes cut.1.now)) }
-    ensures none { IfNone result ((part : Part) (rest : List Word) → HasValue part → map string_bytes words.now ≢ words_of part ++ rest) }
+    ensures none { IfNone result ((part : Part) (rest : List Word) → HasValue part
+        → map string_bytes words.now ≢ words_of part ++ rest) }
 {
     let (word, rest) = words.split_first()?;
     let (name, value, rest) = match spelling_of(word) {

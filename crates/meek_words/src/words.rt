@@ -12,8 +12,10 @@ use std::alloc::Global;
 /// has a text to print.
 pub fn read_words(alloc: Global, words: &[String]) -> Result<Command, WordsStop>
     ensures accepted { IfOk result (HasForm (map string_bytes words.now)) }
-    ensures one { (command : Command) → HasForm (map string_bytes words.now) command → IfOk result (λ read. read ≡ command) }
-    ensures refused { result ≡ Err WordsStop.BadWords → (command : Command) → ¬ (HasForm (map string_bytes words.now) command) }
+    ensures one { (command : Command) → HasForm (map string_bytes words.now) command
+        → IfOk result (λ read. read ≡ command) }
+    ensures refused { result ≡ Err WordsStop.BadWords
+        → (command : Command) → ¬ (HasForm (map string_bytes words.now) command) }
 {
     let Some((first, behind)) = words.split_first() else {
         return Err(WordsStop::BadWords);
