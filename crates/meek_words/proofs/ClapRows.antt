@@ -1,5 +1,5 @@
 -- What clap notes of each part: a row for a row, in the order of the parts.
-use Rattle.std.proofs.Common.{◌≡◌, ℕ, Bool, true, false, cond, ◌||◌, List, [], ◌∷◌, ◌++◌, length, map, Option, Some, None, refl, sym, ap, ◌∙◌, true≢false, filter}
+use Rattle.std.proofs.Common.{◌≡◌, Bool, true, false, cond, ◌||◌, List, [], ◌∷◌, ◌++◌, map, Option, Some, None, refl, ap, ◌∙◌, true≢false, filter}
 use Rattle.std.specs.Str.{bytes_eq}
 use Rattle.std.specs.Prelude.{slice_get, option_and_then, find}
 use Rattle.clap.specs.Walk.{Row, Text, at_row, has_row, first_of, more_values, with_values, without}

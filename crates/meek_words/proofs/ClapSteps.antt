@@ -1,12 +1,12 @@
 -- How clap's walk goes over one part, whatever stood before it.
-use Rattle.std.proofs.Common.{◌≡◌, ℕ, List, [], ◌∷◌, ◌++◌, Option, Some, None, refl, true, false, nat_eq, codes, Bool, not, ◌&&◌, ◌||◌}
-use Rattle.clap.specs.Walk.{Held, Row, Rule, Text, Walk, walked, used, option, idle, has_row, settled_rows}
+use Rattle.std.proofs.Common.{◌≡◌, ℕ, List, [], ◌∷◌, ◌++◌, Option, Some, None, refl, true, false, nat_eq, Bool, ◌&&◌}
+use Rattle.clap.specs.Walk.{Held, Row, Text, Walk, walked, used, option, idle, has_row, settled_rows}
 use Rattle.clap.specs.Simple.{Shape, built, is_simple}
 use Rattle.clap.specs.Takes.{turn_passes, settle_passes}
 use Rattle.clap.proofs.OnLiterals.{clap_on_literals}
 use Rattle.meek_words.specs.Numerals.{Word}
 use Rattle.meek_words.specs.Parts.{flag_of}
-use Rattle.meek_words.specs.ClapCommand.{command_line, option_rule, plain_rule, id_of}
+use Rattle.meek_words.specs.ClapCommand.{command_line, option_rule, id_of}
 use Rattle.meek_words.specs.declared.option_name.OptionName.{OptionName}
 use Rattle.meek_words.specs.declared.option_name.OptionName.TheVariants.{Lots, Shards, Workers}
 

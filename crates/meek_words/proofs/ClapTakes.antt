@@ -1,11 +1,11 @@
 -- clap takes words that are parts, and finds the values of the parts.
-use Rattle.std.proofs.Common.{◌≡◌, ℕ, ◌≤◌, Bool, true, false, cond, ◌&&◌, List, [], ◌∷◌, ◌++◌, length, map, Option, Some, None, refl, sym, ap, ap₂, ◌∙◌, subst, arith, fold, is_some}
+use Rattle.std.proofs.Common.{◌≡◌, ℕ, ◌≤◌, Bool, true, false, cond, ◌&&◌, List, [], ◌∷◌, length, map, Option, None, refl, sym, ap, ap₂, ◌∙◌, arith, fold, is_some}
 use Rattle.std.specs.List.{flat_map, list_all}
-use Rattle.std.specs.Option.{option_to_list, option_map}
+use Rattle.std.specs.Option.{option_to_list}
 use Rattle.std.specs.Prelude.{slice_get}
 use Rattle.std.proofs.lemmas.List.{append-nil}
-use Rattle.clap.specs.Walk.{Row, Text, Walk, walked, walk, walk_from, nothing_held, finished, rows_of, with_default, settled_rows, first_of, has_row}
-use Rattle.clap.specs.Simple.{App, built, matches_of, entered}
+use Rattle.clap.specs.Walk.{Row, Text, Walk, walked, walk, nothing_held, finished, rows_of, with_default, settled_rows, first_of}
+use Rattle.clap.specs.Simple.{built, matches_of, entered}
 use Rattle.clap.specs.Takes.{takes, walk_passes, settle_passes, entered_passes, default_passes, is_valid}
 use Rattle.clap.specs.Matches.{first_value}
 use Rattle.clap.specs.declared.parser.matches.Found.{Found}
@@ -16,7 +16,7 @@ use Rattle.meek_words.specs.Parts.{Part, AreParts, words_of, values_of}
 use Rattle.meek_words.specs.ClapCommand.{command_line, id_of}
 use Rattle.meek_words.specs.declared.option_name.OptionName.{OptionName}
 use Rattle.meek_words.proofs.ClapRows.{row_for, first_found}
-use Rattle.meek_words.proofs.ClapSteps.{shape, held, between, command_line_simple}
+use Rattle.meek_words.proofs.ClapSteps.{shape, held, between}
 use Rattle.meek_words.proofs.ClapWalk.{Stand, WalksTo, place_behind, walk_at, walk_parts}
 
 abbrev start : Stand []

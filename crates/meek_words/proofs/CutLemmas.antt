@@ -1,5 +1,5 @@
 -- The words of parts are cut in one way only.
-use Rattle.std.proofs.Common.{◌≡◌, ◌≢◌, ℕ, ◌<◌, ◌≤◌, Bool, true, false, cond, not, List, [], ◌∷◌, ◌++◌, Option, Some, None, codes, nat_eq, refl, sym, ap, ◌∙◌, arith, All}
+use Rattle.std.proofs.Common.{◌≡◌, ◌≢◌, ℕ, Bool, true, false, cond, not, List, [], ◌∷◌, ◌++◌, Option, Some, None, codes, nat_eq, refl, sym, ap, ◌∙◌, arith, All}
 use Rattle.std.specs.List.{flat_map}
 use Rattle.std.specs.Str.{bytes_eq}
 use Rattle.std.proofs.lemmas.Bool.Decides.{nat_tests}
@@ -7,7 +7,7 @@ use Rattle.std.proofs.lemmas.List.{append_assoc, append-nil}
 use Rattle.std.proofs.lemmas.List.Elements.{All-head, All-tail}
 use Rattle.std.proofs.lemmas.Option.{none-some, some_pair_parts}
 use Rattle.meek_words.specs.Numerals.{Word}
-use Rattle.meek_words.specs.Parts.{Part, OneWord, TwoWords, Plain, IsValue, flag_of, words_of, HasValue}
+use Rattle.meek_words.specs.Parts.{Part, OneWord, TwoWords, Plain, IsValue, words_of, HasValue}
 use Rattle.meek_words.specs.declared.option_name.OptionName.{OptionName}
 use Rattle.meek_words.specs.declared.option_name.OptionName.TheVariants.{Lots, Shards, Workers}
 

@@ -1,5 +1,5 @@
 -- Words have at most one form.
-use Rattle.std.proofs.Common.{◌≡◌, ℕ, ◌≤◌, length, Option, Some, None, List, [], ◌∷◌, ap, sym, subst, ◌∙◌, arith, get_or, refl}
+use Rattle.std.proofs.Common.{◌≡◌, ℕ, ◌≤◌, length, Option, Some, None, List, [], ◌∷◌, ap, sym, subst, ◌∙◌, arith, get_or}
 use Rattle.std.specs.List.{flat_map}
 use Rattle.meek_words.specs.Numerals.{Word, IsNumeralUpTo, IsLotList, number_of}
 use Rattle.meek_words.specs.Parts.{Part, AreParts, Given, values_of, given_of, words_of}

@@ -1,10 +1,10 @@
 -- The parts that were cut off the front of words, and what stood among them.
-use Rattle.std.proofs.Common.{◌≡◌, ◌≢◌, ℕ, ◌<◌, ◌≤◌, ◌+◌, Bool, true, false, not, cond, ◌||◌, List, [], ◌∷◌, ◌++◌, length, map, Option, Some, None, refl, sym, ap, ◌∙◌, arith, All, filter, true≢false, subst, nat_eq}
+use Rattle.std.proofs.Common.{◌≡◌, ◌≢◌, ◌≤◌, ◌+◌, Bool, true, false, not, cond, ◌||◌, List, [], ◌∷◌, ◌++◌, length, map, Option, Some, None, refl, sym, ap, ◌∙◌, arith, All, filter, true≢false, subst, nat_eq}
 use Rattle.std.specs.List.{flat_map}
 use Rattle.std.proofs.lemmas.List.{append_assoc, append-nil, length-append, map-append}
 use Rattle.std.proofs.lemmas.List.Elements.{All-nil, All-push, All-head, All-tail, filter-append}
 use Rattle.meek_words.specs.Numerals.{Word}
-use Rattle.meek_words.specs.Parts.{Part, HasValue, AreParts, words_of, value_of, option_of, values_of, same_name, same_option}
+use Rattle.meek_words.specs.Parts.{Part, HasValue, AreParts, words_of, value_of, option_of, values_of, same_option}
 use Rattle.meek_words.specs.Stands.{stands}
 use Rattle.meek_words.specs.declared.stood.Stood.{Stood}
 use Rattle.meek_words.specs.declared.option_name.OptionName.{OptionName}

@@ -1,5 +1,5 @@
 -- A list of lots is the word's pieces between commas.
-use Rattle.std.proofs.Common.{◌≡◌, ℕ, ◌<◌, ◌≤◌, ◌+◌, List, length, get_or, map, false, true, arith, refl, ap, sym, ◌∙◌, nat_eq, All}
+use Rattle.std.proofs.Common.{◌≡◌, ℕ, ◌<◌, ◌≤◌, List, length, get_or, map, false, true, arith, refl, ap, sym, ◌∙◌, nat_eq, All}
 use Rattle.std.specs.List.{join_with_byte, slice_split}
 use Rattle.std.specs.Char.{is_ascii_digit}
 use Rattle.std.proofs.lemmas.Bool.Decides.{nat_tests}

@@ -1,5 +1,5 @@
 -- Words joined by a byte, and cut again at that byte.
-use Rattle.std.proofs.Common.{◌≡◌, ℕ, ◌<◌, ◌≤◌, List, [], ◌∷◌, ◌++◌, length, false, true, arith, All, ap, ◌∙◌, refl, nat_eq}
+use Rattle.std.proofs.Common.{◌≡◌, ℕ, ◌≤◌, List, [], ◌∷◌, length, false, true, arith, All, ap, ◌∙◌, nat_eq}
 use Rattle.std.specs.List.{join_with_byte, slice_split}
 use Rattle.std.proofs.lemmas.List.Elements.{All-head, All-tail}
 use Rattle.std.proofs.lemmas.List.Splits.{slice_split_none, slice_split_at}

@@ -1,5 +1,5 @@
 -- The command line as clap is told of it.
-use Rattle.std.specs.Prelude.{List, Some, None, Option, true, codes}
+use Rattle.std.specs.Prelude.{Some, None, Option, true, codes}
 use Rattle.clap.specs.Walk.{Rule, Text}
 use Rattle.clap.specs.Simple.{App, on_top, with_rule, new_rule, new_app}
 use Rattle.clap.specs.declared.builder.action.ArgAction.TheVariants.{Set}

@@ -1,5 +1,5 @@
 -- The values of a command line, as a struct keeps them.
-use Rattle.std.specs.Prelude.{Option, List, ℕ}
+use Rattle.std.specs.Prelude.{Option, List}
 use Rattle.std.specs.Option.{option_map, option_to_list}
 use Rattle.std.specs.Borrow.{Bor}
 use Rattle.meek_words.specs.Numerals.{Word}

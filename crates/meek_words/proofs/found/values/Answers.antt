@@ -1,4 +1,4 @@
-use Rattle.std.proofs.Common.{◌≡◌, ◌∙◌, ap, List, Option, Some, None, map, string_bytes, refl}
+use Rattle.std.proofs.Common.{◌∙◌, ap, List, Some, None, map, string_bytes}
 use Rattle.std.specs.Option.{option_to_list}
 use Rattle.clap.specs.Simple.{App, is_simple, matches_of}
 use Rattle.clap.specs.Takes.{takes}

@@ -1,10 +1,9 @@
-use Rattle.std.proofs.Common.{◌≡◌, ◌<◌, get_or, ◌≤◌, List, ap, sym, rules, tests, length, map, arith, ◌∙◌, nat_eq, refl}
+use Rattle.std.proofs.Common.{◌≡◌, ◌<◌, get_or, ap, rules, tests, length, map, arith, ◌∙◌, nat_eq, refl}
 use Rattle.std.specs.Slice.Iter as slice
 use Rattle.std.proofs.lemmas.Iterator.Splits.{YieldsList-from_slice_split}
 use Rattle.std.proofs.lemmas.Iterator.Consumers.{YieldsList-turn, YieldsList-end}
-use Rattle.std.proofs.lemmas.List.{map_push, length_push, length-map}
-use Rattle.std.proofs.lemmas.List.Elements.{All-nil, All-push}
-use Rattle.meek_words.specs.Numerals.{IsLotList, IsNumeral, number_of}
+use Rattle.std.proofs.lemmas.List.{length-map}
+use Rattle.meek_words.specs.Numerals.{IsLotList, number_of}
 use Rattle.meek_words.proofs.LotListLemmas.{pieces_of, one_lot_list, lot_list_from_pieces, piece_is_numeral, pieces_at_most}
 use Rattle.meek_words.proofs.lots.read_lots.Goals as goal
 use Rattle.meek_words.proofs.lots.read_lots.Goals.{In-Some, In-None}

@@ -1,4 +1,4 @@
-use Rattle.std.proofs.Common.{◌≡◌, ap, ap₂, ◌∙◌, sym, subst, map, string_bytes, ◌∷◌, refl}
+use Rattle.std.proofs.Common.{ap, ap₂, ◌∙◌, sym, subst, map, string_bytes, ◌∷◌, refl}
 use Rattle.meek_words.specs.Parts.{OneWord, TwoWords, Plain, IsValue}
 use Rattle.meek_words.proofs.spelling.first_part.Goals as goal
 use Rattle.meek_words.proofs.spelling.first_part.Goals.{in-OneWord, in-FirstOfTwo+in_ok-value-in-FirstOfTwo, in-Plain}

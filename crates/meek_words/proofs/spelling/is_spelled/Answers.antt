@@ -1,6 +1,6 @@
-use Rattle.std.proofs.Common.{◌≡◌, ◌≤◌, List, ◌∷◌, [], ◌++◌, length, map, string_bytes, sym, ap, ◌∙◌, subst}
+use Rattle.std.proofs.Common.{◌≤◌, ◌∷◌, [], ◌++◌, length, map, string_bytes, sym, ap, ◌∙◌, subst}
 use Rattle.std.proofs.lemmas.Bool.{false≢true}
-use Rattle.meek_words.specs.Parts.{Part, option_of, values_of}
+use Rattle.meek_words.specs.Parts.{option_of, values_of}
 use Rattle.meek_words.specs.Stands.{stands}
 use Rattle.meek_words.proofs.FrontLemmas.{front_more, once_more, twice, parts_left, none_left, some_words, not-false, not-true}
 use Rattle.meek_words.proofs.spelling.is_spelled.Goals as goal

@@ -1,9 +1,8 @@
-use Rattle.std.proofs.Common.{◌≡◌, ◌∙◌, ap, sym, subst, List, ◌∷◌, map, string_bytes, IfOk}
+use Rattle.std.proofs.Common.{◌≡◌, ◌∙◌, sym, subst, ◌∷◌, map, string_bytes}
 use Rattle.std.proofs.lemmas.Bool.{false≢true}
 use Rattle.std.proofs.lemmas.Result.{IfOk-weaker}
 use Rattle.meek_words.specs.Forms.{HasForm, Says, first_word}
 use Rattle.meek_words.specs.Values.{given_by}
-use Rattle.meek_words.specs.declared.command.Command.{Command}
 use Rattle.meek_words.proofs.FormLemmas.{have_one_command, form_from_parts, form_parts, form_first}
 use Rattle.meek_words.proofs.words.read_words.Goals as goal
 
