@@ -2,6 +2,8 @@ pub mod Booleans
 pub mod Callers
 pub mod Places
 pub mod Owned
+pub mod Views
+pub mod First
 pub mod Moves
 pub mod Taking
 pub mod Giving

@@ -1,36 +1,30 @@
 -- A new lock keeps the rule.
-use Rattle.std.proofs.Common.{◌≡◌, ℕ, true, List, [], ◌∷◌, refl, sym, ap, ◌∙◌, subst, inl, ⊎_elim, arith, Option, Some}
-use mathlib.Core.Option.{Option as Maybe, some}
+use Rattle.std.proofs.Common.{◌≡◌, ℕ, true, List, [], ◌∷◌, false, refl, sym, ◌∙◌, subst, inl, arith, Option, Some}
 use lib.ListN.{get_elem?}
-use Rattle.atomic_table.specs.Table.{State, Me, opening}
+use mathlib.Core.Option.{some}
+use Rattle.atomic_table.specs.Table.{opening}
 use Rattle.turn_lock.specs.declared.view.View.{View}
-use Rattle.turn_lock.specs.Turns.{opener, At, Fits, Counts, IsFree, IsHeld, IsKept}
+use Rattle.turn_lock.specs.Numbers.{has}
+use Rattle.turn_lock.specs.Turns.{opener, At, Fits, Counts, IsKept}
 use Rattle.turn_lock.proofs.Booleans.{off}
-use Rattle.turn_lock.proofs.Places.{at_lt, at_end}
+use Rattle.turn_lock.proofs.Places.{at_lt, at_added}
+
+module _ {E N : Type 0} where
+  nothing_there : (k : ℕ) (v : View E N) → At [] k v → ⊥
+  nothing_there k v e = let lt = at_lt [] k v e in omega arith
+
+  -- what holds of the first seat holds of all seats of a new lock
+  only : (P : ℕ → View E N → Type 0) (v : View E N) → P 0 v → (k : ℕ) (u : View E N) → At (v ∷ []) k u → P k u
+  only P v here = at_added P [] v here (λ k u e. absurd (nothing_there k u e))
 
 module _ {T E N : Type 0} (entries : T → List E) (owner : E → Option ℕ) (name_of : T → N) where
-  abbrev St : Type 0
-  St = State (Option T) (View E N)
+  abbrev Kept : N → List (Option T) → Type 0
+  Kept name slots = IsKept entries owner name_of name (opening (0 ∷ []) slots (opener (Some name)))
 
-  abbrev Sat : Type 0
-  Sat = Me (Option T) (View E N)
-
-  abbrev Kept : N → St → Type 0
-  Kept = IsKept entries owner name_of
-
-  abbrev Free : List E → N → St → Type 0
-  Free = IsFree entries owner name_of
-
-  abbrev Busy : List E → St → Type 0
-  Busy = IsHeld entries owner name_of
-
-  abbrev table : List ℕ → List (Maybe (Option T)) → List (View E N) → St
-  table words homes views = record { words = words; homes = homes; views = views }
-
-  pub opens : (name : N) (value : T) → entries value ≡ [] → name_of value ≡ name → Kept name (opening (0 ∷ []) (Some value ∷ []) (opener (Some name)))
+  opens : (name : N) (value : T) → entries value ≡ [] → name_of value ≡ name → Kept name (Some value ∷ [])
   opens name value none_yet named =
-      let only : (k : ℕ) (v : View E N) → At (opener (Some name) ∷ []) k v → (k ≡ 0) × (opener (Some name) ≡ v)
-      = λ k v e. ⊎_elim (λ (x : get_elem? [] k ≡ some v). absurd (nothing_there k v x)) (λ (x : (k ≡ 0) × (opener (Some name) ≡ v)). x) (at_end [] (opener (Some name)) v k e) in
+      let f = opener (Some name) in
+      let place : (k : ℕ) (u : View E N) → At (f ∷ []) k u → k ≡ 0 = only (λ k _. k ≡ 0) f refl in
       record {
         wide = refl;
         log = [];
@@ -41,27 +35,24 @@ module _ {T E N : Type 0} (entries : T → List E) (owner : E → Option ℕ) (n
           home = refl;
           list = none_yet;
           named = named;
-          none_holds = λ k v e. sym (ap (λ (z : View E N). z.holds) (only k v e).1);
+          none_holds = only (λ _ u. u.holds ≡ false) f refl;
         });
-        fits = λ k v e _. subst (λ (z : View E N). Fits owner [] (λ _. []) name z) (only k v e).1 (record { seen = ([], refl); told = ([], refl); mine = refl; own = refl; named = refl });
+        fits = only (λ _ u. u.lives ≡ true → Fits owner [] (λ _. []) name u) f (λ _. record { seen = ([], refl); told = ([], refl); mine = refl; own = refl; named = refl });
         owners = λ p. refl;
-        apart = λ j k u v eu ev _ _ _. (only j u eu).0 ∙ sym (only k v ev).0;
-        first = λ f e. subst (λ (z : View E N). (z.lives ≡ true) × (z.is_first ≡ true) × Counts (opener (Some name) ∷ []) (λ _. []) z) (only 0 f e).1 (
+        apart = λ j k u v eu ev _ _ _. place j u eu ∙ sym (place k v ev);
+        first = λ u e. only (λ _ u. (u.lives ≡ true) × (u.is_first ≡ true) × Counts (f ∷ []) (λ _. []) u) f (
           refl,
           refl,
           record {
             zero_is_first = refl;
             bound = λ p h. absurd (off h refl);
-            outside = λ k v e' _ other. absurd (off (sym (ap (λ (z : View E N). z.is_first) (only k v e').1)) other);
+            outside = only (λ _ u. u.lives ≡ true → u.is_first ≡ false → has u.caller [] ≡ true) f (λ _ other. absurd (off refl other));
             back = λ p _ _. refl;
             above = λ p _. refl;
           },
-        );
-        one_first = λ k v e _. (only k v e).0;
+        ) 0 u e;
+        one_first = λ k u e _. place k u e;
       }
-    where
-      nothing_there : (k : ℕ) (v : View E N) → get_elem? [] k ≡ some v → ⊥
-      nothing_there k v e = let lt = at_lt [] k v e in omega arith
 
-  pub opens_at : (name : N) (value : T) (slots : List (Option T)) → slots ≡ Some value ∷ [] → entries value ≡ [] → name_of value ≡ name → Kept name (opening (0 ∷ []) slots (opener (Some name)))
-  opens_at name value slots is none_yet named = subst (λ (l : List (Option T)). Kept name (opening (0 ∷ []) l (opener (Some name)))) (sym is) (opens name value none_yet named)
+  pub opens_at : (name : N) (value : T) (slots : List (Option T)) → slots ≡ Some value ∷ [] → entries value ≡ [] → name_of value ≡ name → Kept name slots
+  opens_at name value slots is none_yet named = subst (Kept name) (sym is) (opens name value none_yet named)

@@ -31,6 +31,10 @@ module _ {E : Type 0} where
       (λ (t : (ltb (length xs) (length ys) ≡ false)). let le : length ys ≤ length xs = grind (arith, nat_tests) in subst (λ b. P (cond b ys xs)) (sym t) (b, begins_self xs xs refl, shorter ys xs c.0 b.0 (sym c.1 ∙ b.1) le))
       (either_way (ltb (length xs) (length ys)))
 
+  pub nothing_left : (xs ys : List E) → xs ++ ys ≡ [] → xs ≡ []
+  nothing_left [] ys e = refl
+  nothing_left (x ∷ xs) ys e = absurd (cc)
+
   module _ (owner : E → Option ℕ) where
     by_or_not : (o : Option ℕ) (c : ℕ) → ((q : ℕ) → o ≡ Some q → q ≡ c) → is_by c o ≡ has_one o
     by_or_not None c may = refl
@@ -45,10 +49,6 @@ module _ {E : Type 0} where
 
     pub one_other : (c p : ℕ) (e : E) → MayGive owner c e → p ≢ c → owned_by owner p (e ∷ []) ≡ []
     one_other c p e may ne = ap (λ b. cond b (e ∷ []) []) (by_no_other (owner e) c p may ne)
-
-    pub nothing_left : (xs ys : List E) → xs ++ ys ≡ [] → xs ≡ []
-    nothing_left [] ys e = refl
-    nothing_left (x ∷ xs) ys e = absurd (cc)
 
     -- between two lists with the same entries of one owner each list has them
     pub wider : (c : ℕ) (xs ys log mine : List E) → Begins xs ys → Begins ys log → owned_by owner c xs ≡ mine → owned_by owner c log ≡ mine → owned_by owner c ys ≡ mine
