@@ -13,7 +13,8 @@ all_parts (v ∷ vs) = v.parts + all_parts vs
 
 -- each share that is not spent has this number
 abbrev pub AllHave : ℕ → List Share → Type 0
-AllHave n shares = (k : ℕ) (v : Share) → get_elem? shares k ≡ some v → 0 < v.parts → (v.number ≡ n) × (v.beside ≡ n)
+AllHave n shares = (k : ℕ) (v : Share) → get_elem? shares k ≡ some v → 0 < v.parts
+    → (v.number ≡ n) × (v.beside ≡ n)
 
 -- the shares have two parts together, and all that are not spent have one number
 abbrev pub Tied : {S : Type 0} → State S Share → Type 0

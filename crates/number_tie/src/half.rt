@@ -29,7 +29,8 @@ impl Model for Half {
 /// The seat of a half. Its place stays blank until the half is put back.
 pub(crate) fn lifted(badge: &mut Badge<Share>) -> Seat<(), Share>
     requires { HoldsOne badge.old.views }
-    ensures { (result.table_id ≡ badge.old.table_id) × (result.me ≡ (single (number_of badge.old.views), [])) }
+    ensures own { result.table_id ≡ badge.old.table_id }
+    ensures half { result.me ≡ (single (number_of badge.old.views), []) }
 {
     mem::replace(badge, Badge::blank()).into_seat()
 }

@@ -74,7 +74,8 @@ impl Tie {
         requires own { (one.old.table_id ≡ self.now) × (other.old.table_id ≡ self.now) }
         requires halves { HoldsOne one.old.views × HoldsOne other.old.views }
         ensures own { result.table_id ≡ self.now }
-        ensures both { result.me ≡ (merged (single (number_of one.old.views)) (single (number_of other.old.views)), []) }
+        ensures both { result.me
+            ≡ (merged (single (number_of one.old.views)) (single (number_of other.old.views)), []) }
     {
         let mut seat = lifted(one);
         self.table
@@ -88,7 +89,8 @@ impl Tie {
         requires own { seat.table_id ≡ self.now }
         requires both { seat.me ≡ (whole seat.me.0.number, []) }
         ensures own { (result.0.table_id ≡ self.now) × (result.1.table_id ≡ self.now) }
-        ensures halves { (result.0.views ≡ single seat.me.0.number ∷ []) × (result.1.views ≡ single seat.me.0.number ∷ []) }
+        ensures one { result.0.views ≡ single seat.me.0.number ∷ [] }
+        ensures other { result.1.views ≡ single seat.me.0.number ∷ [] }
     {
         let other = self.table.shared.split_seat::<Apart>(&mut seat);
         (seat.into_badge(), other.into_badge())

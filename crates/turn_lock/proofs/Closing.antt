@@ -1,5 +1,5 @@
 -- What the first seat knows of the value at the end.
-use Rattle.std.proofs.Common.{◌≡◌, ℕ, true, false, eqb, cond, List, [], refl, sym, ap, ◌∙◌, subst, ⊎_elim, arith, eq-eqb, ne_eqb, Option, Some, None}
+use Rattle.std.proofs.Common.{◌≡◌, ℕ, true, false, eqb, cond, List, [], sym, ap, ◌∙◌, subst, ⊎_elim, arith, eq-eqb, ne_eqb, Option, Some, None}
 use mathlib.Core.Logic.{dite}
 use native.Mathlib.Decide.{ℕ_discrete}
 use mathlib.Core.Option.{some}
@@ -64,15 +64,15 @@ module _ {T E N : Type 0} (entries : T → List E) (owner : E → Option ℕ) (n
         let at = final.1.1 in
         let P : Sight E N → Type 0 = λ z. (z.is_first ≡ true) × (z.holds ≡ false) × (z.out ≡ []) → (value : T) × (last ≡ Some value) × Ends z value in
         subst P seen
-            (λ a. ⊎_elim
-            (λ (t : IsFree entries owner name_of r.log name s). (
-              t.value,
-              at_same slots 0 last (Some t.value) at_last (final.4 0 (Some t.value) t.home),
-              ends_well name s r id v at lives a.0 a.2 lock t,
-            ))
-            (λ (t : IsHeld entries owner name_of r.log s). absurd (none_left name s r id v at lives a.0 a.2 a.1 t))
-            r.turn)
-            alone
+        (λ a. ⊎_elim
+        (λ (t : IsFree entries owner name_of r.log name s). (
+          t.value,
+          at_same slots 0 last (Some t.value) at_last (final.4 0 (Some t.value) t.home),
+          ends_well name s r id v at lives a.0 a.2 lock t,
+        ))
+        (λ (t : IsHeld entries owner name_of r.log s). absurd (none_left name s r id v at lives a.0 a.2 a.1 t))
+        r.turn)
+        alone
 
     pub ends_none : last ≡ None → ⊥
     ends_none is_none =

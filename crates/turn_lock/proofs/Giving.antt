@@ -106,21 +106,21 @@ module _ {T E N : Type 0} (entries : T → List E) (owner : E → Option ℕ) (n
         let same : v ≡ b.view = at_same s.views id v b.view at (at_place s.views b.holder id b.view (sym here) b.there) in
         let all : v.seen ≡ r.log = ap (λ (z : View E N). z.seen) same ∙ b.list in
         moves entries owner name_of name s r id v at false seen mine v.told v.next grown gave_more
-            (giver_fits seen mine all more_seen more_mine own)
-            others_fit
-            (owners_fit own other)
-            none_back
-            (set s.words 0 0)
-            (set s.homes 0 (some (Some value)))
-            (length-set s.words 0 0 ∙ r.wide)
-            (inl (record {
-              word = let wide = r.wide in get_or-set_same s.words 0 0 0 (omega arith);
-              value = value;
-              home = set_here s.homes 0 (some (Some value)) (omega arith);
-              list = is_seen ∙ (more_seen ∙ ap (λ l. l ++ new) all);
-              named = let fit = (r.fits id v at lives).named in cc (fit, named);
-              none_holds = at_changed (λ k u. u.holds ≡ false) s.views id w refl (λ k u apart e. is_false u.holds (λ t. apart (b.alone k u e t ∙ sym here)));
-            })))
+        (giver_fits seen mine all more_seen more_mine own)
+        others_fit
+        (owners_fit own other)
+        none_back
+        (set s.words 0 0)
+        (set s.homes 0 (some (Some value)))
+        (length-set s.words 0 0 ∙ r.wide)
+        (inl (record {
+          word = let wide = r.wide in get_or-set_same s.words 0 0 0 (omega arith);
+          value = value;
+          home = set_here s.homes 0 (some (Some value)) (omega arith);
+          list = is_seen ∙ (more_seen ∙ ap (λ l. l ++ new) all);
+          named = let fit = (r.fits id v at lives).named in cc (fit, named);
+          none_holds = at_changed (λ k u. u.holds ≡ false) s.views id w refl (λ k u apart e. is_false u.holds (λ t. apart (b.alone k u e t ∙ sym here)));
+        })))
         r.turn
 
   -- a seat's turn, with the value in the slot that it has
@@ -140,7 +140,7 @@ module _ {T E N : Type 0} (entries : T → List E) (owner : E → Option ℕ) (n
   -- a slot has one value
   same_value : (v : View E N) (x y : T) → (with_value v x).1 ≡ (with_value v y).1 → x ≡ y
   same_value v x y e =
-      let pair : (0, Some x) ≡ (0, Some y) = cc e in
+      let pair : ◌≡◌ {A = ℕ × Option T} (0, Some x) (0, Some y) = cc e in
       let both : Some x ≡ Some y = ap (λ (z : ℕ × Option T). z.1) pair in
       cc both
 
@@ -166,14 +166,14 @@ module _ {T E N : Type 0} (entries : T → List E) (owner : E → Option ℕ) (n
     pub gives_back_seen : entries held ≡ seat.seen → Allows (Kept name) slots id me 0 (λ _. 0) (λ _. GivesBack entries owner name_of (step slots 0 0 0 none) me 0)
     gives_back_seen list =
         let P : Sight E N → T → Type 0 = λ s x.
-            s.holds ≡ true → s.name ≡ Some (name_of x) → entries x ≡ s.seen → Allows (Kept name) 1 id (with_value v value) 0 (λ _. 0) (λ _. GivesBack entries owner name_of (step 1 0 0 0 none) (with_value v value) 0) in
+        s.holds ≡ true → s.name ≡ Some (name_of x) → entries x ≡ s.seen → Allows (Kept name) 1 id (with_value v value) 0 (λ _. 0) (λ _. GivesBack entries owner name_of (step 1 0 0 0 none) (with_value v value) 0) in
         let known = subst (λ (z : Sight E N × T). P z.0 z.1) (λ i. (seen i, same i)) (λ h n l. gives_back name id v value lives h l n) holds named list in
         subst (λ (z : ℕ × Sat T E N). Allows (Kept name) z.0 id z.1 0 (λ _. 0) (λ _. GivesBack entries owner name_of (step z.0 0 0 0 none) z.1 0)) (λ i. (sym one i, sym is i)) known
 
     pub gives_with_seen : (e : E) → entries held ≡ seat.seen ++ e ∷ [] → MayGive owner seat.caller e → Allows (Kept name) slots id me 0 (λ _. 0) (λ _. GivesWith entries owner name_of (step slots 0 0 0 none) me 0)
     gives_with_seen e list may =
         let P : Sight E N → T → Type 0 = λ s x.
-            s.holds ≡ true → s.name ≡ Some (name_of x) → entries x ≡ s.seen ++ e ∷ [] → MayGive owner s.caller e
-            → Allows (Kept name) 1 id (with_value v value) 0 (λ _. 0) (λ _. GivesWith entries owner name_of (step 1 0 0 0 none) (with_value v value) 0) in
+        s.holds ≡ true → s.name ≡ Some (name_of x) → entries x ≡ s.seen ++ e ∷ [] → MayGive owner s.caller e
+        → Allows (Kept name) 1 id (with_value v value) 0 (λ _. 0) (λ _. GivesWith entries owner name_of (step 1 0 0 0 none) (with_value v value) 0) in
         let known = subst (λ (z : Sight E N × T). P z.0 z.1) (λ i. (seen i, same i)) (λ h n l m. gives_with name id v value e lives h l m n) holds named list may in
         subst (λ (z : ℕ × Sat T E N). Allows (Kept name) z.0 id z.1 0 (λ _. 0) (λ _. GivesWith entries owner name_of (step z.0 0 0 0 none) z.1 0)) (λ i. (sym one i, sym is i)) known

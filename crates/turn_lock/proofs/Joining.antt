@@ -86,11 +86,11 @@ module _ {T E N : Type 0} (entries : T → List E) (owner : E → Option ℕ) (n
         let fit = r.fits id v at lives in
         let told = (r.fits other w there lives').seen in
         at_changed (λ _ u. u.lives ≡ true → Fits owner r.log r.gave name u) changed other spent
-            (λ l. absurd (off l refl))
-            (λ k u _. at_changed (λ _ u. u.lives ≡ true → Fits owner r.log r.gave name u) s.views id (after_join v w)
-            (λ _. record { seen = fit.seen; told = told; mine = fit.mine; own = fit.own; named = fit.named })
-            (λ k u _ e l. r.fits k u e l)
-            k u)
+        (λ l. absurd (off l refl))
+        (λ k u _. at_changed (λ _ u. u.lives ≡ true → Fits owner r.log r.gave name u) s.views id (after_join v w)
+        (λ _. record { seen = fit.seen; told = told; mine = fit.mine; own = fit.own; named = fit.named })
+        (λ k u _ e l. r.fits k u e l)
+        k u)
 
     join_apart : (j k : ℕ) (u y : View E N) → At all j u → At all k y → u.lives ≡ true → y.lives ≡ true → u.caller ≡ y.caller → j ≡ k
     join_apart j k u y eu ey lu ly e =
@@ -165,7 +165,7 @@ module _ {T E N : Type 0} (entries : T → List E) (owner : E → Option ℕ) (n
       let all = longer v.seen v.told in
       let both = longer_begins v.seen v.told r.log f.seen f.told in
       let own : owned_by owner v.caller all ≡ owned owner v.mine =
-          wider owner v.caller v.seen all r.log (owned owner v.mine) both.1 both.0 f.own (r.owners v.caller ∙ ap (owned owner) (sym f.mine)) in (
+      wider owner v.caller v.seen all r.log (owned owner v.mine) both.1 both.0 f.own (r.owners v.caller ∙ ap (owned owner) (sym f.mine)) in (
         after_look v,
         keeps,
         tt,

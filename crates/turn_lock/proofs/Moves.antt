@@ -9,7 +9,7 @@ use Rattle.turn_lock.specs.Numbers.{has}
 use Rattle.turn_lock.specs.Turns.{At, Fits, Counts, IsFree, IsHeld, IsKept}
 use Rattle.turn_lock.proofs.Booleans.{off}
 use Rattle.turn_lock.proofs.Places.{at_same, at_place, at_changed}
-use Rattle.turn_lock.proofs.Views.{St, table, holds_of, Before, before_changed, counts_stay}
+use Rattle.turn_lock.proofs.Views.{St, table, holds_of, before_changed, counts_stay}
 
 -- the view with what steps on the turn change
 abbrev pub moved : {E N : Type 0} → View E N → Bool → List E → List E → List E → ℕ → View E N
@@ -59,15 +59,15 @@ module _ {T E N : Type 0} (entries : T → List E) (owner : E → Option ℕ) (n
         let views' = set s.views id w in
         let was = before_changed s.views id v w at refl refl refl in
         at_changed (λ k f. k ≡ 0 → (f.lives ≡ true) × (f.is_first ≡ true) × Counts views' gave' f) s.views id w
-            (λ z.
-            let there = at_place s.views id 0 v z at in
-            let known = r.first v there in
-            let c = counts_stay s.views views' r.gave gave' v was (same v there) known.2 in
-            (known.0, known.1, record { zero_is_first = c.zero_is_first; bound = c.bound; outside = c.outside; back = c.back; above = c.above }))
-            (λ k f _ e z.
-            let there = at_place s.views k 0 f z e in
-            let known = r.first f there in
-            (known.0, known.1, counts_stay s.views views' r.gave gave' f was (same f there) known.2))
+        (λ z.
+        let there = at_place s.views id 0 v z at in
+        let known = r.first v there in
+        let c = counts_stay s.views views' r.gave gave' v was (same v there) known.2 in
+        (known.0, known.1, record { zero_is_first = c.zero_is_first; bound = c.bound; outside = c.outside; back = c.back; above = c.above }))
+        (λ k f _ e z.
+        let there = at_place s.views k 0 f z e in
+        let known = r.first f there in
+        (known.0, known.1, counts_stay s.views views' r.gave gave' f was (same f there) known.2))
 
     -- the seat's view moves, and the list and what was given may grow
     pub moves : (holds : Bool) (seen mine told : List E) (next : ℕ) (log' : List E) (gave' : ℕ → List E) → Fits owner log' gave' name (moved v holds seen mine told next)
@@ -107,11 +107,11 @@ module _ {T E N : Type 0} (entries : T → List E) (owner : E → Option ℕ) (n
     looks seen told next lives out b c own words' same =
         let f = r.fits id v at lives in
         moves v.holds seen v.mine told next r.log r.gave
-            (record { seen = b; told = c; mine = f.mine; own = own; named = f.named })
-            (λ k u _ e l. r.fits k u e l)
-            r.owners
-            (λ _ _ _ _ _. refl)
-            words'
-            s.homes
-            (ap length same ∙ r.wide)
-            (aside name s r.log words' id v (record v { seen = seen; told = told; next = next }) at out out (ap (λ (l : List ℕ). get_or l 0 0) same) r.turn)
+        (record { seen = b; told = c; mine = f.mine; own = own; named = f.named })
+        (λ k u _ e l. r.fits k u e l)
+        r.owners
+        (λ _ _ _ _ _. refl)
+        words'
+        s.homes
+        (ap length same ∙ r.wide)
+        (aside name s r.log words' id v (record v { seen = seen; told = told; next = next }) at out out (ap (λ (l : List ℕ). get_or l 0 0) same) r.turn)

@@ -1,7 +1,5 @@
 -- A new lock keeps the rule.
 use Rattle.std.proofs.Common.{◌≡◌, ℕ, true, List, [], ◌∷◌, false, refl, sym, ◌∙◌, subst, inl, arith, Option, Some}
-use lib.ListN.{get_elem?}
-use mathlib.Core.Option.{some}
 use Rattle.atomic_table.specs.Table.{opening}
 use Rattle.turn_lock.specs.declared.view.View.{View}
 use Rattle.turn_lock.specs.Numbers.{has}

@@ -1,23 +1,20 @@
 -- The first seat makes a new one, and the rule stays.
-use Rattle.std.proofs.Common.{◌≡◌, ◌≢◌, ◌⊎◌, ℕ, ◌<◌, true, false, eqb, List, [], ◌∷◌, ◌++◌, length, set, get_or, refl, sym, ap, ◌∙◌, subst, inl, inr, ⊎_elim, arith, length-set, eq-eqb, ne_eqb, Option}
+use Rattle.std.proofs.Common.{◌≡◌, ◌⊎◌, ℕ, ◌<◌, true, false, eqb, List, [], ◌∷◌, ◌++◌, length, set, get_or, refl, sym, ap, ◌∙◌, subst, inl, inr, ⊎_elim, arith, length-set, eq-eqb, ne_eqb, Option}
 use mathlib.Core.Logic.{dite}
 use native.Mathlib.Decide.{ℕ_discrete}
 use mathlib.Core.Option.{none}
 use prog.Atomic.{either}
 use Rattle.std.proofs.lemmas.List.{set-get_or}
-use Rattle.std.proofs.lemmas.List.Elements.{filter-append}
 use Rattle.atomic_table.specs.Table.{step, keeps, Allows, Splits}
 use Rattle.atomic_table.proofs.Lists.{at_longer}
 use Rattle.turn_lock.specs.declared.view.View.{View}
-use Rattle.turn_lock.specs.Entries.{owned_by, owned}
 use Rattle.turn_lock.specs.Numbers.{has}
 use Rattle.turn_lock.specs.Turns.{At, Fits, Counts, IsFree, IsHeld, IsKept}
 use Rattle.turn_lock.specs.Steps.{with_next, after_split, newcomer_of, TakesNumber}
-use Rattle.turn_lock.proofs.Booleans.{off, either_way, is_false}
+use Rattle.turn_lock.proofs.Booleans.{off, either_way}
 use Rattle.turn_lock.proofs.Callers.{has-more, has-here, has-cases, has-fewer}
-use Rattle.turn_lock.proofs.Owned.{nothing_left}
 use Rattle.turn_lock.proofs.Places.{at_lt, at_place, at_changed, at_added}
-use Rattle.turn_lock.proofs.Views.{St, Sat, table, caller_of, Before, before_changed}
+use Rattle.turn_lock.proofs.Views.{St, Sat, table, Before, before_changed}
 use Rattle.turn_lock.proofs.First.{is_zero, counts, new_is_not_out, new_gave_nothing, new_owns_nothing}
 use Rattle.turn_lock.proofs.Moves.{aside, looks}
 
@@ -97,24 +94,24 @@ module _ {T E N : Type 0} (entries : T → List E) (owner : E → Option ℕ) (n
     split_fits =
         let fit = r.fits id v at lives in
         at_added (λ _ u. u.lives ≡ true → Fits owner r.log r.gave name u) olds (newcomer_of v)
-            (λ _. record { seen = fit.seen; told = (r.log, refl); mine = sym (new_gave_nothing entries owner name_of name s r id v at first v.next above); own = new_owns_nothing entries owner name_of name s r id v at first v.next lives above; named = fit.named })
-            (at_changed (λ _ u. u.lives ≡ true → Fits owner r.log r.gave name u) s.views id (after_split v)
-            (λ _. record { seen = fit.seen; told = fit.told; mine = fit.mine; own = fit.own; named = fit.named })
-            (λ k u _ e l. r.fits k u e l))
+        (λ _. record { seen = fit.seen; told = (r.log, refl); mine = sym (new_gave_nothing entries owner name_of name s r id v at first v.next above); own = new_owns_nothing entries owner name_of name s r id v at first v.next lives above; named = fit.named })
+        (at_changed (λ _ u. u.lives ≡ true → Fits owner r.log r.gave name u) s.views id (after_split v)
+        (λ _. record { seen = fit.seen; told = fit.told; mine = fit.mine; own = fit.own; named = fit.named })
+        (λ k u _ e l. r.fits k u e l))
 
     split_apart : (j k : ℕ) (u y : View E N) → At all j u → At all k y → u.lives ≡ true → y.lives ≡ true → u.caller ≡ y.caller → j ≡ k
     split_apart j k u y eu ey =
         let Far : ℕ → View E N → ℕ → View E N → Type 0 = λ i x i' x'. x.lives ≡ true → x'.lives ≡ true → x.caller ≡ x'.caller → i ≡ i' in
         at_added (λ i x. Far i x k y) olds (newcomer_of v)
-            (at_added (λ i' x'. Far (length olds) (newcomer_of v) i' x') olds (newcomer_of v) (λ _ _ _. refl) (λ i' x' e _ l h. absurd (no_clash i' x' e l (sym h))) k y ey)
-            (λ i x e. at_added (λ i' x'. Far i x i' x') olds (newcomer_of v)
-            (λ l _ h. absurd (no_clash i x e l h))
-            (λ i' x' e' l l' h.
-            let a = was i x e in
-            let b = was i' x' e' in
-            r.apart i i' a.view b.view a.there b.there (a.lives ∙ l) (b.lives ∙ l') (a.caller ∙ h ∙ sym b.caller))
-            k y ey)
-            j u eu
+        (at_added (λ i' x'. Far (length olds) (newcomer_of v) i' x') olds (newcomer_of v) (λ _ _ _. refl) (λ i' x' e _ l h. absurd (no_clash i' x' e l (sym h))) k y ey)
+        (λ i x e. at_added (λ i' x'. Far i x i' x') olds (newcomer_of v)
+        (λ l _ h. absurd (no_clash i x e l h))
+        (λ i' x' e' l l' h.
+        let a = was i x e in
+        let b = was i' x' e' in
+        r.apart i i' a.view b.view a.there b.there (a.lives ∙ l) (b.lives ∙ l') (a.caller ∙ h ∙ sym b.caller))
+        k y ey)
+        j u eu
 
     -- the first seat counts the new one too
     split_counts : Counts all r.gave (after_split v)

@@ -1,5 +1,5 @@
 -- A try to gain the turn keeps the rule.
-use Rattle.std.proofs.Common.{◌≡◌, ◌≢◌, ◌⊎◌, ℕ, Bool, true, eqb, List, ◌∷◌, length, set, get_or, refl, sym, ap, ◌∙◌, subst, inr, ⊎_elim, arith, length-set, get_or-set_same, eq-eqb, ne_eqb, Option, Some}
+use Rattle.std.proofs.Common.{◌≡◌, ℕ, true, eqb, List, ◌∷◌, set, get_or, refl, sym, ap, ◌∙◌, subst, inr, ⊎_elim, arith, length-set, get_or-set_same, eq-eqb, ne_eqb, Option, Some}
 use mathlib.Core.Logic.{dite}
 use native.Mathlib.Decide.{ℕ_discrete}
 use mathlib.Core.Option.{none}
@@ -37,23 +37,23 @@ module _ {T E N : Type 0} (entries : T → List E) (owner : E → Option ℕ) (n
         let w = with_turn (entries f.value) v in
         let fit = r.fits id v at lives in
         moves entries owner name_of name s r id v at true (entries f.value) v.mine v.told v.next r.log r.gave
-            (record { seen = begins_self (entries f.value) r.log f.list; told = fit.told; mine = fit.mine; own = ap (owned_by owner v.caller) f.list ∙ own_of_all; named = fit.named })
-            (λ k u _ e l. r.fits k u e l)
-            r.owners
-            (λ _ _ _ _ _. refl)
-            (set s.words 0 1)
-            (set s.homes 0 none)
-            (length-set s.words 0 1 ∙ r.wide)
-            (inr (record {
-              word = let wide = r.wide in get_or-set_same s.words 0 1 0 (omega arith);
-              holder = id;
-              view = w;
-              there = set_here s.views id w (at_lt s.views id v at);
-              lives = lives;
-              holds = refl;
-              list = f.list;
-              alone = at_changed (λ k u. u.holds ≡ true → k ≡ id) s.views id w (λ _. refl) (λ k u _ e h. absurd (off h (f.none_holds k u e)));
-            }))
+        (record { seen = begins_self (entries f.value) r.log f.list; told = fit.told; mine = fit.mine; own = ap (owned_by owner v.caller) f.list ∙ own_of_all; named = fit.named })
+        (λ k u _ e l. r.fits k u e l)
+        r.owners
+        (λ _ _ _ _ _. refl)
+        (set s.words 0 1)
+        (set s.homes 0 none)
+        (length-set s.words 0 1 ∙ r.wide)
+        (inr (record {
+          word = let wide = r.wide in get_or-set_same s.words 0 1 0 (omega arith);
+          holder = id;
+          view = w;
+          there = set_here s.views id w (at_lt s.views id v at);
+          lives = lives;
+          holds = refl;
+          list = f.list;
+          alone = at_changed (λ k u. u.holds ≡ true → k ≡ id) s.views id w (λ _. refl) (λ k u _ e h. absurd (off h (f.none_holds k u e)));
+        }))
 
     -- what the seat that gained the turn learns
     gained : (f : Free r.log name s) (carried : List (ℕ × Option T)) → Gained entries owner name_of (v, carried) (with_turn (entries f.value) v, (0, Some f.value) ∷ carried)

@@ -1,5 +1,5 @@
 -- Views of seats before and after a step: which seat a view is of, and how the first seat counts them.
-use Rattle.std.proofs.Common.{◌≡◌, ◌≢◌, ℕ, ◌<◌, true, false, List, set, refl, sym, ap, ◌∙◌, subst, Option}
+use Rattle.std.proofs.Common.{◌≡◌, ℕ, ◌<◌, true, false, List, set, refl, ap, ◌∙◌, subst, Option}
 use mathlib.Core.Option.{Option as Maybe}
 use Rattle.atomic_table.specs.Table.{State, Me}
 use Rattle.turn_lock.specs.declared.view.View.{View}

@@ -33,7 +33,11 @@ module _ {E N : Type 0} where
 
   -- the first seat v, which took in the seat w
   abbrev pub after_join : View E N → View E N → View E N
-  after_join v w = record v { told = w.seen; out = without w.caller v.out; joined = record { caller = w.caller; mine = w.mine } ∷ v.joined }
+  after_join v w = record v {
+    told = w.seen;
+    out = without w.caller v.out;
+    joined = record { caller = w.caller; mine = w.mine } ∷ v.joined;
+  }
 
   -- the first seat, which has then seen what it was told of
   abbrev pub after_look : View E N → View E N
@@ -65,14 +69,19 @@ module _ {E N : Type 0} where
     -- the same, whatever the value is that was put back, and its entry that is one more
     abbrev pub GivesWith : Step (Option T) → Sat → ℕ → Sat → Type 0
     GivesWith st m r m' = (value : T) (e : E) → m.1 ≡ (0, Some value) ∷ [] → entries value ≡ m.0.seen ++ e ∷ []
-        → (m' ≡ (after_gift (e ∷ []) m.0, [])) × (owned_by owner m.0.caller (m.0.seen ++ e ∷ []) ≡ owned owner (m.0.mine ++ e ∷ []))
+        → (m' ≡ (after_gift (e ∷ []) m.0, []))
+        × (owned_by owner m.0.caller (m.0.seen ++ e ∷ []) ≡ owned owner (m.0.mine ++ e ∷ []))
 
-    -- the operand is the next number, and owns nothing that the first seat has seen where it is above all given
+    -- the operand is the next number; where it is above all given, it owns nothing that the first seat has seen
     abbrev pub TakesNumber : Step (Option T) → Sat → ℕ → Sat → Type 0
-    TakesNumber st m r m' = (m' ≡ (with_next st.first m.0, m.1)) × (m.0.is_first ≡ true → m.0.given < st.first → owned_by owner st.first m.0.seen ≡ [])
+    TakesNumber st m r m' =
+        (m' ≡ (with_next st.first m.0, m.1))
+        × (m.0.is_first ≡ true → m.0.given < st.first → owned_by owner st.first m.0.seen ≡ [])
 
     -- what was seen and what was told both begin the longer of them, of which the seat knows its own
     abbrev pub Learns : Step (Option T) → Sat → ℕ → Sat → Type 0
     Learns st m r m' =
-        (m' ≡ (after_look m.0, m.1)) × Begins m.0.seen (longer m.0.seen m.0.told) × Begins m.0.told (longer m.0.seen m.0.told)
+        (m' ≡ (after_look m.0, m.1))
+        × Begins m.0.seen (longer m.0.seen m.0.told)
+        × Begins m.0.told (longer m.0.seen m.0.told)
         × (owned_by owner m.0.caller (longer m.0.seen m.0.told) ≡ owned owner m.0.mine)

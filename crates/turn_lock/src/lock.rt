@@ -1,8 +1,7 @@
 //! A value that one seat at a time may have.
-ghost use Rattle.std.specs.Prelude.{◌≡◌, ℕ, ◌<◌, true, false, [], ◌∷◌, ◌++◌, Some, None, MatchResult};
-ghost use Rattle.turn_lock.specs.Entries.{Begins, MayGive, longer, owned_by, owned};
-ghost use Rattle.turn_lock.specs.Numbers.{without};
-ghost use Rattle.turn_lock.specs.Sights.{KnowsOwn, first_sight, given_by};
+ghost use Rattle.std.specs.Prelude.{◌≡◌, ℕ, ◌<◌, true, false, [], ◌∷◌, ◌++◌, Some, None, IfOk, IfErr};
+ghost use Rattle.turn_lock.specs.Entries.{Begins, owned_by, owned};
+ghost use Rattle.turn_lock.specs.Sights.{KnowsOwn, AddsOne, first_sight, new_sight, sight_after_split, sight_after_join, given_by};
 
 use crate::held::Held;
 use crate::kept::Kept;
@@ -56,7 +55,8 @@ impl<T: Kept> TurnLock<T> {
     /// A lock for a value that has no entries yet, and the lock's first seat, whose number is 0.
     pub fn try_new(alloc: Global, value: T) -> Result<(TurnLock<T>, Seat<T>), NewBack<T>>
         requires { T.entries value ≡ [] }
-        ensures { MatchResult result (λ l. l.1 ≡ first_sight l.0 (Some (T.name value))) (λ back. back.value ≡ value) }
+        ensures first { IfOk result (λ made. made.1 ≡ first_sight made.0 (Some (T.name value))) }
+        ensures back { IfErr result (λ back. back.value ≡ value) }
     {
         let about = Snapshot::of(&value);
         let mut slots = Vec::new(alloc);
@@ -86,8 +86,8 @@ impl<T: Kept> TurnLock<T> {
         requires own { seat.old.lock ≡ self.now }
         requires first { (seat.old.is_first ≡ true) × (seat.old.holds ≡ false) }
         requires number { seat.old.given < caller }
-        ensures first { seat.new ≡ record seat.old { given = caller; out = caller ∷ seat.old.out } }
-        ensures new { result ≡ record (first_sight seat.old.lock seat.old.name) { is_first = false; caller = caller; seen = seat.old.seen } }
+        ensures first { seat.new ≡ sight_after_split seat.old caller }
+        ensures new { result ≡ new_sight seat.old caller }
         ensures own { KnowsOwn T.owner result }
     {
         let shared = &self.table.shared;
@@ -102,7 +102,7 @@ impl<T: Kept> TurnLock<T> {
         requires own { (seat.old.lock ≡ self.now) × (other.lock ≡ self.now) }
         requires first { seat.old.is_first ≡ true }
         requires free { (seat.old.holds ≡ false) × (other.holds ≡ false) }
-        ensures sight { seat.new ≡ record seat.old { seen = longer seat.old.seen other.seen; out = without other.caller seat.old.out; joined = record { caller = other.caller; mine = other.mine } ∷ seat.old.joined } }
+        ensures sight { seat.new ≡ sight_after_join seat.old other }
         ensures begins { Begins seat.old.seen seat.new.seen × Begins other.seen seat.new.seen }
         ensures own { KnowsOwn T.owner seat.new }
     {
@@ -143,11 +143,10 @@ impl<T: Kept> TurnLock<T> {
         ensures own { KnowsOwn T.owner seat.new }
     {
         let Held { inner } = held;
+        let shared = &self.table.shared;
         self.put_back(&mut seat.inner, inner);
-        self.table
-            .shared
-            .store::<GiveBack<T>>(&mut seat.inner, TURN, FREE);
-        self.table.shared.wake_one(TURN);
+        shared.store::<GiveBack<T>>(&mut seat.inner, TURN, FREE);
+        shared.wake_one(TURN);
     }
 
     /// Gives the turn back, with the value's name as it was and one entry more, which is this
@@ -155,17 +154,16 @@ impl<T: Kept> TurnLock<T> {
     pub fn give_with(&self, seat: &mut Seat<T>, held: Held<T>)
         requires own { (seat.old.lock ≡ self.now) × (seat.old.holds ≡ true) }
         requires name { seat.old.name ≡ Some (T.name held) }
-        requires entries { (e : T.Entry) × (T.entries held ≡ seat.old.seen ++ e ∷ []) × MayGive T.owner seat.old.caller e }
+        requires entries { AddsOne T.owner seat.old (T.entries held) }
         ensures seat { seat.new ≡ record seat.old { holds = false; seen = T.entries held; mine = seat.new.mine } }
         ensures mine { (e : T.Entry) → T.entries held ≡ seat.old.seen ++ e ∷ [] → seat.new.mine ≡ seat.old.mine ++ e ∷ [] }
         ensures own { KnowsOwn T.owner seat.new }
     {
         let Held { inner } = held;
+        let shared = &self.table.shared;
         self.put_back(&mut seat.inner, inner);
-        self.table
-            .shared
-            .store::<GiveWith<T>>(&mut seat.inner, TURN, FREE);
-        self.table.shared.wake_one(TURN);
+        shared.store::<GiveWith<T>>(&mut seat.inner, TURN, FREE);
+        shared.wake_one(TURN);
     }
 
     /// Ends the lock and gives its value, once all seats but the first were taken in.

@@ -27,5 +27,6 @@ impl<T: Kept> Model for Seat<T> {
 
     ghost view = { λ s. sight_of s.inner.table_id s.inner.me.0 };
 
-    ghost invariant = { λ s. (s.inner.me.0.lives ≡ true) × (s.inner.me.1 ≡ (if s.inner.me.0.holds then (0, None) ∷ [] else [])) };
+    ghost invariant = { λ s. (s.inner.me.0.lives ≡ true)
+        × (s.inner.me.1 ≡ (if s.inner.me.0.holds then (0, None) ∷ [] else [])) };
 }

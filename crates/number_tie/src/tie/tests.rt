@@ -1,7 +1,9 @@
-ghost use Rattle.std.specs.Prelude.{◌≡◌, ◌+◌};
+ghost use Rattle.std.specs.Prelude.{◌≡◌, ◌+◌, IfOk};
 
 use super::Tie;
 use crate::half::Half;
+use crate::no_memory::NoMemory;
+use std::alloc::Global;
 use std::test::Fail;
 use std::thread;
 
@@ -17,13 +19,33 @@ fn raise_thrice(tie: &Tie, mut one: Half, mut other: Half) -> (Half, Half)
     (one, other)
 }
 
-#[test]
-fn halves_agree_and_are_raised(rt: HostRuntime) -> Result<(), Fail> {
-    let (tie, mut one, mut other) = Tie::try_new(rt.alloc())?;
+// A tie whose halves agree, are raised three times and agree again.
+fn three_times_raised(alloc: Global) -> Result<(Tie, Half, Half), NoMemory>
+    ensures tie { IfOk result (λ t. (t.1.tie ≡ t.0) × (t.2.tie ≡ t.0)) }
+    ensures three { IfOk result (λ t. (t.1.number ≡ 3) × (t.2.number ≡ 3)) }
+{
+    let (tie, mut one, mut other) = Tie::try_new(alloc)?;
     tie.agree(&mut one, &mut other);
     let (mut one, mut other) = raise_thrice(&tie, one, other);
     tie.agree(&mut one, &mut other);
-    Ok(())
+    Ok((tie, one, other))
+}
+
+// The halves of one tie, raised once, and those of another, which stay at 0.
+fn halves_of_two_ties(alloc: Global) -> Result<(Half, Half), NoMemory>
+    ensures { IfOk result (λ h. (h.0.number ≡ 1) × (h.1.number ≡ 0)) }
+{
+    let (first, mut one, mut other) = Tie::try_new(alloc)?;
+    let (second, mut left, mut right) = Tie::try_new(alloc)?;
+    first.raise(&mut one, &mut other);
+    second.agree(&mut left, &mut right);
+    Ok((other, right))
+}
+
+#[test]
+fn halves_agree_and_are_raised(rt: HostRuntime) {
+    assert!(rt; three_times_raised(rt.alloc()).is_ok());
+    assert!(rt; halves_of_two_ties(rt.alloc()).is_ok());
 }
 
 #[test]
@@ -50,15 +72,5 @@ fn a_tie_and_its_halves_cross_threads(rt: HostRuntime) -> Result<(), Fail> {
             assert!(rt; raised.is_ok());
         },
     );
-    Ok(())
-}
-
-#[test]
-fn each_tie_has_its_own_halves(rt: HostRuntime) -> Result<(), Fail> {
-    let (first, mut one, mut other) = Tie::try_new(rt.alloc())?;
-    let (second, mut left, mut right) = Tie::try_new(rt.alloc())?;
-    first.raise(&mut one, &mut other);
-    first.agree(&mut one, &mut other);
-    second.agree(&mut left, &mut right);
     Ok(())
 }

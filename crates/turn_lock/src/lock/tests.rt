@@ -65,8 +65,8 @@ fn give<R: Wait>(
 ) -> Result<(), AllocError>
     requires lock { seat.old.lock ≡ lock.now }
     requires giver { MayGive (λ e. e.giver) seat.old.caller gift }
-    ensures seat { (seat.new.lock ≡ seat.old.lock) × (seat.new.caller ≡ seat.old.caller) × (seat.new.is_first ≡ seat.old.is_first) }
-    ensures numbers { (seat.new.given ≡ seat.old.given) × (seat.new.out ≡ seat.old.out) }
+    ensures lock { seat.new.lock ≡ seat.old.lock }
+    ensures caller { seat.new.caller ≡ seat.old.caller }
     ensures free { seat.new.holds ≡ false }
 {
     let mut held = lock.take(rt, seat);
@@ -86,8 +86,8 @@ fn give<R: Wait>(
 // Takes the turn and gives nothing.
 fn look<R: Wait>(rt: &R, lock: &TurnLock<Gifts>, seat: &mut Seat<Gifts>)
     requires { seat.old.lock ≡ lock.now }
-    ensures seat { (seat.new.lock ≡ seat.old.lock) × (seat.new.caller ≡ seat.old.caller) × (seat.new.is_first ≡ seat.old.is_first) }
-    ensures numbers { (seat.new.given ≡ seat.old.given) × (seat.new.out ≡ seat.old.out) }
+    ensures lock { seat.new.lock ≡ seat.old.lock }
+    ensures caller { seat.new.caller ≡ seat.old.caller }
     ensures free { seat.new.holds ≡ false }
 {
     let mut held = lock.take(rt, seat);
