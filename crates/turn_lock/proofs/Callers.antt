@@ -17,20 +17,30 @@ has-cases p q qs h = dite (ℕ_discrete p q) (λ e. inl e) (λ ne. inr (grind (a
 pub has-fewer : (p q : ℕ) (qs : List ℕ) → has p (q ∷ qs) ≡ false → has p qs ≡ false
 has-fewer p q qs h = grind (arith, nat_tests)
 
+-- what `without` makes of the first number that it meets
+without-cases : (P : List ℕ → Type 0) (c q : ℕ) (qs : List ℕ) → (c ≡ q → P (without c qs)) → (c ≢ q → P (q ∷ without c qs)) → P (without c (q ∷ qs))
+without-cases P c q qs hit miss = dite (ℕ_discrete c q)
+    (λ e. subst (λ b. P (cond b (without c qs) (q ∷ without c qs))) (sym (eq-eqb c q e)) (hit e))
+    (λ n. subst (λ b. P (cond b (without c qs) (q ∷ without c qs))) (sym (ne_eqb c q n)) (miss n))
+
+has-else : (p q : ℕ) (qs : List ℕ) → p ≢ q → has p (q ∷ qs) ≡ has p qs
+has-else p q qs ne = subst (λ b. (b || has p qs) ≡ has p qs) (sym (ne_eqb p q ne)) refl
+
 pub has-without : (p c : ℕ) (qs : List ℕ) → p ≢ c → has p (without c qs) ≡ has p qs
 has-without p c [] ne = refl
 has-without p c (q ∷ qs) ne =
     let r = has-without p c qs ne in
-    dite (ℕ_discrete c q)
-    (λ e. let miss : p ≢ q = λ h. ne (h ∙ sym e) in subst (λ b. has p (cond b (without c qs) (q ∷ without c qs)) ≡ has p (q ∷ qs)) (sym (eq-eqb c q e)) (r ∙ subst (λ b. has p qs ≡ (b || has p qs)) (sym (ne_eqb p q miss)) refl))
-    (λ n. subst (λ b. has p (cond b (without c qs) (q ∷ without c qs)) ≡ has p (q ∷ qs)) (sym (ne_eqb c q n)) (ap (λ b. eqb p q || b) r))
+    without-cases (λ l. has p l ≡ has p (q ∷ qs)) c q qs
+    (λ e. r ∙ sym (has-else p q qs (λ h. ne (h ∙ sym e))))
+    (λ _. ap (λ b. eqb p q || b) r)
 
 pub without-has : (p c : ℕ) (qs : List ℕ) → has p (without c qs) ≡ true → has p qs ≡ true
 without-has p c [] h = h
 without-has p c (q ∷ qs) h =
-    dite (ℕ_discrete c q)
-    (λ e. has-more p q qs (without-has p c qs (subst (λ b. has p (cond b (without c qs) (q ∷ without c qs)) ≡ true) (eq-eqb c q e) h)))
-    (λ n. ⊎_elim
+    without-cases (λ l. has p l ≡ true → has p (q ∷ qs) ≡ true) c q qs
+    (λ _ t. has-more p q qs (without-has p c qs t))
+    (λ _ u. ⊎_elim
     (λ (e : p ≡ q). subst (λ z. has z (q ∷ qs) ≡ true) (sym e) (has-here q qs))
     (λ (t : has p (without c qs) ≡ true). has-more p q qs (without-has p c qs t))
-    (has-cases p q (without c qs) (subst (λ b. has p (cond b (without c qs) (q ∷ without c qs)) ≡ true) (ne_eqb c q n) h)))
+    (has-cases p q (without c qs) u))
+    h

@@ -26,7 +26,8 @@ module _ {T E N : Type 0} (entries : T → List E) (owner : E → Option ℕ) (n
     pub named : seat.name ≡ Some (name_of value)
     pub given : (p : ℕ) → owned_by owner p (entries value) ≡ owned owner (given_by seat p)
 
-  module _ (name : N) (s : St T E N) (r : Kept name s) (id : ℕ) (v : View E N) (at : At s.views id v) (lives : v.lives ≡ true) (first : v.is_first ≡ true) (none_out : v.out ≡ []) where
+  module _ (name : N) (s : St T E N) (r : Kept name s) (id : ℕ) (v : View E N) (at : At s.views id v) (lives : v.lives ≡ true)
+      (first : v.is_first ≡ true) (none_out : v.out ≡ []) where
     counts_now : Counts s.views r.gave v
     counts_now = counts entries owner name_of name s r id v at first
 
@@ -54,8 +55,10 @@ module _ {T E N : Type 0} (entries : T → List E) (owner : E → Option ℕ) (n
           given = λ p. ap (owned_by owner p) t.list ∙ (r.owners p ∙ ap (owned owner) (all_back p));
         }
 
-  module _ (name : N) (id : ℕ) (lock : TableId) (v : View E N) (seat : Sight E N) (words : List ℕ) (slots : List (Option T)) (last : Option T) (final : Final (Seen (Kept name) id v) words slots)
-      (at_last : get_elem? slots 0 ≡ some last) (lives : v.lives ≡ true) (seen : sight_of lock v ≡ seat) (alone : (seat.is_first ≡ true) × (seat.holds ≡ false) × (seat.out ≡ [])) where
+  module _ (name : N) (id : ℕ) (lock : TableId) (v : View E N) (seat : Sight E N) (words : List ℕ) (slots : List (Option T))
+      (last : Option T) (final : Final (Seen (Kept name) id v) words slots)
+      (at_last : get_elem? slots 0 ≡ some last) (lives : v.lives ≡ true) (seen : sight_of lock v ≡ seat)
+      (alone : (seat.is_first ≡ true) × (seat.holds ≡ false) × (seat.out ≡ [])) where
     -- the slot has a value, with which the lock ends
     ends : (value : T) × (last ≡ Some value) × Ends seat value
     ends =

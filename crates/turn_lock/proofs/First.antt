@@ -11,7 +11,8 @@ use Rattle.turn_lock.proofs.Places.{at_place}
 use Rattle.turn_lock.proofs.Views.{St}
 
 module _ {T E N : Type 0} (entries : T → List E) (owner : E → Option ℕ) (name_of : T → N) where
-  module _ (name : N) (s : St T E N) (r : IsKept entries owner name_of name s) (id : ℕ) (v : View E N) (at : At s.views id v) (first : v.is_first ≡ true) where
+  module _ (name : N) (s : St T E N) (r : IsKept entries owner name_of name s) (id : ℕ) (v : View E N) (at : At s.views id v)
+      (first : v.is_first ≡ true) where
     pub is_zero : id ≡ 0
     is_zero = r.one_first id v at first
 

@@ -35,7 +35,8 @@ module _ {T E N : Type 0} (entries : T → List E) (owner : E → Option ℕ) (n
   abbrev Kept : N → St T E N → Type 0
   Kept = IsKept entries owner name_of
 
-  module _ (name : N) (s : St T E N) (r : Kept name s) (id : ℕ) (v : View E N) (at : At s.views id v) (lives : v.lives ≡ true) (new : List E) where
+  module _ (name : N) (s : St T E N) (r : Kept name s) (id : ℕ) (v : View E N) (at : At s.views id v) (lives : v.lives ≡ true)
+      (new : List E) where
     abbrev grown : List E
     grown = r.log ++ new
 
@@ -43,7 +44,8 @@ module _ {T E N : Type 0} (entries : T → List E) (owner : E → Option ℕ) (n
     gave_more = more_by r.gave v.caller new
 
     -- the giver's view fits the list with the new entries
-    giver_fits : (seen mine : List E) → v.seen ≡ r.log → seen ≡ v.seen ++ new → mine ≡ v.mine ++ new → owned_by owner v.caller new ≡ owned owner new
+    giver_fits : (seen mine : List E) → v.seen ≡ r.log → seen ≡ v.seen ++ new → mine ≡ v.mine ++ new
+        → owned_by owner v.caller new ≡ owned owner new
         → Fits owner grown gave_more name (record v { holds = false; seen = seen; mine = mine })
     giver_fits seen mine all more_seen more_mine own =
         let fit = r.fits id v at lives in
@@ -69,7 +71,8 @@ module _ {T E N : Type 0} (entries : T → List E) (owner : E → Option ℕ) (n
         }
 
     -- an owner's entries are those that this number gave
-    owners_fit : owned_by owner v.caller new ≡ owned owner new → ((p : ℕ) → p ≢ v.caller → owned_by owner p new ≡ []) → (p : ℕ) → owned_by owner p grown ≡ owned owner (gave_more p)
+    owners_fit : owned_by owner v.caller new ≡ owned owner new → ((p : ℕ) → p ≢ v.caller → owned_by owner p new ≡ []) → (p : ℕ)
+        → owned_by owner p grown ≡ owned owner (gave_more p)
     owners_fit own other p =
         let c = v.caller in
         dite (ℕ_discrete p c)
@@ -94,7 +97,8 @@ module _ {T E N : Type 0} (entries : T → List E) (owner : E → Option ℕ) (n
         (either_way v.is_first))
 
     -- the turn is given back with these entries more
-    releases : (value : T) (seen mine : List E) → v.holds ≡ true → entries value ≡ seen → seen ≡ v.seen ++ new → mine ≡ v.mine ++ new → v.name ≡ Some (name_of value)
+    releases : (value : T) (seen mine : List E) → v.holds ≡ true → entries value ≡ seen → seen ≡ v.seen ++ new → mine ≡ v.mine ++ new
+        → v.name ≡ Some (name_of value)
         → owned_by owner v.caller new ≡ owned owner new → ((p : ℕ) → p ≢ v.caller → owned_by owner p new ≡ []) → length s.homes ≡ 1
         → Kept name (table (set s.words 0 0) (set s.homes 0 (some (Some value))) (set s.views id (record v { holds = false; seen = seen; mine = mine })))
     releases value seen mine holds is_seen more_seen more_mine named own other len =
@@ -127,7 +131,8 @@ module _ {T E N : Type 0} (entries : T → List E) (owner : E → Option ℕ) (n
   abbrev with_value : View E N → T → Sat T E N
   with_value v value = (v, (0, Some value) ∷ [])
 
-  gives_back : (name : N) (id : ℕ) (v : View E N) (value : T) → v.lives ≡ true → v.holds ≡ true → entries value ≡ v.seen → v.name ≡ Some (name_of value)
+  gives_back : (name : N) (id : ℕ) (v : View E N) (value : T) → v.lives ≡ true → v.holds ≡ true → entries value ≡ v.seen
+      → v.name ≡ Some (name_of value)
       → Allows (Kept name) 1 id (with_value v value) 0 (λ _. 0) (λ _. GivesBack entries owner name_of (step 1 0 0 0 none) (with_value v value) 0)
   gives_back name id v value lives holds same named s r len at small = (
     without_turn v,
@@ -144,7 +149,8 @@ module _ {T E N : Type 0} (entries : T → List E) (owner : E → Option ℕ) (n
       let both : Some x ≡ Some y = ap (λ (z : ℕ × Option T). z.1) pair in
       cc both
 
-  gives_with : (name : N) (id : ℕ) (v : View E N) (value : T) (e : E) → v.lives ≡ true → v.holds ≡ true → entries value ≡ v.seen ++ e ∷ [] → MayGive owner v.caller e → v.name ≡ Some (name_of value)
+  gives_with : (name : N) (id : ℕ) (v : View E N) (value : T) (e : E) → v.lives ≡ true → v.holds ≡ true → entries value ≡ v.seen ++ e ∷ []
+      → MayGive owner v.caller e → v.name ≡ Some (name_of value)
       → Allows (Kept name) 1 id (with_value v value) 0 (λ _. 0) (λ _. GivesWith entries owner name_of (step 1 0 0 0 none) (with_value v value) 0)
   gives_with name id v value e lives holds same may named s r len at small =
       let own = one_owned owner v.caller e may in (
@@ -161,16 +167,20 @@ module _ {T E N : Type 0} (entries : T → List E) (owner : E → Option ℕ) (n
       )
 
   -- the same as contracts see it: the seat by its sight, and the value as it was held
-  module _ (name : N) (slots id : ℕ) (me : Sat T E N) (lock : TableId) (v : View E N) (value : T) (seat : Sight E N) (held : T) (one : slots ≡ 1) (is : me ≡ with_value v value)
-      (lives : v.lives ≡ true) (seen : sight_of lock v ≡ seat) (same : value ≡ held) (holds : seat.holds ≡ true) (named : seat.name ≡ Some (name_of held)) where
-    pub gives_back_seen : entries held ≡ seat.seen → Allows (Kept name) slots id me 0 (λ _. 0) (λ _. GivesBack entries owner name_of (step slots 0 0 0 none) me 0)
+  module _ (name : N) (slots id : ℕ) (me : Sat T E N) (lock : TableId) (v : View E N) (value : T) (seat : Sight E N) (held : T)
+      (one : slots ≡ 1) (is : me ≡ with_value v value)
+      (lives : v.lives ≡ true) (seen : sight_of lock v ≡ seat) (same : value ≡ held) (holds : seat.holds ≡ true)
+      (named : seat.name ≡ Some (name_of held)) where
+    pub gives_back_seen : entries held ≡ seat.seen
+        → Allows (Kept name) slots id me 0 (λ _. 0) (λ _. GivesBack entries owner name_of (step slots 0 0 0 none) me 0)
     gives_back_seen list =
         let P : Sight E N → T → Type 0 = λ s x.
         s.holds ≡ true → s.name ≡ Some (name_of x) → entries x ≡ s.seen → Allows (Kept name) 1 id (with_value v value) 0 (λ _. 0) (λ _. GivesBack entries owner name_of (step 1 0 0 0 none) (with_value v value) 0) in
         let known = subst (λ (z : Sight E N × T). P z.0 z.1) (λ i. (seen i, same i)) (λ h n l. gives_back name id v value lives h l n) holds named list in
         subst (λ (z : ℕ × Sat T E N). Allows (Kept name) z.0 id z.1 0 (λ _. 0) (λ _. GivesBack entries owner name_of (step z.0 0 0 0 none) z.1 0)) (λ i. (sym one i, sym is i)) known
 
-    pub gives_with_seen : (e : E) → entries held ≡ seat.seen ++ e ∷ [] → MayGive owner seat.caller e → Allows (Kept name) slots id me 0 (λ _. 0) (λ _. GivesWith entries owner name_of (step slots 0 0 0 none) me 0)
+    pub gives_with_seen : (e : E) → entries held ≡ seat.seen ++ e ∷ [] → MayGive owner seat.caller e
+        → Allows (Kept name) slots id me 0 (λ _. 0) (λ _. GivesWith entries owner name_of (step slots 0 0 0 none) me 0)
     gives_with_seen e list may =
         let P : Sight E N → T → Type 0 = λ s x.
         s.holds ≡ true → s.name ≡ Some (name_of x) → entries x ≡ s.seen ++ e ∷ [] → MayGive owner s.caller e

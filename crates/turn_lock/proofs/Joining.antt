@@ -4,18 +4,20 @@ use mathlib.Core.Logic.{dite}
 use native.Mathlib.Decide.{ℕ_discrete}
 use mathlib.Core.Option.{none}
 use Rattle.std.proofs.lemmas.List.{set-get_or}
+use Rattle.atomic_table.specs.Seated.{TableId}
 use Rattle.atomic_table.specs.Table.{step, keeps, Allows, Joins}
 use Rattle.atomic_table.proofs.Lists.{set_else}
 use Rattle.turn_lock.specs.declared.view.View.{View}
 use Rattle.turn_lock.specs.Entries.{longer, taken_in, owned_by, owned}
 use Rattle.turn_lock.specs.Numbers.{has}
+use Rattle.turn_lock.specs.Sights.{Sight, sight_of}
 use Rattle.turn_lock.specs.Turns.{spent, At, Fits, Counts, IsFree, IsHeld, IsKept}
 use Rattle.turn_lock.specs.Steps.{after_join, after_look, Learns}
 use Rattle.turn_lock.proofs.Booleans.{off, is_false}
 use Rattle.turn_lock.proofs.Callers.{has-without, without-has}
 use Rattle.turn_lock.proofs.Owned.{longer_begins, wider}
 use Rattle.turn_lock.proofs.Places.{at_same, at_place, at_changed}
-use Rattle.turn_lock.proofs.Views.{St, Sat, table, holds_of, Before, before_changed}
+use Rattle.turn_lock.proofs.Views.{St, Sat, table, lives_of, holds_of, Before, before_changed}
 use Rattle.turn_lock.proofs.First.{is_zero, counts}
 use Rattle.turn_lock.proofs.Moves.{looks}
 
@@ -27,7 +29,8 @@ module _ {T E N : Type 0} (entries : T → List E) (owner : E → Option ℕ) (n
   Turn log name s = IsFree entries owner name_of log name s ⊎ IsHeld entries owner name_of log s
 
   -- the first seat v at id takes in the seat w at other
-  module _ (name : N) (s : St T E N) (r : Kept name s) (id : ℕ) (v : View E N) (at : At s.views id v) (lives : v.lives ≡ true) (first : v.is_first ≡ true) (out : v.holds ≡ false)
+  module _ (name : N) (s : St T E N) (r : Kept name s) (id : ℕ) (v : View E N) (at : At s.views id v) (lives : v.lives ≡ true)
+      (first : v.is_first ≡ true) (out : v.holds ≡ false)
       (other : ℕ) (w : View E N) (there : At s.views other w) (lives' : w.lives ≡ true) (out' : w.holds ≡ false) (apart : other ≢ id) where
     -- the views with the first seat's changed, and with the other's spent too
     abbrev changed : List (View E N)
@@ -121,7 +124,8 @@ module _ {T E N : Type 0} (entries : T → List E) (owner : E → Option ℕ) (n
           outside = λ k u e l no.
               let a = was k u e l in
               let ne : u.caller ≢ c = λ h. a.1 (r.apart k other a.0.view w a.0.there there (a.0.lives ∙ l) lives' (a.0.caller ∙ h)) in
-              has-without u.caller c v.out ne ∙ subst (λ z. has z v.out ≡ true) a.0.caller (counts_now.outside k a.0.view a.0.there (a.0.lives ∙ l) (a.0.is_first ∙ no));
+              has-without u.caller c v.out ne ∙ subst (λ z. has z v.out ≡ true) a.0.caller
+              (counts_now.outside k a.0.view a.0.there (a.0.lives ∙ l) (a.0.is_first ∙ no));
           back = join_back;
           above = λ p up.
               let ne : p ≢ c = λ q. let k = (counts_now.bound c was_out).1 in omega arith in
@@ -151,13 +155,14 @@ module _ {T E N : Type 0} (entries : T → List E) (owner : E → Option ℕ) (n
           (λ k u _ e is. let a = before_changed s.views id v (after_join v w) at refl refl refl k u e in r.one_first k a.view a.there (a.is_first ∙ is));
     }
 
-  pub joins : (name : N) (id : ℕ) (v : View E N) (other : ℕ) (w : View E N) → v.lives ≡ true → v.is_first ≡ true → v.holds ≡ false → w.lives ≡ true → w.holds ≡ false
+  joins : (name : N) (id : ℕ) (v : View E N) (other : ℕ) (w : View E N) → v.lives ≡ true → v.is_first ≡ true → v.holds ≡ false
+      → w.lives ≡ true → w.holds ≡ false
       → Joins (Kept name) id v other w (after_join v w) spent
   joins name id v other w lives first out lives' out' s r at apart there =
       join_keeps name s r id v at lives first out other w (sym (set_else s.views id other (after_join v w) apart) ∙ there) lives' out' apart
 
   -- the first seat looks, and has seen the longer of what it had seen and was told of
-  pub learns : (name : N) (slots id : ℕ) (me : Sat T E N) → me.0.lives ≡ true → me.0.holds ≡ false
+  learns : (name : N) (slots id : ℕ) (me : Sat T E N) → me.0.lives ≡ true → me.0.holds ≡ false
       → Allows (Kept name) slots id me 0 (λ n. n) (Learns entries owner name_of (step slots 0 0 0 none) me)
   learns name slots id me lives out s r len at small =
       let v = me.0 in
@@ -172,3 +177,15 @@ module _ {T E N : Type 0} (entries : T → List E) (owner : E → Option ℕ) (n
         looks entries owner name_of name s r id v at all [] v.next lives out both.0 (r.log, refl) own (set s.words 0 (get_or s.words 0 0)) (set-get_or s.words 0 0),
         (refl, both.1, both.2, own),
       )
+
+  -- the same as contracts see it: both seats by their sights
+  module _ (name : N) (lock lock' : TableId) (v w : View E N) (seat other : Sight E N) (lives : v.lives ≡ true) (seen : sight_of lock v ≡ seat) (holds : seat.holds ≡ false) where
+    pub joins_seen : (id id' : ℕ) → w.lives ≡ true → sight_of lock' w ≡ other → seat.is_first ≡ true → other.holds ≡ false
+        → Joins (Kept name) id v id' w (after_join v w) spent
+    joins_seen id id' lives' seen' first holds' =
+        let P : Sight E N → Sight E N → Type 0 = λ x y. x.holds ≡ false → x.is_first ≡ true → y.holds ≡ false → Joins (Kept name) id v id' w (after_join v w) spent in
+        subst (λ (z : Sight E N × Sight E N). P z.0 z.1) (λ i. (seen i, seen' i)) (λ h f h'. joins name id v id' w lives f h lives' h') holds first holds'
+
+    pub learns_seen : (slots id : ℕ) (me : Sat T E N) → me.0 ≡ after_join v w
+        → Allows (Kept name) slots id me 0 (λ n. n) (Learns entries owner name_of (step slots 0 0 0 none) me)
+    learns_seen slots id me is = learns name slots id me (lives_of is ∙ lives) (holds_of is ∙ (ap (λ (z : Sight E N). z.holds) seen ∙ holds))

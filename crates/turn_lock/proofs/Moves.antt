@@ -23,7 +23,8 @@ module _ {T E N : Type 0} (entries : T → List E) (owner : E → Option ℕ) (n
   Turn log name s = IsFree entries owner name_of log name s ⊎ IsHeld entries owner name_of log s
 
   -- a seat that does not have the turn changes its view and no word
-  pub aside : (name : N) (s : St T E N) (log : List E) (words' : List ℕ) (id : ℕ) (v w : View E N) → At s.views id v → v.holds ≡ false → w.holds ≡ false
+  pub aside : (name : N) (s : St T E N) (log : List E) (words' : List ℕ) (id : ℕ) (v w : View E N) → At s.views id v → v.holds ≡ false
+      → w.holds ≡ false
       → get_or words' 0 0 ≡ get_or s.words 0 0 → Turn log name s → Turn log name (table words' s.homes (set s.views id w))
   aside name s log words' id v w at out out' same turn = ⊎_elim
       (λ (f : IsFree entries owner name_of log name s). inl (record {
@@ -70,7 +71,8 @@ module _ {T E N : Type 0} (entries : T → List E) (owner : E → Option ℕ) (n
         (known.0, known.1, counts_stay s.views views' r.gave gave' f was (same f there) known.2))
 
     -- the seat's view moves, and the list and what was given may grow
-    pub moves : (holds : Bool) (seen mine told : List E) (next : ℕ) (log' : List E) (gave' : ℕ → List E) → Fits owner log' gave' name (moved v holds seen mine told next)
+    pub moves : (holds : Bool) (seen mine told : List E) (next : ℕ) (log' : List E) (gave' : ℕ → List E)
+        → Fits owner log' gave' name (moved v holds seen mine told next)
         → ((k : ℕ) (u : View E N) → k ≢ id → At s.views k u → u.lives ≡ true → Fits owner log' gave' name u)
         → ((p : ℕ) → owned_by owner p log' ≡ owned owner (gave' p))
         → ((f : View E N) → At s.views 0 f → (p : ℕ) → 0 < p → has p f.out ≡ false → gave' p ≡ r.gave p)
@@ -102,8 +104,10 @@ module _ {T E N : Type 0} (entries : T → List E) (owner : E → Option ℕ) (n
     unmoved = subst (λ (z : List ℕ × List (View E N)). Kept name (table z.0 s.homes z.1)) (λ i. (sym (set-get_or s.words 0 0) i, sym (set_again s.views id v at) i)) r
 
     -- a seat without the turn looks, or changes what says nothing of others
-    pub looks : (seen told : List E) (next : ℕ) → v.lives ≡ true → v.holds ≡ false → Begins seen r.log → Begins told r.log → owned_by owner v.caller seen ≡ owned owner v.mine
-        → (words' : List ℕ) → words' ≡ s.words → Kept name (table words' s.homes (set s.views id (record v { seen = seen; told = told; next = next })))
+    pub looks : (seen told : List E) (next : ℕ) → v.lives ≡ true → v.holds ≡ false → Begins seen r.log → Begins told r.log
+        → owned_by owner v.caller seen ≡ owned owner v.mine
+        → (words' : List ℕ) → words' ≡ s.words
+        → Kept name (table words' s.homes (set s.views id (record v { seen = seen; told = told; next = next })))
     looks seen told next lives out b c own words' same =
         let f = r.fits id v at lives in
         moves v.holds seen v.mine told next r.log r.gave

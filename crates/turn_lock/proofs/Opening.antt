@@ -35,7 +35,8 @@ module _ {T E N : Type 0} (entries : T → List E) (owner : E → Option ℕ) (n
           named = named;
           none_holds = only (λ _ u. u.holds ≡ false) f refl;
         });
-        fits = only (λ _ u. u.lives ≡ true → Fits owner [] (λ _. []) name u) f (λ _. record { seen = ([], refl); told = ([], refl); mine = refl; own = refl; named = refl });
+        fits = only (λ _ u. u.lives ≡ true → Fits owner [] (λ _. []) name u) f
+            (λ _. record { seen = ([], refl); told = ([], refl); mine = refl; own = refl; named = refl });
         owners = λ p. refl;
         apart = λ j k u v eu ev _ _ _. place j u eu ∙ sym (place k v ev);
         first = λ u e. only (λ _ u. (u.lives ≡ true) × (u.is_first ≡ true) × Counts (f ∷ []) (λ _. []) u) f (
@@ -52,5 +53,6 @@ module _ {T E N : Type 0} (entries : T → List E) (owner : E → Option ℕ) (n
         one_first = λ k u e _. place k u e;
       }
 
-  pub opens_at : (name : N) (value : T) (slots : List (Option T)) → slots ≡ Some value ∷ [] → entries value ≡ [] → name_of value ≡ name → Kept name slots
+  pub opens_at : (name : N) (value : T) (slots : List (Option T)) → slots ≡ Some value ∷ [] → entries value ≡ [] → name_of value ≡ name
+      → Kept name slots
   opens_at name value slots is none_yet named = subst (Kept name) (sym is) (opens name value none_yet named)

@@ -23,12 +23,18 @@ module _ {E : Type 0} where
       (b.0, λ i. sym here i ∷ b.1 i)
 
   -- of two beginnings of one list the longer begins with both, and begins the list
-  pub longer_begins : (xs ys log : List E) → Begins xs log → Begins ys log → Begins (longer xs ys) log × Begins xs (longer xs ys) × Begins ys (longer xs ys)
+  pub longer_begins : (xs ys log : List E) → Begins xs log → Begins ys log
+      → Begins (longer xs ys) log × Begins xs (longer xs ys) × Begins ys (longer xs ys)
   longer_begins xs ys log b c =
       let P : List E → Type 0 = λ l. Begins l log × Begins xs l × Begins ys l in
+      let same : xs ++ b.0 ≡ ys ++ c.0 = sym b.1 ∙ c.1 in
       ⊎_elim
-      (λ (t : (ltb (length xs) (length ys) ≡ true)). let lt : length xs < length ys = grind (arith, nat_tests) in subst (λ b. P (cond b ys xs)) (sym t) (c, shorter xs ys b.0 c.0 (sym b.1 ∙ c.1) (omega arith), begins_self ys ys refl))
-      (λ (t : (ltb (length xs) (length ys) ≡ false)). let le : length ys ≤ length xs = grind (arith, nat_tests) in subst (λ b. P (cond b ys xs)) (sym t) (b, begins_self xs xs refl, shorter ys xs c.0 b.0 (sym c.1 ∙ b.1) le))
+      (λ (t : (ltb (length xs) (length ys) ≡ true)).
+      let less : length xs < length ys = grind (arith, nat_tests) in
+      subst (λ b. P (cond b ys xs)) (sym t) (c, shorter xs ys b.0 c.0 same (omega arith), begins_self ys ys refl))
+      (λ (t : (ltb (length xs) (length ys) ≡ false)).
+      let more : length ys ≤ length xs = grind (arith, nat_tests) in
+      subst (λ b. P (cond b ys xs)) (sym t) (b, begins_self xs xs refl, shorter ys xs c.0 b.0 (sym same) more))
       (either_way (ltb (length xs) (length ys)))
 
   pub nothing_left : (xs ys : List E) → xs ++ ys ≡ [] → xs ≡ []
@@ -51,13 +57,19 @@ module _ {E : Type 0} where
     one_other c p e may ne = ap (λ b. cond b (e ∷ []) []) (by_no_other (owner e) c p may ne)
 
     -- between two lists with the same entries of one owner each list has them
-    pub wider : (c : ℕ) (xs ys log mine : List E) → Begins xs ys → Begins ys log → owned_by owner c xs ≡ mine → owned_by owner c log ≡ mine → owned_by owner c ys ≡ mine
+    pub wider : (c : ℕ) (xs ys log mine : List E) → Begins xs ys → Begins ys log → owned_by owner c xs ≡ mine → owned_by owner c log ≡ mine
+        → owned_by owner c ys ≡ mine
     wider c xs ys log mine b d own all =
-        let of_ys : owned_by owner c ys ≡ owned_by owner c xs ++ owned_by owner c b.0 = ap (owned_by owner c) b.1 ∙ filter-append _ xs b.0 in
-        let of_log : owned_by owner c log ≡ owned_by owner c xs ++ (owned_by owner c b.0 ++ owned_by owner c d.0)
-        = ap (owned_by owner c) d.1 ∙ (filter-append _ ys d.0 ∙ (ap (λ l. l ++ owned_by owner c d.0) of_ys ∙ append_assoc (owned_by owner c xs) (owned_by owner c b.0) (owned_by owner c d.0))) in
-        let none : owned_by owner c b.0 ++ owned_by owner c d.0 ≡ [] = append_cancel_left (owned_by owner c xs) (owned_by owner c b.0 ++ owned_by owner c d.0) [] (sym of_log ∙ (all ∙ (sym own ∙ sym (append-nil (owned_by owner c xs))))) in
-        of_ys ∙ (ap (λ l. owned_by owner c xs ++ l) (nothing_left (owned_by owner c b.0) (owned_by owner c d.0) none) ∙ (append-nil (owned_by owner c xs) ∙ own))
+        let of_xs = owned_by owner c xs in
+        let rest = owned_by owner c b.0 in
+        let more = owned_by owner c d.0 in
+        let of_ys : owned_by owner c ys ≡ of_xs ++ rest = ap (owned_by owner c) b.1 ∙ filter-append _ xs b.0 in
+        let of_log : owned_by owner c log ≡ of_xs ++ (rest ++ more) =
+        ap (owned_by owner c) d.1 ∙ (filter-append _ ys d.0 ∙ (ap (λ l. l ++ more) of_ys ∙ append_assoc of_xs rest more)) in
+        let same : of_xs ++ (rest ++ more) ≡ of_xs ++ [] = sym of_log ∙ (all ∙ (sym own ∙ sym (append-nil of_xs))) in
+        let none : rest ≡ [] = nothing_left rest more (append_cancel_left of_xs (rest ++ more) [] same) in
+        of_ys ∙ (ap (λ l. of_xs ++ l) none ∙ (append-nil of_xs ∙ own))
 
-    pub more_own : (c : ℕ) (seen mine new : List E) → owned_by owner c seen ≡ owned owner mine → owned_by owner c new ≡ owned owner new → owned_by owner c (seen ++ new) ≡ owned owner (mine ++ new)
+    pub more_own : (c : ℕ) (seen mine new : List E) → owned_by owner c seen ≡ owned owner mine → owned_by owner c new ≡ owned owner new
+        → owned_by owner c (seen ++ new) ≡ owned owner (mine ++ new)
     more_own c seen mine new own own' = filter-append _ seen new ∙ ((λ i. own i ++ own' i) ∙ sym (filter-append _ mine new))

@@ -5,10 +5,13 @@ use native.Mathlib.Decide.{ℕ_discrete}
 use mathlib.Core.Option.{none}
 use prog.Atomic.{either}
 use Rattle.std.proofs.lemmas.List.{set-get_or}
+use Rattle.atomic_table.specs.Seated.{TableId}
 use Rattle.atomic_table.specs.Table.{step, keeps, Allows, Splits}
 use Rattle.atomic_table.proofs.Lists.{at_longer}
 use Rattle.turn_lock.specs.declared.view.View.{View}
+use Rattle.turn_lock.specs.Entries.{owned_by}
 use Rattle.turn_lock.specs.Numbers.{has}
+use Rattle.turn_lock.specs.Sights.{Sight, sight_of}
 use Rattle.turn_lock.specs.Turns.{At, Fits, Counts, IsFree, IsHeld, IsKept}
 use Rattle.turn_lock.specs.Steps.{with_next, after_split, newcomer_of, TakesNumber}
 use Rattle.turn_lock.proofs.Booleans.{off, either_way}
@@ -20,7 +23,9 @@ use Rattle.turn_lock.proofs.Moves.{aside, looks}
 
 -- a compare and exchange of a number with itself changes no word
 same_word : (c x : ℕ) → either (eqb x c) c x ≡ x
-same_word c x = dite (ℕ_discrete x c) (λ e. subst (λ b. either b c x ≡ x) (sym (eq-eqb x c e)) (sym e)) (λ n. subst (λ b. either b c x ≡ x) (sym (ne_eqb x c n)) refl)
+same_word c x = dite (ℕ_discrete x c)
+    (λ e. subst (λ b. either b c x ≡ x) (sym (eq-eqb x c e)) (sym e))
+    (λ n. subst (λ b. either b c x ≡ x) (sym (ne_eqb x c n)) refl)
 
 module _ {T E N : Type 0} (entries : T → List E) (owner : E → Option ℕ) (name_of : T → N) where
   abbrev Kept : N → St T E N → Type 0
@@ -31,11 +36,13 @@ module _ {T E N : Type 0} (entries : T → List E) (owner : E → Option ℕ) (n
   numbers name slots id me c lives out s r len at small =
       let v = me.0 in
       let f = r.fits id v at lives in
-      let x = get_or s.words 0 0 in (
+      let x = get_or s.words 0 0 in
+      let words' = set s.words 0 (either (eqb x c) c x) in
+      let same : words' ≡ s.words = ap (set s.words 0) (same_word c x) ∙ set-get_or s.words 0 0 in (
         with_next c v,
         keeps,
         tt,
-        looks entries owner name_of name s r id v at v.seen v.told c lives out f.seen f.told f.own (set s.words 0 (either (eqb x c) c x)) (ap (set s.words 0) (same_word c x) ∙ set-get_or s.words 0 0),
+        looks entries owner name_of name s r id v at v.seen v.told c lives out f.seen f.told f.own words' same,
         (refl, λ first above. new_owns_nothing entries owner name_of name s r id v at first c lives above),
       )
 
@@ -54,6 +61,16 @@ module _ {T E N : Type 0} (entries : T → List E) (owner : E → Option ℕ) (n
     counts_now : Counts s.views r.gave v
     counts_now = counts entries owner name_of name s r id v at first
 
+    -- the new number is not out, gave nothing and owns nothing that was seen
+    next_is_not_out : has v.next v.out ≡ false
+    next_is_not_out = new_is_not_out entries owner name_of name s r id v at first v.next above
+
+    next_gave_nothing : [] ≡ r.gave v.next
+    next_gave_nothing = sym (new_gave_nothing entries owner name_of name s r id v at first v.next above)
+
+    next_owns_nothing : owned_by owner v.next v.seen ≡ []
+    next_owns_nothing = new_owns_nothing entries owner name_of name s r id v at first v.next lives above
+
     -- no old seat has the new number
     no_clash : (k : ℕ) (u : View E N) → At olds k u → u.lives ≡ true → u.caller ≡ v.next → ⊥
     no_clash k u e l is =
@@ -64,7 +81,8 @@ module _ {T E N : Type 0} (entries : T → List E) (owner : E → Option ℕ) (n
         let new : a.view.caller ≡ v.next = a.caller ∙ is in
         omega arith)
         (λ (t : a.view.is_first ≡ false).
-        off (counts_now.outside k a.view a.there (a.lives ∙ l) t) (subst (λ z. has z v.out ≡ false) (sym (a.caller ∙ is)) (new_is_not_out entries owner name_of name s r id v at first v.next above)))
+        off (counts_now.outside k a.view a.there (a.lives ∙ l) t)
+        (subst (λ z. has z v.out ≡ false) (sym (a.caller ∙ is)) next_is_not_out))
         (either_way a.view.is_first)
 
     -- the new seat has no turn, and who had it has it
@@ -94,7 +112,7 @@ module _ {T E N : Type 0} (entries : T → List E) (owner : E → Option ℕ) (n
     split_fits =
         let fit = r.fits id v at lives in
         at_added (λ _ u. u.lives ≡ true → Fits owner r.log r.gave name u) olds (newcomer_of v)
-        (λ _. record { seen = fit.seen; told = (r.log, refl); mine = sym (new_gave_nothing entries owner name_of name s r id v at first v.next above); own = new_owns_nothing entries owner name_of name s r id v at first v.next lives above; named = fit.named })
+        (λ _. record { seen = fit.seen; told = (r.log, refl); mine = next_gave_nothing; own = next_owns_nothing; named = fit.named })
         (at_changed (λ _ u. u.lives ≡ true → Fits owner r.log r.gave name u) s.views id (after_split v)
         (λ _. record { seen = fit.seen; told = fit.told; mine = fit.mine; own = fit.own; named = fit.named })
         (λ k u _ e l. r.fits k u e l))
@@ -103,7 +121,9 @@ module _ {T E N : Type 0} (entries : T → List E) (owner : E → Option ℕ) (n
     split_apart j k u y eu ey =
         let Far : ℕ → View E N → ℕ → View E N → Type 0 = λ i x i' x'. x.lives ≡ true → x'.lives ≡ true → x.caller ≡ x'.caller → i ≡ i' in
         at_added (λ i x. Far i x k y) olds (newcomer_of v)
-        (at_added (λ i' x'. Far (length olds) (newcomer_of v) i' x') olds (newcomer_of v) (λ _ _ _. refl) (λ i' x' e _ l h. absurd (no_clash i' x' e l (sym h))) k y ey)
+        (at_added (λ i' x'. Far (length olds) (newcomer_of v) i' x') olds (newcomer_of v) (λ _ _ _. refl)
+        (λ i' x' e _ l h. absurd (no_clash i' x' e l (sym h)))
+        k y ey)
         (λ i x e. at_added (λ i' x'. Far i x i' x') olds (newcomer_of v)
         (λ l _ h. absurd (no_clash i x e l h))
         (λ i' x' e' l l' h.
@@ -149,9 +169,19 @@ module _ {T E N : Type 0} (entries : T → List E) (owner : E → Option ℕ) (n
       owners = r.owners;
       apart = split_apart;
       first = λ f e. split_first 0 f e refl;
-      one_first = at_added (λ k u. u.is_first ≡ true → k ≡ 0) olds (newcomer_of v) (λ is. absurd (off is refl)) (λ k u e is. let a = was k u e in r.one_first k a.view a.there (a.is_first ∙ is));
+      one_first = at_added (λ k u. u.is_first ≡ true → k ≡ 0) olds (newcomer_of v)
+          (λ is. absurd (off is refl))
+          (λ k u e is. let a = was k u e in r.one_first k a.view a.there (a.is_first ∙ is));
     }
 
-  pub splits : (name : N) (id : ℕ) (v : View E N) → v.lives ≡ true → v.is_first ≡ true → v.holds ≡ false → v.given < v.next
+  splits : (name : N) (id : ℕ) (v : View E N) → v.lives ≡ true → v.is_first ≡ true → v.holds ≡ false → v.given < v.next
       → Splits (Kept name) id v (after_split v) (newcomer_of v)
   splits name id v lives first out above s r at = split_keeps name s r id v at lives first out above
+
+  -- the same as contracts see it: the first seat by its sight, once it knows the next number
+  pub splits_seen : (name : N) (id : ℕ) (lock : TableId) (v now : View E N) (seat : Sight E N) (next : ℕ) → now ≡ with_next next v → v.lives ≡ true
+      → sight_of lock v ≡ seat → (seat.is_first ≡ true) × (seat.holds ≡ false) → seat.given < next → Splits (Kept name) id now (after_split now) (newcomer_of now)
+  splits_seen name id lock v now seat next is lives seen first above =
+      let Cut : View E N → Type 0 = λ z. Splits (Kept name) id z (after_split z) (newcomer_of z) in
+      let P : Sight E N → Type 0 = λ z. (z.is_first ≡ true) × (z.holds ≡ false) → z.given < next → Cut (with_next next v) in
+      subst Cut (sym is) (subst P seen (λ f a. splits name id (with_next next v) lives f.0 f.1 a) first above)

@@ -32,7 +32,8 @@ module _ {T E N : Type 0} (entries : T → List E) (owner : E → Option ℕ) (n
     own_of_all = r.owners v.caller ∙ ap (owned owner) (sym (r.fits id v at lives).mine)
 
     -- the turn was free, and this seat has it now
-    gains : (f : Free r.log name s) → Kept name (table (set s.words 0 1) (set s.homes 0 none) (set s.views id (with_turn (entries f.value) v)))
+    gains : (f : Free r.log name s)
+        → Kept name (table (set s.words 0 1) (set s.homes 0 none) (set s.views id (with_turn (entries f.value) v)))
     gains f =
         let w = with_turn (entries f.value) v in
         let fit = r.fits id v at lives in
@@ -56,7 +57,8 @@ module _ {T E N : Type 0} (entries : T → List E) (owner : E → Option ℕ) (n
         }))
 
     -- what the seat that gained the turn learns
-    gained : (f : Free r.log name s) (carried : List (ℕ × Option T)) → Gained entries owner name_of (v, carried) (with_turn (entries f.value) v, (0, Some f.value) ∷ carried)
+    gained : (f : Free r.log name s) (carried : List (ℕ × Option T))
+        → Gained entries owner name_of (v, carried) (with_turn (entries f.value) v, (0, Some f.value) ∷ carried)
     gained f carried =
         let fit = r.fits id v at lives in
         record {

@@ -36,14 +36,16 @@ module _ {E N : Type 0} where
     pub caller : view.caller ≡ u.caller
 
   -- after a change of one view that leaves which seat it is of, each place had a view of its seat before
-  pub before_changed : (views : List (View E N)) (id : ℕ) (v w : View E N) → At views id v → v.lives ≡ w.lives → v.is_first ≡ w.is_first → v.caller ≡ w.caller
+  pub before_changed : (views : List (View E N)) (id : ℕ) (v w : View E N) → At views id v → v.lives ≡ w.lives → v.is_first ≡ w.is_first
+      → v.caller ≡ w.caller
       → (k : ℕ) (u : View E N) → At (set views id w) k u → Before views k u
   before_changed views id v w at lives is_first caller = at_changed (Before views) views id w
       (record { view = v; there = at; lives = lives; is_first = is_first; caller = caller })
       (λ k u _ e. record { view = u; there = e; lives = refl; is_first = refl; caller = refl })
 
   -- the first seat counts the same seats, where no number that is back gave more
-  pub counts_stay : (views views' : List (View E N)) (gave gave' : ℕ → List E) (f : View E N) → ((k : ℕ) (u : View E N) → At views' k u → Before views k u)
+  pub counts_stay : (views views' : List (View E N)) (gave gave' : ℕ → List E) (f : View E N)
+      → ((k : ℕ) (u : View E N) → At views' k u → Before views k u)
       → ((p : ℕ) → 0 < p → has p f.out ≡ false → gave' p ≡ gave p) → Counts views gave f → Counts views' gave' f
   counts_stay views views' gave gave' f was same c = record {
     zero_is_first = c.zero_is_first;
