@@ -1,15 +1,16 @@
 -- The text from a place on, one piece after another.
-use Rattle.std.proofs.Common.{◌≡◌, ℕ, ◌+◌, ◌-◌, ◌<◌, ◌≤◌, zero, suc, List, [], ◌∷◌, length, take, drop, Bool, refl, sym, ◌∙◌, ap, subst, arith, add-zero, length-drop, get_or}
-use Rattle.std.proofs.lemmas.List.{drop-drop, drop_more, drop_all}
+use Rattle.std.proofs.Common.{◌≡◌, ℕ, ◌+◌, ◌-◌, ◌<◌, ◌≤◌, zero, suc, List, [], ◌∷◌, length, take, drop, Bool, true, false, ◌==◌, refl, sym, ◌∙◌, ap, subst, arith, add-zero, length-drop, get_or}
+use Rattle.std.proofs.lemmas.List.{drop-drop, drop_more, drop_all, get_or-drop}
+use Rattle.std.proofs.lemmas.List.Sums.{prefix_len-drop_no, prefix_len_passes}
 use Rattle.blt_reader.specs.declared.fault_kind.FaultKind.TheVariants.{BadByte, Ended}
 use Rattle.blt_reader.specs.declared.what.What.{What}
 use Rattle.blt_reader.specs.declared.what.What.TheVariants as what
-use Rattle.blt_reader.specs.Token.{Item, Text, Word, AtEnd, AtFault, ends, with_front}
+use Rattle.blt_reader.specs.Token.{Item, Number, Text, Word, AtEnd, AtFault, ends, with_front}
 use Rattle.blt_reader.specs.Scan.{Gap, Lexeme, Wrong, Unclosed, piece, beginning, cut}
-use Rattle.std.specs.List.{AllPass}
-use Rattle.std.specs.Char.{is_ascii_lowercase}
-use Rattle.blt_reader.specs.Scan.{is_in_string}
-use Rattle.blt_reader.specs.Reader.{said, MayBeText}
+use Rattle.std.specs.List.{AllPass, prefix_len, take_while}
+use Rattle.std.specs.Char.{is_ascii_digit, is_ascii_lowercase}
+use Rattle.blt_reader.specs.Scan.{is_separator, is_in_string, number, may_follow, number_piece}
+use Rattle.blt_reader.specs.Reader.{said, MayBeText, IsNumberFrom}
 
 -- bytes that are skipped only move the place
 pub skipped : (letters : Bool) (at n : ℕ) (bytes : List ℕ) → n ≤ length bytes → cut letters at n bytes ≡ cut letters (at + n) 0 (drop n bytes)
@@ -75,3 +76,51 @@ text_moved bytes at n (what.Number k) within held = tt
 text_moved bytes at n (what.Minus k) within held = tt
 text_moved bytes at n what.Text within held = (omega (arith, held.0), within, subst (AllPass is_in_string) (part_moved bytes at 1 (n - 1 - 1) (at + n - 1 - (at + 1)) (omega arith)) held.2)
 text_moved bytes at n what.Word within held = (omega arith, within, subst (AllPass is_ascii_lowercase) (part_moved bytes at 0 (n - 0) (at + n - at) (omega arith) ∙ rw (add-zero at) refl) held.2)
+
+-- ---- a number behind separators
+
+over_separator : (letters : Bool) (bytes : List ℕ) (at : ℕ) → at < length bytes → is_separator (get_or bytes at 0) ≡ true → cut letters 0 at bytes ≡ cut letters 0 (at + 1) bytes
+unfolding piece
+over_separator letters bytes at inside is =
+    let found : piece letters (drop at bytes) ≡ Gap 1 = ap (piece letters) (drop_more bytes at 0 inside) ∙ rw is refl in
+    over_gap letters bytes at 1 inside found (omega arith) (omega (arith, inside))
+
+pub over_separators : (letters : Bool) (bytes : List ℕ) (n at : ℕ) → at + n ≤ length bytes → ((k : ℕ) → k < n → is_separator (get_or bytes (at + k) 0) ≡ true) → cut letters 0 at bytes ≡ cut letters 0 (at + n) bytes
+over_separators letters bytes zero at within are = ap (λ (k : ℕ). cut letters 0 k bytes) (sym (add-zero at))
+over_separators letters bytes (suc n) at within are =
+    let here : is_separator (get_or bytes at 0) ≡ true = ap (λ (k : ℕ). is_separator (get_or bytes k 0)) (sym (add-zero at)) ∙ are 0 (omega arith) in
+    let place : at + 1 + n ≡ at + suc n = omega arith in
+    over_separator letters bytes at (omega (arith, within)) here
+    ∙ over_separators letters bytes n (at + 1) (omega (arith, within)) (λ k less. let shifted : at + 1 + k ≡ at + (k + 1) = omega arith in ap (λ (i : ℕ). is_separator (get_or bytes i 0)) shifted ∙ are (k + 1) (omega (arith, less)))
+    ∙ ap (λ (k : ℕ). cut letters 0 k bytes) place
+
+digit_is_no_separator : (b : ℕ) → is_ascii_digit b ≡ true → (is_separator b ≡ false) × ((b == 35) ≡ false)
+digit_is_no_separator b is = (grind arith, grind arith)
+
+-- where a digit stands at the front there is a number
+digit_piece : (letters : Bool) (xs : List ℕ) → 0 < prefix_len is_ascii_digit xs → (is_digit : Bool) → is_ascii_digit (get_or xs 0 0) ≡ is_digit → piece letters xs ≡ number_piece xs
+unfolding piece
+digit_piece letters [] some is_digit is = absurd (omega arith)
+digit_piece letters (b ∷ behind) some true is = let no = digit_is_no_separator b is in rw (no.0, no.1, is) refl
+digit_piece letters (b ∷ behind) some false is = absurd (omega (arith, some, prefix_len-drop_no is_ascii_digit (b ∷ behind) 0 0 (omega arith) is))
+
+module _ (bytes : List ℕ) (from k len n : ℕ) where
+  number_found : (letters : Bool) → len ≡ prefix_len is_ascii_digit (drop (from + k) bytes) → n ≡ number (take_while is_ascii_digit (drop (from + k) bytes)) → 0 < len → may_follow (drop (from + k + len) bytes) ≡ true → piece letters (drop (from + k) bytes) ≡ Lexeme (Number n) len
+  unfolding number_piece
+  number_found letters len_is n_is some follows =
+      let xs = drop (from + k) bytes in
+      let behind : may_follow (drop (prefix_len is_ascii_digit xs) xs) ≡ true = ap may_follow (ap (λ (m : ℕ). drop m xs) (sym len_is) ∙ drop-drop len (from + k) bytes) ∙ follows in
+      digit_piece letters xs (omega (arith, some, len_is)) (is_ascii_digit (get_or xs 0 0)) refl
+      ∙ rw behind refl
+      ∙ ap (λ (m : ℕ). Lexeme (Number m) (prefix_len is_ascii_digit xs)) (sym n_is)
+      ∙ ap (Lexeme (Number n)) (sym len_is)
+
+  -- a number behind separators
+  pub number_behind : from + k + len ≤ length bytes → k ≡ prefix_len is_separator (drop from bytes) → len ≡ prefix_len is_ascii_digit (drop (from + k) bytes) → n ≡ number (take_while is_ascii_digit (drop (from + k) bytes)) → 0 < len → may_follow (drop (from + k + len) bytes) ≡ true
+      → IsNumberFrom bytes from n (from + k) (from + k + len)
+  number_behind within k_is len_is n_is some follows = record {
+    inside = within;
+    cuts = λ letters. over_separators letters bytes k from (omega (arith, within))
+        (λ i less. let inside : i < prefix_len is_separator (drop from bytes) = omega (arith, less, k_is) in ap is_separator (sym (get_or-drop from bytes i 0)) ∙ prefix_len_passes is_separator (drop from bytes) i 0 inside)
+        ∙ over_lexeme letters bytes (from + k) len (omega (arith, within, some)) (Number n) (number_found letters len_is n_is some follows) some within;
+  }

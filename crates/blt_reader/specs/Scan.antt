@@ -47,7 +47,7 @@ number_piece bytes = token (Number (number (take_while is_ascii_digit bytes))) (
 unfoldable pub minus_piece : List ℕ → Piece
 minus_piece behind =
     let n = prefix_len is_ascii_digit behind in
-    if n == 0 then Wrong 0 else (if may_follow (drop n behind) then Lexeme (Minus (number (take n behind))) (n + 1) else Wrong (n + 1))
+    if n == 0 then Wrong 0 else (if may_follow (drop n behind) then Lexeme (Minus (number (take_while is_ascii_digit behind))) (n + 1) else Wrong (n + 1))
 
 -- A string goes up to the first byte that may not stand in one, and that has to be a quote.
 abbrev pub closed_by : List ℕ → ℕ → List ℕ → Piece
