@@ -33,6 +33,7 @@ impl Lots {
     pub fn try_new(alloc: Global, order: &[u32], candidates: u32) -> Result<Lots, LotsStop>
         requires few { candidates ≤ 250 }
         ensures ok { IfOk result (λ lots. lots ≡ order.now) }
+        ensures order { OnOk result (IsOrder order.now) }
         ensures all { OnOk result (length order.now ≡ candidates) }
         ensures stop { IfErr result (IsLotsStop candidates order.now) }
     {
