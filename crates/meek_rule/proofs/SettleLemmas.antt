@@ -53,7 +53,7 @@ pub settled-valid : (s : ℕ) (now : Situation) (votes lots : List ℕ) (row : R
 settled-valid s now votes lots row next settle valid open_ order whole = by_step row.step settle.leaves
   where
     by_step : (step : Step) → Leaves s now lots row step next → IsValid s next
-    by_step Elected leaves = rw leaves.1 (valid-with_elected s now row.elected valid (winners-electable s now votes lots row.quota row.elected valid settle.winners))
+    by_step Elected leaves = rw leaves.1 (valid-with_elected s now votes lots row.quota row.elected valid settle.winners)
     by_step (Defeat c) leaves =
         let some : 1 ≤ hopeful_count now.states = somebody_hopeful s now valid open_ in
         let loser = loser-hopeful now.states row.votes lots row.surplus order whole some in

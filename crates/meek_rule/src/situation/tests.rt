@@ -94,7 +94,9 @@ fn settled(
 /// What a row has to say: total, quota and surplus, the marks and the step.
 #[derive(Drop)]
 struct Said<'a> {
-    sums: [u64; 3],
+    total: u64,
+    quota: u64,
+    surplus: u64,
     elected: &'a [bool],
     capped: &'a [bool],
     tied: &'a [bool],
@@ -102,9 +104,9 @@ struct Said<'a> {
 }
 
 fn expect_row<const P: usize>(rt: &impl Abort, row: &Row<P>, said: Said<'_>) {
-    assert_eq!(rt; row.total.units(), said.sums[0]);
-    assert_eq!(rt; row.quota.units(), said.sums[1]);
-    assert_eq!(rt; row.surplus.units(), said.sums[2]);
+    assert_eq!(rt; row.total.units(), said.total);
+    assert_eq!(rt; row.quota.units(), said.quota);
+    assert_eq!(rt; row.surplus.units(), said.surplus);
     assert_eq!(rt; row.elected.items(), said.elected);
     assert_eq!(rt; row.capped.items(), said.capped);
     assert_eq!(rt; row.tied.items(), said.tied);
@@ -141,7 +143,9 @@ fn an_elected_candidate_below_the_quota_is_capped(rt: HostRuntime) -> Result<(),
     let row = settled(&rt, rt.alloc(), &mut now, &votes, &[1, 2, 3, 4])?;
     let nobody = [false; 4];
     let said = Said {
-        sums: [16_000_000_000, 4_000_000_001, 1_999_999_997],
+        total: 16_000_000_000,
+        quota: 4_000_000_001,
+        surplus: 1_999_999_997,
         elected: &nobody,
         capped: &[true, false, false, false],
         tied: &nobody,
@@ -172,7 +176,9 @@ fn of_equal_votes_for_the_last_seat_the_later_in_the_lots_is_elected(
     let row = settled(&rt, rt.alloc(), &mut now, &votes, &[1, 2, 3])?;
     let nobody = [false; 3];
     let said = Said {
-        sums: [12_000_000_000, 4_000_000_001, 0],
+        total: 12_000_000_000,
+        quota: 4_000_000_001,
+        surplus: 0,
         elected: &[false, false, true],
         capped: &nobody,
         tied: &nobody,
@@ -228,7 +234,9 @@ fn expect_settled(
 /// The third candidate alone is tied, and defeated.
 fn defeats_the_third(surplus: u64) -> Said<'static> {
     Said {
-        sums: [12_000_000_000, 4_000_000_001, surplus],
+        total: 12_000_000_000,
+        quota: 4_000_000_001,
+        surplus,
         elected: &[false, false, false],
         capped: &[false, false, false],
         tied: &[false, false, true],
@@ -239,7 +247,9 @@ fn defeats_the_third(surplus: u64) -> Said<'static> {
 /// The elected get new keep values.
 fn transfers(surplus: u64) -> Said<'static> {
     Said {
-        sums: [12_000_000_000, 4_000_000_001, surplus],
+        total: 12_000_000_000,
+        quota: 4_000_000_001,
+        surplus,
         elected: &[false, false, false],
         capped: &[false, false, false],
         tied: &[false, false, false],
@@ -291,7 +301,9 @@ fn who_is_within_the_surplus_of_the_lowest_is_tied(rt: HostRuntime) -> Result<()
     let row = settled(&rt, rt.alloc(), &mut now, &votes, &[3, 1, 2, 4])?;
     let nobody = [false; 4];
     let said = Said {
-        sums: [12_000_000_000, 4_000_000_001, 600],
+        total: 12_000_000_000,
+        quota: 4_000_000_001,
+        surplus: 600,
         elected: &nobody,
         capped: &nobody,
         tied: &[false, false, true, true],
