@@ -33,7 +33,7 @@ share-le holds votes (suc n) le =
     let before : sum (each_place n share) ≤ sum (take n votes) = share-le holds votes n (omega arith) in
     let more : sum (each_place (suc n) share) ≡ sum (each_place n share) + share n = sum_suc share n in
     let all : sum (take (suc n) votes) ≡ sum (take n votes) + get_or votes n 0 =
-      subst (λ (m : ℕ). sum (take m votes) ≡ sum (take n votes) + get_or votes n 0) (add-one n) (sum_by_more (λ (x : ℕ). x) votes n 0 (omega arith)) in
+    subst (λ (m : ℕ). sum (take m votes) ≡ sum (take n votes) + get_or votes n 0) (add-one n) (sum_by_more (λ (x : ℕ). x) votes n 0 (omega arith)) in
     let here : share n ≤ get_or votes n 0 = part (holds n) (get_or votes n 0) in
     omega arith
   where
@@ -53,7 +53,7 @@ pub settled-valid : (s : ℕ) (now : Situation) (votes lots : List ℕ) (row : R
 settled-valid s now votes lots row next settle valid open_ order whole = by_step row.step settle.leaves
   where
     by_step : (step : Step) → Leaves s now lots row step next → IsValid s next
-    by_step Elected leaves = rw leaves.1 (valid-with_elected s now row.elected valid (winners-electable s now votes lots row.quota row.elected valid settle.winners))
+    by_step Elected leaves = rw leaves.1 (valid-with_elected s now votes lots row.quota row.elected valid settle.winners)
     by_step (Defeat c) leaves =
         let some : 1 ≤ hopeful_count now.states = somebody_hopeful s now valid open_ in
         let loser = loser-hopeful now.states row.votes lots row.surplus order whole some in
@@ -84,10 +84,12 @@ settled-room s now votes lots row next settle valid all =
   where
     no_marks : length (nobody now) ≡ length now.states
     no_marks = length-replicate (length now.states) false
+
     capped_by : (step : Step) → Leaves s now lots row step next → length row.capped ≡ length now.states
     capped_by Elected leaves = ap length leaves.2 ∙ no_marks
     capped_by (Defeat c) leaves = ap length leaves.5 ∙ no_marks
     capped_by Iterate leaves = ap length leaves.2 ∙ length-map-range_with_len _ 0 (length now.states)
+
     tied_by : (step : Step) → Leaves s now lots row step next → length row.tied ≡ length now.states
     tied_by Elected leaves = ap length leaves.3 ∙ no_marks
     tied_by (Defeat c) leaves = ap length leaves.2 ∙ length-map-range_with_len _ 0 (length now.states)
@@ -109,10 +111,10 @@ falls now u most on few = by_previous now.previous refl
     by_previous None is = rw is (omega arith)
     by_previous (Some before) is =
         elim (cases_lt u before) [
-          inl less ↦ rw is less
-        | inr past ↦
-            let stays : is_exhausted now u ≡ true = or_right (nat_lt u now.omega) _ (rw is (le-leb _ _ past)) in
-            absurd (let off = sym stays ∙ on in cc)
+          | inl less ↦ rw is less
+          | inr past ↦
+              let stays : is_exhausted now u ≡ true = or_right (nat_lt u now.omega) _ (rw is (le-leb _ _ past)) in
+              absurd (let off = sym stays ∙ on in cc)
         ]
 
 pub settled-nearer : (s most : ℕ) (now : Situation) (votes lots : List ℕ) (row : Row) (next : Situation) → Settle s now votes lots row next → IsValid s now → is_complete now ≡ false → IsOrder lots → length lots ≡ length now.states → length votes ≡ length now.states → sum votes ≤ most → steps_left most next < steps_left most now
@@ -129,10 +131,10 @@ settled-nearer s most now votes lots row next settle valid open_ order whole all
         let is : c ≡ first_marked lots (tied now.states row.votes row.surplus) = leaves.3 ∙ ap (first_marked lots) leaves.2 in
         rw (leaves.4, is)
         (nearer_by_round most (hopeful_count (set now.states (first_marked lots (tied now.states row.votes row.surplus) - 1) Defeated)) (hopeful_count now.states) (unwrap_or now.previous (most + 1))
-          (fewer-defeated now.states (first_marked lots (tied now.states row.votes row.surplus) - 1) loser.0 loser.1))
+        (fewer-defeated now.states (first_marked lots (tied now.states row.votes row.surplus) - 1) loser.0 loser.1))
     by_step Iterate leaves =
         let small : row.surplus ≤ most =
-          rw settle.surplus_is (omega (arith, surplus-le now.states row.elected votes row.quota all)) in
+        rw settle.surplus_is (omega (arith, surplus-le now.states row.elected votes row.quota all)) in
         let less : row.surplus < unwrap_or now.previous (most + 1) = falls now row.surplus most leaves.1 small in
         rw leaves.3 (omega arith)
 
@@ -141,6 +143,7 @@ settled-on_its_way s most now votes lots row next settle valid open_ order whole
   where
     same : length next.states ≡ length now.states
     same = settled-same s now votes lots row next settle
+
     by_step : (step : Step) → Leaves s now lots row step next → IsOnItsWay most next
     by_step Elected leaves =
         let electable : AreElectable now row.elected = winners-electable s now votes lots row.quota row.elected valid settle.winners in
@@ -151,10 +154,10 @@ settled-on_its_way s most now votes lots row next settle valid open_ order whole
         let loser = loser-hopeful now.states row.votes lots row.surplus order whole some in
         let is : c ≡ first_marked lots (tied now.states row.votes row.surplus) = leaves.3 ∙ ap (first_marked lots) leaves.2 in
         let fewer : hopeful_count next.states < hopeful_count now.states =
-          rw (leaves.4, is) (fewer-defeated now.states (first_marked lots (tied now.states row.votes row.surplus) - 1) loser.0 loser.1) in
+        rw (leaves.4, is) (fewer-defeated now.states (first_marked lots (tied now.states row.votes row.surplus) - 1) loser.0 loser.1) in
         on_its_way-round most now next on (ap (λ (x : Situation). x.round) leaves.4) (ap (λ (x : Situation). x.iteration) leaves.4) (ap (λ (x : Situation). x.previous) leaves.4) fewer same
     by_step Iterate leaves =
         let small : row.surplus ≤ most =
-          rw settle.surplus_is (omega (arith, surplus-le now.states row.elected votes row.quota all)) in
+        rw settle.surplus_is (omega (arith, surplus-le now.states row.elected votes row.quota all)) in
         let less : row.surplus < unwrap_or now.previous (most + 1) = falls now row.surplus most leaves.1 small in
         on_its_way-iteration most row.surplus now next on (ap (λ (x : Situation). x.round) leaves.3) (ap (λ (x : Situation). x.iteration) leaves.3) (ap (λ (x : Situation). x.previous) leaves.3) less (ap (λ (x : Situation). x.states) leaves.3)

@@ -108,10 +108,10 @@ pub first_marked-marked : (order : List ℕ) (marks : List Bool) → 1 ≤ first
 first_marked-marked [] marks some = absurd (omega arith)
 first_marked-marked (c ∷ order) marks some =
     elim (cases_Bool (mark_at marks (c - 1))) [
-      inl is ↦ rw is is
-    | inr fails ↦
-        let later : first_marked (c ∷ order) marks ≡ first_marked order marks = ap (λ b. cond b c (first_marked order marks)) fails in
-        rw later (first_marked-marked order marks (omega arith))
+      | inl is ↦ rw is is
+      | inr fails ↦
+          let later : first_marked (c ∷ order) marks ≡ first_marked order marks = ap (λ b. cond b c (first_marked order marks)) fails in
+          rw later (first_marked-marked order marks (omega arith))
     ]
 
 -- the tied candidate that stands first in the lots is hopeful

@@ -66,8 +66,8 @@ winners-electable s now votes lots q marks valid winners =
     }
 
 -- a valid situation stays valid where candidates are elected
-pub valid-with_elected : (s : ℕ) (now : Situation) (marks : List Bool) → IsValid s now → AreElectable now marks → IsValid s (with_elected now marks)
-valid-with_elected s now marks valid electable =
+pub valid-electable : (s : ℕ) (now : Situation) (marks : List Bool) → IsValid s now → AreElectable now marks → IsValid s (with_elected now marks)
+valid-electable s now marks valid electable =
     let n : ℕ = length now.states in
     let after : ℕ → State = λ p. cond (mark_at marks p) Elected (state_at now.states p) in
     let same : length (elect now.states marks) ≡ n = length-map-range_with_len after 0 n in
@@ -96,6 +96,10 @@ valid-with_elected s now marks valid electable =
     fits_elected s Elected true keep f fits = fits
     fits_elected s Defeated true keep f fits = absurd (let off = f refl in cc)
     fits_elected s Withdrawn true keep f fits = absurd (let off = f refl in cc)
+
+-- so it stays valid where winners are elected
+pub valid-with_elected : (s : ℕ) (now : Situation) (votes lots : List ℕ) (q : ℕ) (marks : List Bool) → IsValid s now → AreWinners now.states (now.seats - elected_count now.states) votes lots q marks → IsValid s (with_elected now marks)
+valid-with_elected s now votes lots q marks valid winners = valid-electable s now marks valid (winners-electable s now votes lots q marks valid winners)
 
 -- a valid situation stays valid where the elected get their next keep values
 pub valid-with_keeps : (s : ℕ) (now : Situation) (votes : List ℕ) (q u : ℕ) → IsValid s now → IsValid s (with_keeps now (new_keeps s now.states now.keeps votes q) u)

@@ -107,7 +107,10 @@ mod tests {
         let mut tally = Amounts::filled(alloc, 2, Amount::from_units(5))?;
         let mut flat = FlatSpread::new(ballots);
         Spread::<9>::spread(&mut flat, &keeps, &mut tally);
-        let votes = [Amount::from_units(1_714_285_716), Amount::from_units(857_142_858)];
+        let votes = [
+            Amount::from_units(1_714_285_716),
+            Amount::from_units(857_142_858),
+        ];
         assert_eq!(rt; tally.items(), votes.as_slice());
         assert_eq!(rt; Spread::<9>::ballots(&flat), 3);
         assert_eq!(rt; Spread::<9>::candidates(&flat), 2);

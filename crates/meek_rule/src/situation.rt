@@ -3,9 +3,9 @@ ghost use Rattle.std.specs.Prelude.{◌≡◌, ◌+◌, ◌^◌, ◌<◌, ◌≤
 ghost use Rattle.fixed_place.specs.Rounding.{scale, most};
 ghost use Rattle.meek_rule.specs.Situation.{IsValid, IsOnItsWay, opening, is_complete, finished};
 
+use crate::NoMemory;
 use crate::ending::{end_keeps, end_states};
 use crate::states::{count_elected, count_hopeful};
-use crate::NoMemory;
 use candidate_roll::{Roll, State, States};
 use fixed_place::{Amount, Keep, Keeps, scale_of};
 use std::alloc::Global;

@@ -1,75 +1,18 @@
-// Iterations worked by hand, and a count at six places, run.
-ghost use Rattle.std.specs.Prelude.{◌≡◌, ◌<◌, ◌≤◌, ◌↔◌, ℕ, IsTrue, length, sum, slice_index};
-ghost use Rattle.fixed_place.specs.Rounding.{scale, most};
-ghost use Rattle.candidate_roll.specs.State.{state_at};
-ghost use Rattle.meek_rule.specs.Situation.{FitsState, is_complete};
-ghost use Rattle.meek_rule.specs.Iteration.{HasOnlyRunningVotes};
+// Iterations worked by hand, run.
+ghost use Rattle.std.specs.Prelude.{◌≡◌};
 
 use super::*;
-use crate::states::{is_elected, is_hopeful};
-use crate::{FlatSpread, Row, Spread, Step};
-use candidate_roll::{Name, Names};
-use fixed_place::{Amounts, sum_checked};
+use crate::{Row, Step};
+use checked::{all_fit, are_keeps, are_votes, settle_checked};
+use fixed_place::Amounts;
 use lot_order::Lots;
-use plain_ballots::{BallotLine, Ballots, Ranking};
 use std::process::Abort;
 use std::test::Fail;
 
+mod checked;
+mod six_places;
+
 const ONE: u64 = 1_000_000_000;
-
-/// Whether each candidate's keep value is one that its state asks for.
-fn all_fit<const P: usize>(states: &States, keeps: &Keeps<P>) -> bool
-    requires { length keeps.now ≡ length states.now }
-    ensures { IsTrue result → (p : ℕ) → p < length states.now → FitsState (scale P) (state_at states.now p) (slice_index keeps.now p) }
-{
-    for p in 0..states.len() {
-        if !fits(*states.get(p), *keeps.get(p)) {
-            return false;
-        }
-    }
-    true
-}
-
-fn fits<const P: usize>(state: State, keep: Keep<P>) -> bool
-    ensures { IsTrue result → FitsState (scale P) state keep.entry }
-{
-    let units = keep.units();
-    match state {
-        State::Hopeful => units == scale_of::<P>(),
-        State::Elected => true,
-        State::Defeated => units == 0,
-        State::Withdrawn => units == 0,
-    }
-}
-
-/// Whether nobody has votes but the hopeful and the elected.
-fn have_only_running_votes<const P: usize>(states: &States, votes: &Amounts<P>) -> bool
-    requires { length votes.now ≡ length states.now }
-    ensures { IsTrue result → HasOnlyRunningVotes states.now votes.now }
-{
-    for p in 0..states.len() {
-        if !(is_hopeful(states, p) || is_elected(states, p)) && votes.get(p).units() != 0 {
-            return false;
-        }
-    }
-    true
-}
-
-/// Whether the votes together are an amount.
-fn sum_fits<const P: usize>(votes: &Amounts<P>) -> bool
-    ensures { IsTrue result → sum votes.now ≤ most P }
-{
-    let _places = votes.len();
-    let mut total = Amount::from_units(0);
-    for vote in votes.items() {
-        match sum_checked(total, *vote) {
-            Some(sum) => total = sum,
-            None => return false,
-        }
-    }
-    let _total = total.units();
-    true
-}
 
 fn states_of(alloc: Global, items: &[State]) -> Result<States, Fail> {
     let mut states = States::filled(alloc, items.len(), State::Withdrawn)?;
@@ -120,31 +63,15 @@ fn in_round_two(
     assert!(rt; count_elected(&states) <= seats);
     assert!(rt; 1 <= iteration);
     assert!(rt; previous.is_none() == (iteration == 1));
-    Ok(Situation::from_parts(seats, states, keeps, 2, iteration, previous, Amount::from_units(1000)))
-}
-
-/// Settles, where all that it asks for is there.
-fn settle_checked<const P: usize>(
-    rt: &impl Abort,
-    now: &mut Situation<P>,
-    votes: &Amounts<P>,
-    lots: &Lots,
-    row: &mut Row<P>,
-) {
-    let n = now.states().len();
-    assert!(rt; !now.is_complete());
-    assert!(rt; now.round < 1000 && now.iteration < 1000);
-    assert!(rt; votes.len() == n);
-    assert!(rt; lots.candidates() as usize == n);
-    assert!(rt; row.states.len() == n);
-    assert!(rt; row.keeps.len() == n);
-    assert!(rt; row.votes.len() == n);
-    assert!(rt; row.elected.len() == n);
-    assert!(rt; row.capped.len() == n);
-    assert!(rt; row.tied.len() == n);
-    assert!(rt; have_only_running_votes(now.states(), votes));
-    assert!(rt; sum_fits(votes));
-    now.settle(votes, lots, row);
+    Ok(Situation::from_parts(
+        seats,
+        states,
+        keeps,
+        2,
+        iteration,
+        previous,
+        Amount::from_units(1000),
+    ))
 }
 
 /// Settles with these votes and lots, and gives the row.
@@ -164,170 +91,233 @@ fn settled(
     Ok(row)
 }
 
-fn are_keeps<const P: usize>(keeps: &Keeps<P>, units: &[u64]) -> bool {
-    let items = keeps.items();
-    items.len() == units.len() && items.iter().zip(units).all(|(keep, want)| keep.units() == *want)
+/// What a row has to say: total, quota and surplus, the marks and the step.
+#[derive(Drop)]
+struct Said<'a> {
+    total: u64,
+    quota: u64,
+    surplus: u64,
+    elected: &'a [bool],
+    capped: &'a [bool],
+    tied: &'a [bool],
+    step: Step,
 }
 
-fn are_votes<const P: usize>(votes: &Amounts<P>, units: &[u64]) -> bool {
-    let items = votes.items();
-    items.len() == units.len() && items.iter().zip(units).all(|(vote, want)| vote.units() == *want)
+fn expect_row<const P: usize>(rt: &impl Abort, row: &Row<P>, said: Said<'_>) {
+    assert_eq!(rt; row.total.units(), said.total);
+    assert_eq!(rt; row.quota.units(), said.quota);
+    assert_eq!(rt; row.surplus.units(), said.surplus);
+    assert_eq!(rt; row.elected.items(), said.elected);
+    assert_eq!(rt; row.capped.items(), said.capped);
+    assert_eq!(rt; row.tied.items(), said.tied);
+    assert_eq!(rt; row.step, said.step);
 }
 
-/// The total, the quota and the surplus of a row.
-fn sums<const P: usize>(row: &Row<P>) -> (u64, u64, u64) {
-    (row.total.units(), row.quota.units(), row.surplus.units())
-}
-
-/// The round, the iteration and the previous surplus.
-fn place<const P: usize>(now: &Situation<P>) -> (u32, u64, Option<u64>) {
-    (now.round, now.iteration, now.previous.map(|surplus| surplus.units()))
+fn expect_situation<const P: usize>(
+    rt: &impl Abort,
+    now: &Situation<P>,
+    states: &[State],
+    keeps: &[u64],
+    round: u32,
+    iteration: u64,
+    previous: Option<u64>,
+) {
+    assert_eq!(rt; now.states().items(), states);
+    assert!(rt; are_keeps(now.keeps(), keeps));
+    assert_eq!(rt; now.round, round);
+    assert_eq!(rt; now.iteration, iteration);
+    assert_eq!(rt; now.previous.map(|surplus| surplus.units()), previous);
 }
 
 const ELECTED: State = State::Elected;
+
 const HOPEFUL: State = State::Hopeful;
+
 const DEFEATED: State = State::Defeated;
 
 #[test]
 fn an_elected_candidate_below_the_quota_is_capped(rt: HostRuntime) -> Result<(), Fail> {
-    let mut now = in_round_two(&rt, rt.alloc(), 3, &[ELECTED, ELECTED, HOPEFUL, HOPEFUL], &[ONE; 4], 1, None)?;
+    let states = [ELECTED, ELECTED, HOPEFUL, HOPEFUL];
+    let mut now = in_round_two(&rt, rt.alloc(), 3, &states, &[ONE; 4], 1, None)?;
     let votes = [3_999_999_999, 6_000_000_000, 3_500_000_000, 2_500_000_001];
     let row = settled(&rt, rt.alloc(), &mut now, &votes, &[1, 2, 3, 4])?;
-    assert_eq!(rt; sums(&row), (16_000_000_000, 4_000_000_001, 1_999_999_997));
-    assert_eq!(rt; row.step, Step::Iterate);
-    assert_eq!(rt; row.capped.items(), [true, false, false, false].as_slice());
-    assert_eq!(rt; row.elected.items(), [false; 4].as_slice());
-    assert_eq!(rt; row.tied.items(), [false; 4].as_slice());
+    let nobody = [false; 4];
+    let said = Said {
+        total: 16_000_000_000,
+        quota: 4_000_000_001,
+        surplus: 1_999_999_997,
+        elected: &nobody,
+        capped: &[true, false, false, false],
+        tied: &nobody,
+        step: Step::Iterate,
+    };
+    expect_row(&rt, &row, said);
     assert!(rt; are_votes(&row.votes, &votes));
     assert!(rt; are_keeps(&row.keeps, &[ONE; 4]));
-    assert!(rt; are_keeps(now.keeps(), &[ONE, 666_666_667, ONE, ONE]));
-    assert_eq!(rt; now.states().items(), [ELECTED, ELECTED, HOPEFUL, HOPEFUL].as_slice());
-    assert_eq!(rt; place(&now), (2, 2, Some(1_999_999_997)));
+    expect_situation(
+        &rt,
+        &now,
+        &states,
+        &[ONE, 666_666_667, ONE, ONE],
+        2,
+        2,
+        Some(1_999_999_997),
+    );
     Ok(())
 }
 
 #[test]
-fn of_equal_votes_for_the_last_seat_the_later_in_the_lots_is_elected(rt: HostRuntime) -> Result<(), Fail> {
-    let mut now = in_round_two(&rt, rt.alloc(), 2, &[ELECTED, HOPEFUL, HOPEFUL], &[ONE; 3], 1, None)?;
-    let row = settled(&rt, rt.alloc(), &mut now, &[3_999_999_998, 4_000_000_001, 4_000_000_001], &[1, 2, 3])?;
-    assert_eq!(rt; sums(&row), (12_000_000_000, 4_000_000_001, 0));
-    assert_eq!(rt; row.step, Step::Elected);
-    assert_eq!(rt; row.elected.items(), [false, false, true].as_slice());
-    assert_eq!(rt; now.states().items(), [ELECTED, HOPEFUL, ELECTED].as_slice());
-    assert_eq!(rt; place(&now), (3, 1, None));
+fn of_equal_votes_for_the_last_seat_the_later_in_the_lots_is_elected(
+    rt: HostRuntime,
+) -> Result<(), Fail> {
+    let states = [ELECTED, HOPEFUL, HOPEFUL];
+    let mut now = in_round_two(&rt, rt.alloc(), 2, &states, &[ONE; 3], 1, None)?;
+    let votes = [3_999_999_998, 4_000_000_001, 4_000_000_001];
+    let row = settled(&rt, rt.alloc(), &mut now, &votes, &[1, 2, 3])?;
+    let nobody = [false; 3];
+    let said = Said {
+        total: 12_000_000_000,
+        quota: 4_000_000_001,
+        surplus: 0,
+        elected: &[false, false, true],
+        capped: &nobody,
+        tied: &nobody,
+        step: Step::Elected,
+    };
+    expect_row(&rt, &row, said);
+    expect_situation(
+        &rt,
+        &now,
+        &[ELECTED, HOPEFUL, ELECTED],
+        &[ONE; 3],
+        3,
+        1,
+        None,
+    );
     assert!(rt; now.is_complete());
     now.finish();
-    assert_eq!(rt; now.states().items(), [ELECTED, DEFEATED, ELECTED].as_slice());
-    assert!(rt; are_keeps(now.keeps(), &[ONE, 0, ONE]));
+    expect_situation(
+        &rt,
+        &now,
+        &[ELECTED, DEFEATED, ELECTED],
+        &[ONE, 0, ONE],
+        3,
+        1,
+        None,
+    );
+    Ok(())
+}
+
+/// Two seats, one of them taken: settles the votes, and looks at the row and what follows.
+fn expect_settled(
+    rt: &impl Abort,
+    alloc: Global,
+    iteration: u64,
+    previous: Option<Amount<9>>,
+    votes: &[u64],
+    said: Said<'_>,
+) -> Result<Situation<9>, Fail> {
+    let mut now = in_round_two(
+        rt,
+        alloc,
+        2,
+        &[ELECTED, HOPEFUL, HOPEFUL],
+        &[ONE; 3],
+        iteration,
+        previous,
+    )?;
+    let row = settled(rt, alloc, &mut now, votes, &[1, 2, 3])?;
+    expect_row(rt, &row, said);
+    Ok(now)
+}
+
+/// The third candidate alone is tied, and defeated.
+fn defeats_the_third(surplus: u64) -> Said<'static> {
+    Said {
+        total: 12_000_000_000,
+        quota: 4_000_000_001,
+        surplus,
+        elected: &[false, false, false],
+        capped: &[false, false, false],
+        tied: &[false, false, true],
+        step: Step::Defeat(3),
+    }
+}
+
+/// The elected get new keep values.
+fn transfers(surplus: u64) -> Said<'static> {
+    Said {
+        total: 12_000_000_000,
+        quota: 4_000_000_001,
+        surplus,
+        elected: &[false, false, false],
+        capped: &[false, false, false],
+        tied: &[false, false, false],
+        step: Step::Iterate,
+    }
+}
+
+#[test]
+fn a_surplus_of_omega_is_transferred(rt: HostRuntime) -> Result<(), Fail> {
+    let votes = [4_000_001_001, 4_000_000_000, 3_999_998_999];
+    let now = expect_settled(&rt, rt.alloc(), 1, None, &votes, transfers(1_000))?;
+    let states = [ELECTED, HOPEFUL, HOPEFUL];
+    expect_situation(
+        &rt,
+        &now,
+        &states,
+        &[999_999_751, ONE, ONE],
+        2,
+        2,
+        Some(1_000),
+    );
     Ok(())
 }
 
 #[test]
-fn a_surplus_of_omega_is_transferred_and_one_below_defeats(rt: HostRuntime) -> Result<(), Fail> {
-    let mut now = in_round_two(&rt, rt.alloc(), 2, &[ELECTED, HOPEFUL, HOPEFUL], &[ONE; 3], 1, None)?;
-    let row = settled(&rt, rt.alloc(), &mut now, &[4_000_001_001, 4_000_000_000, 3_999_998_999], &[1, 2, 3])?;
-    assert_eq!(rt; sums(&row), (12_000_000_000, 4_000_000_001, 1_000));
-    assert_eq!(rt; row.step, Step::Iterate);
-    assert!(rt; are_keeps(now.keeps(), &[999_999_751, ONE, ONE]));
-    assert_eq!(rt; place(&now), (2, 2, Some(1_000)));
-
-    let mut now = in_round_two(&rt, rt.alloc(), 2, &[ELECTED, HOPEFUL, HOPEFUL], &[ONE; 3], 1, None)?;
-    let row = settled(&rt, rt.alloc(), &mut now, &[4_000_001_000, 4_000_000_000, 3_999_999_000], &[1, 2, 3])?;
-    assert_eq!(rt; sums(&row), (12_000_000_000, 4_000_000_001, 999));
-    assert_eq!(rt; row.step, Step::Defeat(3));
-    assert_eq!(rt; row.tied.items(), [false, false, true].as_slice());
-    assert_eq!(rt; now.states().items(), [ELECTED, HOPEFUL, DEFEATED].as_slice());
-    assert!(rt; are_keeps(now.keeps(), &[ONE, ONE, 0]));
-    assert_eq!(rt; place(&now), (3, 1, None));
+fn a_surplus_below_omega_defeats(rt: HostRuntime) -> Result<(), Fail> {
+    let votes = [4_000_001_000, 4_000_000_000, 3_999_999_000];
+    let now = expect_settled(&rt, rt.alloc(), 1, None, &votes, defeats_the_third(999))?;
+    let states = [ELECTED, HOPEFUL, DEFEATED];
+    expect_situation(&rt, &now, &states, &[ONE, ONE, 0], 3, 1, None);
     Ok(())
 }
 
 #[test]
 fn a_surplus_that_does_not_fall_defeats(rt: HostRuntime) -> Result<(), Fail> {
-    for (previous, step) in [(1_000, Step::Defeat(3)), (1_001, Step::Iterate)] {
-        let before = Some(Amount::from_units(previous));
-        let mut now = in_round_two(&rt, rt.alloc(), 2, &[ELECTED, HOPEFUL, HOPEFUL], &[ONE; 3], 2, before)?;
-        let row = settled(&rt, rt.alloc(), &mut now, &[4_000_001_001, 4_000_000_000, 3_999_998_999], &[1, 2, 3])?;
-        let tied = step == Step::Defeat(3);
-        assert_eq!(rt; row.step, step);
-        assert_eq!(rt; row.tied.items(), [false, false, tied].as_slice());
-    }
+    let votes = [4_000_001_001, 4_000_000_000, 3_999_998_999];
+    let same = Some(Amount::from_units(1_000));
+    expect_settled(&rt, rt.alloc(), 2, same, &votes, defeats_the_third(1_000))?;
+    let more = Some(Amount::from_units(1_001));
+    expect_settled(&rt, rt.alloc(), 2, more, &votes, transfers(1_000))?;
     Ok(())
 }
 
 #[test]
 fn who_is_within_the_surplus_of_the_lowest_is_tied(rt: HostRuntime) -> Result<(), Fail> {
-    let mut now = in_round_two(&rt, rt.alloc(), 2, &[ELECTED, HOPEFUL, HOPEFUL, HOPEFUL], &[ONE; 4], 1, None)?;
+    let states = [ELECTED, HOPEFUL, HOPEFUL, HOPEFUL];
+    let mut now = in_round_two(&rt, rt.alloc(), 2, &states, &[ONE; 4], 1, None)?;
     let votes = [4_000_000_601, 3_000_000_000, 2_499_999_999, 2_499_999_400];
     let row = settled(&rt, rt.alloc(), &mut now, &votes, &[3, 1, 2, 4])?;
-    assert_eq!(rt; sums(&row), (12_000_000_000, 4_000_000_001, 600));
-    assert_eq!(rt; row.step, Step::Defeat(3));
-    assert_eq!(rt; row.tied.items(), [false, false, true, true].as_slice());
-    assert_eq!(rt; now.states().items(), [ELECTED, HOPEFUL, DEFEATED, HOPEFUL].as_slice());
-    Ok(())
-}
-
-fn add(rt: &impl Abort, alloc: Global, ballots: &mut Ballots, count: u32, ranks: &[u32]) -> Result<(), Fail> {
-    assert!(rt; 1 <= count);
-    let ranking = Ranking::try_new(alloc, ballots.candidates(), ranks)?;
-    ballots.push_line(BallotLine { count, ranking })?;
-    Ok(())
-}
-
-/// A roll of candidates A, B and C for two seats.
-fn three_for_two(alloc: Global) -> Result<Roll, Fail> {
-    let mut names = Names::new(alloc);
-    for name in ["A", "B", "C"] {
-        names.push(Name::try_new(alloc, name.as_bytes())?)?;
-    }
-    Ok(Roll::try_new(alloc, 2, names, Name::try_new(alloc, b"T")?, &[])?)
-}
-
-/// Distributes and settles once.
-fn turn(
-    rt: &impl Abort,
-    alloc: Global,
-    flat: &mut FlatSpread,
-    now: &mut Situation<6>,
-    lots: &Lots,
-    row: &mut Row<6>,
-) -> Result<(), Fail> {
-    let n = Spread::<6>::candidates(flat) as usize;
-    let mut votes = Amounts::filled(alloc, n, Amount::from_units(0))?;
-    assert!(rt; now.keeps().len() == n);
-    assert!(rt; votes.len() == n);
-    Spread::<6>::spread(flat, now.keeps(), &mut votes);
-    settle_checked(rt, now, &votes, lots, row);
-    Ok(())
-}
-
-#[test]
-fn a_count_at_six_places_with_an_omega_of_one_unit(rt: HostRuntime) -> Result<(), Fail> {
-    let mut ballots = Ballots::new(rt.alloc(), 3);
-    add(&rt, rt.alloc(), &mut ballots, 10, &[1])?;
-    add(&rt, rt.alloc(), &mut ballots, 4, &[2])?;
-    add(&rt, rt.alloc(), &mut ballots, 3, &[3])?;
-    let mut flat = FlatSpread::new(ballots);
-    assert_eq!(rt; Spread::<6>::ballots(&flat), 17);
-    let roll = three_for_two(rt.alloc())?;
-    let lots = Lots::try_new(rt.alloc(), &[1, 2, 3], 3)?;
-    let mut now = Situation::<6>::begin(rt.alloc(), &roll, Amount::from_units(1))?;
-    let mut row = Row::new(rt.alloc(), 3)?;
-    for (round, iteration, keep, vote, total, quota, surplus, step) in [
-        (1, 1, 1_000_000, 10_000_000, 17_000_000, 5_666_667, 4_333_333, Step::Elected),
-        (2, 1, 1_000_000, 10_000_000, 17_000_000, 5_666_667, 4_333_333, Step::Iterate),
-        (2, 2, 566_667, 5_666_670, 12_666_670, 4_222_224, 1_444_446, Step::Iterate),
-        (2, 3, 422_223, 4_222_230, 11_222_230, 3_740_744, 740_742, Step::Elected),
-    ] {
-        turn(&rt, rt.alloc(), &mut flat, &mut now, &lots, &mut row)?;
-        assert_eq!(rt; (row.round, row.iteration), (round, iteration));
-        assert!(rt; are_keeps(&row.keeps, &[keep, 1_000_000, 1_000_000]));
-        assert!(rt; are_votes(&row.votes, &[vote, 4_000_000, 3_000_000]));
-        assert_eq!(rt; sums(&row), (total, quota, surplus));
-        assert_eq!(rt; row.step, step);
-    }
-    assert!(rt; now.is_complete());
-    now.finish();
-    assert_eq!(rt; now.states().items(), [ELECTED, ELECTED, DEFEATED].as_slice());
+    let nobody = [false; 4];
+    let said = Said {
+        total: 12_000_000_000,
+        quota: 4_000_000_001,
+        surplus: 600,
+        elected: &nobody,
+        capped: &nobody,
+        tied: &[false, false, true, true],
+        step: Step::Defeat(3),
+    };
+    expect_row(&rt, &row, said);
+    expect_situation(
+        &rt,
+        &now,
+        &[ELECTED, HOPEFUL, DEFEATED, HOPEFUL],
+        &[ONE, ONE, 0, ONE],
+        3,
+        1,
+        None,
+    );
     Ok(())
 }

@@ -22,7 +22,7 @@ pub first_of-loser-requires-clause-lengths : goal.first_of-loser-requires-clause
 first_of-loser-requires-clause-lengths g c =
     let states : c.self.inside.states ≡ c.args.self.now.states = ap (λ (x : Situation). x.states) c.self.view_is in
     let tied_is : c.mark_tied.new.marks ≡ tied c.args.self.now.states c.args.votes.now c.row.inside.surplus =
-      c.mark_tied.ensures ∙ ap (λ (l : List State). tied l c.args.votes.now c.row.inside.surplus) states in
+    c.mark_tied.ensures ∙ ap (λ (l : List State). tied l c.args.votes.now c.row.inside.surplus) states in
     ap length tied_is ∙ (length-map-range_with_len _ 0 _ ∙ sym c.requires.lots_of_all)
 
 -- somebody is hopeful, so somebody is tied
@@ -30,7 +30,7 @@ pub first_of-loser-requires-clause-marked : goal.first_of-loser-requires-clause-
 first_of-loser-requires-clause-marked g c =
     let states : c.self.inside.states ≡ c.args.self.now.states = ap (λ (x : Situation). x.states) c.self.view_is in
     let tied_is : c.mark_tied.new.marks ≡ tied c.args.self.now.states c.args.votes.now c.row.inside.surplus =
-      c.mark_tied.ensures ∙ ap (λ (l : List State). tied l c.args.votes.now c.row.inside.surplus) states in
+    c.mark_tied.ensures ∙ ap (λ (l : List State). tied l c.args.votes.now c.row.inside.surplus) states in
     let some : 1 ≤ hopeful_count c.args.self.now.states = somebody_hopeful (scale g.row.P) c.args.self.now c.count.ensures.valid c.requires.open in
     rw tied_is (tied-somebody c.args.self.now.states c.args.votes.now c.args.lots.now c.row.inside.surplus c.candidates-order.ensures.order c.requires.lots_of_all some)
 
@@ -38,7 +38,7 @@ pub defeat-requires : goal.defeat-requires
 defeat-requires g c =
     let states : c.self.inside.states ≡ c.args.self.now.states = ap (λ (x : Situation). x.states) c.self.view_is in
     let tied_is : c.mark_tied.new.marks ≡ tied c.args.self.now.states c.args.votes.now c.row.inside.surplus =
-      c.mark_tied.ensures ∙ ap (λ (l : List State). tied l c.args.votes.now c.row.inside.surplus) states in
+    c.mark_tied.ensures ∙ ap (λ (l : List State). tied l c.args.votes.now c.row.inside.surplus) states in
     let marked : mark_at (tied c.args.self.now.states c.args.votes.now c.row.inside.surplus) (c.first_of-loser.result - 1) ≡ true = rw tied_is at c.first_of-loser.ensures.is_marked in
     let loser = tied-hopeful c.args.self.now.states c.args.votes.now c.row.inside.surplus (c.first_of-loser.result - 1) marked in
     (omega arith, (c.requires.rounds, ((c.first_of-loser.ensures.candidate.0, omega (arith, c.first_of-loser.ensures.candidate.1, c.requires.lots_of_all)), loser.1)))
@@ -64,7 +64,7 @@ returns-then-is_exhausted-clause-settle g c =
     let counted = subst (λ (r : Row). IsCounted c.args.self.now c.args.votes.now c.args.lots.now r) (sym c.row.view_is) c.count.ensures.counted in
     let states : c.self.inside.states ≡ c.args.self.now.states = ap (λ (x : Situation). x.states) c.self.view_is in
     let tied_is : c.mark_tied.new.marks ≡ tied c.args.self.now.states c.args.votes.now c.row.inside.surplus =
-      c.mark_tied.ensures ∙ ap (λ (l : List State). tied l c.args.votes.now c.row.inside.surplus) states in
+    c.mark_tied.ensures ∙ ap (λ (l : List State). tied l c.args.votes.now c.row.inside.surplus) states in
     record {
       round = counted.round;
       iteration = counted.iteration;
