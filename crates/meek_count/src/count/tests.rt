@@ -1,5 +1,5 @@
 // Counts of small elections, with the figures that their rules give by hand.
-ghost use Rattle.std.specs.Prelude.{◌≡◌, ◌≤◌, length, OnOk};
+ghost use Rattle.std.specs.Prelude.{◌≡◌, ◌≤◌, OnOk};
 
 use super::*;
 use candidate_roll::{Name, Names, State};
@@ -20,9 +20,7 @@ fn add(alloc: Global, ballots: &mut Ballots, count: u32, ranks: &[u32]) -> Resul
 }
 
 /// Adds a candidate of this name.
-fn name(alloc: Global, names: &mut Names, bytes: &[u8]) -> Result<(), Fail>
-    ensures { OnOk result (length names.new ≡ length names.old + 1) }
-{
+fn name(alloc: Global, names: &mut Names, bytes: &[u8]) -> Result<(), Fail> {
     names.push(Name::try_new(alloc, bytes)?)?;
     Ok(())
 }
