@@ -1,8 +1,7 @@
 -- Rows put together, one iteration after another.
-use Rattle.std.proofs.Common.{◌≡◌, ℕ, true, false, List, [], ◌∷◌, ◌++◌, refl, ap, sym, subst, ◌∙◌}
+use Rattle.std.proofs.Common.{◌≡◌, ℕ, false, List, [], ◌∷◌, ◌++◌, refl, sym, subst, ◌∙◌}
 use Rattle.std.proofs.lemmas.List.{append_assoc}
-use Rattle.candidate_roll.specs.declared.state.State.{State}
-use Rattle.meek_rule.specs.Situation.{is_complete, final_states}
+use Rattle.meek_rule.specs.Situation.{is_complete}
 use Rattle.meek_rule.specs.Row.{Row}
 use Rattle.meek_count.specs.Rows.{Rows, IteratesTo}
 use Rattle.meek_count.specs.Progress.{Progress, IsSameElection, Leads}
@@ -19,10 +18,10 @@ pub leads_one : (s : ℕ) (old new : Progress) → is_complete old.now ≡ false
 leads_one s old new going iterates same = record {
   same = same;
   onward = λ rows last rest.
-    let here : Rows s old.ballots old.lots new.now rows last =
+      let here : Rows s old.ballots old.lots new.now rows last =
       subst (λ (b : List (List ℕ)). Rows s b old.lots new.now rows last) same.ballots
       (subst (λ (l : List ℕ). Rows s new.ballots l new.now rows last) same.lots rest) in
-    (going, (new.now, iterates, here));
+      (going, (new.now, iterates, here));
 }
 
 -- and behind rows that led there it leads from where they began
@@ -34,6 +33,6 @@ leads_more s start mid new done more before next = record {
     ballots = next.same.ballots ∙ before.same.ballots;
   };
   onward = λ rows last rest.
-    subst (λ (all : List Row). Rows s start.ballots start.lots start.now all last) (sym (append_assoc done more rows))
-    (before.onward (more ++ rows) last (next.onward rows last rest));
+      subst (λ (all : List Row). Rows s start.ballots start.lots start.now all last) (sym (append_assoc done more rows))
+      (before.onward (more ++ rows) last (next.onward rows last rest));
 }

@@ -1,27 +1,26 @@
 -- From each situation that is valid and not complete the rule goes on, nearer to the end.
-use Rattle.std.proofs.Common.{◌≡◌, ℕ, ◌+◌, ◌-◌, ◌*◌, ◌<◌, ◌≤◌, nat_lt, ◌||◌, Bool, true, false, cond, List, [], ◌∷◌, length, get_or, slice_index, set, sum, unwrap_or, Option, Some, None, arith, refl, ap, sym, subst, ◌∙◌, inl, inr, zero, suc, ◌⊎◌, add-one, All}
+use Rattle.std.proofs.Common.{◌≡◌, ℕ, ◌+◌, ◌-◌, ◌<◌, ◌≤◌, nat_lt, ◌||◌, Bool, true, false, cond, List, [], ◌∷◌, length, get_or, slice_index, set, sum, unwrap_or, Option, Some, None, arith, refl, ap, sym, subst, ◌∙◌, inl, inr, zero, suc, add-one}
 use Rattle.std.proofs.lemmas.Bool.{cases_Bool, cases_lt, and_parts, leb-false}
 use Rattle.std.proofs.lemmas.List.{length-set}
-use Rattle.std.proofs.lemmas.List.Elements.{All-from_get_or}
 use Rattle.std.proofs.lemmas.List.FromFn.{get_or-map-range_with_len, length-map-range_with_len, fill_by_all}
 use Rattle.candidate_roll.specs.State.{state_at}
 use Rattle.candidate_roll.specs.declared.state.State.{State}
-use Rattle.candidate_roll.specs.declared.state.State.TheVariants.{Hopeful as StillHopeful, Elected as IsNowElected, Defeated as IsNowDefeated, Withdrawn}
+use Rattle.candidate_roll.specs.declared.state.State.TheVariants.{Defeated as IsNowDefeated}
 use Rattle.lot_order.specs.Flags.{mark_at}
 use Rattle.lot_order.specs.Lots.{IsOrder, first_marked}
 use Rattle.lot_order.proofs.LotsLemmas.{first_marked-order, marked-below}
 use Rattle.meek_rule.specs.declared.step.Step.{Step}
 use Rattle.meek_rule.specs.declared.step.Step.TheVariants.{Elected, Iterate, Defeat}
-use Rattle.meek_rule.specs.Places.{each_place, marked_count, count_places}
-use Rattle.meek_rule.specs.Situation.{Situation, IsValid, FitsState, is_complete, is_hopeful, is_elected, elected_count, hopeful_count, steps_left}
+use Rattle.meek_rule.specs.Places.{each_place, marked_count}
+use Rattle.meek_rule.specs.Situation.{Situation, IsValid, is_complete, is_hopeful, elected_count, hopeful_count, steps_left}
 use Rattle.meek_rule.specs.Row.{Row}
 use Rattle.meek_rule.specs.Quota.{quota}
 use Rattle.meek_rule.specs.Winners.{AreWinners}
 use Rattle.meek_rule.specs.Surplus.{surplus, holds_seat}
-use Rattle.meek_rule.specs.KeepValues.{new_keeps, capped, next_keep}
+use Rattle.meek_rule.specs.KeepValues.{new_keeps, capped}
 use Rattle.meek_rule.specs.Ties.{tied, is_tied}
-use Rattle.meek_rule.specs.Iteration.{Settle, Leaves, nobody, is_exhausted, is_not_falling, elect, with_elected, with_defeated, with_keeps}
-use Rattle.meek_rule.proofs.ValidLemmas.{winners-electable, valid-with_elected, valid-with_keeps, valid-with_defeated}
+use Rattle.meek_rule.specs.Iteration.{Settle, nobody, is_exhausted, is_not_falling, elect, with_elected, with_defeated, with_keeps}
+use Rattle.meek_rule.proofs.ValidLemmas.{valid-with_elected, valid-with_keeps, valid-with_defeated}
 use Rattle.meek_rule.proofs.StateCounts.{hopeful_count-elect, hopeful_count-defeat}
 use Rattle.meek_rule.proofs.ProgressLemmas.{nearer_by_round}
 use Rattle.meek_rule.proofs.TieLemmas.{somebody_tied, somebody_hopeful}
@@ -59,9 +58,9 @@ sum_part zero test f = omega arith
 sum_part (suc n) test f =
     let before = sum_part n test f in
     let part : sum (each_place (suc n) (λ p. cond (test p) (f p) 0)) ≡ sum (each_place n (λ p. cond (test p) (f p) 0)) + cond (test n) (f n) 0 =
-      subst (λ (m : ℕ). sum (each_place m (λ p. cond (test p) (f p) 0)) ≡ sum (each_place n (λ p. cond (test p) (f p) 0)) + cond (test n) (f n) 0) (add-one n) (sum_more (λ p. cond (test p) (f p) 0) n) in
+    subst (λ (m : ℕ). sum (each_place m (λ p. cond (test p) (f p) 0)) ≡ sum (each_place n (λ p. cond (test p) (f p) 0)) + cond (test n) (f n) 0) (add-one n) (sum_more (λ p. cond (test p) (f p) 0) n) in
     let whole : sum (each_place (suc n) f) ≡ sum (each_place n f) + f n =
-      subst (λ (m : ℕ). sum (each_place m f) ≡ sum (each_place n f) + f n) (add-one n) (sum_more f n) in
+    subst (λ (m : ℕ). sum (each_place m f) ≡ sum (each_place n f) + f n) (add-one n) (sum_more f n) in
     let here = cond-le (test n) (f n) in
     omega arith
   where
@@ -83,10 +82,10 @@ first_marked-is_marked : (order : List ℕ) (marks : List Bool) → 1 ≤ first_
 first_marked-is_marked [] marks found = absurd (omega arith)
 first_marked-is_marked (c ∷ order) marks found =
     elim (cases_Bool (mark_at marks (c - 1))) [
-      inl is ↦ (let here : first_marked (c ∷ order) marks ≡ c = ap (λ b. cond b c (first_marked order marks)) is in ap (λ k. mark_at marks (k - 1)) here ∙ is)
-    | inr is_not ↦
-        let behind : first_marked (c ∷ order) marks ≡ first_marked order marks = ap (λ b. cond b c (first_marked order marks)) is_not in
-        ap (λ k. mark_at marks (k - 1)) behind ∙ first_marked-is_marked order marks (omega arith)
+      | inl is ↦ (let here : first_marked (c ∷ order) marks ≡ c = ap (λ b. cond b c (first_marked order marks)) is in ap (λ k. mark_at marks (k - 1)) here ∙ is)
+      | inr is_not ↦
+          let behind : first_marked (c ∷ order) marks ≡ first_marked order marks = ap (λ b. cond b c (first_marked order marks)) is_not in
+          ap (λ k. mark_at marks (k - 1)) behind ∙ first_marked-is_marked order marks (omega arith)
     ]
 
 -- Somebody is elected.
@@ -126,8 +125,9 @@ defeat_goes_on s most now votes lots winners valid order same some are nobody_wo
     let marked : mark_at ties (loser - 1) ≡ true = first_marked-is_marked lots ties found in
     let inside : loser - 1 < n = (let below = marked-below ties (loser - 1) marked in omega arith) in
     let is : is_hopeful (state_at now.states (loser - 1)) ≡ true = (and_parts (is_hopeful (state_at now.states (loser - 1))) _ (sym (at (loser - 1) inside) ∙ marked)).0 in
-    let fewer : hopeful_count (set now.states (loser - 1) IsNowDefeated) + 1 ≡ hopeful_count now.states = hopeful_count-defeat now.states (loser - 1) inside is in
-    (row_of now votes winners (nobody now) ties (Defeat loser), with_defeated now loser,
+    let fewer : hopeful_count (set now.states (loser - 1) IsNowDefeated) + 1 ≡ hopeful_count now.states = hopeful_count-defeat now.states (loser - 1) inside is in (
+      row_of now votes winners (nobody now) ties (Defeat loser),
+      with_defeated now loser,
       record {
         settles = record {
           round = refl;
@@ -144,7 +144,8 @@ defeat_goes_on s most now votes lots winners valid order same some are nobody_wo
         valid = valid-with_defeated s now loser valid inside is;
         same_length = length-set now.states (loser - 1) IsNowDefeated;
         nearer = nearer_by_round most (hopeful_count (set now.states (loser - 1) IsNowDefeated)) (hopeful_count now.states) (unwrap_or now.previous (most + 1)) (omega arith);
-      })
+      },
+    )
 
 -- a surplus that is transferred is below the one before
 falling : (previous : Option ℕ) (most u : ℕ) → u ≤ most → is_not_falling previous u ≡ false → u < unwrap_or previous (most + 1)
@@ -161,8 +162,9 @@ iterate_goes_on s most now votes lots winners valid of_all within are nobody_won
     let q : ℕ = quota now.seats votes in
     let u : ℕ = surplus now.states winners votes q in
     let small : u ≤ sum votes = surplus-le now.states winners votes q of_all in
-    let less : u < unwrap_or now.previous (most + 1) = falling now.previous most u (omega arith) (or_false (nat_lt u now.omega) _ not_exhausted) in
-    (row_of now votes winners (capped s now.states now.keeps votes q) (nobody now) Iterate, with_keeps now (new_keeps s now.states now.keeps votes q) u,
+    let less : u < unwrap_or now.previous (most + 1) = falling now.previous most u (omega arith) (or_false (nat_lt u now.omega) _ not_exhausted) in (
+      row_of now votes winners (capped s now.states now.keeps votes q) (nobody now) Iterate,
+      with_keeps now (new_keeps s now.states now.keeps votes q) u,
       record {
         settles = record {
           round = refl;
@@ -179,7 +181,8 @@ iterate_goes_on s most now votes lots winners valid of_all within are nobody_won
         valid = valid-with_keeps s now votes q u valid;
         same_length = refl;
         nearer = omega arith;
-      })
+      },
+    )
 
 -- the rule goes on
 pub goes_on : (s most : ℕ) (now : Situation) (votes lots : List ℕ) → IsValid s now → is_complete now ≡ false → IsOrder lots → length lots ≡ length now.states → length votes ≡ length now.states → sum votes ≤ most → (row : Row) × (next : Situation) × GoesOn s most now votes lots row next
@@ -190,11 +193,11 @@ goes_on s most now votes lots valid going order same of_all within =
     let are : AreWinners now.states free votes lots q winners = winners_by_rank now.states free votes lots q order same in
     let some : 1 ≤ hopeful_count now.states = somebody_hopeful s now valid going in
     elim (cases_lt 0 (marked_count winners)) [
-      inl won ↦ (row_of now votes winners (nobody now) (nobody now) Elected, with_elected now winners, elected_goes_on s most now votes lots winners valid are (omega arith))
-    | inr none ↦
-        let nobody_won : marked_count winners ≡ 0 = omega arith in
-        elim (cases_Bool (is_exhausted now (surplus now.states winners votes q))) [
-          inl exhausted ↦ defeat_goes_on s most now votes lots winners valid order same some are nobody_won exhausted
-        | inr not_exhausted ↦ iterate_goes_on s most now votes lots winners valid of_all within are nobody_won not_exhausted
-        ]
+      | inl won ↦ (row_of now votes winners (nobody now) (nobody now) Elected, with_elected now winners, elected_goes_on s most now votes lots winners valid are (omega arith))
+      | inr none ↦
+          let nobody_won : marked_count winners ≡ 0 = omega arith in
+          elim (cases_Bool (is_exhausted now (surplus now.states winners votes q))) [
+            | inl exhausted ↦ defeat_goes_on s most now votes lots winners valid order same some are nobody_won exhausted
+            | inr not_exhausted ↦ iterate_goes_on s most now votes lots winners valid of_all within are nobody_won not_exhausted
+          ]
     ]

@@ -1,25 +1,17 @@
 -- From each situation that is valid and not complete there is one row, and one situation after it.
-use Rattle.std.proofs.Common.{◌≡◌, ℕ, ◌+◌, ◌-◌, ◌*◌, ◌<◌, ◌≤◌, Bool, true, false, cond, List, [], ◌∷◌, length, get_or, slice_index, set, sum, unwrap_or, Option, Some, None, arith, refl, ap, sym, subst, ◌∙◌, inl, inr, zero, suc, ◌⊎◌}
-use Rattle.std.proofs.lemmas.Bool.{cases_Bool, and_parts, leb-false}
-use Rattle.std.proofs.lemmas.List.{length-set}
-use Rattle.std.proofs.lemmas.List.FromFn.{get_or-map-range_with_len, length-map-range_with_len}
-use Rattle.candidate_roll.specs.State.{state_at}
-use Rattle.candidate_roll.specs.declared.state.State.{State}
-use Rattle.candidate_roll.specs.declared.state.State.TheVariants.{Defeated as IsNowDefeated}
-use Rattle.lot_order.specs.Flags.{mark_at}
+use Rattle.std.proofs.Common.{◌≡◌, ℕ, ◌-◌, List, length, arith, refl, ap, sym, subst, ◌∙◌}
 use Rattle.lot_order.specs.Lots.{IsOrder, first_marked}
-use Rattle.lot_order.proofs.LotsLemmas.{first_marked-order, marked-below}
 use Rattle.meek_rule.specs.declared.step.Step.{Step}
 use Rattle.meek_rule.specs.declared.step.Step.TheVariants.{Elected, Iterate, Defeat}
-use Rattle.meek_rule.specs.Places.{each_place, marked_count}
-use Rattle.meek_rule.specs.Situation.{Situation, IsValid, is_complete, is_hopeful, elected_count, hopeful_count, steps_left}
+use Rattle.meek_rule.specs.Places.{marked_count}
+use Rattle.meek_rule.specs.Situation.{Situation, elected_count}
 use Rattle.meek_rule.specs.Row.{Row}
 use Rattle.meek_rule.specs.Quota.{quota}
 use Rattle.meek_rule.specs.Winners.{AreWinners}
-use Rattle.meek_rule.specs.Surplus.{surplus, holds_seat}
-use Rattle.meek_rule.specs.KeepValues.{new_keeps, capped, next_keep}
-use Rattle.meek_rule.specs.Ties.{tied, is_tied}
-use Rattle.meek_rule.specs.Iteration.{Settle, Leaves, nobody, is_exhausted, is_not_falling, elect, with_elected, with_defeated, with_keeps}
+use Rattle.meek_rule.specs.Surplus.{surplus}
+use Rattle.meek_rule.specs.KeepValues.{new_keeps, capped}
+use Rattle.meek_rule.specs.Ties.{tied}
+use Rattle.meek_rule.specs.Iteration.{Settle, Leaves, is_exhausted, with_elected, with_defeated, with_keeps}
 use Rattle.meek_rule.proofs.WinnersUnique.{winners-unique}
 
 -- ONE AT MOST
@@ -60,7 +52,7 @@ leaves-unique s now lots one other Elected (Defeat d) next after elected votes q
 leaves-unique s now lots one other Iterate Elected next after elected votes quota_ surplus_ first second = absurd (let none = ap marked_count (sym elected) ∙ first.0 in omega (arith, second.0))
 leaves-unique s now lots one other Iterate Iterate next after elected votes quota_ surplus_ first second =
     let keeps : new_keeps s now.states now.keeps one.votes one.quota ≡ new_keeps s now.states now.keeps other.votes other.quota =
-      ap (λ v. new_keeps s now.states now.keeps v one.quota) votes ∙ ap (new_keeps s now.states now.keeps other.votes) quota_ in
+    ap (λ v. new_keeps s now.states now.keeps v one.quota) votes ∙ ap (new_keeps s now.states now.keeps other.votes) quota_ in
     record {
       step = refl;
       capped = first.2 ∙ (ap (λ v. capped s now.states now.keeps v one.quota) votes ∙ (ap (capped s now.states now.keeps other.votes) quota_ ∙ sym second.2));
@@ -86,13 +78,14 @@ settle-unique s now votes lots one other next after order same first second =
     let quota_ : one.quota ≡ other.quota = first.quota_is ∙ sym second.quota_is in
     let cast_votes : one.votes ≡ other.votes = first.votes_are ∙ sym second.votes_are in
     let elected : one.elected ≡ other.elected =
-      winners-unique now.states free votes lots one.quota one.elected other.elected order same first.winners
-      (subst (λ (q : ℕ). AreWinners now.states free votes lots q other.elected) (sym quota_) second.winners) in
+    winners-unique now.states free votes lots one.quota one.elected other.elected order same first.winners
+    (subst (λ (q : ℕ). AreWinners now.states free votes lots q other.elected) (sym quota_) second.winners) in
     let surplus_ : one.surplus ≡ other.surplus =
-      first.surplus_is ∙ (ap (λ w. surplus now.states w votes one.quota) elected ∙ (ap (surplus now.states other.elected votes) quota_ ∙ sym second.surplus_is)) in
+    first.surplus_is ∙ (ap (λ w. surplus now.states w votes one.quota) elected ∙ (ap (surplus now.states other.elected votes) quota_ ∙ sym second.surplus_is)) in
     let left : LeavesSame one other one.step other.step next after =
-      leaves-unique s now lots one other one.step other.step next after elected cast_votes quota_ surplus_ first.leaves second.leaves in
-    (row_by_fields one other
-      (first.round ∙ sym second.round) (first.iteration ∙ sym second.iteration) (first.states ∙ sym second.states) (first.keeps ∙ sym second.keeps)
-      cast_votes (first.total ∙ sym second.total) quota_ surplus_ elected left.capped left.tied left.step,
-      left.situation)
+    leaves-unique s now lots one other one.step other.step next after elected cast_votes quota_ surplus_ first.leaves second.leaves in (
+      row_by_fields one other
+          (first.round ∙ sym second.round) (first.iteration ∙ sym second.iteration) (first.states ∙ sym second.states) (first.keeps ∙ sym second.keeps)
+          cast_votes (first.total ∙ sym second.total) quota_ surplus_ elected left.capped left.tied left.step,
+      left.situation,
+    )

@@ -1,5 +1,5 @@
 -- What an iteration of a count needs, and what it leaves.
-use Rattle.std.proofs.Common.{◌≡◌, ℕ, ◌+◌, ◌-◌, ◌*◌, ◌^◌, ◌<◌, ◌≤◌, ◌||◌, Bool, true, false, List, [], ◌∷◌, length, get_or, slice_index, sum, sum_by, unwrap_or, arith, refl, ap, sym, subst, ◌∙◌}
+use Rattle.std.proofs.Common.{◌≡◌, ℕ, ◌+◌, ◌-◌, ◌*◌, ◌^◌, ◌<◌, ◌≤◌, ◌||◌, false, List, [], ◌∷◌, length, get_or, sum, arith, refl, ap, subst, ◌∙◌}
 use Rattle.std.proofs.Math.Nat.{mul-le-mul_right}
 use Rattle.std.proofs.lemmas.List.FromFn.{get_or-map-range_with_len}
 use Rattle.std.proofs.lemmas.List.Sums.{sum_by-cons}
@@ -7,9 +7,12 @@ use Rattle.fixed_place.specs.Rounding.{scale, most}
 use Rattle.fixed_place.proofs.RoundingLemmas.{scale_pos, most_votes}
 use Rattle.candidate_roll.specs.State.{state_at}
 use Rattle.candidate_roll.specs.declared.state.State.{State}
-use Rattle.candidate_roll.specs.declared.state.State.TheVariants.{Hopeful, Elected, Defeated, Withdrawn}
+use Rattle.candidate_roll.specs.declared.state.State.TheVariants.{Hopeful, Elected as IsNowElected, Defeated, Withdrawn}
 use Rattle.meek_rule.specs.Situation.{Situation, IsValid, IsOnItsWay, FitsState, is_complete, is_hopeful, is_elected, hopeful_count}
-use Rattle.meek_rule.specs.Iteration.{HasOnlyRunningVotes}
+use Rattle.meek_rule.specs.declared.step.Step.{Step}
+use Rattle.meek_rule.specs.declared.step.Step.TheVariants.{Elected}
+use Rattle.meek_rule.specs.Row.{Row}
+use Rattle.meek_rule.specs.Iteration.{HasOnlyRunningVotes, Settle, Leaves}
 use Rattle.meek_rule.specs.Weights.{given, vote, votes}
 use Rattle.meek_rule.proofs.TieLemmas.{somebody_hopeful}
 use Rattle.meek_rule.proofs.RuleLemmas.{most_bound}
@@ -40,7 +43,7 @@ iteration_fits places now few way =
 -- who is not running has keep value 0
 keep_out : (s : ℕ) (state : State) (keep : ℕ) → (is_hopeful state || is_elected state) ≡ false → FitsState s state keep → keep ≡ 0
 keep_out s Hopeful keep out fits = absurd (cc)
-keep_out s Elected keep out fits = absurd (cc)
+keep_out s IsNowElected keep out fits = absurd (cc)
 keep_out s Defeated keep out fits = fits
 keep_out s Withdrawn keep out fits = fits
 
@@ -52,7 +55,7 @@ vote_out s keeps (ballot ∷ ballots) p pos out =
     let here : given s keeps s ballot (p + 1) ≡ 0 = given-none s keeps s ballot (p + 1) pos (ap (λ k. get_or keeps k 0) place ∙ out) in
     let behind : vote s keeps ballots (p + 1) ≡ 0 = vote_out s keeps ballots p pos out in
     let split : vote s keeps (ballot ∷ ballots) (p + 1) ≡ given s keeps s ballot (p + 1) + vote s keeps ballots (p + 1) =
-      sum_by-cons (λ (ranking : List ℕ). given s keeps s ranking (p + 1)) ballot ballots in
+    sum_by-cons (λ (ranking : List ℕ). given s keeps s ranking (p + 1)) ballot ballots in
     omega arith
 
 -- nobody but the hopeful and the elected has votes
@@ -67,3 +70,9 @@ votes_fit places ballots now valid few =
     let within = sum-votes-valid (scale places) ballots now (scale_pos places) valid in
     let all : length ballots * scale places ≤ 1000000000 * scale places = mul-le-mul_right (scale places) (omega arith) in
     omega (arith, most_votes places)
+
+-- who is elected leaves all keep values
+pub keeps-elected : (s : ℕ) (now : Situation) (votes lots : List ℕ) (row : Row) (next : Situation) → Settle s now votes lots row next → row.step ≡ Elected → next.keeps ≡ now.keeps
+keeps-elected s now votes lots row next settles is =
+    let left : Leaves s now lots row Elected next = subst (λ (step : Step). Leaves s now lots row step next) is settles.leaves in
+    ap (λ (n : Situation). n.keeps) left.1

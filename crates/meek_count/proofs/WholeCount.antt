@@ -1,5 +1,5 @@
 -- From each situation just one list of rows leads to the end, whatever the order of the ballots.
-use Rattle.std.proofs.Common.{◌≡◌, ℕ, ◌+◌, ◌*◌, ◌^◌, ◌<◌, ◌≤◌, ◌↔◌, Bool, true, false, List, [], ◌∷◌, length, get_or, sum, All, arith, refl, ap, sym, subst, ◌∙◌, inl, inr, zero, suc}
+use Rattle.std.proofs.Common.{◌≡◌, ℕ, ◌+◌, ◌*◌, ◌<◌, ◌≤◌, ◌↔◌, false, List, [], ◌∷◌, length, get_or, sum, All, arith, refl, ap, sym, subst, ◌∙◌, inl, inr, zero, suc}
 use Rattle.std.specs.List.Sorted.{IsPermutation}
 use Rattle.std.proofs.lemmas.Bool.{cases_Bool}
 use Rattle.std.proofs.lemmas.List.Elements.{All-from_get_or}
@@ -12,7 +12,6 @@ use Rattle.candidate_roll.specs.State.{state_at}
 use Rattle.candidate_roll.specs.declared.state.State.{State}
 use Rattle.candidate_roll.specs.declared.state.State.TheVariants.{Hopeful, Elected, Defeated, Withdrawn}
 use Rattle.lot_order.specs.Lots.{IsOrder}
-use Rattle.meek_rule.specs.Places.{each_place}
 use Rattle.meek_rule.specs.Situation.{Situation, IsValid, FitsState, is_complete, final_states, opening, steps_left}
 use Rattle.meek_rule.specs.Row.{Row}
 use Rattle.meek_rule.specs.Iteration.{Settle}
@@ -52,13 +51,13 @@ rows_within : (fuel s : ℕ) (ballots : List (List ℕ)) (lots : List ℕ) (now 
 rows_within zero s ballots lots now enough pos valid order same = absurd (omega arith)
 rows_within (suc fuel) s ballots lots now enough pos valid order same =
     elim (cases_Bool (is_complete now)) [
-      inl ended ↦ ([], final_states now, (ended, refl))
-    | inr going ↦
-        let one : (row : Row) × (next : Situation) × GoesOn s (length ballots * s) now (votes s now.keeps ballots (length now.states)) lots row next =
+      | inl ended ↦ ([], final_states now, (ended, refl))
+      | inr going ↦
+          let one : (row : Row) × (next : Situation) × GoesOn s (length ballots * s) now (votes s now.keeps ballots (length now.states)) lots row next =
           iteration_exists s ballots lots now pos valid going order same in
-        let rest : (rows : List Row) × (last : List State) × Rows s ballots lots one.1 rows last =
+          let rest : (rows : List Row) × (last : List State) × Rows s ballots lots one.1 rows last =
           rows_within fuel s ballots lots one.1 (omega (arith, one.2.nearer)) pos one.2.valid order (same ∙ sym one.2.same_length) in
-        (one.0 ∷ rest.0, rest.1, (going, (one.1, one.2.settles, rest.2)))
+          (one.0 ∷ rest.0, rest.1, (going, (one.1, one.2.settles, rest.2)))
     ]
 
 -- a valid situation has rows to its end
@@ -84,11 +83,14 @@ rows-unique s ballots lots now (row ∷ rows) (other ∷ others) last end pos va
 -- a valid situation has just one end
 pub one_end : (s : ℕ) (ballots : List (List ℕ)) (lots : List ℕ) (now : Situation) → 1 ≤ s → IsValid s now → IsOrder lots → length lots ≡ length now.states → (rows : List Row) × (last : List State) × AreOnly (Rows s ballots lots now) rows last
 one_end s ballots lots now pos valid order same =
-    let some : (rows : List Row) × (last : List State) × Rows s ballots lots now rows last = rows_exist s ballots lots now pos valid order same in
-    (some.0, some.1, record {
-      are = some.2;
-      only = λ others end also. rows-unique s ballots lots now some.0 others some.1 end pos valid order same some.2 also;
-    })
+    let some : (rows : List Row) × (last : List State) × Rows s ballots lots now rows last = rows_exist s ballots lots now pos valid order same in (
+      some.0,
+      some.1,
+      record {
+        are = some.2;
+        only = λ others end also. rows-unique s ballots lots now some.0 others some.1 end pos valid order same some.2 also;
+      },
+    )
 
 -- an election opens with as many states as candidates
 pub length-opening : (s units : ℕ) (roll : RollList) → IsRoll roll → length (opening s units roll.seats roll.withdrawn).states ≡ length roll.names
@@ -113,15 +115,15 @@ votes-IsPermutation s keeps ballots other n moved =
     fill_by_all (λ p. vote s keeps other (p + 1)) (votes s keeps ballots n) n 0
     (length-map-range_with_len (λ p. vote s keeps ballots (p + 1)) 0 n)
     (λ p below.
-      get_or-map-range_with_len (λ p. vote s keeps ballots (p + 1)) 0 n p p 0 below (omega arith)
-      ∙ sym (sum_by-IsPermutation (λ (ranking : List ℕ). given s keeps s ranking (p + 1)) ballots other moved))
+    get_or-map-range_with_len (λ p. vote s keeps ballots (p + 1)) 0 n p p 0 below (omega arith)
+    ∙ sym (sum_by-IsPermutation (λ (ranking : List ℕ). given s keeps s ranking (p + 1)) ballots other moved))
 
 -- so are the rows
 pub rows-IsPermutation : (s : ℕ) (ballots other : List (List ℕ)) (lots : List ℕ) (now : Situation) (rows : List Row) (last : List State) → IsPermutation ballots other → Rows s ballots lots now rows last → Rows s other lots now rows last
 rows-IsPermutation s ballots other lots now [] last moved leads = leads
-rows-IsPermutation s ballots other lots now (row ∷ rows) last moved leads = 
+rows-IsPermutation s ballots other lots now (row ∷ rows) last moved leads =
     let iterates : IteratesTo s other lots now row leads.1.0 =
-      subst (λ (v : List ℕ). Settle s now v lots row leads.1.0) (votes-IsPermutation s now.keeps ballots other (length now.states) moved) leads.1.1 in
+    subst (λ (v : List ℕ). Settle s now v lots row leads.1.0) (votes-IsPermutation s now.keeps ballots other (length now.states) moved) leads.1.1 in
     (leads.0, (leads.1.0, iterates, rows-IsPermutation s ballots other lots leads.1.0 rows last moved leads.1.2))
 
 -- and the whole count

@@ -1,9 +1,8 @@
 // Counts of small elections, with the figures that their rules give by hand.
-ghost use Rattle.std.specs.Prelude.{◌≡◌, ◌≤◌, length, OnOk};
+ghost use Rattle.std.specs.Prelude.{◌≡◌, ◌≤◌, OnOk};
 
 use super::*;
 use candidate_roll::{Name, Names, State};
-use fixed_place::Keep;
 use meek_rule::FlatSpread;
 use plain_ballots::{BallotLine, Ballots, Ranking, lines_stand_for_ballots};
 use std::process::Abort;
@@ -20,9 +19,7 @@ fn add(alloc: Global, ballots: &mut Ballots, count: u32, ranks: &[u32]) -> Resul
 }
 
 /// Adds a candidate of this name.
-fn name(alloc: Global, names: &mut Names, bytes: &[u8]) -> Result<(), Fail>
-    ensures { OnOk result (length names.new ≡ length names.old + 1) }
-{
+fn name(alloc: Global, names: &mut Names, bytes: &[u8]) -> Result<(), Fail> {
     names.push(Name::try_new(alloc, bytes)?)?;
     Ok(())
 }
@@ -80,7 +77,10 @@ fn all_are_elected_at_once(rt: HostRuntime) -> Result<(), Fail> {
     assert_eq!(rt; count.roll().seats(), 3);
     for _ in 0..2 {
         assert_eq!(rt; count.next(), Turn::Finished);
-        assert_eq!(rt; count.states().items(), [State::Elected, State::Elected].as_slice());
+        assert_eq!(rt;
+            count.states().items(),
+            [State::Elected, State::Elected].as_slice()
+        );
     }
     Ok(())
 }
@@ -102,7 +102,10 @@ fn a_tie_is_broken_by_lots(rt: HostRuntime) -> Result<(), Fail> {
     assert_eq!(rt; row.surplus.units(), 0);
     assert_eq!(rt; row.tied.items(), [true, true].as_slice());
     assert_eq!(rt; count.next(), Turn::Finished);
-    assert_eq!(rt; count.states().items(), [State::Elected, State::Defeated].as_slice());
+    assert_eq!(rt;
+        count.states().items(),
+        [State::Elected, State::Defeated].as_slice()
+    );
     Ok(())
 }
 
@@ -123,16 +126,55 @@ fn a_surplus_is_transferred_at_nine_places(rt: HostRuntime) -> Result<(), Fail> 
     let ballots = ten_four_three(alloc)?;
     let mut count = begin::<9>(&rt, alloc, &roll, &lots, ballots, Amount::from_units(1_000))?;
     for (amounts, step) in [
-        ([1_000_000_000, 10_000_000_000, 17_000_000_000, 5_666_666_667, 4_333_333_333], Step::Elected),
-        ([1_000_000_000, 10_000_000_000, 17_000_000_000, 5_666_666_667, 4_333_333_333], Step::Iterate),
-        ([566_666_667, 5_666_666_670, 12_666_666_670, 4_222_222_224, 1_444_444_446], Step::Iterate),
-        ([422_222_223, 4_222_222_230, 11_222_222_230, 3_740_740_744, 740_740_742], Step::Elected),
+        (
+            [
+                1_000_000_000,
+                10_000_000_000,
+                17_000_000_000,
+                5_666_666_667,
+                4_333_333_333,
+            ],
+            Step::Elected,
+        ),
+        (
+            [
+                1_000_000_000,
+                10_000_000_000,
+                17_000_000_000,
+                5_666_666_667,
+                4_333_333_333,
+            ],
+            Step::Iterate,
+        ),
+        (
+            [
+                566_666_667,
+                5_666_666_670,
+                12_666_666_670,
+                4_222_222_224,
+                1_444_444_446,
+            ],
+            Step::Iterate,
+        ),
+        (
+            [
+                422_222_223,
+                4_222_222_230,
+                11_222_222_230,
+                3_740_740_744,
+                740_740_742,
+            ],
+            Step::Elected,
+        ),
     ] {
         assert_eq!(rt; count.next(), Turn::Iterated);
         check(&rt, count.row(), amounts, step);
     }
     assert_eq!(rt; count.next(), Turn::Finished);
-    assert_eq!(rt; count.states().items(), [State::Elected, State::Elected, State::Defeated].as_slice());
+    assert_eq!(rt;
+        count.states().items(),
+        [State::Elected, State::Elected, State::Defeated].as_slice()
+    );
     Ok(())
 }
 
@@ -144,10 +186,22 @@ fn a_surplus_is_transferred_at_six_places(rt: HostRuntime) -> Result<(), Fail> {
     let ballots = ten_four_three(alloc)?;
     let mut count = begin::<6>(&rt, alloc, &roll, &lots, ballots, Amount::from_units(1))?;
     for (amounts, step) in [
-        ([1_000_000, 10_000_000, 17_000_000, 5_666_667, 4_333_333], Step::Elected),
-        ([1_000_000, 10_000_000, 17_000_000, 5_666_667, 4_333_333], Step::Iterate),
-        ([566_667, 5_666_670, 12_666_670, 4_222_224, 1_444_446], Step::Iterate),
-        ([422_223, 4_222_230, 11_222_230, 3_740_744, 740_742], Step::Elected),
+        (
+            [1_000_000, 10_000_000, 17_000_000, 5_666_667, 4_333_333],
+            Step::Elected,
+        ),
+        (
+            [1_000_000, 10_000_000, 17_000_000, 5_666_667, 4_333_333],
+            Step::Iterate,
+        ),
+        (
+            [566_667, 5_666_670, 12_666_670, 4_222_224, 1_444_446],
+            Step::Iterate,
+        ),
+        (
+            [422_223, 4_222_230, 11_222_230, 3_740_744, 740_742],
+            Step::Elected,
+        ),
     ] {
         assert_eq!(rt; count.next(), Turn::Iterated);
         check(&rt, count.row(), amounts, step);

@@ -11,10 +11,14 @@ use Rattle.meek_count.proofs.count.Count.begin.Goals as goal
 pub invariant_of-result : goal.invariant_of-result
 invariant_of-result g c =
     let states : length c.in_ok-situation.situation.states ≡ length c.args.roll.now.names =
-      ap (λ (now : Situation). length now.states) c.in_ok-situation.ensures.opening ∙ length-opening (scale g.row.P) c.args.omega c.args.roll.now c.candidates-n.ensures.sound in
-    let all : c.candidates-n.result ≡ length c.in_ok-situation.situation.states = c.candidates-n.ensures.value ∙ sym states in
-    (c.units-places.ensures.places.0, c.units-places.ensures.places.1, c.requires.can_spread, c.requires.spread_of_all ∙ sym states,
-      ap (λ (v : List ℕ). length v) c.in_ok-tally.ensures ∙ (length-replicate _ _ ∙ all), λ stand. absurd (cc),
+    ap (λ (now : Situation). length now.states) c.in_ok-situation.ensures.opening ∙ length-opening (scale g.row.P) c.args.omega c.args.roll.now c.candidates-n.ensures.sound in
+    let all : c.candidates-n.result ≡ length c.in_ok-situation.situation.states = c.candidates-n.ensures.value ∙ sym states in (
+      c.units-places.ensures.places.0,
+      c.units-places.ensures.places.1,
+      c.requires.can_spread,
+      c.requires.spread_of_all ∙ sym states,
+      ap (λ (v : List ℕ). length v) c.in_ok-tally.ensures ∙ (length-replicate _ _ ∙ all),
+      λ stand. absurd (cc),
       record {
         valid = c.in_ok-situation.ensures.valid;
         on_its_way = c.in_ok-situation.ensures.on_its_way;
@@ -23,11 +27,12 @@ invariant_of-result g c =
         names_of_all = sym states;
         row_of_all = subst (λ (n : ℕ). HasRoomFor n c.in_ok-row.row) all c.in_ok-row.ensures;
         few_ballots = c.requires.few_ballots;
-      })
+      },
+    )
 
 pub returns-clause-rest : goal.returns-clause-rest
 returns-clause-rest g c =
     let states : length c.in_ok-situation.situation.states ≡ length c.args.roll.now.names =
-      ap (λ (now : Situation). length now.states) c.in_ok-situation.ensures.opening ∙ length-opening (scale g.row.P) c.args.omega c.args.roll.now c.candidates-n.ensures.sound in
+    ap (λ (now : Situation). length now.states) c.in_ok-situation.ensures.opening ∙ length-opening (scale g.row.P) c.args.omega c.args.roll.now c.candidates-n.ensures.sound in
     rows_exist (scale g.row.P) (g.D.Spread.ballots c.args.spread) c.args.lots.now c.in_ok-situation.situation (scale_pos g.row.P)
     c.in_ok-situation.ensures.valid c.candidates-order.ensures.order (c.requires.lots_of_all ∙ sym states)
