@@ -1,9 +1,9 @@
 -- Lines with one for each candidate, written one after another.
-use Rattle.std.proofs.Common.{◌≡◌, ℕ, ◌+◌, ◌-◌, ◌<◌, ◌≤◌, List, [], ◌∷◌, ◌++◌, Option, Result, IsErr, arith, refl, sym, ap, subst, ◌∙◌, append_assoc, append-nil, zero, suc, add-zero, add-suc, add-one}
+use Rattle.std.proofs.Common.{◌≡◌, ℕ, ◌+◌, ◌-◌, ◌<◌, List, [], ◌∷◌, ◌++◌, Option, Result, IsErr, arith, sym, ap, subst, ◌∙◌, append_assoc, append-nil, zero, suc, add-zero}
 use Rattle.std.proofs.lemmas.List.FromFn.{map-range_with_len_more}
 use Rattle.meek_rule.specs.Places.{each_place}
 use Rattle.sheet_text.specs.Writing.{Wrote, Stopped, Writes}
-use Rattle.sheet_text.proofs.WritingLemmas.{wrote_nothing, wrote_later, stopped_later, stops}
+use Rattle.sheet_text.proofs.WritingLemmas.{wrote_later, stopped_later, stops}
 
 pub each_place-more : {X : Type 0} (f : ℕ → X) (n : ℕ) → each_place (n + 1) f ≡ each_place n f ++ f n ∷ []
 each_place-more f n = map-range_with_len_more f 0 n n (omega arith)

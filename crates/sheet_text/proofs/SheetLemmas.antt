@@ -15,7 +15,7 @@ use Rattle.meek_count.specs.declared.turn.Turn.{Turn}
 use Rattle.meek_count.specs.declared.turn.Turn.TheVariants.{Iterated, Finished}
 use Rattle.meek_count.proofs.Leading.{leads_none, leads_more}
 use Rattle.sheet_text.specs.Lines.{head_lines, row_lines, result_lines}
-use Rattle.sheet_text.specs.Sheet.{lines_up_to, sheet_lines, IsSheetOf, AppendsSheet, AppendsFrontOfSheet}
+use Rattle.sheet_text.specs.Sheet.{lines_up_to, sheet_lines, AppendsSheet, AppendsFrontOfSheet}
 use Rattle.sheet_text.specs.Writing.{Wrote, Stopped, Writes}
 use Rattle.sheet_text.proofs.WritingLemmas.{later, stops, wrote_later, stopped_later}
 
