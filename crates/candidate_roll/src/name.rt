@@ -1,6 +1,6 @@
 // A name or a title.
-ghost use Rattle.std.specs.Prelude.{◌≡◌, IfOk, IfErr, OnOk};
-ghost use Rattle.candidate_roll.specs.Name.{IsName, IsNameStop};
+ghost use Rattle.std.specs.Prelude.{◌≡◌, ◌↔◌, IsTrue, IfOk, IfErr, OnOk};
+ghost use Rattle.candidate_roll.specs.Name.{IsName, IsNameStop, IsPrintable};
 
 use crate::{NameStop, NoMemory};
 use std::alloc::Global;
@@ -35,7 +35,7 @@ impl<const MAX: usize> Name<MAX> {
             return Err(NameStop::TooLong);
         }
         for (at, byte) in bytes.iter().enumerate() {
-            if *byte < 32 || *byte == b'"' {
+            if !is_printable(*byte) {
                 return Err(NameStop::BadByte(at));
             }
         }
@@ -59,5 +59,40 @@ impl<const MAX: usize> Name<MAX> {
         ensures name { IsName MAX result.now }
     {
         self.bytes.as_slice()
+    }
+}
+
+fn is_printable(byte: u8) -> bool
+    ensures { IsTrue result ↔ IsPrintable byte }
+{
+    byte >= 32 && byte != b'"'
+}
+
+#[cfg(test)]
+mod tests {
+    use super::*;
+    use std::test::Fail;
+
+    #[test]
+    fn keeps_its_bytes(rt: HostRuntime) -> Result<(), Fail> {
+        let name = Name::<200>::try_new(rt.alloc(), b"Ann")?;
+        assert_eq!(rt; name.bytes(), b"Ann".as_slice());
+        assert_eq!(rt; name.copy(rt.alloc())?.bytes(), b"Ann".as_slice());
+        assert_eq!(rt; Name::<3>::try_new(rt.alloc(), b"").is_ok(), true);
+        assert_eq!(rt;
+            Name::<200>::try_new(rt.alloc(), &[b'x'; 200]).is_ok(),
+            true
+        );
+        Ok(())
+    }
+
+    #[test]
+    fn says_why_bytes_are_no_name(rt: HostRuntime) {
+        let long = Name::<200>::try_new(rt.alloc(), &[b'"'; 201]).err();
+        assert_eq!(rt; long, Some(NameStop::TooLong));
+        let quoted = Name::<200>::try_new(rt.alloc(), b"a\"b").err();
+        assert_eq!(rt; quoted, Some(NameStop::BadByte(1)));
+        let control = Name::<200>::try_new(rt.alloc(), b"ab\n\"").err();
+        assert_eq!(rt; control, Some(NameStop::BadByte(2)));
     }
 }

@@ -124,3 +124,65 @@ fn mark_listed(marks: &mut [bool], listed: &[u32])
         marks[(*c - 1) as usize] = true;
     }
 }
+
+#[cfg(test)]
+mod tests {
+    use super::*;
+    use crate::NameStop;
+    use std::test::Fail;
+
+    fn three_names(alloc: Global) -> Result<Names, NameStop> {
+        let mut names = Names::new(alloc);
+        for text in [b"Ann", b"Ben", b"Cid"] {
+            let name = Name::try_new(alloc, text)?;
+            if names.push(name).is_err() {
+                return Err(NameStop::NoMemory);
+            }
+        }
+        Ok(names)
+    }
+
+    #[test]
+    fn has_the_names_and_the_withdrawn(rt: HostRuntime) -> Result<(), Fail> {
+        let title = Name::try_new(rt.alloc(), b"Sample")?;
+        let names = three_names(rt.alloc())?;
+        assert_eq!(rt; names.len(), 3);
+        let roll = Roll::try_new(rt.alloc(), 1, names, title, &[3, 3])?;
+        assert_eq!(rt; (roll.seats(), roll.candidates()), (1, 3));
+        assert_eq!(rt; roll.name(1).bytes(), b"Ann".as_slice());
+        assert_eq!(rt; roll.title().bytes(), b"Sample".as_slice());
+        let withdrawn = (
+            roll.is_withdrawn(1),
+            roll.is_withdrawn(2),
+            roll.is_withdrawn(3),
+        );
+        assert_eq!(rt; withdrawn, (false, false, true));
+        let later = roll.with_struck(rt.alloc(), &[2])?;
+        assert_eq!(rt; later.name(3).bytes(), b"Cid".as_slice());
+        let withdrawn = (
+            later.is_withdrawn(1),
+            later.is_withdrawn(2),
+            later.is_withdrawn(3),
+        );
+        assert_eq!(rt; withdrawn, (false, true, true));
+        Ok(())
+    }
+
+    #[test]
+    fn says_why_there_is_no_roll(rt: HostRuntime) -> Result<(), Fail> {
+        let title = Name::try_new(rt.alloc(), b"T")?;
+        let nobody = Roll::try_new(rt.alloc(), 0, Names::new(rt.alloc()), title, &[]).err();
+        assert_eq!(rt; nobody, Some(RollStop::BadCount));
+        for (seats, stop) in [
+            (0, Some(RollStop::BadSeats)),
+            (251, Some(RollStop::BadSeats)),
+            (250, None),
+        ] {
+            let title = Name::try_new(rt.alloc(), b"T")?;
+            let names = three_names(rt.alloc())?;
+            let roll = Roll::try_new(rt.alloc(), seats, names, title, &[]);
+            assert_eq!(rt; roll.err(), stop, "at {seats} seats");
+        }
+        Ok(())
+    }
+}

@@ -133,3 +133,41 @@ fn first_unmarked(seen: &[bool]) -> Option<u32>
     }
     None
 }
+
+#[cfg(test)]
+mod tests {
+    use super::*;
+    use std::test::Fail;
+
+    #[test]
+    fn the_first_place_at_fault_decides(rt: HostRuntime) {
+        for (order, stop) in [
+            ([1, 2, 2], Some(LotsStop::Twice(3))),
+            ([1, 9, 1], Some(LotsStop::OutOfRange(2))),
+            ([2, 2, 0], Some(LotsStop::Twice(2))),
+            ([3, 1, 2], None),
+        ] {
+            let answer = Lots::try_new(rt.alloc(), &order, 3).err();
+            assert_eq!(rt; answer, stop, "at {order:?}");
+        }
+        let short = Lots::try_new(rt.alloc(), &[1, 2], 3).err();
+        assert_eq!(rt; short, Some(LotsStop::NotAll(3)));
+    }
+
+    #[test]
+    fn the_first_marked_candidate_and_the_later_of_two(rt: HostRuntime) -> Result<(), Fail> {
+        let mut tied = Flags::filled(rt.alloc(), 3, false)?;
+        tied.set(1, true);
+        let lots = Lots::try_new(rt.alloc(), &[1, 2, 3], 3)?;
+        assert_eq!(rt; lots.candidates(), 3);
+        assert_eq!(rt; lots.first_of(&tied), 2);
+        tied.set(0, true);
+        let turned = Lots::try_new(rt.alloc(), &[3, 2, 1], 3)?;
+        assert_eq!(rt; turned.first_of(&tied), 2);
+        assert_eq!(rt;
+            (turned.later(1, 2), turned.later(3, 2), turned.later(2, 2)),
+            (true, false, false)
+        );
+        Ok(())
+    }
+}

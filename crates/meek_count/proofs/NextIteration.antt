@@ -21,7 +21,7 @@ use Rattle.meek_rule.specs.Surplus.{surplus, holds_seat}
 use Rattle.meek_rule.specs.KeepValues.{new_keeps, capped, next_keep}
 use Rattle.meek_rule.specs.Ties.{tied, is_tied}
 use Rattle.meek_rule.specs.Iteration.{Settle, Leaves, nobody, is_exhausted, is_not_falling, elect, with_elected, with_defeated, with_keeps}
-use Rattle.meek_rule.proofs.ValidLemmas.{valid-with_elected, valid-with_keeps, valid-with_defeated}
+use Rattle.meek_rule.proofs.ValidLemmas.{winners-electable, valid-with_elected, valid-with_keeps, valid-with_defeated}
 use Rattle.meek_rule.proofs.StateCounts.{hopeful_count-elect, hopeful_count-defeat}
 use Rattle.meek_rule.proofs.ProgressLemmas.{nearer_by_round}
 use Rattle.meek_rule.proofs.TieLemmas.{somebody_tied, somebody_hopeful}
@@ -107,7 +107,7 @@ elected_goes_on s most now votes lots winners valid are some =
         surplus_is = refl;
         leaves = (some, refl, refl, refl);
       };
-      valid = valid-with_elected s now votes lots (quota now.seats votes) winners valid are;
+      valid = valid-with_elected s now winners valid (winners-electable s now votes lots (quota now.seats votes) winners valid are);
       same_length = length-map-range_with_len _ 0 (length now.states);
       nearer = nearer_by_round most (hopeful_count (elect now.states winners)) (hopeful_count now.states) (unwrap_or now.previous (most + 1)) (omega arith);
     }

@@ -3,6 +3,7 @@ pub mod EndLemmas
 pub mod PlaceLemmas
 pub mod ProgressLemmas
 pub mod RuleLemmas
+pub mod SettleLemmas
 pub mod StateCounts
 pub mod StrictOrder
 pub mod TestLemmas

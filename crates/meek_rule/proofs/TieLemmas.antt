@@ -5,6 +5,14 @@ use Rattle.std.proofs.lemmas.Bool.{cases_Bool, cases_lt, and_from, le-leb, lt-le
 use Rattle.candidate_roll.specs.declared.state.State.{State}
 use Rattle.lot_order.specs.Lots.{IsOrder}
 use Rattle.meek_rule.specs.Winners.{comes_before}
+use Rattle.lot_order.specs.Flags.{mark_at}
+use Rattle.lot_order.specs.Lots.{first_marked}
+use Rattle.lot_order.proofs.LotsLemmas.{first_marked-order}
+use Rattle.std.proofs.lemmas.List.FromFn.{length-map-range_with_len, get_or-map-range_with_len}
+use Rattle.std.proofs.lemmas.Bool.{and_parts}
+use Rattle.std.proofs.Common.{cond, List, [], ◌∷◌, ◌-◌}
+use Rattle.meek_rule.specs.Ties.{tied}
+use Rattle.meek_rule.proofs.WinnersByCount.{marked_place}
 use Rattle.candidate_roll.specs.State.{state_at}
 use Rattle.meek_rule.specs.Situation.{Situation, IsValid, is_complete, is_hopeful, elected_count, hopeful_count}
 use Rattle.meek_rule.specs.Ties.{is_tied, is_within_surplus}
@@ -77,3 +85,39 @@ somebody_tied states votes lots u order same some =
             ])),
       )
     ]
+
+-- who is tied is hopeful
+pub tied-hopeful : (states : List State) (votes : List ℕ) (u p : ℕ) → mark_at (tied states votes u) p ≡ true → (p < length states) × (is_hopeful (state_at states p) ≡ true)
+tied-hopeful states votes u p marked =
+    let n : ℕ = length states in
+    let test : ℕ → Bool = is_tied states votes u in
+    let whole : length (tied states votes u) ≡ n = length-map-range_with_len test 0 n in
+    let place : p < length (tied states votes u) = marked_place (tied states votes u) p marked in
+    let inside : p < n = omega arith in
+    let passes : test p ≡ true = sym (get_or-map-range_with_len test 0 n p p false inside (omega arith)) ∙ marked in
+    (inside, (and_parts (is_hopeful (state_at states p)) _ passes).0)
+
+-- where somebody is hopeful somebody is marked as tied
+pub tied-somebody : (states : List State) (votes lots : List ℕ) (u : ℕ) → IsOrder lots → length lots ≡ length states → 1 ≤ hopeful_count states → (p : ℕ) × (mark_at (tied states votes u) p ≡ true)
+tied-somebody states votes lots u order same some =
+    let one : (p : ℕ) × (p < length states) × (is_tied states votes u p ≡ true) = somebody_tied states votes lots u order same some in
+    (one.0, get_or-map-range_with_len (is_tied states votes u) 0 (length states) one.0 one.0 false one.1 (omega arith) ∙ one.2)
+
+-- the first of the marked is marked
+pub first_marked-marked : (order : List ℕ) (marks : List Bool) → 1 ≤ first_marked order marks → mark_at marks (first_marked order marks - 1) ≡ true
+first_marked-marked [] marks some = absurd (omega arith)
+first_marked-marked (c ∷ order) marks some =
+    elim (cases_Bool (mark_at marks (c - 1))) [
+      inl is ↦ rw is is
+    | inr fails ↦
+        let later : first_marked (c ∷ order) marks ≡ first_marked order marks = ap (λ b. cond b c (first_marked order marks)) fails in
+        rw later (first_marked-marked order marks (omega arith))
+    ]
+
+-- the tied candidate that stands first in the lots is hopeful
+pub loser-hopeful : (states : List State) (votes lots : List ℕ) (u : ℕ) → IsOrder lots → length lots ≡ length states → 1 ≤ hopeful_count states → (first_marked lots (tied states votes u) - 1 < length states) × (is_hopeful (state_at states (first_marked lots (tied states votes u) - 1)) ≡ true)
+loser-hopeful states votes lots u order same some =
+    let marks : List Bool = tied states votes u in
+    let one : (p : ℕ) × (mark_at marks p ≡ true) = tied-somebody states votes lots u order same some in
+    let whole : length marks ≡ length lots = length-map-range_with_len (is_tied states votes u) 0 (length states) ∙ sym same in
+    tied-hopeful states votes u (first_marked lots marks - 1) (first_marked-marked lots marks (first_marked-order lots marks one.0 order whole one.1))

@@ -10,7 +10,7 @@ use Rattle.meek_rule.specs.Places.{each_place}
 use Rattle.meek_rule.proofs.PlaceLemmas.{sum_more}
 use Rattle.meek_rule.proofs.WeightLemmas.{kept-le}
 
-sum_suc : (f : ℕ → ℕ) (n : ℕ) → sum (each_place (suc n) f) ≡ sum (each_place n f) + f n
+pub sum_suc : (f : ℕ → ℕ) (n : ℕ) → sum (each_place (suc n) f) ≡ sum (each_place n f) + f n
 sum_suc f n = subst (λ (m : ℕ). sum (each_place m f) ≡ sum (each_place n f) + f n) (add-one n) (sum_more f n)
 
 -- a sum of sums

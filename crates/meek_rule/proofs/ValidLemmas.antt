@@ -7,6 +7,7 @@ use Rattle.std.proofs.lemmas.Grind.{get_or-set_at}
 use Rattle.meek_rule.specs.Places.{each_place, marked_count}
 use Rattle.candidate_roll.specs.declared.state.State.{State}
 use Rattle.lot_order.specs.Flags.{mark_at}
+use Rattle.meek_rule.specs.Steps.{AreElectable}
 use Rattle.meek_rule.specs.Winners.{AreWinners}
 use Rattle.candidate_roll.specs.State.{state_at}
 use Rattle.candidate_roll.specs.declared.state.State.TheVariants.{Hopeful, Elected, Defeated, Withdrawn}
@@ -53,16 +54,25 @@ valid-opening s least seats withdrawn one_unit one_vote some few some_one not_ma
     fits s true = refl
     fits s false = refl
 
--- a valid situation stays valid where winners are elected
-pub valid-with_elected : (s : ℕ) (now : Situation) (votes lots : List ℕ) (q : ℕ) (marks : List Bool) → IsValid s now → AreWinners now.states (now.seats - elected_count now.states) votes lots q marks → IsValid s (with_elected now marks)
-valid-with_elected s now votes lots q marks valid winners =
+-- winners can be elected
+pub winners-electable : (s : ℕ) (now : Situation) (votes lots : List ℕ) (q : ℕ) (marks : List Bool) → IsValid s now → AreWinners now.states (now.seats - elected_count now.states) votes lots q marks → AreElectable now marks
+winners-electable s now votes lots q marks valid winners =
+    let seated : elected_count now.states ≤ now.seats = valid.seated in
+    let few : marked_count marks ≤ now.seats - elected_count now.states = omega (arith, winners.as_many) in
+    record {
+      same_length = winners.same_length;
+      hopeful = λ p marked. (and_parts _ _ (winners.reached p marked)).0;
+      room = omega arith;
+    }
+
+-- a valid situation stays valid where candidates are elected
+pub valid-with_elected : (s : ℕ) (now : Situation) (marks : List Bool) → IsValid s now → AreElectable now marks → IsValid s (with_elected now marks)
+valid-with_elected s now marks valid electable =
     let n : ℕ = length now.states in
     let after : ℕ → State = λ p. cond (mark_at marks p) Elected (state_at now.states p) in
     let same : length (elect now.states marks) ≡ n = length-map-range_with_len after 0 n in
-    let hopeful : (p : ℕ) → mark_at marks p ≡ true → is_hopeful (state_at now.states p) ≡ true = λ p marked. (and_parts _ _ (winners.reached p marked)).0 in
-    let counted = elected_count-elect now.states marks winners.same_length hopeful in
-    let seated : elected_count now.states ≤ now.seats = valid.seated in
-    let few : marked_count marks ≤ now.seats - elected_count now.states = omega (arith, winners.as_many) in
+    let hopeful : (p : ℕ) → mark_at marks p ≡ true → is_hopeful (state_at now.states p) ≡ true = electable.hopeful in
+    let counted = elected_count-elect now.states marks electable.same_length hopeful in
     record {
       some_seat = valid.some_seat;
       few_seats = valid.few_seats;
@@ -73,7 +83,7 @@ valid-with_elected s now votes lots q marks valid winners =
           let inside : p < n = omega arith in
           let state : state_at (elect now.states marks) p ≡ after p = get_or-map-range_with_len after 0 n p p Withdrawn inside (omega arith) in
           subst (λ (x : State). FitsState s x (get_or now.keeps p 0)) (sym state) (fits_elected s (state_at now.states p) (mark_at marks p) (get_or now.keeps p 0) (hopeful p) (valid.fitting p inside));
-      seated = omega arith;
+      seated = omega (arith, electable.room);
       numbered = omega arith;
       first = refl;
       some_omega = valid.some_omega;

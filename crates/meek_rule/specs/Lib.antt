@@ -12,3 +12,4 @@ pub mod Precedence
 pub mod LowestVote
 pub mod Worked
 pub mod Laws
+pub mod Steps

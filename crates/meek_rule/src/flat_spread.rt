@@ -89,3 +89,28 @@ fn give_line<const P: usize>(count: u32, ranks: &[u32], keeps: &[Keep<P>], tally
         }
     }
 }
+
+#[cfg(test)]
+mod tests {
+    use super::*;
+    use plain_ballots::Ranking;
+    use std::test::Fail;
+
+    #[test]
+    fn each_ballot_of_a_line_is_rounded_by_itself(rt: HostRuntime) -> Result<(), Fail> {
+        let alloc = rt.alloc();
+        let mut ballots = Ballots::new(alloc, 2);
+        let ranking = Ranking::try_new(alloc, 2, &[1, 2])?;
+        ballots.push_line(BallotLine { count: 3, ranking })?;
+        let mut keeps = Keeps::filled(alloc, 2, Keep::from_units(571_428_572))?;
+        keeps.set(1, Keep::from_units(666_666_667));
+        let mut tally = Amounts::filled(alloc, 2, Amount::from_units(5))?;
+        let mut flat = FlatSpread::new(ballots);
+        Spread::<9>::spread(&mut flat, &keeps, &mut tally);
+        let votes = [Amount::from_units(1_714_285_716), Amount::from_units(857_142_858)];
+        assert_eq!(rt; tally.items(), votes.as_slice());
+        assert_eq!(rt; Spread::<9>::ballots(&flat), 3);
+        assert_eq!(rt; Spread::<9>::candidates(&flat), 2);
+        Ok(())
+    }
+}

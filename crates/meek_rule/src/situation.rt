@@ -1,23 +1,17 @@
 // An election between two iterations.
 ghost use Rattle.std.specs.Prelude.{◌≡◌, ◌+◌, ◌^◌, ◌<◌, ◌≤◌, true, false, length, sum, IfOk};
 ghost use Rattle.fixed_place.specs.Rounding.{scale, most};
-ghost use Rattle.meek_rule.specs.Situation.{IsValid, IsOnItsWay, opening, is_complete, finished, steps_left};
-ghost use Rattle.meek_rule.specs.Row.{HasRoomFor};
-ghost use Rattle.meek_rule.specs.Iteration.{Settle, HasOnlyRunningVotes, is_exhausted};
+ghost use Rattle.meek_rule.specs.Situation.{IsValid, IsOnItsWay, opening, is_complete, finished};
 
 use crate::ending::{end_keeps, end_states};
-use crate::keep_values::update_keeps;
-use crate::quota::{quota_of, total_of};
 use crate::states::{count_elected, count_hopeful};
-use crate::surplus::surplus_of;
-use crate::ties::mark_tied;
-use crate::winners::{count_marked, elect, mark_winners};
-use crate::{NoMemory, Row, Step};
+use crate::NoMemory;
 use candidate_roll::{Roll, State, States};
-use fixed_place::{Amount, Amounts, Keep, Keeps, scale_of};
-use lot_order::Lots;
+use fixed_place::{Amount, Keep, Keeps, scale_of};
 use std::alloc::Global;
 use std::marker::Model;
+
+mod iteration;
 
 /// An election between two iterations: the seats, each candidate's state and keep value at index
 /// c - 1, the numbers of the round and the iteration, the surplus of the iteration before in this
@@ -119,76 +113,6 @@ impl<const P: usize> Situation<P> {
         elected == self.seats || elected + count_hopeful(&self.states) <= self.seats
     }
 
-    /// Does one iteration of the rule with the votes of a distribution, and fills the row.
-    pub fn settle(&mut self, votes: &Amounts<P>, lots: &Lots, row: &mut Row<P>)
-        requires open { is_complete self.old ≡ false }
-        requires rounds { self.old.round + 1 < 2 ^ 32 }
-        requires iterations { self.old.iteration + 1 < 2 ^ 64 }
-        requires votes_of_all { length votes.now ≡ length self.old.states }
-        requires lots_of_all { length lots.now ≡ length self.old.states }
-        requires row_of_all { HasRoomFor (length self.old.states) row.old }
-        requires only_running { HasOnlyRunningVotes self.old.states votes.now }
-        requires few { sum votes.now ≤ most P }
-        ensures settle { Settle (scale P) self.old votes.now lots.now row.new self.new }
-        ensures valid { IsValid (scale P) self.new }
-        ensures nearer { steps_left (most P) self.new < steps_left (most P) self.old }
-        ensures on_its_way { IsOnItsWay (most P) self.old → IsOnItsWay (most P) self.new }
-        ensures same_candidates { length self.new.states ≡ length self.old.states }
-        ensures row_of_all { HasRoomFor (length self.new.states) row.new }
-    {
-        let _order = lots.candidates();
-        row.round = self.round;
-        row.iteration = self.iteration;
-        row.states.copy_from(&self.states);
-        row.keeps.copy_from(&self.keeps);
-        row.votes.copy_from(votes);
-        row.capped.fill(false);
-        row.tied.fill(false);
-        row.total = total_of(votes);
-        row.quota = quota_of(row.total, self.seats);
-        let free = self.seats - count_elected(&self.states);
-        mark_winners(&self.states, votes, row.quota, free, lots, &mut row.elected);
-        row.surplus = surplus_of(&self.states, &row.elected, votes, row.quota);
-        if count_marked(&row.elected) > 0 {
-            elect(&mut self.states, &row.elected);
-            self.round += 1;
-            self.iteration = 1;
-            self.previous = None;
-            row.step = Step::Elected;
-        } else if self.is_exhausted(row.surplus) {
-            mark_tied(&self.states, votes, row.surplus, &mut row.tied);
-            let loser = lots.first_of(&row.tied);
-            self.states.set((loser - 1) as usize, State::Defeated);
-            self.keeps.set((loser - 1) as usize, Keep::from_units(0));
-            self.round += 1;
-            self.iteration = 1;
-            self.previous = None;
-            row.step = Step::Defeat(loser);
-        } else {
-            update_keeps(
-                &self.states,
-                votes,
-                row.quota,
-                &mut self.keeps,
-                &mut row.capped,
-            );
-            self.iteration += 1;
-            self.previous = Some(row.surplus);
-            row.step = Step::Iterate;
-        }
-    }
-
-    /// Whether somebody has to be defeated.
-    fn is_exhausted(&self, surplus: Amount<P>) -> bool
-        ensures { result ≡ is_exhausted self.now surplus.entry }
-    {
-        surplus.units() < self.omega.units()
-            || match self.previous {
-                Some(before) => surplus.units() >= before.units(),
-                None => false,
-            }
-    }
-
     /// Ends the count: each hopeful candidate that remains is defeated where the seats are taken, and
     /// otherwise elected.
     pub fn finish(&mut self)
@@ -203,3 +127,6 @@ impl<const P: usize> Situation<P> {
         end_states(&mut self.states, full);
     }
 }
+
+#[cfg(test)]
+mod tests;

@@ -35,8 +35,8 @@ pub record IsRepeatedAt (n : ℕ) (ranks : List ℕ) (place : ℕ) : Type 0 wher
   pub sound_before : IsRanking n (before ranks place)
   pub stood_before : Contains (before ranks place) (rank_at ranks place)
 
--- why ranks are no ranking of n candidates; want of memory says nothing of them
+-- why ranks are no ranking of n candidates; memory is wanted for a ranking alone
 abbrev pub IsRankStop : ℕ → List ℕ → RankStop → Type 0
 IsRankStop n ranks (OutOfRange place) = IsOutOfRangeAt n ranks place
 IsRankStop n ranks (Repeated place) = IsRepeatedAt n ranks place
-IsRankStop n ranks NoMemory = Unit {0}
+IsRankStop n ranks NoMemory = IsRanking n ranks

@@ -67,9 +67,7 @@ impl Ballots {
     pub fn append_copy(&mut self, other: &Ballots) -> Result<(), AppendStop>
         requires { other.now.candidates ≡ self.old.candidates }
         ensures ok { OnOk result (self.new ≡ record self.old { lines = self.old.lines ++ other.now.lines }) }
-        ensures too_many {
-            (result ≡ Err AppendStop.TooMany) ↔ (999999999 < ballot_count self.old.lines + ballot_count other.now.lines)
-        }
+        ensures too_many { (result ≡ Err AppendStop.TooMany) ↔ (999999999 < ballot_count self.old.lines + ballot_count other.now.lines) }
         ensures refused { OnErr result (self.new ≡ self.old) }
     {
         let total = self.total + other.total;
@@ -130,4 +128,59 @@ fn copy_lines(alloc: Global, lines: &[BallotLine]) -> Result<Vec<BallotLine>, No
         }
     }
     Ok(copied)
+}
+
+#[cfg(test)]
+mod tests {
+    use super::*;
+    use crate::{RankStop, Ranking};
+    use std::test::Fail;
+
+    fn line(alloc: Global, count: u32) -> Result<BallotLine, RankStop>
+        ensures { IfOk result (λ line. (line.count ≡ count) × IsRanking 2 line.ranking) }
+    {
+        let ranking = Ranking::try_new(alloc, 2, &[1, 2])?;
+        Ok(BallotLine { count, ranking })
+    }
+
+    #[test]
+    fn a_copy_has_the_same_lines(rt: HostRuntime) -> Result<(), Fail> {
+        let mut ballots = Ballots::new(rt.alloc(), 2);
+        ballots.push_line(line(rt.alloc(), 3)?)?;
+        assert_eq!(rt; ballots.total(), 3);
+        let copy = ballots.copy(rt.alloc())?;
+        assert_eq!(rt; (copy.candidates(), copy.total()), (2, 3));
+        assert_eq!(rt; copy.lines().len(), 1);
+        assert_eq!(rt; copy.lines()[0].count, 3);
+        assert_eq!(rt; copy.lines()[0].ranking.ranks(), [1, 2].as_slice());
+        Ok(())
+    }
+
+    #[test]
+    fn one_ballot_too_many_comes_back(rt: HostRuntime) -> Result<(), Fail> {
+        let mut ballots = Ballots::new(rt.alloc(), 2);
+        ballots.push_line(line(rt.alloc(), 999_999_999)?)?;
+        let Err(LineStop::TooMany(back)) = ballots.push_line(line(rt.alloc(), 1)?) else {
+            return Err(Fail::from("the line was taken"));
+        };
+        assert_eq!(rt; back.count, 1);
+        assert_eq!(rt; back.ranking.ranks(), [1, 2].as_slice());
+        assert_eq!(rt; (ballots.total(), ballots.lines().len()), (999_999_999, 1));
+        Ok(())
+    }
+
+    #[test]
+    fn lines_are_added_behind_the_others(rt: HostRuntime) -> Result<(), Fail> {
+        let mut ballots = Ballots::new(rt.alloc(), 2);
+        ballots.push_line(line(rt.alloc(), 7)?)?;
+        let mut others = Ballots::new(rt.alloc(), 2);
+        others.push_line(line(rt.alloc(), 999_999_985)?)?;
+        others.push_line(line(rt.alloc(), 7)?)?;
+        ballots.append_copy(&others)?;
+        assert_eq!(rt; (ballots.total(), ballots.lines().len()), (999_999_999, 3));
+        assert_eq!(rt; ballots.lines()[1].count, 999_999_985);
+        assert_eq!(rt; ballots.append_copy(&others), Err(AppendStop::TooMany));
+        assert_eq!(rt; (ballots.total(), ballots.lines().len()), (999_999_999, 3));
+        Ok(())
+    }
 }

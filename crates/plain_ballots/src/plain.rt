@@ -8,10 +8,7 @@ ghost use Rattle.plain_ballots.specs.declared.ballot_line.BallotLine.{BallotLine
 pub fn lines_stand_for_ballots()
     ensures count { (lines : List BallotLine) → length (plain lines) ≡ ballot_count lines }
     ensures joined { (xs ys : List BallotLine) → plain (xs ++ ys) ≡ plain xs ++ plain ys }
-    ensures sums {
-        (f : List ℕ → ℕ) (lines : List BallotLine) →
-          sum_by f (plain lines) ≡ sum_by (λ line. line.count * f line.ranking) lines
-    }
+    ensures sums { (f : List ℕ → ℕ) (lines : List BallotLine) →
+        sum_by f (plain lines) ≡ sum_by (λ line. line.count * f line.ranking) lines }
     ensures order { (xs ys : List BallotLine) → IsPermutation xs ys → IsPermutation (plain xs) (plain ys) }
-{
-}
+{}

@@ -66,3 +66,35 @@ impl Ranking {
         self.ranks.as_slice()
     }
 }
+
+#[cfg(test)]
+mod tests {
+    use super::*;
+    use crate::RankStop;
+    use std::test::Fail;
+
+    #[test]
+    fn keeps_the_ranks(rt: HostRuntime) -> Result<(), Fail> {
+        let ranking = Ranking::try_new(rt.alloc(), 3, &[3, 1])?;
+        let copy = ranking.copy(rt.alloc())?;
+        assert_eq!(rt; ranking.ranks(), [3, 1].as_slice());
+        assert_eq!(rt; copy.ranks(), [3, 1].as_slice());
+        assert_eq!(rt;
+            Ranking::new(rt.alloc(), &[2, 9])?.ranks(),
+            [2, 9].as_slice()
+        );
+        Ok(())
+    }
+
+    #[test]
+    fn the_first_place_at_fault_decides(rt: HostRuntime) {
+        for (ranks, stop) in [
+            ([1, 4], RankStop::OutOfRange(2)),
+            ([2, 2], RankStop::Repeated(2)),
+            ([0, 0], RankStop::OutOfRange(1)),
+        ] {
+            let answer = Ranking::try_new(rt.alloc(), 3, &ranks).err();
+            assert_eq!(rt; answer, Some(stop), "at {stop:?}");
+        }
+    }
+}

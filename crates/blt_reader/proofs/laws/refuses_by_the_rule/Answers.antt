@@ -1,0 +1,5 @@
+use Rattle.blt_reader.proofs.BltLaws.{refuses_by_the_rule}
+use Rattle.blt_reader.proofs.laws.refuses_by_the_rule.Goals as goal
+
+pub returns : goal.returns
+returns c = refuses_by_the_rule

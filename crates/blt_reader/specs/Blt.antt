@@ -1,0 +1,53 @@
+-- A ballot file, as the list of what its tokens say.
+use Rattle.std.specs.Prelude.{◌≡◌, ◌≤◌, ℕ, List, [], ◌∷◌, ◌++◌, length, map, All}
+use Rattle.std.specs.List.{flat_map}
+use Rattle.plain_ballots.specs.Ballots.{ballot_count}
+use Rattle.plain_ballots.specs.Ranking.{IsRanking}
+use Rattle.plain_ballots.specs.declared.ballot_line.BallotLine.{BallotLine}
+use Rattle.blt_reader.specs.Token.{Item, Number, Minus, Text}
+use Rattle.candidate_roll.specs.Roll.{withdrawn_marks}
+use Rattle.blt_reader.specs.Poll.{Poll}
+
+-- from 1 to the greatest
+pub record IsIn (greatest n : ℕ) : Type 0 where
+  pub least : 1 ≤ n
+  pub most : n ≤ greatest
+
+-- lines of ballots among so many candidates, each of at least one ballot, and together of at most so many
+pub record AreLines (candidates most : ℕ) (lines : List BallotLine) : Type 0 where
+  pub rankings : All (λ line. IsRanking candidates line.ranking) lines
+  pub counted : All (λ line. 1 ≤ line.count) lines
+  pub bounded : ballot_count lines ≤ most
+
+-- a count, the candidates in order of rank, and 0
+abbrev pub ballot : BallotLine → List Item
+ballot line = Number line.count ∷ map Number line.ranking ++ Number 0 ∷ []
+
+-- ballots, and 0
+abbrev pub ballots : List BallotLine → List Item
+ballots lines = flat_map ballot lines ++ Number 0 ∷ []
+
+-- the numbers of candidates and seats, and the withdrawn candidates
+abbrev pub opening : ℕ → ℕ → List ℕ → List Item
+opening candidates seats withdrawn = Number candidates ∷ Number seats ∷ map Minus withdrawn
+
+-- A file up to its title, of at most so many ballots: 1 to 250 candidates and seats, the withdrawn candidates as often
+-- and in what order they may stand, the ballots, a name for each candidate in number order, and the title.
+pub record IsUpToTitle (most : ℕ) (items : List Item) (poll : Poll) : Type 0 where
+  pub withdrawn : List ℕ
+  pub spelled : items ≡ opening (length poll.roll.names) poll.roll.seats withdrawn
+      ++ (ballots poll.lines ++ (map Text poll.roll.names ++ Text poll.roll.title ∷ []))
+  pub candidates : IsIn 250 (length poll.roll.names)
+  pub seats : IsIn 250 poll.roll.seats
+  pub each_withdrawn : All (IsIn (length poll.roll.names)) withdrawn
+  pub marks : poll.roll.withdrawn ≡ withdrawn_marks (length poll.roll.names) withdrawn
+  pub lines : AreLines (length poll.roll.names) most poll.lines
+  pub names : All (λ name. length name ≤ 200) poll.roll.names
+  pub title : length poll.roll.title ≤ 1000
+
+-- A whole file: strings of any length may stand behind the title, and are not kept.
+pub record IsBlt (most : ℕ) (items : List Item) (poll : Poll) : Type 0 where
+  pub front : List Item
+  pub further : List (List ℕ)
+  pub spelled : items ≡ front ++ map Text further
+  pub up_to_title : IsUpToTitle most front poll

@@ -1,0 +1,15 @@
+pub mod Token
+pub mod Scan
+pub mod Reader
+pub mod Pieces
+pub mod Poll
+pub mod Election
+pub mod Judged
+pub mod Blt
+pub mod BallotTable
+pub mod BltTable
+pub mod Front
+pub mod Refusal
+pub mod Reads
+pub mod Opening
+pub mod Said

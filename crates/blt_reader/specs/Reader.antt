@@ -1,0 +1,69 @@
+-- A reader of tokens: what it has still to give.
+use Rattle.std.specs.Prelude.{◌≡◌, ◌<◌, ◌≤◌, ℕ, ◌+◌, ◌-◌, List, length, slice_range, Bool}
+use Rattle.std.specs.List.{AllPass}
+use Rattle.std.specs.Char.{is_ascii_lowercase}
+use Rattle.blt_reader.specs.Scan.{is_in_string, cut}
+use Rattle.blt_reader.specs.declared.what.What.{What}
+use Rattle.blt_reader.specs.declared.what.What.TheVariants as what
+use Rattle.blt_reader.specs.declared.token.Token.{Token}
+use Rattle.blt_reader.specs.declared.next.Next.{Next}
+use Rattle.blt_reader.specs.declared.next.Next.TheVariants as next
+use Rattle.blt_reader.specs.Token.{Item, Number, Minus, Text, Word, Placed, AtEnd, AtFault, Scan, ends, with_front}
+
+-- the whole input, and what is still to come of it
+pub record Reader : Type 0 where
+  pub bytes : List ℕ
+  pub rest : Scan
+
+-- what a token of these bytes says
+abbrev pub said : List ℕ → ℕ → ℕ → What → Item
+said bytes at stop (what.Number n) = Number n
+said bytes at stop (what.Minus n) = Minus n
+said bytes at stop what.Text = Text (slice_range bytes (at + 1) (stop - 1))
+said bytes at stop what.Word = Word (slice_range bytes at stop)
+
+abbrev pub placed : List ℕ → Token → Placed
+placed bytes token = record { at = token.at; item = said bytes token.at token.stop token.what }
+
+-- What was still to come was this answer, and then the rest. An end and a fault stay.
+abbrev pub Gives : List ℕ → Scan → Next → Scan → Type 0
+Gives bytes old (next.Token token) new = old ≡ with_front (placed bytes token) new
+Gives bytes old next.End new = (old ≡ ends (AtEnd (length bytes))) × (new ≡ old)
+Gives bytes old (next.Fault fault) new = (old ≡ ends (AtFault fault)) × (new ≡ old)
+
+-- a string or a word of these bytes
+abbrev pub IsTextAt : List ℕ → ℕ → ℕ → What → Type 0
+IsTextAt bytes at stop (what.Number n) = ⊥
+IsTextAt bytes at stop (what.Minus n) = ⊥
+IsTextAt bytes at stop what.Text = (at + 1 < stop) × (stop ≤ length bytes) × AllPass is_in_string (slice_range bytes (at + 1) (stop - 1))
+IsTextAt bytes at stop what.Word = (at ≤ stop) × (stop ≤ length bytes) × AllPass is_ascii_lowercase (slice_range bytes at stop)
+
+abbrev pub IsTextOf : List ℕ → Token → Type 0
+IsTextOf bytes token = IsTextAt bytes token.at token.stop token.what
+
+-- the same where it is no number
+abbrev pub MayBeText : List ℕ → ℕ → ℕ → What → Type 0
+MayBeText bytes at stop (what.Number n) = Unit {0}
+MayBeText bytes at stop (what.Minus n) = Unit {0}
+MayBeText bytes at stop what.Text = IsTextAt bytes at stop what.Text
+MayBeText bytes at stop what.Word = IsTextAt bytes at stop what.Word
+
+-- the text of a token that was given can be had
+abbrev pub GivesText : List ℕ → Next → Type 0
+GivesText bytes (next.Token token) = MayBeText bytes token.at token.stop token.what
+GivesText bytes other = Unit {0}
+
+-- the token says this text
+abbrev pub says : Item → List ℕ → Type 0
+says (Number n) text = ⊥
+says (Minus n) text = ⊥
+says (Text bytes) text = text ≡ bytes
+says (Word letters) text = text ≡ letters
+
+abbrev pub IsSaid : List ℕ → Token → List ℕ → Type 0
+IsSaid bytes token text = says (said bytes token.at token.stop token.what) text
+
+-- What comes from a place on is this number at this place, and then what comes from behind it.
+pub record IsNumberFrom (bytes : List ℕ) (from n at stop : ℕ) : Type 0 where
+  pub inside : stop ≤ length bytes
+  pub cuts : (letters : Bool) → cut letters 0 from bytes ≡ with_front (record { at = at; item = Number n }) (cut letters 0 stop bytes)

@@ -1,0 +1,9 @@
+use candidate_roll::Roll;
+use plain_ballots::Ballots;
+
+/// An election as its file says it. The ballots are of the roll's candidates.
+#[derive(Debug, Drop)]
+pub struct Election {
+    pub roll: Roll,
+    pub ballots: Ballots,
+}

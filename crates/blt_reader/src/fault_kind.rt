@@ -1,0 +1,26 @@
+/// Why an input is refused. docs/FORMATS.md says at which token of which file each comes.
+#[derive(Clone, Copy, Debug, PartialEq, Eq)]
+pub enum FaultKind {
+    BadByte,
+    BadNumber,
+    BadHeader,
+    BadWithdrawn,
+    NoSuchCandidate,
+    Repeated,
+    TooManyBallots,
+    NameExpected,
+    TooLongName,
+    Ended,
+    Trailing,
+    BallotsInRoll,
+    BadLots,
+    WordExpected,
+    BadTeam,
+    BadBatch,
+    BadRevision,
+    BatchTooLarge,
+    TooManyFreezes,
+    TooLong,
+    BadPlaces,
+    BadOmega,
+}

@@ -1,0 +1,114 @@
+// Ballot lines.
+ghost use Rattle.std.specs.Prelude.{◌≡◌, ◌+◌, ◌<◌, ◌≤◌, [], ◌∷◌, ◌++◌, length, IfOk, IfErr, OnOk};
+ghost use Rattle.plain_ballots.specs.Ballots.{ballot_count};
+ghost use Rattle.plain_ballots.specs.Ranking.{IsRanking};
+ghost use Rattle.blt_reader.specs.declared.blt_stop.BltStop.TheVariants as stop;
+ghost use Rattle.blt_reader.specs.Token.{Number, with_front};
+ghost use Rattle.blt_reader.specs.Blt.{AreLines};
+ghost use Rattle.blt_reader.specs.BallotTable.{at_rank, Between, at_line};
+ghost use Rattle.blt_reader.specs.Reads.{IsBehind, tokens_left, Reads};
+
+use crate::named::Named;
+use crate::{BltStop, FaultKind, Tokens};
+use plain_ballots::{BallotLine, Ballots, LineStop, Ranking};
+use std::alloc::Global;
+
+/// Ballot lines up to the 0 behind them, of together at most `most` ballots. `refusal` is the kind
+/// of fault of a count that goes past them.
+#[tactic(auto, using(crate::proofs::Reading::behind_trans))]
+pub fn read_lines(
+    alloc: Global,
+    tokens: &mut Tokens<'_>,
+    candidates: u32,
+    most: u32,
+    refusal: FaultKind,
+) -> Result<Ballots, BltStop>
+    requires { most ≤ 999999999 }
+    ensures reads { Reads (at_line candidates (record { most = most; refusal = refusal })) (Between []) (λ b. b.lines) tokens.old.rest result tokens.new.rest }
+    ensures candidates { IfOk result (λ b. b.candidates ≡ candidates) }
+    ensures lines { IfOk result (λ b. AreLines candidates most b.lines) }
+    ensures behind { IsBehind tokens.old tokens.new }
+{
+    let first = tokens.next_number()?;
+    read_lines_from(alloc, tokens, candidates, most, refusal, first)
+}
+
+/// The same, where the first count was taken already, with its place.
+#[tactic(auto, using(crate::proofs::Reading::behind_trans))]
+pub(crate) fn read_lines_from(
+    alloc: Global,
+    tokens: &mut Tokens<'_>,
+    candidates: u32,
+    most: u32,
+    refusal: FaultKind,
+    first: (u32, usize),
+) -> Result<Ballots, BltStop>
+    requires { most ≤ 999999999 }
+    ensures reads { Reads (at_line candidates (record { most = most; refusal = refusal })) (Between []) (λ b. b.lines) (with_front (record { at = first.1; item = Number first.0 }) tokens.old.rest) result tokens.new.rest }
+    ensures candidates { IfOk result (λ b. b.candidates ≡ candidates) }
+    ensures lines { IfOk result (λ b. AreLines candidates most b.lines) }
+    ensures behind { IsBehind tokens.old tokens.new }
+{
+    let mut named = Named::new(alloc, candidates as usize + 1)?;
+    let mut ranks = Vec::new(alloc);
+    let mut ballots = Ballots::new(alloc, candidates);
+    let (mut count, mut at) = first;
+    while count > 0 {
+        if count as u64 > most as u64 - ballots.total() {
+            return Err(BltStop::refused(refusal, at));
+        }
+        read_ranks(tokens, candidates, &mut named, &mut ranks)?;
+        let ranking = Ranking::new(alloc, ranks.as_slice())?;
+        add_line(&mut ballots, BallotLine { count, ranking })?;
+        let next = tokens.next_number()?;
+        count = next.0;
+        at = next.1;
+    }
+    Ok(ballots)
+}
+
+// Candidates in order of rank, up to the 0 behind them.
+#[tactic(auto, using(crate::proofs::Reading::behind_trans))]
+fn read_ranks(
+    tokens: &mut Tokens<'_>,
+    candidates: u32,
+    named: &mut Named,
+    ranks: &mut Vec<u32>,
+) -> Result<(), BltStop>
+    requires { length named.old ≡ candidates + 1 }
+    ensures reads { Reads (at_rank candidates) [] (λ _. ranks.new.items) tokens.old.rest result tokens.new.rest }
+    ensures ranking { OnOk result (IsRanking candidates ranks.new.items) }
+    ensures named { length named.new ≡ length named.old }
+    ensures fewer { OnOk result (tokens_left tokens.new < tokens_left tokens.old) }
+    ensures behind { IsBehind tokens.old tokens.new }
+{
+    named.clear();
+    ranks.clear();
+    loop {
+        let (n, at) = tokens.next_number()?;
+        if n == 0 {
+            return Ok(());
+        }
+        if n > candidates {
+            return Err(BltStop::refused(FaultKind::NoSuchCandidate, at));
+        }
+        if named.mark(n as usize) {
+            return Err(BltStop::refused(FaultKind::Repeated, at));
+        }
+        ranks.push(n)?;
+    }
+}
+
+fn add_line(ballots: &mut Ballots, line: BallotLine) -> Result<(), BltStop>
+    requires ranking { IsRanking ballots.old.candidates line.ranking }
+    requires counted { 1 ≤ line.count }
+    requires room { ballot_count ballots.old.lines + line.count ≤ 999999999 }
+    ensures added { OnOk result (ballots.new ≡ record ballots.old { lines = ballots.old.lines ++ line ∷ [] }) }
+    ensures only_memory { IfErr result (λ why. why ≡ stop.NoMemory) }
+{
+    match ballots.push_line(line) {
+        Ok(()) => Ok(()),
+        Err(LineStop::NoMemory(_)) => Err(BltStop::NoMemory),
+        Err(LineStop::TooMany(_)) => unreachable!(),
+    }
+}

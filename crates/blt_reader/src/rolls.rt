@@ -1,0 +1,77 @@
+// Files up to their title.
+ghost use Rattle.std.specs.Prelude.{◌≡◌, ◌≤◌, length, All, IfOk, IfErr};
+ghost use Rattle.candidate_roll.specs.Roll.{IsFew, withdrawn_marks};
+ghost use Rattle.blt_reader.specs.declared.blt_stop.BltStop.TheVariants as stop;
+ghost use Rattle.blt_reader.specs.BltTable.{Candidates, at_token};
+ghost use Rattle.blt_reader.specs.Said.{limit_of, IsRollOf, IsRollRefusal};
+ghost use Rattle.blt_reader.specs.Reads.{IsBehind, IfFault, Reads};
+ghost use Rattle.blt_reader.specs.Election.{poll};
+
+use crate::lines::read_lines_from;
+use crate::names::{read_name, read_names};
+use crate::opening::read_opening;
+use crate::{BltStop, Election, FaultKind, Tokens};
+use candidate_roll::{Name, Names, Roll};
+use std::alloc::Global;
+
+/// Reads a file up to its title and no further: an Ok leaves the reader right behind the title.
+/// Without `with_ballots` any ballot is refused as [`FaultKind::BallotsInRoll`] at its count. After
+/// an Err the reader stands behind the last token that was formed.
+pub fn read_roll(
+    alloc: Global,
+    tokens: &mut Tokens<'_>,
+    with_ballots: bool,
+) -> Result<Election, BltStop>
+    ensures accepted { IfOk result (λ e. IsRollOf (limit_of with_ballots) tokens.old.rest (poll e) tokens.new.rest) }
+    ensures refused { IfFault result (λ fault. IsRollRefusal (limit_of with_ballots) tokens.old.rest fault) }
+    ensures reads { Reads (at_token (limit_of with_ballots)) Candidates poll tokens.old.rest result tokens.new.rest }
+    ensures candidates { IfOk result (λ e. e.ballots.candidates ≡ length e.roll.names) }
+    ensures behind { IsBehind tokens.old tokens.new }
+{
+    if with_ballots {
+        read_up_to_title(alloc, tokens, 999_999_999, FaultKind::TooManyBallots)
+    } else {
+        read_up_to_title(alloc, tokens, 0, FaultKind::BallotsInRoll)
+    }
+}
+
+#[tactic(auto, using(crate::proofs::Reading::behind_trans))]
+fn read_up_to_title(
+    alloc: Global,
+    tokens: &mut Tokens<'_>,
+    most: u32,
+    refusal: FaultKind,
+) -> Result<Election, BltStop>
+    requires { most ≤ 999999999 }
+    ensures reads { Reads (at_token (record { most = most; refusal = refusal })) Candidates poll tokens.old.rest result tokens.new.rest }
+    ensures candidates { IfOk result (λ e. e.ballots.candidates ≡ length e.roll.names) }
+    ensures behind { IsBehind tokens.old tokens.new }
+{
+    let opening = read_opening(alloc, tokens)?;
+    let candidates = opening.candidates;
+    let ballots = read_lines_from(alloc, tokens, candidates, most, refusal, opening.first)?;
+    let names = read_names(alloc, tokens, candidates)?;
+    let title = read_name(alloc, tokens)?;
+    let roll = new_roll(alloc, opening.seats, names, title, opening.withdrawn.as_slice())?;
+    Ok(Election { roll, ballots })
+}
+
+// The roll of numbers that are known to make one.
+fn new_roll(
+    alloc: Global,
+    seats: u32,
+    names: Names,
+    title: Name<1000>,
+    withdrawn: &[u32],
+) -> Result<Roll, BltStop>
+    requires seats { IsFew seats }
+    requires candidates { IsFew (length names) }
+    requires withdrawn { All (λ c. (1 ≤ c) × (c ≤ length names)) withdrawn.now }
+    ensures roll { IfOk result (λ roll. roll ≡ record { seats = seats; names = names; title = title; withdrawn = withdrawn_marks (length names) withdrawn.now }) }
+    ensures only_memory { IfErr result (λ why. why ≡ stop.NoMemory) }
+{
+    match Roll::try_new(alloc, seats, names, title, withdrawn) {
+        Ok(roll) => Ok(roll),
+        Err(_) => Err(BltStop::NoMemory),
+    }
+}

@@ -1,0 +1,167 @@
+// The tokens of an input, one after another.
+ghost use Rattle.std.specs.Prelude.{◌≡◌, ◌≤◌, length, IfOk, IfErr, IfSome};
+ghost use Rattle.blt_reader.specs.Token.{Number, with_front};
+ghost use Rattle.blt_reader.specs.Scan.{scan, cut};
+ghost use Rattle.blt_reader.specs.Reader.{Gives, placed, GivesText, MayBeText, IsTextOf, IsSaid, IsNumberFrom};
+ghost use Rattle.blt_reader.specs.Reads.{IsBehind, IsEnded, Stops, as_number};
+
+use crate::pieces::{Piece, first_piece, front_number, may_follow, separators_len};
+use crate::{FaultKind, InputFault, Next, Token, What};
+use std::marker::Model;
+
+/// The tokens of an input that are still to come, one after another.
+#[derive(Drop)]
+pub struct Tokens<'a> {
+    bytes: &'a [u8],
+    at: usize,
+    letters: bool,
+}
+
+impl<'a> Model for Tokens<'a> {
+    ghost use Rattle.std.specs.Prelude.{◌≤◌, length};
+    ghost use Rattle.blt_reader.specs.Scan.{cut};
+    ghost use Rattle.blt_reader.specs.Reader.{Reader};
+
+    ghost Value = { Reader };
+
+    ghost view = { λ t. record { bytes = t.bytes.now; rest = cut t.letters 0 t.at t.bytes.now } };
+
+    ghost invariant = { λ t. t.at ≤ length t.bytes.now };
+}
+
+// What comes from a place on, and the place behind it.
+fn next_from(bytes: &[u8], letters: bool, from: usize) -> (Next, usize)
+    requires { from ≤ length bytes.now }
+    ensures within { result.1 ≤ length bytes.now }
+    ensures text { GivesText bytes.now result.0 }
+    ensures gives { Gives bytes.now (cut letters 0 from bytes.now) result.0 (cut letters 0 result.1 bytes.now) }
+{
+    let mut at = from;
+    while at < bytes.len() {
+        match first_piece(&bytes[at..], letters) {
+            Piece::Gap(n) => at += n,
+            Piece::Lexeme(what, n) => {
+                let stop = at + n;
+                return (Next::Token(Token { at, stop, what }), stop);
+            }
+            Piece::Wrong(n) => return (fault(FaultKind::BadByte, at + n), at),
+            Piece::Unclosed(n) => return (fault(FaultKind::Ended, at + n), at),
+        }
+    }
+    (Next::End, at)
+}
+
+// A number behind nothing but separators: what it is, its place and the place behind it.
+#[inline]
+fn plain_number(bytes: &[u8], from: usize) -> Option<(u32, usize, usize)>
+    requires { from ≤ length bytes.now }
+    ensures { IfSome result (λ found. IsNumberFrom bytes.now from found.0 found.1 found.2) }
+{
+    let at = from + separators_len(&bytes[from..]);
+    let (n, len) = front_number(&bytes[at..]);
+    let stop = at + len;
+    if len > 0 && may_follow(&bytes[stop..]) {
+        Some((n, at, stop))
+    } else {
+        None
+    }
+}
+
+fn fault(kind: FaultKind, at: usize) -> Next
+    ensures { result ≡ Next.Fault (record { kind = kind; at = at }) }
+{
+    Next::Fault(InputFault { kind, at })
+}
+
+impl<'a> Tokens<'a> {
+    /// The tokens of an input, behind its byte order mark. `letters` says whether it may have words.
+    pub fn new(bytes: &'a [u8], letters: bool) -> Self
+        ensures { result ≡ record { bytes = bytes.entry.now; rest = scan bytes.entry.now letters } }
+    {
+        let at = if bytes.starts_with(&[0xEF, 0xBB, 0xBF]) {
+            3
+        } else {
+            0
+        };
+        Tokens { bytes, at, letters }
+    }
+
+    /// The length of the input.
+    pub fn len(&self) -> usize
+        ensures { result ≡ length self.now.bytes }
+    {
+        self.bytes.len()
+    }
+
+    /// The next token. An end and a fault are answered again.
+    pub fn next(&mut self) -> Next
+        ensures bytes { self.new.bytes ≡ self.old.bytes }
+        ensures text { GivesText self.old.bytes result }
+        ensures gives { Gives self.old.bytes self.old.rest result self.new.rest }
+    {
+        let (next, at) = next_from(self.bytes, self.letters, self.at);
+        self.at = at;
+        next
+    }
+
+    /// The next token, where the input may not end: its end is a fault too.
+    pub fn next_token(&mut self) -> Result<Token, InputFault>
+        ensures text { IfOk result (λ token. MayBeText self.old.bytes token.at token.stop token.what) }
+        ensures token { IfOk result (λ token. self.old.rest ≡ with_front (placed self.old.bytes token) self.new.rest) }
+        ensures fault { IfErr result (λ fault. IsEnded self.old.rest fault self.new.rest) }
+        ensures behind { IsBehind self.old self.new }
+    {
+        match self.next() {
+            Next::Token(token) => Ok(token),
+            Next::End => Err(InputFault {
+                kind: FaultKind::Ended,
+                at: self.len(),
+            }),
+            Next::Fault(fault) => Err(fault),
+        }
+    }
+
+    /// The next token, which has to be a number, and its place.
+    #[inline]
+    pub fn next_number(&mut self) -> Result<(u32, usize), InputFault>
+        ensures number { IfOk result (λ found. self.old.rest ≡ with_front (record { at = found.1; item = Number found.0 }) self.new.rest) }
+        ensures fault { IfErr result (λ fault. Stops as_number self.old.rest fault self.new.rest) }
+        ensures behind { IsBehind self.old self.new }
+    {
+        match plain_number(self.bytes, self.at) {
+            Some((n, at, stop)) => {
+                self.at = stop;
+                Ok((n, at))
+            }
+            None => self.number_token(),
+        }
+    }
+
+    // The same, whatever stands before the number and instead of it.
+    #[cold]
+    fn number_token(&mut self) -> Result<(u32, usize), InputFault>
+        ensures number { IfOk result (λ found. self.old.rest ≡ with_front (record { at = found.1; item = Number found.0 }) self.new.rest) }
+        ensures fault { IfErr result (λ fault. Stops as_number self.old.rest fault self.new.rest) }
+        ensures behind { IsBehind self.old self.new }
+    {
+        let token = self.next_token()?;
+        match token.what {
+            What::Number(n) => Ok((n, token.at)),
+            _ => Err(InputFault {
+                kind: FaultKind::BadNumber,
+                at: token.at,
+            }),
+        }
+    }
+
+    /// A string without its quotes, or a word.
+    pub fn text(&self, token: Token) -> &'a [u8]
+        requires { IsTextOf self.now.bytes token }
+        ensures { IsSaid self.now.bytes token result.now }
+    {
+        match token.what {
+            What::Text => &self.bytes[token.at + 1..token.stop - 1],
+            _ => &self.bytes[token.at..token.stop],
+        }
+    }
+}

@@ -1,0 +1,10 @@
+pub mod DigitLemmas
+pub mod SplitLemmas
+pub mod LotListLemmas
+pub mod CutLemmas
+pub mod FrontLemmas
+pub mod ClapSteps
+pub mod ClapRows
+pub mod ClapWalk
+pub mod ClapTakes
+pub mod FormLemmas

@@ -1,0 +1,3 @@
+pub mod Half
+pub mod Share
+pub mod Tied

@@ -1,0 +1,5 @@
+pub mod Entries
+pub mod Numbers
+pub mod Turns
+pub mod Steps
+pub mod Sights
