@@ -1,4 +1,6 @@
 pub mod EachPlace
+pub mod OneSheet
 pub mod Rooms
+pub mod SampleRows
 pub mod SheetLemmas
 pub mod WritingLemmas

@@ -15,7 +15,7 @@ use Rattle.meek_count.specs.declared.turn.Turn.{Turn}
 use Rattle.meek_count.specs.declared.turn.Turn.TheVariants.{Iterated, Finished}
 use Rattle.meek_count.proofs.Leading.{leads_none, leads_more}
 use Rattle.sheet_text.specs.Lines.{head_lines, row_lines, result_lines}
-use Rattle.sheet_text.specs.Sheet.{lines_up_to, sheet_lines, IsSheetOf, AppendsSheet, AppendsFrontOfSheet}
+use Rattle.sheet_text.specs.Sheet.{lines_up_to, sheet_lines, AppendsSheet, AppendsFrontOfSheet}
 use Rattle.sheet_text.specs.Writing.{Wrote, Stopped, Writes}
 use Rattle.sheet_text.proofs.WritingLemmas.{later, stops, wrote_later, stopped_later}
 
@@ -85,7 +85,7 @@ stopped_in_sheet : {S T E : Type 0} {w : S → Option (List ℕ)} {f : S → ℕ
 stopped_in_sheet {w} {f} {a} {b} places start now done r begun leads rest failed stopped =
     let whole = leads.onward rest.0 rest.1 rest.2 in
     let writes : Writes w f a b (sheet_lines places start.roll (length start.ballots) (done ++ rest.0) rest.1) r =
-      rw sheet_lines-append (stops _ r failed stopped) in
+    rw sheet_lines-append (stops _ r failed stopped) in
     (owes_sheet places start (done ++ rest.0) rest.1 r begun whole writes).front
 
 -- the writing stopped in the head
@@ -99,14 +99,14 @@ pub stopped_in_row : {S T E : Type 0} {w : S → Option (List ℕ)} {f : S → �
 stopped_in_row {w} {f} {a} {b} {c} places start now next row r begun so_far leads is rest failed stopped =
     let further = leads_more (scale places) start now next so_far.done (next.row ∷ []) so_far.leads leads in
     let stopped' : Stopped w f a c (lines_up_to places start.roll (length start.ballots) (so_far.done ++ next.row ∷ [])) =
-      rw lines_up_to-one (stopped_later so_far.wrote (subst (λ (r : Row). Stopped w f b c (row_lines places r)) is stopped)) in
+    rw lines_up_to-one (stopped_later so_far.wrote (subst (λ (r : Row). Stopped w f b c (row_lines places r)) is stopped)) in
     stopped_in_sheet places start next (so_far.done ++ next.row ∷ []) r begun further rest failed stopped'
 
 -- the count was complete, and its result was written or the writing stopped there
 pub at_end : {S T E : Type 0} {w : S → Option (List ℕ)} {f : S → ℕ} {a b c : S} (places : ℕ) (start now : Progress) (names : List (List ℕ)) (last : List State) (r : Result T E) → HasJustBegun (scale places) start → IsUnderWay w f a b places start now → is_complete now.now ≡ true → last ≡ final_states now.now → names ≡ start.roll.names → Writes w f b c (result_lines names last) r → OwesSheet w f a c places start r
 at_end {w} {f} {a} {b} {c} places start now names last r begun so_far complete is same writes =
     let whole : Rows (scale places) start.ballots start.lots start.now so_far.done last =
-      subst (λ (rows : List Row). Rows (scale places) start.ballots start.lots start.now rows last) (append-nil so_far.done) (so_far.leads.onward [] last (complete, is)) in
+    subst (λ (rows : List Row). Rows (scale places) start.ballots start.lots start.now rows last) (append-nil so_far.done) (so_far.leads.onward [] last (complete, is)) in
     owes_sheet places start so_far.done last r begun whole
     (later c _ r so_far.wrote (subst (λ (n : List (List ℕ)). Writes w f b c (result_lines n last) r) same writes))
 

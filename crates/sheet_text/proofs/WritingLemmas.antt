@@ -1,11 +1,11 @@
 -- Lines written one after another.
-use Rattle.std.proofs.Common.{◌≡◌, ℕ, ◌<◌, List, [], ◌∷◌, ◌++◌, Option, Result, Ok, Err, IsErr, arith, sym, ap, subst, refl, ◌∙◌, append_assoc, append-nil}
+use Rattle.std.proofs.Common.{◌≡◌, ℕ, List, [], ◌∷◌, ◌++◌, Option, Result, Ok, Err, IsErr, arith, sym, ap, subst, refl, ◌∙◌, append_assoc, append-nil}
 use Rattle.std.specs.Prelude.{OnOk, OnErr}
 use Rattle.std.specs.Io.KnownBytes.{Appends}
 use Rattle.std.proofs.KnownBytes.{Appends-nil, Appends-trans}
 use Rattle.std.proofs.lemmas.List.Concat.{flat_map-append}
 use Rattle.byte_edge.specs.Bytes.{AppendsFront}
-use Rattle.byte_edge.specs.Faults.{Rose, CountsFault}
+use Rattle.byte_edge.specs.Faults.{CountsFault}
 use Rattle.sheet_text.specs.Lines.{ended, text_of_lines}
 use Rattle.sheet_text.specs.Writing.{Wrote, Stopped, Writes}
 

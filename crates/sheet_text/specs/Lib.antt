@@ -1,3 +1,5 @@
+pub mod Laws
 pub mod Lines
 pub mod Sheet
+pub mod WorkedSheet
 pub mod Writing

@@ -3,13 +3,17 @@
 #![tactic(auto)]
 
 mod head;
+mod laws;
 mod line_end;
 mod outcome;
 mod row_text;
 mod sheet;
 mod words;
+mod worked;
 
 pub use head::write_head;
+pub use laws::sheets_are_unique;
 pub use outcome::write_result;
 pub use row_text::write_row;
 pub use sheet::write_sheet;
+pub use worked::worked_sheet;

@@ -172,3 +172,6 @@ fn push_step(line: &mut Line, step: Step, tied: &Flags)
         }
     }
 }
+
+#[cfg(test)]
+mod tests;

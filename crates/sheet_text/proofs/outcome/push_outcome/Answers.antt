@@ -11,7 +11,7 @@ unfolding outcome_line
 returns-clause-text c =
     let names = c.args.roll.now.names in
     let name : slice_index_or names c.args.p [] ≡ c.name.result.now =
-      ap (λ (p : ℕ). slice_index_or names p []) (omega arith) ∙ get_or_from_slice_get names (c.args.p + 1 - 1) c.name.result.now [] c.name.ensures in
+    ap (λ (p : ℕ). slice_index_or names p []) (omega arith) ∙ get_or_from_slice_get names (c.args.p + 1 - 1) c.name.result.now [] c.name.ensures in
     let number = decimal (c.args.p + 1) in
     let text = c.begin_candidate.ensures.text ∙ ap (λ (s : State). number ++ 32 ∷ state_word s ++ 32 ∷ []) c.get.ensures.state in
     c.push_bytes.ensures

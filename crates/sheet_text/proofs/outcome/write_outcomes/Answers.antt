@@ -1,4 +1,4 @@
-use Rattle.std.proofs.Common.{◌<◌, length, arith}
+use Rattle.std.proofs.Common.{arith}
 use Rattle.sheet_text.proofs.WritingLemmas.{wrote_nothing}
 use Rattle.sheet_text.proofs.EachPlace.{wrote_more, stopped_at}
 use Rattle.sheet_text.proofs.outcome.write_outcomes.Goals as goal

@@ -1,4 +1,3 @@
-use Rattle.std.proofs.Common.{◌≡◌}
 use Rattle.meek_rule.specs.Places.{each_place}
 use Rattle.sheet_text.specs.Lines.{outcome_line}
 use Rattle.sheet_text.specs.Writing.{Wrote}

@@ -1,4 +1,4 @@
-use Rattle.std.proofs.Common.{◌≡◌, List, ℕ, ap, refl, ◌∙◌}
+use Rattle.std.proofs.Common.{ap, refl, ◌∙◌}
 use Rattle.candidate_roll.specs.Roll.{RollList}
 use Rattle.sheet_text.proofs.SheetLemmas.{under_way, one_more, stopped_in_head, stopped_in_row, at_end, not_iterated}
 use Rattle.sheet_text.proofs.sheet.write_sheet.Goals as goal

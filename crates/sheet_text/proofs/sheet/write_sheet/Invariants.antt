@@ -1,4 +1,3 @@
-use Rattle.std.proofs.Common.{◌≡◌}
 use Rattle.fixed_place.specs.Rounding.{most}
 use Rattle.meek_rule.specs.Situation.{steps_left}
 use Rattle.sheet_text.proofs.SheetLemmas.{IsUnderWay}

@@ -1,0 +1,47 @@
+// Rows and heads that small elections do not show.
+use super::*;
+use crate::{write_head, write_result};
+use byte_edge::MemorySink;
+use candidate_roll::{Name, Names, Roll, State, States};
+use fixed_place::{Amount, Keep};
+use std::test::Fail;
+
+#[test]
+fn writes_who_was_capped(rt: HostRuntime) -> Result<(), Fail> {
+    let alloc = rt.alloc();
+    let mut row = Row::<9>::new(alloc, 2)?;
+    row.round = 4;
+    row.iteration = 2;
+    row.states.set(0, State::Elected);
+    row.keeps.set(0, Keep::from_units(1_000_000_000));
+    row.votes.set(0, Amount::from_units(3_999_999_999));
+    row.total = Amount::from_units(3_999_999_999);
+    row.quota = Amount::from_units(1_333_333_334);
+    row.surplus = Amount::from_units(2_666_666_665);
+    row.capped.set(0, true);
+    let mut sink = MemorySink::with_room(alloc, 1_000, 1_400, Vec::new(alloc))?;
+    assert_eq!(rt; write_row(&row, &mut sink), Ok(()));
+    let text = "round 4 iteration 2\n\
+                1 elected 1.000000000 3.999999999\n\
+                2 withdrawn 0.000000000 0.000000000\n\
+                total 3.999999999\nquota 1.333333334\nsurplus 2.666666665\n\
+                capped 1\nstep iterate\n";
+    assert_eq!(rt; sink.bytes(), text.as_bytes());
+    Ok(())
+}
+
+#[test]
+fn keeps_the_space_before_an_empty_name(rt: HostRuntime) -> Result<(), Fail> {
+    let alloc = rt.alloc();
+    let mut names = Names::new(alloc);
+    names.push(Name::try_new(alloc, b"")?)?;
+    let roll = Roll::try_new(alloc, 1, names, Name::try_new(alloc, b"")?, &[])?;
+    let mut sink = MemorySink::with_room(alloc, 1_000, 1_400, Vec::new(alloc))?;
+    assert_eq!(rt; write_head(&roll, 999_999_999, &mut sink), Ok(()));
+    let states = States::filled(alloc, 1, State::Elected)?;
+    assert_eq!(rt; roll.candidates(), 1);
+    assert_eq!(rt; write_result(&roll, &states, &mut sink), Ok(()));
+    let text = "title \nseats 1\ncandidates 1\nballots 999999999\nresult\n1 elected \nend\n";
+    assert_eq!(rt; sink.bytes(), text.as_bytes());
+    Ok(())
+}
