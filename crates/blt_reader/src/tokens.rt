@@ -52,7 +52,7 @@ fn next_from(bytes: &[u8], letters: bool, from: usize) -> (Next, usize)
 }
 
 // A number behind nothing but separators: what it is, its place and the place behind it.
-#[inline]
+#[inline(always)]
 fn plain_number(bytes: &[u8], from: usize) -> Option<(u32, usize, usize)>
     requires { from ≤ length bytes.now }
     ensures { IfSome result (λ found. IsNumberFrom bytes.now from found.0 found.1 found.2) }
@@ -122,7 +122,7 @@ impl<'a> Tokens<'a> {
     }
 
     /// The next token, which has to be a number, and its place.
-    #[inline]
+    #[inline(always)]
     pub fn next_number(&mut self) -> Result<(u32, usize), InputFault>
         ensures number { IfOk result (λ found. self.old.rest ≡ with_front (record { at = found.1; item = Number found.0 }) self.new.rest) }
         ensures fault { IfErr result (λ fault. Stops as_number self.old.rest fault self.new.rest) }
