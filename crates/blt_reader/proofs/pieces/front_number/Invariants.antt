@@ -1,7 +1,7 @@
 use Rattle.std.proofs.Common.{◌≡◌, ℕ, ◌<◌, take, get_or, true}
 use Rattle.std.specs.Char.{is_ascii_digit}
 use Rattle.blt_reader.specs.Scan.{number}
-use Rattle.blt_reader.proofs.pieces.any_number.Given as goal
+use Rattle.blt_reader.proofs.pieces.front_number.Given as goal
 
 abbrev pub invariant-loop-n : goal.invariant-loop-n
 invariant-loop-n l = record {

@@ -3,7 +3,7 @@ use Rattle.std.specs.List.{prefix_len}
 use Rattle.std.specs.Char.{is_ascii_digit}
 use Rattle.blt_reader.specs.Scan.{number}
 use Rattle.blt_reader.proofs.Runs.{capped_twice, number_more, run_len}
-use Rattle.blt_reader.proofs.pieces.any_number.Goals as goal
+use Rattle.blt_reader.proofs.pieces.front_number.Goals as goal
 
 pub returns-then-not-is_ascii_digit-clause-len : goal.returns-then-not-is_ascii_digit-clause-len
 returns-then-not-is_ascii_digit-clause-len c = run_len is_ascii_digit c.args.bytes.now c.loop-n.n (omega arith) c.loop-n.invariant.digits (λ inside. sym c.is_ascii_digit.ensures.value ∙ c.if-not-is_ascii_digit.true)
