@@ -1,7 +1,7 @@
 -- The text from a place on, one piece after another.
-use Rattle.std.proofs.Common.{◌≡◌, ℕ, ◌+◌, ◌-◌, ◌<◌, ◌≤◌, zero, suc, List, [], ◌∷◌, length, take, drop, Bool, true, false, ◌==◌, refl, sym, ◌∙◌, ap, subst, arith, add-zero, length-drop, get_or}
+use Rattle.std.proofs.Common.{◌≡◌, ℕ, ◌+◌, ◌-◌, ◌<◌, ◌≤◌, zero, suc, List, [], ◌∷◌, length, take, drop, Bool, true, false, ◌==◌, refl, sym, ◌∙◌, ap, subst, arith, add-zero, add_assoc, length-drop, get_or}
 use Rattle.std.proofs.lemmas.List.{drop-drop, drop_more, drop_all, get_or-drop}
-use Rattle.std.proofs.lemmas.List.Sums.{prefix_len-drop_no, prefix_len_passes}
+use Rattle.std.proofs.lemmas.List.Sums.{prefix_len-drop_no}
 use Rattle.blt_reader.specs.declared.fault_kind.FaultKind.TheVariants.{BadByte, Ended}
 use Rattle.blt_reader.specs.declared.what.What.{What}
 use Rattle.blt_reader.specs.declared.what.What.TheVariants as what
@@ -10,7 +10,8 @@ use Rattle.blt_reader.specs.Scan.{Gap, Lexeme, Wrong, Unclosed, piece, beginning
 use Rattle.std.specs.List.{AllPass, prefix_len, take_while}
 use Rattle.std.specs.Char.{is_ascii_digit, is_ascii_lowercase}
 use Rattle.blt_reader.specs.Scan.{is_separator, is_in_string, number, may_follow, number_piece}
-use Rattle.blt_reader.specs.Reader.{said, MayBeText, IsNumberFrom}
+use Rattle.blt_reader.specs.Reader.{said, MayBeText}
+use Rattle.blt_reader.specs.Usual.{may_end, IsUsualNumber}
 
 -- bytes that are skipped only move the place
 pub skipped : (letters : Bool) (at n : ℕ) (bytes : List ℕ) → n ≤ length bytes → cut letters at n bytes ≡ cut letters (at + n) 0 (drop n bytes)
@@ -77,22 +78,13 @@ text_moved bytes at n (what.Minus k) within held = tt
 text_moved bytes at n what.Text within held = (omega (arith, held.0), within, subst (AllPass is_in_string) (part_moved bytes at 1 (n - 1 - 1) (at + n - 1 - (at + 1)) (omega arith)) held.2)
 text_moved bytes at n what.Word within held = (omega arith, within, subst (AllPass is_ascii_lowercase) (part_moved bytes at 0 (n - 0) (at + n - at) (omega arith) ∙ rw (add-zero at) refl) held.2)
 
--- ---- a number behind separators
+-- ---- a short number behind a separator
 
 over_separator : (letters : Bool) (bytes : List ℕ) (at : ℕ) → at < length bytes → is_separator (get_or bytes at 0) ≡ true → cut letters 0 at bytes ≡ cut letters 0 (at + 1) bytes
 unfolding piece
 over_separator letters bytes at inside is =
     let found : piece letters (drop at bytes) ≡ Gap 1 = ap (piece letters) (drop_more bytes at 0 inside) ∙ rw is refl in
     over_gap letters bytes at 1 inside found (omega arith) (omega (arith, inside))
-
-pub over_separators : (letters : Bool) (bytes : List ℕ) (n at : ℕ) → at + n ≤ length bytes → ((k : ℕ) → k < n → is_separator (get_or bytes (at + k) 0) ≡ true) → cut letters 0 at bytes ≡ cut letters 0 (at + n) bytes
-over_separators letters bytes zero at within are = ap (λ (k : ℕ). cut letters 0 k bytes) (sym (add-zero at))
-over_separators letters bytes (suc n) at within are =
-    let here : is_separator (get_or bytes at 0) ≡ true = ap (λ (k : ℕ). is_separator (get_or bytes k 0)) (sym (add-zero at)) ∙ are 0 (omega arith) in
-    let place : at + 1 + n ≡ at + suc n = omega arith in
-    over_separator letters bytes at (omega (arith, within)) here
-    ∙ over_separators letters bytes n (at + 1) (omega (arith, within)) (λ k less. let shifted : at + 1 + k ≡ at + (k + 1) = omega arith in ap (λ (i : ℕ). is_separator (get_or bytes i 0)) shifted ∙ are (k + 1) (omega (arith, less)))
-    ∙ ap (λ (k : ℕ). cut letters 0 k bytes) place
 
 digit_is_no_separator : (b : ℕ) → is_ascii_digit b ≡ true → (is_separator b ≡ false) × ((b == 35) ≡ false)
 digit_is_no_separator b is = (grind arith, grind arith)
@@ -104,23 +96,26 @@ digit_piece letters [] some is_digit is = absurd (omega arith)
 digit_piece letters (b ∷ behind) some true is = let no = digit_is_no_separator b is in rw (no.0, no.1, is) refl
 digit_piece letters (b ∷ behind) some false is = absurd (omega (arith, some, prefix_len-drop_no is_ascii_digit (b ∷ behind) 0 0 (omega arith) is))
 
-module _ (bytes : List ℕ) (from k len n : ℕ) where
-  number_found : (letters : Bool) → len ≡ prefix_len is_ascii_digit (drop (from + k) bytes) → n ≡ number (take_while is_ascii_digit (drop (from + k) bytes)) → 0 < len → may_follow (drop (from + k + len) bytes) ≡ true → piece letters (drop (from + k) bytes) ≡ Lexeme (Number n) len
-  unfolding number_piece
-  number_found letters len_is n_is some follows =
-      let xs = drop (from + k) bytes in
-      let behind : may_follow (drop (prefix_len is_ascii_digit xs) xs) ≡ true = ap may_follow (ap (λ (m : ℕ). drop m xs) (sym len_is) ∙ drop-drop len (from + k) bytes) ∙ follows in
-      digit_piece letters xs (omega (arith, some, len_is)) (is_ascii_digit (get_or xs 0 0)) refl
-      ∙ rw behind refl
-      ∙ ap (λ (m : ℕ). Lexeme (Number m) (prefix_len is_ascii_digit xs)) (sym n_is)
-      ∙ ap (Lexeme (Number n)) (sym len_is)
+may_follow_here : (xs : List ℕ) (n : ℕ) → n < length xs → may_end (get_or xs n 0) ≡ true → may_follow (drop n xs) ≡ true
+may_follow_here xs n inside ends = ap may_follow (drop_more xs n 0 inside) ∙ ends
 
-  -- a number behind separators
-  pub number_behind : from + k + len ≤ length bytes → k ≡ prefix_len is_separator (drop from bytes) → len ≡ prefix_len is_ascii_digit (drop (from + k) bytes) → n ≡ number (take_while is_ascii_digit (drop (from + k) bytes)) → 0 < len → may_follow (drop (from + k + len) bytes) ≡ true
-      → IsNumberFrom bytes from n (from + k) (from + k + len)
-  number_behind within k_is len_is n_is some follows = record {
-    inside = within;
-    cuts = λ letters. over_separators letters bytes k from (omega (arith, within))
-        (λ i less. let inside : i < prefix_len is_separator (drop from bytes) = omega (arith, less, k_is) in ap is_separator (sym (get_or-drop from bytes i 0)) ∙ prefix_len_passes is_separator (drop from bytes) i 0 inside)
-        ∙ over_lexeme letters bytes (from + k) len (omega (arith, within, some)) (Number n) (number_found letters len_is n_is some follows) some within;
-  }
+number_found : (letters : Bool) (xs : List ℕ) (n digits : ℕ) → digits < length xs → 0 < digits → digits ≡ prefix_len is_ascii_digit xs → n ≡ number (take_while is_ascii_digit xs) → may_end (get_or xs digits 0) ≡ true → piece letters xs ≡ Lexeme (Number n) digits
+unfolding number_piece
+number_found letters xs n digits inside some run value ends =
+    let behind : may_follow (drop (prefix_len is_ascii_digit xs) xs) ≡ true = ap (λ (m : ℕ). may_follow (drop m xs)) (sym run) ∙ may_follow_here xs digits inside ends in
+    digit_piece letters xs (omega (arith, some, run)) (is_ascii_digit (get_or xs 0 0)) refl
+    ∙ rw behind refl
+    ∙ ap (λ (m : ℕ). Lexeme (Number m) (prefix_len is_ascii_digit xs)) (sym value)
+    ∙ ap (Lexeme (Number n)) (sym run)
+
+-- what comes from a place on where a short number stands behind a separator
+pub over_number : (letters : Bool) (bytes : List ℕ) (from n digits : ℕ) → from ≤ length bytes → IsUsualNumber (drop from bytes) n digits → cut letters 0 from bytes ≡ with_front (record { at = from + 1; item = Number n }) (cut letters 0 (from + 1 + digits) bytes)
+over_number letters bytes from n digits within is =
+    let xs = drop (from + 1) bytes in
+    let rest : drop 1 (drop from bytes) ≡ xs = drop-drop 1 from bytes in
+    let here : is_separator (get_or bytes from 0) ≡ true = ap is_separator (sym (get_or-drop from bytes 0 0 ∙ ap (λ (k : ℕ). get_or bytes k 0) (add-zero from))) ∙ is.separator in
+    let inside : from + 1 + digits < length bytes = omega (arith, is.inside, length-drop from bytes, within) in
+    let last : get_or xs digits 0 ≡ get_or (drop from bytes) (1 + digits) 0 = get_or-drop (from + 1) bytes digits 0 ∙ ap (λ (k : ℕ). get_or bytes k 0) (add_assoc from 1 digits) ∙ sym (get_or-drop from bytes (1 + digits) 0) in
+    let found = number_found letters xs n digits (omega (arith, inside, length-drop (from + 1) bytes)) is.some (is.run ∙ ap (prefix_len is_ascii_digit) rest) (is.value ∙ ap (λ (l : List ℕ). number (take_while is_ascii_digit l)) rest) (ap may_end last ∙ is.ends) in
+    over_separator letters bytes from (omega (arith, inside)) here
+    ∙ over_lexeme letters bytes (from + 1) digits (omega (arith, inside)) (Number n) found is.some (omega (arith, inside))

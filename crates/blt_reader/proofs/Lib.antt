@@ -1,5 +1,6 @@
 pub mod Runs
 pub mod Cutting
+pub mod UsualNumbers
 pub mod Judgements
 pub mod Tables
 pub mod BallotSoundness

@@ -1,6 +1,7 @@
 pub mod Token
 pub mod Scan
 pub mod Reader
+pub mod Usual
 pub mod Pieces
 pub mod Poll
 pub mod Election

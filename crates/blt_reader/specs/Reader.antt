@@ -1,8 +1,8 @@
 -- A reader of tokens: what it has still to give.
-use Rattle.std.specs.Prelude.{◌≡◌, ◌<◌, ◌≤◌, ℕ, ◌+◌, ◌-◌, List, length, slice_range, Bool}
+use Rattle.std.specs.Prelude.{◌≡◌, ◌<◌, ◌≤◌, ℕ, ◌+◌, ◌-◌, List, length, slice_range}
 use Rattle.std.specs.List.{AllPass}
 use Rattle.std.specs.Char.{is_ascii_lowercase}
-use Rattle.blt_reader.specs.Scan.{is_in_string, cut}
+use Rattle.blt_reader.specs.Scan.{is_in_string}
 use Rattle.blt_reader.specs.declared.what.What.{What}
 use Rattle.blt_reader.specs.declared.what.What.TheVariants as what
 use Rattle.blt_reader.specs.declared.token.Token.{Token}
@@ -62,8 +62,3 @@ says (Word letters) text = text ≡ letters
 
 abbrev pub IsSaid : List ℕ → Token → List ℕ → Type 0
 IsSaid bytes token text = says (said bytes token.at token.stop token.what) text
-
--- What comes from a place on is this number at this place, and then what comes from behind it.
-pub record IsNumberFrom (bytes : List ℕ) (from n at stop : ℕ) : Type 0 where
-  pub inside : stop ≤ length bytes
-  pub cuts : (letters : Bool) → cut letters 0 from bytes ≡ with_front (record { at = at; item = Number n }) (cut letters 0 stop bytes)

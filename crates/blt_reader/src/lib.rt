@@ -17,6 +17,7 @@ mod pieces;
 mod rolls;
 mod token;
 mod tokens;
+mod usual;
 mod what;
 
 pub use blt_stop::BltStop;

@@ -1,11 +1,12 @@
 // The tokens of an input, one after another.
-ghost use Rattle.std.specs.Prelude.{◌≡◌, ◌≤◌, length, IfOk, IfErr, IfSome};
+ghost use Rattle.std.specs.Prelude.{◌≡◌, ◌≤◌, length, IfOk, IfErr};
 ghost use Rattle.blt_reader.specs.Token.{Number, with_front};
 ghost use Rattle.blt_reader.specs.Scan.{scan, cut};
-ghost use Rattle.blt_reader.specs.Reader.{Gives, placed, GivesText, MayBeText, IsTextOf, IsSaid, IsNumberFrom};
+ghost use Rattle.blt_reader.specs.Reader.{Gives, placed, GivesText, MayBeText, IsTextOf, IsSaid};
 ghost use Rattle.blt_reader.specs.Reads.{IsBehind, IsEnded, Stops, as_number};
 
-use crate::pieces::{Piece, first_piece, front_number, may_follow, separators_len};
+use crate::pieces::{Piece, first_piece};
+use crate::usual::usual_number;
 use crate::{FaultKind, InputFault, Next, Token, What};
 use std::marker::Model;
 
@@ -49,22 +50,6 @@ fn next_from(bytes: &[u8], letters: bool, from: usize) -> (Next, usize)
         }
     }
     (Next::End, at)
-}
-
-// A number behind nothing but separators: what it is, its place and the place behind it.
-#[inline]
-fn plain_number(bytes: &[u8], from: usize) -> Option<(u32, usize, usize)>
-    requires { from ≤ length bytes.now }
-    ensures { IfSome result (λ found. IsNumberFrom bytes.now from found.0 found.1 found.2) }
-{
-    let at = from + separators_len(&bytes[from..]);
-    let (n, len) = front_number(&bytes[at..]);
-    let stop = at + len;
-    if len > 0 && may_follow(&bytes[stop..]) {
-        Some((n, at, stop))
-    } else {
-        None
-    }
 }
 
 fn fault(kind: FaultKind, at: usize) -> Next
@@ -122,23 +107,24 @@ impl<'a> Tokens<'a> {
     }
 
     /// The next token, which has to be a number, and its place.
-    #[inline]
+    #[inline(always)]
     pub fn next_number(&mut self) -> Result<(u32, usize), InputFault>
         ensures number { IfOk result (λ found. self.old.rest ≡ with_front (record { at = found.1; item = Number found.0 }) self.new.rest) }
         ensures fault { IfErr result (λ fault. Stops as_number self.old.rest fault self.new.rest) }
         ensures behind { IsBehind self.old self.new }
     {
-        match plain_number(self.bytes, self.at) {
-            Some((n, at, stop)) => {
-                self.at = stop;
+        match usual_number(&self.bytes[self.at..]) {
+            Some((n, digits)) => {
+                let at = self.at + 1;
+                self.at = at + digits;
                 Ok((n, at))
             }
             None => self.number_token(),
         }
     }
 
-    // The same, whatever stands before the number and instead of it.
-    #[cold]
+    // The same, whatever stands there.
+    #[inline(never)]
     fn number_token(&mut self) -> Result<(u32, usize), InputFault>
         ensures number { IfOk result (λ found. self.old.rest ≡ with_front (record { at = found.1; item = Number found.0 }) self.new.rest) }
         ensures fault { IfErr result (λ fault. Stops as_number self.old.rest fault self.new.rest) }

@@ -2,7 +2,7 @@ use Rattle.std.proofs.Common.{◌≡◌, ℕ, ◌-◌, ◌+◌, ◌*◌, min, ta
 use Rattle.std.specs.List.{prefix_len}
 use Rattle.std.specs.Char.{is_ascii_digit}
 use Rattle.blt_reader.specs.Scan.{number}
-use Rattle.blt_reader.proofs.Runs.{number_more, run_len}
+use Rattle.blt_reader.proofs.Runs.{capped_twice, number_more, run_len}
 use Rattle.blt_reader.proofs.pieces.front_number.Goals as goal
 
 pub returns-then-not-is_ascii_digit-clause-len : goal.returns-then-not-is_ascii_digit-clause-len
@@ -24,8 +24,9 @@ returns-clause-number c =
 pub loop-n-preserved : goal.loop-n-preserved
 loop-n-preserved c =
     let n = c.loop-n.n in
+    let d = get_or c.args.bytes.now n 0 - 48 in
     let digit : is_ascii_digit (get_or c.args.bytes.now n 0) ≡ true = sym c.is_ascii_digit.ensures.value ∙ c.if-not-is_ascii_digit.false in
     record {
-      so_far = c.with_digit-value.ensures ∙ ap (λ (v : ℕ). min (v * 10 + (get_or c.args.bytes.now n 0 - 48)) 4294967295) c.loop-n.invariant.so_far ∙ sym (number_more c.args.bytes.now n c.loop-n-test.true digit);
+      so_far = c.saturating_add-value.ensures ∙ ap (λ (m : ℕ). min (m + d) 4294967295) c.saturating_mul.ensures ∙ capped_twice c.loop-n.value d ∙ ap (λ (v : ℕ). min (v * 10 + d) 4294967295) c.loop-n.invariant.so_far ∙ sym (number_more c.args.bytes.now n c.loop-n-test.true digit);
       digits = below_more _ _ c.loop-n.invariant.digits digit;
     }
