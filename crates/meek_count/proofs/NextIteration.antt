@@ -106,7 +106,7 @@ elected_goes_on s most now votes lots winners valid are some =
         surplus_is = refl;
         leaves = (some, refl, refl, refl);
       };
-      valid = valid-with_elected s now winners valid (winners-electable s now votes lots (quota now.seats votes) winners valid are);
+      valid = valid-with_elected s now votes lots (quota now.seats votes) winners valid are;
       same_length = length-map-range_with_len _ 0 (length now.states);
       nearer = nearer_by_round most (hopeful_count (elect now.states winners)) (hopeful_count now.states) (unwrap_or now.previous (most + 1)) (omega arith);
     }
