@@ -24,7 +24,6 @@ title_expected h lines names same =
     let full : (length names == h.candidates) ≡ true = eq-eqb (length names) h.candidates same in
     rw full refl
 
-
 module _ (limit : Limit) (h : Heading) (lines : List BallotLine) (names : List (List ℕ)) (old new : Scan) where
   no_name : (item : Item) (kind : FaultKind) → as_name 200 item ≡ Err kind → at_token limit (Name h lines names) item ≡ Err kind
   unfolding at_token

@@ -56,6 +56,6 @@ module _ (limit : Limit) (start : Scan) (opening : Opening) (behind_opening : Sc
       all_read title roll old new goes read roll_is =
           let marks : withdrawn_marks opening.candidates is.listed ≡ withdrawn_marks (length names) opening.withdrawn.items = is.marks ∙ ap (λ (c : ℕ). withdrawn_marks c opening.withdrawn.items) (sym all) in
           let same : poll_of HeadingOf lines names title ≡ record { roll = roll; lines = lines } =
-              ap (λ (m : List Bool). record { roll = record { seats = opening.seats; names = names; title = title; withdrawn = m }; lines = lines }) marks
-              ∙ ap (λ (r : RollList). record { roll = r; lines = lines }) (sym roll_is) in
+          ap (λ (m : List Bool). record { roll = record { seats = opening.seats; names = names; title = title; withdrawn = m }; lines = lines }) marks
+          ∙ ap (λ (r : RollList). record { roll = r; lines = lines }) (sym roll_is) in
           goes ∙ title_read limit HeadingOf lines names old new title all read ∙ ap (λ (p : Poll). Ok (p, new)) same

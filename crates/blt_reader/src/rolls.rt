@@ -52,7 +52,13 @@ fn read_up_to_title(
     let ballots = read_lines_from(alloc, tokens, candidates, most, refusal, opening.first)?;
     let names = read_names(alloc, tokens, candidates)?;
     let title = read_name(alloc, tokens)?;
-    let roll = new_roll(alloc, opening.seats, names, title, opening.withdrawn.as_slice())?;
+    let roll = new_roll(
+        alloc,
+        opening.seats,
+        names,
+        title,
+        opening.withdrawn.as_slice(),
+    )?;
     Ok(Election { roll, ballots })
 }
 

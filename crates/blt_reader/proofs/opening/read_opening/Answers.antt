@@ -17,7 +17,7 @@ pub returns-in_err-first-clause-reads : goal.returns-in_err-first-clause-reads
 returns-in_err-first-clause-reads c =
     let candidates = c.in_ok-candidates.candidates in
     let opens : Opens candidates c.in_ok-seats.seats c.args.tokens.now.rest c.read_size-2.new.tokens.rest =
-        λ limit. candidates_read limit _ _ candidates c.in_ok-candidates.ensures.size ∙ seats_read limit _ _ candidates c.in_ok-seats.seats c.in_ok-seats.ensures.size in
+    λ limit. candidates_read limit _ _ candidates c.in_ok-candidates.ensures.size ∙ seats_read limit _ _ candidates c.in_ok-seats.seats c.in_ok-seats.ensures.size in
     let p = err_from_is_err_and c.from_residual-in_err-first.result c.from_residual-in_err-first.ensures.1 in
     rw (p.1, p.2) (opening_fails candidates c.in_ok-seats.seats _ _ _ c.read_withdrawn.new.withdrawn.items _ opens c.in_err-first.ensures.reads)
 
@@ -25,5 +25,5 @@ pub returns-clause-reads : goal.returns-clause-reads
 returns-clause-reads c =
     let candidates = c.in_ok-candidates.candidates in
     let opens : Opens candidates c.in_ok-seats.seats c.args.tokens.now.rest c.read_size-2.new.tokens.rest =
-        λ limit. candidates_read limit _ _ candidates c.in_ok-candidates.ensures.size ∙ seats_read limit _ _ candidates c.in_ok-seats.seats c.in_ok-seats.ensures.size in
+    λ limit. candidates_read limit _ _ candidates c.in_ok-candidates.ensures.size ∙ seats_read limit _ _ candidates c.in_ok-seats.seats c.in_ok-seats.ensures.size in
     opened _ _ _ _ opens c.in_ok-first.ensures.reads

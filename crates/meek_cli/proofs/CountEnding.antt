@@ -1,0 +1,104 @@
+-- How the writing of a count ends.
+use Rattle.std.proofs.Common.{◌≡◌, ◌⊎◌, ℕ, ◌+◌, ◌≤◌, List, [], ◌++◌, length, false, refl, sym, subst, inl, inr}
+use Rattle.std.specs.Prelude.{Option}
+use Rattle.std.proofs.lemmas.List.{append-nil}
+use Rattle.std.specs.Io.KnownBytes.{Appends, Keeps}
+use Rattle.std.proofs.KnownBytes.{Appends-kept}
+use Rattle.byte_edge.specs.Faults.{Rose}
+use Rattle.candidate_roll.specs.Roll.{RollList}
+use Rattle.plain_ballots.specs.Ballots.{plain}
+use Rattle.plain_ballots.specs.declared.ballot_line.BallotLine.{BallotLine}
+use Rattle.lot_order.specs.Lots.{IsLotsStop}
+use Rattle.lot_order.specs.declared.lots_stop.LotsStop.{LotsStop}
+use Rattle.lot_order.specs.declared.lots_stop.LotsStop.TheVariants.{NotAll, Twice, OutOfRange, NoMemory as NoLots}
+use Rattle.blt_reader.specs.declared.fault_kind.FaultKind.TheVariants.{BadLots}
+use Rattle.blt_reader.specs.declared.input_fault.InputFault.{InputFault}
+use Rattle.blt_reader.specs.Scan.{scan}
+use Rattle.blt_reader.specs.Poll.{Poll}
+use Rattle.blt_reader.specs.Blt.{IsBlt}
+use Rattle.blt_reader.specs.Refusal.{IsAccepted}
+use Rattle.meek_count.specs.Progress.{Progress}
+use Rattle.sheet_text.specs.Sheet.{IsSheet, IsSheetOf, AppendsSheet, AppendsFrontOfSheet}
+use Rattle.meek_cli.specs.declared.status.Status.{Status}
+use Rattle.meek_cli.specs.declared.status.Status.TheVariants.{Done, BadInput, SinkFault}
+use Rattle.meek_cli.specs.Streams.{Writing, NoWriteFailed}
+use Rattle.meek_cli.specs.Refusals.{fault_line}
+use Rattle.meek_cli.specs.Owed.{limit}
+use Rattle.meek_cli.specs.Run.{FinishesCount, RefusesLots, WritesCount}
+
+-- the count is of these lines, this roll and these lots, with the program's omega
+pub record IsCountOf (roll : RollList) (lots : List ℕ) (lines : List BallotLine) (count : Progress) : Type 0 where
+  pub omega_is : count.now.omega ≡ 1000
+  pub ballots_are : count.ballots ≡ plain lines
+  pub roll_is : count.roll ≡ roll
+  pub lots_are : count.lots ≡ lots
+
+sheet_of :
+    (roll : RollList) (lots : List ℕ) (lines : List BallotLine) (count : Progress) (text : List ℕ)
+    → IsCountOf roll lots lines count → IsSheetOf 9 count text → IsSheet 9 1000 (plain lines) roll lots text
+sheet_of roll lots lines count text of is =
+    subst (λ (omega : ℕ). IsSheet 9 omega (plain lines) roll lots text) of.omega_is
+    (subst (λ (ballots : List (List ℕ)). IsSheet 9 count.now.omega ballots roll lots text) of.ballots_are
+    (subst (λ (r : RollList). IsSheet 9 count.now.omega count.ballots r lots text) of.roll_is
+    (subst (λ (l : List ℕ). IsSheet 9 count.now.omega count.ballots count.roll l text) of.lots_are is)))
+
+-- writing the sheet failed
+pub stopped_in_sheet :
+    (roll : RollList) (lots : List ℕ) (lines : List BallotLine) (count : Progress) (sink : Writing)
+    → IsCountOf roll lots lines count → AppendsFrontOfSheet 9 count sink.written sink.written_then
+    → Rose sink.faults sink.faults_then → WritesCount roll lots lines SinkFault sink
+stopped_in_sheet roll lots lines count sink of (text, is, front) rose =
+    inr (text, sheet_of roll lots lines count text of is, inr (refl, rose, front))
+
+-- the flush behind the sheet failed
+pub stopped_in_flush :
+    (roll : RollList) (lots : List ℕ) (lines : List BallotLine) (count : Progress) (sink : Writing) (mid : Option (List ℕ))
+    → IsCountOf roll lots lines count → AppendsSheet 9 count sink.written mid → Keeps mid sink.written_then
+    → Rose sink.faults sink.faults_then → WritesCount roll lots lines SinkFault sink
+stopped_in_flush roll lots lines count sink mid of (text, is, whole) kept rose =
+    inr (
+      text,
+      sheet_of roll lots lines count text of is,
+      inr (refl, rose, (text, [], sym (append-nil text), Appends-kept sink.written mid sink.written_then text whole kept)),
+    )
+
+-- the sheet was written
+pub wrote_sheet :
+    (roll : RollList) (lots : List ℕ) (lines : List BallotLine) (count : Progress) (sink : Writing) (mid : Option (List ℕ))
+    → IsCountOf roll lots lines count → AppendsSheet 9 count sink.written mid → Keeps mid sink.written_then
+    → NoWriteFailed sink → WritesCount roll lots lines Done sink
+wrote_sheet roll lots lines count sink mid of (text, is, whole) kept calm =
+    inr (
+      text,
+      sheet_of roll lots lines count text of is,
+      inl (refl, calm, Appends-kept sink.written mid sink.written_then text whole kept),
+    )
+
+-- a file was read, and the lots are not an order of its candidates
+pub refused_lots :
+    (lots input : List ℕ) (poll : Poll) (stop : LotsStop) (status : Status) (sink : Writing)
+    → length input ≤ limit → IsAccepted (IsBlt 999999999) (scan input false) poll
+    → IsLotsStop (length poll.roll.names) lots stop → RefusesLots (length lots) stop status sink
+    → FinishesCount lots input status sink
+refused_lots lots input poll (NotAll c) status sink short file is finishes =
+    inr (
+      BadInput (record { kind = BadLots; at = length lots + 1 }),
+      fault_line (record { kind = BadLots; at = length lots + 1 }),
+      (inr (inr (record { short = short; poll = poll; file = file; place = length lots + 1; lots_at = inr (inr (c, is, refl)); fault_is = refl })), refl),
+      finishes,
+    )
+refused_lots lots input poll (Twice place) status sink short file is finishes =
+    inr (
+      BadInput (record { kind = BadLots; at = place }),
+      fault_line (record { kind = BadLots; at = place }),
+      (inr (inr (record { short = short; poll = poll; file = file; place = place; lots_at = inl is; fault_is = refl })), refl),
+      finishes,
+    )
+refused_lots lots input poll (OutOfRange place) status sink short file is finishes =
+    inr (
+      BadInput (record { kind = BadLots; at = place }),
+      fault_line (record { kind = BadLots; at = place }),
+      (inr (inr (record { short = short; poll = poll; file = file; place = place; lots_at = inr (inl is); fault_is = refl })), refl),
+      finishes,
+    )
+refused_lots lots input poll NoLots status sink short file is finishes = inl finishes

@@ -1,0 +1,5 @@
+pub mod Status
+pub mod Streams
+pub mod Refusals
+pub mod Owed
+pub mod Run
