@@ -19,6 +19,7 @@ ended line = line ++ 10 ∷ []
 unfoldable pub text_of_lines : List (List ℕ) → List ℕ
 text_of_lines lines = flat_map ended lines
 
+-- what a state is called
 abbrev pub state_word : State → List ℕ
 state_word Hopeful = codes "hopeful"
 state_word IsElected = codes "elected"
@@ -65,6 +66,7 @@ head_lines roll ballots =
 abbrev pub number_line : Row → List ℕ
 number_line row = codes "round " ++ decimal row.round ++ codes " iteration " ++ decimal row.iteration
 
+-- the amounts of an iteration
 abbrev pub amount_lines : (places : ℕ) → Row → List (List ℕ)
 amount_lines places row =
     (codes "total " ++ text_of places row.total)

@@ -13,8 +13,10 @@ use line_text::Line;
 
 /// Writes the head of a sheet: the title, the numbers of seats and candidates, and that of all ballots.
 pub fn write_head<K: Sink>(roll: &Roll, ballots: u64, sink: &mut K) -> Result<(), Failed>
-    ensures all { OnOk result (Appends (K.written sink.old) (K.written sink.new) (text_of_lines (head_lines roll.now ballots))) }
-    ensures front { OnErr result (AppendsFront (K.written sink.old) (K.written sink.new) (text_of_lines (head_lines roll.now ballots))) }
+    ensures all { OnOk result
+        (Appends (K.written sink.old) (K.written sink.new) (text_of_lines (head_lines roll.now ballots))) }
+    ensures front { OnErr result
+        (AppendsFront (K.written sink.old) (K.written sink.new) (text_of_lines (head_lines roll.now ballots))) }
     ensures faults { CountsFault (K.faults sink.old) (K.faults sink.new) result }
 {
     let mut line = Line::new();

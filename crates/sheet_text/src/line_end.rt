@@ -58,7 +58,8 @@ pub(crate) fn write_amount_line<const P: usize, K: Sink>(
     sink: &mut K,
 ) -> Result<(), Failed>
     requires { length word.now < 100 }
-    ensures { Writes K.written K.faults sink.old sink.new ((word.now ++ text_of P a.entry) ∷ []) result }
+    ensures { Writes K.written K.faults sink.old sink.new
+        ((word.now ++ text_of P a.entry) ∷ []) result }
 {
     let _units = a.units();
     line.clear();

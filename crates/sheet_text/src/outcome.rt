@@ -16,8 +16,10 @@ use line_text::Line;
 /// Writes the end of a sheet: what became of each candidate.
 pub fn write_result<K: Sink>(roll: &Roll, states: &States, sink: &mut K) -> Result<(), Failed>
     requires { length states.now ≡ length roll.now.names }
-    ensures all { OnOk result (Appends (K.written sink.old) (K.written sink.new) (text_of_lines (result_lines roll.now.names states.now))) }
-    ensures front { OnErr result (AppendsFront (K.written sink.old) (K.written sink.new) (text_of_lines (result_lines roll.now.names states.now))) }
+    ensures all { OnOk result
+        (Appends (K.written sink.old) (K.written sink.new) (text_of_lines (result_lines roll.now.names states.now))) }
+    ensures front { OnErr result
+        (AppendsFront (K.written sink.old) (K.written sink.new) (text_of_lines (result_lines roll.now.names states.now))) }
     ensures faults { CountsFault (K.faults sink.old) (K.faults sink.new) result }
 {
     let mut line = Line::new();
@@ -32,7 +34,8 @@ pub(crate) fn write_result_by<K: Sink>(
     sink: &mut K,
 ) -> Result<(), Failed>
     requires { length states.now ≡ length roll.now.names }
-    ensures { Writes K.written K.faults sink.old sink.new (result_lines roll.now.names states.now) result }
+    ensures { Writes K.written K.faults sink.old sink.new
+        (result_lines roll.now.names states.now) result }
 {
     write_bytes_line(line, b"result", b"", sink)?;
     write_outcomes(line, roll, states, sink)?;
@@ -46,7 +49,8 @@ fn write_outcomes<K: Sink>(
     sink: &mut K,
 ) -> Result<(), Failed>
     requires { length states.now ≡ length roll.now.names }
-    ensures { Writes K.written K.faults sink.old sink.new (each_place (length states.now) (outcome_line states.now roll.now.names)) result }
+    ensures { Writes K.written K.faults sink.old sink.new
+        (each_place (length states.now) (outcome_line states.now roll.now.names)) result }
 {
     for p in 0..states.len() {
         push_outcome(line, roll, states, p);

@@ -1,9 +1,8 @@
 // An iteration in a sheet.
-ghost use Rattle.std.specs.Prelude.{◌≡◌, ◌+◌, ◌≤◌, ◌<◌, [], ◌∷◌, ◌++◌, codes, decimal, length, OnOk, OnErr};
+ghost use Rattle.std.specs.Prelude.{◌≡◌, ◌≤◌, ◌<◌, [], ◌∷◌, length, OnOk, OnErr};
 ghost use Rattle.std.specs.Io.KnownBytes.{Appends};
 ghost use Rattle.byte_edge.specs.Bytes.{AppendsFront};
 ghost use Rattle.byte_edge.specs.Faults.{CountsFault};
-ghost use Rattle.fixed_place.specs.Text.{text_of};
 ghost use Rattle.meek_rule.specs.Places.{each_place};
 ghost use Rattle.meek_rule.specs.Row.{HasRoomFor};
 ghost use Rattle.sheet_text.specs.Lines.{text_of_lines, row_lines, number_line, candidate_line, amount_lines, decision_lines, marked_lines, step_line};
@@ -16,12 +15,15 @@ use line_text::Line;
 use lot_order::Flags;
 use meek_rule::{Row, Step};
 
-/// Writes an iteration.
+/// Writes an iteration: its numbers, each candidate's state, keep value and vote as they were in it, the
+/// amounts, and what was decided. All lists of the row have as many items, at most 250.
 pub fn write_row<const P: usize, K: Sink>(row: &Row<P>, sink: &mut K) -> Result<(), Failed>
     requires equally_long { HasRoomFor (length row.now.states) row.now }
     requires few { length row.now.states ≤ 250 }
-    ensures all { OnOk result (Appends (K.written sink.old) (K.written sink.new) (text_of_lines (row_lines P row.now))) }
-    ensures front { OnErr result (AppendsFront (K.written sink.old) (K.written sink.new) (text_of_lines (row_lines P row.now))) }
+    ensures all { OnOk result
+        (Appends (K.written sink.old) (K.written sink.new) (text_of_lines (row_lines P row.now))) }
+    ensures front { OnErr result
+        (AppendsFront (K.written sink.old) (K.written sink.new) (text_of_lines (row_lines P row.now))) }
     ensures faults { CountsFault (K.faults sink.old) (K.faults sink.new) result }
 {
     let mut line = Line::new();
@@ -67,7 +69,8 @@ fn write_candidates<const P: usize, K: Sink>(
 ) -> Result<(), Failed>
     requires equally_long { HasRoomFor (length row.now.states) row.now }
     requires few { length row.now.states ≤ 250 }
-    ensures { Writes K.written K.faults sink.old sink.new (each_place (length row.now.states) (candidate_line P row.now)) result }
+    ensures { Writes K.written K.faults sink.old sink.new
+        (each_place (length row.now.states) (candidate_line P row.now)) result }
 {
     for p in 0..row.states.len() {
         push_candidate(line, row, p);

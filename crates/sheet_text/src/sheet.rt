@@ -22,7 +22,8 @@ pub fn write_sheet<const P: usize, D: Spread<P> + Drop, K: Sink>(
     requires { HasJustBegun (scale P) count.old }
     ensures all { OnOk result (AppendsSheet P count.old (K.written sink.old) (K.written sink.new)) }
     ensures ended { OnOk result (HasEnded count.new) }
-    ensures front { OnErr result (AppendsFrontOfSheet P count.old (K.written sink.old) (K.written sink.new)) }
+    ensures front { OnErr result
+        (AppendsFrontOfSheet P count.old (K.written sink.old) (K.written sink.new)) }
     ensures same { IsSameElection count.old count.new }
     ensures faults { CountsFault (K.faults sink.old) (K.faults sink.new) result }
 {
