@@ -1,9 +1,12 @@
 // Whole runs over memory: elections worked by hand with their sheets, refusals at their places, and a
 // source or a sink that fails in mid-stream. Expected bytes were worked out by hand.
-use crate::{Outcome, Status, meek};
+use crate::{Status, meek};
 use blt_reader::{FaultKind, InputFault};
 use byte_edge::{FreeGate, MemorySink, MemorySource};
+use std::alloc::Global;
+use std::sync::Wait;
 use std::test::Fail;
+use std::thread::Threads;
 
 const SAMPLE: &[u8] =
     b"# sample\n4 2\n-2\n3 1 3 4 0\n4 1 3 2 0\n2 4 1 3 0\n1 2 0\n2 2 4 3 1 0\n1 3 4 2 0\n0\n\"Ann\"\n\"Ben\"\n\"Cid\"\n\"Dee\"\n\"Sample\"\n";
@@ -28,45 +31,54 @@ struct Ran {
 }
 
 /// The words of one text, cut at spaces.
-fn words_of(rt: &HostRuntime, text: &str) -> Result<Vec<String>, Fail> {
-    let mut words = Vec::new(rt.alloc());
+fn words_of(alloc: Global, text: &str) -> Result<Vec<String>, Fail> {
+    let mut words = Vec::new(alloc);
     for word in text.split_whitespace() {
-        words.push(word.to_string(rt.alloc())?)?;
+        words.push(word.to_string(alloc)?)?;
     }
     Ok(words)
 }
 
-/// A run over memory, at most 1,400 bytes a write and 16 a read; the calls with these numbers fail.
-fn run_failing(
-    rt: &HostRuntime,
+/// A run over memory, at most 16 bytes a read and 1,400 a write; the calls with these numbers fail.
+fn run_failing<R: Threads + Wait + Sync>(
+    rt: &R,
+    alloc: Global,
     words: &str,
     input: &[u8],
     reads: &[u64],
     writes: &[u64],
 ) -> Result<Ran, Fail> {
-    let words = words_of(rt, words)?;
-    let mut source = MemorySource::new(input.to_vec(rt.alloc())?, 16, reads.to_vec(rt.alloc())?);
-    let mut sink = MemorySink::with_room(rt.alloc(), 100_000, 1_400, writes.to_vec(rt.alloc())?)?;
-    let Outcome { status } = meek(
+    let words = words_of(alloc, words)?;
+    let mut source = MemorySource::new(input.to_vec(alloc)?, 16, reads.to_vec(alloc)?);
+    let mut sink = MemorySink::with_room(alloc, 100_000, 1_400, writes.to_vec(alloc)?)?;
+    let outcome = meek(
         rt,
-        rt.alloc(),
+        alloc,
         words.as_slice(),
         &mut source,
         &mut sink,
         &FreeGate,
     );
-    let written = sink.bytes().to_vec(rt.alloc())?;
-    Ok(Ran { status, written })
+    let written = sink.bytes().to_vec(alloc)?;
+    Ok(Ran {
+        status: outcome.status,
+        written,
+    })
 }
 
-fn run(rt: &HostRuntime, words: &str, input: &[u8]) -> Result<Ran, Fail> {
-    run_failing(rt, words, input, &[], &[])
+fn run<R: Threads + Wait + Sync>(
+    rt: &R,
+    alloc: Global,
+    words: &str,
+    input: &[u8],
+) -> Result<Ran, Fail> {
+    run_failing(rt, alloc, words, input, &[], &[])
 }
 
 #[test]
 fn counts_the_sample(rt: HostRuntime) -> Result<(), Fail> {
     for words in ["count --lots 1,2,3,4", "count --lots=1,2,3,4"] {
-        let ran = run(&rt, words, SAMPLE)?;
+        let ran = run(&rt, rt.alloc(), words, SAMPLE)?;
         assert_eq!(rt; ran.status, Status::Done);
         assert_eq!(rt; ran.written.as_slice(), SAMPLE_SHEET);
     }
@@ -129,7 +141,7 @@ result\n1 elected A\n2 defeated B\nend\n",
 #[test]
 fn counts_small_elections(rt: HostRuntime) -> Result<(), Fail> {
     for (words, file, sheet) in ELECTIONS {
-        let ran = run(&rt, words, file)?;
+        let ran = run(&rt, rt.alloc(), words, file)?;
         assert_eq!(rt; ran.status, Status::Done, "{words}");
         assert_eq!(rt; ran.written.as_slice(), sheet, "{words}");
     }
@@ -147,7 +159,7 @@ round 1 iteration 1\n1 hopeful 1.000000000 7.000000000\n2 hopeful 1.000000000 2.
 3 withdrawn 0.000000000 0.000000000\ntotal 9.000000000\nquota 4.500000001\nsurplus 2.499999999\n\
 elected 1\nstep elected\n\
 result\n1 elected A\n2 defeated B\n3 withdrawn C\nend\n";
-    let ran = run(&rt, "count --lots 1,2,3", file)?;
+    let ran = run(&rt, rt.alloc(), "count --lots 1,2,3", file)?;
     assert_eq!(rt; ran.status, Status::Done);
     assert_eq!(rt; ran.written.as_slice(), sheet.as_slice());
     Ok(())
@@ -163,6 +175,7 @@ elected 1\nstep elected\n\
 result\n1 elected A\n2 defeated B\nend\n";
     let ran = run(
         &rt,
+        rt.alloc(),
         "count --lots 1,2",
         b"2 1\n999999999 1 0\n0\n\"A\" \"B\" \"T\"\n",
     )?;
@@ -181,7 +194,7 @@ fn refuses_words(rt: HostRuntime) -> Result<(), Fail> {
         "count --lots 1 --lots 1",
         "help",
     ] {
-        let ran = run(&rt, words, SAMPLE)?;
+        let ran = run(&rt, rt.alloc(), words, SAMPLE)?;
         assert_eq!(rt; ran.status, Status::BadWords, "{words}");
         assert_eq!(rt;
             ran.written.as_slice(),
@@ -283,7 +296,7 @@ const REFUSED: [(&[u8], FaultKind, usize, &[u8]); 15] = [
 #[test]
 fn refuses_files_at_their_byte(rt: HostRuntime) -> Result<(), Fail> {
     for (file, kind, at, line) in REFUSED {
-        let ran = run(&rt, "count --lots 1,2", file)?;
+        let ran = run(&rt, rt.alloc(), "count --lots 1,2", file)?;
         assert_eq!(rt; ran.status, Status::BadInput(InputFault { kind, at }));
         assert_eq!(rt; ran.written.as_slice(), line);
     }
@@ -306,7 +319,7 @@ fn refuses_lots_at_their_place(rt: HostRuntime) -> Result<(), Fail> {
             b"refused BadLots at 2\n".as_slice(),
         ),
     ] {
-        let ran = run(&rt, words, file)?;
+        let ran = run(&rt, rt.alloc(), words, file)?;
         assert_eq!(rt;
             ran.status,
             Status::BadInput(InputFault {
@@ -324,7 +337,7 @@ fn refuses_lots_at_their_place(rt: HostRuntime) -> Result<(), Fail> {
 fn refuses_each_front_of_the_sample(rt: HostRuntime) -> Result<(), Fail> {
     assert_eq!(rt; SAMPLE.len(), 109);
     for n in 0..108 {
-        let ran = run(&rt, "count --lots 1,2,3,4", &SAMPLE[..n])?;
+        let ran = run(&rt, rt.alloc(), "count --lots 1,2,3,4", &SAMPLE[..n])?;
         let fault = if n == 14 {
             InputFault {
                 kind: FaultKind::BadByte,
@@ -338,7 +351,7 @@ fn refuses_each_front_of_the_sample(rt: HostRuntime) -> Result<(), Fail> {
         };
         assert_eq!(rt; ran.status, Status::BadInput(fault), "{n} bytes");
     }
-    let ran = run(&rt, "count --lots 1,2,3,4", &SAMPLE[..108])?;
+    let ran = run(&rt, rt.alloc(), "count --lots 1,2,3,4", &SAMPLE[..108])?;
     assert_eq!(rt; ran.written.as_slice(), SAMPLE_SHEET);
     Ok(())
 }
@@ -347,7 +360,7 @@ fn refuses_each_front_of_the_sample(rt: HostRuntime) -> Result<(), Fail> {
 #[test]
 fn writes_the_lines_before_a_failure(rt: HostRuntime) -> Result<(), Fail> {
     for k in 1..39 {
-        let ran = run_failing(&rt, "count --lots 1,2,3,4", SAMPLE, &[], &[k])?;
+        let ran = run_failing(&rt, rt.alloc(), "count --lots 1,2,3,4", SAMPLE, &[], &[k])?;
         assert_eq!(rt; ran.status, Status::SinkFault, "call {k}");
         let lines = ran.written.iter().filter(|b| **b == b'\n').count();
         assert_eq!(rt; lines as u64 + 1, k, "call {k}");
@@ -356,10 +369,10 @@ fn writes_the_lines_before_a_failure(rt: HostRuntime) -> Result<(), Fail> {
             "call {k}"
         );
     }
-    let flushed = run_failing(&rt, "count --lots 1,2,3,4", SAMPLE, &[], &[39])?;
+    let flushed = run_failing(&rt, rt.alloc(), "count --lots 1,2,3,4", SAMPLE, &[], &[39])?;
     assert_eq!(rt; flushed.status, Status::SinkFault);
     assert_eq!(rt; flushed.written.as_slice(), SAMPLE_SHEET);
-    let done = run_failing(&rt, "count --lots 1,2,3,4", SAMPLE, &[], &[40])?;
+    let done = run_failing(&rt, rt.alloc(), "count --lots 1,2,3,4", SAMPLE, &[], &[40])?;
     assert_eq!(rt; done.status, Status::Done);
     Ok(())
 }
@@ -368,7 +381,7 @@ fn writes_the_lines_before_a_failure(rt: HostRuntime) -> Result<(), Fail> {
 #[test]
 fn writes_nothing_after_a_failed_read(rt: HostRuntime) -> Result<(), Fail> {
     for k in 1..9 {
-        let ran = run_failing(&rt, "count --lots 1,2,3,4", SAMPLE, &[k], &[])?;
+        let ran = run_failing(&rt, rt.alloc(), "count --lots 1,2,3,4", SAMPLE, &[k], &[])?;
         assert_eq!(rt; ran.status, Status::SourceFault, "call {k}");
         assert!(rt; ran.written.is_empty(), "call {k}");
     }
