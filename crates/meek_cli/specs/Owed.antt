@@ -2,7 +2,7 @@
 use Rattle.std.specs.Prelude.{◌≡◌, ◌⊎◌, ℕ, ◌+◌, ◌<◌, ◌≤◌, List, length, false, Option, Some, None}
 use Rattle.lot_order.specs.Lots.{IsOrder, IsTwiceAt, IsOutOfRangeAt, IsFirstMissing}
 use Rattle.lot_order.specs.declared.lots_stop.LotsStop.{LotsStop}
-use Rattle.lot_order.specs.declared.lots_stop.LotsStop.TheVariants.{NotAll, Twice, OutOfRange}
+use Rattle.lot_order.specs.declared.lots_stop.LotsStop.TheVariants.{NotAll, Twice, OutOfRange, NoMemory as NoLots}
 use Rattle.plain_ballots.specs.Ballots.{plain}
 use Rattle.blt_reader.specs.declared.fault_kind.FaultKind.TheVariants.{BadLots, TooLong}
 use Rattle.blt_reader.specs.declared.input_fault.InputFault.{InputFault}
@@ -55,7 +55,7 @@ abbrev pub lots_fault : ℕ → LotsStop → Option InputFault
 lots_fault len (NotAll c) = Some (record { kind = BadLots; at = len + 1 })
 lots_fault len (Twice place) = Some (record { kind = BadLots; at = place })
 lots_fault len (OutOfRange place) = Some (record { kind = BadLots; at = place })
-lots_fault len no_memory = None
+lots_fault len NoLots = None
 
 pub record HasBadLots (lots input : List ℕ) (fault : InputFault) : Type 0 where
   pub short : length input ≤ limit
