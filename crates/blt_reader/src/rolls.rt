@@ -83,3 +83,6 @@ fn new_roll(
         Err(RollStop::BadSeats) => unreachable!(),
     }
 }
+
+#[cfg(test)]
+mod tests;
