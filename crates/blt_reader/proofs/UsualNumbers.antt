@@ -1,5 +1,5 @@
 -- One to three digits behind a separator.
-use Rattle.std.proofs.Common.{◌≡◌, ℕ, ◌+◌, ◌-◌, ◌*◌, ◌<◌, ◌≤◌, min, List, length, take, drop, get_or, Bool, true, false, cond, ◌==◌, ◌&&◌, sym, ◌∙◌, ap, subst, arith, below_more, length-drop}
+use Rattle.std.proofs.Common.{◌≡◌, ℕ, ◌+◌, ◌-◌, ◌*◌, ◌<◌, ◌≤◌, min, List, length, take, drop, get_or, Bool, true, false, cond, ◌&&◌, sym, ◌∙◌, ap, subst, arith, below_more, length-drop}
 use mir.Val.{bool_byte}
 use Rattle.std.specs.List.{prefix_len, take_while}
 use Rattle.std.specs.Char.{is_ascii_digit}
