@@ -1,9 +1,10 @@
 -- One to three digits behind a separator.
-use Rattle.std.proofs.Common.{◌≡◌, ℕ, ◌+◌, ◌-◌, ◌*◌, ◌<◌, ◌≤◌, min, List, length, take, drop, get_or, Bool, true, false, cond, ◌==◌, ◌&&◌, sym, ◌∙◌, ap, subst, arith, below_more, length-drop}
+use Rattle.std.proofs.Common.{◌≡◌, ℕ, ◌+◌, ◌-◌, ◌*◌, ◌<◌, ◌≤◌, min, List, length, take, drop, get_or, Bool, true, false, cond, ◌&&◌, zero, suc, refl, sym, ◌∙◌, ap, subst, arith, below_more, length-drop}
 use mir.Val.{bool_byte}
 use Rattle.std.specs.List.{prefix_len, take_while}
 use Rattle.std.specs.Char.{is_ascii_digit}
 use Rattle.std.proofs.lemmas.List.{get_or-drop}
+use Rattle.std.proofs.lemmas.List.Sums.{prefix_len_passes}
 use Rattle.blt_reader.specs.Scan.{number, is_separator}
 use Rattle.blt_reader.specs.Usual.{may_end, IsUsualNumber}
 use Rattle.blt_reader.proofs.Runs.{number_more, run_len}
@@ -80,3 +81,23 @@ usual bytes b c two three long separator first b_is c_is ends two_is three_is =
           (three_is ∙ ap (λ (d : ℕ). cond (b && c) (two * 10 + (d - 48)) two) (sym (at 2)));
       ends = ends;
     }
+
+-- how many digits there are, by which of them the code has looked at
+seen_digits : (b c : Bool) (digits : ℕ) → 0 < digits → digits ≤ 3 → (1 < digits → b ≡ true) → (digits ≡ 1 → b ≡ false) → (2 < digits → c ≡ true) → (digits ≡ 2 → c ≡ false) → digits ≡ 1 + bool_byte b + bool_byte (b && c)
+seen_digits b c zero some few b_yes b_no c_yes c_no = absurd (omega (arith, some))
+seen_digits b c (suc zero) some few b_yes b_no c_yes c_no = rw (b_no refl) refl
+seen_digits b c (suc (suc zero)) some few b_yes b_no c_yes c_no = rw (b_yes (omega arith), c_no refl) refl
+seen_digits b c (suc (suc (suc zero))) some few b_yes b_no c_yes c_no = rw (b_yes (omega arith), c_yes (omega arith)) refl
+seen_digits b c (suc (suc (suc (suc more)))) some few b_yes b_no c_yes c_no = absurd (omega (arith, few))
+
+-- A number of at most three digits is found.
+module _ (bytes : List ℕ) (n digits : ℕ) (is : IsUsualNumber bytes n digits) where
+  pub digit_at : (k : ℕ) → k < digits → is_ascii_digit (get_or bytes (1 + k) 0) ≡ true
+  digit_at k less = ap is_ascii_digit (sym (get_or-drop 1 bytes k 0)) ∙ prefix_len_passes is_ascii_digit (drop 1 bytes) k 0 (omega (arith, less, is.run))
+
+  pub ends_behind : digits ≤ 3 → (b c : Bool) → b ≡ is_ascii_digit (get_or bytes 2 0) → c ≡ is_ascii_digit (get_or bytes 3 0) → may_end (get_or bytes (1 + (1 + bool_byte b + bool_byte (b && c))) 0) ≡ true
+  ends_behind few b c b_is c_is =
+      let behind : is_ascii_digit (get_or bytes (1 + digits) 0) ≡ false = no_digit (get_or bytes (1 + digits) 0) is.ends in
+      let run = seen_digits b c digits is.some few (λ more. b_is ∙ digit_at 1 more) (λ one. b_is ∙ subst (λ (d : ℕ). is_ascii_digit (get_or bytes (1 + d) 0) ≡ false) one behind)
+      (λ more. c_is ∙ digit_at 2 more) (λ two. c_is ∙ subst (λ (d : ℕ). is_ascii_digit (get_or bytes (1 + d) 0) ≡ false) two behind) in
+      subst (λ (d : ℕ). may_end (get_or bytes (1 + d) 0) ≡ true) run is.ends

@@ -14,3 +14,4 @@ pub mod Refusal
 pub mod Reads
 pub mod Opening
 pub mod Said
+pub mod Worked

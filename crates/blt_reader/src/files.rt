@@ -50,3 +50,6 @@ fn read_further(tokens: &mut Tokens<'_>) -> Result<(), InputFault>
         }
     }
 }
+
+#[cfg(test)]
+mod tests;

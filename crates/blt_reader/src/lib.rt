@@ -19,6 +19,7 @@ mod token;
 mod tokens;
 mod usual;
 mod what;
+mod worked;
 
 pub use blt_stop::BltStop;
 pub use election::Election;
@@ -35,3 +36,4 @@ pub use rolls::read_roll;
 pub use token::Token;
 pub use tokens::Tokens;
 pub use what::What;
+pub use worked::worked_files;

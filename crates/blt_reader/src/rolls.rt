@@ -11,7 +11,7 @@ use crate::lines::read_lines_from;
 use crate::names::{read_name, read_names};
 use crate::opening::read_opening;
 use crate::{BltStop, Election, FaultKind, Tokens};
-use candidate_roll::{Name, Names, Roll};
+use candidate_roll::{Name, Names, Roll, RollStop};
 use std::alloc::Global;
 
 /// Reads a file up to its title and no further: an Ok leaves the reader right behind the title.
@@ -78,6 +78,11 @@ fn new_roll(
 {
     match Roll::try_new(alloc, seats, names, title, withdrawn) {
         Ok(roll) => Ok(roll),
-        Err(_) => Err(BltStop::NoMemory),
+        Err(RollStop::NoMemory) => Err(BltStop::NoMemory),
+        Err(RollStop::BadCount) => unreachable!(),
+        Err(RollStop::BadSeats) => unreachable!(),
     }
 }
+
+#[cfg(test)]
+mod tests;

@@ -118,7 +118,7 @@ impl<'a> Tokens<'a> {
     }
 
     /// The length of the input.
-    pub fn len(&self) -> usize
+    pub fn input_len(&self) -> usize
         ensures { result ≡ length self.now.bytes }
     {
         self.bytes.len()
@@ -146,7 +146,7 @@ impl<'a> Tokens<'a> {
             Next::Token(token) => Ok(token),
             Next::End => Err(InputFault {
                 kind: FaultKind::Ended,
-                at: self.len(),
+                at: self.input_len(),
             }),
             Next::Fault(fault) => Err(fault),
         }
@@ -184,3 +184,6 @@ impl<'a> Tokens<'a> {
         }
     }
 }
+
+#[cfg(test)]
+mod tests;

@@ -1,14 +1,16 @@
 // Short numbers, which are most tokens of a ballot file.
-ghost use Rattle.std.specs.Prelude.{◌≡◌, ◌+◌, ◌-◌, ◌*◌, ◌<◌, if◌then◌else◌, true, IsTrue, IfSome};
+ghost use Rattle.std.specs.Prelude.{◌≡◌, ◌+◌, ◌-◌, ◌*◌, ◌<◌, if◌then◌else◌, true, IsTrue, length, IfSome, IfNone};
 ghost use Rattle.std.specs.Char.{is_ascii_digit};
 ghost use Rattle.blt_reader.specs.Scan.{is_separator};
-ghost use Rattle.blt_reader.specs.Usual.{IsUsualNumber, may_end};
+ghost use Rattle.blt_reader.specs.Usual.{IsUsualNumber, HasNoShortNumber, may_end};
 
-/// A number of one to three digits behind one separator: its value, and how many digits it has.
-/// There is no branch on how many, since that changes from token to token.
+/// A number of one to three digits behind one separator: its value, and how many digits it has. It is
+/// looked for where five bytes are left at least. There is no branch on how many digits there are, since
+/// that changes from token to token.
 #[inline(always)]
 pub fn usual_number(bytes: &[u8]) -> Option<(u32, usize)>
-    ensures { IfSome result (λ found. IsUsualNumber bytes.now found.0 found.1) }
+    ensures found { IfSome result (λ found. IsUsualNumber bytes.now found.0 found.1) }
+    ensures none { IfNone result (4 < length bytes.now → HasNoShortNumber bytes.now) }
 {
     let [separator, a, b, c, _, ..] = bytes else {
         return None;

@@ -1,0 +1,3 @@
+// Whole ballot files, worked out by hand.
+mod accepted;
+mod refused;
