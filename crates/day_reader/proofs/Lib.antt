@@ -4,3 +4,7 @@ pub mod CallSoundness
 pub mod Teams
 pub mod TeamSoundness
 pub mod DaySoundness
+pub mod CallCompleteness
+pub mod TeamCompleteness
+pub mod DayCompleteness
+pub mod DayLaws
