@@ -28,8 +28,8 @@ use Rattle.day_reader.specs.DayTable.{at_lot, Head, Expected, InRoll, BehindTitl
 use Rattle.day_reader.specs.Front.{begun_teams, AreBegunTeams, begun_call, IsBehind, head_items, IsHead, IsPlaces, IsFront}
 use Rattle.day_reader.specs.Said.{start}
 use Rattle.day_reader.proofs.Keywords.{reads_word}
-use Rattle.day_reader.proofs.Numbers.{at_most, one_is_missing}
-use Rattle.day_reader.proofs.Teams.{items_push}
+use Rattle.day_reader.proofs.DifferentNumbers.{at_most, one_is_missing}
+use Rattle.day_reader.proofs.TeamLists.{items_push}
 use Rattle.day_reader.proofs.TeamCompleteness as teams
 
 abbrev Reads : Expected → List Item → Progress Expected Day → Type 0

@@ -28,8 +28,8 @@ use Rattle.day_reader.specs.CallTable.{is_between}
 use Rattle.day_reader.specs.TeamTable.{InTeams, TeamNumber, at_teams}
 use Rattle.day_reader.specs.DayTable.{at_lot_number, at_lot, Head, Expected, InRoll, BehindTitle, Lot, BehindLots, Places, BehindPlaces, Omega, BehindOmega, Teams, day_of, behind_title, behind_head, behind_lots, behind_places, at_token, at_file_token}
 use Rattle.day_reader.specs.Front.{begun_teams, AreBegunTeams, IsBehind, head_items, IsHead, IsPlaces, IsFront, IsFileFront}
-use Rattle.day_reader.proofs.Numbers.{no_numbers, one_number_more}
-use Rattle.day_reader.proofs.Teams.{no_teams}
+use Rattle.day_reader.proofs.DifferentNumbers.{no_numbers, one_number_more}
+use Rattle.day_reader.proofs.TeamLists.{no_teams}
 use Rattle.day_reader.proofs.CallSoundness.{number_goes_on}
 use Rattle.day_reader.proofs.TeamSoundness.{word_goes_on, teamed, AreTeamed, teams_go_on}
 

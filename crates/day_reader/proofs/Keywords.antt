@@ -1,5 +1,9 @@
 -- The words of day files, as the table reads them.
-use Rattle.std.proofs.Common.{◌≡◌, ℕ, List, Bool, cond, refl, ap, inl, inr, bytes_eq, Ok, Err}
+use Rattle.std.proofs.Common.{◌≡◌, ℕ, List, Bool, cond, refl, sym, ap, subst, inl, inr, bytes_eq, Ok, Err}
+use Rattle.std.specs.Prelude.{Option, Some, None, IfSome}
+use Rattle.blt_reader.specs.declared.what.What.{What}
+use Rattle.blt_reader.specs.declared.what.What.TheVariants as code
+use Rattle.blt_reader.specs.Reader.{said, says}
 use Rattle.std.proofs.lemmas.Slice.Eq.{bytes_eq-Decides}
 use Rattle.blt_reader.specs.Token.{Item, Number, Minus, Text, Word}
 use Rattle.blt_reader.specs.Judged.{Judged}
@@ -41,3 +45,15 @@ reads_word Withdraw = refl
 reads_word Strike = refl
 reads_word Freeze = refl
 reads_word End = refl
+
+-- ---- words of the text
+
+word_known : (letters : List ℕ) (found : Option Keyword) → IfSome found (λ keyword. keyword_of letters ≡ Ok keyword) → IfSome found (λ keyword. Word letters ≡ word keyword)
+word_known letters (Some keyword) known = ap Word (letters_are letters keyword known)
+word_known letters None known = tt
+
+pub said_word : (bytes : List ℕ) (at stop : ℕ) (what : What) (letters : List ℕ) (found : Option Keyword) → what ≡ code.Word → says (said bytes at stop what) letters → IfSome found (λ keyword. keyword_of letters ≡ Ok keyword)
+    → IfSome found (λ keyword. said bytes at stop what ≡ word keyword)
+said_word bytes at stop what letters found is same known =
+    let spelled : (w : What) → w ≡ code.Word → says (said bytes at stop w) letters → said bytes at stop w ≡ Word letters = λ w is_word. subst (λ (v : What). says (said bytes at stop v) letters → said bytes at stop v ≡ Word letters) (sym is_word) (λ e. ap Word (sym e)) in
+    subst (λ (i : Item). IfSome found (λ keyword. i ≡ word keyword)) (sym (spelled what is same)) (word_known letters found known)

@@ -26,8 +26,8 @@ use Rattle.day_reader.specs.CallTable.{is_between, InCall, EnterBatch, CorrectBa
 use Rattle.day_reader.specs.TeamTable.{InTeams, TeamNumber, InTeam, WithinCall, stands, no_calls, with_call, and_team, in_team, at_teams}
 use Rattle.day_reader.specs.Front.{begun_call, IsBegunCall, AreBegunTeams}
 use Rattle.day_reader.proofs.Keywords.{reads_word}
-use Rattle.day_reader.proofs.Numbers.{at_most, one_is_missing}
-use Rattle.day_reader.proofs.Teams.{team_of, all_before, at_last, one_if, stands_number, freezes_push, freezes_call}
+use Rattle.day_reader.proofs.DifferentNumbers.{at_most, one_is_missing}
+use Rattle.day_reader.proofs.TeamLists.{team_of, all_before, at_last, one_if, stands_number, freezes_push, freezes_call}
 use Rattle.day_reader.proofs.CallCompleteness as call
 
 -- a number that differs from all after it and before it

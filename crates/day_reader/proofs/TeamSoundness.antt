@@ -19,7 +19,7 @@ use Rattle.day_reader.specs.CallTable.{is_between, InCall, EnterBatch, CorrectBa
 use Rattle.day_reader.specs.TeamTable.{InTeams, TeamNumber, InTeam, WithinCall, stands, no_calls, with_call, and_team, in_team, at_teams}
 use Rattle.day_reader.specs.Front.{begun_call, IsBegunCall, begun_teams, AreBegunTeams}
 use Rattle.day_reader.proofs.Keywords.{item_is}
-use Rattle.day_reader.proofs.Teams.{one_if, one_team_more, one_call_more, items_push, items_call}
+use Rattle.day_reader.proofs.TeamLists.{one_if, one_team_more, one_call_more, items_push, items_call}
 use Rattle.day_reader.proofs.CallSoundness.{number_goes_on, called, IsCallFront, call_goes_on}
 
 -- a word that leads somewhere

@@ -64,7 +64,7 @@ pub record AreTeams (candidates : ℕ) (teams : List Script) : Type 0 where
   pub few_freezes : freezes teams ≤ 8
 
 -- the teams by rising number
-abbrev pub by_number : List Script → List Script
+unfoldable pub by_number : List Script → List Script
 by_number teams = flat_map (λ number. filter (λ script. script.team == number) teams) (range_with_len 1 16)
 
 -- ---- the file

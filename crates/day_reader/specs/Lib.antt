@@ -6,3 +6,4 @@ pub mod TeamTable
 pub mod DayTable
 pub mod Front
 pub mod Said
+pub mod Reads

@@ -13,7 +13,7 @@ use Rattle.day_reader.specs.declared.script.Script.{Script}
 use Rattle.day_reader.specs.Call.{call_items, IsCall, is_freeze, freezes}
 use Rattle.day_reader.specs.Day.{AreDifferent, team_items, AreTeams}
 use Rattle.day_reader.specs.TeamTable.{stands, no_calls, with_call, and_team}
-use Rattle.day_reader.proofs.Numbers.{no_numbers, one_number_more}
+use Rattle.day_reader.proofs.DifferentNumbers.{no_numbers, one_number_more}
 
 abbrev pub team_of : Script → ℕ
 team_of script = script.team
@@ -47,6 +47,10 @@ freezes_call before script call =
 
 -- ---- teams
 
+pub numbers_push : (before : List Script) (script : Script) → AreDifferent 16 (map team_of before) → IsIn 16 script.team → stands before script.team ≡ false → AreDifferent 16 (map team_of (and_team before script))
+numbers_push before script are is new =
+    subst (AreDifferent 16) (sym (map-append team_of before (script ∷ []))) (one_number_more 16 (map team_of before) script.team are is (stands_number before script.team ∙ new))
+
 module _ (candidates : ℕ) where
   abbrev AreCalls : Script → Type 0
   AreCalls script = All (IsCall candidates) script.calls
@@ -56,7 +60,7 @@ module _ (candidates : ℕ) where
 
   pub one_team_more : (before : List Script) (n : ℕ) → AreTeams candidates before → IsIn 16 n → stands before n ≡ false → AreTeams candidates (and_team before (no_calls n))
   one_team_more before n are is new = record {
-    numbers = subst (AreDifferent 16) (sym (map-append team_of before (no_calls n ∷ []))) (one_number_more 16 (map team_of before) n are.numbers is (stands_number before n ∙ new));
+    numbers = numbers_push before (no_calls n) are.numbers is new;
     calls = All-push AreCalls before (no_calls n) are.calls (All-nil (IsCall candidates));
     few_freezes = omega (arith, freezes_push before (no_calls n), are.few_freezes);
   }

@@ -72,7 +72,7 @@ range_different n i j d before inside same =
     let here : i < n = omega (arith, before, there) in
     omega (arith, before, get_or-range_with_len 1 n i d here, get_or-range_with_len 1 n j d there, same)
 
-turned : (a b : ℕ) → (a == b) ≡ (b == a)
+pub turned : (a b : ℕ) → (a == b) ≡ (b == a)
 turned a b = grind arith
 
 stands_in : (numbers : List ℕ) (n : ℕ) → list_any (λ c. c == n) numbers ≡ is_member nat_eq numbers n
