@@ -1,5 +1,5 @@
 -- What the table of a call accepts so far is a front part of a call.
-use Rattle.std.proofs.Common.{◌≡◌, ℕ, List, [], ◌∷◌, ◌++◌, Bool, true, false, cond, refl, sym, ap, subst, Ok, Err}
+use Rattle.std.proofs.Common.{◌≡◌, ℕ, List, [], ◌∷◌, ◌++◌, Bool, true, false, cond, refl, ap, subst, Ok, Err}
 use Rattle.plain_ballots.specs.declared.ballot_line.BallotLine.{BallotLine}
 use Rattle.batch_core.specs.declared.call.Call.{Call}
 use Rattle.blt_reader.specs.declared.fault_kind.FaultKind.{FaultKind}
@@ -7,10 +7,10 @@ use Rattle.blt_reader.specs.declared.fault_kind.FaultKind.TheVariants.{NoSuchCan
 use Rattle.blt_reader.specs.Token.{Item, Number, Minus, Text, Word}
 use Rattle.blt_reader.specs.Judged.{Judged, then_on, Progress, GoesOn, Ends, carried_to}
 use Rattle.blt_reader.specs.BallotTable.{Lines, Between, at_line}
-use Rattle.blt_reader.proofs.Judgements.{refused, same_value, passed, in_range}
-use Rattle.blt_reader.proofs.BallotSoundness.{no_lines, line_goes_on, lined, AreLinedIn}
+use Rattle.blt_reader.proofs.Judgements.{refused, same_value, in_range}
+use Rattle.blt_reader.proofs.BallotSoundness.{no_lines, line_goes_on}
 use Rattle.day_reader.specs.Call.{call_items, IsCall, is_freeze}
-use Rattle.day_reader.specs.CallTable.{as_tested, is_between, as_between, InCall, EnterBatch, CorrectBatch, WithdrawBatch, CorrectRevision, WithdrawRevision, EnterLines, CorrectLines, StrikeCandidate, of_a_batch, entered, corrected, at_call}
+use Rattle.day_reader.specs.CallTable.{as_tested, is_between, InCall, EnterBatch, CorrectBatch, WithdrawBatch, CorrectRevision, WithdrawRevision, EnterLines, CorrectLines, StrikeCandidate, of_a_batch, entered, corrected, at_call}
 use Rattle.day_reader.specs.Front.{begun_call, IsBegunCall}
 
 -- ---- a number

@@ -1,6 +1,6 @@
 -- What the table of day files accepts so far is a front part of a day file.
 use Rattle.std.proofs.Common.{◌≡◌, ℕ, ◌≤◌, true, List, [], ◌∷◌, ◌++◌, length, map, refl, sym, ◌∙◌, ap, subst, arith, inl, inr, append_assoc, nat_le, ◌==◌, Ok, Err}
-use Rattle.std.specs.Prelude.{Some, None, All}
+use Rattle.std.specs.Prelude.{Some, None}
 use Rattle.std.specs.List.{flat_map, list_any}
 use Rattle.std.proofs.lemmas.Bool.{leb-true, eqb-true, and_parts}
 use Rattle.std.proofs.lemmas.List.{append-nil, map-append}
@@ -9,10 +9,10 @@ use Rattle.std.proofs.lemmas.List.Sums.{sum_by-cons}
 use Rattle.plain_ballots.specs.declared.ballot_line.BallotLine.{BallotLine}
 use Rattle.candidate_roll.specs.Roll.{RollList}
 use Rattle.blt_reader.specs.declared.fault_kind.FaultKind.TheVariants.{BadPlaces, BadOmega}
-use Rattle.blt_reader.specs.Token.{Item, Number, Minus, Text, Word}
+use Rattle.blt_reader.specs.Token.{Item, Number, Text}
 use Rattle.blt_reader.specs.Poll.{Poll}
-use Rattle.blt_reader.specs.Blt.{IsIn, AreLines, IsUpToTitle, IsBlt}
-use Rattle.blt_reader.specs.Judged.{Judged, then_on, Progress, GoesOn, Ends, carried, carried_to}
+use Rattle.blt_reader.specs.Blt.{AreLines, IsUpToTitle, IsBlt}
+use Rattle.blt_reader.specs.Judged.{Judged, Progress, GoesOn, Ends, carried, carried_to}
 use Rattle.blt_reader.specs.BltTable as blt
 use Rattle.blt_reader.specs.Front as blt_front
 use Rattle.blt_reader.specs.Said.{of_a_roll}
@@ -22,16 +22,16 @@ use Rattle.day_reader.specs.declared.keyword.Keyword.{Keyword}
 use Rattle.day_reader.specs.declared.keyword.Keyword.TheVariants as key
 use Rattle.day_reader.specs.declared.script.Script.{Script}
 use Rattle.day_reader.specs.declared.day.Day.{Day}
-use Rattle.day_reader.specs.Keyword.{word, as_keyword}
-use Rattle.day_reader.specs.Day.{AreDifferent, AreLots, lots_items, Scale, scale_items, team_items, AreTeams, IsDay}
+use Rattle.day_reader.specs.Keyword.{word}
+use Rattle.day_reader.specs.Day.{AreDifferent, AreAllLots, lots_items, scale_items, team_items, AreTeams, IsDay}
 use Rattle.day_reader.specs.CallTable.{is_between}
-use Rattle.day_reader.specs.TeamTable.{InTeams, TeamNumber, at_teams}
+use Rattle.day_reader.specs.TeamTable.{InTeams, at_teams}
 use Rattle.day_reader.specs.DayTable.{at_lot_number, at_lot, Head, Expected, InRoll, BehindTitle, Lot, BehindLots, Places, BehindPlaces, Omega, BehindOmega, Teams, day_of, behind_title, behind_head, behind_lots, behind_places, at_token, at_file_token}
-use Rattle.day_reader.specs.Front.{begun_teams, AreBegunTeams, IsBehind, head_items, IsHead, IsPlaces, IsFront, IsFileFront}
+use Rattle.day_reader.specs.Front.{begun_teams, IsBehind, head_items, IsHead, IsPlaces, IsFront, IsFileFront}
 use Rattle.day_reader.proofs.DifferentNumbers.{no_numbers, one_number_more}
 use Rattle.day_reader.proofs.TeamLists.{no_teams}
 use Rattle.day_reader.proofs.CallSoundness.{number_goes_on}
-use Rattle.day_reader.proofs.TeamSoundness.{word_goes_on, teamed, AreTeamed, teams_go_on}
+use Rattle.day_reader.proofs.TeamSoundness.{word_goes_on, teams_go_on}
 
 -- ---- the roll
 
@@ -79,15 +79,15 @@ module _ (roll : RollList) (lots : List ℕ) (items : List Item) (are : AreDiffe
           record { numbers = are; all = eqb-true (length lots) (length roll.names) ok.0 },
           behind_more roll _ (lots_items lots) items (Number n) is (ap (λ (k : ℕ). word key.Lots ∷ map Number lots ++ Number k ∷ []) (sym (eqb-true n 0 hit.0))),
         )
-    )
+        )
     | inr miss ↦ elim (went (nat_le n (length roll.names)) _ _ (Ok next) miss.1) [
       | inr above ↦ absurd (refused above.1)
       | inl within ↦ elim (went (list_any (λ c. c == n) lots) _ _ (Ok next) within.1) [
         | inl again ↦ absurd (refused again.1)
         | inr new ↦ subst (λ p. LotFront p (items ++ Number n ∷ [])) (same_value new.1) (
-            one_number_more (length roll.names) lots n are (record { least = not_zero n miss.0; most = leb-true n (length roll.names) within.0 }) new.0,
-            behind_more roll _ (word key.Lots ∷ map Number (lots ++ n ∷ [])) items (Number n) is (ap (λ (l : List Item). word key.Lots ∷ l) (map-append Number lots (n ∷ []))),
-          )
+          one_number_more (length roll.names) lots n are (record { least = not_zero n miss.0; most = leb-true n (length roll.names) within.0 }) new.0,
+          behind_more roll _ (word key.Lots ∷ map Number (lots ++ n ∷ [])) items (Number n) is (ap (λ (l : List Item). word key.Lots ∷ l) (map-append Number lots (n ∷ []))),
+        )
       ]
     ]
   ]
@@ -124,12 +124,12 @@ head_goes head next items key.Team is behind e = subst (λ p. IsFileFront p (ite
 head_goes head next items key.End is behind e = subst (λ p. IsFileFront p (items ++ word key.End ∷ [])) (same_value e) (is_day head [] (items ++ word key.End ∷ []) is (no_teams (length head.roll.names)) (behind_more head.roll (head_items head) _ items (word key.End) behind refl))
 head_goes head next items keyword is behind e = absurd (refused e)
 
-lots_end : (roll : RollList) (lots : List ℕ) (next : Progress Expected Day) (items : List Item) (keyword : Keyword) → AreLots (length roll.names) lots → IsBehind roll (lots_items lots) items → behind_lots roll lots keyword ≡ Ok next → IsFileFront next (items ++ word keyword ∷ [])
+lots_end : (roll : RollList) (lots : List ℕ) (next : Progress Expected Day) (items : List Item) (keyword : Keyword) → AreAllLots (length roll.names) lots → IsBehind roll (lots_items lots) items → behind_lots roll lots keyword ≡ Ok next → IsFileFront next (items ++ word keyword ∷ [])
 lots_end roll lots next items key.Places are is e = subst (λ p. IsFileFront p (items ++ word key.Places ∷ [])) (same_value e) (are, behind_more roll (lots_items lots) _ items (word key.Places) is refl)
 lots_end roll lots next items keyword are is e =
     head_goes (record { roll = roll; lots = lots; scale = None }) next items keyword (record { lots = are; scale = tt }) (subst (λ (l : List Item). IsBehind roll l items) (sym (append-nil (lots_items lots))) is) e
 
-places_end : (roll : RollList) (lots : List ℕ) (places : ℕ) (next : Progress Expected Day) (items : List Item) (keyword : Keyword) → AreLots (length roll.names) lots → IsPlaces places → IsBehind roll (lots_items lots ++ word key.Places ∷ Number places ∷ []) items → behind_places roll lots places keyword ≡ Ok next → IsFileFront next (items ++ word keyword ∷ [])
+places_end : (roll : RollList) (lots : List ℕ) (places : ℕ) (next : Progress Expected Day) (items : List Item) (keyword : Keyword) → AreAllLots (length roll.names) lots → IsPlaces places → IsBehind roll (lots_items lots ++ word key.Places ∷ Number places ∷ []) items → behind_places roll lots places keyword ≡ Ok next → IsFileFront next (items ++ word keyword ∷ [])
 places_end roll lots places next items key.Omega are in_it is e = subst (λ p. IsFileFront p (items ++ word key.Omega ∷ [])) (same_value e)
     (are, in_it, behind_more roll _ _ items (word key.Omega) is (sym (append_assoc (lots_items lots) (word key.Places ∷ Number places ∷ []) (word key.Omega ∷ []))))
 places_end roll lots places next items keyword are in_it is e = absurd (refused e)
@@ -164,9 +164,9 @@ goes_on (Places roll lots) next x items front e = number_goes_on IsFileFront ite
     (front.0, places_in n ok, behind_more roll _ _ items (Number n) front.1 (sym (append_assoc (lots_items lots) (word key.Places ∷ []) (Number n ∷ [])))))
 goes_on (BehindPlaces roll lots places) next x items front e = word_goes_on IsFileFront items x next (behind_places roll lots places) e (λ keyword judged. places_end roll lots places next items keyword front.0 front.1 front.2 judged)
 goes_on (Omega roll lots places) next x items front e = number_goes_on IsFileFront items (is_between 1 1000000) BadOmega x next (λ n. GoesOn (BehindOmega roll lots (record { places = places; omega = n }))) e (λ n ok. (
-    front.0,
-    record { least_places = front.1.0; most_places = front.1.1; omega_in = in_range 1000000 n ok },
-    behind_more roll _ _ items (Number n) front.2 (sym (append_assoc (lots_items lots) (word key.Places ∷ Number places ∷ word key.Omega ∷ []) (Number n ∷ []))),
+  front.0,
+  record { least_places = front.1.0; most_places = front.1.1; omega_in = in_range 1000000 n ok },
+  behind_more roll _ _ items (Number n) front.2 (sym (append_assoc (lots_items lots) (word key.Places ∷ Number places ∷ word key.Omega ∷ []) (Number n ∷ []))),
 ))
 goes_on (BehindOmega roll lots scale) next x items front e = word_goes_on IsFileFront items x next (behind_head (record { roll = roll; lots = lots; scale = Some scale })) e (λ keyword judged.
     head_goes (record { roll = roll; lots = lots; scale = Some scale }) next items keyword (record { lots = front.0; scale = front.1 }) front.2 judged)

@@ -1,14 +1,13 @@
 -- The parts of a day file, one behind another.
 use Rattle.std.proofs.Common.{◌≡◌, ℕ, List, [], length, Bool, true, false, refl, sym, ◌∙◌, ap, subst, Ok, Err}
-use Rattle.std.specs.Prelude.{Result, IfOk, IfErr, Option, None}
+use Rattle.std.specs.Prelude.{Result, IfOk, IfErr}
 use Rattle.candidate_roll.specs.Roll.{RollList}
 use Rattle.blt_reader.specs.declared.fault_kind.FaultKind.TheVariants.{Trailing}
 use Rattle.blt_reader.specs.declared.input_fault.InputFault.{InputFault}
 use Rattle.blt_reader.specs.declared.blt_stop.BltStop.{BltStop}
 use Rattle.blt_reader.specs.declared.blt_stop.BltStop.TheVariants as stop
 use Rattle.blt_reader.specs.declared.election.Election.{Election}
-use Rattle.blt_reader.specs.Token.{Item, Placed, AtEnd, AtFault, Scan, ends, with_front}
-use Rattle.blt_reader.specs.Poll.{Poll}
+use Rattle.blt_reader.specs.Token.{Placed, AtEnd, AtFault, Scan, ends, with_front}
 use Rattle.blt_reader.specs.Election.{poll}
 use Rattle.blt_reader.specs.Judged.{GoesOn, Ends, ended, Stopped, outcome, reads}
 use Rattle.blt_reader.specs.BltTable as blt
@@ -21,11 +20,11 @@ use Rattle.blt_reader.proofs.Reading.{inner_read, inner_fails}
 use Rattle.day_reader.specs.declared.scale.Scale as scaled
 use Rattle.day_reader.specs.declared.script.Script.{Script}
 use Rattle.day_reader.specs.declared.day.Day.{Day}
-use Rattle.day_reader.specs.Day.{Scale, scale_of, by_number, IsDay}
+use Rattle.day_reader.specs.Day.{scale_of, by_number, IsDay}
 use Rattle.day_reader.specs.TeamTable.{TeamNumber, at_teams}
 use Rattle.day_reader.specs.DayTable.{at_lot, Head, Expected, InRoll, BehindTitle, Lot, BehindLots, Teams, day_of, at_token, at_file_token}
 use Rattle.day_reader.specs.Said.{said_by, IsDayRefusal}
-use Rattle.day_reader.specs.Reads.{Leads, LeadsOrWants, team_or_end, IsScaled, ReadsScale, next_team, with_scripts, ReadsScripts, IsAtEnd, SaysDay}
+use Rattle.day_reader.specs.Reads.{LeadsOrWants, team_or_end, IsScaled, next_team, with_scripts, ReadsScripts, IsAtEnd, SaysDay}
 use Rattle.day_reader.proofs.Steps.{within}
 use Rattle.day_reader.proofs.DayLaws.{accepts_days, refuses_by_the_rule}
 

@@ -1,12 +1,12 @@
 -- Different numbers up to a greatest one.
-use Rattle.std.proofs.Common.{◌≡◌, ◌≢◌, ℕ, zero, suc, ◌+◌, ◌-◌, ◌<◌, ◌≤◌, ◌==◌, Bool, true, false, List, [], ◌∷◌, ◌++◌, length, get_or, All, AllPairs, Contains, refl, sym, ◌∙◌, ap, subst, arith, inl, inr, ◌⊎◌, nat_eq}
+use Rattle.std.proofs.Common.{◌≡◌, ◌≢◌, ℕ, zero, suc, ◌+◌, ◌-◌, ◌<◌, ◌≤◌, ◌==◌, Bool, true, false, List, [], ◌∷◌, ◌++◌, length, get_or, AllPairs, Contains, refl, sym, ◌∙◌, ap, arith, inl, inr, ◌⊎◌, nat_eq}
 use Rattle.std.specs.List.{list_any, range_with_len}
 use Rattle.std.specs.Set.{is_member}
 use Rattle.std.specs.Cmp.{nat_eq_equiv}
-use Rattle.std.proofs.lemmas.Bool.{true≢false, eqb-true, eq-eqb}
+use Rattle.std.proofs.lemmas.Bool.{true≢false, eq-eqb}
 use Rattle.std.proofs.lemmas.Bool.Decides.{Decides-eqb, eqb_tells}
-use Rattle.std.proofs.lemmas.List.Elements.{All-nil, All-push, All-contains, Contains-get_or}
-use Rattle.std.proofs.lemmas.List.Folds.{list_any_at, list_any-from_Any}
+use Rattle.std.proofs.lemmas.List.Elements.{All-nil, All-push, All-contains}
+use Rattle.std.proofs.lemmas.List.Folds.{list_any_at}
 use Rattle.std.proofs.lemmas.List.FromFn.{length-range_with_len, get_or-range_with_len}
 use Rattle.std.proofs.lemmas.List.Quantifiers.{all_pairs_push}
 use Rattle.std.proofs.lemmas.Map.Made.{is_member-Decides, length-le_from_is_member, IsDistinct-from_AllPairs}
@@ -36,7 +36,7 @@ pub at_most : (greatest : ℕ) (numbers : List ℕ) → AreDifferent greatest nu
 at_most greatest numbers are =
     let distinct = IsDistinct-from_AllPairs {eq = nat_eq} Decides-eqb numbers are.different in
     let fewer = length-le_from_is_member nat_eq_equiv numbers (range_with_len 1 greatest) distinct (λ q found.
-        (is_member-Decides Decides-eqb (range_with_len 1 greatest) q).1 (up_to greatest q (All-contains (IsIn greatest) numbers q are.in_range ((is_member-Decides Decides-eqb numbers q).0 found)))) in
+    (is_member-Decides Decides-eqb (range_with_len 1 greatest) q).1 (up_to greatest q (All-contains (IsIn greatest) numbers q are.in_range ((is_member-Decides Decides-eqb numbers q).0 found)))) in
     omega (arith, fewer, length-range_with_len 1 greatest)
 
 abbrev Missing : ℕ → List ℕ → Type 0
@@ -86,7 +86,7 @@ one_is_missing greatest numbers fewer = elim (sought greatest numbers) [
   | inr all ↦ (
       let distinct = IsDistinct-from_AllPairs {eq = nat_eq} Decides-eqb (range_with_len 1 greatest) (range_different greatest) in
       let more = length-le_from_is_member nat_eq_equiv (range_with_len 1 greatest) numbers distinct (λ q found.
-          sym (stands_in numbers q) ∙ all q (in_range_of greatest q ((is_member-Decides Decides-eqb (range_with_len 1 greatest) q).0 found))) in
+      sym (stands_in numbers q) ∙ all q (in_range_of greatest q ((is_member-Decides Decides-eqb (range_with_len 1 greatest) q).0 found))) in
       absurd (omega (arith, fewer, more, length-range_with_len 1 greatest))
-  )
+      )
 ]

@@ -17,7 +17,7 @@ use Rattle.blt_reader.specs.declared.fault_kind.FaultKind.TheVariants.{BadLots, 
 use Rattle.blt_reader.specs.declared.input_fault.InputFault.{InputFault}
 use Rattle.blt_reader.specs.declared.what.What.{What}
 use Rattle.blt_reader.specs.declared.what.What.TheVariants as code
-use Rattle.blt_reader.specs.Token.{Item, Number, Minus, Text, Word, Placed, Scan, with_front}
+use Rattle.blt_reader.specs.Token.{Item, Number, Minus, Text, Word, Scan, with_front}
 use Rattle.blt_reader.specs.Reader.{said}
 use Rattle.blt_reader.specs.Judged.{Judged, then_on, Progress, GoesOn, Ends, reads}
 use Rattle.blt_reader.specs.Reads.{IsEnded, Stops, Accepts, as_number, Reads}
@@ -28,11 +28,11 @@ use Rattle.day_reader.specs.declared.keyword.Keyword.TheVariants as key
 use Rattle.day_reader.specs.declared.scale.Scale as scaled
 use Rattle.day_reader.specs.declared.day.Day.{Day}
 use Rattle.day_reader.specs.Keyword.{word, as_keyword}
-use Rattle.day_reader.specs.Day.{Scale, scale_of}
+use Rattle.day_reader.specs.Day.{Scale}
 use Rattle.day_reader.specs.CallTable.{as_between}
 use Rattle.day_reader.specs.TeamTable.{TeamNumber}
 use Rattle.day_reader.specs.DayTable.{at_lot, Head, Expected, BehindTitle, Lot, BehindLots, Places, BehindPlaces, Omega, BehindOmega, Teams, day_of, behind_title, behind_head, behind_lots, behind_places, at_token}
-use Rattle.day_reader.specs.Reads.{Leads, IsLotsWord, team_or_end, BeginsTeam, IsPlaced, ReadsPlaces, IsScaled, ReadsScale}
+use Rattle.day_reader.specs.Reads.{Leads, IsLotsWord, team_or_end, BeginsTeam, ReadsPlaces, ReadsScale}
 use Rattle.day_reader.proofs.Keywords.{reads_word}
 use Rattle.day_reader.proofs.Steps.{judged_read, judged_stops, word_leads, word_refused}
 

@@ -1,5 +1,5 @@
 -- The words of day files, as the table reads them.
-use Rattle.std.proofs.Common.{◌≡◌, ℕ, List, Bool, cond, refl, sym, ap, subst, inl, inr, bytes_eq, Ok, Err}
+use Rattle.std.proofs.Common.{◌≡◌, ℕ, List, cond, refl, sym, ap, subst, inl, inr, bytes_eq, Ok}
 use Rattle.std.specs.Prelude.{Option, Some, None, IfSome}
 use Rattle.blt_reader.specs.declared.what.What.{What}
 use Rattle.blt_reader.specs.declared.what.What.TheVariants as code

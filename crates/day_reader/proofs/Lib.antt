@@ -6,6 +6,7 @@ pub mod TeamSoundness
 pub mod DaySoundness
 pub mod CallCompleteness
 pub mod TeamCompleteness
+pub mod HeadCompleteness
 pub mod DayCompleteness
 pub mod DayLaws
 pub mod Steps
@@ -15,3 +16,4 @@ pub mod ByNumber
 pub mod HeadSteps
 pub mod DaySteps
 pub mod DayScripts
+pub mod WorkedFiles

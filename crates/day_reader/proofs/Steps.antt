@@ -1,8 +1,7 @@
 -- What a table makes of the next token, and of a front that an inner table reads.
 use Rattle.std.proofs.Common.{◌≡◌, ℕ, List, [], ◌∷◌, refl, ◌∙◌, ap, Ok, Err}
-use Rattle.std.specs.Prelude.{Result, Bool, true, false, cond}
+use Rattle.std.specs.Prelude.{Result, Bool}
 use Rattle.blt_reader.specs.declared.fault_kind.FaultKind.{FaultKind}
-use Rattle.blt_reader.specs.declared.fault_kind.FaultKind.TheVariants.{WordExpected}
 use Rattle.blt_reader.specs.declared.input_fault.InputFault.{InputFault}
 use Rattle.blt_reader.specs.declared.blt_stop.BltStop.{BltStop}
 use Rattle.blt_reader.specs.declared.blt_stop.BltStop.TheVariants as stop

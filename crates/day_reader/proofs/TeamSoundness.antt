@@ -1,8 +1,7 @@
 -- What the table of teams accepts so far is a front part of teams.
-use Rattle.std.proofs.Common.{◌≡◌, ℕ, ◌+◌, ◌<◌, ◌≤◌, List, [], ◌∷◌, ◌++◌, length, Bool, true, false, not, ◌&&◌, refl, sym, ◌∙◌, ap, subst, arith, append_assoc, nat_lt, Ok, Err}
+use Rattle.std.proofs.Common.{◌≡◌, ℕ, List, [], ◌∷◌, ◌++◌, length, Bool, true, false, not, ◌&&◌, refl, sym, ◌∙◌, ap, subst, arith, append_assoc, nat_lt, Ok, Err}
 use Rattle.std.specs.List.{flat_map}
 use Rattle.std.proofs.lemmas.Bool.{ltb-true, and_parts, true≢false}
-use Rattle.std.proofs.lemmas.List.Elements.{All-nil}
 use Rattle.batch_core.specs.declared.call.Call.{Call}
 use Rattle.batch_core.specs.declared.call.Call.TheVariants as call
 use Rattle.blt_reader.specs.declared.fault_kind.FaultKind.TheVariants.{BadTeam, TooManyFreezes}
@@ -13,14 +12,14 @@ use Rattle.day_reader.specs.declared.keyword.Keyword.{Keyword}
 use Rattle.day_reader.specs.declared.keyword.Keyword.TheVariants as key
 use Rattle.day_reader.specs.declared.script.Script.{Script}
 use Rattle.day_reader.specs.Keyword.{word, as_keyword}
-use Rattle.day_reader.specs.Call.{call_items, is_freeze, freezes}
+use Rattle.day_reader.specs.Call.{is_freeze, freezes}
 use Rattle.day_reader.specs.Day.{team_items, AreTeams}
 use Rattle.day_reader.specs.CallTable.{is_between, InCall, EnterBatch, CorrectBatch, WithdrawBatch, StrikeCandidate, at_call}
 use Rattle.day_reader.specs.TeamTable.{InTeams, TeamNumber, InTeam, WithinCall, stands, no_calls, with_call, and_team, in_team, at_teams}
 use Rattle.day_reader.specs.Front.{begun_call, IsBegunCall, begun_teams, AreBegunTeams}
 use Rattle.day_reader.proofs.Keywords.{item_is}
 use Rattle.day_reader.proofs.TeamLists.{one_if, one_team_more, one_call_more, items_push, items_call}
-use Rattle.day_reader.proofs.CallSoundness.{number_goes_on, called, IsCallFront, call_goes_on}
+use Rattle.day_reader.proofs.CallSoundness.{number_goes_on, call_goes_on}
 
 -- a word that leads somewhere
 module _ {S V : Type 0} (P : Progress S V → List Item → Type 0) (before : List Item) where

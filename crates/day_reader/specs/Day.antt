@@ -17,7 +17,7 @@ pub record AreDifferent (greatest : ℕ) (numbers : List ℕ) : Type 0 where
 -- ---- lots
 
 -- each of so many candidates stands once
-pub record AreLots (candidates : ℕ) (lots : List ℕ) : Type 0 where
+pub record AreAllLots (candidates : ℕ) (lots : List ℕ) : Type 0 where
   pub numbers : AreDifferent candidates lots
   pub all : length lots ≡ candidates
 
@@ -77,7 +77,7 @@ pub record IsDay (items : List Item) (day : Day) : Type 0 where
   pub teams : List Script
   pub spelled : items ≡ roll_items ++ (lots_items day.lots ++ (scale_items scale ++ (flat_map team_items teams ++ word key.End ∷ [])))
   pub roll : IsBlt 0 roll_items (record { roll = day.roll; lines = [] })
-  pub lots : AreLots (length day.roll.names) day.lots
+  pub lots : AreAllLots (length day.roll.names) day.lots
   pub scale_in : MayBeScale scale
   pub places : day.places ≡ (scale_of scale).places
   pub omega : day.omega ≡ (scale_of scale).omega

@@ -1,5 +1,5 @@
 -- Front parts of a day file, by what is expected behind them.
-use Rattle.std.specs.Prelude.{◌≡◌, ◌<◌, ◌≤◌, ℕ, ⊤, List, [], ◌∷◌, ◌++◌, length, map, Some, None}
+use Rattle.std.specs.Prelude.{◌≡◌, ◌<◌, ◌≤◌, ℕ, ⊤, List, [], ◌∷◌, ◌++◌, length, map, Some}
 use Rattle.std.specs.List.{flat_map}
 use Rattle.candidate_roll.specs.Roll.{RollList}
 use Rattle.blt_reader.specs.Token.{Item, Number}
@@ -10,7 +10,7 @@ use Rattle.blt_reader.specs.Front.{begun, AreBegun}
 use Rattle.day_reader.specs.declared.keyword.Keyword.TheVariants as key
 use Rattle.day_reader.specs.declared.day.Day.{Day}
 use Rattle.day_reader.specs.Keyword.{word}
-use Rattle.day_reader.specs.Day.{AreDifferent, AreLots, lots_items, Scale, IsScale, MayBeScale, scale_items, team_items, AreTeams, IsDay}
+use Rattle.day_reader.specs.Day.{AreDifferent, AreAllLots, lots_items, IsScale, MayBeScale, scale_items, team_items, AreTeams, IsDay}
 use Rattle.day_reader.specs.CallTable.{InCall, EnterBatch, CorrectBatch, WithdrawBatch, CorrectRevision, WithdrawRevision, EnterLines, CorrectLines, StrikeCandidate}
 use Rattle.day_reader.specs.TeamTable.{InTeams, TeamNumber, InTeam, WithinCall, and_team}
 use Rattle.day_reader.specs.DayTable.{Head, Expected, InRoll, BehindTitle, Lot, BehindLots, Places, BehindPlaces, Omega, BehindOmega, Teams}
@@ -61,7 +61,7 @@ head_items head = lots_items head.lots ++ scale_items head.scale
 
 -- lots and a scale that a file may have
 pub record IsHead (head : Head) : Type 0 where
-  pub lots : AreLots (length head.roll.names) head.lots
+  pub lots : AreAllLots (length head.roll.names) head.lots
   pub scale : MayBeScale head.scale
 
 abbrev pub IsPlaces : ℕ → Type 0
@@ -72,11 +72,11 @@ abbrev pub IsFront : Expected → List Item → Type 0
 IsFront (InRoll expected) items = blt.IsFront 0 expected items
 IsFront (BehindTitle roll) items = IsBlt 0 items (record { roll = roll; lines = [] })
 IsFront (Lot roll lots) items = AreDifferent (length roll.names) lots × IsBehind roll (word key.Lots ∷ map Number lots) items
-IsFront (BehindLots roll lots) items = AreLots (length roll.names) lots × IsBehind roll (lots_items lots) items
-IsFront (Places roll lots) items = AreLots (length roll.names) lots × IsBehind roll (lots_items lots ++ word key.Places ∷ []) items
-IsFront (BehindPlaces roll lots places) items = AreLots (length roll.names) lots × IsPlaces places × IsBehind roll (lots_items lots ++ word key.Places ∷ Number places ∷ []) items
-IsFront (Omega roll lots places) items = AreLots (length roll.names) lots × IsPlaces places × IsBehind roll (lots_items lots ++ word key.Places ∷ Number places ∷ word key.Omega ∷ []) items
-IsFront (BehindOmega roll lots scale) items = AreLots (length roll.names) lots × IsScale scale × IsBehind roll (lots_items lots ++ scale_items (Some scale)) items
+IsFront (BehindLots roll lots) items = AreAllLots (length roll.names) lots × IsBehind roll (lots_items lots) items
+IsFront (Places roll lots) items = AreAllLots (length roll.names) lots × IsBehind roll (lots_items lots ++ word key.Places ∷ []) items
+IsFront (BehindPlaces roll lots places) items = AreAllLots (length roll.names) lots × IsPlaces places × IsBehind roll (lots_items lots ++ word key.Places ∷ Number places ∷ []) items
+IsFront (Omega roll lots places) items = AreAllLots (length roll.names) lots × IsPlaces places × IsBehind roll (lots_items lots ++ word key.Places ∷ Number places ∷ word key.Omega ∷ []) items
+IsFront (BehindOmega roll lots scale) items = AreAllLots (length roll.names) lots × IsScale scale × IsBehind roll (lots_items lots ++ scale_items (Some scale)) items
 IsFront (Teams head expected) items = IsHead head × AreBegunTeams (length head.roll.names) expected × IsBehind head.roll (head_items head ++ begun_teams expected) items
 
 -- up to the end at most

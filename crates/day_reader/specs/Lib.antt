@@ -7,3 +7,4 @@ pub mod DayTable
 pub mod Front
 pub mod Said
 pub mod Reads
+pub mod Worked

@@ -6,7 +6,6 @@ use Rattle.batch_core.specs.Lawful.{IsLawful}
 use Rattle.blt_reader.specs.declared.input_fault.InputFault.{InputFault}
 use Rattle.blt_reader.specs.Token.{Item, Scan}
 use Rattle.blt_reader.specs.Scan.{scan}
-use Rattle.blt_reader.specs.Blt.{IsIn}
 use Rattle.blt_reader.specs.Judged.{after, outcome, Progress, GoesOn, ended}
 use Rattle.blt_reader.specs.BltTable.{Candidates}
 use Rattle.blt_reader.specs.Refusal.{IsOpen, IsAccepted, IsRefusal}

@@ -50,11 +50,7 @@ pub fn read_call(
 }
 
 #[tactic(auto, using(blt_reader::proofs::Reading::behind_trans))]
-fn read_enter(
-    alloc: Global,
-    tokens: &mut Tokens<'_>,
-    candidates: u32,
-) -> Result<Call, BltStop>
+fn read_enter(alloc: Global, tokens: &mut Tokens<'_>, candidates: u32) -> Result<Call, BltStop>
     ensures reads { Reads (at_call candidates) EnterBatch (λ call. call) tokens.old.rest result tokens.new.rest }
     ensures no_freeze { IfOk result (λ call. is_freeze call ≡ false) }
     ensures behind { IsBehind tokens.old tokens.new }
@@ -71,11 +67,7 @@ fn read_enter(
 }
 
 #[tactic(auto, using(blt_reader::proofs::Reading::behind_trans))]
-fn read_correct(
-    alloc: Global,
-    tokens: &mut Tokens<'_>,
-    candidates: u32,
-) -> Result<Call, BltStop>
+fn read_correct(alloc: Global, tokens: &mut Tokens<'_>, candidates: u32) -> Result<Call, BltStop>
     ensures reads { Reads (at_call candidates) CorrectBatch (λ call. call) tokens.old.rest result tokens.new.rest }
     ensures no_freeze { IfOk result (λ call. is_freeze call ≡ false) }
     ensures behind { IsBehind tokens.old tokens.new }

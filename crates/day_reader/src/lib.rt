@@ -16,6 +16,7 @@ mod scripts;
 mod team_reading;
 mod teams;
 mod words;
+mod worked;
 
 pub use day::Day;
 pub use days::read_day;
@@ -26,3 +27,4 @@ pub use laws::{
 pub use push_back::PushBack;
 pub use script::Script;
 pub use scripts::Scripts;
+pub use worked::worked_files;

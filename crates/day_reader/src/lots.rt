@@ -4,7 +4,7 @@ ghost use Rattle.blt_reader.specs.Reader.{MayBeText, said};
 ghost use Rattle.blt_reader.specs.Reads.{IsBehind, Reads};
 ghost use Rattle.blt_reader.specs.declared.fault_kind.FaultKind.TheVariants.{BadLots};
 ghost use Rattle.blt_reader.specs.declared.blt_stop.BltStop.TheVariants as stop;
-ghost use Rattle.day_reader.specs.Day.{AreLots};
+ghost use Rattle.day_reader.specs.Day.{AreAllLots};
 ghost use Rattle.day_reader.specs.DayTable.{at_lot};
 ghost use Rattle.day_reader.specs.Reads.{IsLotsWord, ReadsToLots};
 
@@ -44,11 +44,7 @@ fn lots_word(tokens: &Tokens<'_>, token: Token) -> Result<(), InputFault>
 
 /// Candidates, each of them once, and the 0 behind them.
 #[tactic(auto, using(blt_reader::proofs::Reading::behind_trans))]
-pub fn read_lots(
-    alloc: Global,
-    tokens: &mut Tokens<'_>,
-    candidates: u32,
-) -> Result<Lots, BltStop>
+pub fn read_lots(alloc: Global, tokens: &mut Tokens<'_>, candidates: u32) -> Result<Lots, BltStop>
     requires { candidates ≤ 250 }
     ensures reads { Reads (at_lot candidates) [] (λ lots. lots) tokens.old.rest result tokens.new.rest }
     ensures behind { IsBehind tokens.old tokens.new }
@@ -88,7 +84,7 @@ fn bad_lots(at: usize) -> BltStop
 // The lots of an order that is known to be one.
 fn new_lots(alloc: Global, order: &[u32], candidates: u32) -> Result<Lots, BltStop>
     requires few { candidates ≤ 250 }
-    requires lots { AreLots candidates order.now }
+    requires lots { AreAllLots candidates order.now }
     ensures lots { IfOk result (λ lots. lots ≡ order.now) }
     ensures only_memory { IfErr result (λ why. why ≡ stop.NoMemory) }
 {

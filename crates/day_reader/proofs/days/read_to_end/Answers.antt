@@ -1,7 +1,7 @@
-use Rattle.std.proofs.Common.{◌≡◌, [], length, ◌∙◌}
+use Rattle.std.proofs.Common.{[], ◌∙◌}
 use Rattle.std.proofs.lemmas.Result.{err_from_is_err_and}
 use Rattle.blt_reader.proofs.Reading.{behind_trans}
-use Rattle.day_reader.specs.DayTable.{BehindTitle, Lot, BehindLots}
+use Rattle.day_reader.specs.DayTable.{Lot}
 use Rattle.day_reader.proofs.DaySteps.{GoesTo, roll_fails, roll_read, lots_fail, lots_done, scripts_fail, all_read}
 use Rattle.day_reader.proofs.days.read_to_end.Goals as goal
 

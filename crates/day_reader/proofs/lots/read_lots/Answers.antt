@@ -1,11 +1,11 @@
-use Rattle.std.proofs.Common.{◌≡◌, ◌≢◌, ℕ, ◌-◌, ◌≤◌, ◌==◌, Ok, [], List, length, Bool, false, true, sym, ◌∙◌, ap, subst, arith, length-set}
+use Rattle.std.proofs.Common.{◌≡◌, ◌≢◌, ℕ, ◌-◌, ◌≤◌, ◌==◌, Ok, List, length, Bool, false, true, sym, ◌∙◌, ap, subst, arith, length-set}
 use Rattle.std.specs.List.{list_any}
 use Rattle.std.proofs.lemmas.Result.{err_from_is_err_and}
 use Rattle.lot_order.specs.Flags.{mark_at}
 use Rattle.blt_reader.specs.Blt.{IsIn}
 use Rattle.blt_reader.specs.Judged.{reads}
 use Rattle.blt_reader.proofs.Reading.{behind_trans}
-use Rattle.day_reader.specs.Day.{AreDifferent, AreLots}
+use Rattle.day_reader.specs.Day.{AreDifferent, AreAllLots}
 use Rattle.day_reader.specs.DayTable.{at_lot}
 use Rattle.day_reader.proofs.DifferentNumbers.{one_number_more, at_most}
 use Rattle.day_reader.proofs.HeadSteps.{lot_stops, lots_end, lots_missing, above, again, one_more, one_marked_more, lots_read}
@@ -25,7 +25,7 @@ pub new_lots-requires-clause-lots : goal.new_lots-requires-clause-lots
 new_lots-requires-clause-lots c =
     let lots = c.loop-order.order.items in
     let all : length lots ≡ c.args.candidates = omega (arith, at_most c.args.candidates lots c.loop-order.invariant.numbers, c.len.ensures, c.if-len-candidates.false) in
-    subst (AreLots c.args.candidates) (sym c.as_slice.ensures.value) (record { numbers = c.loop-order.invariant.numbers; all = all })
+    subst (AreAllLots c.args.candidates) (sym c.as_slice.ensures.value) (record { numbers = c.loop-order.invariant.numbers; all = all })
 
 pub returns-then-n-eq0-clause-reads : goal.returns-then-n-eq0-clause-reads
 returns-then-n-eq0-clause-reads c =

@@ -1,4 +1,4 @@
-use Rattle.std.proofs.Common.{◌≡◌, ℕ, ◌-◌, ◌<◌, ◌≤◌, ◌==◌, [], length}
+use Rattle.std.proofs.Common.{◌≡◌, ℕ, ◌-◌, ◌≤◌, ◌==◌, [], length}
 use Rattle.std.specs.List.{list_any}
 use Rattle.lot_order.specs.Flags.{mark_at}
 use Rattle.blt_reader.specs.Judged.{reads}

@@ -1,5 +1,5 @@
-use Rattle.std.proofs.Common.{◌≡◌, ℕ, List, refl, ◌∙◌}
-use Rattle.std.specs.Prelude.{Some, None}
+use Rattle.std.proofs.Common.{refl}
+use Rattle.std.specs.Prelude.{None}
 use Rattle.std.proofs.lemmas.Result.{err_from_is_err_and}
 use Rattle.day_reader.specs.DayTable.{BehindLots, behind_lots}
 use Rattle.day_reader.proofs.HeadSteps.{lots_end_stops, not_places, head_leads, head_fails, behind_the_lots, reads_scale_part}

@@ -1,14 +1,12 @@
-use Rattle.std.proofs.Common.{◌≡◌, ℕ, ◌+◌, ◌<◌, ◌≤◌, length, sym, ◌∙◌, ap, arith}
+use Rattle.std.proofs.Common.{ℕ, ◌+◌, ◌<◌, ◌≤◌, length, sym, ◌∙◌, ap, arith}
 use Rattle.std.proofs.lemmas.List.{length_push}
 use Rattle.std.proofs.lemmas.Result.{err_from_is_err_and}
-use Rattle.blt_reader.specs.Token.{Scan, with_front}
+use Rattle.blt_reader.specs.Token.{Scan}
 use Rattle.blt_reader.specs.Judged.{reads}
 use Rattle.blt_reader.proofs.Reading.{behind_trans}
 use Rattle.day_reader.specs.declared.script.Script.{Script}
-use Rattle.day_reader.specs.Keyword.{word}
 use Rattle.day_reader.specs.Call.{is_freeze, freezes}
 use Rattle.day_reader.specs.TeamTable.{InTeam, and_team, at_teams}
-use Rattle.day_reader.proofs.Steps.{leads_fail}
 use Rattle.day_reader.proofs.TeamLists.{one_if, freezes_call}
 use Rattle.day_reader.proofs.TeamSteps.{team_stops, next_team_word, team_too_many, end_word}
 use Rattle.day_reader.proofs.team_reading.read_calls.Goals as goal

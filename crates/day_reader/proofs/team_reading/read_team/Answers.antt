@@ -1,9 +1,9 @@
-use Rattle.std.proofs.Common.{◌≡◌, List, sym, ◌∙◌, ap}
+use Rattle.std.proofs.Common.{List, sym, ◌∙◌, ap}
 use Rattle.std.proofs.lemmas.Result.{err_from_is_err_and}
 use Rattle.batch_core.specs.declared.call.Call.{Call}
 use Rattle.blt_reader.specs.Judged.{reads}
 use Rattle.day_reader.specs.declared.script.Script.{Script}
-use Rattle.day_reader.specs.TeamTable.{TeamNumber, InTeam, at_teams}
+use Rattle.day_reader.specs.TeamTable.{InTeam, at_teams}
 use Rattle.day_reader.specs.Reads.{next_team}
 use Rattle.day_reader.proofs.Steps.{leads_fail}
 use Rattle.day_reader.proofs.TeamSteps.{number_stops, number_read}

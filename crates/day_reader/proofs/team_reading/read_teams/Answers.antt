@@ -1,4 +1,4 @@
-use Rattle.std.proofs.Common.{◌≡◌, Bool, ◌∙◌, ap}
+use Rattle.std.proofs.Common.{Bool, ◌∙◌, ap}
 use Rattle.std.proofs.lemmas.Result.{err_from_is_err_and}
 use Rattle.blt_reader.proofs.Reading.{behind_trans}
 use Rattle.day_reader.specs.Reads.{next_team}
