@@ -3,10 +3,10 @@ use Rattle.std.proofs.Common.{◌≡◌, List, [], ◌∷◌, ◌++◌, refl, sy
 use Rattle.std.specs.Prelude.{Result, Some, ◌↔◌}
 use Rattle.blt_reader.specs.declared.input_fault.InputFault.{InputFault}
 use Rattle.blt_reader.specs.Token.{Item, Placed, Ending, Scan}
-use Rattle.blt_reader.specs.Judged.{Judged, then_on, after, outcome, Progress, GoesOn, Ends, ended, Stopped, on_progress, front_of, reads}
+use Rattle.blt_reader.specs.Judged.{Judged, then_on, after, outcome, Progress, GoesOn, Ends, ended, Stopped, carried_to, on_progress, front_of, reads}
 use Rattle.blt_reader.specs.Refusal.{items_of, IsFrontOf, IsRefusal, IsFrontRefusal}
 use Rattle.blt_reader.proofs.Judgements.{refused, accepted, same_value, same_kind, same_some, none_not}
-use Rattle.blt_reader.proofs.Tables.{closed, carried_to, behind_front, reads_front}
+use Rattle.blt_reader.proofs.Tables.{closed, behind_front, reads_front}
 use Rattle.blt_reader.proofs.Ruling.{Follows, front_expected, refuses_by_rule}
 
 module _ {S V : Type 0} (table : S → Item → Judged (Progress S V)) where

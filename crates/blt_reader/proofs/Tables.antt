@@ -4,7 +4,7 @@ use Rattle.std.specs.Prelude.{Option, None, Result, IsOk}
 use Rattle.blt_reader.specs.declared.fault_kind.FaultKind.TheVariants.{Trailing}
 use Rattle.blt_reader.specs.declared.input_fault.InputFault.{InputFault}
 use Rattle.blt_reader.specs.Token.{Item, Placed, Ending, AtEnd, AtFault, Scan}
-use Rattle.blt_reader.specs.Judged.{Judged, then_on, after, at_place, outcome, Progress, GoesOn, Ends, Stopped, on_progress, front_of, carried, going_on}
+use Rattle.blt_reader.specs.Judged.{Judged, then_on, after, at_place, outcome, Progress, GoesOn, Ends, Stopped, on_progress, front_of, carried, carried_to, going_on}
 use Rattle.blt_reader.proofs.Judgements.{refused, same_value}
 
 -- ---- parts
@@ -33,12 +33,6 @@ module _ {S : Type 0} (table : S → Item → Judged S) where
 -- The table with nothing behind its end.
 abbrev pub closed : {S V : Type 0} → (S → Item → Judged (Progress S V)) → Progress S V → Item → Judged (Progress S V)
 closed table = going_on table (λ value item. Err Trailing)
-
--- what the inner table's progress means in the outer one
-abbrev pub carried_to : {S V T : Type 0} → (S → T) → (V → T) → Judged (Progress S V) → Judged T
-carried_to inside behind (Ok (GoesOn next)) = Ok (inside next)
-carried_to inside behind (Ok (Ends value)) = Ok (behind value)
-carried_to inside behind (Err kind) = Err kind
 
 pub carried_is : {S V T W : Type 0} (inside : S → T) (behind : V → T) (judged : Judged (Progress S V)) → carried {W = W} inside behind judged ≡ carried_to (λ s. GoesOn (inside s)) (λ v. GoesOn (behind v)) judged
 carried_is inside behind (Ok (GoesOn next)) = refl

@@ -59,6 +59,12 @@ carried inside behind (Ok (GoesOn expected)) = Ok (GoesOn (inside expected))
 carried inside behind (Ok (Ends value)) = Ok (GoesOn (behind value))
 carried inside behind (Err kind) = Err kind
 
+-- The same, where the table's progress has any meaning in the other one.
+abbrev pub carried_to : {S V T : Type 0} → (S → T) → (V → T) → Judged (Progress S V) → Judged T
+carried_to inside behind (Ok (GoesOn next)) = Ok (inside next)
+carried_to inside behind (Ok (Ends value)) = Ok (behind value)
+carried_to inside behind (Err kind) = Err kind
+
 -- a refusal, and the text behind the last token that was formed
 pub record Stopped : Type 0 where
   pub fault : InputFault

@@ -1,0 +1,59 @@
+-- The words of day files, as the table reads them.
+use Rattle.std.proofs.Common.{◌≡◌, ℕ, List, cond, refl, sym, ap, subst, inl, inr, bytes_eq, Ok}
+use Rattle.std.specs.Prelude.{Option, Some, None, IfSome}
+use Rattle.blt_reader.specs.declared.what.What.{What}
+use Rattle.blt_reader.specs.declared.what.What.TheVariants as code
+use Rattle.blt_reader.specs.Reader.{said, says}
+use Rattle.std.proofs.lemmas.Slice.Eq.{bytes_eq-Decides}
+use Rattle.blt_reader.specs.Token.{Item, Number, Minus, Text, Word}
+use Rattle.blt_reader.specs.Judged.{Judged}
+use Rattle.blt_reader.proofs.Judgements.{refused, same_value, went}
+use Rattle.day_reader.specs.declared.keyword.Keyword.{Keyword}
+use Rattle.day_reader.specs.declared.keyword.Keyword.TheVariants.{Lots, Places, Omega, Team, Enter, Correct, Withdraw, Strike, Freeze, End}
+use Rattle.day_reader.specs.Keyword.{letters_of, word, keyword_of, as_keyword}
+
+-- either these letters are this word, or the rest decides
+either : (letters : List ℕ) (this found : Keyword) (rest : Judged Keyword) → cond (bytes_eq letters (letters_of this)) (Ok this) rest ≡ Ok found
+    → (rest ≡ Ok found → letters ≡ letters_of found) → letters ≡ letters_of found
+either letters this found rest e other = elim (went (bytes_eq letters (letters_of this)) (Ok this) rest (Ok found) e) [
+  | inl hit ↦ (let same : letters ≡ letters_of this = (bytes_eq-Decides letters (letters_of this)).0 hit.0 in rw (← same_value hit.1) same)
+  | inr miss ↦ other miss.1
+]
+
+pub letters_are : (letters : List ℕ) (found : Keyword) → keyword_of letters ≡ Ok found → letters ≡ letters_of found
+unfolding keyword_of
+letters_are letters found e =
+    either letters Lots found _ e (λ e. either letters Places found _ e (λ e. either letters Omega found _ e (λ e. either letters Team found _ e (λ e.
+    either letters Enter found _ e (λ e. either letters Correct found _ e (λ e. either letters Withdraw found _ e (λ e. either letters Strike found _ e (λ e.
+    either letters Freeze found _ e (λ e. either letters End found _ e (λ e. absurd (refused e)))))))))))
+
+pub item_is : (item : Item) (found : Keyword) → as_keyword item ≡ Ok found → item ≡ word found
+item_is (Word letters) found e = ap Word (letters_are letters found e)
+item_is (Number n) found e = absurd (refused e)
+item_is (Minus n) found e = absurd (refused e)
+item_is (Text bytes) found e = absurd (refused e)
+
+pub reads_word : (keyword : Keyword) → as_keyword (word keyword) ≡ Ok keyword
+unfolding keyword_of
+reads_word Lots = refl
+reads_word Places = refl
+reads_word Omega = refl
+reads_word Team = refl
+reads_word Enter = refl
+reads_word Correct = refl
+reads_word Withdraw = refl
+reads_word Strike = refl
+reads_word Freeze = refl
+reads_word End = refl
+
+-- ---- words of the text
+
+word_known : (letters : List ℕ) (found : Option Keyword) → IfSome found (λ keyword. keyword_of letters ≡ Ok keyword) → IfSome found (λ keyword. Word letters ≡ word keyword)
+word_known letters (Some keyword) known = ap Word (letters_are letters keyword known)
+word_known letters None known = tt
+
+pub said_word : (bytes : List ℕ) (at stop : ℕ) (what : What) (letters : List ℕ) (found : Option Keyword) → what ≡ code.Word → says (said bytes at stop what) letters → IfSome found (λ keyword. keyword_of letters ≡ Ok keyword)
+    → IfSome found (λ keyword. said bytes at stop what ≡ word keyword)
+said_word bytes at stop what letters found is same known =
+    let spelled : (w : What) → w ≡ code.Word → says (said bytes at stop w) letters → said bytes at stop w ≡ Word letters = λ w is_word. subst (λ (v : What). says (said bytes at stop v) letters → said bytes at stop v ≡ Word letters) (sym is_word) (λ e. ap Word (sym e)) in
+    subst (λ (i : Item). IfSome found (λ keyword. i ≡ word keyword)) (sym (spelled what is same)) (word_known letters found known)

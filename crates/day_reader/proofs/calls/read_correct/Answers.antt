@@ -1,0 +1,25 @@
+use Rattle.std.proofs.Common.{◌∙◌}
+use Rattle.std.proofs.lemmas.Result.{err_from_is_err_and}
+use Rattle.day_reader.proofs.CallSteps.{correct_stops, correct_batch, correct_revision_stops, correct_revision, correcting_fails, correcting_read}
+use Rattle.day_reader.proofs.calls.read_correct.Goals as goal
+
+pub returns-in_err-batch-clause-reads : goal.returns-in_err-batch-clause-reads
+returns-in_err-batch-clause-reads c =
+    let p = err_from_is_err_and c.from_residual.result c.from_residual.ensures.1 in
+    rw (p.1, p.2) (correct_stops c.args.candidates _ _ _ c.in_err-batch.ensures.fault)
+
+pub returns-in_err-revision-clause-reads : goal.returns-in_err-revision-clause-reads
+returns-in_err-revision-clause-reads c =
+    let p = err_from_is_err_and c.from_residual-in_err-revision.result c.from_residual-in_err-revision.ensures.1 in
+    rw (p.1, p.2) (correct_batch c.args.candidates _ _ c.in_ok-batch.batch c.in_ok-batch.ensures.number ∙ correct_revision_stops c.args.candidates _ _ c.in_ok-batch.batch _ c.in_err-revision.ensures.fault)
+
+pub returns-in_err-ballots-clause-reads : goal.returns-in_err-ballots-clause-reads
+returns-in_err-ballots-clause-reads c =
+    let p = err_from_is_err_and c.from_residual-in_err-ballots.result c.from_residual-in_err-ballots.ensures.1 in
+    let so_far = correct_batch c.args.candidates _ _ c.in_ok-batch.batch c.in_ok-batch.ensures.number ∙ correct_revision c.args.candidates _ _ c.in_ok-batch.batch c.in_ok-revision.revision c.in_ok-revision.ensures.number in
+    rw (p.1, p.2) (correcting_fails c.args.candidates _ _ c.in_ok-batch.batch c.in_ok-revision.revision _ _ so_far c.in_err-ballots.ensures.reads)
+
+pub returns-clause-reads : goal.returns-clause-reads
+returns-clause-reads c =
+    let so_far = correct_batch c.args.candidates _ _ c.in_ok-batch.batch c.in_ok-batch.ensures.number ∙ correct_revision c.args.candidates _ _ c.in_ok-batch.batch c.in_ok-revision.revision c.in_ok-revision.ensures.number in
+    correcting_read c.args.candidates _ _ c.in_ok-batch.batch c.in_ok-revision.revision _ c.in_ok-ballots.ballots so_far c.in_ok-ballots.ensures.candidates c.in_ok-ballots.ensures.reads

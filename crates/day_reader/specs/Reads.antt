@@ -1,0 +1,121 @@
+-- What reading functions of day files give.
+use Rattle.std.specs.Prelude.{◌≡◌, ℕ, List, [], map, length, Bool, true, false, Option, Some, Result, Ok, Err}
+use Rattle.candidate_roll.specs.Roll.{RollList}
+use Rattle.batch_core.specs.declared.call.Call.{Call}
+use Rattle.blt_reader.specs.declared.fault_kind.FaultKind.TheVariants.{WordExpected}
+use Rattle.blt_reader.specs.declared.input_fault.InputFault.{InputFault}
+use Rattle.blt_reader.specs.declared.blt_stop.BltStop.{BltStop}
+use Rattle.blt_reader.specs.declared.blt_stop.BltStop.TheVariants as stop
+use Rattle.blt_reader.specs.Token.{Item, Scan, with_front}
+use Rattle.blt_reader.specs.Judged.{then_on, outcome, Ends, ended, Stopped, reads}
+use Rattle.day_reader.specs.declared.keyword.Keyword.{Keyword}
+use Rattle.day_reader.specs.declared.keyword.Keyword.TheVariants as key
+use Rattle.day_reader.specs.declared.scale.Scale as code
+use Rattle.day_reader.specs.declared.script.Script.{Script}
+use Rattle.day_reader.specs.declared.day.Day.{Day}
+use Rattle.day_reader.specs.Keyword.{word, as_keyword}
+use Rattle.day_reader.specs.Call.{freezes}
+use Rattle.day_reader.specs.Day.{Scale, scale_of}
+use Rattle.day_reader.specs.TeamTable.{TeamNumber, InTeam, and_team, with_call, at_teams}
+use Rattle.day_reader.specs.DayTable.{Head, BehindTitle, Lot, BehindLots, Places, Teams, day_of, behind_title, at_token, at_file_token}
+
+-- What is said of a text is said from where this was found, or is this refusal.
+abbrev pub Leads : {A V : Type 0} → Result (V × Scan) Stopped → Result A InputFault → (A → Result (V × Scan) Stopped) → Scan → Type 0
+Leads said (Ok found) onward rest = said ≡ onward found
+Leads said (Err fault) onward rest = said ≡ Err (record { fault = fault; rest = rest })
+
+-- The same, but that nothing is said where memory is wanted.
+abbrev pub LeadsOrWants : {A V : Type 0} → Result (V × Scan) Stopped → Result A BltStop → (A → Result (V × Scan) Stopped) → Scan → Type 0
+LeadsOrWants said (Ok found) onward rest = said ≡ onward found
+LeadsOrWants said (Err (stop.Fault fault)) onward rest = said ≡ Err (record { fault = fault; rest = rest })
+LeadsOrWants said (Err stop.NoMemory) onward rest = Unit {0}
+
+-- ---- the head
+
+-- the word `lots`, or any other token in its place
+abbrev pub IsLotsWord : Item → ℕ → Result (Unit {0}) InputFault → Type 0
+IsLotsWord item at (Ok done) = item ≡ word key.Lots
+IsLotsWord item at (Err fault) = (fault ≡ record { kind = WordExpected; at = at }) × ((roll : RollList) → then_on (as_keyword item) (behind_title roll) ≡ Err WordExpected)
+
+-- the strings behind the title, up to the word `lots`
+abbrev pub ReadsToLots : Scan → Result (Unit {0}) InputFault → Scan → Type 0
+ReadsToLots old result new = (roll : RollList) → Leads (reads at_token (BehindTitle roll) old) result (λ _. reads at_token (Lot roll []) new) new
+
+-- a team behind the head, or the end
+abbrev pub team_or_end : Head → Bool → Scan → Result (Day × Scan) Stopped
+team_or_end head true text = reads at_token (Teams head (TeamNumber [])) text
+team_or_end head false text = Ok (day_of head [], text)
+
+-- the word of a team, or the end
+abbrev pub BeginsTeam : Keyword → ℕ → Result Bool InputFault → Type 0
+BeginsTeam key.Team at result = result ≡ Ok true
+BeginsTeam key.End at result = result ≡ Ok false
+BeginsTeam keyword at result = result ≡ Err (record { kind = WordExpected; at = at })
+
+-- the places and omega behind the word `places`
+pub record IsPlaced (old : Scan) (read : code.Scale) (new : Scan) : Type 0 where
+  pub same : (roll : RollList) (lots : List ℕ) → reads at_token (Places roll lots) old
+      ≡ team_or_end (record { roll = roll; lots = lots; scale = Some (record { places = read.places; omega = read.omega }) }) read.team_follows new
+
+abbrev pub ReadsPlaces : Scan → Result code.Scale InputFault → Scan → Type 0
+ReadsPlaces old (Ok read) new = IsPlaced old read new
+ReadsPlaces old (Err fault) new = (roll : RollList) (lots : List ℕ) → reads at_token (Places roll lots) old ≡ Err (record { fault = fault; rest = new })
+
+-- the places and omega were read, or were left out
+pub record IsScaled (old : Scan) (read : code.Scale) (new : Scan) : Type 0 where
+  pub scale : Option Scale
+  pub places : read.places ≡ (scale_of scale).places
+  pub omega : read.omega ≡ (scale_of scale).omega
+  pub same : (roll : RollList) (lots : List ℕ) → reads at_token (BehindLots roll lots) old ≡ team_or_end (record { roll = roll; lots = lots; scale = scale }) read.team_follows new
+
+abbrev pub ReadsScale : Scan → Result code.Scale InputFault → Scan → Type 0
+ReadsScale old (Ok read) new = IsScaled old read new
+ReadsScale old (Err fault) new = (roll : RollList) (lots : List ℕ) → reads at_token (BehindLots roll lots) old ≡ Err (record { fault = fault; rest = new })
+
+-- ---- the teams
+
+-- the next team behind these teams, or the end
+abbrev pub next_team : ℕ → List Script → Bool → Scan → Result (List Script × Scan) Stopped
+next_team candidates teams true text = reads (at_teams candidates) (TeamNumber teams) text
+next_team candidates teams false text = Ok (teams, text)
+
+abbrev pub team_numbers : List Script → List ℕ
+team_numbers teams = map (λ script. script.team) teams
+
+-- a call behind its word, in whichever team
+abbrev pub ReadsCall : ℕ → ℕ → Keyword → ℕ → Scan → Result Call BltStop → Scan → Type 0
+ReadsCall candidates count keyword at old result new = (before : List Script) (script : Script) → freezes (and_team before script) ≡ count
+    → LeadsOrWants (reads (at_teams candidates) (InTeam before script) (with_front (record { at = at; item = word keyword }) old)) result (λ call. reads (at_teams candidates) (InTeam before (with_call script call)) new) new
+
+-- the word ends a team
+abbrev pub EndsTeam : Keyword → Type 0
+EndsTeam key.Team = Unit {0}
+EndsTeam key.End = Unit {0}
+EndsTeam keyword = ⊥
+
+abbrev pub with_scripts : Head → List Script → Day
+with_scripts head scripts = record {
+  roll = head.roll;
+  lots = head.lots;
+  places = (scale_of head.scale).places;
+  omega = (scale_of head.scale).omega;
+  scripts = scripts;
+}
+
+-- all teams behind a head, by rising number
+abbrev pub ReadsScripts : ℕ → Bool → Scan → Result (List Script) BltStop → Scan → Type 0
+ReadsScripts candidates team_follows old result new = (head : Head) → length head.roll.names ≡ candidates
+    → LeadsOrWants (team_or_end head team_follows old) result (λ scripts. Ok (with_scripts head scripts, new)) new
+
+-- ---- the whole file
+
+-- nothing stands behind the end
+abbrev pub IsAtEnd : Scan → Result (Unit {0}) InputFault → Type 0
+IsAtEnd text (Ok done) = (day : Day) → outcome at_file_token ended (Ends day) text.tokens text.ending ≡ Ok day
+IsAtEnd text (Err fault) = (day : Day) → outcome at_file_token ended (Ends day) text.tokens text.ending ≡ Err fault
+
+-- the day is the one that was said, and the fault the refusal
+abbrev pub SaysDay : Result Day InputFault → Result Day BltStop → Type 0
+SaysDay said (Ok day) = said ≡ Ok day
+SaysDay said (Err (stop.Fault fault)) = said ≡ Err fault
+SaysDay said (Err stop.NoMemory) = Unit {0}

@@ -1,0 +1,124 @@
+// The calls of a team.
+ghost use Rattle.std.specs.Prelude.{◌≡◌, ◌+◌, ◌<◌, ◌≤◌, ℕ, false, if◌then◌else◌, IfOk, IfErr};
+ghost use Rattle.batch_core.specs.declared.call.Call.TheVariants.{Freeze};
+ghost use Rattle.blt_reader.specs.declared.fault_kind.FaultKind.TheVariants.{TooManyFreezes};
+ghost use Rattle.blt_reader.specs.declared.blt_stop.BltStop.TheVariants as stop;
+ghost use Rattle.blt_reader.specs.Reads.{IsBehind, Reads};
+ghost use Rattle.day_reader.specs.CallTable.{EnterBatch, CorrectBatch, WithdrawBatch, StrikeCandidate, at_call};
+ghost use Rattle.day_reader.specs.Call.{is_freeze};
+ghost use Rattle.day_reader.specs.Reads.{ReadsCall, EndsTeam};
+
+use crate::keyword::Keyword;
+use crate::numbers::read_between;
+use crate::words::unexpected;
+use batch_core::{Call, Change};
+use blt_reader::{BltStop, FaultKind, InputFault, Tokens, read_lines};
+use std::alloc::Global;
+
+/// At most so many freezes stand in a file.
+const MOST_FREEZES: u32 = 8;
+
+/// A batch has at most this many ballots.
+const MOST_BALLOTS: u32 = 100_000;
+
+/// Batches are numbered from 1 to this, and so are the revisions of a batch.
+const LAST: u32 = 9_999;
+
+/// The call that begins with this word at this place. `frozen` counts the freezes up to it.
+#[tactic(auto, using(blt_reader::proofs::Reading::behind_trans))]
+pub fn read_call(
+    alloc: Global,
+    tokens: &mut Tokens<'_>,
+    candidates: u32,
+    keyword: Keyword,
+    at: usize,
+    frozen: &mut u32,
+) -> Result<Call, BltStop>
+    requires { ¬ EndsTeam keyword }
+    ensures reads { ReadsCall candidates frozen.old keyword at tokens.old.rest result tokens.new.rest }
+    ensures counted { IfOk result (λ call. frozen.new ≡ frozen.old + (if is_freeze call then 1 else 0)) }
+    ensures behind { IsBehind tokens.old tokens.new }
+{
+    match keyword {
+        Keyword::Enter => read_enter(alloc, tokens, candidates),
+        Keyword::Correct => read_correct(alloc, tokens, candidates),
+        Keyword::Withdraw => read_withdraw(tokens),
+        Keyword::Strike => read_strike(tokens, candidates),
+        Keyword::Freeze => count_freeze(at, frozen),
+        _ => Err(BltStop::Fault(unexpected(at))),
+    }
+}
+
+#[tactic(auto, using(blt_reader::proofs::Reading::behind_trans))]
+fn read_enter(alloc: Global, tokens: &mut Tokens<'_>, candidates: u32) -> Result<Call, BltStop>
+    ensures reads { Reads (at_call candidates) EnterBatch (λ call. call) tokens.old.rest result tokens.new.rest }
+    ensures no_freeze { IfOk result (λ call. is_freeze call ≡ false) }
+    ensures behind { IsBehind tokens.old tokens.new }
+{
+    let batch = read_between(tokens, 1, LAST, FaultKind::BadBatch)?;
+    let ballots = read_lines(
+        alloc,
+        tokens,
+        candidates,
+        MOST_BALLOTS,
+        FaultKind::BatchTooLarge,
+    )?;
+    Ok(Call::Change(Change::Enter { batch, ballots }))
+}
+
+#[tactic(auto, using(blt_reader::proofs::Reading::behind_trans))]
+fn read_correct(alloc: Global, tokens: &mut Tokens<'_>, candidates: u32) -> Result<Call, BltStop>
+    ensures reads { Reads (at_call candidates) CorrectBatch (λ call. call) tokens.old.rest result tokens.new.rest }
+    ensures no_freeze { IfOk result (λ call. is_freeze call ≡ false) }
+    ensures behind { IsBehind tokens.old tokens.new }
+{
+    let batch = read_between(tokens, 1, LAST, FaultKind::BadBatch)?;
+    let revision = read_between(tokens, 1, LAST, FaultKind::BadRevision)?;
+    let ballots = read_lines(
+        alloc,
+        tokens,
+        candidates,
+        MOST_BALLOTS,
+        FaultKind::BatchTooLarge,
+    )?;
+    Ok(Call::Change(Change::Correct {
+        batch,
+        revision,
+        ballots,
+    }))
+}
+
+#[tactic(auto, using(blt_reader::proofs::Reading::behind_trans))]
+fn read_withdraw(tokens: &mut Tokens<'_>) -> Result<Call, BltStop>
+    ensures reads { (candidates : ℕ) → Reads (at_call candidates) WithdrawBatch (λ call. call) tokens.old.rest result tokens.new.rest }
+    ensures no_freeze { IfOk result (λ call. is_freeze call ≡ false) }
+    ensures behind { IsBehind tokens.old tokens.new }
+{
+    let batch = read_between(tokens, 1, LAST, FaultKind::BadBatch)?;
+    let revision = read_between(tokens, 1, LAST, FaultKind::BadRevision)?;
+    Ok(Call::Change(Change::Withdraw { batch, revision }))
+}
+
+#[tactic(auto, using(blt_reader::proofs::Reading::behind_trans))]
+fn read_strike(tokens: &mut Tokens<'_>, candidates: u32) -> Result<Call, BltStop>
+    ensures reads { Reads (at_call candidates) StrikeCandidate (λ call. call) tokens.old.rest result tokens.new.rest }
+    ensures no_freeze { IfOk result (λ call. is_freeze call ≡ false) }
+    ensures behind { IsBehind tokens.old tokens.new }
+{
+    let candidate = read_between(tokens, 1, candidates, FaultKind::NoSuchCandidate)?;
+    Ok(Call::Strike(candidate))
+}
+
+fn count_freeze(at: usize, frozen: &mut u32) -> Result<Call, BltStop>
+    ensures one_more { IfOk result (λ call. (call ≡ Freeze) × (frozen.old < 8) × (frozen.new ≡ frozen.old + 1)) }
+    ensures full { IfErr result (λ why. (8 ≤ frozen.old) × (why ≡ stop.Fault (record { kind = TooManyFreezes; at = at }))) }
+{
+    if *frozen >= MOST_FREEZES {
+        return Err(BltStop::Fault(InputFault {
+            kind: FaultKind::TooManyFreezes,
+            at,
+        }));
+    }
+    *frozen += 1;
+    Ok(Call::Freeze)
+}

@@ -1,0 +1,16 @@
+use crate::Scripts;
+use candidate_roll::Roll;
+use lot_order::Lots;
+
+/// A day of ballot entry as its file says it. The lots are an order of the roll's candidates, and
+/// each call can be made in an office of these candidates.
+#[derive(Debug, Drop)]
+pub struct Day {
+    pub roll: Roll,
+    pub lots: Lots,
+    /// How many places behind the point the count has, from 6 to 9.
+    pub places: u32,
+    /// In units of the last place, from 1 to 1,000,000.
+    pub omega: u32,
+    pub scripts: Scripts,
+}

@@ -1,0 +1,78 @@
+// Whole day files.
+ghost use Rattle.std.specs.Prelude.{◌≡◌, ◌≤◌, true, length, IfOk};
+ghost use Rattle.blt_reader.specs.Scan.{scan};
+ghost use Rattle.blt_reader.specs.BltTable.{Candidates};
+ghost use Rattle.blt_reader.specs.Refusal.{IsAccepted};
+ghost use Rattle.blt_reader.specs.Reads.{IfFault, IsBehind, Reads};
+ghost use Rattle.day_reader.specs.Day.{IsDay};
+ghost use Rattle.day_reader.specs.DayTable.{InRoll, at_token};
+ghost use Rattle.day_reader.specs.Said.{reading, IsDayRefusal, AreScripts};
+ghost use Rattle.day_reader.specs.Reads.{IsAtEnd, SaysDay};
+
+use crate::Day;
+use crate::lots::{read_lots, read_to_lots};
+use crate::scale::read_scale;
+use crate::team_reading::read_scripts;
+use blt_reader::{BltStop, FaultKind, InputFault, Next, Tokens, read_roll};
+use std::alloc::Global;
+
+/// Reads a day file: Ok where it has no refusal, with the day that it says.
+pub fn read_day(alloc: Global, bytes: &[u8]) -> Result<Day, BltStop>
+    ensures accepted { IfOk result (λ day. IsAccepted IsDay (scan bytes.now true) day) }
+    ensures refused { IfFault result (λ fault. IsDayRefusal (scan bytes.now true) fault) }
+    ensures says { SaysDay (reading bytes.now) result }
+    ensures scripts { IfOk result (λ day. AreScripts (length day.roll.names) day.scripts) }
+    ensures lots { IfOk result (λ day. length day.lots ≡ length day.roll.names) }
+    ensures places { IfOk result (λ day. (6 ≤ day.places) × (day.places ≤ 9)) }
+    ensures omega { IfOk result (λ day. (1 ≤ day.omega) × (day.omega ≤ 1000000)) }
+{
+    read_file(alloc, bytes)
+}
+
+fn read_file(alloc: Global, bytes: &[u8]) -> Result<Day, BltStop>
+    ensures { SaysDay (reading bytes.now) result }
+{
+    let mut tokens = Tokens::new(bytes, true);
+    let day = read_to_end(alloc, &mut tokens)?;
+    read_nothing(&mut tokens)?;
+    Ok(day)
+}
+
+// A day file up to the word `end`.
+#[tactic(auto, using(blt_reader::proofs::Reading::behind_trans))]
+fn read_to_end(alloc: Global, tokens: &mut Tokens<'_>) -> Result<Day, BltStop>
+    ensures reads { Reads at_token (InRoll Candidates) (λ day. day) tokens.old.rest result tokens.new.rest }
+    ensures behind { IsBehind tokens.old tokens.new }
+{
+    let roll = read_roll(alloc, tokens, false)?.roll;
+    let candidates = roll.candidates();
+    read_to_lots(tokens)?;
+    let lots = read_lots(alloc, tokens, candidates)?;
+    let scale = read_scale(tokens)?;
+    let scripts = read_scripts(alloc, tokens, candidates, scale.team_follows)?;
+    Ok(Day {
+        roll,
+        lots,
+        places: scale.places,
+        omega: scale.omega,
+        scripts,
+    })
+}
+
+// Nothing may stand behind the end.
+#[tactic(auto, using(blt_reader::proofs::Reading::behind_trans))]
+fn read_nothing(tokens: &mut Tokens<'_>) -> Result<(), InputFault>
+    ensures { IsAtEnd tokens.old.rest result }
+{
+    match tokens.next() {
+        Next::Token(token) => Err(InputFault {
+            kind: FaultKind::Trailing,
+            at: token.at,
+        }),
+        Next::End => Ok(()),
+        Next::Fault(fault) => Err(fault),
+    }
+}
+
+#[cfg(test)]
+mod tests;

@@ -1,0 +1,3 @@
+// Whole day files, worked out by hand.
+mod accepted;
+mod refused;

@@ -1,0 +1,95 @@
+// The lots of a day.
+ghost use Rattle.std.specs.Prelude.{◌≡◌, ◌≤◌, [], length, IfOk, IfErr};
+ghost use Rattle.blt_reader.specs.Reader.{MayBeText, said};
+ghost use Rattle.blt_reader.specs.Reads.{IsBehind, Reads};
+ghost use Rattle.blt_reader.specs.declared.fault_kind.FaultKind.TheVariants.{BadLots};
+ghost use Rattle.blt_reader.specs.declared.blt_stop.BltStop.TheVariants as stop;
+ghost use Rattle.day_reader.specs.Day.{AreAllLots};
+ghost use Rattle.day_reader.specs.DayTable.{at_lot};
+ghost use Rattle.day_reader.specs.Reads.{IsLotsWord, ReadsToLots};
+
+use crate::keyword::Keyword;
+use crate::words::{keyword_at, unexpected};
+use blt_reader::{BltStop, FaultKind, InputFault, Token, Tokens, What};
+use lot_order::{Flags, Lots};
+use std::alloc::Global;
+
+/// Strings that are not kept, and the word `lots`.
+#[tactic(auto, using(blt_reader::proofs::Reading::behind_trans))]
+pub fn read_to_lots(tokens: &mut Tokens<'_>) -> Result<(), InputFault>
+    ensures reads { ReadsToLots tokens.old.rest result tokens.new.rest }
+    ensures behind { IsBehind tokens.old tokens.new }
+{
+    loop {
+        let token = tokens.next_token()?;
+        match token.what {
+            What::Text => {}
+            _ => return lots_word(tokens, token),
+        }
+    }
+}
+
+fn lots_word(tokens: &Tokens<'_>, token: Token) -> Result<(), InputFault>
+    requires { MayBeText tokens.now.bytes token.at token.stop token.what }
+    ensures { IsLotsWord (said tokens.now.bytes token.at token.stop token.what) token.at result }
+{
+    let Some(keyword) = keyword_at(tokens, token) else {
+        return Err(unexpected(token.at));
+    };
+    match keyword {
+        Keyword::Lots => Ok(()),
+        _ => Err(unexpected(token.at)),
+    }
+}
+
+/// Candidates, each of them once, and the 0 behind them.
+#[tactic(auto, using(blt_reader::proofs::Reading::behind_trans))]
+pub fn read_lots(alloc: Global, tokens: &mut Tokens<'_>, candidates: u32) -> Result<Lots, BltStop>
+    requires { candidates ≤ 250 }
+    ensures reads { Reads (at_lot candidates) [] (λ lots. lots) tokens.old.rest result tokens.new.rest }
+    ensures behind { IsBehind tokens.old tokens.new }
+{
+    let Ok(mut stood) = Flags::filled(alloc, candidates as usize, false) else {
+        return Err(BltStop::NoMemory);
+    };
+    let mut order = Vec::new(alloc);
+    loop {
+        let (n, at) = tokens.next_number()?;
+        if n == 0 {
+            if order.len() < candidates as usize {
+                return Err(bad_lots(at));
+            }
+            return new_lots(alloc, order.as_slice(), candidates);
+        }
+        if n > candidates {
+            return Err(bad_lots(at));
+        }
+        if *stood.get(n as usize - 1) {
+            return Err(bad_lots(at));
+        }
+        stood.set(n as usize - 1, true);
+        order.push(n)?;
+    }
+}
+
+fn bad_lots(at: usize) -> BltStop
+    ensures { result ≡ stop.Fault (record { kind = BadLots; at = at }) }
+{
+    BltStop::Fault(InputFault {
+        kind: FaultKind::BadLots,
+        at,
+    })
+}
+
+// The lots of an order that is known to be one.
+fn new_lots(alloc: Global, order: &[u32], candidates: u32) -> Result<Lots, BltStop>
+    requires few { candidates ≤ 250 }
+    requires lots { AreAllLots candidates order.now }
+    ensures lots { IfOk result (λ lots. lots ≡ order.now) }
+    ensures only_memory { IfErr result (λ why. why ≡ stop.NoMemory) }
+{
+    match Lots::try_new(alloc, order, candidates) {
+        Ok(lots) => Ok(lots),
+        Err(_) => Err(BltStop::NoMemory),
+    }
+}
