@@ -1,0 +1,4 @@
+pub mod Book
+pub mod Lawful
+pub mod Histories
+pub mod Shards

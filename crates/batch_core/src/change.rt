@@ -1,0 +1,72 @@
+// A change of one batch.
+ghost use Rattle.std.specs.Prelude.{◌≡◌, ◌≤◌, ◌↔◌, true};
+ghost use Rattle.batch_core.specs.Lawful.{IsLawful, IsInRange, IsOfBatch};
+ghost use Rattle.batch_core.specs.Book.{batch_of};
+
+use plain_ballots::Ballots;
+
+/// Batches are numbered from 1 to this, and so are the revisions of a batch.
+const LAST: u32 = 9_999;
+
+/// A batch has at most this many ballots.
+const MOST: u64 = 100_000;
+
+/// A change of one batch of ballots. A correction and a withdrawal name the revision that they are
+/// meant for.
+#[derive(Debug, Drop)]
+pub enum Change {
+    Enter {
+        batch: u32,
+        ballots: Ballots,
+    },
+    Correct {
+        batch: u32,
+        revision: u32,
+        ballots: Ballots,
+    },
+    Withdraw {
+        batch: u32,
+        revision: u32,
+    },
+}
+
+impl Change {
+    /// The number of the batch.
+    pub fn batch(&self) -> u32
+        ensures { result ≡ batch_of self.now }
+    {
+        match self {
+            Change::Enter { batch, .. } => *batch,
+            Change::Correct { batch, .. } => *batch,
+            Change::Withdraw { batch, .. } => *batch,
+        }
+    }
+
+    /// Whether the numbers are in range and the ballots are ones of a batch of so many candidates.
+    pub fn is_lawful(&self, candidates: u32) -> bool
+        ensures { (result ≡ true) ↔ IsLawful candidates self.now }
+    {
+        match self {
+            Change::Enter { batch, ballots } => is_in_range(*batch)
+                && is_of_batch(ballots, candidates),
+            Change::Correct {
+                batch,
+                revision,
+                ballots,
+            } => is_in_range(*batch) && is_in_range(*revision) && is_of_batch(ballots, candidates),
+            Change::Withdraw { batch, revision } => is_in_range(*batch) && is_in_range(*revision),
+        }
+    }
+}
+
+fn is_in_range(number: u32) -> bool
+    ensures { (result ≡ true) ↔ IsInRange number }
+{
+    1 <= number && number <= LAST
+}
+
+fn is_of_batch(ballots: &Ballots, candidates: u32) -> bool
+    ensures { (result ≡ true) ↔ IsOfBatch candidates ballots.now }
+{
+    ballots.candidates() == candidates && ballots.total() <= MOST
+}

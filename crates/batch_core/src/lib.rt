@@ -1,0 +1,25 @@
+//! What callers ask of a count office, and the plain [`Book`] that answers: a [`Change`] of one
+//! batch of ballots, a [`Call`] of any kind, its [`Reply`], and the [`Entry`] that keeps both.
+#![tactic(auto)]
+
+mod call;
+mod calls;
+mod change;
+mod entries;
+mod entry;
+mod no_memory;
+mod push_back;
+mod reply;
+mod shard;
+mod step_back;
+
+pub use call::Call;
+pub use calls::Calls;
+pub use change::Change;
+pub use entries::Entries;
+pub use entry::Entry;
+pub use no_memory::NoMemory;
+pub use push_back::PushBack;
+pub use reply::Reply;
+pub use shard::shard_of;
+pub use step_back::StepBack;
