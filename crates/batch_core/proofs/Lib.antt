@@ -1,0 +1,3 @@
+pub mod BookLemmas
+pub mod OrderLemmas
+pub mod StandingLemmas

@@ -1,4 +1,5 @@
 pub mod Book
 pub mod Lawful
+pub mod Entries
 pub mod Histories
 pub mod Shards

@@ -2,6 +2,8 @@
 //! batch of ballots, a [`Call`] of any kind, its [`Reply`], and the [`Entry`] that keeps both.
 #![tactic(auto)]
 
+mod batch;
+mod book;
 mod call;
 mod calls;
 mod change;
@@ -13,6 +15,7 @@ mod reply;
 mod shard;
 mod step_back;
 
+pub use book::Book;
 pub use call::Call;
 pub use calls::Calls;
 pub use change::Change;
