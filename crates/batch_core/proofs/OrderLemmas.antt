@@ -19,7 +19,8 @@ use Rattle.batch_core.specs.Lawful.{IsInRange, IsKept, AreKept, AreOfBatch}
 use Rattle.plain_ballots.specs.declared.ballot_line.BallotLine.{BallotLine}
 use Rattle.plain_ballots.specs.Ballots.{ballot_count}
 use Rattle.batch_core.proofs.BookLemmas.{at-is}
-use Rattle.batch_core.proofs.StandingLemmas.{same_pieces, FitKept, standing_total}
+use Rattle.batch_core.proofs.StandingLemmas.{same_pieces}
+use Rattle.batch_core.proofs.LawfulLemmas.{standing_total}
 
 found_head : (k : ℕ) (e : ℕ × Batch) (es : List (ℕ × Batch)) → k ≡ e.0 → by_number (e ∷ es) k ≡ Some e.1
 found_head k e es is = lookup_head (is_at (nat_cmp k)) e es (at-is k e.0 ∙ eq-eqb e.0 k (sym is))
@@ -108,15 +109,11 @@ all_fit candidates (e ∷ es) sorted kept =
     let here = subst (IsKept candidates e.0) (found_head e.0 e es refl) (kept e.0) in
     All-cons (λ (b : Batch). AreOfBatch candidates b.standing) e.1 (values_of es) here.2 (all_fit candidates es (sorted_tail nat_cmp e.0 (keys_of es) sorted) (kept_tail candidates e es sorted kept))
 
-fit_kept : (candidates k : ℕ) (o : Option Batch) → IsKept candidates k o → FitKept candidates o
-fit_kept candidates k None kept = tt
-fit_kept candidates k (Some batch) kept = kept.2
-
 -- there is room for the next batch's lines
 pub room_for : (candidates : ℕ) (book : BookState) (lines : List BallotLine) (batch : Batch) (left : List Batch) → AreKept candidates book.batches → lines ++ flat_map (λ b. lines_of (Some b)) (batch ∷ left) ≡ standing book
     → ballot_count lines + ballot_count (lines_of (Some batch)) ≤ 999999999
 room_for candidates book lines batch left kept is =
-    let total = standing_total candidates book (λ b. fit_kept candidates b (book.batches b) (kept b)) in
+    let total = standing_total candidates book kept in
     let same = ap ballot_count is in
     let outer = sum_by-append (λ (line : BallotLine). line.count) lines (lines_of (Some batch) ++ flat_map (λ b. lines_of (Some b)) left) in
     let inner = sum_by-append (λ (line : BallotLine). line.count) (lines_of (Some batch)) (flat_map (λ b. lines_of (Some b)) left) in
