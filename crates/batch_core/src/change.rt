@@ -70,3 +70,46 @@ fn is_of_batch(ballots: &Ballots, candidates: u32) -> bool
 {
     ballots.candidates() == candidates && ballots.total() <= MOST
 }
+
+#[cfg(test)]
+mod tests {
+    use super::*;
+    use plain_ballots::{BallotLine, Ranking};
+    use std::test::Fail;
+
+    #[test]
+    fn numbers_of_batches_and_revisions_end(rt: HostRuntime) {
+        for (batch, revision, lawful) in [
+            (1, 1, true),
+            (9_999, 9_999, true),
+            (0, 1, false),
+            (10_000, 1, false),
+            (1, 0, false),
+            (1, 10_000, false),
+        ] {
+            let change = Change::Withdraw { batch, revision };
+            assert_eq!(rt; change.is_lawful(3), lawful, "at {batch} {revision}");
+            assert_eq!(rt; change.batch(), batch);
+        }
+    }
+
+    #[test]
+    fn a_batch_has_so_many_ballots(rt: HostRuntime) -> Result<(), Fail> {
+        for (count, candidates, lawful) in [
+            (100_000, 3, true),
+            (100_001, 3, false),
+            (1, 4, false),
+        ] {
+            let mut ballots = Ballots::new(rt.alloc(), 3);
+            let ranking = Ranking::try_new(rt.alloc(), 3, &[3, 1])?;
+            ballots.push_line(BallotLine { count, ranking })?;
+            let change = Change::Enter { batch: 5, ballots };
+            assert_eq!(rt;
+                change.is_lawful(candidates),
+                lawful,
+                "at {count} {candidates}"
+            );
+        }
+        Ok(())
+    }
+}
