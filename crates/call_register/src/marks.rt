@@ -1,0 +1,97 @@
+// The order of all calls.
+ghost use Rattle.std.specs.Prelude.{◌≡◌, ◌+◌, ◌<◌, ◌≤◌, ◌↔◌, ◌^◌, [], ◌∷◌, ◌++◌, length, reverse, slice_get, Some, OnOk, OnErr, IfErr, IfSome, IfNone, IsNone};
+
+use crate::{Mark, NoMemory, PushBack};
+use std::alloc::Global;
+use std::marker::Model;
+
+/// The marks of all calls in their order, and how many more there is room for.
+#[derive(Debug, Drop)]
+pub struct Marks {
+    list: Vec<Mark>,
+}
+
+impl Model for Marks {
+    ghost use Rattle.std.specs.Prelude.{◌-◌, vec_len, vec_capacity};
+    ghost use Rattle.call_register.specs.Marks.{MarkList};
+
+    ghost Value = { MarkList };
+
+    ghost view = { λ s. record { items = s.list.items; spare = vec_capacity s.list - vec_len s.list } };
+}
+
+impl Marks {
+    pub fn new(alloc: Global) -> Marks
+        ensures { result.items ≡ [] }
+    {
+        Marks {
+            list: Vec::new(alloc),
+        }
+    }
+
+    pub fn push(&mut self, item: Mark) -> Result<(), PushBack<Mark>>
+        ensures ok { OnOk result (self.new.items ≡ self.old.items ++ item ∷ []) }
+        ensures refused { OnErr result (self.new.items ≡ self.old.items) }
+        ensures handed_back { IfErr result (λ back. back.item ≡ item) }
+    {
+        match self.list.push(item) {
+            Ok(()) => Ok(()),
+            Err(failed) => Err(PushBack { item: failed.value }),
+        }
+    }
+
+    /// Makes room for so many more marks.
+    pub fn reserve(&mut self, more: usize) -> Result<(), NoMemory>
+        ensures items { self.new.items ≡ self.old.items }
+        ensures room { OnOk result (more ≤ self.new.spare) }
+    {
+        match self.list.reserve(more) {
+            Ok(()) => Ok(()),
+            Err(_) => Err(NoMemory),
+        }
+    }
+
+    /// Adds a mark that there is room for.
+    pub fn push_reserved(&mut self, item: Mark)
+        requires { 1 ≤ self.old.spare }
+        ensures items { self.new.items ≡ self.old.items ++ item ∷ [] }
+        ensures spare { self.new.spare + 1 ≡ self.old.spare }
+    {
+        self.list.push_reserved(item);
+    }
+
+    pub fn pop(&mut self) -> Option<Mark>
+        ensures last { IfSome result (λ item. self.old.items ≡ self.new.items ++ item ∷ []) }
+        ensures empty { IsNone result ↔ (self.old.items ≡ []) }
+        ensures kept { IfNone result (self.new.items ≡ self.old.items) }
+    {
+        self.list.pop()
+    }
+
+    pub fn reverse(&mut self)
+        ensures items { self.new.items ≡ reverse self.old.items }
+        ensures spare { self.new.spare ≡ self.old.spare }
+    {
+        self.list.reverse();
+    }
+
+    pub fn len(&self) -> usize
+        ensures value { result ≡ length self.now.items }
+        ensures bound { result < 2 ^ 63 }
+    {
+        self.list.len()
+    }
+
+    pub fn items(&self) -> &[Mark]
+        ensures { result.now ≡ self.now.items }
+    {
+        self.list.as_slice()
+    }
+
+    pub fn get(&self, i: usize) -> &Mark
+        requires { i < length self.now.items }
+        ensures { slice_get self.now.items i ≡ Some result.now }
+    {
+        &self.list[i]
+    }
+}
