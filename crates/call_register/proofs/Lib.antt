@@ -3,6 +3,7 @@ pub mod Woven
 pub mod Pieces
 pub mod Standing
 pub mod Steps
-pub mod WalkLemmas
+pub mod OwnCalls
+pub mod Sights
 pub mod Back
 pub mod Booked

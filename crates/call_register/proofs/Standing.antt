@@ -5,10 +5,10 @@ use Rattle.std.specs.List.{flat_map, range_with_len}
 use Rattle.std.proofs.lemmas.List.Elements.{All-take}
 use Rattle.batch_core.specs.declared.entry.Entry.{Entry}
 use Rattle.batch_core.specs.Book.{empty, lines_of, last_batch, standing}
-use Rattle.batch_core.specs.Histories.{after_all, standing_after}
+use Rattle.batch_core.specs.Histories.{after_all, IsLegal, standing_after}
 use Rattle.batch_core.specs.Shards.{shard_of, is_of_shard}
 use Rattle.call_register.specs.Marks.{marks_of}
-use Rattle.call_register.specs.Weaving.{Enough, Lists, weave_from, weave, Fit}
+use Rattle.call_register.specs.Weaving.{part, Enough, Lists, weave_from, weave, Fit}
 use Rattle.call_register.specs.Woven.{AreOfShards, IsWoven}
 use Rattle.call_register.specs.declared.mark.Mark.{Mark}
 use Rattle.call_register.proofs.ShardBooks.{part_decides, untouched}
@@ -42,3 +42,10 @@ woven_law shards marks lists are fit =
           (sym (woven_front n [] marks lists enough)) (standing_woven shards (take n marks) lists are.changes are.some);
       struck = λ n. ap (λ h. (after_all empty h).struck) (woven_front n [] marks lists enough) ∙ woven_struck shards (take n marks) empty lists are.changes;
     }
+
+-- legal, also where the marks don't fit
+pub woven_legal : (shards : ℕ) (marks : List Mark) (lists : Lists) → AreOfShards shards lists → IsLegal (weave marks lists)
+woven_legal shards marks lists are = woven shards marks empty lists are.changes are.legal
+
+pub woven_parts : (shards s : ℕ) (marks : List Mark) (lists : Lists) → AreOfShards shards lists → part shards s (weave marks lists) ≡ take (marks_of s marks) (lists s)
+woven_parts shards s marks lists are = woven_part shards s [] marks lists are.changes
