@@ -81,3 +81,6 @@ fn strikes(mark: &Mark, candidate: u32) -> bool
         _ => false,
     }
 }
+
+#[cfg(test)]
+mod tests;
