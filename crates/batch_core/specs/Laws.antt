@@ -7,7 +7,7 @@ use Rattle.batch_core.specs.declared.call.Call.TheVariants.{Change as Changes}
 use Rattle.batch_core.specs.declared.entry.Entry.{Entry}
 use Rattle.batch_core.specs.Book.{BookState, empty, batch_of, reply, after, is_struck, lines_of, standing}
 use Rattle.batch_core.specs.Lawful.{IsInRange, AreLawful, AreKept}
-use Rattle.batch_core.specs.Histories.{after_all, IsLegal, standing_after, struck_after, strikes}
+use Rattle.batch_core.specs.Histories.{after_all, IsLegal, standing_after, struck_after, own_calls, strikes}
 
 -- a legal history stays legal by one more call that is answered as the book answers it
 abbrev pub GrowsByAnAnswer : Type 0
@@ -29,6 +29,12 @@ StandsInTheBook =
 abbrev pub StruckInTheBook : Type 0
 StruckInTheBook =
     (history more : List Entry) → struck_after (history ++ more) (length history) ≡ (after_all empty history).struck
+
+-- a caller's calls in two histories one after the other are those in the first and then those in the second
+abbrev pub OwnCallsFollow : Type 0
+OwnCallsFollow =
+    (caller : ℕ) (history more : List Entry)
+    → own_calls caller (history ++ more) ≡ own_calls caller history ++ own_calls caller more
 
 -- who is struck by the first n calls is struck by one of them
 abbrev pub StruckByACall : Type 0

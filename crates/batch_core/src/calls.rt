@@ -90,6 +90,7 @@ mod tests {
         assert_eq!(rt; calls.len(), 2);
         assert!(rt; matches!(calls.items()[0], Call::Freeze));
         assert!(rt; matches!(calls.get(1), Call::Strike(2)));
+        assert!(rt; matches!(calls.get(1).copy(rt.alloc())?, Call::Strike(2)));
         Ok(())
     }
 }

@@ -1,9 +1,11 @@
 // A change of one batch.
-ghost use Rattle.std.specs.Prelude.{◌≡◌, ◌≤◌, ◌↔◌, true};
+ghost use Rattle.std.specs.Prelude.{◌≡◌, ◌≤◌, ◌↔◌, true, IfOk};
 ghost use Rattle.batch_core.specs.Lawful.{IsLawful, IsInRange, IsOfBatch};
 ghost use Rattle.batch_core.specs.Book.{batch_of};
 
+use crate::NoMemory;
 use plain_ballots::Ballots;
+use std::alloc::Global;
 
 /// Batches are numbered from 1 to this, and so are the revisions of a batch.
 const LAST: u32 = 9_999;
@@ -39,6 +41,30 @@ impl Change {
             Change::Enter { batch, .. } => *batch,
             Change::Correct { batch, .. } => *batch,
             Change::Withdraw { batch, .. } => *batch,
+        }
+    }
+
+    pub fn copy(&self, alloc: Global) -> Result<Change, NoMemory>
+        ensures { IfOk result (λ change. change ≡ self.now) }
+    {
+        match self {
+            Change::Enter { batch, ballots } => Ok(Change::Enter {
+                batch: *batch,
+                ballots: ballots.copy(alloc)?,
+            }),
+            Change::Correct {
+                batch,
+                revision,
+                ballots,
+            } => Ok(Change::Correct {
+                batch: *batch,
+                revision: *revision,
+                ballots: ballots.copy(alloc)?,
+            }),
+            Change::Withdraw { batch, revision } => Ok(Change::Withdraw {
+                batch: *batch,
+                revision: *revision,
+            }),
         }
     }
 
