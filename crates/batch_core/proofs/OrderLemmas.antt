@@ -83,13 +83,21 @@ module _ {Y : Type 0} (g : Option Batch → List Y) (none : g None ≡ []) where
       by_tail : (k : ℕ) → is_some (by_number es k) ≡ true → e.0 < k → is_some (by_number (e ∷ es) k) ≡ true
       by_tail k some over = ap is_some (found_tail k e es (λ is. let i = is in let o = over in omega arith)) ∙ some
 
+-- the lines of these batches, one after another
+abbrev pub all_lines : List Batch → List BallotLine
+all_lines batches = flat_map (λ b. lines_of (Some b)) batches
+
+-- each of these batches has ballots of so many candidates, and not too many
+abbrev pub AreOfBatches : ℕ → List Batch → Type 0
+AreOfBatches candidates batches = All (λ b. AreOfBatch candidates b.standing) batches
+
 kept_bounds : (candidates k : ℕ) (o : Option Batch) → IsKept candidates k o → is_some o ≡ true → IsInRange k
 kept_bounds candidates k None kept some = absurd (cc)
 kept_bounds candidates k (Some batch) kept some = kept.0
 
 -- the lines of the batches in the list's order are the standing lines by rising number
 pub by_values : (candidates : ℕ) (struck : List ℕ) (es : List (ℕ × Batch)) → IsStrictlySortedBy nat_cmp (keys_of es) → AreKept candidates (by_number es)
-    → flat_map (λ b. lines_of (Some b)) (values_of es) ≡ standing (record { batches = by_number es; struck = struck })
+    → all_lines (values_of es) ≡ standing (record { batches = by_number es; struck = struck })
 unfolding last_batch
 by_values candidates struck es sorted kept =
     flat_map-map (λ b. lines_of (Some b)) (λ (e : ℕ × Batch). e.1) es
@@ -103,24 +111,24 @@ kept_tail candidates e es sorted kept k = ⊎_elim
     subst (IsKept candidates k) (found_tail k e es (λ is. let i = is in let o = over in omega arith)) (kept k))
     (none_or_some (by_number es k))
 
-pub all_fit : (candidates : ℕ) (es : List (ℕ × Batch)) → IsStrictlySortedBy nat_cmp (keys_of es) → AreKept candidates (by_number es) → All (λ b. AreOfBatch candidates b.standing) (values_of es)
+pub all_fit : (candidates : ℕ) (es : List (ℕ × Batch)) → IsStrictlySortedBy nat_cmp (keys_of es) → AreKept candidates (by_number es) → AreOfBatches candidates (values_of es)
 all_fit candidates [] sorted kept = λ k d lt. absurd (omega arith)
 all_fit candidates (e ∷ es) sorted kept =
     let here = subst (IsKept candidates e.0) (found_head e.0 e es refl) (kept e.0) in
     All-cons (λ (b : Batch). AreOfBatch candidates b.standing) e.1 (values_of es) here.2 (all_fit candidates es (sorted_tail nat_cmp e.0 (keys_of es) sorted) (kept_tail candidates e es sorted kept))
 
 -- there is room for the next batch's lines
-pub room_for : (candidates : ℕ) (book : BookState) (lines : List BallotLine) (batch : Batch) (left : List Batch) → AreKept candidates book.batches → lines ++ flat_map (λ b. lines_of (Some b)) (batch ∷ left) ≡ standing book
+pub room_for : (candidates : ℕ) (book : BookState) (lines : List BallotLine) (batch : Batch) (left : List Batch) → AreKept candidates book.batches → lines ++ all_lines (batch ∷ left) ≡ standing book
     → ballot_count lines + ballot_count (lines_of (Some batch)) ≤ 999999999
 room_for candidates book lines batch left kept is =
     let total = standing_total candidates book kept in
     let same = ap ballot_count is in
-    let outer = sum_by-append (λ (line : BallotLine). line.count) lines (lines_of (Some batch) ++ flat_map (λ b. lines_of (Some b)) left) in
-    let inner = sum_by-append (λ (line : BallotLine). line.count) (lines_of (Some batch)) (flat_map (λ b. lines_of (Some b)) left) in
+    let outer = sum_by-append (λ (line : BallotLine). line.count) lines (lines_of (Some batch) ++ all_lines left) in
+    let inner = sum_by-append (λ (line : BallotLine). line.count) (lines_of (Some batch)) (all_lines left) in
     omega arith
 
 -- one batch's lines more
-pub lines_more : (lines new : List BallotLine) (batch : Batch) (left : List Batch) (all : List BallotLine) → lines ++ flat_map (λ b. lines_of (Some b)) (batch ∷ left) ≡ all → new ≡ lines ++ ballot_lines batch.standing
-    → new ++ flat_map (λ b. lines_of (Some b)) left ≡ all
+pub lines_more : (lines new : List BallotLine) (batch : Batch) (left : List Batch) (all : List BallotLine) → lines ++ all_lines (batch ∷ left) ≡ all → new ≡ lines ++ ballot_lines batch.standing
+    → new ++ all_lines left ≡ all
 lines_more lines new batch left all so_far is =
-    ap (λ l. l ++ flat_map (λ b. lines_of (Some b)) left) is ∙ (append_assoc lines (ballot_lines batch.standing) (flat_map (λ b. lines_of (Some b)) left) ∙ so_far)
+    ap (λ l. l ++ all_lines left) is ∙ (append_assoc lines (ballot_lines batch.standing) (all_lines left) ∙ so_far)

@@ -91,15 +91,19 @@ reply book (Changes change) = change_reply (book.batches (batch_of change)) chan
 reply book Freeze = Frozen
 reply book (Strike candidate) = strike_reply book.struck candidate
 
--- these batches, but for one number
+-- the batches with one of them replaced
 abbrev pub replaced : (ℕ → Option Batch) → ℕ → Option Batch → ℕ → Option Batch
 replaced batches number kept b = if b == number then kept else batches b
 
+-- the batches after a change of one of them
+abbrev pub changed : (ℕ → Option Batch) → Change → ℕ → Option Batch
+changed batches change =
+    let kept = batches (batch_of change) in
+    replaced batches (batch_of change) (change_after kept change (change_reply kept change))
+
 -- the book after a call
 abbrev pub after : BookState → Call → BookState
-after book (Changes change) =
-    let kept = book.batches (batch_of change) in
-    record book { batches = replaced book.batches (batch_of change) (change_after kept change (change_reply kept change)) }
+after book (Changes change) = record book { batches = changed book.batches change }
 after book Freeze = book
 after book (Strike candidate) = record book { struck = strike book.struck candidate }
 

@@ -1,7 +1,7 @@
 // The plain book.
 ghost use Rattle.std.specs.Prelude.{◌≡◌, ◌+◌, ◌≤◌, ◌++◌, [], Some, None, IfOk, IfErr, OnOk, OnErr};
 ghost use Rattle.plain_ballots.specs.Ballots.{ballot_count};
-ghost use Rattle.batch_core.specs.Book.{state_of, by_number, batch_of, reply, after, change_reply, change_after, replaced, strike_reply, strike, ballot_lines, standing};
+ghost use Rattle.batch_core.specs.Book.{state_of, by_number, batch_of, reply, after, change_reply, changed, strike_reply, strike, ballot_lines, standing};
 ghost use Rattle.batch_core.specs.Lawful.{IsLawful, MayStep, AreOfBatch};
 ghost use Rattle.batch_core.specs.declared.change.Change.TheVariants.{Enter};
 ghost use Rattle.batch_core.specs.declared.reply.Reply.TheVariants.{Entered};
@@ -93,7 +93,7 @@ impl Book {
         ensures candidates { self.new.candidates ≡ self.old.candidates }
         ensures struck { self.new.struck ≡ self.old.struck }
         ensures answered { IfOk result (λ answer. answer ≡ change_reply (by_number self.old.batches (batch_of change)) change) }
-        ensures state { IfOk result (λ answer. by_number self.new.batches ≡ replaced (by_number self.old.batches) (batch_of change) (change_after (by_number self.old.batches (batch_of change)) change answer)) }
+        ensures state { OnOk result (by_number self.new.batches ≡ changed (by_number self.old.batches) change) }
         ensures handed_back { IfErr result (λ back. back ≡ change) }
         ensures refused { OnErr result (self.new ≡ self.old) }
     {
@@ -110,7 +110,7 @@ impl Book {
         ensures candidates { self.new.candidates ≡ self.old.candidates }
         ensures struck { self.new.struck ≡ self.old.struck }
         ensures answered { IfOk result (λ answer. answer ≡ change_reply None change) }
-        ensures state { IfOk result (λ answer. by_number self.new.batches ≡ replaced (by_number self.old.batches) (batch_of change) (change_after None change answer)) }
+        ensures state { OnOk result (by_number self.new.batches ≡ changed (by_number self.old.batches) change) }
         ensures handed_back { IfErr result (λ back. back ≡ change) }
         ensures refused { OnErr result (self.new ≡ self.old) }
     {
@@ -127,7 +127,7 @@ impl Book {
         ensures candidates { self.new.candidates ≡ self.old.candidates }
         ensures struck { self.new.struck ≡ self.old.struck }
         ensures answered { IfOk result (λ answer. answer ≡ Entered) }
-        ensures state { OnOk result (by_number self.new.batches ≡ replaced (by_number self.old.batches) batch (Some (record { revision = 1; standing = Some ballots }))) }
+        ensures state { OnOk result (by_number self.new.batches ≡ changed (by_number self.old.batches) (Enter batch ballots)) }
         ensures handed_back { IfErr result (λ back. back ≡ Enter batch ballots) }
         ensures refused { OnErr result (self.new ≡ self.old) }
     {
