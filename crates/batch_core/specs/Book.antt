@@ -1,8 +1,12 @@
 -- The plain book: what it keeps, how it answers a call, and what it keeps afterwards.
 use Rattle.std.specs.Prelude.{ℕ, ◌+◌, ◌==◌, ◌++◌, ◌∷◌, [], if◌then◌else◌, not, Bool, List, Option, Some, None, is_none, unwrap_or}
 use Rattle.std.specs.List.{flat_map, range_with_len, list_any}
+use Rattle.std.specs.Map.{lookup}
+use Rattle.std.specs.BTreeMap.{is_at}
+use Rattle.std.specs.Ordering.{nat_cmp}
 use Rattle.plain_ballots.specs.Ballots.{BallotList}
 use Rattle.plain_ballots.specs.declared.ballot_line.BallotLine.{BallotLine}
+use Rattle.batch_core.specs.declared.batch.Batch.{Batch}
 use Rattle.batch_core.specs.declared.change.Change.{Change}
 use Rattle.batch_core.specs.declared.change.Change.TheVariants.{Enter, Correct, Withdraw}
 use Rattle.batch_core.specs.declared.call.Call.{Call}
@@ -10,15 +14,24 @@ use Rattle.batch_core.specs.declared.call.Call.TheVariants.{Change as Changes, F
 use Rattle.batch_core.specs.declared.reply.Reply.{Reply}
 use Rattle.batch_core.specs.declared.reply.Reply.TheVariants.{Entered, Corrected, Withdrawn, Frozen, Exists, Unknown, Gone, Stale, Spent, Struck, AlreadyStruck}
 
--- a batch that was entered: its revision, and its ballots, or none where it is gone
-pub record Batch : Type 0 where
-  pub revision : ℕ
-  pub standing : Option BallotList
-
--- the batches that were entered by their numbers, and the struck candidates in the order of striking
+-- the batches that were entered, by their numbers, each with its revision and its ballots, or none where it is
+-- gone; and the struck candidates in the order of striking
 pub record BookState : Type 0 where
   pub batches : ℕ → Option Batch
   pub struck : List ℕ
+
+-- what the book of so many candidates is seen as: its batches are listed by rising number
+pub record BookList : Type 0 where
+  pub candidates : ℕ
+  pub batches : List (ℕ × Batch)
+  pub struck : List ℕ
+
+-- the listed batches by their numbers
+abbrev pub by_number : List (ℕ × Batch) → ℕ → Option Batch
+by_number batches number = lookup (is_at (nat_cmp number)) batches
+
+abbrev pub state_of : BookList → BookState
+state_of book = record { batches = by_number book.batches; struck = book.struck }
 
 -- nothing was entered and nobody struck
 abbrev pub empty : BookState
@@ -78,15 +91,19 @@ reply book (Changes change) = change_reply (book.batches (batch_of change)) chan
 reply book Freeze = Frozen
 reply book (Strike candidate) = strike_reply book.struck candidate
 
--- these batches, but for one number
+-- the batches with one of them replaced
 abbrev pub replaced : (ℕ → Option Batch) → ℕ → Option Batch → ℕ → Option Batch
 replaced batches number kept b = if b == number then kept else batches b
 
+-- the batches after a change of one of them
+abbrev pub changed : (ℕ → Option Batch) → Change → ℕ → Option Batch
+changed batches change =
+    let kept = batches (batch_of change) in
+    replaced batches (batch_of change) (change_after kept change (change_reply kept change))
+
 -- the book after a call
 abbrev pub after : BookState → Call → BookState
-after book (Changes change) =
-    let kept = book.batches (batch_of change) in
-    record book { batches = replaced book.batches (batch_of change) (change_after kept change (change_reply kept change)) }
+after book (Changes change) = record book { batches = changed book.batches change }
 after book Freeze = book
 after book (Strike candidate) = record book { struck = strike book.struck candidate }
 

@@ -1,6 +1,8 @@
 -- Histories: lists of answered calls.
-use Rattle.std.specs.Prelude.{◌≡◌, ℕ, ◌==◌, ⊤, List, [], ◌∷◌, filter, take}
+use Rattle.std.specs.Prelude.{◌≡◌, ℕ, ◌==◌, ⊤, Bool, false, List, [], ◌∷◌, filter, take}
 use Rattle.plain_ballots.specs.declared.ballot_line.BallotLine.{BallotLine}
+use Rattle.batch_core.specs.declared.call.Call.{Call}
+use Rattle.batch_core.specs.declared.call.Call.TheVariants.{Change, Freeze, Strike}
 use Rattle.batch_core.specs.declared.entry.Entry.{Entry}
 use Rattle.batch_core.specs.Book.{BookState, empty, reply, after, standing}
 
@@ -29,3 +31,9 @@ struck_after history n = (after_all empty (take n history)).struck
 -- the calls of one caller with their replies, in their order
 abbrev pub own_calls : ℕ → List Entry → List Entry
 own_calls caller history = filter (λ e. e.caller == caller) history
+
+-- whether a call strikes this candidate
+abbrev pub strikes : ℕ → Call → Bool
+strikes candidate (Change change) = false
+strikes candidate Freeze = false
+strikes candidate (Strike struck) = struck == candidate

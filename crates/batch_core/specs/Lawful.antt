@@ -1,6 +1,7 @@
 -- Which changes and calls a book of so many candidates takes.
-use Rattle.std.specs.Prelude.{◌≡◌, ℕ, ◌≤◌, ⊤, List, All}
+use Rattle.std.specs.Prelude.{◌≡◌, ℕ, ◌≤◌, ⊤, List, All, Option, Some, None}
 use Rattle.plain_ballots.specs.Ballots.{BallotList, ballot_count}
+use Rattle.batch_core.specs.declared.batch.Batch.{Batch}
 use Rattle.batch_core.specs.declared.change.Change.{Change}
 use Rattle.batch_core.specs.declared.change.Change.TheVariants.{Enter, Correct, Withdraw}
 use Rattle.batch_core.specs.declared.call.Call.{Call}
@@ -30,3 +31,17 @@ MayStep candidates (Strike candidate) = (1 ≤ candidate) × (candidate ≤ 250)
 -- a book of so many candidates takes each of these calls
 abbrev pub AreLawful : ℕ → List Entry → Type 0
 AreLawful candidates history = All (λ e. MayStep candidates e.call) history
+
+-- the ballots of a batch, if it isn't gone
+abbrev pub AreOfBatch : ℕ → Option BallotList → Type 0
+AreOfBatch candidates None = ⊤
+AreOfBatch candidates (Some ballots) = IsOfBatch candidates ballots
+
+-- what lawful changes leave of a batch number
+abbrev pub IsKept : ℕ → ℕ → Option Batch → Type 0
+IsKept candidates number None = ⊤
+IsKept candidates number (Some batch) = IsInRange number × IsInRange batch.revision × AreOfBatch candidates batch.standing
+
+-- what lawful changes leave of all batch numbers
+abbrev pub AreKept : ℕ → (ℕ → Option Batch) → Type 0
+AreKept candidates batches = (number : ℕ) → IsKept candidates number (batches number)

@@ -1,5 +1,8 @@
 // A call of a caller.
-use crate::Change;
+ghost use Rattle.std.specs.Prelude.{◌≡◌, IfOk};
+
+use crate::{Change, NoMemory};
+use std::alloc::Global;
 
 /// A call of a caller.
 #[derive(Debug, Drop)]
@@ -9,4 +12,16 @@ pub enum Call {
     Freeze,
     /// The candidate with this number withdraws.
     Strike(u32),
+}
+
+impl Call {
+    pub fn copy(&self, alloc: Global) -> Result<Call, NoMemory>
+        ensures { IfOk result (λ call. call ≡ self.now) }
+    {
+        match self {
+            Call::Change(change) => Ok(Call::Change(change.copy(alloc)?)),
+            Call::Freeze => Ok(Call::Freeze),
+            Call::Strike(candidate) => Ok(Call::Strike(*candidate)),
+        }
+    }
 }

@@ -1,9 +1,11 @@
 // A change of one batch.
-ghost use Rattle.std.specs.Prelude.{◌≡◌, ◌≤◌, ◌↔◌, true};
+ghost use Rattle.std.specs.Prelude.{◌≡◌, ◌≤◌, ◌↔◌, true, IfOk};
 ghost use Rattle.batch_core.specs.Lawful.{IsLawful, IsInRange, IsOfBatch};
 ghost use Rattle.batch_core.specs.Book.{batch_of};
 
+use crate::NoMemory;
 use plain_ballots::Ballots;
+use std::alloc::Global;
 
 /// Batches are numbered from 1 to this, and so are the revisions of a batch.
 const LAST: u32 = 9_999;
@@ -42,6 +44,30 @@ impl Change {
         }
     }
 
+    pub fn copy(&self, alloc: Global) -> Result<Change, NoMemory>
+        ensures { IfOk result (λ change. change ≡ self.now) }
+    {
+        match self {
+            Change::Enter { batch, ballots } => Ok(Change::Enter {
+                batch: *batch,
+                ballots: ballots.copy(alloc)?,
+            }),
+            Change::Correct {
+                batch,
+                revision,
+                ballots,
+            } => Ok(Change::Correct {
+                batch: *batch,
+                revision: *revision,
+                ballots: ballots.copy(alloc)?,
+            }),
+            Change::Withdraw { batch, revision } => Ok(Change::Withdraw {
+                batch: *batch,
+                revision: *revision,
+            }),
+        }
+    }
+
     /// Whether the numbers are in range and the ballots are ones of a batch of so many candidates.
     pub fn is_lawful(&self, candidates: u32) -> bool
         ensures { (result ≡ true) ↔ IsLawful candidates self.now }
@@ -69,4 +95,47 @@ fn is_of_batch(ballots: &Ballots, candidates: u32) -> bool
     ensures { (result ≡ true) ↔ IsOfBatch candidates ballots.now }
 {
     ballots.candidates() == candidates && ballots.total() <= MOST
+}
+
+#[cfg(test)]
+mod tests {
+    use super::*;
+    use plain_ballots::{BallotLine, Ranking};
+    use std::test::Fail;
+
+    #[test]
+    fn numbers_of_batches_and_revisions_end(rt: HostRuntime) {
+        for (batch, revision, lawful) in [
+            (1, 1, true),
+            (9_999, 9_999, true),
+            (0, 1, false),
+            (10_000, 1, false),
+            (1, 0, false),
+            (1, 10_000, false),
+        ] {
+            let change = Change::Withdraw { batch, revision };
+            assert_eq!(rt; change.is_lawful(3), lawful, "at {batch} {revision}");
+            assert_eq!(rt; change.batch(), batch);
+        }
+    }
+
+    #[test]
+    fn a_batch_has_so_many_ballots(rt: HostRuntime) -> Result<(), Fail> {
+        for (count, candidates, lawful) in [
+            (100_000, 3, true),
+            (100_001, 3, false),
+            (1, 4, false),
+        ] {
+            let mut ballots = Ballots::new(rt.alloc(), 3);
+            let ranking = Ranking::try_new(rt.alloc(), 3, &[3, 1])?;
+            ballots.push_line(BallotLine { count, ranking })?;
+            let change = Change::Enter { batch: 5, ballots };
+            assert_eq!(rt;
+                change.is_lawful(candidates),
+                lawful,
+                "at {count} {candidates}"
+            );
+        }
+        Ok(())
+    }
 }

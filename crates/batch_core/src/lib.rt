@@ -2,22 +2,29 @@
 //! batch of ballots, a [`Call`] of any kind, its [`Reply`], and the [`Entry`] that keeps both.
 #![tactic(auto)]
 
+mod batch;
+mod book;
 mod call;
 mod calls;
 mod change;
 mod entries;
 mod entry;
+mod laws;
 mod no_memory;
 mod push_back;
 mod reply;
 mod shard;
 mod step_back;
 
+pub use book::Book;
 pub use call::Call;
 pub use calls::Calls;
 pub use change::Change;
 pub use entries::Entries;
 pub use entry::Entry;
+pub use laws::{
+    a_book_answers_a_history, lawful_calls_leave_lawful_batches, struck_candidates_are_listed_once,
+};
 pub use no_memory::NoMemory;
 pub use push_back::PushBack;
 pub use reply::Reply;

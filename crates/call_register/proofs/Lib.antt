@@ -1,0 +1,9 @@
+pub mod ShardBooks
+pub mod Woven
+pub mod Pieces
+pub mod Standing
+pub mod Steps
+pub mod OwnCalls
+pub mod Sights
+pub mod Back
+pub mod Booked

@@ -1,0 +1,94 @@
+-- What holds for every order of calls, also where marks are seen whose entries aren't, or the other way round.
+use Rattle.std.specs.Prelude.{◌≡◌, ℕ, ◌≤◌, List, [], ◌∷◌, ◌++◌, drop, length, take}
+use Rattle.std.specs.List.{list_any}
+use Rattle.batch_core.specs.declared.entry.Entry.{Entry}
+use Rattle.batch_core.specs.Book.{is_struck}
+use Rattle.batch_core.specs.Histories.{IsLegal, own_calls}
+use Rattle.call_register.specs.declared.mark.Mark.{Mark}
+use Rattle.call_register.specs.declared.mark.Mark.TheVariants.{Shard, Freeze, Strike}
+use Rattle.call_register.specs.Marks.{marks_of, strikes, struck_by}
+use Rattle.call_register.specs.Weaving.{Lists, freeze_entry, strike_entry, weave_from, weave, Enough, Fit, marks_in, part, parts}
+use Rattle.call_register.specs.Woven.{AreOfShards, IsWoven}
+use Rattle.call_register.specs.Walk.{calls_seen, left, NoneBy, NoMarkBy, followed, with_one}
+
+-- whatever the order of the marks, shards that are legal by themselves are legal together
+abbrev pub EveryOrderIsLegal : Type 0
+EveryOrderIsLegal =
+    (shards : ℕ) (marks : List Mark) (lists : Lists) → AreOfShards shards lists → IsLegal (weave marks lists)
+
+-- where each mark has its entry and each entry its mark, the law of weaving holds
+abbrev pub EveryFittingOrderIsWoven : Type 0
+EveryFittingOrderIsWoven =
+    (shards : ℕ) (marks : List Mark) (lists : Lists) → AreOfShards shards lists → Fit marks lists
+    → IsWoven shards marks lists (weave marks lists)
+
+-- every legal history is woven of its own marks and parts
+abbrev pub EveryHistoryIsWoven : Type 0
+EveryHistoryIsWoven =
+    (shards : ℕ) (history : List Entry) → IsLegal history → weave (marks_in shards history) (parts shards history) ≡ history
+
+-- a shard's part is as much of its list as the shard has marks
+abbrev pub PartsAreFronts : Type 0
+PartsAreFronts =
+    (shards s : ℕ) (marks : List Mark) (lists : Lists) → AreOfShards shards lists
+    → part shards s (weave marks lists) ≡ take (marks_of s marks) (lists s)
+
+-- who is struck is struck by one of the marks
+abbrev pub StruckByAMark : Type 0
+StruckByAMark =
+    (marks : List Mark) (candidate : ℕ) → is_struck (struck_by marks) candidate ≡ list_any (strikes candidate) marks
+
+-- marks go on where the ones before them stopped
+abbrev pub MarksGoOn : Type 0
+MarksGoOn =
+    (marks after : List Mark) (lists : Lists)
+    → weave (marks ++ after) lists ≡ weave marks lists ++ weave_from (struck_by marks) after (left marks lists)
+
+-- entries that no mark reaches change nothing
+abbrev pub EntriesAheadChangeNothing : Type 0
+EntriesAheadChangeNothing =
+    (marks : List Mark) (lists more : Lists) → Enough marks lists → weave marks (followed lists more) ≡ weave marks lists
+
+-- a longer sight begins with the history of the shorter one
+abbrev pub LongerSightsBeginAlike : Type 0
+LongerSightsBeginAlike =
+    (n : ℕ) (marks after : List Mark) (lists more : Lists) → n ≤ length marks → Enough (take n marks) lists
+    → take n (weave (marks ++ after) (followed lists more)) ≡ weave (take n marks) lists
+
+-- what the marks leave of a list lies behind as many entries as its shard has marks
+abbrev pub LeftBehindTheMarks : Type 0
+LeftBehindTheMarks = (s : ℕ) (marks : List Mark) (lists : Lists) → left marks lists s ≡ drop (marks_of s marks) (lists s)
+
+-- a call at a shard whose entries all have their marks is the last one woven
+abbrev pub ChangeIsTheLast : Type 0
+ChangeIsTheLast =
+    (s : ℕ) (marks : List Mark) (lists : Lists) (e : Entry) → length (lists s) ≡ marks_of s marks
+    → weave (marks ++ Shard s ∷ []) (with_one lists s e) ≡ weave marks lists ++ e ∷ []
+
+abbrev pub FreezeIsTheLast : Type 0
+FreezeIsTheLast =
+    (caller : ℕ) (marks : List Mark) (lists : Lists)
+    → weave (marks ++ Freeze caller ∷ []) lists ≡ weave marks lists ++ freeze_entry caller ∷ []
+
+abbrev pub StrikeIsTheLast : Type 0
+StrikeIsTheLast =
+    (caller candidate : ℕ) (marks : List Mark) (lists : Lists)
+    → weave (marks ++ Strike caller candidate ∷ []) lists ≡ weave marks lists ++ strike_entry (struck_by marks) caller candidate ∷ []
+
+-- a caller's last call is the last of its own
+abbrev pub OwnCallIsTheLast : Type 0
+OwnCallIsTheLast =
+    (p : ℕ) (history : List Entry) (e : Entry) → e.caller ≡ p
+    → own_calls p (history ++ e ∷ []) ≡ own_calls p history ++ e ∷ []
+
+-- a caller whose entries all have their marks keeps its calls while marks and entries of others follow
+abbrev pub OthersLeaveOwnCalls : Type 0
+OthersLeaveOwnCalls =
+    (p : ℕ) (marks after : List Mark) (lists more : Lists) → NoMarkBy p after
+    → ((s : ℕ) → NoneBy p (left marks lists s)) → ((s : ℕ) → NoneBy p (more s))
+    → calls_seen p (marks ++ after) (followed lists more) ≡ calls_seen p marks lists
+
+-- what follows the entries that a caller has seen is of others, where it has seen all of its own
+abbrev pub OthersFollow : Type 0
+OthersFollow =
+    (p : ℕ) (seen more mine : List Entry) → own_calls p seen ≡ mine → own_calls p (seen ++ more) ≡ mine → NoneBy p more
