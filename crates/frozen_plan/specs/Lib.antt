@@ -1,0 +1,4 @@
+pub mod Forest
+pub mod Plan
+pub mod Shape
+pub mod Rows
