@@ -1,0 +1,4 @@
+pub mod Stem
+pub mod Gain
+pub mod Walk
+pub mod Packed
