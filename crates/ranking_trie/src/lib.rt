@@ -1,0 +1,16 @@
+//! A bag of ballots as a trie of their rankings: a [`Trie`] has a node for each beginning of a
+//! ranking, and says at each node how many ballots end there. Ballots are put in and taken out
+//! without a refusal, rank by rank, with room that was taken before.
+#![tactic(auto)]
+
+mod add;
+mod forest;
+mod no_memory;
+mod pair;
+mod siblings;
+mod trie;
+
+pub use forest::Forest;
+pub use no_memory::NoMemory;
+pub use pair::Pair;
+pub use trie::Trie;

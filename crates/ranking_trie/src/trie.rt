@@ -1,0 +1,135 @@
+// A bag of ballots.
+ghost use Rattle.std.specs.Prelude.{◌≡◌, ℕ, ◌+◌, ◌≤◌, [], ◌++◌, length, replicate, OnOk, IsPermutation, vec_len};
+ghost use Rattle.plain_ballots.specs.Ranking.{IsRanking};
+ghost use Rattle.ranking_trie.specs.Bag.{bag, IsRising};
+ghost use Rattle.ranking_trie.specs.BallotBag.{count_of};
+
+use crate::add::put;
+use crate::{Forest, NoMemory, Pair};
+use plain_ballots::{BallotLine, Steps};
+use std::alloc::Global;
+use std::marker::Model;
+use std::mem;
+use std::sync::ledger::Ledger;
+
+/// A bag of ballots: the nodes of their rankings, and nodes to spare.
+#[derive(Drop)]
+pub struct Trie {
+    alloc: Global,
+    candidates: u32,
+    total: u64,
+    ends: u32,
+    forest: Forest,
+    spare: Vec<Box<Pair>>,
+}
+
+impl Model for Trie {
+    ghost use Rattle.std.specs.Prelude.{vec_len, replicate, [], ◌++◌};
+    ghost use Rattle.ranking_trie.specs.BallotBag.{BallotBag, IsSoundBag};
+    ghost use Rattle.ranking_trie.specs.Bag.{bag, IsRising};
+
+    ghost Value = { BallotBag };
+
+    ghost view = { λ t. record { candidates = t.candidates; ballots = replicate t.ends [] ++ bag t.forest; spare = vec_len t.spare } };
+
+    ghost invariant = { λ t. IsSoundBag t.candidates t.total (replicate t.ends [] ++ bag t.forest) × IsRising 0 t.forest };
+}
+
+impl Trie {
+    pub fn new(alloc: Global, candidates: u32) -> Trie
+        requires { (1 ≤ candidates) × (candidates ≤ 250) }
+        ensures { result ≡ record { candidates = candidates; ballots = []; spare = 0 } }
+    {
+        Trie {
+            alloc,
+            candidates,
+            total: 0,
+            ends: 0,
+            forest: Forest::Empty,
+            spare: Vec::new(alloc),
+        }
+    }
+
+    /// Makes room for as many nodes.
+    pub fn reserve(&mut self, ranks: usize) -> Result<(), NoMemory>
+        ensures same { (self.new.candidates ≡ self.old.candidates) × (self.new.ballots ≡ self.old.ballots) }
+        ensures more { self.old.spare ≤ self.new.spare }
+        ensures room { OnOk result (ranks ≤ self.new.spare) }
+    {
+        fill_spare(self.alloc, &mut self.spare, ranks)
+    }
+
+    pub fn total(&self) -> u64
+        ensures { result ≡ length self.now.ballots }
+    {
+        self.total
+    }
+
+    /// Puts the ballots of a line in.
+    fn add_line<L: Ledger>(&mut self, line: &BallotLine, steps: &mut Steps<L>)
+        requires ranking { IsRanking self.old.candidates line.now.ranking }
+        requires some { 1 ≤ line.now.count }
+        requires room { length line.now.ranking ≤ self.old.spare }
+        requires few { length self.old.ballots + line.now.count ≤ 999999999 }
+        ensures candidates { self.new.candidates ≡ self.old.candidates }
+        ensures bag { IsPermutation self.new.ballots (replicate line.now.count line.now.ranking ++ self.old.ballots) }
+        ensures room { self.old.spare ≤ self.new.spare + length line.now.ranking }
+        ensures cost { steps.new ≡ steps.old + length line.now.ranking + 1 }
+    {
+        let forest = mem::replace(&mut self.forest, Forest::Empty);
+        let (ends, forest) = put(
+            self.ends,
+            forest,
+            line.ranking.ranks(),
+            line.count,
+            &mut self.spare,
+            steps,
+        );
+        self.ends = ends;
+        self.forest = forest;
+        self.total += line.count as u64;
+    }
+
+    /// The number of candidates.
+    pub fn candidates(&self) -> u32
+        ensures { result ≡ self.now.candidates }
+    {
+        self.candidates
+    }
+
+    /// How many ballots name nobody.
+    pub fn ends(&self) -> u32
+        ensures { result ≡ count_of [] self.now.ballots }
+    {
+        self.ends
+    }
+
+    /// The nodes of all ballots that name somebody.
+    pub fn forest(&self) -> &Forest
+        ensures ballots { self.now.ballots ≡ replicate (count_of [] self.now.ballots) [] ++ bag result.now }
+        ensures rising { IsRising 0 result.now }
+    {
+        &self.forest
+    }
+}
+
+/// Makes the spare nodes as many.
+fn fill_spare(alloc: Global, spare: &mut Vec<Box<Pair>>, ranks: usize) -> Result<(), NoMemory>
+    ensures more { vec_len spare.old ≤ vec_len spare.new }
+    ensures room { OnOk result (ranks ≤ vec_len spare.new) }
+{
+    while spare.len() < ranks {
+        let pair = Pair {
+            inner: Forest::Empty,
+            next: Forest::Empty,
+        };
+        match Box::new(alloc, pair) {
+            Ok(node) => match spare.push(node) {
+                Ok(()) => {}
+                Err(_) => return Err(NoMemory),
+            },
+            Err(_) => return Err(NoMemory),
+        }
+    }
+    Ok(())
+}
