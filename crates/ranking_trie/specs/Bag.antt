@@ -17,6 +17,11 @@ abbrev pub bag_back : Forest → List (List ℕ)
 bag_back Empty = []
 bag_back (Grow' c n p inner next) = bag_back next ++ below c n (bag inner)
 
+-- how many nodes there are
+abbrev pub node_count : Forest → ℕ
+node_count Empty = 0
+node_count (Grow' c n p inner next) = 1 + node_count inner + node_count next
+
 -- candidates of siblings rise from above `low`, and each node has a ballot
 abbrev pub IsRising : (low : ℕ) → Forest → Type 0
 IsRising low Empty = Unit {0}

@@ -1,6 +1,6 @@
 // Ballots put into a trie.
 ghost use Rattle.std.specs.Prelude.{◌≡◌, ℕ, ◌+◌, ◌-◌, ◌^◌, ◌<◌, ◌≤◌, [], ◌++◌, length, drop, replicate, vec_len, All, IsPermutation};
-ghost use Rattle.ranking_trie.specs.Bag.{bag, IsRising};
+ghost use Rattle.ranking_trie.specs.Bag.{bag, node_count, IsRising};
 
 use crate::siblings::{find_or_make, pass_smaller, plant, put_back};
 use crate::{Forest, Pair};
@@ -24,6 +24,7 @@ pub(crate) fn put<L: Ledger>(
     ensures bag { IsPermutation (replicate result.0 [] ++ bag result.1) (replicate count ranks.now ++ (replicate ends [] ++ bag forest)) }
     ensures rising { IsRising 0 result.1 }
     ensures room { vec_len spare.old ≤ vec_len spare.new + length ranks.now }
+    ensures nodes { node_count result.1 + vec_len spare.new ≡ node_count forest + vec_len spare.old }
     ensures cost { steps.new ≡ steps.old + length ranks.now + 1 }
 {
     steps.tick();
@@ -51,6 +52,7 @@ fn add<L: Ledger>(
     ensures bag { IsPermutation (bag result) (replicate count (drop at ranks.now) ++ bag forest) }
     ensures rising { IsRising 0 result }
     ensures room { vec_len spare.old + at ≤ vec_len spare.new + length ranks.now }
+    ensures nodes { node_count result + vec_len spare.new ≡ node_count forest + vec_len spare.old }
     ensures cost { steps.new ≡ steps.old + (length ranks.now - at) }
 {
     steps.tick();

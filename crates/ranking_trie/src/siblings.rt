@@ -1,6 +1,6 @@
 // A candidate's place among siblings.
 ghost use Rattle.std.specs.Prelude.{◌≡◌, ℕ, ◌+◌, ◌-◌, ◌<◌, ◌≤◌, ◌++◌, length, vec_len};
-ghost use Rattle.ranking_trie.specs.Bag.{bag, bag_back, below, IsRising, IsFalling, AreParted};
+ghost use Rattle.ranking_trie.specs.Bag.{bag, bag_back, below, node_count, IsRising, IsFalling, AreParted};
 
 use crate::{Forest, Pair};
 use std::mem;
@@ -10,6 +10,7 @@ pub(crate) fn pass_smaller(forest: Forest, c: u32) -> (Forest, Forest)
     requires number { 1 ≤ c }
     requires rising { IsRising 0 forest }
     ensures bag { bag_back result.0 ++ bag result.1 ≡ bag forest }
+    ensures nodes { node_count result.0 + node_count result.1 ≡ node_count forest }
     ensures falling { IsFalling c result.0 }
     ensures rising { IsRising (c - 1) result.1 }
 {
@@ -33,6 +34,7 @@ pub(crate) fn pass_smaller(forest: Forest, c: u32) -> (Forest, Forest)
 pub(crate) fn put_back(passed: Forest, rest: Forest) -> Forest
     requires { AreParted passed rest }
     ensures bag { bag result ≡ bag_back passed ++ bag rest }
+    ensures nodes { node_count result ≡ node_count passed + node_count rest }
     ensures rising { IsRising 0 result }
 {
     let mut passed = passed;
@@ -62,6 +64,7 @@ pub(crate) fn find_or_make(
     ensures inner { IsRising 0 result.1 }
     ensures next { IsRising c result.2.value.next }
     ensures room { vec_len spare.old ≤ vec_len spare.new + 1 }
+    ensures nodes { 1 + node_count result.1 + node_count result.2.value.next + vec_len spare.new ≡ node_count rest + vec_len spare.old }
 {
     match rest {
         Forest::Grow(d, ends, mut pair) if d == c => {
@@ -83,6 +86,7 @@ pub(crate) fn plant(c: u32, ends: u32, inner: Forest, pair: Box<Pair>) -> Forest
     requires inner { IsRising 0 inner }
     requires next { IsRising c pair.value.next }
     ensures bag { bag result ≡ below c ends (bag inner) ++ bag pair.value.next }
+    ensures nodes { node_count result ≡ 1 + node_count inner + node_count pair.value.next }
     ensures rising { IsRising (c - 1) result }
 {
     let mut pair = pair;

@@ -22,6 +22,7 @@ loop-passed-preserved c =
     let same : (d - 1) + 1 ≡ d = omega arith in
     record {
       bag = grind (arith, common_steps);
+      nodes = grind (arith, common_steps);
       parted = record {
         between = d - 1;
         falling = subst (λ (m : ℕ). IsFalling m c.replace-passed.result) (sym same) (subst (λ (x : Forest). IsFalling d x) (sym back) f.4);
