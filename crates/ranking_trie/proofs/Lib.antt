@@ -1,2 +1,5 @@
 pub mod BagLemmas
 pub mod CountLemmas
+pub mod DepthLemmas
+pub mod LineLemmas
+pub mod NodeLemmas

@@ -37,3 +37,8 @@ pub record AreParted (passed rest : Forest) : Type 0 where
   pub between : ℕ
   pub falling : IsFalling (between + 1) passed
   pub rising : IsRising between rest
+
+-- candidates from 1 to n, and nodes from `depth` on that are no deeper than `deepest`
+abbrev pub IsWithin : (n deepest depth : ℕ) → Forest → Type 0
+IsWithin n deepest depth Empty = Unit {0}
+IsWithin n deepest depth (Grow' c k p inner next) = (1 ≤ c) × (c ≤ n) × (depth ≤ deepest) × IsWithin n deepest (depth + 1) inner × IsWithin n deepest depth next

@@ -1,12 +1,14 @@
 // A bag of ballots.
 ghost use Rattle.std.specs.Prelude.{◌≡◌, ℕ, ◌+◌, ◌≤◌, [], ◌++◌, length, replicate, OnOk, IsPermutation, vec_len};
 ghost use Rattle.plain_ballots.specs.Ranking.{IsRanking};
-ghost use Rattle.ranking_trie.specs.Bag.{bag, IsRising};
+ghost use Rattle.plain_ballots.specs.Ballots.{ballot_count, plain};
+ghost use Rattle.ranking_trie.specs.Bag.{bag, node_count, IsRising, IsWithin};
+ghost use Rattle.ranking_trie.specs.Lines.{rank_count, visit_count};
 ghost use Rattle.ranking_trie.specs.BallotBag.{count_of};
 
 use crate::add::put;
 use crate::{Forest, NoMemory, Pair};
-use plain_ballots::{BallotLine, Steps};
+use plain_ballots::{BallotLine, Ballots, Steps};
 use std::alloc::Global;
 use std::marker::Model;
 use std::mem;
@@ -20,19 +22,20 @@ pub struct Trie {
     total: u64,
     ends: u32,
     forest: Forest,
+    nodes: usize,
     spare: Vec<Box<Pair>>,
 }
 
 impl Model for Trie {
-    ghost use Rattle.std.specs.Prelude.{vec_len, replicate, [], ◌++◌};
+    ghost use Rattle.std.specs.Prelude.{◌≡◌, vec_len, replicate, [], ◌++◌};
     ghost use Rattle.ranking_trie.specs.BallotBag.{BallotBag, IsSoundBag};
-    ghost use Rattle.ranking_trie.specs.Bag.{bag, IsRising};
+    ghost use Rattle.ranking_trie.specs.Bag.{bag, node_count, IsRising};
 
     ghost Value = { BallotBag };
 
     ghost view = { λ t. record { candidates = t.candidates; ballots = replicate t.ends [] ++ bag t.forest; spare = vec_len t.spare } };
 
-    ghost invariant = { λ t. IsSoundBag t.candidates t.total (replicate t.ends [] ++ bag t.forest) × IsRising 0 t.forest };
+    ghost invariant = { λ t. IsSoundBag t.candidates t.total (replicate t.ends [] ++ bag t.forest) × IsRising 0 t.forest × (t.nodes ≡ node_count t.forest) };
 }
 
 impl Trie {
@@ -46,6 +49,7 @@ impl Trie {
             total: 0,
             ends: 0,
             forest: Forest::Empty,
+            nodes: 0,
             spare: Vec::new(alloc),
         }
     }
@@ -65,6 +69,21 @@ impl Trie {
         self.total
     }
 
+    /// Puts ballots in.
+    pub fn add<L: Ledger>(&mut self, ballots: &Ballots, steps: &mut Steps<L>)
+        requires candidates { ballots.now.candidates ≡ self.old.candidates }
+        requires room { rank_count ballots.now.lines ≤ self.old.spare }
+        requires few { length self.old.ballots + ballot_count ballots.now.lines ≤ 999999999 }
+        ensures candidates { self.new.candidates ≡ self.old.candidates }
+        ensures bag { IsPermutation self.new.ballots (plain ballots.now.lines ++ self.old.ballots) }
+        ensures room { self.old.spare ≤ self.new.spare + rank_count ballots.now.lines }
+        ensures cost { steps.new ≡ steps.old + visit_count ballots.now.lines }
+    {
+        for line in ballots.lines() {
+            self.add_line(line, steps);
+        }
+    }
+
     /// Puts the ballots of a line in.
     fn add_line<L: Ledger>(&mut self, line: &BallotLine, steps: &mut Steps<L>)
         requires ranking { IsRanking self.old.candidates line.now.ranking }
@@ -76,6 +95,7 @@ impl Trie {
         ensures room { self.old.spare ≤ self.new.spare + length line.now.ranking }
         ensures cost { steps.new ≡ steps.old + length line.now.ranking + 1 }
     {
+        let nodes = self.nodes + self.spare.len();
         let forest = mem::replace(&mut self.forest, Forest::Empty);
         let (ends, forest) = put(
             self.ends,
@@ -87,6 +107,7 @@ impl Trie {
         );
         self.ends = ends;
         self.forest = forest;
+        self.nodes = nodes - self.spare.len();
         self.total += line.count as u64;
     }
 
@@ -108,8 +129,13 @@ impl Trie {
     pub fn forest(&self) -> &Forest
         ensures ballots { self.now.ballots ≡ replicate (count_of [] self.now.ballots) [] ++ bag result.now }
         ensures rising { IsRising 0 result.now }
+        ensures within { IsWithin self.now.candidates 250 1 result.now }
     {
         &self.forest
+    }
+
+    pub fn allocator(&self) -> &Global {
+        &self.alloc
     }
 }
 

@@ -1,5 +1,7 @@
-use Rattle.std.proofs.Common.{◌≡◌, ℕ, List, [], ◌++◌, replicate, sym, ap, ◌∙◌}
-use Rattle.ranking_trie.specs.Bag.{bag}
+use Rattle.std.proofs.Common.{◌≡◌, ℕ, List, [], ◌++◌, replicate, sym, ap, subst, ◌∙◌}
+use Rattle.plain_ballots.specs.Ranking.{IsRanking}
+use Rattle.ranking_trie.specs.Bag.{bag, IsWithin}
+use Rattle.ranking_trie.proofs.DepthLemmas.{All-right, within}
 use Rattle.ranking_trie.specs.BallotBag.{BallotBag, count_of}
 use Rattle.ranking_trie.proofs.CountLemmas.{count_of_blank}
 use Rattle.ranking_trie.proofs.trie.Trie.forest.Goals as goal
@@ -10,3 +12,10 @@ returns-clause-ballots c =
     let blank : count_of [] c.args.self.now.ballots ≡ c.self.inside.ends =
     sym (ap (λ (t : BallotBag). count_of [] t.ballots) c.self.view_is) ∙ count_of_blank c.self.inside.ends f in
     sym (ap (λ (t : BallotBag). t.ballots) c.self.view_is) ∙ ap (λ n. replicate {A = List ℕ} n [] ++ bag f) (sym blank)
+
+pub returns-clause-within : goal.returns-clause-within
+returns-clause-within c =
+    let sound = c.self.invariant.0 in
+    subst (λ (n : ℕ). IsWithin n 250 1 c.self.inside.forest) (ap (λ (t : BallotBag). t.candidates) c.self.view_is)
+    (within c.self.inside.candidates [] 0 c.self.inside.forest sound.few_candidates c.self.invariant.1
+    (All-right (λ r. IsRanking c.self.inside.candidates r) (replicate c.self.inside.ends []) (bag c.self.inside.forest) sound.rankings))
