@@ -1,5 +1,5 @@
 -- A bag when ballots are put into it.
-use Rattle.std.proofs.Common.{◌≡◌, ℕ, ◌+◌, ◌<◌, ◌≤◌, List, [], ◌∷◌, ◌++◌, length, replicate, zero, suc, map, append_assoc, arith, refl, ap, sym, subst, ◌∙◌}
+use Rattle.std.proofs.Common.{◌≡◌, ℕ, ◌+◌, ◌-◌, ◌<◌, ◌≤◌, List, [], ◌∷◌, ◌++◌, length, replicate, zero, suc, map, append_assoc, arith, refl, ap, sym, subst, ◌∙◌}
 use Rattle.std.specs.List.Sorted.{IsPermutation}
 use Rattle.std.specs.List.{All}
 use Rattle.plain_ballots.specs.Ranking.{IsRanking}
@@ -109,3 +109,23 @@ rising_less a b Empty le rising = tt
 rising_less a b (Grow' c n p inner next) le rising =
     let less : b < c = rising.0 in
     (omega arith, rising.1, rising.2, rising.3)
+
+-- the siblings when ballots were taken out of one of them
+pub taken : (before here there after rest whole result more : List (List ℕ)) → before ++ rest ≡ whole → here ++ after ≡ rest → result ≡ before ++ (there ++ after) → IsPermutation here (more ++ there) → IsPermutation whole (more ++ result)
+taken before here there after rest whole result more all parts is same =
+    placed before there here after (there ++ after) result whole more (sym all ∙ ap (λ l. before ++ l) (sym parts)) (sym is) refl same
+
+-- fewer ballots that end at a node
+pub below_fewer_ends : (c n count : ℕ) (inner : List (List ℕ)) → count ≤ n → IsPermutation (below c n inner) (replicate count (c ∷ []) ++ below c (n - count) inner)
+below_fewer_ends c n count inner some =
+    let back : (n - count) + count ≡ n = omega arith in
+    subst (λ (m : ℕ). IsPermutation (below c m inner) (replicate count (c ∷ []) ++ below c (n - count) inner)) back
+    (subst (λ (l : List (List ℕ)). IsPermutation (below c ((n - count) + count) inner) l) (below_more_ends c (n - count) count inner)
+    (IsPermutation-refl (below c ((n - count) + count) inner)))
+
+-- empty ballots taken out
+pub take_empty : (ends count : ℕ) (others : List (List ℕ)) → count ≤ ends → IsPermutation (replicate ends [] ++ others) (replicate count [] ++ (replicate (ends - count) [] ++ others))
+take_empty ends count others some =
+    let back : (ends - count) + count ≡ ends = omega arith in
+    subst (λ (m : ℕ). IsPermutation (replicate {A = List ℕ} m [] ++ others) (replicate count [] ++ (replicate (ends - count) [] ++ others))) back
+    (put_empty (ends - count) count others)

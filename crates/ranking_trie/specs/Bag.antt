@@ -1,5 +1,5 @@
 -- The single ballots of a forest.
-use Rattle.std.specs.Prelude.{ℕ, ◌+◌, ◌<◌, ◌≤◌, length, List, [], ◌∷◌, ◌++◌, map, replicate}
+use Rattle.std.specs.Prelude.{◌≡◌, ℕ, ◌+◌, ◌<◌, ◌≤◌, length, List, [], ◌∷◌, ◌++◌, map, replicate}
 use Rattle.ranking_trie.specs.declared.forest.Forest.{Forest}
 use Rattle.ranking_trie.specs.declared.forest.Forest.TheVariants.{Empty, Grow'}
 
@@ -31,6 +31,11 @@ IsRising low (Grow' c n p inner next) = (low < c) × (1 ≤ n + length (bag inne
 abbrev pub IsFalling : (high : ℕ) → Forest → Type 0
 IsFalling high Empty = Unit {0}
 IsFalling high (Grow' c n p inner next) = (0 < c) × (c < high) × (1 ≤ n + length (bag inner)) × IsRising 0 inner × IsFalling c next
+
+-- the first of the siblings is this candidate's node
+abbrev pub IsFirst : (candidate : ℕ) → Forest → Type 0
+IsFirst c Empty = ⊥
+IsFirst c (Grow' d n p inner next) = d ≡ c
 
 -- passed siblings before the others
 pub record AreParted (passed rest : Forest) : Type 0 where

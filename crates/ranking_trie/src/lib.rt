@@ -7,6 +7,7 @@ mod add;
 mod forest;
 mod no_memory;
 mod pair;
+mod remove;
 mod siblings;
 mod trie;
 

@@ -1,6 +1,6 @@
 // A candidate's place among siblings.
 ghost use Rattle.std.specs.Prelude.{◌≡◌, ℕ, ◌+◌, ◌-◌, ◌<◌, ◌≤◌, ◌++◌, length, vec_len};
-ghost use Rattle.ranking_trie.specs.Bag.{bag, bag_back, below, node_count, IsRising, IsFalling, AreParted};
+ghost use Rattle.ranking_trie.specs.Bag.{bag, bag_back, below, node_count, IsRising, IsFalling, IsFirst, AreParted};
 
 use crate::{Forest, Pair};
 use std::mem;
@@ -92,4 +92,48 @@ pub(crate) fn plant(c: u32, ends: u32, inner: Forest, pair: Box<Pair>) -> Forest
     let mut pair = pair;
     pair.inner = inner;
     Forest::Grow(c, ends, pair)
+}
+
+/// The node of a candidate that stands first: its ends, what stands below it, and what it is made
+/// of.
+pub(crate) fn open_first(rest: Forest, c: u32) -> (u32, Forest, Box<Pair>)
+    requires first { IsFirst c rest }
+    requires rising { IsRising (c - 1) rest }
+    ensures bag { below c result.0 (bag result.1) ++ bag result.2.value.next ≡ bag rest }
+    ensures inner { IsRising 0 result.1 }
+    ensures next { IsRising c result.2.value.next }
+    ensures nodes { 1 + node_count result.1 + node_count result.2.value.next ≡ node_count rest }
+{
+    match rest {
+        Forest::Grow(_, ends, mut pair) => {
+            let inner = mem::replace(&mut pair.inner, Forest::Empty);
+            (ends, inner, pair)
+        }
+        Forest::Empty => unreachable!(),
+    }
+}
+
+/// A node before the others, or the others alone where the node has no ballot.
+pub(crate) fn plant_if_needed(
+    c: u32,
+    ends: u32,
+    inner: Forest,
+    pair: Box<Pair>,
+    nodes: &mut usize,
+) -> Forest
+    requires number { 1 ≤ c }
+    requires inner { IsRising 0 inner }
+    requires next { IsRising c pair.value.next }
+    requires counted { 1 ≤ nodes.old }
+    ensures bag { bag result ≡ below c ends (bag inner) ++ bag pair.value.next }
+    ensures rising { IsRising (c - 1) result }
+    ensures counted { nodes.new + (1 + node_count inner + node_count pair.value.next) ≡ nodes.old + node_count result }
+{
+    match inner {
+        Forest::Empty if ends == 0 => {
+            *nodes -= 1;
+            Box::into_inner(pair).next
+        }
+        inner => plant(c, ends, inner, pair),
+    }
 }
