@@ -7,6 +7,7 @@ use Rattle.ranking_trie.specs.BallotBag.{IsSoundBag}
 use Rattle.std.proofs.lemmas.List.Elements.{All-append}
 use Rattle.std.proofs.lemmas.List.{map-append, replicate-append-replicate, length-append, length-replicate, get_or-replicate}
 use Rattle.std.proofs.lemmas.List.Sorted.{IsPermutation-refl, IsPermutation-trans, IsPermutation-map, IsPermutation-append_left, IsPermutation-append_right, IsPermutation-append_comm, IsPermutation-sym, All-permutation, length_permutation}
+use Rattle.ranking_trie.proofs.ListLemmas.{All-right}
 use Rattle.ranking_trie.specs.declared.forest.Forest.{Forest}
 use Rattle.ranking_trie.specs.declared.forest.Forest.TheVariants.{Empty, Grow'}
 use Rattle.ranking_trie.specs.Bag.{below, IsRising, IsFalling}
@@ -129,3 +130,21 @@ take_empty ends count others some =
     let back : (ends - count) + count ≡ ends = omega arith in
     subst (λ (m : ℕ). IsPermutation (replicate {A = List ℕ} m [] ++ others) (replicate count [] ++ (replicate (ends - count) [] ++ others))) back
     (put_empty (ends - count) count others)
+
+-- a trie with fewer ballots
+pub trie_fewer : (n total count : ℕ) (r : List ℕ) (old new : List (List ℕ)) → IsSoundBag n total old → IsPermutation old (replicate count r ++ new) → IsSoundBag n (total - count) new
+trie_fewer n total count r old new trie same =
+    let a = length_permutation old (replicate count r ++ new) same in
+    let b = length-append (replicate count r) new in
+    let d = length-replicate count r in
+    let counted = trie.counted in
+    let few = trie.few in
+    record {
+      some = trie.some;
+      few_candidates = trie.few_candidates;
+      counted = omega arith;
+      few = omega arith;
+      rankings =
+          All-right (λ (x : List ℕ). IsRanking n x) (replicate count r) new
+          (All-permutation (λ (x : List ℕ). IsRanking n x) old (replicate count r ++ new) same trie.rankings);
+    }

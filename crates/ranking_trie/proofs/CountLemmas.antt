@@ -1,5 +1,5 @@
 -- How many ballots have a ranking.
-use Rattle.std.proofs.Common.{◌≡◌, ◌≢◌, ℕ, ◌+◌, ◌-◌, ◌<◌, ◌≤◌, List, [], ◌∷◌, ◌++◌, map, replicate, nat_eq, cond, Bool, true, false, ◌&&◌, inl, inr, arith, refl, ap, sym, subst, ◌∙◌, length, get_or, drop}
+use Rattle.std.proofs.Common.{◌≡◌, ◌≢◌, ℕ, ◌+◌, ◌-◌, ◌*◌, ◌<◌, ◌≤◌, List, [], ◌∷◌, ◌++◌, map, replicate, nat_eq, cond, Bool, true, false, ◌&&◌, inl, inr, arith, refl, ap, sym, subst, ◌∙◌, length, get_or, drop}
 use Rattle.std.specs.Cmp.Lexicographic.{pointwise}
 use Rattle.std.proofs.lemmas.Bool.{cases_eq, eq-eqb, ne_eqb}
 use Rattle.std.proofs.lemmas.List.{drop_more, drop_all}
@@ -11,7 +11,7 @@ use Rattle.ranking_trie.specs.Bag.{below, bag, bag_back, IsRising, IsFalling, Is
 use Rattle.ranking_trie.specs.BallotBag.{count_of}
 
 -- 1 for a ballot with the ranking s
-abbrev one_for : List ℕ → List ℕ → ℕ
+abbrev pub one_for : List ℕ → List ℕ → ℕ
 one_for s r = cond (pointwise nat_eq r s) 1 0
 
 pub count_of-append : (s : List ℕ) (xs ys : List (List ℕ)) → count_of s (xs ++ ys) ≡ count_of s xs + count_of s ys
@@ -82,10 +82,25 @@ pub count_of-passed : (c : ℕ) (s : List ℕ) (passed rest whole : Forest) → 
 count_of-passed c s passed rest whole falling parts =
     omega (arith, count_of-append (c ∷ s) (bag_back passed) (bag rest), count_of-falling c c s passed (omega arith) falling, ap (count_of (c ∷ s)) parts)
 
--- and at the first sibling, whose node it is
+-- where a candidate's ballots are among siblings: at its node,
+pub node_has : (c d n : ℕ) (s : List ℕ) (inner next : Forest) → c ≡ d → IsRising d next → count_of s (replicate n [] ++ bag inner) ≡ count_of (c ∷ s) (below d n (bag inner) ++ bag next)
+node_has c d n s inner next same rising =
+    subst (λ (e : ℕ). count_of s (replicate n [] ++ bag inner) ≡ count_of (e ∷ s) (below d n (bag inner) ++ bag next)) (sym same)
+    (omega (arith, count_of-append (d ∷ s) (below d n (bag inner)) (bag next), count_of-same d s (replicate n [] ++ bag inner), count_of-rising d d s next (omega arith) rising))
+
+-- behind another's,
+pub behind_has : (c d n : ℕ) (s : List ℕ) (inner next : Forest) → d < c → count_of (c ∷ s) (bag next) ≡ count_of (c ∷ s) (below d n (bag inner) ++ bag next)
+behind_has c d n s inner next less =
+    omega (arith, count_of-append (c ∷ s) (below d n (bag inner)) (bag next), count_of-other c d s (replicate n [] ++ bag inner) (omega arith))
+
+-- and nowhere where the first is above it
+pub none_has : (c d n : ℕ) (s : List ℕ) (inner next : Forest) → c < d → IsRising d next → count_of (c ∷ s) (below d n (bag inner) ++ bag next) ≡ 0
+none_has c d n s inner next less rising =
+    omega (arith, count_of-append (c ∷ s) (below d n (bag inner)) (bag next), count_of-other c d s (replicate n [] ++ bag inner) (omega arith), count_of-rising c d s next (omega arith) rising)
+
+-- the first sibling's node
 pub count_of-first : (c n : ℕ) (s : List ℕ) (inner next rest : Forest) → IsRising c next → below c n (bag inner) ++ bag next ≡ bag rest → count_of s (replicate n [] ++ bag inner) ≡ count_of (c ∷ s) (bag rest)
-count_of-first c n s inner next rest rising parts =
-    omega (arith, count_of-append (c ∷ s) (below c n (bag inner)) (bag next), count_of-same c s (replicate n [] ++ bag inner), count_of-rising c c s next (omega arith) rising, ap (count_of (c ∷ s)) parts)
+count_of-first c n s inner next rest rising parts = node_has c c n s inner next refl rising ∙ ap (count_of (c ∷ s)) parts
 
 -- a ranking that goes on has its ballots below
 pub count_of-deeper : (d n : ℕ) (s : List ℕ) (f : Forest) → count_of (d ∷ s) (replicate n [] ++ bag f) ≡ count_of (d ∷ s) (bag f)
@@ -108,3 +123,13 @@ count_of-inside ranks at n f inside =
 -- and end at it where there are none
 pub count_of-end : (ranks : List ℕ) (at n : ℕ) (f : Forest) → length ranks ≤ at → count_of (drop at ranks) (replicate n [] ++ bag f) ≡ n
 count_of-end ranks at n f past = ap (λ (r : List ℕ). count_of r (replicate n [] ++ bag f)) (drop_all at ranks past) ∙ count_of_blank n f
+
+-- each of equal ballots has their ranking
+pub one_for-own : (r : List ℕ) → one_for r r ≡ 1
+one_for-own [] = refl
+one_for-own (c ∷ r) =
+    let same : nat_eq c c ≡ true = eq-eqb c c refl in
+    ap (λ (b : Bool). cond (b && pointwise nat_eq r r) 1 0) same ∙ one_for-own r
+
+pub count_of-own : (n : ℕ) (r : List ℕ) → count_of r (replicate n r) ≡ n
+count_of-own n r = sum_by-replicate (one_for r) n r ∙ (ap (λ (m : ℕ). n * m) (one_for-own r) ∙ omega arith)

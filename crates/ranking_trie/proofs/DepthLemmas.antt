@@ -1,12 +1,13 @@
 -- How long rankings are, so how deep a trie is.
-use Rattle.std.proofs.Common.{◌≡◌, ◌≢◌, ℕ, ◌+◌, ◌<◌, ◌≤◌, List, [], ◌∷◌, ◌++◌, length, get_or, map, replicate, append_assoc, zero, suc, true, eqb, arith, refl, sym, subst}
+use Rattle.std.proofs.Common.{◌≡◌, ◌≢◌, ℕ, ◌+◌, ◌<◌, ◌≤◌, List, [], ◌∷◌, ◌++◌, length, get_or, replicate, append_assoc, zero, suc, true, eqb, arith, refl, sym, subst}
 use Rattle.std.specs.List.{All, IsDistinct, Any}
 use Rattle.std.proofs.lemmas.Bool.{eqb-true, ne_eqb}
-use Rattle.std.proofs.lemmas.List.{get_or_at, get_or_append_left, get_or-append-add, get_or-map, length-append, length-map, length-replicate}
+use Rattle.std.proofs.lemmas.List.{get_or_at, length-append, length-replicate}
 use Rattle.std.proofs.lemmas.List.Folds.{Any-from_list_any}
 use Rattle.std.proofs.lemmas.Map.Keys.{IsDistinct-from_apart}
 use Rattle.std.proofs.lemmas.Map.Steps.{length-le_from_distinct_below}
 use Rattle.plain_ballots.specs.Ranking.{IsRanking}
+use Rattle.ranking_trie.proofs.ListLemmas.{All-left, All-right, All-unmap}
 use Rattle.ranking_trie.specs.declared.forest.Forest.{Forest}
 use Rattle.ranking_trie.specs.declared.forest.Forest.TheVariants.{Empty, Grow'}
 use Rattle.ranking_trie.specs.Bag.{below, bag, IsRising, IsWithin}
@@ -35,18 +36,6 @@ length-IsRanking n ranks ranking =
     let at : get_or (0 ∷ ranks) a.0 a.1 ≡ a.1 = a.3 in
     omega arith) in
     omega arith
-
-pub All-left : {X : Type 0} (P : X → Type 0) (xs ys : List X) → All P (xs ++ ys) → All P xs
-All-left P xs ys all k d inside =
-    subst P (get_or_append_left xs ys d k inside) (all k d (omega (arith, length-append xs ys)))
-
-pub All-right : {X : Type 0} (P : X → Type 0) (xs ys : List X) → All P (xs ++ ys) → All P ys
-All-right P xs ys all k d inside =
-    subst P (get_or-append-add xs ys k d) (all (length xs + k) d (omega (arith, length-append xs ys)))
-
-pub All-unmap : {X Y : Type 0} (P : Y → Type 0) (f : X → Y) (xs : List X) → All P (map f xs) → All (λ x. P (f x)) xs
-All-unmap P f xs all k d inside =
-    subst P (get_or-map f xs k d (f d) inside) (all k (f d) (omega (arith, length-map xs f)))
 
 -- a way down to a candidate, and on
 step_down : (p r : List ℕ) (c : ℕ) → p ++ c ∷ r ≡ (p ++ c ∷ []) ++ r

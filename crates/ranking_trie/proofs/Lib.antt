@@ -2,4 +2,5 @@ pub mod BagLemmas
 pub mod CountLemmas
 pub mod DepthLemmas
 pub mod LineLemmas
+pub mod ListLemmas
 pub mod NodeLemmas

@@ -1,13 +1,16 @@
 -- Lines of ballots, one after another.
-use Rattle.std.proofs.Common.{◌≡◌, ℕ, ◌+◌, ◌≤◌, ◌<◌, List, [], ◌∷◌, ◌++◌, length, get_or, take, replicate, append_assoc, arith, sym, subst, ap, ◌∙◌}
+use Rattle.std.proofs.Common.{◌≡◌, ℕ, ◌+◌, ◌≤◌, ◌<◌, List, [], ◌∷◌, ◌++◌, length, get_or, take, drop, replicate, append_assoc, arith, sym, subst, ap, ◌∙◌}
 use Rattle.std.specs.List.Sorted.{IsPermutation}
-use Rattle.std.proofs.lemmas.List.{flat_map_more, take_more, length-append, length-replicate}
-use Rattle.std.proofs.lemmas.List.Sorted.{IsPermutation-trans, IsPermutation-append_right, length_permutation}
+use Rattle.std.proofs.lemmas.List.{flat_map_more, take-append-drop, take_more, length-append, length-replicate}
+use Rattle.std.proofs.lemmas.List.Sorted.{sum_by-IsPermutation, IsPermutation-trans, IsPermutation-append_right, length_permutation}
+use Rattle.std.proofs.lemmas.Grind.{flat_map-append}
 use Rattle.std.proofs.lemmas.List.Sums.{sum_by_more, sum_by_more_le}
 use Rattle.plain_ballots.specs.declared.ballot_line.BallotLine.{BallotLine}
 use Rattle.plain_ballots.specs.Ballots.{plain, ballot_count, IsSound}
 use Rattle.plain_ballots.specs.Ranking.{IsRanking}
 use Rattle.ranking_trie.specs.Lines.{rank_count, visit_count}
+use Rattle.ranking_trie.specs.BallotBag.{count_of}
+use Rattle.ranking_trie.proofs.CountLemmas.{one_for, count_of-append, count_of-own}
 use Rattle.ranking_trie.proofs.BagLemmas.{IsPermutation-shift}
 
 -- the ballots of one line
@@ -56,3 +59,28 @@ ranks_left lines i line inside at =
 
 pub ranking_at : (n : ℕ) (lines : List BallotLine) (i : ℕ) (line : BallotLine) → IsSound n lines → i < length lines → line ≡ get_or lines i line → IsRanking n line.ranking
 ranking_at n lines i line sound inside at = subst (λ (l : BallotLine). IsRanking n l.ranking) (sym at) (sound.rankings i line inside)
+
+-- ballots that a bag holds are still there when those of earlier lines have been taken out
+pub line_held : (old now others : List (List ℕ)) (lines : List BallotLine) (i : ℕ) (line : BallotLine) → i < length lines → line ≡ get_or lines i line → IsPermutation old (plain lines ++ others) → IsPermutation old (plain (take i lines) ++ now) → line.count ≤ count_of line.ranking now
+line_held old now others lines i line inside at held so_far =
+    let r = line.ranking in
+    let ballots_and : (ls : List BallotLine) (rest : List (List ℕ)) → IsPermutation old (plain ls ++ rest) → count_of r (plain ls) + count_of r rest ≡ count_of r old =
+    λ ls rest same. sym (count_of-append r (plain ls) rest) ∙ sum_by-IsPermutation (one_for r) old (plain ls ++ rest) same in
+    let all = ballots_and lines others held in
+    let here = ballots_and (take i lines) now so_far in
+    let split : plain lines ≡ plain (take (i + 1) lines) ++ plain (drop (i + 1) lines) =
+    ap plain (sym (take-append-drop (i + 1) lines)) ∙ flat_map-append ballots_of (take (i + 1) lines) (drop (i + 1) lines) in
+    let parts : count_of r (plain lines) ≡ count_of r (plain (take (i + 1) lines)) + count_of r (plain (drop (i + 1) lines)) =
+    ap (count_of r) split ∙ count_of-append r (plain (take (i + 1) lines)) (plain (drop (i + 1) lines)) in
+    let more : count_of r (plain (take (i + 1) lines)) ≡ count_of r (plain (take i lines)) + count_of r (ballots_of line) =
+    ap (count_of r) (plain_more lines i line inside at) ∙ count_of-append r (plain (take i lines)) (ballots_of line) in
+    let own : count_of r (ballots_of line) ≡ line.count = count_of-own line.count r in
+    omega arith
+
+-- the ballots of one more line are taken out
+pub line_removed : (old now new : List (List ℕ)) (lines : List BallotLine) (i : ℕ) (line : BallotLine) → i < length lines → line ≡ get_or lines i line → IsPermutation old (plain (take i lines) ++ now) → IsPermutation now (ballots_of line ++ new) → IsPermutation old (plain (take (i + 1) lines) ++ new)
+line_removed old now new lines i line inside at so_far here =
+    let done = plain (take i lines) in
+    let both = IsPermutation-trans old (done ++ now) (done ++ (ballots_of line ++ new)) so_far (IsPermutation-append_right done now (ballots_of line ++ new) here) in
+    subst (λ (l : List (List ℕ)). IsPermutation old l)
+    (sym (append_assoc done (ballots_of line) new) ∙ ap (λ (l : List (List ℕ)). l ++ new) (sym (plain_more lines i line inside at))) both

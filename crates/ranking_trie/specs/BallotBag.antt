@@ -1,5 +1,5 @@
 -- A bag of ballots.
-use Rattle.std.specs.Prelude.{◌≡◌, ℕ, ◌≤◌, List, length, count_by, nat_eq, All, IsSorted}
+use Rattle.std.specs.Prelude.{◌≡◌, ℕ, ◌≤◌, List, ◌++◌, length, count_by, nat_eq, All, IsSorted, IsPermutation}
 use Rattle.std.specs.Ordering.{nat_cmp}
 use Rattle.std.specs.Cmp.Lexicographic.{pointwise, slice_cmp}
 use Rattle.plain_ballots.specs.Ranking.{IsRanking}
@@ -25,3 +25,8 @@ AreInOrder ballots = IsSorted (slice_cmp nat_cmp) ballots
 -- how many ballots have this ranking
 abbrev pub count_of : List ℕ → List (List ℕ) → ℕ
 count_of ranking ballots = count_by (λ r. pointwise nat_eq r ranking) ballots
+
+-- a bag of these ballots and others
+pub record Holds (whole part : List (List ℕ)) : Type 0 where
+  pub others : List (List ℕ)
+  pub are : IsPermutation whole (part ++ others)

@@ -4,6 +4,9 @@
 #![tactic(auto)]
 
 mod add;
+mod clear;
+mod copy;
+mod count;
 mod forest;
 mod no_memory;
 mod pair;

@@ -1,14 +1,17 @@
 // A bag of ballots.
-ghost use Rattle.std.specs.Prelude.{◌≡◌, ℕ, ◌+◌, ◌≤◌, [], ◌++◌, length, replicate, OnOk, IsPermutation, vec_len};
+ghost use Rattle.std.specs.Prelude.{◌≡◌, ℕ, ◌+◌, ◌≤◌, [], ◌++◌, length, replicate, OnOk, IfOk, IsPermutation, vec_len};
 ghost use Rattle.plain_ballots.specs.Ranking.{IsRanking};
 ghost use Rattle.plain_ballots.specs.Ballots.{ballot_count, plain};
 ghost use Rattle.ranking_trie.specs.Bag.{bag, node_count, IsRising, IsWithin};
 ghost use Rattle.ranking_trie.specs.Lines.{rank_count, visit_count};
-ghost use Rattle.ranking_trie.specs.BallotBag.{count_of};
+ghost use Rattle.ranking_trie.specs.BallotBag.{count_of, Holds};
 
 use crate::add::put;
+use crate::copy::copy_forest;
+use crate::count::count;
+use crate::remove::take_out;
 use crate::{Forest, NoMemory, Pair};
-use plain_ballots::{BallotLine, Ballots, Steps};
+use plain_ballots::{BallotLine, Ballots, Ranking, Steps};
 use std::alloc::Global;
 use std::marker::Model;
 use std::mem;
@@ -109,6 +112,65 @@ impl Trie {
         self.forest = forest;
         self.nodes = nodes - self.spare.len();
         self.total += line.count as u64;
+    }
+
+    /// Takes ballots out.
+    pub fn remove<L: Ledger>(&mut self, ballots: &Ballots, steps: &mut Steps<L>)
+        requires held { Holds self.old.ballots (plain ballots.now.lines) }
+        ensures candidates { self.new.candidates ≡ self.old.candidates }
+        ensures bag { IsPermutation self.old.ballots (plain ballots.now.lines ++ self.new.ballots) }
+        ensures room { self.old.spare ≤ self.new.spare }
+        ensures cost { steps.new ≡ steps.old + visit_count ballots.now.lines }
+    {
+        for line in ballots.lines() {
+            self.remove_line(line, steps);
+        }
+    }
+
+    /// Takes the ballots of a line out.
+    fn remove_line<L: Ledger>(&mut self, line: &BallotLine, steps: &mut Steps<L>)
+        requires some { 1 ≤ line.now.count }
+        requires held { line.now.count ≤ count_of line.now.ranking self.old.ballots }
+        ensures candidates { self.new.candidates ≡ self.old.candidates }
+        ensures bag { IsPermutation self.old.ballots (replicate line.now.count line.now.ranking ++ self.new.ballots) }
+        ensures room { self.old.spare ≤ self.new.spare }
+        ensures cost { steps.new ≡ steps.old + length line.now.ranking + 1 }
+    {
+        let forest = mem::replace(&mut self.forest, Forest::Empty);
+        let (ends, forest) = take_out(
+            self.ends,
+            forest,
+            line.ranking.ranks(),
+            line.count,
+            &mut self.nodes,
+            steps,
+        );
+        self.ends = ends;
+        self.forest = forest;
+        self.total -= line.count as u64;
+    }
+
+    /// How many ballots have this ranking.
+    pub fn count_of(&self, ranking: &Ranking) -> u64
+        ensures { result ≡ count_of ranking.now self.now.ballots }
+    {
+        count(self.ends, &self.forest, ranking.ranks()) as u64
+    }
+
+    /// A trie of the same ballots.
+    pub fn copy(&self) -> Result<Trie, NoMemory>
+        ensures candidates { IfOk result (λ copy. copy.candidates ≡ self.now.candidates) }
+        ensures ballots { IfOk result (λ copy. copy.ballots ≡ self.now.ballots) }
+    {
+        Ok(Trie {
+            alloc: self.alloc,
+            candidates: self.candidates,
+            total: self.total,
+            ends: self.ends,
+            forest: copy_forest(self.alloc, &self.forest)?,
+            nodes: self.nodes,
+            spare: Vec::new(self.alloc),
+        })
     }
 
     /// The number of candidates.

@@ -1,7 +1,8 @@
 use Rattle.std.proofs.Common.{◌≡◌, ℕ, List, [], ◌++◌, replicate, sym, ap, subst, ◌∙◌}
 use Rattle.plain_ballots.specs.Ranking.{IsRanking}
 use Rattle.ranking_trie.specs.Bag.{bag, IsWithin}
-use Rattle.ranking_trie.proofs.DepthLemmas.{All-right, within}
+use Rattle.ranking_trie.proofs.DepthLemmas.{within}
+use Rattle.ranking_trie.proofs.ListLemmas.{All-right}
 use Rattle.ranking_trie.specs.BallotBag.{BallotBag, count_of}
 use Rattle.ranking_trie.proofs.CountLemmas.{count_of_blank}
 use Rattle.ranking_trie.proofs.trie.Trie.forest.Goals as goal
