@@ -8,6 +8,7 @@ mod clear;
 mod copy;
 mod count;
 mod forest;
+mod lines;
 mod no_memory;
 mod pair;
 mod remove;

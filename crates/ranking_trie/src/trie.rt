@@ -9,6 +9,7 @@ ghost use Rattle.ranking_trie.specs.BallotBag.{count_of, Holds};
 use crate::add::put;
 use crate::copy::copy_forest;
 use crate::count::count;
+use crate::lines::{push_line, push_lines};
 use crate::remove::take_out;
 use crate::{Forest, NoMemory, Pair};
 use plain_ballots::{BallotLine, Ballots, Ranking, Steps};
@@ -171,6 +172,18 @@ impl Trie {
             nodes: self.nodes,
             spare: Vec::new(self.alloc),
         })
+    }
+
+    /// The ballots in lines, one for each ranking, in the lexicographic order of candidate numbers.
+    pub fn to_ballots(&self) -> Result<Ballots, NoMemory>
+        ensures candidates { IfOk result (λ listed. listed.candidates ≡ self.now.candidates) }
+        ensures ballots { IfOk result (λ listed. plain listed.lines ≡ self.now.ballots) }
+    {
+        let mut listed = Ballots::new(self.alloc, self.candidates);
+        let mut ranks = Vec::new(self.alloc);
+        push_line(self.alloc, self.ends, &[], &mut listed)?;
+        push_lines(self.alloc, &self.forest, &mut ranks, &mut listed)?;
+        Ok(listed)
     }
 
     /// The number of candidates.
