@@ -47,3 +47,10 @@ pub record AreParted (passed rest : Forest) : Type 0 where
 abbrev pub IsWithin : (n deepest depth : ℕ) → Forest → Type 0
 IsWithin n deepest depth Empty = Unit {0}
 IsWithin n deepest depth (Grow' c k p inner next) = (1 ≤ c) × (c ≤ n) × (depth ≤ deepest) × IsWithin n deepest (depth + 1) inner × IsWithin n deepest depth next
+
+-- the same nodes in the same places, wherever they lie in memory
+abbrev pub HaveSameForm : Forest → Forest → Type 0
+HaveSameForm Empty Empty = Unit {0}
+HaveSameForm Empty (Grow' d m q inner next) = ⊥
+HaveSameForm (Grow' c n p inner next) Empty = ⊥
+HaveSameForm (Grow' c n p inner next) (Grow' d m q inner_2 next_2) = (c ≡ d) × (n ≡ m) × HaveSameForm inner inner_2 × HaveSameForm next next_2

@@ -1,5 +1,8 @@
 -- Lines of ballots: what they cost in a trie, and those of a forest.
 use Rattle.std.specs.Prelude.{ℕ, ◌+◌, List, [], ◌∷◌, ◌++◌, length, map, sum_by, zero, suc}
+use Rattle.std.specs.List.Sorted.{IsStrictlySortedBy}
+use Rattle.std.specs.Ordering.{nat_cmp}
+use Rattle.std.specs.Cmp.Lexicographic.{slice_cmp}
 use Rattle.plain_ballots.specs.declared.ballot_line.BallotLine.{BallotLine}
 use Rattle.ranking_trie.specs.declared.forest.Forest.{Forest}
 use Rattle.ranking_trie.specs.declared.forest.Forest.TheVariants.{Empty, Grow'}
@@ -11,6 +14,10 @@ rank_count lines = sum_by (λ line. length line.ranking) lines
 -- the nodes that are visited: for each line the root, and one for each rank
 abbrev pub visit_count : List BallotLine → ℕ
 visit_count lines = sum_by (λ line. length line.ranking + 1) lines
+
+-- different rankings, in lexicographic order
+abbrev pub HaveRisingRankings : List BallotLine → Type 0
+HaveRisingRankings lines = IsStrictlySortedBy (slice_cmp nat_cmp) (map (λ line. line.ranking) lines)
 
 -- the line of as many ballots with this ranking, if there are any
 abbrev pub line_of : (count : ℕ) → (ranking : List ℕ) → List BallotLine

@@ -8,6 +8,7 @@ mod clear;
 mod copy;
 mod count;
 mod forest;
+mod laws;
 mod lines;
 mod no_memory;
 mod pair;
@@ -16,6 +17,7 @@ mod siblings;
 mod trie;
 
 pub use forest::Forest;
+pub use laws::one_bag_has_one_form;
 pub use no_memory::NoMemory;
 pub use pair::Pair;
 pub use trie::Trie;

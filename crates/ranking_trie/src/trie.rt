@@ -3,10 +3,12 @@ ghost use Rattle.std.specs.Prelude.{◌≡◌, ℕ, ◌+◌, ◌≤◌, [], ◌+
 ghost use Rattle.plain_ballots.specs.Ranking.{IsRanking};
 ghost use Rattle.plain_ballots.specs.Ballots.{ballot_count, plain};
 ghost use Rattle.ranking_trie.specs.Bag.{bag, node_count, IsRising, IsWithin};
-ghost use Rattle.ranking_trie.specs.Lines.{rank_count, visit_count};
-ghost use Rattle.ranking_trie.specs.BallotBag.{count_of, Holds};
+ghost use Rattle.ranking_trie.specs.Lines.{rank_count, visit_count, HaveRisingRankings};
+ghost use Rattle.ranking_trie.specs.declared.forest.Forest.{Forest};
+ghost use Rattle.ranking_trie.specs.BallotBag.{AreInOrder, count_of, Holds};
 
 use crate::add::put;
+use crate::clear::clear;
 use crate::copy::copy_forest;
 use crate::count::count;
 use crate::lines::{push_line, push_lines};
@@ -19,7 +21,6 @@ use std::mem;
 use std::sync::ledger::Ledger;
 
 /// A bag of ballots: the nodes of their rankings, and nodes to spare.
-#[derive(Drop)]
 pub struct Trie {
     alloc: Global,
     candidates: u32,
@@ -40,6 +41,22 @@ impl Model for Trie {
     ghost view = { λ t. record { candidates = t.candidates; ballots = replicate t.ends [] ++ bag t.forest; spare = vec_len t.spare } };
 
     ghost invariant = { λ t. IsSoundBag t.candidates t.total (replicate t.ends [] ++ bag t.forest) × IsRising 0 t.forest × (t.nodes ≡ node_count t.forest) };
+}
+
+impl Drop for Trie {
+    fn drop(self) {
+        let Trie {
+            alloc: _,
+            candidates: _,
+            total: _,
+            ends: _,
+            forest,
+            nodes: _,
+            spare,
+        } = self;
+        clear(forest);
+        drop(spare);
+    }
 }
 
 impl Trie {
@@ -67,8 +84,10 @@ impl Trie {
         fill_spare(self.alloc, &mut self.spare, ranks)
     }
 
+    /// The number of all ballots, empty ones included.
     pub fn total(&self) -> u64
-        ensures { result ≡ length self.now.ballots }
+        ensures total { result ≡ length self.now.ballots }
+        ensures few { result ≤ 999999999 }
     {
         self.total
     }
@@ -80,12 +99,14 @@ impl Trie {
         requires few { length self.old.ballots + ballot_count ballots.now.lines ≤ 999999999 }
         ensures candidates { self.new.candidates ≡ self.old.candidates }
         ensures bag { IsPermutation self.new.ballots (plain ballots.now.lines ++ self.old.ballots) }
+        ensures order { AreInOrder self.new.ballots }
         ensures room { self.old.spare ≤ self.new.spare + rank_count ballots.now.lines }
         ensures cost { steps.new ≡ steps.old + visit_count ballots.now.lines }
     {
         for line in ballots.lines() {
             self.add_line(line, steps);
         }
+        self.keep_order();
     }
 
     /// Puts the ballots of a line in.
@@ -120,12 +141,14 @@ impl Trie {
         requires held { Holds self.old.ballots (plain ballots.now.lines) }
         ensures candidates { self.new.candidates ≡ self.old.candidates }
         ensures bag { IsPermutation self.old.ballots (plain ballots.now.lines ++ self.new.ballots) }
+        ensures order { AreInOrder self.new.ballots }
         ensures room { self.old.spare ≤ self.new.spare }
         ensures cost { steps.new ≡ steps.old + visit_count ballots.now.lines }
     {
         for line in ballots.lines() {
             self.remove_line(line, steps);
         }
+        self.keep_order();
     }
 
     /// Takes the ballots of a line out.
@@ -149,6 +172,13 @@ impl Trie {
         self.ends = ends;
         self.forest = forest;
         self.total -= line.count as u64;
+    }
+
+    /// Ballots are always in order, since siblings rise. The call does nothing.
+    fn keep_order(&self)
+        ensures { AreInOrder self.now.ballots }
+    {
+        let _ = &self.forest;
     }
 
     /// How many ballots have this ranking.
@@ -178,6 +208,7 @@ impl Trie {
     pub fn to_ballots(&self) -> Result<Ballots, NoMemory>
         ensures candidates { IfOk result (λ listed. listed.candidates ≡ self.now.candidates) }
         ensures ballots { IfOk result (λ listed. plain listed.lines ≡ self.now.ballots) }
+        ensures different { IfOk result (λ listed. HaveRisingRankings listed.lines) }
     {
         let mut listed = Ballots::new(self.alloc, self.candidates);
         let mut ranks = Vec::new(self.alloc);
@@ -205,8 +236,18 @@ impl Trie {
         ensures ballots { self.now.ballots ≡ replicate (count_of [] self.now.ballots) [] ++ bag result.now }
         ensures rising { IsRising 0 result.now }
         ensures within { IsWithin self.now.candidates 250 1 result.now }
+        ensures order { AreInOrder self.now.ballots }
     {
         &self.forest
+    }
+
+    /// How many nodes the forest has.
+    pub fn nodes(&self) -> usize
+        ensures { (forest : Forest) → IsRising 0 forest →
+            (self.now.ballots ≡ replicate (count_of [] self.now.ballots) [] ++ bag forest) →
+            result ≡ node_count forest }
+    {
+        self.nodes
     }
 
     pub fn allocator(&self) -> &Global {

@@ -2,8 +2,9 @@ use Rattle.std.proofs.Common.{◌≡◌, ℕ, List, [], ◌++◌, replicate, sym
 use Rattle.plain_ballots.specs.Ranking.{IsRanking}
 use Rattle.ranking_trie.specs.Bag.{bag, IsWithin}
 use Rattle.ranking_trie.proofs.DepthLemmas.{within}
+use Rattle.ranking_trie.proofs.FormLemmas.{in_order}
 use Rattle.ranking_trie.proofs.ListLemmas.{All-right}
-use Rattle.ranking_trie.specs.BallotBag.{BallotBag, count_of}
+use Rattle.ranking_trie.specs.BallotBag.{BallotBag, AreInOrder, count_of}
 use Rattle.ranking_trie.proofs.CountLemmas.{count_of_blank}
 use Rattle.ranking_trie.proofs.trie.Trie.forest.Goals as goal
 
@@ -20,3 +21,7 @@ returns-clause-within c =
     subst (λ (n : ℕ). IsWithin n 250 1 c.self.inside.forest) (ap (λ (t : BallotBag). t.candidates) c.self.view_is)
     (within c.self.inside.candidates [] 0 c.self.inside.forest sound.few_candidates c.self.invariant.1
     (All-right (λ r. IsRanking c.self.inside.candidates r) (replicate c.self.inside.ends []) (bag c.self.inside.forest) sound.rankings))
+
+pub returns-clause-order : goal.returns-clause-order
+returns-clause-order c =
+    subst AreInOrder (ap (λ (t : BallotBag). t.ballots) c.self.view_is) (in_order c.self.inside.ends c.self.inside.forest c.self.invariant.1)

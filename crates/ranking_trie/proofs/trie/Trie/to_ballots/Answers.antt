@@ -6,6 +6,8 @@ use Rattle.ranking_trie.specs.Bag.{bag}
 use Rattle.ranking_trie.specs.BallotBag.{BallotBag}
 use Rattle.ranking_trie.proofs.ListLemmas.{All-right}
 use Rattle.ranking_trie.proofs.ListingLemmas.{all_listed, plain-listed}
+use Rattle.ranking_trie.proofs.FormLemmas.{listed_rise}
+use Rattle.ranking_trie.specs.Lines.{HaveRisingRankings}
 use Rattle.ranking_trie.proofs.trie.Trie.to_ballots.Goals as goal
 
 pub push_lines-requires-clause-rankings : goal.push_lines-requires-clause-rankings
@@ -22,3 +24,9 @@ returns-clause-ballots c =
     let t = c.self.inside in
     let is = all_listed t.candidates t.ends c.new-listed.result c.push_line.new.ballots c.push_lines.new.ballots c.new-ranks.result.items t.forest c.new-listed.ensures c.new-ranks.ensures.items c.in_ok-push_line.ensures c.in_ok-push_lines.ensures.lines in
     ap (λ (b : BallotList). plain b.lines) is ∙ (plain-listed t.ends t.forest ∙ ap (λ (s : BallotBag). s.ballots) c.self.view_is)
+
+pub returns-clause-different : goal.returns-clause-different
+returns-clause-different c =
+    let t = c.self.inside in
+    let is = all_listed t.candidates t.ends c.new-listed.result c.push_line.new.ballots c.push_lines.new.ballots c.new-ranks.result.items t.forest c.new-listed.ensures c.new-ranks.ensures.items c.in_ok-push_line.ensures c.in_ok-push_lines.ensures.lines in
+    subst (λ (b : BallotList). HaveRisingRankings b.lines) (sym is) (listed_rise t.ends t.forest c.self.invariant.1)
