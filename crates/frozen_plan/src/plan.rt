@@ -33,11 +33,9 @@ impl Plan {
         ensures ballots { IfOk result (λ plan. plan_ballots plan.rows ≡ trie.now.ballots) }
         ensures plan { IfOk result (λ plan. IsPlan plan.candidates plan.rows) }
     {
+        let candidates = trie.candidates();
         let rows = rows_of_trie(alloc, trie)?;
-        Ok(Plan {
-            candidates: trie.candidates(),
-            rows,
-        })
+        Ok(Plan { candidates, rows })
     }
 
     /// The root, whose beginning has no candidate, and then the nodes below it, each with those
@@ -59,9 +57,12 @@ impl Plan {
 
 /// The root of a trie and the nodes below it.
 fn rows_of_trie(alloc: Global, trie: &Trie) -> Result<Vec<PlanRow>, NoMemory>
+    requires { trie.now.candidates ≤ 250 }
     ensures { IfOk result (λ rows. AreRowsOf trie.now rows.items) }
 {
-    let mut rows = Vec::new(alloc);
+    let Ok(mut rows) = Vec::with_capacity(alloc, trie.nodes().saturating_add(1)) else {
+        return Err(NoMemory);
+    };
     let root = PlanRow {
         depth: 0,
         candidate: 0,

@@ -219,7 +219,8 @@ impl Trie {
 
     /// The number of candidates.
     pub fn candidates(&self) -> u32
-        ensures { result ≡ self.now.candidates }
+        ensures candidates { result ≡ self.now.candidates }
+        ensures few { result ≤ 250 }
     {
         self.candidates
     }
