@@ -32,11 +32,12 @@ ends-plan_rows : (ends : ℕ) (f : Forest) → ballot_count (plan_rows ends f) -
 ends-plan_rows ends f = ap (λ (g : Forest). (ends + through f) - through g) (forest_of-plan_rows ends f) ∙ omega arith
 
 -- these rows are a plan
-pub plan_of_rows : (n ends : ℕ) (f : Forest) → IsGrown n 0 1 f → ends + through f ≤ 999999999 → IsPlan n (plan_rows ends f)
-plan_of_rows n ends f grown few =
+pub plan_of_rows : (n ends : ℕ) (f : Forest) → n ≤ 250 → IsGrown n 0 1 f → ends + through f ≤ 999999999 → IsPlan n (plan_rows ends f)
+plan_of_rows n ends f limit grown few =
     let same : plan_rows (ballot_count (plan_rows ends f) - through (forest_of (plan_rows ends f))) (forest_of (plan_rows ends f)) ≡ plan_rows ends f =
     ap (λ (m : ℕ). plan_rows m (forest_of (plan_rows ends f))) (ends-plan_rows ends f) ∙ ap (plan_rows ends) (forest_of-plan_rows ends f) in
     record {
+      few_candidates = limit;
       preorder = sym same;
       grown = subst (λ (g : Forest). IsGrown n 0 1 g) (sym (forest_of-plan_rows ends f)) grown;
       few = few;

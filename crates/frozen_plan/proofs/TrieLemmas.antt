@@ -35,9 +35,9 @@ all_ballots t ends f ballots =
     omega (arith, ap length ballots, length-append none (bag f), length-replicate {A = List ℕ} ends [], through-shape f)
 
 -- The rows of a trie's root and of its nodes stand for its ballots.
-pub rows_of_trie : (t : BallotBag) (ends : ℕ) (f : trie.Forest) → length t.ballots ≤ 999999999 → t.ballots ≡ replicate ends [] ++ bag f → IsRising 0 f → IsWithin t.candidates 250 1 f → AreRowsOf t (plan_rows ends (shape_of f))
-rows_of_trie t ends f few ballots rising within = record {
-  plan = plan_of_rows t.candidates ends (shape_of f) (grown t.candidates 0 1 f rising within) (omega (arith, few, all_ballots t ends f ballots));
+pub rows_of_trie : (t : BallotBag) (ends : ℕ) (f : trie.Forest) → t.candidates ≤ 250 → length t.ballots ≤ 999999999 → t.ballots ≡ replicate ends [] ++ bag f → IsRising 0 f → IsWithin t.candidates 250 1 f → AreRowsOf t (plan_rows ends (shape_of f))
+rows_of_trie t ends f limit few ballots rising within = record {
+  plan = plan_of_rows t.candidates ends (shape_of f) limit (grown t.candidates 0 1 f rising within) (omega (arith, few, all_ballots t ends f ballots));
   ballots = ballots_of_rows ends (shape_of f) ∙ (ap (λ (l : List (List ℕ)). replicate ends [] ++ l) (ballots_of-shape f) ∙ sym ballots);
 }
 

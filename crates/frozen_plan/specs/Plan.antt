@@ -1,5 +1,6 @@
 -- The rows of a plan, and the ballots that they stand for.
 use Rattle.std.specs.Prelude.{◌≡◌, ℕ, ◌+◌, ◌-◌, ◌≤◌, List, [], ◌∷◌, ◌++◌, length, drop, replicate, slice_index_or}
+use Rattle.std.specs.List.{flat_map}
 use Rattle.frozen_plan.specs.declared.plan_row.PlanRow.{PlanRow}
 use Rattle.frozen_plan.specs.Forest.{Forest, ballots_of, through, rows_of, IsGrown, read}
 
@@ -31,6 +32,11 @@ plan_rows ends f =
 
 -- The root with all ballots, and then the nodes of a trie of n candidates in preorder.
 pub record IsPlan (n : ℕ) (rows : List PlanRow) : Type 0 where
+  pub few_candidates : n ≤ 250
   pub preorder : rows ≡ plan_rows (ballot_count rows - through (forest_of rows)) (forest_of rows)
   pub grown : IsGrown n 0 1 (forest_of rows)
   pub few : ballot_count rows ≤ 999999999
+
+-- the single ballots of some plans, plan by plan
+abbrev pub all_ballots : List PlanRows → List (List ℕ)
+all_ballots plans = flat_map (λ plan. plan_ballots plan.rows) plans

@@ -5,3 +5,4 @@ pub mod StemLemmas
 pub mod StandLemmas
 pub mod RowLemmas
 pub mod PackLemmas
+pub mod PlanLemmas

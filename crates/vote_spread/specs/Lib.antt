@@ -2,3 +2,5 @@ pub mod Stem
 pub mod Gain
 pub mod Walk
 pub mod Packed
+pub mod Shares
+pub mod Lanes

@@ -3,8 +3,10 @@
 
 mod branch;
 mod branches;
+mod lane;
 mod no_memory;
 mod pack;
+mod run;
 mod walk;
 
 pub use no_memory::NoMemory;

@@ -1,10 +1,33 @@
 // The rows of a plan, packed.
-ghost use Rattle.std.specs.Prelude.{◌≡◌, ℕ, ◌≤◌, OnOk, drop, length, slice_index_or};
-ghost use Rattle.vote_spread.specs.Packed.{AreRows, HasAdded};
+ghost use Rattle.std.specs.Prelude.{◌≡◌, ℕ, ◌≤◌, All, IfOk, OnOk, drop, length, slice_index_or};
+ghost use Rattle.frozen_plan.specs.Plan.{all_ballots};
+ghost use Rattle.vote_spread.specs.Packed.{AreRows, HasAdded, HasPacked, StandFor};
 
 use crate::NoMemory;
 use crate::branches::Branches;
-use frozen_plan::PlanRow;
+use frozen_plan::{Plan, PlanRow, Plans};
+use std::alloc::Global;
+
+/// Packs plans, and gives each up once it is packed.
+pub(crate) fn pack_plans(alloc: Global, plans: Plans) -> Result<Branches, NoMemory>
+    ensures { IfOk result (λ branches. (n : ℕ) → All (λ plan. plan.candidates ≡ n) plans → StandFor n 1 branches (all_ballots plans)) }
+{
+    let mut rest = plans;
+    let mut branches = Branches::new(alloc);
+    while let Some(plan) = rest.pop() {
+        pack_plan(&plan, &mut branches)?;
+    }
+    Ok(branches)
+}
+
+/// Packs the rows of a plan behind others.
+fn pack_plan(plan: &Plan, branches: &mut Branches) -> Result<(), NoMemory>
+    ensures { OnOk result (HasPacked plan.now branches.old branches.new) }
+{
+    let nodes = behind_first(plan.rows());
+    pack_rows(nodes, 1, branches)?;
+    Ok(())
+}
 
 /// Packs the rows of siblings at a depth and of all below them.
 #[cycle(pack)]

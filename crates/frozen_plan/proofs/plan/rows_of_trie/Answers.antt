@@ -37,4 +37,4 @@ returns c =
     let same : set now 0 (root c.total.result c.len.result) ≡ plan_rows ends (shape_of f) =
     ap (λ (l : List PlanRow). set l 0 (root c.total.result c.len.result)) items
     ∙ (ap (λ (n : ℕ). root n c.len.result ∷ below) count ∙ ap (λ (k : ℕ). root (ends + through (shape_of f)) k ∷ below) size) in
-    subst (AreRowsOf t) (sym same) (rows_of_trie t ends f few c.forest.ensures.ballots c.forest.ensures.rising c.forest.ensures.within)
+    subst (AreRowsOf t) (sym same) (rows_of_trie t ends f c.requires few c.forest.ensures.ballots c.forest.ensures.rising c.forest.ensures.within)
