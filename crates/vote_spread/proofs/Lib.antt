@@ -6,3 +6,4 @@ pub mod StandLemmas
 pub mod RowLemmas
 pub mod PackLemmas
 pub mod PlanLemmas
+pub mod LaneLemmas

@@ -3,7 +3,7 @@ use Rattle.std.proofs.Common.{◌≡◌, ℕ, ◌+◌, ◌-◌, ◌<◌, ◌≤�
 use Rattle.std.specs.List.{All}
 use Rattle.std.proofs.lemmas.List.{append-nil, length-append, get_or_append_left, get_or_at}
 use Rattle.std.proofs.lemmas.List.Concat.{flat_map-append}
-use Rattle.std.proofs.lemmas.List.Sums.{sum_by-append}
+use Rattle.std.proofs.lemmas.List.Sums.{sum_by-append, sum_by-cons}
 use Rattle.frozen_plan.specs.declared.plan_row.PlanRow.{PlanRow}
 use Rattle.frozen_plan.specs.Forest.{Forest, ballots_of, through, rows_of, IsGrown}
 use Rattle.frozen_plan.specs.Plan.{PlanRows, nodes, forest_of, ballot_count, plan_ballots, all_ballots, IsPlan}
@@ -97,3 +97,9 @@ packed-end n plans rest stems so_far none =
           let same : sum_by f so_far.done ≡ sum_by f (all_ballots plans) = omega (arith, so_far.both f) in
           stand.gives s keeps c weights more is walk long ∙ ap (λ m. m + sum (gains s keeps c weights more)) same;
     }
+
+-- how many ballots plans have
+pub length-all_ballots : (plans : List PlanRows) → length (all_ballots plans) ≡ sum_by (λ (plan : PlanRows). length (plan_ballots plan.rows)) plans
+length-all_ballots [] = refl
+length-all_ballots (plan ∷ plans) =
+    omega (arith, length-append (plan_ballots plan.rows) (all_ballots plans), length-all_ballots plans, sum_by-cons (λ (p : PlanRows). length (plan_ballots p.rows)) plan plans)

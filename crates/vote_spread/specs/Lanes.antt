@@ -31,3 +31,11 @@ pub record HaveCounted (old new : LanesSeen) : Type 0 where
 -- some lanes from lane `first` on of so many have counted their shares
 pub record HaveRun (s : ℕ) (keeps : List ℕ) (stems : List Stem) (first lanes : ℕ) (tallies : List (List ℕ)) : Type 0 where
   pub each : (k : ℕ) (d : List ℕ) → k < length tallies → HasCounted s keeps stems (first + k) lanes (slice_index_or tallies k d)
+
+-- These keep values are taken over. All else is as before, but for the tallies.
+pub record AreLoaded (keeps : List ℕ) (old new : LanesSeen) : Type 0 where
+  pub same_scale : new.scale ≡ old.scale
+  pub same_ballots : new.ballots ≡ old.ballots
+  pub loaded : new.keeps ≡ keeps
+  pub at_most_one : All (λ k. k ≤ new.scale) new.keeps
+  pub few : length new.ballots ≤ 999999999

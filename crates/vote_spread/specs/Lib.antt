@@ -4,3 +4,4 @@ pub mod Walk
 pub mod Packed
 pub mod Shares
 pub mod Lanes
+pub mod Runs

@@ -1,5 +1,5 @@
 // A worker's lane.
-ghost use Rattle.std.specs.Prelude.{◌≡◌, ℕ, ◌+◌, ◌<◌, ◌≤◌, IfOk, length};
+ghost use Rattle.std.specs.Prelude.{◌≡◌, ℕ, ◌+◌, ◌<◌, ◌≤◌, IfOk, length, replicate};
 ghost use Rattle.fixed_place.specs.Rounding.{scale, most};
 ghost use Rattle.vote_spread.specs.Shares.{share, CanCount, HasCounted};
 
@@ -29,13 +29,10 @@ impl Lane {
     pub(crate) fn new(alloc: Global, candidates: usize) -> Result<Lane, NoMemory>
         ensures { IfOk result (λ lane. length lane ≡ candidates) }
     {
-        let Ok(weights) = vec![in alloc; 0u64; 251] else {
-            return Err(NoMemory);
-        };
-        match vec![in alloc; 0u64; candidates] {
-            Ok(tally) => Ok(Lane { weights, tally }),
-            Err(_) => Err(NoMemory),
-        }
+        Ok(Lane {
+            weights: zeros(alloc, 251)?,
+            tally: zeros(alloc, candidates)?,
+        })
     }
 
     pub(crate) fn tally(&self) -> &[u64]
@@ -78,4 +75,14 @@ fn share(len: usize, k: usize, count: usize) -> usize
     ensures within { result ≤ len }
 {
     (len as u128 * k as u128 / count as u128) as usize
+}
+
+/// So many zeros.
+pub(crate) fn zeros(alloc: Global, len: usize) -> Result<Vec<u64>, NoMemory>
+    ensures { IfOk result (λ list. list.items ≡ replicate len 0) }
+{
+    match vec![in alloc; 0u64; len] {
+        Ok(list) => Ok(list),
+        Err(_) => Err(NoMemory),
+    }
 }
