@@ -20,6 +20,9 @@ use std::marker::Model;
 use std::mem;
 use std::sync::ledger::Ledger;
 
+#[cfg(test)]
+mod tests;
+
 /// A bag of ballots: the nodes of their rankings, and nodes to spare.
 pub struct Trie {
     alloc: Global,
@@ -99,6 +102,7 @@ impl Trie {
         requires few { length self.old.ballots + ballot_count ballots.now.lines ≤ 999999999 }
         ensures candidates { self.new.candidates ≡ self.old.candidates }
         ensures bag { IsPermutation self.new.ballots (plain ballots.now.lines ++ self.old.ballots) }
+        ensures total { length self.new.ballots ≡ length self.old.ballots + ballot_count ballots.now.lines }
         ensures order { AreInOrder self.new.ballots }
         ensures room { self.old.spare ≤ self.new.spare + rank_count ballots.now.lines }
         ensures cost { steps.new ≡ steps.old + visit_count ballots.now.lines }
@@ -141,6 +145,7 @@ impl Trie {
         requires held { Holds self.old.ballots (plain ballots.now.lines) }
         ensures candidates { self.new.candidates ≡ self.old.candidates }
         ensures bag { IsPermutation self.old.ballots (plain ballots.now.lines ++ self.new.ballots) }
+        ensures total { length self.old.ballots ≡ length self.new.ballots + ballot_count ballots.now.lines }
         ensures order { AreInOrder self.new.ballots }
         ensures room { self.old.spare ≤ self.new.spare }
         ensures cost { steps.new ≡ steps.old + visit_count ballots.now.lines }
