@@ -6,7 +6,9 @@ use Rattle.blt_reader.specs.declared.input_fault.InputFault.{InputFault}
 use Rattle.blt_reader.specs.declared.blt_stop.BltStop.{BltStop}
 use Rattle.blt_reader.specs.declared.blt_stop.BltStop.TheVariants as stop
 use Rattle.blt_reader.specs.Token.{Item, Placed, Scan, with_front, ends}
-use Rattle.blt_reader.specs.Reader.{Reader}
+use Rattle.blt_reader.specs.declared.next.Next.{Next}
+use Rattle.blt_reader.specs.declared.next.Next.TheVariants as next
+use Rattle.blt_reader.specs.Reader.{Reader, placed, Gives}
 use Rattle.blt_reader.specs.Judged.{Judged, Progress, GoesOn, Ends, Stopped, on_progress, front_of, carried, reads}
 use Rattle.blt_reader.specs.Reads.{IsBehind, IsEnded, Stops, Reads}
 use Rattle.blt_reader.proofs.Tables.{behind_inner, reads_inner}
@@ -20,6 +22,25 @@ behind_one old new token bytes given = record {
   tokens = ap (λ (s : Scan). s.tokens) given;
   ending = ap (λ (s : Scan). s.ending) given;
 }
+
+behind_same :
+    (bytes : List ℕ) (old new : Scan) → new ≡ old
+    → IsBehind (record { bytes = bytes; rest = old }) (record { bytes = bytes; rest = new })
+behind_same bytes old new same = record {
+  bytes = refl;
+  given = [];
+  tokens = ap (λ (s : Scan). s.tokens) (sym same);
+  ending = ap (λ (s : Scan). s.ending) (sym same);
+}
+
+-- whatever was given, an end and a fault among it
+pub behind_next :
+    (bytes : List ℕ) (old new : Scan) (answer : Next) → Gives bytes old answer new
+    → IsBehind (record { bytes = bytes; rest = old }) (record { bytes = bytes; rest = new })
+behind_next bytes old new (next.Token token) gives =
+    behind_one (record { bytes = bytes; rest = old }) (record { bytes = bytes; rest = new }) (placed bytes token) refl gives
+behind_next bytes old new next.End gives = behind_same bytes old new gives.1
+behind_next bytes old new (next.Fault fault) gives = behind_same bytes old new gives.1
 
 pub behind_trans : {a b c : Reader} → IsBehind a b → IsBehind b c → IsBehind a c
 behind_trans {a} {b} {c} one two = record {

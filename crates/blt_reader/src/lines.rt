@@ -49,6 +49,29 @@ pub(crate) fn read_lines_from(
     ensures lines { IfOk result (λ b. AreLines candidates most b.lines) }
     ensures behind { IsBehind tokens.old tokens.new }
 {
+    let mut near = tokens.same();
+    let found = read_lines_near(alloc, &mut near, candidates, most, refusal, first);
+    *tokens = near;
+    found
+}
+
+// The same over tokens that nobody else sees, so that their place can stay in a register.
+#[tactic(auto, using(crate::proofs::Reading::behind_trans))]
+#[inline(always)]
+fn read_lines_near(
+    alloc: Global,
+    tokens: &mut Tokens<'_>,
+    candidates: u32,
+    most: u32,
+    refusal: FaultKind,
+    first: (u32, usize),
+) -> Result<Ballots, BltStop>
+    requires { most ≤ 999999999 }
+    ensures reads { Reads (at_line candidates (record { most = most; refusal = refusal })) (Between []) (λ b. b.lines) (with_front (record { at = first.1; item = Number first.0 }) tokens.old.rest) result tokens.new.rest }
+    ensures candidates { IfOk result (λ b. b.candidates ≡ candidates) }
+    ensures lines { IfOk result (λ b. AreLines candidates most b.lines) }
+    ensures behind { IsBehind tokens.old tokens.new }
+{
     let mut named = Named::new(alloc, candidates as usize + 1)?;
     let mut ranks = Vec::new(alloc);
     let mut ballots = Ballots::new(alloc, candidates);
@@ -69,6 +92,7 @@ pub(crate) fn read_lines_from(
 
 // Candidates in order of rank, up to the 0 behind them.
 #[tactic(auto, using(crate::proofs::Reading::behind_trans))]
+#[inline(always)]
 fn read_ranks(
     tokens: &mut Tokens<'_>,
     candidates: u32,

@@ -58,6 +58,40 @@ fn fault(kind: FaultKind, at: usize) -> Next
     Next::Fault(InputFault { kind, at })
 }
 
+// A number from a place on and its place, or why there is none, and the place behind. What is
+// taken and given are values, so that a loop over numbers can keep its place in a register.
+#[tactic(auto, using(crate::proofs::Reading::behind_next))]
+#[inline(never)]
+fn number_from(
+    bytes: &[u8],
+    letters: bool,
+    from: usize,
+) -> (Result<(u32, usize), InputFault>, usize)
+    requires { from ≤ length bytes.now }
+    ensures within { result.1 ≤ length bytes.now }
+    ensures number { IfOk result.0 (λ found. cut letters 0 from bytes.now ≡ with_front (record { at = found.1; item = Number found.0 }) (cut letters 0 result.1 bytes.now)) }
+    ensures fault { IfErr result.0 (λ fault. Stops as_number (cut letters 0 from bytes.now) fault (cut letters 0 result.1 bytes.now)) }
+    ensures behind { IsBehind (record { bytes = bytes.now; rest = cut letters 0 from bytes.now }) (record { bytes = bytes.now; rest = cut letters 0 result.1 bytes.now }) }
+{
+    let (next, at) = next_from(bytes, letters, from);
+    match next {
+        Next::Token(token) => match token.what {
+            What::Number(n) => (Ok((n, token.at)), at),
+            What::Minus(_) => (Err(input_fault(FaultKind::BadNumber, token.at)), at),
+            What::Text => (Err(input_fault(FaultKind::BadNumber, token.at)), at),
+            What::Word => (Err(input_fault(FaultKind::BadNumber, token.at)), at),
+        },
+        Next::End => (Err(input_fault(FaultKind::Ended, bytes.len())), at),
+        Next::Fault(fault) => (Err(fault), at),
+    }
+}
+
+fn input_fault(kind: FaultKind, at: usize) -> InputFault
+    ensures { result ≡ record { kind = kind; at = at } }
+{
+    InputFault { kind, at }
+}
+
 impl<'a> Tokens<'a> {
     /// The tokens of an input, behind its byte order mark. `letters` says whether it may have words.
     pub fn new(bytes: &'a [u8], letters: bool) -> Self
@@ -69,6 +103,18 @@ impl<'a> Tokens<'a> {
             0
         };
         Tokens { bytes, at, letters }
+    }
+
+    // The same tokens once more.
+    #[inline(always)]
+    pub(crate) fn same(&self) -> Tokens<'a>
+        ensures { result ≡ self.now }
+    {
+        Tokens {
+            bytes: self.bytes,
+            at: self.at,
+            letters: self.letters,
+        }
     }
 
     /// The length of the input.
@@ -119,24 +165,11 @@ impl<'a> Tokens<'a> {
                 self.at = at + digits;
                 Ok((n, at))
             }
-            None => self.number_token(),
-        }
-    }
-
-    // The same, whatever stands there.
-    #[inline(never)]
-    fn number_token(&mut self) -> Result<(u32, usize), InputFault>
-        ensures number { IfOk result (λ found. self.old.rest ≡ with_front (record { at = found.1; item = Number found.0 }) self.new.rest) }
-        ensures fault { IfErr result (λ fault. Stops as_number self.old.rest fault self.new.rest) }
-        ensures behind { IsBehind self.old self.new }
-    {
-        let token = self.next_token()?;
-        match token.what {
-            What::Number(n) => Ok((n, token.at)),
-            _ => Err(InputFault {
-                kind: FaultKind::BadNumber,
-                at: token.at,
-            }),
+            None => {
+                let (found, at) = number_from(self.bytes, self.letters, self.at);
+                self.at = at;
+                found
+            }
         }
     }
 

@@ -3,13 +3,15 @@ ghost use Rattle.std.specs.Prelude.{◌≡◌, IfOk, IfErr, OnOk};
 ghost use Rattle.plain_ballots.specs.Ranking.{AreRanks, IsRanking, IsRankStop};
 
 use crate::{NoMemory, RankStop};
+use smallvec::SmallVec;
 use std::alloc::Global;
 use std::marker::Model;
 
-/// A ballot's candidates in order of rank, all different.
+/// A ballot's candidates in order of rank, all different. Up to six ranks, as most ballots have, lie
+/// in the value itself and take no memory of their own.
 #[derive(Debug, Drop)]
 pub struct Ranking {
-    ranks: Vec<u32>,
+    ranks: SmallVec<u32, 6>,
 }
 
 impl Model for Ranking {
@@ -24,12 +26,12 @@ impl Model for Ranking {
 }
 
 impl Ranking {
-    /// A ranking of ranks that were looked at already. It takes memory for just these ranks, once.
+    /// A ranking of ranks that were looked at already. It takes memory once, where the ranks are many.
     pub fn new(alloc: Global, ranks: &[u32]) -> Result<Ranking, NoMemory>
         requires { AreRanks ranks.now }
         ensures { IfOk result (λ ranking. ranking ≡ ranks.now) }
     {
-        match Vec::from_slice(alloc, ranks) {
+        match SmallVec::from_slice(alloc, ranks) {
             Ok(ranks) => Ok(Ranking { ranks }),
             Err(_) => Err(NoMemory),
         }
