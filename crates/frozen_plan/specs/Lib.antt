@@ -2,3 +2,4 @@ pub mod Forest
 pub mod Plan
 pub mod Shape
 pub mod Rows
+pub mod Dealing

@@ -3,6 +3,7 @@
 //! them.
 #![tactic(auto)]
 
+mod dealing;
 mod no_memory;
 mod plan;
 mod plan_row;

@@ -114,7 +114,7 @@ impl Trie {
     }
 
     /// Puts the ballots of a line in.
-    fn add_line<L: Ledger>(&mut self, line: &BallotLine, steps: &mut Steps<L>)
+    pub fn add_line<L: Ledger>(&mut self, line: &BallotLine, steps: &mut Steps<L>)
         requires ranking { IsRanking self.old.candidates line.now.ranking }
         requires some { 1 ≤ line.now.count }
         requires room { length line.now.ranking ≤ self.old.spare }
