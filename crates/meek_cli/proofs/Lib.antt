@@ -1,3 +1,4 @@
 pub mod Ending
 pub mod Complete
 pub mod CountEnding
+pub mod Settings

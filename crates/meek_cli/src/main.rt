@@ -7,11 +7,13 @@ mod finishing;
 mod outcome;
 mod refusal;
 mod run;
+mod split;
 mod status;
 
 use byte_edge::{FreeGate, StdSink, StdSource};
 pub use outcome::Outcome;
 pub use run::meek;
+use split::Split;
 pub use status::Status;
 use std::env;
 use std::io::{self, BufWriter};

@@ -1,5 +1,5 @@
 // The whole program over a source and a sink.
-ghost use Rattle.std.specs.Prelude.{◌≡◌, ◌⊎◌, ℕ, List, map, IfOk};
+ghost use Rattle.std.specs.Prelude.{◌≡◌, ◌≤◌, ◌⊎◌, ℕ, List, map, IfOk};
 ghost use Rattle.std.specs.String.{string_bytes};
 ghost use Rattle.meek_cli.specs.Owed.{AsksForCount};
 ghost use Rattle.meek_cli.specs.Run.{IsRun, IsReadFor, IsAcceptedRun};
@@ -7,7 +7,7 @@ ghost use Rattle.meek_cli.specs.Run.{IsRun, IsReadFor, IsAcceptedRun};
 use crate::counting::count;
 use crate::finishing::finish;
 use crate::refusal::refuse;
-use crate::{Outcome, Status};
+use crate::{Outcome, Split, Status};
 use blt_reader::{FaultKind, InputFault, accepts_files, refuses_by_the_rule};
 use byte_edge::{Gate, ReadStop, Sink, Source, read_all};
 use meek_words::{Command, LotWords, WordsStop, read_words, words_have_one_command};
@@ -22,12 +22,12 @@ const LIMIT: usize = 67_108_864;
 /// sink, with one flush behind the last byte. The words are read first, then the source; want of
 /// memory may end a run before its first byte is written, and never after it.
 pub fn meek<R: Threads + Wait + Sync, S: Source, K: Sink, G: Gate + Sync>(
-    _rt: &R,
+    rt: &R,
     alloc: Global,
     words: &[String],
     source: &mut S,
     sink: &mut K,
-    _gate: &G,
+    gate: &G,
 ) -> Outcome
     ensures run { IsRun (map string_bytes words.now)
         (record { left = S.left source.old; left_then = S.left source.new; faults = S.faults source.old; faults_then = S.faults source.new })
@@ -45,12 +45,14 @@ pub fn meek<R: Threads + Wait + Sync, S: Source, K: Sink, G: Gate + Sync>(
     refuses_by_the_rule();
     words_have_one_command();
     Outcome {
-        status: status_of(alloc, words, source, sink),
+        status: status_of(rt, gate, alloc, words, source, sink),
     }
 }
 
-/// The whole run, which asks nothing of the runtime.
-fn status_of<S: Source, K: Sink>(
+/// The whole run.
+fn status_of<R: Threads + Sync, S: Source, K: Sink, G: Gate + Sync>(
+    rt: &R,
+    gate: &G,
     alloc: Global,
     words: &[String],
     source: &mut S,
@@ -63,8 +65,8 @@ fn status_of<S: Source, K: Sink>(
     ensures read { IsReadFor result
         (record { left = S.left source.old; left_then = S.left source.new; faults = S.faults source.old; faults_then = S.faults source.new }) }
 {
-    let lots = match lots_of(alloc, words) {
-        Ok(lots) => lots,
+    let asked = match count_of(alloc, words) {
+        Ok(asked) => asked,
         Err(WordsStop::BadWords) => return finish(sink, Status::BadWords, b"refused BadWords\n"),
         Err(WordsStop::NoMemory) => return Status::NoMemory,
     };
@@ -74,16 +76,32 @@ fn status_of<S: Source, K: Sink>(
         Err(ReadStop::Failed) => return Status::SourceFault,
         Err(ReadStop::NoMemory) => return Status::NoMemory,
     };
-    count(alloc, input.as_slice(), lots.items(), sink)
+    count(rt, gate, alloc, input.as_slice(), asked.lots.items(), asked.split, sink)
 }
 
-/// The lots of a count, where the words ask for one.
-fn lots_of(alloc: Global, words: &[String]) -> Result<LotWords, WordsStop>
-    ensures asked { IfOk result (AsksForCount (map string_bytes words.now)) }
+/// What the words of a count say.
+#[derive(Drop)]
+struct Asked {
+    lots: LotWords,
+    split: Split,
+}
+
+/// What the words say, where they ask for a count.
+fn count_of(alloc: Global, words: &[String]) -> Result<Asked, WordsStop>
+    ensures asked { IfOk result (λ asked. AsksForCount (map string_bytes words.now) asked.lots) }
+    ensures shards { IfOk result (λ asked. 1 ≤ asked.split.shards) }
+    ensures workers { IfOk result (λ asked. (1 ≤ asked.split.workers) × (asked.split.workers ≤ 32)) }
     ensures none { result ≡ Err WordsStop.BadWords → (lots : List ℕ) → ¬ AsksForCount (map string_bytes words.now) lots }
 {
     match read_words(alloc, words) {
-        Ok(Command::Count { lots, .. }) => Ok(lots),
+        Ok(Command::Count {
+            lots,
+            shards,
+            workers,
+        }) => Ok(Asked {
+            lots,
+            split: Split { shards, workers },
+        }),
         Ok(Command::Day { .. }) => Err(WordsStop::BadWords),
         Ok(Command::Trial { .. }) => Err(WordsStop::BadWords),
         Err(WordsStop::BadWords) => Err(WordsStop::BadWords),

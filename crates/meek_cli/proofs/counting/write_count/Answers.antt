@@ -1,5 +1,4 @@
 use Rattle.std.proofs.Common.{◌≡◌, ℕ, ap, ◌∙◌, subst, sym}
-use Rattle.plain_ballots.specs.Ballots.{BallotList, plain}
 use Rattle.meek_rule.specs.Situation.{Situation}
 use Rattle.byte_edge.specs.Faults.{Rose}
 use Rattle.meek_cli.proofs.CountEnding.{IsCountOf, stopped_in_sheet, stopped_in_flush, wrote_sheet}
@@ -7,9 +6,9 @@ use Rattle.meek_cli.proofs.counting.write_count.Goals as goal
 
 pub returns-in-Err-write_sheet : goal.returns-in-Err-write_sheet
 returns-in-Err-write_sheet g c =
-    let of : IsCountOf c.args.roll.now c.args.lots.now c.args.ballots.lines c.in-Ok.count = record {
+    let of : IsCountOf c.args.roll.now c.args.lots.now (g.D.Spread.ballots c.args.spread) c.in-Ok.count = record {
       omega_is = ap (λ (now : Situation). now.omega) c.in-Ok.ensures.opens ∙ c.from_units-omega.ensures;
-      ballots_are = c.in-Ok.ensures.ballots ∙ ap (λ (b : BallotList). plain b.lines) c.new.ensures;
+      ballots_are = c.in-Ok.ensures.ballots;
       roll_is = c.in-Ok.ensures.roll;
       lots_are = c.in-Ok.ensures.lots;
     } in
@@ -17,9 +16,9 @@ returns-in-Err-write_sheet g c =
 
 pub returns-in-Err-flush : goal.returns-in-Err-flush
 returns-in-Err-flush g c =
-    let of : IsCountOf c.args.roll.now c.args.lots.now c.args.ballots.lines c.in-Ok.count = record {
+    let of : IsCountOf c.args.roll.now c.args.lots.now (g.D.Spread.ballots c.args.spread) c.in-Ok.count = record {
       omega_is = ap (λ (now : Situation). now.omega) c.in-Ok.ensures.opens ∙ c.from_units-omega.ensures;
-      ballots_are = c.in-Ok.ensures.ballots ∙ ap (λ (b : BallotList). plain b.lines) c.new.ensures;
+      ballots_are = c.in-Ok.ensures.ballots;
       roll_is = c.in-Ok.ensures.roll;
       lots_are = c.in-Ok.ensures.lots;
     } in
@@ -30,9 +29,9 @@ returns-in-Err-flush g c =
 
 pub returns : goal.returns
 returns g c =
-    let of : IsCountOf c.args.roll.now c.args.lots.now c.args.ballots.lines c.in-Ok.count = record {
+    let of : IsCountOf c.args.roll.now c.args.lots.now (g.D.Spread.ballots c.args.spread) c.in-Ok.count = record {
       omega_is = ap (λ (now : Situation). now.omega) c.in-Ok.ensures.opens ∙ c.from_units-omega.ensures;
-      ballots_are = c.in-Ok.ensures.ballots ∙ ap (λ (b : BallotList). plain b.lines) c.new.ensures;
+      ballots_are = c.in-Ok.ensures.ballots;
       roll_is = c.in-Ok.ensures.roll;
       lots_are = c.in-Ok.ensures.lots;
     } in

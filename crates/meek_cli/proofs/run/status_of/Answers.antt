@@ -21,7 +21,7 @@ returns-in-Err-TooLong-clause-run g c =
 -- a whole input
 pub returns-clause-run : goal.returns-clause-run
 returns-clause-run g c =
-    let counts : FinishesCount c.in-Ok.lots c.in-Ok-read_all.input.items c.count.result (record { written = g.K.Sink.written c.args.sink.now; written_then = g.K.Sink.written c.count.new.sink; faults = g.K.Sink.faults c.args.sink.now; faults_then = g.K.Sink.faults c.count.new.sink }) =
+    let counts : FinishesCount c.in-Ok.asked.lots c.in-Ok-read_all.input.items c.count.result (record { written = g.K.Sink.written c.args.sink.now; written_then = g.K.Sink.written c.count.new.sink; faults = g.K.Sink.faults c.args.sink.now; faults_then = g.K.Sink.faults c.count.new.sink }) =
     subst (λ (lots : List ℕ). FinishesCount lots c.in-Ok-read_all.input.items c.count.result (record { written = g.K.Sink.written c.args.sink.now; written_then = g.K.Sink.written c.count.new.sink; faults = g.K.Sink.faults c.args.sink.now; faults_then = g.K.Sink.faults c.count.new.sink })) c.items.ensures
     (subst (λ (input : List ℕ). FinishesCount c.items.result.now input c.count.result (record { written = g.K.Sink.written c.args.sink.now; written_then = g.K.Sink.written c.count.new.sink; faults = g.K.Sink.faults c.args.sink.now; faults_then = g.K.Sink.faults c.count.new.sink })) c.as_slice.ensures.value c.count.ensures) in
-    counted (map string_bytes c.args.words.now) (record { left = g.S.Source.left c.args.source.now; left_then = g.S.Source.left c.read_all.new.source; faults = g.S.Source.faults c.args.source.now; faults_then = g.S.Source.faults c.read_all.new.source }) (record { written = g.K.Sink.written c.args.sink.now; written_then = g.K.Sink.written c.count.new.sink; faults = g.K.Sink.faults c.args.sink.now; faults_then = g.K.Sink.faults c.count.new.sink }) c.in-Ok-read_all.input.items c.in-Ok.lots c.count.result c.in-Ok-read_all.ensures.faults c.in-Ok.ensures.asked c.in-Ok-read_all.ensures.all c.in-Ok-read_all.ensures.end counts
+    counted (map string_bytes c.args.words.now) (record { left = g.S.Source.left c.args.source.now; left_then = g.S.Source.left c.read_all.new.source; faults = g.S.Source.faults c.args.source.now; faults_then = g.S.Source.faults c.read_all.new.source }) (record { written = g.K.Sink.written c.args.sink.now; written_then = g.K.Sink.written c.count.new.sink; faults = g.K.Sink.faults c.args.sink.now; faults_then = g.K.Sink.faults c.count.new.sink }) c.in-Ok-read_all.input.items c.in-Ok.asked.lots c.count.result c.in-Ok-read_all.ensures.faults c.in-Ok.ensures.asked c.in-Ok-read_all.ensures.all c.in-Ok-read_all.ensures.end counts

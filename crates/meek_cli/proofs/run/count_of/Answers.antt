@@ -1,6 +1,6 @@
 use Rattle.meek_words.specs.declared.command.Command.TheVariants.{Count}
 use Rattle.std.proofs.Common.{refl}
-use Rattle.meek_cli.proofs.run.lots_of.Goals as goal
+use Rattle.meek_cli.proofs.run.count_of.Goals as goal
 
 pub returns-in-Err-BadWords-clause-none : goal.returns-in-Err-BadWords-clause-none
 returns-in-Err-BadWords-clause-none c =
