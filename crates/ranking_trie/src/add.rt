@@ -19,7 +19,7 @@ pub(crate) fn put<L: Ledger>(
     requires room { length ranks.now ≤ vec_len spare.old }
     requires few { length (replicate ends [] ++ bag forest) + count < 2 ^ 32 }
     requires rising { IsRising 0 forest }
-    requires numbers { All (λ r. 1 ≤ r) ranks.now }
+    requires numbers { All (λ r. (1 ≤ r) × (r ≤ 250)) ranks.now }
     requires some { 1 ≤ count }
     ensures bag { IsPermutation (replicate result.0 [] ++ bag result.1) (replicate count ranks.now ++ (replicate ends [] ++ bag forest)) }
     ensures rising { IsRising 0 result.1 }
@@ -47,7 +47,7 @@ fn add<L: Ledger>(
     requires room { length ranks.now ≤ vec_len spare.old + at }
     requires few { length (bag forest) + count < 2 ^ 32 }
     requires rising { IsRising 0 forest }
-    requires numbers { All (λ r. 1 ≤ r) ranks.now }
+    requires numbers { All (λ r. (1 ≤ r) × (r ≤ 250)) ranks.now }
     requires some { 1 ≤ count }
     ensures bag { IsPermutation (bag result) (replicate count (drop at ranks.now) ++ bag forest) }
     ensures rising { IsRising 0 result }
@@ -56,7 +56,7 @@ fn add<L: Ledger>(
     ensures cost { steps.new ≡ steps.old + (length ranks.now - at) }
 {
     steps.tick();
-    let c = ranks[at];
+    let c = ranks[at] as u16;
     let (passed, rest) = pass_smaller(forest, c);
     let (ends, inner, pair) = find_or_make(rest, c, spare);
     let (ends, inner) = if at + 1 == ranks.len() {

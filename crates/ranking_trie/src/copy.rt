@@ -32,7 +32,7 @@ pub(crate) fn copy_forest(alloc: Global, forest: &Forest) -> Result<Forest, NoMe
 /// Puts a node on siblings whose order is turned round.
 fn stack(
     alloc: Global,
-    c: u32,
+    c: u16,
     ends: u32,
     inner: Forest,
     copied: Forest,

@@ -33,10 +33,10 @@ fn find(forest: &Forest, c: u32) -> Option<(u32, &Forest)>
 {
     let mut rest = forest;
     while let Forest::Grow(d, ends, pair) = rest {
-        if c == *d {
+        if c == *d as u32 {
             return Some((*ends, &pair.inner));
         }
-        if c < *d {
+        if c < *d as u32 {
             return None;
         }
         rest = &pair.next;

@@ -34,7 +34,7 @@ pub(crate) fn push_lines(
 #[cycle(lines)]
 fn push_node(
     alloc: Global,
-    c: u32,
+    c: u16,
     ends: u32,
     inner: &Forest,
     ranks: &mut Vec<u32>,
@@ -45,7 +45,7 @@ fn push_node(
     ensures ranks { IfOk result (λ _. ranks.new.items ≡ ranks.old.items) }
     ensures lines { IfOk result (λ _. ballots.new ≡ record ballots.old { lines = ballots.old.lines ++ map (behind ranks.old.items) (node_lines c ends (lines_of inner.now)) }) }
 {
-    let Ok(()) = ranks.push(c) else {
+    let Ok(()) = ranks.push(c as u32) else {
         return Err(NoMemory);
     };
     push_line(alloc, ends, ranks.as_slice(), ballots)?;
