@@ -41,8 +41,10 @@ fn stack(
     requires some { 1 ≤ ends + length (bag inner) }
     requires inner { IsRising 0 inner }
     requires falling { IsFalling c copied }
-    ensures bag { IfOk result (λ stacked. bag_back stacked ≡ bag_back copied ++ below c ends (bag inner)) }
-    ensures nodes { IfOk result (λ stacked. node_count stacked ≡ node_count copied + 1 + node_count inner) }
+    ensures bag { IfOk result (λ stacked.
+        bag_back stacked ≡ bag_back copied ++ below c ends (bag inner)) }
+    ensures nodes { IfOk result (λ stacked.
+        node_count stacked ≡ node_count copied + 1 + node_count inner) }
     ensures falling { IfOk result (λ stacked. IsFalling (c + 1) stacked) }
 {
     let pair = Pair {

@@ -1,5 +1,5 @@
 // A candidate's place among siblings.
-ghost use Rattle.std.specs.Prelude.{◌≡◌, ℕ, ◌+◌, ◌-◌, ◌<◌, ◌≤◌, ◌++◌, length, vec_len};
+ghost use Rattle.std.specs.Prelude.{◌≡◌, ◌+◌, ◌-◌, ◌<◌, ◌≤◌, ◌++◌, length, vec_len};
 ghost use Rattle.ranking_trie.specs.Bag.{bag, bag_back, below, node_count, IsRising, IsFalling, IsFirst, AreParted};
 
 use crate::{Forest, Pair};
@@ -64,7 +64,8 @@ pub(crate) fn find_or_make(
     ensures inner { IsRising 0 result.1 }
     ensures next { IsRising c result.2.value.next }
     ensures room { vec_len spare.old ≤ vec_len spare.new + 1 }
-    ensures nodes { 1 + node_count result.1 + node_count result.2.value.next + vec_len spare.new ≡ node_count rest + vec_len spare.old }
+    ensures nodes { 1 + node_count result.1 + node_count result.2.value.next + vec_len spare.new
+        ≡ node_count rest + vec_len spare.old }
 {
     match rest {
         Forest::Grow(d, ends, mut pair) if d == c => {
@@ -127,7 +128,8 @@ pub(crate) fn plant_if_needed(
     requires counted { 1 ≤ nodes.old }
     ensures bag { bag result ≡ below c ends (bag inner) ++ bag pair.value.next }
     ensures rising { IsRising (c - 1) result }
-    ensures counted { nodes.new + (1 + node_count inner + node_count pair.value.next) ≡ nodes.old + node_count result }
+    ensures counted { nodes.new + (1 + node_count inner + node_count pair.value.next)
+        ≡ nodes.old + node_count result }
 {
     match inner {
         Forest::Empty if ends == 0 => {
