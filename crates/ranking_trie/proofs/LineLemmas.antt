@@ -49,6 +49,15 @@ line_counted old now new lines i line inside at so_far here =
     let one : length (ballots_of line) ≡ line.count = length-replicate line.count line.ranking in
     omega (arith, length_permutation new (ballots_of line ++ now) here)
 
+-- and smaller by its count without them
+pub line_uncounted : (old : ℕ) (now new : List (List ℕ)) (lines : List BallotLine) (i : ℕ) (line : BallotLine) → i < length lines → line ≡ get_or lines i line → old ≡ length now + ballot_count (take i lines) → IsPermutation now (ballots_of line ++ new) → old ≡ length new + ballot_count (take (i + 1) lines)
+line_uncounted old now new lines i line inside at so_far here =
+    let more : ballot_count (take (i + 1) lines) ≡ ballot_count (take i lines) + line.count =
+    sum_by_more (λ (l : BallotLine). l.count) lines i line inside ∙ ap (λ (l : BallotLine). ballot_count (take i lines) + l.count) (sym at) in
+    let two = length-append (ballots_of line) new in
+    let one : length (ballots_of line) ≡ line.count = length-replicate line.count line.ranking in
+    omega (arith, length_permutation now (ballots_of line ++ new) here)
+
 pub count_left : (lines : List BallotLine) (i : ℕ) (line : BallotLine) → i < length lines → line ≡ get_or lines i line → ballot_count (take i lines) + line.count ≤ ballot_count lines
 count_left lines i line inside at =
     subst (λ (l : BallotLine). ballot_count (take i lines) + l.count ≤ ballot_count lines) (sym at) (sum_by_more_le (λ (l : BallotLine). l.count) lines i line inside)

@@ -2,7 +2,7 @@ use Rattle.std.proofs.Common.{◌≡◌, ◌++◌, ◌<◌, List, length, get_or
 use Rattle.std.specs.List.Sorted.{IsPermutation}
 use Rattle.plain_ballots.specs.declared.ballot_line.BallotLine.{BallotLine}
 use Rattle.plain_ballots.specs.Ballots.{plain}
-use Rattle.ranking_trie.proofs.LineLemmas.{line_held, line_removed, visits_more}
+use Rattle.ranking_trie.proofs.LineLemmas.{line_held, line_removed, line_uncounted, visits_more}
 use Rattle.ranking_trie.proofs.trie.Trie.remove.Goals as goal
 
 pub remove_line-requires-clause-held : goal.remove_line-requires-clause-held
@@ -22,6 +22,7 @@ loop-line-preserved g c =
     record {
       candidates = c.remove_line.ensures.candidates ∙ c.loop-line.invariant.candidates;
       bag = line_removed c.args.self.now.ballots c.loop-line.self.ballots c.remove_line.new.self.ballots lines i line inside at c.loop-line.invariant.bag c.remove_line.ensures.bag;
+      counted = line_uncounted (length c.args.self.now.ballots) c.loop-line.self.ballots c.remove_line.new.self.ballots lines i line inside at c.loop-line.invariant.counted c.remove_line.ensures.bag;
       room = omega arith;
       cost = omega (arith, visits_more lines i line inside at);
     }
