@@ -37,7 +37,7 @@ pub(crate) fn push_forest(forest: &Forest, depth: u16, rows: &mut Vec<PlanRow>) 
 /// Appends a node at which `ends` ballots end, and those below it.
 #[cycle(rows)]
 fn push_node(
-    candidate: u32,
+    candidate: u16,
     ends: u32,
     inner: &Forest,
     depth: u16,
@@ -53,7 +53,7 @@ fn push_node(
     let at = rows.len();
     let row = PlanRow {
         depth,
-        candidate: candidate as u16,
+        candidate,
         ballots: 0,
         skip: 0,
     };

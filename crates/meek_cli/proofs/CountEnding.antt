@@ -24,7 +24,7 @@ use Rattle.meek_cli.specs.declared.status.Status.TheVariants.{Done, BadInput, Si
 use Rattle.meek_cli.specs.Streams.{Writing, NoWriteFailed}
 use Rattle.meek_cli.specs.Refusals.{fault_line}
 use Rattle.meek_cli.specs.Owed.{limit}
-use Rattle.meek_cli.specs.Run.{FinishesCount, RefusesLots, WritesCount}
+use Rattle.meek_cli.specs.Run.{FinishesCount, RefusesLots, WritesCount, WritesSheet}
 
 -- the count is of these ballots, this roll and these lots, with the program's omega
 pub record IsCountOf (roll : RollList) (lots : List ℕ) (ballots : List (List ℕ)) (count : Progress) : Type 0 where
@@ -44,35 +44,30 @@ sheet_of roll lots ballots count text of is =
 
 -- writing the sheet failed
 pub stopped_in_sheet :
-    (roll : RollList) (lots : List ℕ) (ballots : List (List ℕ)) (count : Progress) (sink : Writing)
-    → IsCountOf roll lots ballots count → AppendsFrontOfSheet 9 count sink.written sink.written_then
-    → Rose sink.faults sink.faults_then → WritesCount roll lots ballots SinkFault sink
-stopped_in_sheet roll lots ballots count sink of (text, is, front) rose =
-    inr (text, sheet_of roll lots ballots count text of is, inr (refl, rose, front))
+    (count : Progress) (sink : Writing) → AppendsFrontOfSheet 9 count sink.written sink.written_then
+    → Rose sink.faults sink.faults_then → WritesSheet count SinkFault sink
+stopped_in_sheet count sink (text, is, front) rose = (text, is, inr (refl, rose, front))
 
 -- the flush behind the sheet failed
 pub stopped_in_flush :
-    (roll : RollList) (lots : List ℕ) (ballots : List (List ℕ)) (count : Progress) (sink : Writing) (mid : Option (List ℕ))
-    → IsCountOf roll lots ballots count → AppendsSheet 9 count sink.written mid → Keeps mid sink.written_then
-    → Rose sink.faults sink.faults_then → WritesCount roll lots ballots SinkFault sink
-stopped_in_flush roll lots ballots count sink mid of (text, is, whole) kept rose =
-    inr (
-      text,
-      sheet_of roll lots ballots count text of is,
-      inr (refl, rose, (text, [], sym (append-nil text), Appends-kept sink.written mid sink.written_then text whole kept)),
-    )
+    (count : Progress) (sink : Writing) (mid : Option (List ℕ)) → AppendsSheet 9 count sink.written mid
+    → Keeps mid sink.written_then → Rose sink.faults sink.faults_then → WritesSheet count SinkFault sink
+stopped_in_flush count sink mid (text, is, whole) kept rose =
+    (text, is, inr (refl, rose, (text, [], sym (append-nil text), Appends-kept sink.written mid sink.written_then text whole kept)))
 
 -- the sheet was written
 pub wrote_sheet :
-    (roll : RollList) (lots : List ℕ) (ballots : List (List ℕ)) (count : Progress) (sink : Writing) (mid : Option (List ℕ))
-    → IsCountOf roll lots ballots count → AppendsSheet 9 count sink.written mid → Keeps mid sink.written_then
-    → NoWriteFailed sink → WritesCount roll lots ballots Done sink
-wrote_sheet roll lots ballots count sink mid of (text, is, whole) kept calm =
-    inr (
-      text,
-      sheet_of roll lots ballots count text of is,
-      inl (refl, calm, Appends-kept sink.written mid sink.written_then text whole kept),
-    )
+    (count : Progress) (sink : Writing) (mid : Option (List ℕ)) → AppendsSheet 9 count sink.written mid
+    → Keeps mid sink.written_then → NoWriteFailed sink → WritesSheet count Done sink
+wrote_sheet count sink mid (text, is, whole) kept calm =
+    (text, is, inl (refl, calm, Appends-kept sink.written mid sink.written_then text whole kept))
+
+-- a count of these ballots wrote its sheet
+pub counted_ballots :
+    (roll : RollList) (lots : List ℕ) (ballots : List (List ℕ)) (count : Progress) (status : Status) (sink : Writing)
+    → IsCountOf roll lots ballots count → WritesSheet count status sink → WritesCount roll lots ballots status sink
+counted_ballots roll lots ballots count status sink of (bytes, is, finishes) =
+    inr (bytes, sheet_of roll lots ballots count bytes of is, finishes)
 
 -- The ballots may stand in any order.
 pub in_any_order :

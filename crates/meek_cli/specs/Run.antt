@@ -2,7 +2,8 @@
 use Rattle.std.specs.Prelude.{◌≡◌, ◌⊎◌, ℕ, List, Some, MatchOption}
 use Rattle.lot_order.specs.declared.lots_stop.LotsStop.{LotsStop}
 use Rattle.candidate_roll.specs.Roll.{RollList}
-use Rattle.sheet_text.specs.Sheet.{IsSheet}
+use Rattle.meek_count.specs.Progress.{Progress}
+use Rattle.sheet_text.specs.Sheet.{IsSheet, IsSheetOf}
 use Rattle.std.specs.Io.KnownBytes.{Appends, IsAtEnd}
 use Rattle.blt_reader.specs.Poll.{Poll}
 use Rattle.byte_edge.specs.Bytes.{AppendsFront}
@@ -61,6 +62,10 @@ abbrev pub FinishesCount : (lots input : List ℕ) → Status → Writing → Ty
 FinishesCount lots input status sink =
     ((status ≡ NoMemory) × NothingWritten sink)
     ⊎ ((due : Status) × (bytes : List ℕ) × IsOwedForCount lots input due bytes × Finishes due bytes status sink)
+
+-- what the writing of a count's sheet came to
+abbrev pub WritesSheet : Progress → Status → Writing → Type 0
+WritesSheet count status sink = (bytes : List ℕ) × IsSheetOf 9 count bytes × Finishes Done bytes status sink
 
 -- what a count of these ballots came to: the sheet was written, or memory was wanted before the first byte
 abbrev pub WritesCount : RollList → (lots : List ℕ) → (ballots : List (List ℕ)) → Status → Writing → Type 0

@@ -4,7 +4,8 @@ ghost use Rattle.fixed_place.specs.Rounding.{scale};
 ghost use Rattle.plain_ballots.specs.Ballots.{plain};
 ghost use Rattle.vote_spread.specs.Lanes.{HaveCounted};
 ghost use Rattle.meek_cli.specs.Owed.{lots_fault};
-ghost use Rattle.meek_cli.specs.Run.{FinishesCount, RefusesLots, WritesCount};
+ghost use Rattle.meek_cli.specs.Run.{FinishesCount, RefusesLots, WritesCount, WritesSheet};
+ghost use Rattle.meek_count.specs.Progress.{HasJustBegun};
 
 use crate::refusal::refuse;
 use crate::{Split, Status};
@@ -109,33 +110,23 @@ fn count_in_lanes<R: Threads + Sync, K: Sink, G: Gate + Sync>(
         requires { lanes.now.scale ≡ scale 9 }
         ensures { HaveCounted lanes.entry.now lanes.exit.now }
     { lanes.run::<9, R, G>(rt, gate) };
-    match PlanSpread::<9, _>::begin(alloc, plans, candidates, split.workers, run) {
-        Ok(spread) => write_count(alloc, roll, lots, spread, sink),
+    let spread = match PlanSpread::<9, _>::begin(alloc, plans, candidates, split.workers, run) {
+        Ok(spread) => spread,
+        Err(_) => return Status::NoMemory,
+    };
+    match Count::begin(alloc, roll, lots, spread, Amount::<9>::from_units(OMEGA)) {
+        Ok(mut count) => write_count(&mut count, sink),
         Err(_) => Status::NoMemory,
     }
 }
 
-/// Counts the ballots and writes the sheet. All memory is taken before the first byte.
-fn write_count<D: Spread<9> + Drop, K: Sink>(
-    alloc: Global,
-    roll: &Roll,
-    lots: &Lots,
-    spread: D,
-    sink: &mut K,
-) -> Status
-    requires lots_of_all { length lots.now ≡ length roll.now.names }
-    requires can_spread { D.can_spread spread }
-    requires spread_of_all { D.candidates spread ≡ length roll.now.names }
-    requires few_ballots { length (D.ballots spread) ≤ 999999999 }
-    ensures { WritesCount roll.now lots.now (D.ballots spread) result
+/// Writes the sheet of a count that was just begun, and flushes.
+fn write_count<D: Spread<9> + Drop, K: Sink>(count: &mut Count<'_, 9, D>, sink: &mut K) -> Status
+    requires { HasJustBegun (scale 9) count.old }
+    ensures { WritesSheet count.old result
         (record { written = K.written sink.old; written_then = K.written sink.new; faults = K.faults sink.old; faults_then = K.faults sink.new }) }
 {
-    let omega = Amount::<9>::from_units(OMEGA);
-    let mut count = match Count::begin(alloc, roll, lots, spread, omega) {
-        Ok(count) => count,
-        Err(_) => return Status::NoMemory,
-    };
-    if let Err(_) = write_sheet(&mut count, sink) {
+    if let Err(_) = write_sheet(count, sink) {
         return Status::SinkFault;
     }
     if let Err(_) = sink.flush() {

@@ -4,14 +4,16 @@ use Rattle.std.specs.List.{AllByRecursion}
 use Rattle.std.specs.List.Sorted.{IsPermutation, IsStrictlySortedBy}
 use Rattle.std.specs.Cmp.Lexicographic.{pointwise}
 use Rattle.std.proofs.lemmas.List.{append_cancel_left, get_or_append_left, get_or-map, length-append, length-map}
+use Rattle.std.proofs.lemmas.List.Elements.{recursion_from_All}
 use Rattle.std.proofs.lemmas.List.Sorted.{sum_by-IsPermutation}
 use Rattle.std.proofs.lemmas.Slice.Eq.{bytes_eq-Decides}
 use Rattle.plain_ballots.specs.declared.ballot_line.BallotLine.{BallotLine}
 use Rattle.plain_ballots.specs.Ballots.{plain}
+use Rattle.plain_ballots.specs.Ranking.{IsRanking}
 use Rattle.ranking_trie.specs.declared.forest.Forest.{Forest}
 use Rattle.ranking_trie.specs.declared.forest.Forest.TheVariants.{Empty, Grow'}
 use Rattle.ranking_trie.specs.Bag.{below, bag, node_count, IsRising, HaveSameForm}
-use Rattle.ranking_trie.specs.BallotBag.{AreInOrder, count_of}
+use Rattle.ranking_trie.specs.BallotBag.{AreInOrder, IsSoundBag, count_of}
 use Rattle.ranking_trie.specs.Lines.{line_of, behind, node_lines, lines_of, HaveRisingRankings}
 use Rattle.ranking_trie.proofs.CountLemmas.{one_for, one_for-own, count_of-append, count_of-cons, count_of_blank}
 use Rattle.ranking_trie.proofs.ListingLemmas.{plain-lines, plain-listed, length-below}
@@ -209,3 +211,8 @@ nodes_of_form ballots ends nodes own f are rising counted rising_f are_f =
     append_cancel_left (replicate ends []) (bag own) (bag f)
     (sym are ∙ (are_f ∙ ap (λ (k : ℕ). replicate {A = List ℕ} k [] ++ bag f) blank)) in
     counted ∙ nodes-HaveSameForm own f (same_form 0 0 own f rising rising_f same)
+
+-- a ranking of which a trie has a ballot is one of its candidates
+pub held_ranking : (n total count : ℕ) (r : List ℕ) (ballots : List (List ℕ)) → IsSoundBag n total ballots → 1 ≤ count → count ≤ count_of r ballots → IsRanking n r
+held_ranking n total count r ballots sound some held =
+    has_each (IsRanking n) r ballots (recursion_from_All (IsRanking n) ballots sound.rankings) (omega arith)

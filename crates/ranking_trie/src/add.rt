@@ -1,6 +1,6 @@
 // Ballots put into a trie.
-ghost use Rattle.std.specs.Prelude.{◌≡◌, ℕ, ◌+◌, ◌-◌, ◌^◌, ◌<◌, ◌≤◌, [], ◌++◌, length, drop, replicate, vec_len, All, IsPermutation};
-ghost use Rattle.ranking_trie.specs.Bag.{bag, node_count, IsRising};
+ghost use Rattle.std.specs.Prelude.{◌≡◌, ◌+◌, ◌-◌, ◌^◌, ◌<◌, ◌≤◌, ◌++◌, length, drop, replicate, vec_len, All, IsPermutation};
+ghost use Rattle.ranking_trie.specs.Bag.{bag, node_count, root_bag, IsRising};
 
 use crate::siblings::{find_or_make, pass_smaller, plant, put_back};
 use crate::{Forest, Pair};
@@ -17,11 +17,12 @@ pub(crate) fn put<L: Ledger>(
     steps: &mut Steps<L>,
 ) -> (u32, Forest)
     requires room { length ranks.now ≤ vec_len spare.old }
-    requires few { length (replicate ends [] ++ bag forest) + count < 2 ^ 32 }
+    requires few { length (root_bag ends forest) + count < 2 ^ 32 }
     requires rising { IsRising 0 forest }
-    requires numbers { All (λ r. 1 ≤ r) ranks.now }
+    requires numbers { All (λ r. (1 ≤ r) × (r ≤ 250)) ranks.now }
     requires some { 1 ≤ count }
-    ensures bag { IsPermutation (replicate result.0 [] ++ bag result.1) (replicate count ranks.now ++ (replicate ends [] ++ bag forest)) }
+    ensures bag { IsPermutation (root_bag result.0 result.1)
+        (replicate count ranks.now ++ root_bag ends forest) }
     ensures rising { IsRising 0 result.1 }
     ensures room { vec_len spare.old ≤ vec_len spare.new + length ranks.now }
     ensures nodes { node_count result.1 + vec_len spare.new ≡ node_count forest + vec_len spare.old }
@@ -47,7 +48,7 @@ fn add<L: Ledger>(
     requires room { length ranks.now ≤ vec_len spare.old + at }
     requires few { length (bag forest) + count < 2 ^ 32 }
     requires rising { IsRising 0 forest }
-    requires numbers { All (λ r. 1 ≤ r) ranks.now }
+    requires numbers { All (λ r. (1 ≤ r) × (r ≤ 250)) ranks.now }
     requires some { 1 ≤ count }
     ensures bag { IsPermutation (bag result) (replicate count (drop at ranks.now) ++ bag forest) }
     ensures rising { IsRising 0 result }
@@ -56,7 +57,7 @@ fn add<L: Ledger>(
     ensures cost { steps.new ≡ steps.old + (length ranks.now - at) }
 {
     steps.tick();
-    let c = ranks[at];
+    let c = ranks[at] as u16;
     let (passed, rest) = pass_smaller(forest, c);
     let (ends, inner, pair) = find_or_make(rest, c, spare);
     let (ends, inner) = if at + 1 == ranks.len() {

@@ -32,7 +32,7 @@ pub(crate) fn copy_forest(alloc: Global, forest: &Forest) -> Result<Forest, NoMe
 /// Puts a node on siblings whose order is turned round.
 fn stack(
     alloc: Global,
-    c: u32,
+    c: u16,
     ends: u32,
     inner: Forest,
     copied: Forest,
@@ -41,8 +41,10 @@ fn stack(
     requires some { 1 ≤ ends + length (bag inner) }
     requires inner { IsRising 0 inner }
     requires falling { IsFalling c copied }
-    ensures bag { IfOk result (λ stacked. bag_back stacked ≡ bag_back copied ++ below c ends (bag inner)) }
-    ensures nodes { IfOk result (λ stacked. node_count stacked ≡ node_count copied + 1 + node_count inner) }
+    ensures bag { IfOk result (λ stacked.
+        bag_back stacked ≡ bag_back copied ++ below c ends (bag inner)) }
+    ensures nodes { IfOk result (λ stacked.
+        node_count stacked ≡ node_count copied + 1 + node_count inner) }
     ensures falling { IfOk result (λ stacked. IsFalling (c + 1) stacked) }
 {
     let pair = Pair {

@@ -7,5 +7,5 @@ use crate::Pair;
 #[derive(Drop)]
 pub enum Forest {
     Empty,
-    Grow(u32, u32, Box<Pair>),
+    Grow(u16, u32, Box<Pair>),
 }

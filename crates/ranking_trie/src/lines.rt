@@ -17,10 +17,13 @@ pub(crate) fn push_lines(
     ranks: &mut Vec<u32>,
     ballots: &mut Ballots,
 ) -> Result<(), NoMemory>
-    requires rankings { All (λ r. IsRanking ballots.old.candidates (ranks.old.items ++ r)) (bag forest.now) }
+    requires rankings { All (λ r. IsRanking ballots.old.candidates (ranks.old.items ++ r))
+        (bag forest.now) }
     requires few { ballot_count ballots.old.lines + length (bag forest.now) ≤ 999999999 }
     ensures ranks { IfOk result (λ _. ranks.new.items ≡ ranks.old.items) }
-    ensures lines { IfOk result (λ _. ballots.new ≡ record ballots.old { lines = ballots.old.lines ++ map (behind ranks.old.items) (lines_of forest.now) }) }
+    ensures lines { IfOk result (λ _. ballots.new ≡ record ballots.old {
+      lines = ballots.old.lines ++ map (behind ranks.old.items) (lines_of forest.now);
+    }) }
 {
     let mut rest = forest;
     while let Forest::Grow(c, ends, pair) = rest {
@@ -34,18 +37,23 @@ pub(crate) fn push_lines(
 #[cycle(lines)]
 fn push_node(
     alloc: Global,
-    c: u32,
+    c: u16,
     ends: u32,
     inner: &Forest,
     ranks: &mut Vec<u32>,
     ballots: &mut Ballots,
 ) -> Result<(), NoMemory>
-    requires rankings { All (λ r. IsRanking ballots.old.candidates (ranks.old.items ++ r)) (below c ends (bag inner.now)) }
-    requires few { ballot_count ballots.old.lines + length (below c ends (bag inner.now)) ≤ 999999999 }
+    requires rankings { All (λ r. IsRanking ballots.old.candidates (ranks.old.items ++ r))
+        (below c ends (bag inner.now)) }
+    requires few { ballot_count ballots.old.lines + length (below c ends (bag inner.now))
+        ≤ 999999999 }
     ensures ranks { IfOk result (λ _. ranks.new.items ≡ ranks.old.items) }
-    ensures lines { IfOk result (λ _. ballots.new ≡ record ballots.old { lines = ballots.old.lines ++ map (behind ranks.old.items) (node_lines c ends (lines_of inner.now)) }) }
+    ensures lines { IfOk result (λ _. ballots.new ≡ record ballots.old {
+      lines = ballots.old.lines
+          ++ map (behind ranks.old.items) (node_lines c ends (lines_of inner.now));
+    }) }
 {
-    let Ok(()) = ranks.push(c) else {
+    let Ok(()) = ranks.push(c as u32) else {
         return Err(NoMemory);
     };
     push_line(alloc, ends, ranks.as_slice(), ballots)?;
@@ -63,7 +71,9 @@ pub(crate) fn push_line(
 ) -> Result<(), NoMemory>
     requires ranking { 1 ≤ count → IsRanking ballots.old.candidates ranks.now }
     requires few { ballot_count ballots.old.lines + count ≤ 999999999 }
-    ensures { IfOk result (λ _. ballots.new ≡ record ballots.old { lines = ballots.old.lines ++ line_of count ranks.now }) }
+    ensures { IfOk result (λ _. ballots.new ≡ record ballots.old {
+      lines = ballots.old.lines ++ line_of count ranks.now;
+    }) }
 {
     if count == 0 {
         return Ok(());

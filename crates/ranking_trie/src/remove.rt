@@ -1,6 +1,6 @@
 // Ballots taken out of a trie.
-ghost use Rattle.std.specs.Prelude.{◌≡◌, ◌+◌, ◌-◌, ◌<◌, ◌≤◌, [], ◌++◌, length, drop, replicate, All, IsPermutation};
-ghost use Rattle.ranking_trie.specs.Bag.{bag, node_count, IsRising};
+ghost use Rattle.std.specs.Prelude.{◌≡◌, ◌+◌, ◌-◌, ◌<◌, ◌≤◌, ◌++◌, length, drop, replicate, All, IsPermutation};
+ghost use Rattle.ranking_trie.specs.Bag.{bag, node_count, root_bag, IsRising};
 ghost use Rattle.ranking_trie.specs.BallotBag.{count_of};
 
 use crate::Forest;
@@ -18,12 +18,13 @@ pub(crate) fn take_out<L: Ledger>(
     nodes: &mut usize,
     steps: &mut Steps<L>,
 ) -> (u32, Forest)
-    requires held { count ≤ count_of ranks.now (replicate ends [] ++ bag forest) }
+    requires held { count ≤ count_of ranks.now (root_bag ends forest) }
     requires rising { IsRising 0 forest }
-    requires numbers { All (λ r. 1 ≤ r) ranks.now }
+    requires numbers { All (λ r. (1 ≤ r) × (r ≤ 250)) ranks.now }
     requires some { 1 ≤ count }
     requires counted { nodes.old ≡ node_count forest }
-    ensures bag { IsPermutation (replicate ends [] ++ bag forest) (replicate count ranks.now ++ (replicate result.0 [] ++ bag result.1)) }
+    ensures bag { IsPermutation (root_bag ends forest)
+        (replicate count ranks.now ++ root_bag result.0 result.1) }
     ensures rising { IsRising 0 result.1 }
     ensures counted { nodes.new ≡ node_count result.1 }
     ensures cost { steps.new ≡ steps.old + length ranks.now + 1 }
@@ -47,7 +48,7 @@ fn remove<L: Ledger>(
     requires ranked { at < length ranks.now }
     requires held { count ≤ count_of (drop at ranks.now) (bag forest) }
     requires rising { IsRising 0 forest }
-    requires numbers { All (λ r. 1 ≤ r) ranks.now }
+    requires numbers { All (λ r. (1 ≤ r) × (r ≤ 250)) ranks.now }
     requires some { 1 ≤ count }
     requires counted { node_count forest ≤ nodes.old }
     ensures bag { IsPermutation (bag forest) (replicate count (drop at ranks.now) ++ bag result) }
@@ -56,7 +57,7 @@ fn remove<L: Ledger>(
     ensures cost { steps.new ≡ steps.old + (length ranks.now - at) }
 {
     steps.tick();
-    let c = ranks[at];
+    let c = ranks[at] as u16;
     let (passed, rest) = pass_smaller(forest, c);
     let (ends, inner, pair) = open_first(rest, c);
     let (ends, inner) = if at + 1 == ranks.len() {

@@ -1,12 +1,12 @@
 // A candidate's place among siblings.
-ghost use Rattle.std.specs.Prelude.{◌≡◌, ℕ, ◌+◌, ◌-◌, ◌<◌, ◌≤◌, ◌++◌, length, vec_len};
+ghost use Rattle.std.specs.Prelude.{◌≡◌, ◌+◌, ◌-◌, ◌<◌, ◌≤◌, ◌++◌, length, vec_len};
 ghost use Rattle.ranking_trie.specs.Bag.{bag, bag_back, below, node_count, IsRising, IsFalling, IsFirst, AreParted};
 
 use crate::{Forest, Pair};
 use std::mem;
 
 /// Parts the siblings below a candidate from the others, and turns their order round.
-pub(crate) fn pass_smaller(forest: Forest, c: u32) -> (Forest, Forest)
+pub(crate) fn pass_smaller(forest: Forest, c: u16) -> (Forest, Forest)
     requires number { 1 ≤ c }
     requires rising { IsRising 0 forest }
     ensures bag { bag_back result.0 ++ bag result.1 ≡ bag forest }
@@ -54,7 +54,7 @@ pub(crate) fn put_back(passed: Forest, rest: Forest) -> Forest
 /// stands below it, and what it is to be made of.
 pub(crate) fn find_or_make(
     rest: Forest,
-    c: u32,
+    c: u16,
     spare: &mut Vec<Box<Pair>>,
 ) -> (u32, Forest, Box<Pair>)
     requires room { 0 < vec_len spare.old }
@@ -64,7 +64,8 @@ pub(crate) fn find_or_make(
     ensures inner { IsRising 0 result.1 }
     ensures next { IsRising c result.2.value.next }
     ensures room { vec_len spare.old ≤ vec_len spare.new + 1 }
-    ensures nodes { 1 + node_count result.1 + node_count result.2.value.next + vec_len spare.new ≡ node_count rest + vec_len spare.old }
+    ensures nodes { 1 + node_count result.1 + node_count result.2.value.next + vec_len spare.new
+        ≡ node_count rest + vec_len spare.old }
 {
     match rest {
         Forest::Grow(d, ends, mut pair) if d == c => {
@@ -80,7 +81,7 @@ pub(crate) fn find_or_make(
 }
 
 /// A node before the others.
-pub(crate) fn plant(c: u32, ends: u32, inner: Forest, pair: Box<Pair>) -> Forest
+pub(crate) fn plant(c: u16, ends: u32, inner: Forest, pair: Box<Pair>) -> Forest
     requires number { 1 ≤ c }
     requires some { 1 ≤ ends + length (bag inner) }
     requires inner { IsRising 0 inner }
@@ -96,7 +97,7 @@ pub(crate) fn plant(c: u32, ends: u32, inner: Forest, pair: Box<Pair>) -> Forest
 
 /// The node of a candidate that stands first: its ends, what stands below it, and what it is made
 /// of.
-pub(crate) fn open_first(rest: Forest, c: u32) -> (u32, Forest, Box<Pair>)
+pub(crate) fn open_first(rest: Forest, c: u16) -> (u32, Forest, Box<Pair>)
     requires first { IsFirst c rest }
     requires rising { IsRising (c - 1) rest }
     ensures bag { below c result.0 (bag result.1) ++ bag result.2.value.next ≡ bag rest }
@@ -115,7 +116,7 @@ pub(crate) fn open_first(rest: Forest, c: u32) -> (u32, Forest, Box<Pair>)
 
 /// A node before the others, or the others alone where the node has no ballot.
 pub(crate) fn plant_if_needed(
-    c: u32,
+    c: u16,
     ends: u32,
     inner: Forest,
     pair: Box<Pair>,
@@ -127,7 +128,8 @@ pub(crate) fn plant_if_needed(
     requires counted { 1 ≤ nodes.old }
     ensures bag { bag result ≡ below c ends (bag inner) ++ bag pair.value.next }
     ensures rising { IsRising (c - 1) result }
-    ensures counted { nodes.new + (1 + node_count inner + node_count pair.value.next) ≡ nodes.old + node_count result }
+    ensures counted { nodes.new + (1 + node_count inner + node_count pair.value.next)
+        ≡ nodes.old + node_count result }
 {
     match inner {
         Forest::Empty if ends == 0 => {

@@ -23,7 +23,9 @@ use std::sync::ledger::Ledger;
 #[cfg(test)]
 mod tests;
 
-/// A bag of ballots: the nodes of their rankings, and nodes to spare.
+/// A bag of ballots as a trie of their rankings: rankings that begin alike share the nodes of that
+/// beginning. It is seen as its single rankings in lexicographic order, and as room for so many
+/// further ranks, which are nodes to spare.
 pub struct Trie {
     alloc: Global,
     candidates: u32,
@@ -35,15 +37,22 @@ pub struct Trie {
 }
 
 impl Model for Trie {
-    ghost use Rattle.std.specs.Prelude.{◌≡◌, vec_len, replicate, [], ◌++◌};
+    ghost use Rattle.std.specs.Prelude.{◌≡◌, vec_len};
     ghost use Rattle.ranking_trie.specs.BallotBag.{BallotBag, IsSoundBag};
-    ghost use Rattle.ranking_trie.specs.Bag.{bag, node_count, IsRising};
+    ghost use Rattle.ranking_trie.specs.Bag.{node_count, root_bag, IsRising};
 
     ghost Value = { BallotBag };
 
-    ghost view = { λ t. record { candidates = t.candidates; ballots = replicate t.ends [] ++ bag t.forest; spare = vec_len t.spare } };
+    ghost view = { λ t. record {
+      candidates = t.candidates;
+      ballots = root_bag t.ends t.forest;
+      spare = vec_len t.spare;
+    } };
 
-    ghost invariant = { λ t. IsSoundBag t.candidates t.total (replicate t.ends [] ++ bag t.forest) × IsRising 0 t.forest × (t.nodes ≡ node_count t.forest) };
+    ghost invariant = { λ t.
+        IsSoundBag t.candidates t.total (root_bag t.ends t.forest)
+        × IsRising 0 t.forest
+        × (t.nodes ≡ node_count t.forest) };
 }
 
 impl Drop for Trie {
@@ -63,6 +72,7 @@ impl Drop for Trie {
 }
 
 impl Trie {
+    /// No ballots among 1 to 250 candidates, and no room.
     pub fn new(alloc: Global, candidates: u32) -> Trie
         requires { (1 ≤ candidates) × (candidates ≤ 250) }
         ensures { result ≡ record { candidates = candidates; ballots = []; spare = 0 } }
@@ -78,9 +88,10 @@ impl Trie {
         }
     }
 
-    /// Makes room for as many nodes.
+    /// Makes room for so many ranks in all. Room that was made before want of memory stays.
     pub fn reserve(&mut self, ranks: usize) -> Result<(), NoMemory>
-        ensures same { (self.new.candidates ≡ self.old.candidates) × (self.new.ballots ≡ self.old.ballots) }
+        ensures candidates { self.new.candidates ≡ self.old.candidates }
+        ensures ballots { self.new.ballots ≡ self.old.ballots }
         ensures more { self.old.spare ≤ self.new.spare }
         ensures room { OnOk result (ranks ≤ self.new.spare) }
     {
@@ -95,14 +106,16 @@ impl Trie {
         self.total
     }
 
-    /// Puts ballots in.
+    /// Puts ballots in. Each line takes a step at the root and one for each rank. A line finds its
+    /// node first among the siblings where lines come in falling lexicographic order.
     pub fn add<L: Ledger>(&mut self, ballots: &Ballots, steps: &mut Steps<L>)
         requires candidates { ballots.now.candidates ≡ self.old.candidates }
         requires room { rank_count ballots.now.lines ≤ self.old.spare }
         requires few { length self.old.ballots + ballot_count ballots.now.lines ≤ 999999999 }
         ensures candidates { self.new.candidates ≡ self.old.candidates }
         ensures bag { IsPermutation self.new.ballots (plain ballots.now.lines ++ self.old.ballots) }
-        ensures total { length self.new.ballots ≡ length self.old.ballots + ballot_count ballots.now.lines }
+        ensures total { length self.new.ballots
+            ≡ length self.old.ballots + ballot_count ballots.now.lines }
         ensures order { AreInOrder self.new.ballots }
         ensures room { self.old.spare ≤ self.new.spare + rank_count ballots.now.lines }
         ensures cost { steps.new ≡ steps.old + visit_count ballots.now.lines }
@@ -113,14 +126,15 @@ impl Trie {
         self.keep_order();
     }
 
-    /// Puts the ballots of a line in.
+    /// Puts the ballots of a line in. Nodes that were to spare become nodes of the forest.
     pub fn add_line<L: Ledger>(&mut self, line: &BallotLine, steps: &mut Steps<L>)
         requires ranking { IsRanking self.old.candidates line.now.ranking }
         requires some { 1 ≤ line.now.count }
         requires room { length line.now.ranking ≤ self.old.spare }
         requires few { length self.old.ballots + line.now.count ≤ 999999999 }
         ensures candidates { self.new.candidates ≡ self.old.candidates }
-        ensures bag { IsPermutation self.new.ballots (replicate line.now.count line.now.ranking ++ self.old.ballots) }
+        ensures bag { IsPermutation self.new.ballots
+            (replicate line.now.count line.now.ranking ++ self.old.ballots) }
         ensures room { self.old.spare ≤ self.new.spare + length line.now.ranking }
         ensures cost { steps.new ≡ steps.old + length line.now.ranking + 1 }
     {
@@ -140,12 +154,13 @@ impl Trie {
         self.total += line.count as u64;
     }
 
-    /// Takes ballots out.
+    /// Takes ballots out, with as many steps as to put them in.
     pub fn remove<L: Ledger>(&mut self, ballots: &Ballots, steps: &mut Steps<L>)
         requires held { Holds self.old.ballots (plain ballots.now.lines) }
         ensures candidates { self.new.candidates ≡ self.old.candidates }
         ensures bag { IsPermutation self.old.ballots (plain ballots.now.lines ++ self.new.ballots) }
-        ensures total { length self.old.ballots ≡ length self.new.ballots + ballot_count ballots.now.lines }
+        ensures total { length self.old.ballots
+            ≡ length self.new.ballots + ballot_count ballots.now.lines }
         ensures order { AreInOrder self.new.ballots }
         ensures room { self.old.spare ≤ self.new.spare }
         ensures cost { steps.new ≡ steps.old + visit_count ballots.now.lines }
@@ -161,7 +176,8 @@ impl Trie {
         requires some { 1 ≤ line.now.count }
         requires held { line.now.count ≤ count_of line.now.ranking self.old.ballots }
         ensures candidates { self.new.candidates ≡ self.old.candidates }
-        ensures bag { IsPermutation self.old.ballots (replicate line.now.count line.now.ranking ++ self.new.ballots) }
+        ensures bag { IsPermutation self.old.ballots
+            (replicate line.now.count line.now.ranking ++ self.new.ballots) }
         ensures room { self.old.spare ≤ self.new.spare }
         ensures cost { steps.new ≡ steps.old + length line.now.ranking + 1 }
     {
@@ -186,17 +202,16 @@ impl Trie {
         let _ = &self.forest;
     }
 
-    /// How many ballots have this ranking.
+    /// How many ballots have just this ranking.
     pub fn count_of(&self, ranking: &Ranking) -> u64
         ensures { result ≡ count_of ranking.now self.now.ballots }
     {
         count(self.ends, &self.forest, ranking.ranks()) as u64
     }
 
-    /// A trie of the same ballots.
+    /// A trie of the same ballots, without room.
     pub fn copy(&self) -> Result<Trie, NoMemory>
-        ensures candidates { IfOk result (λ copy. copy.candidates ≡ self.now.candidates) }
-        ensures ballots { IfOk result (λ copy. copy.ballots ≡ self.now.ballots) }
+        ensures { IfOk result (λ copy. copy ≡ record self.now { spare = 0 }) }
     {
         Ok(Trie {
             alloc: self.alloc,
@@ -230,16 +245,17 @@ impl Trie {
         self.candidates
     }
 
-    /// How many ballots name nobody.
+    /// How many ballots name nobody. They end at the root.
     pub fn ends(&self) -> u32
         ensures { result ≡ count_of [] self.now.ballots }
     {
         self.ends
     }
 
-    /// The nodes of all ballots that name somebody.
+    /// The nodes of all other ballots.
     pub fn forest(&self) -> &Forest
-        ensures ballots { self.now.ballots ≡ replicate (count_of [] self.now.ballots) [] ++ bag result.now }
+        ensures ballots { self.now.ballots
+            ≡ replicate (count_of [] self.now.ballots) [] ++ bag result.now }
         ensures rising { IsRising 0 result.now }
         ensures within { IsWithin self.now.candidates 250 1 result.now }
         ensures order { AreInOrder self.now.ballots }
@@ -255,28 +271,29 @@ impl Trie {
     {
         self.nodes
     }
-
-    pub fn allocator(&self) -> &Global {
-        &self.alloc
-    }
 }
 
-/// Makes the spare nodes as many.
+/// Makes nodes until so many are to spare.
 fn fill_spare(alloc: Global, spare: &mut Vec<Box<Pair>>, ranks: usize) -> Result<(), NoMemory>
     ensures more { vec_len spare.old ≤ vec_len spare.new }
     ensures room { OnOk result (ranks ≤ vec_len spare.new) }
 {
+    if spare
+        .reserve_exact(ranks.saturating_sub(spare.len()))
+        .is_err()
+    {
+        return Err(NoMemory);
+    }
     while spare.len() < ranks {
         let pair = Pair {
             inner: Forest::Empty,
             next: Forest::Empty,
         };
-        match Box::new(alloc, pair) {
-            Ok(node) => match spare.push(node) {
-                Ok(()) => {}
-                Err(_) => return Err(NoMemory),
-            },
-            Err(_) => return Err(NoMemory),
+        let Ok(node) = Box::new(alloc, pair) else {
+            return Err(NoMemory);
+        };
+        if spare.push(node).is_err() {
+            return Err(NoMemory);
         }
     }
     Ok(())

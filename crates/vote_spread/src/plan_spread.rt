@@ -13,7 +13,7 @@ use std::alloc::Global;
 
 /// Distributes the ballots of plans by workers' lanes, which `run` runs.
 #[derive(Drop)]
-pub struct PlanSpread<const P: usize, F: Fn(&mut Lanes) + Drop> {
+pub struct PlanSpread<const P: usize, F: Drop> {
     run: F,
     candidates: u32,
     total: u64,

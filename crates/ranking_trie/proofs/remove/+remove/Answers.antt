@@ -18,7 +18,7 @@ open_first-ends-requires-clause-first g t c =
     let next : count_of (drop at ranks) (bag c.args.forest) ≡ count_of (r ∷ s) (bag c.args.forest) =
     ap (λ (l : List ℕ). count_of l (bag c.args.forest)) (drop_more ranks at 0 c.requires.ranked) in
     let all = count_of-passed r s c.pass_smaller-passed.result.0 rest c.args.forest c.pass_smaller-passed.ensures.falling c.pass_smaller-passed.ensures.bag in
-    first_has r s rest (c.requires.numbers at 0 c.requires.ranked) c.pass_smaller-passed.ensures.rising (omega (arith, next, all))
+    first_has r s rest (c.requires.numbers at 0 c.requires.ranked).0 c.pass_smaller-passed.ensures.rising (omega (arith, next, all))
 
 pub overflow_sub-ends : goal.overflow_sub-ends
 overflow_sub-ends g t c =
