@@ -1,0 +1,4 @@
+pub mod ReadLemmas
+pub mod RowsLemmas
+pub mod TrieLemmas
+pub mod DealingLemmas

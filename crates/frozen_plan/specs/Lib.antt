@@ -1,0 +1,5 @@
+pub mod Forest
+pub mod Plan
+pub mod Shape
+pub mod Rows
+pub mod Dealing

@@ -1,0 +1,70 @@
+// The rows of a trie's nodes.
+ghost use Rattle.std.specs.Prelude.{◌≡◌, ℕ, ◌+◌, ◌≤◌, [], ◌∷◌, ◌++◌, IfOk, OnOk};
+ghost use Rattle.frozen_plan.specs.Forest.{Bare, Grown, through, rows_of, IsGrown};
+ghost use Rattle.frozen_plan.specs.Shape.{shape_of};
+
+use crate::{NoMemory, PlanRow};
+use ranking_trie::Forest;
+
+/// Appends a row.
+pub(crate) fn append(rows: &mut Vec<PlanRow>, row: PlanRow) -> Result<(), NoMemory>
+    ensures { OnOk result (rows.new.items ≡ rows.old.items ++ row ∷ []) }
+{
+    match rows.push(row) {
+        Ok(()) => Ok(()),
+        Err(_) => Err(NoMemory),
+    }
+}
+
+/// Appends the nodes of a forest in preorder, and gives how many ballots go through them.
+#[cycle(rows)]
+pub(crate) fn push_forest(forest: &Forest, depth: u16, rows: &mut Vec<PlanRow>) -> Result<u64, NoMemory>
+    requires grown { (low : ℕ) × IsGrown 250 low depth (shape_of forest.now) }
+    requires few { through (shape_of forest.now) ≤ 999999999 }
+    requires depth { depth ≤ 251 }
+    ensures rows { IfOk result (λ _. rows.new.items ≡ rows.old.items ++ rows_of depth (shape_of forest.now)) }
+    ensures through { IfOk result (λ n. n ≡ through (shape_of forest.now)) }
+{
+    let mut total = 0;
+    let mut rest = forest;
+    while let Forest::Grow(candidate, ends, pair) = rest {
+        total += push_node(*candidate, *ends, &pair.inner, depth, rows)?;
+        rest = &pair.next;
+    }
+    Ok(total)
+}
+
+/// Appends a node at which `ends` ballots end, and those below it.
+#[cycle(rows)]
+fn push_node(
+    candidate: u16,
+    ends: u32,
+    inner: &Forest,
+    depth: u16,
+    rows: &mut Vec<PlanRow>,
+) -> Result<u64, NoMemory>
+    requires candidate { candidate ≤ 250 }
+    requires grown { IsGrown 250 0 (depth + 1) (shape_of inner.now) }
+    requires few { ends + through (shape_of inner.now) ≤ 999999999 }
+    requires depth { depth ≤ 250 }
+    ensures rows { IfOk result (λ _. rows.new.items ≡ rows.old.items ++ rows_of depth (Grown candidate ends (shape_of inner.now) Bare)) }
+    ensures through { IfOk result (λ n. n ≡ ends + through (shape_of inner.now)) }
+{
+    let at = rows.len();
+    let row = PlanRow {
+        depth,
+        candidate,
+        ballots: 0,
+        skip: 0,
+    };
+    append(rows, row)?;
+    let below = push_forest(inner, depth + 1, rows)?;
+    let ballots = ends as u64 + below;
+    let skip = rows.len() - at;
+    rows[at] = PlanRow {
+        ballots,
+        skip,
+        ..row
+    };
+    Ok(ballots)
+}

@@ -1,0 +1,9 @@
+pub mod BagLemmas
+pub mod CountLemmas
+pub mod DepthLemmas
+pub mod FormLemmas
+pub mod LineLemmas
+pub mod ListLemmas
+pub mod ListingLemmas
+pub mod NodeLemmas
+pub mod OrderLemmas

@@ -1,0 +1,23 @@
+//! A bag of ballots as a trie of their rankings: a [`Trie`] has a node for each beginning of a
+//! ranking, and says at each node how many ballots end there. Ballots are put in and taken out
+//! without a refusal, rank by rank, with room that was taken before.
+#![tactic(auto)]
+
+mod add;
+mod clear;
+mod copy;
+mod count;
+mod forest;
+mod laws;
+mod lines;
+mod no_memory;
+mod pair;
+mod remove;
+mod siblings;
+mod trie;
+
+pub use forest::Forest;
+pub use laws::one_bag_has_one_form;
+pub use no_memory::NoMemory;
+pub use pair::Pair;
+pub use trie::Trie;

@@ -1,0 +1,5 @@
+use Rattle.std.proofs.Common.{◌≡◌, ℕ, List, slice_index, sum_by, take}
+use Rattle.vote_spread.proofs.gather.sum_at.Given as goal
+
+abbrev pub invariant-loop-lane : goal.invariant-loop-lane
+invariant-loop-lane l = l.sum ≡ sum_by (λ (own : List ℕ). slice_index own l.p) (take l.lane-index l.lanes)

@@ -1,0 +1,41 @@
+-- Workers' lanes, and what they count.
+use Rattle.std.specs.Prelude.{◌≡◌, ℕ, ◌+◌, ◌<◌, ◌≤◌, List, length, slice_index, slice_index_or, sum_by, All}
+use Rattle.meek_rule.specs.Weights.{vote}
+use Rattle.vote_spread.specs.Stem.{Stem}
+use Rattle.vote_spread.specs.Packed.{StandFor}
+use Rattle.vote_spread.specs.Shares.{HasCounted}
+
+-- lanes that count single ballots at these keep values, where `scale` units are one vote, and each lane's tally
+pub record LanesSeen : Type 0 where
+  pub scale : ℕ
+  pub ballots : List (List ℕ)
+  pub keeps : List ℕ
+  pub tallies : List (List ℕ)
+
+-- From 1 to 32 lanes, each with a tally for all candidates, over stems that stand for these ballots.
+pub record AreReady (s : ℕ) (ballots : List (List ℕ)) (stems : List Stem) (keeps : List ℕ) (tallies : List (List ℕ)) : Type 0 where
+  pub stand : StandFor (length keeps) 1 stems ballots
+  pub few_ballots : length ballots ≤ 999999999
+  pub at_most_one : All (λ k. k ≤ s) keeps
+  pub some : 1 ≤ length tallies
+  pub few : length tallies ≤ 32
+  pub of_all : All (λ tally. length tally ≡ length keeps) tallies
+
+-- The tallies of all lanes together are the votes at the keep values. All else is as before.
+pub record HaveCounted (old new : LanesSeen) : Type 0 where
+  pub same_scale : new.scale ≡ old.scale
+  pub same_ballots : new.ballots ≡ old.ballots
+  pub same_keeps : new.keeps ≡ old.keeps
+  pub votes : (p : ℕ) → p < length old.keeps → sum_by (λ tally. slice_index tally p) new.tallies ≡ vote old.scale old.keeps old.ballots (p + 1)
+
+-- some lanes from lane `first` on of so many have counted their shares
+pub record HaveRun (s : ℕ) (keeps : List ℕ) (stems : List Stem) (first lanes : ℕ) (tallies : List (List ℕ)) : Type 0 where
+  pub each : (k : ℕ) (d : List ℕ) → k < length tallies → HasCounted s keeps stems (first + k) lanes (slice_index_or tallies k d)
+
+-- These keep values are taken over. All else is as before, but for the tallies.
+pub record AreLoaded (keeps : List ℕ) (old new : LanesSeen) : Type 0 where
+  pub same_scale : new.scale ≡ old.scale
+  pub same_ballots : new.ballots ≡ old.ballots
+  pub loaded : new.keeps ≡ keeps
+  pub at_most_one : All (λ k. k ≤ new.scale) new.keeps
+  pub few : length new.ballots ≤ 999999999

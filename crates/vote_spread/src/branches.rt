@@ -1,0 +1,142 @@
+// The nodes of tries in preorder, packed.
+ghost use Rattle.std.specs.Prelude.{◌≡◌, ℕ, ◌+◌, ◌-◌, ◌^◌, ◌<◌, ◌≤◌, [], ◌∷◌, ◌++◌, All, OnErr, OnOk, length, map, slice_index, slice_index_or, slice_set, sum};
+ghost use Rattle.fixed_place.specs.Rounding.{scale, most};
+ghost use Rattle.vote_spread.specs.Stem.{stem_of_row, closed_stem};
+ghost use Rattle.vote_spread.specs.Gain.{gains, opening, part};
+ghost use Rattle.vote_spread.specs.Walk.{IsWalk};
+
+use crate::NoMemory;
+use crate::branch::Branch;
+use crate::walk::walk_part;
+use frozen_plan::PlanRow;
+use std::alloc::Global;
+use std::marker::Model;
+
+/// The nodes of tries, each before those below it, in few bytes.
+#[derive(Drop)]
+pub(crate) struct Branches {
+    list: Vec<Branch>,
+    tails: Vec<u8>,
+}
+
+impl Model for Branches {
+    ghost use Rattle.std.specs.Prelude.{List, length};
+    ghost use Rattle.vote_spread.specs.Stem.{Stem, stems_of};
+    ghost use Rattle.vote_spread.specs.Walk.{ArePacked};
+
+    ghost Value = { List Stem };
+
+    ghost view = { λ b. stems_of b.tails.items b.list.items };
+
+    ghost invariant = { λ b. ArePacked (length b.tails.items) b.list.items };
+}
+
+impl Branches {
+    pub(crate) fn new(alloc: Global) -> Branches
+        ensures { result ≡ [] }
+    {
+        Branches {
+            list: Vec::new(alloc),
+            tails: Vec::new(alloc),
+        }
+    }
+
+    pub(crate) fn len(&self) -> usize
+        ensures value { result ≡ length self.now }
+        ensures few { result < 2 ^ 32 }
+    {
+        self.list.len()
+    }
+
+    /// Puts a node at a depth behind the others, and the candidates that follow on all its ballots.
+    pub(crate) fn push(
+        &mut self,
+        depth: u16,
+        row: PlanRow,
+        tail: &[PlanRow],
+    ) -> Result<(), NoMemory>
+        requires depth { depth ≤ 250 }
+        requires candidate { row.candidate ≤ 250 }
+        requires few { row.ballots ≤ 999999999 }
+        requires short { length tail.now ≤ 250 }
+        requires candidates { All (λ r. r.candidate ≤ 250) tail.now }
+        ensures { OnOk result (self.new ≡ self.old ++ stem_of_row depth row tail.now ∷ []) }
+    {
+        if self.list.len() >= MOST || self.tails.len() >= MOST {
+            return Err(NoMemory);
+        }
+        let branch = Branch {
+            ballots: row.ballots as u32,
+            skip: 1,
+            tail: self.tails.len() as u32,
+            depth: depth as u8,
+            candidate: row.candidate as u8,
+            length: tail.len() as u8,
+        };
+        push_tail(&mut self.tails, tail)?;
+        push_branch(&mut self.list, branch)?;
+        Ok(())
+    }
+
+    /// Says of a node that all behind it are below it.
+    pub(crate) fn close(&mut self, at: usize)
+        requires { at < length self.old }
+        ensures { (d : _) → self.new ≡ slice_set self.old at (closed_stem (slice_index_or self.old at d) (length self.old - at)) }
+    {
+        let skip = (self.list.len() - at) as u32;
+        let branch = self.list[at];
+        self.list[at] = Branch { skip, ..branch };
+    }
+
+    /// Fills the tally with what nodes `from` to `to` give to each candidate.
+    pub(crate) fn walk<const P: usize>(
+        &self,
+        from: usize,
+        to: usize,
+        keeps: &[u64],
+        weights: &mut [u64],
+        tally: &mut [u64],
+    )
+        requires places { P ≤ 9 }
+        requires range { to ≤ length self.now }
+        requires walk { IsWalk (length tally.old) 1 self.now }
+        requires keeps_of_all { length keeps.now ≡ length tally.old }
+        requires at_most_one { All (λ k. k ≤ scale P) keeps.now }
+        requires depths { length weights.old ≡ 251 }
+        requires room { (p : ℕ) → p < length tally.old → sum (gains (scale P) keeps.now (p + 1) (opening (scale P)) self.now) ≤ most P }
+        ensures depths { length weights.new ≡ 251 }
+        ensures same_length { length tally.new ≡ length tally.old }
+        ensures part { (p : ℕ) → p < length tally.old → slice_index tally.new p ≡ part (scale P) keeps.now (p + 1) self.now from to }
+    {
+        let branches = self.list.as_slice();
+        walk_part::<P>(branches, self.tails.as_slice(), from, to, keeps, weights, tally);
+    }
+}
+
+/// More nodes are as good as no memory for them.
+const MOST: usize = 4_294_967_295;
+
+/// Appends a branch.
+fn push_branch(list: &mut Vec<Branch>, branch: Branch) -> Result<(), NoMemory>
+    ensures ok { OnOk result (list.new.items ≡ list.old.items ++ branch ∷ []) }
+    ensures refused { OnErr result (list.new.items ≡ list.old.items) }
+{
+    match list.push(branch) {
+        Ok(()) => Ok(()),
+        Err(_) => Err(NoMemory),
+    }
+}
+
+/// Appends the candidates of some rows.
+fn push_tail(tails: &mut Vec<u8>, rows: &[PlanRow]) -> Result<(), NoMemory>
+    requires { All (λ r. r.candidate ≤ 250) rows.now }
+    ensures ok { OnOk result (tails.new.items ≡ tails.old.items ++ map (λ r. r.candidate) rows.now) }
+    ensures more { length tails.old.items ≤ length tails.new.items }
+{
+    for row in rows {
+        if tails.push(row.candidate as u8).is_err() {
+            return Err(NoMemory);
+        }
+    }
+    Ok(())
+}

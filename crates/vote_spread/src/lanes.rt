@@ -1,0 +1,134 @@
+// Workers' lanes over the ballots of plans.
+ghost use Rattle.std.specs.Prelude.{◌≡◌, ℕ, ◌<◌, ◌≤◌, All, IfOk, length, slice_index, sum_by, vec_len};
+ghost use Rattle.fixed_place.specs.Rounding.{scale, most};
+ghost use Rattle.frozen_plan.specs.Plan.{all_ballots};
+ghost use Rattle.vote_spread.specs.Lanes.{HaveCounted, AreLoaded};
+
+use crate::NoMemory;
+use crate::branches::Branches;
+use crate::gather::gather;
+use crate::lane::{Lane, zeros};
+use crate::pack::pack_plans;
+use crate::run::run_lanes;
+use byte_edge::Gate;
+use fixed_place::{Amounts, Keeps, scale_of};
+use frozen_plan::Plans;
+use std::alloc::Global;
+use std::marker::Model;
+use std::snapshot::Snapshot;
+use std::thread::Threads;
+
+/// Workers' lanes over the ballots of plans, which share them evenly. Each lane has buffers of its
+/// own.
+#[derive(Drop)]
+pub struct Lanes {
+    scale: u64,
+    plans: Snapshot<Plans>,
+    branches: Branches,
+    keeps: Vec<u64>,
+    lanes: Vec<Lane>,
+}
+
+impl Model for Lanes {
+    ghost use Rattle.frozen_plan.specs.Plan.{all_ballots};
+    ghost use Rattle.vote_spread.specs.Lanes.{LanesSeen, AreReady};
+
+    ghost Value = { LanesSeen };
+
+    ghost view = { λ l. record { scale = l.scale; ballots = all_ballots l.plans.value; keeps = l.keeps.items; tallies = l.lanes.items } };
+
+    ghost invariant = { λ l. AreReady l.scale (all_ballots l.plans.value) l.branches l.keeps.items l.lanes.items };
+}
+
+impl Lanes {
+    /// Lanes of so many workers over the ballots of plans, before any keep value.
+    pub(crate) fn begin<const P: usize>(
+        alloc: Global,
+        plans: Plans,
+        candidates: u32,
+        workers: u32,
+    ) -> Result<Lanes, NoMemory>
+        requires places { P ≤ 9 }
+        requires workers { (1 ≤ workers) × (workers ≤ 32) }
+        requires plans { All (λ plan. plan.candidates ≡ candidates) plans }
+        requires few { length (all_ballots plans) ≤ 999999999 }
+        ensures scale { IfOk result (λ lanes. lanes.scale ≡ scale P) }
+        ensures ballots { IfOk result (λ lanes. lanes.ballots ≡ all_ballots plans) }
+        ensures candidates { IfOk result (λ lanes. length lanes.keeps ≡ candidates) }
+    {
+        let ballots = Snapshot::of(&plans);
+        let branches = pack_plans(alloc, plans)?;
+        let keeps = zeros(alloc, candidates as usize)?;
+        let lanes = lanes_of(alloc, candidates, workers)?;
+        Ok(Lanes {
+            scale: scale_of::<P>(),
+            plans: ballots,
+            branches,
+            keeps,
+            lanes,
+        })
+    }
+
+    /// Distributes the ballots, each lane its share, in threads of their own where such can be had.
+    /// Each lane passes the gate at its number, from 1, before its work.
+    pub fn run<const P: usize, R: Threads + Sync, G: Gate + Sync>(&mut self, rt: &R, gate: &G)
+        requires places { P ≤ 9 }
+        requires scale { self.old.scale ≡ scale P }
+        ensures { HaveCounted self.old self.new }
+    {
+        run_lanes::<P, R, G>(
+            rt,
+            gate,
+            &self.branches,
+            self.keeps.as_slice(),
+            self.lanes.as_mut_slice(),
+        );
+    }
+
+    /// Takes over the keep values at which the ballots are to be distributed.
+    pub(crate) fn load<const P: usize>(&mut self, keeps: &Keeps<P>)
+        requires scale { self.old.scale ≡ scale P }
+        requires keeps_of_all { length keeps.now ≡ length self.old.keeps }
+        ensures { AreLoaded keeps.now self.old self.new }
+    {
+        copy_units(keeps, self.keeps.as_mut_slice());
+    }
+
+    /// Fills a tally with what all lanes have counted.
+    pub(crate) fn gather<const P: usize>(&self, tally: &mut Amounts<P>)
+        requires votes_of_all { length tally.old ≡ length self.now.keeps }
+        requires room { (p : ℕ) → p < length tally.old → sum_by (λ own. slice_index own p) self.now.tallies ≤ most P }
+        ensures same_length { length tally.new ≡ length tally.old }
+        ensures sums { (p : ℕ) → p < length tally.old → slice_index tally.new p ≡ sum_by (λ own. slice_index own p) self.now.tallies }
+    {
+        gather(self.lanes.as_slice(), tally);
+    }
+}
+
+/// Takes over the units of keep values.
+fn copy_units<const P: usize>(keeps: &Keeps<P>, units: &mut [u64])
+    requires { length keeps.now ≡ length units.old }
+    ensures units { units.new ≡ keeps.now }
+    ensures at_most_one { All (λ k. k ≤ scale P) units.new }
+{
+    for i in 0..keeps.len() {
+        units[i] = keeps.get(i).units();
+    }
+}
+
+/// So many lanes with buffers for the candidates.
+fn lanes_of(alloc: Global, candidates: u32, workers: u32) -> Result<Vec<Lane>, NoMemory>
+    ensures as_many { IfOk result (λ lanes. vec_len lanes ≡ workers) }
+    ensures of_all { IfOk result (λ lanes. All (λ tally. length tally ≡ candidates) lanes.items) }
+{
+    let Ok(mut lanes) = Vec::with_capacity(alloc, workers as usize) else {
+        return Err(NoMemory);
+    };
+    for _ in 0..workers {
+        let lane = Lane::new(alloc, candidates as usize)?;
+        if lanes.push(lane).is_err() {
+            return Err(NoMemory);
+        }
+    }
+    Ok(lanes)
+}

@@ -1,0 +1,17 @@
+//! Workers' lanes over plans.
+#![tactic(auto)]
+
+mod branch;
+mod branches;
+mod gather;
+mod lane;
+mod lanes;
+mod no_memory;
+mod pack;
+mod plan_spread;
+mod run;
+mod walk;
+
+pub use lanes::Lanes;
+pub use no_memory::NoMemory;
+pub use plan_spread::PlanSpread;

@@ -1,0 +1,104 @@
+// A distribution of the ballots of plans by lanes.
+ghost use Rattle.std.specs.Prelude.{◌≡◌, ℕ, ◌≤◌, ◌^◌, All, IfOk, length};
+ghost use Rattle.fixed_place.specs.Rounding.{scale};
+ghost use Rattle.frozen_plan.specs.Plan.{all_ballots};
+ghost use Rattle.meek_rule.specs.Weights.{votes};
+ghost use Rattle.vote_spread.specs.Runs.{RunsLanes, CanSpread};
+
+use crate::{Lanes, NoMemory};
+use fixed_place::{Amounts, Keeps};
+use frozen_plan::Plans;
+use meek_rule::Spread;
+use std::alloc::Global;
+
+/// Distributes the ballots of plans by workers' lanes, which `run` runs.
+#[derive(Drop)]
+pub struct PlanSpread<const P: usize, F: Drop> {
+    run: F,
+    candidates: u32,
+    total: u64,
+    lanes: Lanes,
+}
+
+impl<const P: usize, F: Fn(&mut Lanes) + Drop> Spread<P> for PlanSpread<P, F> {
+    ghost ballots = { λ s. s.lanes.ballots };
+
+    ghost candidates = { λ s. s.candidates };
+
+    ghost can_spread = { λ s. CanSpread F.Fn (10 ^ P) s.candidates s.total s.lanes s.run };
+
+    fn candidates(&self) -> u32 {
+        self.candidates
+    }
+
+    fn ballots(&self) -> u64 {
+        self.total
+    }
+
+    fn spread(&mut self, keeps: &Keeps<P>, tally: &mut Amounts<P>) {
+        distribute(&self.run, &mut self.lanes, keeps, tally);
+    }
+}
+
+impl<const P: usize, F: Fn(&mut Lanes) + Drop> PlanSpread<P, F> {
+    /// A distribution of the ballots of plans by so many workers' lanes. All its memory is taken
+    /// here. `run` is a closure that calls [`Lanes::run`] with the caller's threads and gate.
+    pub fn begin(
+        alloc: Global,
+        plans: Plans,
+        candidates: u32,
+        workers: u32,
+        run: F,
+    ) -> Result<PlanSpread<P, F>, NoMemory>
+        requires places { P ≤ 9 }
+        requires workers { (1 ≤ workers) × (workers ≤ 32) }
+        requires plans { All (λ plan. plan.candidates ≡ candidates) plans }
+        requires few { length (all_ballots plans) ≤ 999999999 }
+        requires runs { RunsLanes F.Fn (scale P) run }
+        ensures can { IfOk result (λ s. CanSpread F.Fn (scale P) candidates s.total s.lanes s.run) }
+        ensures candidates { IfOk result (λ s. s.candidates ≡ candidates) }
+        ensures ballots { IfOk result (λ s. s.lanes.ballots ≡ all_ballots plans) }
+    {
+        let total = total_of(&plans);
+        let lanes = Lanes::begin::<P>(alloc, plans, candidates, workers)?;
+        Ok(PlanSpread {
+            run,
+            candidates,
+            total,
+            lanes,
+        })
+    }
+}
+
+/// How many ballots all plans have.
+fn total_of(plans: &Plans) -> u64
+    requires { length (all_ballots plans.now) ≤ 999999999 }
+    ensures { result ≡ length (all_ballots plans.now) }
+{
+    let mut total = 0;
+    for plan in plans.items() {
+        total += plan.total();
+    }
+    total
+}
+
+/// Fills a tally with the votes at some keep values.
+fn distribute<const P: usize, F: Fn(&mut Lanes)>(
+    run: &F,
+    lanes: &mut Lanes,
+    keeps: &Keeps<P>,
+    tally: &mut Amounts<P>,
+)
+    requires runs { RunsLanes F.Fn (scale P) run.now }
+    requires scale { lanes.old.scale ≡ scale P }
+    requires keeps_of_all { length keeps.now ≡ length lanes.old.keeps }
+    requires votes_of_all { length tally.old ≡ length lanes.old.keeps }
+    ensures votes { tally.new ≡ votes (scale P) keeps.now lanes.old.ballots (length keeps.now) }
+    ensures same_scale { lanes.new.scale ≡ lanes.old.scale }
+    ensures same_ballots { lanes.new.ballots ≡ lanes.old.ballots }
+    ensures as_many { length lanes.new.keeps ≡ length lanes.old.keeps }
+{
+    lanes.load(keeps);
+    run(lanes);
+    lanes.gather(tally);
+}
