@@ -23,11 +23,11 @@ one_gets : (piece : ℕ → List (List ℕ)) (k : ℕ) → ((s : ℕ) → s ≢ 
 one_gets piece k other zero s le lt = absurd (omega arith)
 one_gets piece k other (suc n) s le lt = ⊎_elim
     (λ (here : ((s == k) ≡ true) × (s ≡ k)).
-        let e = here.1 in
-        ap (λ (l : List (List ℕ)). piece s ++ l) (none_behind piece k other n (s + 1) (omega arith)) ∙ (append-nil (piece s) ∙ ap piece here.1))
+    let e = here.1 in
+    ap (λ (l : List (List ℕ)). piece s ++ l) (none_behind piece k other n (s + 1) (omega arith)) ∙ (append-nil (piece s) ∙ ap piece here.1))
     (λ (there : ((s == k) ≡ false) × (s ≢ k)).
-        let ne = there.1 in
-        ap (λ (l : List (List ℕ)). l ++ flat_map piece (range_with_len (s + 1) n)) (other s ne) ∙ one_gets piece k other n (s + 1) (omega arith) (omega arith))
+    let ne = there.1 in
+    ap (λ (l : List (List ℕ)). l ++ flat_map piece (range_with_len (s + 1) n)) (other s ne) ∙ one_gets piece k other n (s + 1) (omega arith) (omega arith))
     (eqb_tells s k)
 
 dealt_here : (n i : ℕ) (line : BallotLine) → dealt n (i % n + 1) i line ≡ replicate line.count line.ranking

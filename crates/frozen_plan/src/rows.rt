@@ -18,7 +18,11 @@ pub(crate) fn append(rows: &mut Vec<PlanRow>, row: PlanRow) -> Result<(), NoMemo
 
 /// Appends the nodes of a forest in preorder, and gives how many ballots go through them.
 #[cycle(rows)]
-pub(crate) fn push_forest(forest: &Forest, depth: u16, rows: &mut Vec<PlanRow>) -> Result<u64, NoMemory>
+pub(crate) fn push_forest(
+    forest: &Forest,
+    depth: u16,
+    rows: &mut Vec<PlanRow>,
+) -> Result<u64, NoMemory>
     requires grown { (low : ℕ) × IsGrown 250 low depth (shape_of forest.now) }
     requires few { through (shape_of forest.now) ≤ 999999999 }
     requires depth { depth ≤ 251 }

@@ -79,19 +79,19 @@ stand-node n d k ends low inner one shallow number known stand =
       from = λ rest is. omega arith;
       walk =
           λ rest is walk. (
-          record {
-            below_root = one;
-            not_too_deep = omega arith;
-            shallow = shallow;
-            candidate = number;
-            known = known;
-            ranks = λ j e lt. absurd (omega arith);
-            itself = omega arith;
-            inside = omega (arith, length-append low rest);
-            deeper = subst (λ (l : List Stem). All (λ other. d + 1 ≤ other.depth) l) (cut rest) stand.deep;
-            behind = subst (λ (l : List Stem). IsFrom d l) (left_over rest) is;
-          },
-          stand.walk rest (from_more d rest is) (deeper_walk n d rest walk),
+            record {
+              below_root = one;
+              not_too_deep = omega arith;
+              shallow = shallow;
+              candidate = number;
+              known = known;
+              ranks = λ j e lt. absurd (omega arith);
+              itself = omega arith;
+              inside = omega (arith, length-append low rest);
+              deeper = subst (λ (l : List Stem). All (λ other. d + 1 ≤ other.depth) l) (cut rest) stand.deep;
+              behind = subst (λ (l : List Stem). IsFrom d l) (left_over rest) is;
+            },
+            stand.walk rest (from_more d rest is) (deeper_walk n d rest walk),
           );
       gives =
           λ s keeps c weights rest is walk long.
@@ -125,19 +125,19 @@ stand-tail n d k m tail one shallow number known ranks =
       from = λ rest is. omega arith;
       walk =
           λ rest is walk. (
-          record {
-            below_root = one;
-            not_too_deep = omega arith;
-            shallow = shallow;
-            candidate = number;
-            known = known;
-            ranks = ranks;
-            itself = omega arith;
-            inside = omega arith;
-            deeper = λ j e lt. absurd (omega arith);
-            behind = is;
-          },
-          deeper_walk n d rest walk,
+            record {
+              below_root = one;
+              not_too_deep = omega arith;
+              shallow = shallow;
+              candidate = number;
+              known = known;
+              ranks = ranks;
+              itself = omega arith;
+              inside = omega arith;
+              deeper = λ j e lt. absurd (omega arith);
+              behind = is;
+            },
+            deeper_walk n d rest walk,
           );
       gives =
           λ s keeps c weights rest is walk long.

@@ -109,7 +109,15 @@ impl Branches {
         ensures part { (p : ℕ) → p < length tally.old → slice_index tally.new p ≡ part (scale P) keeps.now (p + 1) self.now from to }
     {
         let branches = self.list.as_slice();
-        walk_part::<P>(branches, self.tails.as_slice(), from, to, keeps, weights, tally);
+        walk_part::<P>(
+            branches,
+            self.tails.as_slice(),
+            from,
+            to,
+            keeps,
+            weights,
+            tally,
+        );
     }
 }
 

@@ -93,13 +93,7 @@ fn visit<const P: usize>(
 }
 
 /// Adds to the tally what ballots with a weight give on a tail.
-fn follow<const P: usize>(
-    ballots: u64,
-    tail: &[u8],
-    weight: u64,
-    keeps: &[u64],
-    tally: &mut [u64],
-)
+fn follow<const P: usize>(ballots: u64, tail: &[u8], weight: u64, keeps: &[u64], tally: &mut [u64])
     requires places { P ≤ 9 }
     requires ranks { All (λ r. (1 ≤ r) × (r ≤ length tally.old)) tail.now }
     requires keeps_of_all { length keeps.now ≡ length tally.old }
