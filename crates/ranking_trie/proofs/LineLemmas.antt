@@ -1,16 +1,19 @@
 -- Lines of ballots, one after another.
-use Rattle.std.proofs.Common.{◌≡◌, ℕ, ◌+◌, ◌≤◌, ◌<◌, List, [], ◌∷◌, ◌++◌, length, get_or, take, drop, replicate, append_assoc, arith, sym, subst, ap, ◌∙◌}
+use Rattle.std.proofs.Common.{◌≡◌, ℕ, ◌+◌, ◌*◌, ◌≤◌, ◌<◌, List, [], ◌∷◌, ◌++◌, length, get_or, take, drop, replicate, append_assoc, arith, sym, subst, ap, ◌∙◌}
+use Rattle.std.specs.List.{All}
 use Rattle.std.specs.List.Sorted.{IsPermutation}
 use Rattle.std.proofs.lemmas.List.{flat_map_more, take-append-drop, take_more, length-append, length-replicate}
 use Rattle.std.proofs.lemmas.List.Sorted.{sum_by-IsPermutation, IsPermutation-trans, IsPermutation-append_right, length_permutation}
+use Rattle.std.proofs.lemmas.List.Elements.{All-head, All-tail, All-weaker}
 use Rattle.std.proofs.lemmas.Grind.{flat_map-append}
-use Rattle.std.proofs.lemmas.List.Sums.{sum_by_more, sum_by_more_le}
+use Rattle.std.proofs.lemmas.List.Sums.{sum_by-cons, sum_by-le, sum_by_more, sum_by_more_le}
 use Rattle.plain_ballots.specs.declared.ballot_line.BallotLine.{BallotLine}
 use Rattle.plain_ballots.specs.Ballots.{plain, ballot_count, IsSound}
 use Rattle.plain_ballots.specs.Ranking.{IsRanking}
 use Rattle.ranking_trie.specs.Lines.{rank_count, visit_count}
 use Rattle.ranking_trie.specs.BallotBag.{count_of}
 use Rattle.ranking_trie.proofs.CountLemmas.{one_for, count_of-append, count_of-own}
+use Rattle.ranking_trie.proofs.DepthLemmas.{length-IsRanking}
 use Rattle.ranking_trie.proofs.BagLemmas.{IsPermutation-shift}
 
 -- the ballots of one line
@@ -93,3 +96,17 @@ line_removed old now new lines i line inside at so_far here =
     let both = IsPermutation-trans old (done ++ now) (done ++ (ballots_of line ++ new)) so_far (IsPermutation-append_right done now (ballots_of line ++ new) here) in
     subst (λ (l : List (List ℕ)). IsPermutation old l)
     (sym (append_assoc done (ballots_of line) new) ∙ ap (λ (l : List (List ℕ)). l ++ new) (sym (plain_more lines i line inside at))) both
+
+-- each line has a ballot
+lines_few : (lines : List BallotLine) → All (λ line. 1 ≤ line.count) lines → length lines ≤ ballot_count lines
+lines_few [] counted = omega arith
+lines_few (line ∷ lines) counted =
+    let here = All-head (λ (l : BallotLine). 1 ≤ l.count) line lines counted in
+    omega (arith, lines_few lines (All-tail (λ (l : BallotLine). 1 ≤ l.count) line lines counted), sum_by-cons (λ (l : BallotLine). l.count) line lines)
+
+-- and at most as many ranks as there are candidates, so that they can be counted
+pub few_ranks : (n : ℕ) (lines : List BallotLine) → n < 4294967296 → IsSound n lines → rank_count lines ≤ 4294967295 * 999999999
+few_ranks n lines some sound =
+    let short : All (λ (l : BallotLine). length l.ranking ≤ 4294967295) lines =
+    All-weaker (λ (l : BallotLine). IsRanking n l.ranking) (λ (l : BallotLine). length l.ranking ≤ 4294967295) (λ line ranking. omega (arith, length-IsRanking n line.ranking ranking)) lines sound.rankings in
+    omega (arith, sum_by-le (λ (l : BallotLine). length l.ranking) 4294967295 lines short, lines_few lines sound.counted, sound.bounded)

@@ -6,7 +6,7 @@ ghost use Rattle.ranking_trie.specs.BallotBag.{Holds};
 ghost use Rattle.ranking_trie.specs.Lines.{rank_count, visit_count};
 
 use super::*;
-use crate::one_bag_has_one_form;
+use crate::{one_bag_has_one_form, ranks_of};
 use plain_ballots::RankStop;
 use std::marker::Brand;
 use std::process::Abort;
@@ -145,7 +145,6 @@ fn in_and_out<L: Ledger>(trie: &mut Trie, ballots: &Ballots, steps: &mut Steps<L
 /// One ballot that names nobody, five that go on behind others, and one for 2.
 fn seven_ballots(alloc: Global) -> Result<Ballots, Fail>
     ensures candidates { IfOk result (λ ballots. ballots.candidates ≡ 3) }
-    ensures ranks { IfOk result (λ ballots. rank_count ballots.lines ≡ 4) }
     ensures count { IfOk result (λ ballots. ballot_count ballots.lines ≡ 7) }
 {
     let mut ballots = Ballots::new(alloc, 3);
@@ -162,8 +161,9 @@ fn seven_in_and_out<L: Ledger>(rt: &impl Abort, alloc: Global, blank: Blank) -> 
 {
     let mut steps = Steps::<L>::new(blank);
     let mut trie = three_in(alloc, &mut steps)?;
-    trie.reserve(4)?;
-    in_and_out(&mut trie, &seven_ballots(alloc)?, &mut steps);
+    let more = seven_ballots(alloc)?;
+    trie.reserve(ranks_of(&more))?;
+    in_and_out(&mut trie, &more, &mut steps);
     assert_eq!(rt; (trie.total(), trie.ends(), trie.nodes()), (3, 0, 3));
     assert_eq!(rt;
         numbers(alloc, &trie.to_ballots()?)?.as_slice(),
@@ -184,8 +184,9 @@ fn ten_in<L: Ledger>(rt: &impl Abort, alloc: Global, blank: Blank) -> Result<(),
 {
     let mut steps = Steps::<L>::new(blank);
     let mut trie = three_in(alloc, &mut steps)?;
-    trie.reserve(4)?;
-    trie.add(&seven_ballots(alloc)?, &mut steps);
+    let more = seven_ballots(alloc)?;
+    trie.reserve(ranks_of(&more))?;
+    trie.add(&more, &mut steps);
     assert_eq!(rt; (trie.total(), trie.ends(), trie.nodes()), (10, 1, 5));
     assert_eq!(rt; trie.count_of(&Ranking::try_new(alloc, 3, &[1])?), 0);
     assert_eq!(rt;
