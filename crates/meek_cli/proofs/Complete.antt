@@ -1,21 +1,32 @@
--- Nothing but a whole sheet or want of memory answers an accepted run.
-use Rattle.std.proofs.Common.{◌≡◌, ◌⊎◌, ℕ, ◌+◌, ◌-◌, ◌<◌, ◌≤◌, List, length, take, get_or, slice_index, refl, sym, ◌∙◌, ap, subst, arith, inl, inr, false, length-take}
+-- Nothing but what is owed for it, or want of memory, answers an accepted run.
+use Rattle.std.proofs.Common.{◌≡◌, ◌⊎◌, ℕ, ◌-◌, ◌<◌, List, length, take, slice_index, refl, sym, ◌∙◌, ap, subst, arith, inl, inr, true, false, length-take}
 use Rattle.std.specs.Prelude.{Option, Some, Ok, Err}
 use Rattle.std.proofs.lemmas.List.{get_or-take, get_or_default}
-use Rattle.meek_words.specs.declared.command.Command.TheVariants.{Count}
-use Rattle.lot_order.specs.Lots.{IsOrder, IsTwiceAt, IsOutOfRangeAt, IsFirstMissing, number_at, before}
+use Rattle.meek_words.specs.declared.command.Command.TheVariants.{Count, Day as DayWords}
+use Rattle.lot_order.specs.Lots.{IsOrder}
 use Rattle.blt_reader.specs.declared.input_fault.InputFault.{InputFault}
 use Rattle.blt_reader.specs.Poll.{Poll}
 use Rattle.blt_reader.specs.Scan.{scan}
-use Rattle.blt_reader.specs.Blt.{IsBlt}
-use Rattle.blt_reader.specs.Refusal.{IsAccepted}
-use Rattle.blt_reader.specs.Said.{of_a_file, said_by, AcceptsFiles, RefusesByTheRule, IsFileRefusal}
+use Rattle.blt_reader.specs.Said.{of_a_file, said_by, AcceptsFiles, RefusesByTheRule}
+use Rattle.day_reader.specs.declared.day.Day.{Day}
+use Rattle.day_reader.specs.Said as days
 use Rattle.meek_words.specs.Forms.{HaveOneCommand}
+use Rattle.batch_core.specs.declared.entry.Entry.{Entry}
 use Rattle.meek_cli.specs.declared.status.Status.{Status}
 use Rattle.meek_cli.specs.declared.status.Status.TheVariants.{Done, SourceFault, BadWords, BadInput, SinkFault, NoMemory}
 use Rattle.meek_cli.specs.Streams.{Reading, Writing}
-use Rattle.meek_cli.specs.Owed.{AsksForCount, SaysPoll, IsTooLong, IsRefusedFile, HasBadLots, IsBadPlace, IsRefused, IsOwedForCount, IsOwedAt, limit}
-use Rattle.meek_cli.specs.Run.{IsRun, IsAcceptedRun}
+use Rattle.meek_cli.specs.Owed.{AsksForCount, AsksForDay, SaysPoll, SaysDay, IsTooLong, IsRefusedDay, IsBadPlace, IsRefused, IsOwedForWork, day_limit}
+use Rattle.meek_cli.specs.Run.{IsRun, AreAccepted, IsAcceptedRun}
+
+-- What the definitions of files, days and words amount to.
+pub record Laws : Type 0 where
+  pub files : AcceptsFiles
+  pub file_refusals : RefusesByTheRule
+  pub day_files : days.AcceptsDays
+  pub day_refusals : days.RefusesByTheRule
+  pub one_command : HaveOneCommand
+
+-- ---- a count
 
 -- an order of all candidates has no place at fault
 pub no_bad_place : (lots : List ℕ) (place : ℕ) → IsOrder lots → IsBadPlace (length lots) lots place → ⊥
@@ -34,49 +45,77 @@ no_bad_place lots place order (inr (inr (c, first, is))) =
 
 -- a file that is accepted is not refused
 pub not_refused :
-    (lots input : List ℕ) (poll : Poll) (fault : InputFault) → AcceptsFiles → RefusesByTheRule
+    (lots input : List ℕ) (poll : Poll) (fault : InputFault) → Laws
     → SaysPoll lots input poll → IsRefused lots input fault → ⊥
-not_refused lots input poll fault accepts refuses says (inl too_long) = omega (arith, too_long.long, says.short)
-not_refused lots input poll fault accepts refuses says (inr (inl refused)) =
-    let read : said_by of_a_file (scan input false) ≡ Ok poll = (accepts of_a_file (scan input false) poll).1 says.file in
-    let stopped : said_by of_a_file (scan input false) ≡ Err fault = (refuses of_a_file (scan input false) fault).1 refused.refused in
+not_refused lots input poll fault laws says (inl too_long) = omega (arith, too_long.long, says.short)
+not_refused lots input poll fault laws says (inr (inl refused)) =
+    let read : said_by of_a_file (scan input false) ≡ Ok poll = (laws.files of_a_file (scan input false) poll).1 says.file in
+    let stopped : said_by of_a_file (scan input false) ≡ Err fault = (laws.file_refusals of_a_file (scan input false) fault).1 refused.refused in
     cc
-not_refused lots input poll fault accepts refuses says (inr (inr bad)) =
-    let read : said_by of_a_file (scan input false) ≡ Ok poll = (accepts of_a_file (scan input false) poll).1 says.file in
-    let other : said_by of_a_file (scan input false) ≡ Ok bad.poll = (accepts of_a_file (scan input false) bad.poll).1 bad.file in
+not_refused lots input poll fault laws says (inr (inr bad)) =
+    let read : said_by of_a_file (scan input false) ≡ Ok poll = (laws.files of_a_file (scan input false) poll).1 says.file in
+    let other : said_by of_a_file (scan input false) ≡ Ok bad.poll = (laws.files of_a_file (scan input false) bad.poll).1 bad.file in
     let same : bad.poll ≡ poll = cc in
     let n : length bad.poll.roll.names ≡ length lots = ap (λ (p : Poll). length p.roll.names) same ∙ sym says.lots_of_all in
     no_bad_place lots bad.place says.order (subst (λ (k : ℕ). IsBadPlace k lots bad.place) n bad.lots_at)
 
+-- ---- a day
+
+-- a day that is accepted is not refused
+day_not_refused :
+    (input : List ℕ) (day : Day) (fault : InputFault) → Laws → SaysDay input day
+    → IsTooLong day_limit input fault ⊎ IsRefusedDay input fault → ⊥
+day_not_refused input day fault laws says (inl too_long) = omega (arith, too_long.long, says.short)
+day_not_refused input day fault laws says (inr refused) =
+    let read : days.said_by (scan input true) ≡ Ok day = (laws.day_files (scan input true) day).1 says.file in
+    let stopped : days.said_by (scan input true) ≡ Err fault = (laws.day_refusals (scan input true) fault).1 refused.refused in
+    cc
+
+-- ---- any words
+
 -- the words of one count name one order of lots
-pub same_lots :
+same_lots :
     (words : List (List ℕ)) (lots other : List ℕ) → HaveOneCommand → AsksForCount words lots → AsksForCount words other
     → other ≡ lots
 same_lots words lots other one (s, w, asked) (t, v, again) =
     let same : Count other t v ≡ Count lots s w = one words _ _ again asked in
     cc
 
+-- words ask for a count or for a day, and not for both
+not_both : (words : List (List ℕ)) (lots : List ℕ) → HaveOneCommand → AsksForCount words lots → AsksForDay words → ⊥
+not_both words lots one (s, w, asked) (t, v, again) =
+    let same : DayWords t v ≡ Count lots s w = one words _ _ again asked in
+    cc
+
 -- What is owed for an accepted input is no refusal.
-pub owes_no_refusal :
-    (words : List (List ℕ)) (source : Reading) (sink : Writing) (fault : InputFault) (lots : List ℕ)
-    → AcceptsFiles → RefusesByTheRule → HaveOneCommand → (run : IsAcceptedRun words source sink)
-    → AsksForCount words lots → (bytes : List ℕ) → IsOwedAt lots source.left (BadInput fault) bytes → ⊥
-owes_no_refusal words source sink fault lots accepts refuses one run asked bytes owed =
-    let known : IsOwedAt lots (Some run.input) (BadInput fault) bytes =
-    subst (λ (left : Option (List ℕ)). IsOwedAt lots left (BadInput fault) bytes) run.told owed in
-    let mine : IsRefused run.lots run.input fault =
-    subst (λ (l : List ℕ). IsRefused l run.input fault) (same_lots words run.lots lots one run.asked asked) known.0 in
-    not_refused run.lots run.input run.poll fault accepts refuses run.says mine
+owes_no_refusal :
+    (words : List (List ℕ)) (input : List ℕ) (fault : InputFault) (history : List Entry) (bytes : List ℕ) → Laws
+    → AreAccepted words input → IsOwedForWork words (Some input) (BadInput fault) history bytes → ⊥
+owes_no_refusal words input fault history bytes laws (inl (lots, asked, (poll, says))) (inl (other, again, none, owed)) =
+    let mine : IsRefused lots input fault =
+    subst (λ (l : List ℕ). IsRefused l input fault) (same_lots words lots other laws.one_command asked again) owed.0 in
+    not_refused lots input poll fault laws says mine
+owes_no_refusal words input fault history bytes laws (inl (lots, asked, (poll, says))) (inr (again, owed)) =
+    not_both words lots laws.one_command asked again
+owes_no_refusal words input fault history bytes laws (inr (asked, (day, says))) (inl (lots, again, none, owed)) =
+    not_both words lots laws.one_command again asked
+owes_no_refusal words input fault history bytes laws (inr (asked, (day, says))) (inr (again, owed)) =
+    day_not_refused input day fault laws says owed.0
+
+-- accepted words ask for something
+asks : (words : List (List ℕ)) (input : List ℕ) → AreAccepted words input → ((lots : List ℕ) × AsksForCount words lots) ⊎ AsksForDay words
+asks words input (inl (lots, asked, says)) = inl (lots, asked)
+asks words input (inr (asked, says)) = inr asked
 
 -- An accepted run in which nothing failed is done, or wants memory.
 pub complete :
-    (words : List (List ℕ)) (source : Reading) (sink : Writing) (status : Status)
-    → AcceptsFiles → RefusesByTheRule → HaveOneCommand → IsRun words source sink status
-    → IsAcceptedRun words source sink → (status ≡ Done) ⊎ (status ≡ NoMemory)
-complete words source sink Done accepts refuses one is run = inl refl
-complete words source sink NoMemory accepts refuses one is run = inr refl
-complete words source sink SourceFault accepts refuses one is run = absurd (run.no_read_failed is.1)
-complete words source sink SinkFault accepts refuses one is run = absurd (run.no_write_failed is.1)
-complete words source sink BadWords accepts refuses one is run = absurd (is.2.1.0 run.lots run.asked)
-complete words source sink (BadInput fault) accepts refuses one is run =
-    absurd (owes_no_refusal words source sink fault is.2.1.0 accepts refuses one run is.2.1.1 is.2.0 is.2.1.2)
+    (words : List (List ℕ)) (source : Reading) (sink : Writing) (status : Status) (history : List Entry) → Laws
+    → IsRun words source sink status history → IsAcceptedRun words source sink → (status ≡ Done) ⊎ (status ≡ NoMemory)
+complete words source sink Done history laws is run = inl refl
+complete words source sink NoMemory history laws is run = inr refl
+complete words source sink SourceFault history laws is run = absurd (run.no_read_failed is.2)
+complete words source sink SinkFault history laws is run = absurd (run.no_write_failed is.1)
+complete words source sink BadWords history laws is run = absurd (is.2.1.0 (asks words run.input run.accepted))
+complete words source sink (BadInput fault) history laws is run =
+    absurd (owes_no_refusal words run.input fault history is.2.0 laws run.accepted
+    (subst (λ (left : Option (List ℕ)). IsOwedForWork words left (BadInput fault) history is.2.0) run.told is.2.1))

@@ -1,8 +1,8 @@
 -- How the writing of a count ends.
-use Rattle.std.proofs.Common.{◌≡◌, ◌⊎◌, ℕ, ◌+◌, ◌≤◌, List, [], ◌++◌, length, false, refl, sym, subst, inl, inr}
+use Rattle.std.proofs.Common.{◌≡◌, ℕ, ◌+◌, ◌≤◌, List, [], length, false, refl, sym, subst, inl, inr}
 use Rattle.std.specs.Prelude.{Option}
 use Rattle.std.proofs.lemmas.List.{append-nil}
-use Rattle.std.specs.Io.KnownBytes.{Appends, Keeps}
+use Rattle.std.specs.Io.KnownBytes.{Keeps}
 use Rattle.std.proofs.KnownBytes.{Appends-kept}
 use Rattle.byte_edge.specs.Faults.{Rose}
 use Rattle.candidate_roll.specs.Roll.{RollList}
@@ -12,7 +12,6 @@ use Rattle.lot_order.specs.Lots.{IsLotsStop}
 use Rattle.lot_order.specs.declared.lots_stop.LotsStop.{LotsStop}
 use Rattle.lot_order.specs.declared.lots_stop.LotsStop.TheVariants.{NotAll, Twice, OutOfRange, NoMemory as NoLots}
 use Rattle.blt_reader.specs.declared.fault_kind.FaultKind.TheVariants.{BadLots}
-use Rattle.blt_reader.specs.declared.input_fault.InputFault.{InputFault}
 use Rattle.blt_reader.specs.Scan.{scan}
 use Rattle.blt_reader.specs.Poll.{Poll}
 use Rattle.blt_reader.specs.Blt.{IsBlt}
@@ -23,7 +22,7 @@ use Rattle.meek_cli.specs.declared.status.Status.{Status}
 use Rattle.meek_cli.specs.declared.status.Status.TheVariants.{Done, BadInput, SinkFault}
 use Rattle.meek_cli.specs.Streams.{Writing, NoWriteFailed}
 use Rattle.meek_cli.specs.Refusals.{fault_line}
-use Rattle.meek_cli.specs.Owed.{limit}
+use Rattle.meek_cli.specs.Owed.{count_limit}
 use Rattle.meek_cli.specs.Run.{FinishesCount, RefusesLots, WritesCount}
 
 -- the count is of these lines, this roll and these lots, with the program's omega
@@ -77,7 +76,7 @@ wrote_sheet roll lots lines count sink mid of (text, is, whole) kept calm =
 -- a file was read, and the lots are not an order of its candidates
 pub refused_lots :
     (lots input : List ℕ) (poll : Poll) (stop : LotsStop) (status : Status) (sink : Writing)
-    → length input ≤ limit → IsAccepted (IsBlt 999999999) (scan input false) poll
+    → length input ≤ count_limit → IsAccepted (IsBlt 999999999) (scan input false) poll
     → IsLotsStop (length poll.roll.names) lots stop → RefusesLots (length lots) stop status sink
     → FinishesCount lots input status sink
 refused_lots lots input poll (NotAll c) status sink short file is finishes =

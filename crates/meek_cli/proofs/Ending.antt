@@ -1,71 +1,113 @@
 -- How a run ends, from what was owed and what the sink took.
-use Rattle.std.proofs.Common.{◌≡◌, ◌⊎◌, ℕ, List, ◌++◌, refl, sym, ◌∙◌, ap, subst, arith, inl, inr}
+use Rattle.std.proofs.Common.{◌≡◌, ℕ, List, [], ◌++◌, refl, sym, ◌∙◌, ap, subst, inl, inr}
 use Rattle.std.specs.Prelude.{Option, Some, None}
 use Rattle.std.proofs.lemmas.List.{append-nil}
 use Rattle.std.specs.Io.KnownBytes.{Consumes, IsAtEnd}
 use Rattle.byte_edge.specs.Bytes.{IsLongerThan}
 use Rattle.blt_reader.specs.declared.fault_kind.FaultKind.TheVariants.{TooLong}
 use Rattle.blt_reader.specs.declared.input_fault.InputFault.{InputFault}
+use Rattle.batch_core.specs.declared.entry.Entry.{Entry}
 use Rattle.meek_cli.specs.declared.status.Status.{Status}
 use Rattle.meek_cli.specs.declared.status.Status.TheVariants.{Done, SourceFault, BadWords, BadInput, SinkFault, NoMemory}
-use Rattle.meek_cli.specs.Streams.{Reading, Writing, NoReadFailed, NothingWritten}
+use Rattle.meek_cli.specs.declared.work.Work.{Work}
+use Rattle.meek_cli.specs.declared.work.Work.TheVariants.{Count, Day}
+use Rattle.meek_cli.specs.Streams.{Reading, Writing, NoReadFailed}
 use Rattle.meek_cli.specs.Refusals.{fault_line}
-use Rattle.meek_cli.specs.Owed.{AsksForCount, IsOwedForCount, IsOwedAt, IsOwed, limit}
-use Rattle.meek_cli.specs.Run.{IsRun, Finishes, FinishesCount}
+use Rattle.meek_cli.specs.DayHistory.{IsOfficeHistory}
+use Rattle.meek_cli.specs.Owed.{IsOwedForCount, IsOwedAt, IsOwedForDay, IsDayOwedAt, OwesDay, IsOwed}
+use Rattle.meek_cli.specs.Run.{IsRun, Finishes}
+use Rattle.meek_cli.specs.Work.{AsksFor, limit_of, FinishesWork}
 
 -- What is owed was written, or a front of it: so the run is one of the status that was answered.
 pub finished :
-    (words : List (List ℕ)) (source : Reading) (sink : Writing) (due : Status) (bytes : List ℕ) (status : Status)
-    → NoReadFailed source → IsOwed words source.left due bytes → Finishes due bytes status sink
-    → IsRun words source sink status
-finished words source sink Done bytes status calm is (inl (same, none, took)) =
-    subst (IsRun words source sink) (sym same) (calm, none, (bytes, is, took))
-finished words source sink BadWords bytes status calm is (inl (same, none, took)) =
-    subst (IsRun words source sink) (sym same) (calm, none, (bytes, is, took))
-finished words source sink (BadInput fault) bytes status calm is (inl (same, none, took)) =
-    subst (IsRun words source sink) (sym same) (calm, none, (bytes, is, took))
-finished words source sink SourceFault bytes status calm is (inl done) = absurd is
-finished words source sink SinkFault bytes status calm is (inl done) = absurd is
-finished words source sink NoMemory bytes status calm is (inl done) = absurd is
-finished words source sink due bytes status calm is (inr (same, rose, front)) =
-    subst (IsRun words source sink) (sym same) (calm, rose, (due, bytes, is, front))
+    (words : List (List ℕ)) (source : Reading) (sink : Writing) (due : Status) (history : List Entry) (bytes : List ℕ)
+    (status : Status) → NoReadFailed source → IsOwed words source.left due history bytes → Finishes due bytes status sink
+    → IsRun words source sink status history
+finished words source sink Done history bytes status calm is (inl (same, none, took)) =
+    subst (λ (s : Status). IsRun words source sink s history) (sym same) (calm, none, (bytes, is, took))
+finished words source sink BadWords history bytes status calm is (inl (same, none, took)) =
+    subst (λ (s : Status). IsRun words source sink s history) (sym same) (calm, none, (bytes, is, took))
+finished words source sink (BadInput fault) history bytes status calm is (inl (same, none, took)) =
+    subst (λ (s : Status). IsRun words source sink s history) (sym same) (calm, none, (bytes, is, took))
+finished words source sink SourceFault history bytes status calm is (inl done) = absurd is
+finished words source sink SinkFault history bytes status calm is (inl done) = absurd is
+finished words source sink NoMemory history bytes status calm is (inl done) = absurd is
+finished words source sink due history bytes status calm is (inr (same, rose, front)) =
+    subst (λ (s : Status). IsRun words source sink s history) (sym same) (calm, rose, (due, bytes, is, front))
 
 -- an input of which more was left than may be read
 pub too_long :
-    (words : List (List ℕ)) (left : Option (List ℕ)) (lots : List ℕ) (fault : InputFault)
-    → fault ≡ record { kind = TooLong; at = limit } → AsksForCount words lots → IsLongerThan limit left
-    → IsOwed words left (BadInput fault) (fault_line fault)
-too_long words None lots fault is asked long = (lots, asked, tt)
-too_long words (Some input) lots fault is asked long = (lots, asked, (inl (record { long = long; fault_is = is }), refl))
+    (words : List (List ℕ)) (left : Option (List ℕ)) (work : Work) (fault : InputFault)
+    → fault ≡ record { kind = TooLong; at = limit_of work } → AsksFor words work → IsLongerThan (limit_of work) left
+    → IsOwed words left (BadInput fault) [] (fault_line fault)
+too_long words None (Count lots) fault is asked long = inl (lots, asked, refl, tt)
+too_long words (Some input) (Count lots) fault is asked long =
+    inl (lots, asked, refl, (inl (record { long = long; fault_is = is }), refl))
+too_long words None Day fault is asked long = inr (asked, refl)
+too_long words (Some input) Day fault is asked long =
+    inr (asked, (inl (record { long = long; fault_is = is }), refl, refl))
 
--- what was read is what was left
-pub all_read :
-    (left left_then : Option (List ℕ)) (items : List ℕ) (lots : List ℕ) (status : Status) (bytes : List ℕ)
+-- ---- an input that was read
+
+-- what was read is what is left, where that is known
+same_input : (input rest items : List ℕ) → input ≡ items ++ rest → rest ≡ [] → input ≡ items
+same_input input rest items took end = took ∙ (ap (λ (r : List ℕ). items ++ r) end ∙ append-nil items)
+
+counted_of :
+    (left left_then : Option (List ℕ)) (items lots : List ℕ) (status : Status) (bytes : List ℕ)
     → Consumes left left_then items → IsAtEnd left_then → IsOwedForCount lots items status bytes
     → IsOwedAt lots left status bytes
-all_read None left_then items lots status bytes took end owed = tt
-all_read (Some input) None items lots status bytes took end owed = absurd took
-all_read (Some input) (Some rest) items lots status bytes took end owed =
-    let whole : input ≡ items = took ∙ ap (λ (r : List ℕ). items ++ r) end ∙ append-nil items in
-    subst (λ (i : List ℕ). IsOwedForCount lots i status bytes) (sym whole) owed
+counted_of None left_then items lots status bytes took end owed = tt
+counted_of (Some input) None items lots status bytes took end owed = absurd took
+counted_of (Some input) (Some rest) items lots status bytes took end owed =
+    subst (λ (i : List ℕ). IsOwedForCount lots i status bytes) (sym (same_input input rest items took end)) owed
 
--- what is owed for the input is owed for the words that asked for it
-pub owed_by_words :
-    (words : List (List ℕ)) (left : Option (List ℕ)) (items lots : List ℕ) (status : Status) (bytes : List ℕ)
-    → AsksForCount words lots → IsOwedForCount lots items status bytes → IsOwedAt lots left status bytes
-    → IsOwed words left status bytes
-owed_by_words words left items lots Done bytes asked owed at = (lots, asked, at)
-owed_by_words words left items lots (BadInput fault) bytes asked owed at = (lots, asked, at)
-owed_by_words words left items lots status bytes asked owed at = absurd owed
+-- a day's history is an office's
+office_of : (input : List ℕ) (history : List Entry) (bytes : List ℕ) → OwesDay input history bytes → IsOfficeHistory history
+office_of input history bytes owes = record { legal = owes.calls.legal; ends = owes.calls.ends }
 
--- A count of the whole input ends the run.
-pub counted :
-    (words : List (List ℕ)) (source : Reading) (sink : Writing) (items lots : List ℕ) (status : Status)
-    → NoReadFailed source → AsksForCount words lots → Consumes source.left source.left_then items
-    → IsAtEnd source.left_then → FinishesCount lots items status sink → IsRun words source sink status
-counted words source sink items lots status calm asked took end (inl (same, nothing)) =
-    subst (IsRun words source sink) (sym same) (calm, nothing)
-counted words source sink items lots status calm asked took end (inr (due, bytes, owed, finishes)) =
-    let at = all_read source.left source.left_then items lots due bytes took end owed in
-    finished words source sink due bytes status calm
-    (owed_by_words words source.left items lots due bytes asked owed at) finishes
+played_of :
+    (left left_then : Option (List ℕ)) (items : List ℕ) (status : Status) (history : List Entry) (bytes : List ℕ)
+    → Consumes left left_then items → IsAtEnd left_then → IsOwedForDay items status history bytes
+    → IsDayOwedAt left status history bytes
+played_of None left_then items Done history bytes took end owed = office_of items history bytes owed
+played_of None left_then items (BadInput fault) history bytes took end owed = owed.1
+played_of None left_then items status history bytes took end owed = absurd owed
+played_of (Some input) None items status history bytes took end owed = absurd took
+played_of (Some input) (Some rest) items status history bytes took end owed =
+    subst (λ (i : List ℕ). IsOwedForDay i status history bytes) (sym (same_input input rest items took end)) owed
+
+-- what is owed for the input of a count is owed for the words that asked for it
+count_owed :
+    (words : List (List ℕ)) (left : Option (List ℕ)) (items lots : List ℕ) (status : Status) (history : List Entry)
+    (bytes : List ℕ) → AsksFor words (Count lots) → history ≡ [] → IsOwedForCount lots items status bytes
+    → IsOwedAt lots left status bytes → IsOwed words left status history bytes
+count_owed words left items lots Done history bytes asked none owed at = inl (lots, asked, none, at)
+count_owed words left items lots (BadInput fault) history bytes asked none owed at = inl (lots, asked, none, at)
+count_owed words left items lots status history bytes asked none owed at = absurd owed
+
+day_owed :
+    (words : List (List ℕ)) (left : Option (List ℕ)) (items : List ℕ) (status : Status) (history : List Entry)
+    (bytes : List ℕ) → AsksFor words Day → IsOwedForDay items status history bytes
+    → IsDayOwedAt left status history bytes → IsOwed words left status history bytes
+day_owed words left items Done history bytes asked owed at = inr (asked, at)
+day_owed words left items (BadInput fault) history bytes asked owed at = inr (asked, at)
+day_owed words left items status history bytes asked owed at = absurd owed
+
+-- The work on the whole input ends the run.
+pub worked :
+    (words : List (List ℕ)) (source : Reading) (sink : Writing) (work : Work) (items : List ℕ) (status : Status)
+    (history : List Entry) → NoReadFailed source → AsksFor words work → Consumes source.left source.left_then items
+    → IsAtEnd source.left_then → FinishesWork work items status history sink → IsRun words source sink status history
+worked words source sink (Count lots) items status history calm asked took end (none, inl (same, nothing)) =
+    subst (λ (s : Status). IsRun words source sink s history) (sym same) (calm, none, nothing)
+worked words source sink (Count lots) items status history calm asked took end (none, inr (due, bytes, owed, finishes)) =
+    let at = counted_of source.left source.left_then items lots due bytes took end owed in
+    finished words source sink due history bytes status calm
+    (count_owed words source.left items lots due history bytes asked none owed at) finishes
+worked words source sink Day items status history calm asked took end (inl (same, none, nothing)) =
+    subst (λ (s : Status). IsRun words source sink s history) (sym same) (calm, none, nothing)
+worked words source sink Day items status history calm asked took end (inr (due, bytes, owed, finishes)) =
+    let at = played_of source.left source.left_then items due history bytes took end owed in
+    finished words source sink due history bytes status calm
+    (day_owed words source.left items due history bytes asked owed at) finishes

@@ -1,5 +1,11 @@
 pub mod Status
 pub mod Streams
+pub mod Bytes
 pub mod Refusals
+pub mod DayText
+pub mod DayHistory
+pub mod Desk
+pub mod DueSheets
 pub mod Owed
 pub mod Run
+pub mod Work

@@ -1,5 +1,5 @@
 -- What a run did, by the status that it answered.
-use Rattle.std.specs.Prelude.{◌≡◌, ◌⊎◌, ℕ, List, Some, MatchOption}
+use Rattle.std.specs.Prelude.{◌≡◌, ◌⊎◌, ℕ, List, [], Some, MatchOption}
 use Rattle.lot_order.specs.declared.lots_stop.LotsStop.{LotsStop}
 use Rattle.candidate_roll.specs.Roll.{RollList}
 use Rattle.plain_ballots.specs.Ballots.{plain}
@@ -9,31 +9,37 @@ use Rattle.std.specs.Io.KnownBytes.{Appends, IsAtEnd}
 use Rattle.blt_reader.specs.Poll.{Poll}
 use Rattle.byte_edge.specs.Bytes.{AppendsFront}
 use Rattle.byte_edge.specs.Faults.{Rose}
+use Rattle.batch_core.specs.declared.entry.Entry.{Entry}
+use Rattle.day_reader.specs.declared.day.Day.{Day}
+use Rattle.meek_cli.specs.declared.terms.Terms.{Terms}
 use Rattle.meek_cli.specs.declared.status.Status.{Status}
 use Rattle.meek_cli.specs.declared.status.Status.TheVariants.{Done, SourceFault, BadWords, BadInput, SinkFault, NoMemory}
 use Rattle.meek_cli.specs.Refusals.{fault_line}
 use Rattle.meek_cli.specs.Streams.{Reading, Writing, NoReadFailed, NoWriteFailed, NothingRead, NothingWritten}
-use Rattle.meek_cli.specs.Owed.{AsksForCount, SaysPoll, IsOwedForCount, IsOwed, lots_fault}
+use Rattle.meek_cli.specs.DayText.{terms_of, IsDayText}
+use Rattle.meek_cli.specs.DayHistory.{IsHistoryOf}
+use Rattle.meek_cli.specs.Owed.{AsksForCount, AsksForDay, AsksForWork, SaysPoll, SaysDay, IsOwedForCount, IsOwedForDay, IsOwed, lots_fault}
 
--- a front of what is owed was appended, with whatever status it would have been
-abbrev pub AppendsFrontOfOwed : List (List ℕ) → Reading → Writing → Type 0
-AppendsFrontOfOwed words source sink =
-    (due : Status) × (bytes : List ℕ) × IsOwed words source.left due bytes
+-- a front of what is owed was appended, with whatever status it would have been, and the history is that which was due
+abbrev pub AppendsFrontOfOwed : List (List ℕ) → Reading → Writing → List Entry → Type 0
+AppendsFrontOfOwed words source sink history =
+    (due : Status) × (bytes : List ℕ) × IsOwed words source.left due history bytes
     × AppendsFront sink.written sink.written_then bytes
 
 -- just what is owed with this status was appended
-abbrev pub AppendsOwed : List (List ℕ) → Reading → Writing → Status → Type 0
-AppendsOwed words source sink status =
-    (bytes : List ℕ) × IsOwed words source.left status bytes × Appends sink.written sink.written_then bytes
+abbrev pub AppendsOwed : List (List ℕ) → Reading → Writing → Status → List Entry → Type 0
+AppendsOwed words source sink status history =
+    (bytes : List ℕ) × IsOwed words source.left status history bytes × Appends sink.written sink.written_then bytes
 
--- Each status with its whole cause. Want of memory has none.
-abbrev pub IsRun : (words : List (List ℕ)) → Reading → Writing → Status → Type 0
-IsRun words source sink SourceFault =
-    ((lots : List ℕ) × AsksForCount words lots) × Rose source.faults source.faults_then × NothingWritten sink
-IsRun words source sink SinkFault =
-    NoReadFailed source × Rose sink.faults sink.faults_then × AppendsFrontOfOwed words source sink
-IsRun words source sink NoMemory = NoReadFailed source × NothingWritten sink
-IsRun words source sink status = NoReadFailed source × NoWriteFailed sink × AppendsOwed words source sink status
+-- Each status with its whole cause, and with the history. Want of memory has no cause.
+abbrev pub IsRun : (words : List (List ℕ)) → Reading → Writing → Status → List Entry → Type 0
+IsRun words source sink SourceFault history =
+    AsksForWork words × (history ≡ []) × Rose source.faults source.faults_then × NothingWritten sink
+IsRun words source sink SinkFault history =
+    NoReadFailed source × Rose sink.faults sink.faults_then × AppendsFrontOfOwed words source sink history
+IsRun words source sink NoMemory history = NoReadFailed source × (history ≡ []) × NothingWritten sink
+IsRun words source sink status history =
+    NoReadFailed source × NoWriteFailed sink × AppendsOwed words source sink status history
 
 -- what was done with the input
 abbrev pub IsReadFor : Status → Reading → Type 0
@@ -41,16 +47,21 @@ IsReadFor BadWords source = NothingRead source
 IsReadFor Done source = IsAtEnd source.left_then
 IsReadFor other source = Unit {0}
 
+-- words and an input that are accepted: a file that can be counted by the lots of the words, or a day
+abbrev pub AreAccepted : (words : List (List ℕ)) → (input : List ℕ) → Type 0
+AreAccepted words input =
+    ((lots : List ℕ) × AsksForCount words lots × ((poll : Poll) × SaysPoll lots input poll))
+    ⊎ (AsksForDay words × ((day : Day) × SaysDay input day))
+
 -- words and an input that are accepted, where nothing failed
 pub record IsAcceptedRun (words : List (List ℕ)) (source : Reading) (sink : Writing) : Type 0 where
-  pub lots : List ℕ
-  pub asked : AsksForCount words lots
   pub input : List ℕ
   pub told : source.left ≡ Some input
-  pub poll : Poll
-  pub says : SaysPoll lots input poll
+  pub accepted : AreAccepted words input
   pub no_read_failed : ¬ Rose source.faults source.faults_then
   pub no_write_failed : ¬ Rose sink.faults sink.faults_then
+
+-- ---- the parts of a run
 
 -- the bytes were written, or a front of them and a fault was counted
 abbrev pub Finishes : (due : Status) → (bytes : List ℕ) → Status → Writing → Type 0
@@ -75,3 +86,22 @@ abbrev pub RefusesLots : (len : ℕ) → LotsStop → Status → Writing → Typ
 RefusesLots len stop status sink =
     MatchOption (lots_fault len stop) ((status ≡ NoMemory) × NothingWritten sink)
     (λ fault. Finishes (BadInput fault) (fault_line fault) status sink)
+
+-- what a day of this input came to: what is owed was written, or memory was wanted before the first byte
+abbrev pub FinishesDay : (input : List ℕ) → Status → List Entry → Writing → Type 0
+FinishesDay input status history sink =
+    ((status ≡ NoMemory) × (history ≡ []) × NothingWritten sink)
+    ⊎ ((due : Status) × (bytes : List ℕ) × IsOwedForDay input due history bytes × Finishes due bytes status sink)
+
+-- what writing the text of a day came to: it was written, or memory was wanted before the first byte
+abbrev pub WritesDay : Terms → List Entry → Status → Writing → Type 0
+WritesDay terms history status sink =
+    ((status ≡ NoMemory) × NothingWritten sink)
+    ⊎ ((text : List ℕ) × IsDayText terms history text × Finishes Done text status sink)
+
+-- what playing a day came to: the text of a history of its scripts was written, or memory was wanted before the first byte
+abbrev pub PlaysDay : Day → Status → List Entry → Writing → Type 0
+PlaysDay day status history sink =
+    ((status ≡ NoMemory) × (history ≡ []) × NothingWritten sink)
+    ⊎ (IsHistoryOf day.scripts history
+    × ((text : List ℕ) × IsDayText (terms_of day) history text × Finishes Done text status sink))

@@ -4,20 +4,18 @@ ghost use Rattle.meek_cli.specs.Owed.{lots_fault};
 ghost use Rattle.meek_cli.specs.Run.{FinishesCount, RefusesLots, WritesCount};
 
 use crate::Status;
+use crate::beginning::begin_count;
 use crate::refusal::refuse;
 use blt_reader::{BltStop, Election, FaultKind, InputFault, read_blt};
 use byte_edge::Sink;
 use candidate_roll::Roll;
-use fixed_place::Amount;
 use lot_order::{Lots, LotsStop};
-use meek_count::Count;
-use meek_rule::FlatSpread;
-use plain_ballots::{Ballots, lines_stand_for_ballots};
+use plain_ballots::Ballots;
 use sheet_text::write_sheet;
 use std::alloc::Global;
 
 /// Below so many units of 10^-9 votes a surplus is not transferred: 0.000001 votes.
-const OMEGA: u64 = 1_000;
+const OMEGA: u32 = 1_000;
 
 /// Counts the ballots of a file by these lots, and writes the sheet or the refusal.
 pub(crate) fn count<K: Sink>(alloc: Global, input: &[u8], lots: &[u32], sink: &mut K) -> Status
@@ -75,10 +73,7 @@ fn write_count<K: Sink>(
     ensures { WritesCount roll.now lots.now ballots.lines result
         (record { written = K.written sink.old; written_then = K.written sink.new; faults = K.faults sink.old; faults_then = K.faults sink.new }) }
 {
-    lines_stand_for_ballots();
-    let _sound = ballots.lines();
-    let omega = Amount::<9>::from_units(OMEGA);
-    let mut count = match Count::begin(alloc, roll, lots, FlatSpread::new(ballots), omega) {
+    let mut count = match begin_count::<9>(alloc, roll, lots, OMEGA, ballots) {
         Ok(count) => count,
         Err(_) => return Status::NoMemory,
     };

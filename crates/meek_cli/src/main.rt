@@ -2,12 +2,22 @@
 //! says how that ended as an [`Outcome`].
 #![tactic(auto)]
 
+mod beginning;
 mod counting;
+mod day;
+mod day_counting;
+mod desk;
+mod due_sheet;
+mod entry_text;
 mod finishing;
+mod frozen;
+mod office;
 mod outcome;
 mod refusal;
 mod run;
 mod status;
+mod terms;
+mod work;
 
 use byte_edge::{FreeGate, StdSink, StdSource};
 pub use outcome::Outcome;

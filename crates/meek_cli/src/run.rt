@@ -1,22 +1,19 @@
 // The whole program over a source and a sink.
-ghost use Rattle.std.specs.Prelude.{◌≡◌, ◌⊎◌, ℕ, List, map, IfOk};
+ghost use Rattle.std.specs.Prelude.{◌≡◌, ◌⊎◌, map};
 ghost use Rattle.std.specs.String.{string_bytes};
-ghost use Rattle.meek_cli.specs.Owed.{AsksForCount};
 ghost use Rattle.meek_cli.specs.Run.{IsRun, IsReadFor, IsAcceptedRun};
 
-use crate::counting::count;
 use crate::finishing::finish;
 use crate::refusal::refuse;
+use crate::work::Work;
 use crate::{Outcome, Status};
 use blt_reader::{FaultKind, InputFault, accepts_files, refuses_by_the_rule};
 use byte_edge::{Gate, ReadStop, Sink, Source, read_all};
-use meek_words::{Command, LotWords, WordsStop, read_words, words_have_one_command};
+use day_reader::{accepts_days, refuses_by_the_rule as refuses_days_by_the_rule};
+use meek_words::{WordsStop, words_have_one_command};
 use std::alloc::Global;
 use std::sync::Wait;
 use std::thread::Threads;
-
-/// The greatest length of an input, in bytes.
-const LIMIT: usize = 67_108_864;
 
 /// Does what the words ask for: reads the source to its end, judges it, and writes what is owed to the
 /// sink, with one flush behind the last byte. The words are read first, then the source; want of
@@ -32,7 +29,7 @@ pub fn meek<R: Threads + Wait + Sync, S: Source, K: Sink, G: Gate + Sync>(
     ensures run { IsRun (map string_bytes words.now)
         (record { left = S.left source.old; left_then = S.left source.new; faults = S.faults source.old; faults_then = S.faults source.new })
         (record { written = K.written sink.old; written_then = K.written sink.new; faults = K.faults sink.old; faults_then = K.faults sink.new })
-        result.status }
+        result.status result.history }
     ensures read { IsReadFor result.status
         (record { left = S.left source.old; left_then = S.left source.new; faults = S.faults source.old; faults_then = S.faults source.new }) }
     ensures complete { IsAcceptedRun (map string_bytes words.now)
@@ -43,61 +40,48 @@ pub fn meek<R: Threads + Wait + Sync, S: Source, K: Sink, G: Gate + Sync>(
     // The laws by which an accepted run has no other answer.
     accepts_files();
     refuses_by_the_rule();
+    accepts_days();
+    refuses_days_by_the_rule();
     words_have_one_command();
-    Outcome {
-        status: status_of(alloc, words, source, sink),
-    }
+    run(alloc, words, source, sink)
 }
 
 /// The whole run, which asks nothing of the runtime.
-fn status_of<S: Source, K: Sink>(
-    alloc: Global,
-    words: &[String],
-    source: &mut S,
-    sink: &mut K,
-) -> Status
+fn run<S: Source, K: Sink>(alloc: Global, words: &[String], source: &mut S, sink: &mut K) -> Outcome
     ensures run { IsRun (map string_bytes words.now)
         (record { left = S.left source.old; left_then = S.left source.new; faults = S.faults source.old; faults_then = S.faults source.new })
         (record { written = K.written sink.old; written_then = K.written sink.new; faults = K.faults sink.old; faults_then = K.faults sink.new })
-        result }
-    ensures read { IsReadFor result
+        result.status result.history }
+    ensures read { IsReadFor result.status
         (record { left = S.left source.old; left_then = S.left source.new; faults = S.faults source.old; faults_then = S.faults source.new }) }
 {
-    let lots = match lots_of(alloc, words) {
-        Ok(lots) => lots,
-        Err(WordsStop::BadWords) => return finish(sink, Status::BadWords, b"refused BadWords\n"),
-        Err(WordsStop::NoMemory) => return Status::NoMemory,
+    let work = match Work::from_words(alloc, words) {
+        Ok(work) => work,
+        Err(WordsStop::BadWords) => {
+            let status = finish(sink, Status::BadWords, b"refused BadWords\n");
+            return Outcome::without_calls(alloc, status);
+        }
+        Err(WordsStop::NoMemory) => return Outcome::without_calls(alloc, Status::NoMemory),
     };
-    let input = match read_all(alloc, source, LIMIT) {
+    let limit = work.limit();
+    let input = match read_all(alloc, source, limit) {
         Ok(input) => input,
-        Err(ReadStop::TooLong) => return refuse(sink, too_long()),
-        Err(ReadStop::Failed) => return Status::SourceFault,
-        Err(ReadStop::NoMemory) => return Status::NoMemory,
+        Err(ReadStop::TooLong) => {
+            return Outcome::without_calls(alloc, refuse(sink, too_long(limit)));
+        }
+        Err(ReadStop::Failed) => return Outcome::without_calls(alloc, Status::SourceFault),
+        Err(ReadStop::NoMemory) => return Outcome::without_calls(alloc, Status::NoMemory),
     };
-    count(alloc, input.as_slice(), lots.items(), sink)
-}
-
-/// The lots of a count, where the words ask for one.
-fn lots_of(alloc: Global, words: &[String]) -> Result<LotWords, WordsStop>
-    ensures asked { IfOk result (AsksForCount (map string_bytes words.now)) }
-    ensures none { result ≡ Err WordsStop.BadWords → (lots : List ℕ) → ¬ AsksForCount (map string_bytes words.now) lots }
-{
-    match read_words(alloc, words) {
-        Ok(Command::Count { lots, .. }) => Ok(lots),
-        Ok(Command::Day { .. }) => Err(WordsStop::BadWords),
-        Ok(Command::Trial { .. }) => Err(WordsStop::BadWords),
-        Err(WordsStop::BadWords) => Err(WordsStop::BadWords),
-        Err(WordsStop::NoMemory) => Err(WordsStop::NoMemory),
-    }
+    work.finish(alloc, input.as_slice(), sink)
 }
 
 /// The fault of an input longer than the limit.
-fn too_long() -> InputFault
-    ensures { result ≡ record { kind = FaultKind.TooLong; at = 67108864 } }
+fn too_long(limit: usize) -> InputFault
+    ensures { result ≡ record { kind = FaultKind.TooLong; at = limit } }
 {
     InputFault {
         kind: FaultKind::TooLong,
-        at: LIMIT,
+        at: limit,
     }
 }
 

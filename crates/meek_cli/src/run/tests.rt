@@ -1,5 +1,6 @@
 // Whole runs over memory: elections worked by hand with their sheets, refusals at their places, and a
 // source or a sink that fails in mid-stream. Expected bytes were worked out by hand.
+mod days;
 mod large_inputs;
 mod refusals;
 
@@ -26,10 +27,11 @@ round 2 iteration 2\n1 elected 0.571428572 4.000000004\n2 withdrawn 0.000000000 
 quota 4.000000001\nsurplus 0.000000003\nstep defeat 3 tied 3\n\
 result\n1 elected Ann\n2 withdrawn Ben\n3 defeated Cid\n4 elected Dee\nend\n";
 
-/// What a run answered and wrote.
+/// What a run answered and wrote, and how many calls its history has.
 #[derive(Drop)]
 struct Ran {
     status: Status,
+    calls: usize,
     written: Vec<u8>,
 }
 
@@ -65,6 +67,7 @@ fn run_failing<R: Threads + Wait + Sync>(
     let written = sink.bytes().to_vec(alloc)?;
     Ok(Ran {
         status: outcome.status,
+        calls: outcome.history.entries().len(),
         written,
     })
 }

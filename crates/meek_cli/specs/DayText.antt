@@ -1,0 +1,99 @@
+-- The text of a day: a line for each answered call, and then a sheet for each freeze. 32 is a space, and 10 ends a line.
+use Rattle.std.specs.Prelude.{◌≡◌, ℕ, ◌==◌, if◌then◌else◌, List, [], ◌∷◌, ◌++◌, map, filter, codes, decimal}
+use Rattle.std.specs.List.{enumerate_from}
+use Rattle.plain_ballots.specs.Ballots.{plain}
+use Rattle.candidate_roll.specs.Roll.{RollList, marks_with}
+use Rattle.sheet_text.specs.Lines.{text_of_lines, ended}
+use Rattle.sheet_text.specs.Sheet.{IsSheet}
+use Rattle.batch_core.specs.declared.change.Change.{Change}
+use Rattle.batch_core.specs.declared.change.Change.TheVariants.{Enter, Correct, Withdraw}
+use Rattle.batch_core.specs.declared.call.Call.{Call}
+use Rattle.batch_core.specs.declared.call.Call.TheVariants.{Change as Changes, Freeze, Strike}
+use Rattle.batch_core.specs.declared.reply.Reply.{Reply}
+use Rattle.batch_core.specs.declared.reply.Reply.TheVariants.{Entered, Corrected, Withdrawn, Frozen, Exists, Unknown, Gone, Stale, Spent, Struck, AlreadyStruck}
+use Rattle.batch_core.specs.declared.entry.Entry.{Entry}
+use Rattle.batch_core.specs.Histories.{standing_after, struck_after}
+use Rattle.day_reader.specs.declared.day.Day.{Day}
+use Rattle.day_reader.specs.Call.{is_freeze}
+use Rattle.meek_cli.specs.declared.terms.Terms.{Terms}
+
+-- ---- a line
+
+-- who calls: the clerk, or a team
+abbrev pub caller_text : ℕ → List ℕ
+caller_text caller = if caller == 0 then codes "clerk" else codes "team " ++ decimal caller
+
+abbrev pub change_text : Change → List ℕ
+change_text (Enter batch ballots) = codes "enter " ++ decimal batch
+change_text (Correct batch revision ballots) = codes "correct " ++ decimal batch ++ 32 ∷ decimal revision
+change_text (Withdraw batch revision) = codes "withdraw " ++ decimal batch ++ 32 ∷ decimal revision
+
+abbrev pub call_text : Call → List ℕ
+call_text (Changes change) = change_text change
+call_text Freeze = codes "freeze"
+call_text (Strike candidate) = codes "strike " ++ decimal candidate
+
+abbrev pub reply_text : Reply → List ℕ
+reply_text Entered = codes "entered"
+reply_text (Corrected revision) = codes "corrected " ++ decimal revision
+reply_text (Withdrawn revision) = codes "withdrawn " ++ decimal revision
+reply_text Frozen = codes "frozen"
+reply_text (Exists revision) = codes "exists " ++ decimal revision
+reply_text Unknown = codes "unknown"
+reply_text (Gone revision) = codes "gone " ++ decimal revision
+reply_text (Stale revision) = codes "stale " ++ decimal revision
+reply_text Spent = codes "spent"
+reply_text Struck = codes "struck"
+reply_text AlreadyStruck = codes "already"
+
+-- the n-th answered call: who called, the call, and the reply
+abbrev pub entry_line : ℕ → Entry → List ℕ
+entry_line n e = decimal n ++ 32 ∷ caller_text e.caller ++ 32 ∷ call_text e.call ++ 32 ∷ reply_text e.reply
+
+-- ---- a history
+
+-- answered calls with their places, from 1
+abbrev pub numbered : List Entry → List (ℕ × Entry)
+numbered history = enumerate_from 1 history
+
+abbrev pub entry_lines : List Entry → List (List ℕ)
+entry_lines history = map (λ e. entry_line e.0 e.1) (numbered history)
+
+-- the places of the freezes
+abbrev pub freeze_places : List Entry → List ℕ
+freeze_places history = map (λ e. e.0) (filter (λ e. is_freeze e.1.call) (numbered history))
+
+-- ---- the sheets
+
+-- how the sheets of a day are counted
+abbrev pub terms_of : Day → Terms
+terms_of day = record { places = day.places; omega = day.omega; roll = day.roll; lots = day.lots }
+
+-- the roll with these candidates withdrawn besides
+abbrev pub roll_with : RollList → List ℕ → RollList
+roll_with roll struck = record roll { withdrawn = marks_with roll.withdrawn struck }
+
+-- the sheet over the single ballots of the batches that stand after the first n calls, with the candidates withdrawn
+-- besides that these calls strike
+abbrev pub IsSheetAfter : Terms → List Entry → ℕ → List ℕ → Type 0
+IsSheetAfter terms history n sheet =
+    IsSheet terms.places terms.omega (plain (standing_after history n)) (roll_with terms.roll (struck_after history n))
+    terms.lots sheet
+
+-- the line that names the freeze of a sheet
+abbrev pub sheet_line : ℕ → List ℕ
+sheet_line n = codes "sheet " ++ decimal n
+
+-- for each of these places its line and the sheet there
+abbrev pub AreSheets : Terms → List Entry → List ℕ → List ℕ → Type 0
+AreSheets terms history [] text = text ≡ []
+AreSheets terms history (n ∷ places) text =
+    (sheet : List ℕ) × (others : List ℕ)
+    × IsSheetAfter terms history n sheet × AreSheets terms history places others
+    × (text ≡ ended (sheet_line n) ++ (sheet ++ others))
+
+-- The text of a day with this history: the lines of all answered calls, and then a sheet for each freeze.
+abbrev pub IsDayText : Terms → List Entry → List ℕ → Type 0
+IsDayText terms history text =
+    (sheets : List ℕ) × AreSheets terms history (freeze_places history) sheets
+    × (text ≡ text_of_lines (entry_lines history) ++ sheets)
