@@ -1,5 +1,5 @@
 -- The text from a place on, one piece after another.
-use Rattle.std.proofs.Common.{◌≡◌, ℕ, ◌+◌, ◌-◌, ◌<◌, ◌≤◌, zero, suc, List, [], ◌∷◌, length, take, drop, Bool, true, false, ◌==◌, refl, sym, ◌∙◌, ap, subst, arith, add-zero, add_assoc, length-drop, get_or}
+use Rattle.std.proofs.Common.{◌≡◌, ℕ, ◌+◌, ◌-◌, ◌<◌, ◌≤◌, zero, suc, List, [], ◌∷◌, length, take, drop, Bool, true, false, ◌==◌, refl, sym, ◌∙◌, ap, subst, arith, add-zero, length-drop, get_or}
 use Rattle.std.proofs.lemmas.List.{drop-drop, drop_more, drop_all, get_or-drop}
 use Rattle.std.proofs.lemmas.List.Sums.{prefix_len-drop_no}
 use Rattle.blt_reader.specs.declared.fault_kind.FaultKind.TheVariants.{BadByte, Ended}
@@ -78,9 +78,9 @@ text_moved bytes at n (what.Minus k) within held = tt
 text_moved bytes at n what.Text within held = (omega (arith, held.0), within, subst (AllPass is_in_string) (part_moved bytes at 1 (n - 1 - 1) (at + n - 1 - (at + 1)) (omega arith)) held.2)
 text_moved bytes at n what.Word within held = (omega arith, within, subst (AllPass is_ascii_lowercase) (part_moved bytes at 0 (n - 0) (at + n - at) (omega arith) ∙ rw (add-zero at) refl) held.2)
 
--- ---- a short number behind a separator
+-- ---- a short number before a separator
 
-over_separator : (letters : Bool) (bytes : List ℕ) (at : ℕ) → at < length bytes → is_separator (get_or bytes at 0) ≡ true → cut letters 0 at bytes ≡ cut letters 0 (at + 1) bytes
+pub over_separator : (letters : Bool) (bytes : List ℕ) (at : ℕ) → at < length bytes → is_separator (get_or bytes at 0) ≡ true → cut letters 0 at bytes ≡ cut letters 0 (at + 1) bytes
 unfolding piece
 over_separator letters bytes at inside is =
     let found : piece letters (drop at bytes) ≡ Gap 1 = ap (piece letters) (drop_more bytes at 0 inside) ∙ rw is refl in
@@ -108,14 +108,18 @@ number_found letters xs n digits inside some run value ends =
     ∙ ap (λ (m : ℕ). Lexeme (Number m) (prefix_len is_ascii_digit xs)) (sym value)
     ∙ ap (Lexeme (Number n)) (sym run)
 
--- what comes from a place on where a short number stands behind a separator
-pub over_number : (letters : Bool) (bytes : List ℕ) (from n digits : ℕ) → from ≤ length bytes → IsUsualNumber (drop from bytes) n digits → cut letters 0 from bytes ≡ with_front (record { at = from + 1; item = Number n }) (cut letters 0 (from + 1 + digits) bytes)
-over_number letters bytes from n digits within is =
-    let xs = drop (from + 1) bytes in
-    let rest : drop 1 (drop from bytes) ≡ xs = drop-drop 1 from bytes in
-    let here : is_separator (get_or bytes from 0) ≡ true = ap is_separator (sym (get_or-drop from bytes 0 0 ∙ ap (λ (k : ℕ). get_or bytes k 0) (add-zero from))) ∙ is.separator in
-    let inside : from + 1 + digits < length bytes = omega (arith, is.inside, length-drop from bytes, within) in
-    let last : get_or xs digits 0 ≡ get_or (drop from bytes) (1 + digits) 0 = get_or-drop (from + 1) bytes digits 0 ∙ ap (λ (k : ℕ). get_or bytes k 0) (add_assoc from 1 digits) ∙ sym (get_or-drop from bytes (1 + digits) 0) in
-    let found = number_found letters xs n digits (omega (arith, inside, length-drop (from + 1) bytes)) is.some (is.run ∙ ap (prefix_len is_ascii_digit) rest) (is.value ∙ ap (λ (l : List ℕ). number (take_while is_ascii_digit l)) rest) (ap may_end last ∙ is.ends) in
-    over_separator letters bytes from (omega (arith, inside)) here
-    ∙ over_lexeme letters bytes (from + 1) digits (omega (arith, inside)) (Number n) found is.some (omega (arith, inside))
+-- a token may end before a separator
+separator_ends : (b : ℕ) → is_separator b ≡ true → may_end b ≡ true
+separator_ends b is = grind arith
+
+-- what comes from a place on where a short number stands, and then a separator
+pub over_number : (letters : Bool) (bytes : List ℕ) (from n len : ℕ) → from ≤ length bytes → IsUsualNumber (drop from bytes) n len → cut letters 0 from bytes ≡ with_front (record { at = from; item = Number n }) (cut letters 0 (from + len) bytes)
+over_number letters bytes from n len within is =
+    let xs = drop from bytes in
+    let digits = len - 1 in
+    let inside : from + digits < length bytes = omega (arith, is.inside, is.some, length-drop from bytes, within) in
+    let found = number_found letters xs n digits (omega (arith, is.inside, is.some)) (omega (arith, is.some)) (omega (arith, is.run)) is.value (separator_ends (get_or xs digits 0) is.ends) in
+    let behind : is_separator (get_or bytes (from + digits) 0) ≡ true = ap is_separator (sym (get_or-drop from bytes digits 0)) ∙ is.ends in
+    let place : from + digits + 1 ≡ from + len = omega (arith, is.some) in
+    over_lexeme letters bytes from digits (omega (arith, inside)) (Number n) found (omega (arith, is.some)) (omega (arith, inside))
+    ∙ ap (with_front (record { at = from; item = Number n })) (over_separator letters bytes (from + digits) inside behind ∙ ap (λ (k : ℕ). cut letters 0 k bytes) place)

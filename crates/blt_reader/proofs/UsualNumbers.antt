@@ -1,12 +1,11 @@
--- One to three digits behind a separator.
-use Rattle.std.proofs.Common.{◌≡◌, ℕ, ◌+◌, ◌-◌, ◌*◌, ◌<◌, ◌≤◌, min, List, length, take, drop, get_or, Bool, true, false, cond, ◌&&◌, zero, suc, refl, sym, ◌∙◌, ap, subst, arith, below_more, length-drop}
+-- One to three digits before a separator.
+use Rattle.std.proofs.Common.{◌≡◌, ℕ, ◌+◌, ◌-◌, ◌*◌, ◌<◌, ◌≤◌, min, List, length, take, get_or, Bool, true, false, cond, ◌&&◌, zero, suc, refl, sym, ◌∙◌, ap, subst, arith, below_more}
 use mir.Val.{bool_byte}
 use Rattle.std.specs.List.{prefix_len, take_while}
 use Rattle.std.specs.Char.{is_ascii_digit}
-use Rattle.std.proofs.lemmas.List.{get_or-drop}
 use Rattle.std.proofs.lemmas.List.Sums.{prefix_len_passes}
 use Rattle.blt_reader.specs.Scan.{number, is_separator}
-use Rattle.blt_reader.specs.Usual.{may_end, IsUsualNumber}
+use Rattle.blt_reader.specs.Usual.{IsUsualNumber}
 use Rattle.blt_reader.proofs.Runs.{number_more, run_len}
 
 one_digit : (xs : List ℕ) → 0 < length xs → is_ascii_digit (get_or xs 0 0) ≡ true → number (take 1 xs) ≡ get_or xs 0 0 - 48
@@ -27,24 +26,24 @@ below_two P zeroth first = below_more P 1 (below_one P zeroth) first
 below_three : (P : ℕ → Type 0) → P 0 → P 1 → P 2 → (k : ℕ) → k < 3 → P k
 below_three P zeroth first second = below_more P 2 (below_two P zeroth first) second
 
--- no digit may stand right behind a token
-no_digit : (b : ℕ) → may_end b ≡ true → is_ascii_digit b ≡ false
+-- a separator is no digit
+no_digit : (b : ℕ) → is_separator b ≡ true → is_ascii_digit b ≡ false
 no_digit b ends = grind arith
 
-module _ (xs : List ℕ) (long : 3 < length xs) (first : is_ascii_digit (get_or xs 0 0) ≡ true) where
+module _ (xs : List ℕ) (long : 2 < length xs) (first : is_ascii_digit (get_or xs 0 0) ≡ true) where
   abbrev IsDigitAt : ℕ → Type 0
   IsDigitAt k = is_ascii_digit (get_or xs k 0) ≡ true
 
-  up_to : (n : ℕ) → n ≤ 3 → ((k : ℕ) → k < n → IsDigitAt k) → may_end (get_or xs n 0) ≡ true → n ≡ prefix_len is_ascii_digit xs
+  up_to : (n : ℕ) → n ≤ 3 → ((k : ℕ) → k < n → IsDigitAt k) → is_separator (get_or xs n 0) ≡ true → n ≡ prefix_len is_ascii_digit xs
   up_to n few digits ends = run_len is_ascii_digit xs n (omega (arith, few, long)) digits (λ inside. no_digit (get_or xs n 0) ends)
 
   -- how many digits there are, by which of the second and third byte are digits
-  usual_run : (b c : Bool) → b ≡ is_ascii_digit (get_or xs 1 0) → c ≡ is_ascii_digit (get_or xs 2 0) → may_end (get_or xs (1 + bool_byte b + bool_byte (b && c)) 0) ≡ true → 1 + bool_byte b + bool_byte (b && c) ≡ prefix_len is_ascii_digit xs
+  usual_run : (b c : Bool) → b ≡ is_ascii_digit (get_or xs 1 0) → c ≡ is_ascii_digit (get_or xs 2 0) → is_separator (get_or xs (1 + bool_byte b + bool_byte (b && c)) 0) ≡ true → 1 + bool_byte b + bool_byte (b && c) ≡ prefix_len is_ascii_digit xs
   usual_run true true b_is c_is ends = up_to 3 (omega arith) (below_three IsDigitAt first (sym b_is) (sym c_is)) ends
   usual_run true false b_is c_is ends = up_to 2 (omega arith) (below_two IsDigitAt first (sym b_is)) ends
   usual_run false c b_is c_is ends = up_to 1 (omega arith) (below_one IsDigitAt first) ends
 
-  usual_value : (b c : Bool) → b ≡ is_ascii_digit (get_or xs 1 0) → c ≡ is_ascii_digit (get_or xs 2 0) → may_end (get_or xs (1 + bool_byte b + bool_byte (b && c)) 0) ≡ true
+  usual_value : (b c : Bool) → b ≡ is_ascii_digit (get_or xs 1 0) → c ≡ is_ascii_digit (get_or xs 2 0) → is_separator (get_or xs (1 + bool_byte b + bool_byte (b && c)) 0) ≡ true
       → (two three : ℕ) → two ≡ cond b ((get_or xs 0 0 - 48) * 10 + (get_or xs 1 0 - 48)) (get_or xs 0 0 - 48) → three ≡ cond (b && c) (two * 10 + (get_or xs 2 0 - 48)) two → three ≡ number (take_while is_ascii_digit xs)
   usual_value true true b_is c_is ends two three two_is three_is =
       three_is ∙ ap (λ (v : ℕ). v * 10 + (get_or xs 2 0 - 48)) two_is ∙ sym (three_digits xs (omega (arith, long)) first (sym b_is) (sym c_is)) ∙ ap (λ (n : ℕ). number (take n xs)) (usual_run true true b_is c_is ends)
@@ -53,32 +52,49 @@ module _ (xs : List ℕ) (long : 3 < length xs) (first : is_ascii_digit (get_or 
   usual_value false c b_is c_is ends two three two_is three_is =
       three_is ∙ two_is ∙ sym (one_digit xs (omega (arith, long)) first) ∙ ap (λ (n : ℕ). number (take n xs)) (usual_run false c b_is c_is ends)
 
+  -- the same where the third byte was not looked at
+  short_run : (b : Bool) → b ≡ is_ascii_digit (get_or xs 1 0) → is_separator (get_or xs (1 + bool_byte b) 0) ≡ true → 1 + bool_byte b ≡ prefix_len is_ascii_digit xs
+  short_run true b_is ends = up_to 2 (omega arith) (below_two IsDigitAt first (sym b_is)) ends
+  short_run false b_is ends = up_to 1 (omega arith) (below_one IsDigitAt first) ends
+
+  short_value : (b : Bool) → b ≡ is_ascii_digit (get_or xs 1 0) → is_separator (get_or xs (1 + bool_byte b) 0) ≡ true
+      → (two : ℕ) → two ≡ cond b ((get_or xs 0 0 - 48) * 10 + (get_or xs 1 0 - 48)) (get_or xs 0 0 - 48) → two ≡ number (take_while is_ascii_digit xs)
+  short_value true b_is ends two two_is = two_is ∙ sym (two_digits xs (omega (arith, long)) first (sym b_is)) ∙ ap (λ (n : ℕ). number (take n xs)) (short_run true b_is ends)
+  short_value false b_is ends two two_is = two_is ∙ sym (one_digit xs (omega (arith, long)) first) ∙ ap (λ (n : ℕ). number (take n xs)) (short_run false b_is ends)
+
 bool_byte_le : (b : Bool) → bool_byte b ≤ 1
 bool_byte_le true = omega arith
 bool_byte_le false = omega arith
 
 -- what the code has looked at is a number
-pub usual : (bytes : List ℕ) (b c : Bool) (two three : ℕ) → 4 < length bytes → is_separator (get_or bytes 0 0) ≡ true → is_ascii_digit (get_or bytes 1 0) ≡ true → b ≡ is_ascii_digit (get_or bytes 2 0) → c ≡ is_ascii_digit (get_or bytes 3 0)
-    → may_end (get_or bytes (1 + (1 + bool_byte b + bool_byte (b && c))) 0) ≡ true
-    → two ≡ cond b ((get_or bytes 1 0 - 48) * 10 + (get_or bytes 2 0 - 48)) (get_or bytes 1 0 - 48) → three ≡ cond (b && c) (two * 10 + (get_or bytes 3 0 - 48)) two
-    → IsUsualNumber bytes three (1 + bool_byte b + bool_byte (b && c))
-usual bytes b c two three long separator first b_is c_is ends two_is three_is =
-    let xs = drop 1 bytes in
+pub usual : (bytes : List ℕ) (b c : Bool) (two three : ℕ) → 3 < length bytes → is_ascii_digit (get_or bytes 0 0) ≡ true → b ≡ is_ascii_digit (get_or bytes 1 0) → c ≡ is_ascii_digit (get_or bytes 2 0)
+    → is_separator (get_or bytes (2 + bool_byte b + bool_byte (b && c) - 1) 0) ≡ true
+    → two ≡ cond b ((get_or bytes 0 0 - 48) * 10 + (get_or bytes 1 0 - 48)) (get_or bytes 0 0 - 48) → three ≡ cond (b && c) (two * 10 + (get_or bytes 2 0 - 48)) two
+    → IsUsualNumber bytes three (2 + bool_byte b + bool_byte (b && c))
+usual bytes b c two three long first b_is c_is ends two_is three_is =
     let digits = 1 + bool_byte b + bool_byte (b && c) in
-    let at : (i : ℕ) → get_or xs i 0 ≡ get_or bytes (1 + i) 0 = λ i. get_or-drop 1 bytes i 0 in
-    let rest_long : 3 < length xs = omega (arith, long, length-drop 1 bytes) in
-    let first_at : is_ascii_digit (get_or xs 0 0) ≡ true = ap is_ascii_digit (at 0) ∙ first in
-    let b_at : b ≡ is_ascii_digit (get_or xs 1 0) = b_is ∙ sym (ap is_ascii_digit (at 1)) in
-    let c_at : c ≡ is_ascii_digit (get_or xs 2 0) = c_is ∙ sym (ap is_ascii_digit (at 2)) in
-    let ends_at : may_end (get_or xs digits 0) ≡ true = ap may_end (at digits) ∙ ends in
+    let last : 2 + bool_byte b + bool_byte (b && c) - 1 ≡ digits = omega arith in
+    let ends_at : is_separator (get_or bytes digits 0) ≡ true = ap (λ (k : ℕ). is_separator (get_or bytes k 0)) (sym last) ∙ ends in
     record {
       inside = omega (arith, long, bool_byte_le b, bool_byte_le (b && c));
       some = omega arith;
-      separator = separator;
-      run = usual_run xs rest_long first_at b c b_at c_at ends_at;
-      value = usual_value xs rest_long first_at b c b_at c_at ends_at two three
-          (two_is ∙ ap (λ (d : ℕ). cond b (d * 10 + (get_or bytes 2 0 - 48)) d) (ap (λ (x : ℕ). x - 48) (sym (at 0))) ∙ ap (λ (d : ℕ). cond b ((get_or xs 0 0 - 48) * 10 + (d - 48)) (get_or xs 0 0 - 48)) (sym (at 1)))
-          (three_is ∙ ap (λ (d : ℕ). cond (b && c) (two * 10 + (d - 48)) two) (sym (at 2)));
+      run = omega (arith, usual_run bytes (omega (arith, long)) first b c b_is c_is ends_at);
+      value = usual_value bytes (omega (arith, long)) first b c b_is c_is ends_at two three two_is three_is;
+      ends = ends;
+    }
+
+pub short : (bytes : List ℕ) (b : Bool) (two : ℕ) → 3 < length bytes → is_ascii_digit (get_or bytes 0 0) ≡ true → b ≡ is_ascii_digit (get_or bytes 1 0)
+    → is_separator (get_or bytes (2 + bool_byte b - 1) 0) ≡ true
+    → two ≡ cond b ((get_or bytes 0 0 - 48) * 10 + (get_or bytes 1 0 - 48)) (get_or bytes 0 0 - 48)
+    → IsUsualNumber bytes two (2 + bool_byte b)
+short bytes b two long first b_is ends two_is =
+    let last : 2 + bool_byte b - 1 ≡ 1 + bool_byte b = omega arith in
+    let ends_at : is_separator (get_or bytes (1 + bool_byte b) 0) ≡ true = ap (λ (k : ℕ). is_separator (get_or bytes k 0)) (sym last) ∙ ends in
+    record {
+      inside = omega (arith, long, bool_byte_le b);
+      some = omega arith;
+      run = omega (arith, short_run bytes (omega (arith, long)) first b b_is ends_at);
+      value = short_value bytes (omega (arith, long)) first b b_is ends_at two two_is;
       ends = ends;
     }
 
@@ -90,14 +106,30 @@ seen_digits b c (suc (suc zero)) some few b_yes b_no c_yes c_no = rw (b_yes (ome
 seen_digits b c (suc (suc (suc zero))) some few b_yes b_no c_yes c_no = rw (b_yes (omega arith), c_yes (omega arith)) refl
 seen_digits b c (suc (suc (suc (suc more)))) some few b_yes b_no c_yes c_no = absurd (omega (arith, few))
 
--- A number of at most three digits is found.
-module _ (bytes : List ℕ) (n digits : ℕ) (is : IsUsualNumber bytes n digits) where
-  pub digit_at : (k : ℕ) → k < digits → is_ascii_digit (get_or bytes (1 + k) 0) ≡ true
-  digit_at k less = ap is_ascii_digit (sym (get_or-drop 1 bytes k 0)) ∙ prefix_len_passes is_ascii_digit (drop 1 bytes) k 0 (omega (arith, less, is.run))
+and_false : (b : Bool) → bool_byte (b && false) ≡ 0
+and_false true = refl
+and_false false = refl
 
-  pub ends_behind : digits ≤ 3 → (b c : Bool) → b ≡ is_ascii_digit (get_or bytes 2 0) → c ≡ is_ascii_digit (get_or bytes 3 0) → may_end (get_or bytes (1 + (1 + bool_byte b + bool_byte (b && c))) 0) ≡ true
+-- A number of at most three digits is found.
+module _ (bytes : List ℕ) (n len : ℕ) (is : IsUsualNumber bytes n len) where
+  pub digit_at : (k : ℕ) → 1 + k < len → is_ascii_digit (get_or bytes k 0) ≡ true
+  digit_at k less = prefix_len_passes is_ascii_digit bytes k 0 (omega (arith, less, is.run))
+
+  pub ends_behind : len ≤ 4 → (b c : Bool) → b ≡ is_ascii_digit (get_or bytes 1 0) → c ≡ is_ascii_digit (get_or bytes 2 0) → is_separator (get_or bytes (2 + bool_byte b + bool_byte (b && c) - 1) 0) ≡ true
   ends_behind few b c b_is c_is =
-      let behind : is_ascii_digit (get_or bytes (1 + digits) 0) ≡ false = no_digit (get_or bytes (1 + digits) 0) is.ends in
-      let run = seen_digits b c digits is.some few (λ more. b_is ∙ digit_at 1 more) (λ one. b_is ∙ subst (λ (d : ℕ). is_ascii_digit (get_or bytes (1 + d) 0) ≡ false) one behind)
-      (λ more. c_is ∙ digit_at 2 more) (λ two. c_is ∙ subst (λ (d : ℕ). is_ascii_digit (get_or bytes (1 + d) 0) ≡ false) two behind) in
-      subst (λ (d : ℕ). may_end (get_or bytes (1 + d) 0) ≡ true) run is.ends
+      let digits = len - 1 in
+      let IsNoDigitAt : ℕ → Type 0 = λ d. is_ascii_digit (get_or bytes d 0) ≡ false in
+      let behind : IsNoDigitAt digits = no_digit (get_or bytes digits 0) is.ends in
+      let run = seen_digits b c digits (omega (arith, is.some)) (omega (arith, few)) (λ more. b_is ∙ digit_at 1 (omega (arith, more))) (λ one. b_is ∙ subst IsNoDigitAt one behind)
+      (λ more. c_is ∙ digit_at 2 (omega (arith, more))) (λ two. c_is ∙ subst IsNoDigitAt two behind) in
+      let last : digits ≡ 2 + bool_byte b + bool_byte (b && c) - 1 = omega (arith, run) in
+      subst (λ (d : ℕ). is_separator (get_or bytes d 0) ≡ true) last is.ends
+
+  pub short_ends_behind : len ≤ 3 → (b : Bool) → b ≡ is_ascii_digit (get_or bytes 1 0) → is_separator (get_or bytes (2 + bool_byte b - 1) 0) ≡ true
+  short_ends_behind few b b_is =
+      let digits = len - 1 in
+      let behind : is_ascii_digit (get_or bytes digits 0) ≡ false = no_digit (get_or bytes digits 0) is.ends in
+      let run = seen_digits b false digits (omega (arith, is.some)) (omega (arith, few)) (λ more. b_is ∙ digit_at 1 (omega (arith, more)))
+      (λ one. b_is ∙ subst (λ (d : ℕ). is_ascii_digit (get_or bytes d 0) ≡ false) one behind) (λ more. absurd (omega (arith, more, few))) (λ two. refl) in
+      let last : digits ≡ 2 + bool_byte b - 1 = omega (arith, run, and_false b) in
+      subst (λ (d : ℕ). is_separator (get_or bytes d 0) ≡ true) last is.ends

@@ -1,5 +1,5 @@
 -- Short numbers.
-use Rattle.std.specs.Prelude.{◌≡◌, ℕ, ◌+◌, ◌<◌, ◌≤◌, List, length, drop, slice_index, Bool, true, ◌==◌, ◌||◌}
+use Rattle.std.specs.Prelude.{◌≡◌, ℕ, ◌+◌, ◌-◌, ◌<◌, ◌≤◌, List, length, slice_index, Bool, true, ◌==◌, ◌||◌}
 use Rattle.std.specs.List.{prefix_len, take_while}
 use Rattle.std.specs.Char.{is_ascii_digit}
 use Rattle.blt_reader.specs.Scan.{is_separator, number}
@@ -8,15 +8,14 @@ use Rattle.blt_reader.specs.Scan.{is_separator, number}
 abbrev pub may_end : ℕ → Bool
 may_end b = is_separator b || b == 35
 
--- a separator, digits, and a byte behind which a token may end
-pub record IsUsualNumber (bytes : List ℕ) (n digits : ℕ) : Type 0 where
-  pub inside : 1 + digits < length bytes
-  pub some : 0 < digits
-  pub separator : is_separator (slice_index bytes 0) ≡ true
-  pub run : digits ≡ prefix_len is_ascii_digit (drop 1 bytes)
-  pub value : n ≡ number (take_while is_ascii_digit (drop 1 bytes))
-  pub ends : may_end (slice_index bytes (1 + digits)) ≡ true
+-- digits, and a separator right behind them: together so many bytes
+pub record IsUsualNumber (bytes : List ℕ) (n len : ℕ) : Type 0 where
+  pub inside : len ≤ length bytes
+  pub some : 1 < len
+  pub run : len ≡ 1 + prefix_len is_ascii_digit bytes
+  pub value : n ≡ number (take_while is_ascii_digit bytes)
+  pub ends : is_separator (slice_index bytes (len - 1)) ≡ true
 
--- no number of at most three digits stands there so
-abbrev pub HasNoShortNumber : List ℕ → Type 0
-HasNoShortNumber bytes = (n digits : ℕ) → digits ≤ 3 → ¬ IsUsualNumber bytes n digits
+-- no number of at most so many bytes stands there so
+abbrev pub HasNoNumberWithin : ℕ → List ℕ → Type 0
+HasNoNumberWithin most bytes = (n len : ℕ) → len ≤ most → ¬ IsUsualNumber bytes n len

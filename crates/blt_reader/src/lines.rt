@@ -109,7 +109,7 @@ fn read_ranks(
     named.clear();
     ranks.clear();
     loop {
-        let (n, at) = tokens.next_number()?;
+        let (n, at) = tokens.next_rank(candidates < 100)?;
         if n == 0 {
             return Ok(());
         }

@@ -1,12 +1,12 @@
 // The tokens of an input, one after another.
-ghost use Rattle.std.specs.Prelude.{◌≡◌, ◌≤◌, length, IfOk, IfErr};
+ghost use Rattle.std.specs.Prelude.{◌≡◌, ◌≤◌, Bool, length, IfOk, IfErr};
 ghost use Rattle.blt_reader.specs.Token.{Number, with_front};
 ghost use Rattle.blt_reader.specs.Scan.{scan, cut};
 ghost use Rattle.blt_reader.specs.Reader.{Gives, placed, GivesText, MayBeText, IsTextOf, IsSaid};
 ghost use Rattle.blt_reader.specs.Reads.{IsBehind, IsEnded, Stops, as_number};
 
 use crate::pieces::{Piece, first_piece};
-use crate::usual::usual_number;
+use crate::usual::{is_separator, usual_number};
 use crate::{FaultKind, InputFault, Next, Token, What};
 use std::marker::Model;
 
@@ -30,7 +30,21 @@ impl<'a> Model for Tokens<'a> {
     ghost invariant = { λ t. t.at ≤ length t.bytes.now };
 }
 
-// What comes from a place on, and the place behind it.
+// The place behind one separator, where one stands at this place. So a token is begun at its first byte
+// where one separator stands before it.
+fn past_separator(bytes: &[u8], at: usize) -> usize
+    requires { at ≤ length bytes.now }
+    ensures within { result ≤ length bytes.now }
+    ensures same { (letters : Bool) → cut letters 0 at bytes.now ≡ cut letters 0 result bytes.now }
+{
+    if at < bytes.len() && is_separator(bytes[at]) {
+        at + 1
+    } else {
+        at
+    }
+}
+
+// What comes from a place on, and a place from which all that is behind it comes.
 fn next_from(bytes: &[u8], letters: bool, from: usize) -> (Next, usize)
     requires { from ≤ length bytes.now }
     ensures within { result.1 ≤ length bytes.now }
@@ -43,7 +57,8 @@ fn next_from(bytes: &[u8], letters: bool, from: usize) -> (Next, usize)
             Piece::Gap(n) => at += n,
             Piece::Lexeme(what, n) => {
                 let stop = at + n;
-                return (Next::Token(Token { at, stop, what }), stop);
+                let behind = past_separator(bytes, stop);
+                return (Next::Token(Token { at, stop, what }), behind);
             }
             Piece::Wrong(n) => return (fault(FaultKind::BadByte, at + n), at),
             Piece::Unclosed(n) => return (fault(FaultKind::Ended, at + n), at),
@@ -159,10 +174,20 @@ impl<'a> Tokens<'a> {
         ensures fault { IfErr result (λ fault. Stops as_number self.old.rest fault self.new.rest) }
         ensures behind { IsBehind self.old self.new }
     {
-        match usual_number(&self.bytes[self.at..]) {
-            Some((n, digits)) => {
-                let at = self.at + 1;
-                self.at = at + digits;
+        self.next_rank(false)
+    }
+
+    // The same, and the quicker where numbers of three digits are `rare`.
+    #[inline(always)]
+    pub(crate) fn next_rank(&mut self, rare: bool) -> Result<(u32, usize), InputFault>
+        ensures number { IfOk result (λ found. self.old.rest ≡ with_front (record { at = found.1; item = Number found.0 }) self.new.rest) }
+        ensures fault { IfErr result (λ fault. Stops as_number self.old.rest fault self.new.rest) }
+        ensures behind { IsBehind self.old self.new }
+    {
+        match usual_number(&self.bytes[self.at..], rare) {
+            Some((n, len)) => {
+                let at = self.at;
+                self.at = at + len;
                 Ok((n, at))
             }
             None => {

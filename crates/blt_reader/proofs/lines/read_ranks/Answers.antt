@@ -35,12 +35,12 @@ loop-n-preserved c =
     let once : list_any (λ r. r == n) ranks ≡ false = sym (before.marks n c.if-n-candidates.false) ∙ sym c.mark.ensures.was ∙ c.if-mark.false in
     record {
       same = before.same ∙ one_more c.args.candidates ranks _ _ n c.in_ok-n.at given c.if-n-eq0.false c.if-n-candidates.false once
-          ∙ ap (λ (l : List ℕ). reads (at_rank c.args.candidates) l c.next_number.new.self.rest) (sym c.in_ok-push.ensures.items);
+          ∙ ap (λ (l : List ℕ). reads (at_rank c.args.candidates) l c.next_rank.new.self.rest) (sym c.in_ok-push.ensures.items);
       ranking = subst (IsRanking c.args.candidates) (sym c.in_ok-push.ensures.items) (one_rank_more c.args.candidates ranks n before.ranking (omega (arith, c.if-n-eq0.false)) c.if-n-candidates.false once);
       numbers = ap length c.mark.ensures.after ∙ length-set c.loop-n.named n true ∙ before.numbers;
       marks = λ m within. ap (λ (l : List Bool). get_or l m false) c.mark.ensures.after
           ∙ one_marked_more c.args.candidates c.loop-n.named ranks n inside before.marks m within
           ∙ ap (λ (l : List ℕ). list_any (λ r. r == m) l) (sym c.in_ok-push.ensures.items);
-      not_more = omega (arith, before.not_more, fewer_left c.loop-n.tokens.rest c.next_number.new.self.rest _ given);
+      not_more = omega (arith, before.not_more, fewer_left c.loop-n.tokens.rest c.next_rank.new.self.rest _ given);
       behind = behind_trans before.behind c.in_ok-n.ensures.behind;
     }
