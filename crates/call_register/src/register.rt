@@ -1,5 +1,5 @@
 // The register of all calls.
-ghost use Rattle.std.specs.Prelude.{◌≡◌, ◌≤◌, ◌<◌, [], ◌∷◌, ◌++◌, IfOk, OnOk, vec_len, vec_capacity};
+ghost use Rattle.std.specs.Prelude.{◌≡◌, ◌+◌, ◌-◌, ◌≤◌, ◌<◌, [], ◌∷◌, ◌++◌, IfOk, OnOk, vec_len, vec_capacity};
 ghost use Rattle.batch_core.specs.Book.{strike};
 ghost use Rattle.call_register.specs.Marks.{MayMark, marks_of, struck_by};
 
@@ -66,6 +66,7 @@ impl Register {
         ensures shards { self.new.shards ≡ self.old.shards }
         ensures candidates { self.new.candidates ≡ self.old.candidates }
         ensures marks { self.new.marks ≡ self.old.marks ++ mark ∷ [] }
+        ensures spare { self.old.spare ≤ self.new.spare + 1 }
     {
         match mark {
             Mark::Shard(shard) => {
@@ -107,7 +108,9 @@ impl Register {
 /// Adds a candidate who isn't there yet.
 fn add_struck(struck: &mut Vec<u32>, candidate: u32)
     requires { vec_len struck.old < vec_capacity struck.old }
-    ensures { struck.new.items ≡ strike struck.old.items candidate }
+    ensures struck { struck.new.items ≡ strike struck.old.items candidate }
+    ensures spare { vec_capacity struck.old - vec_len struck.old
+        ≤ (vec_capacity struck.new - vec_len struck.new) + 1 }
 {
     if !struck.contains(&candidate) {
         struck.push_reserved(candidate);

@@ -41,6 +41,6 @@ invariant_of-self-in-Strike c =
     let list : c.push_reserved-in-Strike.new.self.items ≡ c.self.inside.marks.items ++ Strike c.in-Strike.caller c.in-Strike.candidate ∷ [] =
     c.push_reserved-in-Strike.ensures.items in (
       subst (λ (l : List Mark). AreBooked l c.self.inside.booked.items) (sym list) (booked_else c.self.inside.marks.items c.self.inside.booked.items (Strike c.in-Strike.caller c.in-Strike.candidate) (λ t. refl) c.self.invariant.0),
-      c.add_struck.ensures ∙ (ap (λ (st : List ℕ). strike st c.in-Strike.candidate) c.self.invariant.1
+      c.add_struck.ensures.struck ∙ (ap (λ (st : List ℕ). strike st c.in-Strike.candidate) c.self.invariant.1
           ∙ (sym (struck-append [] c.self.inside.marks.items (Strike c.in-Strike.caller c.in-Strike.candidate ∷ [])) ∙ ap struck_by (sym list))),
     )

@@ -1,0 +1,5 @@
+pub mod RowLemmas
+pub mod CountLemmas
+pub mod StandingLemmas
+pub mod EntryLemmas
+pub mod JournalLemmas

@@ -1,0 +1,4 @@
+pub mod Rows
+pub mod Turnover
+pub mod Shard
+pub mod Journal
