@@ -1,14 +1,13 @@
 -- The shares of all shards are together all ballots.
-use Rattle.std.proofs.Common.{All, ◌≡◌, ◌≢◌, ℕ, suc, zero, ◌+◌, ◌%◌, ◌≤◌, ◌<◌, ◌==◌, List, [], ◌∷◌, ◌++◌, length, get_or, take, replicate, true, false, if◌then◌else◌, refl, sym, ap, ◌∙◌, subst, ⊎_elim, arith, append_assoc, append-nil, length-take, mod-lt}
+use Rattle.std.proofs.Common.{All, ◌≡◌, ◌≢◌, ℕ, suc, zero, ◌+◌, ◌%◌, ◌≤◌, ◌<◌, ◌==◌, List, [], ◌∷◌, ◌++◌, length, get_or, take, replicate, true, false, refl, sym, ap, ◌∙◌, subst, ⊎_elim, arith, append_assoc, append-nil, length-take, mod-lt}
 use Rattle.std.specs.List.{flat_map, range_with_len}
 use Rattle.std.specs.List.Sorted.{IsPermutation}
 use Rattle.std.proofs.lemmas.Bool.Decides.{eqb_tells}
-use Rattle.std.proofs.lemmas.List.{take_more, length-append, length-replicate}
-use Rattle.std.proofs.lemmas.List.Sums.{sum_by_more}
-use Rattle.std.proofs.lemmas.List.Sorted.{IsPermutation-refl, IsPermutation-trans, IsPermutation-append, IsPermutation-append_comm, IsPermutation-append_left, IsPermutation-append_right, length_permutation}
+use Rattle.std.proofs.lemmas.List.{take_more, length-replicate}
+use Rattle.std.proofs.lemmas.List.Sorted.{IsPermutation-refl, IsPermutation-trans, IsPermutation-append, IsPermutation-append_right}
 use Rattle.ranking_trie.proofs.BagLemmas.{IsPermutation-shift}
 use Rattle.plain_ballots.specs.declared.ballot_line.BallotLine.{BallotLine}
-use Rattle.plain_ballots.specs.Ballots.{plain, ballot_count}
+use Rattle.plain_ballots.specs.Ballots.{plain}
 use Rattle.frozen_plan.specs.Plan.{PlanRows, plan_ballots, all_ballots}
 use Rattle.frozen_plan.specs.Dealing.{dealt, share, AreOfShares}
 
@@ -95,30 +94,12 @@ share_more n s lines i line inside at =
     ∙ (ap (λ (k : ℕ). share n s 0 (take i lines) ++ share n s k (line ∷ [])) taken
     ∙ ap (λ (l : List (List ℕ)). share n s 0 (take i lines) ++ l) (append-nil (dealt n s i line))))
 
--- what the shard gets of the line comes besides
-pub line_dealt_out : (n s : ℕ) (lines : List BallotLine) (i : ℕ) (line : BallotLine) (now new : List (List ℕ)) → i < length lines → line ≡ get_or lines i line
-    → IsPermutation now (share n s 0 (take i lines)) → IsPermutation new (dealt n s i line ++ now) → IsPermutation new (share n s 0 (take (i + 1) lines))
-line_dealt_out n s lines i line now new inside at so_far here =
-    let own = dealt n s i line in
-    let before = share n s 0 (take i lines) in
-    let added : IsPermutation new (before ++ own) =
-    IsPermutation-trans new (own ++ now) (before ++ own) here
-    (IsPermutation-trans (own ++ now) (now ++ own) (before ++ own) (IsPermutation-append_comm own now) (IsPermutation-append_left own now before so_far)) in
-    subst (λ (l : List (List ℕ)). IsPermutation new l) (sym (share_more n s lines i line inside at)) added
-
--- which is no more than the line has
-dealt_some : (n s i : ℕ) (line : BallotLine) → length (dealt n s i line) ≤ line.count
+-- a shard gets no more of a line than it has
+pub dealt_some : (n s i : ℕ) (line : BallotLine) → length (dealt n s i line) ≤ line.count
 dealt_some n s i line = ⊎_elim
     (λ (same : ((i % n + 1 == s) ≡ true) × (i % n + 1 ≡ s)). rw same.0 (omega (arith, length-replicate line.count line.ranking)))
     (λ (differs : ((i % n + 1 == s) ≡ false) × (i % n + 1 ≢ s)). rw differs.0 (omega arith))
     (eqb_tells (i % n + 1) s)
-
-pub line_counted : (n s : ℕ) (lines : List BallotLine) (i : ℕ) (line : BallotLine) (now new : List (List ℕ)) → i < length lines → line ≡ get_or lines i line → length now ≤ ballot_count (take i lines)
-    → IsPermutation new (dealt n s i line ++ now) → length new ≤ ballot_count (take (i + 1) lines)
-line_counted n s lines i line now new inside at so_far here =
-    let more : ballot_count (take (i + 1) lines) ≡ ballot_count (take i lines) + line.count =
-    sum_by_more (λ (l : BallotLine). l.count) lines i line inside ∙ ap (λ (l : BallotLine). ballot_count (take i lines) + l.count) (sym at) in
-    omega (arith, more, length_permutation new (dealt n s i line ++ now) here, length-append (dealt n s i line) now, dealt_some n s i line)
 
 -- what a shard gets of a line
 pub gets_all : (n s i : ℕ) (line : BallotLine) (old new : List (List ℕ)) → i % n ≡ s → IsPermutation new (replicate line.count line.ranking ++ old) → IsPermutation new (dealt n (s + 1) i line ++ old)

@@ -3,7 +3,7 @@ use Rattle.std.proofs.Common.{◌≡◌, ℕ, ◌+◌, ◌-◌, ◌≤◌, List,
 use Rattle.std.proofs.lemmas.List.{length-append, length-map, length-replicate, take_at, drop_at}
 use Rattle.frozen_plan.specs.declared.plan_row.PlanRow.{PlanRow}
 use Rattle.frozen_plan.specs.Forest.{Forest, Bare, Grown, ballots_of, through, rows_of, IsGrown, read}
-use Rattle.frozen_plan.specs.Plan.{nodes, forest_of, ballot_count, plan_ballots, plan_rows, IsPlan}
+use Rattle.frozen_plan.specs.Plan.{forest_of, ballot_count, plan_ballots, plan_rows, IsPlan}
 
 pub read-rows_of : (t d : ℕ) (f : Forest) → length (rows_of d f) ≤ t → read t (rows_of d f) ≡ f
 read-rows_of zero d Bare le = refl

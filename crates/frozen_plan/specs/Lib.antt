@@ -3,3 +3,5 @@ pub mod Plan
 pub mod Shape
 pub mod Rows
 pub mod Dealing
+pub mod OneBag
+pub mod Taking

@@ -4,13 +4,19 @@
 #![tactic(auto)]
 
 mod dealing;
+mod falling;
+mod intake;
+mod laws;
 mod no_memory;
 mod plan;
 mod plan_row;
 mod plans;
 mod push_back;
 mod rows;
+#[cfg(test)]
+mod samples;
 
+pub use laws::one_bag_has_one_plan;
 pub use no_memory::NoMemory;
 pub use plan::Plan;
 pub use plan_row::PlanRow;

@@ -9,6 +9,9 @@ use ranking_trie::Trie;
 use std::alloc::Global;
 use std::marker::Model;
 
+#[cfg(test)]
+mod tests;
+
 /// The nodes of a trie in preorder, its root first: the ballots of its bag.
 #[derive(Debug, Drop)]
 pub struct Plan {

@@ -1,4 +1,4 @@
-use Rattle.std.proofs.Common.{◌≡◌, ℕ, List, length, arith, ap, sym, ◌∙◌}
+use Rattle.std.proofs.Common.{length, arith, ap, sym, ◌∙◌}
 use Rattle.std.proofs.lemmas.List.{get_or_read}
 use Rattle.frozen_plan.specs.declared.plan_row.PlanRow.{PlanRow}
 use Rattle.frozen_plan.specs.Plan.{PlanRows, plan_ballots}
