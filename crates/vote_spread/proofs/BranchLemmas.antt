@@ -1,5 +1,5 @@
 -- The steps of a walk, at branches.
-use Rattle.std.proofs.Common.{◌≡◌, ℕ, ◌+◌, ◌-◌, ◌<◌, ◌≤◌, List, [], length, get_or, drop, sum, subst}
+use Rattle.std.proofs.Common.{◌≡◌, ℕ, ◌+◌, ◌<◌, ◌≤◌, List, [], length, get_or, sum, subst}
 use Rattle.std.proofs.lemmas.List.{get_or-map, length-map}
 use Rattle.vote_spread.specs.declared.branch.Branch.{Branch}
 use Rattle.vote_spread.specs.Stem.{Stem, stem_of, stems_of}

@@ -1,14 +1,14 @@
 -- What stems give, step by step.
-use Rattle.std.proofs.Common.{◌≡◌, ℕ, ◌+◌, ◌-◌, ◌*◌, ◌<◌, ◌≤◌, ◌==◌, ◌≢◌, Bool, true, false, cond, List, [], ◌∷◌, ◌++◌, length, get_or, set, drop, take, sum, arith, refl, ap, sym, subst, ◌∙◌, inl, inr, zero, suc}
+use Rattle.std.proofs.Common.{◌≡◌, ℕ, ◌+◌, ◌-◌, ◌*◌, ◌<◌, ◌≤◌, ◌≢◌, List, [], ◌∷◌, ◌++◌, length, get_or, drop, sum, arith, refl, ap, sym, subst, ◌∙◌, inl, inr, zero, suc}
 use Rattle.std.specs.List.{All}
-use Rattle.std.proofs.lemmas.List.{drop_more, drop_all, drop-drop, get_or-drop, get_or-take, get_or_past, get_or-set_same, get_or-set_other, length-set, length-take, length-drop, length-take-le, take-append-drop}
-use Rattle.std.proofs.lemmas.Bool.{cases_lt, cases_eq, eq-eqb, ne_eqb}
-use Rattle.std.proofs.lemmas.List.Sums.{sum_by-cons, sum_by-drop_more, sum_by-take-le, sum_by-take-drop, get_or-le-sum_by}
+use Rattle.std.proofs.lemmas.List.{drop_all, get_or-set_same, get_or-set_other, length-set}
+use Rattle.std.proofs.lemmas.Bool.{cases_lt, cases_eq}
+use Rattle.std.proofs.lemmas.List.Sums.{sum_by-drop_more}
 use Rattle.std.proofs.Math.Nat.{mul-add}
 use Rattle.meek_rule.specs.Weights.{kept, given}
 use Rattle.meek_rule.proofs.WeightLemmas.{given-nothing, given-here}
 use Rattle.vote_spread.specs.Stem.{Stem}
-use Rattle.vote_spread.specs.Walk.{IsFrom, IsPlaced, IsWalk}
+use Rattle.vote_spread.specs.Walk.{IsFrom, IsWalk}
 use Rattle.vote_spread.specs.Gain.{reached, left, gain, past, gains}
 
 -- one number for each stem

@@ -1,5 +1,5 @@
 -- What lanes count together.
-use Rattle.std.proofs.Common.{◌≡◌, ℕ, ◌+◌, ◌-◌, ◌*◌, ◌/◌, ◌<◌, ◌≤◌, List, [], ◌∷◌, ◌++◌, length, get_or, drop, take, sum, sum_by, replicate, arith, refl, ap, sym, subst, ◌∙◌, zero, suc}
+use Rattle.std.proofs.Common.{◌≡◌, ℕ, ◌+◌, ◌-◌, ◌*◌, ◌/◌, ◌<◌, ◌≤◌, List, [], ◌∷◌, length, get_or, drop, take, sum, sum_by, replicate, arith, refl, ap, sym, subst, ◌∙◌, zero, suc}
 use Rattle.std.specs.List.{All}
 use Rattle.std.proofs.lemmas.List.{append-nil, length-replicate, get_or-set_same, length-set, take-take, take_all}
 use Rattle.std.proofs.Math.Nat.{add-mul, mul-le-mul_right, mul-le-mul_left, zero-div, div-mul-le_self, lt_of_mul-lt-mul_right, mul-div_cancel}
@@ -9,7 +9,7 @@ use Rattle.meek_rule.specs.Weights.{given, vote, votes}
 use Rattle.meek_rule.proofs.WeightLemmas.{given-le}
 use Rattle.vote_spread.specs.Stem.{Stem}
 use Rattle.vote_spread.specs.Walk.{IsWalk}
-use Rattle.vote_spread.specs.Gain.{gains, opening, part}
+use Rattle.vote_spread.specs.Gain.{gains, opening}
 use Rattle.vote_spread.specs.Packed.{StandFor}
 use Rattle.vote_spread.specs.Shares.{share, share_of, CanCount, HasCounted}
 use Rattle.vote_spread.specs.Lanes.{LanesSeen, AreLoaded, AreReady, HaveCounted, HaveRun}

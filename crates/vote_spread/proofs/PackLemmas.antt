@@ -1,5 +1,5 @@
 -- The steps of packing rows.
-use Rattle.std.proofs.Common.{◌≡◌, ℕ, ◌+◌, ◌-◌, ◌<◌, ◌≤◌, List, [], ◌∷◌, ◌++◌, length, get_or, set, drop, take, map, replicate, arith, refl, ap, sym, subst, ◌∙◌, zero, suc, append_assoc}
+use Rattle.std.proofs.Common.{◌≡◌, ℕ, ◌+◌, ◌-◌, ◌≤◌, List, [], ◌∷◌, ◌++◌, length, get_or, set, drop, take, map, replicate, arith, refl, ap, sym, subst, ◌∙◌, zero, suc, append_assoc}
 use Rattle.std.specs.List.{All}
 use Rattle.std.proofs.lemmas.List.{append-nil, length-append, length-map, nil_from_length, set_at, get_or_at, get_or-map}
 use Rattle.frozen_plan.specs.declared.plan_row.PlanRow.{PlanRow}
@@ -8,7 +8,7 @@ use Rattle.frozen_plan.proofs.ReadLemmas.{length-ballots_of}
 use Rattle.vote_spread.specs.Stem.{Stem, stem_of_row, closed_stem}
 use Rattle.vote_spread.specs.Packed.{StandFor, nodes_of, AreRows, HasAdded}
 use Rattle.vote_spread.proofs.StandLemmas.{stand-nothing, stand-append, stand-node, stand-tail}
-use Rattle.vote_spread.proofs.RowLemmas.{nodes_of-rows_of, rows_of_forest, IsParted, parted_rows, candidates, last_ballots, map-same, IsRun, run}
+use Rattle.vote_spread.proofs.RowLemmas.{nodes_of-rows_of, rows_of_forest, parted_rows, candidates, last_ballots, map-same, run}
 
 -- Of rows at depth d of n candidates, those before `rest` are packed.
 pub record ArePacked (n d : ℕ) (rows rest : List PlanRow) (added : List Stem) : Type 0 where

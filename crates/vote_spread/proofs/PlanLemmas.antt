@@ -1,12 +1,12 @@
 -- Plans that are packed one after another.
-use Rattle.std.proofs.Common.{◌≡◌, ℕ, ◌+◌, ◌-◌, ◌<◌, ◌≤◌, List, [], ◌∷◌, ◌++◌, length, get_or, drop, replicate, sum, sum_by, arith, refl, ap, sym, subst, ◌∙◌}
+use Rattle.std.proofs.Common.{◌≡◌, ℕ, ◌+◌, ◌-◌, List, [], ◌∷◌, ◌++◌, length, get_or, drop, replicate, sum, sum_by, arith, refl, ap, sym, subst, ◌∙◌}
 use Rattle.std.specs.List.{All}
 use Rattle.std.proofs.lemmas.List.{append-nil, length-append, get_or_append_left, get_or_at}
 use Rattle.std.proofs.lemmas.List.Concat.{flat_map-append}
 use Rattle.std.proofs.lemmas.List.Sums.{sum_by-append, sum_by-cons}
 use Rattle.frozen_plan.specs.declared.plan_row.PlanRow.{PlanRow}
 use Rattle.frozen_plan.specs.Forest.{Forest, ballots_of, through, rows_of, IsGrown}
-use Rattle.frozen_plan.specs.Plan.{PlanRows, nodes, forest_of, ballot_count, plan_ballots, all_ballots, IsPlan}
+use Rattle.frozen_plan.specs.Plan.{PlanRows, forest_of, ballot_count, plan_ballots, all_ballots, IsPlan}
 use Rattle.frozen_plan.proofs.TrieLemmas.{grown_more}
 use Rattle.meek_rule.specs.Weights.{given}
 use Rattle.vote_spread.specs.Stem.{Stem}

@@ -1,11 +1,11 @@
 -- The rows of a plan, node by node.
-use Rattle.std.proofs.Common.{◌≡◌, ℕ, ◌+◌, ◌-◌, ◌<◌, ◌≤◌, List, [], ◌∷◌, ◌++◌, length, get_or, drop, take, map, replicate, arith, refl, ap, sym, subst, ◌∙◌, zero, suc}
+use Rattle.std.proofs.Common.{◌≡◌, ℕ, ◌+◌, ◌≤◌, List, [], ◌∷◌, ◌++◌, length, get_or, drop, take, map, replicate, arith, refl, ap, sym, subst, ◌∙◌, zero, suc}
 use Rattle.std.specs.List.{All}
-use Rattle.std.proofs.lemmas.List.{append-nil, length-append, length-map, length-replicate, take_at, drop_at, map-append}
-use Rattle.std.proofs.lemmas.List.Elements.{All-cons, All-append}
+use Rattle.std.proofs.lemmas.List.{append-nil, length-append, take_at, drop_at}
+use Rattle.std.proofs.lemmas.List.Elements.{All-cons}
 use Rattle.frozen_plan.specs.declared.plan_row.PlanRow.{PlanRow}
-use Rattle.frozen_plan.specs.Forest.{Forest, Bare, Grown, ballots_of, through, rows_of, IsGrown, read}
-use Rattle.frozen_plan.proofs.ReadLemmas.{read-rows_of, length-ballots_of}
+use Rattle.frozen_plan.specs.Forest.{Forest, Bare, Grown, ballots_of, through, rows_of, IsGrown}
+use Rattle.frozen_plan.proofs.ReadLemmas.{read-rows_of}
 use Rattle.vote_spread.specs.Packed.{nodes_of, AreRows}
 
 -- the nodes that the rows of a forest say

@@ -1,17 +1,17 @@
 -- Stems of a node and of siblings, and the ballots that they stand for.
-use Rattle.std.proofs.Common.{◌≡◌, ℕ, ◌+◌, ◌-◌, ◌*◌, ◌<◌, ◌≤◌, ◌==◌, Bool, true, false, cond, List, [], ◌∷◌, ◌++◌, length, get_or, set, drop, take, sum, sum_by, map, replicate, arith, refl, ap, sym, subst, ◌∙◌, zero, suc, append_assoc, zero-add}
+use Rattle.std.proofs.Common.{◌≡◌, ℕ, ◌+◌, ◌-◌, ◌*◌, ◌<◌, ◌≤◌, ◌==◌, cond, List, [], ◌∷◌, ◌++◌, length, get_or, drop, take, sum, sum_by, map, replicate, arith, refl, ap, sym, subst, ◌∙◌, zero, suc, append_assoc, zero-add}
 use Rattle.std.specs.List.{All}
-use Rattle.std.proofs.lemmas.List.{append-nil, length-append, length-map, length-replicate, length-set, get_or-set_same, take_at, drop_at}
+use Rattle.std.proofs.lemmas.List.{length-append, length-replicate, take_at, drop_at}
 use Rattle.std.proofs.lemmas.List.Elements.{All-cons, All-append, All-weaker}
 use Rattle.std.proofs.lemmas.List.Sums.{sum_by-append, sum_by-cons}
 use Rattle.std.proofs.lemmas.List.Folds.{sum_by-replicate}
-use Rattle.std.proofs.Math.Nat.{add-mul, mul-add}
-use Rattle.meek_rule.specs.Weights.{kept, given, vote}
-use Rattle.vote_spread.specs.Stem.{Stem, stem_of_row, closed_stem}
-use Rattle.vote_spread.specs.Walk.{IsFrom, IsPlaced, IsWalk}
-use Rattle.vote_spread.specs.Gain.{reached, left, gain, past, gains, opening}
+use Rattle.std.proofs.Math.Nat.{add-mul}
+use Rattle.meek_rule.specs.Weights.{kept, given}
+use Rattle.vote_spread.specs.Stem.{Stem}
+use Rattle.vote_spread.specs.Walk.{IsFrom, IsWalk}
+use Rattle.vote_spread.specs.Gain.{gain, past, gains}
 use Rattle.vote_spread.specs.Packed.{StandFor}
-use Rattle.vote_spread.proofs.GainLemmas.{walk_from, walk_behind, past-here, past-other, length-past, gains_agree}
+use Rattle.vote_spread.proofs.GainLemmas.{walk_from, past-here, past-other, length-past, gains_agree}
 use Rattle.vote_spread.proofs.WalkLemmas.{from_more}
 
 -- no stems stand for no ballots

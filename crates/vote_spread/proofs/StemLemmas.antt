@@ -1,6 +1,5 @@
 -- Branches and their stems.
-use Rattle.std.proofs.Common.{◌≡◌, ℕ, ◌+◌, ◌-◌, ◌<◌, ◌≤◌, List, [], ◌∷◌, ◌++◌, length, map, take, drop, set, get_or, arith, refl, ap, sym, subst, ◌∙◌, inl, inr, suc, zero}
-use Rattle.std.specs.List.{All}
+use Rattle.std.proofs.Common.{◌≡◌, ℕ, ◌+◌, ◌<◌, ◌≤◌, List, [], ◌∷◌, ◌++◌, length, take, drop, set, get_or, arith, refl, ap, sym, ◌∙◌, suc}
 use Rattle.std.proofs.lemmas.List.{get_or-map, map-set, map-append, length-drop, drop_at, take_all, take-append-le, drop-append-le}
 use Rattle.vote_spread.specs.declared.branch.Branch.{Branch}
 use Rattle.vote_spread.specs.Stem.{Stem, stem_of, stems_of, closed_stem}

@@ -1,13 +1,13 @@
 -- The steps of a walk over a part of some stems.
-use Rattle.std.proofs.Common.{◌≡◌, ℕ, ◌+◌, ◌-◌, ◌*◌, ◌<◌, ◌≤◌, ◌==◌, ◌≢◌, Bool, true, false, cond, List, [], ◌∷◌, ◌++◌, length, get_or, set, drop, take, sum, arith, refl, ap, sym, subst, ◌∙◌, inl, inr, zero, suc, leb, zero-add}
+use Rattle.std.proofs.Common.{◌≡◌, ℕ, ◌+◌, ◌-◌, ◌<◌, ◌≤◌, true, false, cond, List, [], ◌∷◌, ◌++◌, length, get_or, drop, take, sum, arith, refl, ap, sym, subst, ◌∙◌, inl, inr, zero, suc, leb, zero-add}
 use Rattle.std.specs.List.{All}
-use Rattle.std.proofs.lemmas.List.{drop_more, drop_all, drop-drop, get_or-drop, get_or-take, get_or_past, length-take, length-drop, length-take-le, take-append-drop}
-use Rattle.std.proofs.lemmas.Bool.{cases_lt, cases_eq, eq-eqb, ne_eqb, le-leb, lt-leb}
-use Rattle.std.proofs.lemmas.List.Sums.{sum_by-cons, sum_by-drop_more, sum_by-take-le, sum_by-take-drop, get_or-le-sum_by}
+use Rattle.std.proofs.lemmas.List.{drop_more, drop-drop, get_or-drop, get_or-take, get_or_past, length-take, length-drop, length-take-le, take-append-drop}
+use Rattle.std.proofs.lemmas.Bool.{cases_lt, le-leb, lt-leb}
+use Rattle.std.proofs.lemmas.List.Sums.{sum_by-drop_more, sum_by-take-le, sum_by-take-drop}
 use Rattle.vote_spread.specs.Stem.{Stem}
 use Rattle.vote_spread.specs.Walk.{IsFrom, IsPlaced, IsWalk}
-use Rattle.vote_spread.specs.Gain.{reached, left, gain, past, gains, opening, part}
-use Rattle.vote_spread.proofs.GainLemmas.{length-gains, walk_from, walk_behind, past-here, past-other, length-past, gains_agree, gains_behind, gains_zero, sum-drop_zeros}
+use Rattle.vote_spread.specs.Gain.{left, gain, past, gains, opening, part}
+use Rattle.vote_spread.proofs.GainLemmas.{length-gains, walk_behind, past-here, length-past, gains_behind, gains_zero, sum-drop_zeros}
 
 -- Where a walk over stems `from` to `to` stands: at stem i, with these weights. What is still to be given is what the
 -- stems behind give from these weights.

@@ -1,5 +1,5 @@
 -- What the stems of a walk give to a candidate.
-use Rattle.std.specs.Prelude.{ℕ, ◌+◌, ◌-◌, ◌*◌, List, [], ◌∷◌, slice_index, slice_set, replicate, take, drop, sum}
+use Rattle.std.specs.Prelude.{ℕ, ◌-◌, ◌*◌, List, [], ◌∷◌, slice_index, slice_set, replicate, take, drop, sum}
 use Rattle.meek_rule.specs.Weights.{kept, given}
 use Rattle.vote_spread.specs.Stem.{Stem}
 

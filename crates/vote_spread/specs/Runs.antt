@@ -1,5 +1,5 @@
 -- What runs lanes.
-use Rattle.std.specs.Prelude.{◌≡◌, ℕ, ◌≤◌, List, length}
+use Rattle.std.specs.Prelude.{◌≡◌, ℕ, length}
 use denote.Ref.{MutBor}
 use denote.Param.Members.{Shared}
 use Rattle.vote_spread.specs.declared.lanes.Lanes.{Lanes}

@@ -11,6 +11,9 @@ use frozen_plan::Plans;
 use meek_rule::Spread;
 use std::alloc::Global;
 
+#[cfg(test)]
+mod tests;
+
 /// Distributes the ballots of plans by workers' lanes, which `run` runs.
 #[derive(Drop)]
 pub struct PlanSpread<const P: usize, F: Drop> {

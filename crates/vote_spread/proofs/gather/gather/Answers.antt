@@ -1,4 +1,4 @@
-use Rattle.std.proofs.Common.{◌≡◌, ℕ, ◌+◌, ◌<◌, ◌≤◌, ◌^◌, List, length, get_or, arith, sum_by}
+use Rattle.std.proofs.Common.{ℕ, ◌≤◌, List, get_or, arith, sum_by}
 use Rattle.fixed_place.specs.Rounding.{most}
 use Rattle.meek_rule.proofs.RuleLemmas.{most_bound}
 use Rattle.vote_spread.proofs.gather.gather.Goals as goal

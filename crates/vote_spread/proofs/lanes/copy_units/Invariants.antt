@@ -1,4 +1,4 @@
-use Rattle.std.proofs.Common.{◌≡◌, ℕ, ◌<◌, length, slice_index}
+use Rattle.std.proofs.Common.{◌≡◌, ℕ, ◌<◌, slice_index}
 use Rattle.vote_spread.proofs.lanes.copy_units.Given as goal
 
 abbrev pub invariant-loop-i : goal.invariant-loop-i

@@ -1,10 +1,10 @@
-use Rattle.std.proofs.Common.{◌≡◌, ℕ, ◌+◌, ◌≤◌, [], ◌∷◌, ◌++◌, List, length, take, drop, get_or, arith, ap, sym, subst, ◌∙◌, refl}
+use Rattle.std.proofs.Common.{◌≡◌, ◌+◌, ◌≤◌, [], ◌∷◌, ◌++◌, List, length, take, drop, get_or, arith, ap, sym, subst, ◌∙◌}
 use Rattle.std.proofs.lemmas.List.{length-take-le, length-drop}
 use Rattle.frozen_plan.specs.declared.plan_row.PlanRow.{PlanRow}
 use Rattle.vote_spread.specs.Stem.{Stem, stem_of_row}
-use Rattle.vote_spread.specs.Packed.{AreRows, HasAdded}
+use Rattle.vote_spread.specs.Packed.{HasAdded}
 use Rattle.vote_spread.proofs.RowLemmas.{parted_rows}
-use Rattle.vote_spread.proofs.PackLemmas.{IsUnderway, underway-begin, underway-next, underway-end, tail_node, closed_node}
+use Rattle.vote_spread.proofs.PackLemmas.{underway-begin, underway-next, tail_node, closed_node}
 use Rattle.vote_spread.proofs.pack.+pack.Goals as goal
 
 -- what stands past the end of some rows

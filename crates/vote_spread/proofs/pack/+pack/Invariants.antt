@@ -1,4 +1,4 @@
-use Rattle.std.proofs.Common.{◌≡◌, ℕ, ◌+◌, ◌*◌, ◌≤◌, length}
+use Rattle.std.proofs.Common.{◌+◌, ◌*◌, ◌≤◌, length}
 use Rattle.vote_spread.proofs.PackLemmas.{IsUnderway}
 use Rattle.vote_spread.proofs.pack.+pack.Given as goal
 

@@ -1,6 +1,6 @@
 use Rattle.std.proofs.Common.{◌≡◌, List, drop, ap, sym, subst, ◌∙◌}
 use Rattle.frozen_plan.specs.declared.plan_row.PlanRow.{PlanRow}
-use Rattle.vote_spread.specs.Packed.{AreRows, HasAdded, HasPacked}
+use Rattle.vote_spread.specs.Packed.{AreRows, HasAdded}
 use Rattle.vote_spread.proofs.PlanLemmas.{rows_of_plan, packed_plan}
 use Rattle.vote_spread.proofs.pack.pack_plan.Goals as goal
 

@@ -1,4 +1,4 @@
-use Rattle.std.proofs.Common.{◌≡◌, refl}
+use Rattle.std.proofs.Common.{refl}
 use Rattle.vote_spread.proofs.PlanLemmas.{packed-begin, packed-next, packed-end}
 use Rattle.vote_spread.proofs.pack.pack_plans.Goals as goal
 

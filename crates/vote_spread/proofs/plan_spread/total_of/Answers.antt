@@ -1,4 +1,4 @@
-use Rattle.std.proofs.Common.{◌≡◌, ◌+◌, ◌≤◌, List, length, arith, sum_by, take, get_or, ap, sym, ◌∙◌}
+use Rattle.std.proofs.Common.{◌≡◌, length, arith, sum_by, take, get_or, ap, sym, ◌∙◌}
 use Rattle.std.proofs.lemmas.List.{take_all}
 use Rattle.std.proofs.lemmas.List.Sums.{sum_by_more_le}
 use Rattle.frozen_plan.specs.Plan.{PlanRows, plan_ballots, all_ballots}

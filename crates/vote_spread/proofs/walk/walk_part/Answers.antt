@@ -1,10 +1,9 @@
-use Rattle.std.proofs.Common.{◌≡◌, ℕ, ◌+◌, ◌-◌, ◌*◌, ◌<◌, ◌≤◌, [], ◌∷◌, List, length, map, sum, get_or, set, drop, arith, ap, sym, subst, ◌∙◌, refl, cond, leb}
-use Rattle.std.specs.List.{All}
+use Rattle.std.proofs.Common.{◌≡◌, ℕ, ◌+◌, ◌-◌, ◌*◌, ◌<◌, ◌≤◌, ◌∷◌, List, length, get_or, set, arith, ap, sym, subst, ◌∙◌, cond, leb}
 use Rattle.fixed_place.specs.Rounding.{scale, most}
 use Rattle.fixed_place.proofs.RoundingLemmas.{scale_pos}
 use Rattle.std.proofs.lemmas.Bool.{leb-true}
 use Rattle.vote_spread.specs.declared.branch.Branch.{Branch}
-use Rattle.vote_spread.specs.Stem.{Stem, stem_of, stems_of}
+use Rattle.vote_spread.specs.Stem.{stem_of, stems_of}
 use Rattle.vote_spread.specs.Gain.{left, gain, past, part}
 use Rattle.vote_spread.proofs.GainLemmas.{length-past}
 use Rattle.vote_spread.proofs.WalkLemmas.{IsAt, still, still_before, still_jump, still_visit}

@@ -1,4 +1,4 @@
-use Rattle.std.proofs.Common.{◌≡◌, ℕ, ◌-◌, List, length, set, get_or, arith, ap, sym, subst, ◌∙◌}
+use Rattle.std.proofs.Common.{◌≡◌, ◌-◌, List, length, set, get_or, arith, ap, sym, ◌∙◌}
 use Rattle.vote_spread.specs.declared.branch.Branch.{Branch}
 use Rattle.vote_spread.specs.Stem.{Stem, stems_of, closed_stem}
 use Rattle.vote_spread.proofs.StemLemmas.{stems_of-close}

@@ -3,9 +3,7 @@ use Rattle.std.specs.List.{All}
 use Rattle.std.proofs.lemmas.List.{length-replicate}
 use Rattle.std.proofs.lemmas.List.Elements.{All-replicate}
 use Rattle.frozen_plan.specs.Plan.{all_ballots}
-use Rattle.vote_spread.specs.Stem.{Stem}
 use Rattle.vote_spread.specs.Packed.{StandFor}
-use Rattle.vote_spread.specs.Lanes.{AreReady}
 use Rattle.vote_spread.proofs.lanes.Lanes.begin.Goals as goal
 
 pub invariant_of-result : goal.invariant_of-result
