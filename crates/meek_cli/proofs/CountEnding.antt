@@ -1,13 +1,11 @@
 -- How the writing of a count ends.
 use Rattle.std.proofs.Common.{◌≡◌, ℕ, ◌+◌, ◌≤◌, List, [], length, false, refl, sym, subst, inl, inr}
-use Rattle.std.specs.Prelude.{Option}
+use Rattle.std.specs.Prelude.{Option, IsPermutation}
 use Rattle.std.proofs.lemmas.List.{append-nil}
 use Rattle.std.specs.Io.KnownBytes.{Keeps}
 use Rattle.std.proofs.KnownBytes.{Appends-kept}
 use Rattle.byte_edge.specs.Faults.{Rose}
 use Rattle.candidate_roll.specs.Roll.{RollList}
-use Rattle.plain_ballots.specs.Ballots.{plain}
-use Rattle.plain_ballots.specs.declared.ballot_line.BallotLine.{BallotLine}
 use Rattle.lot_order.specs.Lots.{IsLotsStop}
 use Rattle.lot_order.specs.declared.lots_stop.LotsStop.{LotsStop}
 use Rattle.lot_order.specs.declared.lots_stop.LotsStop.TheVariants.{NotAll, Twice, OutOfRange, NoMemory as NoLots}
@@ -17,6 +15,7 @@ use Rattle.blt_reader.specs.Poll.{Poll}
 use Rattle.blt_reader.specs.Blt.{IsBlt}
 use Rattle.blt_reader.specs.Refusal.{IsAccepted}
 use Rattle.meek_count.specs.Progress.{Progress}
+use Rattle.sheet_text.specs.Laws.{OrderOfBallotsLeavesTheSheet}
 use Rattle.sheet_text.specs.Sheet.{IsSheet, IsSheetOf, AppendsSheet, AppendsFrontOfSheet}
 use Rattle.meek_cli.specs.declared.status.Status.{Status}
 use Rattle.meek_cli.specs.declared.status.Status.TheVariants.{Done, BadInput, SinkFault}
@@ -25,53 +24,62 @@ use Rattle.meek_cli.specs.Refusals.{fault_line}
 use Rattle.meek_cli.specs.Owed.{count_limit}
 use Rattle.meek_cli.specs.Run.{FinishesCount, RefusesLots, WritesCount}
 
--- the count is of these lines, this roll and these lots, with the program's omega
-pub record IsCountOf (roll : RollList) (lots : List ℕ) (lines : List BallotLine) (count : Progress) : Type 0 where
+-- the count is of these single ballots, this roll and these lots, with the program's omega
+pub record IsCountOf (roll : RollList) (lots : List ℕ) (ballots : List (List ℕ)) (count : Progress) : Type 0 where
   pub omega_is : count.now.omega ≡ 1000
-  pub ballots_are : count.ballots ≡ plain lines
+  pub ballots_are : count.ballots ≡ ballots
   pub roll_is : count.roll ≡ roll
   pub lots_are : count.lots ≡ lots
 
 sheet_of :
-    (roll : RollList) (lots : List ℕ) (lines : List BallotLine) (count : Progress) (text : List ℕ)
-    → IsCountOf roll lots lines count → IsSheetOf 9 count text → IsSheet 9 1000 (plain lines) roll lots text
-sheet_of roll lots lines count text of is =
-    subst (λ (omega : ℕ). IsSheet 9 omega (plain lines) roll lots text) of.omega_is
-    (subst (λ (ballots : List (List ℕ)). IsSheet 9 count.now.omega ballots roll lots text) of.ballots_are
+    (roll : RollList) (lots : List ℕ) (ballots : List (List ℕ)) (count : Progress) (text : List ℕ)
+    → IsCountOf roll lots ballots count → IsSheetOf 9 count text → IsSheet 9 1000 ballots roll lots text
+sheet_of roll lots ballots count text of is =
+    subst (λ (omega : ℕ). IsSheet 9 omega ballots roll lots text) of.omega_is
+    (subst (λ (b : List (List ℕ)). IsSheet 9 count.now.omega b roll lots text) of.ballots_are
     (subst (λ (r : RollList). IsSheet 9 count.now.omega count.ballots r lots text) of.roll_is
     (subst (λ (l : List ℕ). IsSheet 9 count.now.omega count.ballots count.roll l text) of.lots_are is)))
 
 -- writing the sheet failed
 pub stopped_in_sheet :
-    (roll : RollList) (lots : List ℕ) (lines : List BallotLine) (count : Progress) (sink : Writing)
-    → IsCountOf roll lots lines count → AppendsFrontOfSheet 9 count sink.written sink.written_then
-    → Rose sink.faults sink.faults_then → WritesCount roll lots lines SinkFault sink
-stopped_in_sheet roll lots lines count sink of (text, is, front) rose =
-    inr (text, sheet_of roll lots lines count text of is, inr (refl, rose, front))
+    (roll : RollList) (lots : List ℕ) (ballots : List (List ℕ)) (count : Progress) (sink : Writing)
+    → IsCountOf roll lots ballots count → AppendsFrontOfSheet 9 count sink.written sink.written_then
+    → Rose sink.faults sink.faults_then → WritesCount roll lots ballots SinkFault sink
+stopped_in_sheet roll lots ballots count sink of (text, is, front) rose =
+    inr (text, sheet_of roll lots ballots count text of is, inr (refl, rose, front))
 
 -- the flush behind the sheet failed
 pub stopped_in_flush :
-    (roll : RollList) (lots : List ℕ) (lines : List BallotLine) (count : Progress) (sink : Writing) (mid : Option (List ℕ))
-    → IsCountOf roll lots lines count → AppendsSheet 9 count sink.written mid → Keeps mid sink.written_then
-    → Rose sink.faults sink.faults_then → WritesCount roll lots lines SinkFault sink
-stopped_in_flush roll lots lines count sink mid of (text, is, whole) kept rose =
+    (roll : RollList) (lots : List ℕ) (ballots : List (List ℕ)) (count : Progress) (sink : Writing) (mid : Option (List ℕ))
+    → IsCountOf roll lots ballots count → AppendsSheet 9 count sink.written mid → Keeps mid sink.written_then
+    → Rose sink.faults sink.faults_then → WritesCount roll lots ballots SinkFault sink
+stopped_in_flush roll lots ballots count sink mid of (text, is, whole) kept rose =
     inr (
       text,
-      sheet_of roll lots lines count text of is,
+      sheet_of roll lots ballots count text of is,
       inr (refl, rose, (text, [], sym (append-nil text), Appends-kept sink.written mid sink.written_then text whole kept)),
     )
 
 -- the sheet was written
 pub wrote_sheet :
-    (roll : RollList) (lots : List ℕ) (lines : List BallotLine) (count : Progress) (sink : Writing) (mid : Option (List ℕ))
-    → IsCountOf roll lots lines count → AppendsSheet 9 count sink.written mid → Keeps mid sink.written_then
-    → NoWriteFailed sink → WritesCount roll lots lines Done sink
-wrote_sheet roll lots lines count sink mid of (text, is, whole) kept calm =
+    (roll : RollList) (lots : List ℕ) (ballots : List (List ℕ)) (count : Progress) (sink : Writing) (mid : Option (List ℕ))
+    → IsCountOf roll lots ballots count → AppendsSheet 9 count sink.written mid → Keeps mid sink.written_then
+    → NoWriteFailed sink → WritesCount roll lots ballots Done sink
+wrote_sheet roll lots ballots count sink mid of (text, is, whole) kept calm =
     inr (
       text,
-      sheet_of roll lots lines count text of is,
+      sheet_of roll lots ballots count text of is,
       inl (refl, calm, Appends-kept sink.written mid sink.written_then text whole kept),
     )
+
+-- the order of the ballots makes no difference to what their count came to
+pub in_any_order :
+    (roll : RollList) (lots : List ℕ) (other ballots : List (List ℕ)) (status : Status) (sink : Writing)
+    → OrderOfBallotsLeavesTheSheet → IsPermutation other ballots → WritesCount roll lots other status sink
+    → WritesCount roll lots ballots status sink
+in_any_order roll lots other ballots status sink leaves same (inl nothing) = inl nothing
+in_any_order roll lots other ballots status sink leaves same (inr (bytes, is, finishes)) =
+    inr (bytes, (leaves 9 1000 other ballots roll lots bytes same).0 is, finishes)
 
 -- a file was read, and the lots are not an order of its candidates
 pub refused_lots :

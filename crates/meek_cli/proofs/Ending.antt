@@ -14,7 +14,7 @@ use Rattle.meek_cli.specs.declared.work.Work.TheVariants.{Count, Day}
 use Rattle.meek_cli.specs.Streams.{Reading, Writing, NoReadFailed}
 use Rattle.meek_cli.specs.Refusals.{fault_line}
 use Rattle.meek_cli.specs.DayHistory.{IsOfficeHistory}
-use Rattle.meek_cli.specs.Owed.{IsOwedForCount, IsOwedAt, IsOwedForDay, IsDayOwedAt, OwesDay, IsOwed}
+use Rattle.meek_cli.specs.Owed.{AsksForCount, IsOwedForCount, IsOwedAt, IsOwedForDay, IsDayOwedAt, OwesDay, IsOwed}
 use Rattle.meek_cli.specs.Run.{IsRun, Finishes}
 use Rattle.meek_cli.specs.Work.{AsksFor, limit_of, FinishesWork}
 
@@ -40,8 +40,8 @@ pub too_long :
     (words : List (List ℕ)) (left : Option (List ℕ)) (work : Work) (fault : InputFault)
     → fault ≡ record { kind = TooLong; at = limit_of work } → AsksFor words work → IsLongerThan (limit_of work) left
     → IsOwed words left (BadInput fault) [] (fault_line fault)
-too_long words None (Count lots) fault is asked long = inl (lots, asked, refl, tt)
-too_long words (Some input) (Count lots) fault is asked long =
+too_long words None (Count lots split) fault is asked long = inl (lots, asked, refl, tt)
+too_long words (Some input) (Count lots split) fault is asked long =
     inl (lots, asked, refl, (inl (record { long = long; fault_is = is }), refl))
 too_long words None Day fault is asked long = inr (asked, refl)
 too_long words (Some input) Day fault is asked long =
@@ -80,7 +80,7 @@ played_of (Some input) (Some rest) items status history bytes took end owed =
 -- what is owed for the input of a count is owed for the words that asked for it
 count_owed :
     (words : List (List ℕ)) (left : Option (List ℕ)) (items lots : List ℕ) (status : Status) (history : List Entry)
-    (bytes : List ℕ) → AsksFor words (Count lots) → history ≡ [] → IsOwedForCount lots items status bytes
+    (bytes : List ℕ) → AsksForCount words lots → history ≡ [] → IsOwedForCount lots items status bytes
     → IsOwedAt lots left status bytes → IsOwed words left status history bytes
 count_owed words left items lots Done history bytes asked none owed at = inl (lots, asked, none, at)
 count_owed words left items lots (BadInput fault) history bytes asked none owed at = inl (lots, asked, none, at)
@@ -99,9 +99,9 @@ pub worked :
     (words : List (List ℕ)) (source : Reading) (sink : Writing) (work : Work) (items : List ℕ) (status : Status)
     (history : List Entry) → NoReadFailed source → AsksFor words work → Consumes source.left source.left_then items
     → IsAtEnd source.left_then → FinishesWork work items status history sink → IsRun words source sink status history
-worked words source sink (Count lots) items status history calm asked took end (none, inl (same, nothing)) =
+worked words source sink (Count lots split) items status history calm asked took end (none, inl (same, nothing)) =
     subst (λ (s : Status). IsRun words source sink s history) (sym same) (calm, none, nothing)
-worked words source sink (Count lots) items status history calm asked took end (none, inr (due, bytes, owed, finishes)) =
+worked words source sink (Count lots split) items status history calm asked took end (none, inr (due, bytes, owed, finishes)) =
     let at = counted_of source.left source.left_then items lots due bytes took end owed in
     finished words source sink due history bytes status calm
     (count_owed words source.left items lots due history bytes asked none owed at) finishes

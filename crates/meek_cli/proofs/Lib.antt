@@ -11,4 +11,5 @@ pub mod WritingBytes
 pub mod DueTexts
 pub mod BegunSheets
 pub mod DaySheets
+pub mod Dealt
 pub mod DayEnding

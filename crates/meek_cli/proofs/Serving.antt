@@ -7,7 +7,8 @@ use Rattle.batch_core.specs.declared.call.Call.{Call}
 use Rattle.batch_core.specs.declared.entry.Entry.{Entry}
 use Rattle.day_reader.specs.declared.script.Script.{Script}
 use Rattle.day_reader.specs.Said.{IsAnswerable}
-use Rattle.meek_cli.specs.Desk.{DeskState, answered, AddsCalls, AddsScripts}
+use Rattle.shard_book.specs.Journal.{JournalState, answered}
+use Rattle.meek_cli.specs.Desk.{AddsCalls, AddsScripts}
 
 -- the last of some calls that are left, taken from a list that is turned round, is the next of them
 pub next_of : {X : Type 0} (before rest : List X) (x : X) (left : List X) → left ≡ rest ++ x ∷ [] → before ++ reverse left ≡ (before ++ x ∷ []) ++ reverse rest
@@ -18,7 +19,7 @@ next_of {X = X} before rest x left is =
 -- ---- one team
 
 -- so many of a team's calls are left, the others were answered
-pub record IsServing (caller : ℕ) (calls : List Call) (start now : DeskState) (left : List Call) : Type 0 where
+pub record IsServing (caller : ℕ) (calls : List Call) (start now : JournalState) (left : List Call) : Type 0 where
   pub done : List Call
   pub whole : calls ≡ done ++ reverse left
   pub answerable : All (IsAnswerable start.candidates) left
@@ -60,7 +61,7 @@ All-split P (y ∷ ys) x all =
     (All-cons P y ys (All-head P y (ys ++ x ∷ []) all) rest.0, rest.1)
 
 pub serving_none :
-    (caller : ℕ) (calls : List Call) (desk : DeskState) (left : List Call) → left ≡ reverse calls
+    (caller : ℕ) (calls : List Call) (desk : JournalState) (left : List Call) → left ≡ reverse calls
     → All (IsAnswerable desk.candidates) calls → IsServing caller calls desk desk left
 serving_none caller calls desk left is answerable = record {
   done = [];
@@ -72,14 +73,14 @@ serving_none caller calls desk left is answerable = record {
 
 -- the next call can be answered
 pub next_answerable :
-    (caller : ℕ) (calls : List Call) (start now : DeskState) (left rest : List Call) (call : Call)
+    (caller : ℕ) (calls : List Call) (start now : JournalState) (left rest : List Call) (call : Call)
     → IsServing caller calls start now left → left ≡ rest ++ call ∷ [] → IsAnswerable now.candidates call
 next_answerable caller calls start now left rest call serving is =
     subst (λ (n : ℕ). IsAnswerable n call) (sym serving.same)
     (All-split (IsAnswerable start.candidates) rest call (subst (All (IsAnswerable start.candidates)) is serving.answerable)).1
 
 pub serving_more :
-    (caller : ℕ) (calls : List Call) (start now next : DeskState) (left rest : List Call) (call : Call)
+    (caller : ℕ) (calls : List Call) (start now next : JournalState) (left rest : List Call) (call : Call)
     → IsServing caller calls start now left → left ≡ rest ++ call ∷ [] → next.candidates ≡ now.candidates
     → next.entries ≡ now.entries ++ answered now.entries caller call ∷ [] → IsServing caller calls start next rest
 serving_more caller calls start now next left rest call serving is same entries = record {
@@ -91,7 +92,7 @@ serving_more caller calls start now next left rest call serving is same entries 
 }
 
 pub serving_all :
-    (caller : ℕ) (calls : List Call) (start now : DeskState) (left : List Call) → IsServing caller calls start now left
+    (caller : ℕ) (calls : List Call) (start now : JournalState) (left : List Call) → IsServing caller calls start now left
     → left ≡ [] → AddsCalls caller calls start.entries now.entries
 serving_all caller calls start now left serving is =
     let all : serving.done ≡ calls =
@@ -104,7 +105,7 @@ abbrev pub AreAnswerable : ℕ → Script → Type 0
 AreAnswerable candidates script = All (IsAnswerable candidates) script.calls
 
 -- so many scripts are left, the others were answered
-pub record IsServingAll (scripts : List Script) (start now : DeskState) (left : List Script) : Type 0 where
+pub record IsServingAll (scripts : List Script) (start now : JournalState) (left : List Script) : Type 0 where
   pub done : List Script
   pub whole : scripts ≡ done ++ reverse left
   pub answerable : All (AreAnswerable start.candidates) left
@@ -120,7 +121,7 @@ adds_script (s ∷ done) script start now next (mid, first, others) calls =
     (mid, first, adds_script done script mid now next others calls)
 
 pub serving_no_team :
-    (scripts : List Script) (desk : DeskState) (left : List Script) → left ≡ reverse scripts
+    (scripts : List Script) (desk : JournalState) (left : List Script) → left ≡ reverse scripts
     → All (AreAnswerable desk.candidates) scripts → IsServingAll scripts desk desk left
 serving_no_team scripts desk left is answerable = record {
   done = [];
@@ -132,14 +133,14 @@ serving_no_team scripts desk left is answerable = record {
 
 -- the next team's calls can be answered
 pub next_team_answerable :
-    (scripts : List Script) (start now : DeskState) (left rest : List Script) (script : Script)
+    (scripts : List Script) (start now : JournalState) (left rest : List Script) (script : Script)
     → IsServingAll scripts start now left → left ≡ rest ++ script ∷ [] → AreAnswerable now.candidates script
 next_team_answerable scripts start now left rest script serving is =
     subst (λ (n : ℕ). AreAnswerable n script) (sym serving.same)
     (All-split (AreAnswerable start.candidates) rest script (subst (All (AreAnswerable start.candidates)) is serving.answerable)).1
 
 pub serving_one_team :
-    (scripts : List Script) (start now next : DeskState) (left rest : List Script) (script : Script)
+    (scripts : List Script) (start now next : JournalState) (left rest : List Script) (script : Script)
     → IsServingAll scripts start now left → left ≡ rest ++ script ∷ [] → next.candidates ≡ now.candidates
     → AddsCalls script.team script.calls now.entries next.entries → IsServingAll scripts start next rest
 serving_one_team scripts start now next left rest script serving is same calls = record {
@@ -151,7 +152,7 @@ serving_one_team scripts start now next left rest script serving is same calls =
 }
 
 pub serving_all_teams :
-    (scripts : List Script) (start now : DeskState) (left : List Script) → IsServingAll scripts start now left
+    (scripts : List Script) (start now : JournalState) (left : List Script) → IsServingAll scripts start now left
     → left ≡ [] → AddsScripts scripts start.entries now.entries
 serving_all_teams scripts start now left serving is =
     let all : serving.done ≡ scripts =

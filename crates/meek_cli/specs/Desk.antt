@@ -3,17 +3,12 @@ use Rattle.std.specs.Prelude.{◌≡◌, ℕ, ◌≤◌, List, [], ◌∷◌, �
 use Rattle.plain_ballots.specs.Ballots.{BallotList}
 use Rattle.batch_core.specs.declared.call.Call.{Call}
 use Rattle.batch_core.specs.declared.entry.Entry.{Entry}
-use Rattle.batch_core.specs.Book.{BookList, state_of, empty, reply}
-use Rattle.batch_core.specs.Histories.{after_all, IsLegal, standing_after, struck_after}
+use Rattle.batch_core.specs.Histories.{standing_after, struck_after}
+use Rattle.shard_book.specs.Journal.{JournalState}
 use Rattle.day_reader.specs.declared.script.Script.{Script}
 use Rattle.day_reader.specs.Said.{IsAnswerable}
 use Rattle.meek_cli.specs.DayText.{freeze_places}
 use Rattle.meek_cli.specs.DayHistory.{calls_of}
-
--- the number of candidates, and the calls answered so far
-pub record DeskState : Type 0 where
-  pub candidates : ℕ
-  pub entries : List Entry
 
 -- what stood at the freeze at a place: the ballots, and the candidates struck
 pub record Stood : Type 0 where
@@ -35,17 +30,11 @@ stood_at_freezes candidates history = map (stood_after candidates history) (free
 abbrev pub AreCandidates : ℕ → List ℕ → Type 0
 AreCandidates n struck = All (λ c. (1 ≤ c) × (c ≤ n)) struck
 
--- The book has answered the calls so far, and what stood at each freeze is kept.
-pub record IsDesk (book : BookList) (entries : List Entry) (frozen : List Stood) : Type 0 where
-  pub few_candidates : book.candidates ≤ 250
-  pub in_book : state_of book ≡ after_all empty entries
-  pub legal : IsLegal entries
-  pub answerable : All (λ e. IsAnswerable book.candidates e.call) entries
-  pub kept : frozen ≡ stood_at_freezes book.candidates entries
-
--- a call with the reply that it has behind a history
-abbrev pub answered : List Entry → (caller : ℕ) → Call → Entry
-answered history caller call = record { caller = caller; call = call; reply = reply (after_all empty history) call }
+-- The journal has answered answerable calls, and what stood at each freeze is kept.
+pub record IsDesk (journal : JournalState) (frozen : List Stood) : Type 0 where
+  pub few_candidates : journal.candidates ≤ 250
+  pub answerable : All (λ e. IsAnswerable journal.candidates e.call) journal.entries
+  pub kept : frozen ≡ stood_at_freezes journal.candidates journal.entries
 
 -- These calls of one caller stand behind a history, each once and in their order.
 pub record AddsCalls (caller : ℕ) (calls : List Call) (old new : List Entry) : Type 0 where

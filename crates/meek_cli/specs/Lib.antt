@@ -8,4 +8,5 @@ pub mod Desk
 pub mod DueSheets
 pub mod Owed
 pub mod Run
+pub mod Sharing
 pub mod Work

@@ -2,8 +2,6 @@
 use Rattle.std.specs.Prelude.{◌≡◌, ◌⊎◌, ℕ, List, [], Some, MatchOption}
 use Rattle.lot_order.specs.declared.lots_stop.LotsStop.{LotsStop}
 use Rattle.candidate_roll.specs.Roll.{RollList}
-use Rattle.plain_ballots.specs.Ballots.{plain}
-use Rattle.plain_ballots.specs.declared.ballot_line.BallotLine.{BallotLine}
 use Rattle.sheet_text.specs.Sheet.{IsSheet}
 use Rattle.std.specs.Io.KnownBytes.{Appends, IsAtEnd}
 use Rattle.blt_reader.specs.Poll.{Poll}
@@ -75,11 +73,11 @@ FinishesCount lots input status sink =
     ((status ≡ NoMemory) × NothingWritten sink)
     ⊎ ((due : Status) × (bytes : List ℕ) × IsOwedForCount lots input due bytes × Finishes due bytes status sink)
 
--- what a count of these lines came to: the sheet was written, or memory was wanted before the first byte
-abbrev pub WritesCount : RollList → (lots : List ℕ) → List BallotLine → Status → Writing → Type 0
-WritesCount roll lots lines status sink =
+-- what a count of these single ballots came to: the sheet was written, or memory was wanted before the first byte
+abbrev pub WritesCount : RollList → (lots : List ℕ) → (ballots : List (List ℕ)) → Status → Writing → Type 0
+WritesCount roll lots ballots status sink =
     ((status ≡ NoMemory) × NothingWritten sink)
-    ⊎ ((bytes : List ℕ) × IsSheet 9 1000 (plain lines) roll lots bytes × Finishes Done bytes status sink)
+    ⊎ ((bytes : List ℕ) × IsSheet 9 1000 ballots roll lots bytes × Finishes Done bytes status sink)
 
 -- what lots of this length, no order of all candidates, came to: their line was written, or memory was wanted
 abbrev pub RefusesLots : (len : ℕ) → LotsStop → Status → Writing → Type 0

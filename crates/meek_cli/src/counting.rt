@@ -1,24 +1,43 @@
 // A count: from the bytes of a ballot file to the sheet.
-ghost use Rattle.std.specs.Prelude.{◌≡◌, ◌≤◌, length};
+ghost use Rattle.std.specs.Prelude.{◌≡◌, ◌≤◌, All, IfOk, IsPermutation, length};
+ghost use Rattle.fixed_place.specs.Rounding.{scale};
+ghost use Rattle.plain_ballots.specs.Ballots.{plain};
+ghost use Rattle.frozen_plan.specs.Plan.{all_ballots};
+ghost use Rattle.vote_spread.specs.Lanes.{HaveCounted};
 ghost use Rattle.meek_cli.specs.Owed.{lots_fault};
 ghost use Rattle.meek_cli.specs.Run.{FinishesCount, RefusesLots, WritesCount};
 
 use crate::Status;
-use crate::beginning::begin_count;
+use crate::lent::Lent;
 use crate::refusal::refuse;
+use crate::split::Split;
 use blt_reader::{BltStop, Election, FaultKind, InputFault, read_blt};
-use byte_edge::Sink;
+use byte_edge::{Gate, Sink};
 use candidate_roll::Roll;
+use fixed_place::Amount;
+use frozen_plan::Plans;
 use lot_order::{Lots, LotsStop};
-use plain_ballots::Ballots;
-use sheet_text::write_sheet;
+use meek_count::Count;
+use meek_rule::Spread;
+use plain_ballots::{Ballots, lines_stand_for_ballots};
+use sheet_text::{sheets_are_unique, write_sheet};
 use std::alloc::Global;
+use std::thread::Threads;
+use vote_spread::{Lanes, PlanSpread};
 
 /// Below so many units of 10^-9 votes a surplus is not transferred: 0.000001 votes.
-const OMEGA: u32 = 1_000;
+const OMEGA: u64 = 1_000;
 
 /// Counts the ballots of a file by these lots, and writes the sheet or the refusal.
-pub(crate) fn count<K: Sink>(alloc: Global, input: &[u8], lots: &[u32], sink: &mut K) -> Status
+pub(crate) fn count<R: Threads + Sync, K: Sink, G: Gate + Sync>(
+    rt: &R,
+    alloc: Global,
+    input: &[u8],
+    lots: &[u32],
+    split: &Split,
+    sink: &mut K,
+    gate: &G,
+) -> Status
     requires { length input.now ≤ 67108864 }
     ensures { FinishesCount lots.now input.now result
         (record { written = K.written sink.old; written_then = K.written sink.new; faults = K.faults sink.old; faults_then = K.faults sink.new }) }
@@ -32,7 +51,7 @@ pub(crate) fn count<K: Sink>(alloc: Global, input: &[u8], lots: &[u32], sink: &m
         Ok(order) => order,
         Err(stop) => return refuse_lots(sink, lots, stop),
     };
-    write_count(alloc, &roll, &order, ballots, sink)
+    count_in_lanes(rt, alloc, &roll, &order, ballots, split, sink, gate)
 }
 
 /// The fault of lots that are not an order of all candidates; none where memory is wanted.
@@ -60,20 +79,69 @@ fn refuse_lots<K: Sink>(sink: &mut K, lots: &[u32], stop: LotsStop) -> Status
     }
 }
 
-/// Counts the ballots and writes the sheet. All memory is taken before the first byte.
-fn write_count<K: Sink>(
+/// Counts the ballots of each shard's plan in workers' lanes, and writes the sheet.
+fn count_in_lanes<R: Threads + Sync, K: Sink, G: Gate + Sync>(
+    rt: &R,
     alloc: Global,
     roll: &Roll,
     lots: &Lots,
     ballots: Ballots,
+    split: &Split,
     sink: &mut K,
+    gate: &G,
 ) -> Status
     requires lots_of_all { length lots.now ≡ length roll.now.names }
     requires ballots_of_all { ballots.candidates ≡ length roll.now.names }
-    ensures { WritesCount roll.now lots.now ballots.lines result
+    ensures { WritesCount roll.now lots.now (plain ballots.lines) result
         (record { written = K.written sink.old; written_then = K.written sink.new; faults = K.faults sink.old; faults_then = K.faults sink.new }) }
 {
-    let mut count = match begin_count::<9>(alloc, roll, lots, OMEGA, ballots) {
+    // The sheet of the plans' ballots is that of the file's.
+    sheets_are_unique();
+    let run = |lanes: &mut Lanes|
+        requires { lanes.now.scale ≡ scale 9 }
+        ensures { HaveCounted lanes.entry.now lanes.exit.now }
+    { lanes.run::<9, R, G>(rt, gate) };
+    let candidates = roll.candidates();
+    let Ok(plans) = deal(alloc, ballots, split.shards()) else {
+        return Status::NoMemory;
+    };
+    let Ok(mut spread) = PlanSpread::<9, _>::begin(alloc, plans, candidates, split.workers(), run)
+    else {
+        return Status::NoMemory;
+    };
+    write_count(alloc, roll, lots, &mut spread, sink)
+}
+
+/// Deals the lines out among so many shards, and makes a plan of what each gets.
+fn deal(alloc: Global, ballots: Ballots, shards: u32) -> Result<Plans, frozen_plan::NoMemory>
+    requires shards { 1 ≤ shards }
+    requires candidates { (1 ≤ ballots.candidates) × (ballots.candidates ≤ 250) }
+    ensures candidates { IfOk result (All (λ plan. plan.candidates ≡ ballots.candidates)) }
+    ensures ballots { IfOk result (λ plans. IsPermutation (all_ballots plans) (plain ballots.lines)) }
+    ensures few { IfOk result (λ plans. length (all_ballots plans) ≤ 999999999) }
+{
+    lines_stand_for_ballots();
+    let _sound = ballots.lines();
+    Plans::dealt(alloc, &ballots, shards)
+}
+
+/// Counts what a distribution holds and writes the sheet. All memory is taken before the first byte.
+fn write_count<D: Spread<9>, K: Sink>(
+    alloc: Global,
+    roll: &Roll,
+    lots: &Lots,
+    spread: &mut D,
+    sink: &mut K,
+) -> Status
+    requires lots_of_all { length lots.now ≡ length roll.now.names }
+    requires can { D.can_spread spread.old }
+    requires spread_of_all { D.candidates spread.old ≡ length roll.now.names }
+    requires few { length (D.ballots spread.old) ≤ 999999999 }
+    ensures { WritesCount roll.now lots.now (D.ballots spread.old) result
+        (record { written = K.written sink.old; written_then = K.written sink.new; faults = K.faults sink.old; faults_then = K.faults sink.new }) }
+{
+    let omega = Amount::<9>::from_units(OMEGA);
+    let mut count = match Count::begin(alloc, roll, lots, Lent { spread }, omega) {
         Ok(count) => count,
         Err(_) => return Status::NoMemory,
     };

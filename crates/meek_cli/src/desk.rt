@@ -1,16 +1,18 @@
 // A count office at one desk.
 ghost use Rattle.std.specs.Prelude.{◌≡◌, ◌≤◌, ◌++◌, [], ◌∷◌, false, All, IfOk, OnOk};
-ghost use Rattle.batch_core.specs.Book.{state_of, standing};
-ghost use Rattle.batch_core.specs.Histories.{IsLegal};
+ghost use Rattle.batch_core.specs.Book.{empty, standing};
+ghost use Rattle.batch_core.specs.Histories.{after_all, IsLegal};
 ghost use Rattle.day_reader.specs.Said.{IsAnswerable};
 ghost use Rattle.day_reader.specs.Call.{is_freeze};
-ghost use Rattle.meek_cli.specs.Desk.{answered, AddsCalls, AddsScripts, stood_at_freezes};
+ghost use Rattle.shard_book.specs.Journal.{answered};
+ghost use Rattle.meek_cli.specs.Desk.{AddsCalls, AddsScripts, stood_at_freezes};
 
 use crate::frozen::Frozen;
-use batch_core::{Book, Call, Entries, Entry, NoMemory, a_book_answers_a_history};
+use batch_core::{Call, NoMemory, a_book_answers_a_history};
 use call_register::History;
 use day_reader::{Script, Scripts};
 use plain_ballots::Ballots;
+use shard_book::Journal;
 use std::alloc::Global;
 use std::marker::Model;
 
@@ -18,19 +20,19 @@ use std::marker::Model;
 /// stood at each freeze.
 #[derive(Drop)]
 pub(crate) struct Desk {
-    book: Book,
-    entries: Entries,
+    journal: Journal,
     frozen: Vec<Frozen>,
 }
 
 impl Model for Desk {
-    ghost use Rattle.meek_cli.specs.Desk.{DeskState, IsDesk};
+    ghost use Rattle.shard_book.specs.Journal.{JournalState};
+    ghost use Rattle.meek_cli.specs.Desk.{IsDesk};
 
-    ghost Value = { DeskState };
+    ghost Value = { JournalState };
 
-    ghost view = { λ d. record { candidates = d.book.candidates; entries = d.entries.items } };
+    ghost view = { λ d. d.journal };
 
-    ghost invariant = { λ d. IsDesk d.book d.entries.items d.frozen.items };
+    ghost invariant = { λ d. IsDesk d.journal d.frozen.items };
 }
 
 impl Desk {
@@ -40,8 +42,7 @@ impl Desk {
         ensures { result ≡ record { candidates = candidates; entries = [] } }
     {
         Desk {
-            book: Book::new(alloc, candidates),
-            entries: Entries::new(alloc),
+            journal: Journal::new(alloc, candidates),
             frozen: Vec::new(alloc),
         }
     }
@@ -53,31 +54,21 @@ impl Desk {
         ensures entries { OnOk result (self.new.entries ≡ self.old.entries ++ answered self.old.entries caller call ∷ []) }
     {
         match call {
-            Call::Change(change) => self.step(alloc, caller, Call::Change(change)),
+            Call::Change(change) => self.step(caller, Call::Change(change)),
             Call::Freeze => self.freeze(alloc, caller),
-            Call::Strike(candidate) => self.step(alloc, caller, Call::Strike(candidate)),
+            Call::Strike(candidate) => self.step(caller, Call::Strike(candidate)),
         }
     }
 
     /// Answers a change or a strike.
-    fn step(&mut self, alloc: Global, caller: u32, call: Call) -> Result<(), NoMemory>
+    fn step(&mut self, caller: u32, call: Call) -> Result<(), NoMemory>
         requires answerable { IsAnswerable self.old.candidates call }
         requires no_freeze { is_freeze call ≡ false }
         ensures candidates { self.new.candidates ≡ self.old.candidates }
         ensures entries { OnOk result (self.new.entries ≡ self.old.entries ++ answered self.old.entries caller call ∷ []) }
     {
-        a_book_answers_a_history();
-        let kept = call.copy(alloc)?;
-        self.entries.reserve(1)?;
-        match self.book.step(call) {
-            Ok(reply) => {
-                self.entries.push_reserved(Entry {
-                    caller,
-                    call: kept,
-                    reply,
-                });
-                Ok(())
-            }
+        match self.journal.answer(caller, call) {
+            Ok(_) => Ok(()),
             Err(_) => Err(NoMemory),
         }
     }
@@ -88,20 +79,13 @@ impl Desk {
         ensures entries { OnOk result (self.new.entries ≡ self.old.entries ++ answered self.old.entries caller Call.Freeze ∷ []) }
     {
         a_book_answers_a_history();
-        let (ballots, struck) = what_stands(alloc, &self.book)?;
-        self.entries.reserve(1)?;
+        let (ballots, struck) = what_stands(alloc, &self.journal)?;
         if self.frozen.reserve(1).is_err() {
             return Err(NoMemory);
         }
-        match self.book.step(Call::Freeze) {
-            Ok(reply) => {
-                let call = Call::Freeze;
-                self.entries.push_reserved(Entry {
-                    caller,
-                    call,
-                    reply,
-                });
-                let at = self.entries.len() as u64;
+        match self.journal.answer(caller, Call::Freeze) {
+            Ok(_) => {
+                let at = self.journal.entries().len() as u64;
                 self.frozen.push_reserved(Frozen {
                     at,
                     ballots,
@@ -147,22 +131,20 @@ impl Desk {
         ensures legal { IsLegal self.entries }
         ensures answerable { All (λ e. IsAnswerable self.candidates e.call) self.entries }
     {
-        let Desk {
-            book: _,
-            entries,
-            frozen,
-        } = self;
-        (History::from_entries(entries), frozen)
+        let Desk { journal, frozen } = self;
+        (History::from_entries(journal.into_entries()), frozen)
     }
 }
 
-/// What stands in a book: the ballots, and the candidates struck.
-fn what_stands(alloc: Global, book: &Book) -> Result<(Ballots, Vec<u32>), NoMemory>
-    ensures ballots { IfOk result (λ stands. stands.0 ≡ record { candidates = book.now.candidates; lines = standing (state_of book.now) }) }
-    ensures struck { IfOk result (λ stands. stands.1.items ≡ book.now.struck) }
+/// What stands after all calls so far: the ballots, and the candidates struck.
+fn what_stands(alloc: Global, journal: &Journal) -> Result<(Ballots, Vec<u32>), NoMemory>
+    ensures ballots { IfOk result (λ stands. stands.0 ≡ record { candidates = journal.now.candidates; lines = standing (after_all empty journal.now.entries) }) }
+    ensures struck { IfOk result (λ stands. stands.1.items ≡ (after_all empty journal.now.entries).struck) }
 {
-    let ballots = book.ballots(alloc)?;
-    match Vec::from_slice(alloc, book.struck()) {
+    let Ok(ballots) = journal.ballots(alloc) else {
+        return Err(NoMemory);
+    };
+    match Vec::from_slice(alloc, journal.struck()) {
         Ok(struck) => Ok((ballots, struck)),
         Err(_) => Err(NoMemory),
     }

@@ -19,12 +19,12 @@ use std::thread::Threads;
 /// sink, with one flush behind the last byte. The words are read first, then the source; want of
 /// memory may end a run before its first byte is written, and never after it.
 pub fn meek<R: Threads + Wait + Sync, S: Source, K: Sink, G: Gate + Sync>(
-    _rt: &R,
+    rt: &R,
     alloc: Global,
     words: &[String],
     source: &mut S,
     sink: &mut K,
-    _gate: &G,
+    gate: &G,
 ) -> Outcome
     ensures run { IsRun (map string_bytes words.now)
         (record { left = S.left source.old; left_then = S.left source.new; faults = S.faults source.old; faults_then = S.faults source.new })
@@ -43,11 +43,18 @@ pub fn meek<R: Threads + Wait + Sync, S: Source, K: Sink, G: Gate + Sync>(
     accepts_days();
     refuses_days_by_the_rule();
     words_have_one_command();
-    run(alloc, words, source, sink)
+    run(rt, alloc, words, source, sink, gate)
 }
 
-/// The whole run, which asks nothing of the runtime.
-fn run<S: Source, K: Sink>(alloc: Global, words: &[String], source: &mut S, sink: &mut K) -> Outcome
+/// The whole run, which never waits.
+fn run<R: Threads + Sync, S: Source, K: Sink, G: Gate + Sync>(
+    rt: &R,
+    alloc: Global,
+    words: &[String],
+    source: &mut S,
+    sink: &mut K,
+    gate: &G,
+) -> Outcome
     ensures run { IsRun (map string_bytes words.now)
         (record { left = S.left source.old; left_then = S.left source.new; faults = S.faults source.old; faults_then = S.faults source.new })
         (record { written = K.written sink.old; written_then = K.written sink.new; faults = K.faults sink.old; faults_then = K.faults sink.new })
@@ -72,7 +79,7 @@ fn run<S: Source, K: Sink>(alloc: Global, words: &[String], source: &mut S, sink
         Err(ReadStop::Failed) => return Outcome::without_calls(alloc, Status::SourceFault),
         Err(ReadStop::NoMemory) => return Outcome::without_calls(alloc, Status::NoMemory),
     };
-    work.finish(alloc, input.as_slice(), sink)
+    work.finish(rt, alloc, input.as_slice(), sink, gate)
 }
 
 /// The fault of an input longer than the limit.

@@ -7,9 +7,11 @@ ghost use Rattle.meek_cli.specs.Work.{AsksFor, limit_of, FinishesWork};
 use crate::Outcome;
 use crate::counting::count;
 use crate::day::play_day;
-use byte_edge::Sink;
+use crate::split::Split;
+use byte_edge::{Gate, Sink};
 use meek_words::{Command, LotWords, WordsStop, read_words};
 use std::alloc::Global;
+use std::thread::Threads;
 
 /// The greatest length of a ballot file, in bytes.
 const COUNT_LIMIT: usize = 67_108_864;
@@ -20,8 +22,8 @@ const DAY_LIMIT: usize = 16_777_216;
 /// What a run is asked to do with its input.
 #[derive(Drop)]
 pub(crate) enum Work {
-    /// To count a ballot file by these lots.
-    Count(LotWords),
+    /// To count a ballot file by these lots, its ballots shared so.
+    Count(LotWords, Split),
     /// To play the day of a day file.
     Day,
 }
@@ -33,7 +35,13 @@ impl Work {
         ensures none { result ≡ Err WordsStop.BadWords → ¬ AsksForWork (map string_bytes words.now) }
     {
         match read_words(alloc, words) {
-            Ok(Command::Count { lots, .. }) => Ok(Work::Count(lots)),
+            Ok(
+                Command::Count {
+                    lots,
+                    shards,
+                    workers,
+                },
+            ) => Ok(Work::Count(lots, Split::new(shards, workers))),
             Ok(Command::Day { .. }) => Ok(Work::Day),
             Ok(Command::Trial { .. }) => Err(WordsStop::BadWords),
             Err(WordsStop::BadWords) => Err(WordsStop::BadWords),
@@ -46,20 +54,27 @@ impl Work {
         ensures { result ≡ limit_of self.now }
     {
         match self {
-            Work::Count(_) => COUNT_LIMIT,
+            Work::Count(_, _) => COUNT_LIMIT,
             Work::Day => DAY_LIMIT,
         }
     }
 
     /// Does it with the whole input, and writes what is owed.
-    pub(crate) fn finish<K: Sink>(&self, alloc: Global, input: &[u8], sink: &mut K) -> Outcome
+    pub(crate) fn finish<R: Threads + Sync, K: Sink, G: Gate + Sync>(
+        &self,
+        rt: &R,
+        alloc: Global,
+        input: &[u8],
+        sink: &mut K,
+        gate: &G,
+    ) -> Outcome
         requires { length input.now ≤ limit_of self.now }
         ensures { FinishesWork self.now input.now result.status result.history
             (record { written = K.written sink.old; written_then = K.written sink.new; faults = K.faults sink.old; faults_then = K.faults sink.new }) }
     {
         match self {
-            Work::Count(lots) => {
-                let status = count(alloc, input, lots.items(), sink);
+            Work::Count(lots, split) => {
+                let status = count(rt, alloc, input, lots.items(), split, sink, gate);
                 Outcome::without_calls(alloc, status)
             }
             Work::Day => play_day(alloc, input, sink),

@@ -1,6 +1,7 @@
 // Whole runs over memory: elections worked by hand with their sheets, refusals at their places, and a
 // source or a sink that fails in mid-stream. Expected bytes were worked out by hand.
 mod days;
+mod lanes;
 mod large_inputs;
 mod refusals;
 

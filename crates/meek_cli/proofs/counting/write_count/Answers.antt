@@ -1,12 +1,13 @@
-use Rattle.std.proofs.Common.{◌≡◌, ℕ, ◌∙◌, subst}
+use Rattle.std.proofs.Common.{◌≡◌, ℕ, ap, ◌∙◌, subst}
+use Rattle.meek_rule.specs.Situation.{Situation}
 use Rattle.byte_edge.specs.Faults.{Rose}
 use Rattle.meek_cli.proofs.CountEnding.{IsCountOf, stopped_in_sheet, stopped_in_flush, wrote_sheet}
 use Rattle.meek_cli.proofs.counting.write_count.Goals as goal
 
 pub returns-in-Err-write_sheet : goal.returns-in-Err-write_sheet
 returns-in-Err-write_sheet g c =
-    let of : IsCountOf c.args.roll.now c.args.lots.now c.args.ballots.lines c.in-Ok.count = record {
-      omega_is = c.in-Ok.ensures.omega;
+    let of : IsCountOf c.args.roll.now c.args.lots.now (g.D.Spread.ballots c.args.spread.now) c.in-Ok.count = record {
+      omega_is = ap (λ (now : Situation). now.omega) c.in-Ok.ensures.opens ∙ c.from_units-omega.ensures;
       ballots_are = c.in-Ok.ensures.ballots;
       roll_is = c.in-Ok.ensures.roll;
       lots_are = c.in-Ok.ensures.lots;
@@ -15,8 +16,8 @@ returns-in-Err-write_sheet g c =
 
 pub returns-in-Err-flush : goal.returns-in-Err-flush
 returns-in-Err-flush g c =
-    let of : IsCountOf c.args.roll.now c.args.lots.now c.args.ballots.lines c.in-Ok.count = record {
-      omega_is = c.in-Ok.ensures.omega;
+    let of : IsCountOf c.args.roll.now c.args.lots.now (g.D.Spread.ballots c.args.spread.now) c.in-Ok.count = record {
+      omega_is = ap (λ (now : Situation). now.omega) c.in-Ok.ensures.opens ∙ c.from_units-omega.ensures;
       ballots_are = c.in-Ok.ensures.ballots;
       roll_is = c.in-Ok.ensures.roll;
       lots_are = c.in-Ok.ensures.lots;
@@ -28,8 +29,8 @@ returns-in-Err-flush g c =
 
 pub returns : goal.returns
 returns g c =
-    let of : IsCountOf c.args.roll.now c.args.lots.now c.args.ballots.lines c.in-Ok.count = record {
-      omega_is = c.in-Ok.ensures.omega;
+    let of : IsCountOf c.args.roll.now c.args.lots.now (g.D.Spread.ballots c.args.spread.now) c.in-Ok.count = record {
+      omega_is = ap (λ (now : Situation). now.omega) c.in-Ok.ensures.opens ∙ c.from_units-omega.ensures;
       ballots_are = c.in-Ok.ensures.ballots;
       roll_is = c.in-Ok.ensures.roll;
       lots_are = c.in-Ok.ensures.lots;
