@@ -42,7 +42,9 @@ pub(crate) fn count<R: Threads + Sync, K: Sink, G: Gate + Sync>(
     ensures { FinishesCount lots.now input.now result
         (record { written = K.written sink.old; written_then = K.written sink.new; faults = K.faults sink.old; faults_then = K.faults sink.new }) }
 {
-    let Election { roll, ballots } = match read_blt(alloc, input) {
+    // Named first, the ballots are let go last: what is let go behind them would have the heap gone
+    // over for all their blocks.
+    let Election { ballots, roll } = match read_blt(alloc, input) {
         Ok(election) => election,
         Err(BltStop::Fault(fault)) => return refuse(sink, fault),
         Err(BltStop::NoMemory) => return Status::NoMemory,
