@@ -19,6 +19,8 @@ use std::process::Abort;
 use std::sync::ledger::Blank;
 use std::test::Fail;
 
+mod large_batches;
+
 fn line(alloc: Global, count: u32, ranks: &[u32]) -> Result<BallotLine, RankStop>
     ensures ranking { IfOk result (λ line. IsRanking 3 line.ranking) }
     ensures line { IfOk result (λ line. line ≡ record { count = count; ranking = ranks.now }) }
