@@ -11,6 +11,7 @@ mod no_memory;
 mod plain;
 mod rank_stop;
 mod ranking;
+mod ranks;
 mod steps;
 
 pub use append_stop::AppendStop;

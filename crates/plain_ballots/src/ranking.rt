@@ -1,28 +1,30 @@
 // A ballot's candidates in order of rank.
-ghost use Rattle.std.specs.Prelude.{◌≡◌, IfOk, IfErr, OnOk};
+ghost use Rattle.std.specs.Prelude.{◌≡◌, ◌≤◌, length, take, IfOk, IfErr, OnOk};
 ghost use Rattle.plain_ballots.specs.Ranking.{AreRanks, IsRanking, IsRankStop};
 
+use crate::ranks::Ranks;
 use crate::{NoMemory, RankStop};
-use smallvec::SmallVec;
 use std::alloc::Global;
+use std::fmt;
 use std::marker::Model;
 
-/// A ballot's candidates in order of rank, all different. Up to six ranks, as most ballots have, lie
+/// A ballot's candidates in order of rank, all different. Up to seven ranks, as most ballots have, lie
 /// in the value itself and take no memory of their own.
-#[derive(Debug, Drop)]
+#[derive(Drop)]
 pub struct Ranking {
-    ranks: SmallVec<u32, 6>,
+    ranks: Ranks,
 }
 
 impl Model for Ranking {
     ghost use Rattle.std.specs.Prelude.{List, ℕ};
     ghost use Rattle.plain_ballots.specs.Ranking.{AreRanks};
+    ghost use Rattle.plain_ballots.specs.Ranks.{kept, IsWithin};
 
     ghost Value = { List ℕ };
 
-    ghost view = { λ r. r.ranks.items };
+    ghost view = { λ r. kept r.ranks };
 
-    ghost invariant = { λ r. AreRanks r.ranks.items };
+    ghost invariant = { λ r. IsWithin r.ranks × AreRanks (kept r.ranks) };
 }
 
 impl Ranking {
@@ -31,10 +33,20 @@ impl Ranking {
         requires { AreRanks ranks.now }
         ensures { IfOk result (λ ranking. ranking ≡ ranks.now) }
     {
-        match SmallVec::from_slice(alloc, ranks) {
-            Ok(ranks) => Ok(Ranking { ranks }),
-            Err(_) => Err(NoMemory),
-        }
+        Ranking::of_front(alloc, ranks, ranks.len())
+    }
+
+    /// A ranking of the first `len` of these numbers, which were looked at already. What stands behind them
+    /// is of no matter: whoever reads many rankings can read each of them into the same list.
+    #[inline]
+    pub fn of_front(alloc: Global, ranks: &[u32], len: usize) -> Result<Ranking, NoMemory>
+        requires inside { len ≤ length ranks.now }
+        requires ranks { AreRanks (take len ranks.now) }
+        ensures { IfOk result (λ ranking. ranking ≡ take len ranks.now) }
+    {
+        Ok(Ranking {
+            ranks: Ranks::new(alloc, ranks, len)?,
+        })
     }
 
     /// A ranking of candidates with the numbers 1 to `candidates`, or the first place at fault.
@@ -69,6 +81,12 @@ impl Ranking {
     }
 }
 
+impl fmt::Debug for Ranking {
+    fn fmt<W: fmt::Write>(&self, f: &mut fmt::Formatter<W>) -> fmt::Result {
+        write!(f, "{:?}", self.ranks())
+    }
+}
+
 #[cfg(test)]
 mod tests {
     use super::*;
@@ -85,6 +103,30 @@ mod tests {
             Ranking::new(rt.alloc(), &[2, 9])?.ranks(),
             [2, 9].as_slice()
         );
+        Ok(())
+    }
+
+    /// Seven ranks lie in the value, and eight outside of it.
+    #[test]
+    fn few_and_many_ranks_are_kept(rt: HostRuntime) -> Result<(), Fail> {
+        let numbers = [9, 3, 1, 7, 2, 8, 5, 4, 6];
+        for len in 0..10 {
+            let ranking = Ranking::try_new(rt.alloc(), 9, &numbers[..len])?;
+            assert_eq!(rt; ranking.ranks(), &numbers[..len]);
+            assert_eq!(rt; ranking.copy(rt.alloc())?.ranks(), &numbers[..len]);
+        }
+        Ok(())
+    }
+
+    /// What stands behind the ranks is of no matter, also where they would be few or many with it.
+    #[test]
+    fn the_front_of_a_list_is_a_ranking(rt: HostRuntime) -> Result<(), Fail> {
+        let front = Ranking::of_front(rt.alloc(), &[2, 1, 0, 2, 2, 2, 2, 2, 2], 2)?;
+        assert_eq!(rt; front.ranks(), [2, 1].as_slice());
+        let short = Ranking::of_front(rt.alloc(), &[3, 3], 1)?;
+        assert_eq!(rt; short.ranks(), [3].as_slice());
+        let many = Ranking::of_front(rt.alloc(), &[8, 7, 6, 5, 4, 3, 2, 1, 8], 8)?;
+        assert_eq!(rt; many.ranks(), [8, 7, 6, 5, 4, 3, 2, 1].as_slice());
         Ok(())
     }
 

@@ -13,7 +13,7 @@ use Rattle.plain_ballots.specs.Ranking.{IsRanking}
 use Rattle.ranking_trie.specs.Lines.{rank_count, visit_count}
 use Rattle.ranking_trie.specs.BallotBag.{count_of}
 use Rattle.ranking_trie.proofs.CountLemmas.{one_for, count_of-append, count_of-own}
-use Rattle.ranking_trie.proofs.DepthLemmas.{length-IsRanking}
+use Rattle.plain_ballots.proofs.RankingLemmas.{length-IsRanking}
 use Rattle.ranking_trie.proofs.BagLemmas.{IsPermutation-shift}
 
 -- the ballots of one line

@@ -9,7 +9,7 @@ use Rattle.ranking_trie.specs.declared.forest.Forest.{Forest}
 use Rattle.ranking_trie.specs.declared.forest.Forest.TheVariants.{Empty, Grow'}
 use Rattle.ranking_trie.specs.Bag.{below, bag, node_count, IsRising}
 use Rattle.ranking_trie.specs.BallotBag.{IsSoundBag}
-use Rattle.ranking_trie.proofs.DepthLemmas.{length-IsRanking}
+use Rattle.plain_ballots.proofs.RankingLemmas.{length-IsRanking}
 use Rattle.ranking_trie.proofs.ListLemmas.{All-right}
 
 -- one more rank on each ballot
