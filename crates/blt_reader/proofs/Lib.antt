@@ -13,6 +13,7 @@ pub mod BltLaws
 pub mod Stamps
 pub mod Reading
 pub mod LineSteps
+pub mod RankSteps
 pub mod NameSteps
 pub mod OpeningSteps
 pub mod RollSteps

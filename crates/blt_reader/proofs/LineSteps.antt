@@ -13,7 +13,7 @@ use Rattle.blt_reader.specs.declared.blt_stop.BltStop.{BltStop}
 use Rattle.blt_reader.specs.Token.{Item, Number, Minus, Text, Word, Scan, with_front}
 use Rattle.blt_reader.specs.Judged.{reads}
 use Rattle.blt_reader.specs.BallotTable.{at_rank, Limit, Lines, Between, Within, with_line, at_line}
-use Rattle.blt_reader.specs.Reads.{Stops, as_number, Reads}
+use Rattle.blt_reader.specs.Reads.{Stops, as_number, Reads, Marks}
 use Rattle.blt_reader.proofs.Judgements.{accepted, same_kind}
 use Rattle.blt_reader.proofs.Reading.{goes_on, ends_with, refused_at, stops, inner_read, inner_fails}
 
@@ -43,9 +43,6 @@ module _ (candidates : ℕ) (ranks : List ℕ) where
     one_more some within once = goes_on (at_rank candidates) ranks old new _ (ranks ++ n ∷ []) given (rw (ne_eqb n 0 some, le-leb n candidates within, once) refl)
 
 -- ---- marks of the candidates
-
-abbrev pub Marks : ℕ → List Bool → List ℕ → Type 0
-Marks candidates named ranks = (n : ℕ) → n ≤ candidates → get_or named n false ≡ list_any (λ r. r == n) ranks
 
 mark_at : (named : List Bool) (ranks : List ℕ) (n m : ℕ) (same : Bool) → (n == m) ≡ same → n < length named → get_or named m false ≡ list_any (λ r. r == m) ranks → get_or (set named n true) m false ≡ (list_any (λ r. r == m) ranks || (same || false))
 mark_at named ranks n m true is inside was = grind (arith, common_steps)

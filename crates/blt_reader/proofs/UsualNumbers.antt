@@ -83,6 +83,19 @@ usual bytes b c two three long first b_is c_is ends two_is three_is =
       ends = ends;
     }
 
+-- the same of what the bytes stand for as digits
+pub usual_of : (bytes : List ℕ) (one other last : ℕ) (b c : Bool) (two three : ℕ) → 3 < length bytes → is_ascii_digit (get_or bytes 0 0) ≡ true → b ≡ is_ascii_digit (get_or bytes 1 0) → c ≡ is_ascii_digit (get_or bytes 2 0)
+    → is_separator (get_or bytes (2 + bool_byte b + bool_byte (b && c) - 1) 0) ≡ true
+    → one ≡ get_or bytes 0 0 - 48 → (b ≡ true → other ≡ get_or bytes 1 0 - 48) → (c ≡ true → last ≡ get_or bytes 2 0 - 48)
+    → two ≡ cond b (one * 10 + other) one → three ≡ cond (b && c) (two * 10 + last) two
+    → IsUsualNumber bytes three (2 + bool_byte b + bool_byte (b && c))
+usual_of bytes one other last true true two three long first b_is c_is ends one_is other_is last_is two_is three_is =
+    usual bytes true true two three long first b_is c_is ends (two_is ∙ rw (one_is, other_is refl) refl) (three_is ∙ rw (last_is refl) refl)
+usual_of bytes one other last true false two three long first b_is c_is ends one_is other_is last_is two_is three_is =
+    usual bytes true false two three long first b_is c_is ends (two_is ∙ rw (one_is, other_is refl) refl) three_is
+usual_of bytes one other last false c two three long first b_is c_is ends one_is other_is last_is two_is three_is =
+    usual bytes false c two three long first b_is c_is ends (two_is ∙ one_is) three_is
+
 pub short : (bytes : List ℕ) (b : Bool) (two : ℕ) → 3 < length bytes → is_ascii_digit (get_or bytes 0 0) ≡ true → b ≡ is_ascii_digit (get_or bytes 1 0)
     → is_separator (get_or bytes (2 + bool_byte b - 1) 0) ≡ true
     → two ≡ cond b ((get_or bytes 0 0 - 48) * 10 + (get_or bytes 1 0 - 48)) (get_or bytes 0 0 - 48)
@@ -97,6 +110,12 @@ short bytes b two long first b_is ends two_is =
       value = short_value bytes (omega (arith, long)) first b b_is ends_at two two_is;
       ends = ends;
     }
+
+pub short_of : (bytes : List ℕ) (one other : ℕ) (b : Bool) (two : ℕ) → 3 < length bytes → is_ascii_digit (get_or bytes 0 0) ≡ true → b ≡ is_ascii_digit (get_or bytes 1 0)
+    → is_separator (get_or bytes (2 + bool_byte b - 1) 0) ≡ true → one ≡ get_or bytes 0 0 - 48 → (b ≡ true → other ≡ get_or bytes 1 0 - 48)
+    → two ≡ cond b (one * 10 + other) one → IsUsualNumber bytes two (2 + bool_byte b)
+short_of bytes one other true two long first b_is ends one_is other_is two_is = short bytes true two long first b_is ends (two_is ∙ rw (one_is, other_is refl) refl)
+short_of bytes one other false two long first b_is ends one_is other_is two_is = short bytes false two long first b_is ends (two_is ∙ one_is)
 
 -- how many digits there are, by which of them the code has looked at
 seen_digits : (b c : Bool) (digits : ℕ) → 0 < digits → digits ≤ 3 → (1 < digits → b ≡ true) → (digits ≡ 1 → b ≡ false) → (2 < digits → c ≡ true) → (digits ≡ 2 → c ≡ false) → digits ≡ 1 + bool_byte b + bool_byte (b && c)

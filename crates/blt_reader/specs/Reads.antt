@@ -1,5 +1,6 @@
 -- What reading functions give, and how they leave a reader.
-use Rattle.std.specs.Prelude.{◌≡◌, ℕ, List, [], ◌++◌, length, if◌then◌else◌, nat_le, Result, Ok, Err, ◌⊎◌}
+use Rattle.std.specs.Prelude.{◌≡◌, ℕ, ◌≤◌, List, [], ◌++◌, length, slice_index_or, if◌then◌else◌, nat_le, ◌==◌, Bool, false, Result, Ok, Err, ◌⊎◌}
+use Rattle.std.specs.List.{list_any}
 use Rattle.plain_ballots.specs.declared.ballot_line.BallotLine.{BallotLine}
 use Rattle.blt_reader.specs.declared.fault_kind.FaultKind.TheVariants.{BadNumber, BadHeader, NameExpected, TooLongName}
 use Rattle.blt_reader.specs.declared.input_fault.InputFault.{InputFault}
@@ -80,6 +81,10 @@ abbrev pub Reads : {S V R : Type 0} → (S → Item → Judged (Progress S V)) �
 Reads table expected value old (Ok found) new = reads table expected old ≡ Ok (value found, new)
 Reads table expected value old (Err (stop.Fault fault)) new = reads table expected old ≡ Err (record { fault = fault; rest = new })
 Reads table expected value old (Err stop.NoMemory) new = Unit {0}
+
+-- just the candidates among these ranks are marked
+abbrev pub Marks : ℕ → List Bool → List ℕ → Type 0
+Marks candidates named ranks = (n : ℕ) → n ≤ candidates → slice_index_or named n false ≡ list_any (λ r. r == n) ranks
 
 -- ---- parts of a ballot file
 

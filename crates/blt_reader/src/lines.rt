@@ -1,12 +1,13 @@
 // Ballot lines.
-ghost use Rattle.std.specs.Prelude.{◌≡◌, ◌+◌, ◌<◌, ◌≤◌, [], ◌∷◌, ◌++◌, length, IfOk, IfErr, OnOk};
+ghost use Rattle.std.specs.Prelude.{◌≡◌, ◌+◌, ◌<◌, ◌≤◌, [], ◌∷◌, ◌++◌, length, take, replicate, true, false, Ok, IfOk, IfErr, OnOk};
 ghost use Rattle.plain_ballots.specs.Ballots.{ballot_count};
 ghost use Rattle.plain_ballots.specs.Ranking.{IsRanking};
 ghost use Rattle.blt_reader.specs.declared.blt_stop.BltStop.TheVariants as stop;
 ghost use Rattle.blt_reader.specs.Token.{Number, with_front};
 ghost use Rattle.blt_reader.specs.Blt.{AreLines};
 ghost use Rattle.blt_reader.specs.BallotTable.{at_rank, Between, at_line};
-ghost use Rattle.blt_reader.specs.Reads.{IsBehind, tokens_left, Reads};
+ghost use Rattle.blt_reader.specs.Judged.{reads};
+ghost use Rattle.blt_reader.specs.Reads.{IsBehind, tokens_left, Reads, Marks};
 
 use crate::named::Named;
 use crate::{BltStop, FaultKind, Tokens};
@@ -73,15 +74,16 @@ fn read_lines_near(
     ensures behind { IsBehind tokens.old tokens.new }
 {
     let mut named = Named::new(alloc, candidates as usize + 1)?;
-    let mut ranks = Vec::new(alloc);
+    let mut room = vec![in alloc; 0; candidates as usize]?;
+    let ranks = room.as_mut_slice();
     let mut ballots = Ballots::new(alloc, candidates);
     let (mut count, mut at) = first;
     while count > 0 {
         if count as u64 > most as u64 - ballots.total() {
             return Err(BltStop::refused(refusal, at));
         }
-        read_ranks(tokens, candidates, &mut named, &mut ranks)?;
-        let ranking = Ranking::new(alloc, ranks.as_slice())?;
+        let len = read_ranks(tokens, candidates, &mut named, ranks)?;
+        let ranking = Ranking::of_front(alloc, ranks, len)?;
         add_line(&mut ballots, BallotLine { count, ranking })?;
         let next = tokens.next_number()?;
         count = next.0;
@@ -90,28 +92,34 @@ fn read_lines_near(
     Ok(ballots)
 }
 
-// Candidates in order of rank, up to the 0 behind them.
+// Candidates in order of rank, up to the 0 behind them: they stand in front of `ranks`, and are so many.
 #[tactic(auto, using(crate::proofs::Reading::behind_trans))]
 #[inline(always)]
 fn read_ranks(
     tokens: &mut Tokens<'_>,
     candidates: u32,
     named: &mut Named,
-    ranks: &mut Vec<u32>,
-) -> Result<(), BltStop>
-    requires { length named.old ≡ candidates + 1 }
-    ensures reads { Reads (at_rank candidates) [] (λ _. ranks.new.items) tokens.old.rest result tokens.new.rest }
-    ensures ranking { OnOk result (IsRanking candidates ranks.new.items) }
-    ensures named { length named.new ≡ length named.old }
+    ranks: &mut [u32],
+) -> Result<usize, BltStop>
+    requires numbers { length named.old ≡ candidates + 1 }
+    requires room { length ranks.old ≡ candidates }
+    ensures reads { Reads (at_rank candidates) [] (λ len. take len ranks.new) tokens.old.rest result tokens.new.rest }
+    ensures within { IfOk result (λ len. len ≤ candidates) }
+    ensures ranking { IfOk result (λ len. IsRanking candidates (take len ranks.new)) }
+    ensures numbers { length named.new ≡ length named.old }
+    ensures room { length ranks.new ≡ length ranks.old }
     ensures fewer { OnOk result (tokens_left tokens.new < tokens_left tokens.old) }
     ensures behind { IsBehind tokens.old tokens.new }
 {
     named.clear();
-    ranks.clear();
+    let (mut len, has_ended) = usual_ranks(tokens, candidates, named, ranks);
+    if has_ended {
+        return Ok(len);
+    }
     loop {
-        let (n, at) = tokens.next_rank(candidates < 100)?;
+        let (n, at) = tokens.next_number()?;
         if n == 0 {
-            return Ok(());
+            return Ok(len);
         }
         if n > candidates {
             return Err(BltStop::refused(FaultKind::NoSuchCandidate, at));
@@ -119,7 +127,46 @@ fn read_ranks(
         if named.mark(n as usize) {
             return Err(BltStop::refused(FaultKind::Repeated, at));
         }
-        ranks.push(n)?;
+        ranks[len] = n;
+        len += 1;
+    }
+}
+
+// As many ranks as are usual numbers and may stand there, and whether the 0 behind them was one too.
+// Nothing is called in the loop, so that all of it stays in registers.
+#[tactic(auto, using(crate::proofs::Reading::behind_trans))]
+#[inline(never)]
+fn usual_ranks(
+    tokens: &mut Tokens<'_>,
+    candidates: u32,
+    named: &mut Named,
+    ranks: &mut [u32],
+) -> (usize, bool)
+    requires none { named.old ≡ replicate (candidates + 1) false }
+    requires room { length ranks.old ≡ candidates }
+    ensures ended { result.1 ≡ true → reads (at_rank candidates) [] tokens.old.rest ≡ Ok (take result.0 ranks.new, tokens.new.rest) }
+    ensures goes_on { result.1 ≡ false → reads (at_rank candidates) [] tokens.old.rest ≡ reads (at_rank candidates) (take result.0 ranks.new) tokens.new.rest }
+    ensures within { result.0 ≤ candidates }
+    ensures ranking { IsRanking candidates (take result.0 ranks.new) }
+    ensures numbers { length named.new ≡ length named.old }
+    ensures marks { Marks candidates named.new (take result.0 ranks.new) }
+    ensures room { length ranks.new ≡ length ranks.old }
+    ensures not_more { tokens_left tokens.new ≤ tokens_left tokens.old }
+    ensures fewer { result.1 ≡ true → tokens_left tokens.new < tokens_left tokens.old }
+    ensures behind { IsBehind tokens.old tokens.new }
+{
+    let mut near = tokens.same();
+    let mut len = 0;
+    while let Some((n, _)) = near.next_unnamed(candidates, named) {
+        named.mark(n as usize);
+        ranks[len] = n;
+        len += 1;
+    }
+    let nought = near.next_nought();
+    *tokens = near;
+    match nought {
+        Some(_) => (len, true),
+        None => (len, false),
     }
 }
 

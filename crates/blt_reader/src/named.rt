@@ -42,6 +42,15 @@ impl Named {
         self.round += 1;
     }
 
+    /// Whether a number is marked.
+    #[inline(always)]
+    pub fn has(&self, number: usize) -> bool
+        requires { number < length self.now }
+        ensures { result ≡ slice_index_or self.now number false }
+    {
+        self.stamps[number] == self.round
+    }
+
     /// Marks a number, and says whether it was marked.
     pub fn mark(&mut self, number: usize) -> bool
         requires { number < length self.old }

@@ -1,10 +1,11 @@
 // The tokens of an input, one after another.
-ghost use Rattle.std.specs.Prelude.{◌≡◌, ◌≤◌, Bool, length, IfOk, IfErr};
+ghost use Rattle.std.specs.Prelude.{◌≡◌, ◌+◌, ◌≤◌, Bool, false, length, slice_index_or, IfOk, IfErr, IfSome, IfNone};
 ghost use Rattle.blt_reader.specs.Token.{Number, with_front};
 ghost use Rattle.blt_reader.specs.Scan.{scan, cut};
 ghost use Rattle.blt_reader.specs.Reader.{Gives, placed, GivesText, MayBeText, IsTextOf, IsSaid};
 ghost use Rattle.blt_reader.specs.Reads.{IsBehind, IsEnded, Stops, as_number};
 
+use crate::named::Named;
 use crate::pieces::{Piece, first_piece};
 use crate::usual::{is_separator, usual_number};
 use crate::{FaultKind, InputFault, Next, Token, What};
@@ -174,28 +175,62 @@ impl<'a> Tokens<'a> {
         ensures fault { IfErr result (λ fault. Stops as_number self.old.rest fault self.new.rest) }
         ensures behind { IsBehind self.old self.new }
     {
-        self.next_rank(false)
-    }
-
-    // The same, and the quicker where numbers of three digits are `rare`.
-    #[inline(always)]
-    pub(crate) fn next_rank(&mut self, rare: bool) -> Result<(u32, usize), InputFault>
-        ensures number { IfOk result (λ found. self.old.rest ≡ with_front (record { at = found.1; item = Number found.0 }) self.new.rest) }
-        ensures fault { IfErr result (λ fault. Stops as_number self.old.rest fault self.new.rest) }
-        ensures behind { IsBehind self.old self.new }
-    {
-        match usual_number(&self.bytes[self.at..], rare) {
-            Some((n, len)) => {
-                let at = self.at;
-                self.at = at + len;
-                Ok((n, at))
-            }
+        match self.next_usual() {
+            Some(found) => Ok(found),
             None => {
                 let (found, at) = number_from(self.bytes, self.letters, self.at);
                 self.at = at;
                 found
             }
         }
+    }
+
+    // The same where it is a usual number of at most two digits. Else nothing is taken.
+    #[inline(always)]
+    fn next_usual(&mut self) -> Option<(u32, usize)>
+        ensures number { IfSome result (λ found. self.old.rest ≡ with_front (record { at = found.1; item = Number found.0 }) self.new.rest) }
+        ensures none { IfNone result (self.new ≡ self.old) }
+        ensures behind { IsBehind self.old self.new }
+    {
+        let (n, len) = usual_number(&self.bytes[self.at..], true)?;
+        let at = self.at;
+        self.at = at + len;
+        Some((n, at))
+    }
+
+    // The same where it is besides the number of a candidate who isn't named yet, of so many candidates.
+    #[inline(always)]
+    pub(crate) fn next_unnamed(&mut self, candidates: u32, named: &Named) -> Option<(u32, usize)>
+        requires { length named.now ≡ candidates + 1 }
+        ensures number { IfSome result (λ found. self.old.rest ≡ with_front (record { at = found.1; item = Number found.0 }) self.new.rest) }
+        ensures candidate { IfSome result (λ found. (1 ≤ found.0) × (found.0 ≤ candidates)) }
+        ensures unnamed { IfSome result (λ found. slice_index_or named.now found.0 false ≡ false) }
+        ensures none { IfNone result (self.new ≡ self.old) }
+        ensures behind { IsBehind self.old self.new }
+    {
+        let (n, len) = usual_number(&self.bytes[self.at..], candidates < 100)?;
+        if n == 0 || n > candidates || named.has(n as usize) {
+            return None;
+        }
+        let at = self.at;
+        self.at = at + len;
+        Some((n, at))
+    }
+
+    // Whether the next token is a usual 0, and its place. It is taken then, and else nothing is.
+    #[inline(always)]
+    pub(crate) fn next_nought(&mut self) -> Option<usize>
+        ensures number { IfSome result (λ at. self.old.rest ≡ with_front (record { at = at; item = Number 0 }) self.new.rest) }
+        ensures none { IfNone result (self.new ≡ self.old) }
+        ensures behind { IsBehind self.old self.new }
+    {
+        let (n, len) = usual_number(&self.bytes[self.at..], true)?;
+        if n > 0 {
+            return None;
+        }
+        let at = self.at;
+        self.at = at + len;
+        Some(at)
     }
 
     /// A string without its quotes, or a word.

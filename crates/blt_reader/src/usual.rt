@@ -1,5 +1,6 @@
 // Short numbers, which are most tokens of a ballot file.
-ghost use Rattle.std.specs.Prelude.{◌≡◌, ◌+◌, ◌-◌, ◌*◌, ◌<◌, if◌then◌else◌, true, IsTrue, length, IfSome, IfNone};
+ghost use Rattle.std.specs.Prelude.{◌≡◌, ◌+◌, ◌-◌, ◌*◌, ◌<◌, nat_lt, if◌then◌else◌, ◌&&◌, true, IsTrue, length, IfSome, IfNone};
+ghost use mir.Val.{bool_byte};
 ghost use Rattle.std.specs.Char.{is_ascii_digit};
 ghost use Rattle.blt_reader.specs.Scan.{is_separator};
 ghost use Rattle.blt_reader.specs.Usual.{IsUsualNumber, HasNoNumberWithin, may_end};
@@ -28,10 +29,11 @@ fn short_number(bytes: &[u8]) -> Option<(u32, usize)>
     let [first, second, _, _, ..] = bytes else {
         return None;
     };
-    let two = second.is_ascii_digit();
+    let (first, second) = (digit(*first), digit(*second));
+    let two = second < 10;
     let len = 2 + two as usize;
-    if first.is_ascii_digit() && is_separator(bytes[len - 1]) {
-        Some((with_digit_if(two, (*first - b'0') as u32, *second), len))
+    if first < 10 && is_separator(bytes[len - 1]) {
+        Some((with_digit_if(two, first, second), len))
     } else {
         None
     }
@@ -43,31 +45,46 @@ fn longer_number(bytes: &[u8]) -> Option<(u32, usize)>
     ensures found { IfSome result (λ found. IsUsualNumber bytes.now found.0 found.1) }
     ensures none { IfNone result (3 < length bytes.now → HasNoNumberWithin 4 bytes.now) }
 {
-    let [a, b, c, _, ..] = bytes else {
+    let [first, second, third, _, ..] = bytes else {
         return None;
     };
-    let two = b.is_ascii_digit();
-    let three = two & c.is_ascii_digit();
-    let len = 2 + two as usize + three as usize;
-    if a.is_ascii_digit() && is_separator(bytes[len - 1]) {
-        let value = with_digit_if(two, (*a - b'0') as u32, *b);
-        Some((with_digit_if(three, value, *c), len))
+    let (first, second, third) = (digit(*first), digit(*second), digit(*third));
+    let (two, three) = (second < 10, third < 10);
+    let len = usual_len(two, three);
+    let behind = bytes[len - 1];
+    if first < 10 && is_separator(behind) {
+        let value = with_digit_if(two, first, second);
+        Some((with_digit_if(two & three, value, third), len))
     } else {
         None
     }
 }
 
+// How long a number and the separator behind it are, where its second and its third byte are digits or not.
 #[inline(always)]
-fn with_digit_if(is: bool, value: u32, digit: u8) -> u32
-    requires small { value < 100 }
-    requires digit { is ≡ true → IsTrue (is_ascii_digit digit) }
-    ensures { result ≡ (if is then value * 10 + (digit - 48) else value) }
+fn usual_len(two: bool, three: bool) -> usize
+    ensures { result ≡ 2 + bool_byte two + bool_byte (two && three) }
 {
-    if is {
-        value * 10 + (digit - b'0') as u32
-    } else {
-        value
-    }
+    let at_least_two = if three { 4 } else { 3 };
+    if two { at_least_two } else { 2 }
+}
+
+// What a byte stands for as a digit, and 10 or more where it is none.
+#[inline(always)]
+fn digit(b: u8) -> u32
+    ensures is_digit { nat_lt result 10 ≡ is_ascii_digit b }
+    ensures value { IsTrue (is_ascii_digit b) → result ≡ b - 48 }
+{
+    (b as u32).wrapping_sub(b'0' as u32)
+}
+
+#[inline(always)]
+fn with_digit_if(is: bool, value: u32, digit: u32) -> u32
+    requires small { value < 100 }
+    requires digit { is ≡ true → digit < 10 }
+    ensures { result ≡ (if is then value * 10 + digit else value) }
+{
+    if is { value * 10 + digit } else { value }
 }
 
 /// Whether this byte belongs to no token.

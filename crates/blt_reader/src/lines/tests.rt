@@ -38,3 +38,70 @@ fn refused_as_they_are_told(rt: HostRuntime) {
         assert_eq!(rt; lines.err(), Some(BltStop::Fault(fault)));
     }
 }
+
+/// Leading zeros, comments, long gaps and numbers of three digits and more stand among short ones.
+#[test]
+fn of_numbers_of_any_length(rt: HostRuntime) -> Result<(), Fail> {
+    for (text, candidates, first, second) in [
+        (
+            b"1 3 002 #0\n0001 #0\n 4 0\n1234 5 \t\r\n10 11 12 6 7 8 9 1 0\n0".as_slice(),
+            12,
+            [3, 2, 1, 4].as_slice(),
+            [5, 10, 11, 12, 6, 7, 8, 9, 1].as_slice(),
+        ),
+        (
+            b"\n1 120 5 99 0100 9 00\n01234 100 101 7 1 2 3 4 5 0 000",
+            120,
+            [120, 5, 99, 100, 9].as_slice(),
+            [100, 101, 7, 1, 2, 3, 4, 5].as_slice(),
+        ),
+        (
+            b"1 1000 999 1 0#0\n1234 99 1001 0 0 ",
+            1001,
+            [1000, 999, 1].as_slice(),
+            [99, 1001].as_slice(),
+        ),
+    ] {
+        let mut tokens = Tokens::new(text, false);
+        let ballots = read_lines(
+            rt.alloc(),
+            &mut tokens,
+            candidates,
+            1235,
+            FaultKind::TooManyBallots,
+        )?;
+        let lines = ballots.lines();
+        assert_eq!(rt; lines.len(), 2);
+        assert_eq!(rt; (lines[0].count, lines[1].count), (1, 1234));
+        assert_eq!(rt; lines[0].ranking.ranks(), first);
+        assert_eq!(rt; lines[1].ranking.ranks(), second);
+        assert_eq!(rt; tokens.next(), Next::End);
+    }
+    Ok(())
+}
+
+#[test]
+fn refused_behind_short_numbers_and_long_ones(rt: HostRuntime) {
+    for (text, candidates, kind, at) in [
+        (b"1 9 100 0 0".as_slice(), 99, FaultKind::NoSuchCandidate, 4),
+        (b"1 120 121 0 0", 120, FaultKind::NoSuchCandidate, 6),
+        (b"1 100 99 100 0 0", 120, FaultKind::Repeated, 9),
+        (b"1 7 10 007 0 0", 10, FaultKind::Repeated, 7),
+        (b"1 2 1 3x 0 0", 10, FaultKind::BadByte, 7),
+        (b"1 2 1 30x 0 0", 120, FaultKind::BadByte, 8),
+        (b"1 2 1 -3 0 0", 10, FaultKind::BadNumber, 6),
+        (b"1 2 1", 10, FaultKind::Ended, 5),
+        (b"1 2 1 0", 10, FaultKind::Ended, 7),
+    ] {
+        let mut tokens = Tokens::new(text, false);
+        let lines = read_lines(
+            rt.alloc(),
+            &mut tokens,
+            candidates,
+            999_999_999,
+            FaultKind::TooManyBallots,
+        );
+        let fault = InputFault { kind, at };
+        assert_eq!(rt; lines.err(), Some(BltStop::Fault(fault)));
+    }
+}

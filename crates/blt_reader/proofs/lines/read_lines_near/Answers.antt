@@ -1,4 +1,4 @@
-use Rattle.std.proofs.Common.{◌≡◌, ◌+◌, ◌≤◌, [], sym, ◌∙◌, ap, subst, arith}
+use Rattle.std.proofs.Common.{◌≡◌, ℕ, ◌+◌, ◌≤◌, [], take, sym, ◌∙◌, ap, subst, arith}
 use Rattle.std.proofs.lemmas.Result.{err_from_is_err_and}
 use Rattle.plain_ballots.specs.Ballots.{BallotList, ballot_count}
 use Rattle.plain_ballots.specs.declared.ballot_line.BallotLine.{BallotLine}
@@ -21,24 +21,24 @@ returns-clause-reads c =
     let limit : Limit = record { most = c.args.most; refusal = c.args.refusal } in
     c.loop-count.invariant.same ∙ all_read c.args.candidates limit c.loop-count.ballots.lines c.loop-count.tokens.rest c.loop-count.count c.loop-count.at (omega (arith, c.loop-count-test.false))
 
-pub returns-in_err-read_ranks-clause-reads : goal.returns-in_err-read_ranks-clause-reads
-returns-in_err-read_ranks-clause-reads c =
+pub returns-in_err-len-clause-reads : goal.returns-in_err-len-clause-reads
+returns-in_err-len-clause-reads c =
     let limit : Limit = record { most = c.args.most; refusal = c.args.refusal } in
     let lines = c.loop-count.ballots.lines in
-    let p = err_from_is_err_and c.from_residual-in_err-read_ranks.result c.from_residual-in_err-read_ranks.ensures.1 in
+    let p = err_from_is_err_and c.from_residual-in_err-len.result c.from_residual-in_err-len.ensures.1 in
     let begun = c.loop-count.invariant.same ∙ line_begins c.args.candidates limit lines c.loop-count.tokens.rest c.loop-count.count c.loop-count.at (omega (arith, c.loop-count-test.true)) (omega (arith, c.if-count-most.false, c.total.ensures, c.loop-count.invariant.lines.bounded)) in
-    rw (p.1, p.2) (line_fails c.args.candidates limit lines c.loop-count.count (λ (u : Unit {0}). c.read_ranks.new.ranks.items) (λ (b : BallotList). b.lines) (Between []) _ _ _ _ begun c.in_err-read_ranks.ensures.reads)
+    rw (p.1, p.2) (line_fails c.args.candidates limit lines c.loop-count.count (λ (len : ℕ). take len c.read_ranks.new.ranks) (λ (b : BallotList). b.lines) (Between []) _ _ _ _ begun c.in_err-len.ensures.reads)
 
 pub returns-in_err-next-clause-reads : goal.returns-in_err-next-clause-reads
 returns-in_err-next-clause-reads c =
     let limit : Limit = record { most = c.args.most; refusal = c.args.refusal } in
     let lines = c.loop-count.ballots.lines in
     let count = c.loop-count.count in
-    let ranks_are = c.in_ok-ranking.ensures ∙ c.as_slice.ensures.value in
-    let all : c.add_line.new.ballots.lines ≡ with_line lines count c.read_ranks.new.ranks.items = ap (λ (b : BallotList). b.lines) c.in_ok-add_line.ensures.added ∙ ap (with_line lines count) ranks_are in
+    let ranking = take c.in_ok-len.len c.read_ranks.new.ranks in
+    let all : c.add_line.new.ballots.lines ≡ with_line lines count ranking = ap (λ (b : BallotList). b.lines) c.in_ok-add_line.ensures.added ∙ ap (with_line lines count) c.in_ok-ranking.ensures in
     let p = err_from_is_err_and c.from_residual-in_err-next.result c.from_residual-in_err-next.ensures.1 in
     rw (p.1, p.2) (c.loop-count.invariant.same
-    ∙ one_line c.args.candidates limit lines c.add_line.new.ballots.lines count c.loop-count.at c.loop-count.tokens.rest c.read_ranks.new.tokens.rest c.read_ranks.new.ranks.items (omega (arith, c.loop-count-test.true)) (omega (arith, c.if-count-most.false, c.total.ensures, c.loop-count.invariant.lines.bounded)) c.in_ok-read_ranks.ensures.reads all
+    ∙ one_line c.args.candidates limit lines c.add_line.new.ballots.lines count c.loop-count.at c.loop-count.tokens.rest c.read_ranks.new.tokens.rest ranking (omega (arith, c.loop-count-test.true)) (omega (arith, c.if-count-most.false, c.total.ensures, c.loop-count.invariant.lines.bounded)) c.in_ok-len.ensures.reads all
     ∙ count_stops c.args.candidates limit c.add_line.new.ballots.lines _ _ _ c.in_err-next.ensures.fault)
 
 pub loop-count-preserved : goal.loop-count-preserved
@@ -47,17 +47,18 @@ loop-count-preserved c =
     let before = c.loop-count.invariant in
     let lines = c.loop-count.ballots.lines in
     let count = c.loop-count.count in
-    let line : BallotLine = record { count = count; ranking = c.read_ranks.new.ranks.items } in
-    let ranks_are = c.in_ok-ranking.ensures ∙ c.as_slice.ensures.value in
-    let all : c.add_line.new.ballots.lines ≡ with_line lines count c.read_ranks.new.ranks.items = ap (λ (b : BallotList). b.lines) c.in_ok-add_line.ensures.added ∙ ap (with_line lines count) ranks_are in
+    let ranking = take c.in_ok-len.len c.read_ranks.new.ranks in
+    let line : BallotLine = record { count = count; ranking = ranking } in
+    let all : c.add_line.new.ballots.lines ≡ with_line lines count ranking = ap (λ (b : BallotList). b.lines) c.in_ok-add_line.ensures.added ∙ ap (with_line lines count) c.in_ok-ranking.ensures in
     let some : 1 ≤ count = omega (arith, c.loop-count-test.true) in
     let room : ballot_count lines + count ≤ c.args.most = omega (arith, c.if-count-most.false, c.total.ensures, before.lines.bounded) in
     record {
       same = before.same
-          ∙ one_line c.args.candidates limit lines c.add_line.new.ballots.lines count c.loop-count.at c.loop-count.tokens.rest c.read_ranks.new.tokens.rest c.read_ranks.new.ranks.items (omega (arith, some)) room c.in_ok-read_ranks.ensures.reads all
+          ∙ one_line c.args.candidates limit lines c.add_line.new.ballots.lines count c.loop-count.at c.loop-count.tokens.rest c.read_ranks.new.tokens.rest ranking (omega (arith, some)) room c.in_ok-len.ensures.reads all
           ∙ ap (λ (s : Scan). reads (at_line c.args.candidates limit) (Between c.add_line.new.ballots.lines) s) c.in_ok-next.ensures.number;
       candidates = ap (λ (b : BallotList). b.candidates) c.in_ok-add_line.ensures.added ∙ before.candidates;
-      lines = subst (AreLines c.args.candidates c.args.most) (sym all) (one_line_more c.args.candidates c.args.most lines line before.lines c.in_ok-read_ranks.ensures.ranking some room);
-      numbers = c.in_ok-read_ranks.ensures.named ∙ before.numbers;
-      behind = behind_trans before.behind (behind_trans c.in_ok-read_ranks.ensures.behind c.in_ok-next.ensures.behind);
+      lines = subst (AreLines c.args.candidates c.args.most) (sym all) (one_line_more c.args.candidates c.args.most lines line before.lines c.in_ok-len.ensures.ranking some room);
+      numbers = c.in_ok-len.ensures.numbers ∙ before.numbers;
+      room = c.in_ok-len.ensures.room ∙ before.room;
+      behind = behind_trans before.behind (behind_trans c.in_ok-len.ensures.behind c.in_ok-next.ensures.behind);
     }

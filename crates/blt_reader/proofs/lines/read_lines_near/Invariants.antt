@@ -15,6 +15,7 @@ invariant-loop-count l =
       candidates : l.ballots.candidates ≡ l.candidates;
       lines : AreLines l.candidates l.most l.ballots.lines;
       numbers : length l.named ≡ l.candidates + 1;
+      room : length l.ranks ≡ l.candidates;
       behind : IsBehind l.fn.tokens l.tokens;
     }
 

@@ -1,17 +1,18 @@
-use Rattle.std.proofs.Common.{◌≡◌, ℕ, ◌+◌, ◌≤◌, ◌==◌, [], length, false, get_or}
-use Rattle.std.specs.List.{list_any}
+use Rattle.std.proofs.Common.{◌≡◌, ◌+◌, ◌≤◌, [], length, take}
 use Rattle.plain_ballots.specs.Ranking.{IsRanking}
 use Rattle.blt_reader.specs.Judged.{reads}
 use Rattle.blt_reader.specs.BallotTable.{at_rank}
-use Rattle.blt_reader.specs.Reads.{IsBehind, tokens_left}
+use Rattle.blt_reader.specs.Reads.{IsBehind, tokens_left, Marks}
 use Rattle.blt_reader.proofs.lines.read_ranks.Given as goal
 
 abbrev pub invariant-loop-n : goal.invariant-loop-n
 invariant-loop-n l = record {
-  same : reads (at_rank l.candidates) [] l.fn.tokens.rest ≡ reads (at_rank l.candidates) l.ranks.items l.tokens.rest;
-  ranking : IsRanking l.candidates l.ranks.items;
+  same : reads (at_rank l.candidates) [] l.fn.tokens.rest ≡ reads (at_rank l.candidates) (take l.len l.ranks) l.tokens.rest;
+  ranking : IsRanking l.candidates (take l.len l.ranks);
+  within : l.len ≤ l.candidates;
+  room : length l.ranks ≡ l.candidates;
   numbers : length l.named ≡ l.candidates + 1;
-  marks : (n : ℕ) → n ≤ l.candidates → get_or l.named n false ≡ list_any (λ r. r == n) l.ranks.items;
+  marks : Marks l.candidates l.named (take l.len l.ranks);
   not_more : tokens_left l.tokens ≤ tokens_left l.fn.tokens;
   behind : IsBehind l.fn.tokens l.tokens;
 }
