@@ -7,3 +7,6 @@ pub mod OwnCalls
 pub mod Sights
 pub mod Back
 pub mod Booked
+pub mod Lawful
+pub mod Places
+pub mod Alike

@@ -1,5 +1,5 @@
 // The register of all calls.
-ghost use Rattle.std.specs.Prelude.{◌≡◌, ◌+◌, ◌-◌, ◌≤◌, ◌<◌, [], ◌∷◌, ◌++◌, IfOk, OnOk, vec_len, vec_capacity};
+ghost use Rattle.std.specs.Prelude.{◌≡◌, ◌+◌, ◌-◌, ◌≤◌, ◌<◌, [], ◌∷◌, ◌++◌, All, IfOk, OnOk, vec_len, vec_capacity};
 ghost use Rattle.batch_core.specs.Book.{strike};
 ghost use Rattle.call_register.specs.Marks.{MayMark, marks_of, struck_by};
 
@@ -18,14 +18,16 @@ pub struct Register {
 }
 
 impl Model for Register {
-    ghost use Rattle.std.specs.Prelude.{◌≡◌, ◌-◌, length, min, vec_len, vec_capacity};
-    ghost use Rattle.call_register.specs.Marks.{RegisterState, AreBooked, struck_by};
+    ghost use Rattle.std.specs.Prelude.{◌≡◌, ◌-◌, All, length, min, vec_len, vec_capacity};
+    ghost use Rattle.call_register.specs.Marks.{RegisterState, AreBooked, MayMark, struck_by};
 
     ghost Value = { RegisterState };
 
     ghost view = { λ r. record { shards = length r.booked.items; candidates = r.candidates; marks = r.marks.items; spare = min r.marks.spare (vec_capacity r.struck - vec_len r.struck) } };
 
-    ghost invariant = { λ r. AreBooked r.marks.items r.booked.items × (r.struck.items ≡ struck_by r.marks.items) };
+    ghost invariant = { λ r. AreBooked r.marks.items r.booked.items
+        × (r.struck.items ≡ struck_by r.marks.items)
+        × All (λ m. MayMark (length r.booked.items) r.candidates m) r.marks.items };
 }
 
 impl Register {
@@ -83,8 +85,10 @@ impl Register {
         }
     }
 
+    /// The marks, each of one of these shards or, for a strike, of one of these candidates.
     pub fn marks(&self) -> &Marks
-        ensures { result.now.items ≡ self.now.marks }
+        ensures marks { result.now.items ≡ self.now.marks }
+        ensures may { All (λ m. MayMark self.now.shards self.now.candidates m) self.now.marks }
     {
         &self.marks
     }

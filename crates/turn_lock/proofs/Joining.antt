@@ -130,6 +130,7 @@ module _ {T E N : Type 0} (entries : T → List E) (owner : E → Option ℕ) (n
           above = λ p up.
               let ne : p ≢ c = λ q. let k = (counts_now.bound c was_out).1 in omega arith in
               subst (λ b. cond b w.mine (taken_in p v.joined) ≡ []) (sym (ne_eqb p c ne)) (counts_now.above p up);
+          came = λ g gs e. let same : c ≡ g.caller = cc in subst (λ z. has z v.out ≡ true) same was_out;
         }
 
     join_first : (k : ℕ) (f : View E N) → At all k f → k ≡ 0 → (f.lives ≡ true) × (f.is_first ≡ true) × Counts all r.gave f
@@ -175,7 +176,7 @@ module _ {T E N : Type 0} (entries : T → List E) (owner : E → Option ℕ) (n
         keeps,
         tt,
         looks entries owner name_of name s r id v at all [] v.next lives out both.0 (r.log, refl) own (set s.words 0 (get_or s.words 0 0)) (set-get_or s.words 0 0),
-        (refl, both.1, both.2, own),
+        (refl, both.1, both.2, own, λ g gs first is. (counts entries owner name_of name s r id v at first).came g gs is),
       )
 
   -- the same as contracts see it: both seats by their sights

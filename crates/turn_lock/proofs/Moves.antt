@@ -64,7 +64,7 @@ module _ {T E N : Type 0} (entries : T → List E) (owner : E → Option ℕ) (n
         let there = at_place s.views id 0 v z at in
         let known = r.first v there in
         let c = counts_stay s.views views' r.gave gave' v was (same v there) known.2 in
-        (known.0, known.1, record { zero_is_first = c.zero_is_first; bound = c.bound; outside = c.outside; back = c.back; above = c.above }))
+        (known.0, known.1, record { zero_is_first = c.zero_is_first; bound = c.bound; outside = c.outside; back = c.back; above = c.above; came = c.came }))
         (λ k f _ e z.
         let there = at_place s.views k 0 f z e in
         let known = r.first f there in

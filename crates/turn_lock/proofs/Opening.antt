@@ -48,6 +48,7 @@ module _ {T E N : Type 0} (entries : T → List E) (owner : E → Option ℕ) (n
             outside = only (λ _ u. u.lives ≡ true → u.is_first ≡ false → has u.caller [] ≡ true) f (λ _ other. absurd (off refl other));
             back = λ p _ _. refl;
             above = λ p _. refl;
+            came = λ g gs e. absurd (cc e);
           },
         ) 0 u e;
         one_first = λ k u e _. place k u e;

@@ -150,6 +150,7 @@ module _ {T E N : Type 0} (entries : T → List E) (owner : E → Option ℕ) (n
               has-more u.caller c v.out (subst (λ z. has z v.out ≡ true) a.caller (counts_now.outside k a.view a.there (a.lives ∙ l) (a.is_first ∙ other))));
           back = λ p some_p gone. counts_now.back p some_p (has-fewer p c v.out gone);
           above = λ p up. counts_now.above p (omega arith);
+          came = counts_now.came;
         }
 
     split_first : (k : ℕ) (f : View E N) → At all k f → k ≡ 0 → (f.lives ≡ true) × (f.is_first ≡ true) × Counts all r.gave f

@@ -55,4 +55,5 @@ module _ {E N : Type 0} where
         subst (λ p. has p f.out ≡ true) b.caller (c.outside k b.view b.there (b.lives ∙ lives) (b.is_first ∙ other));
     back = λ p some_p gone. same p some_p gone ∙ c.back p some_p gone;
     above = c.above;
+    came = c.came;
   }

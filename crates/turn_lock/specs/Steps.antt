@@ -1,9 +1,10 @@
 -- What each step on a lock does to the view of the seat that makes it, and what it tells.
 use Rattle.std.specs.Prelude.{◌≡◌, ◌<◌, ◌≢◌, ℕ, true, false, List, [], ◌∷◌, ◌++◌, Option, Some}
 use Rattle.atomic_table.specs.Table.{Me, Step}
+use Rattle.turn_lock.specs.declared.view.Gave.{Gave}
 use Rattle.turn_lock.specs.declared.view.View.{View}
 use Rattle.turn_lock.specs.Entries.{Begins, longer, owned_by, owned}
-use Rattle.turn_lock.specs.Numbers.{without}
+use Rattle.turn_lock.specs.Numbers.{has, without}
 use Rattle.turn_lock.specs.Turns.{newcomer}
 
 module _ {E N : Type 0} where
@@ -36,6 +37,7 @@ module _ {E N : Type 0} where
   after_join v w = record v {
     told = w.seen;
     out = without w.caller v.out;
+    prior = v.out;
     joined = record { caller = w.caller; mine = w.mine } ∷ v.joined;
   }
 
@@ -78,10 +80,12 @@ module _ {E N : Type 0} where
         (m' ≡ (with_next st.first m.0, m.1))
         × (m.0.is_first ≡ true → m.0.given < st.first → owned_by owner st.first m.0.seen ≡ [])
 
-    -- what was seen and what was told both begin the longer of them, of which the seat knows its own
+    -- what was seen and what was told both begin the longer of them, of which the seat knows its own, and the number
+    -- that the first seat took in last was out
     abbrev pub Learns : Step (Option T) → Sat → ℕ → Sat → Type 0
     Learns st m r m' =
         (m' ≡ (after_look m.0, m.1))
         × Begins m.0.seen (longer m.0.seen m.0.told)
         × Begins m.0.told (longer m.0.seen m.0.told)
         × (owned_by owner m.0.caller (longer m.0.seen m.0.told) ≡ owned owner m.0.mine)
+        × ((g : Gave E) (gs : List (Gave E)) → m.0.is_first ≡ true → m.0.joined ≡ g ∷ gs → has g.caller m.0.prior ≡ true)

@@ -1,8 +1,9 @@
 -- The rule of a lock: who has the turn, what each seat has seen, and what each number gave.
-use Rattle.std.specs.Prelude.{◌≡◌, ℕ, ◌<◌, ◌≤◌, ◌⊎◌, true, false, List, [], length, slice_index, Option, Some, None}
+use Rattle.std.specs.Prelude.{◌≡◌, ℕ, ◌<◌, ◌≤◌, ◌⊎◌, true, false, List, [], ◌∷◌, length, slice_index, Option, Some, None}
 use mathlib.Core.Option.{some}
 use lib.ListN.{get_elem?}
 use Rattle.atomic_table.specs.Table.{State}
+use Rattle.turn_lock.specs.declared.view.Gave.{Gave}
 use Rattle.turn_lock.specs.declared.view.View.{View}
 use Rattle.turn_lock.specs.Entries.{Begins, taken_in, owned_by, owned}
 use Rattle.turn_lock.specs.Numbers.{has}
@@ -22,6 +23,7 @@ module _ {E N : Type 0} where
     given = 0;
     next = 0;
     out = [];
+    prior = [];
     joined = [];
   }
 
@@ -46,6 +48,7 @@ module _ {E N : Type 0} where
         → has v.caller f.out ≡ true
     pub back : (p : ℕ) → 0 < p → has p f.out ≡ false → gave p ≡ taken_in p f.joined
     pub above : (p : ℕ) → f.given < p → taken_in p f.joined ≡ []
+    pub came : (g : Gave E) (gs : List (Gave E)) → f.joined ≡ g ∷ gs → has g.caller f.prior ≡ true
 
   module _ (owner : E → Option ℕ) where
     -- a seat's view fits the lock's list: what it has seen begins the list, it gave what it says,

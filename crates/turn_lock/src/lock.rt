@@ -1,6 +1,7 @@
 //! A value that one seat at a time may have.
 ghost use Rattle.std.specs.Prelude.{◌≡◌, ℕ, ◌<◌, true, false, [], ◌∷◌, ◌++◌, Some, None, IfOk, IfErr};
 ghost use Rattle.turn_lock.specs.Entries.{Begins, owned_by, owned};
+ghost use Rattle.turn_lock.specs.Numbers.{has};
 ghost use Rattle.turn_lock.specs.Sights.{KnowsOwn, AddsOne, first_sight, new_sight, sight_after_split, sight_after_join, given_by};
 
 use crate::held::Held;
@@ -97,13 +98,15 @@ impl<T: Kept> TurnLock<T> {
         Seat { inner }
     }
 
-    /// The first seat takes in another, whose sight and gifts it then knows.
+    /// The first seat takes in another, whose sight and gifts it then knows. The other's number was
+    /// out until then, so no number is taken in twice.
     pub fn join(&self, seat: &mut Seat<T>, other: Seat<T>)
         requires own { (seat.old.lock ≡ self.now) × (other.lock ≡ self.now) }
         requires first { seat.old.is_first ≡ true }
         requires free { (seat.old.holds ≡ false) × (other.holds ≡ false) }
         ensures sight { seat.new ≡ sight_after_join seat.old other }
         ensures begins { Begins seat.old.seen seat.new.seen × Begins other.seen seat.new.seen }
+        ensures out { has other.caller seat.old.out ≡ true }
         ensures own { KnowsOwn T.owner seat.new }
     {
         let Seat { inner } = other;

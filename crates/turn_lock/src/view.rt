@@ -33,6 +33,8 @@ pub struct View<E, N> {
     pub next: u64,
     /// The numbers of the seats that are out.
     pub out: LinkedList<u64>,
+    /// The numbers that were out before it took in the last one.
+    pub prior: LinkedList<u64>,
     /// What the seats gave that it took in.
     pub joined: LinkedList<Gave<E>>,
 }

@@ -1,4 +1,5 @@
-use Rattle.std.proofs.Common.{rules, ap}
+use Rattle.std.proofs.Common.{◌≡◌, true, rules, sym, ap, ◌∙◌}
+use Rattle.turn_lock.specs.Numbers.{has}
 use Rattle.turn_lock.proofs.Joining.{joins_seen, learns_seen}
 use Rattle.turn_lock.proofs.lock.TurnLock.join.Goals as goal
 
@@ -32,3 +33,13 @@ load-requires g c = (
       _
       (ap (λ m. m.0) c.join_seat.ensures.2),
 )
+
+pub returns-clause-out : goal.returns-clause-out
+returns-clause-out g c =
+    let v = c.seat.inside.inner.me.0 in
+    let w = c.other.inside.inner.me.0 in
+    let is = c.join_seat.ensures.2 in
+    let first : c.join_seat.new.seat.me.0.is_first ≡ true = ap (λ m. m.0.is_first) is ∙ (ap (λ z. z.is_first) c.seat.view_is ∙ c.requires.first) in
+    let caller : c.args.other.caller ≡ w.caller = sym (ap (λ z. z.caller) c.other.view_is) in
+    let prior : c.args.seat.now.out ≡ c.join_seat.new.seat.me.0.prior = sym (ap (λ z. z.out) c.seat.view_is) ∙ sym (ap (λ m. m.0.prior) is) in
+    (λ i. has (caller i) (prior i)) ∙ c.load.ensures.2.4 (record { caller = w.caller; mine = w.mine }) v.joined first (ap (λ m. m.0.joined) is)
