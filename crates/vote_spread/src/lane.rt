@@ -4,6 +4,7 @@ ghost use Rattle.fixed_place.specs.Rounding.{scale, most};
 ghost use Rattle.vote_spread.specs.Shares.{share, CanCount, HasCounted};
 
 use crate::NoMemory;
+use crate::admission::Admission;
 use crate::branches::Branches;
 use std::alloc::Global;
 use std::marker::Model;
@@ -41,21 +42,23 @@ impl Lane {
         self.tally.as_slice()
     }
 
-    /// Counts what share `number` of so many of the branches gives to each candidate.
+    /// Counts what the share of the branches gives to each candidate that belongs to the lane
+    /// admitted, of so many lanes.
     pub(crate) fn count<const P: usize>(
         &mut self,
         branches: &Branches,
         keeps: &[u64],
-        number: usize,
+        admission: Admission,
         count: usize,
     )
         requires places { P ≤ 9 }
-        requires number { number < count }
+        requires number { admission.number < count }
         requires few { count ≤ 32 }
         requires of_all { length self.old ≡ length keeps.now }
         requires can { CanCount (scale P) (most P) keeps.now branches.now }
-        ensures { HasCounted (scale P) keeps.now branches.now number count self.new }
+        ensures { HasCounted (scale P) keeps.now branches.now admission.number count self.new }
     {
+        let number = admission.number();
         let from = share(branches.len(), number, count);
         let to = share(branches.len(), number + 1, count);
         branches.walk::<P>(

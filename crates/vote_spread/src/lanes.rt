@@ -27,7 +27,12 @@ pub struct Lanes {
     branches: Branches,
     keeps: Vec<u64>,
     lanes: Vec<Lane>,
+    has_run: bool,
 }
+
+/// From so many branches on, lanes run in threads at each distribution: a thread's start costs as
+/// much as a walk over some thousands of them, and a busy machine lets it wait for much longer.
+const MANY: usize = 200_000;
 
 impl Model for Lanes {
     ghost use Rattle.frozen_plan.specs.Plan.{all_ballots};
@@ -66,19 +71,24 @@ impl Lanes {
             branches,
             keeps,
             lanes,
+            has_run: false,
         })
     }
 
-    /// Distributes the ballots, each lane its share, in threads of their own where such can be had.
-    /// Each lane passes the gate at its number, from 1, before its work.
+    /// Distributes the ballots, each lane its share. At the first distribution, and at each one
+    /// over many branches, the lanes run in threads of their own where such can be had; else one
+    /// after another in the caller's. Each passes the gate at its number, from 1, before its work.
     pub fn run<const P: usize, R: Threads + Sync, G: Gate + Sync>(&mut self, rt: &R, gate: &G)
         requires places { P ≤ 9 }
         requires scale { self.old.scale ≡ scale P }
         ensures { HaveCounted self.old self.new }
     {
+        let in_threads = !self.has_run || self.branches.len() >= MANY;
+        self.has_run = true;
         run_lanes::<P, R, G>(
             rt,
             gate,
+            in_threads,
             &self.branches,
             self.keeps.as_slice(),
             self.lanes.as_mut_slice(),

@@ -1,6 +1,7 @@
 //! Workers' lanes over plans.
 #![tactic(auto)]
 
+mod admission;
 mod branch;
 mod branches;
 mod gather;

@@ -1,20 +1,25 @@
-// Lanes in threads.
+// Lanes in threads, or one after another.
 ghost use Rattle.std.specs.Prelude.{◌≡◌, ℕ, ◌+◌, ◌<◌, ◌≤◌, All, List, length};
 ghost use Rattle.fixed_place.specs.Rounding.{scale, most};
 ghost use Rattle.vote_spread.specs.Shares.{CanCount, HasCounted};
 ghost use Rattle.vote_spread.specs.Lanes.{HaveRun};
 
+use crate::admission::Admission;
 use crate::branches::Branches;
 use crate::lane::Lane;
-use byte_edge::{Gate, Place};
+use byte_edge::Gate;
 use std::thread;
 use std::thread::Threads;
 
-/// Runs the lanes, each in a thread of its own where one can be had, over its share of the
-/// branches. Each passes the gate at its number, from 1, before its work.
+/// No more lanes than these are ever had.
+const MOST: usize = 32;
+
+/// Runs the lanes over their shares of the branches: each in a thread of its own where one can be
+/// had, or all in this one. Each passes the gate at its number, from 1, before its work.
 pub(crate) fn run_lanes<const P: usize, R: Threads + Sync, G: Gate + Sync>(
     rt: &R,
     gate: &G,
+    in_threads: bool,
     branches: &Branches,
     keeps: &[u64],
     lanes: &mut [Lane],
@@ -31,7 +36,8 @@ pub(crate) fn run_lanes<const P: usize, R: Threads + Sync, G: Gate + Sync>(
         requires { (P ≤ 9) × (first + length part.now ≤ count) × (count ≤ 32) × CanCount (scale P) (most P) keeps.now branches.now × All (λ tally. length tally ≡ length keeps.now) part.now }
         ensures { (length part.exit.now ≡ length part.entry.now) × HaveRun (scale P) keeps.entry.now branches.entry.now first count part.exit.now }
     { run_part::<P, G>(gate, branches, first, count, keeps, part) };
-    thread::for_each_chunk_mut(rt, lanes, 1, &run);
+    let together = if in_threads { 1 } else { MOST };
+    thread::for_each_chunk_mut(rt, lanes, together, &run);
 }
 
 /// Runs some of the lanes one after another.
@@ -52,7 +58,7 @@ fn run_part<const P: usize, G: Gate>(
     ensures counted { HaveRun (scale P) keeps.now branches.now first count lanes.new }
 {
     for k in 0..lanes.len() {
-        gate.pass(Place::Lane((first + k) as u32 + 1));
-        lanes[k].count::<P>(branches, keeps, first + k, count);
+        let admission = Admission::pass(gate, first + k);
+        lanes[k].count::<P>(branches, keeps, admission, count);
     }
 }

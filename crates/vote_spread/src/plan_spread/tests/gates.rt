@@ -3,32 +3,22 @@ use super::*;
 use byte_edge::Place;
 use std::sync::atomic::{AtomicBool, AtomicU64, Ordering};
 
-/// How often a lane looks for the other at most.
-const LOOKS: u32 = 50_000_000;
+/// How often a lane looks for the others at most.
+const LOOKS: u32 = 500_000_000;
 
-/// Holds the first two lanes until both have come.
+/// Holds the lanes until so many have come.
 #[derive(Drop)]
 struct MeetingGate {
-    first: AtomicBool,
-    second: AtomicBool,
+    lanes: u64,
+    came: AtomicU64,
     missed: AtomicBool,
 }
 
 impl Gate for MeetingGate {
-    fn pass(&self, place: Place) {
-        match place {
-            Place::Lane(1) => self.meet(&self.first, &self.second),
-            Place::Lane(2) => self.meet(&self.second, &self.first),
-            _ => self.missed.store(true, Ordering::SeqCst),
-        }
-    }
-}
-
-impl MeetingGate {
-    fn meet(&self, own: &AtomicBool, other: &AtomicBool) {
-        own.store(true, Ordering::SeqCst);
+    fn pass(&self, _place: Place) {
+        self.came.fetch_add(1, Ordering::SeqCst);
         for _ in 0..LOOKS {
-            if other.load(Ordering::SeqCst) {
+            if self.came.load(Ordering::SeqCst) >= self.lanes {
                 return;
             }
         }
@@ -36,18 +26,27 @@ impl MeetingGate {
     }
 }
 
-#[test]
-fn two_lanes_meet_at_the_gate(rt: HostRuntime) -> Result<(), Fail> {
+/// In the first of two distributions each lane is met by all others before its work.
+fn lanes_meet<R: Threads + Abort + Sync>(rt: &R, alloc: Global, lanes: u32) -> Result<(), Fail> {
     let gate = MeetingGate {
-        first: AtomicBool::new(false),
-        second: AtomicBool::new(false),
+        lanes: lanes as u64,
+        came: AtomicU64::new(0),
         missed: AtomicBool::new(false),
     };
-    sixteen_ballots(&rt, &gate, rt.alloc(), 2, 2)?;
-    assert!(rt; gate.first.load(Ordering::SeqCst));
-    assert!(rt; gate.second.load(Ordering::SeqCst));
+    sixteen_ballots(rt, &gate, alloc, 2, lanes)?;
+    assert_eq!(rt; gate.came.load(Ordering::SeqCst), 2 * lanes as u64);
     assert!(rt; !gate.missed.load(Ordering::SeqCst));
     Ok(())
+}
+
+#[test]
+fn two_lanes_meet_at_the_gate(rt: HostRuntime) -> Result<(), Fail> {
+    lanes_meet(&rt, rt.alloc(), 2)
+}
+
+#[test]
+fn four_lanes_meet_at_the_gate(rt: HostRuntime) -> Result<(), Fail> {
+    lanes_meet(&rt, rt.alloc(), 4)
 }
 
 /// Counts how often each of three lanes passes: the first in units, the second in hundreds, the
