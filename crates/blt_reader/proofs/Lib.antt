@@ -11,6 +11,8 @@ pub mod Ruling
 pub mod FrontRuling
 pub mod BltLaws
 pub mod Stamps
+pub mod WrittenRuns
+pub mod Spelling
 pub mod Reading
 pub mod LineSteps
 pub mod RankSteps

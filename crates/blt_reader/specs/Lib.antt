@@ -14,4 +14,5 @@ pub mod Refusal
 pub mod Reads
 pub mod Opening
 pub mod Said
+pub mod Written
 pub mod Worked

@@ -1,5 +1,6 @@
 // What the definitions of ballot files amount to. Each law is the contract of a function with nothing to do.
 ghost use Rattle.blt_reader.specs.Said.{HasOnePoll, FollowsOpenLists, ExpectsRightly, AcceptsFiles, RefusesByTheRule, RefusesAllElse, AcceptsRolls, RefusesRollsByTheRule};
+ghost use Rattle.blt_reader.specs.Written.{NumbersAreRead, DigitsAreRead, WordsAreRead, StringsAreRead, PartsFollow, NothingIsRead, WholeIsRead};
 
 /// A list of tokens is the file of at most one election.
 pub fn has_one_poll()
@@ -40,4 +41,15 @@ pub fn accepts_rolls()
 /// A text of which no front is a file up to its title is refused by the same rule.
 pub fn refuses_rolls_by_the_rule()
     ensures { RefusesRollsByTheRule }
+{}
+
+/// A text that is written from items, each with a separator behind it, is cut into just these items.
+pub fn written_items_are_read()
+    ensures numbers { NumbersAreRead }
+    ensures digits { DigitsAreRead }
+    ensures words { WordsAreRead }
+    ensures strings { StringsAreRead }
+    ensures parts { PartsFollow }
+    ensures nothing { NothingIsRead }
+    ensures whole { WholeIsRead }
 {}

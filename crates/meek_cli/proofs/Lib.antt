@@ -13,3 +13,7 @@ pub mod BegunSheets
 pub mod DaySheets
 pub mod Dealt
 pub mod DayEnding
+pub mod MadeTexts
+pub mod MadeHead
+pub mod MadeCalls
+pub mod MadeDays

@@ -10,3 +10,4 @@ pub mod Owed
 pub mod Run
 pub mod Sharing
 pub mod Work
+pub mod MadeDay

@@ -12,6 +12,7 @@ mod entry_text;
 mod finishing;
 mod frozen;
 mod lent;
+mod made_days;
 mod office;
 mod outcome;
 mod refusal;
