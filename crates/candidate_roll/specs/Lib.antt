@@ -1,3 +1,4 @@
 pub mod State
 pub mod Name
 pub mod Roll
+pub mod Laws

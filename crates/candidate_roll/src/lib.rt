@@ -2,6 +2,7 @@
 //! and who was withdrawn; and the [`States`] that candidates go through in a count.
 #![tactic(auto)]
 
+mod laws;
 mod name;
 mod name_stop;
 mod names;
@@ -12,6 +13,7 @@ mod roll_stop;
 mod state;
 mod states;
 
+pub use laws::refusals_are_unique;
 pub use name::Name;
 pub use name_stop::NameStop;
 pub use names::Names;

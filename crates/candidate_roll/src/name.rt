@@ -95,4 +95,19 @@ mod tests {
         let control = Name::<200>::try_new(rt.alloc(), b"ab\n\"").err();
         assert_eq!(rt; control, Some(NameStop::BadByte(2)));
     }
+
+    #[test]
+    fn bytes_from_the_space_on_stand_in_a_name_but_for_the_quote(
+        rt: HostRuntime,
+    ) -> Result<(), Fail> {
+        for byte in [0, 9, 31, 34] {
+            let refused = Name::<200>::try_new(rt.alloc(), &[b'a', byte]).err();
+            assert_eq!(rt; refused, Some(NameStop::BadByte(1)), "at {byte}");
+        }
+        for byte in [32, 33, 35, 126, 127, 128, 255] {
+            let name = Name::<200>::try_new(rt.alloc(), &[byte])?;
+            assert_eq!(rt; name.bytes(), [byte].as_slice());
+        }
+        Ok(())
+    }
 }

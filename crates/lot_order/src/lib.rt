@@ -3,11 +3,13 @@
 #![tactic(auto)]
 
 mod flags;
+mod laws;
 mod lots;
 mod lots_stop;
 mod no_memory;
 
 pub use flags::Flags;
+pub use laws::lots_laws;
 pub use lots::Lots;
 pub use lots_stop::LotsStop;
 pub use no_memory::NoMemory;

@@ -151,8 +151,20 @@ mod tests {
             let answer = Lots::try_new(rt.alloc(), &order, 3).err();
             assert_eq!(rt; answer, stop, "at {order:?}");
         }
+        let nought = Lots::try_new(rt.alloc(), &[1, 0, 2], 3).err();
+        assert_eq!(rt; nought, Some(LotsStop::OutOfRange(2)));
+    }
+
+    #[test]
+    fn the_least_candidate_without_a_place_is_missing(rt: HostRuntime) {
         let short = Lots::try_new(rt.alloc(), &[1, 2], 3).err();
         assert_eq!(rt; short, Some(LotsStop::NotAll(3)));
+        let two_missing = Lots::try_new(rt.alloc(), &[4, 2], 4).err();
+        assert_eq!(rt; two_missing, Some(LotsStop::NotAll(1)));
+        let last_two = Lots::try_new(rt.alloc(), &[2, 1], 4).err();
+        assert_eq!(rt; last_two, Some(LotsStop::NotAll(3)));
+        let nobody = Lots::try_new(rt.alloc(), &[], 2).err();
+        assert_eq!(rt; nobody, Some(LotsStop::NotAll(1)));
     }
 
     #[test]

@@ -2,3 +2,4 @@ pub mod RankingLemmas
 pub mod BallotsLemmas
 pub mod PermutationLemmas
 pub mod PlainLemmas
+pub mod RefusalLemmas

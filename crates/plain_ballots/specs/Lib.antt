@@ -1,3 +1,4 @@
 pub mod Ranks
 pub mod Ranking
 pub mod Ballots
+pub mod Laws

@@ -6,6 +6,7 @@
 mod append_stop;
 mod ballot_line;
 mod ballots;
+mod laws;
 mod line_stop;
 mod no_memory;
 mod plain;
@@ -17,6 +18,7 @@ mod steps;
 pub use append_stop::AppendStop;
 pub use ballot_line::BallotLine;
 pub use ballots::Ballots;
+pub use laws::ranks_have_one_refusal;
 pub use line_stop::LineStop;
 pub use no_memory::NoMemory;
 pub use plain::lines_stand_for_ballots;

@@ -140,5 +140,9 @@ mod tests {
             let answer = Ranking::try_new(rt.alloc(), 3, &ranks).err();
             assert_eq!(rt; answer, Some(stop), "at {stop:?}");
         }
+        let both = Ranking::try_new(rt.alloc(), 3, &[2, 2, 0]).err();
+        assert_eq!(rt; both, Some(RankStop::Repeated(2)));
+        let last = Ranking::try_new(rt.alloc(), 3, &[2, 1, 0]).err();
+        assert_eq!(rt; last, Some(RankStop::OutOfRange(3)));
     }
 }
