@@ -15,4 +15,5 @@ pub mod WinnersByCount
 pub mod WinnersByTest
 pub mod WinnersOrder
 pub mod WinnersUnique
+pub mod WorkedEdgesHold
 pub mod WorkedHolds

@@ -1,6 +1,6 @@
 -- What an iteration keeps, whatever its step.
-use Rattle.std.proofs.Common.{◌≡◌, ℕ, ◌+◌, ◌-◌, ◌*◌, ◌<◌, ◌≤◌, Bool, true, false, cond, List, Option, Some, None, length, get_or, take, sum, set, replicate, unwrap_or, nat_lt, nat_le, arith, refl, ap, sym, subst, ◌∙◌, inl, inr, zero, suc, add-one}
-use Rattle.std.proofs.lemmas.Bool.{cases_lt, cases_Bool, leb-false, le-leb}
+use Rattle.std.proofs.Common.{◌≡◌, ℕ, ◌+◌, ◌-◌, ◌<◌, ◌≤◌, Bool, true, false, cond, List, Option, Some, None, length, get_or, take, sum, set, unwrap_or, nat_lt, arith, refl, ap, sym, subst, ◌∙◌, inl, inr, zero, suc, add-one}
+use Rattle.std.proofs.lemmas.Bool.{cases_lt, le-leb}
 use Rattle.std.proofs.lemmas.List.{length-set, length-replicate, take_all}
 use Rattle.std.proofs.lemmas.List.Sums.{sum_by_more}
 use Rattle.std.proofs.lemmas.List.FromFn.{length-map-range_with_len}
@@ -10,15 +10,14 @@ use Rattle.candidate_roll.specs.State.{state_at}
 use Rattle.lot_order.specs.Lots.{IsOrder, first_marked}
 use Rattle.meek_rule.specs.declared.step.Step.{Step}
 use Rattle.meek_rule.specs.declared.step.Step.TheVariants.{Elected, Iterate, Defeat}
-use Rattle.meek_rule.specs.Places.{each_place, marked_count, count_places}
+use Rattle.meek_rule.specs.Places.{each_place, marked_count}
 use Rattle.meek_rule.specs.Situation.{Situation, IsValid, IsOnItsWay, is_complete, is_hopeful, hopeful_count, steps_left}
 use Rattle.meek_rule.specs.Row.{Row, HasRoomFor}
 use Rattle.meek_rule.specs.Surplus.{surplus, holds_seat}
-use Rattle.meek_rule.specs.KeepValues.{new_keeps, next_keep, is_capped}
-use Rattle.meek_rule.specs.Ties.{tied, is_tied}
-use Rattle.meek_rule.specs.Iteration.{Settle, Leaves, elect, is_exhausted, with_elected, with_defeated, with_keeps, nobody}
+use Rattle.meek_rule.specs.Ties.{tied}
+use Rattle.meek_rule.specs.Iteration.{Settle, Leaves, elect, is_exhausted, nobody}
 use Rattle.meek_rule.specs.Steps.{AreElectable}
-use Rattle.meek_rule.proofs.TestLemmas.{or_left, or_right}
+use Rattle.meek_rule.proofs.TestLemmas.{or_right}
 use Rattle.meek_rule.proofs.StateCounts.{hopeful_count-elect, hopeful_count-defeat}
 use Rattle.meek_rule.proofs.ValidLemmas.{winners-electable, valid-with_elected, valid-with_keeps, valid-with_defeated}
 use Rattle.meek_rule.proofs.ProgressLemmas.{nearer_by_round, on_its_way-round, on_its_way-iteration}

@@ -1,9 +1,10 @@
 -- No more is given than there are ballots.
-use Rattle.std.proofs.Common.{◌≡◌, ◌≢◌, ℕ, ◌+◌, ◌-◌, ◌*◌, ◌<◌, ◌≤◌, ◌==◌, cond, List, [], ◌∷◌, length, get_or, take, slice_index, sum, arith, refl, ap, sym, subst, ◌∙◌, inl, inr, zero, suc, add-one}
+use Rattle.std.proofs.Common.{◌≡◌, ◌≢◌, ℕ, ◌+◌, ◌-◌, ◌*◌, ◌<◌, ◌≤◌, ◌==◌, cond, List, [], ◌∷◌, length, get_or, take, slice_index, sum, Contains, arith, refl, ap, sym, subst, ◌∙◌, inl, inr, zero, suc, add-one}
 use Rattle.std.specs.List.{All}
 use Rattle.std.proofs.Math.Nat.{add-mul, div-eq_of_lt, mod-eq_of_lt}
 use Rattle.std.proofs.lemmas.Bool.{cases_eq, eq-eqb, ne_eqb}
 use Rattle.std.proofs.lemmas.List.Sums.{sum_by-cons}
+use Rattle.std.proofs.lemmas.List.Elements.{Contains-get_or}
 use Rattle.fixed_place.specs.Rounding.{up}
 use Rattle.meek_rule.specs.Weights.{kept, weight, given, vote, votes}
 use Rattle.meek_rule.specs.Places.{each_place}
@@ -108,6 +109,10 @@ given-absent s keeps w (r ∷ ranks) c absent =
     let here : cond (r == c) (kept s keeps w r) 0 ≡ 0 = ap (λ b. cond b (kept s keeps w r) 0) (ne_eqb r c (absent 0 (omega arith))) in
     let rest : given s keeps (w - kept s keeps w r) ranks c ≡ 0 = given-absent s keeps (w - kept s keeps w r) ranks c (λ k below. absent (suc k) (omega arith)) in
     omega arith
+
+pub given-not_ranked : (s : ℕ) (keeps : List ℕ) (w : ℕ) (ranks : List ℕ) (c : ℕ) → ¬ (Contains ranks c) → given s keeps w ranks c ≡ 0
+given-not_ranked s keeps w ranks c none =
+    given-absent s keeps w ranks c (λ k below same. none (subst (Contains ranks) same (Contains-get_or ranks k 0 below)))
 
 -- who is ranked once is given what it keeps of the weight that is left at its place
 pub given-at_place : (s : ℕ) (keeps : List ℕ) (w : ℕ) (ranks : List ℕ) (i c : ℕ) → i < length ranks → get_or ranks i 0 ≡ c → ((k : ℕ) → k < length ranks → get_or ranks k 0 ≡ c → k ≡ i) → given s keeps w ranks c ≡ kept s keeps (weight s keeps w (take i ranks)) c

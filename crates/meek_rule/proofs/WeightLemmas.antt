@@ -1,5 +1,5 @@
 -- What ballots give, step by step and in all.
-use Rattle.std.proofs.Common.{◌≡◌, ℕ, ◌+◌, ◌-◌, ◌*◌, ◌<◌, ◌≤◌, ◌==◌, ◌≢◌, true, false, cond, List, [], ◌∷◌, length, get_or, set, drop, take, sum_by, replicate, arith, refl, ap, sym, subst, ◌∙◌, inl, inr}
+use Rattle.std.proofs.Common.{◌≡◌, ℕ, ◌+◌, ◌-◌, ◌*◌, ◌<◌, ◌≤◌, ◌==◌, ◌≢◌, true, false, cond, List, [], ◌∷◌, ◌++◌, length, get_or, set, drop, take, sum_by, replicate, arith, refl, ap, sym, subst, ◌∙◌, inl, inr}
 use Rattle.std.specs.List.{All}
 use Rattle.std.specs.Int.{div_ceil}
 use Rattle.std.proofs.Math.Nat.{div-eq_of_lt, mod-eq_of_lt, mul-le-mul_left, mul-le-mul_right, mul-add, add-mul}
@@ -13,7 +13,7 @@ use Rattle.fixed_place.specs.Rounding.{up}
 use Rattle.fixed_place.proofs.RoundingLemmas.{up-le}
 use Rattle.plain_ballots.specs.declared.ballot_line.BallotLine.{BallotLine}
 use Rattle.plain_ballots.specs.Ballots.{plain}
-use Rattle.meek_rule.specs.Weights.{kept, given, vote, votes}
+use Rattle.meek_rule.specs.Weights.{kept, weight, given, vote, votes}
 
 -- a candidate keeps no more of a ballot than its weight
 pub kept-le : (s : ℕ) (keeps : List ℕ) (w c : ℕ) → 1 ≤ s → All (λ k. k ≤ s) keeps → kept s keeps w c ≤ w
@@ -24,6 +24,16 @@ kept-le s keeps w c pos bound =
       | inr past ↦ rw get_or_past (omega arith)
     ] in
     up-le s w (get_or keeps (c - 1) 0) pos item
+
+-- the weight behind one more candidate
+weight-push : (s : ℕ) (keeps : List ℕ) (w : ℕ) (ranks : List ℕ) (c : ℕ) → weight s keeps w (ranks ++ c ∷ []) ≡ weight s keeps w ranks - kept s keeps (weight s keeps w ranks) c
+weight-push s keeps w [] c = refl
+weight-push s keeps w (r ∷ ranks) c = weight-push s keeps (w - kept s keeps w r) ranks c
+
+-- it and what that candidate keeps are together the weight before it
+pub weight-falls : (s : ℕ) (keeps : List ℕ) (w : ℕ) (ranks : List ℕ) (c : ℕ) → 1 ≤ s → All (λ k. k ≤ s) keeps → weight s keeps w (ranks ++ c ∷ []) + kept s keeps (weight s keeps w ranks) c ≡ weight s keeps w ranks
+weight-falls s keeps w ranks c pos bound =
+    omega (arith, weight-push s keeps w ranks c, kept-le s keeps (weight s keeps w ranks) c pos bound)
 
 -- a ballot gives no more than its weight
 pub given-le : (s : ℕ) (keeps : List ℕ) (w : ℕ) (ranks : List ℕ) (c : ℕ) → 1 ≤ s → All (λ k. k ≤ s) keeps → given s keeps w ranks c ≤ w

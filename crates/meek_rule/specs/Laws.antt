@@ -1,5 +1,5 @@
 -- Laws of a distribution.
-use Rattle.std.specs.Prelude.{ℕ, ◌*◌, ◌<◌, take, ◌≤◌, ◌≡◌, ◌-◌, Bool, List, All, length, sum, slice_index}
+use Rattle.std.specs.Prelude.{ℕ, ◌+◌, ◌*◌, ◌<◌, take, ◌≤◌, ◌≡◌, ◌-◌, Bool, List, [], ◌∷◌, ◌++◌, All, Contains, length, sum, slice_index}
 use Rattle.candidate_roll.specs.declared.state.State.{State}
 use Rattle.lot_order.specs.Lots.{IsOrder}
 use Rattle.meek_rule.specs.Weights.{kept, weight, given, votes}
@@ -24,7 +24,19 @@ WinnersAreUnique =
     → IsOrder lots → length lots ≡ length states
     → AreWinners states free votes lots q one → AreWinners states free votes lots q other → one ≡ other
 
--- who is ranked once is given what it keeps of the weight that is left at its place, and who is not ranked nothing
+-- who is not ranked is given nothing
+abbrev pub NotRankedNothingGiven : Type 0
+NotRankedNothingGiven =
+    (s : ℕ) (keeps : List ℕ) (w : ℕ) (ranks : List ℕ) (c : ℕ) → ¬ (Contains ranks c) → given s keeps w ranks c ≡ 0
+
+-- The weight behind one more candidate and what that candidate keeps are together the weight before it. So a weight never
+-- rises, and nothing of it is lost.
+abbrev pub WeightFallsByWhatIsKept : Type 0
+WeightFallsByWhatIsKept =
+    (s : ℕ) (keeps : List ℕ) (w : ℕ) (ranks : List ℕ) (c : ℕ) → 1 ≤ s → All (λ k. k ≤ s) keeps
+    → weight s keeps w (ranks ++ c ∷ []) + kept s keeps (weight s keeps w ranks) c ≡ weight s keeps w ranks
+
+-- who is ranked once is given what it keeps of the weight that is left at its place
 abbrev pub GivenAtItsPlace : Type 0
 GivenAtItsPlace =
     (s : ℕ) (keeps : List ℕ) (w : ℕ) (ranks : List ℕ) (i c : ℕ) → i < length ranks → slice_index ranks i ≡ c

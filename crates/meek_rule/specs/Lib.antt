@@ -11,5 +11,7 @@ pub mod Iteration
 pub mod Precedence
 pub mod LowestVote
 pub mod Worked
+pub mod WorkedKeeps
+pub mod WorkedMarks
 pub mod Laws
 pub mod Steps

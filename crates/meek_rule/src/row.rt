@@ -1,6 +1,6 @@
 // What is written down of an iteration.
-ghost use Rattle.std.specs.Prelude.{◌≤◌, IfOk};
-ghost use Rattle.meek_rule.specs.Row.{HasRoomFor};
+ghost use Rattle.std.specs.Prelude.{◌≡◌, ◌≤◌, IfOk};
+ghost use Rattle.meek_rule.specs.Row.{HasRoomFor, blank};
 
 use crate::{NoMemory, Step};
 use candidate_roll::{State, States};
@@ -36,10 +36,12 @@ impl<const P: usize> Model for Row<P> {
 }
 
 impl<const P: usize> Row<P> {
-    /// A row with room for as many candidates.
+    /// A row with room for as many candidates, on which nothing is written yet: all its numbers are 0, and
+    /// nobody is marked.
     pub fn new(alloc: Global, candidates: u32) -> Result<Row<P>, NoMemory>
         requires places { (6 ≤ P) × (P ≤ 9) }
-        ensures { IfOk result (HasRoomFor candidates) }
+        ensures blank { IfOk result (λ row. row ≡ blank candidates) }
+        ensures room { IfOk result (HasRoomFor candidates) }
     {
         let n = candidates as usize;
         let zero = Amount::from_units(0);

@@ -10,6 +10,7 @@ use std::process::Abort;
 use std::test::Fail;
 
 mod checked;
+mod near_rules;
 mod six_places;
 
 const ONE: u64 = 1_000_000_000;

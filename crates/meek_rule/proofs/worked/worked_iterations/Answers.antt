@@ -1,4 +1,5 @@
 use Rattle.meek_rule.proofs.WorkedHolds.{CappedKeep-holds, Overfill-holds, SurplusOfOmega-holds, SurplusBelowOmega-holds, SurplusNotFalling-holds, SurplusFalling-holds, TieWithinSurplus-holds, ThreeBallots-holds}
+use Rattle.meek_rule.proofs.WorkedEdgesHold.{RoundedUpTwice-holds, NoVotesSameKeep-holds, OneWholeVoteIsNoCap-holds, CappedFromBelowOne-holds, OverfillByVotes-holds, KeepsStayAtElection-holds, TieAtTheSurplus-holds, ElectedAreNotTied-holds}
 use Rattle.meek_rule.proofs.worked.worked_iterations.Goals as goal
 
 pub returns-clause-capped_keep : goal.returns-clause-capped_keep
@@ -24,3 +25,27 @@ returns-clause-tie_within_surplus c = TieWithinSurplus-holds
 
 pub returns-clause-three_ballots : goal.returns-clause-three_ballots
 returns-clause-three_ballots c = ThreeBallots-holds
+
+pub returns-clause-rounded_up_twice : goal.returns-clause-rounded_up_twice
+returns-clause-rounded_up_twice c = RoundedUpTwice-holds
+
+pub returns-clause-no_votes_same_keep : goal.returns-clause-no_votes_same_keep
+returns-clause-no_votes_same_keep c = NoVotesSameKeep-holds
+
+pub returns-clause-one_whole_vote_is_no_cap : goal.returns-clause-one_whole_vote_is_no_cap
+returns-clause-one_whole_vote_is_no_cap c = OneWholeVoteIsNoCap-holds
+
+pub returns-clause-capped_from_below_one : goal.returns-clause-capped_from_below_one
+returns-clause-capped_from_below_one c = CappedFromBelowOne-holds
+
+pub returns-clause-overfill_by_votes : goal.returns-clause-overfill_by_votes
+returns-clause-overfill_by_votes c = OverfillByVotes-holds
+
+pub returns-clause-keeps_stay_at_election : goal.returns-clause-keeps_stay_at_election
+returns-clause-keeps_stay_at_election c = KeepsStayAtElection-holds
+
+pub returns-clause-tie_at_the_surplus : goal.returns-clause-tie_at_the_surplus
+returns-clause-tie_at_the_surplus c = TieAtTheSurplus-holds
+
+pub returns-clause-elected_are_not_tied : goal.returns-clause-elected_are_not_tied
+returns-clause-elected_are_not_tied c = ElectedAreNotTied-holds

@@ -25,7 +25,7 @@ invariant_of-result g c =
         order_of_lots = c.candidates-order.ensures.order;
         lots_of_all = c.requires.lots_of_all ∙ sym states;
         names_of_all = sym states;
-        row_of_all = subst (λ (n : ℕ). HasRoomFor n c.in_ok-row.row) all c.in_ok-row.ensures;
+        row_of_all = subst (λ (n : ℕ). HasRoomFor n c.in_ok-row.row) all c.in_ok-row.ensures.room;
         few_ballots = c.requires.few_ballots;
       },
     )

@@ -1,12 +1,11 @@
-use Rattle.std.proofs.Common.{◌≡◌, ℕ, ◌-◌, ◌<◌, ◌≤◌, true, false, Bool, List, length, arith, ap, sym, subst, ◌∙◌}
+use Rattle.std.proofs.Common.{◌≡◌, ◌-◌, ◌≤◌, true, List, length, arith, ap, sym, subst, ◌∙◌}
 use Rattle.std.proofs.lemmas.List.FromFn.{length-map-range_with_len}
 use Rattle.fixed_place.specs.Rounding.{scale, most}
 use Rattle.candidate_roll.specs.declared.state.State.{State}
-use Rattle.candidate_roll.specs.State.{state_at}
 use Rattle.lot_order.specs.Flags.{mark_at}
-use Rattle.meek_rule.specs.Situation.{Situation, is_hopeful, hopeful_count}
+use Rattle.meek_rule.specs.Situation.{Situation, hopeful_count}
 use Rattle.meek_rule.specs.Row.{Row}
-use Rattle.meek_rule.specs.Ties.{tied, is_tied}
+use Rattle.meek_rule.specs.Ties.{tied}
 use Rattle.meek_rule.specs.Steps.{IsCounted}
 use Rattle.meek_rule.proofs.ValidLemmas.{winners-electable}
 use Rattle.meek_rule.proofs.TieLemmas.{somebody_hopeful, tied-somebody, tied-hopeful}
