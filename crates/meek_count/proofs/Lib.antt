@@ -4,4 +4,5 @@ pub mod WholeCount
 pub mod Leading
 pub mod StepLemmas
 pub mod EndLemmas
+pub mod LoneBallotHolds
 pub mod WorkedHolds

@@ -2,3 +2,4 @@ pub mod Rows
 pub mod Progress
 pub mod Laws
 pub mod Worked
+pub mod WorkedLoneBallot
