@@ -1,5 +1,5 @@
 -- A sheet under way.
-use Rattle.std.proofs.Common.{◌≡◌, ℕ, List, [], ◌∷◌, ◌++◌, length, Option, Result, Ok, Err, IsErr, refl, sym, ap, subst, ◌∙◌, append_assoc, append-nil}
+use Rattle.std.proofs.Common.{◌≡◌, ℕ, List, [], ◌∷◌, ◌++◌, length, Option, Result, Ok, Err, IsErr, refl, sym, ap, subst, ◌∙◌, append_assoc, append-nil, inl, inr}
 use Rattle.std.specs.Prelude.{OnOk, OnErr, true}
 use Rattle.std.specs.List.{flat_map}
 use Rattle.std.proofs.lemmas.List.Concat.{flat_map-append}
@@ -15,7 +15,7 @@ use Rattle.meek_count.specs.declared.turn.Turn.{Turn}
 use Rattle.meek_count.specs.declared.turn.Turn.TheVariants.{Iterated, Finished}
 use Rattle.meek_count.proofs.Leading.{leads_none, leads_more}
 use Rattle.sheet_text.specs.Lines.{head_lines, row_lines, result_lines}
-use Rattle.sheet_text.specs.Sheet.{lines_up_to, sheet_lines, AppendsSheet, AppendsFrontOfSheet}
+use Rattle.sheet_text.specs.Sheet.{lines_up_to, sheet_lines, AppendsSheet, AppendsFrontOfSheet, HasEnded, StandsWhereItStopped}
 use Rattle.sheet_text.specs.Writing.{Wrote, Stopped, Writes}
 use Rattle.sheet_text.proofs.WritingLemmas.{later, stops, wrote_later, stopped_later}
 
@@ -114,3 +114,23 @@ at_end {w} {f} {a} {b} {c} places start now names last r begun so_far complete i
 pub not_iterated : (turn : Turn) → (turn ≡ Iterated → ⊥) → turn ≡ Finished
 not_iterated Iterated other = absurd (other refl)
 not_iterated Finished other = refl
+
+-- where the count stands when the writing stopped in the head
+pub stands_in_head : {S T E : Type 0} {w : S → Option (List ℕ)} {f : S → ℕ} {a b : S} (places : ℕ) (count : Progress) (r : Result T E) → Stopped w f a b (head_lines count.roll (length count.ballots)) → OnErr r (StandsWhereItStopped places count count (w a) (w b))
+stands_in_head places count (Ok x) stopped = tt
+stands_in_head places count (Err e) stopped = inl (refl, stopped.part)
+
+-- and in a row
+pub stands_in_row : {S T E : Type 0} {w : S → Option (List ℕ)} {f : S → ℕ} {a b c : S} (places : ℕ) (start now next : Progress) (row : Row) (r : Result T E) → IsUnderWay w f a b places start now → Leads (scale places) now (next.row ∷ []) next → row ≡ next.row → Stopped w f b c (row_lines places row) → OnErr r (StandsWhereItStopped places start next (w a) (w c))
+stands_in_row places start now next row (Ok x) so_far leads is stopped = tt
+stands_in_row {w} {f} {a} {b} {c} places start now next row (Err e) so_far leads is stopped =
+    inr (inl (record {
+      done = so_far.done;
+      leads = leads_more (scale places) start now next so_far.done (next.row ∷ []) so_far.leads leads;
+      written = (w b, so_far.wrote.whole, (subst (λ (r : Row). Stopped w f b c (row_lines places r)) is stopped).part);
+    }))
+
+-- and at its end
+pub stands_ended : {T E : Type 0} (places : ℕ) (start now : Progress) (old new : Option (List ℕ)) (r : Result T E) → HasEnded now → OnErr r (StandsWhereItStopped places start now old new)
+stands_ended places start now old new (Ok x) ended = tt
+stands_ended places start now old new (Err e) ended = inr (inr ended)

@@ -1,14 +1,15 @@
 -- The sheet of a count.
-use Rattle.std.specs.Prelude.{◌≡◌, ℕ, true, List, ◌++◌, length, Option}
+use Rattle.std.specs.Prelude.{◌≡◌, ℕ, true, List, [], ◌∷◌, ◌++◌, length, Option, ◌⊎◌}
 use Rattle.std.specs.List.{flat_map}
 use Rattle.std.specs.Io.KnownBytes.{Appends}
 use Rattle.byte_edge.specs.Bytes.{AppendsFront}
+use Rattle.fixed_place.specs.Rounding.{scale}
 use Rattle.candidate_roll.specs.Roll.{RollList}
 use Rattle.candidate_roll.specs.declared.state.State.{State}
 use Rattle.meek_rule.specs.Situation.{is_complete, finished}
 use Rattle.meek_rule.specs.Row.{Row}
 use Rattle.meek_count.specs.Rows.{IsCount}
-use Rattle.meek_count.specs.Progress.{Progress}
+use Rattle.meek_count.specs.Progress.{Progress, Leads}
 use Rattle.sheet_text.specs.Lines.{text_of_lines, head_lines, row_lines, result_lines}
 
 -- how the sheet of a count of so many ballots begins, up to these rows
@@ -43,3 +44,24 @@ AppendsFrontOfSheet places count old new = (text : List ℕ) × IsSheetOf places
 pub record HasEnded (count : Progress) : Type 0 where
   pub complete : is_complete count.now ≡ true
   pub settled : finished count.now ≡ count.now
+
+-- all of some lines was appended, and then some front of others, maybe all of it
+abbrev pub AppendsAndFront : (old new : Option (List ℕ)) → (whole part : List (List ℕ)) → Type 0
+AppendsAndFront old new whole part =
+    (between : Option (List ℕ)) × Appends old between (text_of_lines whole) × AppendsFront between new (text_of_lines part)
+
+-- The writing stopped in the head, and nothing was counted.
+abbrev pub StopsInHead : (start now : Progress) → (old new : Option (List ℕ)) → Type 0
+StopsInHead start now old new =
+    (now ≡ start) × AppendsFront old new (text_of_lines (head_lines start.roll (length start.ballots)))
+
+-- The writing stopped in a row, which is that of the last iteration that was made.
+pub record StopsInRow (places : ℕ) (start now : Progress) (old new : Option (List ℕ)) : Type 0 where
+  pub done : List Row
+  pub leads : Leads (scale places) start (done ++ now.row ∷ []) now
+  pub written : AppendsAndFront old new (lines_up_to places start.roll (length start.ballots) done) (row_lines places now.row)
+
+-- Where a count stands whose sheet was broken off: where the writing stopped, in the head, in a row or in the result.
+abbrev pub StandsWhereItStopped : (places : ℕ) → (start now : Progress) → (old new : Option (List ℕ)) → Type 0
+StandsWhereItStopped places start now old new =
+    StopsInHead start now old new ⊎ (StopsInRow places start now old new ⊎ HasEnded now)

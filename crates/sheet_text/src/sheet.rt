@@ -3,7 +3,7 @@ ghost use Rattle.std.specs.Prelude.{OnOk, OnErr};
 ghost use Rattle.byte_edge.specs.Faults.{CountsFault};
 ghost use Rattle.fixed_place.specs.Rounding.{scale};
 ghost use Rattle.meek_count.specs.Progress.{HasJustBegun, IsSameElection};
-ghost use Rattle.sheet_text.specs.Sheet.{AppendsSheet, AppendsFrontOfSheet, HasEnded};
+ghost use Rattle.sheet_text.specs.Sheet.{AppendsSheet, AppendsFrontOfSheet, HasEnded, StandsWhereItStopped};
 
 use crate::head::write_head_by;
 use crate::outcome::write_result_by;
@@ -24,6 +24,8 @@ pub fn write_sheet<const P: usize, D: Spread<P> + Drop, K: Sink>(
     ensures ended { OnOk result (HasEnded count.new) }
     ensures front { OnErr result
         (AppendsFrontOfSheet P count.old (K.written sink.old) (K.written sink.new)) }
+    ensures stands { OnErr result
+        (StandsWhereItStopped P count.old count.new (K.written sink.old) (K.written sink.new)) }
     ensures same { IsSameElection count.old count.new }
     ensures faults { CountsFault (K.faults sink.old) (K.faults sink.new) result }
 {

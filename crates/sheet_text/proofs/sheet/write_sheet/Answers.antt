@@ -1,12 +1,17 @@
 use Rattle.std.proofs.Common.{ap, refl, ◌∙◌}
 use Rattle.candidate_roll.specs.Roll.{RollList}
-use Rattle.sheet_text.proofs.SheetLemmas.{under_way, one_more, stopped_in_head, stopped_in_row, at_end, not_iterated}
+use Rattle.sheet_text.proofs.SheetLemmas.{under_way, one_more, stopped_in_head, stopped_in_row, stands_in_head, stands_in_row, stands_ended, at_end, not_iterated}
 use Rattle.sheet_text.proofs.sheet.write_sheet.Goals as goal
 
 pub returns-in_err-write_head_by-clause-front : goal.returns-in_err-write_head_by-clause-front
 returns-in_err-write_head_by-clause-front g c =
     let stopped = rw (c.roll-2.ensures.value, c.ballots.ensures.value) at c.in_err-write_head_by.ensures in
     stopped_in_head g.row.P c.args.count.now _ c.requires c.ballots.ensures.rest c.from_residual.ensures.0 stopped
+
+pub returns-in_err-write_head_by-clause-stands : goal.returns-in_err-write_head_by-clause-stands
+returns-in_err-write_head_by-clause-stands g c =
+    let stopped = rw (c.roll-2.ensures.value, c.ballots.ensures.value) at c.in_err-write_head_by.ensures in
+    stands_in_head g.row.P c.args.count.now _ stopped
 
 pub rows-init : goal.rows-init
 rows-init g c =
@@ -20,6 +25,15 @@ rows-preserved g c =
 pub returns-in_err-write_row_by-clause-front : goal.returns-in_err-write_row_by-clause-front
 returns-in_err-write_row_by-clause-front g c =
     stopped_in_row g.row.P c.args.count.now c.rows.count c.next.new.self c.row.result.now _ c.requires c.rows.invariant (c.in-Iterated.ensures.leads refl) c.row.ensures.value c.in-Iterated.ensures.rest c.from_residual-in_err-write_row_by.ensures.0 c.in_err-write_row_by.ensures
+
+pub returns-in_err-write_row_by-clause-stands : goal.returns-in_err-write_row_by-clause-stands
+returns-in_err-write_row_by-clause-stands g c =
+    stands_in_row g.row.P c.args.count.now c.rows.count c.next.new.self c.row.result.now _ c.rows.invariant (c.in-Iterated.ensures.leads refl) c.row.ensures.value c.in_err-write_row_by.ensures
+
+pub returns-clause-stands : goal.returns-clause-stands
+returns-clause-stands g c =
+    let done = not_iterated c.next.result c.in_default.not-Iterated in
+    stands_ended _ _ _ _ _ c.write_result_by.result (record { complete = c.next.ensures.ended done; settled = c.next.ensures.settled done })
 
 pub returns-clause-all : goal.returns-clause-all
 returns-clause-all g c =
