@@ -10,7 +10,7 @@ use Rattle.blt_reader.specs.Scan.{Gap, Lexeme, Wrong, Unclosed, piece, beginning
 use Rattle.std.specs.List.{AllPass, prefix_len, take_while}
 use Rattle.std.specs.Char.{is_ascii_digit, is_ascii_lowercase}
 use Rattle.blt_reader.specs.Scan.{is_separator, is_in_string, number, may_follow, number_piece}
-use Rattle.blt_reader.specs.Reader.{said, MayBeText}
+use Rattle.blt_reader.specs.Reader.{said, IsTokenAt}
 use Rattle.blt_reader.specs.Usual.{may_end, IsUsualNumber}
 
 -- bytes that are skipped only move the place
@@ -71,12 +71,15 @@ module _ (letters : Bool) (bytes : List ℕ) (at n : ℕ) (inside : at < length 
   pub at_unclosed : piece letters (drop at bytes) ≡ Unclosed n → cut letters 0 at bytes ≡ ends (AtFault (record { kind = Ended; at = at + n }))
   at_unclosed is = begins letters bytes at inside ∙ rw is refl
 
--- a text at a place is the text at the front of what is from there on
-pub text_moved : (bytes : List ℕ) (at n : ℕ) (what : What) → at + n ≤ length bytes → MayBeText (drop at bytes) 0 n what → MayBeText bytes at (at + n) what
-text_moved bytes at n (what.Number k) within held = tt
-text_moved bytes at n (what.Minus k) within held = tt
-text_moved bytes at n what.Text within held = (omega (arith, held.0), within, subst (AllPass is_in_string) (part_moved bytes at 1 (n - 1 - 1) (at + n - 1 - (at + 1)) (omega arith)) held.2)
-text_moved bytes at n what.Word within held = (omega arith, within, subst (AllPass is_ascii_lowercase) (part_moved bytes at 0 (n - 0) (at + n - at) (omega arith) ∙ rw (add-zero at) refl) held.2)
+-- a token at a place is the token at the front of what is from there on
+pub token_moved : (bytes : List ℕ) (at n : ℕ) (what : What) → at + n ≤ length bytes → IsTokenAt (drop at bytes) 0 n what → IsTokenAt bytes at (at + n) what
+token_moved bytes at n (what.Number k) within held = omega (arith, held)
+token_moved bytes at n (what.Minus k) within held =
+    let digits : prefix_len is_ascii_digit (drop 1 (drop at bytes)) ≡ prefix_len is_ascii_digit (drop (at + 1) bytes) =
+    ap (λ (xs : List ℕ). prefix_len is_ascii_digit xs) (drop-drop 1 at bytes) in
+    omega (arith, held, digits)
+token_moved bytes at n what.Text within held = (omega (arith, held.0), within, subst (AllPass is_in_string) (part_moved bytes at 1 (n - 1 - 1) (at + n - 1 - (at + 1)) (omega arith)) held.2)
+token_moved bytes at n what.Word within held = (omega arith, within, subst (AllPass is_ascii_lowercase) (part_moved bytes at 0 (n - 0) (at + n - at) (omega arith) ∙ rw (add-zero at) refl) held.2)
 
 -- ---- a short number before a separator
 

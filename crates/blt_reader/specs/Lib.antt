@@ -16,3 +16,4 @@ pub mod Opening
 pub mod Said
 pub mod Written
 pub mod Worked
+pub mod WorkedBytes

@@ -1,7 +1,7 @@
 -- A reader of tokens: what it has still to give.
-use Rattle.std.specs.Prelude.{◌≡◌, ◌<◌, ◌≤◌, ℕ, ◌+◌, ◌-◌, List, length, slice_range}
-use Rattle.std.specs.List.{AllPass}
-use Rattle.std.specs.Char.{is_ascii_lowercase}
+use Rattle.std.specs.Prelude.{◌≡◌, ◌<◌, ◌≤◌, ℕ, ◌+◌, ◌-◌, List, length, drop, slice_range}
+use Rattle.std.specs.List.{AllPass, prefix_len}
+use Rattle.std.specs.Char.{is_ascii_digit, is_ascii_lowercase}
 use Rattle.blt_reader.specs.Scan.{is_in_string}
 use Rattle.blt_reader.specs.declared.what.What.{What}
 use Rattle.blt_reader.specs.declared.what.What.TheVariants as what
@@ -41,17 +41,18 @@ IsTextAt bytes at stop what.Word = (at ≤ stop) × (stop ≤ length bytes) × A
 abbrev pub IsTextOf : List ℕ → Token → Type 0
 IsTextOf bytes token = IsTextAt bytes token.at token.stop token.what
 
--- the same where it is no number
-abbrev pub MayBeText : List ℕ → ℕ → ℕ → What → Type 0
-MayBeText bytes at stop (what.Number n) = Unit {0}
-MayBeText bytes at stop (what.Minus n) = Unit {0}
-MayBeText bytes at stop what.Text = IsTextAt bytes at stop what.Text
-MayBeText bytes at stop what.Word = IsTextAt bytes at stop what.Word
+-- A token of these bytes goes from its first byte up to where it stops: a number stops behind the last of its digits, and
+-- a string and a word are those bytes.
+abbrev pub IsTokenAt : List ℕ → ℕ → ℕ → What → Type 0
+IsTokenAt bytes at stop (what.Number n) = stop ≡ at + prefix_len is_ascii_digit (drop at bytes)
+IsTokenAt bytes at stop (what.Minus n) = stop ≡ at + 1 + prefix_len is_ascii_digit (drop (at + 1) bytes)
+IsTokenAt bytes at stop what.Text = IsTextAt bytes at stop what.Text
+IsTokenAt bytes at stop what.Word = IsTextAt bytes at stop what.Word
 
--- the text of a token that was given can be had
-abbrev pub GivesText : List ℕ → Next → Type 0
-GivesText bytes (next.Token token) = MayBeText bytes token.at token.stop token.what
-GivesText bytes other = Unit {0}
+-- a token that was given stands in the bytes
+abbrev pub GivesToken : List ℕ → Next → Type 0
+GivesToken bytes (next.Token token) = IsTokenAt bytes token.at token.stop token.what
+GivesToken bytes other = Unit {0}
 
 -- the token says this text
 abbrev pub says : Item → List ℕ → Type 0

@@ -36,4 +36,4 @@ pub use rolls::read_roll;
 pub use token::Token;
 pub use tokens::Tokens;
 pub use what::What;
-pub use worked::worked_files;
+pub use worked::{worked_bytes, worked_files};

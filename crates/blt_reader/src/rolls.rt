@@ -16,7 +16,8 @@ use std::alloc::Global;
 
 /// Reads a file up to its title and no further: an Ok leaves the reader right behind the title.
 /// Without `with_ballots` any ballot is refused as [`FaultKind::BallotsInRoll`] at its count. After
-/// an Err the reader stands behind the last token that was formed.
+/// an Err the reader stands right behind the last token that it has given: after a refusal of a token
+/// that is the refused one, and after want of memory no clause says which of them it is.
 pub fn read_roll(
     alloc: Global,
     tokens: &mut Tokens<'_>,

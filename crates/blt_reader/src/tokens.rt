@@ -2,7 +2,7 @@
 ghost use Rattle.std.specs.Prelude.{◌≡◌, ◌+◌, ◌≤◌, Bool, false, length, slice_index_or, IfOk, IfErr, IfSome, IfNone};
 ghost use Rattle.blt_reader.specs.Token.{Number, with_front};
 ghost use Rattle.blt_reader.specs.Scan.{scan, cut};
-ghost use Rattle.blt_reader.specs.Reader.{Gives, placed, GivesText, MayBeText, IsTextOf, IsSaid};
+ghost use Rattle.blt_reader.specs.Reader.{Gives, placed, GivesToken, IsTokenAt, IsTextOf, IsSaid};
 ghost use Rattle.blt_reader.specs.Reads.{IsBehind, IsEnded, Stops, as_number};
 
 use crate::named::Named;
@@ -49,7 +49,7 @@ fn past_separator(bytes: &[u8], at: usize) -> usize
 fn next_from(bytes: &[u8], letters: bool, from: usize) -> (Next, usize)
     requires { from ≤ length bytes.now }
     ensures within { result.1 ≤ length bytes.now }
-    ensures text { GivesText bytes.now result.0 }
+    ensures text { GivesToken bytes.now result.0 }
     ensures gives { Gives bytes.now (cut letters 0 from bytes.now) result.0 (cut letters 0 result.1 bytes.now) }
 {
     let mut at = from;
@@ -143,7 +143,7 @@ impl<'a> Tokens<'a> {
     /// The next token. An end and a fault are answered again.
     pub fn next(&mut self) -> Next
         ensures bytes { self.new.bytes ≡ self.old.bytes }
-        ensures text { GivesText self.old.bytes result }
+        ensures text { GivesToken self.old.bytes result }
         ensures gives { Gives self.old.bytes self.old.rest result self.new.rest }
     {
         let (next, at) = next_from(self.bytes, self.letters, self.at);
@@ -153,7 +153,7 @@ impl<'a> Tokens<'a> {
 
     /// The next token, where the input may not end: its end is a fault too.
     pub fn next_token(&mut self) -> Result<Token, InputFault>
-        ensures text { IfOk result (λ token. MayBeText self.old.bytes token.at token.stop token.what) }
+        ensures text { IfOk result (λ token. IsTokenAt self.old.bytes token.at token.stop token.what) }
         ensures token { IfOk result (λ token. self.old.rest ≡ with_front (placed self.old.bytes token) self.new.rest) }
         ensures fault { IfErr result (λ fault. IsEnded self.old.rest fault self.new.rest) }
         ensures behind { IsBehind self.old self.new }

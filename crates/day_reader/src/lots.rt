@@ -1,6 +1,6 @@
 // The lots of a day.
 ghost use Rattle.std.specs.Prelude.{◌≡◌, ◌≤◌, [], length, IfOk, IfErr};
-ghost use Rattle.blt_reader.specs.Reader.{MayBeText, said};
+ghost use Rattle.blt_reader.specs.Reader.{IsTokenAt, said};
 ghost use Rattle.blt_reader.specs.Reads.{IsBehind, Reads};
 ghost use Rattle.blt_reader.specs.declared.fault_kind.FaultKind.TheVariants.{BadLots};
 ghost use Rattle.blt_reader.specs.declared.blt_stop.BltStop.TheVariants as stop;
@@ -30,7 +30,7 @@ pub fn read_to_lots(tokens: &mut Tokens<'_>) -> Result<(), InputFault>
 }
 
 fn lots_word(tokens: &Tokens<'_>, token: Token) -> Result<(), InputFault>
-    requires { MayBeText tokens.now.bytes token.at token.stop token.what }
+    requires { IsTokenAt tokens.now.bytes token.at token.stop token.what }
     ensures { IsLotsWord (said tokens.now.bytes token.at token.stop token.what) token.at result }
 {
     let Some(keyword) = keyword_at(tokens, token) else {

@@ -2,7 +2,7 @@
 ghost use Rattle.std.specs.Prelude.{◌≡◌, Err, IfOk, IfErr, IfSome, IfNone};
 ghost use Rattle.blt_reader.specs.declared.fault_kind.FaultKind.TheVariants.{WordExpected};
 ghost use Rattle.blt_reader.specs.Token.{with_front};
-ghost use Rattle.blt_reader.specs.Reader.{MayBeText, said};
+ghost use Rattle.blt_reader.specs.Reader.{IsTokenAt, said};
 ghost use Rattle.blt_reader.specs.Reads.{IsBehind, Stops};
 ghost use Rattle.day_reader.specs.Keyword.{word, as_keyword};
 
@@ -25,7 +25,7 @@ pub fn next_keyword(tokens: &mut Tokens<'_>) -> Result<(Keyword, usize), InputFa
 
 /// The word that a token is.
 pub fn keyword_at(tokens: &Tokens<'_>, token: Token) -> Option<Keyword>
-    requires { MayBeText tokens.now.bytes token.at token.stop token.what }
+    requires { IsTokenAt tokens.now.bytes token.at token.stop token.what }
     ensures known { IfSome result (λ keyword. said tokens.now.bytes token.at token.stop token.what ≡ word keyword) }
     ensures unknown { IfNone result (as_keyword (said tokens.now.bytes token.at token.stop token.what) ≡ Err WordExpected) }
 {

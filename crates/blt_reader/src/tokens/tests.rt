@@ -89,3 +89,101 @@ fn that_have_to_be_numbers(rt: HostRuntime) {
     assert_eq!(rt; tokens.next_number(), Err(fault));
     assert_eq!(rt; tokens.next_token(), Err(fault));
 }
+
+fn bad_byte(at: usize) -> Next {
+    Next::Fault(InputFault {
+        kind: FaultKind::BadByte,
+        at,
+    })
+}
+
+/// The first token of a text of this length, which goes up to its end.
+fn whole(stop: usize, what: What) -> Next {
+    Next::Token(Token { at: 0, stop, what })
+}
+
+/// Whether a token may stop before this byte: tab, line feed, carriage return, space and '#'.
+fn parts(b: u8) -> bool {
+    b == 9 || b == 10 || b == 13 || b == 32 || b == 35
+}
+
+/// What a byte is where a token may begin, in a text that may have words.
+fn begun(b: u8) -> Next {
+    if parts(b) {
+        Next::End
+    } else if 48 <= b && b <= 57 {
+        whole(1, What::Number(b as u32 - 48))
+    } else if b == 34 {
+        let kind = FaultKind::Ended;
+        Next::Fault(InputFault { kind, at: 1 })
+    } else if 97 <= b && b <= 122 {
+        whole(1, What::Word)
+    } else {
+        bad_byte(0)
+    }
+}
+
+/// What a byte makes of a 1 before it.
+fn behind_a_number(b: u8) -> Next {
+    if parts(b) {
+        whole(1, What::Number(1))
+    } else if 48 <= b && b <= 57 {
+        whole(2, What::Number(b as u32 - 38))
+    } else {
+        bad_byte(1)
+    }
+}
+
+/// What a byte makes of the quotes around it.
+fn in_a_string(b: u8) -> Next {
+    if b < 32 {
+        bad_byte(1)
+    } else if b == 34 {
+        bad_byte(2)
+    } else {
+        whole(3, What::Text)
+    }
+}
+
+/// What a byte makes of the 1 behind it, in a comment.
+fn in_a_comment(b: u8) -> Next {
+    if b == 10 || b == 13 {
+        Next::Token(Token {
+            at: 2,
+            stop: 3,
+            what: What::Number(1),
+        })
+    } else {
+        Next::End
+    }
+}
+
+#[test]
+fn are_told_by_every_byte(rt: HostRuntime) {
+    for n in 0..256u32 {
+        let b = n as u8;
+        assert_eq!(rt; Tokens::new(&[b], true).next(), begun(b), "at {b}");
+        assert_eq!(rt;
+            Tokens::new(&[b'1', b], true).next(),
+            behind_a_number(b),
+            "at {b}"
+        );
+        assert_eq!(rt;
+            Tokens::new(&[b'"', b, b'"'], true).next(),
+            in_a_string(b),
+            "at {b}"
+        );
+        assert_eq!(rt;
+            Tokens::new(&[b'#', b, b'1'], true).next(),
+            in_a_comment(b),
+            "at {b}"
+        );
+    }
+}
+
+#[test]
+fn begin_behind_one_byte_order_mark(rt: HostRuntime) {
+    let twice = b"\xEF\xBB\xBF\xEF\xBB\xBF1";
+    assert_eq!(rt; Tokens::new(twice, true).next(), bad_byte(3));
+    assert_eq!(rt; Tokens::new(b" \xEF\xBB\xBF", true).next(), bad_byte(1));
+}

@@ -141,6 +141,20 @@ fn six_places(rt: HostRuntime) -> Result<(), Fail> {
 }
 
 #[test]
+fn each_number_of_places(rt: HostRuntime) -> Result<(), Fail> {
+    for (file, places) in [
+        (b"1 1 0 \"A\" \"T\" lots 1 0 places 6 omega 2 end", 6),
+        (b"1 1 0 \"A\" \"T\" lots 1 0 places 7 omega 2 end", 7),
+        (b"1 1 0 \"A\" \"T\" lots 1 0 places 8 omega 2 end", 8),
+        (b"1 1 0 \"A\" \"T\" lots 1 0 places 9 omega 2 end", 9),
+    ] {
+        let day = read_day(rt.alloc(), file)?;
+        assert_eq!(rt; (day.places, day.omega), (places, 2));
+    }
+    Ok(())
+}
+
+#[test]
 fn teams_in_any_order(rt: HostRuntime) -> Result<(), Fail> {
     let file =
         b"2 1 -2 0 \"A\" \"B\" \"T\" \"note\" lots 2 1 0 places 9 omega 1000000 team 16 freeze team 3 team 1 withdraw 9999 9999 team 2 strike 2 end # all\n";
