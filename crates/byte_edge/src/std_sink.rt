@@ -67,7 +67,7 @@ impl<W: Write> Sink for StdSink<W> {
 #[cfg(test)]
 mod tests {
     use super::*;
-    use std::io;
+    use std::io::{self, BufWriter};
     use std::test::Fail;
 
     #[test]
@@ -77,6 +77,18 @@ mod tests {
         assert_eq!(rt; sink.write(b"de"), Ok(2));
         assert_eq!(rt; sink.flush(), Ok(()));
         assert_eq!(rt; sink.writer.as_slice(), b"abcde".as_slice());
+        assert_eq!(rt; sink.faults, 0);
+        Ok(())
+    }
+
+    #[test]
+    fn a_flush_reaches_the_writer_behind_a_buffer(rt: HostRuntime) -> Result<(), Fail> {
+        let buffered = BufWriter::new(rt.alloc(), Vec::new(rt.alloc()))?;
+        let mut sink = StdSink::new(buffered);
+        assert_eq!(rt; sink.write(b"abc"), Ok(3));
+        assert_eq!(rt; sink.writer.get_ref().len(), 0);
+        assert_eq!(rt; sink.flush(), Ok(()));
+        assert_eq!(rt; sink.writer.get_ref().as_slice(), b"abc".as_slice());
         assert_eq!(rt; sink.faults, 0);
         Ok(())
     }
