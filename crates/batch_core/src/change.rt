@@ -138,4 +138,45 @@ mod tests {
         }
         Ok(())
     }
+
+    #[test]
+    fn a_copy_is_the_same_change(rt: HostRuntime) -> Result<(), Fail> {
+        let mut ballots = Ballots::new(rt.alloc(), 3);
+        let ranking = Ranking::try_new(rt.alloc(), 3, &[3, 1])?;
+        ballots.push_line(BallotLine { count: 7, ranking })?;
+        let entered = Change::Enter { batch: 5, ballots };
+        let Change::Enter { batch, ballots } = entered.copy(rt.alloc())? else {
+            return Err(Fail::from("another kind of change"));
+        };
+        assert_eq!(rt; (batch, ballots.total(), ballots.lines().len()), (5, 7, 1));
+        let corrected = Change::Correct {
+            batch: 6,
+            revision: 2,
+            ballots,
+        };
+        let Change::Correct {
+            batch,
+            revision,
+            ballots,
+        } = corrected.copy(rt.alloc())?
+        else {
+            return Err(Fail::from("another kind of change"));
+        };
+        assert_eq!(rt; (batch, revision, ballots.total()), (6, 2, 7));
+        let gone = Change::Withdraw {
+            batch: 9,
+            revision: 3,
+        };
+        let copy = gone.copy(rt.alloc())?;
+        assert!(rt;
+            matches!(
+                copy,
+                Change::Withdraw {
+                    batch: 9,
+                    revision: 3
+                }
+            )
+        );
+        Ok(())
+    }
 }
