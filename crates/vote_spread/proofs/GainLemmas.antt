@@ -56,7 +56,7 @@ gains_agree n m s keeps c ws vs [] walk deep same agree = refl
 gains_agree n m s keeps c ws vs (stem ∷ stems) walk deep same agree =
     let one : 1 ≤ stem.depth = walk.0.below_root in
     let le : stem.depth ≤ m = walk.0.not_too_deep in
-    let shallow : stem.depth ≤ 250 = walk.0.shallow in
+    let shallow : stem.depth ≤ 250 = omega (arith, walk.0.shallow) in
     let here : reached ws stem ≡ reached vs stem = agree (stem.depth - 1) (omega arith) in
     let leaves : left s keeps ws stem ≡ left s keeps vs stem = ap (λ w. w - kept s keeps w stem.candidate) here in
     let gives : gain s keeps c ws stem ≡ gain s keeps c vs stem = ap (λ w. stem.ballots * given s keeps w (stem.candidate ∷ stem.tail) c) here in
@@ -98,7 +98,7 @@ gains_zero n m a s keeps c ws (stem ∷ sub) rest walk low pos deep zeros zero l
 gains_zero n m a s keeps c ws (stem ∷ sub) rest walk low pos deep zeros (suc t) lt =
     let one : 1 ≤ stem.depth = walk.0.below_root in
     let le : stem.depth ≤ m = walk.0.not_too_deep in
-    let shallow : stem.depth ≤ 250 = walk.0.shallow in
+    let shallow : stem.depth ≤ 250 = omega (arith, walk.0.shallow) in
     let from : a ≤ stem.depth = low 0 stem (omega arith) in
     let none : reached ws stem ≡ 0 = zeros (stem.depth - 1) (omega arith) (omega arith) in
     let zeros' : (j : ℕ) → a ≤ j + 1 → j < stem.depth + 1 → get_or (past s keeps ws stem) j 0 ≡ 0 =

@@ -1,7 +1,7 @@
 -- What lanes count together.
-use Rattle.std.proofs.Common.{◌≡◌, ℕ, ◌+◌, ◌-◌, ◌*◌, ◌/◌, ◌<◌, ◌≤◌, List, [], ◌∷◌, length, get_or, drop, take, sum, sum_by, replicate, arith, refl, ap, sym, subst, ◌∙◌, zero, suc}
+use Rattle.std.proofs.Common.{◌≡◌, ℕ, Bool, ◌+◌, ◌-◌, ◌*◌, ◌/◌, ◌<◌, ◌≤◌, List, [], ◌∷◌, length, get_or, drop, take, sum, sum_by, replicate, arith, refl, ap, sym, subst, ◌∙◌, zero, suc}
 use Rattle.std.specs.List.{All}
-use Rattle.std.proofs.lemmas.List.{append-nil, length-replicate, get_or-set_same, length-set, take-take, take_all}
+use Rattle.std.proofs.lemmas.List.{append-nil, length-replicate, get_or-set_same, get_or-map, length-map, length-set, take-take, take_all}
 use Rattle.std.proofs.Math.Nat.{add-mul, mul-le-mul_right, mul-le-mul_left, zero-div, div-mul-le_self, lt_of_mul-lt-mul_right, mul-div_cancel}
 use Rattle.std.proofs.lemmas.List.FromFn.{fill_by_all}
 use Rattle.std.proofs.lemmas.List.Sums.{sum_by-cons, sum_by_more, sum_by-take-drop}
@@ -11,8 +11,10 @@ use Rattle.vote_spread.specs.Stem.{Stem}
 use Rattle.vote_spread.specs.Walk.{IsWalk}
 use Rattle.vote_spread.specs.Gain.{gains, opening}
 use Rattle.vote_spread.specs.Packed.{StandFor}
+use Rattle.vote_spread.specs.declared.class.Class.{Class}
 use Rattle.vote_spread.specs.Shares.{share, share_of, CanCount, HasCounted}
-use Rattle.vote_spread.specs.Lanes.{LanesSeen, AreLoaded, AreReady, HaveCounted, HaveRun}
+use Rattle.vote_spread.specs.LaneSeen.{LaneSeen, tallies_of, HaveRun}
+use Rattle.vote_spread.specs.Lanes.{LanesSeen, AreLoaded, AreReady, HaveCounted}
 use Rattle.vote_spread.proofs.GainLemmas.{length-gains}
 
 -- the stems give each candidate its vote
@@ -46,8 +48,8 @@ vote-le s most keeps ballots c pos whole bound few =
     omega arith
 
 -- lanes that are ready can count
-pub can_count : (s most : ℕ) (ballots : List (List ℕ)) (stems : List Stem) (keeps : List ℕ) (tallies : List (List ℕ)) → 1 ≤ s → 1000000000 * s ≡ most → AreReady s ballots stems keeps tallies → CanCount s most keeps stems
-can_count s most ballots stems keeps tallies pos whole ready = record {
+pub can_count : (s most : ℕ) (ballots : List (List ℕ)) (stems : List Stem) (keeps : List ℕ) (classes : List Class) (stale : Bool) (lanes : List LaneSeen) → 1 ≤ s → 1000000000 * s ≡ most → AreReady s ballots stems keeps classes stale lanes → CanCount s most keeps stems
+can_count s most ballots stems keeps classes stale lanes pos whole ready = record {
   walk = stems_walk (length keeps) stems ballots ready.stand;
   at_most_one = ready.at_most_one;
   room =
@@ -60,7 +62,7 @@ can_count s most ballots stems keeps tallies pos whole ready = record {
 near : (a b n : ℕ) → 1 ≤ n → a ≤ b → a / n * n < (b / n + 1) * n
 near a b n some le = omega (arith, div-mul-le_self a n)
 
-share_rises : (len k lanes : ℕ) → 1 ≤ lanes → share len k lanes ≤ share len (k + 1) lanes
+pub share_rises : (len k lanes : ℕ) → 1 ≤ lanes → share len k lanes ≤ share len (k + 1) lanes
 share_rises len k lanes some =
     let le : len * k ≤ len * (k + 1) = mul-le-mul_left len (omega arith) in
     let less : len * k / lanes * lanes < (len * (k + 1) / lanes + 1) * lanes = near (len * k) (len * (k + 1)) lanes some le in
@@ -91,34 +93,50 @@ first_lanes s keeps stems p lanes tallies d (suc m) some le each =
     let both = parts_together (gains s keeps (p + 1) (opening s) stems) (share len m lanes) (share len (m + 1) lanes) (share_rises len m lanes some) in
     subst (λ (q : ℕ). sum_by f (take q tallies) ≡ up_to s keeps (p + 1) stems q lanes) (sym next) (omega arith)
 
+-- what stands past the end of lanes
+none : LaneSeen
+none = record { tally = []; rows = []; room = 0 }
+
 -- all lanes together count the votes
-pub lanes_vote : (s : ℕ) (ballots : List (List ℕ)) (stems : List Stem) (keeps : List ℕ) (tallies : List (List ℕ)) (p : ℕ) → 1 ≤ length tallies → p < length keeps → StandFor (length keeps) 1 stems ballots → HaveRun s keeps stems 0 (length tallies) tallies → sum_by (λ tally. get_or tally p 0) tallies ≡ vote s keeps ballots (p + 1)
-lanes_vote s ballots stems keeps tallies p some below stand run =
-    let lanes = length tallies in
+pub lanes_vote : (s : ℕ) (ballots : List (List ℕ)) (stems : List Stem) (keeps : List ℕ) (lanes : List LaneSeen) (p : ℕ) → 1 ≤ length lanes → p < length keeps → StandFor (length keeps) 1 stems ballots → HaveRun s keeps stems 0 (length lanes) lanes → sum_by (λ tally. get_or tally p 0) (tallies_of lanes) ≡ vote s keeps ballots (p + 1)
+lanes_vote s ballots stems keeps lanes p some below stand run =
+    let n = length lanes in
+    let tallies = tallies_of lanes in
+    let many : length tallies ≡ n = length-map lanes (λ (l : LaneSeen). l.tally) in
     let xs = gains s keeps (p + 1) (opening s) stems in
     let f : List ℕ → ℕ = λ tally. get_or tally p 0 in
-    let each : (k : ℕ) → k < lanes → f (get_or tallies k []) ≡ share_of s keeps (p + 1) stems k lanes =
-    λ k lt. (subst (λ (q : ℕ). HasCounted s keeps stems q lanes (get_or tallies k [])) (omega arith) (run.each k [] lt)).share p below in
-    let whole : share (length stems) lanes lanes ≡ length stems = mul-div_cancel (length stems) some in
+    let each : (k : ℕ) → k < length tallies → f (get_or tallies k []) ≡ share_of s keeps (p + 1) stems k n =
+    λ k lt.
+    let inside : k < n = omega arith in
+    let same : 0 + k ≡ k = omega arith in
+    ap f (get_or-map (λ (l : LaneSeen). l.tally) lanes k none [] inside)
+    ∙ (subst (λ (q : ℕ). HasCounted s keeps stems q n (get_or lanes k none).tally) same (run.each k none inside)).share p below in
+    let whole : share (length stems) n n ≡ length stems = mul-div_cancel (length stems) some in
     let long = length-gains s keeps (p + 1) (opening s) stems in
-    ap (sum_by f) (sym (take_all lanes tallies (omega arith)))
-    ∙ (first_lanes s keeps stems p lanes tallies [] lanes some (omega arith) each
+    ap (sum_by f) (sym (take_all n tallies (omega arith)))
+    ∙ (first_lanes s keeps stems p n tallies [] n some (omega arith) each
     ∙ (ap (λ m. sum (take m xs)) whole
     ∙ (ap sum (take_all (length stems) xs (omega arith)) ∙ stems_give (length keeps) s stems ballots keeps (p + 1) stand)))
 
 -- lanes that have run have counted
-pub have_counted : (s : ℕ) (stems : List Stem) (old now : LanesSeen) (new : List (List ℕ)) → now ≡ old → old.scale ≡ s → AreReady now.scale now.ballots stems now.keeps now.tallies → length new ≡ length now.tallies → HaveRun s now.keeps stems 0 (length now.tallies) new → HaveCounted old (record { scale = now.scale; ballots = now.ballots; keeps = now.keeps; tallies = new })
-have_counted s stems old now new is at ready many run =
+pub have_counted : (s : ℕ) (stems : List Stem) (classes : List Class) (stale : Bool) (before new : List LaneSeen) (old now : LanesSeen) → now ≡ old → old.scale ≡ s → AreReady now.scale now.ballots stems now.keeps classes stale before → length new ≡ length before → HaveRun s now.keeps stems 0 (length before) new → HaveCounted old (record { scale = now.scale; ballots = now.ballots; keeps = now.keeps; tallies = tallies_of new })
+have_counted s stems classes stale before new old now is at ready many run =
     let scaled : now.scale ≡ s = ap (λ (l : LanesSeen). l.scale) is ∙ at in
     let ran : HaveRun now.scale now.keeps stems 0 (length new) new =
     subst (λ q. HaveRun q now.keeps stems 0 (length new) new) (sym scaled) (subst (λ q. HaveRun s now.keeps stems 0 q new) (sym many) run) in
-    subst (λ (l : LanesSeen). HaveCounted l (record { scale = now.scale; ballots = now.ballots; keeps = now.keeps; tallies = new })) is
+    subst (λ (l : LanesSeen). HaveCounted l (record { scale = now.scale; ballots = now.ballots; keeps = now.keeps; tallies = tallies_of new })) is
     (record {
       same_scale = refl;
       same_ballots = refl;
       same_keeps = refl;
       votes = λ p lt. lanes_vote now.scale now.ballots stems now.keeps new p (omega (arith, ready.some)) lt ready.stand ran;
     })
+
+-- the sum over the lanes' tallies
+pub sum_tallies : (p : ℕ) (lanes : List LaneSeen) → sum_by (λ tally. get_or tally p 0) (tallies_of lanes) ≡ sum_by (λ (lane : LaneSeen). get_or lane.tally p 0) lanes
+sum_tallies p [] = refl
+sum_tallies p (lane ∷ lanes) =
+    omega (arith, sum_tallies p lanes, sum_by-cons (λ (tally : List ℕ). get_or tally p 0) lane.tally (tallies_of lanes), sum_by-cons (λ (l : LaneSeen). get_or l.tally p 0) lane lanes)
 
 -- what lanes that were loaded have counted
 pub loaded_votes : (s : ℕ) (keeps : List ℕ) (old loaded new : LanesSeen) → old.scale ≡ s → AreLoaded keeps old loaded → HaveCounted loaded new → (p : ℕ) → p < length keeps → sum_by (λ tally. get_or tally p 0) new.tallies ≡ vote s keeps old.ballots (p + 1)

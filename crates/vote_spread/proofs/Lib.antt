@@ -1,9 +1,15 @@
 pub mod GainLemmas
 pub mod WalkLemmas
-pub mod BranchLemmas
 pub mod StemLemmas
 pub mod StandLemmas
 pub mod RowLemmas
 pub mod PackLemmas
 pub mod PlanLemmas
 pub mod LaneLemmas
+pub mod ClassLemmas
+pub mod TotalLemmas
+pub mod FollowLemmas
+pub mod PlaceLemmas
+pub mod CondenseLemmas
+pub mod BranchLemmas
+pub mod VisitLemmas

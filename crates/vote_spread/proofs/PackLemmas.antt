@@ -138,7 +138,7 @@ tail_of d c k inner rows low pos grown last says rest =
                 (ap ballots_of says
                 ∙ (append-nil (map (λ r. c ∷ r) (replicate k [] ++ ballots_of inner))
                 ∙ (ap (map (λ r. c ∷ r)) alike.alike ∙ map-same m (λ r. c ∷ r) ranks))) in
-                subst (StandFor n d (stem ∷ [])) ballots (stand-tail n d c m ranks pos whole.2 (omega (arith, whole.0)) whole.1 alike.known);
+                subst (StandFor n d (stem ∷ [])) ballots (stand-tail n d c m ranks pos (omega (arith, alike.short, length-map below (λ (r : PlanRow). r.candidate))) (omega (arith, whole.0)) whole.1 alike.known);
           };
     }
 

@@ -82,7 +82,7 @@ stand-node n d k ends low inner one shallow number known stand =
             record {
               below_root = one;
               not_too_deep = omega arith;
-              shallow = shallow;
+              shallow = omega arith;
               candidate = number;
               known = known;
               ranks = λ j e lt. absurd (omega arith);
@@ -117,7 +117,7 @@ stand-node n d k ends low inner one shallow number known stand =
     }
 
 -- A node whose ballots all go on with the same candidates and end there.
-pub stand-tail : (n d k m : ℕ) (tail : List ℕ) → 1 ≤ d → d ≤ 250 → 1 ≤ k → k ≤ n → All (λ r. (1 ≤ r) × (r ≤ n)) tail → StandFor n d (record { depth = d; candidate = k; ballots = m; skip = 1; tail = tail } ∷ []) (replicate m (k ∷ tail))
+pub stand-tail : (n d k m : ℕ) (tail : List ℕ) → 1 ≤ d → d + length tail ≤ 250 → 1 ≤ k → k ≤ n → All (λ r. (1 ≤ r) × (r ≤ n)) tail → StandFor n d (record { depth = d; candidate = k; ballots = m; skip = 1; tail = tail } ∷ []) (replicate m (k ∷ tail))
 stand-tail n d k m tail one shallow number known ranks =
     let stem : Stem = record { depth = d; candidate = k; ballots = m; skip = 1; tail = tail } in
     record {

@@ -1,9 +1,11 @@
 -- Workers' lanes, and what they count.
-use Rattle.std.specs.Prelude.{◌≡◌, ℕ, ◌+◌, ◌<◌, ◌≤◌, List, length, slice_index, slice_index_or, sum_by, All}
+use Rattle.std.specs.Prelude.{◌≡◌, ℕ, ◌+◌, ◌<◌, ◌≤◌, Bool, List, length, slice_index, sum_by, All}
 use Rattle.meek_rule.specs.Weights.{vote}
 use Rattle.vote_spread.specs.Stem.{Stem}
 use Rattle.vote_spread.specs.Packed.{StandFor}
-use Rattle.vote_spread.specs.Shares.{HasCounted}
+use Rattle.vote_spread.specs.declared.class.Class.{Class}
+use Rattle.vote_spread.specs.Class.{AreOf}
+use Rattle.vote_spread.specs.LaneSeen.{LaneSeen, AreFit}
 
 -- lanes that count single ballots at these keep values, where `scale` units are one vote, and each lane's tally
 pub record LanesSeen : Type 0 where
@@ -12,14 +14,17 @@ pub record LanesSeen : Type 0 where
   pub keeps : List ℕ
   pub tallies : List (List ℕ)
 
--- From 1 to 32 lanes, each with a tally for all candidates, over stems that stand for these ballots.
-pub record AreReady (s : ℕ) (ballots : List (List ℕ)) (stems : List Stem) (keeps : List ℕ) (tallies : List (List ℕ)) : Type 0 where
+-- From 1 to 32 lanes, each with a tally for all candidates and fit for its share, over stems that stand for these
+-- ballots. The candidates have these classes.
+pub record AreReady (s : ℕ) (ballots : List (List ℕ)) (stems : List Stem) (keeps : List ℕ) (classes : List Class) (stale : Bool) (lanes : List LaneSeen) : Type 0 where
   pub stand : StandFor (length keeps) 1 stems ballots
   pub few_ballots : length ballots ≤ 999999999
   pub at_most_one : All (λ k. k ≤ s) keeps
-  pub some : 1 ≤ length tallies
-  pub few : length tallies ≤ 32
-  pub of_all : All (λ tally. length tally ≡ length keeps) tallies
+  pub some : 1 ≤ length lanes
+  pub few : length lanes ≤ 32
+  pub of_all : All (λ lane. length lane.tally ≡ length keeps) lanes
+  pub classes_are : AreOf s keeps classes
+  pub fit : AreFit stale classes stems 0 (length lanes) lanes
 
 -- The tallies of all lanes together are the votes at the keep values. All else is as before.
 pub record HaveCounted (old new : LanesSeen) : Type 0 where
@@ -27,10 +32,6 @@ pub record HaveCounted (old new : LanesSeen) : Type 0 where
   pub same_ballots : new.ballots ≡ old.ballots
   pub same_keeps : new.keeps ≡ old.keeps
   pub votes : (p : ℕ) → p < length old.keeps → sum_by (λ tally. slice_index tally p) new.tallies ≡ vote old.scale old.keeps old.ballots (p + 1)
-
--- some lanes from lane `first` on of so many have counted their shares
-pub record HaveRun (s : ℕ) (keeps : List ℕ) (stems : List Stem) (first lanes : ℕ) (tallies : List (List ℕ)) : Type 0 where
-  pub each : (k : ℕ) (d : List ℕ) → k < length tallies → HasCounted s keeps stems (first + k) lanes (slice_index_or tallies k d)
 
 -- These keep values are taken over. All else is as before, but for the tallies.
 pub record AreLoaded (keeps : List ℕ) (old new : LanesSeen) : Type 0 where

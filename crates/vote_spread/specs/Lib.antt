@@ -1,7 +1,10 @@
 pub mod Stem
 pub mod Gain
 pub mod Walk
+pub mod Class
+pub mod Rows
 pub mod Packed
 pub mod Shares
+pub mod LaneSeen
 pub mod Lanes
 pub mod Runs

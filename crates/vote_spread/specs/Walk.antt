@@ -8,12 +8,12 @@ abbrev pub IsFrom : ℕ → List Stem → Type 0
 IsFrom d [] = Unit {0}
 IsFrom d (stem ∷ stems) = stem.depth ≤ d
 
--- A stem before other stems: its depth is from 1 to m and at most 250, its candidates are among n, the stems below it
--- stand right behind it and are deeper, and those behind them are not.
+-- A stem before other stems: its depth is from 1 to m and with its tail at most 250, its candidates are among n, the
+-- stems below it stand right behind it and are deeper, and those behind them are not.
 pub record IsPlaced (n m : ℕ) (stem : Stem) (stems : List Stem) : Type 0 where
   pub below_root : 1 ≤ stem.depth
   pub not_too_deep : stem.depth ≤ m
-  pub shallow : stem.depth ≤ 250
+  pub shallow : stem.depth + length stem.tail ≤ 250
   pub candidate : 1 ≤ stem.candidate
   pub known : stem.candidate ≤ n
   pub ranks : All (λ r. (1 ≤ r) × (r ≤ n)) stem.tail

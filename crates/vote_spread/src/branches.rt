@@ -1,13 +1,14 @@
 // The nodes of tries in preorder, packed.
-ghost use Rattle.std.specs.Prelude.{◌≡◌, ℕ, ◌+◌, ◌-◌, ◌^◌, ◌<◌, ◌≤◌, [], ◌∷◌, ◌++◌, All, OnErr, OnOk, length, map, slice_index, slice_index_or, slice_set, sum};
-ghost use Rattle.fixed_place.specs.Rounding.{scale, most};
+ghost use Rattle.std.specs.Prelude.{◌≡◌, ◌+◌, ◌-◌, ◌*◌, ◌^◌, ◌<◌, ◌≤◌, [], ◌∷◌, ◌++◌, All, OnErr, OnOk, length, map, slice_index_or, slice_set, sum_by, vec_capacity};
 ghost use Rattle.vote_spread.specs.Stem.{stem_of_row, closed_stem};
-ghost use Rattle.vote_spread.specs.Gain.{gains, opening, part};
 ghost use Rattle.vote_spread.specs.Walk.{IsWalk};
+ghost use Rattle.vote_spread.specs.Rows.{seen, StandForPart, room_for};
 
 use crate::NoMemory;
 use crate::branch::Branch;
-use crate::walk::walk_part;
+use crate::class::Class;
+use crate::condense::condense;
+use crate::row::Row;
 use frozen_plan::PlanRow;
 use std::alloc::Global;
 use std::marker::Model;
@@ -88,37 +89,45 @@ impl Branches {
         self.list[at] = Branch { skip, ..branch };
     }
 
-    /// Fills the tally with what nodes `from` to `to` give to each candidate.
-    pub(crate) fn walk<const P: usize>(
-        &self,
-        from: usize,
-        to: usize,
-        keeps: &[u64],
-        weights: &mut [u64],
-        tally: &mut [u64],
-    )
-        requires places { P ≤ 9 }
+    /// Makes the rows of nodes `from` to `to` in place of those that stand there, while candidates
+    /// are of these classes.
+    pub(crate) fn condense(&self, from: usize, to: usize, classes: &[Class], rows: &mut Vec<Row>)
         requires range { to ≤ length self.now }
-        requires walk { IsWalk (length tally.old) 1 self.now }
-        requires keeps_of_all { length keeps.now ≡ length tally.old }
-        requires at_most_one { All (λ k. k ≤ scale P) keeps.now }
-        requires depths { length weights.old ≡ 251 }
-        requires room { (p : ℕ) → p < length tally.old → sum (gains (scale P) keeps.now (p + 1) (opening (scale P)) self.now) ≤ most P }
-        ensures depths { length weights.new ≡ 251 }
-        ensures same_length { length tally.new ≡ length tally.old }
-        ensures part { (p : ℕ) → p < length tally.old → slice_index tally.new p ≡ part (scale P) keeps.now (p + 1) self.now from to }
+        requires walk { IsWalk (length classes.now) 1 self.now }
+        requires room { room_for self.now from to ≤ vec_capacity rows.old }
+        ensures capacity { vec_capacity rows.new ≡ vec_capacity rows.old }
+        ensures stand { StandForPart classes.now self.now from to (seen rows.new.items) }
     {
-        let branches = self.list.as_slice();
-        walk_part::<P>(
-            branches,
+        condense(
+            self.list.as_slice(),
             self.tails.as_slice(),
             from,
             to,
-            keeps,
-            weights,
-            tally,
+            classes,
+            rows,
         );
     }
+
+    /// For how many rows there has to be room, whatever the classes are.
+    pub(crate) fn room(&self, from: usize, to: usize) -> usize
+        requires { (from ≤ to) × (to ≤ length self.now) }
+        ensures { result ≡ room_for self.now from to }
+    {
+        from + tail_room(&self.list[from..to])
+    }
+}
+
+/// How many branches there are, with their tails.
+fn tail_room(branches: &[Branch]) -> usize
+    requires { length branches.now < 2 ^ 32 }
+    ensures value { result ≡ sum_by (λ b. b.length + 1) branches.now }
+    ensures few { result ≤ 256 * length branches.now }
+{
+    let mut room = 0;
+    for branch in branches {
+        room += branch.length as usize + 1;
+    }
+    room
 }
 
 /// More nodes are as good as no memory for them.

@@ -1,78 +1,120 @@
 // A worker's lane.
-ghost use Rattle.std.specs.Prelude.{◌≡◌, ℕ, ◌+◌, ◌<◌, ◌≤◌, IfOk, length, replicate};
+ghost use Rattle.std.specs.Prelude.{◌≡◌, ◌+◌, ◌<◌, ◌≤◌, IfOk, false, length, replicate};
 ghost use Rattle.fixed_place.specs.Rounding.{scale, most};
+ghost use Rattle.vote_spread.specs.Class.{AreOf};
 ghost use Rattle.vote_spread.specs.Shares.{share, CanCount, HasCounted};
+ghost use Rattle.vote_spread.specs.LaneSeen.{IsFit};
+ghost use Rattle.vote_spread.specs.Walk.{IsWalk};
 
 use crate::NoMemory;
 use crate::admission::Admission;
 use crate::branches::Branches;
+use crate::class::Class;
+use crate::row::Row;
+use crate::walk::walk;
 use std::alloc::Global;
 use std::marker::Model;
 
-/// What a worker has counted for each candidate, with the weights on its way.
+/// What a worker has counted for each candidate, with the rows of its share and the weights on its
+/// way.
 #[derive(Drop)]
 pub(crate) struct Lane {
+    rows: Vec<Row>,
     weights: Vec<u64>,
     tally: Vec<u64>,
 }
 
 impl Model for Lane {
-    ghost use Rattle.std.specs.Prelude.{◌≡◌, ℕ, List, length};
+    ghost use Rattle.std.specs.Prelude.{◌≡◌, length, vec_capacity};
+    ghost use Rattle.vote_spread.specs.Rows.{seen};
+    ghost use Rattle.vote_spread.specs.LaneSeen.{LaneSeen};
 
-    ghost Value = { List ℕ };
+    ghost Value = { LaneSeen };
 
-    ghost view = { λ lane. lane.tally.items };
+    ghost view = { λ lane. record { tally = lane.tally.items; rows = seen lane.rows.items; room = vec_capacity lane.rows } };
 
     ghost invariant = { λ lane. length lane.weights.items ≡ 251 };
 }
 
 impl Lane {
-    pub(crate) fn new(alloc: Global, candidates: usize) -> Result<Lane, NoMemory>
-        ensures { IfOk result (λ lane. length lane ≡ candidates) }
+    /// A lane for so many candidates, with room for so many rows.
+    pub(crate) fn new(alloc: Global, candidates: usize, room: usize) -> Result<Lane, NoMemory>
+        ensures of_all { IfOk result (λ lane. length lane.tally ≡ candidates) }
+        ensures room { IfOk result (λ lane. lane.room ≡ room) }
     {
+        let Ok(rows) = Vec::with_capacity(alloc, room) else {
+            return Err(NoMemory);
+        };
         Ok(Lane {
+            rows,
             weights: zeros(alloc, 251)?,
             tally: zeros(alloc, candidates)?,
         })
     }
 
     pub(crate) fn tally(&self) -> &[u64]
-        ensures { result.now ≡ self.now }
+        ensures { result.now ≡ self.now.tally }
     {
         self.tally.as_slice()
     }
 
     /// Counts what the share of the branches gives to each candidate that belongs to the lane
-    /// admitted, of so many lanes.
+    /// admitted, of so many lanes. Where the lane's rows are stale they are made anew.
     pub(crate) fn count<const P: usize>(
         &mut self,
         branches: &Branches,
         keeps: &[u64],
+        classes: &[Class],
+        stale: bool,
         admission: Admission,
         count: usize,
     )
         requires places { P ≤ 9 }
         requires number { admission.number < count }
         requires few { count ≤ 32 }
-        requires of_all { length self.old ≡ length keeps.now }
+        requires of_all { length self.old.tally ≡ length keeps.now }
+        requires classes { AreOf (scale P) keeps.now classes.now }
         requires can { CanCount (scale P) (most P) keeps.now branches.now }
-        ensures { HasCounted (scale P) keeps.now branches.now admission.number count self.new }
+        requires fit { IsFit stale classes.now branches.now admission.number count self.old }
+        ensures counted { HasCounted (scale P) keeps.now branches.now admission.number count self.new.tally }
+        ensures fit { IsFit false classes.now branches.now admission.number count self.new }
     {
-        let number = admission.number();
-        let from = share(branches.len(), number, count);
-        let to = share(branches.len(), number + 1, count);
-        branches.walk::<P>(
-            from,
-            to,
+        self.renew(branches, classes, stale, admission.number(), count);
+        walk::<P>(
+            self.rows.as_slice(),
             keeps,
             self.weights.as_mut_slice(),
             self.tally.as_mut_slice(),
         );
     }
+
+    /// Makes the rows of share `number` of so many of the branches in place of those before, where
+    /// those are stale.
+    fn renew(
+        &mut self,
+        branches: &Branches,
+        classes: &[Class],
+        stale: bool,
+        number: usize,
+        count: usize,
+    )
+        requires number { number < count }
+        requires few { count ≤ 32 }
+        requires walk { IsWalk (length classes.now) 1 branches.now }
+        requires fit { IsFit stale classes.now branches.now number count self.old }
+        ensures fit { IsFit false classes.now branches.now number count self.new }
+        ensures same_tally { self.new.tally ≡ self.old.tally }
+    {
+        if stale {
+            let from = share(branches.len(), number, count);
+            let to = share(branches.len(), number + 1, count);
+            branches.condense(from, to, classes, &mut self.rows);
+        }
+    }
 }
 
 /// The first of `len` branches of share `k` of `count`.
-fn share(len: usize, k: usize, count: usize) -> usize
+pub(crate) fn share(len: usize, k: usize, count: usize) -> usize
     requires { (1 ≤ count) × (k ≤ count) × (count ≤ 32) }
     ensures share { result ≡ share len k count }
     ensures within { result ≤ len }

@@ -1,13 +1,19 @@
 // Workers' lanes over the ballots of plans.
-ghost use Rattle.std.specs.Prelude.{◌≡◌, ℕ, ◌<◌, ◌≤◌, All, IfOk, length, slice_index, sum_by, vec_len};
+ghost use Rattle.std.specs.Prelude.{◌≡◌, ℕ, ◌+◌, ◌<◌, ◌≤◌, All, IfOk, List, false, length, map, replicate, slice_index, sum_by, true, vec_len};
 ghost use Rattle.fixed_place.specs.Rounding.{scale, most};
 ghost use Rattle.frozen_plan.specs.Plan.{all_ballots};
+ghost use Rattle.vote_spread.specs.declared.class.Class.{Class};
+ghost use Rattle.vote_spread.specs.Class.{class_of};
+ghost use Rattle.vote_spread.specs.LaneSeen.{AreFit};
 ghost use Rattle.vote_spread.specs.Lanes.{HaveCounted, AreLoaded};
+ghost use Rattle.vote_spread.specs.Rows.{room_for};
+ghost use Rattle.vote_spread.specs.Shares.{share};
 
 use crate::NoMemory;
 use crate::branches::Branches;
+use crate::class::Class;
 use crate::gather::gather;
-use crate::lane::{Lane, zeros};
+use crate::lane::{Lane, share, zeros};
 use crate::pack::pack_plans;
 use crate::run::run_lanes;
 use byte_edge::Gate;
@@ -26,8 +32,11 @@ pub struct Lanes {
     plans: Snapshot<Plans>,
     branches: Branches,
     keeps: Vec<u64>,
+    classes: Vec<Class>,
     lanes: Vec<Lane>,
     has_run: bool,
+    /// Whether a class changed since the lanes made their rows.
+    stale: bool,
 }
 
 /// From so many branches on, lanes run in threads at each distribution: a thread's start costs as
@@ -36,13 +45,14 @@ const MANY: usize = 200_000;
 
 impl Model for Lanes {
     ghost use Rattle.frozen_plan.specs.Plan.{all_ballots};
+    ghost use Rattle.vote_spread.specs.LaneSeen.{tallies_of};
     ghost use Rattle.vote_spread.specs.Lanes.{LanesSeen, AreReady};
 
     ghost Value = { LanesSeen };
 
-    ghost view = { λ l. record { scale = l.scale; ballots = all_ballots l.plans.value; keeps = l.keeps.items; tallies = l.lanes.items } };
+    ghost view = { λ l. record { scale = l.scale; ballots = all_ballots l.plans.value; keeps = l.keeps.items; tallies = tallies_of l.lanes.items } };
 
-    ghost invariant = { λ l. AreReady l.scale (all_ballots l.plans.value) l.branches l.keeps.items l.lanes.items };
+    ghost invariant = { λ l. AreReady l.scale (all_ballots l.plans.value) l.branches l.keeps.items l.classes.items l.stale l.lanes.items };
 }
 
 impl Lanes {
@@ -64,14 +74,17 @@ impl Lanes {
         let ballots = Snapshot::of(&plans);
         let branches = pack_plans(alloc, plans)?;
         let keeps = zeros(alloc, candidates as usize)?;
-        let lanes = lanes_of(alloc, candidates, workers)?;
+        let classes = all_pass(alloc, candidates as usize)?;
+        let lanes = lanes_of(alloc, candidates, workers, &branches)?;
         Ok(Lanes {
             scale: scale_of::<P>(),
             plans: ballots,
             branches,
             keeps,
+            classes,
             lanes,
             has_run: false,
+            stale: true,
         })
     }
 
@@ -91,8 +104,11 @@ impl Lanes {
             in_threads,
             &self.branches,
             self.keeps.as_slice(),
+            self.classes.as_slice(),
+            self.stale,
             self.lanes.as_mut_slice(),
         );
+        self.stale = false;
     }
 
     /// Takes over the keep values at which the ballots are to be distributed.
@@ -102,6 +118,13 @@ impl Lanes {
         ensures { AreLoaded keeps.now self.old self.new }
     {
         copy_units(keeps, self.keeps.as_mut_slice());
+        if classify(
+            self.scale,
+            self.keeps.as_slice(),
+            self.classes.as_mut_slice(),
+        ) {
+            self.stale = true;
+        }
     }
 
     /// Fills a tally with what all lanes have counted.
@@ -126,19 +149,63 @@ fn copy_units<const P: usize>(keeps: &Keeps<P>, units: &mut [u64])
     }
 }
 
-/// So many lanes with buffers for the candidates.
-fn lanes_of(alloc: Global, candidates: u32, workers: u32) -> Result<Vec<Lane>, NoMemory>
+/// Takes over the classes of keep values, of which `one` is the whole, and says whether one changed.
+fn classify(one: u64, keeps: &[u64], classes: &mut [Class]) -> bool
+    requires { length classes.old ≡ length keeps.now }
+    ensures classes { classes.new ≡ map (class_of one) keeps.now }
+    ensures changed { result ≡ false → classes.new ≡ classes.old }
+{
+    let mut changed = false;
+    for i in 0..keeps.len() {
+        let class = Class::of(keeps[i], one);
+        let same = class.is(classes[i]);
+        classes[i] = class;
+        changed |= !same;
+    }
+    changed
+}
+
+/// So many candidates with keep value 0.
+fn all_pass(alloc: Global, len: usize) -> Result<Vec<Class>, NoMemory>
+    ensures { IfOk result (λ list. list.items ≡ replicate len Class.Passes) }
+{
+    match vec![in alloc; Class::Passes; len] {
+        Ok(list) => Ok(list),
+        Err(_) => Err(NoMemory),
+    }
+}
+
+/// So many lanes with buffers for the candidates, and with room for the rows of their shares.
+fn lanes_of(
+    alloc: Global,
+    candidates: u32,
+    workers: u32,
+    branches: &Branches,
+) -> Result<Vec<Lane>, NoMemory>
+    requires { (1 ≤ workers) × (workers ≤ 32) }
     ensures as_many { IfOk result (λ lanes. vec_len lanes ≡ workers) }
-    ensures of_all { IfOk result (λ lanes. All (λ tally. length tally ≡ candidates) lanes.items) }
+    ensures of_all { IfOk result (λ lanes. All (λ lane. length lane.tally ≡ candidates) lanes.items) }
+    ensures fit { IfOk result (λ lanes. (classes : List Class) → AreFit true classes branches.now 0 workers lanes.items) }
 {
     let Ok(mut lanes) = Vec::with_capacity(alloc, workers as usize) else {
         return Err(NoMemory);
     };
-    for _ in 0..workers {
-        let lane = Lane::new(alloc, candidates as usize)?;
+    for k in 0..workers {
+        let room = room_of(branches, k as usize, workers as usize);
+        let lane = Lane::new(alloc, candidates as usize, room)?;
         if lanes.push(lane).is_err() {
             return Err(NoMemory);
         }
     }
     Ok(lanes)
+}
+
+/// For how many rows lane `number` of so many has to have room.
+fn room_of(branches: &Branches, number: usize, count: usize) -> usize
+    requires { (number < count) × (count ≤ 32) }
+    ensures { result ≡ room_for branches.now (share (length branches.now) number count) (share (length branches.now) (number + 1) count) }
+{
+    let from = share(branches.len(), number, count);
+    let to = share(branches.len(), number + 1, count);
+    branches.room(from, to)
 }

@@ -4,12 +4,15 @@
 mod admission;
 mod branch;
 mod branches;
+mod class;
+mod condense;
 mod gather;
 mod lane;
 mod lanes;
 mod no_memory;
 mod pack;
 mod plan_spread;
+mod row;
 mod run;
 mod walk;
 

@@ -12,6 +12,7 @@ use std::process::Abort;
 use std::test::Fail;
 use std::thread::Threads;
 
+mod classes;
 mod gates;
 
 /// Adds a line of ballots among three candidates.
@@ -51,8 +52,8 @@ fn keep_values(alloc: Global, one: Keep<9>, two: Keep<9>, three: Keep<9>) -> Res
 /// Plans of ballots that are dealt out among shards.
 fn plans_of(alloc: Global, ballots: &Ballots, shards: u32) -> Result<Plans, Fail>
     requires shards { 1 ≤ shards }
-    requires candidates { ballots.now.candidates ≡ 3 }
-    ensures candidates { IfOk result (All (λ plan. plan.candidates ≡ 3)) }
+    requires candidates { (1 ≤ ballots.now.candidates) × (ballots.now.candidates ≤ 250) }
+    ensures candidates { IfOk result (All (λ plan. plan.candidates ≡ ballots.now.candidates)) }
     ensures few { IfOk result (λ plans. length (all_ballots plans) ≤ 999999999) }
 {
     lines_stand_for_ballots();

@@ -1,5 +1,6 @@
-use Rattle.std.proofs.Common.{◌≡◌, ℕ, List, slice_index, sum_by, take}
+use Rattle.std.proofs.Common.{◌≡◌, slice_index, sum_by, take}
+use Rattle.vote_spread.specs.LaneSeen.{LaneSeen}
 use Rattle.vote_spread.proofs.gather.sum_at.Given as goal
 
 abbrev pub invariant-loop-lane : goal.invariant-loop-lane
-invariant-loop-lane l = l.sum ≡ sum_by (λ (own : List ℕ). slice_index own l.p) (take l.lane-index l.lanes)
+invariant-loop-lane l = l.sum ≡ sum_by (λ (lane : LaneSeen). slice_index lane.tally l.p) (take l.lane-index l.lanes)
