@@ -1,0 +1,121 @@
+// Who makes an office's passes and takes them in.
+ghost use Rattle.std.specs.Prelude.{◌≡◌, ◌+◌, ◌<◌, ◌++◌, ◌∷◌, [], ℕ, Some, slice_get, OnOk, OnErr, IfOk};
+ghost use Rattle.shard_office.specs.Passes.{own, PassState};
+ghost use Rattle.shard_office.specs.Sight.{GoesOn, nothing_of};
+ghost use Rattle.shard_office.specs.Clerk.{IsTaken};
+
+use crate::meeting::{join_all, split_all};
+use crate::no_memory::NoMemory;
+use crate::office::Office;
+use crate::pass::Pass;
+use crate::seats::Seats;
+use batch_core::Entries;
+use std::alloc::Global;
+use std::marker::Model;
+use std::snapshot::Snapshot;
+
+/// The clerk of an office makes passes for callers and takes them in. Contracts see it as a pass of
+/// caller 0, its desk, with the passes that it took in, as they were then, the greatest number given
+/// and the number of passes that are out.
+#[derive(Drop)]
+pub struct Clerk {
+    pub(crate) office: Snapshot<Office>,
+    pub(crate) seats: Seats,
+    pub(crate) last: u32,
+    pub(crate) teams: u32,
+    pub(crate) taken: Vec<Snapshot<Pass>>,
+    pub(crate) lists: Vec<Entries>,
+}
+
+impl Model for Clerk {
+    ghost use Rattle.std.specs.Prelude.{◌≡◌, ◌+◌, ◌≤◌, [], map, vec_len, vec_capacity};
+    ghost use Rattle.shard_office.specs.Passes.{sight_of, mine_of};
+    ghost use Rattle.shard_office.specs.Clerk.{ClerkState, AreFirst};
+
+    ghost Value = { ClerkState };
+
+    ghost view = { λ c. record {
+      desk = record { office = c.office.value; caller = 0; sight = sight_of c.seats.shards.items c.seats.register; mine = mine_of c.seats.shards.items c.seats.register };
+      taken = map (λ t. t.value) c.taken.items;
+      last_caller = c.last;
+      open_teams = c.teams;
+    } };
+
+    ghost invariant = { λ c.
+        AreFirst c.office.value c.last c.teams (map (λ t. t.value) c.taken.items) c.seats.shards.items c.seats.register
+        × (c.teams + vec_len c.taken ≤ vec_capacity c.taken)
+        × (c.lists.items ≡ [])
+        × (c.office.value.shards ≤ vec_capacity c.lists) };
+}
+
+impl Clerk {
+    /// The greatest number given to a pass, or 0.
+    pub fn last_caller(&self) -> u32
+        ensures { result ≡ self.now.last_caller }
+    {
+        self.last
+    }
+
+    /// How many passes are out. Of those that were taken in the clerk has seen all that they had seen,
+    /// and each had seen the marks of its own entries.
+    pub fn open_teams(&self) -> u32
+        ensures open { result ≡ self.now.open_teams }
+        ensures caller { self.now.desk.caller ≡ 0 }
+        ensures taken { (k : ℕ) (q : PassState) → slice_get self.now.taken k ≡ Some q → IsTaken self.now.desk.office self.now.desk.sight q }
+    {
+        self.teams
+    }
+
+    /// A new pass, with a number above all given before. It has seen what the clerk has seen, and has
+    /// no calls. After want of memory there is none, and the clerk is as it was.
+    pub fn team(&mut self, alloc: Global, office: &Office, caller: u32) -> Result<Pass, NoMemory>
+        requires office { self.old.desk.office ≡ office.now }
+        requires caller { self.old.last_caller < caller }
+        ensures desk { self.new.desk ≡ self.old.desk }
+        ensures taken { self.new.taken ≡ self.old.taken }
+        ensures made { IfOk result (λ pass. pass ≡ record { office = office.now; caller = caller; sight = self.old.desk.sight; mine = nothing_of self.old.desk.sight }) }
+        ensures own { IfOk result (λ pass. own pass ≡ []) }
+        ensures last { OnOk result (self.new.last_caller ≡ caller) }
+        ensures open_teams { OnOk result (self.new.open_teams ≡ self.old.open_teams + 1) }
+        ensures refused { OnErr result (self.new ≡ self.old) }
+    {
+        let Ok(()) = self.taken.reserve(self.teams as usize + 1) else {
+            return Err(NoMemory);
+        };
+        let Ok(mut shards) = Vec::with_capacity(alloc, office.locks.len()) else {
+            return Err(NoMemory);
+        };
+        split_all(&office.locks, &mut self.seats.shards, caller, &mut shards);
+        let register = office.register.split(&mut self.seats.register, caller);
+        self.last = caller;
+        self.teams += 1;
+        Ok(Pass {
+            office: Snapshot::of(office),
+            caller,
+            seats: Seats { shards, register },
+        })
+    }
+
+    /// Takes a pass in. The clerk has then seen all that either had seen; its own calls stay, and so do
+    /// the passes taken in before.
+    pub fn take_in(&mut self, office: &Office, pass: Pass)
+        requires office { (self.old.desk.office ≡ office.now) × (pass.office ≡ office.now) }
+        ensures office { self.new.desk.office ≡ self.old.desk.office }
+        ensures caller { self.new.desk.caller ≡ self.old.desk.caller }
+        ensures goes_on { GoesOn self.old.desk.sight self.new.desk.sight }
+        ensures begins { GoesOn pass.sight self.new.desk.sight }
+        ensures own { own self.new.desk ≡ own self.old.desk }
+        ensures mine { self.new.desk.mine ≡ self.old.desk.mine }
+        ensures taken { self.new.taken ≡ self.old.taken ++ pass ∷ [] }
+        ensures last { self.new.last_caller ≡ self.old.last_caller }
+        ensures open_teams { self.new.open_teams + 1 ≡ self.old.open_teams }
+    {
+        let about = Snapshot::of(&pass);
+        let Pass { seats, .. } = pass;
+        let Seats { shards, register } = seats;
+        join_all(&office.locks, &mut self.seats.shards, shards);
+        office.register.join(&mut self.seats.register, register);
+        self.teams -= 1;
+        self.taken.push_reserved(about);
+    }
+}
