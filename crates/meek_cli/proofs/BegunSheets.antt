@@ -1,72 +1,77 @@
 -- How the counts of a day are begun, one after another.
-use Rattle.std.proofs.Common.{◌≡◌, ◌⊎◌, ℕ, List, [], ◌∷◌, ◌++◌, length, map, refl, sym, ap, ◌∙◌, subst, inl, inr}
+use Rattle.std.proofs.Common.{◌≡◌, ◌⊎◌, ℕ, ◌≤◌, List, [], ◌∷◌, ◌++◌, length, map, refl, sym, ap, ◌∙◌, subst, inl, inr}
 use Rattle.std.specs.Prelude.{All}
-use Rattle.std.specs.List.{zip}
 use Rattle.std.proofs.lemmas.List.{append-nil, append_assoc}
 use Rattle.std.proofs.lemmas.List.Elements.{All-nil, All-head, All-tail, All-push}
-use Rattle.candidate_roll.specs.Roll.{RollList}
-use Rattle.meek_cli.specs.Desk.{Stood}
-use Rattle.meek_cli.specs.DueSheets.{SheetDue, due_of, HasSheet}
+use Rattle.meek_cli.specs.declared.sheet_head.SheetHead.{SheetHead}
+use Rattle.meek_cli.specs.DueSheets.{SheetDue, due_of, dues_of, IsHeadOf, HasSheet}
 
-abbrev pub due_by : ℕ → List ℕ → RollList × Stood → SheetDue
-due_by omega lots each = due_of omega each.0 lots each.1
+module _ {D : Type 0} (ballots : D → List (List ℕ)) (candidates : D → ℕ) (can : D → Type 0) (places omega : ℕ) (lots : List ℕ) where
+  -- these sheets are begun, and those of these heads and distributions are left
+  pub record IsBeginning (all begun : List SheetDue) (heads : List SheetHead) (spreads : List D) : Type 0 where
+    pub whole : begun ++ dues_of omega lots heads (map ballots spreads) ≡ all
+    pub sheets : All (HasSheet places) begun
+    pub heads_of_all : All (IsHeadOf (length lots)) heads
+    pub can_spread : All can spreads
+    pub spreads_of_all : All (λ s. candidates s ≡ length lots) spreads
+    pub few : All (λ s. length (ballots s) ≤ 999999999) spreads
 
-abbrev pub IsRollOf : ℕ → RollList → Type 0
-IsRollOf n roll = length roll.names ≡ n
+  module _ {all begun : List SheetDue} {heads : List SheetHead} {spreads : List D} (so_far : IsBeginning all begun heads spreads) where
+    pub begun_more :
+        (head : SheetHead) (heads' : List SheetHead) (s : D) (spreads' : List D) (due : SheetDue) → heads ≡ head ∷ heads' → spreads ≡ s ∷ spreads'
+        → due ≡ due_of omega lots head (ballots s) → HasSheet places due → IsBeginning all (begun ++ due ∷ []) heads' spreads'
+    begun_more head heads' s spreads' due is_head is_spread is sheet =
+        let rest = dues_of omega lots heads' (map ballots spreads') in
+        let Of : D → Type 0 = λ x. candidates x ≡ length lots in
+        let Few : D → Type 0 = λ x. length (ballots x) ≤ 999999999 in
+        record {
+          whole =
+              append_assoc begun (due ∷ []) rest
+              ∙ (ap (λ (d : SheetDue). begun ++ d ∷ rest) is
+              ∙ ((λ i. begun ++ dues_of omega lots (sym is_head i) (map ballots (sym is_spread i))) ∙ so_far.whole));
+          sheets = All-push (HasSheet places) begun due so_far.sheets sheet;
+          heads_of_all = All-tail (IsHeadOf (length lots)) head heads' (subst (All (IsHeadOf (length lots))) is_head so_far.heads_of_all);
+          can_spread = All-tail can s spreads' (subst (All can) is_spread so_far.can_spread);
+          spreads_of_all = All-tail Of s spreads' (subst (All Of) is_spread so_far.spreads_of_all);
+          few = All-tail Few s spreads' (subst (All Few) is_spread so_far.few);
+        }
 
-abbrev pub IsStoodOf : ℕ → Stood → Type 0
-IsStoodOf n stood = stood.ballots.candidates ≡ n
+    pub next_head : (head : SheetHead) (heads' : List SheetHead) → heads ≡ head ∷ heads' → IsHeadOf (length lots) head
+    next_head head heads' is = All-head (IsHeadOf (length lots)) head heads' (subst (All (IsHeadOf (length lots))) is so_far.heads_of_all)
 
--- these sheets are begun, and those of these rolls and freezes are left
-pub record IsBeginning (places omega : ℕ) (lots : List ℕ) (all begun : List SheetDue) (rolls : List RollList) (frozen : List Stood) : Type 0 where
-  pub whole : begun ++ map (due_by omega lots) (zip rolls frozen) ≡ all
-  pub sheets : All (HasSheet places) begun
-  pub rolls_of_all : All (IsRollOf (length lots)) rolls
-  pub ballots_of_all : All (IsStoodOf (length lots)) frozen
+    pub next_can : (s : D) (spreads' : List D) → spreads ≡ s ∷ spreads' → can s
+    next_can s spreads' is = All-head can s spreads' (subst (All can) is so_far.can_spread)
 
-module _ {places omega : ℕ} {lots : List ℕ} {all begun : List SheetDue} {rolls : List RollList} {frozen : List Stood} (so_far : IsBeginning places omega lots all begun rolls frozen) where
-  pub next_roll : (roll : RollList) (others : List RollList) → rolls ≡ roll ∷ others → IsRollOf (length lots) roll
-  next_roll roll others is = All-head (IsRollOf (length lots)) roll others (subst (All (IsRollOf (length lots))) is so_far.rolls_of_all)
+    pub next_of_all : (s : D) (spreads' : List D) → spreads ≡ s ∷ spreads' → candidates s ≡ length lots
+    next_of_all s spreads' is =
+        let Of : D → Type 0 = λ x. candidates x ≡ length lots in
+        All-head Of s spreads' (subst (All Of) is so_far.spreads_of_all)
 
-  pub next_stood : (stood : Stood) (others : List Stood) → frozen ≡ stood ∷ others → IsStoodOf (length lots) stood
-  next_stood stood others is = All-head (IsStoodOf (length lots)) stood others (subst (All (IsStoodOf (length lots))) is so_far.ballots_of_all)
+    pub next_few : (s : D) (spreads' : List D) → spreads ≡ s ∷ spreads' → length (ballots s) ≤ 999999999
+    next_few s spreads' is =
+        let Few : D → Type 0 = λ x. length (ballots x) ≤ 999999999 in
+        All-head Few s spreads' (subst (All Few) is so_far.few)
 
-  pub begun_more :
-      (roll : RollList) (rolls' : List RollList) (stood : Stood) (frozen' : List Stood) (due : SheetDue)
-      → rolls ≡ roll ∷ rolls' → frozen ≡ stood ∷ frozen' → due ≡ due_of omega roll lots stood → HasSheet places due
-      → IsBeginning places omega lots all (begun ++ due ∷ []) rolls' frozen'
-  begun_more roll rolls' stood frozen' due is_roll is_stood is sheet =
-      let rest = map (due_by omega lots) (zip rolls' frozen') in
-      record {
-        whole =
-            append_assoc begun (due ∷ []) rest
-            ∙ (ap (λ (d : SheetDue). begun ++ d ∷ rest) is
-            ∙ ((λ i. begun ++ map (due_by omega lots) (zip (sym is_roll i) (sym is_stood i))) ∙ so_far.whole));
-        sheets = All-push (HasSheet places) begun due so_far.sheets sheet;
-        rolls_of_all = All-tail (IsRollOf (length lots)) roll rolls' (subst (All (IsRollOf (length lots))) is_roll so_far.rolls_of_all);
-        ballots_of_all = All-tail (IsStoodOf (length lots)) stood frozen' (subst (All (IsStoodOf (length lots))) is_stood so_far.ballots_of_all);
-      }
+    nothing_left : (heads ≡ []) ⊎ (spreads ≡ []) → dues_of omega lots heads (map ballots spreads) ≡ []
+    nothing_left (inl is) = ap (λ (l : List SheetHead). dues_of omega lots l (map ballots spreads)) is
+    nothing_left (inr is) = ap (λ (l : List D). dues_of omega lots heads (map ballots l)) is ∙ no_spreads heads
+      where
+        no_spreads : (l : List SheetHead) → dues_of omega lots l [] ≡ []
+        no_spreads [] = refl
+        no_spreads (h ∷ hs) = refl
 
-  nothing_left : (rolls ≡ []) ⊎ (frozen ≡ []) → zip rolls frozen ≡ []
-  nothing_left (inl is) = ap (λ (l : List RollList). zip l frozen) is
-  nothing_left (inr is) = ap (λ (l : List Stood). zip rolls l) is ∙ no_freezes rolls
-    where
-      no_freezes : (l : List RollList) → zip l (let none : List Stood = [] in none) ≡ []
-      no_freezes [] = refl
-      no_freezes (r ∷ rs) = refl
+    pub begun_all : (heads ≡ []) ⊎ (spreads ≡ []) → begun ≡ all
+    begun_all left = sym (append-nil begun) ∙ (ap (λ (l : List SheetDue). begun ++ l) (sym (nothing_left left)) ∙ so_far.whole)
 
-  pub begun_all : (rolls ≡ []) ⊎ (frozen ≡ []) → begun ≡ all
-  begun_all left =
-      sym (append-nil begun) ∙ (ap (λ (l : List (RollList × Stood)). begun ++ map (due_by omega lots) l) (sym (nothing_left left)) ∙ so_far.whole)
-
-pub begun_none :
-    (places omega : ℕ) (lots : List ℕ) (rolls rolls' : List RollList) (frozen frozen' : List Stood) (begun : List SheetDue)
-    → begun ≡ [] → rolls' ≡ rolls → frozen' ≡ frozen → All (IsRollOf (length lots)) rolls
-    → All (IsStoodOf (length lots)) frozen
-    → IsBeginning places omega lots (map (due_by omega lots) (zip rolls frozen)) begun rolls' frozen'
-begun_none places omega lots rolls rolls' frozen frozen' begun none is_rolls is_frozen of_rolls of_frozen = record {
-  whole = λ i. none i ++ map (due_by omega lots) (zip (is_rolls i) (is_frozen i));
-  sheets = subst (All (HasSheet places)) (sym none) (All-nil (HasSheet places));
-  rolls_of_all = subst (All (IsRollOf (length lots))) (sym is_rolls) of_rolls;
-  ballots_of_all = subst (All (IsStoodOf (length lots))) (sym is_frozen) of_frozen;
-}
+  pub begun_none :
+      (heads heads' : List SheetHead) (spreads spreads' : List D) (begun : List SheetDue) → begun ≡ [] → heads' ≡ heads → spreads' ≡ spreads
+      → All (IsHeadOf (length lots)) heads → All can spreads → All (λ s. candidates s ≡ length lots) spreads
+      → All (λ s. length (ballots s) ≤ 999999999) spreads → IsBeginning (dues_of omega lots heads (map ballots spreads)) begun heads' spreads'
+  begun_none heads heads' spreads spreads' begun none is_heads is_spreads of_heads can' of_spreads few' = record {
+    whole = λ i. none i ++ dues_of omega lots (is_heads i) (map ballots (is_spreads i));
+    sheets = subst (All (HasSheet places)) (sym none) (All-nil (HasSheet places));
+    heads_of_all = subst (All (IsHeadOf (length lots))) (sym is_heads) of_heads;
+    can_spread = subst (All can) (sym is_spreads) can';
+    spreads_of_all = subst (All (λ (s : D). candidates s ≡ length lots)) (sym is_spreads) of_spreads;
+    few = subst (All (λ (s : D). length (ballots s) ≤ 999999999)) (sym is_spreads) few';
+  }

@@ -1,12 +1,18 @@
--- How a day that is refused ends.
-use Rattle.std.proofs.Common.{◌≡◌, ℕ, ◌≤◌, List, [], length, refl, sym, subst, inr}
+-- How a day ends.
+use Rattle.std.proofs.Common.{◌≡◌, ℕ, ◌≤◌, List, [], ◌++◌, length, Option, refl, sym, subst, inr}
+use Rattle.std.proofs.lemmas.List.{append-nil}
+use Rattle.std.specs.Io.KnownBytes.{Keeps}
+use Rattle.std.proofs.KnownBytes.{Appends-kept}
+use Rattle.byte_edge.specs.Faults.{Rose}
+use Rattle.meek_cli.specs.Bytes.{WroteBytes}
+use Rattle.meek_cli.specs.DueSheets.{SheetDue, AreDueTexts}
 use Rattle.std.specs.Prelude.{true}
 use Rattle.blt_reader.specs.declared.input_fault.InputFault.{InputFault}
 use Rattle.blt_reader.specs.Scan.{scan}
 use Rattle.day_reader.specs.Said.{IsDayRefusal}
 use Rattle.meek_cli.specs.declared.outcome.Outcome.{Outcome}
 use Rattle.meek_cli.specs.declared.status.Status.{Status}
-use Rattle.meek_cli.specs.declared.status.Status.TheVariants.{BadInput}
+use Rattle.meek_cli.specs.declared.status.Status.TheVariants.{Done, BadInput, SinkFault}
 use Rattle.meek_cli.specs.Streams.{Writing}
 use Rattle.meek_cli.specs.Refusals.{fault_line}
 use Rattle.meek_cli.specs.Owed.{day_limit}
@@ -19,3 +25,19 @@ pub refused_day :
 refused_day input fault status outcome sink short refused is finishes =
     subst (λ (o : Outcome). FinishesDay input o.status o.history sink) (sym is)
     (inr (BadInput fault, fault_line fault, (inr (record { short = short; refused = refused }), refl, refl), finishes))
+
+-- the flush behind the sheets failed
+pub stopped_in_flush :
+    {S : Type 0} (w : S → Option (List ℕ)) (f : S → ℕ) (a b c : S) (places : ℕ) (dues : List SheetDue) (front : List ℕ)
+    → (sheets : List ℕ) × AreDueTexts places dues sheets × WroteBytes w f a b (front ++ sheets) → Keeps (w b) (w c) → Rose (f b) (f c)
+    → (sheets : List ℕ) × AreDueTexts places dues sheets
+    × Finishes Done (front ++ sheets) SinkFault (record { written = w a; written_then = w c; faults = f a; faults_then = f c })
+stopped_in_flush w f a b c places dues front (sheets, are, wrote) kept rose = (
+  sheets,
+  are,
+  inr (
+    refl,
+    subst (λ (n : ℕ). Rose n (f c)) wrote.calm rose,
+    (front ++ sheets, [], sym (append-nil (front ++ sheets)), Appends-kept (w a) (w b) (w c) (front ++ sheets) wrote.whole kept),
+  ),
+)

@@ -14,7 +14,7 @@ use Rattle.meek_cli.specs.declared.work.Work.TheVariants.{Count, Day}
 use Rattle.meek_cli.specs.Streams.{Reading, Writing, NoReadFailed}
 use Rattle.meek_cli.specs.Refusals.{fault_line}
 use Rattle.meek_cli.specs.DayHistory.{IsOfficeHistory}
-use Rattle.meek_cli.specs.Owed.{AsksForCount, IsOwedForCount, IsOwedAt, IsOwedForDay, IsDayOwedAt, OwesDay, IsOwed}
+use Rattle.meek_cli.specs.Owed.{AsksForCount, AsksForDay, IsOwedForCount, IsOwedAt, IsOwedForDay, IsDayOwedAt, OwesDay, IsOwed}
 use Rattle.meek_cli.specs.Run.{IsRun, Finishes}
 use Rattle.meek_cli.specs.Work.{AsksFor, limit_of, FinishesWork}
 
@@ -43,8 +43,8 @@ pub too_long :
 too_long words None (Count lots split) fault is asked long = inl (lots, asked, refl, tt)
 too_long words (Some input) (Count lots split) fault is asked long =
     inl (lots, asked, refl, (inl (record { long = long; fault_is = is }), refl))
-too_long words None Day fault is asked long = inr (asked, refl)
-too_long words (Some input) Day fault is asked long =
+too_long words None (Day split) fault is asked long = inr (asked, refl)
+too_long words (Some input) (Day split) fault is asked long =
     inr (asked, (inl (record { long = long; fault_is = is }), refl, refl))
 
 -- ---- an input that was read
@@ -88,7 +88,7 @@ count_owed words left items lots status history bytes asked none owed at = absur
 
 day_owed :
     (words : List (List ℕ)) (left : Option (List ℕ)) (items : List ℕ) (status : Status) (history : List Entry)
-    (bytes : List ℕ) → AsksFor words Day → IsOwedForDay items status history bytes
+    (bytes : List ℕ) → AsksForDay words → IsOwedForDay items status history bytes
     → IsDayOwedAt left status history bytes → IsOwed words left status history bytes
 day_owed words left items Done history bytes asked owed at = inr (asked, at)
 day_owed words left items (BadInput fault) history bytes asked owed at = inr (asked, at)
@@ -105,9 +105,9 @@ worked words source sink (Count lots split) items status history calm asked took
     let at = counted_of source.left source.left_then items lots due bytes took end owed in
     finished words source sink due history bytes status calm
     (count_owed words source.left items lots due history bytes asked none owed at) finishes
-worked words source sink Day items status history calm asked took end (inl (same, none, nothing)) =
+worked words source sink (Day split) items status history calm asked took end (inl (same, none, nothing)) =
     subst (λ (s : Status). IsRun words source sink s history) (sym same) (calm, none, nothing)
-worked words source sink Day items status history calm asked took end (inr (due, bytes, owed, finishes)) =
+worked words source sink (Day split) items status history calm asked took end (inr (due, bytes, owed, finishes)) =
     let at = played_of source.left source.left_then items due history bytes took end owed in
     finished words source sink due history bytes status calm
     (day_owed words source.left items due history bytes asked owed at) finishes

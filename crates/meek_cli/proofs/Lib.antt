@@ -11,6 +11,7 @@ pub mod WritingBytes
 pub mod DueTexts
 pub mod BegunSheets
 pub mod DaySheets
+pub mod BegunSpreads
 pub mod Dealt
 pub mod DayEnding
 pub mod MadeTexts

@@ -1,9 +1,9 @@
 -- The head of a made day: its roll and its lots.
-use Rattle.std.proofs.Common.{◌≡◌, ℕ, ◌<◌, ◌≤◌, List, [], ◌∷◌, ◌++◌, length, map, refl, arith}
+use Rattle.std.proofs.Common.{◌≡◌, ℕ, ◌<◌, List, [], ◌∷◌, ◌++◌, length, map, refl, arith}
 use Rattle.std.specs.Prelude.{codes, ⊤}
 use Rattle.std.specs.List.{flat_map}
 use Rattle.std.specs.Char.{is_ascii_digit}
-use Rattle.blt_reader.specs.Token.{Item, Number, Text}
+use Rattle.blt_reader.specs.Token.{Number, Text}
 use Rattle.blt_reader.specs.Scan.{number, is_in_string}
 use Rattle.blt_reader.specs.Written.{Spells, Each}
 use Rattle.blt_reader.proofs.Spelling.{number_spelled, words, strings, parts, nothing}

@@ -1,10 +1,10 @@
 -- Sheets that are due: what is still to be counted and written.
-use Rattle.std.specs.Prelude.{◌≡◌, ℕ, List, [], ◌∷◌, ◌++◌}
-use Rattle.plain_ballots.specs.Ballots.{plain}
+use Rattle.std.specs.Prelude.{◌≡◌, ℕ, List, [], ◌∷◌, ◌++◌, length}
 use Rattle.candidate_roll.specs.Roll.{RollList}
 use Rattle.sheet_text.specs.Lines.{ended}
 use Rattle.sheet_text.specs.Sheet.{IsSheet}
-use Rattle.meek_cli.specs.DayText.{sheet_line}
+use Rattle.meek_cli.specs.declared.sheet_head.SheetHead.{SheetHead}
+use Rattle.meek_cli.specs.DayText.{sheet_line, roll_with}
 use Rattle.meek_cli.specs.Desk.{Stood}
 
 -- the place of a freeze, and what is counted for it
@@ -15,15 +15,23 @@ pub record SheetDue : Type 0 where
   pub roll : RollList
   pub lots : List ℕ
 
--- the sheet of what stood at a freeze, by this roll
-abbrev pub due_of : (omega : ℕ) → RollList → (lots : List ℕ) → Stood → SheetDue
-due_of omega roll lots stood = record {
-  at = stood.at;
-  omega = omega;
-  ballots = plain stood.ballots.lines;
-  roll = roll;
-  lots = lots;
-}
+-- the head of the sheet of what stood at a freeze
+abbrev pub head_of : RollList → Stood → SheetHead
+head_of roll stood = record { at = stood.at; roll = roll_with roll stood.struck }
+
+-- the head is of so many candidates
+abbrev pub IsHeadOf : ℕ → SheetHead → Type 0
+IsHeadOf n head = length head.roll.names ≡ n
+
+-- the sheet over these single ballots, with this head
+abbrev pub due_of : (omega : ℕ) → (lots : List ℕ) → SheetHead → (ballots : List (List ℕ)) → SheetDue
+due_of omega lots head ballots = record { at = head.at; omega = omega; ballots = ballots; roll = head.roll; lots = lots }
+
+-- the sheets with these heads, each over its own ballots
+abbrev pub dues_of : (omega : ℕ) → (lots : List ℕ) → List SheetHead → List (List (List ℕ)) → List SheetDue
+dues_of omega lots [] ballots = []
+dues_of omega lots (head ∷ heads) [] = []
+dues_of omega lots (head ∷ heads) (own ∷ ballots) = due_of omega lots head own ∷ dues_of omega lots heads ballots
 
 abbrev pub IsSheetDue : (places : ℕ) → SheetDue → List ℕ → Type 0
 IsSheetDue places due sheet = IsSheet places due.omega due.ballots due.roll due.lots sheet

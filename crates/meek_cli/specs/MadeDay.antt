@@ -1,5 +1,5 @@
 -- The day that the text of a made day says.
-use Rattle.std.specs.Prelude.{◌≡◌, ℕ, ◌+◌, ◌%◌, ◌==◌, ◌≤◌, List, [], ◌∷◌, ◌++◌, map, codes, true, if◌then◌else◌}
+use Rattle.std.specs.Prelude.{ℕ, ◌+◌, ◌%◌, ◌==◌, ◌≤◌, List, [], ◌∷◌, ◌++◌, map, codes, true, if◌then◌else◌}
 use Rattle.std.specs.List.{flat_map, range_with_len}
 use Rattle.plain_ballots.specs.Ballots.{BallotList}
 use Rattle.plain_ballots.specs.declared.ballot_line.BallotLine.{BallotLine}

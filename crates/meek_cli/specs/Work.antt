@@ -10,14 +10,14 @@ use Rattle.meek_cli.specs.Run.{FinishesCount, FinishesDay}
 
 abbrev pub AsksFor : List (List ℕ) → Work → Type 0
 AsksFor words (Count lots split) = AsksForCount words lots
-AsksFor words Day = AsksForDay words
+AsksFor words (Day split) = AsksForDay words
 
 -- the greatest length of the input, in bytes
 abbrev pub limit_of : Work → ℕ
 limit_of (Count lots split) = count_limit
-limit_of Day = day_limit
+limit_of (Day split) = day_limit
 
 -- what the work came to with this input
 abbrev pub FinishesWork : Work → (input : List ℕ) → Status → List Entry → Writing → Type 0
 FinishesWork (Count lots split) input status history sink = (history ≡ []) × FinishesCount lots input status sink
-FinishesWork Day input status history sink = FinishesDay input status history sink
+FinishesWork (Day split) input status history sink = FinishesDay input status history sink

@@ -115,7 +115,11 @@ fn count_in_lanes<R: Threads + Sync, K: Sink, G: Gate + Sync>(
 }
 
 /// Deals the lines out among so many shards, and makes a plan of what each gets.
-fn deal(alloc: Global, ballots: Ballots, shards: u32) -> Result<Plans, frozen_plan::NoMemory>
+pub(crate) fn deal(
+    alloc: Global,
+    ballots: Ballots,
+    shards: u32,
+) -> Result<Plans, frozen_plan::NoMemory>
     requires shards { 1 ≤ shards }
     requires candidates { (1 ≤ ballots.candidates) × (ballots.candidates ≤ 250) }
     ensures candidates { IfOk result (All (λ plan. plan.candidates ≡ ballots.candidates)) }

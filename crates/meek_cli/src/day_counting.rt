@@ -1,34 +1,44 @@
 // The sheets of a day: each freeze is counted, and all is written.
-ghost use Rattle.std.specs.Prelude.{◌≡◌, ◌≤◌, ℕ, List, ◌++◌, map, zip, length, All, IfOk};
-ghost use Rattle.std.specs.Io.KnownBytes.{Keeps};
+ghost use Rattle.std.specs.Prelude.{◌≡◌, ◌≤◌, ℕ, List, ◌++◌, map, length, All, IfOk};
+ghost use Rattle.fixed_place.specs.Rounding.{scale};
 ghost use Rattle.sheet_text.specs.Lines.{text_of_lines};
+ghost use Rattle.vote_spread.specs.Lanes.{HaveCounted};
 ghost use Rattle.meek_cli.specs.Bytes.{WritesBytes};
-ghost use Rattle.meek_cli.specs.DayText.{entry_lines, roll_with};
+ghost use Rattle.meek_cli.specs.DayText.{entry_lines};
 ghost use Rattle.meek_cli.specs.Desk.{AreCandidates, stood_at_freezes};
-ghost use Rattle.meek_cli.specs.DueSheets.{due_of, HasSheet, AreDueTexts};
-ghost use Rattle.meek_cli.specs.Run.{Finishes, WritesDay};
+ghost use Rattle.meek_cli.specs.DueSheets.{head_of, dues_of, IsHeadOf, HasSheet, AreDueTexts};
+ghost use Rattle.meek_cli.specs.Run.{Finishes, WritesDay, WritesDues};
 ghost use Rattle.meek_cli.specs.declared.status.Status.TheVariants.{Done};
 
 use crate::Status;
+use crate::counting::deal;
 use crate::due_sheet::DueSheet;
 use crate::entry_text::write_entries;
 use crate::frozen::Frozen;
+use crate::sheet_head::SheetHead;
+use crate::split::Split;
 use crate::terms::Terms;
-use byte_edge::{Failed, Sink};
+use byte_edge::{Failed, Gate, Sink};
 use call_register::History;
 use candidate_roll::Roll;
 use lot_order::Lots;
-use meek_rule::NoMemory;
+use meek_rule::{NoMemory, Spread};
+use sheet_text::sheets_are_unique;
 use std::alloc::Global;
+use std::thread::Threads;
+use vote_spread::{Lanes, PlanSpread};
 
-/// Counts what stood at each freeze at so many places, and writes the text of the day. All memory is
-/// taken before the first byte.
-pub(crate) fn count_day<const P: usize, K: Sink>(
+/// Counts what stood at each freeze at so many places, in workers' lanes, and writes the text of the
+/// day. All memory is taken before the first byte.
+pub(crate) fn count_day<const P: usize, R: Threads + Sync, K: Sink, G: Gate + Sync>(
+    rt: &R,
     alloc: Global,
     terms: &Terms,
     history: &History,
     frozen: Vec<Frozen>,
+    split: &Split,
     sink: &mut K,
+    gate: &G,
 ) -> Status
     requires places { (6 ≤ P) × (P ≤ 9) }
     requires of_terms { terms.now.places ≡ P }
@@ -39,20 +49,115 @@ pub(crate) fn count_day<const P: usize, K: Sink>(
     ensures { WritesDay terms.now history.now result
         (record { written = K.written sink.old; written_then = K.written sink.new; faults = K.faults sink.old; faults_then = K.faults sink.new }) }
 {
-    let Ok(rolls) = rolls_for(alloc, &terms.roll, frozen.as_slice()) else {
+    // The sheet of the plans' ballots is that of the ballots that stand.
+    sheets_are_unique();
+    let run = |lanes: &mut Lanes|
+        requires places { P ≤ 9 }
+        requires scale { lanes.now.scale ≡ scale P }
+        ensures { HaveCounted lanes.entry.now lanes.exit.now }
+    { lanes.run::<P, R, G>(rt, gate) };
+    let Ok(heads) = heads_for(alloc, &terms.roll, frozen.as_slice()) else {
         return Status::NoMemory;
     };
-    let Ok(dues) = begin_sheets::<P>(alloc, rolls.as_slice(), &terms.lots, terms.omega, frozen)
-    else {
-        return Status::NoMemory;
-    };
-    write_day(history, dues, sink)
+    let candidates = terms.roll.candidates();
+    let mut spreads = Vec::new(alloc);
+    for stood in frozen {
+        let Frozen { ballots, .. } = stood;
+        let Ok(plans) = deal(alloc, ballots, split.shards()) else {
+            return Status::NoMemory;
+        };
+        let Ok(spread) = PlanSpread::<P, _>::begin(alloc, plans, candidates, split.workers(), run)
+        else {
+            return Status::NoMemory;
+        };
+        if spreads.push(spread).is_err() {
+            return Status::NoMemory;
+        }
+    }
+    write_day(
+        alloc,
+        terms,
+        history,
+        heads.as_slice(),
+        spreads.as_mut_slice(),
+        sink,
+    )
+}
+
+/// The place and the roll of the sheet of each freeze.
+fn heads_for(alloc: Global, roll: &Roll, frozen: &[Frozen]) -> Result<Vec<SheetHead>, NoMemory>
+    requires { All (λ stood. AreCandidates (length roll.now.names) stood.struck) frozen.now }
+    ensures { IfOk result (λ heads. heads.items ≡ map (head_of roll.now) frozen.now) }
+{
+    let mut heads = Vec::new(alloc);
+    for stood in frozen {
+        let Ok(roll) = roll.with_struck(alloc, stood.struck.as_slice()) else {
+            return Err(NoMemory);
+        };
+        let at = stood.at;
+        if heads.push(SheetHead { at, roll }).is_err() {
+            return Err(NoMemory);
+        }
+    }
+    Ok(heads)
+}
+
+/// Begins the count of each distribution, and then writes the text of a day, and flushes.
+fn write_day<const P: usize, D: Spread<P>, K: Sink>(
+    alloc: Global,
+    terms: &Terms,
+    history: &History,
+    heads: &[SheetHead],
+    spreads: &mut [D],
+    sink: &mut K,
+) -> Status
+    requires places { (6 ≤ P) × (P ≤ 9) }
+    requires omega { (1 ≤ terms.now.omega) × (terms.now.omega ≤ 1000000) }
+    requires heads_of_all { All (IsHeadOf (length terms.now.lots)) heads.now }
+    requires can { All D.can_spread spreads.old }
+    requires spreads_of_all { All (λ s. D.candidates s ≡ length terms.now.lots) spreads.old }
+    requires few { All (λ s. length (D.ballots s) ≤ 999999999) spreads.old }
+    ensures { WritesDues P history.now (dues_of terms.now.omega terms.now.lots heads.now (map D.ballots spreads.old)) result
+        (record { written = K.written sink.old; written_then = K.written sink.new; faults = K.faults sink.old; faults_then = K.faults sink.new }) }
+{
+    match begin_sheets(alloc, heads, &terms.lots, terms.omega, spreads) {
+        Ok(dues) => finish_day(history, dues, sink),
+        Err(_) => Status::NoMemory,
+    }
+}
+
+/// Begins the count of each sheet.
+fn begin_sheets<'e, const P: usize, D: Spread<P>>(
+    alloc: Global,
+    heads: &'e [SheetHead],
+    lots: &'e Lots,
+    omega: u32,
+    spreads: &'e mut [D],
+) -> Result<Vec<DueSheet<'e, P, D>>, NoMemory>
+    requires places { (6 ≤ P) × (P ≤ 9) }
+    requires omega { (1 ≤ omega) × (omega ≤ 1000000) }
+    requires heads_of_all { All (IsHeadOf (length lots.now)) heads.now }
+    requires can { All D.can_spread spreads.old }
+    requires spreads_of_all { All (λ s. D.candidates s ≡ length lots.now) spreads.old }
+    requires few { All (λ s. length (D.ballots s) ≤ 999999999) spreads.old }
+    ensures due { IfOk result (λ dues. dues.items ≡ dues_of omega lots.now heads.now (map D.ballots spreads.old)) }
+    ensures sheets { IfOk result (λ dues. All (HasSheet P) dues.items) }
+{
+    let mut dues = Vec::new(alloc);
+    let pairs = heads.iter().zip(spreads.iter_mut());
+    for (head, spread) in pairs {
+        let due = DueSheet::begin(alloc, head, lots, omega, spread)?;
+        if dues.push(due).is_err() {
+            return Err(NoMemory);
+        }
+    }
+    Ok(dues)
 }
 
 /// Writes the text of a day, and flushes.
-fn write_day<const P: usize, K: Sink>(
+fn finish_day<const P: usize, D: Spread<P>, K: Sink>(
     history: &History,
-    dues: Vec<DueSheet<'_, P>>,
+    dues: Vec<DueSheet<'_, P, D>>,
     sink: &mut K,
 ) -> Status
     requires { All (HasSheet P) dues.items }
@@ -70,9 +175,9 @@ fn write_day<const P: usize, K: Sink>(
 }
 
 /// Writes the lines of the answered calls, and then the sheets.
-fn write_text<const P: usize, K: Sink>(
+fn write_text<const P: usize, D: Spread<P>, K: Sink>(
     history: &History,
-    dues: Vec<DueSheet<'_, P>>,
+    dues: Vec<DueSheet<'_, P, D>>,
     sink: &mut K,
 ) -> Result<(), Failed>
     requires { All (HasSheet P) dues.items }
@@ -83,51 +188,9 @@ fn write_text<const P: usize, K: Sink>(
     write_sheets(dues, sink)
 }
 
-/// The roll for the sheet of each freeze, in which the struck are withdrawn besides.
-fn rolls_for(alloc: Global, roll: &Roll, frozen: &[Frozen]) -> Result<Vec<Roll>, NoMemory>
-    requires { All (λ stood. AreCandidates (length roll.now.names) stood.struck) frozen.now }
-    ensures { IfOk result (λ rolls. rolls.items ≡ map (λ stood. roll_with roll.now stood.struck) frozen.now) }
-{
-    let mut rolls = Vec::new(alloc);
-    for stood in frozen {
-        let Ok(roll) = roll.with_struck(alloc, stood.struck.as_slice()) else {
-            return Err(NoMemory);
-        };
-        if rolls.push(roll).is_err() {
-            return Err(NoMemory);
-        }
-    }
-    Ok(rolls)
-}
-
-/// Begins the count of each sheet.
-fn begin_sheets<'e, const P: usize>(
-    alloc: Global,
-    rolls: &'e [Roll],
-    lots: &'e Lots,
-    omega: u32,
-    frozen: Vec<Frozen>,
-) -> Result<Vec<DueSheet<'e, P>>, NoMemory>
-    requires places { (6 ≤ P) × (P ≤ 9) }
-    requires omega { (1 ≤ omega) × (omega ≤ 1000000) }
-    requires rolls_of_all { All (λ roll. length roll.names ≡ length lots.now) rolls.now }
-    requires ballots_of_all { All (λ stood. stood.ballots.candidates ≡ length lots.now) frozen.items }
-    ensures due { IfOk result (λ dues. dues.items ≡ map (λ each. due_of omega each.0 lots.now each.1) (zip rolls.now frozen.items)) }
-    ensures sheets { IfOk result (λ dues. All (HasSheet P) dues.items) }
-{
-    let mut dues = Vec::new(alloc);
-    for (roll, stood) in rolls.iter().zip(frozen) {
-        let due = DueSheet::begin(alloc, roll, lots, omega, stood)?;
-        if dues.push(due).is_err() {
-            return Err(NoMemory);
-        }
-    }
-    Ok(dues)
-}
-
 /// Writes the sheets, one after another.
-fn write_sheets<const P: usize, K: Sink>(
-    dues: Vec<DueSheet<'_, P>>,
+fn write_sheets<const P: usize, D: Spread<P>, K: Sink>(
+    dues: Vec<DueSheet<'_, P, D>>,
     sink: &mut K,
 ) -> Result<(), Failed>
     requires { All (HasSheet P) dues.items }

@@ -1,29 +1,32 @@
 // A sheet that is due.
 ghost use Rattle.std.specs.Prelude.{◌≡◌, ◌≤◌, ℕ, List, length, IfOk};
+ghost use Rattle.fixed_place.specs.Rounding.{scale};
 ghost use Rattle.sheet_text.specs.Lines.{ended};
 ghost use Rattle.meek_cli.specs.DayText.{sheet_line};
 ghost use Rattle.meek_cli.specs.DueSheets.{due_of, HasSheet, IsDueText};
 ghost use Rattle.meek_cli.specs.Bytes.{WritesBytes};
 
-use crate::beginning::{LineCount, begin_count};
-use crate::frozen::Frozen;
+use crate::lent::Lent;
+use crate::sheet_head::SheetHead;
 use byte_edge::{Failed, Sink, write_all};
-use candidate_roll::Roll;
+use fixed_place::Amount;
 use line_text::Line;
 use lot_order::Lots;
-use meek_rule::NoMemory;
+use meek_count::Count;
+use meek_rule::{NoMemory, Spread};
 use sheet_text::write_sheet;
 use std::alloc::Global;
 use std::marker::Model;
 
-/// A sheet that is due: the place of its freeze, and its count, which was just begun.
+/// A sheet that is due: the place of its freeze, and its count, which was just begun over a
+/// distribution that it borrows.
 #[derive(Drop)]
-pub(crate) struct DueSheet<'e, const P: usize> {
+pub(crate) struct DueSheet<'e, const P: usize, D: Spread<P>> {
     at: u64,
-    count: LineCount<'e, P>,
+    count: Count<'e, P, Lent<'e, D>>,
 }
 
-impl<'e, const P: usize> Model for DueSheet<'e, P> {
+impl<'e, const P: usize, D: Spread<P>> Model for DueSheet<'e, P, D> {
     ghost use Rattle.fixed_place.specs.Rounding.{scale};
     ghost use Rattle.meek_count.specs.Progress.{HasJustBegun};
     ghost use Rattle.meek_cli.specs.DueSheets.{SheetDue};
@@ -35,25 +38,26 @@ impl<'e, const P: usize> Model for DueSheet<'e, P> {
     ghost invariant = { λ d. HasJustBegun (scale P) d.count };
 }
 
-impl<'e, const P: usize> DueSheet<'e, P> {
-    /// Begins to count what stood at a freeze. This takes all memory that the sheet needs.
+impl<'e, const P: usize, D: Spread<P>> DueSheet<'e, P, D> {
+    /// Begins to count what a distribution holds. This takes all memory that the sheet needs.
     pub(crate) fn begin(
         alloc: Global,
-        roll: &'e Roll,
+        head: &'e SheetHead,
         lots: &'e Lots,
         omega: u32,
-        stood: Frozen,
-    ) -> Result<DueSheet<'e, P>, NoMemory>
+        spread: &'e mut D,
+    ) -> Result<DueSheet<'e, P, D>, NoMemory>
         requires places { (6 ≤ P) × (P ≤ 9) }
         requires omega { (1 ≤ omega) × (omega ≤ 1000000) }
-        requires lots_of_all { length lots.now ≡ length roll.now.names }
-        requires ballots_of_all { stood.ballots.candidates ≡ length roll.now.names }
-        ensures due { IfOk result (λ due. due ≡ due_of omega roll.now lots.now stood) }
+        requires lots_of_all { length lots.now ≡ length head.now.roll.names }
+        requires can { D.can_spread spread.old }
+        requires spread_of_all { D.candidates spread.old ≡ length head.now.roll.names }
+        requires few { length (D.ballots spread.old) ≤ 999999999 }
+        ensures due { IfOk result (λ due. due ≡ due_of omega lots.now head.now (D.ballots spread.old)) }
         ensures sheet { IfOk result (HasSheet P) }
     {
-        let Frozen { at, ballots, .. } = stood;
-        let count = begin_count(alloc, roll, lots, omega, ballots)?;
-        Ok(DueSheet { at, count })
+        let count = Count::begin(alloc, &head.roll, lots, Lent { spread }, units(omega))?;
+        Ok(DueSheet { at: head.at, count })
     }
 
     /// Writes the line of the freeze, and then counts to the end and writes the sheet.
@@ -66,6 +70,15 @@ impl<'e, const P: usize> DueSheet<'e, P> {
         write_sheet_line(at, sink)?;
         write_sheet(&mut count, sink)
     }
+}
+
+/// An omega of so many units.
+fn units<const P: usize>(omega: u32) -> Amount<P>
+    requires places { (6 ≤ P) × (P ≤ 9) }
+    requires omega { (1 ≤ omega) × (omega ≤ 1000000) }
+    ensures { result ≡ omega }
+{
+    Amount::from_units(omega as u64)
 }
 
 /// Writes the line that names the freeze of a sheet.

@@ -2,7 +2,6 @@
 //! says how that ended as an [`Outcome`].
 #![tactic(auto)]
 
-mod beginning;
 mod counting;
 mod day;
 mod day_counting;
@@ -17,6 +16,7 @@ mod office;
 mod outcome;
 mod refusal;
 mod run;
+mod sheet_head;
 mod split;
 mod status;
 mod terms;

@@ -24,8 +24,8 @@ const DAY_LIMIT: usize = 16_777_216;
 pub(crate) enum Work {
     /// To count a ballot file by these lots, its ballots shared so.
     Count(LotWords, Split),
-    /// To play the day of a day file.
-    Day,
+    /// To play the day of a day file, its ballots shared so.
+    Day(Split),
 }
 
 impl Work {
@@ -42,7 +42,7 @@ impl Work {
                     workers,
                 },
             ) => Ok(Work::Count(lots, Split::new(shards, workers))),
-            Ok(Command::Day { .. }) => Ok(Work::Day),
+            Ok(Command::Day { shards, workers }) => Ok(Work::Day(Split::new(shards, workers))),
             Ok(Command::Trial { .. }) => Err(WordsStop::BadWords),
             Err(WordsStop::BadWords) => Err(WordsStop::BadWords),
             Err(WordsStop::NoMemory) => Err(WordsStop::NoMemory),
@@ -55,7 +55,7 @@ impl Work {
     {
         match self {
             Work::Count(_, _) => COUNT_LIMIT,
-            Work::Day => DAY_LIMIT,
+            Work::Day(_) => DAY_LIMIT,
         }
     }
 
@@ -77,7 +77,7 @@ impl Work {
                 let status = count(rt, alloc, input, lots.items(), split, sink, gate);
                 Outcome::without_calls(alloc, status)
             }
-            Work::Day => play_day(alloc, input, sink),
+            Work::Day(split) => play_day(rt, alloc, input, split, sink, gate),
         }
     }
 }

@@ -61,6 +61,7 @@ impl<const P: usize, F: Fn(&mut Lanes) + Drop> PlanSpread<P, F> {
         ensures can { IfOk result (λ s. CanSpread F.Fn (scale P) candidates s.total s.lanes s.run) }
         ensures candidates { IfOk result (λ s. s.candidates ≡ candidates) }
         ensures ballots { IfOk result (λ s. s.lanes.ballots ≡ all_ballots plans) }
+        ensures run { IfOk result (λ s. s.run ≡ run) }
     {
         let total = total_of(&plans);
         let lanes = Lanes::begin::<P>(alloc, plans, candidates, workers)?;

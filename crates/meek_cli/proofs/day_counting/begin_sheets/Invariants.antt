@@ -1,14 +1,14 @@
 use Rattle.std.proofs.Common.{map}
-use Rattle.std.specs.List.{zip}
-use Rattle.std.specs.Slice.Iter.{iter_rest}
-use Rattle.std.specs.Vec.Iter.{into_iter_items}
+use Rattle.std.specs.Slice.Iter.{iter_rest, iter_mut_rest}
 use Rattle.std.specs.Iterator.Adapters.{zip_first, zip_second}
-use Rattle.meek_cli.proofs.BegunSheets.{IsBeginning, due_by}
+use Rattle.meek_cli.specs.DueSheets.{dues_of}
+use Rattle.meek_cli.proofs.BegunSheets.{IsBeginning}
 use Rattle.meek_cli.proofs.day_counting.begin_sheets.Given as goal
 
-abbrev pub invariant-loop-roll : goal.invariant-loop-roll
-invariant-loop-roll g l =
-    (goal.iterator-loop-roll g).can_next l.roll-iterator
-    × (goal.iterator-loop-roll g).is_finite l.roll-iterator
-    × IsBeginning g.row.P l.fn.omega l.fn.lots (map (due_by l.fn.omega l.fn.lots) (zip l.fn.rolls l.fn.frozen.items)) l.dues.items
-    (iter_rest (zip_first l.roll-iterator)) (into_iter_items (zip_second l.roll-iterator))
+abbrev pub invariant-loop-head : goal.invariant-loop-head
+invariant-loop-head g l =
+    (goal.iterator-loop-head g).can_next l.head-iterator
+    × (goal.iterator-loop-head g).is_finite l.head-iterator
+    × IsBeginning g.D.Spread.ballots g.D.Spread.candidates g.D.Spread.can_spread g.row.P l.fn.omega l.fn.lots
+    (dues_of l.fn.omega l.fn.lots l.fn.heads (map g.D.Spread.ballots l.fn.spreads)) l.dues.items
+    (iter_rest (zip_first l.head-iterator)) (iter_mut_rest (zip_second l.head-iterator))

@@ -63,9 +63,15 @@ sheet 5\ntitle T\nseats 1\ncandidates 3\nballots 5\n\
 round 1 iteration 1\n1 withdrawn 0.000000000 0.000000000\n2 hopeful 1.000000000 5.000000000\n\
 3 hopeful 1.000000000 0.000000000\ntotal 5.000000000\nquota 2.500000001\nsurplus 2.499999999\n\
 elected 2\nstep elected\nresult\n1 withdrawn A\n2 elected B\n3 defeated C\nend\n";
-    let ran = run(&rt, rt.alloc(), "day", day)?;
-    assert_eq!(rt; ran.status, Status::Done);
-    assert_eq!(rt; ran.written.as_slice(), text.as_slice());
+    for words in [
+        "day",
+        "day --shards 1 --workers 1",
+        "day --shards 64 --workers 32",
+    ] {
+        let ran = run(&rt, rt.alloc(), words, day)?;
+        assert_eq!(rt; ran.status, Status::Done, "{words}");
+        assert_eq!(rt; ran.written.as_slice(), text.as_slice(), "{words}");
+    }
     Ok(())
 }
 
