@@ -23,3 +23,4 @@ pub mod HistoryLemmas
 pub mod LateLemmas
 pub mod Mine
 pub mod Sendable
+pub mod Shared

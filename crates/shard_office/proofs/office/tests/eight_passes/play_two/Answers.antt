@@ -1,0 +1,25 @@
+use denote.Exit.{yes}
+use denote.Param.Send.{IsSend, sendable, param_send, arg_send, shr_send, recorded_send, struct_send}
+use denote.Struct.Declared.{shape}
+use Rattle.std.proofs.Crossing.{Vec-send}
+use Rattle.shard_office.proofs.Sendable.{pass_send}
+use Rattle.shard_office.proofs.office.tests.steps.Note.TheSendSync as note
+use Rattle.shard_office.specs.contracts.office.tests.eight_passes.Team as team
+use Rattle.std.specs.Prelude.{codes}
+use Rattle.std.proofs.Crossing as heap
+use Rattle.shard_office.proofs.Shared.{office_sync, closure_of_four}
+use Rattle.shard_office.proofs.office.tests.eight_passes.play_two.Goals as goal
+
+team_fields : IsSend team.the_field.row
+team_fields = struct_send (shape team.the_type) (search sendable, (pass_send, (Vec-send _ note.the_send, tt)))
+
+team_send : IsSend team.the_row
+team_send = recorded_send team.the_field.row _ _ team.the_type.to_one team_fields
+
+pub join-one-requires-send-F : goal.join-one-requires-send-F
+join-one-requires-send-F g c κs within =
+    param_send 1 _ (arg_send _ yes _ (closure_of_four (codes "shard_office::office::tests::eight_passes::fn::play_two::join+arg2+Self") _ _ _ _
+    (shr_send _ _ _ c.type_bounds.sync-R) (shr_send _ _ _ heap.sync) (shr_send _ _ _ office_sync) team_send))
+
+pub join-one-requires-send-A : goal.join-one-requires-send-A
+join-one-requires-send-A g c κs within = let a = team_send in search sendable

@@ -1,0 +1,15 @@
+pub mod Lists
+pub mod Sights
+pub mod Work
+pub mod Making
+pub mod OpeningLemmas
+pub mod TakingLemmas
+pub mod Ran
+pub mod Places
+pub mod Days
+pub mod Crosses
+pub mod Ends
+pub mod Freezes
+pub mod DayEnd
+pub mod Rooms
+pub mod EntryLines

@@ -1,0 +1,4 @@
+pub mod Teams
+pub mod Runs
+pub mod Endings
+pub mod EntryText

@@ -1,0 +1,108 @@
+// One call of a team.
+ghost use Rattle.std.specs.Prelude.{◌≡◌, ◌≤◌, ◌++◌, ◌∷◌, [], OnOk, OnErr};
+ghost use Rattle.batch_core.specs.Lawful.{IsLawful};
+ghost use Rattle.batch_core.specs.declared.call.Call.TheVariants as call;
+ghost use Rattle.day_reader.specs.Said.{IsAnswerable};
+ghost use Rattle.shard_office.specs.Passes.{own};
+ghost use Rattle.team_run.specs.Teams.{calls_of};
+ghost use Rattle.team_run.specs.Runs.{freezes_of, IsSamePass, IsAtWork};
+
+use crate::NoMemory;
+use batch_core::{Call, Change};
+use byte_edge::Gate;
+use shard_office::{Office, Pass, Version, versions_stay};
+use std::alloc::Global;
+use std::sync::Wait;
+
+/// Makes a call, and keeps the version of a freeze.
+pub(crate) fn make_call<R: Wait, G: Gate>(
+    rt: &R,
+    alloc: Global,
+    office: &Office,
+    pass: &mut Pass,
+    versions: &mut Vec<Version>,
+    asked: Call,
+    gate: &G,
+) -> Result<(), NoMemory>
+    requires office { pass.old.office ≡ office.now }
+    requires answerable { IsAnswerable office.now.candidates asked }
+    requires work { IsAtWork pass.old versions.old.items }
+    ensures same { IsSamePass pass.old pass.new }
+    ensures work { IsAtWork pass.new versions.new.items }
+    ensures made { OnOk result (calls_of (own pass.new) ≡ calls_of (own pass.old) ++ asked ∷ []) }
+    ensures refused { OnErr result (own pass.new ≡ own pass.old) }
+{
+    versions_stay();
+    match asked {
+        Call::Change(change) => make_change(rt, office, pass, change, gate),
+        Call::Freeze => make_freeze(rt, alloc, office, pass, versions),
+        Call::Strike(candidate) => make_strike(rt, office, pass, candidate),
+    }
+}
+
+fn make_change<R: Wait, G: Gate>(
+    rt: &R,
+    office: &Office,
+    pass: &mut Pass,
+    change: Change,
+    gate: &G,
+) -> Result<(), NoMemory>
+    requires office { pass.old.office ≡ office.now }
+    requires lawful { IsLawful office.now.candidates change }
+    ensures same { IsSamePass pass.old pass.new }
+    ensures no_freeze { freezes_of pass.new ≡ freezes_of pass.old }
+    ensures made { OnOk result (calls_of (own pass.new) ≡ calls_of (own pass.old) ++ call.Change change ∷ []) }
+    ensures refused { OnErr result (own pass.new ≡ own pass.old) }
+{
+    match office.call(rt, pass, change, gate) {
+        Ok(_) => Ok(()),
+        Err(_) => Err(NoMemory),
+    }
+}
+
+fn make_strike<R: Wait>(
+    rt: &R,
+    office: &Office,
+    pass: &mut Pass,
+    candidate: u32,
+) -> Result<(), NoMemory>
+    requires office { pass.old.office ≡ office.now }
+    requires candidate { (1 ≤ candidate) × (candidate ≤ office.now.candidates) }
+    ensures same { IsSamePass pass.old pass.new }
+    ensures no_freeze { freezes_of pass.new ≡ freezes_of pass.old }
+    ensures made { OnOk result (calls_of (own pass.new) ≡ calls_of (own pass.old) ++ call.Strike candidate ∷ []) }
+    ensures refused { OnErr result (own pass.new ≡ own pass.old) }
+{
+    match office.strike(rt, pass, candidate) {
+        Ok(_) => Ok(()),
+        Err(_) => Err(NoMemory),
+    }
+}
+
+/// Freezes. Room for the version is made before, so that no freeze is without its version.
+fn make_freeze<R: Wait>(
+    rt: &R,
+    alloc: Global,
+    office: &Office,
+    pass: &mut Pass,
+    versions: &mut Vec<Version>,
+) -> Result<(), NoMemory>
+    requires office { pass.old.office ≡ office.now }
+    requires work { IsAtWork pass.old versions.old.items }
+    ensures same { IsSamePass pass.old pass.new }
+    ensures work { IsAtWork pass.new versions.new.items }
+    ensures made { OnOk result (calls_of (own pass.new) ≡ calls_of (own pass.old) ++ call.Freeze ∷ []) }
+    ensures refused { OnErr result (own pass.new ≡ own pass.old) }
+{
+    versions_stay();
+    let Ok(()) = versions.reserve(1) else {
+        return Err(NoMemory);
+    };
+    match office.freeze(rt, alloc, pass) {
+        Ok(version) => {
+            versions.push_reserved(version);
+            Ok(())
+        }
+        Err(_) => Err(NoMemory),
+    }
+}
