@@ -31,9 +31,17 @@ went_join owner x t y took free = record {
   mine = ap (λ z. z.mine) took.same;
 }
 
+-- what holds of the clerk's seats, which took in those of a pass of this caller
+pub record Joined (o : OfficeState) (last fewer : ℕ) (taken : List PassState) (seats others news : List ShardSeat) (r ro r' : RegisterSeat) (p : ℕ) : Type 0 where
+  pub first : AreFirst o last fewer (taken ++ record { office = o; caller = p; sight = sight_of others ro; mine = mine_of others ro } ∷ []) news r'
+  pub on : GoesOn (sight_of seats r) (sight_of news r')
+  pub other : GoesOn (sight_of others ro) (sight_of news r')
+  pub own : calls_in 0 (sight_of news r') ≡ calls_in 0 (sight_of seats r)
+  pub mine : mine_of news r' ≡ mine_of seats r
+
 -- the clerk took in the pass of caller p whose seats are others and ro
 module _ (o : OfficeState) (last teams fewer : ℕ) (taken : List PassState) (seats others news : List ShardSeat) (r ro r' : RegisterSeat) (p : ℕ) (are : AreFirst o last teams taken seats r) (at : AreAt o p others ro)
-    (joined : HaveJoined 0 seats others news) (took : TookIn owner_of_mark r ro r') (less : fewer + 1 ≡ teams) where
+    (each : HaveJoined 0 seats others news) (took : TookIn owner_of_mark r ro r') (less : fewer + 1 ≡ teams) where
   abbrev Q : PassState
   Q = record { office = o; caller = p; sight = sight_of others ro; mine = mine_of others ro }
 
@@ -43,11 +51,11 @@ module _ (o : OfficeState) (last teams fewer : ℕ) (taken : List PassState) (se
       let a = are.at.count in
       let b = at.count in
       let t = get_some others i (omega arith) in
-      (t.0, t.1, joined.joined i x t.0 y (omega arith) ex t.1 ey)
+      (t.0, t.1, each.joined i x t.0 y (omega arith) ex t.1 ey)
 
   goes : GoOn seats news
   goes = record {
-    len = joined.len;
+    len = each.len;
     each = λ i x y ex ey. let t = seat_took i x y ex ey in (went_join owner_of_entry x t.0 y t.2 (are.at.shards i x ex).free, t.2.knows);
   }
 
@@ -72,7 +80,7 @@ module _ (o : OfficeState) (last teams fewer : ℕ) (taken : List PassState) (se
       (λ (lt : i < length seats).
       let a = are.at.count in
       let b = at.count in
-      let c = joined.len in
+      let c = each.len in
       let x = get_some seats i lt in
       let y = get_some news i (omega arith) in
       let t = seat_took i x.0 y.0 x.1 y.1 in
@@ -80,7 +88,7 @@ module _ (o : OfficeState) (last teams fewer : ℕ) (taken : List PassState) (se
       (λ (le : length seats ≤ i).
       let a = are.at.count in
       let b = at.count in
-      let c = joined.len in
+      let c = each.len in
       let m = length_map (λ (s : ShardSeat). s.seen) others in
       let n = length_map (λ (s : ShardSeat). s.seen) news in
       ([], get_or_past (lists_of news) i [] (omega arith) ∙ ap (λ l. l ++ []) (sym (get_or_past (lists_of others) i [] (omega arith)))))
@@ -90,7 +98,7 @@ module _ (o : OfficeState) (last teams fewer : ℕ) (taken : List PassState) (se
   other-on = record {
     marks = took.others;
     entries = entries;
-    shards = (let a = are.at.count in let b = at.count in let c = joined.len in let m = length_map (λ (s : ShardSeat). s.seen) others in let n = length_map (λ (s : ShardSeat). s.seen) news in omega arith);
+    shards = (let a = are.at.count in let b = at.count in let c = each.len in let m = length_map (λ (s : ShardSeat). s.seen) others in let n = length_map (λ (s : ShardSeat). s.seen) news in omega arith);
   }
     where
       entries : (s : ℕ) → Begins (entries_of (sight_of others ro) s) (entries_of (sight_of news r') s)
@@ -102,7 +110,7 @@ module _ (o : OfficeState) (last teams fewer : ℕ) (taken : List PassState) (se
     at = all_looked-at o 0 seats news r r' are.at goes took.knows went_r;
     shards = λ i y ey.
         let lt = get_lt news i y ey in
-        let c = joined.len in
+        let c = each.len in
         let x = get_some seats i (omega arith) in
         let t = seat_took i x.0 y x.1 ey in
         let knows : KnowsOwn owner_of_entry t.0 = (at.shards i t.0 t.1).knows in
@@ -119,3 +127,6 @@ module _ (o : OfficeState) (last teams fewer : ℕ) (taken : List PassState) (se
         (λ (h : (k < length taken) × (slice_get taken k ≡ Some q)). are.given k q h.1)
         (get_push taken Q k q e);
   }
+
+  pub joined : Joined o last fewer taken seats others news r ro r' p
+  joined = record { first = joined-first; on = joined-on; other = other-on; own = joined-own; mine = joined-mine }
