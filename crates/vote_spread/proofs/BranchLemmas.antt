@@ -8,7 +8,8 @@ use Rattle.vote_spread.specs.Stem.{Stem, stem_of, stems_of}
 use Rattle.vote_spread.specs.Walk.{HaveTails}
 use Rattle.vote_spread.specs.Rows.{Leaves}
 use Rattle.vote_spread.proofs.PlaceLemmas.{IsAt, IsParted, parted}
-use Rattle.vote_spread.proofs.CondenseLemmas.{IsUnderway, Entered, underway-before, underway-next, underway-jump, room_left, room-next}
+use Rattle.vote_spread.proofs.CondenseLemmas.{IsUnderway, Entered, underway-before, underway-next, underway-jump}
+use Rattle.vote_spread.proofs.RoomLemmas.{room_left, room-next}
 
 -- what stands past the end of the stems
 none : Stem

@@ -48,8 +48,8 @@ vote-le s most keeps ballots c pos whole bound few =
     omega arith
 
 -- lanes that are ready can count
-pub can_count : (s most : ℕ) (ballots : List (List ℕ)) (stems : List Stem) (keeps : List ℕ) (classes : List Class) (stale : Bool) (lanes : List LaneSeen) → 1 ≤ s → 1000000000 * s ≡ most → AreReady s ballots stems keeps classes stale lanes → CanCount s most keeps stems
-can_count s most ballots stems keeps classes stale lanes pos whole ready = record {
+pub can_count : (s most : ℕ) (ballots : List (List ℕ)) (stems : List Stem) (keeps factors : List ℕ) (classes : List Class) (stale : Bool) (lanes : List LaneSeen) → 1 ≤ s → 1000000000 * s ≡ most → AreReady s ballots stems keeps factors classes stale lanes → CanCount s most keeps stems
+can_count s most ballots stems keeps factors classes stale lanes pos whole ready = record {
   walk = stems_walk (length keeps) stems ballots ready.stand;
   at_most_one = ready.at_most_one;
   room =
@@ -119,8 +119,8 @@ lanes_vote s ballots stems keeps lanes p some below stand run =
     ∙ (ap sum (take_all (length stems) xs (omega arith)) ∙ stems_give (length keeps) s stems ballots keeps (p + 1) stand)))
 
 -- lanes that have run have counted
-pub have_counted : (s : ℕ) (stems : List Stem) (classes : List Class) (stale : Bool) (before new : List LaneSeen) (old now : LanesSeen) → now ≡ old → old.scale ≡ s → AreReady now.scale now.ballots stems now.keeps classes stale before → length new ≡ length before → HaveRun s now.keeps stems 0 (length before) new → HaveCounted old (record { scale = now.scale; ballots = now.ballots; keeps = now.keeps; tallies = tallies_of new })
-have_counted s stems classes stale before new old now is at ready many run =
+pub have_counted : (s : ℕ) (stems : List Stem) (factors : List ℕ) (classes : List Class) (stale : Bool) (before new : List LaneSeen) (old now : LanesSeen) → now ≡ old → old.scale ≡ s → AreReady now.scale now.ballots stems now.keeps factors classes stale before → length new ≡ length before → HaveRun s now.keeps stems 0 (length before) new → HaveCounted old (record { scale = now.scale; ballots = now.ballots; keeps = now.keeps; tallies = tallies_of new })
+have_counted s stems factors classes stale before new old now is at ready many run =
     let scaled : now.scale ≡ s = ap (λ (l : LanesSeen). l.scale) is ∙ at in
     let ran : HaveRun now.scale now.keeps stems 0 (length new) new =
     subst (λ q. HaveRun q now.keeps stems 0 (length new) new) (sym scaled) (subst (λ q. HaveRun s now.keeps stems 0 q new) (sym many) run) in

@@ -11,5 +11,7 @@ pub mod TotalLemmas
 pub mod FollowLemmas
 pub mod PlaceLemmas
 pub mod CondenseLemmas
+pub mod RoomLemmas
 pub mod BranchLemmas
 pub mod VisitLemmas
+pub mod FactorLemmas

@@ -5,6 +5,7 @@ use Rattle.vote_spread.specs.Stem.{Stem}
 use Rattle.vote_spread.specs.Packed.{StandFor}
 use Rattle.vote_spread.specs.declared.class.Class.{Class}
 use Rattle.vote_spread.specs.Class.{AreOf}
+use Rattle.vote_spread.specs.Factor.{factors_of}
 use Rattle.vote_spread.specs.LaneSeen.{LaneSeen, AreFit}
 
 -- lanes that count single ballots at these keep values, where `scale` units are one vote, and each lane's tally
@@ -15,14 +16,15 @@ pub record LanesSeen : Type 0 where
   pub tallies : List (List ℕ)
 
 -- From 1 to 32 lanes, each with a tally for all candidates and fit for its share, over stems that stand for these
--- ballots. The candidates have these classes.
-pub record AreReady (s : ℕ) (ballots : List (List ℕ)) (stems : List Stem) (keeps : List ℕ) (classes : List Class) (stale : Bool) (lanes : List LaneSeen) : Type 0 where
+-- ballots. The candidates have these factors and classes.
+pub record AreReady (s : ℕ) (ballots : List (List ℕ)) (stems : List Stem) (keeps factors : List ℕ) (classes : List Class) (stale : Bool) (lanes : List LaneSeen) : Type 0 where
   pub stand : StandFor (length keeps) 1 stems ballots
   pub few_ballots : length ballots ≤ 999999999
   pub at_most_one : All (λ k. k ≤ s) keeps
   pub some : 1 ≤ length lanes
   pub few : length lanes ≤ 32
   pub of_all : All (λ lane. length lane.tally ≡ length keeps) lanes
+  pub factors_are : factors ≡ factors_of s keeps
   pub classes_are : AreOf s keeps classes
   pub fit : AreFit stale classes stems 0 (length lanes) lanes
 

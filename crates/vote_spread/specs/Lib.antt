@@ -2,6 +2,7 @@ pub mod Stem
 pub mod Gain
 pub mod Walk
 pub mod Class
+pub mod Factor
 pub mod Rows
 pub mod Packed
 pub mod Shares

@@ -1,7 +1,8 @@
 // A worker's lane.
-ghost use Rattle.std.specs.Prelude.{◌≡◌, ◌+◌, ◌<◌, ◌≤◌, IfOk, false, length, replicate};
+ghost use Rattle.std.specs.Prelude.{◌≡◌, ◌+◌, ◌^◌, ◌<◌, ◌≤◌, IfOk, false, length, replicate};
 ghost use Rattle.fixed_place.specs.Rounding.{scale, most};
 ghost use Rattle.vote_spread.specs.Class.{AreOf};
+ghost use Rattle.vote_spread.specs.Factor.{factors_of};
 ghost use Rattle.vote_spread.specs.Shares.{share, CanCount, HasCounted};
 ghost use Rattle.vote_spread.specs.LaneSeen.{IsFit};
 ghost use Rattle.vote_spread.specs.Walk.{IsWalk};
@@ -39,6 +40,7 @@ impl Model for Lane {
 impl Lane {
     /// A lane for so many candidates, with room for so many rows.
     pub(crate) fn new(alloc: Global, candidates: usize, room: usize) -> Result<Lane, NoMemory>
+        requires { candidates < 2 ^ 32 }
         ensures of_all { IfOk result (λ lane. length lane.tally ≡ candidates) }
         ensures room { IfOk result (λ lane. lane.room ≡ room) }
     {
@@ -64,6 +66,7 @@ impl Lane {
         &mut self,
         branches: &Branches,
         keeps: &[u64],
+        factors: &[u64],
         classes: &[Class],
         stale: bool,
         admission: Admission,
@@ -73,6 +76,7 @@ impl Lane {
         requires number { admission.number < count }
         requires few { count ≤ 32 }
         requires of_all { length self.old.tally ≡ length keeps.now }
+        requires factors { factors.now ≡ factors_of (scale P) keeps.now }
         requires classes { AreOf (scale P) keeps.now classes.now }
         requires can { CanCount (scale P) (most P) keeps.now branches.now }
         requires fit { IsFit stale classes.now branches.now admission.number count self.old }
@@ -83,6 +87,7 @@ impl Lane {
         walk::<P>(
             self.rows.as_slice(),
             keeps,
+            factors,
             self.weights.as_mut_slice(),
             self.tally.as_mut_slice(),
         );
@@ -122,12 +127,20 @@ pub(crate) fn share(len: usize, k: usize, count: usize) -> usize
     (len as u128 * k as u128 / count as u128) as usize
 }
 
-/// So many zeros.
+/// How many numbers are room enough between two lanes' buffers, so that no lane writes to a line of
+/// memory that another reads.
+const APART: usize = 16;
+
+/// So many zeros, with room behind them that is never used.
 pub(crate) fn zeros(alloc: Global, len: usize) -> Result<Vec<u64>, NoMemory>
+    requires { len < 2 ^ 32 }
     ensures { IfOk result (λ list. list.items ≡ replicate len 0) }
 {
-    match vec![in alloc; 0u64; len] {
-        Ok(list) => Ok(list),
+    let Ok(mut list) = Vec::with_capacity(alloc, len + APART) else {
+        return Err(NoMemory);
+    };
+    match list.resize(len, 0) {
+        Ok(()) => Ok(list),
         Err(_) => Err(NoMemory),
     }
 }

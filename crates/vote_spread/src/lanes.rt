@@ -4,6 +4,7 @@ ghost use Rattle.fixed_place.specs.Rounding.{scale, most};
 ghost use Rattle.frozen_plan.specs.Plan.{all_ballots};
 ghost use Rattle.vote_spread.specs.declared.class.Class.{Class};
 ghost use Rattle.vote_spread.specs.Class.{class_of};
+ghost use Rattle.vote_spread.specs.Factor.{factors_of};
 ghost use Rattle.vote_spread.specs.LaneSeen.{AreFit};
 ghost use Rattle.vote_spread.specs.Lanes.{HaveCounted, AreLoaded};
 ghost use Rattle.vote_spread.specs.Rows.{room_for};
@@ -12,6 +13,7 @@ ghost use Rattle.vote_spread.specs.Shares.{share};
 use crate::NoMemory;
 use crate::branches::Branches;
 use crate::class::Class;
+use crate::factor::factor_of;
 use crate::gather::gather;
 use crate::lane::{Lane, share, zeros};
 use crate::pack::pack_plans;
@@ -32,6 +34,7 @@ pub struct Lanes {
     plans: Snapshot<Plans>,
     branches: Branches,
     keeps: Vec<u64>,
+    factors: Vec<u64>,
     classes: Vec<Class>,
     lanes: Vec<Lane>,
     has_run: bool,
@@ -52,7 +55,7 @@ impl Model for Lanes {
 
     ghost view = { λ l. record { scale = l.scale; ballots = all_ballots l.plans.value; keeps = l.keeps.items; tallies = tallies_of l.lanes.items } };
 
-    ghost invariant = { λ l. AreReady l.scale (all_ballots l.plans.value) l.branches l.keeps.items l.classes.items l.stale l.lanes.items };
+    ghost invariant = { λ l. AreReady l.scale (all_ballots l.plans.value) l.branches l.keeps.items l.factors.items l.classes.items l.stale l.lanes.items };
 }
 
 impl Lanes {
@@ -74,13 +77,17 @@ impl Lanes {
         let ballots = Snapshot::of(&plans);
         let branches = pack_plans(alloc, plans)?;
         let keeps = zeros(alloc, candidates as usize)?;
+        let one = scale_of::<P>();
+        let mut factors = zeros(alloc, candidates as usize)?;
+        find_factors(one, keeps.as_slice(), factors.as_mut_slice());
         let classes = all_pass(alloc, candidates as usize)?;
         let lanes = lanes_of(alloc, candidates, workers, &branches)?;
         Ok(Lanes {
-            scale: scale_of::<P>(),
+            scale: one,
             plans: ballots,
             branches,
             keeps,
+            factors,
             classes,
             lanes,
             has_run: false,
@@ -104,6 +111,7 @@ impl Lanes {
             in_threads,
             &self.branches,
             self.keeps.as_slice(),
+            self.factors.as_slice(),
             self.classes.as_slice(),
             self.stale,
             self.lanes.as_mut_slice(),
@@ -118,6 +126,11 @@ impl Lanes {
         ensures { AreLoaded keeps.now self.old self.new }
     {
         copy_units(keeps, self.keeps.as_mut_slice());
+        find_factors(
+            scale_of::<P>(),
+            self.keeps.as_slice(),
+            self.factors.as_mut_slice(),
+        );
         if classify(
             self.scale,
             self.keeps.as_slice(),
@@ -141,11 +154,25 @@ impl Lanes {
 /// Takes over the units of keep values.
 fn copy_units<const P: usize>(keeps: &Keeps<P>, units: &mut [u64])
     requires { length keeps.now ≡ length units.old }
+    ensures places { P ≤ 9 }
     ensures units { units.new ≡ keeps.now }
     ensures at_most_one { All (λ k. k ≤ scale P) units.new }
 {
     for i in 0..keeps.len() {
         units[i] = keeps.get(i).units();
+    }
+}
+
+/// Finds the factors of keep values, of which `one` is the whole.
+fn find_factors(one: u64, keeps: &[u64], factors: &mut [u64])
+    requires some { 1 ≤ one }
+    requires small { one ≤ 1000000000 }
+    requires at_most_one { All (λ k. k ≤ one) keeps.now }
+    requires of_all { length factors.old ≡ length keeps.now }
+    ensures { factors.new ≡ factors_of one keeps.now }
+{
+    for i in 0..keeps.len() {
+        factors[i] = factor_of(keeps[i], one);
     }
 }
 

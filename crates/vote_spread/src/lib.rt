@@ -6,6 +6,7 @@ mod branch;
 mod branches;
 mod class;
 mod condense;
+mod factor;
 mod gather;
 mod lane;
 mod lanes;

@@ -1,9 +1,11 @@
 // A walk over rows.
 ghost use Rattle.std.specs.Prelude.{◌≡◌, ℕ, ◌+◌, ◌-◌, ◌*◌, ◌<◌, ◌≤◌, All, length, slice_index, slice_set};
 ghost use Rattle.fixed_place.specs.Rounding.{scale, most, up};
+ghost use Rattle.vote_spread.specs.Factor.{factor_of, factors_of};
 ghost use Rattle.vote_spread.specs.Gain.{gain, past};
 ghost use Rattle.vote_spread.specs.Rows.{row_stem, seen, IsRow, total};
 
+use crate::factor::left_by;
 use crate::row::Row;
 use fixed_place::scale_of;
 
@@ -11,6 +13,7 @@ use fixed_place::scale_of;
 pub(crate) fn walk<const P: usize>(
     rows: &[Row],
     keeps: &[u64],
+    factors: &[u64],
     weights: &mut [u64],
     tally: &mut [u64],
 )
@@ -18,6 +21,7 @@ pub(crate) fn walk<const P: usize>(
     requires rows { All (IsRow (length tally.old)) (seen rows.now) }
     requires keeps_of_all { length keeps.now ≡ length tally.old }
     requires at_most_one { All (λ k. k ≤ scale P) keeps.now }
+    requires factors { factors.now ≡ factors_of (scale P) keeps.now }
     requires depths { length weights.old ≡ 251 }
     requires room { (p : ℕ) → p < length tally.old → total (scale P) keeps.now (p + 1) (seen rows.now) ≤ most P }
     ensures depths { length weights.new ≡ 251 }
@@ -28,17 +32,24 @@ pub(crate) fn walk<const P: usize>(
     weights.fill(0);
     weights[0] = scale_of::<P>();
     for row in rows {
-        visit::<P>(*row, keeps, weights, tally);
+        visit::<P>(*row, keeps, factors, weights, tally);
     }
 }
 
 /// Sets the weight behind a row, and adds to the tally what its ballots give to its candidate.
-fn visit<const P: usize>(row: Row, keeps: &[u64], weights: &mut [u64], tally: &mut [u64])
+fn visit<const P: usize>(
+    row: Row,
+    keeps: &[u64],
+    factors: &[u64],
+    weights: &mut [u64],
+    tally: &mut [u64],
+)
     requires places { P ≤ 9 }
     requires depth { (1 ≤ row.depth) × (row.depth < length weights.old) }
     requires candidate { (1 ≤ row.candidate) × (row.candidate ≤ length tally.old) }
     requires keeps_of_all { length keeps.now ≡ length tally.old }
     requires at_most_one { All (λ k. k ≤ scale P) keeps.now }
+    requires factors { factors.now ≡ factors_of (scale P) keeps.now }
     requires light { All (λ w. w ≤ scale P) weights.old }
     requires room { (p : ℕ) → p < length tally.old → slice_index tally.old p + gain (scale P) keeps.now (p + 1) weights.old (row_stem row.depth row.candidate row.ballots) ≤ most P }
     ensures weights { weights.new ≡ past (scale P) keeps.now weights.old (row_stem row.depth row.candidate row.ballots) }
@@ -48,7 +59,7 @@ fn visit<const P: usize>(row: Row, keeps: &[u64], weights: &mut [u64], tally: &m
 {
     let weight = weights[row.depth as usize - 1];
     let place = row.candidate as usize - 1;
-    let left = left_of::<P>(weight, keeps[place]);
+    let left = left_of::<P>(weight, keeps[place], factors[place]);
     weights[row.depth as usize] = left;
     give::<P>(row.ballots as u64, place, weight - left, tally);
 }
@@ -63,15 +74,16 @@ fn give<const P: usize>(ballots: u64, place: usize, kept: u64, tally: &mut [u64]
     tally[place] += ballots * kept;
 }
 
-/// The weight that a candidate of keep value `keep` leaves of `weight`.
-#[tactic(auto, using(fixed_place::proofs::RoundingLemmas::roundings))]
-fn left_of<const P: usize>(weight: u64, keep: u64) -> u64
+/// The weight that a candidate of keep value `keep` leaves of `weight`, by its factor.
+fn left_of<const P: usize>(weight: u64, keep: u64, factor: u64) -> u64
     requires places { P ≤ 9 }
     requires light { weight ≤ scale P }
     requires at_most_one { keep ≤ scale P }
+    requires factor { factor ≡ factor_of (scale P) keep }
     ensures left { result ≡ weight - up (scale P) weight keep }
     ensures light { result ≤ scale P }
 {
-    let one = scale_of::<P>();
-    weight * (one - keep) / one
+    // Its clauses bound the weight; nothing is left of it in the program.
+    let _one = scale_of::<P>();
+    left_by(weight, factor)
 }

@@ -2,7 +2,8 @@ use Rattle.std.proofs.Common.{◌≡◌, ℕ, ◌+◌, ◌-◌, ◌≤◌, leb, 
 use Rattle.vote_spread.specs.declared.branch.Branch.{Branch}
 use Rattle.vote_spread.specs.Stem.{stem_of, stems_of}
 use Rattle.vote_spread.specs.Rows.{seen, Continues, Leaves}
-use Rattle.vote_spread.proofs.CondenseLemmas.{underway-begin, underway-end, room-begin, room-falls, counted_entered}
+use Rattle.vote_spread.proofs.CondenseLemmas.{underway-begin, underway-end, counted_entered}
+use Rattle.vote_spread.proofs.RoomLemmas.{room-begin, room-falls}
 use Rattle.vote_spread.proofs.BranchLemmas.{parted_branch, before_branch, next_branch, jump_branch, counted, counted_candidate, counted_tail, counted_inside, counted_shorter, counted_ranks, room_branch}
 use Rattle.vote_spread.proofs.condense.condense.Goals as goal
 

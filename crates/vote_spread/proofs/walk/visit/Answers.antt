@@ -1,9 +1,18 @@
-use Rattle.std.proofs.Common.{◌≡◌, ◌+◌, ◌-◌, ◌*◌, [], ◌∷◌, get_or, set, arith, ap, refl, ◌∙◌}
+use Rattle.std.proofs.Common.{◌≡◌, ℕ, ◌+◌, ◌-◌, ◌*◌, List, [], ◌∷◌, get_or, set, arith, ap, refl, ◌∙◌}
 use Rattle.fixed_place.specs.Rounding.{scale}
 use Rattle.fixed_place.proofs.RoundingLemmas.{scale_pos}
+use Rattle.std.proofs.lemmas.List.{get_or-map}
+use Rattle.vote_spread.specs.Factor.{factor_of}
 use Rattle.meek_rule.specs.Weights.{kept, given}
 use Rattle.meek_rule.proofs.WeightLemmas.{kept-le, gain_step}
 use Rattle.vote_spread.proofs.walk.visit.Goals as goal
+
+pub left_of-left-requires-clause-factor : goal.left_of-left-requires-clause-factor
+left_of-left-requires-clause-factor g c =
+    let s = scale g.row.P in
+    let keeps = c.args.keeps.now in
+    let place = c.args.row.candidate - 1 in
+    ap (λ (l : List ℕ). get_or l place 0) c.requires.factors ∙ get_or-map (factor_of s) keeps place 0 0 (omega (arith, c.requires.candidate.0, c.requires.candidate.1, c.requires.keeps_of_all))
 
 pub returns-clause-gives : goal.returns-clause-gives
 returns-clause-gives g c =

@@ -1,6 +1,7 @@
-use Rattle.std.proofs.Common.{◌≡◌, ◌≤◌, true, length, replicate, arith, ap, sym, subst, ◌∙◌}
+use Rattle.std.proofs.Common.{◌≡◌, ◌≤◌, true, length, drop, replicate, arith, ap, sym, subst, ◌∙◌}
 use Rattle.std.specs.List.{All}
-use Rattle.std.proofs.lemmas.List.{length-replicate}
+use Rattle.std.proofs.lemmas.List.{length-replicate, take_at}
+use Rattle.vote_spread.specs.Factor.{factors_of}
 use Rattle.std.proofs.lemmas.List.Elements.{All-replicate}
 use Rattle.frozen_plan.specs.Plan.{all_ballots}
 use Rattle.vote_spread.specs.Packed.{StandFor}
@@ -27,13 +28,17 @@ invariant_of-result g c =
     record {
       stand = stand;
       few_ballots = rw ballots c.requires.few;
-      at_most_one = rw zeros (All-replicate (λ k. k ≤ c.scale_of.result) n 0 (omega arith));
+      at_most_one = rw zeros (All-replicate (λ k. k ≤ c.scale_of-one.result) n 0 (omega arith));
       some = omega (arith, c.requires.workers.0);
       few = omega (arith, c.requires.workers.1);
       of_all = subst (λ m. All (λ (lane : LaneSeen). length lane.tally ≡ m) lanes.items) size c.in_ok-lanes.ensures.of_all;
+      factors_are =
+          take_at c.find_factors.new.factors (drop (length c.find_factors.new.factors) c.in_ok-factors.factors.items) c.in_ok-factors.factors.len
+          (omega (arith, c.find_factors.auto.factors, ap length c.as_mut_slice.ensures.value, c.in_ok-factors.factors.ok.0))
+          ∙ (c.find_factors.ensures ∙ ap (factors_of c.scale_of-one.result) c.as_slice.ensures.value);
       classes_are = record {
         whole = omega arith;
-        same = rw (zeros, passes) (map-same n (class_of c.scale_of.result) 0);
+        same = rw (zeros, passes) (map-same n (class_of c.scale_of-one.result) 0);
       };
       fit = subst (λ m. AreFit true c.in_ok-classes.classes.items c.in_ok-branches.branches 0 m lanes.items) (sym many) (c.in_ok-lanes.ensures.fit c.in_ok-classes.classes.items);
     }
