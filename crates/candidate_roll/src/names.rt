@@ -116,7 +116,8 @@ mod tests {
             assert!(rt; pushed.is_ok());
         }
         let copy = names.copy(rt.alloc())?;
-        assert_eq!(rt; (copy.len(), names.len()), (2, 2));
+        assert_eq!(rt; names.len(), 2);
+        assert_eq!(rt; copy.len(), 2);
         assert_eq!(rt; copy.items()[0].bytes(), b"Ann".as_slice());
         assert_eq!(rt; copy.items()[1].bytes(), b"Ben".as_slice());
         Ok(())
