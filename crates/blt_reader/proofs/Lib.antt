@@ -10,6 +10,8 @@ pub mod BltCompleteness
 pub mod Ruling
 pub mod FrontRuling
 pub mod BltLaws
+pub mod SpellingLaws
+pub mod SpellingLemmas
 pub mod Stamps
 pub mod WrittenRuns
 pub mod Spelling

@@ -15,5 +15,6 @@ pub mod Reads
 pub mod Opening
 pub mod Said
 pub mod Written
+pub mod Spelling
 pub mod Worked
 pub mod WorkedBytes

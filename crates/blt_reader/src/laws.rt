@@ -1,4 +1,5 @@
 // What the definitions of ballot files amount to. Each law is the contract of a function with nothing to do.
+ghost use Rattle.blt_reader.specs.Spelling.{CutsToTokens};
 ghost use Rattle.blt_reader.specs.Said.{HasOnePoll, FollowsOpenLists, ExpectsRightly, AcceptsFiles, RefusesByTheRule, RefusesAllElse, AcceptsRolls, RefusesRollsByTheRule};
 ghost use Rattle.blt_reader.specs.Written.{NumbersAreRead, DigitsAreRead, WordsAreRead, StringsAreRead, PartsFollow, NothingIsRead, WholeIsRead};
 
@@ -52,4 +53,10 @@ pub fn written_items_are_read()
     ensures parts { PartsFollow }
     ensures nothing { NothingIsRead }
     ensures whole { WholeIsRead }
+{}
+
+/// A text that is cut up to its end is its tokens at their places, with nothing but separators and
+/// comments between them.
+pub fn cuts_to_tokens()
+    ensures { CutsToTokens }
 {}

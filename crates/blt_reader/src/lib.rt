@@ -27,8 +27,9 @@ pub use fault_kind::FaultKind;
 pub use files::read_blt;
 pub use input_fault::InputFault;
 pub use laws::{
-    accepts_files, accepts_rolls, expects_rightly, follows_open_lists, has_one_poll,
-    refuses_all_else, refuses_by_the_rule, refuses_rolls_by_the_rule, written_items_are_read,
+    accepts_files, accepts_rolls, cuts_to_tokens, expects_rightly, follows_open_lists,
+    has_one_poll, refuses_all_else, refuses_by_the_rule, refuses_rolls_by_the_rule,
+    written_items_are_read,
 };
 pub use lines::read_lines;
 pub use next::Next;
