@@ -3,12 +3,9 @@ pub mod Complete
 pub mod CountEnding
 pub mod Rooms
 pub mod EntryLines
-pub mod Freezes
-pub mod Answering
-pub mod Serving
-pub mod OwnCalls
 pub mod WritingBytes
 pub mod DueTexts
+pub mod DayOffice
 pub mod BegunSheets
 pub mod DaySheets
 pub mod BegunSpreads

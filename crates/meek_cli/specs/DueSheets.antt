@@ -3,9 +3,9 @@ use Rattle.std.specs.Prelude.{◌≡◌, ℕ, List, [], ◌∷◌, ◌++◌, len
 use Rattle.candidate_roll.specs.Roll.{RollList}
 use Rattle.sheet_text.specs.Lines.{ended}
 use Rattle.sheet_text.specs.Sheet.{IsSheet}
+use Rattle.shard_office.specs.Versions.{VersionState}
 use Rattle.meek_cli.specs.declared.sheet_head.SheetHead.{SheetHead}
 use Rattle.meek_cli.specs.DayText.{sheet_line, roll_with}
-use Rattle.meek_cli.specs.Desk.{Stood}
 
 -- the place of a freeze, and what is counted for it
 pub record SheetDue : Type 0 where
@@ -15,9 +15,9 @@ pub record SheetDue : Type 0 where
   pub roll : RollList
   pub lots : List ℕ
 
--- the head of the sheet of what stood at a freeze
-abbrev pub head_of : RollList → Stood → SheetHead
-head_of roll stood = record { at = stood.at; roll = roll_with roll stood.struck }
+-- the head of the sheet of a version
+abbrev pub head_of : RollList → VersionState → SheetHead
+head_of roll version = record { at = version.at; roll = roll_with roll version.struck }
 
 -- the head is of so many candidates
 abbrev pub IsHeadOf : ℕ → SheetHead → Type 0

@@ -4,7 +4,7 @@ pub mod Bytes
 pub mod Refusals
 pub mod DayText
 pub mod DayHistory
-pub mod Desk
+pub mod Frozen
 pub mod DueSheets
 pub mod Owed
 pub mod Run

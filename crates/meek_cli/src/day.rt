@@ -1,11 +1,10 @@
 // A day: from the bytes of a day file to its text.
-ghost use Rattle.std.specs.Prelude.{◌≡◌, ◌≤◌, length, All};
+ghost use Rattle.std.specs.Prelude.{◌≡◌, ◌≤◌, length};
 ghost use Rattle.day_reader.specs.Said.{AreScripts};
-ghost use Rattle.meek_cli.specs.Desk.{AreCandidates, stood_at_freezes};
+ghost use Rattle.meek_cli.specs.Frozen.{AreFrozen};
 ghost use Rattle.meek_cli.specs.Run.{FinishesDay, PlaysDay, WritesDay};
 
 use crate::day_counting::count_day;
-use crate::frozen::Frozen;
 use crate::office::answer_day;
 use crate::refusal::refuse;
 use crate::split::Split;
@@ -16,10 +15,12 @@ use byte_edge::{Gate, Sink};
 use call_register::History;
 use day_reader::{Day, read_day};
 use std::alloc::Global;
+use std::sync::Wait;
 use std::thread::Threads;
+use team_run::Versions;
 
 /// Plays the day of a file, and writes its text or the refusal.
-pub(crate) fn play_day<R: Threads + Sync, K: Sink, G: Gate + Sync>(
+pub(crate) fn play_day<R: Threads + Wait + Sync, K: Sink, G: Gate + Sync>(
     rt: &R,
     alloc: Global,
     input: &[u8],
@@ -39,7 +40,7 @@ pub(crate) fn play_day<R: Threads + Sync, K: Sink, G: Gate + Sync>(
 }
 
 /// Answers all calls of a day, counts what stood at each freeze, and writes the text.
-fn play<R: Threads + Sync, K: Sink, G: Gate + Sync>(
+fn play<R: Threads + Wait + Sync, K: Sink, G: Gate + Sync>(
     rt: &R,
     alloc: Global,
     day: Day,
@@ -61,7 +62,14 @@ fn play<R: Threads + Sync, K: Sink, G: Gate + Sync>(
         omega,
         scripts,
     } = day;
-    let Ok((history, frozen)) = answer_day(alloc, roll.candidates(), scripts) else {
+    let Ok((history, versions)) = answer_day(
+        rt,
+        alloc,
+        roll.candidates(),
+        split.shards(),
+        scripts,
+        gate,
+    ) else {
         return Outcome::without_calls(alloc, Status::NoMemory);
     };
     let terms = Terms {
@@ -70,7 +78,8 @@ fn play<R: Threads + Sync, K: Sink, G: Gate + Sync>(
         roll,
         lots,
     };
-    match count_at_places(rt, alloc, &terms, &history, frozen, split, sink, gate) {
+    let workers = split.workers();
+    match count_at_places(rt, alloc, &terms, &history, versions, workers, sink, gate) {
         Status::NoMemory => Outcome::without_calls(alloc, Status::NoMemory),
         status => Outcome { status, history },
     }
@@ -82,23 +91,23 @@ fn count_at_places<R: Threads + Sync, K: Sink, G: Gate + Sync>(
     alloc: Global,
     terms: &Terms,
     history: &History,
-    frozen: Vec<Frozen>,
-    split: &Split,
+    versions: Versions,
+    workers: u32,
     sink: &mut K,
     gate: &G,
 ) -> Status
     requires places { (6 ≤ terms.now.places) × (terms.now.places ≤ 9) }
     requires omega { (1 ≤ terms.now.omega) × (terms.now.omega ≤ 1000000) }
+    requires workers { (1 ≤ workers) × (workers ≤ 32) }
     requires lots_of_all { length terms.now.lots ≡ length terms.now.roll.names }
-    requires stood { frozen.items ≡ stood_at_freezes (length terms.now.roll.names) history.now }
-    requires struck { All (λ stood. AreCandidates (length terms.now.roll.names) stood.struck) frozen.items }
+    requires frozen { AreFrozen (length terms.now.roll.names) history.now versions }
     ensures { WritesDay terms.now history.now result
         (record { written = K.written sink.old; written_then = K.written sink.new; faults = K.faults sink.old; faults_then = K.faults sink.new }) }
 {
     macro_rules! at_places {
         ($($places:literal)*) => {
             match terms.places {
-                $($places => count_day::<$places, R, K, G>(rt, alloc, terms, history, frozen, split, sink, gate),)*
+                $($places => count_day::<$places, R, K, G>(rt, alloc, terms, history, versions, workers, sink, gate),)*
                 _ => unreachable!(),
             }
         };

@@ -5,27 +5,26 @@ ghost use Rattle.sheet_text.specs.Lines.{text_of_lines};
 ghost use Rattle.vote_spread.specs.Lanes.{HaveCounted};
 ghost use Rattle.meek_cli.specs.Bytes.{WritesBytes};
 ghost use Rattle.meek_cli.specs.DayText.{entry_lines};
-ghost use Rattle.meek_cli.specs.Desk.{AreCandidates, stood_at_freezes};
+ghost use Rattle.meek_cli.specs.Frozen.{AreFrozen};
 ghost use Rattle.meek_cli.specs.DueSheets.{head_of, dues_of, IsHeadOf, HasSheet, AreDueTexts};
 ghost use Rattle.meek_cli.specs.Run.{Finishes, WritesDay, WritesDues};
 ghost use Rattle.meek_cli.specs.declared.status.Status.TheVariants.{Done};
 
 use crate::Status;
-use crate::counting::deal;
 use crate::due_sheet::DueSheet;
 use crate::entry_text::write_entries;
-use crate::frozen::Frozen;
 use crate::sheet_head::SheetHead;
-use crate::split::Split;
 use crate::terms::Terms;
 use byte_edge::{Failed, Gate, Sink};
 use call_register::History;
 use candidate_roll::Roll;
 use lot_order::Lots;
 use meek_rule::{NoMemory, Spread};
+use shard_office::Version;
 use sheet_text::sheets_are_unique;
 use std::alloc::Global;
 use std::thread::Threads;
+use team_run::Versions;
 use vote_spread::{Lanes, PlanSpread};
 
 /// Counts what stood at each freeze at so many places, in workers' lanes, and writes the text of the
@@ -35,39 +34,35 @@ pub(crate) fn count_day<const P: usize, R: Threads + Sync, K: Sink, G: Gate + Sy
     alloc: Global,
     terms: &Terms,
     history: &History,
-    frozen: Vec<Frozen>,
-    split: &Split,
+    versions: Versions,
+    workers: u32,
     sink: &mut K,
     gate: &G,
 ) -> Status
     requires places { (6 ≤ P) × (P ≤ 9) }
     requires of_terms { terms.now.places ≡ P }
     requires omega { (1 ≤ terms.now.omega) × (terms.now.omega ≤ 1000000) }
+    requires workers { (1 ≤ workers) × (workers ≤ 32) }
     requires lots_of_all { length terms.now.lots ≡ length terms.now.roll.names }
-    requires stood { frozen.items ≡ stood_at_freezes (length terms.now.roll.names) history.now }
-    requires struck { All (λ stood. AreCandidates (length terms.now.roll.names) stood.struck) frozen.items }
+    requires frozen { AreFrozen (length terms.now.roll.names) history.now versions }
     ensures { WritesDay terms.now history.now result
         (record { written = K.written sink.old; written_then = K.written sink.new; faults = K.faults sink.old; faults_then = K.faults sink.new }) }
 {
-    // The sheet of the plans' ballots is that of the ballots that stand.
+    // The sheet of a version's ballots is that of the ballots that stand, in whatever order.
     sheets_are_unique();
     let run = |lanes: &mut Lanes|
         requires places { P ≤ 9 }
         requires scale { lanes.now.scale ≡ scale P }
         ensures { HaveCounted lanes.entry.now lanes.exit.now }
     { lanes.run::<P, R, G>(rt, gate) };
-    let Ok(heads) = heads_for(alloc, &terms.roll, frozen.as_slice()) else {
+    let Ok(heads) = heads_for(alloc, &terms.roll, versions.items()) else {
         return Status::NoMemory;
     };
     let candidates = terms.roll.candidates();
     let mut spreads = Vec::new(alloc);
-    for stood in frozen {
-        let Frozen { ballots, .. } = stood;
-        let Ok(plans) = deal(alloc, ballots, split.shards()) else {
-            return Status::NoMemory;
-        };
-        let Ok(spread) = PlanSpread::<P, _>::begin(alloc, plans, candidates, split.workers(), run)
-        else {
+    for version in versions.into_items() {
+        let plans = version.into_plans();
+        let Ok(spread) = PlanSpread::<P, _>::begin(alloc, plans, candidates, workers, run) else {
             return Status::NoMemory;
         };
         if spreads.push(spread).is_err() {
@@ -85,16 +80,16 @@ pub(crate) fn count_day<const P: usize, R: Threads + Sync, K: Sink, G: Gate + Sy
 }
 
 /// The place and the roll of the sheet of each freeze.
-fn heads_for(alloc: Global, roll: &Roll, frozen: &[Frozen]) -> Result<Vec<SheetHead>, NoMemory>
-    requires { All (λ stood. AreCandidates (length roll.now.names) stood.struck) frozen.now }
-    ensures { IfOk result (λ heads. heads.items ≡ map (head_of roll.now) frozen.now) }
+fn heads_for(alloc: Global, roll: &Roll, versions: &[Version]) -> Result<Vec<SheetHead>, NoMemory>
+    requires { All (λ version. version.candidates ≡ length roll.now.names) versions.now }
+    ensures { IfOk result (λ heads. heads.items ≡ map (head_of roll.now) versions.now) }
 {
     let mut heads = Vec::new(alloc);
-    for stood in frozen {
-        let Ok(roll) = roll.with_struck(alloc, stood.struck.as_slice()) else {
+    for version in versions {
+        let Ok(roll) = roll.with_struck(alloc, version.struck()) else {
             return Err(NoMemory);
         };
-        let at = stood.at;
+        let at = version.at();
         if heads.push(SheetHead { at, roll }).is_err() {
             return Err(NoMemory);
         }

@@ -5,11 +5,9 @@
 mod counting;
 mod day;
 mod day_counting;
-mod desk;
 mod due_sheet;
 mod entry_text;
 mod finishing;
-mod frozen;
 mod lent;
 mod made_days;
 mod office;

@@ -1,34 +1,53 @@
-// The calls of a day, answered at one desk.
-ghost use Rattle.std.specs.Prelude.{◌≡◌, ◌≤◌, All, IfOk};
+// The calls of a day, answered at an office that its teams share.
+ghost use Rattle.std.specs.Prelude.{◌≡◌, ◌≤◌, IfOk};
 ghost use Rattle.day_reader.specs.Said.{AreScripts};
 ghost use Rattle.meek_cli.specs.DayHistory.{IsHistoryOf};
-ghost use Rattle.meek_cli.specs.Desk.{AreCandidates, stood_at_freezes};
+ghost use Rattle.meek_cli.specs.Frozen.{AreFrozen};
 
-use crate::desk::Desk;
-use crate::frozen::Frozen;
-use batch_core::{Call, NoMemory};
+use batch_core::NoMemory;
+use byte_edge::Gate;
 use call_register::History;
 use day_reader::Scripts;
+use shard_office::Office;
 use std::alloc::Global;
+use std::sync::Wait;
+use std::thread::Threads;
+use team_run::{Versions, days_end_with_the_clerk, run_teams, scripts_of_a_day_may_run};
 
-/// The clerk's number among the callers.
-const CLERK: u32 = 0;
-
-/// Answers the calls of all teams, one team after another, and last the clerk's freeze. Gives the
-/// history, and what stood at each of its freezes.
-pub(crate) fn answer_day(
+/// Answers the calls of all teams at an office of so many shards, each team's in a thread of its own,
+/// and last the clerk's freeze. Gives the history, and the versions of its freezes by rising place.
+/// Where memory is wanted the office is given up.
+pub(crate) fn answer_day<R: Threads + Wait + Sync, G: Gate + Sync>(
+    rt: &R,
     alloc: Global,
     candidates: u32,
+    shards: u32,
     scripts: Scripts,
-) -> Result<(History, Vec<Frozen>), NoMemory>
-    requires few { candidates ≤ 250 }
+    gate: &G,
+) -> Result<(History, Versions), NoMemory>
+    requires candidates { (1 ≤ candidates) × (candidates ≤ 250) }
+    requires shards { (1 ≤ shards) × (shards ≤ 64) }
     requires scripts { AreScripts candidates scripts }
     ensures history { IfOk result (λ day. IsHistoryOf scripts day.0) }
-    ensures frozen { IfOk result (λ day. day.1.items ≡ stood_at_freezes candidates day.0) }
-    ensures struck { IfOk result (λ day. All (λ stood. AreCandidates candidates stood.struck) day.1.items) }
+    ensures frozen { IfOk result (λ day. AreFrozen candidates day.0 day.1) }
 {
-    let mut desk = Desk::new(alloc, candidates);
-    desk.serve_all(alloc, scripts)?;
-    desk.answer(alloc, CLERK, Call::Freeze)?;
-    Ok(desk.close())
+    scripts_of_a_day_may_run();
+    days_end_with_the_clerk();
+    let Ok((office, mut clerk)) = Office::try_new(alloc, candidates, shards) else {
+        return Err(NoMemory);
+    };
+    let Ok(mut versions) = run_teams(rt, alloc, &office, &mut clerk, scripts, gate) else {
+        return Err(NoMemory);
+    };
+    let Ok(last) = office.clerk_freeze(rt, alloc, &mut clerk) else {
+        return Err(NoMemory);
+    };
+    let Ok(()) = versions.push(last) else {
+        return Err(NoMemory);
+    };
+    let _all_back = clerk.open_teams();
+    match office.close(alloc, clerk) {
+        Ok(history) => Ok((history, versions)),
+        Err(_) => Err(NoMemory),
+    }
 }

@@ -46,8 +46,8 @@ pub fn meek<R: Threads + Wait + Sync, S: Source, K: Sink, G: Gate + Sync>(
     run(rt, alloc, words, source, sink, gate)
 }
 
-/// The whole run, which never waits.
-fn run<R: Threads + Sync, S: Source, K: Sink, G: Gate + Sync>(
+/// The whole run.
+fn run<R: Threads + Wait + Sync, S: Source, K: Sink, G: Gate + Sync>(
     rt: &R,
     alloc: Global,
     words: &[String],

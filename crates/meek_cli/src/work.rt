@@ -11,6 +11,7 @@ use crate::split::Split;
 use byte_edge::{Gate, Sink};
 use meek_words::{Command, LotWords, WordsStop, read_words};
 use std::alloc::Global;
+use std::sync::Wait;
 use std::thread::Threads;
 
 /// The greatest length of a ballot file, in bytes.
@@ -60,7 +61,7 @@ impl Work {
     }
 
     /// Does it with the whole input, and writes what is owed.
-    pub(crate) fn finish<R: Threads + Sync, K: Sink, G: Gate + Sync>(
+    pub(crate) fn finish<R: Threads + Wait + Sync, K: Sink, G: Gate + Sync>(
         &self,
         rt: &R,
         alloc: Global,

@@ -59,6 +59,13 @@ impl Versions {
         self.list.reverse();
     }
 
+    /// The versions as a plain list.
+    pub fn into_items(self) -> Vec<Version>
+        ensures { result.items ≡ self }
+    {
+        self.list
+    }
+
     pub fn len(&self) -> usize
         ensures { result ≡ length self.now }
     {

@@ -4,6 +4,7 @@ mod days;
 mod lanes;
 mod large_inputs;
 mod refusals;
+mod teams;
 
 use crate::{Status, meek};
 use blt_reader::{FaultKind, InputFault};

@@ -1,25 +1,66 @@
-use Rattle.std.proofs.Common.{◌≡◌, ℕ, List, [], ◌∷◌, ◌++◌, sym, ap, ◌∙◌, subst}
-use Rattle.std.specs.Prelude.{All}
+use Rattle.std.proofs.Common.{◌≡◌, ℕ, ◌≤◌, List, [], ◌∷◌, ◌++◌, map, sym, ap, ◌∙◌, subst}
 use Rattle.batch_core.specs.declared.entry.Entry.{Entry}
-use Rattle.batch_core.specs.Histories.{IsLegal}
-use Rattle.meek_cli.specs.DayHistory.{clerk_freeze}
-use Rattle.shard_book.specs.Journal.{JournalState}
-use Rattle.meek_cli.specs.Desk.{Stood, AreCandidates, AddsScripts, stood_at_freezes}
-use Rattle.meek_cli.proofs.OwnCalls.{history_of, struck_candidates}
+use Rattle.call_register.specs.declared.mark.Mark.{Mark}
+use Rattle.call_register.specs.Walk.{calls_seen}
+use Rattle.call_register.specs.Weaving.{freeze_entry}
+use Rattle.shard_office.specs.Office.{OfficeState}
+use Rattle.shard_office.specs.Sight.{by_shard}
+use Rattle.shard_office.specs.Passes.{PassState, own}
+use Rattle.shard_office.specs.Versions.{IsFreeze}
+use Rattle.team_run.specs.Teams.{MayRun, AreVersionsOf, script_of}
+use Rattle.team_run.specs.Endings.{HasEnded}
+use Rattle.meek_cli.proofs.DayOffice.{history_of_day, frozen_of_day}
 use Rattle.meek_cli.proofs.office.answer_day.Goals as goal
 
-pub returns-clause-history : goal.returns-clause-history
-returns-clause-history c =
-    let mid = c.serve_all.new.self.entries in
-    let added = subst (λ (old : List Entry). AddsScripts c.args.scripts old mid) (ap (λ (desk : JournalState). desk.entries) c.new-desk.ensures) c.in_ok-serve_all.ensures.entries in
-    let last : c.close.result.0 ≡ mid ++ clerk_freeze ∷ [] = c.close.ensures.history ∙ c.in_ok-answer.ensures.entries in
-    history_of c.args.candidates c.args.scripts mid c.close.result.0 c.requires.scripts added last
-    (subst IsLegal (sym c.close.ensures.history) c.close.ensures.legal)
+pub run_teams-requires-clause-scripts : goal.run_teams-requires-clause-scripts
+run_teams-requires-clause-scripts g c =
+    let may : MayRun c.args.candidates c.args.scripts = c.scripts_of_a_day_may_run.ensures c.args.candidates c.args.scripts c.requires.scripts in
+    let of_office : MayRun c.in-Ok.office.candidates c.args.scripts = subst (λ (n : ℕ). MayRun n c.args.scripts) (sym c.in-Ok.ensures.office.1) may in
+    λ κs given. of_office
 
-pub returns-clause-struck : goal.returns-clause-struck
-returns-clause-struck c =
-    let desk = c.answer.new.self in
-    let n : desk.candidates ≡ c.args.candidates = c.answer.ensures.candidates ∙ c.serve_all.ensures.candidates ∙ ap (λ (d : JournalState). d.candidates) c.new-desk.ensures in
-    let struck = struck_candidates desk.candidates desk.entries c.close.ensures.answerable in
-    subst (λ (l : List Stood). All (λ (stood : Stood). AreCandidates c.args.candidates stood.struck) l) (sym c.close.ensures.frozen)
-    (subst (λ (k : ℕ). All (λ (stood : Stood). AreCandidates k stood.struck) (stood_at_freezes desk.candidates desk.entries)) n struck)
+pub returns-in-Ok-close-clause-history : goal.returns-in-Ok-close-clause-history
+returns-in-Ok-close-clause-history g c =
+    let fresh = c.in-Ok.clerk in
+    let back = c.run_teams.new.clerk in
+    let clerk = c.clerk_freeze.new.clerk in
+    let versions = c.in-Ok-run_teams.versions in
+    let last = c.in-Ok-clerk_freeze.last in
+    let may : MayRun c.args.candidates c.args.scripts = c.scripts_of_a_day_may_run.ensures c.args.candidates c.args.scripts c.requires.scripts in
+    let office : clerk.desk.office ≡ c.in-Ok.office = c.in-Ok-clerk_freeze.ensures.office ∙ (c.in-Ok-run_teams.ensures.clerk.same.office ∙ c.in-Ok.ensures.desk.0) in
+    let shards : clerk.desk.office.shards ≡ c.args.shards = ap (λ (o : OfficeState). o.shards) office ∙ c.in-Ok.ensures.office.0 in
+    let taken = c.in-Ok-clerk_freeze.ensures.taken in
+    let nothing : own fresh.desk ≡ [] = ap (λ (marks : List Mark). calls_seen fresh.desk.caller marks (by_shard fresh.desk.sight.lists)) c.in-Ok.ensures.nothing_seen.0 in
+    let own_is : own clerk.desk ≡ freeze_entry 0 ∷ [] =
+    c.in-Ok-clerk_freeze.ensures.own ∙ ap (λ (l : List Entry). l ++ freeze_entry 0 ∷ []) (c.in-Ok-run_teams.ensures.clerk.same.own_are ∙ nothing) in
+    let frozen = subst (λ (n : ℕ). IsFreeze n 0 last back.desk.sight clerk.desk.sight) (ap (λ (o : OfficeState). o.shards) (sym office)) c.in-Ok-clerk_freeze.ensures.frozen in
+    history_of_day c.args.scripts (versions ++ last ∷ []) c.in-Ok-close.history
+    (c.days_end_with_the_clerk.ensures c.args.scripts versions last clerk back.desk.sight c.in-Ok-close.history
+    (subst (λ (n : ℕ). 1 ≤ n) (sym shards) c.requires.shards.0) c.open_teams-all_back.ensures.caller may.numbers
+    (ap (map script_of) taken ∙ c.in-Ok-run_teams.ensures.teams)
+    (subst (λ (passes : List PassState). AreVersionsOf passes versions) (sym taken) c.in-Ok-run_teams.ensures.versions)
+    c.open_teams-all_back.ensures.taken frozen own_is c.in-Ok-close.ensures.closed)
+
+pub returns-in-Ok-close-clause-frozen : goal.returns-in-Ok-close-clause-frozen
+returns-in-Ok-close-clause-frozen g c =
+    let fresh = c.in-Ok.clerk in
+    let back = c.run_teams.new.clerk in
+    let clerk = c.clerk_freeze.new.clerk in
+    let versions = c.in-Ok-run_teams.versions in
+    let last = c.in-Ok-clerk_freeze.last in
+    let may : MayRun c.args.candidates c.args.scripts = c.scripts_of_a_day_may_run.ensures c.args.candidates c.args.scripts c.requires.scripts in
+    let office : clerk.desk.office ≡ c.in-Ok.office = c.in-Ok-clerk_freeze.ensures.office ∙ (c.in-Ok-run_teams.ensures.clerk.same.office ∙ c.in-Ok.ensures.desk.0) in
+    let shards : clerk.desk.office.shards ≡ c.args.shards = ap (λ (o : OfficeState). o.shards) office ∙ c.in-Ok.ensures.office.0 in
+    let taken = c.in-Ok-clerk_freeze.ensures.taken in
+    let nothing : own fresh.desk ≡ [] = ap (λ (marks : List Mark). calls_seen fresh.desk.caller marks (by_shard fresh.desk.sight.lists)) c.in-Ok.ensures.nothing_seen.0 in
+    let own_is : own clerk.desk ≡ freeze_entry 0 ∷ [] =
+    c.in-Ok-clerk_freeze.ensures.own ∙ ap (λ (l : List Entry). l ++ freeze_entry 0 ∷ []) (c.in-Ok-run_teams.ensures.clerk.same.own_are ∙ nothing) in
+    let frozen = subst (λ (n : ℕ). IsFreeze n 0 last back.desk.sight clerk.desk.sight) (ap (λ (o : OfficeState). o.shards) (sym office)) c.in-Ok-clerk_freeze.ensures.frozen in
+    let of_passes = subst (λ (passes : List PassState). AreVersionsOf passes versions) (sym taken) c.in-Ok-run_teams.ensures.versions in
+    let ended =
+    c.days_end_with_the_clerk.ensures c.args.scripts versions last clerk back.desk.sight c.in-Ok-close.history
+    (subst (λ (n : ℕ). 1 ≤ n) (sym shards) c.requires.shards.0) c.open_teams-all_back.ensures.caller may.numbers
+    (ap (map script_of) taken ∙ c.in-Ok-run_teams.ensures.teams) of_passes
+    c.open_teams-all_back.ensures.taken frozen own_is c.in-Ok-close.ensures.closed in
+    frozen_of_day clerk.desk.office clerk.desk.sight clerk.taken c.args.candidates c.args.scripts versions c.push.new.self last c.in-Ok-close.history ended
+    c.in-Ok-push.ensures.ok (ap (λ (o : OfficeState). o.candidates) office ∙ c.in-Ok.ensures.office.1) (c.in-Ok-clerk_freeze.ensures.candidates ∙ c.in-Ok.ensures.office.1)
+    of_passes c.open_teams-all_back.ensures.taken
