@@ -62,7 +62,8 @@ impl Gate for MeetingGate {
         match place {
             Place::Lane(1) => self.meet(&self.first, &self.second),
             Place::Lane(2) => self.meet(&self.second, &self.first),
-            _ => self.missed.store(true, Ordering::SeqCst),
+            Place::Lane(_) => self.missed.store(true, Ordering::SeqCst),
+            Place::InTurn(_) => {}
         }
     }
 }
