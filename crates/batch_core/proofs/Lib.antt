@@ -1,6 +1,6 @@
-pub mod BookLemmas
-pub mod OrderLemmas
-pub mod StandingLemmas
+mod BookLemmas
+mod OrderLemmas
+mod StandingLemmas
 pub mod LawfulLemmas
-pub mod HistoryLemmas
-pub mod StruckLemmas
+mod HistoryLemmas
+mod StruckLemmas

@@ -1,6 +1,6 @@
-pub mod Runs
-pub mod Cutting
-pub mod UsualNumbers
+mod Runs
+mod Cutting
+mod UsualNumbers
 pub mod Judgements
 pub mod Tables
 pub mod BallotSoundness
@@ -9,17 +9,17 @@ pub mod BltSoundness
 pub mod BltCompleteness
 pub mod Ruling
 pub mod FrontRuling
-pub mod BltLaws
-pub mod SpellingLaws
-pub mod SpellingLemmas
-pub mod Stamps
+mod BltLaws
+mod SpellingLaws
+mod SpellingLemmas
+mod Stamps
 pub mod WrittenRuns
 pub mod Spelling
 pub mod Reading
-pub mod LineSteps
-pub mod RankSteps
-pub mod NameSteps
-pub mod OpeningSteps
-pub mod RollSteps
-pub mod RollAnswers
-pub mod FileSteps
+mod LineSteps
+mod RankSteps
+mod NameSteps
+mod OpeningSteps
+mod RollSteps
+mod RollAnswers
+mod FileSteps

@@ -1,12 +1,12 @@
-pub mod ShardBooks
+mod ShardBooks
 pub mod Woven
-pub mod Pieces
+mod Pieces
 pub mod Standing
 pub mod Steps
 pub mod OwnCalls
 pub mod Sights
 pub mod Back
-pub mod Booked
+mod Booked
 pub mod Lawful
 pub mod Places
 pub mod Alike

@@ -1,3 +1,3 @@
-pub mod NameLemmas
-pub mod MarksLemmas
-pub mod RefusalLemmas
+mod NameLemmas
+mod MarksLemmas
+mod RefusalLemmas

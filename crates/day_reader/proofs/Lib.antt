@@ -1,19 +1,19 @@
-pub mod Keywords
-pub mod DifferentNumbers
-pub mod CallSoundness
-pub mod TeamLists
-pub mod TeamSoundness
-pub mod DaySoundness
-pub mod CallCompleteness
-pub mod TeamCompleteness
-pub mod HeadCompleteness
-pub mod DayCompleteness
-pub mod DayLaws
-pub mod Steps
-pub mod CallSteps
-pub mod TeamSteps
-pub mod ByNumber
-pub mod HeadSteps
-pub mod DaySteps
-pub mod DayScripts
-pub mod WorkedFiles
+mod Keywords
+mod DifferentNumbers
+mod CallSoundness
+mod TeamLists
+mod TeamSoundness
+mod DaySoundness
+mod CallCompleteness
+mod TeamCompleteness
+mod HeadCompleteness
+mod DayCompleteness
+mod DayLaws
+mod Steps
+mod CallSteps
+mod TeamSteps
+mod ByNumber
+mod HeadSteps
+mod DaySteps
+mod DayScripts
+mod WorkedFiles

@@ -1,7 +1,7 @@
 pub mod ReadLemmas
-pub mod RowsLemmas
+mod RowsLemmas
 pub mod TrieLemmas
-pub mod BagLemmas
-pub mod DealingLemmas
-pub mod FallingLemmas
-pub mod TakingLemmas
+mod BagLemmas
+mod DealingLemmas
+mod FallingLemmas
+mod TakingLemmas

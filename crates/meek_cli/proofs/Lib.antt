@@ -1,17 +1,17 @@
-pub mod Ending
-pub mod Complete
-pub mod CountEnding
-pub mod Rooms
-pub mod EntryLines
-pub mod WritingBytes
-pub mod DueTexts
-pub mod DayOffice
-pub mod BegunSheets
-pub mod DaySheets
-pub mod BegunSpreads
-pub mod Dealt
-pub mod DayEnding
-pub mod MadeTexts
-pub mod MadeHead
-pub mod MadeCalls
-pub mod MadeDays
+mod Ending
+mod Complete
+mod CountEnding
+mod Rooms
+mod EntryLines
+mod WritingBytes
+mod DueTexts
+mod DayOffice
+mod BegunSheets
+mod DaySheets
+mod BegunSpreads
+mod Dealt
+mod DayEnding
+mod MadeTexts
+mod MadeHead
+mod MadeCalls
+mod MadeDays

@@ -1,8 +1,8 @@
-pub mod OneIteration
-pub mod NextIteration
+mod OneIteration
+mod NextIteration
 pub mod WholeCount
 pub mod Leading
-pub mod StepLemmas
-pub mod EndLemmas
-pub mod LoneBallotHolds
+mod StepLemmas
+mod EndLemmas
+mod LoneBallotHolds
 pub mod WorkedHolds

@@ -1,19 +1,19 @@
-pub mod Counting
+mod Counting
 pub mod EndLemmas
 pub mod PlaceLemmas
 pub mod ProgressLemmas
 pub mod RuleLemmas
-pub mod SettleLemmas
+mod SettleLemmas
 pub mod StateCounts
-pub mod StrictOrder
-pub mod TestLemmas
+mod StrictOrder
+mod TestLemmas
 pub mod TieLemmas
 pub mod TotalLemmas
 pub mod ValidLemmas
 pub mod WeightLemmas
 pub mod WinnersByCount
 pub mod WinnersByTest
-pub mod WinnersOrder
+mod WinnersOrder
 pub mod WinnersUnique
-pub mod WorkedEdgesHold
-pub mod WorkedHolds
+mod WorkedEdgesHold
+mod WorkedHolds

@@ -1,10 +1,10 @@
-pub mod DigitLemmas
-pub mod SplitLemmas
-pub mod LotListLemmas
-pub mod CutLemmas
-pub mod FrontLemmas
-pub mod ClapSteps
-pub mod ClapRows
-pub mod ClapWalk
-pub mod ClapTakes
-pub mod FormLemmas
+mod DigitLemmas
+mod SplitLemmas
+mod LotListLemmas
+mod CutLemmas
+mod FrontLemmas
+mod ClapSteps
+mod ClapRows
+mod ClapWalk
+mod ClapTakes
+mod FormLemmas

@@ -1,2 +1,2 @@
-pub mod Parts
-pub mod Moves
+mod Parts
+mod Moves

@@ -1,5 +1,5 @@
 pub mod RankingLemmas
-pub mod BallotsLemmas
+mod BallotsLemmas
 pub mod PermutationLemmas
 pub mod PlainLemmas
-pub mod RefusalLemmas
+mod RefusalLemmas

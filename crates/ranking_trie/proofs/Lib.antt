@@ -1,9 +1,9 @@
 pub mod BagLemmas
 pub mod CountLemmas
-pub mod DepthLemmas
-pub mod FormLemmas
+mod DepthLemmas
+mod FormLemmas
 pub mod LineLemmas
-pub mod ListLemmas
-pub mod ListingLemmas
-pub mod NodeLemmas
-pub mod OrderLemmas
+mod ListLemmas
+mod ListingLemmas
+mod NodeLemmas
+mod OrderLemmas

@@ -1,5 +1,5 @@
-pub mod RowLemmas
-pub mod CountLemmas
-pub mod StandingLemmas
-pub mod EntryLemmas
-pub mod JournalLemmas
+mod RowLemmas
+mod CountLemmas
+mod StandingLemmas
+mod EntryLemmas
+mod JournalLemmas

@@ -1,26 +1,26 @@
-pub mod Places
-pub mod Tallied
-pub mod Owned
-pub mod Growing
-pub mod Lists
-pub mod Called
-pub mod Answered
-pub mod Marked
-pub mod TurnLists
-pub mod FreezeLemmas
-pub mod HeldLemmas
-pub mod SightLemmas
-pub mod NumberLemmas
-pub mod FirstSeats
-pub mod TakenIn
-pub mod TeamMade
-pub mod MeetingLists
-pub mod ClosingLemmas
-pub mod OpeningLists
-pub mod VersionLemmas
-pub mod StruckLemmas
-pub mod HistoryLemmas
-pub mod LateLemmas
-pub mod Mine
+mod Places
+mod Tallied
+mod Owned
+mod Growing
+mod Lists
+mod Called
+mod Answered
+mod Marked
+mod TurnLists
+mod FreezeLemmas
+mod HeldLemmas
+mod SightLemmas
+mod NumberLemmas
+mod FirstSeats
+mod TakenIn
+mod TeamMade
+mod MeetingLists
+mod ClosingLemmas
+mod OpeningLists
+mod VersionLemmas
+mod StruckLemmas
+mod HistoryLemmas
+mod LateLemmas
+mod Mine
 pub mod Sendable
-pub mod Shared
+mod Shared

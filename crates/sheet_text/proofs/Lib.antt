@@ -1,6 +1,6 @@
-pub mod EachPlace
-pub mod OneSheet
-pub mod Rooms
-pub mod SampleRows
-pub mod SheetLemmas
+mod EachPlace
+mod OneSheet
+mod Rooms
+mod SampleRows
+mod SheetLemmas
 pub mod WritingLemmas

@@ -1,15 +1,15 @@
 pub mod Lists
-pub mod Sights
-pub mod Work
-pub mod Making
-pub mod OpeningLemmas
-pub mod TakingLemmas
-pub mod Ran
-pub mod Places
-pub mod Days
-pub mod Crosses
-pub mod Ends
-pub mod Freezes
-pub mod DayEnd
-pub mod Rooms
-pub mod EntryLines
+mod Sights
+mod Work
+mod Making
+mod OpeningLemmas
+mod TakingLemmas
+mod Ran
+mod Places
+mod Days
+mod Crosses
+mod Ends
+mod Freezes
+mod DayEnd
+mod Rooms
+mod EntryLines

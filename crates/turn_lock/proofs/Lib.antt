@@ -1,13 +1,13 @@
-pub mod Booleans
-pub mod Callers
-pub mod Places
-pub mod Owned
-pub mod Views
-pub mod First
-pub mod Moves
-pub mod Taking
-pub mod Giving
-pub mod Splitting
-pub mod Joining
-pub mod Opening
-pub mod Closing
+mod Booleans
+mod Callers
+mod Places
+mod Owned
+mod Views
+mod First
+mod Moves
+mod Taking
+mod Giving
+mod Splitting
+mod Joining
+mod Opening
+mod Closing

@@ -1,17 +1,17 @@
-pub mod GainLemmas
-pub mod WalkLemmas
-pub mod StemLemmas
-pub mod StandLemmas
-pub mod RowLemmas
-pub mod PackLemmas
-pub mod PlanLemmas
-pub mod LaneLemmas
-pub mod ClassLemmas
-pub mod TotalLemmas
-pub mod FollowLemmas
-pub mod PlaceLemmas
-pub mod CondenseLemmas
-pub mod RoomLemmas
-pub mod BranchLemmas
-pub mod VisitLemmas
-pub mod FactorLemmas
+mod GainLemmas
+mod WalkLemmas
+mod StemLemmas
+mod StandLemmas
+mod RowLemmas
+mod PackLemmas
+mod PlanLemmas
+mod LaneLemmas
+mod ClassLemmas
+mod TotalLemmas
+mod FollowLemmas
+mod PlaceLemmas
+mod CondenseLemmas
+mod RoomLemmas
+mod BranchLemmas
+mod VisitLemmas
+mod FactorLemmas
