@@ -10,11 +10,12 @@ use Rattle.batch_core.specs.declared.entry.Entry.{Entry}
 use Rattle.batch_core.specs.Histories.{standing_after, struck_after}
 use Rattle.shard_office.specs.Versions.{VersionState}
 use Rattle.sheet_text.specs.Laws.{OrderOfBallotsLeavesTheSheet}
-use Rattle.sheet_text.specs.Lines.{ended, text_of_lines}
+use Rattle.sheet_text.specs.Lines.{ended}
 use Rattle.sheet_text.specs.Sheet.{IsSheet}
 use Rattle.meek_cli.specs.declared.sheet_head.SheetHead.{SheetHead}
 use Rattle.meek_cli.specs.declared.terms.Terms.{Terms}
-use Rattle.meek_cli.specs.DayText.{entry_lines, roll_with, freeze_places, sheet_line, AreSheets}
+use Rattle.team_run.specs.EntryText.{entries_text}
+use Rattle.meek_cli.specs.DayText.{roll_with, freeze_places, sheet_line, AreSheets}
 use Rattle.shard_office.specs.Laws.{StandsIn}
 use Rattle.meek_cli.specs.Frozen.{AreFrozen}
 use Rattle.meek_cli.specs.declared.status.Status.{Status}
@@ -65,7 +66,7 @@ pub writes_day :
     → WritesDues p history dues status sink → WritesDay terms history status sink
 writes_day terms history p dues status sink are (inl nothing) = inl nothing
 writes_day terms history p dues status sink are (inr (sheets, texts, finishes)) =
-    inr (text_of_lines (entry_lines history) ++ sheets, (sheets, are sheets texts, refl), finishes)
+    inr (entries_text history ++ sheets, (sheets, are sheets texts, refl), finishes)
 
 -- ---- candidates
 

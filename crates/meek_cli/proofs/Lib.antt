@@ -2,7 +2,6 @@ mod Ending
 mod Complete
 mod CountEnding
 mod Rooms
-mod EntryLines
 mod WritingBytes
 mod DueTexts
 mod DayOffice

@@ -3,7 +3,7 @@ use Rattle.std.specs.Prelude.{◌≡◌, ℕ, ◌==◌, if◌then◌else◌, Lis
 use Rattle.std.specs.List.{enumerate_from}
 use Rattle.plain_ballots.specs.Ballots.{plain}
 use Rattle.candidate_roll.specs.Roll.{RollList, marks_with}
-use Rattle.sheet_text.specs.Lines.{text_of_lines, ended}
+use Rattle.sheet_text.specs.Lines.{ended}
 use Rattle.sheet_text.specs.Sheet.{IsSheet}
 use Rattle.batch_core.specs.declared.change.Change.{Change}
 use Rattle.batch_core.specs.declared.change.Change.TheVariants.{Enter, Correct, Withdraw}
@@ -15,49 +15,10 @@ use Rattle.batch_core.specs.declared.entry.Entry.{Entry}
 use Rattle.batch_core.specs.Histories.{standing_after, struck_after}
 use Rattle.day_reader.specs.declared.day.Day.{Day}
 use Rattle.day_reader.specs.Call.{is_freeze}
+use Rattle.team_run.specs.EntryText.{numbered, entries_text}
 use Rattle.meek_cli.specs.declared.terms.Terms.{Terms}
 
--- ---- a line
-
--- who calls: the clerk, or a team
-abbrev pub caller_text : ℕ → List ℕ
-caller_text caller = if caller == 0 then codes "clerk" else codes "team " ++ decimal caller
-
-abbrev pub change_text : Change → List ℕ
-change_text (Enter batch ballots) = codes "enter " ++ decimal batch
-change_text (Correct batch revision ballots) = codes "correct " ++ decimal batch ++ 32 ∷ decimal revision
-change_text (Withdraw batch revision) = codes "withdraw " ++ decimal batch ++ 32 ∷ decimal revision
-
-abbrev pub call_text : Call → List ℕ
-call_text (Changes change) = change_text change
-call_text Freeze = codes "freeze"
-call_text (Strike candidate) = codes "strike " ++ decimal candidate
-
-abbrev pub reply_text : Reply → List ℕ
-reply_text Entered = codes "entered"
-reply_text (Corrected revision) = codes "corrected " ++ decimal revision
-reply_text (Withdrawn revision) = codes "withdrawn " ++ decimal revision
-reply_text Frozen = codes "frozen"
-reply_text (Exists revision) = codes "exists " ++ decimal revision
-reply_text Unknown = codes "unknown"
-reply_text (Gone revision) = codes "gone " ++ decimal revision
-reply_text (Stale revision) = codes "stale " ++ decimal revision
-reply_text Spent = codes "spent"
-reply_text Struck = codes "struck"
-reply_text AlreadyStruck = codes "already"
-
--- the n-th answered call: who called, the call, and the reply
-abbrev pub entry_line : ℕ → Entry → List ℕ
-entry_line n e = decimal n ++ 32 ∷ caller_text e.caller ++ 32 ∷ call_text e.call ++ 32 ∷ reply_text e.reply
-
 -- ---- a history
-
--- answered calls with their places, from 1
-abbrev pub numbered : List Entry → List (ℕ × Entry)
-numbered history = enumerate_from 1 history
-
-abbrev pub entry_lines : List Entry → List (List ℕ)
-entry_lines history = map (λ e. entry_line e.0 e.1) (numbered history)
 
 -- the places of the freezes
 abbrev pub freeze_places : List Entry → List ℕ
@@ -96,4 +57,4 @@ AreSheets terms history (n ∷ places) text =
 abbrev pub IsDayText : Terms → List Entry → List ℕ → Type 0
 IsDayText terms history text =
     (sheets : List ℕ) × AreSheets terms history (freeze_places history) sheets
-    × (text ≡ text_of_lines (entry_lines history) ++ sheets)
+    × (text ≡ entries_text history ++ sheets)

@@ -14,8 +14,8 @@ use Rattle.meek_cli.specs.declared.status.Status.{Status}
 use Rattle.meek_cli.specs.declared.status.Status.TheVariants.{Done, SourceFault, BadWords, BadInput, SinkFault, NoMemory}
 use Rattle.meek_cli.specs.Refusals.{fault_line}
 use Rattle.meek_cli.specs.Streams.{Reading, Writing, NoReadFailed, NoWriteFailed, NothingRead, NothingWritten}
-use Rattle.sheet_text.specs.Lines.{text_of_lines}
-use Rattle.meek_cli.specs.DayText.{entry_lines, terms_of, IsDayText}
+use Rattle.team_run.specs.EntryText.{entries_text}
+use Rattle.meek_cli.specs.DayText.{terms_of, IsDayText}
 use Rattle.meek_cli.specs.DueSheets.{SheetDue, AreDueTexts}
 use Rattle.meek_cli.specs.DayHistory.{IsHistoryOf}
 use Rattle.meek_cli.specs.Owed.{AsksForCount, AsksForDay, AsksForWork, SaysPoll, SaysDay, IsOwedForCount, IsOwedForDay, IsOwed, lots_fault}
@@ -103,7 +103,7 @@ WritesDay terms history status sink =
 abbrev pub WritesDues : (places : ℕ) → List Entry → List SheetDue → Status → Writing → Type 0
 WritesDues places history dues status sink =
     ((status ≡ NoMemory) × NothingWritten sink)
-    ⊎ ((sheets : List ℕ) × AreDueTexts places dues sheets × Finishes Done (text_of_lines (entry_lines history) ++ sheets) status sink)
+    ⊎ ((sheets : List ℕ) × AreDueTexts places dues sheets × Finishes Done (entries_text history ++ sheets) status sink)
 
 -- what playing a day came to: the text of a history of its scripts was written, or memory was wanted before the first byte
 abbrev pub PlaysDay : Day → Status → List Entry → Writing → Type 0

@@ -1,10 +1,9 @@
 // The sheets of a day: each freeze is counted, and all is written.
 ghost use Rattle.std.specs.Prelude.{◌≡◌, ◌≤◌, ℕ, List, ◌++◌, map, length, All, IfOk};
 ghost use Rattle.fixed_place.specs.Rounding.{scale};
-ghost use Rattle.sheet_text.specs.Lines.{text_of_lines};
 ghost use Rattle.vote_spread.specs.Lanes.{HaveCounted};
 ghost use Rattle.meek_cli.specs.Bytes.{WritesBytes};
-ghost use Rattle.meek_cli.specs.DayText.{entry_lines};
+ghost use Rattle.team_run.specs.EntryText.{entries_text};
 ghost use Rattle.meek_cli.specs.Frozen.{AreFrozen};
 ghost use Rattle.meek_cli.specs.DueSheets.{head_of, dues_of, IsHeadOf, HasSheet, AreDueTexts};
 ghost use Rattle.meek_cli.specs.Run.{Finishes, WritesDay, WritesDues};
@@ -12,7 +11,6 @@ ghost use Rattle.meek_cli.specs.declared.status.Status.TheVariants.{Done};
 
 use crate::Status;
 use crate::due_sheet::DueSheet;
-use crate::entry_text::write_entries;
 use crate::sheet_head::SheetHead;
 use crate::terms::Terms;
 use byte_edge::{Failed, Gate, Sink};
@@ -24,7 +22,7 @@ use shard_office::Version;
 use sheet_text::sheets_are_unique;
 use std::alloc::Global;
 use std::thread::Threads;
-use team_run::Versions;
+use team_run::{Versions, write_entries};
 use vote_spread::{Lanes, PlanSpread};
 
 /// Counts what stood at each freeze at so many places, in workers' lanes, and writes the text of the
@@ -157,7 +155,7 @@ fn finish_day<const P: usize, D: Spread<P>, K: Sink>(
 ) -> Status
     requires { All (HasSheet P) dues.items }
     ensures { (sheets : List ℕ) × AreDueTexts P dues.entry.items sheets
-        × Finishes Done (text_of_lines (entry_lines history.now) ++ sheets) result
+        × Finishes Done (entries_text history.now ++ sheets) result
         (record { written = K.written sink.old; written_then = K.written sink.new; faults = K.faults sink.old; faults_then = K.faults sink.new }) }
 {
     if let Err(_) = write_text(history, dues, sink) {
@@ -177,7 +175,7 @@ fn write_text<const P: usize, D: Spread<P>, K: Sink>(
 ) -> Result<(), Failed>
     requires { All (HasSheet P) dues.items }
     ensures { (sheets : List ℕ) × AreDueTexts P dues.entry.items sheets
-        × WritesBytes K.written K.faults sink.old sink.new (text_of_lines (entry_lines history.now) ++ sheets) result }
+        × WritesBytes K.written K.faults sink.old sink.new (entries_text history.now ++ sheets) result }
 {
     write_entries(history, sink)?;
     write_sheets(dues, sink)

@@ -6,7 +6,6 @@ mod counting;
 mod day;
 mod day_counting;
 mod due_sheet;
-mod entry_text;
 mod finishing;
 mod lent;
 mod made_days;
