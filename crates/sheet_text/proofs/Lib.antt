@@ -3,4 +3,4 @@ mod OneSheet
 mod Rooms
 mod SampleRows
 mod SheetLemmas
-pub mod WritingLemmas
+mod WritingLemmas
