@@ -2,4 +2,3 @@ mod RowLemmas
 mod CountLemmas
 mod StandingLemmas
 mod EntryLemmas
-mod JournalLemmas

@@ -1,4 +1,3 @@
 pub mod Rows
 pub mod Turnover
 pub mod Shard
-pub mod Journal

@@ -5,11 +5,9 @@
 
 mod book;
 mod index;
-mod journal;
 mod no_memory;
 mod row;
 mod turnover;
 
 pub use book::ShardBook;
-pub use journal::Journal;
 pub use no_memory::NoMemory;
