@@ -11,6 +11,7 @@ fn a_day_of_one_batch_a_team(rt: HostRuntime) -> Result<(), Fail> {
     assert!(rt; text.starts_with(b"12 4\n0\n\"C1\"\n"));
     let first =
         b"\"C12\"\n\"Trial 1\"\nlots 12 11 10 9 8 7 6 5 4 3 2 1 0\nteam 1\nenter 1\n1 7 6 5 4 3 2 1 0\n2 3 2 1 12 11 10 9 0\n";
+    assert!(rt; text.len() >= 64);
     assert!(rt; text[64..].starts_with(first));
     assert!(rt; text.ends_with(b"\n2 5 12 7 0\n3 1 12 11 10 9 8 0\n4 8 0\n0\nend\n"));
     assert_eq!(rt; text.iter().filter(|b| **b == b'\n').count(), 231);
