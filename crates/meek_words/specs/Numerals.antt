@@ -31,3 +31,7 @@ pub record IsLotList (word : Word) (lots : List ℕ) : Type 0 where
   pub numbers : lots ≡ map number_of parts
   pub some : 1 ≤ length parts
   pub most : length parts ≤ 250
+
+-- a word is at most one list of lots
+abbrev pub HaveOneLotList : Type 0
+HaveOneLotList = (word : Word) (one other : List ℕ) → IsLotList word one → IsLotList word other → one ≡ other

@@ -20,7 +20,7 @@ mod words;
 mod words_stop;
 
 pub use command::Command;
-pub use laws::words_have_one_command;
+pub use laws::{words_have_one_command, words_have_one_lot_list};
 pub use lot_words::LotWords;
 pub use lots::read_lots;
 pub use push_back::PushBack;

@@ -1,0 +1,73 @@
+-- Ballot files and lots that are accepted are not refused.
+use Rattle.std.proofs.Common.{◌≡◌, ℕ, ◌+◌, ◌-◌, ◌<◌, List, ◌∷◌, [], length, take, slice_index, refl, sym, ◌∙◌, ap, subst, arith, inl, inr, false, length-take}
+use Rattle.std.specs.Prelude.{codes, Ok, Err}
+use Rattle.std.proofs.lemmas.List.{get_or-take, get_or_default}
+use Rattle.lot_order.specs.Lots.{IsOrder, IsLotsStop}
+use Rattle.lot_order.specs.declared.lots_stop.LotsStop.{LotsStop}
+use Rattle.lot_order.specs.declared.lots_stop.LotsStop.TheVariants.{NotAll, Twice, OutOfRange, NoMemory as NoLots}
+use Rattle.blt_reader.specs.declared.blt_stop.BltStop.{BltStop}
+use Rattle.blt_reader.specs.Scan.{scan}
+use Rattle.blt_reader.specs.Poll.{Poll}
+use Rattle.blt_reader.specs.Said.{of_a_file, said_by, AcceptsFiles, RefusesByTheRule}
+use Rattle.meek_words.specs.Numerals.{Word, IsLotList, HaveOneLotList}
+use Rattle.tool_edge.specs.Contest.{SaysPoll, IsBadPlace, ReadsContest, lots_stop}
+use Rattle.tool_edge.specs.Tools.{HaveOneOrder, FilesAreNotRefused, ContestsAreNotRefused}
+
+-- an order of all candidates has no place at fault
+no_bad_place : (lots : List ℕ) (place : ℕ) → IsOrder lots → IsBadPlace (length lots) lots place → ⊥
+no_bad_place lots place order (inl twice) =
+    let k = twice.stood_before.0 in
+    let earlier : k < place - 1 = omega (arith, twice.stood_before.1, length-take (place - 1) lots) in
+    let same : slice_index lots k ≡ slice_index lots (place - 1) =
+    sym (get_or-take (place - 1) lots k 0 earlier)
+    ∙ (get_or_default (take (place - 1) lots) k 0 (slice_index lots (place - 1)) twice.stood_before.1 ∙ twice.stood_before.2) in
+    let one : k ≡ place - 1 = order.different k (place - 1) (omega (arith, twice.inside, twice.from_one)) (omega (arith, twice.inside, twice.from_one)) same in
+    omega arith
+no_bad_place lots place order (inr (inl outside)) =
+    outside.no_candidate (order.candidates (place - 1) (omega (arith, outside.inside, outside.from_one)))
+no_bad_place lots place order (inr (inr (c, first, is))) =
+    first.missing (order.whole c first.candidate.0 first.candidate.1)
+
+pub files_are_not_refused : AcceptsFiles → RefusesByTheRule → FilesAreNotRefused
+files_are_not_refused accepts refuses input fault (poll, file) refused =
+    let read : said_by of_a_file (scan input false) ≡ Ok poll = (accepts of_a_file (scan input false) poll).1 file in
+    let stopped : said_by of_a_file (scan input false) ≡ Err fault = (refuses of_a_file (scan input false) fault).1 refused in
+    cc
+
+-- an input is the file of one poll
+one_poll : AcceptsFiles → (input : List ℕ) (poll other : Poll) → SaysPoll input poll → SaysPoll input other → other ≡ poll
+one_poll accepts input poll other file again =
+    let read : said_by of_a_file (scan input false) ≡ Ok poll = (accepts of_a_file (scan input false) poll).1 file in
+    let reread : said_by of_a_file (scan input false) ≡ Ok other = (accepts of_a_file (scan input false) other).1 again in
+    cc
+
+pub contests_are_not_refused : AcceptsFiles → RefusesByTheRule → ContestsAreNotRefused
+contests_are_not_refused accepts refuses lots input fault (poll, says) (inl refused) =
+    files_are_not_refused accepts refuses input fault (poll, says.file) refused
+contests_are_not_refused accepts refuses lots input fault (poll, says) (inr bad) =
+    let same : bad.poll ≡ poll = one_poll accepts input poll bad.poll says.file bad.file in
+    let n : length bad.poll.roll.names ≡ length lots = ap (λ (p : Poll). length p.roll.names) same ∙ sym says.lots_of_all in
+    no_bad_place lots bad.place says.order (subst (λ (k : ℕ). IsBadPlace k lots bad.place) n bad.lots_at)
+
+pub have_one_order : HaveOneLotList → HaveOneOrder
+have_one_order one words lots others (word, is, list) (again, is_again, list_again) =
+    let same : codes "--lots" ∷ again ∷ [] ≡ codes "--lots" ∷ word ∷ [] = sym is_again ∙ is in
+    let w : again ≡ word = cc in
+    one word lots others list (subst (λ (v : Word). IsLotList v others) w list_again)
+
+-- A file was read, and the lots are not an order of its candidates.
+pub bad_lots :
+    (lots input : List ℕ) (poll : Poll) (stop : LotsStop) (result : BltStop) → SaysPoll input poll
+    → IsLotsStop (length poll.roll.names) lots stop → result ≡ lots_stop (length lots) stop
+    → ReadsContest lots input (Err result)
+bad_lots lots input poll (NotAll c) result file is same =
+    subst (λ (s : BltStop). ReadsContest lots input (Err s)) (sym same)
+    (inr (record { poll = poll; file = file; place = length lots + 1; lots_at = inr (inr (c, is, refl)); fault_is = refl }))
+bad_lots lots input poll (Twice place) result file is same =
+    subst (λ (s : BltStop). ReadsContest lots input (Err s)) (sym same)
+    (inr (record { poll = poll; file = file; place = place; lots_at = inl is; fault_is = refl }))
+bad_lots lots input poll (OutOfRange place) result file is same =
+    subst (λ (s : BltStop). ReadsContest lots input (Err s)) (sym same)
+    (inr (record { poll = poll; file = file; place = place; lots_at = inr (inl is); fault_is = refl }))
+bad_lots lots input poll NoLots result file is same =
+    subst (λ (s : BltStop). ReadsContest lots input (Err s)) (sym same) tt

@@ -1,0 +1,4 @@
+pub mod Ending
+pub mod Running
+mod Contests
+mod WordLemmas

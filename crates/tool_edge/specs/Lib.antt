@@ -1,0 +1,9 @@
+pub mod End
+pub mod Streams
+pub mod Refusals
+pub mod Finishing
+pub mod Words
+pub mod Contest
+pub mod Opening
+pub mod Tool
+pub mod Tools

@@ -1,0 +1,53 @@
+-- Tools over ballot files.
+use Rattle.std.specs.Prelude.{◌≡◌, ℕ, List}
+use Rattle.blt_reader.specs.declared.input_fault.InputFault.{InputFault}
+use Rattle.blt_reader.specs.Poll.{Poll}
+use Rattle.meek_words.specs.Numerals.{Word}
+use Rattle.tool_edge.specs.Words.{TakesNothing, TakesLots}
+use Rattle.tool_edge.specs.Contest.{SaysPoll, IsRefusedFile, SaysContest, IsRefusedContest}
+use Rattle.tool_edge.specs.Tool.{Tool}
+
+-- the greatest length of a tool's input, in bytes
+abbrev pub file_limit : ℕ
+file_limit = 67108864
+
+abbrev pub IsFile : (input : List ℕ) → Type 0
+IsFile input = (poll : Poll) × SaysPoll input poll
+
+abbrev pub IsContestFile : (lots input : List ℕ) → Type 0
+IsContestFile lots input = (poll : Poll) × SaysContest lots input poll
+
+-- a tool that takes lots and a ballot file
+abbrev pub over_contests : (Owes : (lots input bytes : List ℕ) → Type 0) → Tool (List ℕ)
+over_contests Owes = record {
+  Takes = TakesLots;
+  limit = file_limit;
+  Accepts = IsContestFile;
+  Refuses = IsRefusedContest;
+  Owes = Owes;
+}
+
+-- a tool that takes no words and a ballot file
+abbrev pub over_files : {A : Type 0} → (Owes : (input bytes : List ℕ) → Type 0) → Tool A
+over_files Owes = record {
+  Takes = TakesNothing;
+  limit = file_limit;
+  Accepts = λ asked. IsFile;
+  Refuses = λ asked. IsRefusedFile;
+  Owes = λ asked. Owes;
+}
+
+-- ---- laws
+
+-- Words have at most one list of lots.
+abbrev pub HaveOneOrder : Type 0
+HaveOneOrder = (words : List Word) (one other : List ℕ) → TakesLots words one → TakesLots words other → one ≡ other
+
+-- A file that is accepted is not refused.
+abbrev pub FilesAreNotRefused : Type 0
+FilesAreNotRefused = (input : List ℕ) (fault : InputFault) → IsFile input → IsRefusedFile input fault → ⊥
+
+-- A file and lots that are accepted are not refused.
+abbrev pub ContestsAreNotRefused : Type 0
+ContestsAreNotRefused =
+    (lots input : List ℕ) (fault : InputFault) → IsContestFile lots input → IsRefusedContest lots input fault → ⊥

@@ -1,0 +1,64 @@
+// How a run ended.
+ghost use Rattle.std.specs.Prelude.{◌≡◌, ◌≤◌};
+ghost use Rattle.tool_edge.specs.End.{code_of};
+
+use blt_reader::InputFault;
+
+/// How a run ended.
+#[derive(Clone, Copy, Debug, PartialEq, Eq)]
+pub enum End {
+    /// All was done.
+    Done,
+    /// Reading failed. Nothing was written.
+    SourceFault,
+    /// The words ask for nothing that is done here. Their line was written.
+    BadWords,
+    /// The input is refused, for this fault. Its line was written.
+    BadInput(InputFault),
+    /// Writing failed. A front of what was owed was written.
+    SinkFault,
+    /// There was not enough memory. Nothing was written.
+    NoMemory,
+}
+
+impl End {
+    /// The program's exit status.
+    pub fn code(&self) -> u8
+        ensures value { result ≡ code_of self.now }
+        ensures below { result ≤ 5 }
+    {
+        match self {
+            End::Done => 0,
+            End::SourceFault => 1,
+            End::BadWords => 2,
+            End::BadInput(_) => 3,
+            End::SinkFault => 4,
+            End::NoMemory => 5,
+        }
+    }
+}
+
+#[cfg(test)]
+mod tests {
+    use super::*;
+    use blt_reader::FaultKind;
+
+    #[test]
+    fn has_its_number(rt: HostRuntime) {
+        let fault = InputFault {
+            kind: FaultKind::BadByte,
+            at: 7,
+        };
+        let ends = [
+            End::Done,
+            End::SourceFault,
+            End::BadWords,
+            End::BadInput(fault),
+            End::SinkFault,
+            End::NoMemory,
+        ];
+        for (end, code) in ends.iter().zip(0..6) {
+            assert_eq!(rt; end.code(), code);
+        }
+    }
+}

@@ -1,0 +1,24 @@
+//! The edge that every tool beside the program shares: from its words and its source to one result and
+//! one flush.
+//!
+//! A tool reads its words ([`takes_lots`], [`takes_nothing`]), then the whole source ([`open`]), judges
+//! the input ([`Contest::read`] for a ballot file with an order of lots), and writes what is owed, with
+//! one flush behind the last byte ([`finish`], [`close`]); a refusal is one line ([`refuse`],
+//! [`refuse_input`], [`refuse_words`]). How that ended is an [`End`].
+#![tactic(auto)]
+
+mod contest;
+mod end;
+mod finishing;
+mod laws;
+mod opening;
+mod refusal;
+mod words;
+
+pub use contest::{Contest, lots_stop};
+pub use end::End;
+pub use finishing::{close, finish};
+pub use laws::{contests_are_not_refused, files_are_not_refused, words_have_one_order};
+pub use opening::{FILE_LIMIT, Opened, open};
+pub use refusal::{refuse, refuse_input, refuse_words};
+pub use words::{lots_of, takes_lots, takes_nothing};

@@ -1,0 +1,84 @@
+// The lines of refusals.
+ghost use Rattle.std.specs.Prelude.{◌≡◌, ◌≤◌, length};
+ghost use Rattle.tool_edge.specs.Refusals.{kind_word, fault_line, words_line};
+ghost use Rattle.tool_edge.specs.Streams.{writing};
+ghost use Rattle.tool_edge.specs.Finishing.{Finishes, RefusesInput, RefusesWords};
+
+use crate::{End, finish};
+use blt_reader::{BltStop, FaultKind, InputFault};
+use byte_edge::Sink;
+use line_text::Line;
+use meek_words::WordsStop;
+
+/// A fault's kind as it is printed.
+fn kind_word(kind: FaultKind) -> &'static [u8]
+    ensures word { result.now ≡ kind_word kind }
+    ensures short { length result.now ≤ 20 }
+{
+    match kind {
+        FaultKind::BadByte => b"BadByte",
+        FaultKind::BadNumber => b"BadNumber",
+        FaultKind::BadHeader => b"BadHeader",
+        FaultKind::BadWithdrawn => b"BadWithdrawn",
+        FaultKind::NoSuchCandidate => b"NoSuchCandidate",
+        FaultKind::Repeated => b"Repeated",
+        FaultKind::TooManyBallots => b"TooManyBallots",
+        FaultKind::NameExpected => b"NameExpected",
+        FaultKind::TooLongName => b"TooLongName",
+        FaultKind::Ended => b"Ended",
+        FaultKind::Trailing => b"Trailing",
+        FaultKind::BallotsInRoll => b"BallotsInRoll",
+        FaultKind::BadLots => b"BadLots",
+        FaultKind::WordExpected => b"WordExpected",
+        FaultKind::BadTeam => b"BadTeam",
+        FaultKind::BadBatch => b"BadBatch",
+        FaultKind::BadRevision => b"BadRevision",
+        FaultKind::BatchTooLarge => b"BatchTooLarge",
+        FaultKind::TooManyFreezes => b"TooManyFreezes",
+        FaultKind::TooLong => b"TooLong",
+        FaultKind::BadPlaces => b"BadPlaces",
+        FaultKind::BadOmega => b"BadOmega",
+    }
+}
+
+/// Puts the line of a refusal together.
+fn fault_line(fault: InputFault) -> Line
+    ensures { result ≡ fault_line fault }
+{
+    let mut line = Line::new();
+    line.push_bytes(b"refused ");
+    line.push_bytes(kind_word(fault.kind));
+    line.push_bytes(b" at ");
+    line.push_count(fault.at as u64);
+    line.push_bytes(b"\n");
+    line
+}
+
+/// Writes the line of a refused input, and flushes.
+pub fn refuse<K: Sink>(sink: &mut K, fault: InputFault) -> End
+    ensures { Finishes (End.BadInput fault) (fault_line fault) result
+        (writing K.written K.faults sink.old sink.new) }
+{
+    let line = fault_line(fault);
+    finish(sink, End::BadInput(fault), line.bytes())
+}
+
+/// Answers what stopped the reading of an input: a fault by its line.
+pub fn refuse_input<K: Sink>(sink: &mut K, stop: BltStop) -> End
+    ensures { RefusesInput stop result (writing K.written K.faults sink.old sink.new) }
+{
+    match stop {
+        BltStop::Fault(fault) => refuse(sink, fault),
+        BltStop::NoMemory => End::NoMemory,
+    }
+}
+
+/// Answers words that ask for nothing by their line.
+pub fn refuse_words<K: Sink>(sink: &mut K, stop: WordsStop) -> End
+    ensures { RefusesWords stop result (writing K.written K.faults sink.old sink.new) }
+{
+    match stop {
+        WordsStop::BadWords => finish(sink, End::BadWords, b"refused BadWords\n"),
+        WordsStop::NoMemory => End::NoMemory,
+    }
+}
