@@ -1,0 +1,44 @@
+-- The rule of a board.
+use Rattle.std.specs.Prelude.{◌≡◌, ℕ, List, [], length, Option, Some, None}
+use mathlib.Core.Option.{some}
+use lib.ListN.{get_elem?}
+use Rattle.tally_board.specs.declared.ballot_move.Move.{Move}
+use Rattle.tally_board.specs.declared.board.Board.{Board}
+use Rattle.tally_board.specs.declared.view.View.{View}
+use Rattle.tally_board.specs.Begins.{Begins}
+use Rattle.tally_board.specs.Moves.{IsStory}
+use Rattle.tally_board.specs.Stories.{moves_of}
+
+-- how many candidates the board has
+abbrev pub candidates_of : Board → ℕ
+candidates_of b = length b.totals
+
+-- the moves that the board shows
+abbrev pub shown : Board → List Move
+shown b = moves_of b.story
+
+-- what v knows is so of a board with so many candidates and these moves
+pub record Knows (candidates : ℕ) (moves : List Move) (v : View) : Type 0 where
+  pub candidates_is : (n : ℕ) → v.candidates ≡ Some n → n ≡ candidates
+  pub seen : Begins v.seen moves
+
+-- the board's moves could be made, and each has seen a front of them
+abbrev pub Keeps : Board → List View → Type 0
+Keeps b views = ∥ IsStory (candidates_of b) (shown b) ∥₁
+    × ((seat : ℕ) (v : View) → get_elem? views seat ≡ some v → Knows (candidates_of b) (shown b) v)
+
+-- who looks at the board has seen all its moves
+abbrev pub looked : Board → View
+looked b = record { candidates = Some (candidates_of b); seen = shown b }
+
+-- x is the board before, and y after
+abbrev pub Looks : View → Board → Board → View → Type 0
+Looks v x y w = (w ≡ looked y) × Knows (candidates_of y) (shown y) v × ∥ IsStory (candidates_of y) (shown y) ∥₁
+
+-- who comes knows nothing
+abbrev pub newcomer : View
+newcomer = record { candidates = None; seen = [] }
+
+-- v is told the number of candidates that w knows
+abbrev pub named : View → View → View
+named v w = record { candidates = w.candidates; seen = v.seen }

@@ -1,0 +1,101 @@
+// How a board begins.
+ghost use Rattle.std.specs.Prelude.{◌≡◌, [], ◌++◌, ◌<◌, ◌≤◌, replicate, IfOk, IfErr, IfSome};
+ghost use Rattle.tally_board.specs.Desk.{new_desk};
+ghost use Rattle.tally_board.specs.Sight.{new_sight};
+ghost use Rattle.tally_board.specs.declared.no_board.NoBoard.TheVariants.{NoPlace};
+
+use crate::board::Board;
+use crate::rule::{Look, Name, Tell};
+use crate::scribe::Inner;
+use crate::{NoBoard, NoMemory, Scribe, Watcher, Watchers};
+use left_right::writer::Writer;
+use std::alloc::Global;
+use std::sync::Wait;
+
+/// The scribe of a new board with room for so many watchers.
+fn begin<R: Wait>(
+    rt: &R,
+    alloc: Global,
+    candidates: usize,
+    places: usize,
+) -> Result<Scribe, NoMemory>
+    requires { (0 < places) × (places ≤ 16) }
+    ensures { IfOk result (λ s. s ≡ new_desk candidates) }
+{
+    let first = Board::empty(alloc, candidates)?;
+    let second = Board::empty(alloc, candidates)?;
+    let writer: Inner = match Writer::new(alloc, first, second, places) {
+        Ok(writer) => writer,
+        Err(_) => return Err(NoMemory),
+    };
+    let (writer, done) = writer.publish_as::<Look, R>(rt);
+    if done.is_err() {
+        unreachable!();
+    }
+    Ok(Scribe {
+        writer: Some(writer),
+    })
+}
+
+/// A new watcher, where there is a place for it.
+fn seat(scribe: &mut Scribe) -> Option<Watcher>
+    ensures scribe { scribe.new ≡ scribe.old }
+    ensures watcher { IfSome result (λ w. w ≡ new_sight scribe.old.candidates) }
+{
+    match &mut scribe.writer {
+        None => unreachable!(),
+        Some(writer) => {
+            let mut reader = writer.factory().reader().ok()?;
+            reader.learn::<Name>(writer.tell::<Tell>());
+            Some(Watcher {
+                reader: Some(reader),
+                refused: 0,
+            })
+        }
+    }
+}
+
+/// Puts so many new watchers behind those of the list.
+fn fill(scribe: &mut Scribe, list: &mut Watchers, count: u32) -> Result<(), NoBoard>
+    ensures scribe { scribe.new ≡ scribe.old }
+    ensures list { IfOk result
+        (λ _. list.new ≡ list.old ++ replicate count (new_sight scribe.old.candidates)) }
+    ensures cause { IfErr result (λ _. 0 < count) }
+{
+    if count == 0 {
+        return Ok(());
+    }
+    let Some(watcher) = seat(scribe) else {
+        return Err(NoBoard::NoPlace);
+    };
+    if list.push(watcher).is_err() {
+        return Err(NoBoard::NoMemory);
+    }
+    fill(scribe, list, count - 1)
+}
+
+/// A board of so many candidates without ballots: its scribe, and so many watchers. After a refusal
+/// nothing is left of it; to end its scribe then, the call may wait.
+pub fn open_board<R: Wait>(
+    rt: &R,
+    alloc: Global,
+    candidates: u32,
+    watchers: u32,
+) -> Result<(Scribe, Watchers), NoBoard>
+    requires { (1 ≤ candidates) × (candidates ≤ 250) × (watchers ≤ 16) }
+    ensures scribe { IfOk result (λ t. t.0 ≡ new_desk candidates) }
+    ensures watchers { IfOk result (λ t. t.1 ≡ replicate watchers (new_sight candidates)) }
+    ensures cause { IfErr result (λ e. e ≡ NoPlace → 0 < watchers) }
+{
+    let places = watchers.max(1) as usize;
+    let mut scribe = match begin(rt, alloc, candidates as usize, places) {
+        Ok(scribe) => scribe,
+        Err(_) => return Err(NoBoard::NoMemory),
+    };
+    let mut list = Watchers::new(alloc);
+    if let Err(refusal) = fill(&mut scribe, &mut list, watchers) {
+        scribe.close(rt);
+        return Err(refusal);
+    }
+    Ok((scribe, list))
+}

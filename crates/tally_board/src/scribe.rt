@@ -1,0 +1,99 @@
+// The one who changes a board.
+ghost use Rattle.std.specs.Prelude.{◌≡◌, [], ◌∷◌, ◌++◌, MatchResult};
+ghost use Rattle.tally_board.specs.Moves.{CanMove, totals_after};
+
+use crate::board::Board;
+use crate::rule::{Begun, Look};
+use crate::view::View;
+use crate::{Move, MoveBack, Totals};
+use left_right::writer::Writer;
+use std::marker::Model;
+use std::mem;
+use std::sync::Wait;
+
+#[cfg(test)]
+mod tests;
+
+pub(crate) type Inner = Writer<Board, Move, View, Begun>;
+
+/// The one who changes a board. Contracts see the number of candidates, the moves that it has
+/// published, and those that are pending.
+///
+/// It is not `Drop`: end it by [`close`](Scribe::close).
+pub struct Scribe {
+    // It is away only while a call publishes.
+    pub(crate) writer: Option<Inner>,
+}
+
+impl Model for Scribe {
+    ghost use Rattle.std.specs.Prelude.{◌≡◌, drop};
+    ghost use Rattle.left_right.specs.Sides.{view as known};
+    ghost use Rattle.tally_board.specs.Desk.{Desk, no_desk, desk_of, IsScribe};
+    ghost use Rattle.tally_board.specs.There.{or_else, IsThere};
+
+    ghost Value = { Desk };
+
+    ghost view = { λ s. or_else no_desk
+        (λ w. desk_of w.desk.shown.value (drop w.behind w.log.items)) s.writer };
+
+    ghost invariant = { λ s. IsThere
+        (λ w. IsScribe (known w.desk.place) w.desk.shown.value (drop w.behind w.log.items)) s.writer };
+}
+
+impl Scribe {
+    /// Takes a move, which is pending until the next [`publish`](Scribe::publish).
+    pub fn append(&mut self, step: Move) -> Result<(), MoveBack>
+        requires { CanMove (totals_after self.old.candidates (self.old.published ++ self.old.pending)) step }
+        ensures { MatchResult result
+            (λ _. self.new ≡ record self.old { pending = self.old.pending ++ step ∷ [] })
+            (λ back. (back.step ≡ step) × (self.new ≡ self.old)) }
+    {
+        match &mut self.writer {
+            None => unreachable!(),
+            Some(writer) => match writer.append(step) {
+                Ok(()) => Ok(()),
+                Err(step) => Err(MoveBack { step }),
+            },
+        }
+    }
+
+    /// Publishes the pending moves, all at once. It waits for those who still look at the board as
+    /// it was before the last call.
+    pub fn publish<R: Wait>(&mut self, rt: &R)
+        ensures { self.new
+            ≡ record self.old { published = self.old.published ++ self.old.pending; pending = [] } }
+    {
+        match self.writer.take() {
+            None => unreachable!(),
+            Some(writer) => {
+                let (writer, done) = writer.publish_as::<Look, R>(rt);
+                if done.is_err() {
+                    unreachable!();
+                }
+                match mem::replace(&mut self.writer, Some(writer)) {
+                    None => {}
+                    Some(_) => unreachable!(),
+                }
+            }
+        }
+    }
+
+    /// The totals after the published moves.
+    pub fn totals(&self) -> &Totals
+        ensures { result.now ≡ totals_after self.now.candidates self.now.published }
+    {
+        match &self.writer {
+            None => unreachable!(),
+            Some(writer) => &writer.published().totals,
+        }
+    }
+
+    /// Ends the board. It waits for those who look at it.
+    pub fn close<R: Wait>(self, rt: &R) {
+        let Self { writer } = self;
+        match writer {
+            None => unreachable!(),
+            Some(writer) => drop(writer.take(rt)),
+        }
+    }
+}
