@@ -1,0 +1,5 @@
+pub mod Trees
+pub mod Print
+pub mod Reading
+pub mod Laws
+pub mod Writing

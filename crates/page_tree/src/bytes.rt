@@ -1,0 +1,11 @@
+// Bytes as they are.
+ghost use Rattle.page_tree.specs.Writing.{Writes};
+
+use byte_edge::{Failed, Sink, write_all};
+
+/// Writes bytes as they are, such as what stands before the first element of a page.
+pub fn write_bytes<K: Sink>(bytes: &[u8], sink: &mut K) -> Result<(), Failed>
+    ensures { Writes K.written K.faults sink.old sink.new bytes.now result }
+{
+    write_all(sink, bytes)
+}
