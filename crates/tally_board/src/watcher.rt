@@ -49,6 +49,7 @@ impl Watcher {
         ensures candidates { self.new.candidates ≡ self.old.candidates }
         ensures seen { Begins self.old.seen self.new.seen }
         ensures totals { OnOk result (into.new ≡ totals_after self.old.candidates self.new.seen) }
+        ensures length { length into.new ≡ length into.old }
         ensures accepted { OnOk result (self.new.refused ≡ self.old.refused) }
         ensures refused { OnErr result
             ((self.old.refused < self.new.refused) ⊎ (self.new.refused ≡ 2 ^ 64 - 1)) }

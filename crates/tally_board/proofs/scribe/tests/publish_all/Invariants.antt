@@ -1,0 +1,5 @@
+use Rattle.std.proofs.Common.{◌≡◌, []}
+use Rattle.tally_board.proofs.scribe.tests.publish_all.Given as goal
+
+abbrev pub invariant-loop : goal.invariant-loop
+invariant-loop g l = l.scribe.pending ≡ []
