@@ -10,7 +10,7 @@ use Rattle.meek_words.specs.declared.words_stop.WordsStop.{WordsStop}
 use Rattle.meek_words.specs.declared.words_stop.WordsStop.TheVariants.{BadWords as BadWordsStop, NoMemory as NoWordsRead}
 use Rattle.tool_edge.specs.declared.end.End.{End}
 use Rattle.tool_edge.specs.declared.end.End.TheVariants.{Done, SourceFault, BadWords, BadInput, SinkFault, NoMemory}
-use Rattle.tool_edge.specs.Streams.{Reading, Writing, NoReadFailed, NoWriteFailed, NothingRead}
+use Rattle.tool_edge.specs.Streams.{Reading, Writing, writing, NoReadFailed, NoWriteFailed, NothingRead}
 use Rattle.tool_edge.specs.Refusals.{fault_line, words_line}
 use Rattle.tool_edge.specs.Finishing.{Finishes, FinishesOwed}
 use Rattle.tool_edge.specs.Words.{IsAsked}
@@ -171,3 +171,18 @@ module _ {A : Type 0} (tool : Tool A) where
       let read = read_to_end asked items due bytes source owed reads.ended in
       subst (λ (e : End). IsRun tool words source sink e) (sym same)
       (did words due bytes source sink sound reads.calm read owes calm took)
+
+  -- The same as a tool calls it: the words were read and the source was opened, and the work was given what came of
+  -- them, with a sink that was left as it was.
+  pub worked_on :
+      {K : Type 0} (written : K → Option (List ℕ)) (faults : K → ℕ) (old mid new : K) (words : List Word)
+      (read : Result A WordsStop) (asked given : A) (items input : List ℕ) (end : End) (source : Reading) → IsSound tool
+      → IsAsked tool.Takes words read → read ≡ Ok asked → ReadsAll tool.limit items source → mid ≡ old → given ≡ asked
+      → input ≡ items → FinishesOwed (IsOwedFor tool given input) end (writing written faults mid new)
+      → IsRun tool words source (writing written faults old new) end
+  worked_on {K} written faults old mid new words read asked given items input end source sound is same_read reads untouched same_asked same_bytes finishes =
+      let taken : tool.Takes words asked = subst (λ (r : Result A WordsStop). IsAsked tool.Takes words r) same_read is in
+      let of_asked = subst (λ (a : A). FinishesOwed (IsOwedFor tool a input) end (writing written faults mid new)) same_asked finishes in
+      let of_items = subst (λ (i : List ℕ). FinishesOwed (IsOwedFor tool asked i) end (writing written faults mid new)) same_bytes of_asked in
+      let from_old = subst (λ (k : K). FinishesOwed (IsOwedFor tool asked items) end (writing written faults k new)) untouched of_items in
+      worked words asked items end source (writing written faults old new) sound taken reads from_old

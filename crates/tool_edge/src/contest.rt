@@ -42,3 +42,6 @@ pub fn lots_stop(lots: &[u32], stop: LotsStop) -> BltStop
     let kind = FaultKind::BadLots;
     BltStop::Fault(InputFault { kind, at })
 }
+
+#[cfg(test)]
+mod tests;

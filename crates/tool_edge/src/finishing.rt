@@ -26,8 +26,35 @@ pub fn close<K: Sink>(sink: &mut K, wrote: Result<(), Failed>) -> End
     if let Err(_) = wrote {
         return End::SinkFault;
     }
-    if let Err(_) = sink.flush() {
-        return End::SinkFault;
+    match sink.flush() {
+        Ok(()) => End::Done,
+        Err(_) => End::SinkFault,
     }
-    End::Done
+}
+
+#[cfg(test)]
+mod tests {
+    use super::*;
+    use byte_edge::MemorySink;
+    use std::test::Fail;
+
+    // The write is the first call, and the flush is the second.
+    #[test]
+    fn ends_as_what_was_due_or_as_a_fault(rt: HostRuntime) -> Result<(), Fail> {
+        let alloc = rt.alloc();
+        let cases = [
+            (0, End::Done, 3),
+            (1, End::SinkFault, 0),
+            (2, End::SinkFault, 3),
+        ];
+        for (call, end, taken) in cases {
+            let mut sink = MemorySink::with_room(alloc, 9, 9, vec![in alloc; call]?)?;
+            assert_eq!(rt; finish(&mut sink, End::Done, b"abc"), end);
+            assert_eq!(rt; sink.bytes().len(), taken);
+            let mut other = MemorySink::with_room(alloc, 9, 9, vec![in alloc; call]?)?;
+            let wrote = write_all(&mut other, b"abc");
+            assert_eq!(rt; close(&mut other, wrote), end);
+        }
+        Ok(())
+    }
 }

@@ -4,7 +4,8 @@
 //! A tool reads its words ([`takes_lots`], [`takes_nothing`]), then the whole source ([`open`]), judges
 //! the input ([`Contest::read`] for a ballot file with an order of lots), and writes what is owed, with
 //! one flush behind the last byte ([`finish`], [`close`]); a refusal is one line ([`refuse`],
-//! [`refuse_input`], [`refuse_words`]). How that ended is an [`End`].
+//! [`refuse_input`], [`refuse_words`]). How that ended is an [`End`]. [`words_of`] gives a `main` its
+//! words.
 #![tactic(auto)]
 
 mod contest;
@@ -12,6 +13,7 @@ mod end;
 mod finishing;
 mod laws;
 mod opening;
+mod process;
 mod refusal;
 mod words;
 
@@ -20,5 +22,6 @@ pub use end::End;
 pub use finishing::{close, finish};
 pub use laws::{contests_are_not_refused, files_are_not_refused, words_have_one_order};
 pub use opening::{FILE_LIMIT, Opened, open};
+pub use process::{NO_WORDS, words_of};
 pub use refusal::{refuse, refuse_input, refuse_words};
 pub use words::{lots_of, takes_lots, takes_nothing};

@@ -77,3 +77,6 @@ fn too_long(limit: usize) -> InputFault
         at: limit,
     }
 }
+
+#[cfg(test)]
+mod tests;

@@ -41,3 +41,6 @@ pub fn takes_nothing(words: &[String]) -> Result<(), WordsStop>
         Err(WordsStop::BadWords)
     }
 }
+
+#[cfg(test)]
+mod tests;
