@@ -1,4 +1,4 @@
-use Rattle.std.proofs.Common.{rules, ◌≡◌, List, [], ◌∷◌, ◌++◌, ◌-◌, ◌<◌, ◌∙◌, sym, replicate, arith}
+use Rattle.std.proofs.Common.{rules, ◌≡◌, List, [], ◌∷◌, ◌++◌, ◌-◌, ◌<◌, ◌∙◌, replicate}
 use Rattle.tally_board.specs.Sight.{Sight, new_sight}
 use Rattle.tally_board.proofs.RuleLemmas.{if_ok_more, one_then_rest}
 use Rattle.tally_board.proofs.opening.+fill.Goals as goal

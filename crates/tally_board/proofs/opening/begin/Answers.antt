@@ -2,7 +2,7 @@ use Rattle.std.proofs.Common.{rules, ◌≡◌, List, [], ◌++◌, drop, ap, �
 use Rattle.tally_board.specs.declared.ballot_move.Move.{Move}
 use Rattle.tally_board.specs.Moves.{IsStory}
 use Rattle.tally_board.specs.Rule.{candidates_of, shown}
-use Rattle.tally_board.proofs.RuleLemmas.{looks, absorbed, opens}
+use Rattle.tally_board.proofs.RuleLemmas.{looks, absorbed}
 use Rattle.tally_board.proofs.opening.begin.Goals as goal
 
 pub publish_as-writer-requires : goal.publish_as-writer-requires

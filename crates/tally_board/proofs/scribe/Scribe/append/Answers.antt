@@ -1,4 +1,4 @@
-use Rattle.std.proofs.Common.{rules, ◌≡◌, ℕ, List, drop, [], ◌∷◌, ◌++◌, ◌∙◌, sym, ap, subst}
+use Rattle.std.proofs.Common.{rules, ◌≡◌, ℕ, List, drop, [], ◌∷◌, ◌++◌, sym, subst}
 use Rattle.left_right.specs.Sides.{view}
 use Rattle.tally_board.specs.declared.ballot_move.Move.{Move}
 use Rattle.tally_board.specs.declared.board.Board.{Board}

@@ -1,4 +1,4 @@
-use Rattle.std.proofs.Common.{rules, ◌≡◌, drop, ◌∙◌, sym}
+use Rattle.std.proofs.Common.{rules, ◌≡◌, drop, ◌∙◌}
 use Rattle.left_right.specs.Sides.{view}
 use Rattle.tally_board.specs.Rule.{candidates_of, shown}
 use Rattle.tally_board.specs.Desk.{IsScribe}

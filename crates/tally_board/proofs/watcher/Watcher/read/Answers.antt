@@ -1,8 +1,6 @@
-use Rattle.std.proofs.Common.{rules, ◌≡◌, ℕ, List, length, Some, ap, ◌∙◌, sym, subst}
+use Rattle.std.proofs.Common.{rules, ◌≡◌, Some, ◌∙◌, sym}
 use Rattle.left_right.specs.Sides.{view}
-use Rattle.tally_board.specs.declared.ballot_move.Move.{Move}
-use Rattle.tally_board.specs.Begins.{Begins}
-use Rattle.tally_board.specs.Rule.{Looks, Knows, candidates_of, shown, looked}
+use Rattle.tally_board.specs.Rule.{Looks, candidates_of, shown, looked}
 use Rattle.tally_board.specs.Sight.{or_zero}
 use Rattle.tally_board.specs.Moves.{totals_after}
 use Rattle.tally_board.proofs.MoveLemmas.{are_right}
