@@ -14,6 +14,7 @@ use Rattle.blt_reader.specs.Scan.{scan}
 use Rattle.blt_reader.specs.Poll.{Poll}
 use Rattle.blt_reader.specs.Blt.{IsBlt}
 use Rattle.blt_reader.specs.Refusal.{IsAccepted}
+use Rattle.meek_rule.specs.Rule.{Meek}
 use Rattle.meek_count.specs.Progress.{Progress}
 use Rattle.sheet_text.specs.Laws.{OrderOfBallotsLeavesTheSheet}
 use Rattle.sheet_text.specs.Sheet.{IsSheet, IsSheetOf, AppendsSheet, AppendsFrontOfSheet}
@@ -33,7 +34,7 @@ pub record IsCountOf (roll : RollList) (lots : List ℕ) (ballots : List (List �
 
 sheet_of :
     (roll : RollList) (lots : List ℕ) (ballots : List (List ℕ)) (count : Progress) (text : List ℕ)
-    → IsCountOf roll lots ballots count → IsSheetOf 9 count text → IsSheet 9 1000 ballots roll lots text
+    → IsCountOf roll lots ballots count → IsSheetOf Meek 9 count text → IsSheet 9 1000 ballots roll lots text
 sheet_of roll lots ballots count text of is =
     subst (λ (omega : ℕ). IsSheet 9 omega ballots roll lots text) of.omega_is
     (subst (λ (b : List (List ℕ)). IsSheet 9 count.now.omega b roll lots text) of.ballots_are
@@ -43,7 +44,7 @@ sheet_of roll lots ballots count text of is =
 -- writing the sheet failed
 pub stopped_in_sheet :
     (roll : RollList) (lots : List ℕ) (ballots : List (List ℕ)) (count : Progress) (sink : Writing)
-    → IsCountOf roll lots ballots count → AppendsFrontOfSheet 9 count sink.written sink.written_then
+    → IsCountOf roll lots ballots count → AppendsFrontOfSheet Meek 9 count sink.written sink.written_then
     → Rose sink.faults sink.faults_then → WritesCount roll lots ballots SinkFault sink
 stopped_in_sheet roll lots ballots count sink of (text, is, front) rose =
     inr (text, sheet_of roll lots ballots count text of is, inr (refl, rose, front))
@@ -51,7 +52,7 @@ stopped_in_sheet roll lots ballots count sink of (text, is, front) rose =
 -- the flush behind the sheet failed
 pub stopped_in_flush :
     (roll : RollList) (lots : List ℕ) (ballots : List (List ℕ)) (count : Progress) (sink : Writing) (mid : Option (List ℕ))
-    → IsCountOf roll lots ballots count → AppendsSheet 9 count sink.written mid → Keeps mid sink.written_then
+    → IsCountOf roll lots ballots count → AppendsSheet Meek 9 count sink.written mid → Keeps mid sink.written_then
     → Rose sink.faults sink.faults_then → WritesCount roll lots ballots SinkFault sink
 stopped_in_flush roll lots ballots count sink mid of (text, is, whole) kept rose =
     inr (
@@ -63,7 +64,7 @@ stopped_in_flush roll lots ballots count sink mid of (text, is, whole) kept rose
 -- the sheet was written
 pub wrote_sheet :
     (roll : RollList) (lots : List ℕ) (ballots : List (List ℕ)) (count : Progress) (sink : Writing) (mid : Option (List ℕ))
-    → IsCountOf roll lots ballots count → AppendsSheet 9 count sink.written mid → Keeps mid sink.written_then
+    → IsCountOf roll lots ballots count → AppendsSheet Meek 9 count sink.written mid → Keeps mid sink.written_then
     → NoWriteFailed sink → WritesCount roll lots ballots Done sink
 wrote_sheet roll lots ballots count sink mid of (text, is, whole) kept calm =
     inr (
@@ -79,7 +80,7 @@ pub in_any_order :
     → WritesCount roll lots ballots status sink
 in_any_order roll lots other ballots status sink leaves same (inl nothing) = inl nothing
 in_any_order roll lots other ballots status sink leaves same (inr (bytes, is, finishes)) =
-    inr (bytes, (leaves 9 1000 other ballots roll lots bytes same).0 is, finishes)
+    inr (bytes, (leaves Meek 9 1000 other ballots roll lots bytes same).0 is, finishes)
 
 -- a file was read, and the lots are not an order of its candidates
 pub refused_lots :

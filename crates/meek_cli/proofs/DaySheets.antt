@@ -9,6 +9,7 @@ use Rattle.frozen_plan.specs.Plan.{all_ballots}
 use Rattle.batch_core.specs.declared.entry.Entry.{Entry}
 use Rattle.batch_core.specs.Histories.{standing_after, struck_after}
 use Rattle.shard_office.specs.Versions.{VersionState}
+use Rattle.meek_rule.specs.Rule.{Meek}
 use Rattle.sheet_text.specs.Laws.{OrderOfBallotsLeavesTheSheet}
 use Rattle.sheet_text.specs.Lines.{ended}
 use Rattle.sheet_text.specs.Sheet.{IsSheet}
@@ -38,7 +39,7 @@ texts_are_sheets terms history p (v ∷ versions) text leaves is standing (first
     let here = All-head (λ (w : VersionState). StandsIn w history) v versions standing in
     let stood = plain (standing_after history v.at) in
     let in_order : IsSheet p terms.omega stood (roll_with terms.roll v.struck) terms.lots sheet =
-    (leaves p terms.omega (ballots_of v) stood (roll_with terms.roll v.struck) terms.lots sheet here.ballots).0 of in
+    (leaves Meek p terms.omega (ballots_of v) stood (roll_with terms.roll v.struck) terms.lots sheet here.ballots).0 of in
     let by_struck = subst (λ (struck : List ℕ). IsSheet p terms.omega stood (roll_with terms.roll struck) terms.lots sheet) here.struck in_order in (
       sheet,
       others,

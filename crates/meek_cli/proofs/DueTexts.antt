@@ -5,6 +5,7 @@ use Rattle.std.proofs.lemmas.List.{append-nil, append_assoc}
 use Rattle.std.proofs.lemmas.List.Elements.{All-head, All-tail}
 use Rattle.byte_edge.specs.Faults.{CountsFault}
 use Rattle.fixed_place.specs.Rounding.{scale}
+use Rattle.meek_rule.specs.Rule.{Meek}
 use Rattle.meek_rule.specs.Situation.{Situation}
 use Rattle.meek_count.specs.Rows.{Rows}
 use Rattle.meek_count.specs.Progress.{Progress, HasJustBegun, HasRest}
@@ -16,10 +17,10 @@ use Rattle.meek_cli.specs.DueSheets.{SheetDue, HasSheet, IsDueText, AreDueTexts}
 use Rattle.meek_cli.proofs.WritingBytes.{wrote_no_bytes, wrote_both, stopped_in_second, stopped_in_first}
 
 -- a count that was just begun has a sheet
-pub sheet_of : (places : ℕ) (count : Progress) → HasJustBegun (scale places) count → HasRest (scale places) count → (sheet : List ℕ) × IsSheetOf places count sheet
+pub sheet_of : (places : ℕ) (count : Progress) → HasJustBegun (scale places) count → HasRest Meek (scale places) count → (sheet : List ℕ) × IsSheetOf Meek places count sheet
 sheet_of places count begun (rows, last, rest) = (
   text_of_lines (sheet_lines places count.roll (length count.ballots) rows last),
-  (rows, last, subst (λ (now : Situation). Rows (scale places) count.ballots count.lots now rows last) begun rest, refl),
+  (rows, last, subst (λ (now : Situation). Rows Meek (scale places) count.ballots count.lots now rows last) begun rest, refl),
 )
 
 -- what a count is seen as where it is due
@@ -33,7 +34,7 @@ WritesDue w f a b places due r = (text : List ℕ) × IsDueText places due text 
 -- the writing stopped in the line of the freeze
 pub stopped_in_line :
     {S T E : Type 0} {w : S → Option (List ℕ)} {f : S → ℕ} {a b : S} (places at : ℕ) (count : Progress) (r : Result T E)
-    → IsErr r → HasJustBegun (scale places) count → HasRest (scale places) count
+    → IsErr r → HasJustBegun (scale places) count → HasRest Meek (scale places) count
     → StoppedBytes w f a b (ended (sheet_line at)) → WritesDue w f a b places (due_at at count) r
 stopped_in_line places at count r failed begun rest stopped =
     let sheet = sheet_of places count begun rest in
@@ -42,8 +43,8 @@ stopped_in_line places at count r failed begun rest stopped =
 -- behind the line the sheet was written, or a front of it
 pub wrote_sheet :
     {S T E : Type 0} {w : S → Option (List ℕ)} {f : S → ℕ} {a b : S} (c : S) (places at : ℕ) (count : Progress)
-    (r : Result T E) → WroteBytes w f a b (ended (sheet_line at)) → OnOk r (AppendsSheet places count (w b) (w c))
-    → OnErr r (AppendsFrontOfSheet places count (w b) (w c)) → CountsFault (f b) (f c) r
+    (r : Result T E) → WroteBytes w f a b (ended (sheet_line at)) → OnOk r (AppendsSheet Meek places count (w b) (w c))
+    → OnErr r (AppendsFrontOfSheet Meek places count (w b) (w c)) → CountsFault (f b) (f c) r
     → WritesDue w f a c places (due_at at count) r
 wrote_sheet c places at count (Ok x) did (sheet, is, all) front faults =
     (ended (sheet_line at) ++ sheet, (sheet, is, refl), wrote_both did (record { whole = all; calm = faults }))

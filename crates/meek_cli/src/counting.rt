@@ -2,6 +2,7 @@
 ghost use Rattle.std.specs.Prelude.{◌≡◌, ◌≤◌, All, IfOk, IsPermutation, length};
 ghost use Rattle.fixed_place.specs.Rounding.{scale};
 ghost use Rattle.plain_ballots.specs.Ballots.{plain};
+ghost use Rattle.meek_rule.specs.Rule.{Meek};
 ghost use Rattle.frozen_plan.specs.Plan.{all_ballots};
 ghost use Rattle.vote_spread.specs.Lanes.{HaveCounted};
 ghost use Rattle.meek_cli.specs.Owed.{lots_fault};
@@ -140,6 +141,7 @@ fn write_count<D: Spread<9>, K: Sink>(
     sink: &mut K,
 ) -> Status
     requires lots_of_all { length lots.now ≡ length roll.now.names }
+    requires rule { D.rule ≡ Meek }
     requires can { D.can_spread spread.old }
     requires spread_of_all { D.candidates spread.old ≡ length roll.now.names }
     requires few { length (D.ballots spread.old) ≤ 999999999 }

@@ -1,6 +1,7 @@
 // The sheets of a day: each freeze is counted, and all is written.
 ghost use Rattle.std.specs.Prelude.{◌≡◌, ◌≤◌, ℕ, List, ◌++◌, map, length, All, IfOk};
 ghost use Rattle.fixed_place.specs.Rounding.{scale};
+ghost use Rattle.meek_rule.specs.Rule.{Meek};
 ghost use Rattle.vote_spread.specs.Lanes.{HaveCounted};
 ghost use Rattle.meek_cli.specs.Bytes.{WritesBytes};
 ghost use Rattle.team_run.specs.EntryText.{entries_text};
@@ -107,6 +108,7 @@ fn write_day<const P: usize, D: Spread<P>, K: Sink>(
     requires places { (6 ≤ P) × (P ≤ 9) }
     requires omega { (1 ≤ terms.now.omega) × (terms.now.omega ≤ 1000000) }
     requires heads_of_all { All (IsHeadOf (length terms.now.lots)) heads.now }
+    requires rule { D.rule ≡ Meek }
     requires can { All D.can_spread spreads.old }
     requires spreads_of_all { All (λ s. D.candidates s ≡ length terms.now.lots) spreads.old }
     requires few { All (λ s. length (D.ballots s) ≤ 999999999) spreads.old }
@@ -130,6 +132,7 @@ fn begin_sheets<'e, const P: usize, D: Spread<P>>(
     requires places { (6 ≤ P) × (P ≤ 9) }
     requires omega { (1 ≤ omega) × (omega ≤ 1000000) }
     requires heads_of_all { All (IsHeadOf (length lots.now)) heads.now }
+    requires rule { D.rule ≡ Meek }
     requires can { All D.can_spread spreads.old }
     requires spreads_of_all { All (λ s. D.candidates s ≡ length lots.now) spreads.old }
     requires few { All (λ s. length (D.ballots s) ≤ 999999999) spreads.old }

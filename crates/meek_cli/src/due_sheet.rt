@@ -1,6 +1,7 @@
 // A sheet that is due.
 ghost use Rattle.std.specs.Prelude.{◌≡◌, ◌≤◌, ℕ, List, length, IfOk};
 ghost use Rattle.fixed_place.specs.Rounding.{scale};
+ghost use Rattle.meek_rule.specs.Rule.{Meek};
 ghost use Rattle.sheet_text.specs.Lines.{ended};
 ghost use Rattle.meek_cli.specs.DayText.{sheet_line};
 ghost use Rattle.meek_cli.specs.DueSheets.{due_of, HasSheet, IsDueText};
@@ -50,6 +51,7 @@ impl<'e, const P: usize, D: Spread<P>> DueSheet<'e, P, D> {
         requires places { (6 ≤ P) × (P ≤ 9) }
         requires omega { (1 ≤ omega) × (omega ≤ 1000000) }
         requires lots_of_all { length lots.now ≡ length head.now.roll.names }
+        requires rule { D.rule ≡ Meek }
         requires can { D.can_spread spread.old }
         requires spread_of_all { D.candidates spread.old ≡ length head.now.roll.names }
         requires few { length (D.ballots spread.old) ≤ 999999999 }

@@ -12,8 +12,9 @@ use Rattle.meek_rule.specs.Situation.{Situation, IsValid, IsOnItsWay, FitsState,
 use Rattle.meek_rule.specs.declared.step.Step.{Step}
 use Rattle.meek_rule.specs.declared.step.Step.TheVariants.{Elected}
 use Rattle.meek_rule.specs.Row.{Row}
+use Rattle.meek_rule.specs.Rule.{Rule}
 use Rattle.meek_rule.specs.Iteration.{HasOnlyRunningVotes, Settle, Leaves}
-use Rattle.meek_rule.specs.Weights.{given, vote, votes}
+use Rattle.meek_rule.specs.Weights.{given_under, vote_under, votes_under}
 use Rattle.meek_rule.proofs.TieLemmas.{somebody_hopeful}
 use Rattle.meek_rule.proofs.RuleLemmas.{most_bound}
 use Rattle.meek_count.specs.Progress.{Progress, IsCounting, HasRest}
@@ -21,12 +22,12 @@ use Rattle.meek_rule.proofs.TotalLemmas.{given-none}
 use Rattle.meek_count.proofs.WholeCount.{rows_exist, sum-votes-valid}
 
 -- some rows lead from where a count stands to the end
-pub rest_exists : (places bound : ℕ) (count : Progress) → IsCounting (scale places) bound count → HasRest (scale places) count
-rest_exists places bound count is = rows_exist (scale places) count.ballots count.lots count.now (scale_pos places) is.valid is.order_of_lots is.lots_of_all
+pub rest_exists : (rule : Rule) (places bound : ℕ) (count : Progress) → IsCounting (scale places) bound count → HasRest rule (scale places) count
+rest_exists rule places bound count is = rows_exist rule (scale places) count.ballots count.lots count.now (scale_pos places) is.valid is.order_of_lots is.lots_of_all
 
 -- the votes at the same keep values, of as many candidates
-pub votes-same : (s : ℕ) (kept keeps : List ℕ) (ballots : List (List ℕ)) (m n : ℕ) → kept ≡ keeps → m ≡ n → votes s kept ballots m ≡ votes s keeps ballots n
-votes-same s kept keeps ballots m n same of_all = ap (λ k. votes s k ballots m) same ∙ ap (votes s keeps ballots) of_all
+pub votes-same : (rule : Rule) (s : ℕ) (kept keeps : List ℕ) (ballots : List (List ℕ)) (m n : ℕ) → kept ≡ keeps → m ≡ n → votes_under rule s kept ballots m ≡ votes_under rule s keeps ballots n
+votes-same rule s kept keeps ballots m n same of_all = ap (λ k. votes_under rule s k ballots m) same ∙ ap (votes_under rule s keeps ballots) of_all
 
 -- there is another number for a round
 pub round_fits : (s bound : ℕ) (now : Situation) → IsValid s now → IsOnItsWay bound now → is_complete now ≡ false → now.round + 1 < 2 ^ 32
@@ -48,26 +49,26 @@ keep_out s Defeated keep out fits = fits
 keep_out s Withdrawn keep out fits = fits
 
 -- and no vote
-vote_out : (s : ℕ) (keeps : List ℕ) (ballots : List (List ℕ)) (p : ℕ) → 1 ≤ s → get_or keeps p 0 ≡ 0 → vote s keeps ballots (p + 1) ≡ 0
-vote_out s keeps [] p pos out = refl
-vote_out s keeps (ballot ∷ ballots) p pos out =
+vote_out : (rule : Rule) (s : ℕ) (keeps : List ℕ) (ballots : List (List ℕ)) (p : ℕ) → 1 ≤ s → get_or keeps p 0 ≡ 0 → vote_under rule s keeps ballots (p + 1) ≡ 0
+vote_out rule s keeps [] p pos out = refl
+vote_out rule s keeps (ballot ∷ ballots) p pos out =
     let place : p + 1 - 1 ≡ p = omega arith in
-    let here : given s keeps s ballot (p + 1) ≡ 0 = given-none s keeps s ballot (p + 1) pos (ap (λ k. get_or keeps k 0) place ∙ out) in
-    let behind : vote s keeps ballots (p + 1) ≡ 0 = vote_out s keeps ballots p pos out in
-    let split : vote s keeps (ballot ∷ ballots) (p + 1) ≡ given s keeps s ballot (p + 1) + vote s keeps ballots (p + 1) =
-    sum_by-cons (λ (ranking : List ℕ). given s keeps s ranking (p + 1)) ballot ballots in
+    let here : given_under rule s keeps s ballot (p + 1) ≡ 0 = given-none rule s keeps s ballot (p + 1) pos (ap (λ k. get_or keeps k 0) place ∙ out) in
+    let behind : vote_under rule s keeps ballots (p + 1) ≡ 0 = vote_out rule s keeps ballots p pos out in
+    let split : vote_under rule s keeps (ballot ∷ ballots) (p + 1) ≡ given_under rule s keeps s ballot (p + 1) + vote_under rule s keeps ballots (p + 1) =
+    sum_by-cons (λ (ranking : List ℕ). given_under rule s keeps s ranking (p + 1)) ballot ballots in
     omega arith
 
 -- nobody but the hopeful and the elected has votes
-pub only_running : (s : ℕ) (ballots : List (List ℕ)) (now : Situation) → 1 ≤ s → IsValid s now → HasOnlyRunningVotes now.states (votes s now.keeps ballots (length now.states))
-only_running s ballots now pos valid p below out =
-    get_or-map-range_with_len (λ q. vote s now.keeps ballots (q + 1)) 0 (length now.states) p p 0 below (omega arith)
-    ∙ vote_out s now.keeps ballots p pos (keep_out s (state_at now.states p) (get_or now.keeps p 0) out (valid.fitting p below))
+pub only_running : (rule : Rule) (s : ℕ) (ballots : List (List ℕ)) (now : Situation) → 1 ≤ s → IsValid s now → HasOnlyRunningVotes now.states (votes_under rule s now.keeps ballots (length now.states))
+only_running rule s ballots now pos valid p below out =
+    get_or-map-range_with_len (λ q. vote_under rule s now.keeps ballots (q + 1)) 0 (length now.states) p p 0 below (omega arith)
+    ∙ vote_out rule s now.keeps ballots p pos (keep_out s (state_at now.states p) (get_or now.keeps p 0) out (valid.fitting p below))
 
 -- all votes together are an amount
-pub votes_fit : (places : ℕ) (ballots : List (List ℕ)) (now : Situation) → IsValid (scale places) now → length ballots ≤ 999999999 → sum (votes (scale places) now.keeps ballots (length now.states)) ≤ most places
-votes_fit places ballots now valid few =
-    let within = sum-votes-valid (scale places) ballots now (scale_pos places) valid in
+pub votes_fit : (rule : Rule) (places : ℕ) (ballots : List (List ℕ)) (now : Situation) → IsValid (scale places) now → length ballots ≤ 999999999 → sum (votes_under rule (scale places) now.keeps ballots (length now.states)) ≤ most places
+votes_fit rule places ballots now valid few =
+    let within = sum-votes-valid rule (scale places) ballots now (scale_pos places) valid in
     let all : length ballots * scale places ≤ 1000000000 * scale places = mul-le-mul_right (scale places) (omega arith) in
     omega (arith, most_votes places)
 

@@ -1,13 +1,14 @@
--- Each election has one count.
+-- Each election has one count by each rule.
 use Rattle.std.specs.Prelude.{◌≡◌, ℕ, ◌≤◌, ◌↔◌, List, length, All}
 use Rattle.std.specs.List.Sorted.{IsPermutation}
 use Rattle.candidate_roll.specs.Roll.{RollList, IsRoll}
 use Rattle.candidate_roll.specs.declared.state.State.{State}
 use Rattle.plain_ballots.specs.Ranking.{IsRanking}
 use Rattle.lot_order.specs.Lots.{IsOrder}
+use Rattle.meek_rule.specs.Rule.{Rule}
 use Rattle.meek_rule.specs.Situation.{Situation, IsValid}
 use Rattle.meek_rule.specs.Row.{Row}
-use Rattle.meek_count.specs.Rows.{Rows, IsCount}
+use Rattle.meek_count.specs.Rows.{Rows, IsCountUnder}
 
 -- what can be counted: at most 999,999,999 rankings of the roll's candidates, and an order of lots of all of them
 pub record IsElection (places omega : ℕ) (ballots : List (List ℕ)) (roll : RollList) (lots : List ℕ) : Type 0 where
@@ -26,23 +27,23 @@ pub record AreOnly (is : List Row → List State → Type 0) (rows : List Row) (
   pub are : is rows last
   pub only : (others : List Row) (end : List State) → is others end → (others ≡ rows) × (end ≡ last)
 
--- Each election has exactly one list of rows with one list of last states.
+-- By each rule an election has exactly one list of rows with one list of last states.
 abbrev pub EachElectionHasOneCount : Type 0
 EachElectionHasOneCount =
-    (places omega : ℕ) (ballots : List (List ℕ)) (roll : RollList) (lots : List ℕ)
+    (rule : Rule) (places omega : ℕ) (ballots : List (List ℕ)) (roll : RollList) (lots : List ℕ)
     → IsElection places omega ballots roll lots
-    → (rows : List Row) × (last : List State) × AreOnly (IsCount places omega ballots roll lots) rows last
+    → (rows : List Row) × (last : List State) × AreOnly (IsCountUnder rule places omega ballots roll lots) rows last
 
 -- So has each valid situation, wherever it comes from: exactly one list of rows leads from it to the end.
 abbrev pub EachSituationHasOneEnd : Type 0
 EachSituationHasOneEnd =
-    (s : ℕ) (ballots : List (List ℕ)) (lots : List ℕ) (now : Situation)
+    (rule : Rule) (s : ℕ) (ballots : List (List ℕ)) (lots : List ℕ) (now : Situation)
     → 1 ≤ s → IsValid s now → IsOrder lots → length lots ≡ length now.states
-    → (rows : List Row) × (last : List State) × AreOnly (Rows s ballots lots now) rows last
+    → (rows : List Row) × (last : List State) × AreOnly (Rows rule s ballots lots now) rows last
 
 -- The order of the ballots changes nothing.
 abbrev pub OrderOfBallotsChangesNothing : Type 0
 OrderOfBallotsChangesNothing =
-    (places omega : ℕ) (ballots other : List (List ℕ)) (roll : RollList) (lots : List ℕ) (rows : List Row) (last : List State)
+    (rule : Rule) (places omega : ℕ) (ballots other : List (List ℕ)) (roll : RollList) (lots : List ℕ) (rows : List Row) (last : List State)
     → IsPermutation ballots other
-    → IsCount places omega ballots roll lots rows last ↔ IsCount places omega other roll lots rows last
+    → IsCountUnder rule places omega ballots roll lots rows last ↔ IsCountUnder rule places omega other roll lots rows last

@@ -3,6 +3,7 @@ use Rattle.std.specs.Prelude.{◌≡◌, ℕ, ◌≤◌, ◌++◌, Bool, List, l
 use Rattle.candidate_roll.specs.Roll.{RollList}
 use Rattle.candidate_roll.specs.declared.state.State.{State}
 use Rattle.lot_order.specs.Lots.{IsOrder}
+use Rattle.meek_rule.specs.Rule.{Rule}
 use Rattle.meek_rule.specs.Situation.{Situation, IsValid, IsOnItsWay, opening}
 use Rattle.meek_rule.specs.Row.{Row, HasRoomFor}
 use Rattle.meek_count.specs.Rows.{Rows}
@@ -27,16 +28,16 @@ abbrev pub HasJustBegun : (s : ℕ) → Progress → Type 0
 HasJustBegun s count = count.now ≡ opening s count.now.omega count.roll.seats count.roll.withdrawn
 
 -- some rows lead from here to the end
-abbrev pub HasRest : (s : ℕ) → Progress → Type 0
-HasRest s count = (rows : List Row) × (last : List State) × Rows s count.ballots count.lots count.now rows last
+abbrev pub HasRest : Rule → (s : ℕ) → Progress → Type 0
+HasRest rule s count = (rows : List Row) × (last : List State) × Rows rule s count.ballots count.lots count.now rows last
 
 -- These rows lead from the earlier to the later standing: rows that lead on from there lead, behind these,
 -- from the earlier one to the same end.
-pub record Leads (s : ℕ) (old : Progress) (done : List Row) (new : Progress) : Type 0 where
+pub record Leads (rule : Rule) (s : ℕ) (old : Progress) (done : List Row) (new : Progress) : Type 0 where
   pub same : IsSameElection old new
   pub onward :
-      (rows : List Row) (last : List State) → Rows s new.ballots new.lots new.now rows last
-      → Rows s old.ballots old.lots old.now (done ++ rows) last
+      (rows : List Row) (last : List State) → Rows rule s new.ballots new.lots new.now rows last
+      → Rows rule s old.ballots old.lots old.now (done ++ rows) last
 
 -- What a count keeps: it can go on from where it stands, and never comes to the end of a number's type.
 pub record IsCounting (s most : ℕ) (count : Progress) : Type 0 where

@@ -3,7 +3,7 @@ ghost use Rattle.std.specs.Prelude.{◌≡◌, ◌≤◌, ◌<◌, ◌↔◌, tr
 ghost use Rattle.fixed_place.specs.Rounding.{scale, most};
 ghost use Rattle.meek_rule.specs.Situation.{IsValid, is_complete, finished, final_states, opening, steps_left};
 ghost use Rattle.meek_rule.specs.Row.{HasRoomFor};
-ghost use Rattle.meek_rule.specs.Weights.{votes};
+ghost use Rattle.meek_rule.specs.Weights.{votes_under};
 ghost use Rattle.meek_count.specs.Rows.{IteratesTo};
 ghost use Rattle.meek_count.specs.Progress.{IsSameElection, HasJustBegun, HasRest, Leads};
 
@@ -15,7 +15,7 @@ use meek_rule::{NoMemory, Row, Situation, Spread, Step};
 use std::alloc::Global;
 use std::marker::Model;
 
-/// A count of the ballots of a spread, iteration by iteration.
+/// A count of the ballots of a spread by its rule, iteration by iteration.
 #[derive(Drop)]
 pub struct Count<'e, const P: usize, D: Spread<P> + Drop> {
     roll: &'e Roll,
@@ -30,7 +30,7 @@ pub struct Count<'e, const P: usize, D: Spread<P> + Drop> {
 
 impl<'e, const P: usize, D: Spread<P> + Drop> Model for Count<'e, P, D> {
     ghost use Rattle.std.specs.Prelude.{◌≡◌, ◌≤◌, ◌+◌, ◌^◌, length, IsTrue};
-    ghost use Rattle.meek_rule.specs.Weights.{votes};
+    ghost use Rattle.meek_rule.specs.Weights.{votes_under};
     ghost use Rattle.meek_count.specs.Progress.{Progress, IsCounting};
 
     ghost Value = { Progress };
@@ -42,7 +42,7 @@ impl<'e, const P: usize, D: Spread<P> + Drop> Model for Count<'e, P, D> {
         × D.can_spread c.spread
         × (D.candidates c.spread ≡ length c.situation.states)
         × (length c.tally ≡ length c.situation.states)
-        × (IsTrue c.tally_stands → c.tally ≡ votes (10 ^ P) c.situation.keeps (D.ballots c.spread) (D.candidates c.spread))
+        × (IsTrue c.tally_stands → c.tally ≡ votes_under D.rule (10 ^ P) c.situation.keeps (D.ballots c.spread) (D.candidates c.spread))
         × IsCounting (10 ^ P) (10 ^ (P + 9)) (record { roll = c.roll.now; lots = c.lots.now; ballots = D.ballots c.spread; now = c.situation; has_row = c.has_row; row = c.row }) };
 }
 
@@ -66,7 +66,7 @@ impl<'e, const P: usize, D: Spread<P> + Drop> Count<'e, P, D> {
         ensures lots { IfOk result (λ count. count.lots ≡ lots.now) }
         ensures ballots { IfOk result (λ count. count.ballots ≡ D.ballots spread) }
         ensures no_row { IfOk result (λ count. count.has_row ≡ false) }
-        ensures rest { IfOk result (HasRest (scale P)) }
+        ensures rest { IfOk result (HasRest D.rule (scale P)) }
     {
         let _places = omega.units();
         let _order = lots.candidates();
@@ -98,14 +98,14 @@ impl<'e, const P: usize, D: Spread<P> + Drop> Count<'e, P, D> {
         ensures settled { result ≡ Turn.Finished → finished self.new.now ≡ self.new.now }
 
         // An iteration.
-        ensures iterated { result ≡ Turn.Iterated → IteratesTo (scale P) self.old.ballots self.old.lots self.old.now self.new.row self.new.now }
-        ensures leads { result ≡ Turn.Iterated → Leads (scale P) self.old (self.new.row ∷ []) self.new }
+        ensures iterated { result ≡ Turn.Iterated → IteratesTo D.rule (scale P) self.old.ballots self.old.lots self.old.now self.new.row self.new.now }
+        ensures leads { result ≡ Turn.Iterated → Leads D.rule (scale P) self.old (self.new.row ∷ []) self.new }
         ensures has_row { result ≡ Turn.Iterated → self.new.has_row ≡ true }
         ensures nearer { result ≡ Turn.Iterated → steps_left (most P) self.new.now < steps_left (most P) self.old.now }
 
         ensures same { IsSameElection self.old self.new }
         ensures valid { IsValid (scale P) self.new.now }
-        ensures rest { HasRest (scale P) self.new }
+        ensures rest { HasRest D.rule (scale P) self.new }
     {
         if self.situation.is_complete() {
             self.situation.finish();
@@ -143,7 +143,7 @@ impl<'e, const P: usize, D: Spread<P> + Drop> Count<'e, P, D> {
 
     pub fn roll(&self) -> &Roll
         ensures value { result.now ≡ self.now.roll }
-        ensures rest { HasRest (scale P) self.now }
+        ensures rest { HasRest D.rule (scale P) self.now }
     {
         self.roll
     }
@@ -152,7 +152,7 @@ impl<'e, const P: usize, D: Spread<P> + Drop> Count<'e, P, D> {
     pub fn ballots(&self) -> u64
         ensures value { result ≡ length self.now.ballots }
         ensures few { length self.now.ballots ≤ 999999999 }
-        ensures rest { HasRest (scale P) self.now }
+        ensures rest { HasRest D.rule (scale P) self.now }
     {
         self.spread.ballots()
     }
@@ -168,8 +168,8 @@ fn distribute<const P: usize, D: Spread<P>>(
     requires can { D.can_spread spread.old }
     requires keeps_of_all { length keeps.now ≡ D.candidates spread.old }
     requires votes_of_all { length tally.old ≡ D.candidates spread.old }
-    requires stands { IsTrue stands → tally.old ≡ votes (scale P) keeps.now (D.ballots spread.old) (D.candidates spread.old) }
-    ensures votes { tally.new ≡ votes (scale P) keeps.now (D.ballots spread.old) (D.candidates spread.old) }
+    requires stands { IsTrue stands → tally.old ≡ votes_under D.rule (scale P) keeps.now (D.ballots spread.old) (D.candidates spread.old) }
+    ensures votes { tally.new ≡ votes_under D.rule (scale P) keeps.now (D.ballots spread.old) (D.candidates spread.old) }
     ensures still_can { D.can_spread spread.new }
     ensures same { D.ballots spread.new ≡ D.ballots spread.old }
     ensures same_candidates { D.candidates spread.new ≡ D.candidates spread.old }

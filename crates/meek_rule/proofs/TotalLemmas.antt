@@ -1,15 +1,15 @@
 -- No more is given than there are ballots.
 use Rattle.std.proofs.Common.{◌≡◌, ◌≢◌, ℕ, ◌+◌, ◌-◌, ◌*◌, ◌<◌, ◌≤◌, ◌==◌, cond, List, [], ◌∷◌, length, get_or, take, slice_index, sum, Contains, arith, refl, ap, sym, subst, ◌∙◌, inl, inr, zero, suc, add-one}
 use Rattle.std.specs.List.{All}
-use Rattle.std.proofs.Math.Nat.{add-mul, div-eq_of_lt, mod-eq_of_lt}
+use Rattle.std.proofs.Math.Nat.{add-mul}
 use Rattle.std.proofs.lemmas.Bool.{cases_eq, eq-eqb, ne_eqb}
 use Rattle.std.proofs.lemmas.List.Sums.{sum_by-cons}
 use Rattle.std.proofs.lemmas.List.Elements.{Contains-get_or}
-use Rattle.fixed_place.specs.Rounding.{up}
-use Rattle.meek_rule.specs.Weights.{kept, weight, given, vote, votes}
+use Rattle.meek_rule.specs.Rule.{Rule}
+use Rattle.meek_rule.specs.Weights.{kept_under, weight_under, given_under, vote_under, votes_under}
 use Rattle.meek_rule.specs.Places.{each_place}
 use Rattle.meek_rule.proofs.PlaceLemmas.{sum_more}
-use Rattle.meek_rule.proofs.WeightLemmas.{kept-le}
+use Rattle.meek_rule.proofs.WeightLemmas.{kept_under-le, kept_under-none}
 
 pub sum_suc : (f : ℕ → ℕ) (n : ℕ) → sum (each_place (suc n) f) ≡ sum (each_place n f) + f n
 sum_suc f n = subst (λ (m : ℕ). sum (each_place m f) ≡ sum (each_place n f) + f n) (add-one n) (sum_more f n)
@@ -61,68 +61,65 @@ one_place (suc n) r k =
     ]
 
 -- a ballot gives its weight at most
-pub given_by_ballot-le : (s : ℕ) (keeps : List ℕ) (w : ℕ) (ranks : List ℕ) (n : ℕ) → 1 ≤ s → All (λ k. k ≤ s) keeps → sum (each_place n (λ p. given s keeps w ranks (p + 1))) ≤ w
-given_by_ballot-le s keeps w [] n pos bound = let none = sum_nothing n (λ p. given s keeps w [] (p + 1)) (λ p. refl) in omega arith
-given_by_ballot-le s keeps w (r ∷ ranks) n pos bound =
-    let k : ℕ = kept s keeps w r in
-    let part : k ≤ w = kept-le s keeps w r pos bound in
-    let rest : sum (each_place n (λ p. given s keeps (w - k) ranks (p + 1))) ≤ w - k = given_by_ballot-le s keeps (w - kept s keeps w r) ranks n pos bound in
+pub given_by_ballot-le : (rule : Rule) (s : ℕ) (keeps : List ℕ) (w : ℕ) (ranks : List ℕ) (n : ℕ) → 1 ≤ s → All (λ k. k ≤ s) keeps → sum (each_place n (λ p. given_under rule s keeps w ranks (p + 1))) ≤ w
+given_by_ballot-le rule s keeps w [] n pos bound = let none = sum_nothing n (λ p. given_under rule s keeps w [] (p + 1)) (λ p. refl) in omega arith
+given_by_ballot-le rule s keeps w (r ∷ ranks) n pos bound =
+    let k : ℕ = kept_under rule s keeps w r in
+    let part : k ≤ w = kept_under-le rule s keeps w r pos bound in
+    let rest : sum (each_place n (λ p. given_under rule s keeps (w - k) ranks (p + 1))) ≤ w - k = given_by_ballot-le rule s keeps (w - kept_under rule s keeps w r) ranks n pos bound in
     let here : sum (each_place n (at_place r k)) ≤ k = one_place n r k in
-    let split : sum (each_place n (λ p. given s keeps w (r ∷ ranks) (p + 1))) ≡ sum (each_place n (at_place r k)) + sum (each_place n (λ p. given s keeps (w - k) ranks (p + 1))) =
-    sum_add n (at_place r k) (λ p. given s keeps (w - k) ranks (p + 1)) (λ p. given s keeps w (r ∷ ranks) (p + 1)) (λ p. refl) in
+    let split : sum (each_place n (λ p. given_under rule s keeps w (r ∷ ranks) (p + 1))) ≡ sum (each_place n (at_place r k)) + sum (each_place n (λ p. given_under rule s keeps (w - k) ranks (p + 1))) =
+    sum_add n (at_place r k) (λ p. given_under rule s keeps (w - k) ranks (p + 1)) (λ p. given_under rule s keeps w (r ∷ ranks) (p + 1)) (λ p. refl) in
     omega arith
 
 -- all votes together are at most one for each ballot
-pub sum-votes-le : (s : ℕ) (keeps : List ℕ) (ballots : List (List ℕ)) (n : ℕ) → 1 ≤ s → All (λ k. k ≤ s) keeps → sum (votes s keeps ballots n) ≤ length ballots * s
-sum-votes-le s keeps [] n pos bound = let none : sum (votes s keeps [] n) ≡ 0 = sum_nothing n (λ p. vote s keeps [] (p + 1)) (λ p. refl) in omega arith
-sum-votes-le s keeps (b ∷ ballots) n pos bound =
-    let rest : sum (votes s keeps ballots n) ≤ length ballots * s = sum-votes-le s keeps ballots n pos bound in
-    let here : sum (each_place n (λ p. given s keeps s b (p + 1))) ≤ s = given_by_ballot-le s keeps s b n pos bound in
-    let split : sum (votes s keeps (b ∷ ballots) n) ≡ sum (each_place n (λ p. given s keeps s b (p + 1))) + sum (votes s keeps ballots n) =
-    sum_add n (λ p. given s keeps s b (p + 1)) (λ p. vote s keeps ballots (p + 1)) (λ p. vote s keeps (b ∷ ballots) (p + 1)) (λ p. sum_by-cons (λ (r : List ℕ). given s keeps s r (p + 1)) b ballots) in
+pub sum-votes-le : (rule : Rule) (s : ℕ) (keeps : List ℕ) (ballots : List (List ℕ)) (n : ℕ) → 1 ≤ s → All (λ k. k ≤ s) keeps → sum (votes_under rule s keeps ballots n) ≤ length ballots * s
+sum-votes-le rule s keeps [] n pos bound = let none : sum (votes_under rule s keeps [] n) ≡ 0 = sum_nothing n (λ p. vote_under rule s keeps [] (p + 1)) (λ p. refl) in omega arith
+sum-votes-le rule s keeps (b ∷ ballots) n pos bound =
+    let rest : sum (votes_under rule s keeps ballots n) ≤ length ballots * s = sum-votes-le rule s keeps ballots n pos bound in
+    let here : sum (each_place n (λ p. given_under rule s keeps s b (p + 1))) ≤ s = given_by_ballot-le rule s keeps s b n pos bound in
+    let split : sum (votes_under rule s keeps (b ∷ ballots) n) ≡ sum (each_place n (λ p. given_under rule s keeps s b (p + 1))) + sum (votes_under rule s keeps ballots n) =
+    sum_add n (λ p. given_under rule s keeps s b (p + 1)) (λ p. vote_under rule s keeps ballots (p + 1)) (λ p. vote_under rule s keeps (b ∷ ballots) (p + 1)) (λ p. sum_by-cons (λ (r : List ℕ). given_under rule s keeps s r (p + 1)) b ballots) in
     let more : suc (length ballots) * s ≡ length ballots * s + 1 * s = ap (λ k. k * s) (sym (add-one (length ballots))) ∙ add-mul (length ballots) 1 s in
     omega arith
 
 -- who keeps nothing is given nothing
-pub given-none : (s : ℕ) (keeps : List ℕ) (w : ℕ) (ranks : List ℕ) (c : ℕ) → 1 ≤ s → slice_index keeps (c - 1) ≡ 0 → given s keeps w ranks c ≡ 0
-given-none s keeps w [] c pos out = refl
-given-none s keeps w (r ∷ ranks) c pos out =
-    let rest : given s keeps (w - kept s keeps w r) ranks c ≡ 0 = given-none s keeps (w - kept s keeps w r) ranks c pos out in
+pub given-none : (rule : Rule) (s : ℕ) (keeps : List ℕ) (w : ℕ) (ranks : List ℕ) (c : ℕ) → 1 ≤ s → slice_index keeps (c - 1) ≡ 0 → given_under rule s keeps w ranks c ≡ 0
+given-none rule s keeps w [] c pos out = refl
+given-none rule s keeps w (r ∷ ranks) c pos out =
+    let rest : given_under rule s keeps (w - kept_under rule s keeps w r) ranks c ≡ 0 = given-none rule s keeps (w - kept_under rule s keeps w r) ranks c pos out in
     elim (cases_eq r c) [
       | inl same ↦
           let at : get_or keeps (r - 1) 0 ≡ 0 = ap (λ k. get_or keeps (k - 1) 0) same ∙ out in
-          let nothing : up s w (get_or keeps (r - 1) 0) ≡ 0 = ap (up s w) at ∙ up-none s w pos in
-          let here : cond (r == c) (kept s keeps w r) 0 ≡ kept s keeps w r = ap (λ b. cond b (kept s keeps w r) 0) (eq-eqb r c same) in
+          let nothing : kept_under rule s keeps w r ≡ 0 = kept_under-none rule s keeps w r pos at in
+          let here : cond (r == c) (kept_under rule s keeps w r) 0 ≡ kept_under rule s keeps w r = ap (λ b. cond b (kept_under rule s keeps w r) 0) (eq-eqb r c same) in
           omega arith
       | inr other ↦
-          let here : cond (r == c) (kept s keeps w r) 0 ≡ 0 = ap (λ b. cond b (kept s keeps w r) 0) (ne_eqb r c other) in
+          let here : cond (r == c) (kept_under rule s keeps w r) 0 ≡ 0 = ap (λ b. cond b (kept_under rule s keeps w r) 0) (ne_eqb r c other) in
           omega arith
     ]
-  where
-    up-none : (s w : ℕ) → 1 ≤ s → up s w 0 ≡ 0
-    up-none s w pos = omega (arith, div-eq_of_lt {n = 0} {m = s} pos, mod-eq_of_lt {n = 0} {m = s} pos)
 
 -- who is not ranked is given nothing
-pub given-absent : (s : ℕ) (keeps : List ℕ) (w : ℕ) (ranks : List ℕ) (c : ℕ) → ((k : ℕ) → k < length ranks → get_or ranks k 0 ≢ c) → given s keeps w ranks c ≡ 0
-given-absent s keeps w [] c absent = refl
-given-absent s keeps w (r ∷ ranks) c absent =
-    let here : cond (r == c) (kept s keeps w r) 0 ≡ 0 = ap (λ b. cond b (kept s keeps w r) 0) (ne_eqb r c (absent 0 (omega arith))) in
-    let rest : given s keeps (w - kept s keeps w r) ranks c ≡ 0 = given-absent s keeps (w - kept s keeps w r) ranks c (λ k below. absent (suc k) (omega arith)) in
+pub given-absent : (rule : Rule) (s : ℕ) (keeps : List ℕ) (w : ℕ) (ranks : List ℕ) (c : ℕ) → ((k : ℕ) → k < length ranks → get_or ranks k 0 ≢ c) → given_under rule s keeps w ranks c ≡ 0
+given-absent rule s keeps w [] c absent = refl
+given-absent rule s keeps w (r ∷ ranks) c absent =
+    let here : cond (r == c) (kept_under rule s keeps w r) 0 ≡ 0 = ap (λ b. cond b (kept_under rule s keeps w r) 0) (ne_eqb r c (absent 0 (omega arith))) in
+    let rest : given_under rule s keeps (w - kept_under rule s keeps w r) ranks c ≡ 0 = given-absent rule s keeps (w - kept_under rule s keeps w r) ranks c (λ k below. absent (suc k) (omega arith)) in
     omega arith
 
-pub given-not_ranked : (s : ℕ) (keeps : List ℕ) (w : ℕ) (ranks : List ℕ) (c : ℕ) → ¬ (Contains ranks c) → given s keeps w ranks c ≡ 0
-given-not_ranked s keeps w ranks c none =
-    given-absent s keeps w ranks c (λ k below same. none (subst (Contains ranks) same (Contains-get_or ranks k 0 below)))
+pub given-not_ranked : (rule : Rule) (s : ℕ) (keeps : List ℕ) (w : ℕ) (ranks : List ℕ) (c : ℕ) → ¬ (Contains ranks c) → given_under rule s keeps w ranks c ≡ 0
+given-not_ranked rule s keeps w ranks c none =
+    given-absent rule s keeps w ranks c (λ k below same. none (subst (Contains ranks) same (Contains-get_or ranks k 0 below)))
 
 -- who is ranked once is given what it keeps of the weight that is left at its place
-pub given-at_place : (s : ℕ) (keeps : List ℕ) (w : ℕ) (ranks : List ℕ) (i c : ℕ) → i < length ranks → get_or ranks i 0 ≡ c → ((k : ℕ) → k < length ranks → get_or ranks k 0 ≡ c → k ≡ i) → given s keeps w ranks c ≡ kept s keeps (weight s keeps w (take i ranks)) c
-given-at_place s keeps w [] i c below at once = absurd (omega arith)
-given-at_place s keeps w (r ∷ ranks) zero c below at once =
-    let here : cond (r == c) (kept s keeps w r) 0 ≡ kept s keeps w c = ap (λ b. cond b (kept s keeps w r) 0) (eq-eqb r c at) ∙ ap (kept s keeps w) at in
-    let rest : given s keeps (w - kept s keeps w r) ranks c ≡ 0 = given-absent s keeps (w - kept s keeps w r) ranks c (λ k less same. (let one = once (suc k) (omega arith) same in omega arith)) in
+pub given-at_place : (rule : Rule) (s : ℕ) (keeps : List ℕ) (w : ℕ) (ranks : List ℕ) (i c : ℕ) → i < length ranks → get_or ranks i 0 ≡ c → ((k : ℕ) → k < length ranks → get_or ranks k 0 ≡ c → k ≡ i) → given_under rule s keeps w ranks c ≡ kept_under rule s keeps (weight_under rule s keeps w (take i ranks)) c
+given-at_place rule s keeps w [] i c below at once = absurd (omega arith)
+given-at_place rule s keeps w (r ∷ ranks) zero c below at once =
+    let here : cond (r == c) (kept_under rule s keeps w r) 0 ≡ kept_under rule s keeps w c = ap (λ b. cond b (kept_under rule s keeps w r) 0) (eq-eqb r c at) ∙ ap (kept_under rule s keeps w) at in
+    let rest : given_under rule s keeps (w - kept_under rule s keeps w r) ranks c ≡ 0 = given-absent rule s keeps (w - kept_under rule s keeps w r) ranks c (λ k less same. (let one = once (suc k) (omega arith) same in omega arith)) in
     omega arith
-given-at_place s keeps w (r ∷ ranks) (suc i) c below at once =
-    let here : cond (r == c) (kept s keeps w r) 0 ≡ 0 = ap (λ b. cond b (kept s keeps w r) 0) (ne_eqb r c (λ same. (let first = once 0 (omega arith) same in omega arith))) in
-    let rest : given s keeps (w - kept s keeps w r) ranks c ≡ kept s keeps (weight s keeps (w - kept s keeps w r) (take i ranks)) c =
-    given-at_place s keeps (w - kept s keeps w r) ranks i c (omega arith) at (λ k less same. (let later = once (suc k) (omega arith) same in omega arith)) in
+given-at_place rule s keeps w (r ∷ ranks) (suc i) c below at once =
+    let here : cond (r == c) (kept_under rule s keeps w r) 0 ≡ 0 = ap (λ b. cond b (kept_under rule s keeps w r) 0) (ne_eqb r c (λ same. (let first = once 0 (omega arith) same in omega arith))) in
+    let rest : given_under rule s keeps (w - kept_under rule s keeps w r) ranks c ≡ kept_under rule s keeps (weight_under rule s keeps (w - kept_under rule s keeps w r) (take i ranks)) c =
+    given-at_place rule s keeps (w - kept_under rule s keeps w r) ranks i c (omega arith) at (λ k less same. (let later = once (suc k) (omega arith) same in omega arith)) in
     omega arith

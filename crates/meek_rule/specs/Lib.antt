@@ -1,4 +1,5 @@
 pub mod Places
+pub mod Rule
 pub mod Weights
 pub mod Situation
 pub mod Row

@@ -2,6 +2,7 @@
 ghost use Rattle.std.specs.Prelude.{◌≡◌, ◌+◌, ◌*◌, ◌<◌, ◌≤◌, ℕ, All, length, slice_index};
 ghost use Rattle.fixed_place.specs.Rounding.{scale, most};
 ghost use Rattle.plain_ballots.specs.Ballots.{BallotList, IsSound, plain};
+ghost use Rattle.meek_rule.specs.Rule.{Meek};
 ghost use Rattle.meek_rule.specs.Weights.{given, votes};
 
 use crate::Spread;
@@ -9,7 +10,7 @@ use fixed_place::{Amount, Amounts, Keep, Keeps, keep_part, scale_of};
 use plain_ballots::{BallotLine, Ballots};
 use std::marker::Model;
 
-/// Walks the lines of a list of ballots one after another.
+/// Walks the lines of a list of ballots one after another, by Meek's rule.
 #[derive(Debug, Drop)]
 pub struct FlatSpread {
     ballots: Ballots,
@@ -32,6 +33,8 @@ impl FlatSpread {
 }
 
 impl<const P: usize> Spread<P> for FlatSpread {
+    ghost rule = { Meek };
+
     ghost ballots = { λ s. plain s.lines };
 
     ghost candidates = { λ s. s.candidates };

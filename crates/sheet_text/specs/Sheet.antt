@@ -1,4 +1,4 @@
--- The sheet of a count.
+-- The sheet of a count by either rule.
 use Rattle.std.specs.Prelude.{◌≡◌, ℕ, true, List, [], ◌∷◌, ◌++◌, length, Option, ◌⊎◌}
 use Rattle.std.specs.List.{flat_map}
 use Rattle.std.specs.Io.KnownBytes.{Appends}
@@ -6,9 +6,10 @@ use Rattle.byte_edge.specs.Bytes.{AppendsFront}
 use Rattle.fixed_place.specs.Rounding.{scale}
 use Rattle.candidate_roll.specs.Roll.{RollList}
 use Rattle.candidate_roll.specs.declared.state.State.{State}
+use Rattle.meek_rule.specs.Rule.{Rule, Meek}
 use Rattle.meek_rule.specs.Situation.{is_complete, finished}
 use Rattle.meek_rule.specs.Row.{Row}
-use Rattle.meek_count.specs.Rows.{IsCount}
+use Rattle.meek_count.specs.Rows.{IsCountUnder}
 use Rattle.meek_count.specs.Progress.{Progress, Leads}
 use Rattle.sheet_text.specs.Lines.{text_of_lines, head_lines, row_lines, result_lines}
 
@@ -21,24 +22,28 @@ abbrev pub sheet_lines : (places : ℕ) → RollList → (ballots : ℕ) → Lis
 sheet_lines places roll ballots rows last =
     lines_up_to places roll ballots rows ++ result_lines roll.names last
 
--- The text is the sheet of these ballots at so many places and with this omega: that of the rows and the last
--- states of their count.
-abbrev pub IsSheet : (places omega : ℕ) → List (List ℕ) → RollList → (lots : List ℕ) → List ℕ → Type 0
-IsSheet places omega ballots roll lots text =
+-- The text is the sheet of these ballots by a rule, at so many places and with this omega: that of the rows and the
+-- last states of their count. Where a price stands in place of a keep value it is printed in its place.
+abbrev pub IsSheetUnder : Rule → (places omega : ℕ) → List (List ℕ) → RollList → (lots : List ℕ) → List ℕ → Type 0
+IsSheetUnder rule places omega ballots roll lots text =
     (rows : List Row) × (last : List State)
-    × IsCount places omega ballots roll lots rows last
+    × IsCountUnder rule places omega ballots roll lots rows last
     × (text ≡ text_of_lines (sheet_lines places roll (length ballots) rows last))
 
--- the sheet of a count that was just begun
-abbrev pub IsSheetOf : (places : ℕ) → Progress → List ℕ → Type 0
-IsSheetOf places count text = IsSheet places count.now.omega count.ballots count.roll count.lots text
+-- the same by Meek's rule
+abbrev pub IsSheet : (places omega : ℕ) → List (List ℕ) → RollList → (lots : List ℕ) → List ℕ → Type 0
+IsSheet places omega ballots roll lots text = IsSheetUnder Meek places omega ballots roll lots text
 
-abbrev pub AppendsSheet : (places : ℕ) → Progress → (old new : Option (List ℕ)) → Type 0
-AppendsSheet places count old new = (text : List ℕ) × IsSheetOf places count text × Appends old new text
+-- the sheet of a count that was just begun
+abbrev pub IsSheetOf : Rule → (places : ℕ) → Progress → List ℕ → Type 0
+IsSheetOf rule places count text = IsSheetUnder rule places count.now.omega count.ballots count.roll count.lots text
+
+abbrev pub AppendsSheet : Rule → (places : ℕ) → Progress → (old new : Option (List ℕ)) → Type 0
+AppendsSheet rule places count old new = (text : List ℕ) × IsSheetOf rule places count text × Appends old new text
 
 -- some front of the sheet, maybe all of it
-abbrev pub AppendsFrontOfSheet : (places : ℕ) → Progress → (old new : Option (List ℕ)) → Type 0
-AppendsFrontOfSheet places count old new = (text : List ℕ) × IsSheetOf places count text × AppendsFront old new text
+abbrev pub AppendsFrontOfSheet : Rule → (places : ℕ) → Progress → (old new : Option (List ℕ)) → Type 0
+AppendsFrontOfSheet rule places count old new = (text : List ℕ) × IsSheetOf rule places count text × AppendsFront old new text
 
 -- The count is at its end: it is complete, and ending it changes nothing any more.
 pub record HasEnded (count : Progress) : Type 0 where
@@ -56,12 +61,12 @@ StopsInHead start now old new =
     (now ≡ start) × AppendsFront old new (text_of_lines (head_lines start.roll (length start.ballots)))
 
 -- The writing stopped in a row, which is that of the last iteration that was made.
-pub record StopsInRow (places : ℕ) (start now : Progress) (old new : Option (List ℕ)) : Type 0 where
+pub record StopsInRow (rule : Rule) (places : ℕ) (start now : Progress) (old new : Option (List ℕ)) : Type 0 where
   pub done : List Row
-  pub leads : Leads (scale places) start (done ++ now.row ∷ []) now
+  pub leads : Leads rule (scale places) start (done ++ now.row ∷ []) now
   pub written : AppendsAndFront old new (lines_up_to places start.roll (length start.ballots) done) (row_lines places now.row)
 
 -- Where a count stands whose sheet was broken off: where the writing stopped, in the head, in a row or in the result.
-abbrev pub StandsWhereItStopped : (places : ℕ) → (start now : Progress) → (old new : Option (List ℕ)) → Type 0
-StandsWhereItStopped places start now old new =
-    StopsInHead start now old new ⊎ (StopsInRow places start now old new ⊎ HasEnded now)
+abbrev pub StandsWhereItStopped : Rule → (places : ℕ) → (start now : Progress) → (old new : Option (List ℕ)) → Type 0
+StandsWhereItStopped rule places start now old new =
+    StopsInHead start now old new ⊎ (StopsInRow rule places start now old new ⊎ HasEnded now)

@@ -14,18 +14,18 @@ use meek_count::{Count, Turn};
 use meek_rule::Spread;
 
 /// Runs a count that was just begun to its end, and writes its sheet as it goes, each line with its line
-/// feed as one piece. After a failure the count stands where the writing stopped.
+/// feed as one piece. The sheet is that of the rule of the count's spread. After a failure the count stands where the writing stopped.
 pub fn write_sheet<const P: usize, D: Spread<P> + Drop, K: Sink>(
     count: &mut Count<'_, P, D>,
     sink: &mut K,
 ) -> Result<(), Failed>
     requires { HasJustBegun (scale P) count.old }
-    ensures all { OnOk result (AppendsSheet P count.old (K.written sink.old) (K.written sink.new)) }
+    ensures all { OnOk result (AppendsSheet D.rule P count.old (K.written sink.old) (K.written sink.new)) }
     ensures ended { OnOk result (HasEnded count.new) }
     ensures front { OnErr result
-        (AppendsFrontOfSheet P count.old (K.written sink.old) (K.written sink.new)) }
+        (AppendsFrontOfSheet D.rule P count.old (K.written sink.old) (K.written sink.new)) }
     ensures stands { OnErr result
-        (StandsWhereItStopped P count.old count.new (K.written sink.old) (K.written sink.new)) }
+        (StandsWhereItStopped D.rule P count.old count.new (K.written sink.old) (K.written sink.new)) }
     ensures same { IsSameElection count.old count.new }
     ensures faults { CountsFault (K.faults sink.old) (K.faults sink.new) result }
 {

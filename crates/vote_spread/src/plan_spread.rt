@@ -2,6 +2,7 @@
 ghost use Rattle.std.specs.Prelude.{◌≡◌, ℕ, ◌≤◌, ◌^◌, All, IfOk, length};
 ghost use Rattle.fixed_place.specs.Rounding.{scale};
 ghost use Rattle.frozen_plan.specs.Plan.{all_ballots};
+ghost use Rattle.meek_rule.specs.Rule.{Meek};
 ghost use Rattle.meek_rule.specs.Weights.{votes};
 ghost use Rattle.vote_spread.specs.Runs.{RunsLanes, CanSpread};
 
@@ -24,6 +25,8 @@ pub struct PlanSpread<const P: usize, F: Drop> {
 }
 
 impl<const P: usize, F: Fn(&mut Lanes) + Drop> Spread<P> for PlanSpread<P, F> {
+    ghost rule = { Meek };
+
     ghost ballots = { λ s. s.lanes.ballots };
 
     ghost candidates = { λ s. s.candidates };

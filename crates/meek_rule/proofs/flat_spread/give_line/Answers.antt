@@ -2,6 +2,7 @@ use Rattle.std.proofs.Common.{◌≡◌, ℕ, ◌+◌, ◌-◌, ◌<◌, ◌≤�
 use Rattle.std.proofs.lemmas.List.{length-set, get_or_default}
 use Rattle.std.proofs.lemmas.List.Elements.{All-get_or}
 use Rattle.fixed_place.specs.Rounding.{scale, most, up}
+use Rattle.meek_rule.specs.Rule.{Meek}
 use Rattle.meek_rule.specs.Weights.{kept}
 use Rattle.meek_rule.proofs.WeightLemmas.{gain_fits, gain_step, all_given}
 use Rattle.meek_rule.proofs.flat_spread.give_line.Goals as goal
@@ -19,7 +20,7 @@ from_units-requires g c =
     c.keep_part-kept.ensures.kept ∙ ap (up s c.loop-rank.weight) (c.index-keeps-place.is ∙ sym (get_or_default c.args.keeps.now (r - 1) 0 _ (omega arith))) in
     let pos : 1 ≤ s = omega (arith, c.scale_of-weight.ensures.positive, c.scale_of-weight.ensures.value) in
     let fits =
-    gain_fits s c.args.keeps.now c.loop-rank.weight c.args.ranks.now i (r - 1 + 1) c.args.count _ _ (most g.row.P) c.loop-rank-test.true (omega arith) pos c.requires.at_most_one
+    gain_fits Meek s c.args.keeps.now c.loop-rank.weight c.args.ranks.now i (r - 1 + 1) c.args.count _ _ (most g.row.P) c.loop-rank-test.true (omega arith) pos c.requires.at_most_one
     (c.loop-rank.invariant.missing (r - 1) inside) (c.requires.room (r - 1) inside) in
     (omega arith, (c.requires.places, rw (now, part) fits))
 
@@ -37,7 +38,7 @@ returns-then-weight-eq0-clause-given g c =
     let pos : 1 ≤ s = omega (arith, c.scale_of-weight.ensures.positive, c.scale_of-weight.ensures.value) in
     λ p below.
     let step = gain_step s c.args.keeps.now c.loop-rank.weight c.args.ranks.now c.loop-rank.tally i c.args.count p _ c.loop-rank-test.true number.0 inside (c.loop-rank.invariant.missing p below) in
-    rw (c.set.ensures, c.from_units.ensures, now, part) (all_given s c.args.keeps.now (c.loop-rank.weight - kept s c.args.keeps.now c.loop-rank.weight r) (drop (i + 1) c.args.ranks.now) (p + 1) c.args.count _ _ pos (omega arith) step)
+    rw (c.set.ensures, c.from_units.ensures, now, part) (all_given Meek s c.args.keeps.now (c.loop-rank.weight - kept s c.args.keeps.now c.loop-rank.weight r) (drop (i + 1) c.args.ranks.now) (p + 1) c.args.count _ _ pos (omega arith) step)
 
 pub loop-rank-preserved : goal.loop-rank-preserved
 loop-rank-preserved g c =

@@ -6,6 +6,7 @@ use Rattle.fixed_place.specs.Rounding.{scale, most}
 use Rattle.fixed_place.proofs.RoundingLemmas.{most_votes, scale_pos}
 use Rattle.plain_ballots.specs.declared.ballot_line.BallotLine.{BallotLine}
 use Rattle.plain_ballots.specs.Ranking.{IsRanking}
+use Rattle.meek_rule.specs.Rule.{Meek}
 use Rattle.meek_rule.specs.Weights.{given}
 use Rattle.meek_rule.proofs.WeightLemmas.{room_for_line, votes-from_places}
 use Rattle.meek_rule.proofs.flat_spread.spread_lines.Goals as goal
@@ -25,10 +26,10 @@ give_line-requires g c =
     let keeps : length c.items.result.now ≡ length c.loop-line.tally = ap length c.items.ensures ∙ (c.requires.keeps_of_all ∙ same) in
     let room : (p : ℕ) → p < length c.loop-line.tally → get_or c.loop-line.tally p 0 + line.count * s ≤ most g.row.P = λ p below.
     rw c.line-item.is
-    (room_for_line s (most g.row.P) c.args.keeps.now c.args.lines.now i (p + 1) _ line (scale_pos g.row.P) c.len-bound.ensures.bound (most_votes g.row.P) c.loop-line-test.true c.requires.sound.bounded (c.loop-line.invariant.so_far p (omega arith))) in
+    (room_for_line Meek s (most g.row.P) c.args.keeps.now c.args.lines.now i (p + 1) _ line (scale_pos g.row.P) c.len-bound.ensures.bound (most_votes g.row.P) c.loop-line-test.true c.requires.sound.bounded (c.loop-line.invariant.so_far p (omega arith))) in
     (omega arith, (omega arith, (c.len-bound.ensures.places, (numbers, (keeps, (rw c.items.ensures c.len-bound.ensures.bound, room))))))
 
 pub returns : goal.returns
 returns g c =
-    votes-from_places (scale g.row.P) c.args.keeps.now c.args.lines.now c.loop-line.tally (length c.args.tally.now) c.loop-line.invariant.same_length
+    votes-from_places Meek (scale g.row.P) c.args.keeps.now c.args.lines.now c.loop-line.tally (length c.args.tally.now) c.loop-line.invariant.same_length
     (λ p below. c.loop-line.invariant.so_far p below ∙ ap (λ (ls : List BallotLine). sum_by (λ (line : BallotLine). line.count * given (scale g.row.P) c.args.keeps.now (scale g.row.P) line.ranking (p + 1)) ls) (take_all c.loop-line.line-index c.args.lines.now (omega arith)))

@@ -34,5 +34,5 @@ pub returns-clause-rest : goal.returns-clause-rest
 returns-clause-rest g c =
     let states : length c.in_ok-situation.situation.states ≡ length c.args.roll.now.names =
     ap (λ (now : Situation). length now.states) c.in_ok-situation.ensures.opening ∙ length-opening (scale g.row.P) c.args.omega c.args.roll.now c.candidates-n.ensures.sound in
-    rows_exist (scale g.row.P) (g.D.Spread.ballots c.args.spread) c.args.lots.now c.in_ok-situation.situation (scale_pos g.row.P)
+    rows_exist g.D.Spread.rule (scale g.row.P) (g.D.Spread.ballots c.args.spread) c.args.lots.now c.in_ok-situation.situation (scale_pos g.row.P)
     c.in_ok-situation.ensures.valid c.candidates-order.ensures.order (c.requires.lots_of_all ∙ sym states)

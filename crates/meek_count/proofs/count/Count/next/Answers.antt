@@ -4,7 +4,7 @@ use Rattle.fixed_place.specs.Rounding.{scale, most}
 use Rattle.fixed_place.proofs.RoundingLemmas.{scale_pos}
 use Rattle.meek_rule.specs.Situation.{Situation, is_complete}
 use Rattle.meek_rule.specs.Iteration.{HasOnlyRunningVotes, Settle}
-use Rattle.meek_rule.specs.Weights.{votes}
+use Rattle.meek_rule.specs.Weights.{votes_under}
 use Rattle.meek_count.specs.Progress.{Progress, Leads}
 use Rattle.meek_count.proofs.EndLemmas.{finished-twice, on_its_way-finished}
 use Rattle.meek_count.proofs.StepLemmas.{round_fits, iteration_fits, only_running, votes_fit, votes-same, keeps-elected}
@@ -42,13 +42,13 @@ pub settle-requires : goal.settle-requires
 settle-requires g c =
     let now : Situation = c.self.inside.situation in
     let going : is_complete now ≡ false = sym c.is_complete.ensures ∙ c.if-is_complete.false in
-    let cast : List ℕ = votes (scale g.row.P) now.keeps (g.D.Spread.ballots c.self.inside.spread) (length now.states) in
-    let tally : c.distribute.new.tally ≡ cast = c.distribute.ensures.votes ∙ votes-same (scale g.row.P) c.keeps.result.now now.keeps (g.D.Spread.ballots c.self.inside.spread) (g.D.Spread.candidates c.self.inside.spread) (length now.states) c.keeps.ensures c.self.invariant.3 in
+    let cast : List ℕ = votes_under g.D.Spread.rule (scale g.row.P) now.keeps (g.D.Spread.ballots c.self.inside.spread) (length now.states) in
+    let tally : c.distribute.new.tally ≡ cast = c.distribute.ensures.votes ∙ votes-same g.D.Spread.rule (scale g.row.P) c.keeps.result.now now.keeps (g.D.Spread.ballots c.self.inside.spread) (g.D.Spread.candidates c.self.inside.spread) (length now.states) c.keeps.ensures c.self.invariant.3 in
     let running : HasOnlyRunningVotes now.states c.distribute.new.tally =
     subst (λ (v : List ℕ). HasOnlyRunningVotes now.states v) (sym tally)
-    (only_running (scale g.row.P) (g.D.Spread.ballots c.self.inside.spread) now (scale_pos g.row.P) c.self.invariant.6.valid) in
+    (only_running g.D.Spread.rule (scale g.row.P) (g.D.Spread.ballots c.self.inside.spread) now (scale_pos g.row.P) c.self.invariant.6.valid) in
     let within : sum c.distribute.new.tally ≤ most g.row.P =
-    rw tally (votes_fit g.row.P (g.D.Spread.ballots c.self.inside.spread) now c.self.invariant.6.valid c.self.invariant.6.few_ballots) in
+    rw tally (votes_fit g.D.Spread.rule g.row.P (g.D.Spread.ballots c.self.inside.spread) now c.self.invariant.6.valid c.self.invariant.6.few_ballots) in
     let of_all : length c.distribute.new.tally ≡ length now.states = ap (λ (v : List ℕ). length v) tally ∙ length-map-range_with_len _ 0 (length now.states) in (
       omega arith,
       (
@@ -71,7 +71,7 @@ settle-requires g c =
 
 pub returns-clause-rest : goal.returns-clause-rest
 returns-clause-rest g c =
-    rows_exist (scale g.row.P) (g.D.Spread.ballots c.distribute.new.spread) c.self.inside.lots.now c.settle.new.self (scale_pos g.row.P) c.settle.ensures.valid c.self.invariant.6.order_of_lots
+    rows_exist g.D.Spread.rule (scale g.row.P) (g.D.Spread.ballots c.distribute.new.spread) c.self.inside.lots.now c.settle.new.self (scale_pos g.row.P) c.settle.ensures.valid c.self.invariant.6.order_of_lots
     (c.self.invariant.6.lots_of_all ∙ sym c.settle.ensures.same_candidates)
 
 -- the row leads on
@@ -81,12 +81,12 @@ returns-clause-leads g c = λ is.
     let going : is_complete now ≡ false = sym c.is_complete.ensures ∙ c.if-is_complete.false in
     let old : Progress = record { roll = c.self.inside.roll.now; lots = c.self.inside.lots.now; ballots = g.D.Spread.ballots c.self.inside.spread; now = now; has_row = c.self.inside.has_row; row = c.self.inside.row } in
     let new : Progress = record { roll = c.self.inside.roll.now; lots = c.self.inside.lots.now; ballots = g.D.Spread.ballots c.distribute.new.spread; now = c.settle.new.self; has_row = true; row = c.settle.new.row } in
-    let tally : c.distribute.new.tally ≡ votes (scale g.row.P) now.keeps old.ballots (length now.states) =
-    c.distribute.ensures.votes ∙ votes-same (scale g.row.P) c.keeps.result.now now.keeps (g.D.Spread.ballots c.self.inside.spread) (g.D.Spread.candidates c.self.inside.spread) (length now.states) c.keeps.ensures c.self.invariant.3 in
-    let iterates : IteratesTo (scale g.row.P) old.ballots old.lots now new.row new.now =
+    let tally : c.distribute.new.tally ≡ votes_under g.D.Spread.rule (scale g.row.P) now.keeps old.ballots (length now.states) =
+    c.distribute.ensures.votes ∙ votes-same g.D.Spread.rule (scale g.row.P) c.keeps.result.now now.keeps (g.D.Spread.ballots c.self.inside.spread) (g.D.Spread.candidates c.self.inside.spread) (length now.states) c.keeps.ensures c.self.invariant.3 in
+    let iterates : IteratesTo g.D.Spread.rule (scale g.row.P) old.ballots old.lots now new.row new.now =
     subst (λ (v : List ℕ). Settle (scale g.row.P) now v old.lots new.row new.now) tally c.settle.ensures.settle in
-    subst (λ (p : Progress). Leads (scale g.row.P) p (new.row ∷ []) new) c.self.view_is
-    (leads_one (scale g.row.P) old new going iterates (record { roll = refl; lots = refl; ballots = c.distribute.ensures.same }))
+    subst (λ (p : Progress). Leads g.D.Spread.rule (scale g.row.P) p (new.row ∷ []) new) c.self.view_is
+    (leads_one g.D.Spread.rule (scale g.row.P) old new going iterates (record { roll = refl; lots = refl; ballots = c.distribute.ensures.same }))
 
 -- an iteration keeps what a count keeps, and after an election the votes stand
 pub invariant_of-self-2 : goal.invariant_of-self-2
@@ -97,7 +97,7 @@ invariant_of-self-2 g c =
     let candidates : ℕ = g.D.Spread.candidates c.self.inside.spread in
     let same : length next.states ≡ length now.states = c.settle.ensures.same_candidates in
     let of_all : candidates ≡ length next.states = c.self.invariant.3 ∙ sym same in
-    let tally : c.distribute.new.tally ≡ votes (scale g.row.P) c.keeps.result.now ballots candidates = c.distribute.ensures.votes in (
+    let tally : c.distribute.new.tally ≡ votes_under g.D.Spread.rule (scale g.row.P) c.keeps.result.now ballots candidates = c.distribute.ensures.votes in (
       c.self.invariant.0,
       c.self.invariant.1,
       c.distribute.ensures.still_can,
