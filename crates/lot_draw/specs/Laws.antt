@@ -1,0 +1,13 @@
+-- What holds of every draw.
+use Rattle.std.specs.Prelude.{◌≡◌, ℕ, ◌≤◌, List}
+use Rattle.lot_order.specs.Lots.{IsOrder}
+use Rattle.lot_draw.specs.Draw.{IsDraw}
+
+-- a seed draws one order of so many candidates
+abbrev pub SeedsHaveOneDraw : Type 0
+SeedsHaveOneDraw =
+    (seed : List ℕ) (n : ℕ) (one other : List ℕ) → IsDraw seed n one → IsDraw seed n other → one ≡ other
+
+-- what is drawn is an order of lots
+abbrev pub DrawsAreOrders : Type 0
+DrawsAreOrders = (seed : List ℕ) (n : ℕ) (order : List ℕ) → n ≤ 250 → IsDraw seed n order → IsOrder order

@@ -1,0 +1,5 @@
+pub mod Draw
+pub mod DrawnLine
+pub mod Laws
+pub mod Words
+pub mod Owed

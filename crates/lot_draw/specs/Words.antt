@@ -1,0 +1,31 @@
+-- The words that ask for a draw.
+use Rattle.std.specs.Prelude.{◌≡◌, ◌⊎◌, ◌≤◌, ℕ, List, [], ◌∷◌, length, codes}
+use Rattle.meek_words.specs.Numerals.{Word, IsNumeralUpTo, number_of}
+
+-- a seed, and how many candidates there are
+pub record Asked : Type 0 where
+  pub seed : List ℕ
+  pub candidates : ℕ
+
+-- the two options in either order, each with its value in the next word
+abbrev pub AreOptions : List Word → (seed number : Word) → Type 0
+AreOptions words seed number =
+    (words ≡ codes "--seed" ∷ seed ∷ codes "--candidates" ∷ number ∷ [])
+    ⊎ (words ≡ codes "--candidates" ∷ number ∷ codes "--seed" ∷ seed ∷ [])
+
+-- a seed of 1 to 1,000 bytes
+pub record IsSeed (seed : Word) : Type 0 where
+  pub some : 1 ≤ length seed
+  pub short : length seed ≤ 1000
+
+-- the values of the options: a seed, and a number of candidates from 1 to 250
+pub record Says (seed number : Word) (candidates : ℕ) : Type 0 where
+  pub is_seed : IsSeed seed
+  pub numeral : IsNumeralUpTo 250 number
+  pub value : candidates ≡ number_of number
+
+-- the words ask for a draw from this seed among so many candidates
+pub record TakesDraw (words : List Word) (asked : Asked) : Type 0 where
+  pub number : Word
+  pub options : AreOptions words asked.seed number
+  pub says : Says asked.seed number asked.candidates

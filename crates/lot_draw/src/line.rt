@@ -1,0 +1,46 @@
+// The line of an order.
+ghost use Rattle.std.specs.Prelude.{◌≡◌, ◌≤◌, ◌+◌, [], ◌++◌, length, All};
+ghost use Rattle.lot_draw.specs.DrawnLine.{behind, drawn_line};
+
+use line_text::Line;
+
+/// Writes the line of an order into an empty line. An order has at most 250 candidates.
+pub fn push_drawn(line: &mut Line, order: &[u32])
+    requires empty { line.old ≡ [] }
+    requires few { length order.now ≤ 250 }
+    requires numbers { All (λ c. c ≤ 250) order.now }
+    ensures { line.new ≡ drawn_line order.now }
+{
+    for (i, candidate) in order.iter().enumerate() {
+        push_behind(line, i, *candidate);
+    }
+    line.push_bytes(b"\n");
+}
+
+/// Appends a candidate behind so many others.
+#[tactic(auto, using(crate::proofs::Joined::rooms))]
+fn push_behind(line: &mut Line, others: usize, candidate: u32)
+    requires number { candidate ≤ 250 }
+    requires room { length line.old + 4 ≤ 1400 }
+    ensures text { line.new ≡ line.old ++ behind others candidate }
+    ensures short { length line.new ≤ length line.old + 4 }
+{
+    if others == 0 {
+        line.push_count(candidate as u64);
+        return;
+    }
+    line.push_bytes(b",");
+    line.push_count(candidate as u64);
+}
+
+#[cfg(test)]
+mod tests {
+    use super::*;
+
+    #[test]
+    fn commas_stand_between(rt: HostRuntime) {
+        let mut line = Line::new();
+        push_drawn(&mut line, &[3, 1, 2]);
+        assert_eq!(rt; line.bytes(), b"3,1,2\n".as_slice());
+    }
+}

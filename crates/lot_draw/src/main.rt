@@ -1,0 +1,47 @@
+//! An order of lots drawn from a seed that was found in public, so that anybody can draw it again.
+//!
+//! [`draw_in_public`] is the whole tool: [`takes_draw`] reads the words that ask for a draw,
+//! [`draw_lots`] draws, and [`push_drawn`] writes the line. [`draw_laws`] says that a seed has one draw
+//! among so many candidates, and that a draw is an order of lots.
+#![tactic(auto)]
+
+mod draw;
+mod laws;
+mod line;
+mod tool;
+mod words;
+
+use byte_edge::StdSink;
+pub use draw::draw_lots;
+pub use laws::draw_laws;
+pub use line::push_drawn;
+use std::env;
+use std::io::{self, BufWriter};
+use std::process::ExitCode;
+pub use tool::draw_in_public;
+use tool_edge::End;
+pub use words::takes_draw;
+
+/// What the program ends with where the system gave it no words.
+const NO_WORDS: u8 = 6;
+
+fn main(rt: HostRuntime) -> ExitCode {
+    let Ok(words) = words_of(&rt) else {
+        return ExitCode::from(NO_WORDS);
+    };
+    let Ok(writer) = BufWriter::new(rt.alloc(), io::writer(&rt)) else {
+        return ExitCode::from(End::NoMemory.code());
+    };
+    let mut sink = StdSink::new(writer);
+    let end = draw_in_public(rt.alloc(), words.as_slice(), &mut sink);
+    ExitCode::from(end.code())
+}
+
+/// The words behind the program's name.
+fn words_of(rt: &HostRuntime) -> io::Result<Vec<String>> {
+    let mut words = Vec::new(rt.alloc());
+    for word in env::args(rt)?.skip(1) {
+        words.push(word)?;
+    }
+    Ok(words)
+}

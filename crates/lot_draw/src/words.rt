@@ -1,0 +1,138 @@
+// The words that ask for a draw.
+ghost use Rattle.std.specs.Prelude.{◌≡◌, ◌↔◌, ◌≤◌, ℕ, List, IsTrue, IfOk, IfNone, IfSome, length, map, slice_index};
+ghost use Rattle.std.specs.String.{string_bytes};
+ghost use Rattle.meek_words.specs.Numerals.{IsNumeralUpTo, Word, number_of};
+ghost use Rattle.lot_draw.specs.Words.{Asked, IsSeed, Says, TakesDraw};
+
+use meek_words::{WordsStop, read_lots};
+use std::alloc::Global;
+
+const LONGEST_SEED: usize = 1000;
+
+const MOST_CANDIDATES: u32 = 250;
+
+/// The seed and the number of candidates of words that are just `--seed` and `--candidates`, in either
+/// order, each with its value behind it.
+pub fn takes_draw(alloc: Global, words: &[String]) -> Result<(&str, u32), WordsStop>
+    ensures taken { IfOk result (λ asked. TakesDraw (map string_bytes words.entry.now)
+        (record { seed = asked.0.now; candidates = asked.1 })) }
+    ensures refused { result ≡ Err WordsStop.BadWords
+        → (asked : Asked) → ¬ (TakesDraw (map string_bytes words.entry.now) asked) }
+{
+    let [first, value, second, other] = words else {
+        return Err(WordsStop::BadWords);
+    };
+    if are_words(first, second, "--seed", "--candidates") {
+        return asked(alloc, value.as_str(), other.as_str());
+    }
+    if are_words(first, second, "--candidates", "--seed") {
+        return asked(alloc, other.as_str(), value.as_str());
+    }
+    Err(WordsStop::BadWords)
+}
+
+/// Whether the first word is `one`, and the second `other`.
+fn are_words(first: &String, second: &String, one: &str, other: &str) -> bool
+    ensures { IsTrue result ↔ ((string_bytes first.now ≡ one.now) × (string_bytes second.now ≡ other.now)) }
+{
+    first.as_str() == one && second.as_str() == other
+}
+
+fn asked<'a>(alloc: Global, seed: &'a str, number: &str) -> Result<(&'a str, u32), WordsStop>
+    ensures seed { IfOk result (λ asked. asked.0.now ≡ seed.entry.now) }
+    ensures taken { IfOk result (λ asked. Says seed.entry.now number.entry.now asked.1) }
+    ensures refused { result ≡ Err WordsStop.BadWords
+        → (n : ℕ) → ¬ (Says seed.entry.now number.entry.now n) }
+{
+    if !is_seed(seed) {
+        return Err(WordsStop::BadWords);
+    }
+    match candidates_of(alloc, number) {
+        Ok(candidates) => Ok((seed, candidates)),
+        Err(stop) => Err(stop),
+    }
+}
+
+fn is_seed(word: &str) -> bool
+    ensures { IsTrue result ↔ IsSeed word.now }
+{
+    !word.is_empty() && word.len() <= LONGEST_SEED
+}
+
+/// The number of candidates that a word writes, which is read as a list of just one.
+fn candidates_of(alloc: Global, word: &str) -> Result<u32, WordsStop>
+    ensures taken { IfOk result (λ n. IsNumeralUpTo 250 word.now × (n ≡ number_of word.now)) }
+    ensures refused { result ≡ Err WordsStop.BadWords → ¬ (IsNumeralUpTo 250 word.now) }
+{
+    match read_lots(alloc, word.as_bytes()) {
+        Ok(numbers) => match only_one(numbers.items()) {
+            Some(number) => Ok(number),
+            None => Err(WordsStop::BadWords),
+        },
+        Err(stop) => Err(stop),
+    }
+}
+
+/// The only number, if there is just one and it may be a number of candidates.
+fn only_one(numbers: &[u32]) -> Option<u32>
+    ensures only { IfSome result (λ n. (length numbers.now ≡ 1) × (slice_index numbers.now 0 ≡ n)) }
+    ensures range { IfSome result (λ n. (1 ≤ n) × (n ≤ 250)) }
+    ensures none { IfNone result (length numbers.now ≡ 1
+        → 1 ≤ slice_index numbers.now 0 → slice_index numbers.now 0 ≤ 250 → ⊥) }
+{
+    if numbers.len() != 1 {
+        return None;
+    }
+    let number = numbers[0];
+    if number == 0 {
+        return None;
+    }
+    if number > MOST_CANDIDATES {
+        return None;
+    }
+    Some(number)
+}
+
+#[cfg(test)]
+mod tests {
+    use super::*;
+    use std::test::Fail;
+
+    fn words(rt: &HostRuntime, text: &str) -> Result<Vec<String>, Fail> {
+        let mut words = Vec::new(rt.alloc());
+        for word in text.split(' ') {
+            words.push(String::from_str(rt.alloc(), word)?)?;
+        }
+        Ok(words)
+    }
+
+    #[test]
+    fn the_options_stand_in_either_order(rt: HostRuntime) -> Result<(), Fail> {
+        let one = words(&rt, "--seed 4-6-1 --candidates 003")?;
+        assert_eq!(rt; takes_draw(rt.alloc(), one.as_slice()), Ok(("4-6-1", 3)));
+        let other = words(&rt, "--candidates 250 --seed --seed")?;
+        assert_eq!(rt;
+            takes_draw(rt.alloc(), other.as_slice()),
+            Ok(("--seed", 250))
+        );
+        Ok(())
+    }
+
+    #[test]
+    fn other_words_are_refused(rt: HostRuntime) -> Result<(), Fail> {
+        for text in [
+            "--seed 4 --candidates 0",
+            "--seed 4 --candidates 251",
+            "--seed 4 --candidates 1,2",
+            "--seed 4 --seed 3",
+            "--seed=4 --candidates=3",
+            "--seed  --candidates 3",
+            "--seed 4 --candidates 3 3",
+        ] {
+            let words = words(&rt, text)?;
+            let refused = takes_draw(rt.alloc(), words.as_slice());
+            assert_eq!(rt; refused, Err(WordsStop::BadWords), "at {text}");
+        }
+        Ok(())
+    }
+}
