@@ -29,13 +29,13 @@ one_gets piece k other (suc n) s le lt = ⊎_elim
     ap (λ (l : List (List ℕ)). l ++ flat_map piece (range_with_len (s + 1) n)) (other s ne) ∙ one_gets piece k other n (s + 1) (omega arith) (omega arith))
     (eqb_tells s k)
 
-dealt_here : (n i : ℕ) (line : BallotLine) → dealt n (i % n + 1) i line ≡ replicate line.count line.ranking
+pub dealt_here : (n i : ℕ) (line : BallotLine) → dealt n (i % n + 1) i line ≡ replicate line.count line.ranking
 dealt_here n i line = ⊎_elim
     (λ (same : ((i % n + 1 == i % n + 1) ≡ true) × (i % n + 1 ≡ i % n + 1)). rw same.0 refl)
     (λ (other : ((i % n + 1 == i % n + 1) ≡ false) × (i % n + 1 ≢ i % n + 1)). absurd (other.1 refl))
     (eqb_tells (i % n + 1) (i % n + 1))
 
-dealt_elsewhere : (n i : ℕ) (line : BallotLine) (s : ℕ) → s ≢ i % n + 1 → dealt n s i line ≡ []
+pub dealt_elsewhere : (n i : ℕ) (line : BallotLine) (s : ℕ) → s ≢ i % n + 1 → dealt n s i line ≡ []
 dealt_elsewhere n i line s other = ⊎_elim
     (λ (same : ((i % n + 1 == s) ≡ true) × (i % n + 1 ≡ s)). absurd (other (sym same.1)))
     (λ (not : ((i % n + 1 == s) ≡ false) × (i % n + 1 ≢ s)). rw not.0 refl)
@@ -100,17 +100,6 @@ dealt_some n s i line = ⊎_elim
     (λ (same : ((i % n + 1 == s) ≡ true) × (i % n + 1 ≡ s)). rw same.0 (omega (arith, length-replicate line.count line.ranking)))
     (λ (differs : ((i % n + 1 == s) ≡ false) × (i % n + 1 ≢ s)). rw differs.0 (omega arith))
     (eqb_tells (i % n + 1) s)
-
--- what a shard gets of a line
-pub gets_all : (n s i : ℕ) (line : BallotLine) (old new : List (List ℕ)) → i % n ≡ s → IsPermutation new (replicate line.count line.ranking ++ old) → IsPermutation new (dealt n (s + 1) i line ++ old)
-gets_all n s i line old new mine here =
-    let own : dealt n (s + 1) i line ≡ replicate line.count line.ranking = subst (λ (t : ℕ). dealt n (t + 1) i line ≡ replicate line.count line.ranking) mine (dealt_here n i line) in
-    subst (λ (l : List (List ℕ)). IsPermutation new (l ++ old)) (sym own) here
-
-pub gets_none : (n s i : ℕ) (line : BallotLine) (old : List (List ℕ)) → i % n ≢ s → IsPermutation old (dealt n (s + 1) i line ++ old)
-gets_none n s i line old not_mine =
-    let none = dealt_elsewhere n i line (s + 1) (λ e. not_mine (omega arith)) in
-    subst (λ (l : List (List ℕ)). IsPermutation old (l ++ old)) (sym none) (IsPermutation-refl old)
 
 -- ---- plans of shares
 

@@ -3,5 +3,6 @@ mod RowsLemmas
 pub mod TrieLemmas
 mod BagLemmas
 mod DealingLemmas
-mod FallingLemmas
-mod TakingLemmas
+mod ForestLemmas
+mod GroupLemmas
+mod ShareLemmas

@@ -4,4 +4,6 @@ pub mod Shape
 pub mod Rows
 pub mod Dealing
 pub mod OneBag
-pub mod Taking
+pub mod Share
+pub mod Groups
+pub mod Dealt

@@ -4,8 +4,7 @@
 #![tactic(auto)]
 
 mod dealing;
-mod falling;
-mod intake;
+mod groups;
 mod laws;
 mod no_memory;
 mod plan;
@@ -15,6 +14,7 @@ mod push_back;
 mod rows;
 #[cfg(test)]
 mod samples;
+mod share;
 
 pub use laws::one_bag_has_one_plan;
 pub use no_memory::NoMemory;

@@ -9,6 +9,7 @@ use ranking_trie::Trie;
 use std::alloc::Global;
 use std::marker::Model;
 
+mod lines;
 #[cfg(test)]
 mod tests;
 

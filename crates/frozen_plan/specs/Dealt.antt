@@ -1,0 +1,20 @@
+-- Shares to which lines were dealt.
+use Rattle.std.specs.Prelude.{◌≡◌, ℕ, ◌+◌, ◌<◌, List, [], All, length, slice_index_or}
+use Rattle.plain_ballots.specs.declared.ballot_line.BallotLine.{BallotLine}
+use Rattle.frozen_plan.specs.declared.share.Share.{Share}
+use Rattle.frozen_plan.specs.Share.{IsShare, rests}
+use Rattle.frozen_plan.specs.Dealing as dealing
+
+-- no share has a line
+abbrev pub AreEmpty : List Share → Type 0
+AreEmpty shares = All (λ share. (share.ranks.items ≡ []) × (share.lines.items ≡ [])) shares
+
+-- the share of shard s among n of these lines, of rankings of so many candidates
+pub record IsDealt (candidates n s : ℕ) (lines : List BallotLine) (share : Share) : Type 0 where
+  pub sound : IsShare candidates share.ranks.items share.lines.items
+  pub ballots : rests share.ranks.items 0 share.lines.items ≡ dealing.share n s 0 lines
+
+-- each share is that of its shard
+abbrev pub AreDealt : (candidates : ℕ) → List BallotLine → List Share → Type 0
+AreDealt candidates lines shares =
+    (s : ℕ) (d : Share) → s < length shares → IsDealt candidates (length shares) (s + 1) lines (slice_index_or shares s d)
