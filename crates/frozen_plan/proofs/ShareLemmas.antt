@@ -75,29 +75,29 @@ module _ (n : ℕ) (bytes : List ℕ) (lines : List Placed) (ranking : List ℕ)
 
   pub share_longer : IsShare n (bytes ++ (ranking ++ 0 ∷ [])) (lines ++ placed ∷ [])
   share_longer =
-    let new = bytes ++ (ranking ++ 0 ∷ []) in
-    let ended : new ≡ (bytes ++ ranking) ++ 0 ∷ [] = sym (append_assoc bytes ranking (0 ∷ [])) in
-    let long = length-append bytes ranking in
-    let zero_is_small : 0 ≤ n = omega arith in
-    record {
-      numbers = All-append (λ (c : ℕ). c ≤ n) bytes (ranking ++ 0 ∷ []) is.numbers
-        (All-append (λ (c : ℕ). c ≤ n) ranking (0 ∷ []) small (All-one (λ (c : ℕ). c ≤ n) 0 zero_is_small));
-      kept = All-append (IsKept new) lines (placed ∷ [])
-        (λ k d inside. let before = is.kept k d inside in let size = ap length before.ended in let two = length-append before.front (0 ∷ []) in record { front = bytes ++ ranking; ended = ended; inside = omega (arith, before.inside, size, two, long) })
-        (All-one (IsKept new) placed (record { front = bytes ++ ranking; ended = ended; inside = omega (arith, start, long) }));
-      short = All-append (λ (l : Placed). length (rest_of new 0 l) ≤ 250) lines (placed ∷ []) (short_kept bytes (ranking ++ 0 ∷ []) lines is.kept is.short)
-        (All-one (λ (l : Placed). length (rest_of new 0 l) ≤ 250) placed (omega (arith, ap length own, length-IsRanking n ranking ranks, few)));
-      counted = All-append (λ (l : Placed). 1 ≤ l.count) lines (placed ∷ []) is.counted (All-one (λ (l : Placed). 1 ≤ l.count) placed some);
-    }
+      let new = bytes ++ (ranking ++ 0 ∷ []) in
+      let ended : new ≡ (bytes ++ ranking) ++ 0 ∷ [] = sym (append_assoc bytes ranking (0 ∷ [])) in
+      let long = length-append bytes ranking in
+      let zero_is_small : 0 ≤ n = omega arith in
+      record {
+        numbers = All-append (λ (c : ℕ). c ≤ n) bytes (ranking ++ 0 ∷ []) is.numbers
+            (All-append (λ (c : ℕ). c ≤ n) ranking (0 ∷ []) small (All-one (λ (c : ℕ). c ≤ n) 0 zero_is_small));
+        kept = All-append (IsKept new) lines (placed ∷ [])
+            (λ k d inside. let before = is.kept k d inside in let size = ap length before.ended in let two = length-append before.front (0 ∷ []) in record { front = bytes ++ ranking; ended = ended; inside = omega (arith, before.inside, size, two, long) })
+            (All-one (IsKept new) placed (record { front = bytes ++ ranking; ended = ended; inside = omega (arith, start, long) }));
+        short = All-append (λ (l : Placed). length (rest_of new 0 l) ≤ 250) lines (placed ∷ []) (short_kept bytes (ranking ++ 0 ∷ []) lines is.kept is.short)
+            (All-one (λ (l : Placed). length (rest_of new 0 l) ≤ 250) placed (omega (arith, ap length own, length-IsRanking n ranking ranks, few)));
+        counted = All-append (λ (l : Placed). 1 ≤ l.count) lines (placed ∷ []) is.counted (All-one (λ (l : Placed). 1 ≤ l.count) placed some);
+      }
 
   pub rests_longer : rests (bytes ++ (ranking ++ 0 ∷ [])) 0 (lines ++ placed ∷ []) ≡ rests bytes 0 lines ++ replicate placed.count ranking
   rests_longer =
-    let new = bytes ++ (ranking ++ 0 ∷ []) in
-    let f : Placed → List (List ℕ) = λ l. replicate l.count (rest_of new 0 l) in
-    flat_map-append f lines (placed ∷ [])
-    ∙ (ap (λ (l : List (List ℕ)). l ++ (f placed ++ [])) (rests_kept bytes (ranking ++ 0 ∷ []) lines is.kept)
-    ∙ (ap (λ (l : List (List ℕ)). rests bytes 0 lines ++ l) (append-nil (f placed))
-    ∙ ap (λ (r : List ℕ). rests bytes 0 lines ++ replicate placed.count r) own))
+      let new = bytes ++ (ranking ++ 0 ∷ []) in
+      let f : Placed → List (List ℕ) = λ l. replicate l.count (rest_of new 0 l) in
+      flat_map-append f lines (placed ∷ [])
+      ∙ (ap (λ (l : List (List ℕ)). l ++ (f placed ++ [])) (rests_kept bytes (ranking ++ 0 ∷ []) lines is.kept)
+      ∙ (ap (λ (l : List (List ℕ)). rests bytes 0 lines ++ l) (append-nil (f placed))
+      ∙ ap (λ (r : List ℕ). rests bytes 0 lines ++ replicate placed.count r) own))
 
 -- ---- lines that are dealt
 
@@ -116,14 +116,14 @@ dealt_to candidates n s i lines line placed old new few inside at ranking some m
     let own : dealt n (s + 1) i line ≡ replicate line.count line.ranking = subst (λ (t : ℕ). dealt n (t + 1) i line ≡ replicate line.count line.ranking) mine (dealt_here n i line) in
     record {
       sound = subst (λ (b : List ℕ). IsShare candidates b new.lines.items) (sym bytes_are)
-        (subst (λ (l : List Placed). IsShare candidates (bytes ++ more) l) (sym lines_are) (share_longer candidates bytes now line.ranking placed few before.sound ranking start counted));
+          (subst (λ (l : List Placed). IsShare candidates (bytes ++ more) l) (sym lines_are) (share_longer candidates bytes now line.ranking placed few before.sound ranking start counted));
       ballots = ap (λ (b : List ℕ). rests b 0 new.lines.items) bytes_are
-        ∙ (ap (λ (l : List Placed). rests (bytes ++ more) 0 l) lines_are
-        ∙ (rests_longer candidates bytes now line.ranking placed few before.sound ranking start counted
-        ∙ (ap (λ (l : List (List ℕ)). l ++ replicate placed.count line.ranking) before.ballots
-        ∙ (ap (λ (k : ℕ). so_far ++ replicate k line.ranking) count
-        ∙ (ap (λ (l : List (List ℕ)). so_far ++ l) (sym own)
-        ∙ sym (share_more n (s + 1) lines i line inside at))))));
+          ∙ (ap (λ (l : List Placed). rests (bytes ++ more) 0 l) lines_are
+          ∙ (rests_longer candidates bytes now line.ranking placed few before.sound ranking start counted
+          ∙ (ap (λ (l : List (List ℕ)). l ++ replicate placed.count line.ranking) before.ballots
+          ∙ (ap (λ (k : ℕ). so_far ++ replicate k line.ranking) count
+          ∙ (ap (λ (l : List (List ℕ)). so_far ++ l) (sym own)
+          ∙ sym (share_more n (s + 1) lines i line inside at))))));
     }
 
 -- or to another
@@ -141,8 +141,8 @@ not_dealt_to candidates n s i lines line old inside at other before =
 pub none_dealt : (candidates n s : ℕ) (empty : Share) → empty.ranks.items ≡ [] → empty.lines.items ≡ [] → IsDealt candidates n s [] empty
 none_dealt candidates n s empty no_bytes no_lines = record {
   sound = subst (λ (b : List ℕ). IsShare candidates b empty.lines.items) (sym no_bytes)
-    (subst (λ (l : List Placed). IsShare candidates [] l) (sym no_lines)
-    (record { numbers = All-nil (λ (c : ℕ). c ≤ candidates); kept = All-nil (IsKept []); short = All-nil (λ (l : Placed). length (rest_of [] 0 l) ≤ 250); counted = All-nil (λ (l : Placed). 1 ≤ l.count) }));
+      (subst (λ (l : List Placed). IsShare candidates [] l) (sym no_lines)
+      (record { numbers = All-nil (λ (c : ℕ). c ≤ candidates); kept = All-nil (IsKept []); short = All-nil (λ (l : Placed). length (rest_of [] 0 l) ≤ 250); counted = All-nil (λ (l : Placed). 1 ≤ l.count) }));
   ballots = ap (λ (l : List Placed). rests empty.ranks.items 0 l) no_lines;
 }
 

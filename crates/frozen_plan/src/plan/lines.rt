@@ -11,7 +11,11 @@ use std::alloc::Global;
 
 impl Plan {
     /// The plan of the lines that were dealt to a shard. They are sorted on the way.
-    pub(crate) fn from_share(alloc: Global, candidates: u32, share: &mut Share) -> Result<Plan, NoMemory>
+    pub(crate) fn from_share(
+        alloc: Global,
+        candidates: u32,
+        share: &mut Share,
+    ) -> Result<Plan, NoMemory>
         requires candidates { candidates ≤ 250 }
         requires sound { IsShare candidates share.old.ranks.items share.old.lines.items }
         requires few { line_count share.old.lines.items ≤ 999999999 }

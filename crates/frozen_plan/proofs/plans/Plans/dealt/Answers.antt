@@ -42,8 +42,8 @@ loop-shard-preserved c =
       shares = subst (AreOfShares n 1 lines) (sym more) (one_plan_more n 1 lines plans plan before.shares own);
       room = length-set shares shard c.from_share.new.share ∙ before.room;
       left = λ s d later inside.
-        let other : s ≢ shard = omega (arith, later) in
-        subst (IsDealt candidates n (s + 1) lines) (sym (get_or-set_other shares shard s c.from_share.new.share d other)) (before.left s d (omega (arith, later)) inside);
+          let other : s ≢ shard = omega (arith, later) in
+          subst (IsDealt candidates n (s + 1) lines) (sym (get_or-set_other shares shard s c.from_share.new.share d other)) (before.left s d (omega (arith, later)) inside);
     }
 
 pub returns-clause-ballots : goal.returns-clause-ballots
