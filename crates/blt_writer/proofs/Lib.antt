@@ -1,0 +1,5 @@
+mod WordlessCuts
+mod MinusNumbers
+mod Marks
+mod Spelled
+mod WrittenFiles
