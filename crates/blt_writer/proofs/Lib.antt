@@ -3,3 +3,6 @@ mod MinusNumbers
 mod Marks
 mod Spelled
 mod WrittenFiles
+mod LineOrder
+mod OneText
+mod EveryText

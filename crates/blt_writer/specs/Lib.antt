@@ -1,3 +1,4 @@
 pub mod Order
 pub mod Text
 pub mod Laws
+pub mod Worked

@@ -3,5 +3,7 @@
 #![tactic(auto)]
 
 mod laws;
+mod worked;
 
-pub use laws::texts_are_read;
+pub use laws::{every_bag_has_a_text, one_bag_has_one_text, texts_are_read};
+pub use worked::worked_texts;
