@@ -2,4 +2,4 @@ pub mod Trees
 pub mod Print
 pub mod Reading
 pub mod Laws
-pub mod Writing
+pub mod Given

@@ -2,10 +2,12 @@
 ghost use Rattle.std.specs.Prelude.{◌++◌, ◌∷◌};
 ghost use Rattle.std.specs.List.{flat_map};
 ghost use Rattle.page_tree.specs.Print.{attribute_text, closing, opening};
-ghost use Rattle.page_tree.specs.Writing.{Writes, given};
+ghost use Rattle.page_tree.specs.Given.{given};
+ghost use Rattle.piece_text.specs.Writing.{Writes};
 
-use crate::{Attribute, write_bytes, write_text};
+use crate::{Attribute, write_text};
 use byte_edge::{Failed, Sink};
+use piece_text::write_bytes;
 
 /// Writes the start of an element, or an element that can have nothing within it.
 pub fn write_start<K: Sink>(

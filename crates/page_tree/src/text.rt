@@ -1,11 +1,11 @@
 // A text.
 ghost use Rattle.std.specs.Prelude.{◌≡◌};
 ghost use Rattle.page_tree.specs.Print.{entity, escaped, shown};
-ghost use Rattle.page_tree.specs.Writing.{Writes};
+ghost use Rattle.piece_text.specs.Writing.{Writes};
 
-use crate::write_bytes;
 use bstr::ByteSlice;
 use byte_edge::{Failed, Sink};
+use piece_text::write_bytes;
 
 /// Writes a text with its entities. Bytes that are no UTF-8 are written as the replacement sign.
 pub fn write_text<K: Sink>(text: &[u8], sink: &mut K) -> Result<(), Failed>

@@ -3,8 +3,9 @@ use Rattle.std.specs.List.{flat_map}
 use Rattle.std.proofs.lemmas.List.{take_all}
 use Rattle.page_tree.specs.declared.attribute.Attribute.{Attribute as Given}
 use Rattle.page_tree.specs.Print.{attribute_text}
-use Rattle.page_tree.specs.Writing.{Wrote, Writes, as_given}
-use Rattle.page_tree.proofs.Written.{wrote_nothing, wrote_more, stopped_at, flat_map-map}
+use Rattle.page_tree.specs.Given.{as_given}
+use Rattle.piece_text.specs.Writing.{Wrote, Writes}
+use Rattle.piece_text.proofs.Written.{wrote_nothing, wrote_more, stopped_at, flat_map-map}
 use Rattle.page_tree.proofs.tags.write_attributes.Goals as goal
 
 pub loop-attribute-init : goal.loop-attribute-init

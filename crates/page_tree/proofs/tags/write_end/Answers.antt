@@ -1,4 +1,4 @@
-use Rattle.page_tree.proofs.Written.{later, stops}
+use Rattle.piece_text.proofs.Written.{later, stops}
 use Rattle.page_tree.proofs.tags.write_end.Goals as goal
 
 pub returns-in_err-write_bytes : goal.returns-in_err-write_bytes

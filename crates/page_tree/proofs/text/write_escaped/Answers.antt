@@ -2,8 +2,8 @@ use Rattle.std.proofs.Common.{subst, ℕ, List}
 use Rattle.std.specs.List.{flat_map}
 use Rattle.std.proofs.lemmas.List.{take_all}
 use Rattle.page_tree.specs.Print.{entity, escaped}
-use Rattle.page_tree.specs.Writing.{Wrote}
-use Rattle.page_tree.proofs.Written.{wrote_nothing, wrote_more, stopped_at}
+use Rattle.piece_text.specs.Writing.{Wrote}
+use Rattle.piece_text.proofs.Written.{wrote_nothing, wrote_more, stopped_at}
 use Rattle.page_tree.proofs.text.write_escaped.Goals as goal
 
 pub loop-byte-init : goal.loop-byte-init

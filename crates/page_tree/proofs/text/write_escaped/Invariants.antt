@@ -1,7 +1,7 @@
 use Rattle.std.proofs.Common.{take}
 use Rattle.std.specs.List.{flat_map}
 use Rattle.page_tree.specs.Print.{entity}
-use Rattle.page_tree.specs.Writing.{Wrote}
+use Rattle.piece_text.specs.Writing.{Wrote}
 use Rattle.page_tree.proofs.text.write_escaped.Given as goal
 
 abbrev pub invariant-loop-byte : goal.invariant-loop-byte

@@ -1,7 +1,7 @@
 use Rattle.std.proofs.Common.{◌≡◌, ◌∙◌, ℕ, List, [], ◌++◌, sym, ap, subst, append_assoc, append-nil, encode_utf8, encode_utf8_all}
 use Rattle.page_tree.specs.Print.{escaped, readable}
-use Rattle.page_tree.specs.Writing.{Wrote, Stopped, Writes}
-use Rattle.page_tree.proofs.Written.{wrote_nothing, wrote_later, stopped_later, stops}
+use Rattle.piece_text.specs.Writing.{Wrote, Stopped, Writes}
+use Rattle.piece_text.proofs.Written.{wrote_nothing, wrote_later, stopped_later, stops}
 use Rattle.page_tree.proofs.TextLemmas.{escaped-nil, escaped-append}
 use Rattle.page_tree.proofs.text.write_text.Goals as goal
 

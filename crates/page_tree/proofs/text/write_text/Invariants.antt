@@ -1,6 +1,6 @@
 use Rattle.std.proofs.Common.{◌≡◌, ℕ, List, ◌++◌, length, encode_utf8_all}
 use Rattle.page_tree.specs.Print.{escaped, readable}
-use Rattle.page_tree.specs.Writing.{Wrote}
+use Rattle.piece_text.specs.Writing.{Wrote}
 use Rattle.page_tree.proofs.text.write_text.Given as goal
 
 -- these bytes of the text were written, and those of the other characters are still to come

@@ -8,7 +8,7 @@ use Rattle.std.proofs.lemmas.List.{take_more, take-append-drop}
 use Rattle.std.proofs.lemmas.List.Concat.{flat_map-append}
 use Rattle.byte_edge.specs.Bytes.{AppendsFront}
 use Rattle.byte_edge.specs.Faults.{CountsFault}
-use Rattle.page_tree.specs.Writing.{Wrote, Stopped, Writes}
+use Rattle.piece_text.specs.Writing.{Wrote, Stopped, Writes}
 
 pub wrote_nothing : {S : Type 0} (w : S → Option (List ℕ)) (f : S → ℕ) (a : S) → Wrote w f a a []
 wrote_nothing w f a = record { whole = Appends-nil (w a); calm = refl }

@@ -1,10 +1,8 @@
 -- What a call did that hands bytes to a sink.
-use Rattle.std.specs.Prelude.{◌≡◌, ℕ, List, Option, Result, Ok, Err, map}
+use Rattle.std.specs.Prelude.{◌≡◌, ℕ, List, Option, Result, Ok, Err}
 use Rattle.std.specs.Io.KnownBytes.{Appends}
 use Rattle.byte_edge.specs.Bytes.{AppendsFront}
 use Rattle.byte_edge.specs.Faults.{Rose}
-use Rattle.page_tree.specs.declared.attribute.Attribute.{Attribute as Given}
-use Rattle.page_tree.specs.Trees.{Attribute}
 
 -- all the bytes were appended, and no fault was counted
 pub record Wrote {S : Type 0} (written : S → Option (List ℕ)) (faults : S → ℕ) (old new : S) (bytes : List ℕ) : Type 0 where
@@ -20,10 +18,3 @@ pub record Stopped {S : Type 0} (written : S → Option (List ℕ)) (faults : S 
 abbrev pub Writes : {S T E : Type 0} → (S → Option (List ℕ)) → (S → ℕ) → S → S → List ℕ → Result T E → Type 0
 Writes written faults old new bytes (Ok value) = Wrote written faults old new bytes
 Writes written faults old new bytes (Err stop) = Stopped written faults old new bytes
-
--- an attribute that is given as borrowed bytes
-abbrev pub as_given : Given → Attribute
-as_given attribute = record { name = attribute.name.now; value = attribute.value.now }
-
-abbrev pub given : List Given → List Attribute
-given attributes = map as_given attributes
