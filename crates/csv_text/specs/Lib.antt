@@ -1,0 +1,3 @@
+pub mod Csv
+pub mod Reading
+pub mod Laws
