@@ -1,6 +1,6 @@
 -- Draws under way, and what holds of a whole draw.
-use Rattle.std.proofs.Common.{◌≡◌, ◌≢◌, refl, sym, ap, subst, ◌∙◌, not, ℕ, ◌+◌, ◌-◌, ◌%◌, ◌<◌, ◌≤◌, zero, suc, Bool, true, false, eqb, List, [], ◌∷◌, ◌++◌, length, take, get_or, All, Contains, arith, inl, inr, length-append, length-take}
-use Rattle.std.specs.List.{filter, list_any, remove, range_with_len, Any}
+use Rattle.std.proofs.Common.{◌≡◌, ◌≢◌, refl, sym, ap, subst, ◌∙◌, not, ℕ, ◌+◌, ◌-◌, ◌<◌, ◌≤◌, zero, suc, Bool, true, eqb, List, [], ◌∷◌, ◌++◌, length, take, get_or, All, Contains, arith, inl, inr, length-append, length-take}
+use Rattle.std.specs.List.{remove, range_with_len, Any}
 use Rattle.std.proofs.Math.Seq.{take-suc, take-append_seam, get_or-append_seam}
 use Rattle.std.proofs.lemmas.Bool.{eq-eqb, eqb-true, cases_Bool, cases_lt, cases_order, false≢true}
 use Rattle.std.proofs.lemmas.List.{take_all, take-append-le, get_or-take, get_or_append_left, get_or_default}

@@ -1,9 +1,9 @@
 -- A list of just one number.
-use Rattle.std.proofs.Common.{◌≡◌, ◌∙◌, refl, sym, ap, subst, ℕ, ◌≤◌, List, [], ◌∷◌, length, map, get_or, arith}
+use Rattle.std.proofs.Common.{◌≡◌, ◌∙◌, refl, sym, ap, subst, ℕ, List, [], ◌∷◌, length, map, get_or, arith}
 use Rattle.std.specs.Prelude.{All}
 use Rattle.std.specs.List.{join_with_byte}
 use Rattle.std.proofs.lemmas.List.Elements.{All-head, All-cons, All-nil}
-use Rattle.meek_words.specs.Numerals.{Word, IsNumeral, IsNumeralUpTo, IsLotList, number_of}
+use Rattle.meek_words.specs.Numerals.{Word, IsNumeral, IsLotList, number_of}
 
 -- a numeral is such a list
 pub list-of_one : (word : Word) → IsNumeral word → IsLotList word (number_of word ∷ [])

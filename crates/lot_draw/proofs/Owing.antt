@@ -1,17 +1,17 @@
 -- What the tool owes, and how it ends.
-use Rattle.std.proofs.Common.{◌≡◌, ◌∙◌, refl, sym, ap, subst, ℕ, ◌≤◌, ◌<◌, List, length, get_or, arith, inl, inr}
+use Rattle.std.proofs.Common.{◌≡◌, refl, sym, subst, ℕ, ◌≤◌, List, arith, inl, inr}
 use Rattle.std.specs.Prelude.{All, Option}
 use Rattle.std.proofs.KnownBytes.{Keeps-refl}
 use Rattle.std.proofs.lemmas.List.Elements.{All-from_get_or}
 use Rattle.lot_order.specs.Lots.{IsOrder}
-use Rattle.meek_words.specs.Numerals.{Word, number_of}
+use Rattle.meek_words.specs.Numerals.{Word}
 use Rattle.meek_words.specs.declared.words_stop.WordsStop.{WordsStop}
 use Rattle.meek_words.specs.declared.words_stop.WordsStop.TheVariants.{BadWords as BadWordsStop, NoMemory as NoWordsRead}
 use Rattle.tool_edge.specs.declared.end.End.{End}
-use Rattle.tool_edge.specs.declared.end.End.TheVariants.{Done, BadWords, NoMemory}
+use Rattle.tool_edge.specs.declared.end.End.TheVariants.{Done, BadWords}
 use Rattle.tool_edge.specs.Refusals.{words_line}
 use Rattle.tool_edge.specs.Streams.{Writing, NothingWritten, writing}
-use Rattle.tool_edge.specs.Finishing.{Finishes, FinishesOwed, RefusesWords, Answers}
+use Rattle.tool_edge.specs.Finishing.{FinishesOwed, RefusesWords, Answers}
 use Rattle.tool_edge.specs.Tool.{IsOwedForWords}
 use Rattle.tool_edge.proofs.Ending.{OwesAnswers, finished, answered}
 use Rattle.lot_draw.specs.Words.{Asked, Says, TakesDraw}

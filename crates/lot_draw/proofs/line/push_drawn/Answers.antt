@@ -1,4 +1,4 @@
-use Rattle.std.proofs.Common.{◌≡◌, ◌∙◌, sym, ap, ℕ, List, ◌++◌, get_or, arith}
+use Rattle.std.proofs.Common.{◌∙◌, sym, ap, ℕ, List, ◌++◌, get_or, arith}
 use Rattle.lot_draw.specs.DrawnLine.{behind}
 use Rattle.lot_draw.proofs.Joined.{joined-more}
 use Rattle.lot_draw.proofs.line.push_drawn.Goals as goal

@@ -1,4 +1,4 @@
-use Rattle.std.proofs.Common.{refl, ap}
+use Rattle.std.proofs.Common.{ap}
 use Rattle.std.specs.Prelude.{Err}
 use Rattle.meek_words.specs.declared.words_stop.WordsStop.{WordsStop}
 use Rattle.lot_draw.proofs.Owing.{asked-few, drawn_answers, refused_answers, owed_alike}

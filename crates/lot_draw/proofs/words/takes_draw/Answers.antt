@@ -2,7 +2,7 @@ use Rattle.std.proofs.Common.{◌≡◌, ◌∙◌, sym, ap, subst, List, map, l
 use Rattle.std.specs.String.{string_bytes}
 use Rattle.std.proofs.lemmas.Bool.{false≢true}
 use Rattle.meek_words.specs.Numerals.{Word}
-use Rattle.lot_draw.specs.Words.{Asked, AreOptions, TakesDraw}
+use Rattle.lot_draw.specs.Words.{AreOptions, TakesDraw}
 use Rattle.lot_draw.proofs.WordLemmas.{four_items, four_alike, taken, refused, neither}
 use Rattle.lot_draw.proofs.words.takes_draw.Goals as goal
 
