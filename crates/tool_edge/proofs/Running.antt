@@ -5,6 +5,8 @@ use Rattle.std.proofs.lemmas.List.{append-nil}
 use Rattle.std.specs.Io.KnownBytes.{Appends, Consumes, IsAtEnd}
 use Rattle.byte_edge.specs.Bytes.{IsLongerThan}
 use Rattle.blt_reader.specs.declared.input_fault.InputFault.{InputFault}
+use Rattle.blt_reader.specs.declared.blt_stop.BltStop.{BltStop}
+use Rattle.blt_reader.specs.declared.blt_stop.BltStop.TheVariants.{Fault, NoMemory as NoInputRead}
 use Rattle.meek_words.specs.Numerals.{Word}
 use Rattle.meek_words.specs.declared.words_stop.WordsStop.{WordsStop}
 use Rattle.meek_words.specs.declared.words_stop.WordsStop.TheVariants.{BadWords as BadWordsStop, NoMemory as NoWordsRead}
@@ -12,7 +14,7 @@ use Rattle.tool_edge.specs.declared.end.End.{End}
 use Rattle.tool_edge.specs.declared.end.End.TheVariants.{Done, SourceFault, BadWords, BadInput, SinkFault, NoMemory}
 use Rattle.tool_edge.specs.Streams.{Reading, Writing, writing, NoReadFailed, NoWriteFailed, NothingRead}
 use Rattle.tool_edge.specs.Refusals.{fault_line, words_line}
-use Rattle.tool_edge.specs.Finishing.{Finishes, FinishesOwed}
+use Rattle.tool_edge.specs.Finishing.{Finishes, FinishesOwed, RefusesInput}
 use Rattle.tool_edge.specs.Words.{IsAsked}
 use Rattle.tool_edge.specs.Opening.{too_long, ReadsAll, StopsReading, StopsOpening}
 use Rattle.tool_edge.specs.Tool.{Tool, IsRefused, IsOwedFor, IsOwedAt, IsOwed, IsAnswered, IsReadFor, IsAcceptedRun, IsRun, IsSound}
@@ -186,3 +188,12 @@ module _ {A : Type 0} (tool : Tool A) where
       let of_items = subst (λ (i : List ℕ). FinishesOwed (IsOwedFor tool asked i) end (writing written faults mid new)) same_bytes of_asked in
       let from_old = subst (λ (k : K). FinishesOwed (IsOwedFor tool asked items) end (writing written faults k new)) untouched of_items in
       worked words asked items end source (writing written faults old new) sound taken reads from_old
+
+  -- An input that is no input of this tool was answered by its line, or memory was wanted.
+  pub refused :
+      (asked : A) (input : List ℕ) (stop : BltStop) (end : End) (sink : Writing) → length input ≤ tool.limit
+      → ((fault : InputFault) → stop ≡ Fault fault → tool.Refuses asked input fault) → RefusesInput stop end sink
+      → FinishesOwed (IsOwedFor tool asked input) end sink
+  refused asked input (Fault fault) end sink short refuses finishes =
+      inr (BadInput fault, fault_line fault, (inr (short, refuses fault refl), refl), finishes)
+  refused asked input NoInputRead end sink short refuses finishes = inl finishes
