@@ -1,0 +1,4 @@
+mod PaidLemmas
+mod PayLemmas
+mod SiblingLemmas
+mod TallyLemmas
