@@ -1,0 +1,12 @@
+mod Cuts
+mod Decisions
+mod Digits
+mod LineLemmas
+mod LineLists
+mod LineParts
+mod Places
+mod ReadRows
+mod ReadSheet
+mod RowLines
+mod SheetLines
+mod WordLines

@@ -1,0 +1,81 @@
+// How a sheet begins.
+ghost use Rattle.std.specs.Prelude.{◌≡◌, ◌≢◌, ◌<◌, ◌≤◌, ◌^◌, ◌∷◌, ◌++◌, ℕ, List, codes, decimal, MatchOption, MatchResult};
+ghost use Rattle.candidate_roll.specs.Name.{IsName};
+ghost use Rattle.candidate_roll.specs.Roll.{IsFew};
+ghost use Rattle.sheet_reader.specs.Parts.{count_lines};
+ghost use Rattle.sheet_reader.specs.Refusal.{Stops};
+
+use crate::SheetStop;
+use crate::lines::Lines;
+use crate::number::read_count;
+use candidate_roll::{Name, NameStop};
+use std::alloc::Global;
+
+/// The title of a sheet.
+pub(crate) fn read_title(alloc: Global, lines: &mut Lines<'_>) -> Result<Name<1000>, SheetStop>
+    ensures { MatchResult result
+        (λ title. IsName 1000 title × (lines.old ≡ (codes "title " ++ title) ∷ lines.new))
+        (λ stop. Stops stop ((title : List ℕ) (rest : List (List ℕ)) → IsName 1000 title
+        → lines.old ≢ (codes "title " ++ title) ∷ rest)) }
+{
+    let Some(title) = lines.next_after(b"title ") else {
+        return Err(SheetStop::Malformed);
+    };
+    read_name(alloc, title)
+}
+
+/// A name or a title of these bytes.
+pub(crate) fn read_name<const MAX: usize>(
+    alloc: Global,
+    bytes: &[u8],
+) -> Result<Name<MAX>, SheetStop>
+    ensures { MatchResult result
+        (λ name. (name ≡ bytes.now) × IsName MAX name)
+        (λ stop. Stops stop (¬ (IsName MAX bytes.now))) }
+{
+    match Name::try_new(alloc, bytes) {
+        Ok(name) => Ok(name),
+        Err(NameStop::NoMemory) => Err(SheetStop::NoMemory),
+        Err(_) => Err(SheetStop::Malformed),
+    }
+}
+
+/// The numbers of seats, candidates and ballots.
+pub(crate) fn read_counts(lines: &mut Lines<'_>) -> Option<(u32, u32, u32)>
+    ensures { MatchOption result
+        ((seats candidates ballots : ℕ) (rest : List (List ℕ)) → IsFew seats → IsFew candidates → ballots ≤ 999999999
+        → lines.old ≢ count_lines seats candidates ballots ++ rest)
+        (λ n. IsFew n.0 × IsFew n.1 × (n.2 ≤ 999999999) × (lines.old ≡ count_lines n.0 n.1 n.2 ++ lines.new)) }
+{
+    let Some(seats) = read_number(lines, b"seats ", 1, 250) else {
+        return None;
+    };
+    let Some(candidates) = read_number(lines, b"candidates ", 1, 250) else {
+        return None;
+    };
+    let Some(ballots) = read_number(lines, b"ballots ", 0, 999_999_999) else {
+        return None;
+    };
+    Some((seats, candidates, ballots))
+}
+
+/// A line of a word, which brings its space, and a number within these bounds.
+fn read_number(lines: &mut Lines<'_>, word: &[u8], least: u32, most: u32) -> Option<u32>
+    ensures { MatchOption result
+        ((n : ℕ) (rest : List (List ℕ)) → least ≤ n → n ≤ most → lines.old ≢ (word.now ++ decimal n) ∷ rest)
+        (λ n. (least ≤ n) × (n ≤ most) × (lines.old ≡ (word.now ++ decimal n) ∷ lines.new)) }
+{
+    let Some(text) = lines.next_after(word) else {
+        return None;
+    };
+    let Some(n) = read_count(text) else {
+        return None;
+    };
+    if n < least as u64 {
+        return None;
+    }
+    if n > most as u64 {
+        return None;
+    }
+    Some(n as u32)
+}

@@ -1,0 +1,27 @@
+//! A sheet as it is read: [`read_sheet`] gives the values that a text writes, where it is the text of a
+//! sheet at all.
+#![tactic(auto)]
+
+mod cut;
+mod decision;
+mod head;
+mod lines;
+mod list;
+mod number;
+mod outcomes;
+mod push_back;
+mod row_list;
+mod row_reader;
+mod sheet;
+mod sheet_stop;
+mod sheet_values;
+mod standing;
+
+pub use list::read_list;
+pub use number::{read_count, read_units};
+pub use push_back::PushBack;
+pub use row_list::RowList;
+pub use sheet::read_sheet;
+pub use sheet_stop::SheetStop;
+pub use sheet_values::SheetValues;
+pub use standing::{Standing, read_standing};

@@ -1,0 +1,80 @@
+// The iterations of a sheet.
+ghost use Rattle.std.specs.Prelude.{◌≡◌, ◌<◌, ◌↔◌, [], ◌∷◌, ◌++◌, length, reverse, slice_get, IfErr, IfNone, IfSome, IsNone, OnErr, OnOk};
+
+use crate::PushBack;
+use meek_rule::Row;
+use std::alloc::Global;
+use std::marker::Model;
+
+/// Iterations in the order in which they were made.
+#[derive(Debug, Drop)]
+pub struct RowList {
+    list: Vec<Row<9>>,
+}
+
+impl Model for RowList {
+    ghost use Rattle.std.specs.Prelude.{List};
+    ghost use Rattle.meek_rule.specs.Row.{Row};
+
+    ghost Value = { List Row };
+
+    ghost view = { λ rows. rows.list.items };
+}
+
+impl RowList {
+    /// No iterations. The allocator serves each later `push`.
+    pub fn new(alloc: Global) -> RowList
+        ensures { result ≡ [] }
+    {
+        RowList {
+            list: Vec::new(alloc),
+        }
+    }
+
+    /// Puts an iteration behind the others.
+    pub fn push(&mut self, item: Row<9>) -> Result<(), PushBack<Row<9>>>
+        ensures ok { OnOk result (self.new ≡ self.old ++ item ∷ []) }
+        ensures refused { OnErr result (self.new ≡ self.old) }
+        ensures handed_back { IfErr result (λ back. back.item ≡ item) }
+    {
+        match self.list.push(item) {
+            Ok(()) => Ok(()),
+            Err(failed) => Err(PushBack { item: failed.value }),
+        }
+    }
+
+    /// Takes the last iteration out.
+    pub fn pop(&mut self) -> Option<Row<9>>
+        ensures last { IfSome result (λ item. self.old ≡ self.new ++ item ∷ []) }
+        ensures empty { IsNone result ↔ (self.old ≡ []) }
+        ensures kept { IfNone result (self.new ≡ self.old) }
+    {
+        self.list.pop()
+    }
+
+    /// Turns the order round.
+    pub fn reverse(&mut self)
+        ensures { self.new ≡ reverse self.old }
+    {
+        self.list.reverse();
+    }
+
+    pub fn len(&self) -> usize
+        ensures { result ≡ length self.now }
+    {
+        self.list.len()
+    }
+
+    pub fn items(&self) -> &[Row<9>]
+        ensures { result.now ≡ self.now }
+    {
+        self.list.as_slice()
+    }
+
+    pub fn get(&self, i: usize) -> &Row<9>
+        requires { i < length self.now }
+        ensures { slice_get self.now i ≡ Some result.now }
+    {
+        &self.list[i]
+    }
+}

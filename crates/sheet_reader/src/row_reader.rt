@@ -1,0 +1,174 @@
+// An iteration in a sheet.
+ghost use Rattle.std.specs.Prelude.{◌≡◌, ◌≢◌, ◌<◌, ◌≤◌, ◌^◌, ◌∷◌, ◌++◌, ℕ, List, All, codes, decimal, length, MatchBool, MatchOption};
+ghost use Rattle.candidate_roll.specs.declared.state.State.{State};
+ghost use Rattle.fixed_place.specs.Rounding.{most, scale};
+ghost use Rattle.fixed_place.specs.Text.{text_of};
+ghost use Rattle.meek_rule.specs.Row.{HasRoomFor};
+ghost use Rattle.sheet_text.specs.Lines.{row_lines};
+ghost use Rattle.sheet_reader.specs.Cut.{standing_line};
+ghost use Rattle.sheet_reader.specs.Form.{IsPrintableRow};
+ghost use Rattle.sheet_reader.specs.Parts.{NoRow, ReadsStanding, amount_lines_of, number_line_of, standing_lines};
+
+use crate::cut::{cut, strip};
+use crate::decision::read_decision;
+use crate::lines::Lines;
+use crate::number::{read_count, read_units};
+use crate::standing::read_standing;
+use candidate_roll::States;
+use fixed_place::{Amount, Amounts, Keep, Keeps};
+use line_text::Line;
+use meek_rule::Row;
+
+/// Reads an iteration into a row that has room for all candidates; whether there is one.
+pub(crate) fn read_row(lines: &mut Lines<'_>, line: &mut Line, row: &mut Row<9>) -> bool
+    requires room { HasRoomFor (length row.old.states) row.old }
+    requires few { length row.old.states ≤ 250 }
+    ensures { MatchBool result
+        (IsPrintableRow 9 (length row.old.states) row.new × (lines.old ≡ row_lines 9 row.new ++ lines.new))
+        (NoRow (length row.old.states) lines.old) }
+{
+    let Some((round, iteration)) = read_numbers(lines) else {
+        return false;
+    };
+    if !read_standings(lines, line, &mut row.states, &mut row.keeps, &mut row.votes) {
+        return false;
+    }
+    let Some((total, quota, surplus)) = read_amounts(lines, line) else {
+        return false;
+    };
+    let Some(step) = read_decision(lines, &mut row.elected, &mut row.capped, &mut row.tied) else {
+        return false;
+    };
+    row.round = round;
+    row.iteration = iteration;
+    row.total = total;
+    row.quota = quota;
+    row.surplus = surplus;
+    row.step = step;
+    true
+}
+
+/// The numbers of the round and of the iteration.
+fn read_numbers(lines: &mut Lines<'_>) -> Option<(u32, u64)>
+    ensures { MatchOption result
+        ((round iteration : ℕ) (rest : List (List ℕ)) → round < 2 ^ 32 → iteration < 2 ^ 64
+        → lines.old ≢ number_line_of round iteration ∷ rest)
+        (λ n. (n.0 < 2 ^ 32) × (n.1 < 2 ^ 64) × (lines.old ≡ number_line_of n.0 n.1 ∷ lines.new)) }
+{
+    let Some(text) = lines.next_after(b"round ") else {
+        return None;
+    };
+    let Some((round, rest)) = cut(text, b' ') else {
+        return None;
+    };
+    let Some(iteration) = strip(rest, b"iteration ") else {
+        return None;
+    };
+    let Some(round) = read_count(round) else {
+        return None;
+    };
+    let Some(iteration) = read_count(iteration) else {
+        return None;
+    };
+    if round > u32::MAX as u64 {
+        return None;
+    }
+    Some((round as u32, iteration))
+}
+
+/// The states, keep values and votes of all candidates.
+fn read_standings(
+    lines: &mut Lines<'_>,
+    line: &mut Line,
+    states: &mut States,
+    keeps: &mut Keeps<9>,
+    votes: &mut Amounts<9>,
+) -> bool
+    requires few { length states.old ≤ 250 }
+    requires keeps { length keeps.old ≡ length states.old }
+    requires votes { length votes.old ≡ length states.old }
+    ensures states { length states.new ≡ length states.old }
+    ensures keeps { length keeps.new ≡ length states.old }
+    ensures votes { length votes.new ≡ length states.old }
+    ensures read { MatchBool result
+        (All (λ keep. keep ≤ scale 9) keeps.new × All (λ vote. vote ≤ most 9) votes.new
+        × (lines.old ≡ standing_lines 9 (length states.old) states.new keeps.new votes.new ++ lines.new))
+        ((s : List State) (k v : List ℕ) (rest : List (List ℕ)) → length k ≡ length states.old → length v ≡ length states.old
+        → All (λ keep. keep ≤ scale 9) k → All (λ vote. vote ≤ most 9) v
+        → lines.old ≢ standing_lines 9 (length states.old) s k v ++ rest) }
+{
+    for p in 0..states.len() {
+        if !read_standing_into(lines, line, p, states, keeps, votes) {
+            return false;
+        }
+    }
+    let _bounds = (keeps.len(), votes.len());
+    true
+}
+
+/// The state, keep value and vote of the candidate at place `p`.
+fn read_standing_into(
+    lines: &mut Lines<'_>,
+    line: &mut Line,
+    p: usize,
+    states: &mut States,
+    keeps: &mut Keeps<9>,
+    votes: &mut Amounts<9>,
+) -> bool
+    requires few { length states.old ≤ 250 }
+    requires place { p < length states.old }
+    requires keeps { length keeps.old ≡ length states.old }
+    requires votes { length votes.old ≡ length states.old }
+    ensures states { length states.new ≡ length states.old }
+    ensures keeps { length keeps.new ≡ length states.old }
+    ensures votes { length votes.new ≡ length states.old }
+    ensures read { MatchBool result
+        (ReadsStanding 9 p states.old keeps.old votes.old states.new keeps.new votes.new lines.old lines.new)
+        ((s : State) (k v : ℕ) (rest : List (List ℕ)) → k ≤ scale 9 → v ≤ most 9 → lines.old ≢ standing_line 9 p s k v ∷ rest) }
+{
+    let Some(text) = lines.next() else {
+        return false;
+    };
+    let Some(standing) = read_standing::<9>(line, text, p) else {
+        return false;
+    };
+    states.set(p, standing.state);
+    keeps.set(p, Keep::from_units(standing.keep));
+    votes.set(p, Amount::from_units(standing.vote));
+    true
+}
+
+/// The total of the votes, the quota and the surplus.
+fn read_amounts(lines: &mut Lines<'_>, line: &mut Line) -> Option<(Amount<9>, Amount<9>, Amount<9>)>
+    ensures { MatchOption result
+        ((total quota surplus : ℕ) (rest : List (List ℕ)) → total ≤ most 9 → quota ≤ most 9 → surplus ≤ most 9
+        → lines.old ≢ amount_lines_of 9 total quota surplus ++ rest)
+        (λ a. (a.0 ≤ most 9) × (a.1 ≤ most 9) × (a.2 ≤ most 9)
+        × (lines.old ≡ amount_lines_of 9 a.0 a.1 a.2 ++ lines.new)) }
+{
+    let Some(total) = read_amount(lines, line, b"total ") else {
+        return None;
+    };
+    let Some(quota) = read_amount(lines, line, b"quota ") else {
+        return None;
+    };
+    let Some(surplus) = read_amount(lines, line, b"surplus ") else {
+        return None;
+    };
+    Some((total, quota, surplus))
+}
+
+/// A line of a word, which brings its space, and an amount.
+fn read_amount(lines: &mut Lines<'_>, line: &mut Line, word: &[u8]) -> Option<Amount<9>>
+    ensures { MatchOption result
+        ((u : ℕ) (rest : List (List ℕ)) → u ≤ most 9 → lines.old ≢ (word.now ++ text_of 9 u) ∷ rest)
+        (λ a. (a ≤ most 9) × (lines.old ≡ (word.now ++ text_of 9 a) ∷ lines.new)) }
+{
+    let Some(text) = lines.next_after(word) else {
+        return None;
+    };
+    let Some(units) = read_units::<9>(line, text) else {
+        return None;
+    };
+    Some(Amount::from_units(units))
+}

@@ -1,0 +1,79 @@
+// A sheet as a whole.
+ghost use Rattle.std.specs.Prelude.{◌≡◌, ◌≤◌, ◌∷◌, ◌++◌, All, codes, MatchResult};
+ghost use Rattle.sheet_reader.specs.Form.{HasForm, IsPrintableRow};
+ghost use Rattle.sheet_reader.specs.Parts.{NoRows, rows_lines};
+ghost use Rattle.sheet_reader.specs.Refusal.{Stops};
+ghost use Rattle.sheet_reader.specs.Values.{SheetList};
+
+use crate::head::{read_counts, read_title};
+use crate::lines::{Lines, is_ended};
+use crate::outcomes::read_outcomes;
+use crate::row_reader::read_row;
+use crate::{RowList, SheetStop, SheetValues};
+use line_text::Line;
+use meek_rule::Row;
+use std::alloc::Global;
+
+/// The values of which a text is the sheet, at nine places.
+pub fn read_sheet(alloc: Global, bytes: &[u8]) -> Result<SheetValues, SheetStop>
+    ensures { MatchResult result
+        (λ values. HasForm 9 bytes.now values)
+        (λ stop. Stops stop ((values : SheetList) → ¬ (HasForm 9 bytes.now values))) }
+{
+    if !is_ended(bytes) {
+        return Err(SheetStop::Malformed);
+    }
+    let mut lines = Lines::new(bytes);
+    let title = match read_title(alloc, &mut lines) {
+        Ok(title) => title,
+        Err(stop) => return Err(stop),
+    };
+    let Some((seats, candidates, ballots)) = read_counts(&mut lines) else {
+        return Err(SheetStop::Malformed);
+    };
+    let rows = match read_rows(alloc, &mut lines, candidates) {
+        Ok(rows) => rows,
+        Err(stop) => return Err(stop),
+    };
+    let (last, names) = match read_outcomes(alloc, &mut lines, candidates as usize) {
+        Ok(outcomes) => outcomes,
+        Err(stop) => return Err(stop),
+    };
+    if !lines.skips(b"end") {
+        return Err(SheetStop::Malformed);
+    }
+    match lines.next() {
+        None => Ok(SheetValues {
+            title,
+            seats,
+            ballots: ballots as u64,
+            names,
+            rows,
+            last,
+        }),
+        Some(_) => Err(SheetStop::Malformed),
+    }
+}
+
+/// All iterations of so many candidates, up to the line of the result.
+fn read_rows(alloc: Global, lines: &mut Lines<'_>, candidates: u32) -> Result<RowList, SheetStop>
+    requires few { candidates ≤ 250 }
+    ensures { MatchResult result
+        (λ rows. All (IsPrintableRow 9 candidates) rows × (lines.old ≡ rows_lines 9 rows ++ codes "result" ∷ lines.new))
+        (λ stop. Stops stop (NoRows candidates lines.old)) }
+{
+    let mut rows = RowList::new(alloc);
+    let mut line = Line::new();
+    while !lines.skips(b"result") {
+        let Ok(mut row) = Row::new(alloc, candidates) else {
+            return Err(SheetStop::NoMemory);
+        };
+        if !read_row(lines, &mut line, &mut row) {
+            return Err(SheetStop::Malformed);
+        }
+        let Ok(()) = rows.push(row) else {
+            return Err(SheetStop::NoMemory);
+        };
+    }
+    Ok(rows)
+}
