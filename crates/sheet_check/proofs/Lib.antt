@@ -1,0 +1,3 @@
+mod Differences
+mod FirstDifferences
+mod Verdicts

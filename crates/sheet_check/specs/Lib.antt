@@ -1,0 +1,4 @@
+pub mod Difference
+pub mod Comparison
+pub mod Judged
+pub mod Laws
