@@ -6,7 +6,7 @@ use Rattle.std.proofs.lemmas.Bool.{cases_Bool}
 use Rattle.std.proofs.lemmas.Bool.Decides.{eqb_tells}
 use Rattle.std.proofs.lemmas.List.Elements.{All-head, All-tail}
 use Rattle.csv_text.specs.Csv.{is_mark, within_quotes, quoted, field_text, record_text, csv_text}
-use Rattle.csv_text.specs.Reading.{Place, Outside, Within, BehindQuote, read}
+use Rattle.csv_text.specs.Reading.{Outside, Within, BehindQuote, read}
 
 or_parts : (a b : Bool) → (a || b) ≡ false → (a ≡ false) × (b ≡ false)
 or_parts true b h = absurd (cc)

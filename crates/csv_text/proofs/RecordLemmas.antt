@@ -1,5 +1,5 @@
 -- A record as it is written.
-use Rattle.std.proofs.Common.{◌≡◌, sym, ap, ◌∙◌, ℕ, List, [], ◌∷◌, ◌++◌, append_assoc, append-nil, map, refl}
+use Rattle.std.proofs.Common.{◌≡◌, sym, ap, ◌∙◌, ℕ, List, [], ◌∷◌, ◌++◌, append_assoc, append-nil, map}
 use Rattle.std.specs.List.{flat_map, join_with_byte}
 use Rattle.std.specs.Borrow.{Bor}
 use Rattle.csv_text.specs.Csv.{behind_comma, field_text, record_text}

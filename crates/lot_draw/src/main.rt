@@ -15,15 +15,11 @@ use byte_edge::StdSink;
 pub use draw::draw_lots;
 pub use laws::draw_laws;
 pub use line::push_drawn;
-use std::env;
 use std::io::{self, BufWriter};
 use std::process::ExitCode;
 pub use tool::draw_in_public;
-use tool_edge::End;
+use tool_edge::{End, NO_WORDS, words_of};
 pub use words::takes_draw;
-
-/// What the program ends with where the system gave it no words.
-const NO_WORDS: u8 = 6;
 
 fn main(rt: HostRuntime) -> ExitCode {
     let Ok(words) = words_of(&rt) else {
@@ -35,13 +31,4 @@ fn main(rt: HostRuntime) -> ExitCode {
     let mut sink = StdSink::new(writer);
     let end = draw_in_public(rt.alloc(), words.as_slice(), &mut sink);
     ExitCode::from(end.code())
-}
-
-/// The words behind the program's name.
-fn words_of(rt: &HostRuntime) -> io::Result<Vec<String>> {
-    let mut words = Vec::new(rt.alloc());
-    for word in env::args(rt)?.skip(1) {
-        words.push(word)?;
-    }
-    Ok(words)
 }

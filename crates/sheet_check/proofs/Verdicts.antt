@@ -1,5 +1,6 @@
 -- Each text has one verdict.
 use Rattle.std.proofs.Common.{◌≡◌, ℕ, List, refl, sym, ◌∙◌, ap, subst}
+use Rattle.meek_rule.specs.Rule.{Meek}
 use Rattle.sheet_text.specs.Laws.{EachElectionHasOneSheet}
 use Rattle.sheet_text.specs.Sheet.{IsSheet}
 use Rattle.sheet_check.specs.declared.verdict.Verdict.{Verdict}
@@ -18,7 +19,7 @@ one_verdict one places omega ballots roll lots bytes verdict other election is a
   where
     same : (text another : List ℕ) → IsSheet places omega ballots roll lots text → IsSheet places omega ballots roll lots another → text ≡ another
     same text another p q =
-        let only = (one places omega ballots roll lots election).2 in
+        let only = (one Meek places omega ballots roll lots election).2 in
         only text p ∙ sym (only another q)
 
     is_sheet_or_not : (text : List ℕ) (n : ℕ) → IsSheet places omega ballots roll lots bytes → IsSheet places omega ballots roll lots text → IsFirstDifference bytes text n → ⊥

@@ -2,6 +2,7 @@
 use Rattle.std.specs.Prelude.{ℕ, List, Option, Some, None}
 use Rattle.candidate_roll.specs.Roll.{RollList}
 use Rattle.meek_count.specs.Progress.{Progress}
+use Rattle.meek_rule.specs.Rule.{Meek}
 use Rattle.sheet_text.specs.Sheet.{IsSheet, IsSheetOf}
 use Rattle.sheet_reader.specs.Values.{SheetList}
 use Rattle.sheet_reader.specs.Form.{HasForm}
@@ -17,8 +18,8 @@ Compares places omega ballots roll lots bytes (Some n) =
 
 -- the same against the sheet of a count that was just begun
 abbrev pub DiffersFromSheetOf : (places : ℕ) → Progress → (bytes : List ℕ) → Option ℕ → Type 0
-DiffersFromSheetOf places count bytes None = IsSheetOf places count bytes
-DiffersFromSheetOf places count bytes (Some n) = (text : List ℕ) × IsSheetOf places count text × IsFirstDifference bytes text n
+DiffersFromSheetOf places count bytes None = IsSheetOf Meek places count bytes
+DiffersFromSheetOf places count bytes (Some n) = (text : List ℕ) × IsSheetOf Meek places count text × IsFirstDifference bytes text n
 
 -- whether a text with the form of a sheet is the sheet of this election, and else in which line it first differs
 abbrev pub IsVerdictOnSheet : (places omega : ℕ) → List (List ℕ) → RollList → (lots : List ℕ) → (bytes : List ℕ) → Verdict → Type 0
