@@ -9,14 +9,14 @@ use Rattle.blt_reader.specs.declared.input_fault.InputFault.{InputFault}
 use Rattle.batch_core.specs.declared.entry.Entry.{Entry}
 use Rattle.meek_cli.specs.declared.status.Status.{Status}
 use Rattle.meek_cli.specs.declared.status.Status.TheVariants.{Done, SourceFault, BadWords, BadInput, SinkFault, NoMemory}
-use Rattle.meek_cli.specs.declared.work.Work.{Work}
-use Rattle.meek_cli.specs.declared.work.Work.TheVariants.{Count, Day}
+use Rattle.meek_cli.specs.declared.file_work.FileWork.{FileWork}
+use Rattle.meek_cli.specs.declared.file_work.FileWork.TheVariants.{Count, Day}
 use Rattle.meek_cli.specs.Streams.{Reading, Writing, NoReadFailed}
 use Rattle.meek_cli.specs.Refusals.{fault_line}
 use Rattle.meek_cli.specs.DayHistory.{IsOfficeHistory}
-use Rattle.meek_cli.specs.Owed.{AsksForCount, AsksForDay, IsOwedForCount, IsOwedAt, IsOwedForDay, IsDayOwedAt, OwesDay, IsOwed}
-use Rattle.meek_cli.specs.Run.{IsRun, Finishes}
-use Rattle.meek_cli.specs.Work.{AsksFor, limit_of, FinishesWork}
+use Rattle.meek_cli.specs.Owed.{AsksForCount, AsksForDay, AsksForTrial, AsksForFile, IsOwedForCount, IsOwedAt, IsOwedForDay, IsDayOwedAt, OwesDay, IsOwedForTrial, IsOwed}
+use Rattle.meek_cli.specs.Run.{IsRun, Finishes, FinishesTrial}
+use Rattle.meek_cli.specs.Work.{AsksForFileWork, limit_of, FinishesWork}
 
 -- What is owed was written, or a front of it: so the run is one of the status that was answered.
 pub finished :
@@ -35,17 +35,22 @@ finished words source sink NoMemory history bytes status calm is (inl done) = ab
 finished words source sink due history bytes status calm is (inr (same, rose, front)) =
     subst (λ (s : Status). IsRun words source sink s history) (sym same) (calm, rose, (due, bytes, is, front))
 
+-- the work is done with an input
+pub asks_for_file : (words : List (List ℕ)) (work : FileWork) → AsksForFileWork words work → AsksForFile words
+asks_for_file words (Count lots split) asked = inl (lots, asked)
+asks_for_file words (Day split) asked = inr asked
+
 -- an input of which more was left than may be read
 pub too_long :
-    (words : List (List ℕ)) (left : Option (List ℕ)) (work : Work) (fault : InputFault)
-    → fault ≡ record { kind = TooLong; at = limit_of work } → AsksFor words work → IsLongerThan (limit_of work) left
+    (words : List (List ℕ)) (left : Option (List ℕ)) (work : FileWork) (fault : InputFault)
+    → fault ≡ record { kind = TooLong; at = limit_of work } → AsksForFileWork words work → IsLongerThan (limit_of work) left
     → IsOwed words left (BadInput fault) [] (fault_line fault)
 too_long words None (Count lots split) fault is asked long = inl (lots, asked, refl, tt)
 too_long words (Some input) (Count lots split) fault is asked long =
     inl (lots, asked, refl, (inl (record { long = long; fault_is = is }), refl))
-too_long words None (Day split) fault is asked long = inr (asked, refl)
+too_long words None (Day split) fault is asked long = inr (inl (asked, refl))
 too_long words (Some input) (Day split) fault is asked long =
-    inr (asked, (inl (record { long = long; fault_is = is }), refl, refl))
+    inr (inl (asked, (inl (record { long = long; fault_is = is }), refl, refl)))
 
 -- ---- an input that was read
 
@@ -90,14 +95,14 @@ day_owed :
     (words : List (List ℕ)) (left : Option (List ℕ)) (items : List ℕ) (status : Status) (history : List Entry)
     (bytes : List ℕ) → AsksForDay words → IsOwedForDay items status history bytes
     → IsDayOwedAt left status history bytes → IsOwed words left status history bytes
-day_owed words left items Done history bytes asked owed at = inr (asked, at)
-day_owed words left items (BadInput fault) history bytes asked owed at = inr (asked, at)
+day_owed words left items Done history bytes asked owed at = inr (inl (asked, at))
+day_owed words left items (BadInput fault) history bytes asked owed at = inr (inl (asked, at))
 day_owed words left items status history bytes asked owed at = absurd owed
 
 -- The work on the whole input ends the run.
 pub worked :
-    (words : List (List ℕ)) (source : Reading) (sink : Writing) (work : Work) (items : List ℕ) (status : Status)
-    (history : List Entry) → NoReadFailed source → AsksFor words work → Consumes source.left source.left_then items
+    (words : List (List ℕ)) (source : Reading) (sink : Writing) (work : FileWork) (items : List ℕ) (status : Status)
+    (history : List Entry) → NoReadFailed source → AsksForFileWork words work → Consumes source.left source.left_then items
     → IsAtEnd source.left_then → FinishesWork work items status history sink → IsRun words source sink status history
 worked words source sink (Count lots split) items status history calm asked took end (none, inl (same, nothing)) =
     subst (λ (s : Status). IsRun words source sink s history) (sym same) (calm, none, nothing)
@@ -111,3 +116,20 @@ worked words source sink (Day split) items status history calm asked took end (i
     let at = played_of source.left source.left_then items due history bytes took end owed in
     finished words source sink due history bytes status calm
     (day_owed words source.left items due history bytes asked owed at) finishes
+
+-- ---- a trial
+
+trial_owed :
+    (words : List (List ℕ)) (left : Option (List ℕ)) (number : ℕ) (status : Status) (history : List Entry) (bytes : List ℕ)
+    → AsksForTrial words number → IsOwedForTrial number status history bytes → IsOwed words left status history bytes
+trial_owed words left number Done history bytes asked owed = inr (inr (number, asked, owed))
+trial_owed words left number status history bytes asked owed = absurd owed
+
+-- A trial ends the run, whatever the input.
+pub tried :
+    (words : List (List ℕ)) (source : Reading) (sink : Writing) (number : ℕ) (status : Status) (history : List Entry)
+    → NoReadFailed source → AsksForTrial words number → FinishesTrial number status history sink → IsRun words source sink status history
+tried words source sink number status history calm asked (inl (same, none, nothing)) =
+    subst (λ (s : Status). IsRun words source sink s history) (sym same) (calm, none, nothing)
+tried words source sink number status history calm asked (inr (due, bytes, owed, finishes)) =
+    finished words source sink due history bytes status calm (trial_owed words source.left number due history bytes asked owed) finishes

@@ -14,3 +14,10 @@ mod MadeTexts
 mod MadeHead
 mod MadeCalls
 mod MadeDays
+mod StandingBatches
+mod StandingWalk
+mod HistoryCalls
+mod LastFreeze
+mod CountingOut
+mod TrialEnding
+mod SummaryText

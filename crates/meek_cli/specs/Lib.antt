@@ -6,8 +6,11 @@ pub mod DayText
 pub mod DayHistory
 pub mod Frozen
 pub mod DueSheets
+pub mod Summary
 pub mod Owed
 pub mod Run
 pub mod Sharing
 pub mod Work
 pub mod MadeDay
+pub mod CountedOut
+pub mod Standing

@@ -17,12 +17,14 @@ use Rattle.day_reader.specs.declared.day.Day.{Day}
 use Rattle.day_reader.specs.Day.{IsDay}
 use Rattle.day_reader.specs.Said.{IsDayRefusal}
 use Rattle.meek_words.specs.Forms.{HasForm}
-use Rattle.meek_words.specs.declared.command.Command.TheVariants.{Count, Day as DayWords}
+use Rattle.meek_words.specs.declared.command.Command.TheVariants.{Count, Day as DayWords, Trial}
+use Rattle.meek_trial.specs.Trial.{trial_day}
 use Rattle.meek_cli.specs.declared.status.Status.{Status}
 use Rattle.meek_cli.specs.declared.status.Status.TheVariants.{Done, SourceFault, BadWords, BadInput, SinkFault, NoMemory}
 use Rattle.meek_cli.specs.Refusals.{fault_line, words_line}
 use Rattle.meek_cli.specs.DayText.{terms_of, IsDayText}
 use Rattle.meek_cli.specs.DayHistory.{IsOfficeHistory, IsHistoryOf}
+use Rattle.meek_cli.specs.Summary.{IsSummary}
 
 -- the greatest length of a ballot file, in bytes
 abbrev pub count_limit : ℕ
@@ -40,9 +42,17 @@ AsksForCount words lots = (shards : ℕ) × (workers : ℕ) × HasForm words (Co
 abbrev pub AsksForDay : List (List ℕ) → Type 0
 AsksForDay words = (shards : ℕ) × (workers : ℕ) × HasForm words (DayWords shards workers)
 
+-- the words ask for the trial of this number
+abbrev pub AsksForTrial : List (List ℕ) → ℕ → Type 0
+AsksForTrial words number = (shards : ℕ) × (workers : ℕ) × HasForm words (Trial number shards workers)
+
+-- the words ask for something that the program does with an input
+abbrev pub AsksForFile : List (List ℕ) → Type 0
+AsksForFile words = ((lots : List ℕ) × AsksForCount words lots) ⊎ AsksForDay words
+
 -- the words ask for something that the program does
 abbrev pub AsksForWork : List (List ℕ) → Type 0
-AsksForWork words = ((lots : List ℕ) × AsksForCount words lots) ⊎ AsksForDay words
+AsksForWork words = AsksForFile words ⊎ ((number : ℕ) × AsksForTrial words number)
 
 -- The input is longer than may be read.
 pub record IsTooLong (limit : ℕ) (input : List ℕ) (fault : InputFault) : Type 0 where
@@ -137,15 +147,30 @@ IsDayOwedAt None Done history bytes = IsOfficeHistory history
 IsDayOwedAt None other history bytes = history ≡ []
 IsDayOwedAt (Some input) status history bytes = IsOwedForDay input status history bytes
 
+-- ---- a trial
+
+-- The calls of the teams of the made day are answered as one history, and the summary of this history is owed.
+pub record OwesTrial (number : ℕ) (history : List Entry) (bytes : List ℕ) : Type 0 where
+  pub day : Day
+  pub says : IsAccepted IsDay (scan (trial_day number) true) day
+  pub calls : IsHistoryOf day.scripts history
+  pub summary : IsSummary number (terms_of day) history bytes
+
+-- whatever the input: no trial is refused
+abbrev pub IsOwedForTrial : (number : ℕ) → Status → List Entry → (bytes : List ℕ) → Type 0
+IsOwedForTrial number Done history bytes = OwesTrial number history bytes
+IsOwedForTrial number other history bytes = ⊥
+
 -- ---- any words
 
--- what is owed where the input is read
+-- what is owed where words ask for something
 abbrev pub IsOwedForWork : (words : List (List ℕ)) → (input : Option (List ℕ)) → Status → List Entry → (bytes : List ℕ) → Type 0
 IsOwedForWork words input status history bytes =
     ((lots : List ℕ) × AsksForCount words lots × (history ≡ []) × IsOwedAt lots input status bytes)
-    ⊎ (AsksForDay words × IsDayOwedAt input status history bytes)
+    ⊎ ((AsksForDay words × IsDayOwedAt input status history bytes)
+    ⊎ ((number : ℕ) × AsksForTrial words number × IsOwedForTrial number status history bytes))
 
--- Words that ask for nothing are answered by their line; others ask for the input.
+-- Words that ask for nothing are answered by their line.
 abbrev pub IsOwed : (words : List (List ℕ)) → (input : Option (List ℕ)) → Status → List Entry → (bytes : List ℕ) → Type 0
 IsOwed words input BadWords history bytes = (¬ AsksForWork words) × (history ≡ []) × (bytes ≡ words_line)
 IsOwed words input SourceFault history bytes = ⊥

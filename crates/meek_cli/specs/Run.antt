@@ -18,7 +18,8 @@ use Rattle.team_run.specs.EntryText.{entries_text}
 use Rattle.meek_cli.specs.DayText.{terms_of, IsDayText}
 use Rattle.meek_cli.specs.DueSheets.{SheetDue, AreDueTexts}
 use Rattle.meek_cli.specs.DayHistory.{IsHistoryOf}
-use Rattle.meek_cli.specs.Owed.{AsksForCount, AsksForDay, AsksForWork, SaysPoll, SaysDay, IsOwedForCount, IsOwedForDay, IsOwed, lots_fault}
+use Rattle.meek_cli.specs.Summary.{IsSummary, IsSummaryOf}
+use Rattle.meek_cli.specs.Owed.{AsksForCount, AsksForDay, AsksForTrial, AsksForFile, SaysPoll, SaysDay, IsOwedForCount, IsOwedForDay, IsOwedForTrial, IsOwed, lots_fault}
 
 -- a front of what is owed was appended, with whatever status it would have been, and the history is that which was due
 abbrev pub AppendsFrontOfOwed : List (List ℕ) → Reading → Writing → List Entry → Type 0
@@ -34,18 +35,18 @@ AppendsOwed words source sink status history =
 -- Each status with its whole cause, and with the history. Want of memory has no cause.
 abbrev pub IsRun : (words : List (List ℕ)) → Reading → Writing → Status → List Entry → Type 0
 IsRun words source sink SourceFault history =
-    AsksForWork words × (history ≡ []) × Rose source.faults source.faults_then × NothingWritten sink
+    AsksForFile words × (history ≡ []) × Rose source.faults source.faults_then × NothingWritten sink
 IsRun words source sink SinkFault history =
     NoReadFailed source × Rose sink.faults sink.faults_then × AppendsFrontOfOwed words source sink history
 IsRun words source sink NoMemory history = NoReadFailed source × (history ≡ []) × NothingWritten sink
 IsRun words source sink status history =
     NoReadFailed source × NoWriteFailed sink × AppendsOwed words source sink status history
 
--- what was done with the input
-abbrev pub IsReadFor : Status → Reading → Type 0
-IsReadFor BadWords source = NothingRead source
-IsReadFor Done source = IsAtEnd source.left_then
-IsReadFor other source = Unit {0}
+-- What was done with the source: words that ask for no file leave it as it was, and what is done with a file was read to
+-- its end.
+pub record IsReadFor (words : List (List ℕ)) (status : Status) (source : Reading) : Type 0 where
+  pub untouched : ¬ AsksForFile words → NothingRead source
+  pub whole : AsksForFile words → status ≡ Done → IsAtEnd source.left_then
 
 -- words and an input that are accepted: a file that can be counted by the lots of the words, or a day
 abbrev pub AreAccepted : (words : List (List ℕ)) → (input : List ℕ) → Type 0
@@ -53,12 +54,16 @@ AreAccepted words input =
     ((lots : List ℕ) × AsksForCount words lots × ((poll : Poll) × SaysPoll lots input poll))
     ⊎ (AsksForDay words × ((day : Day) × SaysDay input day))
 
--- words and an input that are accepted, where nothing failed
-pub record IsAcceptedRun (words : List (List ℕ)) (source : Reading) (sink : Writing) : Type 0 where
+-- an input that is accepted for the words, where no read failed
+pub record IsAcceptedInput (words : List (List ℕ)) (source : Reading) : Type 0 where
   pub input : List ℕ
   pub told : source.left ≡ Some input
   pub accepted : AreAccepted words input
   pub no_read_failed : ¬ Rose source.faults source.faults_then
+
+-- Words that are accepted with their input, or that ask for a trial and for no input, where nothing failed.
+pub record IsAcceptedRun (words : List (List ℕ)) (source : Reading) (sink : Writing) : Type 0 where
+  pub accepted : IsAcceptedInput words source ⊎ ((number : ℕ) × AsksForTrial words number)
   pub no_write_failed : ¬ Rose sink.faults sink.faults_then
 
 -- ---- the parts of a run
@@ -111,3 +116,29 @@ PlaysDay day status history sink =
     ((status ≡ NoMemory) × (history ≡ []) × NothingWritten sink)
     ⊎ (IsHistoryOf day.scripts history
     × ((text : List ℕ) × IsDayText (terms_of day) history text × Finishes Done text status sink))
+
+-- what a trial came to: what is owed was written, or memory was wanted before the first byte
+abbrev pub FinishesTrial : (number : ℕ) → Status → List Entry → Writing → Type 0
+FinishesTrial number status history sink =
+    ((status ≡ NoMemory) × (history ≡ []) × NothingWritten sink)
+    ⊎ ((due : Status) × (bytes : List ℕ) × IsOwedForTrial number due history bytes × Finishes due bytes status sink)
+
+-- what writing the summary of a history came to: it was written, or memory was wanted before the first byte
+abbrev pub WritesSummary : (number : ℕ) → Terms → List Entry → Status → Writing → Type 0
+WritesSummary number terms history status sink =
+    ((status ≡ NoMemory) × NothingWritten sink)
+    ⊎ ((text : List ℕ) × IsSummary number terms history text × Finishes Done text status sink)
+
+-- the same for the count of these single ballots with this roll
+abbrev pub WritesSummaryOf : (number : ℕ) → Terms → List Entry → (ballots : List (List ℕ)) → RollList → Status → Writing → Type 0
+WritesSummaryOf number terms history ballots roll status sink =
+    ((status ≡ NoMemory) × NothingWritten sink)
+    ⊎ ((text : List ℕ) × IsSummaryOf number terms history ballots roll text × Finishes Done text status sink)
+
+-- what playing a made day came to: the summary of a history of its scripts was written, or memory was wanted before the
+-- first byte
+abbrev pub PlaysTrial : (number : ℕ) → Day → Status → List Entry → Writing → Type 0
+PlaysTrial number day status history sink =
+    ((status ≡ NoMemory) × (history ≡ []) × NothingWritten sink)
+    ⊎ (IsHistoryOf day.scripts history
+    × ((text : List ℕ) × IsSummary number (terms_of day) history text × Finishes Done text status sink))

@@ -1,15 +1,19 @@
 // A day: from the bytes of a day file to its text.
-ghost use Rattle.std.specs.Prelude.{◌≡◌, ◌≤◌, length};
+ghost use Rattle.std.specs.Prelude.{◌≡◌, ◌≤◌, length, IfOk};
 ghost use Rattle.day_reader.specs.Said.{AreScripts};
+ghost use Rattle.meek_cli.specs.DayHistory.{IsHistoryOf};
+ghost use Rattle.meek_cli.specs.DayText.{terms_of};
 ghost use Rattle.meek_cli.specs.Frozen.{AreFrozen};
 ghost use Rattle.meek_cli.specs.Run.{FinishesDay, PlaysDay, WritesDay};
 
 use crate::day_counting::count_day;
 use crate::office::answer_day;
+use crate::played_day::PlayedDay;
 use crate::refusal::refuse;
 use crate::split::Split;
 use crate::terms::Terms;
 use crate::{Outcome, Status};
+use batch_core::NoMemory;
 use blt_reader::BltStop;
 use byte_edge::{Gate, Sink};
 use call_register::History;
@@ -55,6 +59,35 @@ fn play<R: Threads + Wait + Sync, K: Sink, G: Gate + Sync>(
     ensures { PlaysDay day result.status result.history
         (record { written = K.written sink.old; written_then = K.written sink.new; faults = K.faults sink.old; faults_then = K.faults sink.new }) }
 {
+    let Ok(played) = answer(rt, alloc, day, split.shards(), gate) else {
+        return Outcome::without_calls(alloc, Status::NoMemory);
+    };
+    let PlayedDay {
+        terms,
+        history,
+        versions,
+    } = played;
+    let workers = split.workers();
+    match count_at_places(rt, alloc, &terms, &history, versions, workers, sink, gate) {
+        Status::NoMemory => Outcome::without_calls(alloc, Status::NoMemory),
+        status => Outcome { status, history },
+    }
+}
+
+/// Answers all calls of a day.
+pub(crate) fn answer<R: Threads + Wait + Sync, G: Gate + Sync>(
+    rt: &R,
+    alloc: Global,
+    day: Day,
+    shards: u32,
+    gate: &G,
+) -> Result<PlayedDay, NoMemory>
+    requires scripts { AreScripts (length day.roll.names) day.scripts }
+    requires shards { (1 ≤ shards) × (shards ≤ 64) }
+    ensures terms { IfOk result (λ played. played.terms ≡ terms_of day) }
+    ensures history { IfOk result (λ played. IsHistoryOf day.scripts played.history) }
+    ensures frozen { IfOk result (λ played. AreFrozen (length day.roll.names) played.history played.versions) }
+{
     let Day {
         roll,
         lots,
@@ -62,27 +95,18 @@ fn play<R: Threads + Wait + Sync, K: Sink, G: Gate + Sync>(
         omega,
         scripts,
     } = day;
-    let Ok((history, versions)) = answer_day(
-        rt,
-        alloc,
-        roll.candidates(),
-        split.shards(),
-        scripts,
-        gate,
-    ) else {
-        return Outcome::without_calls(alloc, Status::NoMemory);
-    };
+    let (history, versions) = answer_day(rt, alloc, roll.candidates(), shards, scripts, gate)?;
     let terms = Terms {
         places,
         omega,
         roll,
         lots,
     };
-    let workers = split.workers();
-    match count_at_places(rt, alloc, &terms, &history, versions, workers, sink, gate) {
-        Status::NoMemory => Outcome::without_calls(alloc, Status::NoMemory),
-        status => Outcome { status, history },
-    }
+    Ok(PlayedDay {
+        terms,
+        history,
+        versions,
+    })
 }
 
 /// Counts at the places that the day says.

@@ -75,7 +75,7 @@ impl<'e, const P: usize, D: Spread<P>> DueSheet<'e, P, D> {
 }
 
 /// An omega of so many units.
-fn units<const P: usize>(omega: u32) -> Amount<P>
+pub(crate) fn units<const P: usize>(omega: u32) -> Amount<P>
     requires places { (6 ≤ P) × (P ≤ 9) }
     requires omega { (1 ≤ omega) × (omega ≤ 1000000) }
     ensures { result ≡ omega }

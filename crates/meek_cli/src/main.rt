@@ -2,21 +2,28 @@
 //! says how that ended as an [`Outcome`].
 #![tactic(auto)]
 
+mod counted_out;
 mod counting;
 mod day;
 mod day_counting;
 mod due_sheet;
+mod file_work;
 mod finishing;
 mod lent;
 mod made_days;
 mod office;
 mod outcome;
+mod played_day;
 mod refusal;
 mod run;
 mod sheet_head;
 mod split;
+mod standing;
 mod status;
+mod summary;
 mod terms;
+mod trial;
+mod turns;
 mod work;
 
 use byte_edge::{FreeGate, StdSink, StdSource};

@@ -1,10 +1,12 @@
 // Whole runs over memory: elections worked by hand with their sheets, refusals at their places, and a
 // source or a sink that fails in mid-stream. Expected bytes were worked out by hand.
+mod contended;
 mod days;
 mod lanes;
 mod large_inputs;
 mod refusals;
 mod teams;
+mod trials;
 
 use crate::{Status, meek};
 use blt_reader::{FaultKind, InputFault};

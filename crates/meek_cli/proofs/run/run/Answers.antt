@@ -1,14 +1,11 @@
-use Rattle.std.proofs.Common.{◌≡◌, List, ℕ, [], map, refl, sym, ◌∙◌, ap, subst}
+use Rattle.std.proofs.Common.{◌≡◌, List, ℕ, [], map, refl, sym, subst}
 use Rattle.std.specs.String.{string_bytes}
-use Rattle.byte_edge.specs.Bytes.{IsLongerThan}
-use Rattle.blt_reader.specs.declared.fault_kind.FaultKind.TheVariants.{TooLong}
-use Rattle.blt_reader.specs.declared.input_fault.InputFault.{InputFault}
 use Rattle.meek_cli.specs.declared.outcome.Outcome.{Outcome}
-use Rattle.meek_cli.specs.declared.status.Status.TheVariants.{BadWords, BadInput}
-use Rattle.meek_cli.specs.Refusals.{words_line, fault_line}
+use Rattle.meek_cli.specs.declared.status.Status.TheVariants.{BadWords}
+use Rattle.meek_cli.specs.Refusals.{words_line}
 use Rattle.meek_cli.specs.Run.{IsRun}
-use Rattle.meek_cli.specs.Work.{limit_of, FinishesWork}
-use Rattle.meek_cli.proofs.Ending.{finished, too_long, worked}
+use Rattle.meek_cli.specs.Owed.{AsksForTrial}
+use Rattle.meek_cli.proofs.Ending.{finished, tried}
 use Rattle.meek_cli.proofs.run.run.Goals as goal
 
 -- words that ask for nothing
@@ -18,18 +15,9 @@ returns-in-Err-BadWords-clause-run g c =
     subst (λ (o : Outcome). IsRun (map string_bytes c.args.words.now) (record { left = g.S.Source.left c.args.source.now; left_then = g.S.Source.left c.args.source.now; faults = g.S.Source.faults c.args.source.now; faults_then = g.S.Source.faults c.args.source.now }) (record { written = g.K.Sink.written c.args.sink.now; written_then = g.K.Sink.written c.finish-status.new.sink; faults = g.K.Sink.faults c.args.sink.now; faults_then = g.K.Sink.faults c.finish-status.new.sink }) o.status o.history) (sym c.without_calls.ensures)
     (finished (map string_bytes c.args.words.now) (record { left = g.S.Source.left c.args.source.now; left_then = g.S.Source.left c.args.source.now; faults = g.S.Source.faults c.args.source.now; faults_then = g.S.Source.faults c.args.source.now }) (record { written = g.K.Sink.written c.args.sink.now; written_then = g.K.Sink.written c.finish-status.new.sink; faults = g.K.Sink.faults c.args.sink.now; faults_then = g.K.Sink.faults c.finish-status.new.sink }) BadWords [] words_line c.finish-status.result refl (none refl, refl, refl) c.finish-status.ensures)
 
--- more bytes than may be read
-pub returns-in-Err-TooLong-clause-run : goal.returns-in-Err-TooLong-clause-run
-returns-in-Err-TooLong-clause-run g c =
-    let read = rw c.in-Err-TooLong.field-0-is at c.in-Err-TooLong.ensures in
-    let long = subst (λ (n : ℕ). IsLongerThan n (g.S.Source.left c.args.source.now)) c.limit-limit.ensures (read.too_long refl) in
-    let fault : c.too_long.result ≡ record { kind = TooLong; at = limit_of c.in-Ok.work } =
-    c.too_long.ensures ∙ ap (λ (n : ℕ). let f : InputFault = record { kind = TooLong; at = n } in f) c.limit-limit.ensures in
-    subst (λ (o : Outcome). IsRun (map string_bytes c.args.words.now) (record { left = g.S.Source.left c.args.source.now; left_then = g.S.Source.left c.read_all.new.source; faults = g.S.Source.faults c.args.source.now; faults_then = g.S.Source.faults c.read_all.new.source }) (record { written = g.K.Sink.written c.args.sink.now; written_then = g.K.Sink.written c.refuse.new.sink; faults = g.K.Sink.faults c.args.sink.now; faults_then = g.K.Sink.faults c.refuse.new.sink }) o.status o.history) (sym c.without_calls-in-Err-TooLong.ensures)
-    (finished (map string_bytes c.args.words.now) (record { left = g.S.Source.left c.args.source.now; left_then = g.S.Source.left c.read_all.new.source; faults = g.S.Source.faults c.args.source.now; faults_then = g.S.Source.faults c.read_all.new.source }) (record { written = g.K.Sink.written c.args.sink.now; written_then = g.K.Sink.written c.refuse.new.sink; faults = g.K.Sink.faults c.args.sink.now; faults_then = g.K.Sink.faults c.refuse.new.sink }) (BadInput c.too_long.result) [] (fault_line c.too_long.result) c.refuse.result read.faults (too_long _ _ c.in-Ok.work c.too_long.result fault c.in-Ok.ensures.asked long) c.refuse.ensures)
-
--- a whole input
-pub returns-clause-run : goal.returns-clause-run
-returns-clause-run g c =
-    let did = subst (λ (input : List ℕ). FinishesWork c.in-Ok.work input c.finish.result.status c.finish.result.history (record { written = g.K.Sink.written c.args.sink.now; written_then = g.K.Sink.written c.finish.new.sink; faults = g.K.Sink.faults c.args.sink.now; faults_then = g.K.Sink.faults c.finish.new.sink })) c.as_slice.ensures.value c.finish.ensures in
-    worked (map string_bytes c.args.words.now) (record { left = g.S.Source.left c.args.source.now; left_then = g.S.Source.left c.read_all.new.source; faults = g.S.Source.faults c.args.source.now; faults_then = g.S.Source.faults c.read_all.new.source }) (record { written = g.K.Sink.written c.args.sink.now; written_then = g.K.Sink.written c.finish.new.sink; faults = g.K.Sink.faults c.args.sink.now; faults_then = g.K.Sink.faults c.finish.new.sink }) c.in-Ok.work c.in-Ok-read_all.input.items c.finish.result.status c.finish.result.history c.in-Ok-read_all.ensures.faults c.in-Ok.ensures.asked c.in-Ok-read_all.ensures.all c.in-Ok-read_all.ensures.end did
+-- a trial
+pub returns-in-Ok-Trial-clause-run : goal.returns-in-Ok-Trial-clause-run
+returns-in-Ok-Trial-clause-run g c =
+    let asked = rw c.in-Ok-Trial.field-0-is at c.in-Ok-Trial.ensures.asked in
+    tried (map string_bytes c.args.words.now) (record { left = g.S.Source.left c.args.source.now; left_then = g.S.Source.left c.args.source.now; faults = g.S.Source.faults c.args.source.now; faults_then = g.S.Source.faults c.args.source.now }) (record { written = g.K.Sink.written c.args.sink.now; written_then = g.K.Sink.written c.play_trial.new.sink; faults = g.K.Sink.faults c.args.sink.now; faults_then = g.K.Sink.faults c.play_trial.new.sink })
+    c.in-Ok-Trial.number c.play_trial.result.status c.play_trial.result.history refl (subst (λ (n : ℕ). AsksForTrial (map string_bytes c.args.words.now) n) (sym c.in-Ok-Trial.number-is) asked) c.play_trial.ensures

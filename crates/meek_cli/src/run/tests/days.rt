@@ -96,30 +96,6 @@ result\n1 elected A\n2 elected B\n3 defeated C\nend\n";
     Ok(())
 }
 
-// Whichever team comes first enters the batch, and its ballots are counted.
-#[test]
-fn two_teams_contend_for_a_batch(rt: HostRuntime) -> Result<(), Fail> {
-    let day =
-        b"2 1\n0\n\"A\" \"B\" \"T\"\nlots 1 2 0\nteam 2\nenter 5\n1 2 0\n0\nteam 1\nenter 5\n1 1 0\n0\nend\n";
-    let one = b"1 team 1 enter 5 entered\n2 team 2 enter 5 exists 1\n3 clerk freeze frozen\n\
-sheet 3\ntitle T\nseats 1\ncandidates 2\nballots 1\n\
-round 1 iteration 1\n1 hopeful 1.000000000 1.000000000\n2 hopeful 1.000000000 0.000000000\n\
-total 1.000000000\nquota 0.500000001\nsurplus 0.499999999\nelected 1\nstep elected\n\
-result\n1 elected A\n2 defeated B\nend\n";
-    let other = b"1 team 2 enter 5 entered\n2 team 1 enter 5 exists 1\n3 clerk freeze frozen\n\
-sheet 3\ntitle T\nseats 1\ncandidates 2\nballots 1\n\
-round 1 iteration 1\n1 hopeful 1.000000000 0.000000000\n2 hopeful 1.000000000 1.000000000\n\
-total 1.000000000\nquota 0.500000001\nsurplus 0.499999999\nelected 2\nstep elected\n\
-result\n1 defeated A\n2 elected B\nend\n";
-    for _ in 0..20 {
-        let ran = run(&rt, rt.alloc(), "day --shards 2 --workers 1", day)?;
-        let written = ran.written.as_slice();
-        assert_eq!(rt; ran.status, Status::Done);
-        assert!(rt; written == one.as_slice() || written == other.as_slice());
-    }
-    Ok(())
-}
-
 #[test]
 fn refuses_a_day_at_its_token(rt: HostRuntime) -> Result<(), Fail> {
     let alloc = rt.alloc();

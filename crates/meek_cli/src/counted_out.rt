@@ -1,0 +1,28 @@
+// A count that is made to its end, its rows counted and not kept.
+ghost use Rattle.std.specs.Prelude.{◌≤◌, length};
+ghost use Rattle.fixed_place.specs.Rounding.{scale};
+ghost use Rattle.meek_count.specs.Progress.{HasJustBegun};
+ghost use Rattle.meek_cli.specs.CountedOut.{IsCountedOut};
+
+use crate::lent::Lent;
+use crate::turns::Turns;
+use meek_count::{Count, Turn};
+use meek_rule::Spread;
+
+/// Counts to the end, and says how far it was. A count of so few candidates takes fewer than 2^64
+/// iterations.
+pub(crate) fn count_out<D: Spread<9>>(count: &mut Count<'_, 9, Lent<'_, D>>) -> Turns
+    requires begun { HasJustBegun (scale 9) count.old }
+    requires few { length count.old.now.states ≤ 12 }
+    ensures { IsCountedOut 9 count.old result count.new.now.states }
+{
+    let mut turns = Turns {
+        rounds: 0,
+        iterations: 0,
+    };
+    'rows: while let Turn::Iterated = count.next() {
+        turns.rounds = count.row().round;
+        turns.iterations += 1;
+    }
+    turns
+}

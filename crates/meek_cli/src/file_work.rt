@@ -1,0 +1,62 @@
+// What a run is asked to do with a file.
+ghost use Rattle.std.specs.Prelude.{◌≡◌, ◌≤◌, length};
+ghost use Rattle.meek_cli.specs.Work.{limit_of, FinishesWork};
+
+use crate::Outcome;
+use crate::counting::count;
+use crate::day::play_day;
+use crate::split::Split;
+use byte_edge::{Gate, Sink};
+use meek_words::LotWords;
+use std::alloc::Global;
+use std::sync::Wait;
+use std::thread::Threads;
+
+/// The greatest length of a ballot file, in bytes.
+const COUNT_LIMIT: usize = 67_108_864;
+
+/// The greatest length of a day file, in bytes.
+const DAY_LIMIT: usize = 16_777_216;
+
+/// What a run is asked to do with its input.
+#[derive(Drop)]
+pub(crate) enum FileWork {
+    /// To count a ballot file by these lots, its ballots shared so.
+    Count(LotWords, Split),
+    /// To play the day of a day file, its ballots shared so.
+    Day(Split),
+}
+
+impl FileWork {
+    /// The greatest length of the input, in bytes.
+    pub(crate) fn limit(&self) -> usize
+        ensures { result ≡ limit_of self.now }
+    {
+        match self {
+            FileWork::Count(_, _) => COUNT_LIMIT,
+            FileWork::Day(_) => DAY_LIMIT,
+        }
+    }
+
+    /// Does it with the whole input, and writes what is owed.
+    pub(crate) fn finish<R: Threads + Wait + Sync, K: Sink, G: Gate + Sync>(
+        &self,
+        rt: &R,
+        alloc: Global,
+        input: &[u8],
+        sink: &mut K,
+        gate: &G,
+    ) -> Outcome
+        requires { length input.now ≤ limit_of self.now }
+        ensures { FinishesWork self.now input.now result.status result.history
+            (record { written = K.written sink.old; written_then = K.written sink.new; faults = K.faults sink.old; faults_then = K.faults sink.new }) }
+    {
+        match self {
+            FileWork::Count(lots, split) => {
+                let status = count(rt, alloc, input, lots.items(), split, sink, gate);
+                Outcome::without_calls(alloc, status)
+            }
+            FileWork::Day(split) => play_day(rt, alloc, input, split, sink, gate),
+        }
+    }
+}

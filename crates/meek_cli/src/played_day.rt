@@ -1,0 +1,13 @@
+// A day whose calls are answered.
+use crate::terms::Terms;
+use call_register::History;
+use team_run::Versions;
+
+/// A day whose calls are all answered: how its sheets are counted, the history, and the versions of its
+/// freezes by rising place.
+#[derive(Drop)]
+pub(crate) struct PlayedDay {
+    pub(crate) terms: Terms,
+    pub(crate) history: History,
+    pub(crate) versions: Versions,
+}
