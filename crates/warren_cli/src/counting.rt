@@ -1,0 +1,83 @@
+// A count: from the bytes of a ballot file to the sheet.
+ghost use Rattle.std.specs.Prelude.{◌≡◌, ◌≤◌, All, IfOk, IsPermutation, length};
+ghost use Rattle.plain_ballots.specs.Ballots.{plain};
+ghost use Rattle.frozen_plan.specs.Plan.{all_ballots};
+ghost use Rattle.tool_edge.specs.Finishing.{FinishesOwed};
+ghost use Rattle.tool_edge.specs.Streams.{writing};
+ghost use Rattle.tool_edge.specs.Tool.{IsOwedFor};
+ghost use Rattle.tool_edge.specs.Tools.{over_contests};
+ghost use Rattle.warren_cli.specs.Owed.{OwesWarren, IsSheetOwed};
+
+use blt_reader::Election;
+use byte_edge::Sink;
+use candidate_roll::Roll;
+use fixed_place::Amount;
+use frozen_plan::Plans;
+use lot_order::Lots;
+use plain_ballots::{Ballots, lines_stand_for_ballots};
+use sheet_text::sheets_are_unique;
+use std::alloc::Global;
+use tool_edge::{Contest, End, close, refuse_input};
+use warren_spread::{WarrenCount, WarrenSpread, write_warren};
+
+/// Below so many units of 10^-9 votes a surplus is not transferred: 0.000001 votes.
+const OMEGA: u64 = 1_000;
+
+/// Counts the ballots of a file by these lots, and writes the sheet or the refusal.
+pub(crate) fn count<K: Sink>(alloc: Global, lots: &[u32], input: &[u8], sink: &mut K) -> End
+    requires { length input.now ≤ 67108864 }
+    ensures { FinishesOwed (IsOwedFor (over_contests OwesWarren) lots.now input.now) result
+        (writing K.written K.faults sink.old sink.new) }
+{
+    // The sheet of the plan's ballots is that of the file's.
+    sheets_are_unique();
+    let Contest {
+        election: Election { ballots, roll },
+        lots: order,
+    } = match Contest::read(alloc, lots, input) {
+        Ok(contest) => contest,
+        Err(stop) => return refuse_input(sink, stop),
+    };
+    let Ok(plans) = plans_of(alloc, &ballots) else {
+        return End::NoMemory;
+    };
+    let Ok(spread) = WarrenSpread::begin(alloc, plans, roll.candidates()) else {
+        return End::NoMemory;
+    };
+    write_count(alloc, &roll, &order, spread, sink)
+}
+
+/// All the ballots as one plan.
+fn plans_of(alloc: Global, ballots: &Ballots) -> Result<Plans, frozen_plan::NoMemory>
+    requires { (1 ≤ ballots.now.candidates) × (ballots.now.candidates ≤ 250) }
+    ensures candidates { IfOk result (All (λ plan. plan.candidates ≡ ballots.now.candidates)) }
+    ensures ballots { IfOk result (λ plans. IsPermutation (all_ballots plans) (plain ballots.now.lines)) }
+    ensures few { IfOk result (λ plans. length (all_ballots plans) ≤ 999999999) }
+{
+    lines_stand_for_ballots();
+    let _sound = ballots.lines();
+    let plans = Plans::dealt(alloc, ballots, 1)?;
+    Ok(plans)
+}
+
+/// Counts what a distribution holds and writes the sheet. All memory is taken before the first byte.
+fn write_count<K: Sink>(
+    alloc: Global,
+    roll: &Roll,
+    lots: &Lots,
+    spread: WarrenSpread,
+    sink: &mut K,
+) -> End
+    requires lots_of_all { length lots.now ≡ length roll.now.names }
+    requires spread_of_all { spread.candidates ≡ length roll.now.names }
+    requires few { length spread.ballots ≤ 999999999 }
+    ensures { FinishesOwed (IsSheetOwed spread.ballots roll.now lots.now) result
+        (writing K.written K.faults sink.old sink.new) }
+{
+    let omega = Amount::<9>::from_units(OMEGA);
+    let Ok(mut count) = WarrenCount::begin(alloc, roll, lots, spread, omega) else {
+        return End::NoMemory;
+    };
+    let wrote = write_warren(&mut count, sink);
+    close(sink, wrote)
+}
