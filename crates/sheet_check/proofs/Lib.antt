@@ -1,3 +1,7 @@
 mod Differences
 mod FirstDifferences
 mod Verdicts
+mod Ends
+mod Splits
+mod Places
+mod Audits

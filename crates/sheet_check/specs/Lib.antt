@@ -2,3 +2,5 @@ pub mod Difference
 pub mod Comparison
 pub mod Judged
 pub mod Laws
+pub mod Input
+pub mod Audit

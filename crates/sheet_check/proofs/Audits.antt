@@ -1,0 +1,75 @@
+-- What is accepted is not refused, and what is answered is owed.
+use Rattle.std.proofs.Common.{◌≡◌, ℕ, ◌≤◌, List, length, refl, sym, subst, inl, inr}
+use Rattle.std.specs.Prelude.{Err}
+use Rattle.blt_reader.specs.declared.input_fault.InputFault.{InputFault}
+use Rattle.blt_reader.specs.declared.blt_stop.BltStop.{BltStop}
+use Rattle.blt_reader.specs.declared.blt_stop.BltStop.TheVariants.{Fault, NoMemory as NoInputRead}
+use Rattle.tool_edge.specs.declared.contest.Contest.{Contest}
+use Rattle.tool_edge.specs.declared.end.End.{End}
+use Rattle.tool_edge.specs.declared.end.End.TheVariants.{BadInput}
+use Rattle.tool_edge.specs.Streams.{Writing}
+use Rattle.tool_edge.specs.Refusals.{fault_line}
+use Rattle.tool_edge.specs.Contest.{IsContest}
+use Rattle.tool_edge.specs.Finishing.{Finishes, FinishesOwed, RefusesInput}
+use Rattle.tool_edge.specs.Tool.{IsOwedFor, IsSound}
+use Rattle.tool_edge.specs.Tools.{file_limit, IsContestFile, HaveOneOrder, ContestsAreNotRefused}
+use Rattle.blt_reader.specs.Election.{poll}
+use Rattle.sheet_check.specs.Input.{IsSplit}
+use Rattle.sheet_check.specs.Audit.{IsAudit, IsRefusedBehind, EndsInSheet, IsRefusedAudit, ReadsBehind, OwesVerdict, IsOwedVerdict, audits}
+use Rattle.sheet_check.proofs.Splits.{file_once}
+
+-- ---- soundness
+
+not_behind :
+    ContestsAreNotRefused → (before : ℕ) (lots file : List ℕ) (fault : InputFault) → IsContestFile lots file
+    → IsRefusedBehind before lots file fault → ⊥
+not_behind either before lots file fault contest (inl (of_file, refused, place)) = either lots file of_file contest (inl refused)
+not_behind either before lots file fault contest (inr bad) = either lots file fault contest (inr bad)
+
+not_refused : ContestsAreNotRefused → (lots input : List ℕ) (fault : InputFault) → IsAudit lots input → IsRefusedAudit lots input fault → ⊥
+not_refused either lots input fault (sheet, file, split, contest) (inl ends) = ends.no_end split.at split.first.stands
+not_refused either lots input fault (sheet, file, split, contest) (inr (other_sheet, other, other_split, refused)) =
+    not_behind either (length other_sheet) lots file fault contest
+    (subst (λ (f : List ℕ). IsRefusedBehind (length other_sheet) lots f fault) (file_once input sheet file other_sheet other split other_split) refused)
+
+pub sound : HaveOneOrder → ContestsAreNotRefused → IsSound audits
+sound one either = record { one = one; either = not_refused either }
+
+-- ---- the whole input
+
+-- No line is `end`.
+pub ended_early :
+    (lots input : List ℕ) (fault : InputFault) (end : End) (sink : Writing) → length input ≤ file_limit
+    → EndsInSheet input fault → Finishes (BadInput fault) (fault_line fault) end sink
+    → FinishesOwed (IsOwedFor audits lots input) end sink
+ended_early lots input fault end sink short ends finishes =
+    inr (BadInput fault, fault_line fault, (inr (short, inl ends), refl), finishes)
+
+-- What stands behind the sheet is refused.
+pub refused_behind :
+    (lots input sheet file : List ℕ) (before : ℕ) (stop : BltStop) (end : End) (sink : Writing) → length input ≤ file_limit
+    → IsSplit input sheet file → before ≡ length sheet → ReadsBehind before lots file (Err stop)
+    → RefusesInput stop end sink → FinishesOwed (IsOwedFor audits lots input) end sink
+refused_behind lots input sheet file before (Fault fault) end sink short split same why finishes =
+    let at = subst (λ (n : ℕ). IsRefusedBehind n lots file fault) same why in
+    inr (BadInput fault, fault_line fault, (inr (short, inr (sheet, file, split, at)), refl), finishes)
+refused_behind lots input sheet file before NoInputRead end sink short split same why nothing = inl nothing
+
+owed_for_input :
+    (lots input sheet file : List ℕ) (contest : Contest) (due : End) (bytes : List ℕ) → length input ≤ file_limit
+    → IsSplit input sheet file → IsContest lots file contest
+    → IsOwedVerdict (poll contest.election) contest.lots sheet due bytes → IsOwedFor audits lots input due bytes
+owed_for_input lots input sheet file contest due bytes short split is (done, owed) =
+    let mine = subst (λ (l : List ℕ). OwesVerdict (poll contest.election) l sheet bytes) is.lots_are owed in
+    subst (λ (d : End). IsOwedFor audits lots input d bytes) (sym done)
+    (short, (sheet, file, split, (poll contest.election, is.says, mine)))
+
+-- The verdict on the sheet is what is owed for the input.
+pub judged :
+    (lots input sheet file : List ℕ) (contest : Contest) (end : End) (sink : Writing) → length input ≤ file_limit
+    → IsSplit input sheet file → IsContest lots file contest
+    → FinishesOwed (IsOwedVerdict (poll contest.election) contest.lots sheet) end sink
+    → FinishesOwed (IsOwedFor audits lots input) end sink
+judged lots input sheet file contest end sink short split is (inl nothing) = inl nothing
+judged lots input sheet file contest end sink short split is (inr (due, bytes, owed, finishes)) =
+    inr (due, bytes, owed_for_input lots input sheet file contest due bytes short split is owed, finishes)

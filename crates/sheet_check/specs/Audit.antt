@@ -1,0 +1,92 @@
+-- What the checker accepts, refuses and writes.
+use Rattle.std.specs.Prelude.{◌≡◌, ◌⊎◌, ℕ, ◌+◌, List, [], ◌∷◌, ◌++◌, length, codes, decimal, Result, Ok, Err}
+use Rattle.plain_ballots.specs.Ballots.{plain}
+use Rattle.blt_reader.specs.declared.fault_kind.FaultKind.TheVariants.{Ended}
+use Rattle.blt_reader.specs.declared.input_fault.InputFault.{InputFault}
+use Rattle.blt_reader.specs.declared.blt_stop.BltStop.{BltStop}
+use Rattle.blt_reader.specs.declared.blt_stop.BltStop.TheVariants.{Fault, NoMemory}
+use Rattle.blt_reader.specs.Poll.{Poll}
+use Rattle.tool_edge.specs.declared.contest.Contest.{Contest}
+use Rattle.tool_edge.specs.declared.end.End.{End}
+use Rattle.tool_edge.specs.declared.end.End.TheVariants.{Done}
+use Rattle.tool_edge.specs.Words.{TakesLots}
+use Rattle.tool_edge.specs.Contest.{IsRefusedFile, HasBadLots, SaysContest, IsContest}
+use Rattle.tool_edge.specs.Tool.{Tool}
+use Rattle.tool_edge.specs.Tools.{file_limit, IsContestFile}
+use Rattle.sheet_check.specs.declared.verdict.Verdict.{Verdict}
+use Rattle.sheet_check.specs.declared.verdict.Verdict.TheVariants.{True, False, Malformed}
+use Rattle.sheet_check.specs.Judged.{IsVerdict}
+use Rattle.sheet_check.specs.Input.{HasNoEnd, IsSplit}
+
+-- ---- what is accepted
+
+-- The input is a sheet and a ballot file, and the lots are an order of the file's candidates.
+abbrev pub IsAudit : (lots input : List ℕ) → Type 0
+IsAudit lots input = (sheet : List ℕ) × (file : List ℕ) × IsSplit input sheet file × IsContestFile lots file
+
+-- ---- what is refused
+
+-- a fault of what stands behind so many bytes, at its place in the whole
+abbrev pub behind : ℕ → InputFault → InputFault
+behind before fault = record { kind = fault.kind; at = before + fault.at }
+
+abbrev pub stop_behind : ℕ → BltStop → BltStop
+stop_behind before (Fault fault) = Fault (behind before fault)
+stop_behind before NoMemory = NoMemory
+
+-- The file behind so many bytes is refused at its place in the whole, or else the lots at their place in the list.
+abbrev pub IsRefusedBehind : (before : ℕ) → (lots file : List ℕ) → InputFault → Type 0
+IsRefusedBehind before lots file fault =
+    ((of_file : InputFault) × IsRefusedFile file of_file × (fault ≡ behind before of_file)) ⊎ HasBadLots lots file fault
+
+-- No line is `end`, so that the input has ended too early.
+pub record EndsInSheet (input : List ℕ) (fault : InputFault) : Type 0 where
+  pub no_end : HasNoEnd input
+  pub fault_is : fault ≡ record { kind = Ended; at = length input }
+
+-- No line is `end`, or what stands behind the first such line is refused.
+abbrev pub IsRefusedAudit : (lots input : List ℕ) → InputFault → Type 0
+IsRefusedAudit lots input fault =
+    EndsInSheet input fault
+    ⊎ ((sheet : List ℕ) × (file : List ℕ) × IsSplit input sheet file × IsRefusedBehind (length sheet) lots file fault)
+
+-- Ok is what the lots and the file say; a fault is why they are refused.
+abbrev pub ReadsBehind : (before : ℕ) → (lots file : List ℕ) → Result Contest BltStop → Type 0
+ReadsBehind before lots file (Ok contest) = IsContest lots file contest
+ReadsBehind before lots file (Err (Fault fault)) = IsRefusedBehind before lots file fault
+ReadsBehind before lots file (Err NoMemory) = Unit {0}
+
+-- ---- what is written
+
+-- the line of a verdict
+abbrev pub verdict_line : Verdict → List ℕ
+verdict_line True = codes "sheet true" ++ 10 ∷ []
+verdict_line (False n) = codes "sheet false at line " ++ decimal n ++ 10 ∷ []
+verdict_line Malformed = codes "sheet malformed" ++ 10 ∷ []
+
+-- the line of the verdict on a text that is held to be the sheet of this election, counted at nine places
+pub record OwesVerdict (poll : Poll) (lots sheet bytes : List ℕ) : Type 0 where
+  pub verdict : Verdict
+  pub right : IsVerdict 9 1000 (plain poll.lines) poll.roll lots sheet verdict
+  pub line : bytes ≡ verdict_line verdict
+
+-- that line, with the end of a run that is done
+abbrev pub IsOwedVerdict : Poll → (lots sheet : List ℕ) → End → (bytes : List ℕ) → Type 0
+IsOwedVerdict poll lots sheet due bytes = (due ≡ Done) × OwesVerdict poll lots sheet bytes
+
+-- the verdict on the input's sheet by the input's file and the lots
+abbrev pub OwesAudit : (lots input bytes : List ℕ) → Type 0
+OwesAudit lots input bytes =
+    (sheet : List ℕ) × (file : List ℕ) × IsSplit input sheet file
+    × ((poll : Poll) × SaysContest lots file poll × OwesVerdict poll lots sheet bytes)
+
+-- ---- the tool
+
+abbrev pub audits : Tool (List ℕ)
+audits = record {
+  Takes = TakesLots;
+  limit = file_limit;
+  Accepts = IsAudit;
+  Refuses = IsRefusedAudit;
+  Owes = OwesAudit;
+}
