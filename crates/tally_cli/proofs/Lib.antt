@@ -1,0 +1,9 @@
+mod Lists
+mod MoveSteps
+mod Totals
+mod Standing
+mod ShownSteps
+mod TotalLines
+mod Sound
+mod Ends
+mod Results

@@ -1,0 +1,5 @@
+pub mod First
+pub mod LineMoves
+pub mod Changes
+pub mod Shown
+pub mod Owed

@@ -1,0 +1,3 @@
+/// Want of memory.
+#[derive(Clone, Copy, Debug, PartialEq, Eq, Drop)]
+pub(crate) struct NoMemory;
