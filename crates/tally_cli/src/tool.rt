@@ -96,3 +96,6 @@ fn tally_scripts<R: Wait>(
     scribe.close(rt);
     text
 }
+
+#[cfg(test)]
+mod tests;
