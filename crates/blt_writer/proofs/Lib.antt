@@ -6,3 +6,10 @@ mod WrittenFiles
 mod LineOrder
 mod OneText
 mod EveryText
+mod WalkLemmas
+mod WalkOrder
+mod MergeLemmas
+mod TakeLemmas
+mod LeastLemmas
+mod MergingLemmas
+mod ExportLemmas

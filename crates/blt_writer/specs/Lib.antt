@@ -2,3 +2,9 @@ pub mod Order
 pub mod Text
 pub mod Laws
 pub mod Worked
+pub mod Walk
+pub mod Merge
+pub mod Exported
+pub mod Marks
+pub mod Merged
+pub mod Written

@@ -1,9 +1,22 @@
 //! Ballot files in one canonical form: whoever holds the same ballots under the same roll writes the
 //! same bytes.
+//!
+//! An [`Export`] stands for the ballots of plans under a roll, and [`write_blt`] writes their file. It
+//! walks all plans at once and takes no memory.
 #![tactic(auto)]
 
+mod cursor;
+mod export;
+mod file;
 mod laws;
+mod merge;
+mod no_memory;
+mod numbers;
+mod ranks;
+mod rows;
 mod worked;
 
+pub use export::{Export, write_blt};
 pub use laws::{every_bag_has_a_text, one_bag_has_one_text, texts_are_read};
+pub use no_memory::NoMemory;
 pub use worked::worked_texts;
