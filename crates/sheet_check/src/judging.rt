@@ -92,3 +92,6 @@ fn difference_from_sheet_of(count: &mut Count<'_, 9, FlatSpread>, bytes: &[u8]) 
         Err(_) => Some(sink.difference_from_front()),
     }
 }
+
+#[cfg(test)]
+mod tests;

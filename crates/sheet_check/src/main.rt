@@ -11,6 +11,8 @@ mod contest_behind;
 mod judging;
 mod laws;
 mod no_memory;
+#[cfg(test)]
+mod sample;
 mod split;
 mod tool;
 mod verdict;

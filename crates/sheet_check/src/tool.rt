@@ -78,3 +78,6 @@ fn write_verdict<K: Sink>(alloc: Global, sheet: &[u8], contest: &Contest, sink: 
         Err(_) => End::NoMemory,
     }
 }
+
+#[cfg(test)]
+mod tests;
