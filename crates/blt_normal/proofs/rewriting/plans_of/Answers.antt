@@ -1,0 +1,12 @@
+use Rattle.std.proofs.Common.{arith}
+use Rattle.std.proofs.lemmas.List.Sorted.{length_permutation}
+use Rattle.plain_ballots.specs.Ballots.{plain}
+use Rattle.frozen_plan.specs.Plan.{all_ballots}
+use Rattle.blt_normal.proofs.rewriting.plans_of.Goals as goal
+
+pub returns-clause-few : goal.returns-clause-few
+returns-clause-few c =
+    let lines = c.args.ballots.now.lines in
+    let plans = c.in_ok-plans.plans in
+    let same = length_permutation (all_ballots plans) (plain lines) c.in_ok-plans.ensures.ballots in
+    omega (arith, same, c.lines_stand_for_ballots.ensures.count lines, c.lines-sound.ensures.sound.bounded)

@@ -1,0 +1,33 @@
+// A whole run.
+ghost use Rattle.std.specs.Prelude.{map, string_bytes};
+ghost use Rattle.tool_edge.specs.Streams.{reading, writing};
+ghost use Rattle.tool_edge.specs.Tool.{IsRun};
+ghost use Rattle.blt_normal.specs.Owed.{normal_tool};
+
+use crate::rewriting::rewrite;
+use byte_edge::{Sink, Source};
+use std::alloc::Global;
+use tool_edge::{End, FILE_LIMIT, files_are_not_refused, open, takes_nothing};
+
+/// Writes the canonical text of the ballot file that the source gives. No words are taken. All memory
+/// is taken before the first byte.
+pub fn normal<S: Source, K: Sink>(
+    alloc: Global,
+    words: &[String],
+    source: &mut S,
+    sink: &mut K,
+) -> End
+    ensures { IsRun normal_tool (map string_bytes words.now)
+        (reading S.left S.faults source.old source.new) (writing K.written K.faults sink.old sink.new) result }
+{
+    files_are_not_refused();
+    let asked = takes_nothing(words);
+    let opened = match open(alloc, asked, FILE_LIMIT, source, sink) {
+        Ok(opened) => opened,
+        Err(end) => return end,
+    };
+    rewrite(alloc, opened.input.as_slice(), sink)
+}
+
+#[cfg(test)]
+mod tests;
