@@ -1,4 +1,4 @@
-// Whole runs over memory: files worked by hand, the examples twice, refusals, and a sink that fails.
+// Whole runs over memory: files worked by hand, one of them written twice, refusals, and a sink that fails.
 use super::*;
 use byte_edge::{MemorySink, MemorySource};
 use std::test::Fail;
