@@ -4,5 +4,7 @@ pub mod TrieLemmas
 mod BagLemmas
 mod DealingLemmas
 mod ForestLemmas
+mod RunLemmas
+mod ChainLemmas
 mod GroupLemmas
 mod ShareLemmas

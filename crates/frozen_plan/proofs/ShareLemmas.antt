@@ -16,7 +16,7 @@ use Rattle.frozen_plan.specs.declared.share.Share.{Share}
 use Rattle.frozen_plan.specs.Share.{until_zero, rest_of, rests, IsKept, IsShare, line_count}
 use Rattle.frozen_plan.specs.Dealing.{dealt, share}
 use Rattle.frozen_plan.specs.Dealt.{IsDealt, AreDealt}
-use Rattle.frozen_plan.proofs.GroupLemmas.{length-rests}
+use Rattle.frozen_plan.proofs.RunLemmas.{length-rests}
 use Rattle.std.proofs.lemmas.List.Sums.{sum_by-cons}
 use Rattle.frozen_plan.proofs.DealingLemmas.{All-one, share_more, dealt_here, dealt_elsewhere, dealt_some}
 

@@ -3,6 +3,7 @@
 //! them.
 #![tactic(auto)]
 
+mod chain;
 mod dealing;
 mod groups;
 mod laws;

@@ -1,4 +1,4 @@
-// Ballots of three candidates, and rows, for the tests.
+// Ballots and rows for the tests.
 ghost use Rattle.std.specs.Prelude.{◌≡◌, ◌≤◌, IfOk, OnOk};
 
 use crate::PlanRow;
@@ -6,7 +6,7 @@ use plain_ballots::{BallotLine, Ballots, Ranking};
 use std::alloc::Global;
 use std::test::Fail;
 
-/// No ballots.
+/// No ballots of three candidates.
 pub(crate) fn no_ballots(alloc: Global) -> Ballots
     ensures { result.candidates ≡ 3 }
 {
@@ -20,11 +20,10 @@ pub(crate) fn add(
     count: u32,
     ranks: &[u32],
 ) -> Result<(), Fail>
-    requires candidates { ballots.old.candidates ≡ 3 }
     requires some { 1 ≤ count }
-    ensures { ballots.new.candidates ≡ 3 }
+    ensures { ballots.new.candidates ≡ ballots.old.candidates }
 {
-    let ranking = Ranking::try_new(alloc, 3, ranks)?;
+    let ranking = Ranking::try_new(alloc, ballots.candidates(), ranks)?;
     ballots.push_line(BallotLine { count, ranking })?;
     Ok(())
 }

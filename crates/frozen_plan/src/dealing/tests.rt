@@ -1,4 +1,4 @@
-// Five lines, dealt by hand.
+// Lines dealt by hand.
 ghost use Rattle.std.specs.Prelude.{◌≡◌, ◌≤◌, IfOk};
 
 use super::*;
@@ -66,5 +66,53 @@ fn each_plan_has_its_share(rt: HostRuntime) -> Result<(), Fail> {
     }
     let empty = Plans::dealt(alloc, &no_ballots(alloc), 1)?;
     assert_eq!(rt; empty.get(0).rows(), [row(0, 0, 0, 1)].as_slice());
+    Ok(())
+}
+
+#[test]
+fn equal_lines_are_counted_together(rt: HostRuntime) -> Result<(), Fail> {
+    let alloc = rt.alloc();
+    let mut ballots = no_ballots(alloc);
+    add(alloc, &mut ballots, 3, &[1, 2])?;
+    add(alloc, &mut ballots, 4, &[])?;
+    add(alloc, &mut ballots, 1, &[3])?;
+    add(alloc, &mut ballots, 2, &[1, 2])?;
+    add(alloc, &mut ballots, 5, &[])?;
+    let rows = [
+        row(0, 0, 15, 4),
+        row(1, 1, 5, 2),
+        row(2, 2, 5, 1),
+        row(1, 3, 1, 1),
+    ];
+    let plans = Plans::dealt(alloc, &ballots, 1)?;
+    assert_eq!(rt; plans.get(0).rows(), rows.as_slice());
+    Ok(())
+}
+
+/// Nine or ten candidates, the first eight of them alike, and the later ones out of order.
+#[test]
+fn long_rankings_that_begin_alike_come_into_order(rt: HostRuntime) -> Result<(), Fail> {
+    let alloc = rt.alloc();
+    let mut ballots = Ballots::new(alloc, 10);
+    add(alloc, &mut ballots, 2, &[1, 2, 3, 4, 5, 6, 7, 8, 10])?;
+    add(alloc, &mut ballots, 1, &[1, 2, 3, 4, 5, 6, 7, 8, 9, 10])?;
+    add(alloc, &mut ballots, 3, &[1, 2, 3, 4, 5, 6, 7, 8, 9])?;
+    add(alloc, &mut ballots, 4, &[1, 2, 3, 4, 5, 6, 7, 8, 10])?;
+    let rows = [
+        row(0, 0, 10, 12),
+        row(1, 1, 10, 11),
+        row(2, 2, 10, 10),
+        row(3, 3, 10, 9),
+        row(4, 4, 10, 8),
+        row(5, 5, 10, 7),
+        row(6, 6, 10, 6),
+        row(7, 7, 10, 5),
+        row(8, 8, 10, 4),
+        row(9, 9, 4, 2),
+        row(10, 10, 1, 1),
+        row(9, 10, 6, 1),
+    ];
+    let plans = Plans::dealt(alloc, &ballots, 1)?;
+    assert_eq!(rt; plans.get(0).rows(), rows.as_slice());
     Ok(())
 }

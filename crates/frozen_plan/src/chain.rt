@@ -1,0 +1,48 @@
+// The rows of a single line: each node is below the one before.
+ghost use Rattle.std.specs.Prelude.{◌≡◌, ◌+◌, ◌≤◌, ◌++◌, length, IfOk, OnOk};
+ghost use Rattle.frozen_plan.specs.Forest.{rows_of};
+ghost use Rattle.frozen_plan.specs.Groups.{chain};
+ghost use Rattle.frozen_plan.specs.Share.{rest_of};
+
+use crate::rows::append;
+use crate::share::{Placed, rank_at};
+use crate::{NoMemory, PlanRow};
+
+/// Appends the nodes of a line by what stands in its ranking from place `at` from 0 on, and gives how
+/// many ballots it has.
+pub(crate) fn push_line(
+    ranks: &[u8],
+    line: Placed,
+    at: u16,
+    rows: &mut Vec<PlanRow>,
+) -> Result<u64, NoMemory>
+    requires short { at + length (rest_of ranks.now at line) ≤ 250 }
+    ensures rows { IfOk result (λ _. rows.new.items ≡ rows.old.items ++ rows_of (at + 1) (chain line.count (rest_of ranks.now at line))) }
+    ensures total { IfOk result (λ n. n ≡ line.count) }
+{
+    let ballots = line.count as u64;
+    let end = end_of(ranks, line, at);
+    for i in at..end {
+        let row = PlanRow {
+            depth: i + 1,
+            candidate: rank_at(ranks, line, i) as u16,
+            ballots,
+            skip: (end - i) as usize,
+        };
+        append(rows, row)?;
+    }
+    Ok(ballots)
+}
+
+/// The place from 0 behind a line's last rank, which is at `at` or behind it.
+fn end_of(ranks: &[u8], line: Placed, at: u16) -> u16
+    requires short { at + length (rest_of ranks.now at line) ≤ 250 }
+    ensures { result ≡ at + length (rest_of ranks.now at line) }
+{
+    for i in at..250 {
+        if rank_at(ranks, line, i) == 0 {
+            return i;
+        }
+    }
+    250
+}
