@@ -1,6 +1,7 @@
 mod Cuts
 mod Decisions
 mod Digits
+mod FormValues
 mod LineLemmas
 mod LineLists
 mod LineParts
@@ -8,5 +9,6 @@ mod Places
 mod ReadRows
 mod ReadSheet
 mod RowLines
+mod RowValues
 mod SheetLines
 mod WordLines

@@ -79,7 +79,7 @@ read_more {X} f g p all left new line same read next is =
     ∙ sym (ap (λ (xs : List X). xs ++ new) (each_place-more g p) ∙ append_assoc (each_place p g) (g p ∷ []) new)
 
 -- where nobody is marked there is no line, and else one
-any_none : (marks : List Bool) → list_any (λ mark. mark) marks ≡ false → (c : ℕ) → listed c marks ≡ []
+pub any_none : (marks : List Bool) → list_any (λ mark. mark) marks ≡ false → (c : ℕ) → listed c marks ≡ []
 any_none [] e c = refl
 any_none (true ∷ marks) e c = absurd cc
 any_none (false ∷ marks) e c = any_none marks e (c + 1)

@@ -64,7 +64,7 @@ decision_is elected capped step tied rest =
     ∙ ap (λ (ls : List (List ℕ)). marked_lines (codes "elected") elected ++ ls) (append_assoc (marked_lines (codes "capped") capped) (step_line step tied ∷ []) rest)
 
 -- behind the lines of marks
-marks_once : (word : List ℕ) (marks others : List Bool) (rest behind : List (List ℕ))
+pub marks_once : (word : List ℕ) (marks others : List Bool) (rest behind : List (List ℕ))
     → ((text : List ℕ) (more : List (List ℕ)) → rest ≢ (word ++ text) ∷ more)
     → ((text : List ℕ) (more : List (List ℕ)) → behind ≢ (word ++ text) ∷ more)
     → marked_lines word marks ++ rest ≡ marked_lines word others ++ behind → rest ≡ behind

@@ -4,4 +4,6 @@ pub mod LineList
 pub mod Refusal
 pub mod Values
 pub mod Form
+pub mod Reading
+pub mod Laws
 pub mod Parts

@@ -5,6 +5,7 @@
 mod cut;
 mod decision;
 mod head;
+mod laws;
 mod lines;
 mod list;
 mod number;
@@ -17,6 +18,7 @@ mod sheet_stop;
 mod sheet_values;
 mod standing;
 
+pub use laws::written_values_are_read;
 pub use list::read_list;
 pub use number::{read_count, read_units};
 pub use push_back::PushBack;

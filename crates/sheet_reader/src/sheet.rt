@@ -1,9 +1,9 @@
 // A sheet as a whole.
 ghost use Rattle.std.specs.Prelude.{◌≡◌, ◌≤◌, ◌∷◌, ◌++◌, All, codes, MatchResult};
-ghost use Rattle.sheet_reader.specs.Form.{HasForm, IsPrintableRow};
+ghost use Rattle.sheet_reader.specs.Form.{IsPrintableRow};
 ghost use Rattle.sheet_reader.specs.Parts.{NoRows, rows_lines};
+ghost use Rattle.sheet_reader.specs.Reading.{Reads};
 ghost use Rattle.sheet_reader.specs.Refusal.{Stops};
-ghost use Rattle.sheet_reader.specs.Values.{SheetList};
 
 use crate::head::{read_counts, read_title};
 use crate::lines::{Lines, is_ended};
@@ -16,9 +16,7 @@ use std::alloc::Global;
 
 /// The values of which a text is the sheet, at nine places.
 pub fn read_sheet(alloc: Global, bytes: &[u8]) -> Result<SheetValues, SheetStop>
-    ensures { MatchResult result
-        (λ values. HasForm 9 bytes.now values)
-        (λ stop. Stops stop ((values : SheetList) → ¬ (HasForm 9 bytes.now values))) }
+    ensures { Reads bytes.now result }
 {
     if !is_ended(bytes) {
         return Err(SheetStop::Malformed);
