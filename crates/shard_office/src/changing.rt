@@ -21,9 +21,10 @@ use number_tie::Tie;
 use std::sync::Wait;
 use turn_lock::{Seat, TurnLock};
 
-/// Answers a change under the turn of its shard, and marks it under that of the register. The shard's
-/// turn is held until the mark is made; that the register's is given back first is no clause. After
-/// want of memory the change comes back, and neither seat gave anything.
+/// Marks a change under the turns of its shard and of the register, and answers it under that of its shard
+/// alone. The shard's turn is held from before the mark until the entry is there, so whoever has it finds as
+/// many entries as marks; that the register's is given back first is no clause. After want of memory the
+/// change comes back, and neither seat gave anything.
 pub(crate) fn change<R: Wait, G: Gate>(
     rt: &R,
     gate: &G,
@@ -68,14 +69,15 @@ pub(crate) fn change<R: Wait, G: Gate>(
     }
     let reply = enter(
         held.value_mut(),
-        kept.value_mut(),
+        register,
+        marks,
+        kept,
         tie,
         caller,
         change,
         number,
     );
     held.value().vouch();
-    register.give_with(marks, kept);
     shard.give_with(mine, held);
     Ok(reply)
 }
