@@ -6,5 +6,6 @@ mod DealingLemmas
 mod ForestLemmas
 mod RunLemmas
 mod ChainLemmas
+mod MergeLemmas
 mod GroupLemmas
 mod ShareLemmas

@@ -7,6 +7,7 @@ mod chain;
 mod dealing;
 mod groups;
 mod laws;
+mod merge;
 mod no_memory;
 mod plan;
 mod plan_row;

@@ -4,13 +4,15 @@ ghost use Rattle.frozen_plan.specs.Plan.{IsPlan, plan_ballots};
 ghost use Rattle.frozen_plan.specs.Share.{IsShare, line_count, rests};
 
 use crate::groups::push_group;
+use crate::merge::merge;
 use crate::rows::append;
 use crate::share::{Placed, Share};
 use crate::{NoMemory, Plan, PlanRow};
 use std::alloc::Global;
 
 impl Plan {
-    /// The plan of the lines that were dealt to a shard. They are sorted on the way.
+    /// The plan of the lines that were dealt to a shard. They are sorted, and equal ones
+    /// made one, on the way.
     pub(crate) fn from_share(
         alloc: Global,
         candidates: u32,
@@ -24,7 +26,9 @@ impl Plan {
     {
         share.lines.sort_unstable_by_key(|line| line.front);
         let ranks = share.ranks.as_slice();
-        let rows = rows_of_lines(alloc, candidates, ranks, share.lines.as_mut_slice())?;
+        let lines = share.lines.as_mut_slice();
+        let kept = merge(ranks, lines);
+        let rows = rows_of_lines(alloc, candidates, ranks, &mut lines[..kept])?;
         Ok(Plan { candidates, rows })
     }
 }

@@ -1,0 +1,49 @@
+// Equal lines of a share that stand beside each other, made one.
+ghost use Rattle.std.specs.Prelude.{◌≡◌, ℕ, ◌≤◌, length, take, true};
+ghost use Rattle.frozen_plan.specs.Share.{IsShare, line_count, rest_of, rests};
+
+use crate::share::{Placed, rank_at};
+
+/// Puts one line for all equal ones that stand beside each other to the front, and gives how many there
+/// are then.
+pub(crate) fn merge(ranks: &[u8], lines: &mut [Placed]) -> usize
+    requires few { line_count lines.old ≤ 999999999 }
+    ensures within { result ≤ length lines.new }
+    ensures sound { (n : ℕ) → IsShare n ranks.now lines.old → IsShare n ranks.now (take result lines.new) }
+    ensures ballots { rests ranks.now 0 (take result lines.new) ≡ rests ranks.now 0 lines.old }
+{
+    if lines.len() == 0 {
+        return 0;
+    }
+    let mut last = 0;
+    for i in 1..lines.len() {
+        let (one, line) = (lines[last], lines[i]);
+        if are_equal(ranks, one, line) {
+            let count = one.count + line.count;
+            lines[last] = Placed { count, ..one };
+            continue;
+        }
+        last += 1;
+        lines[last] = line;
+    }
+    last + 1
+}
+
+/// Whether two lines have the same ranking. Where their fronts differ, the ranks are not looked at.
+fn are_equal(ranks: &[u8], one: Placed, other: Placed) -> bool
+    ensures { result ≡ true → rest_of ranks.now 0 one ≡ rest_of ranks.now 0 other }
+{
+    if one.front != other.front {
+        return false;
+    }
+    for at in 0..250 {
+        let rank = rank_at(ranks, one, at);
+        if rank != rank_at(ranks, other, at) {
+            return false;
+        }
+        if rank == 0 {
+            return true;
+        }
+    }
+    false
+}
