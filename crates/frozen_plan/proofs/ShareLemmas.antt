@@ -158,14 +158,13 @@ share_counted candidates n s lines one is =
     omega (arith, length-rests one.ranks.items 0 one.lines.items, ap length is.ballots, share_few n s 0 lines)
 
 -- one more line is dealt
-pub dealt_turn : (candidates i m : ℕ) (lines : List BallotLine) (line : BallotLine) (shares : List Share) (d : Share) (placed : Placed) (new : Share)
-    → candidates ≤ 250 → i < length lines → line ≡ get_or lines i line → IsRanking candidates line.ranking → 1 ≤ line.count → 1 ≤ m → length shares ≡ m
-    → placed.start ≡ length (get_or shares (i % m) d).ranks.items → placed.count ≡ line.count
-    → new.ranks.items ≡ (get_or shares (i % m) d).ranks.items ++ (line.ranking ++ 0 ∷ []) → new.lines.items ≡ (get_or shares (i % m) d).lines.items ++ placed ∷ []
-    → AreDealt candidates (take i lines) shares → AreDealt candidates (take (i + 1) lines) (set shares (i % m) new)
-dealt_turn candidates i m lines line shares d placed new few inside at ranking some shards as_many start count bytes_are lines_are before s e within =
-    let k = i % m in
-    let here : k < m = mod-lt i {m = m} (omega (arith, shards)) in
+pub dealt_turn : (candidates i m k : ℕ) (lines : List BallotLine) (line : BallotLine) (shares : List Share) (d : Share) (placed : Placed) (new : Share)
+    → candidates ≤ 250 → i < length lines → line ≡ get_or lines i line → IsRanking candidates line.ranking → 1 ≤ line.count → 1 ≤ m → length shares ≡ m → k ≡ i % m
+    → placed.start ≡ length (get_or shares k d).ranks.items → placed.count ≡ line.count
+    → new.ranks.items ≡ (get_or shares k d).ranks.items ++ (line.ranking ++ 0 ∷ []) → new.lines.items ≡ (get_or shares k d).lines.items ++ placed ∷ []
+    → AreDealt candidates (take i lines) shares → AreDealt candidates (take (i + 1) lines) (set shares k new)
+dealt_turn candidates i m k lines line shares d placed new few inside at ranking some shards as_many turn start count bytes_are lines_are before s e within =
+    let here : k < m = omega (arith, turn, mod-lt i {m = m} (omega (arith, shards))) in
     let short : s < length shares = omega (arith, within, length-set shares k new) in
     let all = as_many ∙ sym (length-set shares k new ∙ as_many) in
     let old : IsDealt candidates m (k + 1) (take i lines) (get_or shares k d) = subst (λ (t : ℕ). IsDealt candidates t (k + 1) (take i lines) (get_or shares k d)) as_many (before k d (omega (arith, here, as_many))) in
@@ -174,11 +173,11 @@ dealt_turn candidates i m lines line shares d placed new few inside at ranking s
     (λ (same : ((s == k) ≡ true) × (s ≡ k)).
     subst (λ (t : ℕ). IsDealt candidates m (t + 1) (take (i + 1) lines) (get_or (set shares k new) t e)) (sym same.1)
     (subst (IsDealt candidates m (k + 1) (take (i + 1) lines)) (sym (get_or-set_same shares k new e (omega (arith, here, as_many))))
-    (dealt_to candidates m k i lines line placed (get_or shares k d) new few inside at ranking some refl start count bytes_are lines_are old)))
+    (dealt_to candidates m k i lines line placed (get_or shares k d) new few inside at ranking some (sym turn) start count bytes_are lines_are old)))
     (λ (other : ((s == k) ≡ false) × (s ≢ k)).
     let kept : IsDealt candidates m (s + 1) (take i lines) (get_or shares s e) = subst (λ (t : ℕ). IsDealt candidates t (s + 1) (take i lines) (get_or shares s e)) as_many (before s e short) in
     subst (IsDealt candidates m (s + 1) (take (i + 1) lines)) (sym (get_or-set_other shares k s new e other.1))
-    (not_dealt_to candidates m s i lines line (get_or shares s e) inside at (λ same. other.1 (sym same)) kept))
+    (not_dealt_to candidates m s i lines line (get_or shares s e) inside at (λ same. other.1 (sym same ∙ sym turn)) kept))
     (eqb_tells s k))
 
 -- sorted lines are as good

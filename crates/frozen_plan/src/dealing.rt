@@ -1,5 +1,5 @@
 // Ballots dealt out among shards, and a plan of what each gets.
-ghost use Rattle.std.specs.Prelude.{◌≡◌, ℕ, ◌+◌, ◌<◌, ◌≤◌, [], ◌∷◌, ◌++◌, All, IfOk, OnOk, length, IsPermutation};
+ghost use Rattle.std.specs.Prelude.{◌≡◌, ℕ, ◌+◌, ◌%◌, ◌<◌, ◌≤◌, [], ◌∷◌, ◌++◌, All, IfOk, OnOk, length, IsPermutation};
 ghost use Rattle.plain_ballots.specs.Ballots.{plain, IsSound};
 ghost use Rattle.frozen_plan.specs.Dealing.{share, AreOfShares};
 ghost use Rattle.frozen_plan.specs.Dealt.{AreDealt, AreEmpty};
@@ -73,8 +73,18 @@ fn deal(candidates: u32, lines: &[BallotLine], shares: &mut [Share]) -> Result<(
     ensures { OnOk result (AreDealt candidates lines.now shares.new) }
 {
     let shards = shares.len();
-    for (i, line) in lines.iter().enumerate() {
-        shares[i % shards].take(line)?;
+    let mut turn = 0;
+    for line in lines {
+        shares[turn].take(line)?;
+        turn = after(turn, shards);
     }
     Ok(())
+}
+
+/// Whose turn it is after another's, of so many in a circle.
+fn after(turn: usize, shards: usize) -> usize
+    requires { turn < shards }
+    ensures { result ≡ (turn + 1) % shards }
+{
+    if turn + 1 < shards { turn + 1 } else { 0 }
 }

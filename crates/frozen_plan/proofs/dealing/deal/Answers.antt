@@ -1,4 +1,5 @@
-use Rattle.std.proofs.Common.{◌≤◌, ◌%◌, length, get_or, arith, refl, sym, subst}
+use Rattle.std.proofs.Common.{ℕ, ◌+◌, ◌≤◌, ◌%◌, length, get_or, arith, refl, ap, sym, ◌∙◌, subst}
+use Rattle.std.proofs.Math.Nat.{mod-add-mod}
 use Rattle.plain_ballots.specs.declared.ballot_line.BallotLine.{BallotLine}
 use Rattle.plain_ballots.specs.Ranking.{IsRanking}
 use Rattle.ranking_trie.proofs.LineLemmas.{ranking_at}
@@ -9,17 +10,23 @@ use Rattle.frozen_plan.proofs.dealing.deal.Goals as goal
 pub take-requires : goal.take-requires
 take-requires c =
     let n = c.args.candidates in
-    let line = c.index-lines-i.result in
-    let ranking : IsRanking n line.ranking = ranking_at n c.args.lines.now c.loop-i.i line c.requires.sound c.loop-i-test.true c.index-lines-i.is in
+    let line = c.line-item.result in
+    let ranking : IsRanking n line.ranking = ranking_at n c.args.lines.now c.loop-line.line-index line c.requires.sound c.loop-line-test.true c.line-item.is in
     λ k d inside. omega (arith, (ranking.numbers k d inside).1, c.requires.candidates)
 
-pub loop-i-preserved : goal.loop-i-preserved
-loop-i-preserved c =
+pub loop-line-preserved : goal.loop-line-preserved
+loop-line-preserved c =
     let n = c.args.candidates in
-    let i = c.loop-i.i in
-    let line = c.index-lines-i.result in
-    let ranking : IsRanking n line.ranking = ranking_at n c.args.lines.now i line c.requires.sound c.loop-i-test.true c.index-lines-i.is in
-    let counted : 1 ≤ line.count = subst (λ (l : BallotLine). 1 ≤ l.count) (sym c.index-lines-i.is) (c.requires.sound.counted i line c.loop-i-test.true) in
-    let placed : Placed = record { front = c.in_ok-take.ensures.lines.0; start = length (get_or c.loop-i.shares (c.loop-i.i % length c.args.shares.now) c.index-shares-i.result).ranks.items; count = line.count } in
-    dealt_turn n i (length c.args.shares.now) c.args.lines.now line c.loop-i.shares c.index-shares-i.result placed c.take.new.self
-    c.requires.candidates c.loop-i-test.true c.index-lines-i.is ranking counted c.requires.some c.loop-i.auto.shares refl refl c.in_ok-take.ensures.ranks c.in_ok-take.ensures.lines.1 c.loop-i.invariant
+    let i = c.loop-line.line-index in
+    let turn = c.loop-line.turn in
+    let m = length c.args.shares.now in
+    let line = c.line-item.result in
+    let before = c.loop-line.invariant in
+    let ranking : IsRanking n line.ranking = ranking_at n c.args.lines.now i line c.requires.sound c.loop-line-test.true c.line-item.is in
+    let counted : 1 ≤ line.count = subst (λ (l : BallotLine). 1 ≤ l.count) (sym c.line-item.is) (c.requires.sound.counted i line c.loop-line-test.true) in
+    let placed : Placed = record { front = c.in_ok-take.ensures.lines.0; start = length (get_or c.loop-line.shares turn c.index-shares-turn.result).ranks.items; count = line.count } in
+    record {
+      dealt = dealt_turn n i m turn c.args.lines.now line c.loop-line.shares c.index-shares-turn.result placed c.take.new.self
+          c.requires.candidates c.loop-line-test.true c.line-item.is ranking counted c.requires.some c.loop-line.auto.shares before.turn refl refl c.in_ok-take.ensures.ranks c.in_ok-take.ensures.lines.1 before.dealt;
+      turn = c.after-turn.ensures ∙ (ap (λ (t : ℕ). (t + 1) % m) before.turn ∙ mod-add-mod i m 1);
+    }
