@@ -3,6 +3,7 @@ mod NextIteration
 pub mod WholeCount
 pub mod Leading
 mod StepLemmas
+mod RowRanges
 mod EndLemmas
 mod LoneBallotHolds
 pub mod WorkedHolds

@@ -12,7 +12,7 @@ use Rattle.lot_order.proofs.LotsLemmas.{first_marked-order, marked-below}
 use Rattle.meek_rule.specs.declared.step.Step.{Step}
 use Rattle.meek_rule.specs.declared.step.Step.TheVariants.{Elected, Iterate, Defeat}
 use Rattle.meek_rule.specs.Places.{each_place, marked_count}
-use Rattle.meek_rule.specs.Situation.{Situation, IsValid, is_complete, is_hopeful, elected_count, hopeful_count, steps_left}
+use Rattle.meek_rule.specs.Situation.{Situation, IsValid, IsOnItsWay, is_complete, is_hopeful, elected_count, hopeful_count, steps_left}
 use Rattle.meek_rule.specs.Row.{Row}
 use Rattle.meek_rule.specs.Quota.{quota}
 use Rattle.meek_rule.specs.Winners.{AreWinners}
@@ -22,7 +22,7 @@ use Rattle.meek_rule.specs.Ties.{tied, is_tied}
 use Rattle.meek_rule.specs.Iteration.{Settle, nobody, is_exhausted, is_not_falling, elect, with_elected, with_defeated, with_keeps}
 use Rattle.meek_rule.proofs.ValidLemmas.{valid-with_elected, valid-with_keeps, valid-with_defeated}
 use Rattle.meek_rule.proofs.StateCounts.{hopeful_count-elect, hopeful_count-defeat}
-use Rattle.meek_rule.proofs.ProgressLemmas.{nearer_by_round}
+use Rattle.meek_rule.proofs.ProgressLemmas.{nearer_by_round, on_its_way-round, on_its_way-iteration}
 use Rattle.meek_rule.proofs.TieLemmas.{somebody_tied, somebody_hopeful}
 use Rattle.meek_rule.specs.Precedence.{has_won}
 use Rattle.meek_rule.proofs.WinnersByCount.{winners_by_rank}
@@ -34,6 +34,7 @@ pub record GoesOn (s most : ℕ) (now : Situation) (votes lots : List ℕ) (row 
   pub valid : IsValid s next
   pub same_length : length next.states ≡ length now.states
   pub nearer : steps_left most next < steps_left most now
+  pub on_its_way : IsOnItsWay most now → IsOnItsWay most next
 
 -- the row of a step with these winners
 abbrev pub row_of : Situation → (votes : List ℕ) → (elected capped tied : List Bool) → Step → Row
@@ -109,6 +110,7 @@ elected_goes_on s most now votes lots winners valid are some =
       valid = valid-with_elected s now votes lots (quota now.seats votes) winners valid are;
       same_length = length-map-range_with_len _ 0 (length now.states);
       nearer = nearer_by_round most (hopeful_count (elect now.states winners)) (hopeful_count now.states) (unwrap_or now.previous (most + 1)) (omega arith);
+      on_its_way = λ on. on_its_way-round most now (with_elected now winners) on refl refl refl (omega arith) (length-map-range_with_len _ 0 (length now.states));
     }
 
 -- Nobody is elected, and somebody is defeated.
@@ -144,6 +146,7 @@ defeat_goes_on s most now votes lots winners valid order same some are nobody_wo
         valid = valid-with_defeated s now loser valid inside is;
         same_length = length-set now.states (loser - 1) IsNowDefeated;
         nearer = nearer_by_round most (hopeful_count (set now.states (loser - 1) IsNowDefeated)) (hopeful_count now.states) (unwrap_or now.previous (most + 1)) (omega arith);
+        on_its_way = λ on. on_its_way-round most now (with_defeated now loser) on refl refl refl (omega arith) (length-set now.states (loser - 1) IsNowDefeated);
       },
     )
 
@@ -181,6 +184,7 @@ iterate_goes_on s most now votes lots winners valid of_all within are nobody_won
         valid = valid-with_keeps s now votes q u valid;
         same_length = refl;
         nearer = omega arith;
+        on_its_way = λ on. on_its_way-iteration most u now (with_keeps now (new_keeps s now.states now.keeps votes q) u) on refl refl refl less refl;
       },
     )
 

@@ -8,6 +8,7 @@ use Rattle.lot_order.specs.Lots.{IsOrder}
 use Rattle.meek_rule.specs.Rule.{Rule}
 use Rattle.meek_rule.specs.Situation.{Situation, IsValid}
 use Rattle.meek_rule.specs.Row.{Row}
+use Rattle.meek_count.specs.Ranges.{IsInRange}
 use Rattle.meek_count.specs.Rows.{Rows, IsCountUnder}
 
 -- what can be counted: at most 999,999,999 rankings of the roll's candidates, and an order of lots of all of them
@@ -47,3 +48,10 @@ OrderOfBallotsChangesNothing =
     (rule : Rule) (places omega : ℕ) (ballots other : List (List ℕ)) (roll : RollList) (lots : List ℕ) (rows : List Row) (last : List State)
     → IsPermutation ballots other
     → IsCountUnder rule places omega ballots roll lots rows last ↔ IsCountUnder rule places omega other roll lots rows last
+
+-- Every iteration of an election's count stays in range, and the last states are those of all candidates.
+abbrev pub RowsStayInRange : Type 0
+RowsStayInRange =
+    (rule : Rule) (places omega : ℕ) (ballots : List (List ℕ)) (roll : RollList) (lots : List ℕ) (rows : List Row) (last : List State)
+    → IsElection places omega ballots roll lots → IsCountUnder rule places omega ballots roll lots rows last
+    → All (IsInRange places (length roll.names)) rows × (length last ≡ length roll.names)

@@ -1,5 +1,6 @@
 pub mod Rows
 pub mod Progress
+pub mod Ranges
 pub mod Laws
 pub mod Worked
 pub mod WorkedLoneBallot

@@ -8,6 +8,6 @@ mod turn;
 mod worked;
 
 pub use count::Count;
-pub use laws::counts_are_unique;
+pub use laws::{counts_are_unique, rows_stay_in_range};
 pub use turn::Turn;
 pub use worked::worked_counts;
