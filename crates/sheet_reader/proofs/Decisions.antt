@@ -4,7 +4,7 @@ use Rattle.std.specs.Prelude.{◌≢◌, codes, Option, Some, None, MatchOption}
 use Rattle.meek_rule.specs.declared.step.Step.{Step}
 use Rattle.meek_rule.specs.declared.step.Step.TheVariants.{Elected, Iterate, Defeat}
 use Rattle.sheet_text.specs.Lines.{listed, marked_lines, step_line}
-use Rattle.sheet_reader.specs.Form.{HasTiedFor}
+use Rattle.meek_count.specs.Ranges.{HasTiedFor}
 use Rattle.sheet_reader.specs.Parts.{decision_lines_of, defeat_line}
 use Rattle.sheet_reader.proofs.LineParts.{heads, no_line, line_of_list, with_line}
 use Rattle.sheet_reader.proofs.RowLines.{decision_is, elected_line, iterate_line, step_line_is}

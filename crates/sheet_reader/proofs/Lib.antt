@@ -10,5 +10,6 @@ mod ReadRows
 mod ReadSheet
 mod RowLines
 mod RowValues
+mod SheetForms
 mod SheetLines
 mod WordLines

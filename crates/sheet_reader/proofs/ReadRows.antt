@@ -7,7 +7,8 @@ use Rattle.candidate_roll.specs.declared.state.State.{State}
 use Rattle.fixed_place.specs.Rounding.{scale, most}
 use Rattle.meek_rule.specs.Row.{Row}
 use Rattle.sheet_text.specs.Lines.{row_lines}
-use Rattle.sheet_reader.specs.Form.{HasTiedFor, IsPrintableRow}
+use Rattle.meek_count.specs.Ranges.{HasTiedFor}
+use Rattle.sheet_reader.specs.Form.{IsPrintableRow}
 use Rattle.sheet_reader.specs.Parts.{number_line_of, standing_lines, standing_at, amount_lines_of, decision_lines_of, rows_lines, NoRow, NoRows}
 use Rattle.sheet_reader.proofs.LineParts.{heads, behind_places, behind_as_long}
 use Rattle.sheet_reader.proofs.RowLines.{row_is, rows_cons, behind_row}

@@ -16,7 +16,8 @@ use Rattle.meek_rule.specs.Row.{Row}
 use Rattle.meek_rule.specs.declared.step.Step.{Step}
 use Rattle.meek_rule.specs.declared.step.Step.TheVariants.{Elected, Iterate, Defeat}
 use Rattle.sheet_text.specs.Lines.{listed, marked_lines, step_line, row_lines}
-use Rattle.sheet_reader.specs.Form.{HasTiedFor, IsPrintableRow}
+use Rattle.meek_count.specs.Ranges.{HasTiedFor}
+use Rattle.sheet_reader.specs.Form.{IsPrintableRow}
 use Rattle.sheet_reader.specs.Parts.{number_line_of, standing_lines, standing_at, amount_lines_of, decision_lines_of, rows_lines}
 use Rattle.sheet_reader.proofs.Cuts.{cut_once, decimal_without, amount_injective}
 use Rattle.sheet_reader.proofs.LineLemmas.{listed_once, standing_once}

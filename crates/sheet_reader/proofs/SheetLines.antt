@@ -15,7 +15,8 @@ use Rattle.meek_rule.specs.declared.step.Step.{Step}
 use Rattle.meek_rule.specs.declared.step.Step.TheVariants.{Elected, Iterate, Defeat}
 use Rattle.sheet_text.specs.Lines.{ended, text_of_lines, state_word, listed, marked_lines, step_line, row_lines, outcome_line}
 use Rattle.sheet_reader.specs.Cut.{IsWithout}
-use Rattle.sheet_reader.specs.Form.{HasTiedFor, IsPrintableRow, IsPrintable, HasForm}
+use Rattle.meek_count.specs.Ranges.{HasTiedFor}
+use Rattle.sheet_reader.specs.Form.{IsPrintableRow, IsPrintable, HasForm}
 use Rattle.sheet_reader.specs.LineList.{lines_in}
 use Rattle.sheet_reader.specs.Parts.{count_lines, number_line_of, standing_lines, standing_at, amount_lines_of, decision_lines_of, rows_lines}
 use Rattle.sheet_reader.specs.Values.{SheetList, lines_of}

@@ -9,7 +9,7 @@ use Rattle.candidate_roll.specs.declared.state.State.{State}
 use Rattle.sheet_text.specs.Lines.{state_word}
 use Rattle.meek_rule.specs.declared.step.Step.TheVariants.{Defeat}
 use Rattle.sheet_reader.specs.Cut.{IsWithout}
-use Rattle.sheet_reader.specs.Form.{HasTiedFor}
+use Rattle.meek_count.specs.Ranges.{HasTiedFor}
 use Rattle.sheet_reader.specs.Parts.{number_line_of, defeat_line}
 use Rattle.sheet_reader.specs.Refusal.{Stops}
 use Rattle.sheet_reader.specs.declared.sheet_stop.SheetStop.{SheetStop}

@@ -1,5 +1,13 @@
 -- A sheet that is written is read back.
-use Rattle.std.specs.Prelude.{◌≡◌, ℕ, List, Result}
+use Rattle.std.specs.Prelude.{◌≡◌, ℕ, List, length, All, Result}
+use Rattle.candidate_roll.specs.Name.{IsName}
+use Rattle.candidate_roll.specs.Roll.{RollList}
+use Rattle.candidate_roll.specs.declared.state.State.{State}
+use Rattle.meek_rule.specs.Row.{Row}
+use Rattle.meek_rule.specs.Rule.{Rule}
+use Rattle.meek_count.specs.Laws.{IsElection}
+use Rattle.meek_count.specs.Rows.{IsCountUnder}
+use Rattle.sheet_text.specs.Sheet.{IsSheetUnder}
 use Rattle.sheet_reader.specs.declared.sheet_stop.SheetStop.{SheetStop}
 use Rattle.sheet_reader.specs.Form.{HasForm}
 use Rattle.sheet_reader.specs.Reading.{Reads, IsReadAs}
@@ -15,3 +23,30 @@ abbrev pub WrittenValuesAreRead : Type 0
 WrittenValuesAreRead =
     (bytes : List ℕ) (values : SheetList) (result : Result SheetList SheetStop)
     → HasForm 9 bytes values → Reads bytes result → IsReadAs values result
+
+-- a title and names such as ballot files have
+pub record HasNames (roll : RollList) : Type 0 where
+  pub title : IsName 1000 roll.title
+  pub names : All (IsName 200) roll.names
+
+-- what the sheet of a count says of it
+abbrev pub values_of : RollList → (ballots : ℕ) → List Row → List State → SheetList
+values_of roll ballots rows last =
+    record { title = roll.title; seats = roll.seats; ballots = ballots; names = roll.names; rows = rows; last = last }
+
+-- The sheet of an election has the form, and it says the iterations and the last states of the election's count.
+abbrev pub SheetsHaveTheForm : Type 0
+SheetsHaveTheForm =
+    (rule : Rule) (omega : ℕ) (ballots : List (List ℕ)) (roll : RollList) (lots text : List ℕ) (rows : List Row) (last : List State)
+    → IsElection 9 omega ballots roll lots → HasNames roll
+    → IsSheetUnder rule 9 omega ballots roll lots text → IsCountUnder rule 9 omega ballots roll lots rows last
+    → HasForm 9 text (values_of roll (length ballots) rows last)
+
+-- So a sheet that was written is read back, each amount, state and step of its count as it was.
+abbrev pub SheetsAreReadBack : Type 0
+SheetsAreReadBack =
+    (rule : Rule) (omega : ℕ) (ballots : List (List ℕ)) (roll : RollList) (lots text : List ℕ) (rows : List Row) (last : List State)
+    (result : Result SheetList SheetStop)
+    → IsElection 9 omega ballots roll lots → HasNames roll
+    → IsSheetUnder rule 9 omega ballots roll lots text → IsCountUnder rule 9 omega ballots roll lots rows last
+    → Reads text result → IsReadAs (values_of roll (length ballots) rows last) result

@@ -3,7 +3,7 @@ ghost use Rattle.std.specs.Prelude.{◌≡◌, ◌≢◌, ◌<◌, ◌≤◌, �
 ghost use Rattle.meek_rule.specs.declared.step.Step.{Step};
 ghost use Rattle.meek_rule.specs.declared.step.Step.TheVariants.{Defeat};
 ghost use Rattle.sheet_text.specs.Lines.{listed, marked_lines, step_line};
-ghost use Rattle.sheet_reader.specs.Form.{HasTiedFor};
+ghost use Rattle.meek_count.specs.Ranges.{HasTiedFor};
 ghost use Rattle.sheet_reader.specs.Parts.{decision_lines_of, defeat_line};
 
 use crate::cut::{cut, is_same, strip};

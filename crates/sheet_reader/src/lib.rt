@@ -18,7 +18,7 @@ mod sheet_stop;
 mod sheet_values;
 mod standing;
 
-pub use laws::written_values_are_read;
+pub use laws::{sheets_are_read_back, written_values_are_read};
 pub use list::read_list;
 pub use number::{read_count, read_units};
 pub use push_back::PushBack;

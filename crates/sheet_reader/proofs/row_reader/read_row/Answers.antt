@@ -1,6 +1,7 @@
 use Rattle.std.proofs.Common.{◌≡◌, ℕ, length, sym, ◌∙◌, ap, subst}
 use Rattle.meek_rule.specs.Row.{Row}
-use Rattle.sheet_reader.specs.Form.{HasTiedFor, IsPrintableRow}
+use Rattle.meek_count.specs.Ranges.{HasTiedFor}
+use Rattle.sheet_reader.specs.Form.{IsPrintableRow}
 use Rattle.sheet_reader.proofs.ReadRows.{at_numbers, at_standings, behind_amounts_at, at_decision, behind_amounts, behind_standings, row_read}
 use Rattle.sheet_reader.proofs.row_reader.read_row.Goals as goal
 
