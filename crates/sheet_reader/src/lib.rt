@@ -19,11 +19,8 @@ mod sheet_values;
 mod standing;
 
 pub use laws::{sheets_are_read_back, written_values_are_read};
-pub use list::read_list;
-pub use number::{read_count, read_units};
 pub use push_back::PushBack;
 pub use row_list::RowList;
 pub use sheet::read_sheet;
 pub use sheet_stop::SheetStop;
 pub use sheet_values::SheetValues;
-pub use standing::{Standing, read_standing};

@@ -24,7 +24,7 @@ fn guess(text: &[u8]) -> Option<u64>
 }
 
 /// The whole number that a text without leading zeros writes.
-pub fn read_count(text: &[u8]) -> Option<u64>
+pub(crate) fn read_count(text: &[u8]) -> Option<u64>
     ensures sound { IfSome result (λ n. text.now ≡ decimal n) }
     ensures whole { (n : ℕ) → n < 2 ^ 64 → text.now ≡ decimal n → result ≡ Some n }
 {
@@ -40,7 +40,7 @@ pub fn read_count(text: &[u8]) -> Option<u64>
 }
 
 /// The units of an amount that a text writes: the whole part, a point and `P` digits.
-pub fn read_units<const P: usize>(line: &mut Line, text: &[u8]) -> Option<u64>
+pub(crate) fn read_units<const P: usize>(line: &mut Line, text: &[u8]) -> Option<u64>
     requires places { (6 ≤ P) × (P ≤ 9) }
     ensures sound { IfSome result (λ u. (u ≤ most P) × (text.now ≡ text_of P u)) }
     ensures whole { (u : ℕ) → u ≤ most P → text.now ≡ text_of P u → result ≡ Some u }

@@ -13,14 +13,18 @@ use line_text::Line;
 
 /// A candidate in an iteration, the amounts in units.
 #[derive(Clone, Copy, Debug)]
-pub struct Standing {
+pub(crate) struct Standing {
     pub state: State,
     pub keep: u64,
     pub vote: u64,
 }
 
 /// What candidate p + 1's line says.
-pub fn read_standing<const P: usize>(line: &mut Line, text: &[u8], p: usize) -> Option<Standing>
+pub(crate) fn read_standing<const P: usize>(
+    line: &mut Line,
+    text: &[u8],
+    p: usize,
+) -> Option<Standing>
     requires places { (6 ≤ P) × (P ≤ 9) }
     requires place { p < 250 }
     ensures sound { IfSome result (λ s. (s.keep ≤ scale P) × (s.vote ≤ most P) × (text.now ≡ standing_line P p s.state s.keep s.vote)) }
