@@ -19,10 +19,10 @@ fn main(rt: HostRuntime) -> ExitCode {
         return ExitCode::from(NO_WORDS);
     };
     let Ok(writer) = BufWriter::new(rt.alloc(), io::writer(&rt)) else {
-        return ExitCode::from(End::NoMemory.code());
+        return End::NoMemory.exit_code();
     };
     let mut source = StdSource::new(rt.reader());
     let mut sink = StdSink::new(writer);
     let end = normal(rt.alloc(), words.as_slice(), &mut source, &mut sink);
-    ExitCode::from(end.code())
+    end.exit_code()
 }

@@ -7,7 +7,9 @@ ghost use Rattle.blt_normal.specs.Owed.{normal_tool};
 use crate::rewriting::rewrite;
 use byte_edge::{Sink, Source};
 use std::alloc::Global;
-use tool_edge::{End, FILE_LIMIT, files_are_not_refused, open, takes_nothing};
+use tool_edge::{
+    End, FILE_LIMIT, files_are_not_refused, files_are_refused_once, open, takes_nothing,
+};
 
 /// Writes the canonical text of the ballot file that the source gives. No words are taken. All memory
 /// is taken before the first byte.
@@ -21,6 +23,7 @@ pub fn normal<S: Source, K: Sink>(
         (reading S.left S.faults source.old source.new) (writing K.written K.faults sink.old sink.new) result }
 {
     files_are_not_refused();
+    files_are_refused_once();
     let asked = takes_nothing(words);
     let opened = match open(alloc, asked, FILE_LIMIT, source, sink) {
         Ok(opened) => opened,

@@ -26,9 +26,9 @@ fn main(rt: HostRuntime) -> ExitCode {
         return ExitCode::from(NO_WORDS);
     };
     let Ok(writer) = BufWriter::new(rt.alloc(), io::writer(&rt)) else {
-        return ExitCode::from(End::NoMemory.code());
+        return End::NoMemory.exit_code();
     };
     let mut sink = StdSink::new(writer);
     let end = draw_in_public(rt.alloc(), words.as_slice(), &mut sink);
-    ExitCode::from(end.code())
+    end.exit_code()
 }

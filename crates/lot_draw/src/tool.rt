@@ -72,6 +72,21 @@ mod tests {
         Ok(())
     }
 
+    // The order is that of a program in Python with its hashlib.
+    #[test]
+    fn the_line_of_three_candidates_is_written(rt: HostRuntime) -> Result<(), Fail> {
+        let alloc = rt.alloc();
+        let mut asked = Vec::new(alloc);
+        for word in ["--seed", "2 6 5 3 5", "--candidates", "3"] {
+            asked.push(String::from_str(alloc, word)?)?;
+        }
+        let mut sink = MemorySink::with_room(alloc, 99, 9, Vec::new(alloc))?;
+        let end = draw_in_public(alloc, asked.as_slice(), &mut sink);
+        assert_eq!(rt; end, End::Done);
+        assert_eq!(rt; sink.bytes(), b"2,3,1\n".as_slice());
+        Ok(())
+    }
+
     #[test]
     fn a_flush_that_fails_is_a_fault(rt: HostRuntime) -> Result<(), Fail> {
         let alloc = rt.alloc();

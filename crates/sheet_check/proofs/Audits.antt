@@ -1,5 +1,5 @@
 -- What is accepted is not refused, and what is answered is owed.
-use Rattle.std.proofs.Common.{◌≡◌, ℕ, ◌≤◌, List, length, refl, sym, subst, inl, inr}
+use Rattle.std.proofs.Common.{◌≡◌, ℕ, ◌≤◌, List, length, refl, sym, ◌∙◌, ap, subst, inl, inr}
 use Rattle.std.specs.Prelude.{Err}
 use Rattle.blt_reader.specs.declared.input_fault.InputFault.{InputFault}
 use Rattle.blt_reader.specs.declared.blt_stop.BltStop.{BltStop}
@@ -12,11 +12,11 @@ use Rattle.tool_edge.specs.Refusals.{fault_line}
 use Rattle.tool_edge.specs.Contest.{IsContest}
 use Rattle.tool_edge.specs.Finishing.{Finishes, FinishesOwed, RefusesInput}
 use Rattle.tool_edge.specs.Tool.{IsOwedFor, IsSound}
-use Rattle.tool_edge.specs.Tools.{file_limit, IsContestFile, HaveOneOrder, ContestsAreNotRefused}
+use Rattle.tool_edge.specs.Tools.{file_limit, IsContestFile, HaveOneOrder, FilesAreNotRefused, ContestsAreNotRefused, ContestsAreRefusedOnce}
 use Rattle.blt_reader.specs.Election.{poll}
 use Rattle.sheet_check.specs.Input.{IsSplit}
-use Rattle.sheet_check.specs.Audit.{IsAudit, IsRefusedBehind, EndsInSheet, IsRefusedAudit, ReadsBehind, OwesVerdict, IsOwedVerdict, audits}
-use Rattle.sheet_check.proofs.Splits.{file_once}
+use Rattle.sheet_check.specs.Audit.{IsAudit, behind, IsRefusedBehind, EndsInSheet, IsRefusedAudit, ReadsBehind, OwesVerdict, IsOwedVerdict, audits}
+use Rattle.sheet_check.proofs.Splits.{file_once, sheet_once}
 
 -- ---- soundness
 
@@ -32,8 +32,38 @@ not_refused either lots input fault (sheet, file, split, contest) (inr (other_sh
     not_behind either (length other_sheet) lots file fault contest
     (subst (λ (f : List ℕ). IsRefusedBehind (length other_sheet) lots f fault) (file_once input sheet file other_sheet other split other_split) refused)
 
-pub sound : HaveOneOrder → ContestsAreNotRefused → IsSound audits
-sound one either = record { one = one; either = not_refused either }
+-- what stands behind the sheet is refused with one fault
+behind_once :
+    FilesAreNotRefused → ContestsAreRefusedOnce → (before : ℕ) (lots file : List ℕ) (fault other : InputFault)
+    → IsRefusedBehind before lots file fault → IsRefusedBehind before lots file other → fault ≡ other
+behind_once files once before lots file fault other (inl (of_file, refused, place)) (inl (again, refused_again, place_again)) =
+    place ∙ (ap (behind before) (once lots file of_file again (inl refused) (inl refused_again)) ∙ sym place_again)
+behind_once files once before lots file fault other (inl (of_file, refused, place)) (inr bad) =
+    absurd (files file of_file (bad.poll, bad.file) refused)
+behind_once files once before lots file fault other (inr bad) (inl (again, refused, place)) =
+    absurd (files file again (bad.poll, bad.file) refused)
+behind_once files once before lots file fault other (inr bad) (inr again) = once lots file fault other (inr bad) (inr again)
+
+refused_once :
+    FilesAreNotRefused → ContestsAreRefusedOnce → (lots input : List ℕ) (fault other : InputFault)
+    → IsRefusedAudit lots input fault → IsRefusedAudit lots input other → fault ≡ other
+refused_once files once lots input fault other (inl ends) (inl again) = ends.fault_is ∙ sym again.fault_is
+refused_once files once lots input fault other (inl ends) (inr (sheet, file, split, refused)) =
+    absurd (ends.no_end split.at split.first.stands)
+refused_once files once lots input fault other (inr (sheet, file, split, refused)) (inl ends) =
+    absurd (ends.no_end split.at split.first.stands)
+refused_once files once lots input fault other (inr (sheet, file, split, refused)) (inr (sheet_again, file_again, split_again, refused_again)) =
+    let here = subst (λ (s : List ℕ). IsRefusedBehind (length s) lots file_again other) (sheet_once input sheet file sheet_again file_again split split_again) refused_again in
+    behind_once files once (length sheet) lots file fault other refused
+    (subst (λ (f : List ℕ). IsRefusedBehind (length sheet) lots f other) (file_once input sheet file sheet_again file_again split split_again) here)
+
+pub sound : HaveOneOrder → FilesAreNotRefused → ContestsAreNotRefused → ContestsAreRefusedOnce → IsSound audits
+sound one files either once = record {
+  one = one;
+  either = not_refused either;
+  once = refused_once files once;
+  owed = λ lots input bytes owes. (owes.0, owes.1, owes.2, (owes.3.0, owes.3.1));
+}
 
 -- ---- the whole input
 

@@ -18,6 +18,11 @@ pub file_once : (input sheet file other_sheet other : List ℕ) → IsSplit inpu
 file_once input sheet file other_sheet other one again =
     again.file_is ∙ ap (λ (at : ℕ). drop (at + 4) input) (first_end_once input again.at one.at again.first one.first) ∙ sym one.file_is
 
+-- and the sheet before it
+pub sheet_once : (input sheet file other_sheet other : List ℕ) → IsSplit input sheet file → IsSplit input other_sheet other → other_sheet ≡ sheet
+sheet_once input sheet file other_sheet other one again =
+    again.sheet_is ∙ ap (λ (at : ℕ). take (at + 4) input) (first_end_once input again.at one.at again.first one.first) ∙ sym one.sheet_is
+
 -- sheet and file are no longer than the input
 pub parts_fit : (input sheet file : List ℕ) → IsSplit input sheet file → length sheet + length file ≤ length input
 parts_fit input sheet file is =

@@ -15,8 +15,8 @@ use blt_reader::{FaultKind, InputFault};
 use byte_edge::{Sink, Source};
 use std::alloc::Global;
 use tool_edge::{
-    Contest, End, FILE_LIMIT, contests_are_not_refused, finish, open, refuse, refuse_input,
-    takes_lots, words_have_one_order,
+    Contest, End, FILE_LIMIT, contests_are_not_refused, contests_are_refused_once,
+    files_are_not_refused, finish, open, refuse, refuse_input, takes_lots, words_have_one_order,
 };
 
 /// Checks the sheet at the front of the input against the ballot file behind it, counted with the lots
@@ -31,7 +31,9 @@ pub fn check<S: Source, K: Sink>(
         (reading S.left S.faults source.old source.new) (writing K.written K.faults sink.old sink.new) result }
 {
     words_have_one_order();
+    files_are_not_refused();
     contests_are_not_refused();
+    contests_are_refused_once();
     let asked = takes_lots(alloc, words);
     let opened = match open(alloc, asked, FILE_LIMIT, source, sink) {
         Ok(opened) => opened,

@@ -12,8 +12,13 @@ not_both : (r : Result Day InputFault) (day : Day) (fault : InputFault) → r �
 not_both (Ok other) day fault one two = absurd (cc)
 not_both (Err other) day fault one two = absurd (cc)
 
+one_fault : (r : Result Day InputFault) (fault other : InputFault) → r ≡ Err fault → r ≡ Err other → fault ≡ other
+one_fault r fault other one two = cc
+
 pub sound : AcceptsDays → RefusesByTheRule → IsSound over_days
 sound accepts refuses = record {
   one = λ words asked other one two. refl;
   either = λ asked input fault accepted refused. not_both _ accepted.0 fault ((accepts (scan input true) accepted.0).1 accepted.1) ((refuses (scan input true) fault).1 refused);
+  once = λ asked input fault other refused again. one_fault _ fault other ((refuses (scan input true) fault).1 refused) ((refuses (scan input true) other).1 again);
+  owed = λ asked input bytes owes. (owes.day, owes.accepted);
 }

@@ -1,9 +1,10 @@
 -- Whole runs of a tool, from its parts.
-use Rattle.std.proofs.Common.{◌≡◌, ◌⊎◌, ℕ, ◌≤◌, List, [], ◌++◌, length, refl, sym, ◌∙◌, ap, subst, arith, inl, inr}
+use Rattle.std.proofs.Common.{◌≡◌, ◌⊎◌, ℕ, ◌+◌, ◌<◌, ◌≤◌, List, [], ◌++◌, length, replicate, refl, sym, ◌∙◌, ap, subst, arith, inl, inr}
 use Rattle.std.specs.Prelude.{Option, Some, None, Result, Ok, Err}
-use Rattle.std.proofs.lemmas.List.{append-nil}
+use Rattle.std.proofs.lemmas.List.{append-nil, length-replicate}
 use Rattle.std.specs.Io.KnownBytes.{Appends, Consumes, IsAtEnd}
 use Rattle.byte_edge.specs.Bytes.{IsLongerThan}
+use Rattle.byte_edge.specs.Faults.{Rose}
 use Rattle.blt_reader.specs.declared.input_fault.InputFault.{InputFault}
 use Rattle.blt_reader.specs.declared.blt_stop.BltStop.{BltStop}
 use Rattle.blt_reader.specs.declared.blt_stop.BltStop.TheVariants.{Fault, NoMemory as NoInputRead}
@@ -12,18 +13,44 @@ use Rattle.meek_words.specs.declared.words_stop.WordsStop.{WordsStop}
 use Rattle.meek_words.specs.declared.words_stop.WordsStop.TheVariants.{BadWords as BadWordsStop, NoMemory as NoWordsRead}
 use Rattle.tool_edge.specs.declared.end.End.{End}
 use Rattle.tool_edge.specs.declared.end.End.TheVariants.{Done, SourceFault, BadWords, BadInput, SinkFault, NoMemory}
-use Rattle.tool_edge.specs.Streams.{Reading, Writing, writing, NoReadFailed, NoWriteFailed, NothingRead}
+use Rattle.tool_edge.specs.Streams.{Reading, Writing, writing, NoReadFailed, NoWriteFailed, NothingRead, MayBeLeft}
 use Rattle.tool_edge.specs.Refusals.{fault_line, words_line}
 use Rattle.tool_edge.specs.Finishing.{Finishes, FinishesOwed, RefusesInput}
 use Rattle.tool_edge.specs.Words.{IsAsked}
 use Rattle.tool_edge.specs.Opening.{too_long, ReadsAll, StopsReading, StopsOpening}
-use Rattle.tool_edge.specs.Tool.{Tool, IsRefused, IsOwedFor, IsOwedAt, IsOwed, IsAnswered, IsReadFor, IsAcceptedRun, IsRun, IsSound}
+use Rattle.tool_edge.specs.Tool.{Tool, IsRefused, IsOwedFor, IsOwedAt, IsOwed, IsAnswered, IsReadFor, IsAcceptedRun, IsRefusedInput, IsRefusedRun, IsOnlyRefusal, IsRun, IsSound}
 
 module _ {A : Type 0} (tool : Tool A) where
-  -- ---- completeness
+  -- ---- what is owed for an input that is told
+
+  pub owed_known :
+      (left : Option (List ℕ)) (input : List ℕ) (asked : A) (end : End) (bytes : List ℕ) → left ≡ Some input
+      → IsOwedAt tool asked left end bytes → IsOwedFor tool asked input end bytes
+  owed_known left input asked end bytes told (some, is, owed) =
+      let same : some ≡ input = subst (λ (l : Option (List ℕ)). MayBeLeft l some) told is in
+      subst (λ (i : List ℕ). IsOwedFor tool asked i end bytes) same owed
+
+  -- what is refused is so with one fault
+  pub refused_once :
+      (asked : A) (input : List ℕ) (fault other : InputFault) → IsSound tool → IsRefused tool asked input fault
+      → IsRefused tool asked input other → fault ≡ other
+  refused_once asked input fault other sound (inl long) (inl again) = long.fault_is ∙ sym again.fault_is
+  refused_once asked input fault other sound (inl long) (inr (short, again)) = absurd (omega (arith, long.long, short))
+  refused_once asked input fault other sound (inr (short, refused)) (inl again) = absurd (omega (arith, again.long, short))
+  refused_once asked input fault other sound (inr (short, refused)) (inr (within, again)) =
+      sound.once asked input fault other refused again
+
+  -- the same of what the words may ask for
+  once_for_words :
+      (words : List Word) (asked other : A) (input : List ℕ) (fault another : InputFault) → IsSound tool
+      → tool.Takes words asked → tool.Takes words other → IsRefused tool asked input fault
+      → IsRefused tool other input another → fault ≡ another
+  once_for_words words asked other input fault another sound taken again refused otherwise =
+      refused_once asked input fault another sound refused
+      (subst (λ (a : A). IsRefused tool a input another) (sound.one words other asked again taken) otherwise)
 
   -- what is accepted for the words is not refused for them
-  not_refused :
+  pub not_refused :
       (words : List Word) (asked other : A) (input : List ℕ) (fault : InputFault) → IsSound tool → tool.Takes words asked
       → tool.Takes words other → length input ≤ tool.limit → tool.Accepts asked input
       → IsRefused tool other input fault → ⊥
@@ -32,11 +59,7 @@ module _ {A : Type 0} (tool : Tool A) where
       sound.either asked input fault accepted
       (subst (λ (a : A). tool.Refuses a input fault) (sound.one words other asked again taken) refused)
 
-  owed_known :
-      (left : Option (List ℕ)) (input : List ℕ) (asked : A) (end : End) (bytes : List ℕ) → left ≡ Some input
-      → IsOwedAt tool asked left end bytes → IsOwedFor tool asked input end bytes
-  owed_known left input asked end bytes told owed =
-      subst (λ (l : Option (List ℕ)). IsOwedAt tool asked l end bytes) told owed
+  -- ---- completeness
 
   -- An accepted run in which nothing failed is done, or wants memory.
   complete :
@@ -52,11 +75,69 @@ module _ {A : Type 0} (tool : Tool A) where
       let known = owed_known source.left run.input owed.0 (BadInput fault) is.1.1.0 run.told owed.2 in
       absurd (not_refused words run.asked owed.0 run.input fault sound run.taken owed.1 run.short run.accepted known.0)
 
+  -- Words that are not taken are refused, where nothing failed.
+  refuses_words :
+      (words : List Word) (source : Reading) (sink : Writing) (end : End) → IsAnswered tool words source sink end
+      → ((asked : A) → ¬ tool.Takes words asked) → ¬ Rose sink.faults sink.faults_then → (end ≡ BadWords) ⊎ (end ≡ NoMemory)
+  refuses_words words source sink Done is none calm = absurd (none is.1.1.1.0 is.1.1.1.1)
+  refuses_words words source sink NoMemory is none calm = inr refl
+  refuses_words words source sink SourceFault is none calm = absurd (none is.0.0 is.0.1)
+  refuses_words words source sink SinkFault is none calm = absurd (calm is.1.0)
+  refuses_words words source sink BadWords is none calm = inl refl
+  refuses_words words source sink (BadInput fault) is none calm = absurd (none is.1.1.1.0 is.1.1.1.1)
+
+  -- An input that is refused with a fault is refused with it, where nothing failed.
+  refuses_input :
+      (words : List Word) (source : Reading) (sink : Writing) (end : End) (fault : InputFault) → IsSound tool
+      → IsAnswered tool words source sink end → IsRefusedInput tool words source fault
+      → ¬ Rose sink.faults sink.faults_then → (end ≡ BadInput fault) ⊎ (end ≡ NoMemory)
+  refuses_input words source sink Done fault sound is run calm =
+      let owed = is.1.1.1 in
+      let known = owed_known source.left run.input owed.0 Done is.1.1.0 run.told owed.2 in
+      let accepted = sound.owed owed.0 run.input is.1.1.0 known.1 in
+      absurd (not_refused words owed.0 run.asked run.input fault sound owed.1 run.taken known.0 accepted run.refused)
+  refuses_input words source sink NoMemory fault sound is run calm = inr refl
+  refuses_input words source sink SourceFault fault sound is run calm = absurd (run.no_read_failed is.1)
+  refuses_input words source sink SinkFault fault sound is run calm = absurd (calm is.1.0)
+  refuses_input words source sink BadWords fault sound is run calm = absurd (is.1.1.1.0 run.asked run.taken)
+  refuses_input words source sink (BadInput other) fault sound is run calm =
+      let owed = is.1.1.1 in
+      let known = owed_known source.left run.input owed.0 (BadInput other) is.1.1.0 run.told owed.2 in
+      inl (ap BadInput (once_for_words words owed.0 run.asked run.input other fault sound owed.1 run.taken known.0 run.refused))
+
+  refuses :
+      (words : List Word) (source : Reading) (sink : Writing) (end due : End) → IsSound tool
+      → IsAnswered tool words source sink end → IsRefusedRun tool words source sink due → (end ≡ due) ⊎ (end ≡ NoMemory)
+  refuses words source sink end BadWords sound is run = refuses_words words source sink end is run.0 run.1
+  refuses words source sink end (BadInput fault) sound is run = refuses_input words source sink end fault sound is run.0 run.1
+  refuses words source sink end due sound is run = absurd run
+
+  -- What an input is refused for is its only fault.
+  only :
+      (words : List Word) (source : Reading) (sink : Writing) (fault : InputFault) → IsSound tool
+      → IsAnswered tool words source sink (BadInput fault) → IsOnlyRefusal tool words source.left fault
+  only words source sink fault sound is =
+      let owed = is.1.1.1 in
+      record {
+        no_other = λ asked input other taken told refused.
+            let known = owed_known source.left input owed.0 (BadInput fault) is.1.1.0 told owed.2 in
+            once_for_words words asked owed.0 input other fault sound taken owed.1 refused known.0;
+        not_accepted = λ asked input taken told short accepted.
+            let known = owed_known source.left input owed.0 (BadInput fault) is.1.1.0 told owed.2 in
+            not_refused words asked owed.0 input fault sound taken owed.1 short accepted known.0;
+      }
+
   run_of :
       (words : List Word) (source : Reading) (sink : Writing) (end : End) → IsSound tool
       → IsAnswered tool words source sink end → IsReadFor tool end source → IsRun tool words source sink end
   run_of words source sink end sound answer read =
-      record { answer = answer; read = read; complete = complete words source sink end sound answer }
+      record {
+        answer = answer;
+        read = read;
+        complete = complete words source sink end sound answer;
+        refuses = λ due. refuses words source sink end due sound answer;
+        only = λ fault same. only words source sink fault sound (subst (λ (e : End). IsAnswered tool words source sink e) same answer);
+      }
 
   -- ---- a run that is over before the work
 
@@ -76,8 +157,11 @@ module _ {A : Type 0} (tool : Tool A) where
   long_owed :
       (asked : A) (left : Option (List ℕ)) → IsLongerThan tool.limit left
       → IsOwedAt tool asked left (BadInput (too_long tool.limit)) (fault_line (too_long tool.limit))
-  long_owed asked None long = tt
-  long_owed asked (Some input) long = (inl (record { long = long; fault_is = refl }), refl)
+  long_owed asked None long =
+      let input = replicate (tool.limit + 1) 0 in
+      let longer : tool.limit < length input = omega (arith, length-replicate {A = ℕ} (tool.limit + 1) 0) in
+      (input, tt, (inl (record { long = longer; fault_is = refl }), refl))
+  long_owed asked (Some input) long = (input, refl, (inl (record { long = long; fault_is = refl }), refl))
 
   stopped_at_source :
       (words : List Word) (asked : A) (end : End) (source : Reading) (sink : Writing) → IsSound tool
@@ -115,14 +199,18 @@ module _ {A : Type 0} (tool : Tool A) where
   same_input : (input rest items : List ℕ) → input ≡ items ++ rest → rest ≡ [] → input ≡ items
   same_input input rest items took end = took ∙ (ap (λ (r : List ℕ). items ++ r) end ∙ append-nil items)
 
+  all_left :
+      (left left_then : Option (List ℕ)) (items : List ℕ) → Consumes left left_then items → IsAtEnd left_then
+      → MayBeLeft left items
+  all_left None left_then items took ended = tt
+  all_left (Some input) None items took ended = absurd took
+  all_left (Some input) (Some rest) items took ended = sym (same_input input rest items took ended)
+
   owed_of :
       (left left_then : Option (List ℕ)) (items : List ℕ) (asked : A) (end : End) (bytes : List ℕ)
       → Consumes left left_then items → IsAtEnd left_then → IsOwedFor tool asked items end bytes
       → IsOwedAt tool asked left end bytes
-  owed_of None left_then items asked end bytes took ended owed = tt
-  owed_of (Some input) None items asked end bytes took ended owed = absurd took
-  owed_of (Some input) (Some rest) items asked end bytes took ended owed =
-      subst (λ (i : List ℕ). IsOwedFor tool asked i end bytes) (sym (same_input input rest items took ended)) owed
+  owed_of left left_then items asked end bytes took ended owed = (items, all_left left left_then items took ended, owed)
 
   -- what is owed for the input is owed for the words that asked for it
   owed_for_words :

@@ -1,5 +1,5 @@
 -- What a run is seen to do with its source and its sink.
-use Rattle.std.specs.Prelude.{◌≡◌, ℕ, List, Option}
+use Rattle.std.specs.Prelude.{◌≡◌, ℕ, List, Option, Some, None}
 use Rattle.std.specs.Io.KnownBytes.{Keeps}
 
 -- a source at the call and at the return: the bytes left, where it tells them, and its count of faults
@@ -24,6 +24,11 @@ reading left faults old new = record { left = left old; left_then = left new; fa
 abbrev pub writing : {K : Type 0} → (K → Option (List ℕ)) → (K → ℕ) → K → K → Writing
 writing written faults old new =
     record { written = written old; written_then = written new; faults = faults old; faults_then = faults new }
+
+-- the input that was left: just this one where the source tells it, and else any
+abbrev pub MayBeLeft : (left : Option (List ℕ)) → (input : List ℕ) → Type 0
+MayBeLeft None input = Unit {0}
+MayBeLeft (Some bytes) input = input ≡ bytes
 
 abbrev pub NoReadFailed : Reading → Type 0
 NoReadFailed source = source.faults_then ≡ source.faults

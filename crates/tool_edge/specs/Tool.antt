@@ -1,5 +1,5 @@
 -- A tool, and what a run of it is.
-use Rattle.std.specs.Prelude.{◌≡◌, ◌⊎◌, ℕ, ◌≤◌, List, length, Option, Some, None}
+use Rattle.std.specs.Prelude.{◌≡◌, ◌⊎◌, ℕ, ◌≤◌, List, length, Option, Some}
 use Rattle.std.specs.Io.KnownBytes.{IsAtEnd}
 use Rattle.byte_edge.specs.Faults.{Rose}
 use Rattle.blt_reader.specs.declared.input_fault.InputFault.{InputFault}
@@ -7,7 +7,7 @@ use Rattle.meek_words.specs.Numerals.{Word}
 use Rattle.tool_edge.specs.declared.end.End.{End}
 use Rattle.tool_edge.specs.declared.end.End.TheVariants.{Done, SourceFault, BadWords, BadInput, NoMemory}
 use Rattle.tool_edge.specs.Refusals.{fault_line, words_line}
-use Rattle.tool_edge.specs.Streams.{Reading, Writing, NoReadFailed, NothingRead, NothingWritten}
+use Rattle.tool_edge.specs.Streams.{Reading, Writing, NoReadFailed, NothingRead, NothingWritten, MayBeLeft}
 use Rattle.tool_edge.specs.Finishing.{Answers}
 use Rattle.tool_edge.specs.Opening.{IsTooLong}
 
@@ -32,10 +32,9 @@ module _ {A : Type 0} (tool : Tool A) where
   IsOwedFor asked input (BadInput fault) bytes = IsRefused asked input fault × (bytes ≡ fault_line fault)
   IsOwedFor asked input other bytes = ⊥
 
-  -- the same of an input that may not be known
+  -- the same for the input that was left, and for some input where the source doesn't tell it
   abbrev pub IsOwedAt : A → (left : Option (List ℕ)) → End → (bytes : List ℕ) → Type 0
-  IsOwedAt asked None end bytes = Unit {0}
-  IsOwedAt asked (Some input) end bytes = IsOwedFor asked input end bytes
+  IsOwedAt asked left end bytes = (input : List ℕ) × MayBeLeft left input × IsOwedFor asked input end bytes
 
   -- Words that are not taken are answered by their line; others ask for the input.
   abbrev pub IsOwed : List Word → (left : Option (List ℕ)) → End → (bytes : List ℕ) → Type 0
@@ -68,16 +67,47 @@ module _ {A : Type 0} (tool : Tool A) where
     pub no_read_failed : ¬ Rose source.faults source.faults_then
     pub no_write_failed : ¬ Rose sink.faults sink.faults_then
 
-  -- A whole run: its end has its cause, and an accepted run in which nothing failed is done, or wants memory.
+  -- words that are taken, and an input that is refused with this fault, where no read failed
+  pub record IsRefusedInput (words : List Word) (source : Reading) (fault : InputFault) : Type 0 where
+    pub asked : A
+    pub taken : tool.Takes words asked
+    pub input : List ℕ
+    pub told : source.left ≡ Some input
+    pub refused : IsRefused asked input fault
+    pub no_read_failed : ¬ Rose source.faults source.faults_then
+
+  -- how a run is to be refused in which no write failed: words that are not taken, or an input that is refused
+  abbrev pub IsRefusedRun : List Word → Reading → Writing → (due : End) → Type 0
+  IsRefusedRun words source sink BadWords =
+      ((asked : A) → ¬ tool.Takes words asked) × ¬ Rose sink.faults sink.faults_then
+  IsRefusedRun words source sink (BadInput fault) =
+      IsRefusedInput words source fault × ¬ Rose sink.faults sink.faults_then
+  IsRefusedRun words source sink other = ⊥
+
+  -- The input that was left is refused with no other fault, and it is not accepted.
+  pub record IsOnlyRefusal (words : List Word) (left : Option (List ℕ)) (fault : InputFault) : Type 0 where
+    pub no_other : (asked : A) (input : List ℕ) (other : InputFault) → tool.Takes words asked → left ≡ Some input
+        → IsRefused asked input other → other ≡ fault
+    pub not_accepted : (asked : A) (input : List ℕ) → tool.Takes words asked → left ≡ Some input
+        → length input ≤ tool.limit → ¬ tool.Accepts asked input
+
+  -- A whole run: its end has its cause. An accepted run in which nothing failed is done, one that is to be refused is
+  -- refused so, or either wants memory; and what an input is refused for is its only fault.
   pub record IsRun (words : List Word) (source : Reading) (sink : Writing) (end : End) : Type 0 where
     pub answer : IsAnswered words source sink end
     pub read : IsReadFor end source
     pub complete : IsAcceptedRun words source sink → (end ≡ Done) ⊎ (end ≡ NoMemory)
+    pub refuses : (due : End) → IsRefusedRun words source sink due → (end ≡ due) ⊎ (end ≡ NoMemory)
+    pub only : (fault : InputFault) → end ≡ BadInput fault → IsOnlyRefusal words source.left fault
 
-  -- Words ask for one thing, and what is accepted is not refused.
+  -- Words ask for one thing. What is accepted is not refused, what is refused is so with one fault, and only for what is
+  -- accepted anything is owed.
   pub record IsSound : Type 0 where
     pub one : (words : List Word) (asked other : A) → tool.Takes words asked → tool.Takes words other → asked ≡ other
     pub either : (asked : A) (input : List ℕ) (fault : InputFault) → tool.Accepts asked input → tool.Refuses asked input fault → ⊥
+    pub once : (asked : A) (input : List ℕ) (fault other : InputFault) → tool.Refuses asked input fault
+        → tool.Refuses asked input other → fault ≡ other
+    pub owed : (asked : A) (input bytes : List ℕ) → tool.Owes asked input bytes → tool.Accepts asked input
 
 -- what a tool owes that takes words and reads nothing
 abbrev pub IsOwedForWords :

@@ -47,7 +47,18 @@ HaveOneOrder = (words : List Word) (one other : List ℕ) → TakesLots words on
 abbrev pub FilesAreNotRefused : Type 0
 FilesAreNotRefused = (input : List ℕ) (fault : InputFault) → IsFile input → IsRefusedFile input fault → ⊥
 
+-- A file is refused with one fault at most.
+abbrev pub FilesAreRefusedOnce : Type 0
+FilesAreRefusedOnce =
+    (input : List ℕ) (fault other : InputFault) → IsRefusedFile input fault → IsRefusedFile input other → fault ≡ other
+
 -- A file and lots that are accepted are not refused.
 abbrev pub ContestsAreNotRefused : Type 0
 ContestsAreNotRefused =
     (lots input : List ℕ) (fault : InputFault) → IsContestFile lots input → IsRefusedContest lots input fault → ⊥
+
+-- A file and lots are refused with one fault at most.
+abbrev pub ContestsAreRefusedOnce : Type 0
+ContestsAreRefusedOnce =
+    (lots input : List ℕ) (fault other : InputFault) → IsRefusedContest lots input fault
+    → IsRefusedContest lots input other → fault ≡ other

@@ -1,8 +1,10 @@
 // How a run ended.
 ghost use Rattle.std.specs.Prelude.{◌≡◌, ◌≤◌};
+ghost use Rattle.std.specs.Process.{exit_status};
 ghost use Rattle.tool_edge.specs.End.{code_of};
 
 use blt_reader::InputFault;
+use std::process::ExitCode;
 
 /// How a run ended.
 #[derive(Clone, Copy, Debug, PartialEq, Eq)]
@@ -22,8 +24,15 @@ pub enum End {
 }
 
 impl End {
-    /// The program's exit status.
-    pub fn code(&self) -> u8
+    /// The exit status of a program whose run ended so.
+    pub fn exit_code(&self) -> ExitCode
+        ensures value { exit_status result ≡ code_of self.now }
+        ensures below { exit_status result ≤ 5 }
+    {
+        ExitCode::from(self.code())
+    }
+
+    fn code(&self) -> u8
         ensures value { result ≡ code_of self.now }
         ensures below { result ≤ 5 }
     {
@@ -58,7 +67,7 @@ mod tests {
             End::NoMemory,
         ];
         for (end, code) in ends.iter().zip(0..6) {
-            assert_eq!(rt; end.code(), code);
+            assert_eq!(rt; end.exit_code(), ExitCode::from(code));
         }
     }
 }

@@ -1,11 +1,11 @@
-//! The edge that every tool beside the program shares: from its words and its source to one result and
-//! one flush.
+//! The edge that the program and every tool beside it share: from the words and the source to one result
+//! and one flush.
 //!
-//! A tool reads its words ([`takes_lots`], [`takes_nothing`]), then the whole source ([`open`]), judges
-//! the input ([`Contest::read`] for a ballot file with an order of lots), and writes what is owed, with
-//! one flush behind the last byte ([`finish`], [`close`]); a refusal is one line ([`refuse`],
-//! [`refuse_input`], [`refuse_words`]). How that ended is an [`End`]. [`words_of`] gives a `main` its
-//! words.
+//! A tool reads its words ([`takes_lots`], [`takes_nothing`]), then the whole source ([`open`], or
+//! [`read_input`] where it reads words of its own), judges the input ([`Contest::read`] for a ballot file
+//! with an order of lots), and writes what is owed, with one flush behind the last byte ([`finish`],
+//! [`close`]); a refusal is one line ([`refuse`], [`refuse_input`], [`refuse_words`]). How that ended is
+//! an [`End`], which has the exit status. [`words_of`] gives a `main` its words.
 #![tactic(auto)]
 
 mod contest;
@@ -20,8 +20,11 @@ mod words;
 pub use contest::{Contest, lots_stop};
 pub use end::End;
 pub use finishing::{close, finish};
-pub use laws::{contests_are_not_refused, files_are_not_refused, words_have_one_order};
-pub use opening::{FILE_LIMIT, Opened, open};
+pub use laws::{
+    contests_are_not_refused, contests_are_refused_once, files_are_not_refused,
+    files_are_refused_once, words_have_one_order,
+};
+pub use opening::{FILE_LIMIT, Opened, open, read_input};
 pub use process::{NO_WORDS, words_of};
 pub use refusal::{refuse, refuse_input, refuse_words};
 pub use words::{lots_of, takes_lots, takes_nothing};

@@ -47,7 +47,7 @@ pub fn open<A: Drop, S: Source, K: Sink>(
 }
 
 /// Reads the source to its end. Where that can't be done, what the sink is owed was written.
-fn read_input<S: Source, K: Sink>(
+pub fn read_input<S: Source, K: Sink>(
     alloc: Global,
     limit: usize,
     source: &mut S,

@@ -9,7 +9,8 @@ use crate::counting::count;
 use byte_edge::{Sink, Source};
 use std::alloc::Global;
 use tool_edge::{
-    End, FILE_LIMIT, contests_are_not_refused, open, takes_lots, words_have_one_order,
+    End, FILE_LIMIT, contests_are_not_refused, contests_are_refused_once, open, takes_lots,
+    words_have_one_order,
 };
 
 /// Does what the words ask for: `--lots` and a list of lots ask for the sheet by Warren's rule of the
@@ -25,6 +26,7 @@ pub fn warren<S: Source, K: Sink>(
 {
     words_have_one_order();
     contests_are_not_refused();
+    contests_are_refused_once();
     let asked = takes_lots(alloc, words);
     let opened = match open(alloc, asked, FILE_LIMIT, source, sink) {
         Ok(opened) => opened,
