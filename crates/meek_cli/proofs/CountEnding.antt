@@ -1,29 +1,21 @@
 -- How the writing of a count ends.
-use Rattle.std.proofs.Common.{◌≡◌, ℕ, ◌+◌, ◌≤◌, List, [], length, false, refl, sym, subst, inl, inr}
-use Rattle.std.specs.Prelude.{Option, IsPermutation}
-use Rattle.std.proofs.lemmas.List.{append-nil}
-use Rattle.std.specs.Io.KnownBytes.{Keeps}
-use Rattle.std.proofs.KnownBytes.{Appends-kept}
-use Rattle.byte_edge.specs.Faults.{Rose}
+use Rattle.std.proofs.Common.{◌≡◌, ℕ, ◌≤◌, List, length, subst, inl, inr}
+use Rattle.std.specs.Prelude.{Option, Result, Ok, Err, OnOk, OnErr, IsPermutation}
+use Rattle.byte_edge.specs.Faults.{CountsFault}
 use Rattle.candidate_roll.specs.Roll.{RollList}
-use Rattle.lot_order.specs.Lots.{IsLotsStop}
-use Rattle.lot_order.specs.declared.lots_stop.LotsStop.{LotsStop}
-use Rattle.lot_order.specs.declared.lots_stop.LotsStop.TheVariants.{NotAll, Twice, OutOfRange, NoMemory as NoLots}
-use Rattle.blt_reader.specs.declared.fault_kind.FaultKind.TheVariants.{BadLots}
-use Rattle.blt_reader.specs.Scan.{scan}
+use Rattle.plain_ballots.specs.Ballots.{plain}
 use Rattle.blt_reader.specs.Poll.{Poll}
-use Rattle.blt_reader.specs.Blt.{IsBlt}
-use Rattle.blt_reader.specs.Refusal.{IsAccepted}
 use Rattle.meek_rule.specs.Rule.{Meek}
 use Rattle.meek_count.specs.Progress.{Progress}
 use Rattle.sheet_text.specs.Laws.{OrderOfBallotsLeavesTheSheet}
 use Rattle.sheet_text.specs.Sheet.{IsSheet, IsSheetOf, AppendsSheet, AppendsFrontOfSheet}
-use Rattle.meek_cli.specs.declared.status.Status.{Status}
-use Rattle.meek_cli.specs.declared.status.Status.TheVariants.{Done, BadInput, SinkFault}
-use Rattle.meek_cli.specs.Streams.{Writing, NoWriteFailed}
-use Rattle.meek_cli.specs.Refusals.{fault_line}
-use Rattle.meek_cli.specs.Owed.{count_limit}
-use Rattle.meek_cli.specs.Run.{FinishesCount, RefusesLots, WritesCount}
+use Rattle.tool_edge.specs.declared.end.End.{End as Status}
+use Rattle.tool_edge.specs.declared.end.End.TheVariants.{Done}
+use Rattle.tool_edge.specs.Streams.{Writing, writing}
+use Rattle.tool_edge.specs.Contest.{SaysContest}
+use Rattle.tool_edge.specs.Finishing.{Wrote}
+use Rattle.tool_edge.specs.Tools.{file_limit}
+use Rattle.meek_cli.specs.Run.{FinishesCount, WritesCount}
 
 -- the count is of these single ballots, this roll and these lots, with the program's omega
 pub record IsCountOf (roll : RollList) (lots : List ℕ) (ballots : List (List ℕ)) (count : Progress) : Type 0 where
@@ -41,37 +33,17 @@ sheet_of roll lots ballots count text of is =
     (subst (λ (r : RollList). IsSheet 9 count.now.omega count.ballots r lots text) of.roll_is
     (subst (λ (l : List ℕ). IsSheet 9 count.now.omega count.ballots count.roll l text) of.lots_are is)))
 
--- writing the sheet failed
-pub stopped_in_sheet :
-    (roll : RollList) (lots : List ℕ) (ballots : List (List ℕ)) (count : Progress) (sink : Writing)
-    → IsCountOf roll lots ballots count → AppendsFrontOfSheet Meek 9 count sink.written sink.written_then
-    → Rose sink.faults sink.faults_then → WritesCount roll lots ballots SinkFault sink
-stopped_in_sheet roll lots ballots count sink of (text, is, front) rose =
-    inr (text, sheet_of roll lots ballots count text of is, inr (refl, rose, front))
-
--- the flush behind the sheet failed
-pub stopped_in_flush :
-    (roll : RollList) (lots : List ℕ) (ballots : List (List ℕ)) (count : Progress) (sink : Writing) (mid : Option (List ℕ))
-    → IsCountOf roll lots ballots count → AppendsSheet Meek 9 count sink.written mid → Keeps mid sink.written_then
-    → Rose sink.faults sink.faults_then → WritesCount roll lots ballots SinkFault sink
-stopped_in_flush roll lots ballots count sink mid of (text, is, whole) kept rose =
-    inr (
-      text,
-      sheet_of roll lots ballots count text of is,
-      inr (refl, rose, (text, [], sym (append-nil text), Appends-kept sink.written mid sink.written_then text whole kept)),
-    )
-
--- the sheet was written
+-- the sheet was written, or a front of it
 pub wrote_sheet :
-    (roll : RollList) (lots : List ℕ) (ballots : List (List ℕ)) (count : Progress) (sink : Writing) (mid : Option (List ℕ))
-    → IsCountOf roll lots ballots count → AppendsSheet Meek 9 count sink.written mid → Keeps mid sink.written_then
-    → NoWriteFailed sink → WritesCount roll lots ballots Done sink
-wrote_sheet roll lots ballots count sink mid of (text, is, whole) kept calm =
-    inr (
-      text,
-      sheet_of roll lots ballots count text of is,
-      inl (refl, calm, Appends-kept sink.written mid sink.written_then text whole kept),
-    )
+    {K T E : Type 0} (written : K → Option (List ℕ)) (faults : K → ℕ) (old new : K) (roll : RollList) (lots : List ℕ)
+    (ballots : List (List ℕ)) (count : Progress) (r : Result T E) → IsCountOf roll lots ballots count
+    → OnOk r (AppendsSheet Meek 9 count (written old) (written new))
+    → OnErr r (AppendsFrontOfSheet Meek 9 count (written old) (written new)) → CountsFault (faults old) (faults new) r
+    → (text : List ℕ) × IsSheet 9 1000 ballots roll lots text × Wrote text r (writing written faults old new)
+wrote_sheet written faults old new roll lots ballots count (Ok done) of (text, is, whole) front calm =
+    (text, sheet_of roll lots ballots count text of is, (calm, whole))
+wrote_sheet written faults old new roll lots ballots count (Err stop) of whole (text, is, front) rose =
+    (text, sheet_of roll lots ballots count text of is, (rose, front))
 
 -- the order of the ballots makes no difference to what their count came to
 pub in_any_order :
@@ -82,31 +54,11 @@ in_any_order roll lots other ballots status sink leaves same (inl nothing) = inl
 in_any_order roll lots other ballots status sink leaves same (inr (bytes, is, finishes)) =
     inr (bytes, (leaves Meek 9 1000 other ballots roll lots bytes same).0 is, finishes)
 
--- a file was read, and the lots are not an order of its candidates
-pub refused_lots :
-    (lots input : List ℕ) (poll : Poll) (stop : LotsStop) (status : Status) (sink : Writing)
-    → length input ≤ count_limit → IsAccepted (IsBlt 999999999) (scan input false) poll
-    → IsLotsStop (length poll.roll.names) lots stop → RefusesLots (length lots) stop status sink
+-- The sheet of the file's ballots is what is owed for the file.
+pub counted :
+    (lots input : List ℕ) (poll : Poll) (status : Status) (sink : Writing) → length input ≤ file_limit
+    → SaysContest lots input poll → WritesCount poll.roll lots (plain poll.lines) status sink
     → FinishesCount lots input status sink
-refused_lots lots input poll (NotAll c) status sink short file is finishes =
-    inr (
-      BadInput (record { kind = BadLots; at = length lots + 1 }),
-      fault_line (record { kind = BadLots; at = length lots + 1 }),
-      (inr (inr (record { short = short; poll = poll; file = file; place = length lots + 1; lots_at = inr (inr (c, is, refl)); fault_is = refl })), refl),
-      finishes,
-    )
-refused_lots lots input poll (Twice place) status sink short file is finishes =
-    inr (
-      BadInput (record { kind = BadLots; at = place }),
-      fault_line (record { kind = BadLots; at = place }),
-      (inr (inr (record { short = short; poll = poll; file = file; place = place; lots_at = inl is; fault_is = refl })), refl),
-      finishes,
-    )
-refused_lots lots input poll (OutOfRange place) status sink short file is finishes =
-    inr (
-      BadInput (record { kind = BadLots; at = place }),
-      fault_line (record { kind = BadLots; at = place }),
-      (inr (inr (record { short = short; poll = poll; file = file; place = place; lots_at = inr (inl is); fault_is = refl })), refl),
-      finishes,
-    )
-refused_lots lots input poll NoLots status sink short file is finishes = inl finishes
+counted lots input poll status sink short says (inl nothing) = inl nothing
+counted lots input poll status sink short says (inr (bytes, is, finishes)) =
+    inr (Done, bytes, (short, record { poll = poll; says = says; sheet = is }), finishes)

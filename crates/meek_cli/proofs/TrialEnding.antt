@@ -23,17 +23,18 @@ use Rattle.batch_core.specs.Histories.{after_all, standing_after, struck_after}
 use Rattle.frozen_plan.specs.Plan.{all_ballots}
 use Rattle.shard_office.specs.Versions.{VersionState}
 use Rattle.meek_trial.specs.Trial.{trial_day}
-use Rattle.meek_cli.specs.declared.status.Status.{Status}
-use Rattle.meek_cli.specs.declared.status.Status.TheVariants.{Done}
+use Rattle.tool_edge.specs.declared.end.End.{End as Status}
+use Rattle.tool_edge.specs.declared.end.End.TheVariants.{Done}
 use Rattle.meek_cli.specs.declared.summary.Summary.{Summary}
 use Rattle.meek_cli.specs.declared.terms.Terms.{Terms}
 use Rattle.meek_cli.specs.declared.turns.Turns.{Turns}
 use Rattle.meek_cli.specs.CountedOut.{IsCountedOut}
 use Rattle.meek_cli.specs.DayText.{roll_with}
 use Rattle.meek_cli.specs.MadeDay.{made_day, MadeDaysAreDays}
-use Rattle.meek_cli.specs.Streams.{Writing}
+use Rattle.tool_edge.specs.Streams.{Writing}
 use Rattle.meek_cli.specs.Summary.{standing_batches, summary_of, summary_lines, IsSummaryOf}
-use Rattle.meek_cli.specs.Run.{Finishes, FinishesTrial, PlaysTrial, WritesSummary, WritesSummaryOf}
+use Rattle.tool_edge.specs.Finishing.{Finishes}
+use Rattle.meek_cli.specs.Run.{FinishesTrial, PlaysTrial, WritesSummary, WritesSummaryOf}
 use Rattle.meek_cli.proofs.LastFreeze.{IsClerks}
 
 -- the text of a made day is read as the made day

@@ -4,6 +4,8 @@ use Rattle.std.proofs.lemmas.List.{append_assoc}
 use Rattle.std.proofs.KnownBytes.{Appends-nil, Appends-trans}
 use Rattle.sheet_text.specs.Lines.{text_of_lines}
 use Rattle.sheet_text.specs.Writing.{Writes}
+use Rattle.tool_edge.specs.Streams.{writing}
+use Rattle.tool_edge.specs.Finishing.{Wrote}
 use Rattle.meek_cli.specs.Bytes.{WroteBytes, StoppedBytes, WritesBytes}
 
 pub wrote_no_bytes : {S : Type 0} (w : S → Option (List ℕ)) (f : S → ℕ) (a : S) → WroteBytes w f a a []
@@ -69,3 +71,10 @@ pub writes_text :
     → Writes w f a b lines r → WritesBytes w f a b (text_of_lines lines) r
 writes_text w f a b lines (Ok x) did = record { whole = did.whole; calm = did.calm }
 writes_text w f a b lines (Err e) did = record { part = did.part; rose = did.rose }
+
+-- what was written, as the end of a run takes it
+pub wrote_of :
+    {S T E : Type 0} (w : S → Option (List ℕ)) (f : S → ℕ) (a b : S) (bytes : List ℕ) (r : Result T E)
+    → WritesBytes w f a b bytes r → Wrote bytes r (writing w f a b)
+wrote_of w f a b bytes (Ok x) did = (did.calm, did.whole)
+wrote_of w f a b bytes (Err e) did = (did.rose, did.part)

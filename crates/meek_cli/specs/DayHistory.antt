@@ -25,11 +25,6 @@ pub record EndsWithTheClerk (history : List Entry) : Type 0 where
   pub last : history ≡ before ++ clerk_freeze ∷ []
   pub no_other : own_calls 0 before ≡ []
 
--- the history of an office, whoever called
-pub record IsOfficeHistory (history : List Entry) : Type 0 where
-  pub legal : IsLegal history
-  pub ends : EndsWithTheClerk history
-
 -- The history of these scripts: each team's calls are its whole script, in its order, and nobody else has called.
 pub record IsHistoryOf (scripts : List Script) (history : List Entry) : Type 0 where
   pub legal : IsLegal history

@@ -1,7 +1,4 @@
-pub mod Status
-pub mod Streams
 pub mod Bytes
-pub mod Refusals
 pub mod DayText
 pub mod DayHistory
 pub mod Frozen

@@ -1,16 +1,10 @@
 -- What is owed for words and an input: a status, a history, and the bytes to be written with it.
-use Rattle.std.specs.Prelude.{◌≡◌, ◌⊎◌, ℕ, ◌+◌, ◌<◌, ◌≤◌, List, [], length, true, false, Option, Some, None}
-use Rattle.lot_order.specs.Lots.{IsOrder, IsTwiceAt, IsOutOfRangeAt, IsFirstMissing}
-use Rattle.lot_order.specs.declared.lots_stop.LotsStop.{LotsStop}
-use Rattle.lot_order.specs.declared.lots_stop.LotsStop.TheVariants.{NotAll, Twice, OutOfRange, NoMemory as NoLots}
+use Rattle.std.specs.Prelude.{◌≡◌, ◌⊎◌, ℕ, ◌≤◌, List, [], length, true, Option}
 use Rattle.plain_ballots.specs.Ballots.{plain}
-use Rattle.blt_reader.specs.declared.fault_kind.FaultKind.TheVariants.{BadLots, TooLong}
 use Rattle.blt_reader.specs.declared.input_fault.InputFault.{InputFault}
 use Rattle.blt_reader.specs.Scan.{scan}
 use Rattle.blt_reader.specs.Poll.{Poll}
-use Rattle.blt_reader.specs.Blt.{IsBlt}
 use Rattle.blt_reader.specs.Refusal.{IsAccepted}
-use Rattle.blt_reader.specs.Said.{of_a_file, IsFileRefusal}
 use Rattle.sheet_text.specs.Sheet.{IsSheet}
 use Rattle.batch_core.specs.declared.entry.Entry.{Entry}
 use Rattle.day_reader.specs.declared.day.Day.{Day}
@@ -19,16 +13,17 @@ use Rattle.day_reader.specs.Said.{IsDayRefusal}
 use Rattle.meek_words.specs.Forms.{HasForm}
 use Rattle.meek_words.specs.declared.command.Command.TheVariants.{Count, Day as DayWords, Trial}
 use Rattle.meek_trial.specs.Trial.{trial_day}
-use Rattle.meek_cli.specs.declared.status.Status.{Status}
-use Rattle.meek_cli.specs.declared.status.Status.TheVariants.{Done, SourceFault, BadWords, BadInput, SinkFault, NoMemory}
-use Rattle.meek_cli.specs.Refusals.{fault_line, words_line}
+use Rattle.tool_edge.specs.declared.end.End.{End as Status}
+use Rattle.tool_edge.specs.declared.end.End.TheVariants.{Done, SourceFault, BadWords, BadInput, SinkFault, NoMemory}
+use Rattle.tool_edge.specs.Refusals.{fault_line, words_line}
+use Rattle.tool_edge.specs.Streams.{MayBeLeft}
+use Rattle.tool_edge.specs.Contest.{SaysContest, IsRefusedContest}
+use Rattle.tool_edge.specs.Opening.{IsTooLong}
+use Rattle.tool_edge.specs.Tool.{Tool, IsRefused, IsOwedAt}
+use Rattle.tool_edge.specs.Tools.{file_limit, IsContestFile}
 use Rattle.meek_cli.specs.DayText.{terms_of, IsDayText}
-use Rattle.meek_cli.specs.DayHistory.{IsOfficeHistory, IsHistoryOf}
+use Rattle.meek_cli.specs.DayHistory.{IsHistoryOf}
 use Rattle.meek_cli.specs.Summary.{IsSummary}
-
--- the greatest length of a ballot file, in bytes
-abbrev pub count_limit : ℕ
-count_limit = 67108864
 
 -- the greatest length of a day file, in bytes
 abbrev pub day_limit : ℕ
@@ -54,67 +49,23 @@ AsksForFile words = ((lots : List ℕ) × AsksForCount words lots) ⊎ AsksForDa
 abbrev pub AsksForWork : List (List ℕ) → Type 0
 AsksForWork words = AsksForFile words ⊎ ((number : ℕ) × AsksForTrial words number)
 
--- The input is longer than may be read.
-pub record IsTooLong (limit : ℕ) (input : List ℕ) (fault : InputFault) : Type 0 where
-  pub long : limit < length input
-  pub fault_is : fault ≡ record { kind = TooLong; at = limit }
-
 -- ---- a count
-
--- The input is not too long, it is the file of this poll, and the lots are an order of its candidates.
-pub record SaysPoll (lots input : List ℕ) (poll : Poll) : Type 0 where
-  pub short : length input ≤ count_limit
-  pub file : IsAccepted (IsBlt 999999999) (scan input false) poll
-  pub order : IsOrder lots
-  pub lots_of_all : length lots ≡ length poll.roll.names
-
-pub record IsRefusedFile (input : List ℕ) (fault : InputFault) : Type 0 where
-  pub short : length input ≤ count_limit
-  pub refused : IsFileRefusal of_a_file (scan input false) fault
-
--- The place in the list, from 1, of the first number that is no candidate or has stood before; where there is none
--- and a candidate is missing, the place behind the last.
-abbrev pub IsBadPlace : ℕ → List ℕ → ℕ → Type 0
-IsBadPlace n lots place =
-    IsTwiceAt n lots place
-    ⊎ (IsOutOfRangeAt n lots place ⊎ ((c : ℕ) × IsFirstMissing n lots c × (place ≡ length lots + 1)))
-
--- the fault of lots of this length; none where memory is wanted
-abbrev pub lots_fault : ℕ → LotsStop → Option InputFault
-lots_fault len (NotAll c) = Some (record { kind = BadLots; at = len + 1 })
-lots_fault len (Twice place) = Some (record { kind = BadLots; at = place })
-lots_fault len (OutOfRange place) = Some (record { kind = BadLots; at = place })
-lots_fault len NoLots = None
-
-pub record HasBadLots (lots input : List ℕ) (fault : InputFault) : Type 0 where
-  pub short : length input ≤ count_limit
-  pub poll : Poll
-  pub file : IsAccepted (IsBlt 999999999) (scan input false) poll
-  pub place : ℕ
-  pub lots_at : IsBadPlace (length poll.roll.names) lots place
-  pub fault_is : fault ≡ record { kind = BadLots; at = place }
-
--- why an input is refused: it is too long, or no file, or the lots are not of its candidates
-abbrev pub IsRefused : (lots input : List ℕ) → InputFault → Type 0
-IsRefused lots input fault =
-    IsTooLong count_limit input fault ⊎ (IsRefusedFile input fault ⊎ HasBadLots lots input fault)
 
 -- The sheet that the rule gives over the single ballots, at nine places with an omega of 1,000 units.
 pub record OwesSheet (lots input : List ℕ) (bytes : List ℕ) : Type 0 where
   pub poll : Poll
-  pub says : SaysPoll lots input poll
+  pub says : SaysContest lots input poll
   pub sheet : IsSheet 9 1000 (plain poll.lines) poll.roll lots bytes
 
--- for these lots and this input
-abbrev pub IsOwedForCount : (lots input : List ℕ) → Status → (bytes : List ℕ) → Type 0
-IsOwedForCount lots input Done bytes = OwesSheet lots input bytes
-IsOwedForCount lots input (BadInput fault) bytes = IsRefused lots input fault × (bytes ≡ fault_line fault)
-IsOwedForCount lots input other bytes = ⊥
-
--- the same of an input that may not be known
-abbrev pub IsOwedAt : List ℕ → Option (List ℕ) → Status → List ℕ → Type 0
-IsOwedAt lots None status bytes = Unit {0}
-IsOwedAt lots (Some input) status bytes = IsOwedForCount lots input status bytes
+-- a count: its words, the file with these lots that it accepts, why it refuses another, and what it writes
+abbrev pub counts : Tool (List ℕ)
+counts = record {
+  Takes = AsksForCount;
+  limit = file_limit;
+  Accepts = IsContestFile;
+  Refuses = IsRefusedContest;
+  Owes = OwesSheet;
+}
 
 -- ---- a day
 
@@ -123,9 +74,10 @@ pub record SaysDay (input : List ℕ) (day : Day) : Type 0 where
   pub short : length input ≤ day_limit
   pub file : IsAccepted IsDay (scan input true) day
 
-pub record IsRefusedDay (input : List ℕ) (fault : InputFault) : Type 0 where
-  pub short : length input ≤ day_limit
-  pub refused : IsDayRefusal (scan input true) fault
+-- why an input is refused: it is too long, or no day file
+abbrev pub IsRefusedDay : (input : List ℕ) → InputFault → Type 0
+IsRefusedDay input fault =
+    IsTooLong day_limit input fault ⊎ ((length input ≤ day_limit) × IsDayRefusal (scan input true) fault)
 
 -- The calls of the day's teams are answered as one history, and the text of this history is owed.
 pub record OwesDay (input : List ℕ) (history : List Entry) (bytes : List ℕ) : Type 0 where
@@ -138,14 +90,13 @@ pub record OwesDay (input : List ℕ) (history : List Entry) (bytes : List ℕ) 
 abbrev pub IsOwedForDay : (input : List ℕ) → Status → List Entry → (bytes : List ℕ) → Type 0
 IsOwedForDay input Done history bytes = OwesDay input history bytes
 IsOwedForDay input (BadInput fault) history bytes =
-    (IsTooLong day_limit input fault ⊎ IsRefusedDay input fault) × (history ≡ []) × (bytes ≡ fault_line fault)
+    IsRefusedDay input fault × (history ≡ []) × (bytes ≡ fault_line fault)
 IsOwedForDay input other history bytes = ⊥
 
--- the same of an input that may not be known: a day that is done has the history of an office
-abbrev pub IsDayOwedAt : Option (List ℕ) → Status → List Entry → List ℕ → Type 0
-IsDayOwedAt None Done history bytes = IsOfficeHistory history
-IsDayOwedAt None other history bytes = history ≡ []
-IsDayOwedAt (Some input) status history bytes = IsOwedForDay input status history bytes
+-- the same for the input that was left, and for some input where the source doesn't tell it
+abbrev pub IsDayOwedAt : (left : Option (List ℕ)) → Status → List Entry → (bytes : List ℕ) → Type 0
+IsDayOwedAt left status history bytes =
+    (input : List ℕ) × MayBeLeft left input × IsOwedForDay input status history bytes
 
 -- ---- a trial
 
@@ -163,18 +114,30 @@ IsOwedForTrial number other history bytes = ⊥
 
 -- ---- any words
 
+-- words and an input that are accepted: a file that can be counted by the lots of the words, or a day
+abbrev pub AreAccepted : (words : List (List ℕ)) → (input : List ℕ) → Type 0
+AreAccepted words input =
+    ((lots : List ℕ) × AsksForCount words lots × (length input ≤ file_limit) × IsContestFile lots input)
+    ⊎ (AsksForDay words × ((day : Day) × SaysDay input day))
+
+-- words that ask for an input, and why this one is refused
+abbrev pub AreRefused : (words : List (List ℕ)) → (input : List ℕ) → InputFault → Type 0
+AreRefused words input fault =
+    ((lots : List ℕ) × AsksForCount words lots × IsRefused counts lots input fault)
+    ⊎ (AsksForDay words × IsRefusedDay input fault)
+
 -- what is owed where words ask for something
-abbrev pub IsOwedForWork : (words : List (List ℕ)) → (input : Option (List ℕ)) → Status → List Entry → (bytes : List ℕ) → Type 0
-IsOwedForWork words input status history bytes =
-    ((lots : List ℕ) × AsksForCount words lots × (history ≡ []) × IsOwedAt lots input status bytes)
-    ⊎ ((AsksForDay words × IsDayOwedAt input status history bytes)
+abbrev pub IsOwedForWork : (words : List (List ℕ)) → (left : Option (List ℕ)) → Status → List Entry → (bytes : List ℕ) → Type 0
+IsOwedForWork words left status history bytes =
+    ((lots : List ℕ) × AsksForCount words lots × (history ≡ []) × IsOwedAt counts lots left status bytes)
+    ⊎ ((AsksForDay words × IsDayOwedAt left status history bytes)
     ⊎ ((number : ℕ) × AsksForTrial words number × IsOwedForTrial number status history bytes))
 
 -- Words that ask for nothing are answered by their line.
-abbrev pub IsOwed : (words : List (List ℕ)) → (input : Option (List ℕ)) → Status → List Entry → (bytes : List ℕ) → Type 0
-IsOwed words input BadWords history bytes = (¬ AsksForWork words) × (history ≡ []) × (bytes ≡ words_line)
-IsOwed words input SourceFault history bytes = ⊥
-IsOwed words input SinkFault history bytes = ⊥
-IsOwed words input NoMemory history bytes = ⊥
-IsOwed words input Done history bytes = IsOwedForWork words input Done history bytes
-IsOwed words input (BadInput fault) history bytes = IsOwedForWork words input (BadInput fault) history bytes
+abbrev pub IsOwed : (words : List (List ℕ)) → (left : Option (List ℕ)) → Status → List Entry → (bytes : List ℕ) → Type 0
+IsOwed words left BadWords history bytes = (¬ AsksForWork words) × (history ≡ []) × (bytes ≡ words_line)
+IsOwed words left SourceFault history bytes = ⊥
+IsOwed words left SinkFault history bytes = ⊥
+IsOwed words left NoMemory history bytes = ⊥
+IsOwed words left Done history bytes = IsOwedForWork words left Done history bytes
+IsOwed words left (BadInput fault) history bytes = IsOwedForWork words left (BadInput fault) history bytes

@@ -5,9 +5,10 @@ use Rattle.meek_cli.specs.declared.work.Work.{Work}
 use Rattle.meek_cli.specs.declared.work.Work.TheVariants.{File, Trial}
 use Rattle.meek_cli.specs.declared.file_work.FileWork.{FileWork}
 use Rattle.meek_cli.specs.declared.file_work.FileWork.TheVariants.{Count, Day}
-use Rattle.meek_cli.specs.declared.status.Status.{Status}
-use Rattle.meek_cli.specs.Streams.{Writing}
-use Rattle.meek_cli.specs.Owed.{count_limit, day_limit, AsksForCount, AsksForDay, AsksForTrial}
+use Rattle.tool_edge.specs.declared.end.End.{End as Status}
+use Rattle.tool_edge.specs.Streams.{Writing}
+use Rattle.tool_edge.specs.Tools.{file_limit}
+use Rattle.meek_cli.specs.Owed.{day_limit, AsksForCount, AsksForDay, AsksForTrial}
 use Rattle.meek_cli.specs.Run.{FinishesCount, FinishesDay}
 
 abbrev pub AsksForFileWork : List (List ℕ) → FileWork → Type 0
@@ -25,7 +26,7 @@ IsNumbered (Trial number split) = (1 ≤ number) × (number ≤ 1000)
 
 -- the greatest length of the input, in bytes
 abbrev pub limit_of : FileWork → ℕ
-limit_of (Count lots split) = count_limit
+limit_of (Count lots split) = file_limit
 limit_of (Day split) = day_limit
 
 -- what the work came to with this input

@@ -5,25 +5,25 @@ ghost use Rattle.plain_ballots.specs.Ballots.{plain};
 ghost use Rattle.meek_rule.specs.Rule.{Meek};
 ghost use Rattle.frozen_plan.specs.Plan.{all_ballots};
 ghost use Rattle.vote_spread.specs.Lanes.{HaveCounted};
-ghost use Rattle.meek_cli.specs.Owed.{lots_fault};
-ghost use Rattle.meek_cli.specs.Run.{FinishesCount, RefusesLots, WritesCount};
+ghost use Rattle.tool_edge.specs.Streams.{writing};
+ghost use Rattle.meek_cli.specs.Run.{FinishesCount, WritesCount};
 
 use crate::Status;
 use crate::lent::Lent;
-use crate::refusal::refuse;
 use crate::split::Split;
-use blt_reader::{BltStop, Election, FaultKind, InputFault, read_blt};
+use blt_reader::Election;
 use byte_edge::{Gate, Sink};
 use candidate_roll::Roll;
 use fixed_place::Amount;
 use frozen_plan::Plans;
-use lot_order::{Lots, LotsStop};
+use lot_order::Lots;
 use meek_count::Count;
 use meek_rule::Spread;
 use plain_ballots::{Ballots, lines_stand_for_ballots};
 use sheet_text::{sheets_are_unique, write_sheet};
 use std::alloc::Global;
 use std::thread::Threads;
+use tool_edge::{Contest, close, refuse_input};
 use vote_spread::{Lanes, PlanSpread};
 
 /// Below so many units of 10^-9 votes a surplus is not transferred: 0.000001 votes.
@@ -41,45 +41,18 @@ pub(crate) fn count<R: Threads + Sync, K: Sink, G: Gate + Sync>(
 ) -> Status
     requires { length input.now ≤ 67108864 }
     ensures { FinishesCount lots.now input.now result
-        (record { written = K.written sink.old; written_then = K.written sink.new; faults = K.faults sink.old; faults_then = K.faults sink.new }) }
+        (writing K.written K.faults sink.old sink.new) }
 {
     // Named first, the ballots are let go last: what is let go behind them would have the heap gone
     // over for all their blocks.
-    let Election { ballots, roll } = match read_blt(alloc, input) {
-        Ok(election) => election,
-        Err(BltStop::Fault(fault)) => return refuse(sink, fault),
-        Err(BltStop::NoMemory) => return Status::NoMemory,
-    };
-    let order = match Lots::try_new(alloc, lots, roll.candidates()) {
-        Ok(order) => order,
-        Err(stop) => return refuse_lots(sink, lots, stop),
+    let Contest {
+        election: Election { ballots, roll },
+        lots: order,
+    } = match Contest::read(alloc, lots, input) {
+        Ok(contest) => contest,
+        Err(stop) => return refuse_input(sink, stop),
     };
     count_in_lanes(rt, alloc, &roll, &order, ballots, split, sink, gate)
-}
-
-/// The fault of lots that are not an order of all candidates; none where memory is wanted.
-fn lots_fault(lots: &[u32], stop: LotsStop) -> Option<InputFault>
-    ensures { result ≡ lots_fault (length lots.now) stop }
-{
-    let at = match stop {
-        LotsStop::Twice(place) => place,
-        LotsStop::OutOfRange(place) => place,
-        LotsStop::NotAll(_) => lots.len() + 1,
-        LotsStop::NoMemory => return None,
-    };
-    let kind = FaultKind::BadLots;
-    Some(InputFault { kind, at })
-}
-
-/// Writes the line of lots that are not an order of all candidates.
-fn refuse_lots<K: Sink>(sink: &mut K, lots: &[u32], stop: LotsStop) -> Status
-    ensures { RefusesLots (length lots.now) stop result
-        (record { written = K.written sink.old; written_then = K.written sink.new; faults = K.faults sink.old; faults_then = K.faults sink.new }) }
-{
-    match lots_fault(lots, stop) {
-        Some(fault) => refuse(sink, fault),
-        None => Status::NoMemory,
-    }
 }
 
 /// Counts the ballots of each shard's plan in workers' lanes, and writes the sheet.
@@ -96,7 +69,7 @@ fn count_in_lanes<R: Threads + Sync, K: Sink, G: Gate + Sync>(
     requires lots_of_all { length lots.now ≡ length roll.now.names }
     requires ballots_of_all { ballots.candidates ≡ length roll.now.names }
     ensures { WritesCount roll.now lots.now (plain ballots.lines) result
-        (record { written = K.written sink.old; written_then = K.written sink.new; faults = K.faults sink.old; faults_then = K.faults sink.new }) }
+        (writing K.written K.faults sink.old sink.new) }
 {
     // The sheet of the plans' ballots is that of the file's.
     sheets_are_unique();
@@ -146,18 +119,13 @@ fn write_count<D: Spread<9>, K: Sink>(
     requires spread_of_all { D.candidates spread.old ≡ length roll.now.names }
     requires few { length (D.ballots spread.old) ≤ 999999999 }
     ensures { WritesCount roll.now lots.now (D.ballots spread.old) result
-        (record { written = K.written sink.old; written_then = K.written sink.new; faults = K.faults sink.old; faults_then = K.faults sink.new }) }
+        (writing K.written K.faults sink.old sink.new) }
 {
     let omega = Amount::<9>::from_units(OMEGA);
     let mut count = match Count::begin(alloc, roll, lots, Lent { spread }, omega) {
         Ok(count) => count,
         Err(_) => return Status::NoMemory,
     };
-    if let Err(_) = write_sheet(&mut count, sink) {
-        return Status::SinkFault;
-    }
-    if let Err(_) = sink.flush() {
-        return Status::SinkFault;
-    }
-    Status::Done
+    let wrote = write_sheet(&mut count, sink);
+    close(sink, wrote)
 }

@@ -1,6 +1,7 @@
 // A day: from the bytes of a day file to its text.
 ghost use Rattle.std.specs.Prelude.{◌≡◌, ◌≤◌, length, IfOk};
 ghost use Rattle.day_reader.specs.Said.{AreScripts};
+ghost use Rattle.tool_edge.specs.Streams.{writing};
 ghost use Rattle.meek_cli.specs.DayHistory.{IsHistoryOf};
 ghost use Rattle.meek_cli.specs.DayText.{terms_of};
 ghost use Rattle.meek_cli.specs.Frozen.{AreFrozen};
@@ -9,12 +10,10 @@ ghost use Rattle.meek_cli.specs.Run.{FinishesDay, PlaysDay, WritesDay};
 use crate::day_counting::count_day;
 use crate::office::answer_day;
 use crate::played_day::PlayedDay;
-use crate::refusal::refuse;
 use crate::split::Split;
 use crate::terms::Terms;
 use crate::{Outcome, Status};
 use batch_core::NoMemory;
-use blt_reader::BltStop;
 use byte_edge::{Gate, Sink};
 use call_register::History;
 use day_reader::{Day, read_day};
@@ -22,6 +21,7 @@ use std::alloc::Global;
 use std::sync::Wait;
 use std::thread::Threads;
 use team_run::Versions;
+use tool_edge::refuse_input;
 
 /// Plays the day of a file, and writes its text or the refusal.
 pub(crate) fn play_day<R: Threads + Wait + Sync, K: Sink, G: Gate + Sync>(
@@ -34,12 +34,11 @@ pub(crate) fn play_day<R: Threads + Wait + Sync, K: Sink, G: Gate + Sync>(
 ) -> Outcome
     requires { length input.now ≤ 16777216 }
     ensures { FinishesDay input.now result.status result.history
-        (record { written = K.written sink.old; written_then = K.written sink.new; faults = K.faults sink.old; faults_then = K.faults sink.new }) }
+        (writing K.written K.faults sink.old sink.new) }
 {
     match read_day(alloc, input) {
         Ok(day) => play(rt, alloc, day, split, sink, gate),
-        Err(BltStop::Fault(fault)) => Outcome::without_calls(alloc, refuse(sink, fault)),
-        Err(BltStop::NoMemory) => Outcome::without_calls(alloc, Status::NoMemory),
+        Err(stop) => Outcome::without_calls(alloc, refuse_input(sink, stop)),
     }
 }
 
@@ -57,7 +56,7 @@ fn play<R: Threads + Wait + Sync, K: Sink, G: Gate + Sync>(
     requires places { (6 ≤ day.places) × (day.places ≤ 9) }
     requires omega { (1 ≤ day.omega) × (day.omega ≤ 1000000) }
     ensures { PlaysDay day result.status result.history
-        (record { written = K.written sink.old; written_then = K.written sink.new; faults = K.faults sink.old; faults_then = K.faults sink.new }) }
+        (writing K.written K.faults sink.old sink.new) }
 {
     let Ok(played) = answer(rt, alloc, day, split.shards(), gate) else {
         return Outcome::without_calls(alloc, Status::NoMemory);
@@ -126,7 +125,7 @@ fn count_at_places<R: Threads + Sync, K: Sink, G: Gate + Sync>(
     requires lots_of_all { length terms.now.lots ≡ length terms.now.roll.names }
     requires frozen { AreFrozen (length terms.now.roll.names) history.now versions }
     ensures { WritesDay terms.now history.now result
-        (record { written = K.written sink.old; written_then = K.written sink.new; faults = K.faults sink.old; faults_then = K.faults sink.new }) }
+        (writing K.written K.faults sink.old sink.new) }
 {
     macro_rules! at_places {
         ($($places:literal)*) => {

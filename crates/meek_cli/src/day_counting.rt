@@ -7,8 +7,10 @@ ghost use Rattle.meek_cli.specs.Bytes.{WritesBytes};
 ghost use Rattle.team_run.specs.EntryText.{entries_text};
 ghost use Rattle.meek_cli.specs.Frozen.{AreFrozen};
 ghost use Rattle.meek_cli.specs.DueSheets.{head_of, dues_of, IsHeadOf, HasSheet, AreDueTexts};
-ghost use Rattle.meek_cli.specs.Run.{Finishes, WritesDay, WritesDues};
-ghost use Rattle.meek_cli.specs.declared.status.Status.TheVariants.{Done};
+ghost use Rattle.tool_edge.specs.declared.end.End.TheVariants.{Done};
+ghost use Rattle.tool_edge.specs.Finishing.{Finishes};
+ghost use Rattle.tool_edge.specs.Streams.{writing};
+ghost use Rattle.meek_cli.specs.Run.{WritesDay, WritesDues};
 
 use crate::Status;
 use crate::due_sheet::DueSheet;
@@ -24,6 +26,7 @@ use sheet_text::sheets_are_unique;
 use std::alloc::Global;
 use std::thread::Threads;
 use team_run::{Versions, write_entries};
+use tool_edge::close;
 use vote_spread::{Lanes, PlanSpread};
 
 /// Counts what stood at each freeze at so many places, in workers' lanes, and writes the text of the
@@ -45,7 +48,7 @@ pub(crate) fn count_day<const P: usize, R: Threads + Sync, K: Sink, G: Gate + Sy
     requires lots_of_all { length terms.now.lots ≡ length terms.now.roll.names }
     requires frozen { AreFrozen (length terms.now.roll.names) history.now versions }
     ensures { WritesDay terms.now history.now result
-        (record { written = K.written sink.old; written_then = K.written sink.new; faults = K.faults sink.old; faults_then = K.faults sink.new }) }
+        (writing K.written K.faults sink.old sink.new) }
 {
     // The sheet of a version's ballots is that of the ballots that stand, in whatever order.
     sheets_are_unique();
@@ -113,7 +116,7 @@ fn write_day<const P: usize, D: Spread<P>, K: Sink>(
     requires spreads_of_all { All (λ s. D.candidates s ≡ length terms.now.lots) spreads.old }
     requires few { All (λ s. length (D.ballots s) ≤ 999999999) spreads.old }
     ensures { WritesDues P history.now (dues_of terms.now.omega terms.now.lots heads.now (map D.ballots spreads.old)) result
-        (record { written = K.written sink.old; written_then = K.written sink.new; faults = K.faults sink.old; faults_then = K.faults sink.new }) }
+        (writing K.written K.faults sink.old sink.new) }
 {
     match begin_sheets(alloc, heads, &terms.lots, terms.omega, spreads) {
         Ok(dues) => finish_day(history, dues, sink),
@@ -159,15 +162,10 @@ fn finish_day<const P: usize, D: Spread<P>, K: Sink>(
     requires { All (HasSheet P) dues.items }
     ensures { (sheets : List ℕ) × AreDueTexts P dues.entry.items sheets
         × Finishes Done (entries_text history.now ++ sheets) result
-        (record { written = K.written sink.old; written_then = K.written sink.new; faults = K.faults sink.old; faults_then = K.faults sink.new }) }
+        (writing K.written K.faults sink.old sink.new) }
 {
-    if let Err(_) = write_text(history, dues, sink) {
-        return Status::SinkFault;
-    }
-    if let Err(_) = sink.flush() {
-        return Status::SinkFault;
-    }
-    Status::Done
+    let wrote = write_text(history, dues, sink);
+    close(sink, wrote)
 }
 
 /// Writes the lines of the answered calls, and then the sheets.

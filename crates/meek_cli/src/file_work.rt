@@ -1,5 +1,6 @@
 // What a run is asked to do with a file.
 ghost use Rattle.std.specs.Prelude.{◌≡◌, ◌≤◌, length};
+ghost use Rattle.tool_edge.specs.Streams.{writing};
 ghost use Rattle.meek_cli.specs.Work.{limit_of, FinishesWork};
 
 use crate::Outcome;
@@ -11,9 +12,7 @@ use meek_words::LotWords;
 use std::alloc::Global;
 use std::sync::Wait;
 use std::thread::Threads;
-
-/// The greatest length of a ballot file, in bytes.
-const COUNT_LIMIT: usize = 67_108_864;
+use tool_edge::FILE_LIMIT;
 
 /// The greatest length of a day file, in bytes.
 const DAY_LIMIT: usize = 16_777_216;
@@ -33,7 +32,7 @@ impl FileWork {
         ensures { result ≡ limit_of self.now }
     {
         match self {
-            FileWork::Count(_, _) => COUNT_LIMIT,
+            FileWork::Count(_, _) => FILE_LIMIT,
             FileWork::Day(_) => DAY_LIMIT,
         }
     }
@@ -49,7 +48,7 @@ impl FileWork {
     ) -> Outcome
         requires { length input.now ≤ limit_of self.now }
         ensures { FinishesWork self.now input.now result.status result.history
-            (record { written = K.written sink.old; written_then = K.written sink.new; faults = K.faults sink.old; faults_then = K.faults sink.new }) }
+            (writing K.written K.faults sink.old sink.new) }
     {
         match self {
             FileWork::Count(lots, split) => {

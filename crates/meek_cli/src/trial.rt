@@ -10,6 +10,7 @@ ghost use Rattle.day_reader.specs.Said.{AreScripts};
 ghost use Rattle.batch_core.specs.Histories.{IsLegal};
 ghost use Rattle.shard_office.specs.Versions.{VersionState};
 ghost use Rattle.meek_trial.specs.Trial.{trial_day};
+ghost use Rattle.tool_edge.specs.Streams.{writing};
 ghost use Rattle.meek_cli.specs.MadeDay.{made_day};
 ghost use Rattle.meek_cli.specs.DayText.{terms_of};
 ghost use Rattle.meek_cli.specs.Frozen.{AreFrozen};
@@ -20,7 +21,6 @@ ghost use Rattle.meek_cli.specs.Run.{FinishesTrial, PlaysTrial, WritesSummary, W
 use crate::counted_out::count_out;
 use crate::day::answer;
 use crate::due_sheet::units;
-use crate::finishing::finish;
 use crate::lent::Lent;
 use crate::made_days::made_days_are_days;
 use crate::played_day::PlayedDay;
@@ -43,6 +43,7 @@ use std::alloc::Global;
 use std::sync::Wait;
 use std::thread::Threads;
 use team_run::Versions;
+use tool_edge::finish;
 use vote_spread::{Lanes, PlanSpread};
 
 /// Plays the day of a number, and writes its summary.
@@ -56,7 +57,7 @@ pub(crate) fn play_trial<R: Threads + Wait + Sync, K: Sink, G: Gate + Sync>(
 ) -> Outcome
     requires { (1 ≤ number) × (number ≤ 1000) }
     ensures { FinishesTrial number result.status result.history
-        (record { written = K.written sink.old; written_then = K.written sink.new; faults = K.faults sink.old; faults_then = K.faults sink.new }) }
+        (writing K.written K.faults sink.old sink.new) }
 {
     match read_made_day(alloc, number) {
         Ok(day) => play(rt, alloc, number, day, split, sink, gate),
@@ -96,7 +97,7 @@ fn play<R: Threads + Wait + Sync, K: Sink, G: Gate + Sync>(
     requires scripts { AreScripts (length day.roll.names) day.scripts }
     requires made { day ≡ made_day number }
     ensures { PlaysTrial number day result.status result.history
-        (record { written = K.written sink.old; written_then = K.written sink.new; faults = K.faults sink.old; faults_then = K.faults sink.new }) }
+        (writing K.written K.faults sink.old sink.new) }
 {
     let Ok(played) = answer(rt, alloc, day, split.shards(), gate) else {
         return Outcome::without_calls(alloc, Status::NoMemory);
@@ -135,7 +136,7 @@ fn sum_up<R: Threads + Sync, K: Sink, G: Gate + Sync>(
     requires numbers { HaveNumbers history.now }
     requires frozen { AreFrozen (length terms.now.roll.names) history.now versions }
     ensures { WritesSummary number terms.now history.now result
-        (record { written = K.written sink.old; written_then = K.written sink.new; faults = K.faults sink.old; faults_then = K.faults sink.new }) }
+        (writing K.written K.faults sink.old sink.new) }
 {
     // The count of a version's ballots is that of the ballots that stand, in whatever order.
     counts_are_unique();
@@ -187,7 +188,7 @@ fn write_summary<D: Spread<9>, K: Sink>(
     requires legal { IsLegal history.now }
     requires numbers { HaveNumbers history.now }
     ensures { WritesSummaryOf number terms.now history.now (D.ballots spread.old) roll.now result
-        (record { written = K.written sink.old; written_then = K.written sink.new; faults = K.faults sink.old; faults_then = K.faults sink.new }) }
+        (writing K.written K.faults sink.old sink.new) }
 {
     let omega = units(terms.omega);
     let Ok(mut count) = Count::begin(alloc, roll, &terms.lots, Lent { spread }, omega) else {

@@ -1,10 +1,28 @@
-use Rattle.std.proofs.Common.{ℕ, subst}
-use Rattle.lot_order.specs.Lots.{IsLotsStop}
+use Rattle.std.proofs.Common.{ℕ, List, subst}
+use Rattle.std.specs.Prelude.{Err}
+use Rattle.plain_ballots.specs.Ballots.{plain}
 use Rattle.blt_reader.specs.Election.{poll}
-use Rattle.meek_cli.proofs.CountEnding.{refused_lots}
+use Rattle.blt_reader.specs.declared.blt_stop.BltStop.{BltStop}
+use Rattle.tool_edge.specs.Streams.{writing}
+use Rattle.tool_edge.specs.Contest.{ReadsContest}
+use Rattle.tool_edge.proofs.Running.{refused}
+use Rattle.meek_cli.specs.Owed.{counts}
+use Rattle.meek_cli.specs.Run.{WritesCount}
+use Rattle.meek_cli.proofs.CountEnding.{counted}
 use Rattle.meek_cli.proofs.counting.count.Goals as goal
 
 pub returns-in-Err : goal.returns-in-Err
 returns-in-Err g c =
-    let stop = subst (λ (n : ℕ). IsLotsStop n c.args.lots.now c.in-Err.stop) c.candidates.ensures.value c.in-Err.ensures.stop in
-    refused_lots c.args.lots.now c.args.input.now (poll c.in-Ok.election) c.in-Err.stop c.refuse_lots.result (record { written = g.K.Sink.written c.args.sink.now; written_then = g.K.Sink.written c.refuse_lots.new.sink; faults = g.K.Sink.faults c.args.sink.now; faults_then = g.K.Sink.faults c.refuse_lots.new.sink }) c.requires c.in-Ok.ensures.accepted stop c.refuse_lots.ensures
+    refused counts c.args.lots.now c.args.input.now c.in-Err.stop c.refuse_input.result
+    (writing g.K.Sink.written g.K.Sink.faults c.args.sink.now c.refuse_input.new.sink) c.requires
+    (λ fault is. subst (λ (stop : BltStop). ReadsContest c.args.lots.now c.args.input.now (Err stop)) is c.in-Err.ensures)
+    c.refuse_input.ensures
+
+-- the lots are those of the words
+pub returns : goal.returns
+returns g c =
+    let of = c.in-Ok.ensures in
+    let file = poll c.in-Ok.contest.election in
+    let sink = writing g.K.Sink.written g.K.Sink.faults c.args.sink.now c.count_in_lanes.new.sink in
+    counted c.args.lots.now c.args.input.now file c.count_in_lanes.result sink c.requires of.says
+    (subst (λ (l : List ℕ). WritesCount file.roll l (plain file.lines) c.count_in_lanes.result sink) of.lots_are c.count_in_lanes.ensures)

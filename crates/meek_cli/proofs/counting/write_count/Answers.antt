@@ -1,31 +1,8 @@
-use Rattle.std.proofs.Common.{◌≡◌, ℕ, ap, ◌∙◌, subst}
+use Rattle.std.proofs.Common.{ap, ◌∙◌, inr}
 use Rattle.meek_rule.specs.Situation.{Situation}
-use Rattle.byte_edge.specs.Faults.{Rose}
-use Rattle.meek_cli.proofs.CountEnding.{IsCountOf, stopped_in_sheet, stopped_in_flush, wrote_sheet}
+use Rattle.tool_edge.proofs.Ending.{closed}
+use Rattle.meek_cli.proofs.CountEnding.{IsCountOf, wrote_sheet}
 use Rattle.meek_cli.proofs.counting.write_count.Goals as goal
-
-pub returns-in-Err-write_sheet : goal.returns-in-Err-write_sheet
-returns-in-Err-write_sheet g c =
-    let of : IsCountOf c.args.roll.now c.args.lots.now (g.D.Spread.ballots c.args.spread.now) c.in-Ok.count = record {
-      omega_is = ap (λ (now : Situation). now.omega) c.in-Ok.ensures.opens ∙ c.from_units-omega.ensures;
-      ballots_are = c.in-Ok.ensures.ballots;
-      roll_is = c.in-Ok.ensures.roll;
-      lots_are = c.in-Ok.ensures.lots;
-    } in
-    stopped_in_sheet _ _ _ c.in-Ok.count (record { written = g.K.Sink.written c.args.sink.now; written_then = g.K.Sink.written c.write_sheet.new.sink; faults = g.K.Sink.faults c.args.sink.now; faults_then = g.K.Sink.faults c.write_sheet.new.sink }) of c.in-Err-write_sheet.ensures.front c.in-Err-write_sheet.ensures.faults
-
-pub returns-in-Err-flush : goal.returns-in-Err-flush
-returns-in-Err-flush g c =
-    let of : IsCountOf c.args.roll.now c.args.lots.now (g.D.Spread.ballots c.args.spread.now) c.in-Ok.count = record {
-      omega_is = ap (λ (now : Situation). now.omega) c.in-Ok.ensures.opens ∙ c.from_units-omega.ensures;
-      ballots_are = c.in-Ok.ensures.ballots;
-      roll_is = c.in-Ok.ensures.roll;
-      lots_are = c.in-Ok.ensures.lots;
-    } in
-    let calm : g.K.Sink.faults c.write_sheet.new.sink ≡ g.K.Sink.faults c.args.sink.now = c.in_default.ensures.faults in
-    let rose : Rose (g.K.Sink.faults c.args.sink.now) (g.K.Sink.faults c.flush.new.self) =
-    subst (λ (n : ℕ). Rose n (g.K.Sink.faults c.flush.new.self)) calm c.in-Err-flush.ensures.faults in
-    stopped_in_flush _ _ _ c.in-Ok.count (record { written = g.K.Sink.written c.args.sink.now; written_then = g.K.Sink.written c.flush.new.self; faults = g.K.Sink.faults c.args.sink.now; faults_then = g.K.Sink.faults c.flush.new.self }) (g.K.Sink.written c.write_sheet.new.sink) of c.in_default.ensures.all c.flush.ensures.bytes rose
 
 pub returns : goal.returns
 returns g c =
@@ -35,6 +12,7 @@ returns g c =
       roll_is = c.in-Ok.ensures.roll;
       lots_are = c.in-Ok.ensures.lots;
     } in
-    let calm : g.K.Sink.faults c.flush.new.self ≡ g.K.Sink.faults c.args.sink.now =
-    c.in_default-flush.ensures.faults ∙ c.in_default.ensures.faults in
-    wrote_sheet _ _ _ c.in-Ok.count (record { written = g.K.Sink.written c.args.sink.now; written_then = g.K.Sink.written c.flush.new.self; faults = g.K.Sink.faults c.args.sink.now; faults_then = g.K.Sink.faults c.flush.new.self }) (g.K.Sink.written c.write_sheet.new.sink) of c.in_default.ensures.all c.flush.ensures.bytes calm
+    let w = g.K.Sink.written in
+    let f = g.K.Sink.faults in
+    let wrote = wrote_sheet w f c.args.sink.now c.write_sheet-wrote.new.sink c.args.roll.now c.args.lots.now (g.D.Spread.ballots c.args.spread.now) c.in-Ok.count c.write_sheet-wrote.result of c.write_sheet-wrote.ensures.all c.write_sheet-wrote.ensures.front c.write_sheet-wrote.ensures.faults in
+    inr (wrote.0, wrote.1, closed w f c.args.sink.now c.write_sheet-wrote.new.sink c.close.new.sink wrote.0 c.write_sheet-wrote.result c.close.result wrote.2 c.close.ensures)

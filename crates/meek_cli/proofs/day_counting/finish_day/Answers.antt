@@ -1,8 +1,14 @@
+use Rattle.std.proofs.Common.{◌++◌}
 use Rattle.team_run.specs.EntryText.{entries_text}
-use Rattle.meek_cli.proofs.DayEnding.{stopped_in_flush}
+use Rattle.tool_edge.proofs.Ending.{closed}
+use Rattle.meek_cli.proofs.WritingBytes.{wrote_of}
 use Rattle.meek_cli.proofs.day_counting.finish_day.Goals as goal
 
-pub returns-in-Err-flush : goal.returns-in-Err-flush
-returns-in-Err-flush g c =
-    stopped_in_flush g.K.Sink.written g.K.Sink.faults c.args.sink.now c.write_text.new.sink c.flush.new.self g.row.P c.args.dues.items
-    (entries_text c.args.history.now) c.in_default.ensures c.flush.ensures.bytes c.in-Err-flush.ensures.faults
+pub returns : goal.returns
+returns g c =
+    let w = g.K.Sink.written in
+    let f = g.K.Sink.faults in
+    let did = c.write_text-wrote.ensures in
+    let text = entries_text c.args.history.now ++ did.0 in
+    let wrote = wrote_of w f c.args.sink.now c.write_text-wrote.new.sink text c.write_text-wrote.result did.2 in
+    (did.0, did.1, closed w f c.args.sink.now c.write_text-wrote.new.sink c.close.new.sink text c.write_text-wrote.result c.close.result wrote c.close.ensures)

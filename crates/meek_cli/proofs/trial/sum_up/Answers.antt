@@ -1,6 +1,7 @@
 use Rattle.std.proofs.Common.{rules, ◌≡◌, ◌≤◌, ℕ, All, length, sym, ap, ◌∙◌, subst, arith}
 use Rattle.candidate_roll.specs.Roll.{RollList}
 use Rattle.frozen_plan.specs.Plan.{PlanRows, all_ballots}
+use Rattle.tool_edge.specs.Streams.{writing}
 use Rattle.meek_cli.specs.DayText.{roll_with}
 use Rattle.meek_cli.proofs.LastFreeze.{some_version, clerks}
 use Rattle.meek_cli.proofs.TrialEnding.{sums_up}
@@ -33,6 +34,6 @@ returns g c =
     let last = c.last_of-version.ensures in
     let is = clerks (length terms.roll.names) c.args.history.now c.args.versions last.0 c.last_of-version.result c.requires.frozen c.requires.ends last.1 in
     sums_up c.args.number (length terms.roll.names) terms c.args.history.now c.last_of-version.result c.in-Ok-begin.spread.lanes.ballots c.in-Ok.roll c.write_summary.result
-    (record { written = g.K.Sink.written c.args.sink.now; written_then = g.K.Sink.written c.write_summary.new.sink; faults = g.K.Sink.faults c.args.sink.now; faults_then = g.K.Sink.faults c.write_summary.new.sink })
+    (writing g.K.Sink.written g.K.Sink.faults c.args.sink.now c.write_summary.new.sink)
     c.counts_are_unique.ensures.orders is (c.in-Ok-begin.ensures.ballots ∙ ap all_ballots c.into_plans-plans.ensures.plans)
     (c.in-Ok.ensures ∙ ap (roll_with terms.roll) c.struck.ensures.struck) c.write_summary.ensures

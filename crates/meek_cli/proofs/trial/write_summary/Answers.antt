@@ -5,6 +5,7 @@ use Rattle.meek_rule.specs.Situation.{opening}
 use Rattle.batch_core.specs.declared.entry.Entry.{Entry}
 use Rattle.batch_core.specs.Book.{empty}
 use Rattle.batch_core.specs.Histories.{after_all}
+use Rattle.tool_edge.specs.Streams.{writing}
 use Rattle.meek_cli.specs.declared.summary.Summary.{Summary}
 use Rattle.meek_cli.specs.CountedOut.{IsCountedOut}
 use Rattle.meek_cli.specs.Summary.{standing_batches}
@@ -22,7 +23,7 @@ returns g c =
     let ballots = c.ballots-ballots.ensures.value ∙ ap length c.in-Ok.ensures.ballots in
     let out = subst (IsCountedOut 9 count turns) (sym c.states.ensures.value) c.count_out-turns.ensures in
     wrote_summary c.args.number terms c.args.history.now (g.D.Spread.ballots c.args.spread.now) roll count turns _ c.states.result.now c.bytes.result.now
-    c.finish.result (record { written = g.K.Sink.written c.args.sink.now; written_then = g.K.Sink.written c.finish.new.sink; faults = g.K.Sink.faults c.args.sink.now; faults_then = g.K.Sink.faults c.finish.new.sink })
+    c.finish.result (writing g.K.Sink.written g.K.Sink.faults c.args.sink.now c.finish.new.sink)
     c.requires.places (c.in-Ok.ensures.opens ∙ ap (λ (omega : ℕ). opening (scale 9) omega roll.seats roll.withdrawn) c.units-omega.ensures) c.in-Ok.ensures.ballots
     c.in-Ok.ensures.lots out
     (λ i. let s : Summary = record { number = c.args.number; calls = length (entries i); batches = batches i; ballots = ballots i; rounds = turns.rounds; iterations = turns.iterations } in s)

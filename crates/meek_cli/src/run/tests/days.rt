@@ -3,6 +3,7 @@
 use super::{run, run_failing};
 use crate::Status;
 use std::alloc::Global;
+use std::process::ExitCode;
 use std::test::Fail;
 
 const ONE_TEAM: &[u8] =
@@ -122,7 +123,7 @@ fn refuses_a_day_at_its_token(rt: HostRuntime) -> Result<(), Fail> {
     for (behind, line) in cases {
         let input = joined(alloc, &[head, behind])?;
         let ran = run(&rt, alloc, "day", input.as_slice())?;
-        assert_eq!(rt; ran.status.code(), 3);
+        assert_eq!(rt; ran.status.exit_code(), ExitCode::from(3));
         assert_eq!(rt; ran.calls, 0);
         assert_eq!(rt; ran.written.as_slice(), line);
     }
