@@ -9,3 +9,4 @@ mod ChainLemmas
 mod MergeLemmas
 mod GroupLemmas
 mod ShareLemmas
+mod TurnLemmas

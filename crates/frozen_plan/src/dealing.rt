@@ -38,7 +38,7 @@ impl Plans {
 }
 
 /// Puts a plan behind the others.
-fn add_plan(plans: &mut Plans, plan: Plan) -> Result<(), NoMemory>
+pub(crate) fn add_plan(plans: &mut Plans, plan: Plan) -> Result<(), NoMemory>
     ensures { OnOk result (plans.new ≡ plans.old ++ plan ∷ []) }
 {
     match plans.push(plan) {

@@ -5,6 +5,7 @@
 
 mod chain;
 mod dealing;
+mod dealing_by_workers;
 mod groups;
 mod laws;
 mod merge;
