@@ -60,6 +60,13 @@ impl Lane {
         self.tally.as_slice()
     }
 
+    /// How many rows stand there, stale or not.
+    pub(crate) fn row_count(&self) -> usize
+        ensures { result ≡ length self.now.rows }
+    {
+        self.rows.len()
+    }
+
     /// Counts what the share of the branches gives to each candidate that belongs to the lane
     /// admitted, of so many lanes. Where the lane's rows are stale they are made anew.
     pub(crate) fn count<const P: usize>(

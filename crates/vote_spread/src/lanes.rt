@@ -42,9 +42,13 @@ pub struct Lanes {
     stale: bool,
 }
 
-/// From so many branches on, lanes run in threads at each distribution: a thread's start costs as
-/// much as a walk over some thousands of them, and a busy machine lets it wait for much longer.
-const MANY: usize = 200_000;
+/// From so many rows on, lanes run in threads at each distribution: to start threads and to join them
+/// costs as much as a walk over some tens of thousands, and a busy machine lets them wait for longer.
+const MANY: usize = 100_000;
+
+/// From so many rows on, lanes run in threads where they make their rows anew, which takes some times
+/// as long as the walk.
+const MANY_TO_MAKE: usize = 25_000;
 
 impl Model for Lanes {
     ghost use Rattle.frozen_plan.specs.Plan.{all_ballots};
@@ -96,14 +100,14 @@ impl Lanes {
     }
 
     /// Distributes the ballots, each lane its share. At the first distribution, and at each one
-    /// over many branches, the lanes run in threads of their own where such can be had; else one
-    /// after another in the caller's. Each passes the gate at its number, from 1, before its work.
+    /// over many rows, the lanes run in threads of their own where such can be had; else one after
+    /// another in the caller's. Each passes the gate at its number, from 1, before its work.
     pub fn run<const P: usize, R: Threads + Sync, G: Gate + Sync>(&mut self, rt: &R, gate: &G)
         requires places { P ≤ 9 }
         requires scale { self.old.scale ≡ scale P }
         ensures { HaveCounted self.old self.new }
     {
-        let in_threads = !self.has_run || self.branches.len() >= MANY;
+        let in_threads = !self.has_run || pays(&self.lanes, self.stale);
         self.has_run = true;
         run_lanes::<P, R, G>(
             rt,
@@ -149,6 +153,16 @@ impl Lanes {
     {
         gather(self.lanes.as_slice(), tally);
     }
+}
+
+/// Whether threads bring more than they cost: there are many rows, as far as is known from those of the
+/// distribution before.
+fn pays(lanes: &[Lane], stale: bool) -> bool {
+    let mut rows: usize = 0;
+    for lane in lanes {
+        rows = rows.saturating_add(lane.row_count());
+    }
+    rows >= if stale { MANY_TO_MAKE } else { MANY }
 }
 
 /// Takes over the units of keep values.
