@@ -5,6 +5,7 @@ mod StandLemmas
 mod RowLemmas
 mod PackLemmas
 mod PlanLemmas
+mod MergeLemmas
 mod LaneLemmas
 mod ClassLemmas
 mod TotalLemmas

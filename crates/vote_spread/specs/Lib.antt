@@ -5,6 +5,7 @@ pub mod Class
 pub mod Factor
 pub mod Rows
 pub mod Packed
+pub mod Merged
 pub mod Shares
 pub mod LaneSeen
 pub mod Lanes

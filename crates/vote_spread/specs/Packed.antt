@@ -2,7 +2,6 @@
 use Rattle.std.specs.Prelude.{◌≡◌, ℕ, ◌+◌, ◌-◌, ◌<◌, ◌≤◌, List, ◌++◌, length, slice_index, sum, sum_by, All}
 use Rattle.frozen_plan.specs.declared.plan_row.PlanRow.{PlanRow}
 use Rattle.frozen_plan.specs.Forest.{Forest, ballots_of, through, rows_of, IsGrown, read}
-use Rattle.frozen_plan.specs.Plan.{PlanRows, plan_ballots}
 use Rattle.meek_rule.specs.Weights.{given}
 use Rattle.vote_spread.specs.Stem.{Stem}
 use Rattle.vote_spread.specs.Walk.{IsFrom, IsWalk}
@@ -36,9 +35,3 @@ pub record HasAdded (d : ℕ) (rows : List PlanRow) (old new : List Stem) : Type
   pub added : List Stem
   pub is : new ≡ old ++ added
   pub stand : (n low : ℕ) → IsGrown n low d (nodes_of rows) → StandFor n d added (ballots_of (nodes_of rows))
-
--- stems for the ballots of a plan were added behind others
-pub record HasPacked (plan : PlanRows) (old new : List Stem) : Type 0 where
-  pub added : List Stem
-  pub is : new ≡ old ++ added
-  pub stand : StandFor plan.candidates 1 added (plan_ballots plan.rows)

@@ -1,32 +1,37 @@
-// The rows of a plan, packed.
-ghost use Rattle.std.specs.Prelude.{◌≡◌, ℕ, ◌≤◌, All, IfOk, OnOk, drop, length, slice_index_or};
-ghost use Rattle.frozen_plan.specs.Plan.{all_ballots};
-ghost use Rattle.vote_spread.specs.Packed.{AreRows, HasAdded, HasPacked, StandFor};
+// The rows of plans, packed.
+ghost use Rattle.std.specs.Prelude.{◌≡◌, ℕ, ◌≤◌, All, IfOk, OnOk, drop, length, map, slice_index_or};
+ghost use Rattle.frozen_plan.specs.Plan.{all_ballots, IsPlan};
+ghost use Rattle.vote_spread.specs.Packed.{AreRows, HasAdded, StandFor};
 
 use crate::NoMemory;
 use crate::branches::Branches;
+use crate::merge::merge;
+use crate::part::{Part, push_part};
 use frozen_plan::{Plan, PlanRow, Plans};
 use std::alloc::Global;
 
-/// Packs plans, and gives each up once it is packed.
+/// Packs the siblings of all plans together.
 pub(crate) fn pack_plans(alloc: Global, plans: Plans) -> Result<Branches, NoMemory>
+    requires few { length (all_ballots plans) ≤ 999999999 }
     ensures { IfOk result (λ branches. (n : ℕ) → All (λ plan. plan.candidates ≡ n) plans → StandFor n 1 branches (all_ballots plans)) }
 {
-    let mut rest = plans;
     let mut branches = Branches::new(alloc);
-    while let Some(plan) = rest.pop() {
-        pack_plan(&plan, &mut branches)?;
-    }
+    let mut parts = parts_of(alloc, plans.items())?;
+    merge(alloc, parts.as_mut_slice(), 1, &mut branches)?;
     Ok(branches)
 }
 
-/// Packs the rows of a plan behind others.
-fn pack_plan(plan: &Plan, branches: &mut Branches) -> Result<(), NoMemory>
-    ensures { OnOk result (HasPacked plan.now branches.old branches.new) }
+/// The siblings below the roots of plans.
+fn parts_of<'a>(alloc: Global, plans: &'a [Plan]) -> Result<Vec<Part<'a>>, NoMemory>
+    ensures parts { IfOk result (λ parts. parts.items ≡ map (λ plan. drop 1 plan.rows) plans.now) }
+    ensures plans { OnOk result (All (λ plan. IsPlan plan.candidates plan.rows) plans.now) }
 {
-    let nodes = behind_first(plan.rows());
-    pack_rows(nodes, 1, branches)?;
-    Ok(())
+    let mut parts = Vec::new(alloc);
+    for plan in plans {
+        let part = Part::new(behind_first(plan.rows()));
+        push_part(&mut parts, part)?;
+    }
+    Ok(parts)
 }
 
 /// Packs the rows of siblings at a depth and of all below them.
@@ -51,7 +56,11 @@ pub(crate) fn pack_rows(
 
 /// Packs the rows of a node and of all below it.
 #[cycle(pack)]
-fn pack_node(rows: &[PlanRow], depth: u16, branches: &mut Branches) -> Result<(), NoMemory>
+pub(crate) fn pack_node(
+    rows: &[PlanRow],
+    depth: u16,
+    branches: &mut Branches,
+) -> Result<(), NoMemory>
     requires depth { (1 ≤ depth) × (depth ≤ 251) }
     requires rows { AreRows 250 depth rows.now }
     requires some { 1 ≤ length rows.now }

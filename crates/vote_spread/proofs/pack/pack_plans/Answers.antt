@@ -1,15 +1,27 @@
-use Rattle.std.proofs.Common.{refl}
-use Rattle.vote_spread.proofs.PlanLemmas.{packed-begin, packed-next, packed-end}
+use Rattle.std.proofs.Common.{◌≡◌, List, [], map, drop, ap, sym, subst, ◌∙◌}
+use Rattle.std.specs.List.{All}
+use Rattle.frozen_plan.specs.declared.plan_row.PlanRow.{PlanRow}
+use Rattle.frozen_plan.specs.Plan.{PlanRows, IsPlan}
+use Rattle.vote_spread.specs.Stem.{Stem}
+use Rattle.vote_spread.specs.Merged.{AreParts, HasMerged}
+use Rattle.vote_spread.proofs.MergeLemmas.{parts_of_plans, merged_plans}
 use Rattle.vote_spread.proofs.pack.pack_plans.Goals as goal
 
-pub loop-plan-init : goal.loop-plan-init
-loop-plan-init c = λ n of_all. rw c.new-branches.ensures (packed-begin n c.args.plans of_all)
-
-pub loop-plan-preserved : goal.loop-plan-preserved
-loop-plan-preserved c =
-    λ n of_all.
-    packed-next n c.args.plans c.loop-plan.rest c.pop.new.self c.in-Some.plan c.loop-plan.branches c.pack_plan.new.branches (c.loop-plan.invariant n of_all) c.in-Some.ensures.last c.in_ok-pack_plan.ensures
+pub merge-requires-clause-parts : goal.merge-requires-clause-parts
+merge-requires-clause-parts c =
+    let plans = c.args.plans in
+    let items : c.items.result.now ≡ plans = c.items.ensures in
+    let parts : c.as_mut_slice.result.now ≡ map (λ (plan : PlanRows). drop 1 plan.rows) plans =
+    c.as_mut_slice.ensures.value ∙ (c.in_ok-parts.ensures.parts ∙ ap (map (λ (plan : PlanRows). drop 1 plan.rows)) items) in
+    subst (AreParts 1) (sym parts) (parts_of_plans plans (subst (λ (l : List PlanRows). All (λ (plan : PlanRows). IsPlan plan.candidates plan.rows) l) items c.in_ok-parts.ensures.plans) c.requires.few)
 
 pub returns : goal.returns
 returns c =
-    λ n of_all. packed-end n c.args.plans c.loop-plan.rest c.loop-plan.branches (c.loop-plan.invariant n of_all) (c.in_default.ensures.empty.0 refl)
+    let plans = c.args.plans in
+    let items : c.items.result.now ≡ plans = c.items.ensures in
+    let parts : c.as_mut_slice.result.now ≡ map (λ (plan : PlanRows). drop 1 plan.rows) plans =
+    c.as_mut_slice.ensures.value ∙ (c.in_ok-parts.ensures.parts ∙ ap (map (λ (plan : PlanRows). drop 1 plan.rows)) items) in
+    let has : HasMerged 1 (map (λ (plan : PlanRows). drop 1 plan.rows) plans) [] c.merge.new.branches =
+    subst (λ (l : List Stem). HasMerged 1 (map (λ (plan : PlanRows). drop 1 plan.rows) plans) l c.merge.new.branches) c.new-branches.ensures
+    (subst (λ (l : List (List PlanRow)). HasMerged 1 l c.new-branches.result c.merge.new.branches) parts c.in_ok-merge.ensures) in
+    λ n of_all. merged_plans n plans c.merge.new.branches (subst (λ (l : List PlanRows). All (λ (plan : PlanRows). IsPlan plan.candidates plan.rows) l) items c.in_ok-parts.ensures.plans) of_all has
