@@ -78,7 +78,7 @@ fn count_in_lanes<R: Threads + Sync, K: Sink, G: Gate + Sync>(
         ensures { HaveCounted lanes.entry.now lanes.exit.now }
     { lanes.run::<9, R, G>(rt, gate) };
     let candidates = roll.candidates();
-    let Ok(plans) = deal(alloc, ballots, split.shards()) else {
+    let Ok(plans) = deal(rt, alloc, ballots, split) else {
         return Status::NoMemory;
     };
     let Ok(mut spread) = PlanSpread::<9, _>::begin(alloc, plans, candidates, split.workers(), run)
@@ -88,13 +88,13 @@ fn count_in_lanes<R: Threads + Sync, K: Sink, G: Gate + Sync>(
     write_count(alloc, roll, lots, &mut spread, sink)
 }
 
-/// Deals the lines out among so many shards, and makes a plan of what each gets.
-pub(crate) fn deal(
+/// Deals the lines out among shards, and makes a plan of what each gets, by the workers.
+fn deal<R: Threads + Sync>(
+    rt: &R,
     alloc: Global,
     ballots: Ballots,
-    shards: u32,
+    split: &Split,
 ) -> Result<Plans, frozen_plan::NoMemory>
-    requires shards { 1 ≤ shards }
     requires candidates { (1 ≤ ballots.candidates) × (ballots.candidates ≤ 250) }
     ensures candidates { IfOk result (All (λ plan. plan.candidates ≡ ballots.candidates)) }
     ensures ballots { IfOk result (λ plans. IsPermutation (all_ballots plans) (plain ballots.lines)) }
@@ -102,7 +102,7 @@ pub(crate) fn deal(
 {
     lines_stand_for_ballots();
     let _sound = ballots.lines();
-    Plans::dealt(alloc, &ballots, shards)
+    Plans::dealt_by(rt, alloc, &ballots, split.shards(), split.workers())
 }
 
 /// Counts what a distribution holds and writes the sheet. All memory is taken before the first byte.
