@@ -22,3 +22,164 @@ fn a_sheet_gets_its_verdict(rt: HostRuntime) -> Result<(), Fail> {
     }
     Ok(())
 }
+
+// What the form of a sheet allows at each byte of the sample election's sheet while all others stay: `*` is a byte of a
+// name, `#` a digit, `+` a digit but 0, `^` 0 or 1, and `%` the number of a candidate. Each other byte stands for itself.
+const FORM: &[u8] =
+    b"title ******\nseats +\ncandidates 4\nballots +#\nround # iteration #\n1 hopeful ^.000000000 #.#########\n2 withdrawn ^.######### #.#########\n3 hopeful ^.000000000 #.#########\n4 hopeful ^.000000000 #.#########\ntotal +#.#########\nquota #.#########\nsurplus #.#########\nelected %\nstep elected\nround # iteration #\n1 elected ^.000000000 #.#########\n2 withdrawn ^.######### #.#########\n3 hopeful ^.000000000 #.#########\n4 hopeful ^.000000000 #.#########\ntotal +#.#########\nquota #.#########\nsurplus #.#########\nstep iterate\nround # iteration #\n1 elected 0.######### #.#########\n2 withdrawn ^.######### #.#########\n3 hopeful ^.000000000 #.#########\n4 hopeful ^.000000000 #.#########\ntotal +#.#########\nquota #.#########\nsurplus #.#########\nstep defeat 3 tied 3\nresult\n1 elected ***\n2 withdrawn ***\n3 defeated ***\n4 elected ***\nend\n";
+
+/// What stands in turn at each place of the sheet.
+const BYTES: &[u8] = b"07x \n";
+
+/// Whether the form of a sheet allows a byte where it has this sign.
+fn is_allowed(sign: u8, byte: u8) -> bool {
+    match sign {
+        b'*' => byte >= 32 && byte != b'"',
+        b'#' => byte.is_ascii_digit(),
+        b'+' => byte.is_ascii_digit() && byte != b'0',
+        b'^' => byte == b'0' || byte == b'1',
+        b'%' => byte >= b'1' && byte <= b'4',
+        _ => byte == sign,
+    }
+}
+
+/// The form as bytes of its own.
+fn form(alloc: Global) -> Result<Vec<u8>, Fail> {
+    Ok(FORM.to_vec(alloc)?)
+}
+
+/// The text with another byte at a place.
+fn with_byte(alloc: Global, text: &[u8], at: usize, byte: u8) -> Result<Vec<u8>, Fail> {
+    let mut changed = text.to_vec(alloc)?;
+    if at < changed.len() {
+        changed[at] = byte;
+    }
+    Ok(changed)
+}
+
+/// The text with a piece in the place of so many of its lines, the first of which has this number, from 1.
+fn with_piece(
+    alloc: Global,
+    text: &[u8],
+    first: u64,
+    count: u64,
+    piece: &[u8],
+) -> Result<Vec<u8>, Fail> {
+    let mut changed = Vec::new(alloc);
+    let mut line = 1u64;
+    let mut begins = true;
+    for byte in text {
+        if begins && line == first {
+            changed.extend_from_slice(piece)?;
+        }
+        if line < first || line - first >= count {
+            changed.push(*byte)?;
+        }
+        begins = *byte == b'\n';
+        if begins {
+            line = line.saturating_add(1);
+        }
+    }
+    Ok(changed)
+}
+
+/// The line of this number, from 1, with its line feed.
+fn nth_line(alloc: Global, text: &[u8], number: u64) -> Result<Vec<u8>, Fail> {
+    let mut found = Vec::new(alloc);
+    let mut line = 1u64;
+    for byte in text {
+        if line == number {
+            found.push(*byte)?;
+        }
+        if *byte == b'\n' {
+            line = line.saturating_add(1);
+        }
+    }
+    Ok(found)
+}
+
+/// Two lines, one behind the other.
+fn joined(alloc: Global, line: &[u8], other: &[u8]) -> Result<Vec<u8>, Fail> {
+    let mut both = line.to_vec(alloc)?;
+    both.extend_from_slice(other)?;
+    Ok(both)
+}
+
+// A text is false at its changed line where the form allows the byte there, and else malformed.
+#[test]
+fn each_changed_byte_gets_its_verdict(rt: HostRuntime) -> Result<(), Fail> {
+    let alloc = rt.alloc();
+    let election = read_blt(alloc, FILE)?;
+    let lots = Lots::try_new(alloc, &[1, 2, 3, 4], 4)?;
+    assert_eq!(rt; election.roll.candidates(), 4);
+    assert_eq!(rt; election.ballots.candidates(), 4);
+    assert_eq!(rt; lots.candidates(), 4);
+    let text = sheet(alloc, b"01", b"6")?;
+    let form = form(alloc)?;
+    assert_eq!(rt; text.len(), form.len());
+    let mut line = 1u64;
+    for (at, (byte, sign)) in text.iter().zip(form.iter()).enumerate() {
+        for other in BYTES {
+            if other != byte {
+                let changed = with_byte(alloc, text.as_slice(), at, *other)?;
+                let due = if is_allowed(*sign, *other) {
+                    Verdict::False(line)
+                } else {
+                    Verdict::Malformed
+                };
+                let verdict = judge(alloc, changed.as_slice(), &election, &lots)?;
+                assert_eq!(rt; (at, *other, verdict), (at, *other, due));
+            }
+        }
+        if *byte == b'\n' {
+            line = line.saturating_add(1);
+        }
+    }
+    assert_eq!(rt; line, 39);
+    Ok(())
+}
+
+// A sheet may lack its list of the elected, which is line 13, and no other line; and no line may stand twice, or before
+// the one above it. Behind the last line stands none, so there is nothing to swap it with.
+#[test]
+fn each_moved_line_gets_its_verdict(rt: HostRuntime) -> Result<(), Fail> {
+    let alloc = rt.alloc();
+    let election = read_blt(alloc, FILE)?;
+    let lots = Lots::try_new(alloc, &[1, 2, 3, 4], 4)?;
+    assert_eq!(rt; election.roll.candidates(), 4);
+    assert_eq!(rt; election.ballots.candidates(), 4);
+    assert_eq!(rt; lots.candidates(), 4);
+    let text = sheet(alloc, b"01", b"6")?;
+    for n in 1..39 {
+        let line = nth_line(alloc, text.as_slice(), n)?;
+        let next = nth_line(alloc, text.as_slice(), n + 1)?;
+        let dropped = with_piece(alloc, text.as_slice(), n, 1, b"")?;
+        let due = if n == 13 {
+            Verdict::False(13)
+        } else {
+            Verdict::Malformed
+        };
+        assert_eq!(rt;
+            (n, judge(alloc, dropped.as_slice(), &election, &lots)?),
+            (n, due)
+        );
+        let twice = joined(alloc, line.as_slice(), line.as_slice())?;
+        let doubled = with_piece(alloc, text.as_slice(), n, 1, twice.as_slice())?;
+        assert_eq!(rt;
+            (n, judge(alloc, doubled.as_slice(), &election, &lots)?),
+            (n, Verdict::Malformed)
+        );
+        let turned = joined(alloc, next.as_slice(), line.as_slice())?;
+        let swapped = with_piece(alloc, text.as_slice(), n, 2, turned.as_slice())?;
+        let due = if n == 38 {
+            Verdict::True
+        } else {
+            Verdict::Malformed
+        };
+        assert_eq!(rt;
+            (n, judge(alloc, swapped.as_slice(), &election, &lots)?),
+            (n, due)
+        );
+    }
+    Ok(())
+}
