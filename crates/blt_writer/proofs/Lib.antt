@@ -13,3 +13,8 @@ mod TakeLemmas
 mod LeastLemmas
 mod MergingLemmas
 mod ExportLemmas
+mod FrontLemmas
+mod PackedLemmas
+mod OrderedEntries
+mod ListingLemmas
+mod ShortTextLemmas

@@ -55,10 +55,10 @@ all_parts r (ls ∷ lists) =
 
 -- ---- all that is left stands behind the ranking
 
-abbrev IsLater : (r s : List ℕ) → Type 0
+abbrev pub IsLater : (r s : List ℕ) → Type 0
 IsLater r s = order r s ≡ Less
 
-plain_all : (P : List ℕ → Type 0) (ls : List BallotLine) → All (λ (l : BallotLine). P l.ranking) ls → All P (plain ls)
+pub plain_all : (P : List ℕ → Type 0) (ls : List BallotLine) → All (λ (l : BallotLine). P l.ranking) ls → All P (plain ls)
 plain_all P [] all = All-nil P
 plain_all P (l ∷ ls) all =
     All-append P (replicate l.count l.ranking) (plain ls)
@@ -82,7 +82,7 @@ lines_all P (l ∷ ls) counted all =
     behind_of P (suc n) r rs all = behind_of P n r rs (All-tail P r (replicate n r ++ rs) all)
 
 -- not before and not the same is behind
-later_by : (o : Ordering) (a r : List ℕ) → order a r ≡ o → (o ≡ Less → ⊥) → is_eq o ≡ false → order r a ≡ Less
+pub later_by : (o : Ordering) (a r : List ℕ) → order a r ≡ o → (o ≡ Less → ⊥) → is_eq o ≡ false → order r a ≡ Less
 later_by Less a r is from other = absurd (from refl)
 later_by Equal a r is from other = cc
 later_by Greater a r is from other = nat_list_cmp_total.antisymm r a ∙ ap ordering_reverse is
@@ -110,7 +110,7 @@ all_later r (ls ∷ lists) from rising =
 
 -- ---- one ranking more
 
-one_more :
+pub one_more :
     (n : ℕ) (r : List ℕ) (bag rest_bag : List (List ℕ)) (rest : List BallotLine) → IsPermutation bag (replicate n r ++ rest_bag)
     → All (IsLater r) rest_bag → AreLinesOf rest_bag rest → AreLinesOf bag (written (record { count = n; ranking = r }) ++ rest)
 one_more zero r bag rest_bag rest parts later are = record {

@@ -8,3 +8,5 @@ pub mod Exported
 pub mod Marks
 pub mod Merged
 pub mod Written
+pub mod Packed
+pub mod ShortTexts

@@ -1,0 +1,270 @@
+-- Lines that stand in order, written ranking by ranking.
+use Rattle.std.proofs.Common.{◌≡◌, ◌≢◌, ℕ, zero, suc, ◌+◌, ◌<◌, ◌≤◌, List, [], ◌∷◌, ◌++◌, length, map, take, drop, get_or, replicate, All, Option, Result, IsErr, Ok, Err, arith, refl, ap, sym, subst, ◌∙◌, append_assoc, append-nil}
+use Rattle.std.specs.Prelude.{AllPairs, IsPermutation, false}
+use Rattle.std.specs.List.{flat_map, sum_by}
+use Rattle.std.specs.declared.cmp.Ordering.{Ordering}
+use Rattle.std.specs.declared.cmp.Ordering.TheVariants.{Less, Equal, Greater}
+use Rattle.std.specs.Ordering.{is_eq, ordering_reverse}
+use Rattle.std.proofs.lemmas.Cmp.{nat_list_cmp_total}
+use Rattle.std.proofs.lemmas.List.{length-append, length-replicate, length-take, length-drop, map-append, take-append-drop, get_or-take, get_or-drop, replicate-append-replicate, get_or-append-add}
+use Rattle.std.proofs.lemmas.List.Concat.{flat_map-append}
+use Rattle.std.proofs.lemmas.List.Elements.{All-nil, All-cons, All-head, All-tail, All-map, All-weaker, All-from_get_or}
+use Rattle.std.proofs.lemmas.List.Sorted.{IsPermutation-refl}
+use Rattle.std.proofs.lemmas.List.Sums.{sum_by-cons}
+use Rattle.piece_text.specs.Writing.{Wrote, Stopped, Writes}
+use Rattle.piece_text.proofs.Written.{wrote_nothing, wrote_later, stopped_later, stops}
+use Rattle.plain_ballots.specs.declared.ballot_line.BallotLine.{BallotLine}
+use Rattle.plain_ballots.specs.Ballots.{plain, ballot_count}
+use Rattle.blt_writer.specs.Order.{AreLinesOf}
+use Rattle.blt_writer.specs.Text.{ballot_text}
+use Rattle.blt_writer.specs.Merge.{written}
+use Rattle.blt_writer.specs.Merged.{WritesLines}
+use Rattle.blt_writer.specs.declared.entry.Entry.{Entry}
+use Rattle.blt_writer.specs.Packed.{ranking_at, line_of, entry_lines, IsEntry, AreListed, IsRun}
+use Rattle.blt_writer.proofs.EveryText.{lines_of, are_lines_of}
+use Rattle.blt_writer.proofs.LineOrder.{order, same_place, before_trans, pairs_tail}
+use Rattle.blt_writer.proofs.MergeLemmas.{IsLater, later_by, plain_all, one_more}
+use Rattle.blt_writer.proofs.MergingLemmas.{line}
+
+-- lines of one ranking are so many ballots of it
+pub same_ballots :
+    (r : List ℕ) (same behind : List BallotLine) → All (λ (l : BallotLine). l.ranking ≡ r) same
+    → plain (same ++ behind) ≡ replicate (ballot_count same) r ++ plain behind
+same_ballots r [] behind all = refl
+same_ballots r (l ∷ same) behind all =
+    let IsIt : BallotLine → Type 0 = λ l. l.ranking ≡ r in
+    let count : ballot_count (l ∷ same) ≡ l.count + ballot_count same = sum_by-cons (λ (line : BallotLine). line.count) l same in
+    let rest = same_ballots r same behind (All-tail IsIt l same all) in
+    ap (λ (q : List ℕ). replicate l.count q ++ plain (same ++ behind)) (All-head IsIt l same all)
+    ∙ (ap (λ (bag : List (List ℕ)). replicate l.count r ++ bag) rest
+    ∙ (sym (append_assoc (replicate l.count r) (replicate (ballot_count same) r) (plain behind))
+    ∙ ap (λ (bag : List (List ℕ)). bag ++ plain behind)
+    (replicate-append-replicate l.count (ballot_count same) r ∙ ap (λ (n : ℕ). replicate n r) (sym count))))
+
+-- what stands before a ranking stands before one that isn't listed before that
+before_by : (o : Ordering) (a b c : List ℕ) → order b c ≡ o → order a b ≡ Less → (order c b ≡ Less → ⊥) → order a c ≡ Less
+before_by Less a b c is before listed = before_trans a b c before is
+before_by Equal a b c is before listed = subst (λ (q : List ℕ). order a q ≡ Less) (same_place b c is) before
+before_by Greater a b c is before listed = absurd (listed (nat_list_cmp_total.antisymm c b ∙ ap ordering_reverse is))
+
+-- the first line behind those of a ranking has another
+abbrev pub BeginsOther : (r : List ℕ) → List BallotLine → Type 0
+BeginsOther r [] = Unit {0}
+BeginsOther r (l ∷ lines) = l.ranking ≢ r
+
+not_equal : (o : Ordering) (a r : List ℕ) → order a r ≡ o → a ≢ r → is_eq o ≡ false
+not_equal Less a r is other = refl
+not_equal Equal a r is other = absurd (other (same_place a r is))
+not_equal Greater a r is other = refl
+
+-- so all ballots behind stand behind it
+behind_later :
+    (r : List ℕ) (behind : List BallotLine) → AreListed behind → BeginsOther r behind
+    → All (λ (l : BallotLine). order l.ranking r ≡ Less → ⊥) behind → All (IsLater r) (plain behind)
+behind_later r [] listed other from = All-nil (IsLater r)
+behind_later r (l ∷ behind) listed other from =
+    let first : order r l.ranking ≡ Less =
+    later_by (order l.ranking r) l.ranking r refl (All-head (λ (l : BallotLine). order l.ranking r ≡ Less → ⊥) l behind from)
+    (not_equal (order l.ranking r) l.ranking r refl other) in
+    plain_all (IsLater r) (l ∷ behind)
+    (All-cons (λ (l : BallotLine). IsLater r l.ranking) l behind first
+    (λ i d inside. let next = get_or behind i d in before_by (order l.ranking next.ranking) r l.ranking next.ranking refl first (listed 0 (suc i) d (omega arith) (omega (arith, inside)))))
+
+-- Some lines were written, and with any lines of the ballots that are left they are lines of all ballots.
+pub record IsListing {S : Type 0} (w : S → Option (List ℕ)) (f : S → ℕ) (a b : S) (old now : List BallotLine) : Type 0 where
+  pub few : length (plain now) ≤ 999999999
+  pub counted : All (λ (l : BallotLine). 1 ≤ l.count) now
+  pub listed : AreListed now
+  pub done : List BallotLine
+  pub so_far : (rest : List BallotLine) → AreLinesOf (plain now) rest → AreLinesOf (plain old) (done ++ rest)
+  pub wrote : Wrote w f a b (flat_map ballot_text done)
+
+pub listing_begun :
+    {S : Type 0} (w : S → Option (List ℕ)) (f : S → ℕ) (a : S) (old : List BallotLine) → length (plain old) ≤ 999999999
+    → All (λ (l : BallotLine). 1 ≤ l.count) old → AreListed old → IsListing w f a a old old
+listing_begun w f a old few counted listed = record {
+  few = few;
+  counted = counted;
+  listed = listed;
+  done = [];
+  so_far = λ rest are. are;
+  wrote = wrote_nothing w f a;
+}
+
+listed_behind : (same behind : List BallotLine) → AreListed (same ++ behind) → AreListed behind
+listed_behind [] behind listed = listed
+listed_behind (l ∷ same) behind listed =
+    listed_behind same behind (pairs_tail (λ (one other : BallotLine). order other.ranking one.ranking ≢ Less) l (same ++ behind) listed)
+
+counted_behind : (same behind : List BallotLine) → All (λ (l : BallotLine). 1 ≤ l.count) (same ++ behind) → All (λ (l : BallotLine). 1 ≤ l.count) behind
+counted_behind [] behind counted = counted
+counted_behind (l ∷ same) behind counted =
+    counted_behind same behind (All-tail (λ (l : BallotLine). 1 ≤ l.count) l (same ++ behind) counted)
+
+from_behind : (r : List ℕ) (first : BallotLine) (same behind : List BallotLine) → first.ranking ≡ r → AreListed (first ∷ (same ++ behind)) → All (λ (l : BallotLine). order l.ranking r ≡ Less → ⊥) behind
+from_behind r first same behind is listed i d inside before =
+    let size = length-append same behind in
+    let here : get_or (first ∷ (same ++ behind)) (suc (length same + i)) d ≡ get_or behind i d = get_or-append-add same behind i d in
+    listed 0 (suc (length same + i)) d (omega arith) (omega (arith, size, inside))
+    (ap (λ (l : BallotLine). order l.ranking first.ranking) here ∙ (ap (order (get_or behind i d).ranking) is ∙ before))
+
+written_one : (n : ℕ) (r : List ℕ) → 1 ≤ n → flat_map ballot_text (written (line n r)) ≡ ballot_text (line n r)
+written_one zero r some = absurd (omega (arith, some))
+written_one (suc n) r some = append-nil (ballot_text (line (suc n) r))
+
+-- the lines of one ranking, of which there are some, and those behind them
+pub record AreParted (r : List ℕ) (now : List BallotLine) (first : BallotLine) (same behind : List BallotLine) : Type 0 where
+  pub parts : now ≡ first ∷ (same ++ behind)
+  pub alike : All (λ (l : BallotLine). l.ranking ≡ r) (first ∷ same)
+  pub other : BeginsOther r behind
+
+module _ {S : Type 0} {w : S → Option (List ℕ)} {f : S → ℕ} {a b : S} {old now : List BallotLine} (r : List ℕ) (first : BallotLine)
+    (same behind : List BallotLine) (is : IsListing w f a b old now) (parted : AreParted r now first same behind) where
+  abbrev pub count : ℕ
+  count = ballot_count (first ∷ same)
+
+  whole : plain now ≡ replicate count r ++ plain behind
+  whole = ap plain parted.parts ∙ same_ballots r (first ∷ same) behind parted.alike
+
+  listed : AreListed (first ∷ (same ++ behind))
+  listed = subst AreListed parted.parts is.listed
+
+  counted : All (λ (l : BallotLine). 1 ≤ l.count) (first ∷ (same ++ behind))
+  counted = subst (All (λ (l : BallotLine). 1 ≤ l.count)) parted.parts is.counted
+
+  some : 1 ≤ count
+  some =
+      let one : 1 ≤ first.count = All-head (λ (l : BallotLine). 1 ≤ l.count) first (same ++ behind) counted in
+      let sum = sum_by-cons (λ (l : BallotLine). l.count) first same in
+      omega (arith, one, sum)
+
+  later : All (IsLater r) (plain behind)
+  later =
+      behind_later r behind (listed_behind (first ∷ same) behind listed) parted.other
+      (from_behind r first same behind (All-head (λ (l : BallotLine). l.ranking ≡ r) first same parted.alike) listed)
+
+  longer : (rest : List BallotLine) → AreLinesOf (plain behind) rest → AreLinesOf (plain old) ((is.done ++ written (line count r)) ++ rest)
+  longer rest are =
+      subst (AreLinesOf (plain old)) (sym (append_assoc is.done (written (line count r)) rest))
+      (is.so_far (written (line count r) ++ rest)
+      (one_more count r (plain now) (plain behind) rest
+      (subst (λ (bag : List (List ℕ)). IsPermutation bag (replicate count r ++ plain behind)) (sym whole) (IsPermutation-refl (replicate count r ++ plain behind)))
+      later are))
+
+  text : flat_map ballot_text (written (line count r)) ≡ ballot_text (line count r)
+  text = written_one count r some
+
+  pub few_of_run : count ≤ 999999999
+  few_of_run =
+      let size = ap length whole ∙ length-append (replicate count r) (plain behind) in
+      omega (arith, size, length-replicate count r, is.few)
+
+  pub listing_more : (c : S) → Wrote w f b c (ballot_text (line count r)) → IsListing w f a c old behind
+  listing_more c wrote = record {
+    few = let size = ap length whole ∙ length-append (replicate count r) (plain behind) in omega (arith, size, is.few);
+    counted = counted_behind (first ∷ same) behind counted;
+    listed = listed_behind (first ∷ same) behind listed;
+    done = is.done ++ written (line count r);
+    so_far = longer;
+    wrote =
+        subst (Wrote w f a c) (sym (flat_map-append ballot_text is.done (written (line count r))))
+        (wrote_later is.wrote (subst (Wrote w f b c) (sym text) wrote));
+  }
+
+  pub listing_stopped :
+      {T E : Type 0} (c : S) (result : Result T E) → IsErr result → Stopped w f b c (ballot_text (line count r))
+      → WritesLines w f a c (plain old) result
+  listing_stopped c result failed stopped =
+      let rest = lines_of (plain behind) in
+      let here = is.done ++ written (line count r) in
+      record {
+        lines = here ++ rest;
+        are = longer rest (are_lines_of (plain behind));
+        writes =
+            subst (λ (l : List ℕ). Writes w f a c l result)
+            (ap (λ (l : List ℕ). l ++ flat_map ballot_text rest) (sym (flat_map-append ballot_text is.done (written (line count r))))
+            ∙ sym (flat_map-append ballot_text here rest))
+            (stops (flat_map ballot_text rest) result failed (stopped_later is.wrote (subst (Stopped w f b c) (sym text) stopped)));
+      }
+
+pub listing_done :
+    {S : Type 0} {w : S → Option (List ℕ)} {f : S → ℕ} {a b : S} {old now : List BallotLine} (is : IsListing w f a b old now)
+    → now ≡ [] → AreLinesOf (plain old) is.done
+listing_done {old} {now} is empty =
+    subst (AreLinesOf (plain old)) (append-nil is.done)
+    (is.so_far [] (subst (λ (l : List BallotLine). AreLinesOf (plain l) []) (sym empty) (are_lines_of [])))
+
+-- ---- the lines of entries
+
+pub counted_lines : (packed : List ℕ) (entries : List Entry) → All (IsEntry packed) entries → All (λ (l : BallotLine). 1 ≤ l.count) (entry_lines packed entries)
+counted_lines packed entries sound =
+    All-map (λ (l : BallotLine). 1 ≤ l.count) (line_of packed) entries
+    (All-weaker (IsEntry packed) (λ (e : Entry). 1 ≤ e.count) (λ e is. is.counted) entries sound)
+
+pub count_of_lines : (packed : List ℕ) (entries : List Entry) → ballot_count (entry_lines packed entries) ≡ sum_by (λ (e : Entry). e.count) entries
+count_of_lines packed [] = refl
+count_of_lines packed (e ∷ entries) =
+    omega (
+      arith,
+      sum_by-cons (λ (l : BallotLine). l.count) (line_of packed e) (entry_lines packed entries),
+      sum_by-cons (λ (e : Entry). e.count) e entries,
+      count_of_lines packed entries,
+    )
+
+-- the lines of a run, with those behind it
+parted_by :
+    (packed : List ℕ) (n : ℕ) (first : Entry) (entries : List Entry)
+    → ((i : ℕ) → i < suc n → ranking_at packed (get_or (first ∷ entries) i first).start ≡ ranking_at packed first.start)
+    → (n < length entries → ranking_at packed (get_or entries n first).start ≢ ranking_at packed first.start)
+    → AreParted (ranking_at packed first.start) (entry_lines packed (first ∷ entries)) (line_of packed first)
+    (entry_lines packed (take n entries)) (entry_lines packed (drop n entries))
+parted_by packed n first entries alike other =
+    let r = ranking_at packed first.start in
+    let IsIt : Entry → Type 0 = λ e. ranking_at packed e.start ≡ r in
+    record {
+      parts =
+          ap (λ (es : List Entry). entry_lines packed (first ∷ es)) (sym (take-append-drop n entries))
+          ∙ ap (λ (ls : List BallotLine). line_of packed first ∷ ls) (map-append (line_of packed) (take n entries) (drop n entries));
+      alike =
+          All-map (λ (l : BallotLine). l.ranking ≡ r) (line_of packed) (first ∷ take n entries)
+          (All-from_get_or IsIt (first ∷ take n entries) first
+          (λ i inside.
+          let size = length-take n entries in
+          subst IsIt (sym (get_or-take (suc n) (first ∷ entries) i first (omega (arith, inside, size)))) (alike i (omega (arith, inside, size)))));
+      other = begins_other packed r n first entries other;
+    }
+  where
+    begins_with : (packed r : List ℕ) (behind : List Entry) (d : Entry) → (0 < length behind → ranking_at packed (get_or behind 0 d).start ≢ r) → BeginsOther r (entry_lines packed behind)
+    begins_with packed r [] d other = tt
+    begins_with packed r (e ∷ behind) d other = other (omega arith)
+
+    begins_other : (packed r : List ℕ) (n : ℕ) (d : Entry) (entries : List Entry) → (n < length entries → ranking_at packed (get_or entries n d).start ≢ r) → BeginsOther r (entry_lines packed (drop n entries))
+    begins_other packed r n d entries other =
+        begins_with packed r (drop n entries) d
+        (λ some.
+        let size = length-drop n entries in
+        let none_more : n + 0 ≡ n = omega arith in
+        let at : get_or (drop n entries) 0 d ≡ get_or entries n d = get_or-drop n entries 0 d ∙ ap (λ (k : ℕ). get_or entries k d) none_more in
+        subst (λ (e : Entry). ranking_at packed e.start ≢ r) (sym at) (other (omega (arith, some, size))))
+
+pub parted :
+    (packed : List ℕ) (entries : List Entry) (n : ℕ) (first : Entry) → 0 < length entries → ((d : Entry) → first ≡ get_or entries 0 d)
+    → IsRun packed entries n
+    → AreParted (ranking_at packed first.start) (entry_lines packed entries) (line_of packed first)
+    (entry_lines packed (drop 1 (take n entries))) (entry_lines packed (drop n entries))
+parted packed [] n first some at run = absurd (omega (arith, some))
+parted packed (e ∷ entries) zero first some at run = absurd (omega (arith, run.some))
+parted packed (e ∷ entries) (suc n) first some at run =
+    subst (λ (one : Entry). AreParted (ranking_at packed one.start) (entry_lines packed (e ∷ entries)) (line_of packed one) (entry_lines packed (take n entries)) (entry_lines packed (drop n entries)))
+    (sym (at e)) (parted_by packed n e entries (run.alike e) (λ inside. run.other e (omega (arith, inside))))
+
+-- how many ballots the run has
+pub count_of_run :
+    (packed : List ℕ) (entries : List Entry) (n : ℕ) (first : Entry) → 0 < length entries → ((d : Entry) → first ≡ get_or entries 0 d)
+    → IsRun packed entries n
+    → sum_by (λ (e : Entry). e.count) (take n entries) ≡ ballot_count (line_of packed first ∷ entry_lines packed (drop 1 (take n entries)))
+count_of_run packed [] n first some at run = absurd (omega (arith, some))
+count_of_run packed (e ∷ entries) zero first some at run = absurd (omega (arith, run.some))
+count_of_run packed (e ∷ entries) (suc n) first some at run =
+    sym (ap (λ (one : Entry). ballot_count (line_of packed one ∷ entry_lines packed (take n entries))) (at e)
+    ∙ count_of_lines packed (e ∷ take n entries))

@@ -1,0 +1,118 @@
+-- Rankings that are packed one behind another.
+use Rattle.std.proofs.Common.{◌≡◌, ℕ, ◌+◌, ◌<◌, ◌≤◌, List, [], ◌∷◌, ◌++◌, All, length, take, drop, map, get_or, replicate, refl, ap, sym, subst, ◌∙◌, arith, append_assoc}
+use Rattle.std.specs.Prelude.{IsPermutation, slice_index}
+use Rattle.std.proofs.lemmas.List.{get_or_append_left, get_or_at, drop-append-le, drop_at, take-append-le, take_all, take_more, length-drop, length-append, length_push, map_push}
+use Rattle.std.proofs.lemmas.List.Elements.{All-nil, All-push, All-tail, All-weaker}
+use Rattle.std.proofs.lemmas.List.Sorted.{IsPermutation-map, IsPermutation-sym}
+use Rattle.plain_ballots.specs.Ballots.{plain}
+use Rattle.plain_ballots.proofs.PermutationLemmas.{flat_map-IsPermutation}
+use Rattle.plain_ballots.specs.declared.ballot_line.BallotLine.{BallotLine}
+use Rattle.plain_ballots.specs.Ranking.{IsRanking}
+use Rattle.blt_writer.specs.declared.entry.Entry.{Entry}
+use Rattle.blt_writer.specs.Packed.{ranking_at, front, line_of, entry_lines, IsEntry, IsPacked}
+use Rattle.blt_writer.proofs.FrontLemmas.{IsCandidate}
+
+-- a ranking that comes in is found where it begins
+pub ranking_new : (packed ranking : List ℕ) → ranking_at (packed ++ (length ranking ∷ ranking)) (length packed) ≡ ranking
+ranking_new packed ranking =
+    let n = length ranking in
+    let all = packed ++ (n ∷ ranking) in
+    let first : slice_index all (length packed) ≡ n = get_or_at packed n ranking 0 (length packed) refl in
+    let parted : all ≡ (packed ++ n ∷ []) ++ ranking = sym (append_assoc packed (n ∷ []) ranking) in
+    let behind : drop (length packed + 1) all ≡ ranking =
+    ap (drop (length packed + 1)) parted ∙ drop_at (packed ++ n ∷ []) ranking (length packed + 1) (length_push packed n) in
+    ap (λ (k : ℕ). take k (drop (length packed + 1) all)) first ∙ (ap (take n) behind ∙ take_all n ranking (omega arith))
+
+-- and stays there when others come in behind it
+pub ranking_kept :
+    (packed more : List ℕ) (start : ℕ) → start + slice_index packed start < length packed
+    → ranking_at (packed ++ more) start ≡ ranking_at packed start
+ranking_kept packed more start inside =
+    let n = slice_index packed start in
+    let same : slice_index (packed ++ more) start ≡ n = get_or_append_left packed more 0 start (omega (arith, inside)) in
+    let behind : drop (start + 1) (packed ++ more) ≡ drop (start + 1) packed ++ more =
+    drop-append-le (start + 1) packed more (omega (arith, inside)) in
+    ap (λ (k : ℕ). take k (drop (start + 1) (packed ++ more))) same
+    ∙ (ap (take n) behind
+    ∙ take-append-le n (drop (start + 1) packed) more (omega (arith, inside, length-drop (start + 1) packed)))
+
+entry_kept : (packed more : List ℕ) (entry : Entry) → IsEntry packed entry → IsEntry (packed ++ more) entry
+entry_kept packed more entry is =
+    let same = ranking_kept packed more entry.start is.inside in
+    let n : slice_index (packed ++ more) entry.start ≡ slice_index packed entry.start =
+    get_or_append_left packed more 0 entry.start (omega (arith, is.inside)) in
+    record {
+      inside = omega (arith, n, is.inside, length-append packed more);
+      candidates = subst (All IsCandidate) (sym same) is.candidates;
+      front_is = is.front_is ∙ ap (front 8) (sym same);
+      counted = is.counted;
+    }
+
+lines_kept : (packed more : List ℕ) (entries : List Entry) → All (IsEntry packed) entries → entry_lines (packed ++ more) entries ≡ entry_lines packed entries
+lines_kept packed more [] all = refl
+lines_kept packed more (entry ∷ entries) all =
+    let first : line_of (packed ++ more) entry ≡ line_of packed entry =
+    ap (λ (r : List ℕ). let l : BallotLine = record { count = entry.count; ranking = r } in l)
+    (ranking_kept packed more entry.start (all 0 entry (omega arith)).inside) in
+    ap (λ (l : BallotLine). l ∷ entry_lines (packed ++ more) entries) first
+    ∙ ap (λ (l : List BallotLine). line_of packed entry ∷ l)
+    (lines_kept packed more entries (All-tail (IsEntry packed) entry entries all))
+
+-- the entry of a line whose ranking comes in
+abbrev pub entry_of : (packed : List ℕ) → BallotLine → Entry
+entry_of packed line = record { front = front 8 line.ranking; start = length packed; count = line.count }
+
+module _ (lines : List BallotLine) (packed : List ℕ) (entries : List Entry) (i : ℕ) (line : BallotLine)
+    (is : IsPacked (take i lines) packed entries) (within : i < length lines) (at : line ≡ get_or lines i line)
+    (candidates : All IsCandidate line.ranking) (some : 1 ≤ line.count) where
+  abbrev pub new : List ℕ
+  new = packed ++ (length line.ranking ∷ line.ranking)
+
+  own : ranking_at new (length packed) ≡ line.ranking
+  own = ranking_new packed line.ranking
+
+  size : length new ≡ length packed + (length line.ranking + 1)
+  size = omega (arith, length-append packed (length line.ranking ∷ line.ranking))
+
+  own_entry : IsEntry new (entry_of packed line)
+  own_entry =
+      let n : slice_index new (length packed) ≡ length line.ranking =
+      get_or_at packed (length line.ranking) line.ranking 0 (length packed) refl in
+      record {
+        inside = omega (arith, n, size);
+        candidates = subst (All IsCandidate) (sym own) candidates;
+        front_is = ap (front 8) (sym own);
+        counted = some;
+      }
+
+  own_line : line_of new (entry_of packed line) ≡ line
+  own_line = ap (λ (r : List ℕ). let l : BallotLine = record { count = line.count; ranking = r } in l) own
+
+  -- one line more is packed
+  pub packed_more : IsPacked (take (i + 1) lines) new (entries ++ entry_of packed line ∷ [])
+  packed_more = record {
+    lines_are =
+        map_push (line_of new) entries (entry_of packed line)
+        ∙ (ap (λ (l : List BallotLine). l ++ line_of new (entry_of packed line) ∷ [])
+        (lines_kept packed (length line.ranking ∷ line.ranking) entries is.sound ∙ is.lines_are)
+        ∙ (ap (λ (l : BallotLine). take i lines ++ l ∷ []) (own_line ∙ at) ∙ sym (take_more lines i line within)));
+    sound = All-push (IsEntry new) entries (entry_of packed line)
+        (All-weaker (IsEntry packed) (IsEntry new) (entry_kept packed (length line.ranking ∷ line.ranking)) entries is.sound) own_entry;
+  }
+
+pub none_packed : IsPacked [] [] []
+none_packed = record { lines_are = refl; sound = All-nil (IsEntry []) }
+
+-- what a ranking of few candidates has
+pub of_few : (n : ℕ) (ranking : List ℕ) → n ≤ 250 → IsRanking n ranking → All IsCandidate ranking
+of_few n ranking few is = All-weaker (λ (c : ℕ). (1 ≤ c) × (c ≤ n)) IsCandidate (λ c numbered. (numbered.0, omega (arith, numbered.1, few))) ranking is.numbers
+
+-- The ballots of entries are those of the lines, in whatever order the entries stand.
+pub same_ballots :
+    (lines : List BallotLine) (packed : List ℕ) (entries now : List Entry) → IsPacked lines packed entries → IsPermutation entries now
+    → IsPermutation (plain (entry_lines packed now)) (plain lines)
+same_ballots lines packed entries now is moved =
+    IsPermutation-sym (plain lines) (plain (entry_lines packed now))
+    (subst (λ (ls : List BallotLine). IsPermutation (plain ls) (plain (entry_lines packed now))) is.lines_are
+    (flat_map-IsPermutation (λ (l : BallotLine). replicate l.count l.ranking) (entry_lines packed entries) (entry_lines packed now)
+    (IsPermutation-map (line_of packed) entries now moved)))

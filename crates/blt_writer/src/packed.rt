@@ -1,0 +1,114 @@
+// Rankings packed into bytes, one behind another.
+ghost use Rattle.std.specs.Prelude.{◌≡◌, ℕ, ◌≤◌, [], ◌∷◌, ◌++◌, All, length, IfOk, OnOk, slice_index};
+ghost use Rattle.blt_writer.specs.Packed.{IsPacked, front, ranking_at};
+
+use crate::NoMemory;
+use crate::entry::Entry;
+use plain_ballots::{BallotLine, Ballots};
+use std::alloc::Global;
+
+/// Lines of ballots: their rankings, packed, and an entry for each line.
+#[derive(Drop)]
+pub(crate) struct Packed {
+    pub(crate) ranks: Vec<u8>,
+    pub(crate) entries: Vec<Entry>,
+}
+
+impl Packed {
+    /// The lines of ballots, in their order.
+    pub(crate) fn of(alloc: Global, ballots: &Ballots) -> Result<Packed, NoMemory>
+        requires { ballots.now.candidates ≤ 250 }
+        ensures { IfOk result (λ packed. IsPacked ballots.now.lines packed.ranks.items packed.entries.items) }
+    {
+        let lines = ballots.lines();
+        let Ok(mut entries) = Vec::with_capacity(alloc, lines.len()) else {
+            return Err(NoMemory);
+        };
+        let mut ranks = Vec::new(alloc);
+        for line in lines {
+            let entry = pack(line, &mut ranks)?;
+            push_entry(&mut entries, entry)?;
+        }
+        Ok(Packed { ranks, entries })
+    }
+}
+
+/// Packs the ranking of a line behind the others.
+fn pack(line: &BallotLine, ranks: &mut Vec<u8>) -> Result<Entry, NoMemory>
+    requires candidates { All (λ c. (1 ≤ c) × (c ≤ 250)) line.now.ranking }
+    requires short { length line.now.ranking ≤ 250 }
+    ensures ranks { OnOk result (ranks.new.items ≡ ranks.old.items ++ (length line.now.ranking ∷ line.now.ranking)) }
+    ensures entry { IfOk result (λ entry. entry ≡ record { front = front 8 line.now.ranking; start = length ranks.old.items; count = line.now.count }) }
+{
+    let Ok(start) = u32::try_from(ranks.len()) else {
+        return Err(NoMemory);
+    };
+    let candidates = line.ranking.ranks();
+    push_ranking(ranks, candidates)?;
+    Ok(Entry {
+        front: front_of(candidates),
+        start,
+        count: line.count,
+    })
+}
+
+/// Puts the length of a ranking behind the others, and then its candidates.
+fn push_ranking(ranks: &mut Vec<u8>, candidates: &[u32]) -> Result<(), NoMemory>
+    requires candidates { All (λ c. (1 ≤ c) × (c ≤ 250)) candidates.now }
+    requires short { length candidates.now ≤ 250 }
+    ensures { OnOk result (ranks.new.items ≡ ranks.old.items ++ (length candidates.now ∷ candidates.now)) }
+{
+    if ranks.reserve(candidates.len() + 1).is_err() {
+        return Err(NoMemory);
+    }
+    ranks.push_reserved(candidates.len() as u8);
+    for candidate in candidates {
+        ranks.push_reserved(*candidate as u8);
+    }
+    Ok(())
+}
+
+fn push_entry(entries: &mut Vec<Entry>, entry: Entry) -> Result<(), NoMemory>
+    ensures { OnOk result (entries.new.items ≡ entries.old.items ++ entry ∷ []) }
+{
+    match entries.push(entry) {
+        Ok(()) => Ok(()),
+        Err(_) => Err(NoMemory),
+    }
+}
+
+/// The first eight candidates as the digits of a number, with zeros behind a shorter ranking.
+fn front_of(candidates: &[u32]) -> u64
+    requires { All (λ c. (1 ≤ c) × (c ≤ 250)) candidates.now }
+    ensures { result ≡ front 8 candidates.now }
+{
+    let mut front = 0;
+    for place in 0..8 {
+        front = front * 256 + candidate_at(candidates, place);
+    }
+    front
+}
+
+/// The candidate at a place from 0, and 0 behind the last.
+fn candidate_at(candidates: &[u32], place: usize) -> u64
+    requires { All (λ c. (1 ≤ c) × (c ≤ 250)) candidates.now }
+    ensures value { result ≡ slice_index candidates.now place }
+    ensures small { result ≤ 250 }
+{
+    match candidates.get(place) {
+        Some(candidate) => *candidate as u64,
+        None => 0,
+    }
+}
+
+/// The ranking that stands at a place.
+#[inline]
+pub(crate) fn ranking_at(ranks: &[u8], start: u32) -> &[u8]
+    ensures { result.now ≡ ranking_at ranks.now start }
+{
+    let Some(len) = ranks.get(start as usize) else {
+        return &[];
+    };
+    let behind = &ranks[start as usize + 1..];
+    &behind[..behind.len().min(*len as usize)]
+}

@@ -1,0 +1,71 @@
+// Entries that stand in order, written ranking by ranking.
+ghost use Rattle.std.specs.Prelude.{◌≡◌, ◌≤◌, ◌<◌, All, length, slice_index_or, sum_by};
+ghost use Rattle.plain_ballots.specs.Ballots.{plain};
+ghost use Rattle.blt_writer.specs.Merged.{WritesLines};
+ghost use Rattle.blt_writer.specs.declared.entry.Entry.{Entry};
+ghost use Rattle.blt_writer.specs.Packed.{AreListed, IsEntry, IsRun, entry_lines};
+
+use crate::entry::Entry;
+use crate::line_bytes::LineBytes;
+use crate::packed::ranking_at;
+use byte_edge::{Failed, Sink};
+use piece_text::write_bytes;
+
+/// Writes the lines of all ballots of entries that stand in order, equal ballots in one line.
+pub(crate) fn write_runs<K: Sink>(
+    ranks: &[u8],
+    entries: &[Entry],
+    sink: &mut K,
+) -> Result<(), Failed>
+    requires sound { All (IsEntry ranks.now) entries.now }
+    requires listed { AreListed (entry_lines ranks.now entries.now) }
+    requires few { length (plain (entry_lines ranks.now entries.now)) ≤ 999999999 }
+    ensures { WritesLines K.written K.faults sink.old sink.new (plain (entry_lines ranks.now entries.now)) result }
+{
+    let mut line = LineBytes::new();
+    let mut rest = entries;
+    while rest.len() > 0 {
+        let first = entry_at(rest, 0);
+        let (same, behind) = rest.split_at(run_of(ranks, rest));
+        line.set(count(same), ranking_at(ranks, first.start));
+        write_bytes(line.bytes(), sink)?;
+        rest = behind;
+    }
+    Ok(())
+}
+
+/// How many entries at the front have the ranking of the first.
+fn run_of(ranks: &[u8], entries: &[Entry]) -> usize
+    requires sound { All (IsEntry ranks.now) entries.now }
+    requires some { 1 ≤ length entries.now }
+    ensures { IsRun ranks.now entries.now result }
+{
+    let first = entry_at(entries, 0);
+    for i in 1..entries.len() {
+        let entry = entry_at(entries, i);
+        if !entry.is_tied(&first, ranks) {
+            return i;
+        }
+    }
+    entries.len()
+}
+
+#[inline]
+fn entry_at(entries: &[Entry], i: usize) -> Entry
+    requires { i < length entries.now }
+    ensures { (d : Entry) → result ≡ slice_index_or entries.now i d }
+{
+    entries[i]
+}
+
+/// The number of ballots of entries.
+fn count(entries: &[Entry]) -> u64
+    requires { sum_by (λ entry. entry.count) entries.now ≤ 999999999 }
+    ensures { result ≡ sum_by (λ entry. entry.count) entries.now }
+{
+    let mut total = 0;
+    for entry in entries {
+        total += entry.count as u64;
+    }
+    total
+}
