@@ -2,6 +2,7 @@
 // source or a sink that fails in mid-stream. Expected bytes were worked out by hand.
 mod contended;
 mod days;
+mod flushes;
 mod lanes;
 mod large_inputs;
 mod refusals;
