@@ -59,6 +59,18 @@ fn lines_of_one_ranking_come_together(rt: HostRuntime) -> Result<(), Fail> {
     Ok(())
 }
 
+// Rankings that begin with the same eight candidates, one of which ends there.
+#[test]
+fn long_rankings_stand_in_order_too(rt: HostRuntime) -> Result<(), Fail> {
+    let file =
+        b"10 1\n300 1 2 3 4 5 6 7 8 10 0\n1 1 2 3 4 5 6 7 8 9 0\n2 1 2 3 4 5 6 7 8 0\n4 1 2 3 4 5 6 7 8 9 0\n0\n\"A\"\n\"B\"\n\"C\"\n\"D\"\n\"E\"\n\"F\"\n\"G\"\n\"H\"\n\"I\"\n\"J\"\n\"T\"\n";
+    let ran = run(rt.alloc(), "", file, &[])?;
+    let text =
+        b"10 1\n2 1 2 3 4 5 6 7 8 0\n5 1 2 3 4 5 6 7 8 9 0\n300 1 2 3 4 5 6 7 8 10 0\n0\n\"A\"\n\"B\"\n\"C\"\n\"D\"\n\"E\"\n\"F\"\n\"G\"\n\"H\"\n\"I\"\n\"J\"\n\"T\"\n";
+    assert_eq!(rt; ran.written.as_slice(), text.as_slice());
+    Ok(())
+}
+
 #[test]
 fn a_word_is_refused_and_so_is_what_is_no_file(rt: HostRuntime) -> Result<(), Fail> {
     let word = run(rt.alloc(), "x", SAMPLE, &[])?;

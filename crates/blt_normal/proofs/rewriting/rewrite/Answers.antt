@@ -1,6 +1,5 @@
 use Rattle.std.proofs.Common.{ℕ, List, sym, subst, inr}
-use Rattle.std.specs.Prelude.{Err, IsPermutation, false}
-use Rattle.std.proofs.lemmas.List.Sorted.{IsPermutation-trans}
+use Rattle.std.specs.Prelude.{Err, false}
 use Rattle.plain_ballots.specs.Ballots.{plain}
 use Rattle.blt_reader.specs.Election.{poll}
 use Rattle.blt_reader.specs.Reads.{IfFault}
@@ -27,14 +26,13 @@ returns-in-Err g c =
 pub returns : goal.returns
 returns g c =
     let file = poll c.in-Ok.election in
-    let text = c.write_blt-wrote.ensures in
+    let text = c.write_listing-wrote.ensures in
     let w = g.K.Sink.written in
     let f = g.K.Sink.faults in
-    let moved = IsPermutation-trans _ _ _ c.in-Ok-begin.ensures.ballots c.in-Ok-plans_of.ensures.ballots in
     inr (
       Done,
       text.text,
-      owed_for_file c.args.input.now file _ _ text.text c.requires c.in-Ok.ensures.accepted moved c.in-Ok-begin.ensures.roll text.is,
-      closed w f c.args.sink.now c.write_blt-wrote.new.sink c.close.new.sink text.text c.write_blt-wrote.result c.close.result
-          (wrote_text w f c.args.sink.now c.write_blt-wrote.new.sink text.text c.write_blt-wrote.result text.writes) c.close.ensures,
+      owed_for_file c.args.input.now file _ _ text.text c.requires c.in-Ok.ensures.accepted c.in-Ok-begin.ensures.ballots c.in-Ok-begin.ensures.roll text.is,
+      closed w f c.args.sink.now c.write_listing-wrote.new.sink c.close.new.sink text.text c.write_listing-wrote.result c.close.result
+          (wrote_text w f c.args.sink.now c.write_listing-wrote.new.sink text.text c.write_listing-wrote.result text.writes) c.close.ensures,
     )
