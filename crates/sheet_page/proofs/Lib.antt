@@ -1,0 +1,5 @@
+mod Pens
+mod Owing
+mod WordLemmas
+mod CsvLemmas
+mod JsonTexts

@@ -1,0 +1,11 @@
+use Rattle.std.specs.List.{flat_map}
+use Rattle.csv_text.specs.Csv.{record_text}
+use Rattle.sheet_page.specs.Csv.{csv_record}
+use Rattle.sheet_page.specs.Prints.{Prints}
+use Rattle.sheet_page.specs.Values.{places}
+use Rattle.sheet_page.proofs.csv.write_row.Given as goal
+
+abbrev pub invariant-loop-p : goal.invariant-loop-p
+invariant-loop-p g l =
+    Prints g.K.Sink.written g.K.Sink.faults l.initial.pen.done l.initial.sink l.pen.done l.sink
+    (flat_map (λ p. record_text (csv_record l.values l.row p)) (places l.p))

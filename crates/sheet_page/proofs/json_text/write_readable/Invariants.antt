@@ -1,0 +1,14 @@
+use Rattle.std.proofs.Common.{◌≡◌, ℕ, List, ◌++◌, length, encode_utf8_all}
+use Rattle.page_tree.specs.Print.{readable}
+use Rattle.sheet_page.specs.JsonText.{escaped}
+use Rattle.piece_text.specs.Writing.{Wrote}
+use Rattle.sheet_page.proofs.json_text.write_readable.Given as goal
+
+-- these bytes of the text were written, and those of the other characters are still to come
+abbrev pub invariant-loop-c : goal.invariant-loop-c
+invariant-loop-c g l =
+    (done : List ℕ) × (done ++ encode_utf8_all l.rest ≡ readable l.fn.text)
+    × Wrote g.K.Sink.written g.K.Sink.faults l.initial.sink l.sink (escaped done)
+
+abbrev pub decreases-loop-c : goal.decreases-loop-c
+decreases-loop-c g l = length l.rest

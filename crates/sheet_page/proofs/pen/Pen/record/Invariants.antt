@@ -1,0 +1,11 @@
+use Rattle.std.proofs.Common.{take, ◌++◌}
+use Rattle.std.specs.List.{flat_map}
+use Rattle.csv_text.specs.Csv.{behind_comma, field_text}
+use Rattle.sheet_page.specs.Cells.{cell_text}
+use Rattle.sheet_page.specs.Prints.{Prints}
+use Rattle.sheet_page.proofs.pen.Pen.record.Given as goal
+
+abbrev pub invariant-loop-other : goal.invariant-loop-other
+invariant-loop-other g l =
+    Prints g.K.Sink.written g.K.Sink.faults l.initial.self.done l.initial.sink l.self.done l.sink
+    (flat_map (λ cell. behind_comma (cell_text cell)) (take l.other-index l.others))

@@ -1,0 +1,88 @@
+-- A sheet as JSON, in one line. 44 is the comma, and 10 the line feed.
+use Rattle.std.specs.Prelude.{ℕ, ◌+◌, Bool, true, false, zero, suc, List, [], ◌∷◌, ◌++◌, length, codes, decimal, slice_index}
+use Rattle.std.specs.List.{flat_map}
+use Rattle.candidate_roll.specs.State.{state_at}
+use Rattle.fixed_place.specs.Text.{text_of}
+use Rattle.lot_order.specs.Flags.{mark_at}
+use Rattle.meek_rule.specs.Row.{Row}
+use Rattle.sheet_text.specs.Lines.{state_word}
+use Rattle.sheet_reader.specs.Values.{SheetList}
+use Rattle.sheet_page.specs.JsonText.{string_text}
+use Rattle.sheet_page.specs.Values.{places, name_at, row_at, step_word, defeats}
+
+-- parts one behind another
+abbrev pub joined : List (List ℕ) → List ℕ
+joined parts = flat_map (λ part. part) parts
+
+abbrev pub truth : Bool → List ℕ
+truth true = codes "true"
+truth false = codes "false"
+
+-- what stands before the item at a place of a list
+abbrev pub comma_at : (p : ℕ) → List ℕ
+comma_at zero = []
+comma_at (suc p) = 44 ∷ []
+
+-- amounts are strings, so that no reader rounds them
+abbrev pub amount : ℕ → List ℕ
+amount units = string_text (text_of 9 units)
+
+-- a candidate of the roll, and what became of it
+abbrev pub candidate_json : SheetList → (p : ℕ) → List ℕ
+candidate_json v p =
+    joined (
+    comma_at p ∷ codes "{\"number\":" ∷ decimal (p + 1) ∷ codes ",\"name\":" ∷ string_text (name_at v p)
+    ∷ codes ",\"outcome\":" ∷ string_text (state_word (state_at v.last p)) ∷ codes "}" ∷ []
+    )
+
+-- a candidate in an iteration: its state and keep value before it, and its vote in it
+abbrev pub vote_json : Row → (p : ℕ) → List ℕ
+vote_json row p =
+    joined (
+    comma_at p ∷ codes "{\"number\":" ∷ decimal (p + 1) ∷ codes ",\"state\":" ∷ string_text (state_word (state_at row.states p))
+    ∷ codes ",\"keep\":" ∷ amount (slice_index row.keeps p) ∷ codes ",\"vote\":" ∷ amount (slice_index row.votes p) ∷ []
+    )
+
+-- what an iteration decided of a candidate
+abbrev pub won_json : (elected capped : List ℕ) → List ℕ
+won_json elected capped = joined (codes ",\"elected\":" ∷ elected ∷ codes ",\"capped\":" ∷ capped ∷ [])
+
+abbrev pub lost_json : (tied defeated : List ℕ) → List ℕ
+lost_json tied defeated = joined (codes ",\"tied\":" ∷ tied ∷ codes ",\"defeated\":" ∷ defeated ∷ codes "}" ∷ [])
+
+abbrev pub standing_json : Row → (p : ℕ) → List ℕ
+standing_json row p =
+    vote_json row p
+    ++ (won_json (truth (mark_at row.elected p)) (truth (mark_at row.capped p))
+    ++ lost_json (truth (mark_at row.tied p)) (truth (defeats row.step (p + 1))))
+
+-- the numbers and amounts of an iteration, and its step
+abbrev pub amounts_json : (i : ℕ) → Row → List ℕ
+amounts_json i row =
+    joined (
+    comma_at i ∷ codes "{\"round\":" ∷ decimal row.round ∷ codes ",\"iteration\":" ∷ decimal row.iteration
+    ∷ codes ",\"total\":" ∷ amount row.total ∷ codes ",\"quota\":" ∷ amount row.quota ∷ codes ",\"surplus\":" ∷ amount row.surplus
+    ∷ codes ",\"step\":" ∷ string_text (step_word row.step) ∷ codes ",\"candidates\":[" ∷ []
+    )
+
+-- an iteration
+abbrev pub iteration_json : (i : ℕ) → Row → List ℕ
+iteration_json i row = amounts_json i row ++ (flat_map (standing_json row) (places (length row.states)) ++ codes "]}")
+
+abbrev pub iteration_at : SheetList → (i : ℕ) → List ℕ
+iteration_at v i = iteration_json i (row_at v.rows i)
+
+-- the title, and the numbers of seats and ballots
+abbrev pub head_json : SheetList → List ℕ
+head_json v =
+    joined (
+    codes "{\"title\":" ∷ string_text v.title ∷ codes ",\"seats\":" ∷ decimal v.seats ∷ codes ",\"ballots\":" ∷ decimal v.ballots
+    ∷ codes ",\"candidates\":[" ∷ []
+    )
+
+abbrev pub json_of : SheetList → List ℕ
+json_of v =
+    head_json v
+    ++ (flat_map (candidate_json v) (places (length v.names))
+    ++ (codes "],\"iterations\":["
+    ++ (flat_map (iteration_at v) (places (length v.rows)) ++ (codes "]}" ++ 10 ∷ []))))

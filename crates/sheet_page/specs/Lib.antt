@@ -1,0 +1,9 @@
+pub mod Prints
+pub mod Cells
+pub mod Values
+pub mod JsonText
+pub mod Pieces
+pub mod Csv
+pub mod Json
+pub mod Words
+pub mod Owed

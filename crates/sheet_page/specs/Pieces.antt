@@ -1,0 +1,11 @@
+-- Pieces of what is written.
+use Rattle.std.specs.Prelude.{ℕ, List, decimal}
+use Rattle.sheet_page.specs.declared.piece.Piece.{Piece}
+use Rattle.sheet_page.specs.declared.piece.Piece.TheVariants.{Raw, Number, Quoted}
+use Rattle.sheet_page.specs.Cells.{cell_text}
+use Rattle.sheet_page.specs.JsonText.{string_text}
+
+abbrev pub piece_text : Piece → List ℕ
+piece_text (Raw bytes) = bytes.now
+piece_text (Number n) = decimal n
+piece_text (Quoted cell) = string_text (cell_text cell)

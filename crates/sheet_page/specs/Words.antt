@@ -1,0 +1,13 @@
+-- The words that ask for a page.
+use Rattle.std.specs.Prelude.{◌≡◌, ℕ, List, [], ◌∷◌, codes}
+use Rattle.meek_words.specs.Numerals.{Word}
+use Rattle.sheet_page.specs.declared.format.Format.{Format}
+use Rattle.sheet_page.specs.declared.format.Format.TheVariants.{Csv, Json}
+
+abbrev pub name_of : Format → List ℕ
+name_of Csv = codes "csv"
+name_of Json = codes "json"
+
+-- two words, `--as` and a format's name
+abbrev pub TakesFormat : List Word → Format → Type 0
+TakesFormat words format = words ≡ codes "--as" ∷ name_of format ∷ []

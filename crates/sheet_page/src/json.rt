@@ -1,0 +1,222 @@
+// A sheet as JSON.
+ghost use Rattle.std.specs.Prelude.{◌≡◌, ◌<◌, ◌≤◌, length};
+ghost use Rattle.std.specs.List.{flat_map};
+ghost use Rattle.meek_rule.specs.Row.{HasRoomFor};
+ghost use Rattle.piece_text.specs.Writing.{Writes};
+ghost use Rattle.sheet_reader.specs.Form.{IsPrintable};
+ghost use Rattle.sheet_page.specs.Json.{amounts_json, candidate_json, comma_at, head_json, iteration_at, iteration_json, json_of, lost_json, standing_json, truth, vote_json, won_json};
+ghost use Rattle.sheet_page.specs.Prints.{Prints};
+ghost use Rattle.sheet_page.specs.Values.{places};
+
+use crate::cell::Cell;
+use crate::pen::Pen;
+use crate::piece::Piece;
+use crate::values::{defeats, kept_of_one, state_word, step_word};
+use byte_edge::{Failed, Sink};
+use meek_rule::Row;
+use sheet_reader::SheetValues;
+
+/// Writes the values of a sheet as JSON, in one line.
+pub(crate) fn write_json<K: Sink>(values: &SheetValues, sink: &mut K) -> Result<(), Failed>
+    requires { IsPrintable 9 values.now }
+    ensures { Writes K.written K.faults sink.old sink.new (json_of values.now) result }
+{
+    let mut pen = Pen::new();
+    write_head(&mut pen, values, sink);
+    write_candidates(&mut pen, values, sink);
+    pen.piece(&Piece::Raw(b"],\"iterations\":["), sink);
+    write_iterations(&mut pen, values, sink);
+    pen.piece(&Piece::Raw(b"]}\n"), sink);
+    pen.end()
+}
+
+fn write_head<K: Sink>(pen: &mut Pen, values: &SheetValues, sink: &mut K)
+    ensures { Prints K.written K.faults pen.old.done sink.old pen.new.done sink.new (head_json values.now) }
+{
+    pen.write(
+        &[
+            Piece::Raw(b"{\"title\":"),
+            Piece::Quoted(Cell::Bytes(values.title.bytes())),
+            Piece::Raw(b",\"seats\":"),
+            Piece::Number(values.seats as u64),
+            Piece::Raw(b",\"ballots\":"),
+            Piece::Number(values.ballots),
+            Piece::Raw(b",\"candidates\":["),
+        ],
+        sink,
+    );
+}
+
+fn write_candidates<K: Sink>(pen: &mut Pen, values: &SheetValues, sink: &mut K)
+    requires outcomes { length values.now.last ≡ length values.now.names }
+    requires few { length values.now.names ≤ 250 }
+    ensures { Prints K.written K.faults pen.old.done sink.old pen.new.done sink.new
+        (flat_map (candidate_json values.now) (places (length values.now.names))) }
+{
+    for p in 0..values.names.len() {
+        write_candidate(pen, values, p, sink);
+    }
+}
+
+/// The candidate at a place, and what became of it.
+fn write_candidate<K: Sink>(pen: &mut Pen, values: &SheetValues, p: usize, sink: &mut K)
+    requires outcomes { length values.now.last ≡ length values.now.names }
+    requires few { length values.now.names ≤ 250 }
+    requires place { p < length values.now.names }
+    ensures { Prints K.written K.faults pen.old.done sink.old pen.new.done sink.new (candidate_json values.now p) }
+{
+    let name = values.names.get(p).bytes();
+    let outcome = state_word(*values.last.get(p));
+    pen.write(
+        &[
+            Piece::Raw(comma_at(p)),
+            Piece::Raw(b"{\"number\":"),
+            Piece::Number(p as u64 + 1),
+            Piece::Raw(b",\"name\":"),
+            Piece::Quoted(Cell::Bytes(name)),
+            Piece::Raw(b",\"outcome\":"),
+            Piece::Quoted(Cell::Bytes(outcome)),
+            Piece::Raw(b"}"),
+        ],
+        sink,
+    );
+}
+
+fn write_iterations<K: Sink>(pen: &mut Pen, values: &SheetValues, sink: &mut K)
+    requires { IsPrintable 9 values.now }
+    ensures { Prints K.written K.faults pen.old.done sink.old pen.new.done sink.new
+        (flat_map (iteration_at values.now) (places (length values.now.rows))) }
+{
+    for i in 0..values.rows.len() {
+        write_iteration(pen, i, values.rows.get(i), sink);
+    }
+}
+
+fn write_iteration<K: Sink>(pen: &mut Pen, i: usize, row: &Row<9>, sink: &mut K)
+    requires room { HasRoomFor (length row.now.states) row.now }
+    requires few { length row.now.states ≤ 250 }
+    ensures { Prints K.written K.faults pen.old.done sink.old pen.new.done sink.new (iteration_json i row.now) }
+{
+    write_amounts(pen, i, row, sink);
+    write_standings(pen, row, sink);
+    pen.piece(&Piece::Raw(b"]}"), sink);
+}
+
+fn write_amounts<K: Sink>(pen: &mut Pen, i: usize, row: &Row<9>, sink: &mut K)
+    ensures { Prints K.written K.faults pen.old.done sink.old pen.new.done sink.new (amounts_json i row.now) }
+{
+    pen.write(
+        &[
+            Piece::Raw(comma_at(i)),
+            Piece::Raw(b"{\"round\":"),
+            Piece::Number(row.round as u64),
+            Piece::Raw(b",\"iteration\":"),
+            Piece::Number(row.iteration),
+            Piece::Raw(b",\"total\":"),
+            Piece::Quoted(Cell::Amount(row.total)),
+            Piece::Raw(b",\"quota\":"),
+            Piece::Quoted(Cell::Amount(row.quota)),
+            Piece::Raw(b",\"surplus\":"),
+            Piece::Quoted(Cell::Amount(row.surplus)),
+            Piece::Raw(b",\"step\":"),
+            Piece::Quoted(Cell::Bytes(step_word(row.step))),
+            Piece::Raw(b",\"candidates\":["),
+        ],
+        sink,
+    );
+}
+
+fn write_standings<K: Sink>(pen: &mut Pen, row: &Row<9>, sink: &mut K)
+    requires room { HasRoomFor (length row.now.states) row.now }
+    requires few { length row.now.states ≤ 250 }
+    ensures { Prints K.written K.faults pen.old.done sink.old pen.new.done sink.new
+        (flat_map (standing_json row.now) (places (length row.now.states))) }
+{
+    for p in 0..row.states.len() {
+        write_standing(pen, row, p, sink);
+    }
+}
+
+/// The candidate at a place in an iteration.
+fn write_standing<K: Sink>(pen: &mut Pen, row: &Row<9>, p: usize, sink: &mut K)
+    requires room { HasRoomFor (length row.now.states) row.now }
+    requires few { length row.now.states ≤ 250 }
+    requires place { p < length row.now.states }
+    ensures { Prints K.written K.faults pen.old.done sink.old pen.new.done sink.new (standing_json row.now p) }
+{
+    write_vote(pen, row, p, sink);
+    let elected = truth(*row.elected.get(p));
+    let capped = truth(*row.capped.get(p));
+    write_won(pen, elected, capped, sink);
+    let tied = truth(*row.tied.get(p));
+    let defeated = truth(defeats(row.step, p as u32 + 1));
+    write_lost(pen, tied, defeated, sink);
+}
+
+fn write_vote<K: Sink>(pen: &mut Pen, row: &Row<9>, p: usize, sink: &mut K)
+    requires room { HasRoomFor (length row.now.states) row.now }
+    requires place { p < length row.now.states }
+    requires few { length row.now.states ≤ 250 }
+    ensures { Prints K.written K.faults pen.old.done sink.old pen.new.done sink.new (vote_json row.now p) }
+{
+    let state = state_word(*row.states.get(p));
+    let keep = kept_of_one(*row.keeps.get(p));
+    pen.write(
+        &[
+            Piece::Raw(comma_at(p)),
+            Piece::Raw(b"{\"number\":"),
+            Piece::Number(p as u64 + 1),
+            Piece::Raw(b",\"state\":"),
+            Piece::Quoted(Cell::Bytes(state)),
+            Piece::Raw(b",\"keep\":"),
+            Piece::Quoted(Cell::Amount(keep)),
+            Piece::Raw(b",\"vote\":"),
+            Piece::Quoted(Cell::Amount(*row.votes.get(p))),
+        ],
+        sink,
+    );
+}
+
+fn write_won<'x, K: Sink>(pen: &mut Pen, elected: &'x [u8], capped: &'x [u8], sink: &mut K)
+    ensures { Prints K.written K.faults pen.old.done sink.old pen.new.done sink.new
+        (won_json elected.now capped.now) }
+{
+    pen.write(
+        &[
+            Piece::Raw(b",\"elected\":"),
+            Piece::Raw(elected),
+            Piece::Raw(b",\"capped\":"),
+            Piece::Raw(capped),
+        ],
+        sink,
+    );
+}
+
+fn write_lost<'x, K: Sink>(pen: &mut Pen, tied: &'x [u8], defeated: &'x [u8], sink: &mut K)
+    ensures { Prints K.written K.faults pen.old.done sink.old pen.new.done sink.new
+        (lost_json tied.now defeated.now) }
+{
+    pen.write(
+        &[
+            Piece::Raw(b",\"tied\":"),
+            Piece::Raw(tied),
+            Piece::Raw(b",\"defeated\":"),
+            Piece::Raw(defeated),
+            Piece::Raw(b"}"),
+        ],
+        sink,
+    );
+}
+
+/// What stands before the item at a place of a list.
+fn comma_at(p: usize) -> &'static [u8]
+    ensures { result.now ≡ comma_at p }
+{
+    if p == 0 { b"" } else { b"," }
+}
+
+fn truth(mark: bool) -> &'static [u8]
+    ensures { result.now ≡ truth mark }
+{
+    if mark { b"true" } else { b"false" }
+}

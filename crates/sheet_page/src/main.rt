@@ -1,0 +1,40 @@
+//! A sheet shown to people and to programs: as a page of its own, as a table for spreadsheets, or as
+//! JSON.
+//!
+//! [`page`] is the whole tool: [`takes_format`] reads the words, `read_sheet` the values, and what is
+//! written is a function of these values.
+#![tactic(auto)]
+
+mod cell;
+mod csv;
+mod format;
+mod json;
+mod json_text;
+mod page_end;
+mod pen;
+mod piece;
+mod tool;
+mod values;
+mod words;
+
+use byte_edge::{StdSink, StdSource};
+pub use format::Format;
+pub use page_end::PageEnd;
+use std::io::{self, BufWriter};
+use std::process::ExitCode;
+pub use tool::page;
+use tool_edge::{End, NO_WORDS, words_of};
+pub use words::takes_format;
+
+fn main(rt: HostRuntime) -> ExitCode {
+    let Ok(words) = words_of(&rt) else {
+        return ExitCode::from(NO_WORDS);
+    };
+    let Ok(writer) = BufWriter::new(rt.alloc(), io::writer(&rt)) else {
+        return ExitCode::from(End::NoMemory.code());
+    };
+    let mut source = StdSource::new(rt.reader());
+    let mut sink = StdSink::new(writer);
+    let end = page(rt.alloc(), words.as_slice(), &mut source, &mut sink);
+    ExitCode::from(end.code())
+}

@@ -1,0 +1,115 @@
+// What is written piece by piece.
+ghost use Rattle.std.specs.Prelude.{◌≡◌, Ok, ◌∷◌, map};
+ghost use Rattle.std.specs.List.{flat_map};
+ghost use Rattle.csv_text.specs.Csv.{behind_comma, field_text, record_text};
+ghost use Rattle.piece_text.specs.Writing.{Writes};
+ghost use Rattle.sheet_page.specs.Cells.{cell_text};
+ghost use Rattle.sheet_page.specs.JsonText.{string_text};
+ghost use Rattle.sheet_page.specs.Pieces.{piece_text};
+ghost use Rattle.sheet_page.specs.Prints.{Prints};
+
+use crate::cell::{Cell, amount_text, count_text};
+use crate::json_text::write_string;
+use crate::piece::Piece;
+use byte_edge::{Failed, Sink};
+use csv_text::write_field;
+use piece_text::write_bytes;
+
+/// Writes pieces one after another, up to the first failure: behind it nothing more is written.
+#[derive(Drop)]
+pub(crate) struct Pen {
+    done: Result<(), Failed>,
+}
+
+impl Pen {
+    pub(crate) fn new() -> Pen
+        ensures { result.done ≡ Ok (tt {0}) }
+    {
+        Pen { done: Ok(()) }
+    }
+
+    /// Whether all was written.
+    pub(crate) fn end(self) -> Result<(), Failed>
+        ensures { result ≡ self.done }
+    {
+        self.done
+    }
+
+    /// Writes some pieces.
+    pub(crate) fn write<K: Sink>(&mut self, pieces: &[Piece<'_>], sink: &mut K)
+        ensures { Prints K.written K.faults self.old.done sink.old self.new.done sink.new
+            (flat_map piece_text pieces.now) }
+    {
+        for piece in pieces {
+            self.piece(piece, sink);
+        }
+    }
+
+    /// Writes a piece, if all before it was written.
+    pub(crate) fn piece<K: Sink>(&mut self, piece: &Piece<'_>, sink: &mut K)
+        ensures { Prints K.written K.faults self.old.done sink.old self.new.done sink.new (piece_text piece.now) }
+    {
+        if let Ok(()) = self.done {
+            self.done = write_piece(piece, sink);
+        }
+    }
+
+    /// Writes a record of a spreadsheet, which has at least one field.
+    pub(crate) fn record<K: Sink>(&mut self, first: &Cell<'_>, others: &[Cell<'_>], sink: &mut K)
+        ensures { Prints K.written K.faults self.old.done sink.old self.new.done sink.new
+            (record_text (map cell_text (first.now ∷ others.now))) }
+    {
+        self.field(first, sink);
+        for other in others {
+            self.behind_comma(other, sink);
+        }
+        self.piece(&Piece::Raw(b"\r\n"), sink);
+    }
+
+    fn behind_comma<K: Sink>(&mut self, cell: &Cell<'_>, sink: &mut K)
+        ensures { Prints K.written K.faults self.old.done sink.old self.new.done sink.new
+            (behind_comma (cell_text cell.now)) }
+    {
+        self.piece(&Piece::Raw(b","), sink);
+        self.field(cell, sink);
+    }
+
+    fn field<K: Sink>(&mut self, cell: &Cell<'_>, sink: &mut K)
+        ensures { Prints K.written K.faults self.old.done sink.old self.new.done sink.new
+            (field_text (cell_text cell.now)) }
+    {
+        if let Ok(()) = self.done {
+            self.done = write_cell_field(cell, sink);
+        }
+    }
+}
+
+fn write_piece<K: Sink>(piece: &Piece<'_>, sink: &mut K) -> Result<(), Failed>
+    ensures { Writes K.written K.faults sink.old sink.new (piece_text piece.now) result }
+{
+    match piece {
+        Piece::Raw(bytes) => write_bytes(*bytes, sink),
+        Piece::Number(n) => write_bytes(count_text(*n).bytes(), sink),
+        Piece::Quoted(cell) => write_cell_string(cell, sink),
+    }
+}
+
+fn write_cell_string<K: Sink>(cell: &Cell<'_>, sink: &mut K) -> Result<(), Failed>
+    ensures { Writes K.written K.faults sink.old sink.new (string_text (cell_text cell.now)) result }
+{
+    match cell {
+        Cell::Bytes(bytes) => write_string(*bytes, sink),
+        Cell::Count(n) => write_string(count_text(*n).bytes(), sink),
+        Cell::Amount(a) => write_string(amount_text(*a).bytes(), sink),
+    }
+}
+
+fn write_cell_field<K: Sink>(cell: &Cell<'_>, sink: &mut K) -> Result<(), Failed>
+    ensures { Writes K.written K.faults sink.old sink.new (field_text (cell_text cell.now)) result }
+{
+    match cell {
+        Cell::Bytes(bytes) => write_field(*bytes, sink),
+        Cell::Count(n) => write_field(count_text(*n).bytes(), sink),
+        Cell::Amount(a) => write_field(amount_text(*a).bytes(), sink),
+    }
+}

@@ -1,0 +1,100 @@
+// Whole runs over memory: sheets worked by hand, and texts that are none.
+use super::*;
+use byte_edge::{MemorySink, MemorySource};
+use std::test::Fail;
+
+const ONE: &[u8] = b"title A & B\nseats 1\ncandidates 1\nballots 0\nresult\n1 elected <Ann>\nend\n";
+
+const SAMPLE: &[u8] =
+    b"title Sample\nseats 2\ncandidates 4\nballots 13\nround 1 iteration 1\n1 hopeful 1.000000000 7.000000000\n2 withdrawn 0.000000000 0.000000000\n3 hopeful 1.000000000 1.000000000\n4 hopeful 1.000000000 4.000000000\ntotal 12.000000000\nquota 4.000000001\nsurplus 2.999999999\nelected 1\nstep elected\nround 2 iteration 1\n1 elected 1.000000000 7.000000000\n2 withdrawn 0.000000000 0.000000000\n3 hopeful 1.000000000 1.000000000\n4 hopeful 1.000000000 4.000000000\ntotal 12.000000000\nquota 4.000000001\nsurplus 2.999999999\nstep iterate\nround 2 iteration 2\n1 elected 0.571428572 4.000000004\n2 withdrawn 0.000000000 0.000000000\n3 hopeful 1.000000000 3.999999996\n4 hopeful 1.000000000 4.000000000\ntotal 12.000000000\nquota 4.000000001\nsurplus 0.000000003\nstep defeat 3 tied 3\nresult\n1 elected Ann\n2 withdrawn Ben\n3 defeated Cid\n4 elected Dee\nend\n";
+
+// What a second program wrote of it, in Python with its modules csv and json.
+const SAMPLE_CSV: &[u8] =
+    b"round,iteration,candidate,name,outcome,state,keep,vote,elected,capped,tied,defeated,total,quota,surplus,step\r\n1,1,1,Ann,elected,hopeful,1.000000000,7.000000000,yes,no,no,no,12.000000000,4.000000001,2.999999999,elected\r\n1,1,2,Ben,withdrawn,withdrawn,0.000000000,0.000000000,no,no,no,no,12.000000000,4.000000001,2.999999999,elected\r\n1,1,3,Cid,defeated,hopeful,1.000000000,1.000000000,no,no,no,no,12.000000000,4.000000001,2.999999999,elected\r\n1,1,4,Dee,elected,hopeful,1.000000000,4.000000000,no,no,no,no,12.000000000,4.000000001,2.999999999,elected\r\n2,1,1,Ann,elected,elected,1.000000000,7.000000000,no,no,no,no,12.000000000,4.000000001,2.999999999,iterate\r\n2,1,2,Ben,withdrawn,withdrawn,0.000000000,0.000000000,no,no,no,no,12.000000000,4.000000001,2.999999999,iterate\r\n2,1,3,Cid,defeated,hopeful,1.000000000,1.000000000,no,no,no,no,12.000000000,4.000000001,2.999999999,iterate\r\n2,1,4,Dee,elected,hopeful,1.000000000,4.000000000,no,no,no,no,12.000000000,4.000000001,2.999999999,iterate\r\n2,2,1,Ann,elected,elected,0.571428572,4.000000004,no,no,no,no,12.000000000,4.000000001,0.000000003,defeat\r\n2,2,2,Ben,withdrawn,withdrawn,0.000000000,0.000000000,no,no,no,no,12.000000000,4.000000001,0.000000003,defeat\r\n2,2,3,Cid,defeated,hopeful,1.000000000,3.999999996,no,no,yes,yes,12.000000000,4.000000001,0.000000003,defeat\r\n2,2,4,Dee,elected,hopeful,1.000000000,4.000000000,no,no,no,no,12.000000000,4.000000001,0.000000003,defeat\r\n";
+
+const SAMPLE_JSON: &[u8] =
+    b"{\"title\":\"Sample\",\"seats\":2,\"ballots\":13,\"candidates\":[{\"number\":1,\"name\":\"Ann\",\"outcome\":\"elected\"},{\"number\":2,\"name\":\"Ben\",\"outcome\":\"withdrawn\"},{\"number\":3,\"name\":\"Cid\",\"outcome\":\"defeated\"},{\"number\":4,\"name\":\"Dee\",\"outcome\":\"elected\"}],\"iterations\":[{\"round\":1,\"iteration\":1,\"total\":\"12.000000000\",\"quota\":\"4.000000001\",\"surplus\":\"2.999999999\",\"step\":\"elected\",\"candidates\":[{\"number\":1,\"state\":\"hopeful\",\"keep\":\"1.000000000\",\"vote\":\"7.000000000\",\"elected\":true,\"capped\":false,\"tied\":false,\"defeated\":false},{\"number\":2,\"state\":\"withdrawn\",\"keep\":\"0.000000000\",\"vote\":\"0.000000000\",\"elected\":false,\"capped\":false,\"tied\":false,\"defeated\":false},{\"number\":3,\"state\":\"hopeful\",\"keep\":\"1.000000000\",\"vote\":\"1.000000000\",\"elected\":false,\"capped\":false,\"tied\":false,\"defeated\":false},{\"number\":4,\"state\":\"hopeful\",\"keep\":\"1.000000000\",\"vote\":\"4.000000000\",\"elected\":false,\"capped\":false,\"tied\":false,\"defeated\":false}]},{\"round\":2,\"iteration\":1,\"total\":\"12.000000000\",\"quota\":\"4.000000001\",\"surplus\":\"2.999999999\",\"step\":\"iterate\",\"candidates\":[{\"number\":1,\"state\":\"elected\",\"keep\":\"1.000000000\",\"vote\":\"7.000000000\",\"elected\":false,\"capped\":false,\"tied\":false,\"defeated\":false},{\"number\":2,\"state\":\"withdrawn\",\"keep\":\"0.000000000\",\"vote\":\"0.000000000\",\"elected\":false,\"capped\":false,\"tied\":false,\"defeated\":false},{\"number\":3,\"state\":\"hopeful\",\"keep\":\"1.000000000\",\"vote\":\"1.000000000\",\"elected\":false,\"capped\":false,\"tied\":false,\"defeated\":false},{\"number\":4,\"state\":\"hopeful\",\"keep\":\"1.000000000\",\"vote\":\"4.000000000\",\"elected\":false,\"capped\":false,\"tied\":false,\"defeated\":false}]},{\"round\":2,\"iteration\":2,\"total\":\"12.000000000\",\"quota\":\"4.000000001\",\"surplus\":\"0.000000003\",\"step\":\"defeat\",\"candidates\":[{\"number\":1,\"state\":\"elected\",\"keep\":\"0.571428572\",\"vote\":\"4.000000004\",\"elected\":false,\"capped\":false,\"tied\":false,\"defeated\":false},{\"number\":2,\"state\":\"withdrawn\",\"keep\":\"0.000000000\",\"vote\":\"0.000000000\",\"elected\":false,\"capped\":false,\"tied\":false,\"defeated\":false},{\"number\":3,\"state\":\"hopeful\",\"keep\":\"1.000000000\",\"vote\":\"3.999999996\",\"elected\":false,\"capped\":false,\"tied\":true,\"defeated\":true},{\"number\":4,\"state\":\"hopeful\",\"keep\":\"1.000000000\",\"vote\":\"4.000000000\",\"elected\":false,\"capped\":false,\"tied\":false,\"defeated\":false}]}]}\n";
+
+// A comma, backslashes and a byte that is no UTF-8.
+const ODD: &[u8] =
+    b"title \\ & <T>\nseats 1\ncandidates 3\nballots 2\nround 1 iteration 1\n1 hopeful 1.000000000 1.000000000\n2 hopeful 1.000000000 1.000000000\n3 hopeful 1.000000000 0.000000000\ntotal 2.000000000\nquota 1.000000001\nsurplus 0.000000000\nstep defeat 3 tied 3\nresult\n1 elected Doe, J\n2 defeated a\xFFb\n3 defeated C\\D\nend\n";
+
+const ODD_JSON: &[u8] =
+    b"{\"title\":\"\\\\ & <T>\",\"seats\":1,\"ballots\":2,\"candidates\":[{\"number\":1,\"name\":\"Doe, J\",\"outcome\":\"elected\"},{\"number\":2,\"name\":\"a\xEF\xBF\xBDb\",\"outcome\":\"defeated\"},{\"number\":3,\"name\":\"C\\\\D\",\"outcome\":\"defeated\"}],\"iterations\":[{\"round\":1,\"iteration\":1,\"total\":\"2.000000000\",\"quota\":\"1.000000001\",\"surplus\":\"0.000000000\",\"step\":\"defeat\",\"candidates\":[{\"number\":1,\"state\":\"hopeful\",\"keep\":\"1.000000000\",\"vote\":\"1.000000000\",\"elected\":false,\"capped\":false,\"tied\":false,\"defeated\":false},{\"number\":2,\"state\":\"hopeful\",\"keep\":\"1.000000000\",\"vote\":\"1.000000000\",\"elected\":false,\"capped\":false,\"tied\":false,\"defeated\":false},{\"number\":3,\"state\":\"hopeful\",\"keep\":\"1.000000000\",\"vote\":\"0.000000000\",\"elected\":false,\"capped\":false,\"tied\":true,\"defeated\":true}]}]}\n";
+
+/// How a run ended, and what it wrote.
+#[derive(Drop)]
+struct Ran {
+    end: PageEnd,
+    written: Vec<u8>,
+}
+
+/// A run over memory; the writes and flushes with these numbers fail.
+fn run(alloc: Global, words: &str, input: &[u8], failing: &[u64]) -> Result<Ran, Fail> {
+    let mut list = Vec::new(alloc);
+    for word in words.split_whitespace() {
+        list.push(word.to_string(alloc)?)?;
+    }
+    let mut source = MemorySource::new(input.to_vec(alloc)?, 16, Vec::new(alloc));
+    let mut sink = MemorySink::with_room(alloc, 20_000, 20_000, failing.to_vec(alloc)?)?;
+    let end = page(alloc, list.as_slice(), &mut source, &mut sink);
+    let written = sink.bytes().to_vec(alloc)?;
+    Ok(Ran { end, written })
+}
+
+#[test]
+fn a_table_of_a_sheet_without_iterations_is_its_head(rt: HostRuntime) -> Result<(), Fail> {
+    let ran = run(rt.alloc(), "--as csv", ONE, &[])?;
+    assert_eq!(rt; ran.end, PageEnd::Ran(End::Done));
+    let head =
+        b"round,iteration,candidate,name,outcome,state,keep,vote,elected,capped,tied,defeated,total,quota,surplus,step\r\n";
+    assert_eq!(rt; ran.written.as_slice(), head.as_slice());
+    Ok(())
+}
+
+#[test]
+fn json_of_a_sheet_without_iterations(rt: HostRuntime) -> Result<(), Fail> {
+    let ran = run(rt.alloc(), "--as json", ONE, &[])?;
+    let text =
+        b"{\"title\":\"A & B\",\"seats\":1,\"ballots\":0,\"candidates\":[{\"number\":1,\"name\":\"<Ann>\",\"outcome\":\"elected\"}],\"iterations\":[]}\n";
+    assert_eq!(rt; ran.written.as_slice(), text.as_slice());
+    Ok(())
+}
+
+#[test]
+fn a_sheet_as_a_second_program_shows_it(rt: HostRuntime) -> Result<(), Fail> {
+    let alloc = rt.alloc();
+    let cases = [
+        ("--as csv", SAMPLE, SAMPLE_CSV),
+        ("--as json", SAMPLE, SAMPLE_JSON),
+        ("--as json", ODD, ODD_JSON),
+    ];
+    for (words, sheet, text) in cases {
+        let ran = run(alloc, words, sheet, &[])?;
+        assert_eq!(rt; ran.end, PageEnd::Ran(End::Done));
+        assert_eq!(rt; ran.written.as_slice(), text);
+    }
+    Ok(())
+}
+
+#[test]
+fn a_write_that_fails_ends_the_writing(rt: HostRuntime) -> Result<(), Fail> {
+    let ran = run(rt.alloc(), "--as csv", SAMPLE, &[3])?;
+    assert_eq!(rt; ran.end, PageEnd::Ran(End::SinkFault));
+    assert_eq!(rt; ran.written.as_slice(), b"round,".as_slice());
+    Ok(())
+}
+
+#[test]
+fn what_is_no_sheet_is_malformed(rt: HostRuntime) -> Result<(), Fail> {
+    let ran = run(rt.alloc(), "--as csv", b"title\n", &[])?;
+    assert_eq!(rt; ran.end, PageEnd::Malformed);
+    assert_eq!(rt; ran.end.code(), 3);
+    assert_eq!(rt; ran.written.as_slice(), b"sheet malformed\n".as_slice());
+    let unwritten = run(rt.alloc(), "--as csv", b"title\n", &[1])?;
+    assert_eq!(rt; unwritten.end, PageEnd::Ran(End::SinkFault));
+    let words = run(rt.alloc(), "--as pdf", ONE, &[])?;
+    assert_eq!(rt; words.end.code(), 2);
+    assert_eq!(rt; words.written.as_slice(), b"refused BadWords\n".as_slice());
+    Ok(())
+}
