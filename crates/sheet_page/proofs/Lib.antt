@@ -1,4 +1,6 @@
 mod Pens
+mod Printing
+mod Marks
 mod Owing
 mod WordLemmas
 mod CsvLemmas

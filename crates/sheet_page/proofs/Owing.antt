@@ -1,5 +1,5 @@
 -- What is owed for a sheet, and how a run ends.
-use Rattle.std.proofs.Common.{◌≡◌, ◌∙◌, ℕ, ◌≤◌, List, [], ◌∷◌, ◌++◌, length, refl, sym, ap, subst, inl, inr}
+use Rattle.std.proofs.Common.{◌≡◌, ◌∙◌, ℕ, ◌≤◌, List, [], ◌∷◌, ◌++◌, length, refl, sym, ap, subst, inl, inr, arith}
 use Rattle.std.specs.Prelude.{Option, Some, None, Result, Ok, Err, codes}
 use Rattle.std.proofs.lemmas.List.{append-nil}
 use Rattle.std.specs.Io.KnownBytes.{Consumes, IsAtEnd}
@@ -10,18 +10,18 @@ use Rattle.meek_words.specs.declared.words_stop.WordsStop.TheVariants.{BadWords 
 use Rattle.sheet_reader.specs.Form.{HasForm}
 use Rattle.sheet_reader.specs.Values.{SheetList}
 use Rattle.tool_edge.specs.declared.end.End.{End}
-use Rattle.tool_edge.specs.declared.end.End.TheVariants.{Done, SourceFault, BadWords, BadInput, SinkFault, NoMemory}
+use Rattle.tool_edge.specs.declared.end.End.TheVariants.{Done, SourceFault, SinkFault, NoMemory}
 use Rattle.tool_edge.specs.Streams.{Reading, Writing, writing}
 use Rattle.tool_edge.specs.Finishing.{Finishes, FinishesOwed, Wrote}
 use Rattle.tool_edge.specs.Opening.{ReadsAll, StopsReading, StopsOpening}
 use Rattle.tool_edge.specs.Tool.{IsOwedFor, IsSound}
 use Rattle.tool_edge.specs.Tools.{file_limit}
 use Rattle.sheet_page.specs.declared.format.Format.{Format}
-use Rattle.sheet_page.specs.declared.format.Format.TheVariants.{Csv, Json}
+use Rattle.sheet_page.specs.declared.format.Format.TheVariants.{Html, Csv, Json}
 use Rattle.sheet_page.specs.declared.page_end.PageEnd.{PageEnd}
-use Rattle.sheet_page.specs.declared.page_end.PageEnd.TheVariants.{Ran, Malformed}
+use Rattle.sheet_page.specs.declared.page_end.PageEnd.TheVariants.{Ran}
 use Rattle.sheet_page.specs.Words.{TakesFormat, name_of}
-use Rattle.sheet_page.specs.Owed.{shown_as, IsMalformed, malformed_line, OwesShown, shows, as_tool, malformed_end, ShowsMalformed, IsEndFor, IsEndOf}
+use Rattle.sheet_page.specs.Owed.{shown_as, IsMalformed, malformed_line, shows, as_tool, malformed_end, ShowsMalformed, IsEndFor, IsEndOf}
 
 -- what was written, as a tool's end takes it
 pub wrote_text :
@@ -63,20 +63,44 @@ malformed_ends input result sink none (end, is, finishes) =
 
 -- ---- the whole run
 
+first_byte : (a b : ℕ) (front other : List ℕ) → a ∷ front ≡ b ∷ other → a ≡ b
+first_byte a b front other same = cc
+
+html_not_json : codes "html" ≡ codes "json" → ⊥
+html_not_json same =
+    let first : 104 ≡ 106 = first_byte 104 106 (codes "tml") (codes "son") same in
+    omega (arith, first)
+
 same_format : (one other : Format) → name_of one ≡ name_of other → one ≡ other
+same_format Html Html same = refl
+same_format Html Csv same = cc
+same_format Html Json same = absurd (html_not_json same)
+same_format Csv Html same = cc
 same_format Csv Csv same = refl
 same_format Csv Json same = cc
+same_format Json Html same = absurd (html_not_json (sym same))
 same_format Json Csv same = cc
 same_format Json Json same = refl
 
 second_word : (a b c d : Word) → a ∷ b ∷ [] ≡ c ∷ d ∷ [] → b ≡ d
 second_word a b c d same = cc
 
+no_words : (words : List Word) (a b : Word) → words ≡ [] → words ≡ a ∷ b ∷ [] → ⊥
+no_words words a b none some = cc
+
 one_format : (words : List Word) (one other : Format) → TakesFormat words one → TakesFormat words other → one ≡ other
-one_format words one other taken again = same_format one other (second_word _ _ _ _ (sym taken ∙ again))
+one_format words one other (inl none) (inl nothing) = none.1 ∙ sym nothing.1
+one_format words one other (inl none) (inr taken) = absurd (no_words words _ _ none.0 taken)
+one_format words one other (inr taken) (inl none) = absurd (no_words words _ _ none.0 taken)
+one_format words one other (inr taken) (inr again) = same_format one other (second_word _ _ _ _ (sym taken ∙ again))
 
 pub sound : IsSound shows
-sound = record { one = one_format; either = λ asked input fault accepted refused. refused }
+sound = record {
+  one = one_format;
+  either = λ asked input fault accepted refused. refused;
+  once = λ asked input fault other refused again. absurd refused;
+  owed = λ asked input bytes owes. tt;
+}
 
 -- the input that was read is what was left
 pub told :

@@ -6,4 +6,7 @@ pub mod Pieces
 pub mod Csv
 pub mod Json
 pub mod Words
+pub mod Trees
+pub mod Style
+pub mod Html
 pub mod Owed

@@ -10,15 +10,17 @@ use Rattle.tool_edge.specs.Streams.{Writing}
 use Rattle.tool_edge.specs.Tool.{Tool}
 use Rattle.tool_edge.specs.Tools.{file_limit}
 use Rattle.sheet_page.specs.declared.format.Format.{Format}
-use Rattle.sheet_page.specs.declared.format.Format.TheVariants.{Csv, Json}
+use Rattle.sheet_page.specs.declared.format.Format.TheVariants.{Html, Csv, Json}
 use Rattle.sheet_page.specs.declared.page_end.PageEnd.{PageEnd}
 use Rattle.sheet_page.specs.declared.page_end.PageEnd.TheVariants.{Ran, Malformed}
 use Rattle.sheet_page.specs.Words.{TakesFormat}
 use Rattle.sheet_page.specs.Csv.{csv_of}
 use Rattle.sheet_page.specs.Json.{json_of}
+use Rattle.sheet_page.specs.Html.{html_of}
 
 -- what is written of a sheet's values
 abbrev pub shown_as : Format → SheetList → List ℕ
+shown_as Html v = html_of v
 shown_as Csv v = csv_of v
 shown_as Json v = json_of v
 

@@ -1,7 +1,8 @@
 -- Pieces of what is written.
-use Rattle.std.specs.Prelude.{ℕ, List, decimal}
+use Rattle.std.specs.Prelude.{ℕ, List, [], decimal}
+use Rattle.page_tree.specs.Print.{opening, closing, shown}
 use Rattle.sheet_page.specs.declared.piece.Piece.{Piece}
-use Rattle.sheet_page.specs.declared.piece.Piece.TheVariants.{Raw, Number, Quoted}
+use Rattle.sheet_page.specs.declared.piece.Piece.TheVariants.{Raw, Number, Quoted, Start, End, Text}
 use Rattle.sheet_page.specs.Cells.{cell_text}
 use Rattle.sheet_page.specs.JsonText.{string_text}
 
@@ -9,3 +10,6 @@ abbrev pub piece_text : Piece → List ℕ
 piece_text (Raw bytes) = bytes.now
 piece_text (Number n) = decimal n
 piece_text (Quoted cell) = string_text (cell_text cell)
+piece_text (Start name) = opening name.now []
+piece_text (End name) = closing name.now
+piece_text (Text cell) = shown (cell_text cell)

@@ -1,5 +1,5 @@
 -- The parts of a sheet's values.
-use Rattle.std.specs.Prelude.{ℕ, Bool, true, false, List, [], codes, nat_eq, slice_index_or}
+use Rattle.std.specs.Prelude.{ℕ, Bool, false, List, [], codes, nat_eq, slice_index_or}
 use Rattle.std.specs.List.{range_with_len}
 use Rattle.meek_rule.specs.Row.{Row, blank}
 use Rattle.meek_rule.specs.declared.step.Step.{Step}

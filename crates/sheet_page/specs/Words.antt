@@ -1,13 +1,15 @@
 -- The words that ask for a page.
-use Rattle.std.specs.Prelude.{◌≡◌, ℕ, List, [], ◌∷◌, codes}
+use Rattle.std.specs.Prelude.{◌≡◌, ◌⊎◌, ℕ, List, [], ◌∷◌, codes}
 use Rattle.meek_words.specs.Numerals.{Word}
 use Rattle.sheet_page.specs.declared.format.Format.{Format}
-use Rattle.sheet_page.specs.declared.format.Format.TheVariants.{Csv, Json}
+use Rattle.sheet_page.specs.declared.format.Format.TheVariants.{Html, Csv, Json}
 
 abbrev pub name_of : Format → List ℕ
+name_of Html = codes "html"
 name_of Csv = codes "csv"
 name_of Json = codes "json"
 
--- two words, `--as` and a format's name
+-- no word, which asks for a page; or two, `--as` and a format's name
 abbrev pub TakesFormat : List Word → Format → Type 0
-TakesFormat words format = words ≡ codes "--as" ∷ name_of format ∷ []
+TakesFormat words format =
+    ((words ≡ []) × (format ≡ Html)) ⊎ (words ≡ codes "--as" ∷ name_of format ∷ [])

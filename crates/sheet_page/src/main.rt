@@ -7,12 +7,15 @@
 
 mod cell;
 mod csv;
+mod elected;
 mod format;
+mod html;
 mod json;
 mod json_text;
 mod page_end;
 mod pen;
 mod piece;
+mod rounds;
 mod tool;
 mod values;
 mod words;
@@ -31,10 +34,10 @@ fn main(rt: HostRuntime) -> ExitCode {
         return ExitCode::from(NO_WORDS);
     };
     let Ok(writer) = BufWriter::new(rt.alloc(), io::writer(&rt)) else {
-        return ExitCode::from(End::NoMemory.code());
+        return End::NoMemory.exit_code();
     };
     let mut source = StdSource::new(rt.reader());
     let mut sink = StdSink::new(writer);
     let end = page(rt.alloc(), words.as_slice(), &mut source, &mut sink);
-    ExitCode::from(end.code())
+    end.exit_code()
 }

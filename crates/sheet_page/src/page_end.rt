@@ -1,7 +1,9 @@
 // How a run ended.
 ghost use Rattle.std.specs.Prelude.{◌≡◌, ◌≤◌};
+ghost use Rattle.std.specs.Process.{exit_status};
 ghost use Rattle.sheet_page.specs.Owed.{code_of};
 
+use std::process::ExitCode;
 use tool_edge::End;
 
 /// How a run ended.
@@ -15,13 +17,13 @@ pub enum PageEnd {
 
 impl PageEnd {
     /// The program's exit status: that of a refused input where the input is no sheet.
-    pub fn code(&self) -> u8
-        ensures value { result ≡ code_of self.now }
-        ensures below { result ≤ 5 }
+    pub fn exit_code(&self) -> ExitCode
+        ensures value { exit_status result ≡ code_of self.now }
+        ensures below { exit_status result ≤ 5 }
     {
         match self {
-            PageEnd::Ran(end) => end.code(),
-            PageEnd::Malformed => 3,
+            PageEnd::Ran(end) => end.exit_code(),
+            PageEnd::Malformed => ExitCode::from(3),
         }
     }
 }

@@ -1,7 +1,9 @@
 // What is written piece by piece.
-ghost use Rattle.std.specs.Prelude.{◌≡◌, Ok, ◌∷◌, map};
+ghost use Rattle.std.specs.Prelude.{◌≡◌, Ok, [], ◌∷◌, map};
 ghost use Rattle.std.specs.List.{flat_map};
 ghost use Rattle.csv_text.specs.Csv.{behind_comma, field_text, record_text};
+ghost use Rattle.page_tree.specs.Given.{given};
+ghost use Rattle.page_tree.specs.Print.{closing, opening, shown};
 ghost use Rattle.piece_text.specs.Writing.{Writes};
 ghost use Rattle.sheet_page.specs.Cells.{cell_text};
 ghost use Rattle.sheet_page.specs.JsonText.{string_text};
@@ -13,6 +15,7 @@ use crate::json_text::write_string;
 use crate::piece::Piece;
 use byte_edge::{Failed, Sink};
 use csv_text::write_field;
+use page_tree::{Attribute, write_end, write_start, write_text};
 use piece_text::write_bytes;
 
 /// Writes pieces one after another, up to the first failure: behind it nothing more is written.
@@ -54,6 +57,31 @@ impl Pen {
         }
     }
 
+    /// Writes the start of an element with attributes.
+    pub(crate) fn start<K: Sink>(&mut self, name: &[u8], attributes: &[Attribute<'_>], sink: &mut K)
+        ensures { Prints K.written K.faults self.old.done sink.old self.new.done sink.new
+            (opening name.now (given attributes.now)) }
+    {
+        if let Ok(()) = self.done {
+            self.done = write_start(name, attributes, sink);
+        }
+    }
+
+    /// Writes the start of an element without attributes.
+    pub(crate) fn open<K: Sink>(&mut self, name: &[u8], sink: &mut K)
+        ensures { Prints K.written K.faults self.old.done sink.old self.new.done sink.new
+            (opening name.now []) }
+    {
+        self.start(name, &[], sink);
+    }
+
+    /// Writes the end of an element.
+    pub(crate) fn close<K: Sink>(&mut self, name: &[u8], sink: &mut K)
+        ensures { Prints K.written K.faults self.old.done sink.old self.new.done sink.new (closing name.now) }
+    {
+        self.piece(&Piece::End(name), sink);
+    }
+
     /// Writes a record of a spreadsheet, which has at least one field.
     pub(crate) fn record<K: Sink>(&mut self, first: &Cell<'_>, others: &[Cell<'_>], sink: &mut K)
         ensures { Prints K.written K.faults self.old.done sink.old self.new.done sink.new
@@ -91,6 +119,19 @@ fn write_piece<K: Sink>(piece: &Piece<'_>, sink: &mut K) -> Result<(), Failed>
         Piece::Raw(bytes) => write_bytes(*bytes, sink),
         Piece::Number(n) => write_bytes(count_text(*n).bytes(), sink),
         Piece::Quoted(cell) => write_cell_string(cell, sink),
+        Piece::Start(name) => write_start(*name, &[], sink),
+        Piece::End(name) => write_end(*name, sink),
+        Piece::Text(cell) => write_cell_text(cell, sink),
+    }
+}
+
+fn write_cell_text<K: Sink>(cell: &Cell<'_>, sink: &mut K) -> Result<(), Failed>
+    ensures { Writes K.written K.faults sink.old sink.new (shown (cell_text cell.now)) result }
+{
+    match cell {
+        Cell::Bytes(bytes) => write_text(*bytes, sink),
+        Cell::Count(n) => write_text(count_text(*n).bytes(), sink),
+        Cell::Amount(a) => write_text(amount_text(*a).bytes(), sink),
     }
 }
 

@@ -10,4 +10,10 @@ pub(crate) enum Piece<'a> {
     Number(u64),
     /// A string of JSON.
     Quoted(Cell<'a>),
+    /// The start of an element without attributes.
+    Start(&'a [u8]),
+    /// The end of an element.
+    End(&'a [u8]),
+    /// A text of a page.
+    Text(Cell<'a>),
 }

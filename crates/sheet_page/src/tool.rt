@@ -9,6 +9,7 @@ ghost use Rattle.sheet_reader.specs.Form.{IsPrintable};
 ghost use Rattle.sheet_page.specs.Owed.{IsEndFor, IsEndOf, ShowsMalformed, as_tool, malformed_end, shown_as, shows};
 
 use crate::csv::write_csv;
+use crate::html::write_html;
 use crate::json::write_json;
 use crate::{Format, PageEnd, takes_format};
 use byte_edge::{Failed, Sink, Source};
@@ -86,6 +87,7 @@ fn write_values<K: Sink>(format: Format, values: &SheetValues, sink: &mut K) -> 
     ensures { Writes K.written K.faults sink.old sink.new (shown_as format values.now) result }
 {
     match format {
+        Format::Html => write_html(values, sink),
         Format::Csv => write_csv(values, sink),
         Format::Json => write_json(values, sink),
     }

@@ -7,10 +7,13 @@ ghost use Rattle.sheet_page.specs.Words.{TakesFormat, name_of};
 use crate::Format;
 use meek_words::WordsStop;
 
-/// The format of words that are just `--as` and a format's name.
+/// The format of words that are none at all, or just `--as` and a format's name.
 pub fn takes_format(words: &[String]) -> Result<Format, WordsStop>
     ensures { IsAsked TakesFormat (map string_bytes words.now) result }
 {
+    if words.is_empty() {
+        return Ok(Format::Html);
+    }
     let [option, name] = words else {
         return Err(WordsStop::BadWords);
     };
@@ -27,6 +30,7 @@ fn format_of(name: &str) -> Option<Format>
     ensures { MatchOption result ((format : Format) → ¬ (name.now ≡ name_of format)) (λ format. name.now ≡ name_of format) }
 {
     match name {
+        "html" => Some(Format::Html),
         "csv" => Some(Format::Csv),
         "json" => Some(Format::Json),
         _ => None,

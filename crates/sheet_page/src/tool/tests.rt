@@ -22,6 +22,21 @@ const ODD: &[u8] =
 const ODD_JSON: &[u8] =
     b"{\"title\":\"\\\\ & <T>\",\"seats\":1,\"ballots\":2,\"candidates\":[{\"number\":1,\"name\":\"Doe, J\",\"outcome\":\"elected\"},{\"number\":2,\"name\":\"a\xEF\xBF\xBDb\",\"outcome\":\"defeated\"},{\"number\":3,\"name\":\"C\\\\D\",\"outcome\":\"defeated\"}],\"iterations\":[{\"round\":1,\"iteration\":1,\"total\":\"2.000000000\",\"quota\":\"1.000000001\",\"surplus\":\"0.000000000\",\"step\":\"defeat\",\"candidates\":[{\"number\":1,\"state\":\"hopeful\",\"keep\":\"1.000000000\",\"vote\":\"1.000000000\",\"elected\":false,\"capped\":false,\"tied\":false,\"defeated\":false},{\"number\":2,\"state\":\"hopeful\",\"keep\":\"1.000000000\",\"vote\":\"1.000000000\",\"elected\":false,\"capped\":false,\"tied\":false,\"defeated\":false},{\"number\":3,\"state\":\"hopeful\",\"keep\":\"1.000000000\",\"vote\":\"0.000000000\",\"elected\":false,\"capped\":false,\"tied\":true,\"defeated\":true}]}]}\n";
 
+// Markup, quotes, bytes that are no UTF-8, and letters of other scripts.
+const HOSTILE: &[u8] =
+    b"title <script>alert(1)</script>\nseats 1\ncandidates 3\nballots 2\nround 1 iteration 1\n1 hopeful 1.000000000 1.000000000\n2 hopeful 1.000000000 1.000000000\n3 hopeful 1.000000000 0.000000000\ntotal 2.000000000\nquota 1.000000001\nsurplus 0.000000000\nstep defeat 3 tied 3\nround 2 iteration 1\n1 hopeful 1.000000000 1.500000000\n2 hopeful 1.000000000 0.250000000\n3 defeated 0.000000000 0.000000000\ntotal 1.750000000\nquota 0.875000001\nsurplus 0.624999999\nelected 1\nstep elected\nresult\n1 elected O'Neil &quot; &\n2 defeated a\xFFb\xE2\x82\n3 defeated \xD8\xB9\xE6\x9D\x8E</td>\nend\n";
+
+// The page of the sheet of one candidate, worked by hand.
+const ONE_HTML: &[u8] =
+    b"<!DOCTYPE html><html lang=\"en\"><head><meta charset=\"utf-8\"><meta name=\"viewport\" content=\"width=device-width\"><title>A &amp; B</title><style>body{font:16px/1.5 system-ui,sans-serif;max-width:72em;margin:auto;padding:1em;overflow-wrap:anywhere}section{overflow-x:auto}table{border-collapse:collapse;font-variant-numeric:tabular-nums}th,td{border:1px solid #888;padding:.2em .5em;text-align:right;vertical-align:top;min-width:6em;max-width:16em}th{background:#eee}small{display:block}@media print{tr{break-inside:avoid}}</style></head><body><h1>A &amp; B</h1><p>Seats: 1. Ballots: 0.</p><section><h2>Elected</h2><ol><li>&lt;Ann&gt;: elected at the end, to a seat that was left</li></ol></section><section><h2>Votes at the end of each round</h2><table><tr><th>Round</th><th>Quota</th><th>On no candidate</th><th>&lt;Ann&gt;</th></tr></table></section></body></html>";
+
+// What a second program wrote, in Python.
+const SAMPLE_HTML: &[u8] =
+    b"<!DOCTYPE html><html lang=\"en\"><head><meta charset=\"utf-8\"><meta name=\"viewport\" content=\"width=device-width\"><title>Sample</title><style>body{font:16px/1.5 system-ui,sans-serif;max-width:72em;margin:auto;padding:1em;overflow-wrap:anywhere}section{overflow-x:auto}table{border-collapse:collapse;font-variant-numeric:tabular-nums}th,td{border:1px solid #888;padding:.2em .5em;text-align:right;vertical-align:top;min-width:6em;max-width:16em}th{background:#eee}small{display:block}@media print{tr{break-inside:avoid}}</style></head><body><h1>Sample</h1><p>Seats: 2. Ballots: 13.</p><section><h2>Elected</h2><ol><li>Ann: elected in round 1</li><li>Dee: elected at the end, to a seat that was left</li></ol></section><section><h2>Votes at the end of each round</h2><table><tr><th>Round</th><th>Quota</th><th>On no candidate</th><th>Ann</th><th>Ben</th><th>Cid</th><th>Dee</th></tr><tr><th>1</th><td>4.000000001</td><td>1.000000000</td><td>7.000000000 <small>elected</small></td><td>0.000000000 <small>withdrawn</small></td><td>1.000000000 <small>hopeful</small></td><td>4.000000000 <small>hopeful</small></td></tr><tr><th>2</th><td>4.000000001</td><td>1.000000000</td><td>4.000000004 <small>elected</small></td><td>0.000000000 <small>withdrawn</small></td><td>3.999999996 <small>defeated</small></td><td>4.000000000 <small>hopeful</small></td></tr></table></section></body></html>";
+
+const HOSTILE_HTML: &[u8] =
+    b"<!DOCTYPE html><html lang=\"en\"><head><meta charset=\"utf-8\"><meta name=\"viewport\" content=\"width=device-width\"><title>&lt;script&gt;alert(1)&lt;/script&gt;</title><style>body{font:16px/1.5 system-ui,sans-serif;max-width:72em;margin:auto;padding:1em;overflow-wrap:anywhere}section{overflow-x:auto}table{border-collapse:collapse;font-variant-numeric:tabular-nums}th,td{border:1px solid #888;padding:.2em .5em;text-align:right;vertical-align:top;min-width:6em;max-width:16em}th{background:#eee}small{display:block}@media print{tr{break-inside:avoid}}</style></head><body><h1>&lt;script&gt;alert(1)&lt;/script&gt;</h1><p>Seats: 1. Ballots: 2.</p><section><h2>Elected</h2><ol><li>O&#39;Neil &amp;quot; &amp;: elected in round 2</li></ol></section><section><h2>Votes at the end of each round</h2><table><tr><th>Round</th><th>Quota</th><th>On no candidate</th><th>O&#39;Neil &amp;quot; &amp;</th><th>a\xEF\xBF\xBDb\xEF\xBF\xBD</th><th>\xD8\xB9\xE6\x9D\x8E&lt;/td&gt;</th></tr><tr><th>1</th><td>1.000000001</td><td>0.000000000</td><td>1.000000000 <small>hopeful</small></td><td>1.000000000 <small>hopeful</small></td><td>0.000000000 <small>defeated</small></td></tr><tr><th>2</th><td>0.875000001</td><td>0.250000000</td><td>1.500000000 <small>elected</small></td><td>0.250000000 <small>hopeful</small></td><td>0.000000000 <small>defeated</small></td></tr></table></section></body></html>";
+
 /// How a run ended, and what it wrote.
 #[derive(Drop)]
 struct Ran {
@@ -65,6 +80,9 @@ fn json_of_a_sheet_without_iterations(rt: HostRuntime) -> Result<(), Fail> {
 fn a_sheet_as_a_second_program_shows_it(rt: HostRuntime) -> Result<(), Fail> {
     let alloc = rt.alloc();
     let cases = [
+        ("", ONE, ONE_HTML),
+        ("", HOSTILE, HOSTILE_HTML),
+        ("--as html", SAMPLE, SAMPLE_HTML),
         ("--as csv", SAMPLE, SAMPLE_CSV),
         ("--as json", SAMPLE, SAMPLE_JSON),
         ("--as json", ODD, ODD_JSON),
@@ -89,12 +107,11 @@ fn a_write_that_fails_ends_the_writing(rt: HostRuntime) -> Result<(), Fail> {
 fn what_is_no_sheet_is_malformed(rt: HostRuntime) -> Result<(), Fail> {
     let ran = run(rt.alloc(), "--as csv", b"title\n", &[])?;
     assert_eq!(rt; ran.end, PageEnd::Malformed);
-    assert_eq!(rt; ran.end.code(), 3);
     assert_eq!(rt; ran.written.as_slice(), b"sheet malformed\n".as_slice());
     let unwritten = run(rt.alloc(), "--as csv", b"title\n", &[1])?;
     assert_eq!(rt; unwritten.end, PageEnd::Ran(End::SinkFault));
     let words = run(rt.alloc(), "--as pdf", ONE, &[])?;
-    assert_eq!(rt; words.end.code(), 2);
+    assert_eq!(rt; words.end, PageEnd::Ran(End::BadWords));
     assert_eq!(rt; words.written.as_slice(), b"refused BadWords\n".as_slice());
     Ok(())
 }

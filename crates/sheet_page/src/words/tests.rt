@@ -13,7 +13,8 @@ fn words_of(alloc: Global, text: &str) -> Result<Vec<String>, Fail> {
 #[test]
 fn takes_a_format_or_nothing(rt: HostRuntime) -> Result<(), Fail> {
     let cases = [
-        ("", Err(WordsStop::BadWords)),
+        ("", Ok(Format::Html)),
+        ("--as html", Ok(Format::Html)),
         ("--as pdf", Err(WordsStop::BadWords)),
         ("--as csv", Ok(Format::Csv)),
         ("--as json", Ok(Format::Json)),

@@ -1,5 +1,4 @@
 use Rattle.std.proofs.Common.{◌≡◌, ◌∙◌, ap, ◌<◌, ◌≤◌, List, length, get_or, sym, subst}
-use Rattle.std.specs.Prelude.{Result}
 use Rattle.meek_rule.specs.Row.{Row}
 use Rattle.piece_text.specs.Writing.{Writes}
 use Rattle.sheet_reader.specs.Values.{SheetList}

@@ -1,6 +1,5 @@
 use Rattle.std.proofs.Common.{rules, ◌≡◌, ◌∙◌, ap, ◌+◌, List, ℕ}
 use Rattle.lot_order.specs.Flags.{mark_at}
-use Rattle.meek_rule.specs.Row.{Row}
 use Rattle.sheet_page.specs.Json.{truth, won_json, lost_json}
 use Rattle.sheet_page.specs.Values.{defeats}
 use Rattle.sheet_page.proofs.Pens.{later, renamed}

@@ -1,6 +1,6 @@
-use Rattle.std.proofs.Common.{take, ◌++◌}
+use Rattle.std.proofs.Common.{take}
 use Rattle.std.specs.List.{flat_map}
-use Rattle.csv_text.specs.Csv.{behind_comma, field_text}
+use Rattle.csv_text.specs.Csv.{behind_comma}
 use Rattle.sheet_page.specs.Cells.{cell_text}
 use Rattle.sheet_page.specs.Prints.{Prints}
 use Rattle.sheet_page.proofs.pen.Pen.record.Given as goal

@@ -1,0 +1,75 @@
+-- Trees as they are printed.
+use Rattle.std.proofs.Common.{◌≡◌, ◌∙◌, refl, sym, ap, ℕ, List, [], ◌∷◌, ◌++◌, append_assoc, append-nil}
+use Rattle.std.specs.List.{flat_map}
+use Rattle.page_tree.specs.Trees.{Attribute, Trees, Nothing, Text, Element, Void, followed}
+use Rattle.page_tree.specs.Print.{shown, opening, closing, printed}
+use Rattle.sheet_page.specs.Trees.{all, each, el}
+
+-- what trees that stand behind one another print
+pub printed-followed : (trees others : Trees) → printed (followed trees others) ≡ printed trees ++ printed others
+printed-followed Nothing others = refl
+printed-followed (Text text behind) others =
+    ap (λ (l : List ℕ). shown text ++ l) (printed-followed behind others) ∙ sym (append_assoc (shown text) (printed behind) (printed others))
+printed-followed (Element name attributes within behind) others =
+    let front = opening name attributes in
+    let rest = closing name ++ printed behind in
+    ap (λ (l : List ℕ). front ++ (printed within ++ (closing name ++ l))) (printed-followed behind others)
+    ∙ ap (λ (l : List ℕ). front ++ (printed within ++ l)) (sym (append_assoc (closing name) (printed behind) (printed others)))
+    ∙ ap (λ (l : List ℕ). front ++ l) (sym (append_assoc (printed within) rest (printed others)))
+    ∙ sym (append_assoc front (printed within ++ rest) (printed others))
+printed-followed (Void name attributes behind) others =
+    ap (λ (l : List ℕ). opening name attributes ++ l) (printed-followed behind others)
+    ∙ sym (append_assoc (opening name attributes) (printed behind) (printed others))
+
+-- the pieces of a tree, and others behind them
+abbrev pub parts : Trees → List (List ℕ) → List (List ℕ)
+parts Nothing rest = rest
+parts (Text text behind) rest = shown text ∷ parts behind rest
+parts (Element name attributes within behind) rest = opening name attributes ∷ parts within (closing name ∷ parts behind rest)
+parts (Void name attributes behind) rest = opening name attributes ∷ parts behind rest
+
+abbrev pub joined : List (List ℕ) → List ℕ
+joined pieces = flat_map (λ piece. piece) pieces
+
+joined-parts : (trees : Trees) (rest : List (List ℕ)) → joined (parts trees rest) ≡ printed trees ++ joined rest
+joined-parts Nothing rest = refl
+joined-parts (Text text behind) rest =
+    ap (λ (l : List ℕ). shown text ++ l) (joined-parts behind rest) ∙ sym (append_assoc (shown text) (printed behind) (joined rest))
+joined-parts (Element name attributes within behind) rest =
+    let front = opening name attributes in
+    ap (λ (l : List ℕ). front ++ l) (joined-parts within (closing name ∷ parts behind rest))
+    ∙ ap (λ (l : List ℕ). front ++ (printed within ++ (closing name ++ l))) (joined-parts behind rest)
+    ∙ ap (λ (l : List ℕ). front ++ (printed within ++ l)) (sym (append_assoc (closing name) (printed behind) (joined rest)))
+    ∙ ap (λ (l : List ℕ). front ++ l) (sym (append_assoc (printed within) (closing name ++ printed behind) (joined rest)))
+    ∙ sym (append_assoc front (printed within ++ (closing name ++ printed behind)) (joined rest))
+joined-parts (Void name attributes behind) rest =
+    ap (λ (l : List ℕ). opening name attributes ++ l) (joined-parts behind rest)
+    ∙ sym (append_assoc (opening name attributes) (printed behind) (joined rest))
+
+-- a tree, piece by piece
+pub leaf : (trees : Trees) → joined (parts trees []) ≡ printed trees
+leaf trees = joined-parts trees [] ∙ append-nil (printed trees)
+
+-- trees one behind another, and bytes behind them
+abbrev pub onto : List Trees → List ℕ → List ℕ
+onto [] rest = rest
+onto (tree ∷ trees) rest = printed tree ++ onto trees rest
+
+onto-all : (trees : List Trees) (rest : List ℕ) → onto trees rest ≡ printed (all trees) ++ rest
+onto-all [] rest = refl
+onto-all (tree ∷ trees) rest =
+    ap (λ (l : List ℕ). printed tree ++ l) (onto-all trees rest)
+    ∙ sym (append_assoc (printed tree) (printed (all trees)) rest)
+    ∙ ap (λ (l : List ℕ). l ++ rest) (sym (printed-followed tree (all trees)))
+
+-- an element, tree by tree
+pub wrapped : (name : List ℕ) (attributes : List Attribute) (trees : List Trees) → opening name attributes ++ onto trees (closing name) ≡ printed (el name attributes trees)
+wrapped name attributes trees =
+    ap (λ (l : List ℕ). opening name attributes ++ l)
+    (ap (onto trees) (sym (append-nil (closing name))) ∙ onto-all trees (closing name ++ []))
+
+-- a tree for each item
+pub printed-each : {X : Type 0} (tree : X → Trees) (items : List X) → flat_map (λ x. printed (tree x)) items ≡ printed (each tree items)
+printed-each tree [] = refl
+printed-each tree (x ∷ items) =
+    ap (λ (l : List ℕ). printed (tree x) ++ l) (printed-each tree items) ∙ sym (printed-followed (tree x) (each tree items))

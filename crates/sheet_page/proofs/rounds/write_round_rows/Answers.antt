@@ -1,0 +1,10 @@
+use Rattle.page_tree.specs.Print.{printed}
+use Rattle.sheet_page.specs.Html.{round_at}
+use Rattle.sheet_page.proofs.Pens.{nothing, place_more}
+use Rattle.sheet_page.proofs.rounds.write_round_rows.Goals as goal
+
+pub loop-i-init : goal.loop-i-init
+loop-i-init g c = nothing _ _ _ _
+
+pub loop-i-preserved : goal.loop-i-preserved
+loop-i-preserved g c = place_more (λ p. printed ((round_at c.args.values.now) p)) c.loop-i.i c.loop-i.invariant c.write_round_at.ensures

@@ -1,0 +1,162 @@
+-- A sheet as a page.
+use Rattle.std.specs.Prelude.{ℕ, ◌+◌, ◌-◌, ◌*◌, ◌&&◌, ◌||◌, not, Bool, true, false, if◌then◌else◌, List, [], ◌∷◌, ◌++◌, length, codes, decimal, nat_eq, slice_index}
+use Rattle.std.specs.List.{list_any}
+use Rattle.candidate_roll.specs.State.{state_at}
+use Rattle.candidate_roll.specs.declared.state.State.{State}
+use Rattle.candidate_roll.specs.declared.state.State.TheVariants.{Hopeful, Elected, Defeated, Withdrawn}
+use Rattle.fixed_place.specs.Text.{text_of}
+use Rattle.lot_order.specs.Flags.{mark_at}
+use Rattle.meek_rule.specs.Row.{Row}
+use Rattle.page_tree.specs.Trees.{Trees, Nothing}
+use Rattle.page_tree.specs.Print.{printed}
+use Rattle.sheet_text.specs.Lines.{state_word}
+use Rattle.sheet_reader.specs.Values.{SheetList}
+use Rattle.sheet_page.specs.Style.{style}
+use Rattle.sheet_page.specs.Trees.{all, each, el, void, words, at}
+use Rattle.sheet_page.specs.Values.{places, name_at, row_at, defeats}
+
+-- ---- who is elected
+
+abbrev pub in_round : (name : List ℕ) → (round : ℕ) → Trees
+in_round name round = el (codes "li") [] (words name ∷ words (codes ": elected in round ") ∷ words (decimal round) ∷ [])
+
+abbrev pub at_end : (name : List ℕ) → Trees
+at_end name = el (codes "li") [] (words name ∷ words (codes ": elected at the end, to a seat that was left") ∷ [])
+
+-- a candidate, if an iteration elected it
+abbrev pub elected_item : SheetList → Row → (p : ℕ) → Trees
+elected_item v row p = if mark_at row.elected p then in_round (name_at v p) row.round else Nothing
+
+-- who was elected in an iteration
+abbrev pub elected_in : SheetList → Row → Trees
+elected_in v row = each (elected_item v row) (places (length v.names))
+
+-- Some iteration elected the candidate at a place.
+abbrev pub was_elected : List Row → (p : ℕ) → Bool
+was_elected rows p = list_any (λ row. mark_at row.elected p) rows
+
+abbrev pub is_elected : State → Bool
+is_elected Hopeful = false
+is_elected Elected = true
+is_elected Defeated = false
+is_elected Withdrawn = false
+
+-- The candidate at a place is elected in the end, and was in no iteration.
+abbrev pub is_seated : SheetList → (p : ℕ) → Bool
+is_seated v p = is_elected (state_at v.last p) && not (was_elected v.rows p)
+
+abbrev pub seated_item : SheetList → (p : ℕ) → Trees
+seated_item v p = if is_seated v p then at_end (name_at v p) else Nothing
+
+-- the elected, in their order
+abbrev pub elected_list : SheetList → Trees
+elected_list v = el (codes "ol") [] (each (elected_in v) v.rows ∷ each (seated_item v) (places (length v.names)) ∷ [])
+
+abbrev pub elected_title : Trees
+elected_title = el (codes "h2") [] (words (codes "Elected") ∷ [])
+
+abbrev pub elected_part : SheetList → Trees
+elected_part v = el (codes "section") [] (elected_title ∷ elected_list v ∷ [])
+
+-- ---- the table of rounds
+
+-- An iteration is the last of its round, where none follows or one of another round.
+abbrev pub ends_round : List Row → (i : ℕ) → Bool
+ends_round rows i = nat_eq (i + 1) (length rows) || not (nat_eq (row_at rows i).round (row_at rows (i + 1)).round)
+
+-- what a candidate is after an iteration
+abbrev pub state_after : Row → (p : ℕ) → State
+state_after row p =
+    if mark_at row.elected p then Elected
+    else if defeats row.step (p + 1) then Defeated
+    else state_at row.states p
+
+-- the votes of so many ballots that are left on no candidate, in units
+abbrev pub left_over : (ballots : ℕ) → Row → ℕ
+left_over ballots row = ballots * 1000000000 - row.total
+
+abbrev pub head_cell : List ℕ → Trees
+head_cell text = el (codes "th") [] (words text ∷ [])
+
+abbrev pub name_cell : SheetList → (p : ℕ) → Trees
+name_cell v p = head_cell (name_at v p)
+
+abbrev pub head_cells : Trees
+head_cells =
+    all (
+    el (codes "th") [] (words (codes "Round") ∷ []) ∷ el (codes "th") [] (words (codes "Quota") ∷ [])
+    ∷ el (codes "th") [] (words (codes "On no candidate") ∷ []) ∷ []
+    )
+
+abbrev pub head_row : SheetList → Trees
+head_row v = el (codes "tr") [] (head_cells ∷ each (name_cell v) (places (length v.names)) ∷ [])
+
+-- a candidate's vote at the end of a round, and what it is then
+abbrev pub vote_cell : Row → (p : ℕ) → Trees
+vote_cell row p =
+    el (codes "td") [] (
+    words (text_of 9 (slice_index row.votes p)) ∷ words (codes " ")
+    ∷ el (codes "small") [] (words (state_word (state_after row p)) ∷ []) ∷ []
+    )
+
+abbrev pub round_cells : (ballots : ℕ) → Row → Trees
+round_cells ballots row =
+    all (
+    el (codes "th") [] (words (decimal row.round) ∷ []) ∷ el (codes "td") [] (words (text_of 9 row.quota) ∷ [])
+    ∷ el (codes "td") [] (words (text_of 9 (left_over ballots row)) ∷ []) ∷ []
+    )
+
+abbrev pub round_row : SheetList → Row → Trees
+round_row v row = el (codes "tr") [] (round_cells v.ballots row ∷ each (vote_cell row) (places (length v.names)) ∷ [])
+
+-- a round, if it ends at this place
+abbrev pub round_at : SheetList → (i : ℕ) → Trees
+round_at v i = if ends_round v.rows i then round_row v (row_at v.rows i) else Nothing
+
+abbrev pub rounds_table : SheetList → Trees
+rounds_table v = el (codes "table") [] (head_row v ∷ each (round_at v) (places (length v.rows)) ∷ [])
+
+abbrev pub rounds_title : Trees
+rounds_title = el (codes "h2") [] (words (codes "Votes at the end of each round") ∷ [])
+
+abbrev pub rounds_part : SheetList → Trees
+rounds_part v = el (codes "section") [] (rounds_title ∷ rounds_table v ∷ [])
+
+-- ---- the page
+
+abbrev pub heading : SheetList → Trees
+heading v =
+    all (
+    el (codes "h1") [] (words v.title ∷ [])
+    ∷ el (codes "p") [] (
+    words (codes "Seats: ") ∷ words (decimal v.seats)
+    ∷ words (codes ". Ballots: ") ∷ words (decimal v.ballots) ∷ words (codes ".") ∷ []
+    ) ∷ []
+    )
+
+abbrev pub body : SheetList → Trees
+body v = el (codes "body") [] (heading v ∷ elected_part v ∷ rounds_part v ∷ [])
+
+-- the title for the window, and how the page looks
+abbrev pub window_title : List ℕ → Trees
+window_title text = el (codes "title") [] (words text ∷ [])
+
+abbrev pub style_of : List ℕ → Trees
+style_of text = el (codes "style") [] (words text ∷ [])
+
+abbrev pub style_part : Trees
+style_part = style_of style
+
+abbrev pub head : SheetList → Trees
+head v =
+    el (codes "head") [] (
+    void (codes "meta") (at (codes "charset") (codes "utf-8") ∷ [])
+    ∷ void (codes "meta") (at (codes "name") (codes "viewport") ∷ at (codes "content") (codes "width=device-width") ∷ [])
+    ∷ window_title v.title ∷ style_part ∷ []
+    )
+
+abbrev pub page : SheetList → Trees
+page v = el (codes "html") (at (codes "lang") (codes "en") ∷ []) (head v ∷ body v ∷ [])
+
+abbrev pub html_of : SheetList → List ℕ
+html_of v = codes "<!DOCTYPE html>" ++ printed (page v)

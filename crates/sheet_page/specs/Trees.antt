@@ -1,0 +1,32 @@
+-- Trees of a page, put together from lists.
+use Rattle.std.specs.Prelude.{ℕ, List, [], ◌∷◌, map}
+use Rattle.std.specs.List.{flat_map}
+use Rattle.page_tree.specs.Trees.{Attribute, Trees, Nothing, Text, Element, Void, followed}
+use Rattle.page_tree.specs.Print.{printed}
+
+-- trees one behind another
+abbrev pub all : List Trees → Trees
+all [] = Nothing
+all (tree ∷ trees) = followed tree (all trees)
+
+-- a tree for each item
+abbrev pub each : {X : Type 0} → (X → Trees) → List X → Trees
+each tree items = all (map tree items)
+
+-- what these print
+abbrev pub print_each : {X : Type 0} → (X → Trees) → List X → List ℕ
+print_each tree items = flat_map (λ x. printed (tree x)) items
+
+-- an element with these trees within it
+abbrev pub el : (name : List ℕ) → List Attribute → List Trees → Trees
+el name attributes within = Element name attributes (all within) Nothing
+
+-- an element that can have nothing within it
+abbrev pub void : (name : List ℕ) → List Attribute → Trees
+void name attributes = Void name attributes Nothing
+
+abbrev pub words : List ℕ → Trees
+words text = Text text Nothing
+
+abbrev pub at : (name value : List ℕ) → Attribute
+at name value = record { name = name; value = value }

@@ -1,0 +1,187 @@
+// Who is elected, in the order and the round of election.
+ghost use Rattle.std.specs.Prelude.{◌≡◌, ◌<◌, ◌≤◌, ◌&&◌, not, length};
+ghost use Rattle.lot_order.specs.Flags.{mark_at};
+ghost use Rattle.meek_rule.specs.Row.{HasRoomFor};
+ghost use Rattle.page_tree.specs.Print.{printed};
+ghost use Rattle.sheet_reader.specs.Form.{IsPrintable};
+ghost use Rattle.sheet_page.specs.Html.{at_end, elected_in, elected_item, elected_list, elected_part, elected_title, in_round, is_elected, is_seated, seated_item, was_elected};
+ghost use Rattle.sheet_page.specs.Prints.{Prints};
+ghost use Rattle.sheet_page.specs.Trees.{print_each};
+ghost use Rattle.sheet_page.specs.Values.{places};
+
+use crate::cell::Cell;
+use crate::pen::Pen;
+use crate::piece::Piece;
+use byte_edge::Sink;
+use candidate_roll::State;
+use meek_rule::Row;
+use sheet_reader::SheetValues;
+
+pub(crate) fn write_elected<K: Sink>(pen: &mut Pen, values: &SheetValues, sink: &mut K)
+    requires printable { IsPrintable 9 values.now }
+    ensures { Prints K.written K.faults pen.old.done sink.old pen.new.done sink.new
+        (printed (elected_part values.now)) }
+{
+    pen.open(b"section", sink);
+    write_title(pen, sink);
+    write_list(pen, values, sink);
+    pen.close(b"section", sink);
+}
+
+fn write_title<K: Sink>(pen: &mut Pen, sink: &mut K)
+    ensures { Prints K.written K.faults pen.old.done sink.old pen.new.done sink.new
+        (printed (elected_title)) }
+{
+    pen.write(
+        &[
+            Piece::Start(b"h2"),
+            Piece::Text(Cell::Bytes(b"Elected")),
+            Piece::End(b"h2"),
+        ],
+        sink,
+    );
+}
+
+fn write_list<K: Sink>(pen: &mut Pen, values: &SheetValues, sink: &mut K)
+    requires printable { IsPrintable 9 values.now }
+    ensures { Prints K.written K.faults pen.old.done sink.old pen.new.done sink.new
+        (printed (elected_list values.now)) }
+{
+    pen.open(b"ol", sink);
+    write_elected_rows(pen, values, sink);
+    write_seated(pen, values, sink);
+    pen.close(b"ol", sink);
+}
+
+/// Who was elected in the iterations, one after another.
+fn write_elected_rows<K: Sink>(pen: &mut Pen, values: &SheetValues, sink: &mut K)
+    requires printable { IsPrintable 9 values.now }
+    ensures { Prints K.written K.faults pen.old.done sink.old pen.new.done sink.new
+        (print_each (elected_in values.now) values.now.rows) }
+{
+    for row in values.rows.items() {
+        write_elected_in(pen, values, row, sink);
+    }
+}
+
+fn write_elected_in<K: Sink>(pen: &mut Pen, values: &SheetValues, row: &Row<9>, sink: &mut K)
+    requires room { HasRoomFor (length values.now.names) row.now }
+    requires few { length values.now.names ≤ 250 }
+    ensures { Prints K.written K.faults pen.old.done sink.old pen.new.done sink.new
+        (print_each (elected_item values.now row.now) (places (length values.now.names))) }
+{
+    for p in 0..values.names.len() {
+        write_elected_item(pen, values, row, p, sink);
+    }
+}
+
+/// A candidate, if the iteration elected it.
+fn write_elected_item<K: Sink>(
+    pen: &mut Pen,
+    values: &SheetValues,
+    row: &Row<9>,
+    p: usize,
+    sink: &mut K,
+)
+    requires room { HasRoomFor (length values.now.names) row.now }
+    requires few { length values.now.names ≤ 250 }
+    requires place { p < length values.now.names }
+    ensures { Prints K.written K.faults pen.old.done sink.old pen.new.done sink.new
+        (printed (elected_item values.now row.now p)) }
+{
+    if *row.elected.get(p) {
+        write_in_round(pen, values.names.get(p).bytes(), row.round, sink);
+    }
+}
+
+fn write_in_round<K: Sink>(pen: &mut Pen, name: &[u8], round: u32, sink: &mut K)
+    ensures { Prints K.written K.faults pen.old.done sink.old pen.new.done sink.new
+        (printed (in_round name.now round)) }
+{
+    pen.write(
+        &[
+            Piece::Start(b"li"),
+            Piece::Text(Cell::Bytes(name)),
+            Piece::Text(Cell::Bytes(b": elected in round ")),
+            Piece::Text(Cell::Count(round as u64)),
+            Piece::End(b"li"),
+        ],
+        sink,
+    );
+}
+
+/// Who is elected in the end, and was in no iteration.
+fn write_seated<K: Sink>(pen: &mut Pen, values: &SheetValues, sink: &mut K)
+    requires printable { IsPrintable 9 values.now }
+    ensures { Prints K.written K.faults pen.old.done sink.old pen.new.done sink.new
+        (print_each (seated_item values.now) (places (length values.now.names))) }
+{
+    for p in 0..values.names.len() {
+        write_seated_item(pen, values, p, sink);
+    }
+}
+
+fn write_seated_item<K: Sink>(pen: &mut Pen, values: &SheetValues, p: usize, sink: &mut K)
+    requires printable { IsPrintable 9 values.now }
+    requires place { p < length values.now.names }
+    ensures { Prints K.written K.faults pen.old.done sink.old pen.new.done sink.new
+        (printed (seated_item values.now p)) }
+{
+    if is_seated(values, p) {
+        write_at_end(pen, values.names.get(p).bytes(), sink);
+    }
+}
+
+fn write_at_end<K: Sink>(pen: &mut Pen, name: &[u8], sink: &mut K)
+    ensures { Prints K.written K.faults pen.old.done sink.old pen.new.done sink.new
+        (printed (at_end name.now)) }
+{
+    pen.write(
+        &[
+            Piece::Start(b"li"),
+            Piece::Text(Cell::Bytes(name)),
+            Piece::Text(Cell::Bytes(b": elected at the end, to a seat that was left")),
+            Piece::End(b"li"),
+        ],
+        sink,
+    );
+}
+
+/// Whether the candidate at a place is elected in the end, and was in no iteration.
+fn is_seated(values: &SheetValues, p: usize) -> bool
+    requires printable { IsPrintable 9 values.now }
+    requires place { p < length values.now.names }
+    ensures { result ≡ is_seated values.now p }
+{
+    is_elected(*values.last.get(p)) && !was_elected(values.rows.items(), p)
+}
+
+/// Whether some iteration elected the candidate at a place.
+fn was_elected(rows: &[Row<9>], p: usize) -> bool
+    ensures { result ≡ was_elected rows.now p }
+{
+    rows.iter().any(|row| is_marked(row, p))
+}
+
+/// Whether an iteration elected the candidate at a place; nobody stands past the end.
+#[tactic(auto, using(crate::proofs::Marks::unmarked))]
+fn is_marked(row: &Row<9>, p: usize) -> bool
+    ensures { result ≡ mark_at row.now.elected p }
+{
+    if p < row.elected.len() {
+        *row.elected.get(p)
+    } else {
+        false
+    }
+}
+
+fn is_elected(state: State) -> bool
+    ensures { result ≡ is_elected state }
+{
+    match state {
+        State::Hopeful => false,
+        State::Elected => true,
+        State::Defeated => false,
+        State::Withdrawn => false,
+    }
+}
