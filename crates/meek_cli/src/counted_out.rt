@@ -4,8 +4,8 @@ ghost use Rattle.fixed_place.specs.Rounding.{scale};
 ghost use Rattle.meek_count.specs.Progress.{HasJustBegun};
 ghost use Rattle.meek_cli.specs.CountedOut.{IsCountedOut};
 
-use crate::lent::Lent;
 use crate::turns::Turns;
+use lent_spread::Lent;
 use meek_count::{Count, Turn};
 use meek_rule::Spread;
 

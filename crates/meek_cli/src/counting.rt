@@ -9,13 +9,13 @@ ghost use Rattle.tool_edge.specs.Streams.{writing};
 ghost use Rattle.meek_cli.specs.Run.{FinishesCount, WritesCount};
 
 use crate::Status;
-use crate::lent::Lent;
 use crate::split::Split;
 use blt_reader::Election;
 use byte_edge::{Gate, Sink};
 use candidate_roll::Roll;
 use fixed_place::Amount;
 use frozen_plan::Plans;
+use lent_spread::Lent;
 use lot_order::Lots;
 use meek_count::Count;
 use meek_rule::Spread;

@@ -7,10 +7,10 @@ ghost use Rattle.meek_cli.specs.DayText.{sheet_line};
 ghost use Rattle.meek_cli.specs.DueSheets.{due_of, HasSheet, IsDueText};
 ghost use Rattle.meek_cli.specs.Bytes.{WritesBytes};
 
-use crate::lent::Lent;
 use crate::sheet_head::SheetHead;
 use byte_edge::{Failed, Sink, write_all};
 use fixed_place::Amount;
+use lent_spread::Lent;
 use line_text::Line;
 use lot_order::Lots;
 use meek_count::Count;

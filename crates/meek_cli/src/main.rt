@@ -8,7 +8,6 @@ mod day;
 mod day_counting;
 mod due_sheet;
 mod file_work;
-mod lent;
 mod made_days;
 mod office;
 mod outcome;

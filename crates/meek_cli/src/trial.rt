@@ -21,7 +21,6 @@ ghost use Rattle.meek_cli.specs.Run.{FinishesTrial, PlaysTrial, WritesSummary, W
 use crate::counted_out::count_out;
 use crate::day::answer;
 use crate::due_sheet::units;
-use crate::lent::Lent;
 use crate::made_days::made_days_are_days;
 use crate::played_day::PlayedDay;
 use crate::split::Split;
@@ -35,6 +34,7 @@ use byte_edge::{Gate, Sink};
 use call_register::History;
 use candidate_roll::Roll;
 use day_reader::{Day, accepts_days, read_day};
+use lent_spread::Lent;
 use meek_count::{Count, counts_are_unique};
 use meek_rule::Spread;
 use meek_trial::make_day;

@@ -21,12 +21,6 @@ abbrev pub DiffersFromSheetOf : (places : ℕ) → Progress → (bytes : List �
 DiffersFromSheetOf places count bytes None = IsSheetOf Meek places count bytes
 DiffersFromSheetOf places count bytes (Some n) = (text : List ℕ) × IsSheetOf Meek places count text × IsFirstDifference bytes text n
 
--- whether a text with the form of a sheet is the sheet of this election, and else in which line it first differs
-abbrev pub IsVerdictOnSheet : (places omega : ℕ) → List (List ℕ) → RollList → (lots : List ℕ) → (bytes : List ℕ) → Verdict → Type 0
-IsVerdictOnSheet places omega ballots roll lots bytes Malformed = ⊥
-IsVerdictOnSheet places omega ballots roll lots bytes True = Compares places omega ballots roll lots bytes None
-IsVerdictOnSheet places omega ballots roll lots bytes (False n) = Compares places omega ballots roll lots bytes (Some n)
-
 -- The verdict on a text: whether it has the form of a sheet, whether it is the sheet of this election, and else in
 -- which line it first differs from it.
 abbrev pub IsVerdict : (places omega : ℕ) → List (List ℕ) → RollList → (lots : List ℕ) → (bytes : List ℕ) → Verdict → Type 0

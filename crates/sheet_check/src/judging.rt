@@ -1,28 +1,40 @@
 // A text compared with the sheet of an election.
-ghost use Rattle.std.specs.Prelude.{◌≡◌, ◌≤◌, IfOk, length};
+ghost use Rattle.std.specs.Prelude.{◌≡◌, ◌≤◌, All, IfOk, IsPermutation, MatchBool, length};
+ghost use Rattle.frozen_plan.specs.Plan.{all_ballots};
 ghost use Rattle.fixed_place.specs.Rounding.{scale};
 ghost use Rattle.meek_count.specs.Progress.{HasJustBegun};
+ghost use Rattle.meek_rule.specs.Rule.{Meek};
 ghost use Rattle.plain_ballots.specs.Ballots.{plain};
-ghost use Rattle.sheet_check.specs.Judged.{Compares, DiffersFromSheetOf, IsVerdict, IsVerdictOnSheet};
+ghost use Rattle.sheet_reader.specs.Form.{HasForm};
+ghost use Rattle.sheet_reader.specs.Values.{SheetList};
+ghost use Rattle.vote_spread.specs.Lanes.{HaveCounted};
+ghost use Rattle.sheet_check.specs.Judged.{Compares, DiffersFromSheetOf, IsVerdict};
 
 use crate::comparing::Comparing;
 use crate::{NoMemory, Verdict};
 use blt_reader::Election;
+use byte_edge::FreeGate;
+use candidate_roll::Roll;
 use fixed_place::Amount;
+use frozen_plan::Plans;
+use lent_spread::Lent;
 use lot_order::Lots;
 use meek_count::Count;
-use meek_rule::FlatSpread;
-use plain_ballots::lines_stand_for_ballots;
+use meek_rule::Spread;
+use plain_ballots::{Ballots, lines_stand_for_ballots};
 use sheet_reader::{SheetStop, read_sheet};
-use sheet_text::write_sheet;
+use sheet_text::{sheets_are_unique, write_sheet};
 use std::alloc::Global;
+use std::thread::Threads;
+use vote_spread::{Lanes, PlanSpread};
 
 /// Below so many units of 10^-9 votes a surplus is not transferred.
 const OMEGA: u64 = 1_000;
 
 /// The verdict on a text that is held to be the sheet of an election, whose lots are of its candidates. The
-/// count is run again; what it writes is compared with the text as it comes, and kept nowhere.
-pub fn judge(
+/// count is run again by one worker; what it writes is compared with the text as it comes, and kept nowhere.
+pub fn judge<R: Threads + Sync>(
+    rt: &R,
     alloc: Global,
     bytes: &[u8],
     election: &Election,
@@ -32,33 +44,32 @@ pub fn judge(
     requires ballots_of_all { election.now.ballots.candidates ≡ length election.now.roll.names }
     ensures { IfOk result (IsVerdict 9 1000 (plain election.now.ballots.lines) election.now.roll lots.now bytes.now) }
 {
-    match read_sheet(alloc, bytes) {
-        Ok(_) => verdict_on_sheet(alloc, bytes, election, lots),
-        Err(SheetStop::Malformed) => Ok(Verdict::Malformed),
-        Err(SheetStop::NoMemory) => Err(NoMemory),
+    if !has_form(alloc, bytes)? {
+        return Ok(Verdict::Malformed);
     }
-}
-
-/// The verdict on a text that has the form of a sheet.
-fn verdict_on_sheet(
-    alloc: Global,
-    bytes: &[u8],
-    election: &Election,
-    lots: &Lots,
-) -> Result<Verdict, NoMemory>
-    requires lots_of_all { length lots.now ≡ length election.now.roll.names }
-    requires ballots_of_all { election.now.ballots.candidates ≡ length election.now.roll.names }
-    ensures { IfOk result (IsVerdictOnSheet 9 1000 (plain election.now.ballots.lines) election.now.roll lots.now bytes.now) }
-{
-    match first_difference(alloc, bytes, election, lots)? {
+    match first_difference(rt, alloc, bytes, election, lots)? {
         Some(line) => Ok(Verdict::False(line)),
         None => Ok(Verdict::True),
     }
 }
 
+/// Whether a text has the form of a sheet. The values that it says are let go.
+fn has_form(alloc: Global, bytes: &[u8]) -> Result<bool, NoMemory>
+    ensures { IfOk result (λ has. MatchBool has
+        ((values : SheetList) × HasForm 9 bytes.now values)
+        ((values : SheetList) → ¬ (HasForm 9 bytes.now values))) }
+{
+    match read_sheet(alloc, bytes) {
+        Ok(_) => Ok(true),
+        Err(SheetStop::Malformed) => Ok(false),
+        Err(SheetStop::NoMemory) => Err(NoMemory),
+    }
+}
+
 /// The first line in which a text differs from the sheet of an election at nine places, none where it
 /// is the sheet. The count ends where the first difference is found.
-fn first_difference(
+fn first_difference<R: Threads + Sync>(
+    rt: &R,
     alloc: Global,
     bytes: &[u8],
     election: &Election,
@@ -68,21 +79,62 @@ fn first_difference(
     requires ballots_of_all { election.now.ballots.candidates ≡ length election.now.roll.names }
     ensures { IfOk result (Compares 9 1000 (plain election.now.ballots.lines) election.now.roll lots.now bytes.now) }
 {
-    lines_stand_for_ballots();
-    let Ok(ballots) = election.ballots.copy(alloc) else {
+    // The sheet of the plan's ballots is that of the file's.
+    sheets_are_unique();
+    let run = |lanes: &mut Lanes|
+        requires { lanes.now.scale ≡ scale 9 }
+        ensures { HaveCounted lanes.entry.now lanes.exit.now }
+    { lanes.run::<9, R, FreeGate>(rt, &FreeGate) };
+    let candidates = election.roll.candidates();
+    let plans = plan_of(alloc, &election.ballots)?;
+    let Ok(mut spread) = PlanSpread::<9, _>::begin(alloc, plans, candidates, 1, run) else {
         return Err(NoMemory);
     };
+    difference_from_count(alloc, bytes, &election.roll, lots, &mut spread)
+}
+
+/// One plan of all these ballots, which stay where they are.
+fn plan_of(alloc: Global, ballots: &Ballots) -> Result<Plans, NoMemory>
+    requires candidates { (1 ≤ ballots.now.candidates) × (ballots.now.candidates ≤ 250) }
+    ensures candidates { IfOk result (All (λ plan. plan.candidates ≡ ballots.now.candidates)) }
+    ensures ballots { IfOk result (λ plans. IsPermutation (all_ballots plans) (plain ballots.now.lines)) }
+    ensures few { IfOk result (λ plans. length (all_ballots plans) ≤ 999999999) }
+{
+    lines_stand_for_ballots();
     let _sound = ballots.lines();
+    match Plans::dealt(alloc, ballots, 1) {
+        Ok(plans) => Ok(plans),
+        Err(_) => Err(NoMemory),
+    }
+}
+
+/// The same against the sheet of the ballots that a distribution holds.
+fn difference_from_count<D: Spread<9>>(
+    alloc: Global,
+    bytes: &[u8],
+    roll: &Roll,
+    lots: &Lots,
+    spread: &mut D,
+) -> Result<Option<u64>, NoMemory>
+    requires lots_of_all { length lots.now ≡ length roll.now.names }
+    requires rule { D.rule ≡ Meek }
+    requires can { D.can_spread spread.old }
+    requires spread_of_all { D.candidates spread.old ≡ length roll.now.names }
+    requires few { length (D.ballots spread.old) ≤ 999999999 }
+    ensures { IfOk result (Compares 9 1000 (D.ballots spread.old) roll.now lots.now bytes.now) }
+{
     let omega = Amount::<9>::from_units(OMEGA);
-    let Ok(mut count) = Count::begin(alloc, &election.roll, lots, FlatSpread::new(ballots), omega)
-    else {
+    let Ok(mut count) = Count::begin(alloc, roll, lots, Lent { spread }, omega) else {
         return Err(NoMemory);
     };
     Ok(difference_from_sheet_of(&mut count, bytes))
 }
 
 /// The first line in which a text differs from the sheet of a count that was just begun.
-fn difference_from_sheet_of(count: &mut Count<'_, 9, FlatSpread>, bytes: &[u8]) -> Option<u64>
+fn difference_from_sheet_of<D: Spread<9>>(
+    count: &mut Count<'_, 9, Lent<'_, D>>,
+    bytes: &[u8],
+) -> Option<u64>
     requires { HasJustBegun (scale 9) count.old }
     ensures { DiffersFromSheetOf 9 count.old bytes.now result }
 {

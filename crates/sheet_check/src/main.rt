@@ -37,6 +37,6 @@ fn main(rt: HostRuntime) -> ExitCode {
     };
     let mut source = StdSource::new(rt.reader());
     let mut sink = StdSink::new(writer);
-    let end = check(rt.alloc(), words.as_slice(), &mut source, &mut sink);
+    let end = check(&rt, rt.alloc(), words.as_slice(), &mut source, &mut sink);
     end.exit_code()
 }

@@ -14,6 +14,7 @@ use crate::verdict_line::verdict_line;
 use blt_reader::{FaultKind, InputFault};
 use byte_edge::{Sink, Source};
 use std::alloc::Global;
+use std::thread::Threads;
 use tool_edge::{
     Contest, End, FILE_LIMIT, contests_are_not_refused, contests_are_refused_once,
     files_are_not_refused, finish, open, refuse, refuse_input, takes_lots, words_have_one_order,
@@ -21,7 +22,8 @@ use tool_edge::{
 
 /// Checks the sheet at the front of the input against the ballot file behind it, counted with the lots
 /// of the words, and writes the verdict.
-pub fn check<S: Source, K: Sink>(
+pub fn check<R: Threads + Sync, S: Source, K: Sink>(
+    rt: &R,
     alloc: Global,
     words: &[String],
     source: &mut S,
@@ -39,12 +41,24 @@ pub fn check<S: Source, K: Sink>(
         Ok(opened) => opened,
         Err(end) => return end,
     };
-    check_input(alloc, opened.asked.items(), opened.input.as_slice(), sink)
+    check_input(
+        rt,
+        alloc,
+        opened.asked.items(),
+        opened.input.as_slice(),
+        sink,
+    )
 }
 
 /// Checks the whole input.
 #[tactic(auto, using(crate::proofs::Splits::parts_fit, crate::proofs::Audits::ended_early, crate::proofs::Audits::refused_behind, crate::proofs::Audits::judged))]
-fn check_input<K: Sink>(alloc: Global, lots: &[u32], input: &[u8], sink: &mut K) -> End
+fn check_input<R: Threads + Sync, K: Sink>(
+    rt: &R,
+    alloc: Global,
+    lots: &[u32],
+    input: &[u8],
+    sink: &mut K,
+) -> End
     requires { length input.now ≤ 67108864 }
     ensures { FinishesOwed (IsOwedFor audits lots.now input.now) result
         (writing K.written K.faults sink.old sink.new) }
@@ -53,7 +67,7 @@ fn check_input<K: Sink>(alloc: Global, lots: &[u32], input: &[u8], sink: &mut K)
         return refuse(sink, ended(input.len()));
     };
     match contest_behind(alloc, sheet.len(), lots, file) {
-        Ok(contest) => write_verdict(alloc, sheet, &contest, sink),
+        Ok(contest) => write_verdict(rt, alloc, sheet, &contest, sink),
         Err(stop) => refuse_input(sink, stop),
     }
 }
@@ -69,13 +83,19 @@ fn ended(len: usize) -> InputFault
 }
 
 /// Judges a text that is held to be the sheet of a contest, and writes the verdict.
-fn write_verdict<K: Sink>(alloc: Global, sheet: &[u8], contest: &Contest, sink: &mut K) -> End
+fn write_verdict<R: Threads + Sync, K: Sink>(
+    rt: &R,
+    alloc: Global,
+    sheet: &[u8],
+    contest: &Contest,
+    sink: &mut K,
+) -> End
     requires lots_of_all { length contest.now.lots ≡ length contest.now.election.roll.names }
     requires ballots_of_all { contest.now.election.ballots.candidates ≡ length contest.now.election.roll.names }
     ensures { FinishesOwed (IsOwedVerdict (poll contest.now.election) contest.now.lots sheet.now) result
         (writing K.written K.faults sink.old sink.new) }
 {
-    match judge(alloc, sheet, &contest.election, &contest.lots) {
+    match judge(rt, alloc, sheet, &contest.election, &contest.lots) {
         Ok(verdict) => finish(sink, End::Done, verdict_line(verdict).bytes()),
         Err(_) => End::NoMemory,
     }

@@ -18,7 +18,10 @@ fn a_sheet_gets_its_verdict(rt: HostRuntime) -> Result<(), Fail> {
     ];
     for (quota, votes, verdict) in cases {
         let text = sheet(alloc, quota, votes)?;
-        assert_eq!(rt; judge(alloc, text.as_slice(), &election, &lots)?, verdict);
+        assert_eq!(rt;
+            judge(&rt, alloc, text.as_slice(), &election, &lots)?,
+            verdict
+        );
     }
     Ok(())
 }
@@ -127,7 +130,7 @@ fn each_changed_byte_gets_its_verdict(rt: HostRuntime) -> Result<(), Fail> {
                 } else {
                     Verdict::Malformed
                 };
-                let verdict = judge(alloc, changed.as_slice(), &election, &lots)?;
+                let verdict = judge(&rt, alloc, changed.as_slice(), &election, &lots)?;
                 assert_eq!(rt; (at, *other, verdict), (at, *other, due));
             }
         }
@@ -160,13 +163,13 @@ fn each_moved_line_gets_its_verdict(rt: HostRuntime) -> Result<(), Fail> {
             Verdict::Malformed
         };
         assert_eq!(rt;
-            (n, judge(alloc, dropped.as_slice(), &election, &lots)?),
+            (n, judge(&rt, alloc, dropped.as_slice(), &election, &lots)?),
             (n, due)
         );
         let twice = joined(alloc, line.as_slice(), line.as_slice())?;
         let doubled = with_piece(alloc, text.as_slice(), n, 1, twice.as_slice())?;
         assert_eq!(rt;
-            (n, judge(alloc, doubled.as_slice(), &election, &lots)?),
+            (n, judge(&rt, alloc, doubled.as_slice(), &election, &lots)?),
             (n, Verdict::Malformed)
         );
         let turned = joined(alloc, next.as_slice(), line.as_slice())?;
@@ -177,7 +180,7 @@ fn each_moved_line_gets_its_verdict(rt: HostRuntime) -> Result<(), Fail> {
             Verdict::Malformed
         };
         assert_eq!(rt;
-            (n, judge(alloc, swapped.as_slice(), &election, &lots)?),
+            (n, judge(&rt, alloc, swapped.as_slice(), &election, &lots)?),
             (n, due)
         );
     }

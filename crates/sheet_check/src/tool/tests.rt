@@ -11,7 +11,14 @@ struct Ran {
 }
 
 /// Checks a text with a file behind it, where the write calls of these numbers fail.
-fn run(alloc: Global, lots: &str, text: &[u8], file: &[u8], failing: &[u64]) -> Result<Ran, Fail> {
+fn run<R: Threads + Sync>(
+    rt: &R,
+    alloc: Global,
+    lots: &str,
+    text: &[u8],
+    file: &[u8],
+    failing: &[u64],
+) -> Result<Ran, Fail> {
     let mut words = Vec::new(alloc);
     for word in ["--lots", lots] {
         words.push(String::from_str(alloc, word)?)?;
@@ -20,7 +27,7 @@ fn run(alloc: Global, lots: &str, text: &[u8], file: &[u8], failing: &[u64]) -> 
     input.extend_from_slice(file)?;
     let mut source = MemorySource::new(input, 100, Vec::new(alloc));
     let mut sink = MemorySink::with_room(alloc, 100, 100, failing.to_vec(alloc)?)?;
-    let end = check(alloc, words.as_slice(), &mut source, &mut sink);
+    let end = check(rt, alloc, words.as_slice(), &mut source, &mut sink);
     let written = sink.bytes().to_vec(alloc)?;
     Ok(Ran { end, written })
 }
@@ -36,7 +43,7 @@ fn a_sheet_gets_the_line_of_its_verdict(rt: HostRuntime) -> Result<(), Fail> {
     ];
     for (lots, quota, votes, line) in cases {
         let text = sheet(alloc, quota, votes)?;
-        let ran = run(alloc, lots, text.as_slice(), FILE, &[])?;
+        let ran = run(&rt, alloc, lots, text.as_slice(), FILE, &[])?;
         assert_eq!(rt; ran.end, End::Done);
         assert_eq!(rt; ran.written.as_slice(), line);
     }
@@ -61,7 +68,7 @@ fn a_refusal_has_its_place_in_the_whole(rt: HostRuntime) -> Result<(), Fail> {
         (b"end\n", b"1 1 0 \"A\" \"T\"", b"refused BadLots at 2\n"),
     ];
     for (text, file, line) in cases {
-        let ran = run(alloc, "1,2,3,4", text, file, &[])?;
+        let ran = run(&rt, alloc, "1,2,3,4", text, file, &[])?;
         assert_eq!(rt; ran.written.as_slice(), line);
         assert!(rt; matches!(ran.end, End::BadInput(_)));
     }
@@ -70,7 +77,7 @@ fn a_refusal_has_its_place_in_the_whole(rt: HostRuntime) -> Result<(), Fail> {
 
 #[test]
 fn a_flush_that_fails_is_a_fault(rt: HostRuntime) -> Result<(), Fail> {
-    let ran = run(rt.alloc(), "1,2,3,4", b"end\n", FILE, &[2])?;
+    let ran = run(&rt, rt.alloc(), "1,2,3,4", b"end\n", FILE, &[2])?;
     assert_eq!(rt; ran.end, End::SinkFault);
     assert_eq!(rt; ran.written.as_slice(), b"sheet malformed\n".as_slice());
     Ok(())

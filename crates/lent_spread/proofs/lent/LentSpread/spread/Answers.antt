@@ -2,7 +2,7 @@ use Rattle.std.proofs.Common.{◌≡◌, subst}
 use Rattle.fixed_place.specs.Rounding.{scale}
 use Rattle.meek_rule.specs.Rule.{Rule}
 use Rattle.meek_rule.specs.Weights.{votes_under}
-use Rattle.meek_cli.proofs.lent.LentSpread.spread.Goals as goal
+use Rattle.lent_spread.proofs.lent.LentSpread.spread.Goals as goal
 
 -- what is borrowed distributes by Meek's rule
 pub returns-clause-votes : goal.returns-clause-votes

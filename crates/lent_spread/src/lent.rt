@@ -7,8 +7,8 @@ use meek_rule::Spread;
 
 /// Distributes by Meek's rule, by what it borrows, so that a count need not know what that is made of.
 #[derive(Drop)]
-pub(crate) struct Lent<'a, D> {
-    pub(crate) spread: &'a mut D,
+pub struct Lent<'a, D> {
+    pub spread: &'a mut D,
 }
 
 impl<'a, const P: usize, D: Spread<P>> Spread<P> for Lent<'a, D> {
@@ -32,3 +32,6 @@ impl<'a, const P: usize, D: Spread<P>> Spread<P> for Lent<'a, D> {
         self.spread.spread(keeps, tally);
     }
 }
+
+#[cfg(test)]
+mod tests;
