@@ -1,7 +1,7 @@
 // A text compared with the sheet of an election.
 ghost use Rattle.std.specs.Prelude.{◌≡◌, ◌≤◌, All, IfOk, IsPermutation, MatchBool, length};
-ghost use Rattle.frozen_plan.specs.Plan.{all_ballots};
 ghost use Rattle.fixed_place.specs.Rounding.{scale};
+ghost use Rattle.frozen_plan.specs.Plan.{all_ballots};
 ghost use Rattle.meek_count.specs.Progress.{HasJustBegun};
 ghost use Rattle.meek_rule.specs.Rule.{Meek};
 ghost use Rattle.plain_ballots.specs.Ballots.{plain};
@@ -108,7 +108,7 @@ fn plan_of(alloc: Global, ballots: &Ballots) -> Result<Plans, NoMemory>
     }
 }
 
-/// The same against the sheet of the ballots that a distribution holds.
+/// The first line in which a text differs from the sheet of the ballots that a distribution holds.
 fn difference_from_count<D: Spread<9>>(
     alloc: Global,
     bytes: &[u8],
