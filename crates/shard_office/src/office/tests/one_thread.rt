@@ -2,7 +2,8 @@
 ghost use Rattle.std.specs.Prelude.{◌≡◌};
 
 use super::steps::{
-    Frozen, Note, Step, closed, joined, noted, opened, shown, step_of, version_for_clerk,
+    Frozen, Note, Step, closed, joined, noted, opened, shown, shown_by_shard, step_of,
+    version_for_clerk,
 };
 use crate::{Office, Pass};
 use batch_core::Reply;
@@ -212,5 +213,24 @@ fn one_call_makes_a_history_of_one_entry(rt: HostRuntime) -> Result<(), Fail> {
     clerk.take_in(&office, one);
     let history = closed(office, alloc, clerk)?;
     reads(&rt, &history, &[(1, enter(1, 1, 3), Reply::Entered)]);
+    Ok(())
+}
+
+// Batches 1, 2, 3 belong to shards 1, 2, 3, batches 4 and 5 to 1 and 2 again.
+#[test]
+fn each_plan_has_the_ballots_of_its_shard(rt: HostRuntime) -> Result<(), Fail> {
+    let alloc = rt.alloc();
+    let (office, mut clerk) = opened(alloc, 3)?;
+    let mut one = joined(alloc, &mut clerk, &office, 1)?;
+    let calls = [
+        answered(enter(1, 1, 1), Reply::Entered),
+        answered(enter(2, 20, 2), Reply::Entered),
+        answered(enter(5, 300, 3), Reply::Entered),
+        answered(enter(4, 4000, 1), Reply::Entered),
+    ];
+    plays(&rt, alloc, &office, &mut one, &calls)?;
+    clerk.take_in(&office, one);
+    let version = version_for_clerk(&rt, alloc, &office, &mut clerk)?;
+    assert_eq!(rt; shown_by_shard(version), [4001, 320, 0]);
     Ok(())
 }

@@ -268,6 +268,16 @@ pub(super) fn shown(version: Version) -> Frozen {
     }
 }
 
+/// How many ballots a version has in each of the first three shards, and 0 where there are fewer.
+pub(super) fn shown_by_shard(version: Version) -> [u64; 3] {
+    let mut totals = [0; 3];
+    let plans = version.into_plans();
+    for (place, plan) in totals.iter_mut().zip(plans.items()) {
+        *place = plan.total();
+    }
+    totals
+}
+
 /// The first three numbers, and 0 where there are fewer.
 pub(super) fn three(numbers: &[u32]) -> [u32; 3] {
     let mut first = [0; 3];
