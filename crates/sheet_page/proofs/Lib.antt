@@ -1,6 +1,8 @@
 mod Pens
 mod Printing
 mod Marks
+mod Peaks
+mod Nesting
 mod Owing
 mod WordLemmas
 mod CsvLemmas

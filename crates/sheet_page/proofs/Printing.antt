@@ -2,7 +2,7 @@
 use Rattle.std.proofs.Common.{◌≡◌, ◌∙◌, refl, sym, ap, ℕ, List, [], ◌∷◌, ◌++◌, append_assoc, append-nil}
 use Rattle.std.specs.List.{flat_map}
 use Rattle.page_tree.specs.Trees.{Attribute, Trees, Nothing, Text, Element, Void, followed}
-use Rattle.page_tree.specs.Print.{shown, opening, closing, printed}
+use Rattle.page_tree.specs.Print.{attribute_text, shown, opening, closing, printed}
 use Rattle.sheet_page.specs.Trees.{all, each, el}
 
 -- what trees that stand behind one another print
@@ -21,15 +21,40 @@ printed-followed (Void name attributes behind) others =
     ap (λ (l : List ℕ). opening name attributes ++ l) (printed-followed behind others)
     ∙ sym (append_assoc (opening name attributes) (printed behind) (printed others))
 
+-- the pieces of attributes, and others behind them
+abbrev pub attribute_parts : List Attribute → List (List ℕ) → List (List ℕ)
+attribute_parts [] rest = rest
+attribute_parts (attribute ∷ attributes) rest = attribute_text attribute ∷ attribute_parts attributes rest
+
+-- the pieces of the start of an element, and others behind them: one piece if it has no attributes
+abbrev pub started : (name : List ℕ) → List Attribute → List (List ℕ) → List (List ℕ)
+started name [] rest = opening name [] ∷ rest
+started name (attribute ∷ attributes) rest = (60 ∷ name) ∷ attribute_parts (attribute ∷ attributes) ((62 ∷ []) ∷ rest)
+
 -- the pieces of a tree, and others behind them
 abbrev pub parts : Trees → List (List ℕ) → List (List ℕ)
 parts Nothing rest = rest
 parts (Text text behind) rest = shown text ∷ parts behind rest
-parts (Element name attributes within behind) rest = opening name attributes ∷ parts within (closing name ∷ parts behind rest)
-parts (Void name attributes behind) rest = opening name attributes ∷ parts behind rest
+parts (Element name attributes within behind) rest = started name attributes (parts within (closing name ∷ parts behind rest))
+parts (Void name attributes behind) rest = started name attributes (parts behind rest)
 
 abbrev pub joined : List (List ℕ) → List ℕ
 joined pieces = flat_map (λ piece. piece) pieces
+
+joined-attributes : (attributes : List Attribute) (rest : List (List ℕ)) → joined (attribute_parts attributes rest) ≡ flat_map attribute_text attributes ++ joined rest
+joined-attributes [] rest = refl
+joined-attributes (attribute ∷ attributes) rest =
+    ap (λ (l : List ℕ). attribute_text attribute ++ l) (joined-attributes attributes rest)
+    ∙ sym (append_assoc (attribute_text attribute) (flat_map attribute_text attributes) (joined rest))
+
+pub joined-started : (name : List ℕ) (attributes : List Attribute) (rest : List (List ℕ)) → joined (started name attributes rest) ≡ opening name attributes ++ joined rest
+joined-started name [] rest = refl
+joined-started name (attribute ∷ attributes) rest =
+    let all = attribute ∷ attributes in
+    let held = flat_map attribute_text all in
+    ap (λ (l : List ℕ). 60 ∷ (name ++ l)) (joined-attributes all ((62 ∷ []) ∷ rest))
+    ∙ ap (λ (l : List ℕ). 60 ∷ (name ++ l)) (sym (append_assoc held (62 ∷ []) (joined rest)))
+    ∙ ap (λ (l : List ℕ). 60 ∷ l) (sym (append_assoc name (held ++ 62 ∷ []) (joined rest)))
 
 joined-parts : (trees : Trees) (rest : List (List ℕ)) → joined (parts trees rest) ≡ printed trees ++ joined rest
 joined-parts Nothing rest = refl
@@ -37,13 +62,15 @@ joined-parts (Text text behind) rest =
     ap (λ (l : List ℕ). shown text ++ l) (joined-parts behind rest) ∙ sym (append_assoc (shown text) (printed behind) (joined rest))
 joined-parts (Element name attributes within behind) rest =
     let front = opening name attributes in
-    ap (λ (l : List ℕ). front ++ l) (joined-parts within (closing name ∷ parts behind rest))
+    joined-started name attributes (parts within (closing name ∷ parts behind rest))
+    ∙ ap (λ (l : List ℕ). front ++ l) (joined-parts within (closing name ∷ parts behind rest))
     ∙ ap (λ (l : List ℕ). front ++ (printed within ++ (closing name ++ l))) (joined-parts behind rest)
     ∙ ap (λ (l : List ℕ). front ++ (printed within ++ l)) (sym (append_assoc (closing name) (printed behind) (joined rest)))
     ∙ ap (λ (l : List ℕ). front ++ l) (sym (append_assoc (printed within) (closing name ++ printed behind) (joined rest)))
     ∙ sym (append_assoc front (printed within ++ (closing name ++ printed behind)) (joined rest))
 joined-parts (Void name attributes behind) rest =
-    ap (λ (l : List ℕ). opening name attributes ++ l) (joined-parts behind rest)
+    joined-started name attributes (parts behind rest)
+    ∙ ap (λ (l : List ℕ). opening name attributes ++ l) (joined-parts behind rest)
     ∙ sym (append_assoc (opening name attributes) (printed behind) (joined rest))
 
 -- a tree, piece by piece
@@ -67,6 +94,12 @@ pub wrapped : (name : List ℕ) (attributes : List Attribute) (trees : List Tree
 wrapped name attributes trees =
     ap (λ (l : List ℕ). opening name attributes ++ l)
     (ap (onto trees) (sym (append-nil (closing name))) ∙ onto-all trees (closing name ++ []))
+
+-- two trees, one behind the other
+pub printed-two : (tree other : Trees) → printed tree ++ printed other ≡ printed (all (tree ∷ other ∷ []))
+printed-two tree other =
+    sym (printed-followed tree (followed other Nothing)
+    ∙ ap (λ (l : List ℕ). printed tree ++ l) (printed-followed other Nothing ∙ append-nil (printed other)))
 
 -- a tree for each item
 pub printed-each : {X : Type 0} (tree : X → Trees) (items : List X) → flat_map (λ x. printed (tree x)) items ≡ printed (each tree items)

@@ -1,5 +1,5 @@
 -- A sheet as a page.
-use Rattle.std.specs.Prelude.{ℕ, ◌+◌, ◌-◌, ◌*◌, ◌&&◌, ◌||◌, not, Bool, true, false, if◌then◌else◌, List, [], ◌∷◌, ◌++◌, length, codes, decimal, nat_eq, slice_index}
+use Rattle.std.specs.Prelude.{ℕ, ◌&&◌, not, Bool, true, false, if◌then◌else◌, List, [], ◌∷◌, ◌++◌, length, codes, decimal, slice_index}
 use Rattle.std.specs.List.{list_any}
 use Rattle.candidate_roll.specs.State.{state_at}
 use Rattle.candidate_roll.specs.declared.state.State.{State}
@@ -11,9 +11,12 @@ use Rattle.page_tree.specs.Trees.{Trees, Nothing}
 use Rattle.page_tree.specs.Print.{printed}
 use Rattle.sheet_text.specs.Lines.{state_word}
 use Rattle.sheet_reader.specs.Values.{SheetList}
+use Rattle.sheet_page.specs.Iterations.{folded}
+use Rattle.sheet_page.specs.Picture.{full_of, round_picture}
+use Rattle.sheet_page.specs.RoundEnds.{ends_round, left_over, state_after}
 use Rattle.sheet_page.specs.Style.{style}
 use Rattle.sheet_page.specs.Trees.{all, each, el, void, words, at}
-use Rattle.sheet_page.specs.Values.{places, name_at, row_at, defeats}
+use Rattle.sheet_page.specs.Values.{places, name_at, row_at}
 
 -- ---- who is elected
 
@@ -59,21 +62,6 @@ abbrev pub elected_part : SheetList → Trees
 elected_part v = el (codes "section") [] (elected_title ∷ elected_list v ∷ [])
 
 -- ---- the table of rounds
-
--- An iteration is the last of its round, where none follows or one of another round.
-abbrev pub ends_round : List Row → (i : ℕ) → Bool
-ends_round rows i = nat_eq (i + 1) (length rows) || not (nat_eq (row_at rows i).round (row_at rows (i + 1)).round)
-
--- what a candidate is after an iteration
-abbrev pub state_after : Row → (p : ℕ) → State
-state_after row p =
-    if mark_at row.elected p then Elected
-    else if defeats row.step (p + 1) then Defeated
-    else state_at row.states p
-
--- the votes of so many ballots that are left on no candidate, in units
-abbrev pub left_over : (ballots : ℕ) → Row → ℕ
-left_over ballots row = ballots * 1000000000 - row.total
 
 abbrev pub head_cell : List ℕ → Trees
 head_cell text = el (codes "th") [] (words text ∷ [])
@@ -122,6 +110,21 @@ rounds_title = el (codes "h2") [] (words (codes "Votes at the end of each round"
 abbrev pub rounds_part : SheetList → Trees
 rounds_part v = el (codes "section") [] (rounds_title ∷ rounds_table v ∷ [])
 
+-- ---- each round
+
+abbrev pub round_title : (round : ℕ) → Trees
+round_title round = el (codes "h2") [] (words (codes "Round ") ∷ words (decimal round) ∷ [])
+
+abbrev pub round_part : SheetList → (full : ℕ) → Row → Trees
+round_part v full row = el (codes "section") [] (round_title row.round ∷ round_picture v full row ∷ folded v row.round ∷ [])
+
+-- the part of a round, if it ends at this place
+abbrev pub part_at : SheetList → (full i : ℕ) → Trees
+part_at v full i = if ends_round v.rows i then round_part v full (row_at v.rows i) else Nothing
+
+abbrev pub round_parts : SheetList → (full : ℕ) → Trees
+round_parts v full = each (part_at v full) (places (length v.rows))
+
 -- ---- the page
 
 abbrev pub heading : SheetList → Trees
@@ -135,7 +138,7 @@ heading v =
     )
 
 abbrev pub body : SheetList → Trees
-body v = el (codes "body") [] (heading v ∷ elected_part v ∷ rounds_part v ∷ [])
+body v = el (codes "body") [] (heading v ∷ elected_part v ∷ rounds_part v ∷ round_parts v (full_of v.rows) ∷ [])
 
 -- the title for the window, and how the page looks
 abbrev pub window_title : List ℕ → Trees

@@ -8,5 +8,9 @@ pub mod Json
 pub mod Words
 pub mod Trees
 pub mod Style
+pub mod RoundEnds
+pub mod Picture
+pub mod Iterations
 pub mod Html
+pub mod Laws
 pub mod Owed

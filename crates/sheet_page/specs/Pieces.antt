@@ -1,8 +1,8 @@
--- Pieces of what is written.
-use Rattle.std.specs.Prelude.{ℕ, List, [], decimal}
-use Rattle.page_tree.specs.Print.{opening, closing, shown}
+-- Pieces of what is written. 60 is `<`, and 62 is `>`.
+use Rattle.std.specs.Prelude.{ℕ, List, [], ◌∷◌, decimal}
+use Rattle.page_tree.specs.Print.{attribute_text, opening, closing, shown}
 use Rattle.sheet_page.specs.declared.piece.Piece.{Piece}
-use Rattle.sheet_page.specs.declared.piece.Piece.TheVariants.{Raw, Number, Quoted, Start, End, Text}
+use Rattle.sheet_page.specs.declared.piece.Piece.TheVariants.{Raw, Number, Quoted, Start, End, Text, Begin, With, Within}
 use Rattle.sheet_page.specs.Cells.{cell_text}
 use Rattle.sheet_page.specs.JsonText.{string_text}
 
@@ -13,3 +13,6 @@ piece_text (Quoted cell) = string_text (cell_text cell)
 piece_text (Start name) = opening name.now []
 piece_text (End name) = closing name.now
 piece_text (Text cell) = shown (cell_text cell)
+piece_text (Begin name) = 60 ∷ name.now
+piece_text (With name cell) = attribute_text (record { name = name.now; value = cell_text cell })
+piece_text Within = 62 ∷ []

@@ -3,7 +3,7 @@ ghost use Rattle.std.specs.Prelude.{◌≡◌, Ok, [], ◌∷◌, map};
 ghost use Rattle.std.specs.List.{flat_map};
 ghost use Rattle.csv_text.specs.Csv.{behind_comma, field_text, record_text};
 ghost use Rattle.page_tree.specs.Given.{given};
-ghost use Rattle.page_tree.specs.Print.{closing, opening, shown};
+ghost use Rattle.page_tree.specs.Print.{attribute_text, closing, opening, shown};
 ghost use Rattle.piece_text.specs.Writing.{Writes};
 ghost use Rattle.sheet_page.specs.Cells.{cell_text};
 ghost use Rattle.sheet_page.specs.JsonText.{string_text};
@@ -122,7 +122,29 @@ fn write_piece<K: Sink>(piece: &Piece<'_>, sink: &mut K) -> Result<(), Failed>
         Piece::Start(name) => write_start(*name, &[], sink),
         Piece::End(name) => write_end(*name, sink),
         Piece::Text(cell) => write_cell_text(cell, sink),
+        Piece::Begin(name) => write_begin(*name, sink),
+        Piece::With(name, cell) => write_with(*name, cell, sink),
+        Piece::Within => write_bytes(b">", sink),
     }
+}
+
+fn write_begin<K: Sink>(name: &[u8], sink: &mut K) -> Result<(), Failed>
+    ensures { Writes K.written K.faults sink.old sink.new (60 ∷ name.now) result }
+{
+    write_bytes(b"<", sink)?;
+    write_bytes(name, sink)
+}
+
+/// Writes an attribute behind a space.
+fn write_with<K: Sink>(name: &[u8], cell: &Cell<'_>, sink: &mut K) -> Result<(), Failed>
+    ensures { Writes K.written K.faults sink.old sink.new
+        (attribute_text (record { name = name.now; value = cell_text cell.now })) result }
+{
+    write_bytes(b" ", sink)?;
+    write_bytes(name, sink)?;
+    write_bytes(b"=\"", sink)?;
+    write_cell_text(cell, sink)?;
+    write_bytes(b"\"", sink)
 }
 
 fn write_cell_text<K: Sink>(cell: &Cell<'_>, sink: &mut K) -> Result<(), Failed>

@@ -16,4 +16,10 @@ pub(crate) enum Piece<'a> {
     End(&'a [u8]),
     /// A text of a page.
     Text(Cell<'a>),
+    /// The start of an element up to its attributes.
+    Begin(&'a [u8]),
+    /// An attribute, by its name.
+    With(&'a [u8], Cell<'a>),
+    /// The end of a start, behind its attributes.
+    Within,
 }

@@ -3,8 +3,9 @@ ghost use Rattle.std.specs.Prelude.{◌≡◌, ◌-◌, ◌*◌, ◌<◌, ◌≤
 ghost use Rattle.meek_rule.specs.Row.{HasRoomFor};
 ghost use Rattle.page_tree.specs.Print.{printed};
 ghost use Rattle.sheet_reader.specs.Form.{IsPrintable};
-ghost use Rattle.sheet_page.specs.Html.{ends_round, head_cell, head_cells, head_row, name_cell, round_at, round_cells, round_row, rounds_part, rounds_table, rounds_title, state_after, vote_cell};
+ghost use Rattle.sheet_page.specs.Html.{head_cell, head_cells, head_row, name_cell, round_at, round_cells, round_row, rounds_part, rounds_table, rounds_title, vote_cell};
 ghost use Rattle.sheet_page.specs.Prints.{Prints};
+ghost use Rattle.sheet_page.specs.RoundEnds.{ends_round, state_after};
 ghost use Rattle.sheet_page.specs.Trees.{print_each};
 ghost use Rattle.sheet_page.specs.Values.{places};
 
@@ -205,7 +206,7 @@ fn write_vote_cell<K: Sink>(pen: &mut Pen, row: &Row<9>, p: usize, sink: &mut K)
 }
 
 /// What of so many ballots is left on no candidate.
-fn left_over(ballots: u64, total: Amount<9>) -> Amount<9>
+pub(crate) fn left_over(ballots: u64, total: Amount<9>) -> Amount<9>
     requires { ballots ≤ 999999999 }
     ensures { result ≡ ballots * 1000000000 - total }
 {
@@ -213,7 +214,7 @@ fn left_over(ballots: u64, total: Amount<9>) -> Amount<9>
 }
 
 /// Whether an iteration is the last of its round.
-fn ends_round(rows: &[Row<9>], i: usize) -> bool
+pub(crate) fn ends_round(rows: &[Row<9>], i: usize) -> bool
     requires { i < length rows.now }
     ensures { result ≡ ends_round rows.now i }
 {
@@ -226,7 +227,7 @@ fn ends_round(rows: &[Row<9>], i: usize) -> bool
 }
 
 /// What a candidate is after an iteration.
-fn state_after(row: &Row<9>, p: usize) -> State
+pub(crate) fn state_after(row: &Row<9>, p: usize) -> State
     requires room { HasRoomFor (length row.now.states) row.now }
     requires few { length row.now.states ≤ 250 }
     requires place { p < length row.now.states }

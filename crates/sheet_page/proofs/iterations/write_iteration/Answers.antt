@@ -1,0 +1,15 @@
+use Rattle.std.proofs.Common.{length, [], ◌∷◌}
+use Rattle.std.specs.Prelude.{codes}
+use Rattle.sheet_page.specs.Trees.{each}
+use Rattle.sheet_page.specs.Values.{places}
+use Rattle.sheet_page.specs.Iterations.{iteration_head, standing_at}
+use Rattle.sheet_page.proofs.Printing.{wrapped, printed-each}
+use Rattle.sheet_page.proofs.Pens.{later, renamed}
+use Rattle.sheet_page.proofs.iterations.write_iteration.Goals as goal
+
+pub returns : goal.returns
+returns g c =
+    let at = standing_at c.args.values.now c.args.row.now in
+    let all = places (length c.args.values.now.names) in
+    renamed (wrapped (codes "tbody") [] (iteration_head c.args.row.now ∷ each at all ∷ []))
+    (later c.open.ensures (later c.write_iteration_head.ensures (later (renamed (printed-each at all) c.write_standings.ensures) c.close.ensures)))

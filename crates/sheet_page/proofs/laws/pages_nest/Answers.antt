@@ -1,0 +1,6 @@
+use Rattle.sheet_page.specs.Html.{page}
+use Rattle.sheet_page.proofs.Nesting.{well_named}
+use Rattle.sheet_page.proofs.laws.pages_nest.Goals as goal
+
+pub returns : goal.returns
+returns c v = c.page_laws.ensures.elements (page v) (well_named v)

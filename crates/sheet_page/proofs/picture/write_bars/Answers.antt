@@ -1,0 +1,11 @@
+use Rattle.page_tree.specs.Print.{printed}
+use Rattle.sheet_page.specs.Picture.{bar}
+use Rattle.sheet_page.proofs.Pens.{nothing, place_more}
+use Rattle.sheet_page.proofs.picture.write_bars.Goals as goal
+
+pub loop-p-init : goal.loop-p-init
+loop-p-init g c = nothing _ _ _ _
+
+pub loop-p-preserved : goal.loop-p-preserved
+loop-p-preserved g c =
+    place_more (λ p. printed (bar c.args.values.now c.args.full c.args.row.now p)) c.loop-p.p c.loop-p.invariant c.write_bar.ensures

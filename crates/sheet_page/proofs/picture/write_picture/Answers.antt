@@ -1,0 +1,20 @@
+use Rattle.std.proofs.Common.{ap, length, [], ◌∷◌}
+use Rattle.std.specs.Prelude.{codes}
+use Rattle.meek_rule.specs.Row.{Row}
+use Rattle.page_tree.specs.Print.{printed}
+use Rattle.sheet_page.specs.Trees.{each}
+use Rattle.sheet_page.specs.Values.{places}
+use Rattle.sheet_page.specs.Picture.{bar, picture_attributes, picture_title, quota_line, scaled}
+use Rattle.sheet_page.proofs.Printing.{wrapped, printed-each}
+use Rattle.sheet_page.proofs.Pens.{later, renamed}
+use Rattle.sheet_page.proofs.picture.write_picture.Goals as goal
+
+pub returns : goal.returns
+returns g c =
+    let row = c.args.row.now in
+    let full = c.args.full in
+    let bars = length c.args.values.now.names in
+    let bar_of = bar c.args.values.now full row in
+    renamed (wrapped (codes "svg") (picture_attributes bars) (picture_title row.round ∷ each bar_of (places bars) ∷ quota_line (scaled full row.quota) bars ∷ []))
+    (later c.write_start.ensures (later (renamed (ap (λ (r : Row). printed (picture_title r.round)) c.row.view_is) c.write_title.ensures) (later (renamed (printed-each bar_of (places bars)) c.write_bars.ensures)
+    (later c.write_quota.ensures c.close.ensures))))

@@ -1,0 +1,100 @@
+-- The picture of a round: its votes as bars, and its quota as a line.
+use Rattle.std.specs.Prelude.{ℕ, ◌+◌, ◌*◌, ◌/◌, max, min, if◌then◌else◌, List, [], ◌∷◌, ◌++◌, length, codes, decimal, nat_eq, slice_index}
+use Rattle.fixed_place.specs.Text.{text_of}
+use Rattle.meek_rule.specs.Row.{Row}
+use Rattle.page_tree.specs.Trees.{Attribute, Trees}
+use Rattle.sheet_text.specs.Lines.{state_word}
+use Rattle.sheet_reader.specs.Values.{SheetList}
+use Rattle.sheet_page.specs.RoundEnds.{left_over, state_after}
+use Rattle.sheet_page.specs.Trees.{all, each, el, words, at}
+use Rattle.sheet_page.specs.Values.{places, name_at}
+
+-- the greatest of some amounts
+abbrev pub greatest : List ℕ → ℕ
+greatest [] = 0
+greatest (x ∷ xs) = max x (greatest xs)
+
+-- the greatest quota or vote of a sheet, which has the whole width
+abbrev pub full_of : List Row → ℕ
+full_of [] = 0
+full_of (row ∷ rows) = max (max row.quota (greatest row.votes)) (full_of rows)
+
+abbrev pub width : ℕ
+width = 400
+
+-- an amount scaled to the width, where the full amount has all of it, rounded down
+abbrev pub scaled : (full x : ℕ) → ℕ
+scaled full x = if nat_eq full 0 then 0 else min width (x * width / full)
+
+-- ---- the bars, each below its label
+
+abbrev pub label : (y : ℕ) → (name state : List ℕ) → (vote : ℕ) → Trees
+label y name state vote =
+    el (codes "text") (at (codes "class") state ∷ at (codes "y") (decimal y) ∷ []) (
+    words state ∷ words (codes " ") ∷ words (text_of 9 vote) ∷ words (codes " ") ∷ words name ∷ []
+    )
+
+abbrev pub rectangle : (y length : ℕ) → (state : List ℕ) → Trees
+rectangle y length state =
+    el (codes "rect") (
+    at (codes "class") state ∷ at (codes "y") (decimal y) ∷ at (codes "width") (decimal length)
+    ∷ at (codes "height") (codes "12") ∷ []
+    ) []
+
+-- a candidate's vote at the end of a round, and what it is then
+abbrev pub label_at : SheetList → Row → (p : ℕ) → Trees
+label_at v row p = label (p * 36 + 16) (name_at v p) (state_word (state_after row p)) (slice_index row.votes p)
+
+abbrev pub rectangle_at : (full : ℕ) → Row → (p : ℕ) → Trees
+rectangle_at full row p = rectangle (p * 36 + 21) (scaled full (slice_index row.votes p)) (state_word (state_after row p))
+
+abbrev pub bar : SheetList → (full : ℕ) → Row → (p : ℕ) → Trees
+bar v full row p = all (label_at v row p ∷ rectangle_at full row p ∷ [])
+
+-- ---- the whole picture
+
+-- the text of who does not see it
+abbrev pub picture_title : (round : ℕ) → Trees
+picture_title round =
+    el (codes "title") [] (
+    words (codes "Votes at the end of round ") ∷ words (decimal round)
+    ∷ words (codes ": a bar for each candidate, and the quota as a line. The table above has the numbers.") ∷ []
+    )
+
+-- the quota as a line over so many bars
+abbrev pub quota_line : (x bars : ℕ) → Trees
+quota_line x bars =
+    el (codes "line") (
+    at (codes "x1") (decimal x) ∷ at (codes "x2") (decimal x) ∷ at (codes "y2") (decimal (bars * 36)) ∷ []
+    ) []
+
+-- the part of the plane that is seen, with room for so many bars
+abbrev pub view_box : (bars : ℕ) → List ℕ
+view_box bars = codes "0 0 400 " ++ decimal (bars * 36)
+
+abbrev pub attributes_of : (view : List ℕ) → List Attribute
+attributes_of view = at (codes "role") (codes "img") ∷ at (codes "viewBox") view ∷ []
+
+abbrev pub picture_attributes : (bars : ℕ) → List Attribute
+picture_attributes bars = attributes_of (view_box bars)
+
+abbrev pub picture : SheetList → (full : ℕ) → Row → Trees
+picture v full row =
+    el (codes "svg") (picture_attributes (length v.names)) (
+    picture_title row.round ∷ each (bar v full row) (places (length v.names))
+    ∷ quota_line (scaled full row.quota) (length v.names) ∷ []
+    )
+
+-- the quota, and what is left on no candidate
+abbrev pub amounts_text : (quota left : ℕ) → Trees
+amounts_text quota left =
+    el (codes "p") [] (
+    words (codes "Quota ") ∷ words (text_of 9 quota) ∷ words (codes ": the broken line. On no candidate: ")
+    ∷ words (text_of 9 left) ∷ words (codes ".") ∷ []
+    )
+
+abbrev pub amounts_of : (ballots : ℕ) → Row → Trees
+amounts_of ballots row = amounts_text row.quota (left_over ballots row)
+
+abbrev pub round_picture : SheetList → (full : ℕ) → Row → Trees
+round_picture v full row = all (amounts_of v.ballots row ∷ picture v full row ∷ [])
