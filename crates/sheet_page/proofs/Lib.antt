@@ -7,3 +7,9 @@ mod Owing
 mod WordLemmas
 mod CsvLemmas
 mod JsonTexts
+mod JsonReads
+mod AmountTexts
+mod FieldWords
+mod RecordRuns
+mod RowFields
+mod TableValues

@@ -1,10 +1,38 @@
--- What holds of every page.
-use Rattle.std.specs.Prelude.{◌≡◌, true, [], Some, None}
-use Rattle.page_tree.specs.Print.{printed}
+-- What holds of every page, of every table and of every string of JSON.
+use Rattle.std.specs.Prelude.{◌≡◌, ◌↔◌, ◌⊎◌, ℕ, List, true, [], ◌++◌, Some, None}
+use Rattle.csv_text.specs.Reading.{read, Outside}
+use Rattle.page_tree.specs.Print.{printed, readable}
 use Rattle.page_tree.specs.Reading.{nests}
+use Rattle.sheet_reader.specs.Form.{IsPrintable}
 use Rattle.sheet_reader.specs.Values.{SheetList}
+use Rattle.sheet_page.specs.Csv.{csv_of, csv_records}
 use Rattle.sheet_page.specs.Html.{page}
+use Rattle.sheet_page.specs.JsonReading.{read_string}
+use Rattle.sheet_page.specs.JsonText.{string_text}
 
 -- elements nest, and each is closed
 abbrev pub PagesNest : Type 0
 PagesNest = (v : SheetList) → nests (Some []) None (printed (page v)) ≡ true
+
+-- ---- tables
+
+-- Who reads the table of a sheet has its records: the head, and one for each candidate of each iteration.
+abbrev pub TablesAreReadBack : Type 0
+TablesAreReadBack = (v : SheetList) → read [] (Outside []) (csv_of v) ≡ csv_records v
+
+-- Two sheets are alike but for title, seats and ballots. Where there is no iteration, who stands and what became of them may differ too.
+pub record HaveOneTable (v w : SheetList) : Type 0 where
+  pub iterations : v.rows ≡ w.rows
+  pub candidates : (v.rows ≡ []) ⊎ ((v.names ≡ w.names) × (v.last ≡ w.last))
+
+-- A table says every iteration whole, and where there is one the names and the last states; and nothing else.
+abbrev pub TablesSayTheirSheets : Type 0
+TablesSayTheirSheets =
+    (v w : SheetList) → IsPrintable 9 v → IsPrintable 9 w → (csv_of v ≡ csv_of w) ↔ HaveOneTable v w
+
+-- ---- strings of JSON
+
+-- Whatever bytes a text holds, and whatever stands behind its string: who reads the string has the text, with the replacement sign for each piece
+-- that is no UTF-8, and knows where the string ends.
+abbrev pub StringsAreReadBack : Type 0
+StringsAreReadBack = (text rest : List ℕ) → read_string (string_text text ++ rest) ≡ Some (readable text, rest)

@@ -2,6 +2,7 @@ pub mod Prints
 pub mod Cells
 pub mod Values
 pub mod JsonText
+pub mod JsonReading
 pub mod Pieces
 pub mod Csv
 pub mod Json

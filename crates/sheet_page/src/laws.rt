@@ -1,6 +1,7 @@
-// What holds of every page.
-ghost use Rattle.sheet_page.specs.Laws.{PagesNest};
+// What holds of every page, of every table and of every string of JSON.
+ghost use Rattle.sheet_page.specs.Laws.{PagesNest, StringsAreReadBack, TablesAreReadBack, TablesSayTheirSheets};
 
+use csv_text::csv_laws;
 use page_tree::page_laws;
 
 /// The elements of every page nest, and each is closed. The call does nothing.
@@ -9,3 +10,17 @@ pub fn pages_nest()
 {
     page_laws();
 }
+
+/// The table of a sheet is read back as its records, and these say every iteration as it was, with the
+/// names and the last states: sheets that differ in them have different tables. The call does nothing.
+pub fn tables_are_read_back()
+    ensures records { TablesAreReadBack }
+    ensures values { TablesSayTheirSheets }
+{
+    csv_laws();
+}
+
+/// A string of JSON is read back as its text, and it ends where the reader says. The call does nothing.
+pub fn strings_are_read_back()
+    ensures { StringsAreReadBack }
+{}

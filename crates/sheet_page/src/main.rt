@@ -26,7 +26,7 @@ mod words;
 
 use byte_edge::{StdSink, StdSource};
 pub use format::Format;
-pub use laws::pages_nest;
+pub use laws::{pages_nest, strings_are_read_back, tables_are_read_back};
 pub use page_end::PageEnd;
 use std::io::{self, BufWriter};
 use std::process::ExitCode;

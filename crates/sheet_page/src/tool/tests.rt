@@ -3,6 +3,9 @@ use super::*;
 use byte_edge::{MemorySink, MemorySource};
 use std::test::Fail;
 
+mod ties;
+mod transfer;
+
 const ONE: &[u8] = b"title A & B\nseats 1\ncandidates 1\nballots 0\nresult\n1 elected <Ann>\nend\n";
 
 const SAMPLE: &[u8] =

@@ -1,0 +1,53 @@
+-- The text of an amount says it.
+use Rattle.std.proofs.Common.{◌≡◌, ◌∙◌, refl, sym, ap, ℕ, ◌+◌, ◌*◌, ◌/◌, ◌%◌, ◌^◌, ◌<◌, ◌≤◌, zero, suc, List, [], ◌∷◌, ◌++◌, length, arith, length-append, pow-suc}
+use Rattle.std.specs.Prelude.{decimal}
+use Rattle.std.proofs.lemmas.Fmt.{decimal_injective}
+use Rattle.std.proofs.lemmas.Nat.{pow-add, div-add-mod'}
+use Rattle.std.proofs.Math.Nat.{div-le_of_le-mul, mod-lt}
+use Rattle.fixed_place.specs.Rounding.{scale, most}
+use Rattle.fixed_place.specs.Text.{text_of, last_digits}
+
+pub heads : {A : Type 0} (a b : A) (xs ys : List A) → a ∷ xs ≡ b ∷ ys → (a ≡ b) × (xs ≡ ys)
+heads a b xs ys e = (cc, cc)
+
+-- fronts of the same length are cut off in one way
+fronts : (xs ys rest others : List ℕ) → length xs ≡ length ys → xs ++ rest ≡ ys ++ others → (xs ≡ ys) × (rest ≡ others)
+fronts [] [] rest others long e = (refl, e)
+fronts [] (y ∷ ys) rest others long e = absurd (omega (arith, long))
+fronts (x ∷ xs) [] rest others long e = absurd (omega (arith, long))
+fronts (x ∷ xs) (y ∷ ys) rest others long e =
+    let first = heads x y (xs ++ rest) (ys ++ others) e in
+    let more = fronts xs ys rest others (omega (arith, long)) first.1 in
+    ((λ i. first.0 i ∷ more.0 i), more.1)
+
+length-digits : (k n : ℕ) → length (last_digits k n) ≡ k
+unfolding last_digits
+length-digits zero n = refl
+length-digits (suc k) n =
+    length-append (last_digits k (n / 10)) ((48 + n % 10) ∷ []) ∙ omega (arith, length-digits k (n / 10))
+
+digits_say : (k n m : ℕ) → n < 10 ^ k → m < 10 ^ k → last_digits k n ≡ last_digits k m → n ≡ m
+unfolding last_digits
+digits_say zero n m below small e = omega (arith, below, small)
+digits_say (suc k) n m below small e =
+    let parts = fronts (last_digits k (n / 10)) (last_digits k (m / 10)) ((48 + n % 10) ∷ []) ((48 + m % 10) ∷ []) (length-digits k (n / 10) ∙ sym (length-digits k (m / 10))) e in
+    let last = heads (48 + n % 10) (48 + m % 10) [] [] parts.1 in
+    let others = digits_say k (n / 10) (m / 10) (omega (arith, pow-suc 10 k, below)) (omega (arith, pow-suc 10 k, small)) parts.0 in
+    omega (arith, last.0, others)
+
+votes_small : (u : ℕ) → u ≤ most 9 → u / scale 9 ≤ 1000000000
+votes_small u small = div-le_of_le-mul (scale 9) (omega (arith, pow-add 10 9 9, small))
+
+-- no two amounts are written alike
+pub amounts_say : (u w : ℕ) → u ≤ most 9 → w ≤ most 9 → text_of 9 u ≡ text_of 9 w → u ≡ w
+unfolding text_of
+amounts_say u w small few e =
+    let s = scale 9 in
+    let digits = last_digits 9 (u % s) in
+    let others = last_digits 9 (w % s) in
+    let long : length (decimal (u / s)) ≡ length (decimal (w / s)) =
+    omega (arith, ap (λ (t : List ℕ). length t) e, length-append (decimal (u / s)) (46 ∷ digits), length-append (decimal (w / s)) (46 ∷ others), length-digits 9 (u % s), length-digits 9 (w % s)) in
+    let parts = fronts (decimal (u / s)) (decimal (w / s)) (46 ∷ digits) (46 ∷ others) long e in
+    let whole = decimal_injective (u / s) (w / s) (omega (arith, votes_small u small)) (omega (arith, votes_small w few)) parts.0 in
+    let rest = digits_say 9 (u % s) (w % s) (mod-lt u (omega arith)) (mod-lt w (omega arith)) (heads 46 46 digits others parts.1).1 in
+    sym (div-add-mod' u s) ∙ (λ i. whole i * s + rest i) ∙ div-add-mod' w s
