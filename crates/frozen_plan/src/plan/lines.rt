@@ -12,7 +12,7 @@ use std::alloc::Global;
 
 impl Plan {
     /// The plan of the lines that were dealt to a shard. They are sorted, and equal ones
-    /// made one, on the way.
+    /// made one, on the way. Then they are let go, so that few shares stand beside the last plans.
     pub(crate) fn from_share(
         alloc: Global,
         candidates: u32,
@@ -29,6 +29,7 @@ impl Plan {
         let lines = share.lines.as_mut_slice();
         let kept = merge(ranks, lines);
         let rows = rows_of_lines(alloc, candidates, ranks, &mut lines[..kept])?;
+        *share = Share::new(alloc, 0)?;
         Ok(Plan { candidates, rows })
     }
 }
