@@ -5,7 +5,13 @@ mod StandLemmas
 mod RowLemmas
 mod PackLemmas
 mod PlanLemmas
+mod PartLemmas
+mod TakenLemmas
+mod OpenedLemmas
+mod TailLemmas
 mod MergeLemmas
+mod FirstLemmas
+mod RootLemmas
 mod LaneLemmas
 mod ClassLemmas
 mod TotalLemmas

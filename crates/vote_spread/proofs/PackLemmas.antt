@@ -1,14 +1,13 @@
 -- The steps of packing rows.
-use Rattle.std.proofs.Common.{◌≡◌, ℕ, ◌+◌, ◌-◌, ◌≤◌, List, [], ◌∷◌, ◌++◌, length, get_or, set, drop, take, map, replicate, arith, refl, ap, sym, subst, ◌∙◌, zero, suc, append_assoc}
-use Rattle.std.specs.List.{All}
-use Rattle.std.proofs.lemmas.List.{append-nil, length-append, length-map, nil_from_length, set_at, get_or_at, get_or-map}
+use Rattle.std.proofs.Common.{◌≡◌, ℕ, ◌+◌, ◌-◌, ◌≤◌, List, [], ◌∷◌, ◌++◌, length, get_or, set, drop, take, map, replicate, arith, refl, ap, sym, subst, ◌∙◌, append_assoc}
+use Rattle.std.proofs.lemmas.List.{append-nil, length-append, nil_from_length, set_at, get_or_at}
 use Rattle.frozen_plan.specs.declared.plan_row.PlanRow.{PlanRow}
 use Rattle.frozen_plan.specs.Forest.{Forest, Bare, Grown, ballots_of, through, rows_of, IsGrown}
 use Rattle.frozen_plan.proofs.ReadLemmas.{length-ballots_of}
 use Rattle.vote_spread.specs.Stem.{Stem, stem_of_row, closed_stem}
 use Rattle.vote_spread.specs.Packed.{StandFor, nodes_of, AreRows, HasAdded}
-use Rattle.vote_spread.proofs.StandLemmas.{stand-nothing, stand-append, stand-node, stand-tail}
-use Rattle.vote_spread.proofs.RowLemmas.{nodes_of-rows_of, rows_of_forest, parted_rows, candidates, last_ballots, map-same, run}
+use Rattle.vote_spread.proofs.StandLemmas.{stand-nothing, stand-append, stand-node}
+use Rattle.vote_spread.proofs.RowLemmas.{nodes_of-rows_of, rows_of_forest, parted_rows}
 
 -- Of rows at depth d of n candidates, those before `rest` are packed.
 pub record ArePacked (n d : ℕ) (rows rest : List PlanRow) (added : List Stem) : Type 0 where
@@ -98,63 +97,6 @@ below_node n d rows are one =
     let whole : IsGrown n are.low d (Grown one.candidate one.ends one.inner Bare) = subst (IsGrown n are.low d) one.says are.grown in
     let few : through (Grown one.candidate one.ends one.inner Bare) ≤ 999999999 = subst (λ (g : Forest). through g ≤ 999999999) one.says are.few in
     subst (λ (l : List PlanRow). AreRows n (d + 1) (drop 1 l)) (sym one.are) (rows_of_forest n (d + 1) 0 one.inner whole.4 (omega arith))
-
--- A node whose last row has as many ballots as the first is a stem with a tail.
-pub record IsTailed (d : ℕ) (rows : List PlanRow) (first : PlanRow) : Type 0 where
-  pub short : length (drop 1 rows) ≤ 250
-  pub known : All (λ r. r.candidate ≤ 250) (drop 1 rows)
-  pub added : (old : List Stem) → HasAdded d rows old (old ++ stem_of_row d first (drop 1 rows) ∷ [])
-
-last_at : (x : PlanRow) (xs : List PlanRow) (e : PlanRow) (i : ℕ) → i ≡ length xs → (get_or (x ∷ xs) i e).ballots ≡ last_ballots x.ballots xs
-last_at x [] e i at = ap (λ n. (get_or (x ∷ []) n e).ballots) at
-last_at x (y ∷ ys) e zero at = absurd (omega arith)
-last_at x (y ∷ ys) e (suc i) at = last_at y ys e i (omega arith)
-
-tail_of : (d c k : ℕ) (inner : Forest) (rows : List PlanRow) (low : ℕ) → 1 ≤ d → IsGrown 250 low d (Grown c k inner Bare) → last_ballots (k + through inner) (rows_of (d + 1) inner) ≡ k + through inner → nodes_of rows ≡ Grown c k inner Bare → drop 1 rows ≡ rows_of (d + 1) inner → IsTailed d rows (record { depth = d; candidate = c; ballots = k + through inner; skip = length (rows_of (d + 1) inner) + 1 })
-tail_of d c k inner rows low pos grown last says rest =
-    let below = rows_of (d + 1) inner in
-    let m = k + through inner in
-    let first : PlanRow = record { depth = d; candidate = c; ballots = m; skip = length below + 1 } in
-    let ranks = candidates below in
-    let stem : Stem = stem_of_row d first below in
-    let among = run 250 0 (d + 1) k m inner (omega (arith, grown.2)) grown.4 refl last in
-    let known : All (λ (r : PlanRow). r.candidate ≤ 250) below =
-    λ i e lt.
-    let at : get_or ranks i 0 ≡ (get_or below i e).candidate = get_or-map (λ (r : PlanRow). r.candidate) below i e 0 lt in
-    omega (arith, among.known i 0 (omega (arith, length-map below (λ (r : PlanRow). r.candidate)))) in
-    record {
-      short = omega (arith, among.short, ap length rest);
-      known = subst (All (λ (r : PlanRow). r.candidate ≤ 250)) (sym rest) known;
-      added =
-          λ old. record {
-            added = stem ∷ [];
-            is = ap (λ (l : List PlanRow). old ++ stem_of_row d first l ∷ []) rest;
-            stand =
-                λ n low' all.
-                let whole : IsGrown n low' d (Grown c k inner Bare) = subst (IsGrown n low' d) says all in
-                let alike = run n 0 (d + 1) k m inner (omega (arith, grown.2)) whole.4 refl last in
-                let ballots : replicate m (c ∷ ranks) ≡ ballots_of (nodes_of rows) =
-                sym
-                (ap ballots_of says
-                ∙ (append-nil (map (λ r. c ∷ r) (replicate k [] ++ ballots_of inner))
-                ∙ (ap (map (λ r. c ∷ r)) alike.alike ∙ map-same m (λ r. c ∷ r) ranks))) in
-                subst (StandFor n d (stem ∷ [])) ballots (stand-tail n d c m ranks pos (omega (arith, alike.short, length-map below (λ (r : PlanRow). r.candidate))) (omega (arith, whole.0)) whole.1 alike.known);
-          };
-    }
-
-pub tail_node : (n d : ℕ) (rows : List PlanRow) (e : PlanRow) → AreRows 250 d rows → 1 ≤ d → 1 ≤ length rows → (get_or rows 0 e).skip ≡ length rows → (get_or rows (length rows - 1) e).ballots ≡ (get_or rows 0 e).ballots → IsTailed d rows (get_or rows 0 e)
-tail_node n d rows e are pos some one last =
-    let o = one_node 250 d rows e are some one in
-    let below = rows_of (d + 1) o.inner in
-    let m = o.ends + through o.inner in
-    let first : PlanRow = record { depth = d; candidate = o.candidate; ballots = m; skip = length below + 1 } in
-    let head : get_or rows 0 e ≡ first = ap (λ (l : List PlanRow). get_or l 0 e) o.are in
-    let size : length rows - 1 ≡ length below = omega (arith, ap length o.are) in
-    let ends : last_ballots m below ≡ m =
-    sym (last_at first below e (length rows - 1) size)
-    ∙ (sym (ap (λ (l : List PlanRow). (get_or l (length rows - 1) e).ballots) o.are) ∙ (last ∙ ap (λ (r : PlanRow). r.ballots) head)) in
-    subst (IsTailed d rows) (sym head)
-    (tail_of d o.candidate o.ends o.inner rows are.low pos (subst (IsGrown 250 are.low d) o.says are.grown) ends o.says (ap (drop 1) o.are))
 
 closed_of : (d c k : ℕ) (inner : Forest) (rows : List PlanRow) (f : Stem) (old now : List Stem) (at : ℕ) → 1 ≤ d → nodes_of rows ≡ Grown c k inner Bare → drop 1 rows ≡ rows_of (d + 1) inner → at ≡ length old → HasAdded (d + 1) (drop 1 rows) (old ++ record { depth = d; candidate = c; ballots = k + through inner; skip = 1; tail = [] } ∷ []) now → HasAdded d rows old (set now at (closed_stem (get_or now at f) (length now - at)))
 closed_of d c k inner rows f old now at pos says rest place below =

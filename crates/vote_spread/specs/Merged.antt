@@ -1,5 +1,5 @@
 -- Siblings of several plans that are packed together.
-use Rattle.std.specs.Prelude.{◌≡◌, ℕ, ◌≤◌, ◌==◌, Bool, false, if◌then◌else◌, List, [], ◌∷◌, ◌++◌, All, length, take, drop, slice_index_or}
+use Rattle.std.specs.Prelude.{◌≡◌, ℕ, ◌≤◌, ◌==◌, Bool, false, if◌then◌else◌, List, [], ◌∷◌, ◌++◌, All, ◌-◌, length, map, take, drop, slice_index_or}
 use Rattle.std.specs.List.{flat_map}
 use Rattle.frozen_plan.specs.declared.plan_row.PlanRow.{PlanRow}
 use Rattle.frozen_plan.specs.Forest.{ballots_of, IsGrown}
@@ -40,6 +40,15 @@ pub record IsAlone (c : ℕ) (rows : List PlanRow) : Type 0 where
   pub some : 1 ≤ length rows
   pub whole : (d : PlanRow) → (slice_index_or rows 0 d).skip ≡ length rows
   pub candidate : (d : PlanRow) → (slice_index_or rows 0 d).candidate ≡ c
+
+-- all ballots of the node of these rows go on with the candidates of other rows
+pub record GoesOnLike (other rows : List PlanRow) : Type 0 where
+  pub to_the_end : (d : PlanRow) → (slice_index_or rows (length rows - 1) d).ballots ≡ (slice_index_or rows 0 d).ballots
+  pub same : map (λ r. r.candidate) rows ≡ map (λ r. r.candidate) other
+
+-- all ballots of several nodes go on alike
+abbrev pub AreAlike : List (List PlanRow) → Type 0
+AreAlike nodes = (d : List PlanRow) → All (GoesOnLike (slice_index_or nodes 0 d)) nodes
 
 -- rows at depth d say nodes of n candidates
 pub record AreOfAll (n d : ℕ) (rows : List PlanRow) : Type 0 where

@@ -2,6 +2,7 @@
 #![tactic(auto)]
 
 mod admission;
+mod alike;
 mod branch;
 mod branches;
 mod class;

@@ -1,41 +1,46 @@
 // Siblings of several plans packed together.
-ghost use Rattle.std.specs.Prelude.{◌≡◌, ◌≤◌, ◌⊎◌, [], ◌++◌, ℕ, None, All, IfNone, IfOk, IfSome, OnOk, drop, length, map, sum_by};
+ghost use Rattle.std.specs.Prelude.{◌≡◌, ◌+◌, ◌-◌, ◌*◌, ◌≤◌, ◌<◌, ◌⊎◌, [], ◌++◌, ℕ, None, All, IfNone, IfSome, OnOk, drop, length, map, sum_by, take};
 ghost use Rattle.std.specs.List.{flat_map};
 ghost use Rattle.vote_spread.specs.Merged.{behind, first_ballots, front, AreParts, HasMerged, IsAlone};
 ghost use Rattle.vote_spread.specs.Packed.{AreRows};
 
 use crate::NoMemory;
+use crate::alike::go_on_alike;
 use crate::branches::Branches;
 use crate::pack::pack_node;
-use crate::part::{Part, push_part};
+use crate::part::Part;
 use frozen_plan::PlanRow;
-use std::alloc::Global;
 
 /// Packs siblings of several plans at a depth and all below them. Those of one candidate are one branch.
+/// In the room lie the nodes that are on their way, those of each depth behind those above.
 #[cycle(merge)]
-pub(crate) fn merge(
-    alloc: Global,
-    parts: &mut [Part],
+pub(crate) fn merge<'a>(
+    parts: &mut [Part<'a>],
+    room: &mut [Part<'a>],
     depth: u16,
     branches: &mut Branches,
 ) -> Result<(), NoMemory>
     requires depth { (1 ≤ depth) × (depth ≤ 251) }
     requires parts { AreParts depth parts.old }
-    ensures { OnOk result (HasMerged depth parts.old branches.old branches.new) }
+    requires room { (252 - depth) * length parts.old ≤ length room.old }
+    ensures merged { OnOk result (HasMerged depth parts.old branches.old branches.new) }
+    ensures as_many { OnOk result (length parts.new ≡ length parts.old) }
+    ensures as_much_room { OnOk result (length room.new ≡ length room.old) }
 {
     while let Some(candidate) = least(parts) {
-        let mut nodes = take_nodes(alloc, candidate, parts)?;
-        merge_nodes(alloc, candidate, nodes.as_mut_slice(), depth, branches)?;
+        let many = take_nodes(candidate, parts, room);
+        let (nodes, deeper) = room.split_at_mut(many);
+        merge_nodes(candidate, nodes, deeper, depth, branches)?;
     }
     Ok(())
 }
 
 /// Packs nodes of one candidate, of several plans, and all below them.
 #[cycle(merge)]
-fn merge_nodes(
-    alloc: Global,
+fn merge_nodes<'a>(
     candidate: u16,
-    nodes: &mut [Part],
+    nodes: &mut [Part<'a>],
+    room: &mut [Part<'a>],
     depth: u16,
     branches: &mut Branches,
 ) -> Result<(), NoMemory>
@@ -43,21 +48,29 @@ fn merge_nodes(
     requires nodes { AreParts depth nodes.old }
     requires some { 1 ≤ length nodes.old }
     requires alone { All (IsAlone candidate) nodes.old }
-    ensures { OnOk result (HasMerged depth nodes.old branches.old branches.new) }
+    requires room { (251 - depth) * length nodes.old ≤ length room.old }
+    ensures merged { OnOk result (HasMerged depth nodes.old branches.old branches.new) }
+    ensures as_many { OnOk result (length nodes.new ≡ length nodes.old) }
+    ensures as_much_room { OnOk result (length room.new ≡ length room.old) }
 {
     if nodes.len() == 1 {
         return pack_node(nodes[0].rows(), depth, branches);
     }
+    let alike = go_on_alike(nodes);
     let ballots = open_all(nodes);
-    let at = branches.len();
     let row = PlanRow {
         depth,
         candidate,
         ballots,
         skip: 1,
     };
+    if alike {
+        branches.push(depth, row, nodes[0].rows())?;
+        return Ok(());
+    }
+    let at = branches.len();
     branches.push(depth, row, &[])?;
-    merge(alloc, nodes, depth + 1, branches)?;
+    merge(nodes, room, depth + 1, branches)?;
     branches.close(at);
     Ok(())
 }
@@ -86,37 +99,40 @@ fn lesser(one: Option<u16>, other: Option<u16>) -> Option<u16>
     }
 }
 
-/// Takes the next sibling of each part out, where it is of this candidate.
-fn take_nodes<'a>(
-    alloc: Global,
-    candidate: u16,
-    parts: &mut [Part<'a>],
-) -> Result<Vec<Part<'a>>, NoMemory>
-    requires { (d : ℕ) × All (AreRows 250 d) parts.old }
-    ensures nodes { IfOk result (λ nodes. nodes.items ≡ flat_map (front candidate) parts.old) }
-    ensures behind { OnOk result (parts.new ≡ map (behind candidate) parts.old) }
+/// Takes the next sibling of each part out to the front of the room, where it is of this candidate, and
+/// gives how many there are.
+fn take_nodes<'a>(candidate: u16, parts: &mut [Part<'a>], room: &mut [Part<'a>]) -> usize
+    requires rows { (d : ℕ) × All (AreRows 250 d) parts.old }
+    requires room { length parts.old ≤ length room.old }
+    ensures nodes { take result room.new ≡ flat_map (front candidate) parts.old }
+    ensures few { result ≤ length parts.old }
+    ensures as_much_room { length room.new ≡ length room.old }
+    ensures behind { parts.new ≡ map (behind candidate) parts.old }
 {
-    let mut nodes = Vec::new(alloc);
+    let mut many = 0;
     for part in parts.iter_mut() {
-        take_node(candidate, part, &mut nodes)?;
+        many = take_node(candidate, part, many, room);
     }
-    Ok(nodes)
+    many
 }
 
-/// Takes the next sibling of a part out, where it is of this candidate.
-fn take_node<'a>(
-    candidate: u16,
-    part: &mut Part<'a>,
-    nodes: &mut Vec<Part<'a>>,
-) -> Result<(), NoMemory>
-    requires { (d : ℕ) × AreRows 250 d part.old }
-    ensures node { OnOk result (nodes.new.items ≡ nodes.old.items ++ front candidate part.old) }
-    ensures behind { OnOk result (part.new ≡ behind candidate part.old) }
+/// Takes the next sibling of a part out to place `at` of the room, where it is of this candidate, and
+/// gives the place behind.
+fn take_node<'a>(candidate: u16, part: &mut Part<'a>, at: usize, room: &mut [Part<'a>]) -> usize
+    requires rows { (d : ℕ) × AreRows 250 d part.old }
+    requires room { at < length room.old }
+    ensures node { take result room.new ≡ take at room.old ++ front candidate part.old }
+    ensures next { result ≤ at + 1 }
+    ensures as_much_room { length room.new ≡ length room.old }
+    ensures behind { part.new ≡ behind candidate part.old }
 {
-    let Some(node) = part.take(candidate) else {
-        return Ok(());
-    };
-    push_part(nodes, node)
+    match part.take(candidate) {
+        Some(node) => {
+            room[at] = node;
+            at + 1
+        }
+        None => at,
+    }
 }
 
 /// Leaves the first row of each node out, and gives how many ballots go through all nodes.

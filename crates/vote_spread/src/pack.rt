@@ -1,5 +1,5 @@
 // The rows of plans, packed.
-ghost use Rattle.std.specs.Prelude.{◌≡◌, ℕ, ◌≤◌, All, IfOk, OnOk, drop, length, map, slice_index_or};
+ghost use Rattle.std.specs.Prelude.{◌≡◌, ℕ, ◌≤◌, ◌*◌, All, IfOk, OnOk, drop, length, map, slice_index_or, vec_len};
 ghost use Rattle.frozen_plan.specs.Plan.{all_ballots, IsPlan};
 ghost use Rattle.vote_spread.specs.Packed.{AreRows, HasAdded, StandFor};
 
@@ -17,8 +17,25 @@ pub(crate) fn pack_plans(alloc: Global, plans: Plans) -> Result<Branches, NoMemo
 {
     let mut branches = Branches::new(alloc);
     let mut parts = parts_of(alloc, plans.items())?;
-    merge(alloc, parts.as_mut_slice(), 1, &mut branches)?;
+    let mut room = room_for(alloc, parts.len())?;
+    merge(parts.as_mut_slice(), room.as_mut_slice(), 1, &mut branches)?;
     Ok(branches)
+}
+
+/// Room for the nodes of so many parts on their way, at each depth as many.
+fn room_for<'a>(alloc: Global, parts: usize) -> Result<Vec<Part<'a>>, NoMemory>
+    ensures { IfOk result (λ room. vec_len room ≡ 251 * parts) }
+{
+    let Some(len) = parts.checked_mul(251) else {
+        return Err(NoMemory);
+    };
+    let Ok(mut room) = Vec::with_capacity(alloc, len) else {
+        return Err(NoMemory);
+    };
+    for _ in 0..len {
+        room.push_reserved(Part::new(&[]));
+    }
+    Ok(room)
 }
 
 /// The siblings below the roots of plans.

@@ -1,10 +1,12 @@
-use Rattle.std.proofs.Common.{◌+◌, ◌*◌, ◌≤◌, length, sum_by}
+use Rattle.std.proofs.Common.{◌≡◌, ◌+◌, ◌*◌, ◌≤◌, length, sum_by}
 use Rattle.vote_spread.proofs.MergeLemmas.{IsMerging}
 use Rattle.vote_spread.proofs.merge.+merge.Given as goal
 
 abbrev pub invariant-merge-loop-candidate : goal.invariant-merge-loop-candidate
 invariant-merge-loop-candidate l = record {
   fewer : sum_by (λ rows. length rows) l.parts ≤ sum_by (λ rows. length rows) l.fn.parts;
+  as_many : length l.parts ≡ length l.fn.parts;
+  as_much_room : length l.room ≡ length l.fn.room;
   merging : IsMerging l.depth l.fn.parts l.parts l.fn.branches l.branches;
 }
 

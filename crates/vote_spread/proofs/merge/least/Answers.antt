@@ -1,7 +1,7 @@
 use Rattle.std.proofs.Common.{◌≡◌, ℕ, ◌+◌, ◌<◌, List, [], ◌∷◌, ◌++◌, length, take, arith, ap, sym, subst, ◌∙◌}
 use Rattle.std.proofs.lemmas.List.{take_more}
 use Rattle.frozen_plan.specs.declared.plan_row.PlanRow.{PlanRow}
-use Rattle.vote_spread.proofs.MergeLemmas.{IsFirst, first-none, first-more}
+use Rattle.vote_spread.proofs.FirstLemmas.{IsFirst, first-none, first-more}
 use Rattle.vote_spread.proofs.merge.least.Goals as goal
 
 pub loop-part-init : goal.loop-part-init

@@ -4,7 +4,7 @@ use Rattle.std.proofs.lemmas.List.Edits.{map_over_more}
 use Rattle.std.proofs.lemmas.List.Sums.{sum_by-append, sum_by-cons, sum_by_more_le}
 use Rattle.frozen_plan.specs.declared.plan_row.PlanRow.{PlanRow}
 use Rattle.vote_spread.specs.Merged.{first_ballots}
-use Rattle.vote_spread.proofs.MergeLemmas.{item_is}
+use Rattle.vote_spread.proofs.PartLemmas.{item_is}
 use Rattle.vote_spread.proofs.merge.open_all.Goals as goal
 
 abbrev low : List PlanRow → List PlanRow

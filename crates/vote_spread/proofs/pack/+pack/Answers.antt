@@ -4,7 +4,8 @@ use Rattle.frozen_plan.specs.declared.plan_row.PlanRow.{PlanRow}
 use Rattle.vote_spread.specs.Stem.{Stem, stem_of_row}
 use Rattle.vote_spread.specs.Packed.{HasAdded}
 use Rattle.vote_spread.proofs.RowLemmas.{parted_rows}
-use Rattle.vote_spread.proofs.PackLemmas.{underway-begin, underway-next, tail_node, closed_node}
+use Rattle.vote_spread.proofs.PackLemmas.{underway-begin, underway-next, closed_node}
+use Rattle.vote_spread.proofs.TailLemmas.{tail_node}
 use Rattle.vote_spread.proofs.pack.+pack.Goals as goal
 
 -- what stands past the end of some rows

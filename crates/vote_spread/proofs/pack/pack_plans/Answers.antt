@@ -4,7 +4,7 @@ use Rattle.frozen_plan.specs.declared.plan_row.PlanRow.{PlanRow}
 use Rattle.frozen_plan.specs.Plan.{PlanRows, IsPlan}
 use Rattle.vote_spread.specs.Stem.{Stem}
 use Rattle.vote_spread.specs.Merged.{AreParts, HasMerged}
-use Rattle.vote_spread.proofs.MergeLemmas.{parts_of_plans, merged_plans}
+use Rattle.vote_spread.proofs.RootLemmas.{parts_of_plans, merged_plans}
 use Rattle.vote_spread.proofs.pack.pack_plans.Goals as goal
 
 pub merge-requires-clause-parts : goal.merge-requires-clause-parts
@@ -23,5 +23,5 @@ returns c =
     c.as_mut_slice.ensures.value ∙ (c.in_ok-parts.ensures.parts ∙ ap (map (λ (plan : PlanRows). drop 1 plan.rows)) items) in
     let has : HasMerged 1 (map (λ (plan : PlanRows). drop 1 plan.rows) plans) [] c.merge.new.branches =
     subst (λ (l : List Stem). HasMerged 1 (map (λ (plan : PlanRows). drop 1 plan.rows) plans) l c.merge.new.branches) c.new-branches.ensures
-    (subst (λ (l : List (List PlanRow)). HasMerged 1 l c.new-branches.result c.merge.new.branches) parts c.in_ok-merge.ensures) in
+    (subst (λ (l : List (List PlanRow)). HasMerged 1 l c.new-branches.result c.merge.new.branches) parts c.in_ok-merge.ensures.merged) in
     λ n of_all. merged_plans n plans c.merge.new.branches (subst (λ (l : List PlanRows). All (λ (plan : PlanRows). IsPlan plan.candidates plan.rows) l) items c.in_ok-parts.ensures.plans) of_all has
