@@ -1,5 +1,5 @@
 -- What is accepted is not refused, and what is answered is owed.
-use Rattle.std.proofs.Common.{◌≡◌, ℕ, ◌≤◌, List, length, refl, sym, ◌∙◌, ap, subst, inl, inr}
+use Rattle.std.proofs.Common.{◌≡◌, ℕ, ◌≤◌, List, length, take, refl, sym, ◌∙◌, ap, subst, inl, inr}
 use Rattle.std.specs.Prelude.{Err}
 use Rattle.blt_reader.specs.declared.input_fault.InputFault.{InputFault}
 use Rattle.blt_reader.specs.declared.blt_stop.BltStop.{BltStop}
@@ -16,7 +16,7 @@ use Rattle.tool_edge.specs.Tools.{file_limit, IsContestFile, HaveOneOrder, Files
 use Rattle.blt_reader.specs.Election.{poll}
 use Rattle.sheet_check.specs.Input.{IsSplit}
 use Rattle.sheet_check.specs.Audit.{IsAudit, behind, IsRefusedBehind, EndsInSheet, IsRefusedAudit, ReadsBehind, OwesVerdict, IsOwedVerdict, audits}
-use Rattle.sheet_check.proofs.Splits.{file_once, sheet_once}
+use Rattle.sheet_check.proofs.Splits.{file_once, sheet_once, front_is_sheet}
 
 -- ---- soundness
 
@@ -95,7 +95,7 @@ owed_for_input lots input sheet file contest due bytes short split is (done, owe
     (short, (sheet, file, split, (poll contest.election, is.says, mine)))
 
 -- The verdict on the sheet is what is owed for the input.
-pub judged :
+judged :
     (lots input sheet file : List ℕ) (contest : Contest) (end : End) (sink : Writing) → length input ≤ file_limit
     → IsSplit input sheet file → IsContest lots file contest
     → FinishesOwed (IsOwedVerdict (poll contest.election) contest.lots sheet) end sink
@@ -103,3 +103,14 @@ pub judged :
 judged lots input sheet file contest end sink short split is (inl nothing) = inl nothing
 judged lots input sheet file contest end sink short split is (inr (due, bytes, owed, finishes)) =
     inr (due, bytes, owed_for_input lots input sheet file contest due bytes short split is owed, finishes)
+
+-- The same where the verdict is on what is left of the input without its file.
+pub judged_front :
+    (lots input sheet file front : List ℕ) (contest : Contest) (end : End) (sink : Writing) → length input ≤ file_limit
+    → IsSplit input sheet file → front ≡ take (length sheet) input → IsContest lots file contest
+    → FinishesOwed (IsOwedVerdict (poll contest.election) contest.lots front) end sink
+    → FinishesOwed (IsOwedFor audits lots input) end sink
+judged_front lots input sheet file front contest end sink short split same is finishes =
+    judged lots input sheet file contest end sink short split is
+    (subst (λ (s : List ℕ). FinishesOwed (IsOwedVerdict (poll contest.election) contest.lots s) end sink)
+    (same ∙ front_is_sheet input sheet file split) finishes)

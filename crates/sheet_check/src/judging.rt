@@ -33,16 +33,17 @@ const OMEGA: u64 = 1_000;
 
 /// The verdict on a text that is held to be the sheet of an election, whose lots are of its candidates. The
 /// count is run again by one worker; what it writes is compared with the text as it comes, and kept nowhere.
+/// The ballots are let go before the count begins.
 pub fn judge<R: Threads + Sync>(
     rt: &R,
     alloc: Global,
     bytes: &[u8],
-    election: &Election,
+    election: Election,
     lots: &Lots,
 ) -> Result<Verdict, NoMemory>
-    requires lots_of_all { length lots.now ≡ length election.now.roll.names }
-    requires ballots_of_all { election.now.ballots.candidates ≡ length election.now.roll.names }
-    ensures { IfOk result (IsVerdict 9 1000 (plain election.now.ballots.lines) election.now.roll lots.now bytes.now) }
+    requires lots_of_all { length lots.now ≡ length election.roll.names }
+    requires ballots_of_all { election.ballots.candidates ≡ length election.roll.names }
+    ensures { IfOk result (IsVerdict 9 1000 (plain election.ballots.lines) election.roll lots.now bytes.now) }
 {
     if !has_form(alloc, bytes)? {
         return Ok(Verdict::Malformed);
@@ -72,12 +73,12 @@ fn first_difference<R: Threads + Sync>(
     rt: &R,
     alloc: Global,
     bytes: &[u8],
-    election: &Election,
+    election: Election,
     lots: &Lots,
 ) -> Result<Option<u64>, NoMemory>
-    requires lots_of_all { length lots.now ≡ length election.now.roll.names }
-    requires ballots_of_all { election.now.ballots.candidates ≡ length election.now.roll.names }
-    ensures { IfOk result (Compares 9 1000 (plain election.now.ballots.lines) election.now.roll lots.now bytes.now) }
+    requires lots_of_all { length lots.now ≡ length election.roll.names }
+    requires ballots_of_all { election.ballots.candidates ≡ length election.roll.names }
+    ensures { IfOk result (Compares 9 1000 (plain election.ballots.lines) election.roll lots.now bytes.now) }
 {
     // The sheet of the plan's ballots is that of the file's.
     sheets_are_unique();
@@ -85,24 +86,25 @@ fn first_difference<R: Threads + Sync>(
         requires { lanes.now.scale ≡ scale 9 }
         ensures { HaveCounted lanes.entry.now lanes.exit.now }
     { lanes.run::<9, R, FreeGate>(rt, &FreeGate) };
-    let candidates = election.roll.candidates();
-    let plans = plan_of(alloc, &election.ballots)?;
+    let Election { roll, ballots } = election;
+    let candidates = roll.candidates();
+    let plans = plan_of(alloc, ballots)?;
     let Ok(mut spread) = PlanSpread::<9, _>::begin(alloc, plans, candidates, 1, run) else {
         return Err(NoMemory);
     };
-    difference_from_count(alloc, bytes, &election.roll, lots, &mut spread)
+    difference_from_count(alloc, bytes, &roll, lots, &mut spread)
 }
 
-/// One plan of all these ballots, which stay where they are.
-fn plan_of(alloc: Global, ballots: &Ballots) -> Result<Plans, NoMemory>
-    requires candidates { (1 ≤ ballots.now.candidates) × (ballots.now.candidates ≤ 250) }
-    ensures candidates { IfOk result (All (λ plan. plan.candidates ≡ ballots.now.candidates)) }
-    ensures ballots { IfOk result (λ plans. IsPermutation (all_ballots plans) (plain ballots.now.lines)) }
+/// One plan of all these ballots, which are let go.
+fn plan_of(alloc: Global, ballots: Ballots) -> Result<Plans, NoMemory>
+    requires candidates { (1 ≤ ballots.candidates) × (ballots.candidates ≤ 250) }
+    ensures candidates { IfOk result (All (λ plan. plan.candidates ≡ ballots.candidates)) }
+    ensures ballots { IfOk result (λ plans. IsPermutation (all_ballots plans) (plain ballots.lines)) }
     ensures few { IfOk result (λ plans. length (all_ballots plans) ≤ 999999999) }
 {
     lines_stand_for_ballots();
     let _sound = ballots.lines();
-    match Plans::dealt(alloc, ballots, 1) {
+    match Plans::dealt(alloc, &ballots, 1) {
         Ok(plans) => Ok(plans),
         Err(_) => Err(NoMemory),
     }

@@ -1,5 +1,5 @@
 // The tool that checks a sheet.
-ghost use Rattle.std.specs.Prelude.{◌≡◌, ◌≤◌, map, length};
+ghost use Rattle.std.specs.Prelude.{◌≡◌, ◌≤◌, map, length, take};
 ghost use Rattle.std.specs.String.{string_bytes};
 ghost use Rattle.tool_edge.specs.Finishing.{FinishesOwed};
 ghost use Rattle.tool_edge.specs.Streams.{reading, writing};
@@ -16,7 +16,7 @@ use byte_edge::{Sink, Source};
 use std::alloc::Global;
 use std::thread::Threads;
 use tool_edge::{
-    Contest, End, FILE_LIMIT, contests_are_not_refused, contests_are_refused_once,
+    Contest, End, FILE_LIMIT, Opened, contests_are_not_refused, contests_are_refused_once,
     files_are_not_refused, finish, open, refuse, refuse_input, takes_lots, words_have_one_order,
 };
 
@@ -37,39 +37,45 @@ pub fn check<R: Threads + Sync, S: Source, K: Sink>(
     contests_are_not_refused();
     contests_are_refused_once();
     let asked = takes_lots(alloc, words);
-    let opened = match open(alloc, asked, FILE_LIMIT, source, sink) {
+    let Opened { asked: lots, input } = match open(alloc, asked, FILE_LIMIT, source, sink) {
         Ok(opened) => opened,
         Err(end) => return end,
     };
-    check_input(
-        rt,
-        alloc,
-        opened.asked.items(),
-        opened.input.as_slice(),
-        sink,
-    )
+    check_input(rt, alloc, lots.items(), input, sink)
 }
 
-/// Checks the whole input.
-#[tactic(auto, using(crate::proofs::Splits::parts_fit, crate::proofs::Audits::ended_early, crate::proofs::Audits::refused_behind, crate::proofs::Audits::judged))]
+/// Checks the whole input. The bytes of the ballot file are let go before anything is made of the ballots.
+#[tactic(auto, using(crate::proofs::Splits::parts_fit, crate::proofs::Audits::ended_early, crate::proofs::Audits::refused_behind))]
 fn check_input<R: Threads + Sync, K: Sink>(
     rt: &R,
     alloc: Global,
     lots: &[u32],
-    input: &[u8],
+    mut input: Vec<u8>,
     sink: &mut K,
 ) -> End
-    requires { length input.now ≤ 67108864 }
-    ensures { FinishesOwed (IsOwedFor audits lots.now input.now) result
+    requires { length input.items ≤ 67108864 }
+    ensures { FinishesOwed (IsOwedFor audits lots.now input.items) result
         (writing K.written K.faults sink.old sink.new) }
 {
-    let Some((sheet, file)) = split(input) else {
+    let Some((sheet, file)) = split(input.as_slice()) else {
         return refuse(sink, ended(input.len()));
     };
-    match contest_behind(alloc, sheet.len(), lots, file) {
-        Ok(contest) => write_verdict(rt, alloc, sheet, &contest, sink),
+    let len = sheet.len();
+    match contest_behind(alloc, len, lots, file) {
+        Ok(contest) => {
+            keep_front(&mut input, len);
+            write_verdict(rt, alloc, input.as_slice(), contest, sink)
+        }
         Err(stop) => refuse_input(sink, stop),
     }
+}
+
+/// Leaves so many bytes at the front of a text, and gives up the memory of the others.
+fn keep_front(text: &mut Vec<u8>, len: usize)
+    ensures { text.new.items ≡ take len text.old.items }
+{
+    text.truncate(len);
+    text.shrink_to_fit();
 }
 
 /// The fault of an input in which no line is `end`.
@@ -87,15 +93,16 @@ fn write_verdict<R: Threads + Sync, K: Sink>(
     rt: &R,
     alloc: Global,
     sheet: &[u8],
-    contest: &Contest,
+    contest: Contest,
     sink: &mut K,
 ) -> End
-    requires lots_of_all { length contest.now.lots ≡ length contest.now.election.roll.names }
-    requires ballots_of_all { contest.now.election.ballots.candidates ≡ length contest.now.election.roll.names }
-    ensures { FinishesOwed (IsOwedVerdict (poll contest.now.election) contest.now.lots sheet.now) result
+    requires lots_of_all { length contest.lots ≡ length contest.election.roll.names }
+    requires ballots_of_all { contest.election.ballots.candidates ≡ length contest.election.roll.names }
+    ensures { FinishesOwed (IsOwedVerdict (poll contest.election) contest.lots sheet.now) result
         (writing K.written K.faults sink.old sink.new) }
 {
-    match judge(rt, alloc, sheet, &contest.election, &contest.lots) {
+    let Contest { election, lots } = contest;
+    match judge(rt, alloc, sheet, election, &lots) {
         Ok(verdict) => finish(sink, End::Done, verdict_line(verdict).bytes()),
         Err(_) => End::NoMemory,
     }

@@ -3,14 +3,19 @@ use crate::sample::{FILE, sheet};
 use blt_reader::read_blt;
 use std::test::Fail;
 
+/// The verdict on a text that is held to be the sheet of the sample election.
+fn verdict_on<R: Threads + Sync>(rt: &R, alloc: Global, text: &[u8]) -> Result<Verdict, Fail> {
+    let election = read_blt(alloc, FILE)?;
+    let lots = Lots::try_new(alloc, &[1, 2, 3, 4], 4)?;
+    if election.roll.candidates() != 4 || election.ballots.candidates() != 4 {
+        return Err(Fail::from("the sample has four candidates"));
+    }
+    Ok(judge(rt, alloc, text, election, &lots)?)
+}
+
 #[test]
 fn a_sheet_gets_its_verdict(rt: HostRuntime) -> Result<(), Fail> {
     let alloc = rt.alloc();
-    let election = read_blt(alloc, FILE)?;
-    let lots = Lots::try_new(alloc, &[1, 2, 3, 4], 4)?;
-    assert_eq!(rt; election.roll.candidates(), 4);
-    assert_eq!(rt; election.ballots.candidates(), 4);
-    assert_eq!(rt; lots.candidates(), 4);
     let cases: [(&[u8], &[u8], Verdict); 3] = [
         (b"01", b"6", Verdict::True),
         (b"01", b"7", Verdict::False(27)),
@@ -18,10 +23,7 @@ fn a_sheet_gets_its_verdict(rt: HostRuntime) -> Result<(), Fail> {
     ];
     for (quota, votes, verdict) in cases {
         let text = sheet(alloc, quota, votes)?;
-        assert_eq!(rt;
-            judge(&rt, alloc, text.as_slice(), &election, &lots)?,
-            verdict
-        );
+        assert_eq!(rt; verdict_on(&rt, alloc, text.as_slice())?, verdict);
     }
     Ok(())
 }
@@ -112,11 +114,6 @@ fn joined(alloc: Global, line: &[u8], other: &[u8]) -> Result<Vec<u8>, Fail> {
 #[test]
 fn each_changed_byte_gets_its_verdict(rt: HostRuntime) -> Result<(), Fail> {
     let alloc = rt.alloc();
-    let election = read_blt(alloc, FILE)?;
-    let lots = Lots::try_new(alloc, &[1, 2, 3, 4], 4)?;
-    assert_eq!(rt; election.roll.candidates(), 4);
-    assert_eq!(rt; election.ballots.candidates(), 4);
-    assert_eq!(rt; lots.candidates(), 4);
     let text = sheet(alloc, b"01", b"6")?;
     let form = form(alloc)?;
     assert_eq!(rt; text.len(), form.len());
@@ -130,7 +127,7 @@ fn each_changed_byte_gets_its_verdict(rt: HostRuntime) -> Result<(), Fail> {
                 } else {
                     Verdict::Malformed
                 };
-                let verdict = judge(&rt, alloc, changed.as_slice(), &election, &lots)?;
+                let verdict = verdict_on(&rt, alloc, changed.as_slice())?;
                 assert_eq!(rt; (at, *other, verdict), (at, *other, due));
             }
         }
@@ -147,11 +144,6 @@ fn each_changed_byte_gets_its_verdict(rt: HostRuntime) -> Result<(), Fail> {
 #[test]
 fn each_moved_line_gets_its_verdict(rt: HostRuntime) -> Result<(), Fail> {
     let alloc = rt.alloc();
-    let election = read_blt(alloc, FILE)?;
-    let lots = Lots::try_new(alloc, &[1, 2, 3, 4], 4)?;
-    assert_eq!(rt; election.roll.candidates(), 4);
-    assert_eq!(rt; election.ballots.candidates(), 4);
-    assert_eq!(rt; lots.candidates(), 4);
     let text = sheet(alloc, b"01", b"6")?;
     for n in 1..39 {
         let line = nth_line(alloc, text.as_slice(), n)?;
@@ -162,14 +154,11 @@ fn each_moved_line_gets_its_verdict(rt: HostRuntime) -> Result<(), Fail> {
         } else {
             Verdict::Malformed
         };
-        assert_eq!(rt;
-            (n, judge(&rt, alloc, dropped.as_slice(), &election, &lots)?),
-            (n, due)
-        );
+        assert_eq!(rt; (n, verdict_on(&rt, alloc, dropped.as_slice())?), (n, due));
         let twice = joined(alloc, line.as_slice(), line.as_slice())?;
         let doubled = with_piece(alloc, text.as_slice(), n, 1, twice.as_slice())?;
         assert_eq!(rt;
-            (n, judge(&rt, alloc, doubled.as_slice(), &election, &lots)?),
+            (n, verdict_on(&rt, alloc, doubled.as_slice())?),
             (n, Verdict::Malformed)
         );
         let turned = joined(alloc, next.as_slice(), line.as_slice())?;
@@ -179,10 +168,7 @@ fn each_moved_line_gets_its_verdict(rt: HostRuntime) -> Result<(), Fail> {
         } else {
             Verdict::Malformed
         };
-        assert_eq!(rt;
-            (n, judge(&rt, alloc, swapped.as_slice(), &election, &lots)?),
-            (n, due)
-        );
+        assert_eq!(rt; (n, verdict_on(&rt, alloc, swapped.as_slice())?), (n, due));
     }
     Ok(())
 }

@@ -1,4 +1,4 @@
-use Rattle.std.proofs.Common.{map}
+use Rattle.std.proofs.Common.{map, refl}
 use Rattle.std.specs.String.{string_bytes}
 use Rattle.tool_edge.specs.Streams.{reading, writing}
 use Rattle.tool_edge.proofs.Running.{stopped, worked_on}
@@ -19,4 +19,4 @@ returns g c =
     (map string_bytes c.args.words.now) c.takes_lots-asked.result c.in-Ok.opened.asked _ c.in-Ok.opened.input.items _ c.check_input.result
     (reading g.S.Source.left g.S.Source.faults c.args.source.now c.open.new.source)
     (sound c.words_have_one_order.ensures c.files_are_not_refused.ensures c.contests_are_not_refused.ensures c.contests_are_refused_once.ensures) c.takes_lots-asked.ensures c.in-Ok.ensures.asked
-    c.in-Ok.ensures.input c.in-Ok.ensures.untouched c.items.ensures c.as_slice.ensures.value c.check_input.ensures
+    c.in-Ok.ensures.input c.in-Ok.ensures.untouched c.items.ensures refl c.check_input.ensures
