@@ -1,5 +1,5 @@
 -- Nothing but what is owed for it, or want of memory, answers a run in which nothing failed.
-use Rattle.std.proofs.Common.{◌≡◌, ◌⊎◌, ℕ, ◌≤◌, List, length, refl, sym, ◌∙◌, ap, subst, arith, inl, inr, true}
+use Rattle.std.proofs.Common.{◌≡◌, ◌⊎◌, ℕ, List, refl, sym, ◌∙◌, ap, subst, arith, inl, inr, true}
 use Rattle.std.specs.Prelude.{Option, Some, Ok, Err}
 use Rattle.meek_words.specs.declared.command.Command.TheVariants.{Count, Day as DayWords, Trial}
 use Rattle.byte_edge.specs.Faults.{Rose}

@@ -15,8 +15,8 @@ use Rattle.tool_edge.specs.Streams.{Reading, Writing, writing, NoReadFailed, May
 use Rattle.tool_edge.specs.Refusals.{fault_line, words_line}
 use Rattle.tool_edge.specs.Finishing.{Finishes, RefusesWords}
 use Rattle.tool_edge.specs.Opening.{too_long, ReadsAll, StopsReading}
-use Rattle.tool_edge.specs.Tool.{IsOwedFor, IsOwedAt}
-use Rattle.meek_cli.specs.Owed.{AsksForCount, AsksForDay, AsksForTrial, AsksForFile, AsksForWork, counts, IsOwedForDay, IsDayOwedAt, IsOwedForTrial, IsOwed}
+use Rattle.tool_edge.specs.Tool.{IsOwedFor}
+use Rattle.meek_cli.specs.Owed.{AsksForCount, AsksForDay, AsksForTrial, AsksForFile, AsksForWork, counts, IsOwedForDay, IsOwedForTrial, IsOwed}
 use Rattle.meek_cli.specs.Run.{IsRun, FinishesTrial}
 use Rattle.meek_cli.specs.Work.{AsksForFileWork, limit_of, FinishesWork}
 

@@ -1,7 +1,7 @@
 -- How many batches stand, call by call.
-use Rattle.std.proofs.Common.{◌≡◌, ◌≢◌, ◌⊎◌, ℕ, zero, suc, ◌+◌, ◌<◌, ◌≤◌, ◌==◌, Bool, true, false, cond, not, List, [], ◌∷◌, count_by, refl, sym, ap, ◌∙◌, subst, inl, inr, ⊎_elim, arith, ne_eqb}
+use Rattle.std.proofs.Common.{◌≡◌, ◌≢◌, ◌⊎◌, ℕ, zero, suc, ◌+◌, ◌<◌, ◌≤◌, ◌==◌, Bool, true, false, cond, not, [], ◌∷◌, count_by, refl, sym, ap, ◌∙◌, subst, inl, inr, ⊎_elim, arith, ne_eqb}
 use Rattle.std.specs.Prelude.{Option, Some, None, is_none, unwrap_or}
-use Rattle.std.specs.List.{range_with_len, list_any}
+use Rattle.std.specs.List.{range_with_len}
 use Rattle.std.proofs.lemmas.Bool.{eq-eqb}
 use Rattle.std.proofs.lemmas.Bool.Decides.{eqb_tells}
 use Rattle.std.proofs.lemmas.List.Sums.{sum_by-append, count_by-le-length}
@@ -13,9 +13,8 @@ use Rattle.batch_core.specs.declared.change.Change.TheVariants.{Enter, Correct, 
 use Rattle.batch_core.specs.declared.call.Call.{Call}
 use Rattle.batch_core.specs.declared.call.Call.TheVariants.{Change as Changes, Freeze, Strike}
 use Rattle.batch_core.specs.declared.reply.Reply.{Reply}
-use Rattle.batch_core.specs.declared.reply.Reply.TheVariants.{Entered, Corrected, Withdrawn, Frozen, Exists, Unknown, Gone, Stale, Spent, Struck, AlreadyStruck}
-use Rattle.batch_core.specs.declared.entry.Entry.{Entry}
-use Rattle.batch_core.specs.Book.{BookState, empty, after, batch_of, change_reply, change_after, is_struck, last_batch, reply, strike_reply}
+use Rattle.batch_core.specs.declared.reply.Reply.TheVariants.{Entered, Corrected, Withdrawn, Gone, Stale, Spent, Struck, AlreadyStruck}
+use Rattle.batch_core.specs.Book.{BookState, empty, after, batch_of, change_reply, change_after, is_struck, last_batch, reply}
 use Rattle.meek_cli.specs.Standing.{HasNumber, come, gone}
 use Rattle.meek_cli.specs.Summary.{stands, standing_batches}
 

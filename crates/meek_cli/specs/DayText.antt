@@ -1,16 +1,9 @@
 -- The text of a day: a line for each answered call, and then a sheet for each freeze. 32 is a space, and 10 ends a line.
-use Rattle.std.specs.Prelude.{◌≡◌, ℕ, ◌==◌, if◌then◌else◌, List, [], ◌∷◌, ◌++◌, map, filter, codes, decimal}
-use Rattle.std.specs.List.{enumerate_from}
+use Rattle.std.specs.Prelude.{◌≡◌, ℕ, List, [], ◌∷◌, ◌++◌, map, filter, codes, decimal}
 use Rattle.plain_ballots.specs.Ballots.{plain}
 use Rattle.candidate_roll.specs.Roll.{RollList, marks_with}
 use Rattle.sheet_text.specs.Lines.{ended}
 use Rattle.sheet_text.specs.Sheet.{IsSheet}
-use Rattle.batch_core.specs.declared.change.Change.{Change}
-use Rattle.batch_core.specs.declared.change.Change.TheVariants.{Enter, Correct, Withdraw}
-use Rattle.batch_core.specs.declared.call.Call.{Call}
-use Rattle.batch_core.specs.declared.call.Call.TheVariants.{Change as Changes, Freeze, Strike}
-use Rattle.batch_core.specs.declared.reply.Reply.{Reply}
-use Rattle.batch_core.specs.declared.reply.Reply.TheVariants.{Entered, Corrected, Withdrawn, Frozen, Exists, Unknown, Gone, Stale, Spent, Struck, AlreadyStruck}
 use Rattle.batch_core.specs.declared.entry.Entry.{Entry}
 use Rattle.batch_core.specs.Histories.{standing_after, struck_after}
 use Rattle.day_reader.specs.declared.day.Day.{Day}

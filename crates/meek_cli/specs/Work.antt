@@ -1,5 +1,5 @@
 -- The work that words ask for.
-use Rattle.std.specs.Prelude.{◌≡◌, ℕ, ◌≤◌, List, [], length}
+use Rattle.std.specs.Prelude.{◌≡◌, ℕ, ◌≤◌, List, []}
 use Rattle.batch_core.specs.declared.entry.Entry.{Entry}
 use Rattle.meek_cli.specs.declared.work.Work.{Work}
 use Rattle.meek_cli.specs.declared.work.Work.TheVariants.{File, Trial}

@@ -29,26 +29,27 @@ use vote_spread::{Lanes, PlanSpread};
 /// Below so many units of 10^-9 votes a surplus is not transferred: 0.000001 votes.
 const OMEGA: u64 = 1_000;
 
-/// Counts the ballots of a file by these lots, and writes the sheet or the refusal.
+/// Counts the ballots of a file by these lots, and writes the sheet or the refusal. The bytes are let go
+/// before anything is made of the ballots.
 pub(crate) fn count<R: Threads + Sync, K: Sink, G: Gate + Sync>(
     rt: &R,
     alloc: Global,
-    input: &[u8],
+    input: Vec<u8>,
     lots: &[u32],
     split: &Split,
     sink: &mut K,
     gate: &G,
 ) -> Status
-    requires { length input.now ≤ 67108864 }
-    ensures { FinishesCount lots.now input.now result
+    requires { length input.items ≤ 67108864 }
+    ensures { FinishesCount lots.now input.items result
         (writing K.written K.faults sink.old sink.new) }
 {
-    // Named first, the ballots are let go last: what is let go behind them would have the heap gone
-    // over for all their blocks.
+    let read = Contest::read(alloc, lots, input.as_slice());
+    drop(input);
     let Contest {
         election: Election { ballots, roll },
         lots: order,
-    } = match Contest::read(alloc, lots, input) {
+    } = match read {
         Ok(contest) => contest,
         Err(stop) => return refuse_input(sink, stop),
     };

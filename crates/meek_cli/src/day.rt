@@ -23,20 +23,23 @@ use std::thread::Threads;
 use team_run::Versions;
 use tool_edge::refuse_input;
 
-/// Plays the day of a file, and writes its text or the refusal.
+/// Plays the day of a file, and writes its text or the refusal. The bytes are let go before the first call
+/// is answered.
 pub(crate) fn play_day<R: Threads + Wait + Sync, K: Sink, G: Gate + Sync>(
     rt: &R,
     alloc: Global,
-    input: &[u8],
+    input: Vec<u8>,
     split: &Split,
     sink: &mut K,
     gate: &G,
 ) -> Outcome
-    requires { length input.now ≤ 16777216 }
-    ensures { FinishesDay input.now result.status result.history
+    requires { length input.items ≤ 16777216 }
+    ensures { FinishesDay input.items result.status result.history
         (writing K.written K.faults sink.old sink.new) }
 {
-    match read_day(alloc, input) {
+    let read = read_day(alloc, input.as_slice());
+    drop(input);
+    match read {
         Ok(day) => play(rt, alloc, day, split, sink, gate),
         Err(stop) => Outcome::without_calls(alloc, refuse_input(sink, stop)),
     }

@@ -37,17 +37,17 @@ impl FileWork {
         }
     }
 
-    /// Does it with the whole input, and writes what is owed.
+    /// Does it with the whole input, which is let go once it was read, and writes what is owed.
     pub(crate) fn finish<R: Threads + Wait + Sync, K: Sink, G: Gate + Sync>(
         &self,
         rt: &R,
         alloc: Global,
-        input: &[u8],
+        input: Vec<u8>,
         sink: &mut K,
         gate: &G,
     ) -> Outcome
-        requires { length input.now ≤ limit_of self.now }
-        ensures { FinishesWork self.now input.now result.status result.history
+        requires { length input.items ≤ limit_of self.now }
+        ensures { FinishesWork self.now input.items result.status result.history
             (writing K.written K.faults sink.old sink.new) }
     {
         match self {

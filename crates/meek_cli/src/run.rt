@@ -98,7 +98,7 @@ fn run_with_input<R: Threads + Wait + Sync, S: Source, K: Sink, G: Gate + Sync>(
     ensures whole { result.status ≡ Done → IsAtEnd (S.left source.new) }
 {
     match read_input(alloc, work.limit(), source, sink) {
-        Ok(input) => work.finish(rt, alloc, input.as_slice(), sink, gate),
+        Ok(input) => work.finish(rt, alloc, input, sink, gate),
         Err(status) => Outcome::without_calls(alloc, status),
     }
 }

@@ -1,4 +1,4 @@
-use Rattle.std.proofs.Common.{◌≡◌, ap, refl, ◌∙◌}
+use Rattle.std.proofs.Common.{ap, refl, ◌∙◌}
 use Rattle.meek_rule.specs.Row.{Row}
 use Rattle.meek_cli.proofs.CountingOut.{counting_more, counted_out, finished}
 use Rattle.meek_cli.proofs.counted_out.count_out.Goals as goal

@@ -1,11 +1,10 @@
-use Rattle.std.proofs.Common.{◌≡◌, ℕ, ◌≤◌, List, [], ◌∷◌, ◌++◌, length, map, Bool, cond, not, sym, ap, ◌∙◌, subst, arith}
-use Rattle.std.specs.Prelude.{All}
+use Rattle.std.proofs.Common.{◌≡◌, [], ◌∷◌, ◌++◌, length, map, Bool, cond, not, sym, ap, ◌∙◌, arith}
 use Rattle.std.specs.Vec.Iter.{into_iter_items}
 use Rattle.std.proofs.lemmas.List.{nil_from_length}
 use Rattle.frozen_plan.specs.Plan.{all_ballots}
 use Rattle.meek_cli.specs.DueSheets.{head_of}
-use Rattle.meek_cli.proofs.DaySheets.{ballots_of, sheets_of, heads_of_all, writes_day}
-use Rattle.meek_cli.proofs.BegunSpreads.{spread_ballots, begun_none, begun_more, begun_all}
+use Rattle.meek_cli.proofs.DaySheets.{sheets_of, heads_of_all, writes_day}
+use Rattle.meek_cli.proofs.BegunSpreads.{spread_ballots, begun_more, begun_all}
 use Rattle.meek_cli.proofs.day_counting.count_day.Goals as goal
 
 pub loop-version-preserved : goal.loop-version-preserved

@@ -8,7 +8,6 @@ use Rattle.shard_office.specs.Sight.{by_shard}
 use Rattle.shard_office.specs.Passes.{PassState, own}
 use Rattle.shard_office.specs.Versions.{IsFreeze}
 use Rattle.team_run.specs.Teams.{MayRun, AreVersionsOf, script_of}
-use Rattle.team_run.specs.Endings.{HasEnded}
 use Rattle.meek_cli.proofs.DayOffice.{history_of_day, frozen_of_day}
 use Rattle.meek_cli.proofs.office.answer_day.Goals as goal
 

@@ -1,4 +1,4 @@
-use Rattle.std.proofs.Common.{◌≡◌, ◌∙◌, ℕ, sym, ap, subst}
+use Rattle.std.proofs.Common.{◌∙◌, ℕ, refl, sym, ap, subst}
 use Rattle.tool_edge.specs.Streams.{reading, writing}
 use Rattle.tool_edge.specs.Opening.{ReadsAll, StopsReading}
 use Rattle.meek_cli.specs.declared.outcome.Outcome.{Outcome}
@@ -27,4 +27,4 @@ returns-in-Ok-clause-run g c words asked =
     let source = reading g.S.Source.left g.S.Source.faults c.args.source.now c.read_input.new.source in
     let reads = subst (λ (n : ℕ). ReadsAll n c.in-Ok.input.items source) c.limit.ensures c.in-Ok.ensures.input in
     worked_on g.K.Sink.written g.K.Sink.faults c.args.sink.now c.read_input.new.sink c.finish.new.sink words source c.args.work.now
-    c.in-Ok.input.items _ c.finish.result.status c.finish.result.history asked reads c.in-Ok.ensures.untouched c.as_slice.ensures.value c.finish.ensures
+    c.in-Ok.input.items _ c.finish.result.status c.finish.result.history asked reads c.in-Ok.ensures.untouched refl c.finish.ensures

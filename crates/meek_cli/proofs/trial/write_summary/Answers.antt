@@ -1,6 +1,5 @@
 use Rattle.std.proofs.Common.{◌≡◌, ℕ, List, length, sym, ap, ◌∙◌, subst}
 use Rattle.fixed_place.specs.Rounding.{scale}
-use Rattle.candidate_roll.specs.declared.state.State.{State}
 use Rattle.meek_rule.specs.Situation.{opening}
 use Rattle.batch_core.specs.declared.entry.Entry.{Entry}
 use Rattle.batch_core.specs.Book.{empty}
