@@ -21,18 +21,24 @@ fn run_into<R: Threads + Wait + Sync, K: Sink>(
     Ok(meek(rt, alloc, words.as_slice(), &mut source, sink, &FreeGate).status)
 }
 
-// One byte more than an input may have.
+// One byte more than a ballot file or a day may have.
 #[test]
 fn refuses_a_long_input(rt: HostRuntime) -> Result<(), Fail> {
-    let spaces = vec![in rt.alloc(); b' '; 67_108_865]?;
-    let mut sink = MemorySink::with_room(rt.alloc(), 1_000, 1_400, Vec::new(rt.alloc()))?;
-    let status = run_into(&rt, rt.alloc(), "count --lots 1", spaces, &mut sink)?;
-    let fault = InputFault {
-        kind: FaultKind::TooLong,
-        at: 67_108_864,
-    };
-    assert_eq!(rt; status, Status::BadInput(fault));
-    assert_eq!(rt; sink.bytes(), b"refused TooLong at 67108864\n".as_slice());
+    let cases: [(&str, usize, &[u8]); 2] = [
+        ("count --lots 1", 67_108_864, b"refused TooLong at 67108864\n"),
+        ("day", 16_777_216, b"refused TooLong at 16777216\n"),
+    ];
+    for (words, limit, line) in cases {
+        let spaces = vec![in rt.alloc(); b' '; limit + 1]?;
+        let mut sink = MemorySink::with_room(rt.alloc(), 1_000, 1_400, Vec::new(rt.alloc()))?;
+        let status = run_into(&rt, rt.alloc(), words, spaces, &mut sink)?;
+        let fault = InputFault {
+            kind: FaultKind::TooLong,
+            at: limit,
+        };
+        assert_eq!(rt; status, Status::BadInput(fault));
+        assert_eq!(rt; sink.bytes(), line);
+    }
     Ok(())
 }
 
