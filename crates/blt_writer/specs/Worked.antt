@@ -26,6 +26,20 @@ sample_ballots =
 abbrev pub two_lines : List (List ℕ)
 two_lines = plain (line 1 (1 ∷ []) ∷ line 2 (1 ∷ []) ∷ [])
 
+-- ten candidates, two of them withdrawn, and ballots that begin with a candidate of two digits, or with none at all
+abbrev pub wide_roll : RollList
+wide_roll = record {
+  seats = 3;
+  names = codes "A" ∷ codes "B" ∷ codes "C" ∷ codes "D" ∷ codes "E" ∷ codes "F" ∷ codes "G" ∷ codes "H" ∷ codes "I" ∷ codes "J" ∷ [];
+  title = codes "Wide";
+  withdrawn = false ∷ false ∷ true ∷ false ∷ false ∷ false ∷ false ∷ false ∷ false ∷ true ∷ [];
+}
+
+abbrev pub wide_ballots : List (List ℕ)
+wide_ballots =
+    plain (line 1 (10 ∷ 9 ∷ []) ∷ line 11 (9 ∷ 10 ∷ []) ∷ line 1 [] ∷ line 2 (10 ∷ []) ∷ line 1 (9 ∷ []) ∷ [])
+
 pub record WorkedTexts : Type 0 where
   pub sample : IsBltText sample_ballots sample_roll (codes "4 2\n-2\n4 1 3 2 0\n3 1 3 4 0\n1 2 0\n2 2 4 3 1 0\n1 3 4 2 0\n2 4 1 3 0\n0\n\"Ann\"\n\"Ben\"\n\"Cid\"\n\"Dee\"\n\"Sample\"\n")
   pub together : IsBltText two_lines (record { seats = 1; names = codes "A" ∷ []; title = []; withdrawn = false ∷ [] }) (codes "1 1\n3 1 0\n0\n\"A\"\n\"\"\n")
+  pub wide : IsBltText wide_ballots wide_roll (codes "10 3\n-3\n-10\n1 0\n1 9 0\n11 9 10 0\n2 10 0\n1 10 9 0\n0\n\"A\"\n\"B\"\n\"C\"\n\"D\"\n\"E\"\n\"F\"\n\"G\"\n\"H\"\n\"I\"\n\"J\"\n\"Wide\"\n")
