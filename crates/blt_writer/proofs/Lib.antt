@@ -17,4 +17,5 @@ mod FrontLemmas
 mod PackedLemmas
 mod OrderedEntries
 mod ListingLemmas
+mod ShelfLemmas
 mod ShortTextLemmas

@@ -12,13 +12,14 @@ use Rattle.std.proofs.lemmas.List.Elements.{All-nil, All-cons, All-head, All-tai
 use Rattle.std.proofs.lemmas.List.Sorted.{IsPermutation-refl}
 use Rattle.std.proofs.lemmas.List.Sums.{sum_by-cons}
 use Rattle.piece_text.specs.Writing.{Wrote, Stopped, Writes}
-use Rattle.piece_text.proofs.Written.{wrote_nothing, wrote_later, stopped_later, stops}
+use Rattle.piece_text.proofs.Written.{wrote_nothing, wrote_later, stopped_later, stops, later as writes_later}
 use Rattle.plain_ballots.specs.declared.ballot_line.BallotLine.{BallotLine}
 use Rattle.plain_ballots.specs.Ballots.{plain, ballot_count}
 use Rattle.blt_writer.specs.Order.{AreLinesOf}
 use Rattle.blt_writer.specs.Text.{ballot_text}
 use Rattle.blt_writer.specs.Merge.{written}
 use Rattle.blt_writer.specs.Merged.{WritesLines}
+use Rattle.blt_writer.specs.Page.{HandsOver}
 use Rattle.blt_writer.specs.declared.entry.Entry.{Entry}
 use Rattle.blt_writer.specs.Packed.{ranking_at, line_of, entry_lines, IsEntry, AreListed, IsRun}
 use Rattle.blt_writer.proofs.EveryText.{lines_of, are_lines_of}
@@ -70,26 +71,65 @@ behind_later r (l ∷ behind) listed other from =
     (All-cons (λ (l : BallotLine). IsLater r l.ranking) l behind first
     (λ i d inside. let next = get_or behind i d in before_by (order l.ranking next.ranking) r l.ranking next.ranking refl first (listed 0 (suc i) d (omega arith) (omega (arith, inside)))))
 
--- Some lines were written, and with any lines of the ballots that are left they are lines of all ballots.
-pub record IsListing {S : Type 0} (w : S → Option (List ℕ)) (f : S → ℕ) (a b : S) (old now : List BallotLine) : Type 0 where
+-- Some lines were written or stand on the page, and with any lines of the ballots that are left they are lines of all
+-- ballots.
+pub record IsListing {S : Type 0} (w : S → Option (List ℕ)) (f : S → ℕ) (a b : S) (page : List ℕ) (old now : List BallotLine) : Type 0 where
   pub few : length (plain now) ≤ 999999999
   pub counted : All (λ (l : BallotLine). 1 ≤ l.count) now
   pub listed : AreListed now
   pub done : List BallotLine
   pub so_far : (rest : List BallotLine) → AreLinesOf (plain now) rest → AreLinesOf (plain old) (done ++ rest)
-  pub wrote : Wrote w f a b (flat_map ballot_text done)
+  pub gone : List ℕ
+  pub parts : gone ++ page ≡ flat_map ballot_text done
+  pub wrote : Wrote w f a b gone
 
 pub listing_begun :
-    {S : Type 0} (w : S → Option (List ℕ)) (f : S → ℕ) (a : S) (old : List BallotLine) → length (plain old) ≤ 999999999
-    → All (λ (l : BallotLine). 1 ≤ l.count) old → AreListed old → IsListing w f a a old old
-listing_begun w f a old few counted listed = record {
+    {S : Type 0} (w : S → Option (List ℕ)) (f : S → ℕ) (a : S) (page : List ℕ) (old : List BallotLine) → page ≡ [] → length (plain old) ≤ 999999999
+    → All (λ (l : BallotLine). 1 ≤ l.count) old → AreListed old → IsListing w f a a page old old
+listing_begun w f a page old empty few counted listed = record {
   few = few;
   counted = counted;
   listed = listed;
   done = [];
   so_far = λ rest are. are;
+  gone = [];
+  parts = empty;
   wrote = wrote_nothing w f a;
 }
+
+-- what stood on the page was handed over
+pub listing_handed :
+    {S T E : Type 0} {w : S → Option (List ℕ)} {f : S → ℕ} {a b c : S} {page after : List ℕ} {old now : List BallotLine} (v : T)
+    → IsListing w f a b page old now → HandsOver {T = T} {E = E} w f b c page after (Ok v) → IsListing w f a c after old now
+listing_handed {after} v is handed = record {
+  few = is.few;
+  counted = is.counted;
+  listed = is.listed;
+  done = is.done;
+  so_far = is.so_far;
+  gone = is.gone ++ handed.front;
+  parts = append_assoc is.gone handed.front after ∙ (ap (λ (l : List ℕ). is.gone ++ l) handed.parts ∙ is.parts);
+  wrote = wrote_later is.wrote handed.writes;
+}
+
+-- or was not
+pub listing_stopped :
+    {S T E V F : Type 0} {w : S → Option (List ℕ)} {f : S → ℕ} {a b c : S} {page after : List ℕ} {old now : List BallotLine} (e : F) (result : Result T E)
+    → IsErr result → IsListing w f a b page old now → HandsOver {T = V} {E = F} w f b c page after (Err e) → WritesLines w f a c (plain old) result
+listing_stopped {w} {f} {a} {c} {page} {after} {now} e result failed is handed =
+    let rest = lines_of (plain now) in
+    let text : (is.gone ++ handed.front) ++ (after ++ flat_map ballot_text rest) ≡ flat_map ballot_text (is.done ++ rest) =
+    sym (append_assoc (is.gone ++ handed.front) after (flat_map ballot_text rest))
+    ∙ (ap (λ (l : List ℕ). l ++ flat_map ballot_text rest)
+    (append_assoc is.gone handed.front after ∙ (ap (λ (l : List ℕ). is.gone ++ l) handed.parts ∙ is.parts))
+    ∙ sym (flat_map-append ballot_text is.done rest)) in
+    record {
+      lines = is.done ++ rest;
+      are = is.so_far rest (are_lines_of (plain now));
+      writes =
+          subst (λ (l : List ℕ). Writes w f a c l result) text
+          (stops (after ++ flat_map ballot_text rest) result failed (stopped_later is.wrote handed.writes));
+    }
 
 listed_behind : (same behind : List BallotLine) → AreListed (same ++ behind) → AreListed behind
 listed_behind [] behind listed = listed
@@ -118,8 +158,8 @@ pub record AreParted (r : List ℕ) (now : List BallotLine) (first : BallotLine)
   pub alike : All (λ (l : BallotLine). l.ranking ≡ r) (first ∷ same)
   pub other : BeginsOther r behind
 
-module _ {S : Type 0} {w : S → Option (List ℕ)} {f : S → ℕ} {a b : S} {old now : List BallotLine} (r : List ℕ) (first : BallotLine)
-    (same behind : List BallotLine) (is : IsListing w f a b old now) (parted : AreParted r now first same behind) where
+module _ {S : Type 0} {w : S → Option (List ℕ)} {f : S → ℕ} {a b : S} {page : List ℕ} {old now : List BallotLine} (r : List ℕ) (first : BallotLine)
+    (same behind : List BallotLine) (is : IsListing w f a b page old now) (parted : AreParted r now first same behind) where
   abbrev pub count : ℕ
   count = ballot_count (first ∷ same)
 
@@ -159,40 +199,32 @@ module _ {S : Type 0} {w : S → Option (List ℕ)} {f : S → ℕ} {a b : S} {o
       let size = ap length whole ∙ length-append (replicate count r) (plain behind) in
       omega (arith, size, length-replicate count r, is.few)
 
-  pub listing_more : (c : S) → Wrote w f b c (ballot_text (line count r)) → IsListing w f a c old behind
-  listing_more c wrote = record {
+  pub listing_more : IsListing w f a b (page ++ ballot_text (line count r)) old behind
+  listing_more = record {
     few = let size = ap length whole ∙ length-append (replicate count r) (plain behind) in omega (arith, size, is.few);
     counted = counted_behind (first ∷ same) behind counted;
     listed = listed_behind (first ∷ same) behind listed;
     done = is.done ++ written (line count r);
     so_far = longer;
-    wrote =
-        subst (Wrote w f a c) (sym (flat_map-append ballot_text is.done (written (line count r))))
-        (wrote_later is.wrote (subst (Wrote w f b c) (sym text) wrote));
+    gone = is.gone;
+    parts =
+        sym (append_assoc is.gone page (ballot_text (line count r)))
+        ∙ (ap (λ (l : List ℕ). l ++ ballot_text (line count r)) is.parts
+        ∙ (ap (λ (l : List ℕ). flat_map ballot_text is.done ++ l) (sym text) ∙ sym (flat_map-append ballot_text is.done (written (line count r)))));
+    wrote = is.wrote;
   }
 
-  pub listing_stopped :
-      {T E : Type 0} (c : S) (result : Result T E) → IsErr result → Stopped w f b c (ballot_text (line count r))
-      → WritesLines w f a c (plain old) result
-  listing_stopped c result failed stopped =
-      let rest = lines_of (plain behind) in
-      let here = is.done ++ written (line count r) in
-      record {
-        lines = here ++ rest;
-        are = longer rest (are_lines_of (plain behind));
-        writes =
-            subst (λ (l : List ℕ). Writes w f a c l result)
-            (ap (λ (l : List ℕ). l ++ flat_map ballot_text rest) (sym (flat_map-append ballot_text is.done (written (line count r))))
-            ∙ sym (flat_map-append ballot_text here rest))
-            (stops (flat_map ballot_text rest) result failed (stopped_later is.wrote (subst (Stopped w f b c) (sym text) stopped)));
-      }
-
+-- nothing is left to be listed, and the page is written
 pub listing_done :
-    {S : Type 0} {w : S → Option (List ℕ)} {f : S → ℕ} {a b : S} {old now : List BallotLine} (is : IsListing w f a b old now)
-    → now ≡ [] → AreLinesOf (plain old) is.done
-listing_done {old} {now} is empty =
-    subst (AreLinesOf (plain old)) (append-nil is.done)
-    (is.so_far [] (subst (λ (l : List BallotLine). AreLinesOf (plain l) []) (sym empty) (are_lines_of [])))
+    {S T E : Type 0} {w : S → Option (List ℕ)} {f : S → ℕ} {a b c : S} {page : List ℕ} {old now : List BallotLine} (result : Result T E)
+    → IsListing w f a b page old now → now ≡ [] → Writes w f b c page result → WritesLines w f a c (plain old) result
+listing_done {w} {f} {a} {c} {old} result is empty writes = record {
+  lines = is.done;
+  are =
+      subst (AreLinesOf (plain old)) (append-nil is.done)
+      (is.so_far [] (subst (λ (l : List BallotLine). AreLinesOf (plain l) []) (sym empty) (are_lines_of [])));
+  writes = subst (λ (l : List ℕ). Writes w f a c l result) is.parts (writes_later c _ result is.wrote writes);
+}
 
 -- ---- the lines of entries
 

@@ -65,7 +65,7 @@ plain_all P (l ∷ ls) all =
     (All-replicate P l.count l.ranking (All-head (λ (l : BallotLine). P l.ranking) l ls all))
     (plain_all P ls (All-tail (λ (l : BallotLine). P l.ranking) l ls all))
 
-lines_all : (P : List ℕ → Type 0) (ls : List BallotLine) → All (λ (l : BallotLine). 1 ≤ l.count) ls → All P (plain ls) → All (λ (l : BallotLine). P l.ranking) ls
+pub lines_all : (P : List ℕ → Type 0) (ls : List BallotLine) → All (λ (l : BallotLine). 1 ≤ l.count) ls → All P (plain ls) → All (λ (l : BallotLine). P l.ranking) ls
 lines_all P [] counted all = All-nil (λ (l : BallotLine). P l.ranking)
 lines_all P (l ∷ ls) counted all =
     let Q : BallotLine → Type 0 = λ l. 1 ≤ l.count in

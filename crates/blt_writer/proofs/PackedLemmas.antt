@@ -9,7 +9,7 @@ use Rattle.plain_ballots.proofs.PermutationLemmas.{flat_map-IsPermutation}
 use Rattle.plain_ballots.specs.declared.ballot_line.BallotLine.{BallotLine}
 use Rattle.plain_ballots.specs.Ranking.{IsRanking}
 use Rattle.blt_writer.specs.declared.entry.Entry.{Entry}
-use Rattle.blt_writer.specs.Packed.{ranking_at, front, line_of, entry_lines, IsEntry, IsPacked}
+use Rattle.blt_writer.specs.Packed.{ranking_at, front, line_of, entry_lines, IsEntry}
 use Rattle.blt_writer.proofs.FrontLemmas.{IsCandidate}
 
 -- a ranking that comes in is found where it begins
@@ -62,57 +62,60 @@ lines_kept packed more (entry ∷ entries) all =
 abbrev pub entry_of : (packed : List ℕ) → BallotLine → Entry
 entry_of packed line = record { front = front 8 line.ranking; start = length packed; count = line.count }
 
-module _ (lines : List BallotLine) (packed : List ℕ) (entries : List Entry) (i : ℕ) (line : BallotLine)
-    (is : IsPacked (take i lines) packed entries) (within : i < length lines) (at : line ≡ get_or lines i line)
+module _ (packed : List ℕ) (entries : List Entry) (line : BallotLine) (sound : All (IsEntry packed) entries)
     (candidates : All IsCandidate line.ranking) (some : 1 ≤ line.count) where
-  abbrev pub new : List ℕ
-  new = packed ++ (length line.ranking ∷ line.ranking)
+  abbrev pub ranks_then : List ℕ
+  ranks_then = packed ++ (length line.ranking ∷ line.ranking)
 
-  own : ranking_at new (length packed) ≡ line.ranking
+  abbrev pub entries_then : List Entry
+  entries_then = entries ++ entry_of packed line ∷ []
+
+  own : ranking_at ranks_then (length packed) ≡ line.ranking
   own = ranking_new packed line.ranking
 
-  size : length new ≡ length packed + (length line.ranking + 1)
-  size = omega (arith, length-append packed (length line.ranking ∷ line.ranking))
-
-  own_entry : IsEntry new (entry_of packed line)
+  own_entry : IsEntry ranks_then (entry_of packed line)
   own_entry =
-      let n : slice_index new (length packed) ≡ length line.ranking =
+      let n : slice_index ranks_then (length packed) ≡ length line.ranking =
       get_or_at packed (length line.ranking) line.ranking 0 (length packed) refl in
       record {
-        inside = omega (arith, n, size);
+        inside = omega (arith, n, length-append packed (length line.ranking ∷ line.ranking));
         candidates = subst (All IsCandidate) (sym own) candidates;
         front_is = ap (front 8) (sym own);
         counted = some;
       }
 
-  own_line : line_of new (entry_of packed line) ≡ line
+  own_line : line_of ranks_then (entry_of packed line) ≡ line
   own_line = ap (λ (r : List ℕ). let l : BallotLine = record { count = line.count; ranking = r } in l) own
 
   -- one line more is packed
-  pub packed_more : IsPacked (take (i + 1) lines) new (entries ++ entry_of packed line ∷ [])
-  packed_more = record {
-    lines_are =
-        map_push (line_of new) entries (entry_of packed line)
-        ∙ (ap (λ (l : List BallotLine). l ++ line_of new (entry_of packed line) ∷ [])
-        (lines_kept packed (length line.ranking ∷ line.ranking) entries is.sound ∙ is.lines_are)
-        ∙ (ap (λ (l : BallotLine). take i lines ++ l ∷ []) (own_line ∙ at) ∙ sym (take_more lines i line within)));
-    sound = All-push (IsEntry new) entries (entry_of packed line)
-        (All-weaker (IsEntry packed) (IsEntry new) (entry_kept packed (length line.ranking ∷ line.ranking)) entries is.sound) own_entry;
-  }
+  sound_then : All (IsEntry ranks_then) entries_then
+  sound_then =
+      All-push (IsEntry ranks_then) entries (entry_of packed line)
+      (All-weaker (IsEntry packed) (IsEntry ranks_then) (entry_kept packed (length line.ranking ∷ line.ranking)) entries sound) own_entry
 
-pub none_packed : IsPacked [] [] []
-none_packed = record { lines_are = refl; sound = All-nil (IsEntry []) }
+  lines_then : entry_lines ranks_then entries_then ≡ entry_lines packed entries ++ line ∷ []
+  lines_then =
+      map_push (line_of ranks_then) entries (entry_of packed line)
+      ∙ (ap (λ (l : List BallotLine). l ++ line_of ranks_then (entry_of packed line) ∷ [])
+      (lines_kept packed (length line.ranking ∷ line.ranking) entries sound)
+      ∙ ap (λ (l : BallotLine). entry_lines packed entries ++ l ∷ []) own_line)
+
+  pub still_sound : (ranks : List ℕ) (more : List Entry) → ranks ≡ ranks_then → more ≡ entries_then → All (IsEntry ranks) more
+  still_sound ranks more ranks_are entries_are =
+      subst (λ (p : List ℕ). All (IsEntry p) more) (sym ranks_are) (subst (All (IsEntry ranks_then)) (sym entries_are) sound_then)
+
+  pub one_line_more : (ranks : List ℕ) (more : List Entry) → ranks ≡ ranks_then → more ≡ entries_then → entry_lines ranks more ≡ entry_lines packed entries ++ line ∷ []
+  one_line_more ranks more ranks_are entries_are =
+      ap (λ (p : List ℕ). entry_lines p more) ranks_are ∙ (ap (entry_lines ranks_then) entries_are ∙ lines_then)
 
 -- what a ranking of few candidates has
 pub of_few : (n : ℕ) (ranking : List ℕ) → n ≤ 250 → IsRanking n ranking → All IsCandidate ranking
 of_few n ranking few is = All-weaker (λ (c : ℕ). (1 ≤ c) × (c ≤ n)) IsCandidate (λ c numbered. (numbered.0, omega (arith, numbered.1, few))) ranking is.numbers
 
--- The ballots of entries are those of the lines, in whatever order the entries stand.
-pub same_ballots :
-    (lines : List BallotLine) (packed : List ℕ) (entries now : List Entry) → IsPacked lines packed entries → IsPermutation entries now
-    → IsPermutation (plain (entry_lines packed now)) (plain lines)
-same_ballots lines packed entries now is moved =
-    IsPermutation-sym (plain lines) (plain (entry_lines packed now))
-    (subst (λ (ls : List BallotLine). IsPermutation (plain ls) (plain (entry_lines packed now))) is.lines_are
-    (flat_map-IsPermutation (λ (l : BallotLine). replicate l.count l.ranking) (entry_lines packed entries) (entry_lines packed now)
-    (IsPermutation-map (line_of packed) entries now moved)))
+-- The lines of entries, in whatever order the entries stand.
+pub same_entry_lines : (packed : List ℕ) (entries now : List Entry) → IsPermutation entries now → IsPermutation (entry_lines packed entries) (entry_lines packed now)
+same_entry_lines packed entries now moved = IsPermutation-map (line_of packed) entries now moved
+
+-- The ballots of lines, in whatever order the lines stand.
+pub same_plain : (lines now : List BallotLine) → IsPermutation lines now → IsPermutation (plain lines) (plain now)
+same_plain lines now moved = flat_map-IsPermutation (λ (l : BallotLine). replicate l.count l.ranking) lines now moved

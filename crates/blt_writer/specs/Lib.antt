@@ -10,3 +10,5 @@ pub mod Merged
 pub mod Written
 pub mod Packed
 pub mod ShortTexts
+pub mod Page
+pub mod Shelves

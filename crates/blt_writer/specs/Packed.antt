@@ -33,11 +33,6 @@ pub record IsEntry (packed : List ℕ) (entry : Entry) : Type 0 where
   pub front_is : entry.front ≡ front 8 (ranking_at packed entry.start)
   pub counted : 1 ≤ entry.count
 
--- The entries of lines, one for each in their order.
-pub record IsPacked (lines : List BallotLine) (packed : List ℕ) (entries : List Entry) : Type 0 where
-  pub lines_are : entry_lines packed entries ≡ lines
-  pub sound : All (IsEntry packed) entries
-
 -- where an entry stands, seen from another: by the fronts, and where these are one by the rankings
 abbrev pub entry_cmp : (packed : List ℕ) → (one other : Entry) → Ordering
 entry_cmp packed one other =

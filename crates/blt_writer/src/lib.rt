@@ -11,15 +11,17 @@ mod entry;
 mod export;
 mod file;
 mod laws;
-mod line_bytes;
 mod listing;
 mod merge;
 mod no_memory;
 mod numbers;
 mod packed;
+mod page;
 mod ranks;
 mod rows;
 mod runs;
+mod shelf;
+mod shelves;
 mod short_numbers;
 mod worked;
 

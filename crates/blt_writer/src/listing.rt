@@ -1,14 +1,12 @@
 // Ballots in the order in which their file lists them.
-ghost use Rattle.std.specs.Prelude.{◌≡◌, ◌≤◌, All, IfOk, IsPermutation, length};
+ghost use Rattle.std.specs.Prelude.{◌≡◌, ◌≤◌, IfOk, IsPermutation};
 ghost use Rattle.plain_ballots.specs.Ballots.{plain};
-ghost use Rattle.blt_writer.specs.Packed.{AreListed, IsEntry, entry_lines};
 ghost use Rattle.blt_writer.specs.Written.{WritesText};
 
 use crate::NoMemory;
-use crate::entry::Entry;
 use crate::file::{write_closing, write_opening};
-use crate::packed::Packed;
-use crate::runs::write_runs;
+use crate::shelf::Shelf;
+use crate::shelves::{shelved, sort_each, write_shelves};
 use byte_edge::{Failed, Sink};
 use candidate_roll::Roll;
 use plain_ballots::{Ballots, lines_stand_for_ballots};
@@ -19,23 +17,23 @@ use std::marker::Model;
 #[derive(Drop)]
 pub struct Listing<'e> {
     roll: &'e Roll,
-    ranks: Vec<u8>,
-    entries: Vec<Entry>,
+    shelves: Vec<Shelf>,
 }
 
 impl<'e> Model for Listing<'e> {
     ghost use Rattle.std.specs.Prelude.{◌≤◌, All, length};
-    ghost use Rattle.plain_ballots.specs.Ballots.{plain};
     ghost use Rattle.blt_writer.specs.Exported.{Exported};
-    ghost use Rattle.blt_writer.specs.Packed.{AreListed, IsEntry, entry_lines};
+    ghost use Rattle.blt_writer.specs.Merge.{all_plain};
+    ghost use Rattle.blt_writer.specs.Packed.{AreListed};
+    ghost use Rattle.blt_writer.specs.Shelves.{AreShelved};
 
     ghost Value = { Exported };
 
-    ghost view = { λ l. record { roll = l.roll.now; ballots = plain (entry_lines l.ranks.items l.entries.items) } };
+    ghost view = { λ l. record { roll = l.roll.now; ballots = all_plain l.shelves.items } };
 
     ghost invariant = { λ l.
-        All (IsEntry l.ranks.items) l.entries.items × AreListed (entry_lines l.ranks.items l.entries.items)
-        × (length (plain (entry_lines l.ranks.items l.entries.items)) ≤ 999999999) };
+        AreShelved l.shelves.items × All AreListed l.shelves.items
+        × (length (all_plain l.shelves.items) ≤ 999999999) };
 }
 
 impl<'e> Listing<'e> {
@@ -47,25 +45,10 @@ impl<'e> Listing<'e> {
     {
         lines_stand_for_ballots();
         let _sound = ballots.lines();
-        let packed = Packed::of(alloc, ballots)?;
-        let Packed { ranks, entries } = packed;
-        let entries = in_order(ranks.as_slice(), entries);
-        Ok(Listing {
-            roll,
-            ranks,
-            entries,
-        })
+        let mut shelves = shelved(alloc, ballots)?;
+        sort_each(shelves.as_mut_slice());
+        Ok(Listing { roll, shelves })
     }
-}
-
-/// Entries in the order of their rankings.
-fn in_order(ranks: &[u8], mut entries: Vec<Entry>) -> Vec<Entry>
-    requires { All (IsEntry ranks.now) entries.items }
-    ensures permutation { IsPermutation entries.items result.items }
-    ensures listed { AreListed (entry_lines ranks.now result.items) }
-{
-    entries.sort_unstable_by(|one, other| one.order(other, ranks));
-    entries
 }
 
 /// Writes the file of a listing's ballots under its roll, and takes no memory.
@@ -73,6 +56,6 @@ pub fn write_listing<K: Sink>(listing: &Listing<'_>, sink: &mut K) -> Result<(),
     ensures { WritesText K.written K.faults sink.old sink.new listing.now result }
 {
     write_opening(listing.roll, sink)?;
-    write_runs(listing.ranks.as_slice(), listing.entries.as_slice(), sink)?;
+    write_shelves(listing.shelves.as_slice(), sink)?;
     write_closing(listing.roll, sink)
 }

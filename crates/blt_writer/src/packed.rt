@@ -1,43 +1,17 @@
 // Rankings packed into bytes, one behind another.
-ghost use Rattle.std.specs.Prelude.{◌≡◌, ℕ, ◌≤◌, [], ◌∷◌, ◌++◌, All, length, IfOk, OnOk, slice_index};
-ghost use Rattle.blt_writer.specs.Packed.{IsPacked, front, ranking_at};
+ghost use Rattle.std.specs.Prelude.{◌≡◌, ℕ, ◌≤◌, ◌∷◌, ◌++◌, All, length, IfOk, OnErr, OnOk, slice_index};
+ghost use Rattle.blt_writer.specs.Packed.{front, ranking_at};
 
 use crate::NoMemory;
 use crate::entry::Entry;
-use plain_ballots::{BallotLine, Ballots};
-use std::alloc::Global;
-
-/// Lines of ballots: their rankings, packed, and an entry for each line.
-#[derive(Drop)]
-pub(crate) struct Packed {
-    pub(crate) ranks: Vec<u8>,
-    pub(crate) entries: Vec<Entry>,
-}
-
-impl Packed {
-    /// The lines of ballots, in their order.
-    pub(crate) fn of(alloc: Global, ballots: &Ballots) -> Result<Packed, NoMemory>
-        requires { ballots.now.candidates ≤ 250 }
-        ensures { IfOk result (λ packed. IsPacked ballots.now.lines packed.ranks.items packed.entries.items) }
-    {
-        let lines = ballots.lines();
-        let Ok(mut entries) = Vec::with_capacity(alloc, lines.len()) else {
-            return Err(NoMemory);
-        };
-        let mut ranks = Vec::new(alloc);
-        for line in lines {
-            let entry = pack(line, &mut ranks)?;
-            push_entry(&mut entries, entry)?;
-        }
-        Ok(Packed { ranks, entries })
-    }
-}
+use plain_ballots::BallotLine;
 
 /// Packs the ranking of a line behind the others.
-fn pack(line: &BallotLine, ranks: &mut Vec<u8>) -> Result<Entry, NoMemory>
+pub(crate) fn pack(line: &BallotLine, ranks: &mut Vec<u8>) -> Result<Entry, NoMemory>
     requires candidates { All (λ c. (1 ≤ c) × (c ≤ 250)) line.now.ranking }
     requires short { length line.now.ranking ≤ 250 }
     ensures ranks { OnOk result (ranks.new.items ≡ ranks.old.items ++ (length line.now.ranking ∷ line.now.ranking)) }
+    ensures refused { OnErr result (ranks.new.items ≡ ranks.old.items) }
     ensures entry { IfOk result (λ entry. entry ≡ record { front = front 8 line.now.ranking; start = length ranks.old.items; count = line.now.count }) }
 {
     let Ok(start) = u32::try_from(ranks.len()) else {
@@ -56,7 +30,8 @@ fn pack(line: &BallotLine, ranks: &mut Vec<u8>) -> Result<Entry, NoMemory>
 fn push_ranking(ranks: &mut Vec<u8>, candidates: &[u32]) -> Result<(), NoMemory>
     requires candidates { All (λ c. (1 ≤ c) × (c ≤ 250)) candidates.now }
     requires short { length candidates.now ≤ 250 }
-    ensures { OnOk result (ranks.new.items ≡ ranks.old.items ++ (length candidates.now ∷ candidates.now)) }
+    ensures ranks { OnOk result (ranks.new.items ≡ ranks.old.items ++ (length candidates.now ∷ candidates.now)) }
+    ensures refused { OnErr result (ranks.new.items ≡ ranks.old.items) }
 {
     if ranks.reserve(candidates.len() + 1).is_err() {
         return Err(NoMemory);
@@ -66,15 +41,6 @@ fn push_ranking(ranks: &mut Vec<u8>, candidates: &[u32]) -> Result<(), NoMemory>
         ranks.push_reserved(*candidate as u8);
     }
     Ok(())
-}
-
-fn push_entry(entries: &mut Vec<Entry>, entry: Entry) -> Result<(), NoMemory>
-    ensures { OnOk result (entries.new.items ≡ entries.old.items ++ entry ∷ []) }
-{
-    match entries.push(entry) {
-        Ok(()) => Ok(()),
-        Err(_) => Err(NoMemory),
-    }
 }
 
 /// The first eight candidates as the digits of a number, with zeros behind a shorter ranking.

@@ -1,37 +1,38 @@
 // Entries that stand in order, written ranking by ranking.
-ghost use Rattle.std.specs.Prelude.{◌≡◌, ◌≤◌, ◌<◌, All, length, slice_index_or, sum_by};
+ghost use Rattle.std.specs.Prelude.{◌≡◌, ◌≤◌, ◌<◌, [], All, OnOk, length, slice_index_or, sum_by};
 ghost use Rattle.plain_ballots.specs.Ballots.{plain};
 ghost use Rattle.blt_writer.specs.Merged.{WritesLines};
 ghost use Rattle.blt_writer.specs.declared.entry.Entry.{Entry};
 ghost use Rattle.blt_writer.specs.Packed.{AreListed, IsEntry, IsRun, entry_lines};
 
 use crate::entry::Entry;
-use crate::line_bytes::LineBytes;
 use crate::packed::ranking_at;
+use crate::page::Page;
 use byte_edge::{Failed, Sink};
-use piece_text::write_bytes;
 
 /// Writes the lines of all ballots of entries that stand in order, equal ballots in one line.
 pub(crate) fn write_runs<K: Sink>(
     ranks: &[u8],
     entries: &[Entry],
+    page: &mut Page,
     sink: &mut K,
 ) -> Result<(), Failed>
     requires sound { All (IsEntry ranks.now) entries.now }
     requires listed { AreListed (entry_lines ranks.now entries.now) }
     requires few { length (plain (entry_lines ranks.now entries.now)) ≤ 999999999 }
-    ensures { WritesLines K.written K.faults sink.old sink.new (plain (entry_lines ranks.now entries.now)) result }
+    requires empty { page.old ≡ [] }
+    ensures written { WritesLines K.written K.faults sink.old sink.new (plain (entry_lines ranks.now entries.now)) result }
+    ensures empty { OnOk result (page.new ≡ []) }
 {
-    let mut line = LineBytes::new();
     let mut rest = entries;
     while rest.len() > 0 {
         let first = entry_at(rest, 0);
         let (same, behind) = rest.split_at(run_of(ranks, rest));
-        line.set(count(same), ranking_at(ranks, first.start));
-        write_bytes(line.bytes(), sink)?;
+        page.make_room(sink)?;
+        page.add(count(same), ranking_at(ranks, first.start));
         rest = behind;
     }
-    Ok(())
+    page.flush(sink)
 }
 
 /// How many entries at the front have the ranking of the first.

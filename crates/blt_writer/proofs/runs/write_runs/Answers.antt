@@ -1,20 +1,19 @@
-use Rattle.std.proofs.Common.{◌≡◌, ℕ, List, take, drop, ◌∷◌, arith, ap, sym, subst, ◌∙◌, All}
+use Rattle.std.proofs.Common.{◌≡◌, ℕ, List, take, drop, ◌∷◌, ◌++◌, arith, ap, sym, subst, ◌∙◌, All}
 use Rattle.std.specs.List.{sum_by}
 use Rattle.std.proofs.lemmas.List.{nil_from_length}
 use Rattle.std.proofs.lemmas.List.Elements.{All-drop}
-use Rattle.piece_text.specs.Writing.{Wrote, Stopped}
 use Rattle.plain_ballots.specs.Ballots.{ballot_count}
 use Rattle.blt_writer.specs.declared.entry.Entry.{Entry}
 use Rattle.blt_writer.specs.Packed.{ranking_at, line_of, entry_lines, IsEntry}
 use Rattle.blt_writer.specs.Text.{ballot_text}
-use Rattle.blt_writer.proofs.ListingLemmas.{IsListing, listing_begun, listing_more, listing_stopped, listing_done, few_of_run, parted, count_of_run, counted_lines}
+use Rattle.blt_writer.proofs.ListingLemmas.{IsListing, listing_begun, listing_handed, listing_more, listing_stopped, listing_done, few_of_run, parted, count_of_run, counted_lines}
 use Rattle.blt_writer.proofs.MergingLemmas.{line}
 use Rattle.blt_writer.proofs.runs.write_runs.Goals as goal
 
 pub loop-rest-init : goal.loop-rest-init
 loop-rest-init g c = record {
   sound = c.requires.sound;
-  so_far = listing_begun _ _ _ (entry_lines c.args.ranks.now c.args.entries.now) c.requires.few (counted_lines c.args.ranks.now c.args.entries.now c.requires.sound) c.requires.listed;
+  so_far = listing_begun _ _ _ _ (entry_lines c.args.ranks.now c.args.entries.now) c.requires.empty c.requires.few (counted_lines c.args.ranks.now c.args.entries.now c.requires.sound) c.requires.listed;
 }
 
 pub count-requires : goal.count-requires
@@ -29,22 +28,9 @@ count-requires g c =
     let front = ap (λ (es : List Entry). sum_by (λ (e : Entry). e.count) es) c.split_at.ensures.front in
     omega (arith, few, same, front)
 
-pub returns-in_err-write_bytes : goal.returns-in_err-write_bytes
-returns-in_err-write_bytes g c =
-    let ranks = c.args.ranks.now in
-    let rest = c.loop-rest.rest.now in
-    let first = c.entry_at-first.result in
-    let n = c.run_of.result in
-    let r = ranking_at ranks first.start in
-    let same = entry_lines ranks (drop 1 (take n rest)) in
-    let parts = parted ranks rest n first c.loop-rest-test.true c.entry_at-first.ensures c.run_of.ensures in
-    let counted : c.count.result ≡ ballot_count (line_of ranks first ∷ same) =
-    c.count.ensures ∙ (ap (λ (es : List Entry). sum_by (λ (e : Entry). e.count) es) c.split_at.ensures.front
-    ∙ count_of_run ranks rest n first c.loop-rest-test.true c.entry_at-first.ensures c.run_of.ensures) in
-    let text = c.bytes.ensures ∙ (c.set.ensures ∙ (ap (λ (k : ℕ). ballot_text (line k c.ranking_at.result.now)) counted ∙ ap (λ (q : List ℕ). ballot_text (line (ballot_count (line_of ranks first ∷ same)) q)) c.ranking_at.ensures)) in
-    listing_stopped r (line_of ranks first) same (entry_lines ranks (drop n rest)) c.loop-rest.invariant.so_far parts
-    c.write_bytes.new.sink c.from_residual.result c.from_residual.ensures.0
-    (subst (Stopped g.K.Sink.written g.K.Sink.faults c.loop-rest.sink c.write_bytes.new.sink) text c.in_err-write_bytes.ensures)
+pub returns-in_err-make_room-clause-written : goal.returns-in_err-make_room-clause-written
+returns-in_err-make_room-clause-written g c =
+    listing_stopped _ _ c.from_residual.ensures.0 c.loop-rest.invariant.so_far c.in_err-make_room.ensures.handed
 
 pub loop-rest-preserved : goal.loop-rest-preserved
 loop-rest-preserved g c =
@@ -56,22 +42,22 @@ loop-rest-preserved g c =
     let same = entry_lines ranks (drop 1 (take n rest)) in
     let w = g.K.Sink.written in
     let f = g.K.Sink.faults in
+    let handed = listing_handed _ c.loop-rest.invariant.so_far c.in_ok-make_room.ensures.handed in
     let parts = parted ranks rest n first c.loop-rest-test.true c.entry_at-first.ensures c.run_of.ensures in
     let counted : c.count.result ≡ ballot_count (line_of ranks first ∷ same) =
     c.count.ensures ∙ (ap (λ (es : List Entry). sum_by (λ (e : Entry). e.count) es) c.split_at.ensures.front
     ∙ count_of_run ranks rest n first c.loop-rest-test.true c.entry_at-first.ensures c.run_of.ensures) in
-    let text = c.bytes.ensures ∙ (c.set.ensures ∙ (ap (λ (k : ℕ). ballot_text (line k c.ranking_at.result.now)) counted ∙ ap (λ (q : List ℕ). ballot_text (line (ballot_count (line_of ranks first ∷ same)) q)) c.ranking_at.ensures)) in
-    let more = listing_more r (line_of ranks first) same (entry_lines ranks (drop n rest)) c.loop-rest.invariant.so_far parts c.write_bytes.new.sink
-    (subst (Wrote w f c.loop-rest.sink c.write_bytes.new.sink) text c.in_ok-write_bytes.ensures) in
+    let text = c.add.ensures ∙ ap (λ (l : List ℕ). c.make_room.new.self ++ l) (ap (λ (k : ℕ). ballot_text (line k c.ranking_at.result.now)) counted ∙ ap (λ (q : List ℕ). ballot_text (line (ballot_count (line_of ranks first ∷ same)) q)) c.ranking_at.ensures) in
+    let more = listing_more r (line_of ranks first) same (entry_lines ranks (drop n rest)) handed parts in
     record {
       sound = subst (All (IsEntry ranks)) (sym c.split_at.ensures.back) (All-drop (IsEntry ranks) n rest c.loop-rest.invariant.sound);
       so_far =
-          subst (λ (es : List Entry). IsListing w f c.args.sink.now c.write_bytes.new.sink (entry_lines ranks c.args.entries.now) (entry_lines ranks es))
-          (sym c.split_at.ensures.back) more;
+          subst (λ (es : List Entry). IsListing w f c.args.sink.now c.make_room.new.sink c.add.new.self (entry_lines ranks c.args.entries.now) (entry_lines ranks es))
+          (sym c.split_at.ensures.back)
+          (subst (λ (p : List ℕ). IsListing w f c.args.sink.now c.make_room.new.sink p (entry_lines ranks c.args.entries.now) (entry_lines ranks (drop n rest))) (sym text) more);
     }
 
-pub returns : goal.returns
-returns g c =
-    let is = c.loop-rest.invariant.so_far in
+pub returns-clause-written : goal.returns-clause-written
+returns-clause-written g c =
     let empty = nil_from_length c.loop-rest.rest.now (omega (arith, c.loop-rest-test.false)) in
-    record { lines = is.done; are = listing_done is (ap (entry_lines c.args.ranks.now) empty); writes = is.wrote }
+    listing_done _ c.loop-rest.invariant.so_far (ap (entry_lines c.args.ranks.now) empty) c.flush.ensures.written

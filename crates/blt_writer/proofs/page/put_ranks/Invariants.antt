@@ -1,7 +1,7 @@
 use Rattle.std.proofs.Common.{◌≡◌, ◌+◌, ◌*◌, ◌≤◌, ◌++◌, length, take}
 use Rattle.std.specs.List.{flat_map}
 use Rattle.blt_writer.specs.Text.{number_then}
-use Rattle.blt_writer.proofs.line_bytes.put_ranks.Given as goal
+use Rattle.blt_writer.proofs.page.put_ranks.Given as goal
 
 abbrev pub invariant-loop-candidate : goal.invariant-loop-candidate
 invariant-loop-candidate l = record {
