@@ -1,10 +1,9 @@
 -- The texts of short numbers, four bytes for each.
-use Rattle.std.proofs.Common.{◌≡◌, ◌≢◌, ℕ, suc, ◌+◌, ◌-◌, ◌*◌, ◌<◌, ◌≤◌, List, [], ◌∷◌, ◌++◌, length, take, drop, get_or, set, slice_set, refl, ap, sym, subst, ◌∙◌, arith, ⊎_elim, append_assoc}
+use Rattle.std.proofs.Common.{◌≡◌, ◌≢◌, ℕ, ◌+◌, ◌-◌, ◌*◌, ◌<◌, ◌≤◌, List, [], ◌∷◌, ◌++◌, length, take, drop, get_or, set, ap, sym, subst, ◌∙◌, arith, ⊎_elim, append_assoc}
 use Rattle.std.specs.Prelude.{decimal, slice_index}
-use Rattle.std.specs.List.{flat_map}
 use Rattle.std.proofs.Math.Seq.{take-append-add}
 use Rattle.std.proofs.lemmas.Bool.{cases_lt}
-use Rattle.std.proofs.lemmas.List.{length-append, length-take-le, length-drop, length-set, take-append-le, take-take, take_at, take_more, drop_at, drop-append-le, drop-take, drop_more, set_at, get_or-set_same, get_or-set_other}
+use Rattle.std.proofs.lemmas.List.{length-append, length-take-le, length-drop, length-set, take-append-le, take-take, drop_at, drop-append-le, drop-take, drop_more, set_at, get_or-set_same, get_or-set_other}
 use borrow.Rule.Slice.PartMut.{put_mid}
 use Rattle.blt_writer.specs.ShortTexts.{AreTexts, AreTextsBelow, IsTextOf}
 use Rattle.blt_writer.specs.Text.{number_then}

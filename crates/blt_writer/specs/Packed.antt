@@ -7,7 +7,6 @@ use Rattle.std.specs.Ordering.{nat_cmp, ordering_then}
 use Rattle.std.specs.Cmp.Lexicographic.{slice_cmp}
 use Rattle.plain_ballots.specs.declared.ballot_line.BallotLine.{BallotLine}
 use Rattle.blt_writer.specs.declared.entry.Entry.{Entry}
-use Rattle.blt_writer.specs.Order.{StandsBefore}
 
 -- The ranking that stands at a place: a byte that says its length, and its candidates behind it.
 abbrev pub ranking_at : (packed : List ℕ) (start : ℕ) → List ℕ
