@@ -15,6 +15,7 @@ mod RootLemmas
 mod LaneLemmas
 mod ClassLemmas
 mod TotalLemmas
+mod PutLemmas
 mod FollowLemmas
 mod PlaceLemmas
 mod CondenseLemmas

@@ -1,6 +1,6 @@
 // What a candidate does to a weight.
 ghost use Rattle.std.specs.Prelude.{◌≡◌, true};
-ghost use Rattle.vote_spread.specs.Class.{class_of};
+ghost use Rattle.vote_spread.specs.Class.{class_of, keeps_some, leaves_some};
 
 /// What a candidate does to the weight of a ballot that reaches it.
 #[derive(Clone, Copy)]
@@ -24,6 +24,28 @@ impl Class {
             Class::Keeps
         } else {
             Class::Shares
+        }
+    }
+
+    /// Whether a candidate of this class keeps anything.
+    pub(crate) fn keeps_some(self) -> bool
+        ensures { result ≡ keeps_some self }
+    {
+        match self {
+            Class::Passes => false,
+            Class::Shares => true,
+            Class::Keeps => true,
+        }
+    }
+
+    /// Whether a candidate of this class leaves anything.
+    pub(crate) fn leaves_some(self) -> bool
+        ensures { result ≡ leaves_some self }
+    {
+        match self {
+            Class::Passes => true,
+            Class::Shares => true,
+            Class::Keeps => false,
         }
     }
 

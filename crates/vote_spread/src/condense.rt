@@ -1,5 +1,5 @@
 // The rows of a share of branches, while candidates are of some classes.
-ghost use Rattle.std.specs.Prelude.{◌≡◌, ℕ, ◌+◌, ◌-◌, ◌<◌, ◌≤◌, [], ◌∷◌, All, if◌then◌else◌, length, slice_index, vec_len, vec_capacity};
+ghost use Rattle.std.specs.Prelude.{◌≡◌, ℕ, ◌+◌, ◌-◌, ◌<◌, ◌≤◌, [], ◌∷◌, ◌++◌, All, false, true, if◌then◌else◌, length, slice_index, vec_len, vec_capacity};
 ghost use Rattle.vote_spread.specs.Stem.{stem_of, stems_of};
 ghost use Rattle.vote_spread.specs.Walk.{IsWalk, HaveTails};
 ghost use Rattle.vote_spread.specs.Rows.{seen, IsRow, Continues, Leaves, StandForPart, room_for};
@@ -122,15 +122,26 @@ fn put(ballots: u32, candidate: u8, at: u8, classes: &[Class], rows: &mut Vec<Ro
         candidate,
         depth: at + 1,
     };
-    match classes[candidate as usize - 1] {
-        Class::Passes => Some(at),
-        Class::Shares => {
-            rows.push_reserved(row);
-            Some(at + 1)
-        }
-        Class::Keeps => {
-            rows.push_reserved(row);
-            None
-        }
+    let class = classes[candidate as usize - 1];
+    let stands = class.keeps_some();
+    push_where(stands, row, rows);
+    if class.leaves_some() {
+        Some(at + stands as u8)
+    } else {
+        None
     }
+}
+
+/// Puts a row behind the others if it is to stand there. It is written in either case, and left out
+/// again, so that no jump depends on which it is: none of the two is foretold well.
+fn push_where(stands: bool, row: Row, rows: &mut Vec<Row>)
+    requires room { vec_len rows.old < vec_capacity rows.old }
+    ensures capacity { vec_capacity rows.new ≡ vec_capacity rows.old }
+    ensures few { vec_len rows.new ≤ vec_len rows.old + 1 }
+    ensures pushed { stands ≡ true → rows.new.items ≡ rows.old.items ++ row ∷ [] }
+    ensures left_out { stands ≡ false → rows.new.items ≡ rows.old.items }
+{
+    let len = rows.len();
+    rows.push_reserved(row);
+    rows.truncate(len + stands as usize);
 }
