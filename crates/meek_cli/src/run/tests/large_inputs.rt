@@ -25,7 +25,11 @@ fn run_into<R: Threads + Wait + Sync, K: Sink>(
 #[test]
 fn refuses_a_long_input(rt: HostRuntime) -> Result<(), Fail> {
     let cases: [(&str, usize, &[u8]); 2] = [
-        ("count --lots 1", 67_108_864, b"refused TooLong at 67108864\n"),
+        (
+            "count --lots 1",
+            67_108_864,
+            b"refused TooLong at 67108864\n",
+        ),
         ("day", 16_777_216, b"refused TooLong at 16777216\n"),
     ];
     for (words, limit, line) in cases {
