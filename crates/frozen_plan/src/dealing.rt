@@ -15,19 +15,17 @@ mod tests;
 
 impl Plans {
     /// Deals the lines of ballots out among so many shards, the first line to the first shard, and
-    /// makes a plan of what each gets.
-    pub fn dealt(alloc: Global, ballots: &Ballots, shards: u32) -> Result<Plans, NoMemory>
+    /// makes a plan of what each gets. The ballots are let go before the first plan is made.
+    pub fn dealt(alloc: Global, ballots: Ballots, shards: u32) -> Result<Plans, NoMemory>
         requires shards { 1 ≤ shards }
-        requires candidates { (1 ≤ ballots.now.candidates) × (ballots.now.candidates ≤ 250) }
+        requires candidates { (1 ≤ ballots.candidates) × (ballots.candidates ≤ 250) }
         ensures as_many { IfOk result (λ plans. length plans ≡ shards) }
-        ensures candidates { IfOk result (All (λ plan. plan.candidates ≡ ballots.now.candidates)) }
-        ensures shares { IfOk result (AreOfShares shards 1 ballots.now.lines) }
-        ensures ballots { IfOk result (λ plans. IsPermutation (all_ballots plans) (plain ballots.now.lines)) }
+        ensures candidates { IfOk result (All (λ plan. plan.candidates ≡ ballots.candidates)) }
+        ensures shares { IfOk result (AreOfShares shards 1 ballots.lines) }
+        ensures ballots { IfOk result (λ plans. IsPermutation (all_ballots plans) (plain ballots.lines)) }
     {
         let candidates = ballots.candidates();
-        let lines = ballots.lines();
-        let mut shares = empty_shares(alloc, shards, lines.len())?;
-        deal(candidates, lines, shares.as_mut_slice())?;
+        let mut shares = shares_of(alloc, ballots, shards)?;
         let mut plans = Plans::new(alloc);
         for shard in 0..shards {
             let plan = Plan::from_share(alloc, candidates, &mut shares[shard as usize])?;
@@ -45,6 +43,20 @@ pub(crate) fn add_plan(plans: &mut Plans, plan: Plan) -> Result<(), NoMemory>
         Ok(()) => Ok(()),
         Err(_) => Err(NoMemory),
     }
+}
+
+/// The lines of ballots, which are let go, dealt out to so many shares.
+fn shares_of(alloc: Global, ballots: Ballots, shards: u32) -> Result<Vec<Share>, NoMemory>
+    requires shards { 1 ≤ shards }
+    requires candidates { ballots.candidates ≤ 250 }
+    ensures as_many { IfOk result (λ shares. length shares.items ≡ shards) }
+    ensures dealt { IfOk result (λ shares. AreDealt ballots.candidates ballots.lines shares.items) }
+    ensures sound { IfOk result (λ _. IsSound ballots.candidates ballots.lines) }
+{
+    let lines = ballots.lines();
+    let mut shares = empty_shares(alloc, shards, lines.len())?;
+    deal(ballots.candidates(), lines, shares.as_mut_slice())?;
+    Ok(shares)
 }
 
 /// So many shares without lines, each with room for its part of so many.

@@ -23,17 +23,17 @@ impl Plans {
     pub fn dealt_by<R: Threads + Sync>(
         rt: &R,
         alloc: Global,
-        ballots: &Ballots,
+        ballots: Ballots,
         shards: u32,
         workers: u32,
     ) -> Result<Plans, NoMemory>
         requires shards { 1 ≤ shards }
         requires workers { 1 ≤ workers }
-        requires candidates { (1 ≤ ballots.now.candidates) × (ballots.now.candidates ≤ 250) }
+        requires candidates { (1 ≤ ballots.candidates) × (ballots.candidates ≤ 250) }
         ensures as_many { IfOk result (λ plans. length plans ≡ shards) }
-        ensures candidates { IfOk result (All (λ plan. plan.candidates ≡ ballots.now.candidates)) }
-        ensures shares { IfOk result (AreOfShares shards 1 ballots.now.lines) }
-        ensures ballots { IfOk result (λ plans. IsPermutation (all_ballots plans) (plain ballots.now.lines)) }
+        ensures candidates { IfOk result (All (λ plan. plan.candidates ≡ ballots.candidates)) }
+        ensures shares { IfOk result (AreOfShares shards 1 ballots.lines) }
+        ensures ballots { IfOk result (λ plans. IsPermutation (all_ballots plans) (plain ballots.lines)) }
     {
         if workers == 1 {
             return Plans::dealt(alloc, ballots, shards);

@@ -103,7 +103,7 @@ fn deal<R: Threads + Sync>(
 {
     lines_stand_for_ballots();
     let _sound = ballots.lines();
-    Plans::dealt_by(rt, alloc, &ballots, split.shards(), split.workers())
+    Plans::dealt_by(rt, alloc, ballots, split.shards(), split.workers())
 }
 
 /// Counts what a distribution holds and writes the sheet. All memory is taken before the first byte.

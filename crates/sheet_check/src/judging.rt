@@ -104,7 +104,7 @@ fn plan_of(alloc: Global, ballots: Ballots) -> Result<Plans, NoMemory>
 {
     lines_stand_for_ballots();
     let _sound = ballots.lines();
-    match Plans::dealt(alloc, &ballots, 1) {
+    match Plans::dealt(alloc, ballots, 1) {
         Ok(plans) => Ok(plans),
         Err(_) => Err(NoMemory),
     }

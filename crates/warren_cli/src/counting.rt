@@ -38,7 +38,7 @@ pub(crate) fn count<K: Sink>(alloc: Global, lots: &[u32], input: &[u8], sink: &m
         Ok(contest) => contest,
         Err(stop) => return refuse_input(sink, stop),
     };
-    let Ok(plans) = plans_of(alloc, &ballots) else {
+    let Ok(plans) = plans_of(alloc, ballots) else {
         return End::NoMemory;
     };
     let Ok(spread) = WarrenSpread::begin(alloc, plans, roll.candidates()) else {
@@ -48,10 +48,10 @@ pub(crate) fn count<K: Sink>(alloc: Global, lots: &[u32], input: &[u8], sink: &m
 }
 
 /// All the ballots as one plan.
-fn plans_of(alloc: Global, ballots: &Ballots) -> Result<Plans, frozen_plan::NoMemory>
-    requires { (1 ≤ ballots.now.candidates) × (ballots.now.candidates ≤ 250) }
-    ensures candidates { IfOk result (All (λ plan. plan.candidates ≡ ballots.now.candidates)) }
-    ensures ballots { IfOk result (λ plans. IsPermutation (all_ballots plans) (plain ballots.now.lines)) }
+fn plans_of(alloc: Global, ballots: Ballots) -> Result<Plans, frozen_plan::NoMemory>
+    requires { (1 ≤ ballots.candidates) × (ballots.candidates ≤ 250) }
+    ensures candidates { IfOk result (All (λ plan. plan.candidates ≡ ballots.candidates)) }
+    ensures ballots { IfOk result (λ plans. IsPermutation (all_ballots plans) (plain ballots.lines)) }
     ensures few { IfOk result (λ plans. length (all_ballots plans) ≤ 999999999) }
 {
     lines_stand_for_ballots();

@@ -38,7 +38,7 @@ fn plans_of(alloc: Global, ballots: &Ballots) -> Result<Plans, Fail>
 {
     lines_stand_for_ballots();
     let _sound = ballots.lines();
-    let plans = Plans::dealt(alloc, ballots, 2)?;
+    let plans = Plans::dealt(alloc, ballots.copy(alloc)?, 2)?;
     Ok(plans)
 }
 

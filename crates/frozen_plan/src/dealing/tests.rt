@@ -23,7 +23,7 @@ fn five_lines(alloc: Global) -> Result<Ballots, Fail>
 fn totals(alloc: Global, shards: u32) -> Result<Vec<u64>, Fail>
     requires { 1 ≤ shards }
 {
-    let plans = Plans::dealt(alloc, &five_lines(alloc)?, shards)?;
+    let plans = Plans::dealt(alloc, five_lines(alloc)?, shards)?;
     let totals = plans
         .items()
         .iter()
@@ -55,7 +55,7 @@ fn each_plan_has_its_share(rt: HostRuntime) -> Result<(), Fail> {
         row(1, 2, 1, 1),
     ];
     let even = [row(0, 0, 5, 2), row(1, 3, 1, 1)];
-    let mut plans = Plans::dealt(alloc, &five_lines(alloc)?, 2)?;
+    let mut plans = Plans::dealt(alloc, five_lines(alloc)?, 2)?;
     assert_eq!(rt; plans.len(), 2);
     assert_eq!(rt; plans.get(0).rows(), odd.as_slice());
     plans.reverse();
@@ -64,7 +64,7 @@ fn each_plan_has_its_share(rt: HostRuntime) -> Result<(), Fail> {
         Some(plan) => assert_eq!(rt; plan.rows(), odd.as_slice()),
         None => assert!(rt; false),
     }
-    let empty = Plans::dealt(alloc, &no_ballots(alloc), 1)?;
+    let empty = Plans::dealt(alloc, no_ballots(alloc), 1)?;
     assert_eq!(rt; empty.get(0).rows(), [row(0, 0, 0, 1)].as_slice());
     Ok(())
 }
@@ -84,7 +84,7 @@ fn equal_lines_are_counted_together(rt: HostRuntime) -> Result<(), Fail> {
         row(2, 2, 5, 1),
         row(1, 3, 1, 1),
     ];
-    let plans = Plans::dealt(alloc, &ballots, 1)?;
+    let plans = Plans::dealt(alloc, ballots, 1)?;
     assert_eq!(rt; plans.get(0).rows(), rows.as_slice());
     Ok(())
 }
@@ -112,7 +112,7 @@ fn long_rankings_that_begin_alike_come_into_order(rt: HostRuntime) -> Result<(),
         row(10, 10, 1, 1),
         row(9, 10, 6, 1),
     ];
-    let plans = Plans::dealt(alloc, &ballots, 1)?;
+    let plans = Plans::dealt(alloc, ballots, 1)?;
     assert_eq!(rt; plans.get(0).rows(), rows.as_slice());
     Ok(())
 }

@@ -23,11 +23,11 @@ fn two_shards<R: Threads + Abort + Sync>(rt: &R, alloc: Global, workers: u32) ->
         row(1, 2, 1, 1),
     ];
     let even = [row(0, 0, 5, 2), row(1, 3, 1, 1)];
-    let plans = Plans::dealt_by(rt, alloc, &ballots, 2, workers)?;
+    let plans = Plans::dealt_by(rt, alloc, ballots.copy(alloc)?, 2, workers)?;
     assert_eq!(rt; plans.len(), 2);
     assert_eq!(rt; plans.get(0).rows(), odd.as_slice());
     assert_eq!(rt; plans.get(1).rows(), even.as_slice());
-    let many = Plans::dealt_by(rt, alloc, &ballots, 7, workers)?;
+    let many = Plans::dealt_by(rt, alloc, ballots, 7, workers)?;
     let totals = many
         .items()
         .iter()

@@ -58,7 +58,7 @@ fn plans_of(alloc: Global, ballots: &Ballots, shards: u32) -> Result<Plans, Fail
 {
     lines_stand_for_ballots();
     let _sound = ballots.lines();
-    let plans = Plans::dealt(alloc, ballots, shards)?;
+    let plans = Plans::dealt(alloc, ballots.copy(alloc)?, shards)?;
     Ok(plans)
 }
 

@@ -13,19 +13,19 @@ use Rattle.frozen_plan.proofs.plans.Plans.dealt.Goals as goal
 
 pub from_share-requires-clause-few : goal.from_share-requires-clause-few
 from_share-requires-clause-few c =
-    let lines = c.args.ballots.now.lines in
+    let lines = c.args.ballots.lines in
     let shard = c.loop-shard.shard in
     let now = c.index_mut.result.now in
     let dealt = c.loop-shard.invariant.left shard now (omega arith) c.loop-shard-test.true in
-    omega (arith, share_counted c.args.ballots.now.candidates c.args.shards (shard + 1) lines (get_or c.loop-shard.shares.items shard now) dealt, ap (λ (s : Share). line_count s.lines.items) c.index_mut.ensures.value, c.lines-lines.ensures.sound.bounded)
+    omega (arith, share_counted c.args.ballots.candidates c.args.shards (shard + 1) lines (get_or c.loop-shard.shares.items shard now) dealt, ap (λ (s : Share). line_count s.lines.items) c.index_mut.ensures.value, c.in_ok-shares.ensures.sound.bounded)
 
 pub loop-shard-preserved : goal.loop-shard-preserved
 loop-shard-preserved c =
     let plans = c.loop-shard.plans in
     let plan = c.in_ok-plan.plan in
     let n = c.args.shards in
-    let candidates = c.args.ballots.now.candidates in
-    let lines = c.args.ballots.now.lines in
+    let candidates = c.args.ballots.candidates in
+    let lines = c.args.ballots.lines in
     let shard = c.loop-shard.shard in
     let shares = c.loop-shard.shares.items in
     let now = c.index_mut.result.now in
@@ -50,4 +50,4 @@ pub returns-clause-ballots : goal.returns-clause-ballots
 returns-clause-ballots c =
     let before = c.loop-shard.invariant in
     let all : length c.loop-shard.plans ≡ c.args.shards = omega (arith, before.as_many, c.loop-shard-test.false) in
-    shares_are_all c.args.shards c.args.ballots.now.lines c.loop-shard.plans c.requires.shards all before.shares
+    shares_are_all c.args.shards c.args.ballots.lines c.loop-shard.plans c.requires.shards all before.shares

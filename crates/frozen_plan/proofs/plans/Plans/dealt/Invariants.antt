@@ -7,8 +7,8 @@ use Rattle.frozen_plan.proofs.plans.Plans.dealt.Given as goal
 abbrev pub invariant-loop-shard : goal.invariant-loop-shard
 invariant-loop-shard l = record {
   as_many : length l.plans ≡ l.shard;
-  candidates : All (λ plan. plan.candidates ≡ l.ballots.candidates) l.plans;
-  shares : AreOfShares l.fn.shards 1 l.ballots.lines l.plans;
+  candidates : All (λ plan. plan.candidates ≡ l.fn.ballots.candidates) l.plans;
+  shares : AreOfShares l.fn.shards 1 l.fn.ballots.lines l.plans;
   room : length l.shares.items ≡ l.fn.shards;
-  left : (s : ℕ) (d : Share) → l.shard ≤ s → s < l.fn.shards → IsDealt l.ballots.candidates l.fn.shards (s + 1) l.ballots.lines (get_or l.shares.items s d);
+  left : (s : ℕ) (d : Share) → l.shard ≤ s → s < l.fn.shards → IsDealt l.fn.ballots.candidates l.fn.shards (s + 1) l.fn.ballots.lines (get_or l.shares.items s d);
 }
