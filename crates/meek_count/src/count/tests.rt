@@ -53,16 +53,47 @@ fn begin<'e, const P: usize>(
     Ok(Count::begin(alloc, roll, lots, FlatSpread::new(ballots), omega)?)
 }
 
-/// What candidate 1 keeps and has, the total, the quota and the surplus are these, and the step.
-fn check<const P: usize>(rt: &impl Abort, row: &Row<P>, amounts: [u64; 5], step: Step) {
+/// Makes an iteration, which writes this row: its round and iteration, what candidate 1 keeps and has,
+/// the total, the quota and the surplus, who is tied, and the step.
+fn iterates<const P: usize>(
+    rt: &impl Abort,
+    count: &mut Count<'_, P, FlatSpread>,
+    place: (u32, u64),
+    amounts: [u64; 5],
+    tied: &[bool],
+    step: Step,
+) {
+    assert_eq!(rt; count.next(), Turn::Iterated);
+    let row = count.row();
     assert!(rt; row.keeps.len() > 0);
     assert!(rt; row.votes.len() > 0);
+    assert_eq!(rt; (row.round, row.iteration), place);
     assert_eq!(rt; row.keeps.get(0).units(), amounts[0]);
     assert_eq!(rt; row.votes.get(0).units(), amounts[1]);
     assert_eq!(rt; row.total.units(), amounts[2]);
     assert_eq!(rt; row.quota.units(), amounts[3]);
     assert_eq!(rt; row.surplus.units(), amounts[4]);
+    assert_eq!(rt; row.tied.items(), tied);
     assert_eq!(rt; row.step, step);
+}
+
+/// Makes so many iterations.
+fn goes_on(rt: &impl Abort, count: &mut Count<'_, 9, FlatSpread>, times: u32) {
+    for _ in 0..times {
+        assert_eq!(rt; count.next(), Turn::Iterated);
+    }
+}
+
+/// The count is at its end, with these states, and a further call changes nothing.
+fn finishes<const P: usize>(
+    rt: &impl Abort,
+    count: &mut Count<'_, P, FlatSpread>,
+    states: &[State],
+) {
+    for _ in 0..2 {
+        assert_eq!(rt; count.next(), Turn::Finished);
+        assert_eq!(rt; count.states().items(), states);
+    }
 }
 
 #[test]
@@ -73,15 +104,8 @@ fn all_are_elected_at_once(rt: HostRuntime) -> Result<(), Fail> {
     let mut ballots = Ballots::new(alloc, 2);
     add(alloc, &mut ballots, 1, &[1])?;
     let mut count = begin::<9>(&rt, alloc, &roll, &lots, ballots, Amount::from_units(1_000))?;
-    assert_eq!(rt; count.ballots(), 1);
-    assert_eq!(rt; count.roll().seats(), 3);
-    for _ in 0..2 {
-        assert_eq!(rt; count.next(), Turn::Finished);
-        assert_eq!(rt;
-            count.states().items(),
-            [State::Elected, State::Elected].as_slice()
-        );
-    }
+    assert_eq!(rt; (count.ballots(), count.roll().seats()), (1, 3));
+    finishes(&rt, &mut count, &[State::Elected, State::Elected]);
     Ok(())
 }
 
@@ -94,18 +118,22 @@ fn a_tie_is_broken_by_lots(rt: HostRuntime) -> Result<(), Fail> {
     add(alloc, &mut ballots, 1, &[1])?;
     add(alloc, &mut ballots, 1, &[2])?;
     let mut count = begin::<9>(&rt, alloc, &roll, &lots, ballots, Amount::from_units(1_000))?;
-    assert_eq!(rt; count.next(), Turn::Iterated);
-    let row = count.row();
-    assert_eq!(rt; row.step, Step::Defeat(2));
-    assert_eq!(rt; row.total.units(), 2_000_000_000);
-    assert_eq!(rt; row.quota.units(), 1_000_000_001);
-    assert_eq!(rt; row.surplus.units(), 0);
-    assert_eq!(rt; row.tied.items(), [true, true].as_slice());
-    assert_eq!(rt; count.next(), Turn::Finished);
-    assert_eq!(rt;
-        count.states().items(),
-        [State::Elected, State::Defeated].as_slice()
+    let amounts = [
+        1_000_000_000,
+        1_000_000_000,
+        2_000_000_000,
+        1_000_000_001,
+        0,
+    ];
+    iterates(
+        &rt,
+        &mut count,
+        (1, 1),
+        amounts,
+        &[true, true],
+        Step::Defeat(2),
     );
+    finishes(&rt, &mut count, &[State::Elected, State::Defeated]);
     Ok(())
 }
 
@@ -125,8 +153,9 @@ fn a_surplus_is_transferred_at_nine_places(rt: HostRuntime) -> Result<(), Fail> 
     let lots = Lots::try_new(alloc, &[1, 2, 3], 3)?;
     let ballots = ten_four_three(alloc)?;
     let mut count = begin::<9>(&rt, alloc, &roll, &lots, ballots, Amount::from_units(1_000))?;
-    for (amounts, step) in [
+    for (place, amounts, step) in [
         (
+            (1, 1),
             [
                 1_000_000_000,
                 10_000_000_000,
@@ -137,6 +166,7 @@ fn a_surplus_is_transferred_at_nine_places(rt: HostRuntime) -> Result<(), Fail> 
             Step::Elected,
         ),
         (
+            (2, 1),
             [
                 1_000_000_000,
                 10_000_000_000,
@@ -147,6 +177,7 @@ fn a_surplus_is_transferred_at_nine_places(rt: HostRuntime) -> Result<(), Fail> 
             Step::Iterate,
         ),
         (
+            (2, 2),
             [
                 566_666_667,
                 5_666_666_670,
@@ -157,6 +188,7 @@ fn a_surplus_is_transferred_at_nine_places(rt: HostRuntime) -> Result<(), Fail> 
             Step::Iterate,
         ),
         (
+            (2, 3),
             [
                 422_222_223,
                 4_222_222_230,
@@ -167,13 +199,19 @@ fn a_surplus_is_transferred_at_nine_places(rt: HostRuntime) -> Result<(), Fail> 
             Step::Elected,
         ),
     ] {
-        assert_eq!(rt; count.next(), Turn::Iterated);
-        check(&rt, count.row(), amounts, step);
+        iterates(
+            &rt,
+            &mut count,
+            place,
+            amounts,
+            &[false, false, false],
+            step,
+        );
     }
-    assert_eq!(rt; count.next(), Turn::Finished);
-    assert_eq!(rt;
-        count.states().items(),
-        [State::Elected, State::Elected, State::Defeated].as_slice()
+    finishes(
+        &rt,
+        &mut count,
+        &[State::Elected, State::Elected, State::Defeated],
     );
     Ok(())
 }
@@ -185,28 +223,42 @@ fn a_surplus_is_transferred_at_six_places(rt: HostRuntime) -> Result<(), Fail> {
     let lots = Lots::try_new(alloc, &[1, 2, 3], 3)?;
     let ballots = ten_four_three(alloc)?;
     let mut count = begin::<6>(&rt, alloc, &roll, &lots, ballots, Amount::from_units(1))?;
-    for (amounts, step) in [
+    for (place, amounts, step) in [
         (
+            (1, 1),
             [1_000_000, 10_000_000, 17_000_000, 5_666_667, 4_333_333],
             Step::Elected,
         ),
         (
+            (2, 1),
             [1_000_000, 10_000_000, 17_000_000, 5_666_667, 4_333_333],
             Step::Iterate,
         ),
         (
+            (2, 2),
             [566_667, 5_666_670, 12_666_670, 4_222_224, 1_444_446],
             Step::Iterate,
         ),
         (
+            (2, 3),
             [422_223, 4_222_230, 11_222_230, 3_740_744, 740_742],
             Step::Elected,
         ),
     ] {
-        assert_eq!(rt; count.next(), Turn::Iterated);
-        check(&rt, count.row(), amounts, step);
+        iterates(
+            &rt,
+            &mut count,
+            place,
+            amounts,
+            &[false, false, false],
+            step,
+        );
     }
-    assert_eq!(rt; count.next(), Turn::Finished);
+    finishes(
+        &rt,
+        &mut count,
+        &[State::Elected, State::Elected, State::Defeated],
+    );
     Ok(())
 }
 
@@ -218,19 +270,20 @@ fn a_lone_ballot_is_lost_bit_by_bit(rt: HostRuntime) -> Result<(), Fail> {
     let mut ballots = Ballots::new(alloc, 3);
     add(alloc, &mut ballots, 1, &[1])?;
     let mut count = begin::<9>(&rt, alloc, &roll, &lots, ballots, Amount::from_units(1_000))?;
-    for _ in 0..12 {
-        assert_eq!(rt; count.next(), Turn::Iterated);
-    }
-    assert_eq!(rt; count.next(), Turn::Iterated);
+    goes_on(&rt, &mut count, 12);
     let last = [52_313, 52_313, 52_313, 17_438, 34_875];
-    check(&rt, count.row(), last, Step::Defeat(2));
-    assert_eq!(rt; count.row().tied.items(), [false, true, true].as_slice());
-    assert_eq!(rt; count.row().round, 2);
-    assert_eq!(rt; count.row().iteration, 12);
-    assert_eq!(rt; count.next(), Turn::Finished);
-    assert_eq!(rt;
-        count.states().items(),
-        [State::Elected, State::Defeated, State::Elected].as_slice()
+    iterates(
+        &rt,
+        &mut count,
+        (2, 12),
+        last,
+        &[false, true, true],
+        Step::Defeat(2),
+    );
+    finishes(
+        &rt,
+        &mut count,
+        &[State::Elected, State::Defeated, State::Elected],
     );
     Ok(())
 }
