@@ -3,4 +3,4 @@ mod OrderLemmas
 mod StandingLemmas
 pub mod LawfulLemmas
 mod HistoryLemmas
-mod StruckLemmas
+pub mod StruckLemmas

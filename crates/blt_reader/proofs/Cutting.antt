@@ -9,9 +9,9 @@ use Rattle.blt_reader.specs.Token.{Item, Number, Text, Word, AtEnd, AtFault, end
 use Rattle.blt_reader.specs.Scan.{Gap, Lexeme, Wrong, Unclosed, piece, beginning, cut}
 use Rattle.std.specs.List.{AllPass, prefix_len, take_while}
 use Rattle.std.specs.Char.{is_ascii_digit, is_ascii_lowercase}
-use Rattle.blt_reader.specs.Scan.{is_separator, is_in_string, number, may_follow, number_piece}
+use Rattle.blt_reader.specs.Scan.{is_separator, is_in_string, number, may_end, may_follow, number_piece}
 use Rattle.blt_reader.specs.Reader.{said, IsTokenAt}
-use Rattle.blt_reader.specs.Usual.{may_end, IsUsualNumber}
+use Rattle.blt_reader.specs.ShortNumber.{IsShortNumber}
 
 -- bytes that are skipped only move the place
 pub skipped : (letters : Bool) (at n : ℕ) (bytes : List ℕ) → n ≤ length bytes → cut letters at n bytes ≡ cut letters (at + n) 0 (drop n bytes)
@@ -116,7 +116,7 @@ separator_ends : (b : ℕ) → is_separator b ≡ true → may_end b ≡ true
 separator_ends b is = grind arith
 
 -- what comes from a place on where a short number stands, and then a separator
-pub over_number : (letters : Bool) (bytes : List ℕ) (from n len : ℕ) → from ≤ length bytes → IsUsualNumber (drop from bytes) n len → cut letters 0 from bytes ≡ with_front (record { at = from; item = Number n }) (cut letters 0 (from + len) bytes)
+pub over_number : (letters : Bool) (bytes : List ℕ) (from n len : ℕ) → from ≤ length bytes → IsShortNumber (drop from bytes) n len → cut letters 0 from bytes ≡ with_front (record { at = from; item = Number n }) (cut letters 0 (from + len) bytes)
 over_number letters bytes from n len within is =
     let xs = drop from bytes in
     let digits = len - 1 in

@@ -1,6 +1,6 @@
 mod Runs
 mod Cutting
-mod UsualNumbers
+mod ShortNumbers
 pub mod Judgements
 pub mod Tables
 pub mod BallotSoundness

@@ -1,7 +1,7 @@
 pub mod Token
 pub mod Scan
 pub mod Reader
-pub mod Usual
+pub mod ShortNumber
 pub mod Pieces
 pub mod Poll
 pub mod Election
@@ -10,6 +10,7 @@ pub mod Blt
 pub mod BallotTable
 pub mod BltTable
 pub mod Front
+pub mod FaultWords
 pub mod Refusal
 pub mod Reads
 pub mod Opening

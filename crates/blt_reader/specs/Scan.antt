@@ -22,10 +22,14 @@ is_in_string b = nat_le 32 b && not (b == 34)
 abbrev pub number : List ℕ → ℕ
 number digits = min (digits_value 10 digits) 4294967295
 
+-- a byte that may stand right behind a token
+abbrev pub may_end : ℕ → Bool
+may_end b = is_separator b || b == 35
+
 -- A separator, a '#' or the end stands at the front.
 abbrev pub may_follow : List ℕ → Bool
 may_follow [] = true
-may_follow (b ∷ rest) = is_separator b || b == 35
+may_follow (b ∷ rest) = may_end b
 
 -- What stands at the front of a text: n bytes that belong to no token, a token of n bytes, a byte that may not
 -- stand there behind n others, or a string that is not closed within the n bytes up to the end.

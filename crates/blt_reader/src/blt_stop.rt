@@ -15,10 +15,11 @@ pub enum BltStop {
 }
 
 impl BltStop {
-    pub(crate) fn refused(kind: FaultKind, at: usize) -> BltStop
+    /// The refusal of an input at a place in it.
+    pub fn refused(kind: FaultKind, at: usize) -> BltStop
         ensures { result ≡ fault (record { kind = kind; at = at }) }
     {
-        BltStop::Fault(InputFault { kind, at })
+        BltStop::Fault(InputFault::new(kind, at))
     }
 }
 

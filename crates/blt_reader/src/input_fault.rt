@@ -1,3 +1,6 @@
+// A refusal of an input.
+ghost use Rattle.std.specs.Prelude.{◌≡◌};
+
 use crate::FaultKind;
 
 /// A refusal, and its place in the input in bytes from 0.
@@ -5,4 +8,12 @@ use crate::FaultKind;
 pub struct InputFault {
     pub kind: FaultKind,
     pub at: usize,
+}
+
+impl InputFault {
+    pub fn new(kind: FaultKind, at: usize) -> InputFault
+        ensures { result ≡ record { kind = kind; at = at } }
+    {
+        InputFault { kind, at }
+    }
 }

@@ -15,9 +15,9 @@ mod next;
 mod opening;
 mod pieces;
 mod rolls;
+mod short_number;
 mod token;
 mod tokens;
-mod usual;
 mod what;
 mod worked;
 

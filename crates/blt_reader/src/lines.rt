@@ -50,16 +50,16 @@ pub(crate) fn read_lines_from(
     ensures lines { IfOk result (λ b. AreLines candidates most b.lines) }
     ensures behind { IsBehind tokens.old tokens.new }
 {
-    let mut near = tokens.same();
-    let found = read_lines_near(alloc, &mut near, candidates, most, refusal, first);
-    *tokens = near;
+    let mut ahead = tokens.same();
+    let found = read_lines_ahead(alloc, &mut ahead, candidates, most, refusal, first);
+    *tokens = ahead;
     found
 }
 
 // The same over tokens that nobody else sees, so that their place can stay in a register.
 #[tactic(auto, using(crate::proofs::Reading::behind_trans))]
 #[inline(always)]
-fn read_lines_near(
+fn read_lines_ahead(
     alloc: Global,
     tokens: &mut Tokens<'_>,
     candidates: u32,
@@ -112,7 +112,7 @@ fn read_ranks(
     ensures behind { IsBehind tokens.old tokens.new }
 {
     named.clear();
-    let (mut len, has_ended) = usual_ranks(tokens, candidates, named, ranks);
+    let (mut len, has_ended) = short_ranks(tokens, candidates, named, ranks);
     if has_ended {
         return Ok(len);
     }
@@ -132,11 +132,11 @@ fn read_ranks(
     }
 }
 
-// As many ranks as are usual numbers and may stand there, and whether the 0 behind them was one too.
+// As many ranks as are short numbers and may stand there, and whether the 0 behind them was one too.
 // Nothing is called in the loop, so that all of it stays in registers.
 #[tactic(auto, using(crate::proofs::Reading::behind_trans))]
 #[inline(never)]
-fn usual_ranks(
+fn short_ranks(
     tokens: &mut Tokens<'_>,
     candidates: u32,
     named: &mut Named,
@@ -155,16 +155,16 @@ fn usual_ranks(
     ensures fewer { result.1 ≡ true → tokens_left tokens.new < tokens_left tokens.old }
     ensures behind { IsBehind tokens.old tokens.new }
 {
-    let mut near = tokens.same();
+    let mut ahead = tokens.same();
     let mut len = 0;
-    while let Some((n, _)) = near.next_unnamed(candidates, named) {
+    while let Some((n, _)) = ahead.next_unnamed(candidates, named) {
         named.mark(n as usize);
         ranks[len] = n;
         len += 1;
     }
-    let nought = near.next_nought();
-    *tokens = near;
-    match nought {
+    let ending = ahead.next_zero();
+    *tokens = ahead;
+    match ending {
         Some(_) => (len, true),
         None => (len, false),
     }

@@ -7,7 +7,7 @@ use std::marker::Model;
 /// A mark for each of so many numbers from 0. A number is marked where its stamp is that of the
 /// round, so that a new round takes all marks away.
 #[derive(Drop)]
-pub struct Named {
+pub(crate) struct Named {
     stamps: Vec<u32>,
     round: u32,
 }
@@ -24,7 +24,7 @@ impl Model for Named {
 
 impl Named {
     /// No number is marked.
-    pub fn new(alloc: Global, numbers: usize) -> Result<Named, AllocError>
+    pub(crate) fn new(alloc: Global, numbers: usize) -> Result<Named, AllocError>
         ensures { IfOk result (λ named. named ≡ replicate numbers false) }
     {
         let stamps = vec![in alloc; 0; numbers]?;
@@ -32,7 +32,7 @@ impl Named {
     }
 
     /// Takes all marks away.
-    pub fn clear(&mut self)
+    pub(crate) fn clear(&mut self)
         ensures { self.new ≡ replicate (length self.old) false }
     {
         if self.round == u32::MAX {
@@ -44,7 +44,7 @@ impl Named {
 
     /// Whether a number is marked.
     #[inline(always)]
-    pub fn has(&self, number: usize) -> bool
+    pub(crate) fn has(&self, number: usize) -> bool
         requires { number < length self.now }
         ensures { result ≡ slice_index_or self.now number false }
     {
@@ -52,7 +52,7 @@ impl Named {
     }
 
     /// Marks a number, and says whether it was marked.
-    pub fn mark(&mut self, number: usize) -> bool
+    pub(crate) fn mark(&mut self, number: usize) -> bool
         requires { number < length self.old }
         ensures was { result ≡ slice_index_or self.old number false }
         ensures after { self.new ≡ slice_set self.old number true }

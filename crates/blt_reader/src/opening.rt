@@ -12,7 +12,7 @@ use std::alloc::Global;
 /// The numbers of candidates and seats, each withdrawn candidate once, and the first count, which
 /// ends their list, with its place.
 #[derive(Drop)]
-pub struct Opening {
+pub(crate) struct Opening {
     pub candidates: u32,
     pub seats: u32,
     pub withdrawn: Vec<u32>,
@@ -20,7 +20,7 @@ pub struct Opening {
 }
 
 #[tactic(auto, using(crate::proofs::Reading::behind_trans))]
-pub fn read_opening(alloc: Global, tokens: &mut Tokens<'_>) -> Result<Opening, BltStop>
+pub(crate) fn read_opening(alloc: Global, tokens: &mut Tokens<'_>) -> Result<Opening, BltStop>
     ensures reads { ReadsOpening tokens.old.rest result tokens.new.rest }
     ensures sound { IfOk result IsOpening }
     ensures behind { IsBehind tokens.old tokens.new }

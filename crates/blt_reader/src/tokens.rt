@@ -7,7 +7,7 @@ ghost use Rattle.blt_reader.specs.Reads.{IsBehind, IsEnded, Stops, as_number};
 
 use crate::named::Named;
 use crate::pieces::{Piece, first_piece};
-use crate::usual::{is_separator, usual_number};
+use crate::short_number::{is_separator, short_number};
 use crate::{FaultKind, InputFault, Next, Token, What};
 use std::marker::Model;
 
@@ -71,7 +71,7 @@ fn next_from(bytes: &[u8], letters: bool, from: usize) -> (Next, usize)
 fn fault(kind: FaultKind, at: usize) -> Next
     ensures { result ≡ Next.Fault (record { kind = kind; at = at }) }
 {
-    Next::Fault(InputFault { kind, at })
+    Next::Fault(InputFault::new(kind, at))
 }
 
 // A number from a place on and its place, or why there is none, and the place behind. What is
@@ -93,19 +93,13 @@ fn number_from(
     match next {
         Next::Token(token) => match token.what {
             What::Number(n) => (Ok((n, token.at)), at),
-            What::Minus(_) => (Err(input_fault(FaultKind::BadNumber, token.at)), at),
-            What::Text => (Err(input_fault(FaultKind::BadNumber, token.at)), at),
-            What::Word => (Err(input_fault(FaultKind::BadNumber, token.at)), at),
+            What::Minus(_) => (Err(InputFault::new(FaultKind::BadNumber, token.at)), at),
+            What::Text => (Err(InputFault::new(FaultKind::BadNumber, token.at)), at),
+            What::Word => (Err(InputFault::new(FaultKind::BadNumber, token.at)), at),
         },
-        Next::End => (Err(input_fault(FaultKind::Ended, bytes.len())), at),
+        Next::End => (Err(InputFault::new(FaultKind::Ended, bytes.len())), at),
         Next::Fault(fault) => (Err(fault), at),
     }
-}
-
-fn input_fault(kind: FaultKind, at: usize) -> InputFault
-    ensures { result ≡ record { kind = kind; at = at } }
-{
-    InputFault { kind, at }
 }
 
 impl<'a> Tokens<'a> {
@@ -175,7 +169,7 @@ impl<'a> Tokens<'a> {
         ensures fault { IfErr result (λ fault. Stops as_number self.old.rest fault self.new.rest) }
         ensures behind { IsBehind self.old self.new }
     {
-        match self.next_usual() {
+        match self.next_short() {
             Some(found) => Ok(found),
             None => {
                 let (found, at) = number_from(self.bytes, self.letters, self.at);
@@ -185,14 +179,14 @@ impl<'a> Tokens<'a> {
         }
     }
 
-    // The same where it is a usual number of at most two digits. Else nothing is taken.
+    // The same where it is a short number of at most two digits. Else nothing is taken.
     #[inline(always)]
-    fn next_usual(&mut self) -> Option<(u32, usize)>
+    fn next_short(&mut self) -> Option<(u32, usize)>
         ensures number { IfSome result (λ found. self.old.rest ≡ with_front (record { at = found.1; item = Number found.0 }) self.new.rest) }
         ensures none { IfNone result (self.new ≡ self.old) }
         ensures behind { IsBehind self.old self.new }
     {
-        let (n, len) = usual_number(&self.bytes[self.at..], true)?;
+        let (n, len) = short_number(&self.bytes[self.at..], true)?;
         let at = self.at;
         self.at = at + len;
         Some((n, at))
@@ -208,7 +202,7 @@ impl<'a> Tokens<'a> {
         ensures none { IfNone result (self.new ≡ self.old) }
         ensures behind { IsBehind self.old self.new }
     {
-        let (n, len) = usual_number(&self.bytes[self.at..], candidates < 100)?;
+        let (n, len) = short_number(&self.bytes[self.at..], candidates < 100)?;
         if n == 0 || n > candidates || named.has(n as usize) {
             return None;
         }
@@ -217,14 +211,14 @@ impl<'a> Tokens<'a> {
         Some((n, at))
     }
 
-    // Whether the next token is a usual 0, and its place. It is taken then, and else nothing is.
+    // Whether the next token is a short 0, and its place. It is taken then, and else nothing is.
     #[inline(always)]
-    pub(crate) fn next_nought(&mut self) -> Option<usize>
+    pub(crate) fn next_zero(&mut self) -> Option<usize>
         ensures number { IfSome result (λ at. self.old.rest ≡ with_front (record { at = at; item = Number 0 }) self.new.rest) }
         ensures none { IfNone result (self.new ≡ self.old) }
         ensures behind { IsBehind self.old self.new }
     {
-        let (n, len) = usual_number(&self.bytes[self.at..], true)?;
+        let (n, len) = short_number(&self.bytes[self.at..], true)?;
         if n > 0 {
             return None;
         }

@@ -11,7 +11,7 @@ use Rattle.batch_core.specs.Histories.{IsLegal}
 use Rattle.batch_core.specs.Shards.{shard_of, is_of_shard}
 use Rattle.call_register.specs.Marks.{is_mark_of, marks_of, struck_by}
 use Rattle.call_register.specs.Walk.{left, followed}
-use Rattle.call_register.specs.Weaving.{Enough, Lists, weave_from, weave, mark_of, marks_in, part, parts}
+use Rattle.call_register.specs.Weaving.{HaveEntries, Lists, weave_from, weave, mark_of, marks_in, part, parts}
 use Rattle.call_register.specs.declared.mark.Mark.{Mark}
 use Rattle.call_register.proofs.Back.{woven_back}
 use Rattle.call_register.proofs.ShardBooks.{part-else}
@@ -73,7 +73,7 @@ module _ (shards : ℕ) where
           let more : Lists = λ s. (goes_on s).0 in
           let all : Lists = followed (parts shards history) more in
           let lists : parts shards longer ≡ all = λ i s. (goes_on s).1 i in
-          let enough : Enough (marks_in shards history) (parts shards history) = λ s. let e = marks_of_part s history in omega arith in
+          let enough : HaveEntries (marks_in shards history) (parts shards history) = λ s. let e = marks_of_part s history in omega arith in
           let front : weave (marks_in shards history) all ≡ history = entries_ahead (marks_in shards history) (parts shards history) more enough ∙ woven_back shards history legal in
           let rest = weave_from (struck_by (marks_in shards history)) marks.0 (left (marks_in shards history) all) in (
             rest,

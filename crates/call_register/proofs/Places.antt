@@ -6,14 +6,14 @@ use Rattle.batch_core.specs.declared.entry.Entry.{Entry}
 use Rattle.batch_core.specs.Book.{strike}
 use Rattle.call_register.specs.Marks.{is_mark_of, marks_of, struck_by}
 use Rattle.call_register.specs.Walk.{left}
-use Rattle.call_register.specs.Weaving.{Enough, Lists, first, without_first, weave_from, weave, freeze_entry, strike_entry}
+use Rattle.call_register.specs.Weaving.{HaveEntries, Lists, first, without_first, weave_from, weave, freeze_entry, strike_entry}
 use Rattle.call_register.specs.declared.mark.Mark.{Mark}
 use Rattle.call_register.specs.declared.mark.Mark.TheVariants.{Shard, Freeze, Strike}
 use Rattle.call_register.proofs.Woven.{enough_rest, marks-here}
 use Rattle.call_register.proofs.Sights.{weave-append, left_is}
 
 -- where each mark has its entry, there are as many entries as marks
-pub length_woven : (struck : List ℕ) (marks : List Mark) (lists : Lists) → Enough marks lists → length (weave_from struck marks lists) ≡ length marks
+pub length_woven : (struck : List ℕ) (marks : List Mark) (lists : Lists) → HaveEntries marks lists → length (weave_from struck marks lists) ≡ length marks
 length_woven struck [] lists enough = refl
 length_woven struck (Freeze c ∷ marks) lists enough = ap suc (length_woven struck marks lists enough)
 length_woven struck (Strike c k ∷ marks) lists enough = ap suc (length_woven (strike struck k) marks lists enough)
@@ -35,7 +35,7 @@ at_end [] ys e = refl
 at_end (x ∷ xs) ys e = at_end xs ys e
 
 -- what the mark stands for, once the marks before it have their entries
-at_mark : (before after : List Mark) (m : Mark) (lists : Lists) (e : Entry) (more : List Entry) → Enough before lists
+at_mark : (before after : List Mark) (m : Mark) (lists : Lists) (e : Entry) (more : List Entry) → HaveEntries before lists
     → weave_from (struck_by before) (m ∷ after) (left before lists) ≡ e ∷ more
     → slice_get (weave (before ++ m ∷ after) lists) (length before) ≡ Some e
 at_mark before after m lists e more enough next =
@@ -44,23 +44,23 @@ at_mark before after m lists e more enough next =
     (λ i. slice_get (whole i) (sym (length_woven [] before lists enough) i)) ∙ at_end (weave before lists) more e
 
 -- a shard's mark stands for the entry that has as many before it as the shard has marks before this one
-pub change_at : (s : ℕ) (before after : List Mark) (lists : Lists) → Enough (before ++ Shard s ∷ after) lists
+pub change_at : (s : ℕ) (before after : List Mark) (lists : Lists) → HaveEntries (before ++ Shard s ∷ after) lists
     → slice_get (weave (before ++ Shard s ∷ after) lists) (length before) ≡ slice_get (lists s) (marks_of s before)
 change_at s before after lists enough =
     let split : (t : ℕ) → marks_of t (before ++ Shard s ∷ after) ≡ marks_of t before + marks_of t (Shard s ∷ after) = λ t.
     ap length (filter-append (is_mark_of t) before (Shard s ∷ after)) ∙ length-append (filter (is_mark_of t) before) (filter (is_mark_of t) (Shard s ∷ after)) in
-    let front : Enough before lists = λ t. let a = enough t in let b = split t in omega arith in
+    let front : HaveEntries before lists = λ t. let a = enough t in let b = split t in omega arith in
     let inside : marks_of s before < length (lists s) = let a = enough s in let b = split s in let c = marks-here s s after refl in omega arith in
     let there = at_drop (lists s) (marks_of s before) inside in
     let next = weave_from (struck_by before) after (without_first (left before lists) s) in
     let here : first (left before lists s) ≡ there.0 ∷ [] = ap first (left_is s before lists) ∙ there.1 in
     at_mark before after (Shard s) lists there.0 next front (ap (λ l. l ++ next) here) ∙ sym there.2
 
-pub freeze_at : (c : ℕ) (before after : List Mark) (lists : Lists) → Enough before lists
+pub freeze_at : (c : ℕ) (before after : List Mark) (lists : Lists) → HaveEntries before lists
     → slice_get (weave (before ++ Freeze c ∷ after) lists) (length before) ≡ Some (freeze_entry c)
 freeze_at c before after lists enough = at_mark before after (Freeze c) lists (freeze_entry c) (weave_from (struck_by before) after (left before lists)) enough refl
 
-pub strike_at : (c k : ℕ) (before after : List Mark) (lists : Lists) → Enough before lists
+pub strike_at : (c k : ℕ) (before after : List Mark) (lists : Lists) → HaveEntries before lists
     → slice_get (weave (before ++ Strike c k ∷ after) lists) (length before) ≡ Some (strike_entry (struck_by before) c k)
 strike_at c k before after lists enough =
     at_mark before after (Strike c k) lists (strike_entry (struck_by before) c k) (weave_from (strike (struck_by before) k) after (left before lists)) enough refl

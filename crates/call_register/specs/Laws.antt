@@ -8,7 +8,7 @@ use Rattle.batch_core.specs.Lawful.{AreLawful}
 use Rattle.call_register.specs.declared.mark.Mark.{Mark}
 use Rattle.call_register.specs.declared.mark.Mark.TheVariants.{Shard, Freeze, Strike}
 use Rattle.call_register.specs.Marks.{MayMark, marks_of, strikes, struck_from, struck_by}
-use Rattle.call_register.specs.Weaving.{Lists, freeze_entry, strike_entry, weave_from, weave, Enough, Fit, marks_in, part, parts}
+use Rattle.call_register.specs.Weaving.{Lists, freeze_entry, strike_entry, weave_from, weave, HaveEntries, MatchEntries, marks_in, part, parts}
 use Rattle.call_register.specs.Woven.{AreOfShards, IsWoven}
 use Rattle.call_register.specs.Walk.{calls_seen, left, NoneBy, NoMarkBy, followed, with_one}
 
@@ -26,7 +26,7 @@ EveryOrderIsLawful =
 -- where each mark has its entry and each entry its mark, the law of weaving holds
 abbrev pub EveryFittingOrderIsWoven : Type 0
 EveryFittingOrderIsWoven =
-    (shards : ℕ) (marks : List Mark) (lists : Lists) → AreOfShards shards lists → Fit marks lists
+    (shards : ℕ) (marks : List Mark) (lists : Lists) → AreOfShards shards lists → MatchEntries marks lists
     → IsWoven shards marks lists (weave marks lists)
 
 -- every legal history is woven of its own marks and parts
@@ -67,12 +67,12 @@ MarksGoOn =
 -- entries that no mark reaches change nothing
 abbrev pub EntriesAheadChangeNothing : Type 0
 EntriesAheadChangeNothing =
-    (marks : List Mark) (lists more : Lists) → Enough marks lists → weave marks (followed lists more) ≡ weave marks lists
+    (marks : List Mark) (lists more : Lists) → HaveEntries marks lists → weave marks (followed lists more) ≡ weave marks lists
 
 -- a longer sight begins with the history of the shorter one
 abbrev pub LongerSightsBeginAlike : Type 0
 LongerSightsBeginAlike =
-    (n : ℕ) (marks after : List Mark) (lists more : Lists) → n ≤ length marks → Enough (take n marks) lists
+    (n : ℕ) (marks after : List Mark) (lists more : Lists) → n ≤ length marks → HaveEntries (take n marks) lists
     → take n (weave (marks ++ after) (followed lists more)) ≡ weave (take n marks) lists
 
 -- where the marks of one legal history begin those of another, and its parts the other's, it begins the other
@@ -105,22 +105,22 @@ StrikeIsTheLast =
 
 -- where each mark has its entry, there are as many calls as marks
 abbrev pub AsManyAsMarks : Type 0
-AsManyAsMarks = (marks : List Mark) (lists : Lists) → Enough marks lists → length (weave marks lists) ≡ length marks
+AsManyAsMarks = (marks : List Mark) (lists : Lists) → HaveEntries marks lists → length (weave marks lists) ≡ length marks
 
 -- at the place of a shard's mark stands the entry with as many before it in its list as the shard has marks before this one
 abbrev pub ChangeAtItsMark : Type 0
 ChangeAtItsMark =
-    (s : ℕ) (before after : List Mark) (lists : Lists) → Enough (before ++ Shard s ∷ after) lists
+    (s : ℕ) (before after : List Mark) (lists : Lists) → HaveEntries (before ++ Shard s ∷ after) lists
     → slice_get (weave (before ++ Shard s ∷ after) lists) (length before) ≡ slice_get (lists s) (marks_of s before)
 
 abbrev pub FreezeAtItsMark : Type 0
 FreezeAtItsMark =
-    (caller : ℕ) (before after : List Mark) (lists : Lists) → Enough before lists
+    (caller : ℕ) (before after : List Mark) (lists : Lists) → HaveEntries before lists
     → slice_get (weave (before ++ Freeze caller ∷ after) lists) (length before) ≡ Some (freeze_entry caller)
 
 abbrev pub StrikeAtItsMark : Type 0
 StrikeAtItsMark =
-    (caller candidate : ℕ) (before after : List Mark) (lists : Lists) → Enough before lists
+    (caller candidate : ℕ) (before after : List Mark) (lists : Lists) → HaveEntries before lists
     → slice_get (weave (before ++ Strike caller candidate ∷ after) lists) (length before)
     ≡ Some (strike_entry (struck_by before) caller candidate)
 

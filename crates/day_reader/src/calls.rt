@@ -10,7 +10,6 @@ ghost use Rattle.day_reader.specs.Reads.{ReadsCall, EndsTeam};
 
 use crate::keyword::Keyword;
 use crate::numbers::read_between;
-use crate::words::unexpected;
 use batch_core::{Call, Change};
 use blt_reader::{BltStop, FaultKind, InputFault, Tokens, read_lines};
 use std::alloc::Global;
@@ -26,7 +25,7 @@ const LAST: u32 = 9_999;
 
 /// The call that begins with this word at this place. `frozen` counts the freezes up to it.
 #[tactic(auto, using(blt_reader::proofs::Reading::behind_trans))]
-pub fn read_call(
+pub(crate) fn read_call(
     alloc: Global,
     tokens: &mut Tokens<'_>,
     candidates: u32,
@@ -45,7 +44,7 @@ pub fn read_call(
         Keyword::Withdraw => read_withdraw(tokens),
         Keyword::Strike => read_strike(tokens, candidates),
         Keyword::Freeze => count_freeze(at, frozen),
-        _ => Err(BltStop::Fault(unexpected(at))),
+        _ => Err(BltStop::refused(FaultKind::WordExpected, at)),
     }
 }
 

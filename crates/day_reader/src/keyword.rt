@@ -3,7 +3,7 @@ ghost use Rattle.std.specs.Prelude.{◌≡◌, Ok, Err, IfSome, IfNone};
 ghost use Rattle.blt_reader.specs.declared.fault_kind.FaultKind.TheVariants.{WordExpected};
 ghost use Rattle.day_reader.specs.Keyword.{keyword_of};
 
-/// A word of a day file.
+/// A word of a day file. The laws on texts that are read back speak of them.
 #[derive(Clone, Copy, Debug, PartialEq, Eq)]
 pub enum Keyword {
     Lots,
@@ -20,7 +20,7 @@ pub enum Keyword {
 
 impl Keyword {
     #[tactic(auto, unfolding(crate::specs::Keyword::keyword_of))]
-    pub fn from_letters(letters: &[u8]) -> Option<Keyword>
+    pub(crate) fn from_letters(letters: &[u8]) -> Option<Keyword>
         ensures known { IfSome result (λ keyword. keyword_of letters.now ≡ Ok keyword) }
         ensures unknown { IfNone result (keyword_of letters.now ≡ Err WordExpected) }
     {

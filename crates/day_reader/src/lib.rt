@@ -20,6 +20,7 @@ mod worked;
 
 pub use day::Day;
 pub use days::read_day;
+pub use keyword::Keyword;
 pub use laws::{
     accepts_days, expects_rightly, follows_open_lists, has_one_day, refuses_all_else,
     refuses_by_the_rule,

@@ -2,21 +2,20 @@
 ghost use Rattle.std.specs.Prelude.{◌≡◌, ◌≤◌, [], length, IfOk, IfErr};
 ghost use Rattle.blt_reader.specs.Reader.{IsTokenAt, said};
 ghost use Rattle.blt_reader.specs.Reads.{IsBehind, Reads};
-ghost use Rattle.blt_reader.specs.declared.fault_kind.FaultKind.TheVariants.{BadLots};
 ghost use Rattle.blt_reader.specs.declared.blt_stop.BltStop.TheVariants as stop;
 ghost use Rattle.day_reader.specs.Day.{AreAllLots};
 ghost use Rattle.day_reader.specs.DayTable.{at_lot};
 ghost use Rattle.day_reader.specs.Reads.{IsLotsWord, ReadsToLots};
 
 use crate::keyword::Keyword;
-use crate::words::{keyword_at, unexpected};
+use crate::words::keyword_at;
 use blt_reader::{BltStop, FaultKind, InputFault, Token, Tokens, What};
 use lot_order::{Flags, Lots};
 use std::alloc::Global;
 
 /// Strings that are not kept, and the word `lots`.
 #[tactic(auto, using(blt_reader::proofs::Reading::behind_trans))]
-pub fn read_to_lots(tokens: &mut Tokens<'_>) -> Result<(), InputFault>
+pub(crate) fn read_to_lots(tokens: &mut Tokens<'_>) -> Result<(), InputFault>
     ensures reads { ReadsToLots tokens.old.rest result tokens.new.rest }
     ensures behind { IsBehind tokens.old tokens.new }
 {
@@ -34,17 +33,21 @@ fn lots_word(tokens: &Tokens<'_>, token: Token) -> Result<(), InputFault>
     ensures { IsLotsWord (said tokens.now.bytes token.at token.stop token.what) token.at result }
 {
     let Some(keyword) = keyword_at(tokens, token) else {
-        return Err(unexpected(token.at));
+        return Err(InputFault::new(FaultKind::WordExpected, token.at));
     };
     match keyword {
         Keyword::Lots => Ok(()),
-        _ => Err(unexpected(token.at)),
+        _ => Err(InputFault::new(FaultKind::WordExpected, token.at)),
     }
 }
 
 /// Candidates, each of them once, and the 0 behind them.
 #[tactic(auto, using(blt_reader::proofs::Reading::behind_trans))]
-pub fn read_lots(alloc: Global, tokens: &mut Tokens<'_>, candidates: u32) -> Result<Lots, BltStop>
+pub(crate) fn read_lots(
+    alloc: Global,
+    tokens: &mut Tokens<'_>,
+    candidates: u32,
+) -> Result<Lots, BltStop>
     requires { candidates ≤ 250 }
     ensures reads { Reads (at_lot candidates) [] (λ lots. lots) tokens.old.rest result tokens.new.rest }
     ensures behind { IsBehind tokens.old tokens.new }
@@ -57,28 +60,19 @@ pub fn read_lots(alloc: Global, tokens: &mut Tokens<'_>, candidates: u32) -> Res
         let (n, at) = tokens.next_number()?;
         if n == 0 {
             if order.len() < candidates as usize {
-                return Err(bad_lots(at));
+                return Err(BltStop::refused(FaultKind::BadLots, at));
             }
             return new_lots(alloc, order.as_slice(), candidates);
         }
         if n > candidates {
-            return Err(bad_lots(at));
+            return Err(BltStop::refused(FaultKind::BadLots, at));
         }
         if *stood.get(n as usize - 1) {
-            return Err(bad_lots(at));
+            return Err(BltStop::refused(FaultKind::BadLots, at));
         }
         stood.set(n as usize - 1, true);
         order.push(n)?;
     }
-}
-
-fn bad_lots(at: usize) -> BltStop
-    ensures { result ≡ stop.Fault (record { kind = BadLots; at = at }) }
-{
-    BltStop::Fault(InputFault {
-        kind: FaultKind::BadLots,
-        at,
-    })
 }
 
 // The lots of an order that is known to be one.

@@ -7,7 +7,7 @@ use blt_reader::{FaultKind, InputFault, Tokens};
 
 /// A number from the least to the most. Another number is refused with this kind of fault.
 #[tactic(auto, using(blt_reader::proofs::Reading::behind_trans))]
-pub fn read_between(
+pub(crate) fn read_between(
     tokens: &mut Tokens<'_>,
     least: u32,
     most: u32,

@@ -4,13 +4,13 @@ ghost use Rattle.day_reader.specs.Reads.{BeginsTeam, ReadsPlaces, ReadsScale};
 
 use crate::keyword::Keyword;
 use crate::numbers::read_between;
-use crate::words::{next_keyword, unexpected};
+use crate::words::next_keyword;
 use blt_reader::{FaultKind, InputFault, Tokens};
 
 /// The places behind the point, omega in units of the last place, and whether a team follows them or
 /// the end.
 #[derive(Clone, Copy)]
-pub struct Scale {
+pub(crate) struct Scale {
     pub places: u32,
     pub omega: u32,
     pub team_follows: bool,
@@ -18,7 +18,7 @@ pub struct Scale {
 
 /// What stands between the lots and the number of the first team, or the end.
 #[tactic(auto, using(blt_reader::proofs::Reading::behind_trans))]
-pub fn read_scale(tokens: &mut Tokens<'_>) -> Result<Scale, InputFault>
+pub(crate) fn read_scale(tokens: &mut Tokens<'_>) -> Result<Scale, InputFault>
     ensures reads { ReadsScale tokens.old.rest result tokens.new.rest }
     ensures behind { IsBehind tokens.old tokens.new }
 {
@@ -41,7 +41,7 @@ fn read_places(tokens: &mut Tokens<'_>) -> Result<Scale, InputFault>
     let places = read_between(tokens, 6, 9, FaultKind::BadPlaces)?;
     let (keyword, at) = next_keyword(tokens)?;
     let Keyword::Omega = keyword else {
-        return Err(unexpected(at));
+        return Err(InputFault::new(FaultKind::WordExpected, at));
     };
     let omega = read_between(tokens, 1, 1_000_000, FaultKind::BadOmega)?;
     let (keyword, at) = next_keyword(tokens)?;
@@ -59,6 +59,6 @@ fn begins_team(keyword: Keyword, at: usize) -> Result<bool, InputFault>
     match keyword {
         Keyword::Team => Ok(true),
         Keyword::End => Ok(false),
-        _ => Err(unexpected(at)),
+        _ => Err(InputFault::new(FaultKind::WordExpected, at)),
     }
 }

@@ -1,6 +1,5 @@
 // The teams of a day.
 ghost use Rattle.std.specs.Prelude.{◌≡◌, ◌<◌, false, [], Ok, OnOk, IfOk, IfErr};
-ghost use Rattle.blt_reader.specs.declared.fault_kind.FaultKind.TheVariants.{BadTeam};
 ghost use Rattle.blt_reader.specs.Blt.{IsIn};
 ghost use Rattle.blt_reader.specs.declared.blt_stop.BltStop.TheVariants as stop;
 ghost use Rattle.blt_reader.specs.Judged.{reads};
@@ -24,7 +23,7 @@ const MOST_TEAMS: usize = 16;
 /// All teams by rising number, up to the end. `team_follows` says whether the word of a first one
 /// was taken, or the end.
 #[tactic(auto, using(blt_reader::proofs::Reading::behind_trans))]
-pub fn read_scripts(
+pub(crate) fn read_scripts(
     alloc: Global,
     tokens: &mut Tokens<'_>,
     candidates: u32,
@@ -89,7 +88,7 @@ fn read_number(tokens: &mut Tokens<'_>, before: &Teams) -> Result<u32, InputFaul
 {
     let (n, at) = tokens.next_number()?;
     if n < 1 || n > 16 || before.has(n) {
-        return Err(bad_team(at));
+        return Err(InputFault::new(FaultKind::BadTeam, at));
     }
     Ok(n)
 }
@@ -115,7 +114,7 @@ fn read_calls(
         match keyword {
             Keyword::Team => {
                 if before.len() >= MOST_TEAMS - 1 {
-                    return Err(BltStop::Fault(bad_team(at)));
+                    return Err(BltStop::refused(FaultKind::BadTeam, at));
                 }
                 return Ok(true);
             }
@@ -135,14 +134,5 @@ fn add_call(script: &mut Script, call: Call) -> Result<(), BltStop>
     match script.calls.push(call) {
         Ok(()) => Ok(()),
         Err(_) => Err(BltStop::NoMemory),
-    }
-}
-
-fn bad_team(at: usize) -> InputFault
-    ensures { result ≡ record { kind = BadTeam; at = at } }
-{
-    InputFault {
-        kind: FaultKind::BadTeam,
-        at,
     }
 }

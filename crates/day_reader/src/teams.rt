@@ -14,7 +14,7 @@ use std::marker::Model;
 
 /// The scripts of teams with different numbers in the order of the file, and how often they freeze.
 #[derive(Drop)]
-pub struct Teams {
+pub(crate) struct Teams {
     scripts: Scripts,
     frozen: u32,
 }
@@ -34,7 +34,7 @@ impl Model for Teams {
 }
 
 impl Teams {
-    pub fn new(alloc: Global) -> Teams
+    pub(crate) fn new(alloc: Global) -> Teams
         ensures { result ≡ [] }
     {
         Teams {
@@ -43,20 +43,20 @@ impl Teams {
         }
     }
 
-    pub fn len(&self) -> usize
+    pub(crate) fn len(&self) -> usize
         ensures { result ≡ length self.now }
     {
         self.scripts.len()
     }
 
-    pub fn freezes(&self) -> u32
+    pub(crate) fn freezes(&self) -> u32
         ensures { result ≡ freezes self.now }
     {
         self.frozen
     }
 
     /// Whether a team has this number.
-    pub fn has(&self, number: u32) -> bool
+    pub(crate) fn has(&self, number: u32) -> bool
         ensures { result ≡ stands self.now number }
     {
         self.scripts
@@ -66,7 +66,7 @@ impl Teams {
     }
 
     /// Adds a team; `frozen` counts the freezes of all teams then.
-    pub fn push(&mut self, script: Script, frozen: u32) -> Result<(), BltStop>
+    pub(crate) fn push(&mut self, script: Script, frozen: u32) -> Result<(), BltStop>
         requires number { IsIn 16 script.team }
         requires new { stands self.old script.team ≡ false }
         requires counted { frozen ≡ freezes (and_team self.old script) }
@@ -83,7 +83,7 @@ impl Teams {
     }
 
     /// The scripts by rising number.
-    pub fn by_number(self) -> Result<Scripts, BltStop>
+    pub(crate) fn by_number(self) -> Result<Scripts, BltStop>
         ensures ok { IfOk result (λ scripts. scripts ≡ by_number self) }
         ensures only_memory { IfErr result (λ why. why ≡ stop.NoMemory) }
     {

@@ -11,7 +11,7 @@ use blt_reader::{FaultKind, InputFault, Token, Tokens, What};
 
 /// The next token, which has to be a word, and its place.
 #[tactic(auto, using(blt_reader::proofs::Reading::behind_trans))]
-pub fn next_keyword(tokens: &mut Tokens<'_>) -> Result<(Keyword, usize), InputFault>
+pub(crate) fn next_keyword(tokens: &mut Tokens<'_>) -> Result<(Keyword, usize), InputFault>
     ensures keyword { IfOk result (λ found. tokens.old.rest ≡ with_front (record { at = found.1; item = word found.0 }) tokens.new.rest) }
     ensures fault { IfErr result (λ fault. Stops as_keyword tokens.old.rest fault tokens.new.rest) }
     ensures behind { IsBehind tokens.old tokens.new }
@@ -19,12 +19,12 @@ pub fn next_keyword(tokens: &mut Tokens<'_>) -> Result<(Keyword, usize), InputFa
     let token = tokens.next_token()?;
     match keyword_at(tokens, token) {
         Some(keyword) => Ok((keyword, token.at)),
-        None => Err(unexpected(token.at)),
+        None => Err(InputFault::new(FaultKind::WordExpected, token.at)),
     }
 }
 
 /// The word that a token is.
-pub fn keyword_at(tokens: &Tokens<'_>, token: Token) -> Option<Keyword>
+pub(crate) fn keyword_at(tokens: &Tokens<'_>, token: Token) -> Option<Keyword>
     requires { IsTokenAt tokens.now.bytes token.at token.stop token.what }
     ensures known { IfSome result (λ keyword. said tokens.now.bytes token.at token.stop token.what ≡ word keyword) }
     ensures unknown { IfNone result (as_keyword (said tokens.now.bytes token.at token.stop token.what) ≡ Err WordExpected) }
@@ -32,15 +32,5 @@ pub fn keyword_at(tokens: &Tokens<'_>, token: Token) -> Option<Keyword>
     match token.what {
         What::Word => Keyword::from_letters(tokens.text(token)),
         _ => None,
-    }
-}
-
-/// The fault of a token in place of a word.
-pub fn unexpected(at: usize) -> InputFault
-    ensures { result ≡ record { kind = WordExpected; at = at } }
-{
-    InputFault {
-        kind: FaultKind::WordExpected,
-        at,
     }
 }

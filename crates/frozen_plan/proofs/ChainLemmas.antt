@@ -4,12 +4,13 @@ use Rattle.std.specs.List.Sorted.{IsPermutation}
 use Rattle.std.proofs.lemmas.List.{append-nil, length-append}
 use Rattle.std.proofs.lemmas.List.Elements.{All-nil, All-cons, All-head, All-tail, All-drop}
 use Rattle.std.proofs.lemmas.List.Sorted.{IsPermutation-refl}
+use Rattle.ranking_trie.proofs.BagLemmas.{map-replicate}
 use Rattle.frozen_plan.specs.declared.share.Placed.{Placed}
 use Rattle.frozen_plan.specs.declared.plan_row.PlanRow.{PlanRow}
 use Rattle.frozen_plan.specs.Forest.{ballots_of, through, rows_of, IsGrown}
 use Rattle.frozen_plan.specs.Share.{until_zero, rank_of, rest_of, rests}
 use Rattle.frozen_plan.specs.Groups.{IsNodeOf, ends_at, chain}
-use Rattle.frozen_plan.proofs.RunLemmas.{map-replicate, rest_none, rest_more}
+use Rattle.frozen_plan.proofs.RunLemmas.{rest_none, rest_more}
 
 -- all ballots go through each node
 through-chain : (n : ℕ) (ranks : List ℕ) → ends_at n ranks + through (chain n ranks) ≡ n
@@ -39,7 +40,7 @@ ballots_of-chain n [] = append-nil (replicate n [])
 ballots_of-chain n (c ∷ ranks) =
     let low : List (List ℕ) = replicate (ends_at n ranks) [] ++ ballots_of (chain n ranks) in
     append-nil (map (λ (r : List ℕ). c ∷ r) low)
-    ∙ (ap (map (λ (r : List ℕ). c ∷ r)) (ballots_of-chain n ranks) ∙ map-replicate c n ranks)
+    ∙ (ap (map (λ (r : List ℕ). c ∷ r)) (ballots_of-chain n ranks) ∙ map-replicate (λ (r : List ℕ). c ∷ r) n ranks)
 
 IsGrown-chain : (m n d : ℕ) (ranks : List ℕ) → All (λ c. (1 ≤ c) × (c ≤ m)) ranks → d + length ranks ≤ 251 → 1 ≤ n → IsGrown m 0 d (chain n ranks)
 IsGrown-chain m n d [] all deep some = tt

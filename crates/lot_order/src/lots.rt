@@ -151,8 +151,8 @@ mod tests {
             let answer = Lots::try_new(rt.alloc(), &order, 3).err();
             assert_eq!(rt; answer, stop, "at {order:?}");
         }
-        let nought = Lots::try_new(rt.alloc(), &[1, 0, 2], 3).err();
-        assert_eq!(rt; nought, Some(LotsStop::OutOfRange(2)));
+        let zero = Lots::try_new(rt.alloc(), &[1, 0, 2], 3).err();
+        assert_eq!(rt; zero, Some(LotsStop::OutOfRange(2)));
     }
 
     #[test]

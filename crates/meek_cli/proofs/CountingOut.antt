@@ -9,7 +9,7 @@ use Rattle.meek_rule.specs.Situation.{Situation, is_hopeful, hopeful_count, is_c
 use Rattle.meek_rule.specs.Rule.{Meek}
 use Rattle.meek_rule.specs.Row.{Row}
 use Rattle.meek_count.specs.Rows.{Rows}
-use Rattle.meek_count.specs.Progress.{Progress, HasJustBegun, Leads}
+use Rattle.meek_count.specs.Progress.{Progress, HasJustBegun, RowsLead}
 use Rattle.meek_count.specs.declared.turn.Turn.{Turn}
 use Rattle.meek_count.specs.declared.turn.Turn.TheVariants.{Iterated, Finished}
 use Rattle.meek_count.proofs.Leading.{leads_none, leads_more}
@@ -20,10 +20,10 @@ use Rattle.meek_cli.specs.CountedOut.{IsCountedOut}
 -- the count has come from where it was begun to here, and so many rows were counted
 pub record IsCountingOut (places : ℕ) (start now : Progress) (turns : Turns) : Type 0 where
   pub done : List Row
-  pub leads : Leads Meek (scale places) start done now
+  pub leads : RowsLead Meek (scale places) start done now
   pub rounds : turns.rounds ≡ last_round done
   pub iterations : turns.iterations ≡ length done
-  pub bounded : turns.iterations + steps_left (most places) now.now ≤ steps_left (most places) start.now
+  pub bounded : turns.iterations + steps_left (most places) now.situation ≤ steps_left (most places) start.situation
 
 pub counting_none : (places : ℕ) (start : Progress) → IsCountingOut places start start (record { rounds = 0; iterations = 0 })
 counting_none places start = record {
@@ -40,7 +40,7 @@ last_round-last (first ∷ []) row = refl
 last_round-last (first ∷ next ∷ rows) row = last_round-last (next ∷ rows) row
 
 pub counting_more : (places : ℕ) (start now next : Progress) (turns then' : Turns) → IsCountingOut places start now turns
-    → Leads Meek (scale places) now (next.row ∷ []) next → steps_left (most places) next.now < steps_left (most places) now.now
+    → RowsLead Meek (scale places) now (next.row ∷ []) next → steps_left (most places) next.situation < steps_left (most places) now.situation
     → then'.rounds ≡ next.row.round → then'.iterations ≡ turns.iterations + 1 → IsCountingOut places start next then'
 counting_more places start now next turns then' so_far leads nearer round one =
     let before = so_far.bounded in
@@ -53,27 +53,27 @@ counting_more places start now next turns then' so_far leads nearer round one =
     }
 
 -- of at most twelve candidates a count has fewer than 2^64 iterations
-few_steps : (start : Progress) → HasJustBegun (scale 9) start → length start.now.states ≤ 12 → steps_left (most 9) start.now ≤ 13000000000000000025
+few_steps : (start : Progress) → HasJustBegun (scale 9) start → length start.situation.states ≤ 12 → steps_left (most 9) start.situation ≤ 13000000000000000025
 few_steps start begun few =
-    let hopeful = count_by-le-length is_hopeful start.now.states in
-    let each : hopeful_count start.now.states * 1000000000000000002 ≤ 12 * 1000000000000000002 =
-    mul-le (hopeful_count start.now.states) 1000000000000000002 12 1000000000000000002 (omega (arith, hopeful, few)) (omega arith) in
-    let none : start.now.previous ≡ None = ap (λ (now : Situation). now.previous) begun in
-    let first : unwrap_or start.now.previous 1000000000000000001 ≡ 1000000000000000001 = ap (λ (p : Option ℕ). unwrap_or p 1000000000000000001) none in
+    let hopeful = count_by-le-length is_hopeful start.situation.states in
+    let each : hopeful_count start.situation.states * 1000000000000000002 ≤ 12 * 1000000000000000002 =
+    mul-le (hopeful_count start.situation.states) 1000000000000000002 12 1000000000000000002 (omega (arith, hopeful, few)) (omega arith) in
+    let none : start.situation.previous ≡ None = ap (λ (now : Situation). now.previous) begun in
+    let first : unwrap_or start.situation.previous 1000000000000000001 ≡ 1000000000000000001 = ap (λ (p : Option ℕ). unwrap_or p 1000000000000000001) none in
     omega (arith, each, first)
 
-pub fits : (start now next : Progress) (turns : Turns) → HasJustBegun (scale 9) start → length start.now.states ≤ 12 → IsCountingOut 9 start now turns
-    → steps_left (most 9) next.now < steps_left (most 9) now.now → turns.iterations < 18446744073709551615
+pub fits : (start now next : Progress) (turns : Turns) → HasJustBegun (scale 9) start → length start.situation.states ≤ 12 → IsCountingOut 9 start now turns
+    → steps_left (most 9) next.situation < steps_left (most 9) now.situation → turns.iterations < 18446744073709551615
 fits start now next turns begun few so_far nearer =
     let bound = so_far.bounded in
     let most = few_steps start begun few in
     omega (arith, bound, most, nearer)
 
-pub counted_out : (places : ℕ) (start now : Progress) (turns : Turns) (last : List State) → IsCountingOut places start now turns → is_complete now.now ≡ true
-    → last ≡ final_states now.now → IsCountedOut places start turns last
+pub counted_out : (places : ℕ) (start now : Progress) (turns : Turns) (last : List State) → IsCountingOut places start now turns → is_complete now.situation ≡ true
+    → last ≡ final_states now.situation → IsCountedOut places start turns last
 counted_out places start now turns last so_far complete is = record {
   rows = so_far.done;
-  to_the_end = subst (λ (rows : List Row). Rows Meek (scale places) start.ballots start.lots start.now rows last) (append-nil so_far.done) (so_far.leads.onward [] last (complete, is));
+  to_the_end = subst (λ (rows : List Row). Rows Meek (scale places) start.ballots start.lots start.situation rows last) (append-nil so_far.done) (so_far.leads.onward [] last (complete, is));
   rounds = so_far.rounds;
   iterations = so_far.iterations;
 }

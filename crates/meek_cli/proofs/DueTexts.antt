@@ -25,7 +25,7 @@ sheet_of places count begun (rows, last, rest) = (
 
 -- what a count is seen as where it is due
 abbrev pub due_at : ℕ → Progress → SheetDue
-due_at at count = record { at = at; omega = count.now.omega; ballots = count.ballots; roll = count.roll; lots = count.lots }
+due_at at count = record { at = at; omega = count.situation.omega; ballots = count.ballots; roll = count.roll; lots = count.lots }
 
 -- what writing a sheet came to
 abbrev pub WritesDue : {S T E : Type 0} → (S → Option (List ℕ)) → (S → ℕ) → (a b : S) → (places : ℕ) → SheetDue → Result T E → Type 0

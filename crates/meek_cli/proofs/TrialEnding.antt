@@ -55,15 +55,15 @@ trial_of number day status history sink says (inr (calls, (text, is, finishes)))
 pub wrote_summary :
     (number : ℕ) (terms : Terms) (history : List Entry) (ballots : List (List ℕ)) (roll : RollList) (start : Progress) (turns : Turns) (summary : Summary)
     (last : List State) (bytes : List ℕ) (status : Status) (sink : Writing)
-    → terms.places ≡ 9 → start.now ≡ opening (scale 9) terms.omega roll.seats roll.withdrawn → start.ballots ≡ ballots → start.lots ≡ terms.lots
+    → terms.places ≡ 9 → start.situation ≡ opening (scale 9) terms.omega roll.seats roll.withdrawn → start.ballots ≡ ballots → start.lots ≡ terms.lots
     → IsCountedOut 9 start turns last
     → summary ≡ record { number = number; calls = length history; batches = standing_batches (after_all empty history); ballots = length ballots; rounds = turns.rounds; iterations = turns.iterations }
     → bytes ≡ text_of_lines (summary_lines summary last) → Finishes Done bytes status sink → WritesSummaryOf number terms history ballots roll status sink
 wrote_summary number terms history ballots roll start turns summary last bytes status sink nine opens of_ballots of_lots out says text finishes =
     let counted : IsCount 9 terms.omega ballots roll terms.lots out.rows last =
     subst (λ (now : Situation). Rows Meek (scale 9) ballots terms.lots now out.rows last) opens
-    (subst (λ (l : List ℕ). Rows Meek (scale 9) ballots l start.now out.rows last) of_lots
-    (subst (λ (b : List (List ℕ)). Rows Meek (scale 9) b start.lots start.now out.rows last) of_ballots out.to_the_end)) in
+    (subst (λ (l : List ℕ). Rows Meek (scale 9) ballots l start.situation out.rows last) of_lots
+    (subst (λ (b : List (List ℕ)). Rows Meek (scale 9) b start.lots start.situation out.rows last) of_ballots out.to_the_end)) in
     let same : summary ≡ summary_of number history (length ballots) out.rows =
     says ∙ (λ i. let s : Summary = record { number = number; calls = length history; batches = standing_batches (after_all empty history); ballots = length ballots; rounds = out.rounds i; iterations = out.iterations i } in s) in
     inr (

@@ -12,6 +12,6 @@ use Rattle.meek_cli.specs.declared.turns.Turns.{Turns}
 -- The count from here on has these rows and last states, of which so much is kept.
 pub record IsCountedOut (places : ℕ) (start : Progress) (turns : Turns) (last : List State) : Type 0 where
   pub rows : List Row
-  pub to_the_end : Rows Meek (scale places) start.ballots start.lots start.now rows last
+  pub to_the_end : Rows Meek (scale places) start.ballots start.lots start.situation rows last
   pub rounds : turns.rounds ≡ last_round rows
   pub iterations : turns.iterations ≡ length rows

@@ -13,8 +13,8 @@ use meek_rule::Spread;
 /// iterations.
 pub(crate) fn count_out<D: Spread<9>>(count: &mut Count<'_, 9, Lent<'_, D>>) -> Turns
     requires begun { HasJustBegun (scale 9) count.old }
-    requires few { length count.old.now.states ≤ 12 }
-    ensures { IsCountedOut 9 count.old result count.new.now.states }
+    requires few { length count.old.situation.states ≤ 12 }
+    ensures { IsCountedOut 9 count.old result count.new.situation.states }
 {
     let mut turns = Turns {
         rounds: 0,

@@ -34,7 +34,7 @@ impl<'e, const P: usize, D: Spread<P>> Model for DueSheet<'e, P, D> {
 
     ghost Value = { SheetDue };
 
-    ghost view = { λ d. record { at = d.at; omega = d.count.now.omega; ballots = d.count.ballots; roll = d.count.roll; lots = d.count.lots } };
+    ghost view = { λ d. record { at = d.at; omega = d.count.situation.omega; ballots = d.count.ballots; roll = d.count.roll; lots = d.count.lots } };
 
     ghost invariant = { λ d. HasJustBegun (scale P) d.count };
 }

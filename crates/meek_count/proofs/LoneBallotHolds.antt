@@ -6,12 +6,12 @@ use Rattle.meek_rule.specs.Situation.{Situation, elected_count}
 use Rattle.meek_rule.specs.Row.{Row}
 use Rattle.meek_rule.specs.Quota.{quota}
 use Rattle.meek_rule.specs.Surplus.{surplus}
-use Rattle.meek_rule.specs.Iteration.{Settle, Leaves}
+use Rattle.meek_rule.specs.Iteration.{Settle, StepLeaves}
 use Rattle.meek_rule.proofs.WinnersByTest.{pass_as_winners, winners_by_test}
 use Rattle.meek_count.specs.WorkedLoneBallot.{LoneBallot}
 
 -- a row that the rule writes, part by part
-settled : (s : ℕ) (now : Situation) (votes lots : List ℕ) (row : Row) (next : Situation) → row.round ≡ now.round → row.iteration ≡ now.iteration → row.states ≡ now.states → row.keeps ≡ now.keeps → row.votes ≡ votes → row.total ≡ sum votes → row.quota ≡ quota now.seats votes → pass_as_winners now.states (now.seats - elected_count now.states) votes lots row.quota row.elected ≡ true → row.surplus ≡ surplus now.states row.elected votes row.quota → Leaves s now lots row row.step next → Settle s now votes lots row next
+settled : (s : ℕ) (now : Situation) (votes lots : List ℕ) (row : Row) (next : Situation) → row.round ≡ now.round → row.iteration ≡ now.iteration → row.states ≡ now.states → row.keeps ≡ now.keeps → row.votes ≡ votes → row.total ≡ sum votes → row.quota ≡ quota now.seats votes → pass_as_winners now.states (now.seats - elected_count now.states) votes lots row.quota row.elected ≡ true → row.surplus ≡ surplus now.states row.elected votes row.quota → StepLeaves s now lots row row.step next → Settle s now votes lots row next
 settled s now votes lots row next round iteration states keeps same total quota winners surplus leaves = record {
   round = round;
   iteration = iteration;

@@ -19,7 +19,7 @@ use Rattle.meek_rule.specs.Winners.{AreWinners}
 use Rattle.meek_rule.specs.Surplus.{surplus, holds_seat}
 use Rattle.meek_rule.specs.KeepValues.{new_keeps, capped}
 use Rattle.meek_rule.specs.Ties.{tied, is_tied}
-use Rattle.meek_rule.specs.Iteration.{Settle, nobody, is_exhausted, is_not_falling, elect, with_elected, with_defeated, with_keeps}
+use Rattle.meek_rule.specs.Iteration.{Settle, nobody, has_to_defeat, is_not_falling, elect, with_elected, with_defeated, with_keeps}
 use Rattle.meek_rule.proofs.ValidLemmas.{valid-with_elected, valid-with_keeps, valid-with_defeated}
 use Rattle.meek_rule.proofs.StateCounts.{hopeful_count-elect, hopeful_count-defeat}
 use Rattle.meek_rule.proofs.ProgressLemmas.{nearer_by_round, on_its_way-round, on_its_way-iteration}
@@ -114,7 +114,7 @@ elected_goes_on s most now votes lots winners valid are some =
     }
 
 -- Nobody is elected, and somebody is defeated.
-defeat_goes_on : (s most : ℕ) (now : Situation) (votes lots : List ℕ) (winners : List Bool) → IsValid s now → IsOrder lots → length lots ≡ length now.states → 1 ≤ hopeful_count now.states → AreWinners now.states (now.seats - elected_count now.states) votes lots (quota now.seats votes) winners → marked_count winners ≡ 0 → is_exhausted now (surplus now.states winners votes (quota now.seats votes)) ≡ true → (row : Row) × (next : Situation) × GoesOn s most now votes lots row next
+defeat_goes_on : (s most : ℕ) (now : Situation) (votes lots : List ℕ) (winners : List Bool) → IsValid s now → IsOrder lots → length lots ≡ length now.states → 1 ≤ hopeful_count now.states → AreWinners now.states (now.seats - elected_count now.states) votes lots (quota now.seats votes) winners → marked_count winners ≡ 0 → has_to_defeat now (surplus now.states winners votes (quota now.seats votes)) ≡ true → (row : Row) × (next : Situation) × GoesOn s most now votes lots row next
 defeat_goes_on s most now votes lots winners valid order same some are nobody_won exhausted =
     let n : ℕ = length now.states in
     let u : ℕ = surplus now.states winners votes (quota now.seats votes) in
@@ -160,7 +160,7 @@ or_false true b off = absurd (cc)
 or_false false b off = off
 
 -- Nobody is elected, and the elected get their next keep values.
-iterate_goes_on : (s most : ℕ) (now : Situation) (votes lots : List ℕ) (winners : List Bool) → IsValid s now → length votes ≡ length now.states → sum votes ≤ most → AreWinners now.states (now.seats - elected_count now.states) votes lots (quota now.seats votes) winners → marked_count winners ≡ 0 → is_exhausted now (surplus now.states winners votes (quota now.seats votes)) ≡ false → (row : Row) × (next : Situation) × GoesOn s most now votes lots row next
+iterate_goes_on : (s most : ℕ) (now : Situation) (votes lots : List ℕ) (winners : List Bool) → IsValid s now → length votes ≡ length now.states → sum votes ≤ most → AreWinners now.states (now.seats - elected_count now.states) votes lots (quota now.seats votes) winners → marked_count winners ≡ 0 → has_to_defeat now (surplus now.states winners votes (quota now.seats votes)) ≡ false → (row : Row) × (next : Situation) × GoesOn s most now votes lots row next
 iterate_goes_on s most now votes lots winners valid of_all within are nobody_won not_exhausted =
     let q : ℕ = quota now.seats votes in
     let u : ℕ = surplus now.states winners votes q in
@@ -200,7 +200,7 @@ goes_on s most now votes lots valid going order same of_all within =
       | inl won ↦ (row_of now votes winners (nobody now) (nobody now) Elected, with_elected now winners, elected_goes_on s most now votes lots winners valid are (omega arith))
       | inr none ↦
           let nobody_won : marked_count winners ≡ 0 = omega arith in
-          elim (cases_Bool (is_exhausted now (surplus now.states winners votes q))) [
+          elim (cases_Bool (has_to_defeat now (surplus now.states winners votes q))) [
             | inl exhausted ↦ defeat_goes_on s most now votes lots winners valid order same some are nobody_won exhausted
             | inr not_exhausted ↦ iterate_goes_on s most now votes lots winners valid of_all within are nobody_won not_exhausted
           ]

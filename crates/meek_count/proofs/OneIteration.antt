@@ -11,7 +11,7 @@ use Rattle.meek_rule.specs.Winners.{AreWinners}
 use Rattle.meek_rule.specs.Surplus.{surplus}
 use Rattle.meek_rule.specs.KeepValues.{new_keeps, capped}
 use Rattle.meek_rule.specs.Ties.{tied}
-use Rattle.meek_rule.specs.Iteration.{Settle, Leaves, is_exhausted, with_elected, with_defeated, with_keeps}
+use Rattle.meek_rule.specs.Iteration.{Settle, StepLeaves, has_to_defeat, with_elected, with_defeated, with_keeps}
 use Rattle.meek_rule.proofs.WinnersUnique.{winners-unique}
 
 -- ONE AT MOST
@@ -40,7 +40,7 @@ pub record LeavesSame (one other : Row) (p q : Step) (next after : Situation) : 
   pub tied : one.tied ≡ other.tied
   pub situation : next ≡ after
 
-leaves-unique : (s : ℕ) (now : Situation) (lots : List ℕ) (one other : Row) (p q : Step) (next after : Situation) → one.elected ≡ other.elected → one.votes ≡ other.votes → one.quota ≡ other.quota → one.surplus ≡ other.surplus → Leaves s now lots one p next → Leaves s now lots other q after → LeavesSame one other p q next after
+leaves-unique : (s : ℕ) (now : Situation) (lots : List ℕ) (one other : Row) (p q : Step) (next after : Situation) → one.elected ≡ other.elected → one.votes ≡ other.votes → one.quota ≡ other.quota → one.surplus ≡ other.surplus → StepLeaves s now lots one p next → StepLeaves s now lots other q after → LeavesSame one other p q next after
 leaves-unique s now lots one other Elected Elected next after elected votes quota_ surplus_ first second = record {
   step = refl;
   capped = first.2 ∙ sym second.2;
@@ -59,9 +59,9 @@ leaves-unique s now lots one other Iterate Iterate next after elected votes quot
       tied = first.4 ∙ sym second.4;
       situation = first.3 ∙ (ap (λ k. with_keeps now k one.surplus) keeps ∙ (ap (with_keeps now (new_keeps s now.states now.keeps other.votes other.quota)) surplus_ ∙ sym second.3));
     }
-leaves-unique s now lots one other Iterate (Defeat d) next after elected votes quota_ surplus_ first second = absurd (let off = sym second.1 ∙ (ap (is_exhausted now) (sym surplus_) ∙ first.1) in cc)
+leaves-unique s now lots one other Iterate (Defeat d) next after elected votes quota_ surplus_ first second = absurd (let off = sym second.1 ∙ (ap (has_to_defeat now) (sym surplus_) ∙ first.1) in cc)
 leaves-unique s now lots one other (Defeat c) Elected next after elected votes quota_ surplus_ first second = absurd (let none = ap marked_count (sym elected) ∙ first.0 in omega (arith, second.0))
-leaves-unique s now lots one other (Defeat c) Iterate next after elected votes quota_ surplus_ first second = absurd (let off = sym first.1 ∙ (ap (is_exhausted now) surplus_ ∙ second.1) in cc)
+leaves-unique s now lots one other (Defeat c) Iterate next after elected votes quota_ surplus_ first second = absurd (let off = sym first.1 ∙ (ap (has_to_defeat now) surplus_ ∙ second.1) in cc)
 leaves-unique s now lots one other (Defeat c) (Defeat d) next after elected votes quota_ surplus_ first second =
     let tied_ : one.tied ≡ other.tied = first.2 ∙ (ap (λ v. tied now.states v one.surplus) votes ∙ (ap (tied now.states other.votes) surplus_ ∙ sym second.2)) in
     let loser : c ≡ d = first.3 ∙ (ap (first_marked lots) tied_ ∙ sym second.3) in

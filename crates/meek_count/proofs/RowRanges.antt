@@ -17,7 +17,7 @@ use Rattle.meek_rule.specs.Situation.{Situation, IsValid, IsOnItsWay, is_complet
 use Rattle.meek_rule.specs.Row.{Row}
 use Rattle.meek_rule.specs.Rule.{Rule}
 use Rattle.meek_rule.specs.Ties.{tied, is_tied}
-use Rattle.meek_rule.specs.Iteration.{Settle, Leaves, nobody}
+use Rattle.meek_rule.specs.Iteration.{Settle, StepLeaves, nobody}
 use Rattle.meek_rule.specs.Weights.{vote_under, votes_under}
 use Rattle.meek_rule.proofs.ProgressLemmas.{on_its_way-opening}
 use Rattle.meek_rule.proofs.RuleLemmas.{most_large, quota-le}
@@ -46,7 +46,7 @@ record CanGoOn (places : ℕ) (ballots : List (List ℕ)) (lots : List ℕ) (now
 
 -- what the step leaves on the row
 marked_in_range : (places : ℕ) (ballots : List (List ℕ)) (lots : List ℕ) (now : Situation) (row : Row) (next : Situation) (step : Step)
-    → CanGoOn places ballots lots now → is_complete now ≡ false → Leaves (scale places) now lots row step next
+    → CanGoOn places ballots lots now → is_complete now ≡ false → StepLeaves (scale places) now lots row step next
     → (length row.capped ≡ length now.states) × (length row.tied ≡ length now.states) × HasTiedFor (length now.states) step row.tied
 marked_in_range places ballots lots now row next Elected can going leaves =
     (ap length leaves.2 ∙ length-replicate (length now.states) false, ap length leaves.3 ∙ length-replicate (length now.states) false, leaves.3)

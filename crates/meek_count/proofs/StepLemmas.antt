@@ -13,7 +13,7 @@ use Rattle.meek_rule.specs.declared.step.Step.{Step}
 use Rattle.meek_rule.specs.declared.step.Step.TheVariants.{Elected}
 use Rattle.meek_rule.specs.Row.{Row}
 use Rattle.meek_rule.specs.Rule.{Rule}
-use Rattle.meek_rule.specs.Iteration.{HasOnlyRunningVotes, Settle, Leaves}
+use Rattle.meek_rule.specs.Iteration.{HasOnlyRunningVotes, Settle, StepLeaves}
 use Rattle.meek_rule.specs.Weights.{given_under, vote_under, votes_under}
 use Rattle.meek_rule.proofs.TieLemmas.{somebody_hopeful}
 use Rattle.meek_rule.proofs.RuleLemmas.{most_bound}
@@ -23,7 +23,7 @@ use Rattle.meek_count.proofs.WholeCount.{rows_exist, sum-votes-valid}
 
 -- some rows lead from where a count stands to the end
 pub rest_exists : (rule : Rule) (places bound : ℕ) (count : Progress) → IsCounting (scale places) bound count → HasRest rule (scale places) count
-rest_exists rule places bound count is = rows_exist rule (scale places) count.ballots count.lots count.now (scale_pos places) is.valid is.order_of_lots is.lots_of_all
+rest_exists rule places bound count is = rows_exist rule (scale places) count.ballots count.lots count.situation (scale_pos places) is.valid is.order_of_lots is.lots_of_all
 
 -- the votes at the same keep values, of as many candidates
 pub votes-same : (rule : Rule) (s : ℕ) (kept keeps : List ℕ) (ballots : List (List ℕ)) (m n : ℕ) → kept ≡ keeps → m ≡ n → votes_under rule s kept ballots m ≡ votes_under rule s keeps ballots n
@@ -75,5 +75,5 @@ votes_fit rule places ballots now valid few =
 -- who is elected leaves all keep values
 pub keeps-elected : (s : ℕ) (now : Situation) (votes lots : List ℕ) (row : Row) (next : Situation) → Settle s now votes lots row next → row.step ≡ Elected → next.keeps ≡ now.keeps
 keeps-elected s now votes lots row next settles is =
-    let left : Leaves s now lots row Elected next = subst (λ (step : Step). Leaves s now lots row step next) is settles.leaves in
+    let left : StepLeaves s now lots row Elected next = subst (λ (step : Step). StepLeaves s now lots row step next) is settles.leaves in
     ap (λ (n : Situation). n.keeps) left.1

@@ -13,7 +13,7 @@ pub record Progress : Type 0 where
   pub roll : RollList
   pub lots : List ℕ
   pub ballots : List (List ℕ)
-  pub now : Situation
+  pub situation : Situation
   pub has_row : Bool
   pub row : Row
 
@@ -25,26 +25,26 @@ pub record IsSameElection (old new : Progress) : Type 0 where
 
 -- the count was just begun: it stands where its roll opens, with the omega that it keeps
 abbrev pub HasJustBegun : (s : ℕ) → Progress → Type 0
-HasJustBegun s count = count.now ≡ opening s count.now.omega count.roll.seats count.roll.withdrawn
+HasJustBegun s count = count.situation ≡ opening s count.situation.omega count.roll.seats count.roll.withdrawn
 
 -- some rows lead from here to the end
 abbrev pub HasRest : Rule → (s : ℕ) → Progress → Type 0
-HasRest rule s count = (rows : List Row) × (last : List State) × Rows rule s count.ballots count.lots count.now rows last
+HasRest rule s count = (rows : List Row) × (last : List State) × Rows rule s count.ballots count.lots count.situation rows last
 
 -- These rows lead from the earlier to the later standing: rows that lead on from there lead, behind these,
 -- from the earlier one to the same end.
-pub record Leads (rule : Rule) (s : ℕ) (old : Progress) (done : List Row) (new : Progress) : Type 0 where
+pub record RowsLead (rule : Rule) (s : ℕ) (old : Progress) (done : List Row) (new : Progress) : Type 0 where
   pub same : IsSameElection old new
   pub onward :
-      (rows : List Row) (last : List State) → Rows rule s new.ballots new.lots new.now rows last
-      → Rows rule s old.ballots old.lots old.now (done ++ rows) last
+      (rows : List Row) (last : List State) → Rows rule s new.ballots new.lots new.situation rows last
+      → Rows rule s old.ballots old.lots old.situation (done ++ rows) last
 
 -- What a count keeps: it can go on from where it stands, and never comes to the end of a number's type.
 pub record IsCounting (s most : ℕ) (count : Progress) : Type 0 where
-  pub valid : IsValid s count.now
-  pub on_its_way : IsOnItsWay most count.now
+  pub valid : IsValid s count.situation
+  pub on_its_way : IsOnItsWay most count.situation
   pub order_of_lots : IsOrder count.lots
-  pub lots_of_all : length count.lots ≡ length count.now.states
-  pub names_of_all : length count.roll.names ≡ length count.now.states
-  pub row_of_all : HasRoomFor (length count.now.states) count.row
+  pub lots_of_all : length count.lots ≡ length count.situation.states
+  pub names_of_all : length count.roll.names ≡ length count.situation.states
+  pub row_of_all : HasRoomFor (length count.situation.states) count.row
   pub few_ballots : length count.ballots ≤ 999999999

@@ -5,7 +5,7 @@ ghost use Rattle.meek_rule.specs.Situation.{IsValid, is_complete, finished, fina
 ghost use Rattle.meek_rule.specs.Row.{HasRoomFor};
 ghost use Rattle.meek_rule.specs.Weights.{votes_under};
 ghost use Rattle.meek_count.specs.Rows.{IteratesTo};
-ghost use Rattle.meek_count.specs.Progress.{IsSameElection, HasJustBegun, HasRest, Leads};
+ghost use Rattle.meek_count.specs.Progress.{IsSameElection, HasJustBegun, HasRest, RowsLead};
 
 use crate::Turn;
 use candidate_roll::{Roll, States};
@@ -35,7 +35,7 @@ impl<'e, const P: usize, D: Spread<P> + Drop> Model for Count<'e, P, D> {
 
     ghost Value = { Progress };
 
-    ghost view = { λ c. record { roll = c.roll.now; lots = c.lots.now; ballots = D.ballots c.spread; now = c.situation; has_row = c.has_row; row = c.row } };
+    ghost view = { λ c. record { roll = c.roll.now; lots = c.lots.now; ballots = D.ballots c.spread; situation = c.situation; has_row = c.has_row; row = c.row } };
 
     ghost invariant = { λ c.
         (6 ≤ P) × (P ≤ 9)
@@ -43,7 +43,7 @@ impl<'e, const P: usize, D: Spread<P> + Drop> Model for Count<'e, P, D> {
         × (D.candidates c.spread ≡ length c.situation.states)
         × (length c.tally ≡ length c.situation.states)
         × (IsTrue c.tally_stands → c.tally ≡ votes_under D.rule (10 ^ P) c.situation.keeps (D.ballots c.spread) (D.candidates c.spread))
-        × IsCounting (10 ^ P) (10 ^ (P + 9)) (record { roll = c.roll.now; lots = c.lots.now; ballots = D.ballots c.spread; now = c.situation; has_row = c.has_row; row = c.row }) };
+        × IsCounting (10 ^ P) (10 ^ (P + 9)) (record { roll = c.roll.now; lots = c.lots.now; ballots = D.ballots c.spread; situation = c.situation; has_row = c.has_row; row = c.row }) };
 }
 
 impl<'e, const P: usize, D: Spread<P> + Drop> Count<'e, P, D> {
@@ -60,7 +60,7 @@ impl<'e, const P: usize, D: Spread<P> + Drop> Count<'e, P, D> {
         requires spread_of_all { D.candidates spread ≡ length roll.now.names }
         requires few_ballots { length (D.ballots spread) ≤ 999999999 }
         requires omega { (1 ≤ omega) × (omega ≤ 1000000) }
-        ensures opens { IfOk result (λ count. count.now ≡ opening (scale P) omega.entry roll.now.seats roll.now.withdrawn) }
+        ensures opens { IfOk result (λ count. count.situation ≡ opening (scale P) omega.entry roll.now.seats roll.now.withdrawn) }
         ensures begun { IfOk result (HasJustBegun (scale P)) }
         ensures roll { IfOk result (λ count. count.roll ≡ roll.now) }
         ensures lots { IfOk result (λ count. count.lots ≡ lots.now) }
@@ -89,22 +89,22 @@ impl<'e, const P: usize, D: Spread<P> + Drop> Count<'e, P, D> {
     /// Makes one iteration, or ends the count where it is complete. At the end a further call changes
     /// nothing.
     pub fn next(&mut self) -> Turn
-        ensures at_end { result ≡ Turn.Finished ↔ (is_complete self.old.now ≡ true) }
+        ensures at_end { result ≡ Turn.Finished ↔ (is_complete self.old.situation ≡ true) }
 
         // The end.
-        ensures finished { result ≡ Turn.Finished → self.new ≡ record self.old { now = finished self.old.now } }
-        ensures last { result ≡ Turn.Finished → self.new.now.states ≡ final_states self.old.now }
-        ensures ended { result ≡ Turn.Finished → is_complete self.new.now ≡ true }
-        ensures settled { result ≡ Turn.Finished → finished self.new.now ≡ self.new.now }
+        ensures finished { result ≡ Turn.Finished → self.new ≡ record self.old { situation = finished self.old.situation } }
+        ensures last { result ≡ Turn.Finished → self.new.situation.states ≡ final_states self.old.situation }
+        ensures ended { result ≡ Turn.Finished → is_complete self.new.situation ≡ true }
+        ensures settled { result ≡ Turn.Finished → finished self.new.situation ≡ self.new.situation }
 
         // An iteration.
-        ensures iterated { result ≡ Turn.Iterated → IteratesTo D.rule (scale P) self.old.ballots self.old.lots self.old.now self.new.row self.new.now }
-        ensures leads { result ≡ Turn.Iterated → Leads D.rule (scale P) self.old (self.new.row ∷ []) self.new }
+        ensures iterated { result ≡ Turn.Iterated → IteratesTo D.rule (scale P) self.old.ballots self.old.lots self.old.situation self.new.row self.new.situation }
+        ensures leads { result ≡ Turn.Iterated → RowsLead D.rule (scale P) self.old (self.new.row ∷ []) self.new }
         ensures has_row { result ≡ Turn.Iterated → self.new.has_row ≡ true }
-        ensures nearer { result ≡ Turn.Iterated → steps_left (most P) self.new.now < steps_left (most P) self.old.now }
+        ensures nearer { result ≡ Turn.Iterated → steps_left (most P) self.new.situation < steps_left (most P) self.old.situation }
 
         ensures same { IsSameElection self.old self.new }
-        ensures valid { IsValid (scale P) self.new.now }
+        ensures valid { IsValid (scale P) self.new.situation }
         ensures rest { HasRest D.rule (scale P) self.new }
     {
         if self.situation.is_complete() {
@@ -135,7 +135,7 @@ impl<'e, const P: usize, D: Spread<P> + Drop> Count<'e, P, D> {
 
     /// The candidates' states where the count stands.
     pub fn states(&self) -> &States
-        ensures value { result.now ≡ self.now.now.states }
+        ensures value { result.now ≡ self.now.situation.states }
         ensures of_all { length result.now ≡ length self.now.roll.names }
     {
         self.situation.states()

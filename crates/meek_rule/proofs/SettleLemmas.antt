@@ -15,7 +15,7 @@ use Rattle.meek_rule.specs.Situation.{Situation, IsValid, IsOnItsWay, is_complet
 use Rattle.meek_rule.specs.Row.{Row, HasRoomFor}
 use Rattle.meek_rule.specs.Surplus.{surplus, holds_seat}
 use Rattle.meek_rule.specs.Ties.{tied}
-use Rattle.meek_rule.specs.Iteration.{Settle, Leaves, elect, is_exhausted, nobody}
+use Rattle.meek_rule.specs.Iteration.{Settle, StepLeaves, elect, has_to_defeat, nobody}
 use Rattle.meek_rule.specs.Steps.{AreElectable}
 use Rattle.meek_rule.proofs.TestLemmas.{or_right}
 use Rattle.meek_rule.proofs.StateCounts.{hopeful_count-elect, hopeful_count-defeat}
@@ -51,7 +51,7 @@ surplus-le states winners votes q same =
 pub settled-valid : (s : ℕ) (now : Situation) (votes lots : List ℕ) (row : Row) (next : Situation) → Settle s now votes lots row next → IsValid s now → is_complete now ≡ false → IsOrder lots → length lots ≡ length now.states → IsValid s next
 settled-valid s now votes lots row next settle valid open_ order whole = by_step row.step settle.leaves
   where
-    by_step : (step : Step) → Leaves s now lots row step next → IsValid s next
+    by_step : (step : Step) → StepLeaves s now lots row step next → IsValid s next
     by_step Elected leaves = rw leaves.1 (valid-with_elected s now votes lots row.quota row.elected valid settle.winners)
     by_step (Defeat c) leaves =
         let some : 1 ≤ hopeful_count now.states = somebody_hopeful s now valid open_ in
@@ -64,7 +64,7 @@ settled-valid s now votes lots row next settle valid open_ order whole = by_step
 pub settled-same : (s : ℕ) (now : Situation) (votes lots : List ℕ) (row : Row) (next : Situation) → Settle s now votes lots row next → length next.states ≡ length now.states
 settled-same s now votes lots row next settle = by_step row.step settle.leaves
   where
-    by_step : (step : Step) → Leaves s now lots row step next → length next.states ≡ length now.states
+    by_step : (step : Step) → StepLeaves s now lots row step next → length next.states ≡ length now.states
     by_step Elected leaves = rw leaves.1 (length-map-range_with_len _ 0 (length now.states))
     by_step (Defeat c) leaves = rw leaves.4 (length-set _ _ _)
     by_step Iterate leaves = rw leaves.3 refl
@@ -84,12 +84,12 @@ settled-room s now votes lots row next settle valid all =
     no_marks : length (nobody now) ≡ length now.states
     no_marks = length-replicate (length now.states) false
 
-    capped_by : (step : Step) → Leaves s now lots row step next → length row.capped ≡ length now.states
+    capped_by : (step : Step) → StepLeaves s now lots row step next → length row.capped ≡ length now.states
     capped_by Elected leaves = ap length leaves.2 ∙ no_marks
     capped_by (Defeat c) leaves = ap length leaves.5 ∙ no_marks
     capped_by Iterate leaves = ap length leaves.2 ∙ length-map-range_with_len _ 0 (length now.states)
 
-    tied_by : (step : Step) → Leaves s now lots row step next → length row.tied ≡ length now.states
+    tied_by : (step : Step) → StepLeaves s now lots row step next → length row.tied ≡ length now.states
     tied_by Elected leaves = ap length leaves.3 ∙ no_marks
     tied_by (Defeat c) leaves = ap length leaves.2 ∙ length-map-range_with_len _ 0 (length now.states)
     tied_by Iterate leaves = ap length leaves.4 ∙ no_marks
@@ -103,7 +103,7 @@ fewer-defeated : (states : List State) (p : ℕ) → p < length states → is_ho
 fewer-defeated states p inside is = omega (arith, hopeful_count-defeat states p inside is)
 
 -- a surplus that doesn't exhaust a round is below the one before
-falls : (now : Situation) (u most : ℕ) → is_exhausted now u ≡ false → u ≤ most → u < unwrap_or now.previous (most + 1)
+falls : (now : Situation) (u most : ℕ) → has_to_defeat now u ≡ false → u ≤ most → u < unwrap_or now.previous (most + 1)
 falls now u most on few = by_previous now.previous refl
   where
     by_previous : (previous : Option ℕ) → now.previous ≡ previous → u < unwrap_or now.previous (most + 1)
@@ -112,14 +112,14 @@ falls now u most on few = by_previous now.previous refl
         elim (cases_lt u before) [
           | inl less ↦ rw is less
           | inr past ↦
-              let stays : is_exhausted now u ≡ true = or_right (nat_lt u now.omega) _ (rw is (le-leb _ _ past)) in
+              let stays : has_to_defeat now u ≡ true = or_right (nat_lt u now.omega) _ (rw is (le-leb _ _ past)) in
               absurd (let off = sym stays ∙ on in cc)
         ]
 
 pub settled-nearer : (s most : ℕ) (now : Situation) (votes lots : List ℕ) (row : Row) (next : Situation) → Settle s now votes lots row next → IsValid s now → is_complete now ≡ false → IsOrder lots → length lots ≡ length now.states → length votes ≡ length now.states → sum votes ≤ most → steps_left most next < steps_left most now
 settled-nearer s most now votes lots row next settle valid open_ order whole all few = by_step row.step settle.leaves
   where
-    by_step : (step : Step) → Leaves s now lots row step next → steps_left most next < steps_left most now
+    by_step : (step : Step) → StepLeaves s now lots row step next → steps_left most next < steps_left most now
     by_step Elected leaves =
         let electable : AreElectable now row.elected = winners-electable s now votes lots row.quota row.elected valid settle.winners in
         rw leaves.1 (nearer_by_round most (hopeful_count (elect now.states row.elected)) (hopeful_count now.states) (unwrap_or now.previous (most + 1)) (fewer-elected s now row.elected valid electable leaves.0))
@@ -143,7 +143,7 @@ settled-on_its_way s most now votes lots row next settle valid open_ order whole
     same : length next.states ≡ length now.states
     same = settled-same s now votes lots row next settle
 
-    by_step : (step : Step) → Leaves s now lots row step next → IsOnItsWay most next
+    by_step : (step : Step) → StepLeaves s now lots row step next → IsOnItsWay most next
     by_step Elected leaves =
         let electable : AreElectable now row.elected = winners-electable s now votes lots row.quota row.elected valid settle.winners in
         let fewer : hopeful_count next.states < hopeful_count now.states = rw leaves.1 (fewer-elected s now row.elected valid electable leaves.0) in

@@ -32,8 +32,8 @@ is_not_falling None u = false
 is_not_falling (Some before) u = nat_le before u
 
 -- Somebody has to be defeated where the surplus is below omega, or does not fall.
-abbrev pub is_exhausted : Situation → (surplus : ℕ) → Bool
-is_exhausted now u = nat_lt u now.omega || is_not_falling now.previous u
+abbrev pub has_to_defeat : Situation → (surplus : ℕ) → Bool
+has_to_defeat now u = nat_lt u now.omega || is_not_falling now.previous u
 
 -- the winners are elected from now on
 abbrev pub elect : List State → List Bool → List State
@@ -57,18 +57,18 @@ abbrev pub with_keeps : Situation → List ℕ → (surplus : ℕ) → Situation
 with_keeps now keeps u = record now { keeps = keeps; iteration = now.iteration + 1; previous = Some u }
 
 -- The three steps: what each asks, marks and leaves.
-abbrev pub Leaves : (s : ℕ) → Situation → (lots : List ℕ) → Row → Step → Situation → Type 0
-Leaves s now lots row Elected next =
+abbrev pub StepLeaves : (s : ℕ) → Situation → (lots : List ℕ) → Row → Step → Situation → Type 0
+StepLeaves s now lots row Elected next =
     (1 ≤ marked_count row.elected)
     × (next ≡ with_elected now row.elected)
     × (row.capped ≡ nobody now) × (row.tied ≡ nobody now)
-Leaves s now lots row (Defeat c) next =
-    (marked_count row.elected ≡ 0) × (is_exhausted now row.surplus ≡ true)
+StepLeaves s now lots row (Defeat c) next =
+    (marked_count row.elected ≡ 0) × (has_to_defeat now row.surplus ≡ true)
     × (row.tied ≡ tied now.states row.votes row.surplus) × (c ≡ first_marked lots row.tied)
     × (next ≡ with_defeated now c)
     × (row.capped ≡ nobody now)
-Leaves s now lots row Iterate next =
-    (marked_count row.elected ≡ 0) × (is_exhausted now row.surplus ≡ false)
+StepLeaves s now lots row Iterate next =
+    (marked_count row.elected ≡ 0) × (has_to_defeat now row.surplus ≡ false)
     × (row.capped ≡ capped s now.states now.keeps row.votes row.quota)
     × (next ≡ with_keeps now (new_keeps s now.states now.keeps row.votes row.quota) row.surplus)
     × (row.tied ≡ nobody now)
@@ -84,4 +84,4 @@ pub record Settle (s : ℕ) (now : Situation) (votes lots : List ℕ) (row : Row
   pub quota_is : row.quota ≡ quota now.seats votes
   pub winners : AreWinners now.states (now.seats - elected_count now.states) votes lots row.quota row.elected
   pub surplus_is : row.surplus ≡ surplus now.states row.elected votes row.quota
-  pub leaves : Leaves s now lots row row.step next
+  pub leaves : StepLeaves s now lots row row.step next

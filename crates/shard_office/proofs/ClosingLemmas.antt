@@ -15,7 +15,7 @@ use Rattle.batch_core.specs.Histories.{IsLegal, own_calls}
 use Rattle.batch_core.specs.Shards.{is_of_shard}
 use Rattle.call_register.specs.declared.mark.Mark.{Mark}
 use Rattle.call_register.specs.Marks.{MayMark, marks_of}
-use Rattle.call_register.specs.Weaving.{Lists, list_of, no_entries, weave, Fit, part}
+use Rattle.call_register.specs.Weaving.{Lists, list_of, no_entries, weave, MatchEntries, part}
 use Rattle.call_register.specs.Woven.{AreOfShards, IsWoven}
 use Rattle.call_register.specs.Walk.{calls_seen, left, NoneBy, NoMarkBy}
 use Rattle.call_register.proofs.Standing.{woven_law}
@@ -26,7 +26,7 @@ use Rattle.shard_office.specs.Office.{OfficeState}
 use Rattle.shard_office.specs.Sight.{Sight, by_shard, entries_of, GoesOn}
 use Rattle.shard_office.specs.Passes.{PassState, ShardSeat, RegisterSeat, sight_of, mine_of, lists_of}
 use Rattle.shard_office.specs.Clerk.{callers_of, AreFirst}
-use Rattle.shard_office.specs.Closing.{sight_in, Fits, IsClosed, HoldsAll, IsEnded, AreEnded}
+use Rattle.shard_office.specs.Closing.{sight_in, FitsHistory, IsClosed, HoldsAll, IsEnded, AreEnded}
 use Rattle.shard_office.proofs.Places.{get_lt, get_some, get_map, length_map}
 use Rattle.shard_office.proofs.Lists.{read_at}
 use Rattle.shard_office.proofs.TurnLists.{get_push, same_place}
@@ -58,7 +58,7 @@ fits_by p seen marks lists begins entries marked none others =
 module _ (o : OfficeState) (last : ℕ) (taken : List PassState) (seats : List ShardSeat) (r : RegisterSeat) (are : AreFirst o last 0 taken seats r) (marks : List Mark) (lists : Lists)
     (begins : Begins r.seen marks) (given : (p : ℕ) → owned_by owner_of_mark p marks ≡ owned owner_of_mark (given_by r p))
     (seen : (i : ℕ) (s : ShardSeat) → slice_get seats i ≡ Some s → Begins s.seen (lists (i + 1))) (gave : (i : ℕ) (s : ShardSeat) → slice_get seats i ≡ Some s → (p : ℕ) → owned_by owner_of_entry p (lists (i + 1)) ≡ owned owner_of_entry (given_by s p))
-    (outside : (t : ℕ) → (t ≡ 0) ⊎ (o.shards < t) → lists t ≡ []) (some : 1 ≤ o.shards) (of_shards : AreOfShards o.shards lists) (fit : Fit marks lists) where
+    (outside : (t : ℕ) → (t ≡ 0) ⊎ (o.shards < t) → lists t ≡ []) (some : 1 ≤ o.shards) (of_shards : AreOfShards o.shards lists) (fit : MatchEntries marks lists) where
   abbrev H : List Entry
   H = weave marks lists
 
@@ -141,7 +141,7 @@ module _ (o : OfficeState) (last : ℕ) (taken : List PassState) (seats : List S
       gave i s es p ∙ ap (λ b. owned owner_of_entry (cond b s.mine (taken_in p s.joined))) (ne_eqb p s.caller ne)
 
   -- a pass that was taken in fits the history
-  pass_fits : (k : ℕ) (q : PassState) → slice_get taken k ≡ Some q → Fits q H
+  pass_fits : (k : ℕ) (q : PassState) → slice_get taken k ≡ Some q → FitsHistory q H
   pass_fits k q ek =
       let is = are.passes k q ek in
       let on = goes_further q.sight (sight_of seats r) (sight_in o.shards H) is.begins clerk_on in
@@ -225,7 +225,7 @@ module _ (o : OfficeState) (last : ℕ) (taken : List PassState) (seats : List S
     legal = each_shard (λ s l. IsLegal l) (λ t. tt) (λ i l a. a.legal);
   }
 
-  all_fit : Fit marks K
+  all_fit : MatchEntries marks K
   all_fit zero = none_outside o.shards o.candidates zero marks may (inl refl)
   all_fit (suc i) = ⊎_elim
       (λ (lt : i < o.shards). let e = ended_at i lt in ap (λ k. marks_of k marks) (let h : suc i ≡ i + 1 = omega arith in h) ∙ (e.4.whole ∙ ap length (sym e.3)))

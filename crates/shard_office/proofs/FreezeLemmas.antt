@@ -18,7 +18,7 @@ use Rattle.batch_core.proofs.LawfulLemmas.{standing_total_after}
 use Rattle.call_register.specs.declared.mark.Mark.{Mark}
 use Rattle.call_register.specs.declared.mark.Mark.TheVariants.{Shard, Freeze, Strike}
 use Rattle.call_register.specs.Marks.{MayMark, is_mark_of, marks_of, struck_by}
-use Rattle.call_register.specs.Weaving.{Lists, weave, Fit}
+use Rattle.call_register.specs.Weaving.{Lists, weave, MatchEntries}
 use Rattle.call_register.specs.Woven.{AreOfShards, IsWoven}
 use Rattle.call_register.proofs.Lawful.{lawful_woven}
 use Rattle.call_register.proofs.Places.{length_woven}
@@ -64,7 +64,7 @@ all_pieces g (p ∷ ps) a each =
 whole_standing : (n : ℕ) (l : List Entry) → n ≡ length l → standing_after l n ≡ standing (after_all empty l)
 whole_standing n l is = ap (λ es. standing (after_all empty es)) (take_all n l (omega arith))
 
-module _ (n : ℕ) (marks : List Mark) (lists : Lists) (own : AreOfShards n lists) (fit : Fit marks lists) (plans : List PlanRows) (count : length plans ≡ n)
+module _ (n : ℕ) (marks : List Mark) (lists : Lists) (own : AreOfShards n lists) (fit : MatchEntries marks lists) (plans : List PlanRows) (count : length plans ≡ n)
     (each : (i : ℕ) (p : PlanRows) → slice_get plans i ≡ Some p → IsPermutation (plan_ballots p.rows) (plain (standing (after_all empty (lists (i + 1)))))) where
   law : IsWoven n marks lists (weave marks lists)
   law = woven_law n marks lists own fit
@@ -104,7 +104,7 @@ module _ (n candidates : ℕ) (marks : List Mark) (held : List SeenShard) (len :
   past_held : (i : ℕ) → n ≤ i → get_or (entries_held held) i [] ≡ []
   past_held i le = get_or_past (entries_held held) i [] (let l = length_map (λ (w : SeenShard). w.book.entries) held in omega arith)
 
-  pub held_fit : Fit marks H
+  pub held_fit : MatchEntries marks H
   held_fit zero = none_outside n candidates zero marks may (inl refl)
   held_fit (suc i) = ⊎_elim
       (λ (lt : i < n).
@@ -150,7 +150,7 @@ module _ (n candidates : ℕ) (marks : List Mark) (held : List SeenShard) (len :
       own' : AreOfShards n (by_shard now.lists)
       own' = subst (AreOfShards n) (sym lists) held_own
 
-      fit' : Fit now.marks (by_shard now.lists)
+      fit' : MatchEntries now.marks (by_shard now.lists)
       fit' s = subst (λ (z : List Mark × Lists). marks_of s z.0 ≡ length (z.1 s)) (λ k. (sym marks' k, sym lists k)) (more_freeze s p marks ∙ held_fit s)
 
       each' : (i : ℕ) (q : PlanRows) → slice_get version.plans i ≡ Some q → IsPermutation (plan_ballots q.rows) (plain (standing (after_all empty (by_shard now.lists (i + 1)))))

@@ -15,7 +15,7 @@ use Rattle.call_register.specs.declared.mark.Mark.{Mark}
 use Rattle.call_register.specs.declared.mark.Mark.TheVariants.{Shard, Freeze, Strike}
 use Rattle.call_register.specs.Marks.{marks_of, struck_by}
 use Rattle.call_register.specs.Walk.{left, followed}
-use Rattle.call_register.specs.Weaving.{Lists, Enough, weave, weave_from, freeze_entry, mark_of, marks_in, part, parts}
+use Rattle.call_register.specs.Weaving.{Lists, HaveEntries, weave, weave_from, freeze_entry, mark_of, marks_in, part, parts}
 use Rattle.call_register.proofs.Alike.{marks_of_part, no_part}
 use Rattle.call_register.proofs.Back.{woven_back}
 use Rattle.call_register.proofs.Places.{length_woven, change_at, freeze_at, strike_at}
@@ -36,7 +36,7 @@ histories_go_on before now whole on =
     let L = by_shard before.lists in
     let more : Lists = λ s. (on.entries s).0 in
     let lists : by_shard now.lists ≡ followed L more = λ k s. (on.entries s).1 k in
-    let enough : Enough before.marks L = λ s. let e = whole s in omega arith in
+    let enough : HaveEntries before.marks L = λ s. let e = whole s in omega arith in
     let rest = weave_from (struck_by before.marks) on.marks.0 (left before.marks (followed L more)) in
     (rest, (λ k. weave (on.marks.1 k) (lists k)) ∙ (weave-append [] before.marks on.marks.0 (followed L more) ∙ ap (λ l. l ++ rest) (entries_ahead before.marks L more enough)))
 
@@ -90,10 +90,10 @@ module _ (shards : ℕ) (history : List Entry) (some : 1 ≤ shards) (legal : Is
     marks_are : M ≡ front ++ m ∷ R
     marks_are = on.marks.1 ∙ (ap (λ l. l ++ R) last ∙ append_assoc front (m ∷ []) R)
 
-    enough_all : Enough (front ++ m ∷ R) P
-    enough_all = subst (λ (l : List Mark). Enough l P) marks_are (λ s. let e = marks_of_part shards s history in omega arith)
+    enough_all : HaveEntries (front ++ m ∷ R) P
+    enough_all = subst (λ (l : List Mark). HaveEntries l P) marks_are (λ s. let e = marks_of_part shards s history in omega arith)
 
-    enough_front : Enough front P
+    enough_front : HaveEntries front P
     enough_front s =
         let a = enough_all s in
         let b = front_marks s (length front) (front ++ m ∷ R) in
@@ -145,7 +145,7 @@ module _ (shards : ℕ) (history : List Entry) (some : 1 ≤ shards) (legal : Is
       let at = version.at in
       let same : history_at at (sight_in shards history) ≡ take at history = sym (front_of_sight at [] M (by_shard (sight_in shards history).lists) is.entries) ∙ ap (take at) sight_shows in
       let split = split_at M (at - 1) (Freeze is.freeze.0) is.freeze.1 in
-      let enough : Enough split.0 P = λ s.
+      let enough : HaveEntries split.0 P = λ s.
       let a = marks_of_part shards s history in
       let b = front_marks s (length split.0) M in
       let c = ap (marks_of s) (ap (take (length split.0)) split.2 ∙ take_front split.0 (Freeze is.freeze.0 ∷ split.1)) in omega arith in

@@ -13,7 +13,7 @@ use Rattle.shard_office.specs.Office.{OfficeState}
 use Rattle.shard_office.specs.Sight.{Sight, by_shard, history_of, GoesOn, IsWhole}
 use Rattle.shard_office.specs.Passes.{PassState, own}
 use Rattle.shard_office.specs.Clerk.{ClerkState, IsTaken, callers_of}
-use Rattle.shard_office.specs.Closing.{sight_in, Fits, IsClosed}
+use Rattle.shard_office.specs.Closing.{sight_in, FitsHistory, IsClosed}
 use Rattle.shard_office.proofs.HistoryLemmas.{histories_go_on, sight_shows}
 
 none_long : (l : List Entry) → length l ≡ 0 → l ≡ []
@@ -29,7 +29,7 @@ seen_more p before now on =
     let le : length (calls_seen p before.marks (by_shard before.lists)) ≤ length (calls_seen p (before.marks ++ on.marks.0) (followed (by_shard before.lists) more)) = never_fewer p before.marks on.marks.0 (by_shard before.lists) more in
     subst (λ n. length (calls_seen p before.marks (by_shard before.lists)) ≤ n) (sym same) le
 
-pub nothing_late : (o : OfficeState) (now : Sight) (q : PassState) (more history : List Entry) → IsTaken o now q → Fits q history
+pub nothing_late : (o : OfficeState) (now : Sight) (q : PassState) (more history : List Entry) → IsTaken o now q → FitsHistory q history
     → history ≡ history_of now ++ more → NoneBy q.caller more
 nothing_late o now q more history is fits split =
     let parts : own_calls q.caller history ≡ own_calls q.caller (history_of now) ++ own_calls q.caller more =

@@ -27,7 +27,7 @@ none_opened shards candidates locks ties seats halves l t s h = record {
   seats_are = ap length s;
   opened = λ i x e. absurd (let lt = get_lt seats i x e in let n = ap length s in omega arith);
   halves_are = ap ties_of h ∙ sym t;
-  nought = λ i x e. absurd (let lt = get_lt halves i x e in let n = ap length h in omega arith);
+  unnumbered = λ i x e. absurd (let lt = get_lt halves i x e in let n = ap length h in omega arith);
 }
 
 pub opened_more : (shards candidates n : ℕ) (locks ties : List TableId) (seats : List ShardSeat) (halves : List SeenHalf) (lock tie : TableId) → AreOpened shards candidates n locks ties seats halves
@@ -53,9 +53,9 @@ opened_more shards candidates n locks ties seats halves lock tie are =
           record { lock = o.lock; tie = o.tie; lock_at = get_front locks lock i o.lock o.lock_at; tie_at = get_front ties tie i o.tie o.tie_at; seat = o.seat })
           (get_push seats seat i s e);
       halves_are = map-push (λ (h : SeenHalf). h.tie) halves (record { tie = tie; number = 0 }) ∙ ap (λ l. l ++ tie ∷ []) are.halves_are;
-      nought = λ i h e. ⊎_elim
+      unnumbered = λ i h e. ⊎_elim
           (λ (k : (i ≡ length halves) × (record { tie = tie; number = 0 } ≡ h)). sym (ap (λ (z : SeenHalf). z.number) k.1))
-          (λ (k : (i < length halves) × (slice_get halves i ≡ Some h)). are.nought i h k.1)
+          (λ (k : (i < length halves) × (slice_get halves i ≡ Some h)). are.unnumbered i h k.1)
           (get_push halves (record { tie = tie; number = 0 }) i h e);
     }
 

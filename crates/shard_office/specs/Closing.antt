@@ -10,7 +10,7 @@ use Rattle.batch_core.specs.Entries.{EntryList}
 use Rattle.batch_core.specs.Histories.{IsLegal, own_calls}
 use Rattle.call_register.specs.declared.mark.Mark.{Mark}
 use Rattle.call_register.specs.Marks.{marks_of}
-use Rattle.call_register.specs.Weaving.{Lists, weave, Fit, marks_in, part}
+use Rattle.call_register.specs.Weaving.{Lists, weave, MatchEntries, marks_in, part}
 use Rattle.call_register.specs.Woven.{AreOfShards}
 use Rattle.call_register.specs.Walk.{NoneBy}
 use Rattle.shard_book.specs.Shard.{AreOfShard}
@@ -30,7 +30,7 @@ abbrev pub sight_in : ℕ → List Entry → Sight
 sight_in shards history = record { marks = marks_in shards history; lists = map (λ s. part shards s history) (range_with_len 1 shards) }
 
 -- The pass fits the history: this goes on from what the pass has seen, and its caller's calls are just the pass's own.
-pub record Fits (pass : PassState) (history : List Entry) : Type 0 where
+pub record FitsHistory (pass : PassState) (history : List Entry) : Type 0 where
   pub begins : GoesOn pass.sight (sight_in pass.office.shards history)
   pub own_are : own_calls pass.caller history ≡ own pass
 
@@ -38,15 +38,15 @@ pub record Fits (pass : PassState) (history : List Entry) : Type 0 where
 -- has a call in it.
 pub record IsClosed (clerk : ClerkState) (history : List Entry) : Type 0 where
   pub legal : IsLegal history
-  pub desk : Fits clerk.desk history
-  pub passes : (k : ℕ) (q : PassState) → slice_get clerk.taken k ≡ Some q → Fits q history
+  pub desk : FitsHistory clerk.desk history
+  pub passes : (k : ℕ) (q : PassState) → slice_get clerk.taken k ≡ Some q → FitsHistory q history
   pub others : (p : ℕ) → 1 ≤ p → has p (callers_of clerk.taken) ≡ false → NoneBy p history
 
 -- All that an office held whose clerk stood for this: for each shard a list of its own changes, legal by itself, with an
 -- entry for each of its marks. The history woven of them is the closed office's.
 pub record HoldsAll (clerk : ClerkState) (marks : List Mark) (lists : Lists) : Type 0 where
   pub of_shards : AreOfShards clerk.desk.office.shards lists
-  pub fit : Fit marks lists
+  pub fit : MatchEntries marks lists
   pub closed : IsClosed clerk (weave marks lists)
 
 -- the first seat of a shard's lock may close it

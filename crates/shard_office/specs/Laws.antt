@@ -14,7 +14,7 @@ use Rattle.shard_office.specs.Sight.{Sight, GoesOn, IsWhole, IsChange, IsStrike,
 use Rattle.shard_office.specs.Passes.{PassState}
 use Rattle.shard_office.specs.Versions.{VersionState, IsVersionOf, IsFreeze}
 use Rattle.shard_office.specs.Clerk.{ClerkState, IsTaken}
-use Rattle.shard_office.specs.Closing.{sight_in, Fits, IsClosed}
+use Rattle.shard_office.specs.Closing.{sight_in, FitsHistory, IsClosed}
 
 -- what goes on goes on further
 abbrev pub SightsGoOn : Type 0
@@ -62,7 +62,7 @@ VersionsStay = (version : VersionState) (before now : Sight) → IsVersionOf ver
 -- a version of what a pass has seen is one of every history that the pass fits
 abbrev pub VersionsAreOfHistories : Type 0
 VersionsAreOfHistories =
-    (version : VersionState) (pass : PassState) (history : List Entry) → IsVersionOf version pass.sight → Fits pass history
+    (version : VersionState) (pass : PassState) (history : List Entry) → IsVersionOf version pass.sight → FitsHistory pass history
     → IsVersionOf version (sight_in pass.office.shards history)
 
 -- What a version is in a history: one of its calls is the freeze, the ballots are, in whatever order, those that stand
@@ -82,7 +82,7 @@ VersionsStandInHistories =
 -- a pass that was taken in has no call behind what the clerk has seen
 abbrev pub NobodyCallsLater : Type 0
 NobodyCallsLater =
-    (o : OfficeState) (now : Sight) (pass : PassState) (more history : List Entry) → IsTaken o now pass → Fits pass history
+    (o : OfficeState) (now : Sight) (pass : PassState) (more history : List Entry) → IsTaken o now pass → FitsHistory pass history
     → history ≡ history_of now ++ more → NoneBy pass.caller more
 
 -- A clerk that has seen an entry for each mark, as after its freeze, and all that the passes taken in had seen, has seen

@@ -11,7 +11,7 @@ use Rattle.meek_rule.specs.Situation.{Situation, is_complete, final_states}
 use Rattle.meek_rule.specs.Row.{Row}
 use Rattle.meek_rule.specs.Rule.{Rule}
 use Rattle.meek_count.specs.Rows.{Rows, IsCountUnder}
-use Rattle.meek_count.specs.Progress.{Progress, HasJustBegun, HasRest, Leads}
+use Rattle.meek_count.specs.Progress.{Progress, HasJustBegun, HasRest, RowsLead}
 use Rattle.meek_count.specs.declared.turn.Turn.{Turn}
 use Rattle.meek_count.specs.declared.turn.Turn.TheVariants.{Iterated, Finished}
 use Rattle.meek_count.proofs.Leading.{leads_none, leads_more}
@@ -42,12 +42,12 @@ pub record OwesSheet {S T E : Type 0} (w : S → Option (List ℕ)) (f : S → �
   pub faults : CountsFault (f a) (f b) r
 
 -- the rows that lead from where a count was begun are its rows
-begun_rows : (rule : Rule) (places : ℕ) (count : Progress) (rows : List Row) (last : List State) → HasJustBegun (scale places) count → Rows rule (scale places) count.ballots count.lots count.now rows last → IsCountUnder rule places count.now.omega count.ballots count.roll count.lots rows last
+begun_rows : (rule : Rule) (places : ℕ) (count : Progress) (rows : List Row) (last : List State) → HasJustBegun (scale places) count → Rows rule (scale places) count.ballots count.lots count.situation rows last → IsCountUnder rule places count.situation.omega count.ballots count.roll count.lots rows last
 begun_rows rule places count rows last begun whole =
     subst (λ (now : Situation). Rows rule (scale places) count.ballots count.lots now rows last) begun whole
 
 -- what wrote the lines of a whole count wrote its sheet
-pub owes_sheet : {S T E : Type 0} {w : S → Option (List ℕ)} {f : S → ℕ} {a b : S} (rule : Rule) (places : ℕ) (count : Progress) (rows : List Row) (last : List State) (r : Result T E) → HasJustBegun (scale places) count → Rows rule (scale places) count.ballots count.lots count.now rows last → Writes w f a b (sheet_lines places count.roll (length count.ballots) rows last) r → OwesSheet w f a b rule places count r
+pub owes_sheet : {S T E : Type 0} {w : S → Option (List ℕ)} {f : S → ℕ} {a b : S} (rule : Rule) (places : ℕ) (count : Progress) (rows : List Row) (last : List State) (r : Result T E) → HasJustBegun (scale places) count → Rows rule (scale places) count.ballots count.lots count.situation rows last → Writes w f a b (sheet_lines places count.roll (length count.ballots) rows last) r → OwesSheet w f a b rule places count r
 owes_sheet rule places count rows last (Ok x) begun whole did = record {
   all = (_, (rows, last, begun_rows rule places count rows last begun whole, refl), did.whole);
   front = tt;
@@ -62,7 +62,7 @@ owes_sheet rule places count rows last (Err e) begun whole did = record {
 -- The count has come from where it was begun to here, and the lines so far were written.
 pub record IsUnderWay {S : Type 0} (w : S → Option (List ℕ)) (f : S → ℕ) (a b : S) (rule : Rule) (places : ℕ) (start now : Progress) : Type 0 where
   pub done : List Row
-  pub leads : Leads rule (scale places) start done now
+  pub leads : RowsLead rule (scale places) start done now
   pub wrote : Wrote w f a b (lines_up_to places start.roll (length start.ballots) done)
 
 -- nothing of it was counted yet
@@ -74,7 +74,7 @@ under_way rule places count wrote = record {
 }
 
 -- one iteration more was counted and written
-pub one_more : {S : Type 0} {w : S → Option (List ℕ)} {f : S → ℕ} {a b c : S} (rule : Rule) (places : ℕ) (start now next : Progress) (row : Row) → IsUnderWay w f a b rule places start now → Leads rule (scale places) now (next.row ∷ []) next → row ≡ next.row → Wrote w f b c (row_lines places row) → IsUnderWay w f a c rule places start next
+pub one_more : {S : Type 0} {w : S → Option (List ℕ)} {f : S → ℕ} {a b c : S} (rule : Rule) (places : ℕ) (start now next : Progress) (row : Row) → IsUnderWay w f a b rule places start now → RowsLead rule (scale places) now (next.row ∷ []) next → row ≡ next.row → Wrote w f b c (row_lines places row) → IsUnderWay w f a c rule places start next
 one_more {w} {f} {b} {c} rule places start now next row so_far leads is wrote = record {
   done = so_far.done ++ next.row ∷ [];
   leads = leads_more rule (scale places) start now next so_far.done (next.row ∷ []) so_far.leads leads;
@@ -82,7 +82,7 @@ one_more {w} {f} {b} {c} rule places start now next row so_far leads is wrote = 
 }
 
 -- the writing stopped within the lines of rows that lead on to the end
-stopped_in_sheet : {S T E : Type 0} {w : S → Option (List ℕ)} {f : S → ℕ} {a b : S} (rule : Rule) (places : ℕ) (start now : Progress) (done : List Row) (r : Result T E) → HasJustBegun (scale places) start → Leads rule (scale places) start done now → HasRest rule (scale places) now → IsErr r → Stopped w f a b (lines_up_to places start.roll (length start.ballots) done) → OnErr r (AppendsFrontOfSheet rule places start (w a) (w b))
+stopped_in_sheet : {S T E : Type 0} {w : S → Option (List ℕ)} {f : S → ℕ} {a b : S} (rule : Rule) (places : ℕ) (start now : Progress) (done : List Row) (r : Result T E) → HasJustBegun (scale places) start → RowsLead rule (scale places) start done now → HasRest rule (scale places) now → IsErr r → Stopped w f a b (lines_up_to places start.roll (length start.ballots) done) → OnErr r (AppendsFrontOfSheet rule places start (w a) (w b))
 stopped_in_sheet {w} {f} {a} {b} rule places start now done r begun leads rest failed stopped =
     let whole = leads.onward rest.0 rest.1 rest.2 in
     let writes : Writes w f a b (sheet_lines places start.roll (length start.ballots) (done ++ rest.0) rest.1) r =
@@ -96,7 +96,7 @@ stopped_in_head {w} {f} {a} {b} rule places count r begun rest failed stopped =
     stopped_in_sheet rule places count count [] r begun (leads_none rule (scale places) count) rest failed stopped'
 
 -- the writing stopped in a row
-pub stopped_in_row : {S T E : Type 0} {w : S → Option (List ℕ)} {f : S → ℕ} {a b c : S} (rule : Rule) (places : ℕ) (start now next : Progress) (row : Row) (r : Result T E) → HasJustBegun (scale places) start → IsUnderWay w f a b rule places start now → Leads rule (scale places) now (next.row ∷ []) next → row ≡ next.row → HasRest rule (scale places) next → IsErr r → Stopped w f b c (row_lines places row) → OnErr r (AppendsFrontOfSheet rule places start (w a) (w c))
+pub stopped_in_row : {S T E : Type 0} {w : S → Option (List ℕ)} {f : S → ℕ} {a b c : S} (rule : Rule) (places : ℕ) (start now next : Progress) (row : Row) (r : Result T E) → HasJustBegun (scale places) start → IsUnderWay w f a b rule places start now → RowsLead rule (scale places) now (next.row ∷ []) next → row ≡ next.row → HasRest rule (scale places) next → IsErr r → Stopped w f b c (row_lines places row) → OnErr r (AppendsFrontOfSheet rule places start (w a) (w c))
 stopped_in_row {w} {f} {a} {b} {c} rule places start now next row r begun so_far leads is rest failed stopped =
     let further = leads_more rule (scale places) start now next so_far.done (next.row ∷ []) so_far.leads leads in
     let stopped' : Stopped w f a c (lines_up_to places start.roll (length start.ballots) (so_far.done ++ next.row ∷ [])) =
@@ -104,10 +104,10 @@ stopped_in_row {w} {f} {a} {b} {c} rule places start now next row r begun so_far
     stopped_in_sheet rule places start next (so_far.done ++ next.row ∷ []) r begun further rest failed stopped'
 
 -- the count was complete, and its result was written or the writing stopped there
-pub at_end : {S T E : Type 0} {w : S → Option (List ℕ)} {f : S → ℕ} {a b c : S} (rule : Rule) (places : ℕ) (start now : Progress) (names : List (List ℕ)) (last : List State) (r : Result T E) → HasJustBegun (scale places) start → IsUnderWay w f a b rule places start now → is_complete now.now ≡ true → last ≡ final_states now.now → names ≡ start.roll.names → Writes w f b c (result_lines names last) r → OwesSheet w f a c rule places start r
+pub at_end : {S T E : Type 0} {w : S → Option (List ℕ)} {f : S → ℕ} {a b c : S} (rule : Rule) (places : ℕ) (start now : Progress) (names : List (List ℕ)) (last : List State) (r : Result T E) → HasJustBegun (scale places) start → IsUnderWay w f a b rule places start now → is_complete now.situation ≡ true → last ≡ final_states now.situation → names ≡ start.roll.names → Writes w f b c (result_lines names last) r → OwesSheet w f a c rule places start r
 at_end {w} {f} {a} {b} {c} rule places start now names last r begun so_far complete is same writes =
-    let whole : Rows rule (scale places) start.ballots start.lots start.now so_far.done last =
-    subst (λ (rows : List Row). Rows rule (scale places) start.ballots start.lots start.now rows last) (append-nil so_far.done) (so_far.leads.onward [] last (complete, is)) in
+    let whole : Rows rule (scale places) start.ballots start.lots start.situation so_far.done last =
+    subst (λ (rows : List Row). Rows rule (scale places) start.ballots start.lots start.situation rows last) (append-nil so_far.done) (so_far.leads.onward [] last (complete, is)) in
     owes_sheet rule places start so_far.done last r begun whole
     (later c _ r so_far.wrote (subst (λ (n : List (List ℕ)). Writes w f b c (result_lines n last) r) same writes))
 
@@ -122,7 +122,7 @@ stands_in_head rule places count (Ok x) stopped = tt
 stands_in_head rule places count (Err e) stopped = inl (refl, stopped.part)
 
 -- and in a row
-pub stands_in_row : {S T E : Type 0} {w : S → Option (List ℕ)} {f : S → ℕ} {a b c : S} (rule : Rule) (places : ℕ) (start now next : Progress) (row : Row) (r : Result T E) → IsUnderWay w f a b rule places start now → Leads rule (scale places) now (next.row ∷ []) next → row ≡ next.row → Stopped w f b c (row_lines places row) → OnErr r (StandsWhereItStopped rule places start next (w a) (w c))
+pub stands_in_row : {S T E : Type 0} {w : S → Option (List ℕ)} {f : S → ℕ} {a b c : S} (rule : Rule) (places : ℕ) (start now next : Progress) (row : Row) (r : Result T E) → IsUnderWay w f a b rule places start now → RowsLead rule (scale places) now (next.row ∷ []) next → row ≡ next.row → Stopped w f b c (row_lines places row) → OnErr r (StandsWhereItStopped rule places start next (w a) (w c))
 stands_in_row rule places start now next row (Ok x) so_far leads is stopped = tt
 stands_in_row {w} {f} {a} {b} {c} rule places start now next row (Err e) so_far leads is stopped =
     inr (inl (record {

@@ -10,7 +10,7 @@ use Rattle.meek_rule.specs.Rule.{Rule, Meek}
 use Rattle.meek_rule.specs.Situation.{is_complete, finished}
 use Rattle.meek_rule.specs.Row.{Row}
 use Rattle.meek_count.specs.Rows.{IsCountUnder}
-use Rattle.meek_count.specs.Progress.{Progress, Leads}
+use Rattle.meek_count.specs.Progress.{Progress, RowsLead}
 use Rattle.sheet_text.specs.Lines.{text_of_lines, head_lines, row_lines, result_lines}
 
 -- how the sheet of a count of so many ballots begins, up to these rows
@@ -36,7 +36,7 @@ IsSheet places omega ballots roll lots text = IsSheetUnder Meek places omega bal
 
 -- the sheet of a count that was just begun
 abbrev pub IsSheetOf : Rule → (places : ℕ) → Progress → List ℕ → Type 0
-IsSheetOf rule places count text = IsSheetUnder rule places count.now.omega count.ballots count.roll count.lots text
+IsSheetOf rule places count text = IsSheetUnder rule places count.situation.omega count.ballots count.roll count.lots text
 
 abbrev pub AppendsSheet : Rule → (places : ℕ) → Progress → (old new : Option (List ℕ)) → Type 0
 AppendsSheet rule places count old new = (text : List ℕ) × IsSheetOf rule places count text × Appends old new text
@@ -47,8 +47,8 @@ AppendsFrontOfSheet rule places count old new = (text : List ℕ) × IsSheetOf r
 
 -- The count is at its end: it is complete, and ending it changes nothing any more.
 pub record HasEnded (count : Progress) : Type 0 where
-  pub complete : is_complete count.now ≡ true
-  pub settled : finished count.now ≡ count.now
+  pub complete : is_complete count.situation ≡ true
+  pub settled : finished count.situation ≡ count.situation
 
 -- all of some lines was appended, and then some front of others, maybe all of it
 abbrev pub AppendsAndFront : (old new : Option (List ℕ)) → (whole part : List (List ℕ)) → Type 0
@@ -63,7 +63,7 @@ StopsInHead start now old new =
 -- The writing stopped in a row, which is that of the last iteration that was made.
 pub record StopsInRow (rule : Rule) (places : ℕ) (start now : Progress) (old new : Option (List ℕ)) : Type 0 where
   pub done : List Row
-  pub leads : Leads rule (scale places) start (done ++ now.row ∷ []) now
+  pub leads : RowsLead rule (scale places) start (done ++ now.row ∷ []) now
   pub written : AppendsAndFront old new (lines_up_to places start.roll (length start.ballots) done) (row_lines places now.row)
 
 -- Where a count stands whose sheet was broken off: where the writing stopped, in the head, in a row or in the result.

@@ -11,7 +11,7 @@ use Rattle.call_register.specs.Weaving.{freeze_entry}
 use Rattle.day_reader.specs.declared.script.Script.{Script}
 use Rattle.shard_office.specs.Passes.{PassState}
 use Rattle.shard_office.specs.Clerk.{ClerkState, callers_of}
-use Rattle.shard_office.specs.Closing.{Fits, IsClosed}
+use Rattle.shard_office.specs.Closing.{FitsHistory, IsClosed}
 use Rattle.team_run.specs.Teams.{calls_of, script_of, RisesFrom}
 use Rattle.team_run.specs.Endings.{calls_in}
 use Rattle.team_run.proofs.Lists.{all_got}
@@ -23,8 +23,8 @@ none_has p (pass ∷ passes) others =
     let not : (p == pass.caller) ≡ false = ne_eqb p pass.caller (λ same. All-head (λ (q : PassState). q.caller ≢ p) pass passes others (sym same)) in
     ap (λ (b : Bool). b || has p (callers_of passes)) not ∙ none_has p passes (All-tail (λ (q : PassState). q.caller ≢ p) pass passes others)
 
-pub all_fit : (clerk : ClerkState) (history : List Entry) → IsClosed clerk history → All (λ pass. Fits pass history) clerk.taken
-all_fit clerk history closed = all_got (λ (pass : PassState). Fits pass history) clerk.taken closed.passes
+pub all_fit : (clerk : ClerkState) (history : List Entry) → IsClosed clerk history → All (λ pass. FitsHistory pass history) clerk.taken
+all_fit clerk history closed = all_got (λ (pass : PassState). FitsHistory pass history) clerk.taken closed.passes
 
 above : (n : ℕ) (scripts : List Script) → RisesFrom n scripts → All (λ s. n < s.team) scripts
 above n [] rises = All-nil (λ (s : Script). n < s.team)
@@ -56,12 +56,12 @@ of_team H n (s ∷ ss) rises are team none =
     (λ others. none (All-cons (λ (s : Script). s.team ≢ team) s ss n' others)) ∙ sym here)
     (cases_eq s.team team)
 
-scripts_are : (history : List Entry) (taken : List PassState) → All (λ pass. Fits pass history) taken
+scripts_are : (history : List Entry) (taken : List PassState) → All (λ pass. FitsHistory pass history) taken
     → All (λ s. s.calls ≡ calls_of (own_calls s.team history)) (map script_of taken)
 scripts_are history [] fit = All-nil (λ (s : Script). s.calls ≡ calls_of (own_calls s.team history))
 scripts_are history (pass ∷ passes) fit =
     All-cons (λ (s : Script). s.calls ≡ calls_of (own_calls s.team history)) (script_of pass) (map script_of passes)
-    (ap calls_of (sym (All-head (λ (q : PassState). Fits q history) pass passes fit).own_are)) (scripts_are history passes (All-tail (λ (q : PassState). Fits q history) pass passes fit))
+    (ap calls_of (sym (All-head (λ (q : PassState). FitsHistory q history) pass passes fit).own_are)) (scripts_are history passes (All-tail (λ (q : PassState). FitsHistory q history) pass passes fit))
 
 others_are : (team : ℕ) (taken : List PassState) → All (λ s. s.team ≢ team) (map script_of taken) → All (λ pass. pass.caller ≢ team) taken
 others_are team [] others = All-nil (λ (pass : PassState). pass.caller ≢ team)

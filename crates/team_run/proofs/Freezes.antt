@@ -13,7 +13,7 @@ use Rattle.day_reader.specs.declared.script.Script.{Script}
 use Rattle.day_reader.specs.Call.{is_freeze, freezes}
 use Rattle.shard_office.specs.Passes.{PassState, own}
 use Rattle.shard_office.specs.Clerk.{ClerkState}
-use Rattle.shard_office.specs.Closing.{Fits, IsClosed}
+use Rattle.shard_office.specs.Closing.{FitsHistory, IsClosed}
 use Rattle.team_run.specs.Teams.{calls_of, script_of, RisesFrom}
 use Rattle.team_run.specs.Endings.{freezes_from}
 use Rattle.team_run.proofs.Ends.{none_has, all_fit}
@@ -172,11 +172,11 @@ callers_rise n m [] less rises = tt
 callers_rise n m (pass ∷ passes) less rises =
     ((let a = rises.0 in omega (arith, a, less)), callers_rise pass.caller (pass.caller + 1) passes (omega arith) rises.1)
 
-scripts_frozen : (history : List Entry) (taken : List PassState) → All (λ pass. Fits pass history) taken
+scripts_frozen : (history : List Entry) (taken : List PassState) → All (λ pass. FitsHistory pass history) taken
     → freezes (map script_of taken) ≡ frozen history (numbers_of taken)
 scripts_frozen history [] fit = refl
 scripts_frozen history (pass ∷ passes) fit =
-    let F : PassState → Type 0 = λ q. Fits q history in
+    let F : PassState → Type 0 = λ q. FitsHistory q history in
     let head = sum_by-append (λ (s : Script). count_by is_freeze s.calls) (script_of pass ∷ []) (map script_of passes) in
     let other = frozen_cons history pass.caller (numbers_of passes) in
     let mine : count_by is_freeze (calls_of (own pass)) ≡ frozen_by history pass.caller = ap (λ (l : List Entry). count_by is_freeze (calls_of l)) (sym (All-head F pass passes fit).own_are) in
@@ -221,13 +221,13 @@ all_theirs taken (e ∷ es) others =
 pub all_placed : (clerk : ClerkState) (history : List Entry) (scripts : List Script) (places : List ℕ) → map script_of clerk.taken ≡ scripts → RisesFrom 0 scripts
     → IsClosed clerk history → clerk.desk.caller ≡ 0 → own clerk.desk ≡ freeze_entry 0 ∷ [] → length places ≡ freezes scripts + 1
     → Rise 1 places → StandAmong (freezes_from 1 history) places → places ≡ freezes_from 1 history
-all_placed clerk history scripts places are rises closed nought own_is many rise in' =
+all_placed clerk history scripts places are rises closed nobody_else own_is many rise in' =
     let teams = numbers_of clerk.taken in
     let rise_all : Rise 0 (0 ∷ teams) = (omega arith, callers_rise 0 1 clerk.taken (omega arith) (subst (RisesFrom 0) (sym are) rises)) in
     let all = all_frozen history 0 (0 ∷ teams) rise_all (all_theirs clerk.taken history (λ p least no. closed.others p least (none_has p clerk.taken no))) in
     let first = frozen_cons history 0 teams in
     let of_clerk : frozen_by history 0 ≡ 1 =
-    ap (λ (l : List Entry). count_by is_freeze (calls_of l)) (ap (λ (p : ℕ). own_calls p history) (sym nought) ∙ (closed.desk.own_are ∙ own_is)) in
+    ap (λ (l : List Entry). count_by is_freeze (calls_of l)) (ap (λ (p : ℕ). own_calls p history) (sym nobody_else) ∙ (closed.desk.own_are ∙ own_is)) in
     let of_teams : freezes scripts ≡ frozen history teams = ap freezes (sym are) ∙ scripts_frozen history clerk.taken (all_fit clerk history closed) in
     let there = places_are 1 history in
     (within 1 (freezes_from 1 history) places rise (places_rise 1 history) in').1 (omega (arith, all, first, of_clerk, of_teams, there, many))

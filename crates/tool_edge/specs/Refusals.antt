@@ -1,32 +1,7 @@
 -- The lines of refusals. 10 ends a line.
 use Rattle.std.specs.Prelude.{ℕ, List, [], ◌∷◌, ◌++◌, codes, decimal}
-use Rattle.blt_reader.specs.declared.fault_kind.FaultKind.{FaultKind}
-use Rattle.blt_reader.specs.declared.fault_kind.FaultKind.TheVariants.{BadByte, BadNumber, BadHeader, BadWithdrawn, NoSuchCandidate, Repeated, TooManyBallots, NameExpected, TooLongName, Ended, Trailing, BallotsInRoll, BadLots, WordExpected, BadTeam, BadBatch, BadRevision, BatchTooLarge, TooManyFreezes, TooLong, BadPlaces, BadOmega}
+use Rattle.blt_reader.specs.FaultWords.{kind_word}
 use Rattle.blt_reader.specs.declared.input_fault.InputFault.{InputFault}
-
-abbrev pub kind_word : FaultKind → List ℕ
-kind_word BadByte = codes "BadByte"
-kind_word BadNumber = codes "BadNumber"
-kind_word BadHeader = codes "BadHeader"
-kind_word BadWithdrawn = codes "BadWithdrawn"
-kind_word NoSuchCandidate = codes "NoSuchCandidate"
-kind_word Repeated = codes "Repeated"
-kind_word TooManyBallots = codes "TooManyBallots"
-kind_word NameExpected = codes "NameExpected"
-kind_word TooLongName = codes "TooLongName"
-kind_word Ended = codes "Ended"
-kind_word Trailing = codes "Trailing"
-kind_word BallotsInRoll = codes "BallotsInRoll"
-kind_word BadLots = codes "BadLots"
-kind_word WordExpected = codes "WordExpected"
-kind_word BadTeam = codes "BadTeam"
-kind_word BadBatch = codes "BadBatch"
-kind_word BadRevision = codes "BadRevision"
-kind_word BatchTooLarge = codes "BatchTooLarge"
-kind_word TooManyFreezes = codes "TooManyFreezes"
-kind_word TooLong = codes "TooLong"
-kind_word BadPlaces = codes "BadPlaces"
-kind_word BadOmega = codes "BadOmega"
 
 -- the kind and the place of an input's fault
 abbrev pub fault_line : InputFault → List ℕ

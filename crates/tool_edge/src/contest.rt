@@ -39,8 +39,7 @@ pub fn lots_stop(lots: &[u32], stop: LotsStop) -> BltStop
         LotsStop::NotAll(_) => lots.len() + 1,
         LotsStop::NoMemory => return BltStop::NoMemory,
     };
-    let kind = FaultKind::BadLots;
-    BltStop::Fault(InputFault { kind, at })
+    BltStop::refused(FaultKind::BadLots, at)
 }
 
 #[cfg(test)]

@@ -1,45 +1,14 @@
 // The lines of refusals.
-ghost use Rattle.std.specs.Prelude.{◌≡◌, ◌≤◌, length};
-ghost use Rattle.tool_edge.specs.Refusals.{kind_word, fault_line, words_line};
+ghost use Rattle.std.specs.Prelude.{◌≡◌};
+ghost use Rattle.tool_edge.specs.Refusals.{fault_line, words_line};
 ghost use Rattle.tool_edge.specs.Streams.{writing};
 ghost use Rattle.tool_edge.specs.Finishing.{Finishes, RefusesInput, RefusesWords};
 
 use crate::{End, finish};
-use blt_reader::{BltStop, FaultKind, InputFault};
+use blt_reader::{BltStop, InputFault};
 use byte_edge::Sink;
 use line_text::Line;
 use meek_words::WordsStop;
-
-/// A fault's kind as it is printed.
-fn kind_word(kind: FaultKind) -> &'static [u8]
-    ensures word { result.now ≡ kind_word kind }
-    ensures short { length result.now ≤ 20 }
-{
-    match kind {
-        FaultKind::BadByte => b"BadByte",
-        FaultKind::BadNumber => b"BadNumber",
-        FaultKind::BadHeader => b"BadHeader",
-        FaultKind::BadWithdrawn => b"BadWithdrawn",
-        FaultKind::NoSuchCandidate => b"NoSuchCandidate",
-        FaultKind::Repeated => b"Repeated",
-        FaultKind::TooManyBallots => b"TooManyBallots",
-        FaultKind::NameExpected => b"NameExpected",
-        FaultKind::TooLongName => b"TooLongName",
-        FaultKind::Ended => b"Ended",
-        FaultKind::Trailing => b"Trailing",
-        FaultKind::BallotsInRoll => b"BallotsInRoll",
-        FaultKind::BadLots => b"BadLots",
-        FaultKind::WordExpected => b"WordExpected",
-        FaultKind::BadTeam => b"BadTeam",
-        FaultKind::BadBatch => b"BadBatch",
-        FaultKind::BadRevision => b"BadRevision",
-        FaultKind::BatchTooLarge => b"BatchTooLarge",
-        FaultKind::TooManyFreezes => b"TooManyFreezes",
-        FaultKind::TooLong => b"TooLong",
-        FaultKind::BadPlaces => b"BadPlaces",
-        FaultKind::BadOmega => b"BadOmega",
-    }
-}
 
 /// Puts the line of a refusal together.
 fn fault_line(fault: InputFault) -> Line
@@ -47,7 +16,7 @@ fn fault_line(fault: InputFault) -> Line
 {
     let mut line = Line::new();
     line.push_bytes(b"refused ");
-    line.push_bytes(kind_word(fault.kind));
+    line.push_bytes(fault.kind.word());
     line.push_bytes(b" at ");
     line.push_count(fault.at as u64);
     line.push_bytes(b"\n");

@@ -5,6 +5,7 @@ use native.Mathlib.Decide.{ℕ_discrete}
 use mathlib.Core.Option.{some, none}
 use Rattle.std.proofs.lemmas.List.{append_cancel_left}
 use Rattle.std.proofs.lemmas.List.Elements.{filter-append}
+use Rattle.std.proofs.lemmas.Bool.{cases_Bool}
 use Rattle.atomic_table.specs.Table.{step, gives, Allows}
 use Rattle.atomic_table.specs.Seated.{TableId}
 use Rattle.atomic_table.proofs.Lists.{set_here}
@@ -12,9 +13,9 @@ use Rattle.turn_lock.specs.declared.view.View.{View}
 use Rattle.turn_lock.specs.Entries.{owned_by, owned, MayGive}
 use Rattle.turn_lock.specs.Numbers.{has}
 use Rattle.turn_lock.specs.Sights.{Sight, sight_of}
-use Rattle.turn_lock.specs.Turns.{At, Fits, IsFree, IsHeld, IsKept}
+use Rattle.turn_lock.specs.Turns.{At, FitsLock, IsFree, IsHeld, IsKept}
 use Rattle.turn_lock.specs.Steps.{without_turn, after_gift, GivesBack, GivesWith}
-use Rattle.turn_lock.proofs.Booleans.{off, either_way, is_false}
+use Rattle.turn_lock.proofs.Booleans.{off, is_false}
 use Rattle.turn_lock.proofs.Owned.{begins_self, begins_more, one_owned, one_other, more_own}
 use Rattle.turn_lock.proofs.Places.{at_same, at_place, at_changed}
 use Rattle.turn_lock.proofs.Views.{St, Sat, table, caller_of}
@@ -46,7 +47,7 @@ module _ {T E N : Type 0} (entries : T → List E) (owner : E → Option ℕ) (n
     -- the giver's view fits the list with the new entries
     giver_fits : (seen mine : List E) → v.seen ≡ r.log → seen ≡ v.seen ++ new → mine ≡ v.mine ++ new
         → owned_by owner v.caller new ≡ owned owner new
-        → Fits owner grown gave_more name (record v { holds = false; seen = seen; mine = mine })
+        → FitsLock owner grown gave_more name (record v { holds = false; seen = seen; mine = mine })
     giver_fits seen mine all more_seen more_mine own =
         let fit = r.fits id v at lives in
         record {
@@ -58,7 +59,7 @@ module _ {T E N : Type 0} (entries : T → List E) (owner : E → Option ℕ) (n
         }
 
     -- and so does the view of each other seat
-    others_fit : (k : ℕ) (u : View E N) → k ≢ id → At s.views k u → u.lives ≡ true → Fits owner grown gave_more name u
+    others_fit : (k : ℕ) (u : View E N) → k ≢ id → At s.views k u → u.lives ≡ true → FitsLock owner grown gave_more name u
     others_fit k u apart e l =
         let g = r.fits k u e l in
         let ne : u.caller ≢ v.caller = λ h. apart (r.apart k id u v e at l lives h) in
@@ -94,7 +95,7 @@ module _ {T E N : Type 0} (entries : T → List E) (owner : E → Option ℕ) (n
         let zero : v.caller ≡ 0 = caller_of first ∙ known.zero_is_first in
         omega arith)
         (λ (is : v.is_first ≡ false). off (known.outside id v at lives is) (subst (λ z. has z f.out ≡ false) e gone))
-        (either_way v.is_first))
+        (cases_Bool v.is_first))
 
     -- the turn is given back with these entries more
     releases : (value : T) (seen mine : List E) → v.holds ≡ true → entries value ≡ seen → seen ≡ v.seen ++ new → mine ≡ v.mine ++ new

@@ -11,7 +11,7 @@ use Rattle.turn_lock.specs.declared.view.View.{View}
 use Rattle.turn_lock.specs.Entries.{longer, taken_in, owned_by, owned}
 use Rattle.turn_lock.specs.Numbers.{has}
 use Rattle.turn_lock.specs.Sights.{Sight, sight_of}
-use Rattle.turn_lock.specs.Turns.{spent, At, Fits, Counts, IsFree, IsHeld, IsKept}
+use Rattle.turn_lock.specs.Turns.{spent, At, FitsLock, Counts, IsFree, IsHeld, IsKept}
 use Rattle.turn_lock.specs.Steps.{after_join, after_look, Learns}
 use Rattle.turn_lock.proofs.Booleans.{off, is_false}
 use Rattle.turn_lock.proofs.Callers.{has-without, without-has}
@@ -84,13 +84,13 @@ module _ {T E N : Type 0} (entries : T → List E) (owner : E → Option ℕ) (n
         }))
         r.turn
 
-    join_fits : (k : ℕ) (u : View E N) → At all k u → u.lives ≡ true → Fits owner r.log r.gave name u
+    join_fits : (k : ℕ) (u : View E N) → At all k u → u.lives ≡ true → FitsLock owner r.log r.gave name u
     join_fits =
         let fit = r.fits id v at lives in
         let told = (r.fits other w there lives').seen in
-        at_changed (λ _ u. u.lives ≡ true → Fits owner r.log r.gave name u) changed other spent
+        at_changed (λ _ u. u.lives ≡ true → FitsLock owner r.log r.gave name u) changed other spent
         (λ l. absurd (off l refl))
-        (λ k u _. at_changed (λ _ u. u.lives ≡ true → Fits owner r.log r.gave name u) s.views id (after_join v w)
+        (λ k u _. at_changed (λ _ u. u.lives ≡ true → FitsLock owner r.log r.gave name u) s.views id (after_join v w)
         (λ _. record { seen = fit.seen; told = told; mine = fit.mine; own = fit.own; named = fit.named })
         (λ k u _ e l. r.fits k u e l)
         k u)

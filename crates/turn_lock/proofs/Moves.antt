@@ -6,7 +6,7 @@ use Rattle.atomic_table.proofs.Lists.{set_else, set_again}
 use Rattle.turn_lock.specs.declared.view.View.{View}
 use Rattle.turn_lock.specs.Entries.{Begins, owned_by, owned}
 use Rattle.turn_lock.specs.Numbers.{has}
-use Rattle.turn_lock.specs.Turns.{At, Fits, Counts, IsFree, IsHeld, IsKept}
+use Rattle.turn_lock.specs.Turns.{At, FitsLock, Counts, IsFree, IsHeld, IsKept}
 use Rattle.turn_lock.proofs.Booleans.{off}
 use Rattle.turn_lock.proofs.Places.{at_same, at_place, at_changed}
 use Rattle.turn_lock.proofs.Views.{St, table, holds_of, before_changed, counts_stay}
@@ -72,8 +72,8 @@ module _ {T E N : Type 0} (entries : T → List E) (owner : E → Option ℕ) (n
 
     -- the seat's view moves, and the list and what was given may grow
     pub moves : (holds : Bool) (seen mine told : List E) (next : ℕ) (log' : List E) (gave' : ℕ → List E)
-        → Fits owner log' gave' name (moved v holds seen mine told next)
-        → ((k : ℕ) (u : View E N) → k ≢ id → At s.views k u → u.lives ≡ true → Fits owner log' gave' name u)
+        → FitsLock owner log' gave' name (moved v holds seen mine told next)
+        → ((k : ℕ) (u : View E N) → k ≢ id → At s.views k u → u.lives ≡ true → FitsLock owner log' gave' name u)
         → ((p : ℕ) → owned_by owner p log' ≡ owned owner (gave' p))
         → ((f : View E N) → At s.views 0 f → (p : ℕ) → 0 < p → has p f.out ≡ false → gave' p ≡ r.gave p)
         → (words' : List ℕ) (homes' : List (Maybe (Option T))) → length words' ≡ 1
@@ -87,7 +87,7 @@ module _ {T E N : Type 0} (entries : T → List E) (owner : E → Option ℕ) (n
           log = log';
           gave = gave';
           turn = turn;
-          fits = at_changed (λ _ u. u.lives ≡ true → Fits owner log' gave' name u) s.views id w (λ _. fit) fits;
+          fits = at_changed (λ _ u. u.lives ≡ true → FitsLock owner log' gave' name u) s.views id w (λ _. fit) fits;
           owners = owners;
           apart = λ j k u y eu ey lu ly e.
               let a = was j u eu in

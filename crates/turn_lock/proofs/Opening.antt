@@ -3,7 +3,7 @@ use Rattle.std.proofs.Common.{◌≡◌, ℕ, true, List, [], ◌∷◌, false, 
 use Rattle.atomic_table.specs.Table.{opening}
 use Rattle.turn_lock.specs.declared.view.View.{View}
 use Rattle.turn_lock.specs.Numbers.{has}
-use Rattle.turn_lock.specs.Turns.{opener, At, Fits, Counts, IsKept}
+use Rattle.turn_lock.specs.Turns.{opener, At, FitsLock, Counts, IsKept}
 use Rattle.turn_lock.proofs.Booleans.{off}
 use Rattle.turn_lock.proofs.Places.{at_lt, at_added}
 
@@ -35,7 +35,7 @@ module _ {T E N : Type 0} (entries : T → List E) (owner : E → Option ℕ) (n
           named = named;
           none_holds = only (λ _ u. u.holds ≡ false) f refl;
         });
-        fits = only (λ _ u. u.lives ≡ true → Fits owner [] (λ _. []) name u) f
+        fits = only (λ _ u. u.lives ≡ true → FitsLock owner [] (λ _. []) name u) f
             (λ _. record { seen = ([], refl); told = ([], refl); mine = refl; own = refl; named = refl });
         owners = λ p. refl;
         apart = λ j k u v eu ev _ _ _. place j u eu ∙ sym (place k v ev);

@@ -3,8 +3,8 @@ use Rattle.std.proofs.Common.{◌≡◌, ◌≢◌, ℕ, ◌<◌, ◌≤◌, tru
 use Rattle.std.proofs.lemmas.List.{append_cancel_left}
 use Rattle.std.proofs.lemmas.List.Elements.{filter-append}
 use Rattle.std.proofs.lemmas.Bool.Decides.{nat_tests}
+use Rattle.std.proofs.lemmas.Bool.{cases_Bool}
 use Rattle.turn_lock.specs.Entries.{is_by, has_one, Begins, longer, owned_by, owned, MayGive}
-use Rattle.turn_lock.proofs.Booleans.{either_way}
 
 module _ {E : Type 0} where
   pub begins_self : (xs ys : List E) → xs ≡ ys → Begins xs ys
@@ -35,7 +35,7 @@ module _ {E : Type 0} where
       (λ (t : (ltb (length xs) (length ys) ≡ false)).
       let more : length ys ≤ length xs = grind (arith, nat_tests) in
       subst (λ b. P (cond b ys xs)) (sym t) (b, begins_self xs xs refl, shorter ys xs c.0 b.0 (sym same) more))
-      (either_way (ltb (length xs) (length ys)))
+      (cases_Bool (ltb (length xs) (length ys)))
 
   pub nothing_left : (xs ys : List E) → xs ++ ys ≡ [] → xs ≡ []
   nothing_left [] ys e = refl

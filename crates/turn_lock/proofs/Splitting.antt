@@ -5,6 +5,7 @@ use native.Mathlib.Decide.{ℕ_discrete}
 use mathlib.Core.Option.{none}
 use prog.Atomic.{either}
 use Rattle.std.proofs.lemmas.List.{set-get_or}
+use Rattle.std.proofs.lemmas.Bool.{cases_Bool}
 use Rattle.atomic_table.specs.Seated.{TableId}
 use Rattle.atomic_table.specs.Table.{step, keeps, Allows, Splits}
 use Rattle.atomic_table.proofs.Lists.{at_longer}
@@ -12,9 +13,9 @@ use Rattle.turn_lock.specs.declared.view.View.{View}
 use Rattle.turn_lock.specs.Entries.{owned_by}
 use Rattle.turn_lock.specs.Numbers.{has}
 use Rattle.turn_lock.specs.Sights.{Sight, sight_of}
-use Rattle.turn_lock.specs.Turns.{At, Fits, Counts, IsFree, IsHeld, IsKept}
+use Rattle.turn_lock.specs.Turns.{At, FitsLock, Counts, IsFree, IsHeld, IsKept}
 use Rattle.turn_lock.specs.Steps.{with_next, after_split, newcomer_of, TakesNumber}
-use Rattle.turn_lock.proofs.Booleans.{off, either_way}
+use Rattle.turn_lock.proofs.Booleans.{off}
 use Rattle.turn_lock.proofs.Callers.{has-more, has-here, has-cases, has-fewer}
 use Rattle.turn_lock.proofs.Places.{at_lt, at_place, at_changed, at_added}
 use Rattle.turn_lock.proofs.Views.{St, Sat, table, Before, before_changed}
@@ -83,7 +84,7 @@ module _ {T E N : Type 0} (entries : T → List E) (owner : E → Option ℕ) (n
         (λ (t : a.view.is_first ≡ false).
         off (counts_now.outside k a.view a.there (a.lives ∙ l) t)
         (subst (λ z. has z v.out ≡ false) (sym (a.caller ∙ is)) next_is_not_out))
-        (either_way a.view.is_first)
+        (cases_Bool a.view.is_first)
 
     -- the new seat has no turn, and who had it has it
     split_turn : IsFree entries owner name_of r.log name (table s.words s.homes all) ⊎ IsHeld entries owner name_of r.log (table s.words s.homes all)
@@ -108,12 +109,12 @@ module _ {T E N : Type 0} (entries : T → List E) (owner : E → Option ℕ) (n
         }))
         (aside entries owner name_of name s r.log s.words id v (after_split v) at out out refl r.turn)
 
-    split_fits : (k : ℕ) (u : View E N) → At all k u → u.lives ≡ true → Fits owner r.log r.gave name u
+    split_fits : (k : ℕ) (u : View E N) → At all k u → u.lives ≡ true → FitsLock owner r.log r.gave name u
     split_fits =
         let fit = r.fits id v at lives in
-        at_added (λ _ u. u.lives ≡ true → Fits owner r.log r.gave name u) olds (newcomer_of v)
+        at_added (λ _ u. u.lives ≡ true → FitsLock owner r.log r.gave name u) olds (newcomer_of v)
         (λ _. record { seen = fit.seen; told = (r.log, refl); mine = next_gave_nothing; own = next_owns_nothing; named = fit.named })
-        (at_changed (λ _ u. u.lives ≡ true → Fits owner r.log r.gave name u) s.views id (after_split v)
+        (at_changed (λ _ u. u.lives ≡ true → FitsLock owner r.log r.gave name u) s.views id (after_split v)
         (λ _. record { seen = fit.seen; told = fit.told; mine = fit.mine; own = fit.own; named = fit.named })
         (λ k u _ e l. r.fits k u e l))
 

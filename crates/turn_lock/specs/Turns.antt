@@ -53,7 +53,7 @@ module _ {E N : Type 0} where
   module _ (owner : E → Option ℕ) where
     -- a seat's view fits the lock's list: what it has seen begins the list, it gave what it says,
     -- and it has seen all entries of its own
-    pub record Fits (log : List E) (gave : ℕ → List E) (name : N) (v : View E N) : Type 0 where
+    pub record FitsLock (log : List E) (gave : ℕ → List E) (name : N) (v : View E N) : Type 0 where
       pub seen : Begins v.seen log
       pub told : Begins v.told log
       pub mine : v.mine ≡ gave v.caller
@@ -87,7 +87,7 @@ module _ {E N : Type 0} where
       pub log : List E
       pub gave : ℕ → List E
       pub turn : IsFree log name s ⊎ IsHeld log s
-      pub fits : (k : ℕ) (v : View E N) → At s.views k v → v.lives ≡ true → Fits owner log gave name v
+      pub fits : (k : ℕ) (v : View E N) → At s.views k v → v.lives ≡ true → FitsLock owner log gave name v
       -- the entries of an owner are those that this number gave
       pub owners : (p : ℕ) → owned_by owner p log ≡ owned owner (gave p)
       -- no two seats have one number

@@ -20,7 +20,7 @@ use Rattle.warren_cli.specs.Owed.{OwesWarren, IsSheetOwed}
 
 -- the count is of these single ballots, this roll and these lots, with the tool's omega
 pub record IsCountOf (roll : RollList) (lots : List ℕ) (ballots : List (List ℕ)) (count : Progress) : Type 0 where
-  pub omega_is : count.now.omega ≡ 1000
+  pub omega_is : count.situation.omega ≡ 1000
   pub ballots_are : count.ballots ≡ ballots
   pub roll_is : count.roll ≡ roll
   pub lots_are : count.lots ≡ lots
@@ -30,9 +30,9 @@ sheet_of :
     → IsCountOf roll lots ballots count → IsSheetOf Warren 9 count text → IsSheetUnder Warren 9 1000 ballots roll lots text
 sheet_of roll lots ballots count text of is =
     subst (λ (omega : ℕ). IsSheetUnder Warren 9 omega ballots roll lots text) of.omega_is
-    (subst (λ (b : List (List ℕ)). IsSheetUnder Warren 9 count.now.omega b roll lots text) of.ballots_are
-    (subst (λ (r : RollList). IsSheetUnder Warren 9 count.now.omega count.ballots r lots text) of.roll_is
-    (subst (λ (l : List ℕ). IsSheetUnder Warren 9 count.now.omega count.ballots count.roll l text) of.lots_are is)))
+    (subst (λ (b : List (List ℕ)). IsSheetUnder Warren 9 count.situation.omega b roll lots text) of.ballots_are
+    (subst (λ (r : RollList). IsSheetUnder Warren 9 count.situation.omega count.ballots r lots text) of.roll_is
+    (subst (λ (l : List ℕ). IsSheetUnder Warren 9 count.situation.omega count.ballots count.roll l text) of.lots_are is)))
 
 -- the sheet was written, or a front of it
 pub wrote_sheet :

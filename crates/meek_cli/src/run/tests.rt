@@ -159,7 +159,7 @@ fn counts_small_elections(rt: HostRuntime) -> Result<(), Fail> {
     Ok(())
 }
 
-// As the usual tools write it: a byte order mark, carriage returns, a comment, leading zeros, a
+// As most tools write it: a byte order mark, carriage returns, a comment, leading zeros, a
 // candidate withdrawn twice, an empty ballot, and strings behind the title.
 #[test]
 fn counts_what_tools_write(rt: HostRuntime) -> Result<(), Fail> {

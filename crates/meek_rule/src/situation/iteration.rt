@@ -5,7 +5,7 @@ ghost use Rattle.candidate_roll.specs.State.{state_at};
 ghost use Rattle.meek_rule.specs.Situation.{IsValid, IsOnItsWay, is_complete, is_hopeful, steps_left};
 ghost use Rattle.meek_rule.specs.Row.{HasRoomFor};
 ghost use Rattle.meek_rule.specs.KeepValues.{new_keeps, capped};
-ghost use Rattle.meek_rule.specs.Iteration.{Settle, HasOnlyRunningVotes, is_exhausted, with_elected, with_defeated, with_keeps};
+ghost use Rattle.meek_rule.specs.Iteration.{Settle, HasOnlyRunningVotes, has_to_defeat, with_elected, with_defeated, with_keeps};
 ghost use Rattle.meek_rule.specs.Steps.{IsCounted, AreElectable};
 
 use crate::keep_values::update_keeps;
@@ -42,7 +42,7 @@ impl<const P: usize> Situation<P> {
         if count_marked(&row.elected) > 0 {
             self.elect(&row.elected);
             row.step = Step::Elected;
-        } else if self.is_exhausted(row.surplus) {
+        } else if self.has_to_defeat(row.surplus) {
             mark_tied(&self.states, votes, row.surplus, &mut row.tied);
             let loser = lots.first_of(&row.tied);
             self.defeat(loser);
@@ -77,8 +77,8 @@ impl<const P: usize> Situation<P> {
     }
 
     /// Whether somebody has to be defeated.
-    fn is_exhausted(&self, surplus: Amount<P>) -> bool
-        ensures { result ≡ is_exhausted self.now surplus.entry }
+    fn has_to_defeat(&self, surplus: Amount<P>) -> bool
+        ensures { result ≡ has_to_defeat self.now surplus.entry }
     {
         surplus.units() < self.omega.units()
             || match self.previous {

@@ -1,4 +1,4 @@
-// Files as the usual tools write them, each with the election that it says.
+// Files as most tools write them, each with the election that it says.
 use crate::read_blt;
 use candidate_roll::Roll;
 use plain_ballots::BallotLine;

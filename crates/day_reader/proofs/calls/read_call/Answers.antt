@@ -20,4 +20,4 @@ pub returns-in-Freeze-clause-reads : goal.returns-in-Freeze-clause-reads
 returns-in-Freeze-clause-reads c = λ before script counts. freeze_read c.args.candidates before script _ _ c.args.keyword c.args.at refl c.args.frozen.now _ c.count_freeze.result c.in-Freeze.is counts c.count_freeze.ensures.one_more c.count_freeze.ensures.full
 
 pub returns-in_default-clause-reads : goal.returns-in_default-clause-reads
-returns-in_default-clause-reads c = λ before script counts. rw c.unexpected.ensures (no_word c.args.candidates before script _ _ c.args.keyword c.args.at refl c.in_default.not-Enter c.in_default.not-Correct c.in_default.not-Withdraw c.in_default.not-Strike c.in_default.not-Freeze c.requires)
+returns-in_default-clause-reads c = λ before script counts. rw c.refused.ensures (no_word c.args.candidates before script _ _ c.args.keyword c.args.at refl c.in_default.not-Enter c.in_default.not-Correct c.in_default.not-Withdraw c.in_default.not-Strike c.in_default.not-Freeze c.requires)

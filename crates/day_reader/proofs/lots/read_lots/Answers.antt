@@ -19,7 +19,7 @@ returns-in_err-n-clause-reads c =
 pub returns-then-len-candidates-clause-reads : goal.returns-then-len-candidates-clause-reads
 returns-then-len-candidates-clause-reads c =
     let few : length c.loop-order.order.items ≢ c.args.candidates = λ same. omega (arith, same, c.len.ensures, c.if-len-candidates.true) in
-    rw c.bad_lots.ensures (c.loop-order.invariant.same ∙ lots_missing c.args.candidates c.loop-order.order.items _ _ c.in_ok-n.n c.in_ok-n.at c.in_ok-n.ensures.number c.if-n-eq0.true few)
+    rw c.refused.ensures (c.loop-order.invariant.same ∙ lots_missing c.args.candidates c.loop-order.order.items _ _ c.in_ok-n.n c.in_ok-n.at c.in_ok-n.ensures.number c.if-n-eq0.true few)
 
 pub new_lots-requires-clause-lots : goal.new_lots-requires-clause-lots
 new_lots-requires-clause-lots c =
@@ -36,12 +36,12 @@ returns-then-n-eq0-clause-reads c =
     lots_read c.args.candidates _ _ c.as_slice.result.now c.new_lots.result read c.new_lots.ensures.lots c.new_lots.ensures.only_memory
 
 pub returns-then-n-candidates-clause-reads : goal.returns-then-n-candidates-clause-reads
-returns-then-n-candidates-clause-reads c = rw c.bad_lots-then-n-candidates.ensures (c.loop-order.invariant.same ∙ above c.args.candidates c.loop-order.order.items _ _ c.in_ok-n.n c.in_ok-n.at c.in_ok-n.ensures.number c.if-n-eq0.false c.if-n-candidates.true)
+returns-then-n-candidates-clause-reads c = rw c.refused-then-n-candidates.ensures (c.loop-order.invariant.same ∙ above c.args.candidates c.loop-order.order.items _ _ c.in_ok-n.n c.in_ok-n.at c.in_ok-n.ensures.number c.if-n-eq0.false c.if-n-candidates.true)
 
 pub returns-then-get-clause-reads : goal.returns-then-get-clause-reads
 returns-then-get-clause-reads c =
     let some : 1 ≤ c.in_ok-n.n = omega (arith, c.if-n-eq0.false) in
-    rw c.bad_lots-then-get.ensures (c.loop-order.invariant.same ∙ again c.args.candidates c.loop-order.order.items _ _ c.in_ok-n.n c.in_ok-n.at c.in_ok-n.ensures.number c.if-n-eq0.false c.if-n-candidates.false
+    rw c.refused-then-get.ensures (c.loop-order.invariant.same ∙ again c.args.candidates c.loop-order.order.items _ _ c.in_ok-n.n c.in_ok-n.at c.in_ok-n.ensures.number c.if-n-eq0.false c.if-n-candidates.false
     (sym (c.loop-order.invariant.marks c.in_ok-n.n some c.if-n-candidates.false) ∙ sym c.get.ensures.mark ∙ c.if-get.true))
 
 pub loop-order-preserved : goal.loop-order-preserved

@@ -17,7 +17,7 @@ returns-in_err-keyword-clause-reads c =
     rw (p.1, p.2) (λ roll lots. places_read roll lots _ _ c.in_ok-places.places c.in_ok-places.ensures.number ∙ places_end_stops roll lots _ _ c.in_ok-places.places _ c.in_err-keyword.ensures.fault)
 
 pub returns-in_default-clause-reads : goal.returns-in_default-clause-reads
-returns-in_default-clause-reads c = λ roll lots. rw c.unexpected.ensures (places_read roll lots _ _ c.in_ok-places.places c.in_ok-places.ensures.number
+returns-in_default-clause-reads c = λ roll lots. rw c.new.ensures (places_read roll lots _ _ c.in_ok-places.places c.in_ok-places.ensures.number
     ∙ omega_missing roll lots _ _ c.in_ok-places.places c.in_ok-keyword.keyword c.in_ok-keyword.at c.in_ok-keyword.ensures.keyword c.in_default.not-Omega)
 
 pub returns-in_err-omega-clause-reads : goal.returns-in_err-omega-clause-reads

@@ -19,7 +19,7 @@ returns-in_err-keyword-clause-reads c =
 pub returns-then-len-clause-reads : goal.returns-then-len-clause-reads
 returns-then-len-clause-reads c =
     let many : 16 ≤ length (and_team c.args.before.now c.loop-keyword.script) = omega (arith, c.len.ensures, c.if-len.true, length_push c.args.before.now c.loop-keyword.script) in
-    rw c.bad_team.ensures (c.loop-keyword.invariant.same ∙ team_too_many c.args.candidates c.args.before.now c.loop-keyword.script _ _ c.in_ok-keyword.keyword c.in_ok-keyword.at c.in_ok-keyword.ensures.keyword c.in-Team.is many)
+    rw c.refused.ensures (c.loop-keyword.invariant.same ∙ team_too_many c.args.candidates c.args.before.now c.loop-keyword.script _ _ c.in_ok-keyword.keyword c.in_ok-keyword.at c.in_ok-keyword.ensures.keyword c.in-Team.is many)
 
 pub returns-in-Team-clause-reads : goal.returns-in-Team-clause-reads
 returns-in-Team-clause-reads c =

@@ -11,4 +11,4 @@ rows-preserved g c =
 pub returns : goal.returns
 returns g c =
     let done = finished c.next.result c.in_default.not-Iterated in
-    counted_out 9 c.args.count.now c.rows.count c.rows.turns c.next.new.self.now.states c.rows.invariant (c.next.ensures.at_end.0 done) (c.next.ensures.last done)
+    counted_out 9 c.args.count.now c.rows.count c.rows.turns c.next.new.self.situation.states c.rows.invariant (c.next.ensures.at_end.0 done) (c.next.ensures.last done)

@@ -7,4 +7,4 @@ abbrev pub invariant-rows : goal.invariant-rows
 invariant-rows g l = IsCountingOut 9 l.fn.count l.count l.turns
 
 abbrev pub decreases-rows : goal.decreases-rows
-decreases-rows g l = steps_left (most 9) l.count.now
+decreases-rows g l = steps_left (most 9) l.count.situation

@@ -5,7 +5,7 @@ use Rattle.fixed_place.proofs.RoundingLemmas.{scale_pos}
 use Rattle.meek_rule.specs.Situation.{Situation, is_complete}
 use Rattle.meek_rule.specs.Iteration.{HasOnlyRunningVotes, Settle}
 use Rattle.meek_rule.specs.Weights.{votes_under}
-use Rattle.meek_count.specs.Progress.{Progress, Leads}
+use Rattle.meek_count.specs.Progress.{Progress, RowsLead}
 use Rattle.meek_count.proofs.EndLemmas.{finished-twice, on_its_way-finished}
 use Rattle.meek_count.proofs.StepLemmas.{round_fits, iteration_fits, only_running, votes_fit, votes-same, keeps-elected}
 use Rattle.meek_count.specs.Rows.{IteratesTo}
@@ -79,13 +79,13 @@ pub returns-clause-leads : goal.returns-clause-leads
 returns-clause-leads g c = λ is.
     let now : Situation = c.self.inside.situation in
     let going : is_complete now ≡ false = sym c.is_complete.ensures ∙ c.if-is_complete.false in
-    let old : Progress = record { roll = c.self.inside.roll.now; lots = c.self.inside.lots.now; ballots = g.D.Spread.ballots c.self.inside.spread; now = now; has_row = c.self.inside.has_row; row = c.self.inside.row } in
-    let new : Progress = record { roll = c.self.inside.roll.now; lots = c.self.inside.lots.now; ballots = g.D.Spread.ballots c.distribute.new.spread; now = c.settle.new.self; has_row = true; row = c.settle.new.row } in
+    let old : Progress = record { roll = c.self.inside.roll.now; lots = c.self.inside.lots.now; ballots = g.D.Spread.ballots c.self.inside.spread; situation = now; has_row = c.self.inside.has_row; row = c.self.inside.row } in
+    let new : Progress = record { roll = c.self.inside.roll.now; lots = c.self.inside.lots.now; ballots = g.D.Spread.ballots c.distribute.new.spread; situation = c.settle.new.self; has_row = true; row = c.settle.new.row } in
     let tally : c.distribute.new.tally ≡ votes_under g.D.Spread.rule (scale g.row.P) now.keeps old.ballots (length now.states) =
     c.distribute.ensures.votes ∙ votes-same g.D.Spread.rule (scale g.row.P) c.keeps.result.now now.keeps (g.D.Spread.ballots c.self.inside.spread) (g.D.Spread.candidates c.self.inside.spread) (length now.states) c.keeps.ensures c.self.invariant.3 in
-    let iterates : IteratesTo g.D.Spread.rule (scale g.row.P) old.ballots old.lots now new.row new.now =
-    subst (λ (v : List ℕ). Settle (scale g.row.P) now v old.lots new.row new.now) tally c.settle.ensures.settle in
-    subst (λ (p : Progress). Leads g.D.Spread.rule (scale g.row.P) p (new.row ∷ []) new) c.self.view_is
+    let iterates : IteratesTo g.D.Spread.rule (scale g.row.P) old.ballots old.lots now new.row new.situation =
+    subst (λ (v : List ℕ). Settle (scale g.row.P) now v old.lots new.row new.situation) tally c.settle.ensures.settle in
+    subst (λ (p : Progress). RowsLead g.D.Spread.rule (scale g.row.P) p (new.row ∷ []) new) c.self.view_is
     (leads_one g.D.Spread.rule (scale g.row.P) old new going iterates (record { roll = refl; lots = refl; ballots = c.distribute.ensures.same }))
 
 -- an iteration keeps what a count keeps, and after an election the votes stand

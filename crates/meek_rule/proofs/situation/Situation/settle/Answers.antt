@@ -58,8 +58,8 @@ returns-then-count_marked-gt0-clause-settle g c =
       leaves = (omega (arith, c.count_marked.ensures), c.elect.ensures, counted.capped, counted.tied);
     }
 
-pub returns-then-is_exhausted-clause-settle : goal.returns-then-is_exhausted-clause-settle
-returns-then-is_exhausted-clause-settle g c =
+pub returns-then-has_to_defeat-clause-settle : goal.returns-then-has_to_defeat-clause-settle
+returns-then-has_to_defeat-clause-settle g c =
     let counted = subst (λ (r : Row). IsCounted c.args.self.now c.args.votes.now c.args.lots.now r) (sym c.row.view_is) c.count.ensures.counted in
     let states : c.self.inside.states ≡ c.args.self.now.states = ap (λ (x : Situation). x.states) c.self.view_is in
     let tied_is : c.mark_tied.new.marks ≡ tied c.args.self.now.states c.args.votes.now c.row.inside.surplus =
@@ -74,11 +74,11 @@ returns-then-is_exhausted-clause-settle g c =
       quota_is = counted.quota_is;
       winners = counted.winners;
       surplus_is = counted.surplus_is;
-      leaves = (omega (arith, c.count_marked.ensures), sym c.is_exhausted.ensures ∙ c.if-is_exhausted.true, rw counted.votes_are tied_is, c.first_of-loser.ensures.first, c.defeat.ensures, counted.capped);
+      leaves = (omega (arith, c.count_marked.ensures), sym c.has_to_defeat.ensures ∙ c.if-has_to_defeat.true, rw counted.votes_are tied_is, c.first_of-loser.ensures.first, c.defeat.ensures, counted.capped);
     }
 
-pub returns-else-is_exhausted-clause-settle : goal.returns-else-is_exhausted-clause-settle
-returns-else-is_exhausted-clause-settle g c =
+pub returns-else-has_to_defeat-clause-settle : goal.returns-else-has_to_defeat-clause-settle
+returns-else-has_to_defeat-clause-settle g c =
     let counted = subst (λ (r : Row). IsCounted c.args.self.now c.args.votes.now c.args.lots.now r) (sym c.row.view_is) c.count.ensures.counted in
     record {
       round = counted.round;
@@ -90,7 +90,7 @@ returns-else-is_exhausted-clause-settle g c =
       quota_is = counted.quota_is;
       winners = counted.winners;
       surplus_is = counted.surplus_is;
-      leaves = (omega (arith, c.count_marked.ensures), sym c.is_exhausted.ensures ∙ c.if-is_exhausted.false, rw counted.votes_are c.transfer.ensures.capped, rw counted.votes_are c.transfer.ensures.next, counted.tied);
+      leaves = (omega (arith, c.count_marked.ensures), sym c.has_to_defeat.ensures ∙ c.if-has_to_defeat.false, rw counted.votes_are c.transfer.ensures.capped, rw counted.votes_are c.transfer.ensures.next, counted.tied);
     }
 
 pub returns-then-count_marked-gt0-clause-valid : goal.returns-then-count_marked-gt0-clause-valid
@@ -108,32 +108,32 @@ returns-then-count_marked-gt0-clause-same_candidates g c = settled-same (scale g
 pub returns-then-count_marked-gt0-clause-row_of_all : goal.returns-then-count_marked-gt0-clause-row_of_all
 returns-then-count_marked-gt0-clause-row_of_all g c = settled-room (scale g.row.P) _ _ _ _ _ (returns-then-count_marked-gt0-clause-settle g c) c.count.ensures.valid c.requires.votes_of_all
 
-pub returns-then-is_exhausted-clause-valid : goal.returns-then-is_exhausted-clause-valid
-returns-then-is_exhausted-clause-valid g c = settled-valid (scale g.row.P) _ _ _ _ _ (returns-then-is_exhausted-clause-settle g c) c.count.ensures.valid c.requires.open c.candidates-order.ensures.order c.requires.lots_of_all
+pub returns-then-has_to_defeat-clause-valid : goal.returns-then-has_to_defeat-clause-valid
+returns-then-has_to_defeat-clause-valid g c = settled-valid (scale g.row.P) _ _ _ _ _ (returns-then-has_to_defeat-clause-settle g c) c.count.ensures.valid c.requires.open c.candidates-order.ensures.order c.requires.lots_of_all
 
-pub returns-then-is_exhausted-clause-nearer : goal.returns-then-is_exhausted-clause-nearer
-returns-then-is_exhausted-clause-nearer g c = settled-nearer (scale g.row.P) (most g.row.P) _ _ _ _ _ (returns-then-is_exhausted-clause-settle g c) c.count.ensures.valid c.requires.open c.candidates-order.ensures.order c.requires.lots_of_all c.requires.votes_of_all c.requires.few
+pub returns-then-has_to_defeat-clause-nearer : goal.returns-then-has_to_defeat-clause-nearer
+returns-then-has_to_defeat-clause-nearer g c = settled-nearer (scale g.row.P) (most g.row.P) _ _ _ _ _ (returns-then-has_to_defeat-clause-settle g c) c.count.ensures.valid c.requires.open c.candidates-order.ensures.order c.requires.lots_of_all c.requires.votes_of_all c.requires.few
 
-pub returns-then-is_exhausted-clause-on_its_way : goal.returns-then-is_exhausted-clause-on_its_way
-returns-then-is_exhausted-clause-on_its_way g c = settled-on_its_way (scale g.row.P) (most g.row.P) _ _ _ _ _ (returns-then-is_exhausted-clause-settle g c) c.count.ensures.valid c.requires.open c.candidates-order.ensures.order c.requires.lots_of_all c.requires.votes_of_all c.requires.few
+pub returns-then-has_to_defeat-clause-on_its_way : goal.returns-then-has_to_defeat-clause-on_its_way
+returns-then-has_to_defeat-clause-on_its_way g c = settled-on_its_way (scale g.row.P) (most g.row.P) _ _ _ _ _ (returns-then-has_to_defeat-clause-settle g c) c.count.ensures.valid c.requires.open c.candidates-order.ensures.order c.requires.lots_of_all c.requires.votes_of_all c.requires.few
 
-pub returns-then-is_exhausted-clause-same_candidates : goal.returns-then-is_exhausted-clause-same_candidates
-returns-then-is_exhausted-clause-same_candidates g c = settled-same (scale g.row.P) _ _ _ _ _ (returns-then-is_exhausted-clause-settle g c)
+pub returns-then-has_to_defeat-clause-same_candidates : goal.returns-then-has_to_defeat-clause-same_candidates
+returns-then-has_to_defeat-clause-same_candidates g c = settled-same (scale g.row.P) _ _ _ _ _ (returns-then-has_to_defeat-clause-settle g c)
 
-pub returns-then-is_exhausted-clause-row_of_all : goal.returns-then-is_exhausted-clause-row_of_all
-returns-then-is_exhausted-clause-row_of_all g c = settled-room (scale g.row.P) _ _ _ _ _ (returns-then-is_exhausted-clause-settle g c) c.count.ensures.valid c.requires.votes_of_all
+pub returns-then-has_to_defeat-clause-row_of_all : goal.returns-then-has_to_defeat-clause-row_of_all
+returns-then-has_to_defeat-clause-row_of_all g c = settled-room (scale g.row.P) _ _ _ _ _ (returns-then-has_to_defeat-clause-settle g c) c.count.ensures.valid c.requires.votes_of_all
 
-pub returns-else-is_exhausted-clause-valid : goal.returns-else-is_exhausted-clause-valid
-returns-else-is_exhausted-clause-valid g c = settled-valid (scale g.row.P) _ _ _ _ _ (returns-else-is_exhausted-clause-settle g c) c.count.ensures.valid c.requires.open c.candidates-order.ensures.order c.requires.lots_of_all
+pub returns-else-has_to_defeat-clause-valid : goal.returns-else-has_to_defeat-clause-valid
+returns-else-has_to_defeat-clause-valid g c = settled-valid (scale g.row.P) _ _ _ _ _ (returns-else-has_to_defeat-clause-settle g c) c.count.ensures.valid c.requires.open c.candidates-order.ensures.order c.requires.lots_of_all
 
-pub returns-else-is_exhausted-clause-nearer : goal.returns-else-is_exhausted-clause-nearer
-returns-else-is_exhausted-clause-nearer g c = settled-nearer (scale g.row.P) (most g.row.P) _ _ _ _ _ (returns-else-is_exhausted-clause-settle g c) c.count.ensures.valid c.requires.open c.candidates-order.ensures.order c.requires.lots_of_all c.requires.votes_of_all c.requires.few
+pub returns-else-has_to_defeat-clause-nearer : goal.returns-else-has_to_defeat-clause-nearer
+returns-else-has_to_defeat-clause-nearer g c = settled-nearer (scale g.row.P) (most g.row.P) _ _ _ _ _ (returns-else-has_to_defeat-clause-settle g c) c.count.ensures.valid c.requires.open c.candidates-order.ensures.order c.requires.lots_of_all c.requires.votes_of_all c.requires.few
 
-pub returns-else-is_exhausted-clause-on_its_way : goal.returns-else-is_exhausted-clause-on_its_way
-returns-else-is_exhausted-clause-on_its_way g c = settled-on_its_way (scale g.row.P) (most g.row.P) _ _ _ _ _ (returns-else-is_exhausted-clause-settle g c) c.count.ensures.valid c.requires.open c.candidates-order.ensures.order c.requires.lots_of_all c.requires.votes_of_all c.requires.few
+pub returns-else-has_to_defeat-clause-on_its_way : goal.returns-else-has_to_defeat-clause-on_its_way
+returns-else-has_to_defeat-clause-on_its_way g c = settled-on_its_way (scale g.row.P) (most g.row.P) _ _ _ _ _ (returns-else-has_to_defeat-clause-settle g c) c.count.ensures.valid c.requires.open c.candidates-order.ensures.order c.requires.lots_of_all c.requires.votes_of_all c.requires.few
 
-pub returns-else-is_exhausted-clause-same_candidates : goal.returns-else-is_exhausted-clause-same_candidates
-returns-else-is_exhausted-clause-same_candidates g c = settled-same (scale g.row.P) _ _ _ _ _ (returns-else-is_exhausted-clause-settle g c)
+pub returns-else-has_to_defeat-clause-same_candidates : goal.returns-else-has_to_defeat-clause-same_candidates
+returns-else-has_to_defeat-clause-same_candidates g c = settled-same (scale g.row.P) _ _ _ _ _ (returns-else-has_to_defeat-clause-settle g c)
 
-pub returns-else-is_exhausted-clause-row_of_all : goal.returns-else-is_exhausted-clause-row_of_all
-returns-else-is_exhausted-clause-row_of_all g c = settled-room (scale g.row.P) _ _ _ _ _ (returns-else-is_exhausted-clause-settle g c) c.count.ensures.valid c.requires.votes_of_all
+pub returns-else-has_to_defeat-clause-row_of_all : goal.returns-else-has_to_defeat-clause-row_of_all
+returns-else-has_to_defeat-clause-row_of_all g c = settled-room (scale g.row.P) _ _ _ _ _ (returns-else-has_to_defeat-clause-settle g c) c.count.ensures.valid c.requires.votes_of_all

@@ -5,7 +5,7 @@ use Rattle.std.specs.List.{prefix_len, take_while}
 use Rattle.std.specs.Char.{is_ascii_digit}
 use Rattle.std.proofs.lemmas.List.Sums.{prefix_len_passes}
 use Rattle.blt_reader.specs.Scan.{number, is_separator}
-use Rattle.blt_reader.specs.Usual.{IsUsualNumber}
+use Rattle.blt_reader.specs.ShortNumber.{IsShortNumber}
 use Rattle.blt_reader.proofs.Runs.{number_more, run_len}
 
 one_digit : (xs : List ℕ) → 0 < length xs → is_ascii_digit (get_or xs 0 0) ≡ true → number (take 1 xs) ≡ get_or xs 0 0 - 48
@@ -38,84 +38,84 @@ module _ (xs : List ℕ) (long : 2 < length xs) (first : is_ascii_digit (get_or 
   up_to n few digits ends = run_len is_ascii_digit xs n (omega (arith, few, long)) digits (λ inside. no_digit (get_or xs n 0) ends)
 
   -- how many digits there are, by which of the second and third byte are digits
-  usual_run : (b c : Bool) → b ≡ is_ascii_digit (get_or xs 1 0) → c ≡ is_ascii_digit (get_or xs 2 0) → is_separator (get_or xs (1 + bool_byte b + bool_byte (b && c)) 0) ≡ true → 1 + bool_byte b + bool_byte (b && c) ≡ prefix_len is_ascii_digit xs
-  usual_run true true b_is c_is ends = up_to 3 (omega arith) (below_three IsDigitAt first (sym b_is) (sym c_is)) ends
-  usual_run true false b_is c_is ends = up_to 2 (omega arith) (below_two IsDigitAt first (sym b_is)) ends
-  usual_run false c b_is c_is ends = up_to 1 (omega arith) (below_one IsDigitAt first) ends
+  three_run : (b c : Bool) → b ≡ is_ascii_digit (get_or xs 1 0) → c ≡ is_ascii_digit (get_or xs 2 0) → is_separator (get_or xs (1 + bool_byte b + bool_byte (b && c)) 0) ≡ true → 1 + bool_byte b + bool_byte (b && c) ≡ prefix_len is_ascii_digit xs
+  three_run true true b_is c_is ends = up_to 3 (omega arith) (below_three IsDigitAt first (sym b_is) (sym c_is)) ends
+  three_run true false b_is c_is ends = up_to 2 (omega arith) (below_two IsDigitAt first (sym b_is)) ends
+  three_run false c b_is c_is ends = up_to 1 (omega arith) (below_one IsDigitAt first) ends
 
-  usual_value : (b c : Bool) → b ≡ is_ascii_digit (get_or xs 1 0) → c ≡ is_ascii_digit (get_or xs 2 0) → is_separator (get_or xs (1 + bool_byte b + bool_byte (b && c)) 0) ≡ true
+  three_value : (b c : Bool) → b ≡ is_ascii_digit (get_or xs 1 0) → c ≡ is_ascii_digit (get_or xs 2 0) → is_separator (get_or xs (1 + bool_byte b + bool_byte (b && c)) 0) ≡ true
       → (two three : ℕ) → two ≡ cond b ((get_or xs 0 0 - 48) * 10 + (get_or xs 1 0 - 48)) (get_or xs 0 0 - 48) → three ≡ cond (b && c) (two * 10 + (get_or xs 2 0 - 48)) two → three ≡ number (take_while is_ascii_digit xs)
-  usual_value true true b_is c_is ends two three two_is three_is =
-      three_is ∙ ap (λ (v : ℕ). v * 10 + (get_or xs 2 0 - 48)) two_is ∙ sym (three_digits xs (omega (arith, long)) first (sym b_is) (sym c_is)) ∙ ap (λ (n : ℕ). number (take n xs)) (usual_run true true b_is c_is ends)
-  usual_value true false b_is c_is ends two three two_is three_is =
-      three_is ∙ two_is ∙ sym (two_digits xs (omega (arith, long)) first (sym b_is)) ∙ ap (λ (n : ℕ). number (take n xs)) (usual_run true false b_is c_is ends)
-  usual_value false c b_is c_is ends two three two_is three_is =
-      three_is ∙ two_is ∙ sym (one_digit xs (omega (arith, long)) first) ∙ ap (λ (n : ℕ). number (take n xs)) (usual_run false c b_is c_is ends)
+  three_value true true b_is c_is ends two three two_is three_is =
+      three_is ∙ ap (λ (v : ℕ). v * 10 + (get_or xs 2 0 - 48)) two_is ∙ sym (three_digits xs (omega (arith, long)) first (sym b_is) (sym c_is)) ∙ ap (λ (n : ℕ). number (take n xs)) (three_run true true b_is c_is ends)
+  three_value true false b_is c_is ends two three two_is three_is =
+      three_is ∙ two_is ∙ sym (two_digits xs (omega (arith, long)) first (sym b_is)) ∙ ap (λ (n : ℕ). number (take n xs)) (three_run true false b_is c_is ends)
+  three_value false c b_is c_is ends two three two_is three_is =
+      three_is ∙ two_is ∙ sym (one_digit xs (omega (arith, long)) first) ∙ ap (λ (n : ℕ). number (take n xs)) (three_run false c b_is c_is ends)
 
   -- the same where the third byte was not looked at
-  short_run : (b : Bool) → b ≡ is_ascii_digit (get_or xs 1 0) → is_separator (get_or xs (1 + bool_byte b) 0) ≡ true → 1 + bool_byte b ≡ prefix_len is_ascii_digit xs
-  short_run true b_is ends = up_to 2 (omega arith) (below_two IsDigitAt first (sym b_is)) ends
-  short_run false b_is ends = up_to 1 (omega arith) (below_one IsDigitAt first) ends
+  two_run : (b : Bool) → b ≡ is_ascii_digit (get_or xs 1 0) → is_separator (get_or xs (1 + bool_byte b) 0) ≡ true → 1 + bool_byte b ≡ prefix_len is_ascii_digit xs
+  two_run true b_is ends = up_to 2 (omega arith) (below_two IsDigitAt first (sym b_is)) ends
+  two_run false b_is ends = up_to 1 (omega arith) (below_one IsDigitAt first) ends
 
-  short_value : (b : Bool) → b ≡ is_ascii_digit (get_or xs 1 0) → is_separator (get_or xs (1 + bool_byte b) 0) ≡ true
+  two_value : (b : Bool) → b ≡ is_ascii_digit (get_or xs 1 0) → is_separator (get_or xs (1 + bool_byte b) 0) ≡ true
       → (two : ℕ) → two ≡ cond b ((get_or xs 0 0 - 48) * 10 + (get_or xs 1 0 - 48)) (get_or xs 0 0 - 48) → two ≡ number (take_while is_ascii_digit xs)
-  short_value true b_is ends two two_is = two_is ∙ sym (two_digits xs (omega (arith, long)) first (sym b_is)) ∙ ap (λ (n : ℕ). number (take n xs)) (short_run true b_is ends)
-  short_value false b_is ends two two_is = two_is ∙ sym (one_digit xs (omega (arith, long)) first) ∙ ap (λ (n : ℕ). number (take n xs)) (short_run false b_is ends)
+  two_value true b_is ends two two_is = two_is ∙ sym (two_digits xs (omega (arith, long)) first (sym b_is)) ∙ ap (λ (n : ℕ). number (take n xs)) (two_run true b_is ends)
+  two_value false b_is ends two two_is = two_is ∙ sym (one_digit xs (omega (arith, long)) first) ∙ ap (λ (n : ℕ). number (take n xs)) (two_run false b_is ends)
 
 bool_byte_le : (b : Bool) → bool_byte b ≤ 1
 bool_byte_le true = omega arith
 bool_byte_le false = omega arith
 
 -- what the code has looked at is a number
-pub usual : (bytes : List ℕ) (b c : Bool) (two three : ℕ) → 3 < length bytes → is_ascii_digit (get_or bytes 0 0) ≡ true → b ≡ is_ascii_digit (get_or bytes 1 0) → c ≡ is_ascii_digit (get_or bytes 2 0)
+pub three_are : (bytes : List ℕ) (b c : Bool) (two three : ℕ) → 3 < length bytes → is_ascii_digit (get_or bytes 0 0) ≡ true → b ≡ is_ascii_digit (get_or bytes 1 0) → c ≡ is_ascii_digit (get_or bytes 2 0)
     → is_separator (get_or bytes (2 + bool_byte b + bool_byte (b && c) - 1) 0) ≡ true
     → two ≡ cond b ((get_or bytes 0 0 - 48) * 10 + (get_or bytes 1 0 - 48)) (get_or bytes 0 0 - 48) → three ≡ cond (b && c) (two * 10 + (get_or bytes 2 0 - 48)) two
-    → IsUsualNumber bytes three (2 + bool_byte b + bool_byte (b && c))
-usual bytes b c two three long first b_is c_is ends two_is three_is =
+    → IsShortNumber bytes three (2 + bool_byte b + bool_byte (b && c))
+three_are bytes b c two three long first b_is c_is ends two_is three_is =
     let digits = 1 + bool_byte b + bool_byte (b && c) in
     let last : 2 + bool_byte b + bool_byte (b && c) - 1 ≡ digits = omega arith in
     let ends_at : is_separator (get_or bytes digits 0) ≡ true = ap (λ (k : ℕ). is_separator (get_or bytes k 0)) (sym last) ∙ ends in
     record {
       inside = omega (arith, long, bool_byte_le b, bool_byte_le (b && c));
       some = omega arith;
-      run = omega (arith, usual_run bytes (omega (arith, long)) first b c b_is c_is ends_at);
-      value = usual_value bytes (omega (arith, long)) first b c b_is c_is ends_at two three two_is three_is;
+      run = omega (arith, three_run bytes (omega (arith, long)) first b c b_is c_is ends_at);
+      value = three_value bytes (omega (arith, long)) first b c b_is c_is ends_at two three two_is three_is;
       ends = ends;
     }
 
 -- the same of what the bytes stand for as digits
-pub usual_of : (bytes : List ℕ) (one other last : ℕ) (b c : Bool) (two three : ℕ) → 3 < length bytes → is_ascii_digit (get_or bytes 0 0) ≡ true → b ≡ is_ascii_digit (get_or bytes 1 0) → c ≡ is_ascii_digit (get_or bytes 2 0)
+pub three_of : (bytes : List ℕ) (one other last : ℕ) (b c : Bool) (two three : ℕ) → 3 < length bytes → is_ascii_digit (get_or bytes 0 0) ≡ true → b ≡ is_ascii_digit (get_or bytes 1 0) → c ≡ is_ascii_digit (get_or bytes 2 0)
     → is_separator (get_or bytes (2 + bool_byte b + bool_byte (b && c) - 1) 0) ≡ true
     → one ≡ get_or bytes 0 0 - 48 → (b ≡ true → other ≡ get_or bytes 1 0 - 48) → (c ≡ true → last ≡ get_or bytes 2 0 - 48)
     → two ≡ cond b (one * 10 + other) one → three ≡ cond (b && c) (two * 10 + last) two
-    → IsUsualNumber bytes three (2 + bool_byte b + bool_byte (b && c))
-usual_of bytes one other last true true two three long first b_is c_is ends one_is other_is last_is two_is three_is =
-    usual bytes true true two three long first b_is c_is ends (two_is ∙ rw (one_is, other_is refl) refl) (three_is ∙ rw (last_is refl) refl)
-usual_of bytes one other last true false two three long first b_is c_is ends one_is other_is last_is two_is three_is =
-    usual bytes true false two three long first b_is c_is ends (two_is ∙ rw (one_is, other_is refl) refl) three_is
-usual_of bytes one other last false c two three long first b_is c_is ends one_is other_is last_is two_is three_is =
-    usual bytes false c two three long first b_is c_is ends (two_is ∙ one_is) three_is
+    → IsShortNumber bytes three (2 + bool_byte b + bool_byte (b && c))
+three_of bytes one other last true true two three long first b_is c_is ends one_is other_is last_is two_is three_is =
+    three_are bytes true true two three long first b_is c_is ends (two_is ∙ rw (one_is, other_is refl) refl) (three_is ∙ rw (last_is refl) refl)
+three_of bytes one other last true false two three long first b_is c_is ends one_is other_is last_is two_is three_is =
+    three_are bytes true false two three long first b_is c_is ends (two_is ∙ rw (one_is, other_is refl) refl) three_is
+three_of bytes one other last false c two three long first b_is c_is ends one_is other_is last_is two_is three_is =
+    three_are bytes false c two three long first b_is c_is ends (two_is ∙ one_is) three_is
 
-pub short : (bytes : List ℕ) (b : Bool) (two : ℕ) → 3 < length bytes → is_ascii_digit (get_or bytes 0 0) ≡ true → b ≡ is_ascii_digit (get_or bytes 1 0)
+pub two_are : (bytes : List ℕ) (b : Bool) (two : ℕ) → 3 < length bytes → is_ascii_digit (get_or bytes 0 0) ≡ true → b ≡ is_ascii_digit (get_or bytes 1 0)
     → is_separator (get_or bytes (2 + bool_byte b - 1) 0) ≡ true
     → two ≡ cond b ((get_or bytes 0 0 - 48) * 10 + (get_or bytes 1 0 - 48)) (get_or bytes 0 0 - 48)
-    → IsUsualNumber bytes two (2 + bool_byte b)
-short bytes b two long first b_is ends two_is =
+    → IsShortNumber bytes two (2 + bool_byte b)
+two_are bytes b two long first b_is ends two_is =
     let last : 2 + bool_byte b - 1 ≡ 1 + bool_byte b = omega arith in
     let ends_at : is_separator (get_or bytes (1 + bool_byte b) 0) ≡ true = ap (λ (k : ℕ). is_separator (get_or bytes k 0)) (sym last) ∙ ends in
     record {
       inside = omega (arith, long, bool_byte_le b);
       some = omega arith;
-      run = omega (arith, short_run bytes (omega (arith, long)) first b b_is ends_at);
-      value = short_value bytes (omega (arith, long)) first b b_is ends_at two two_is;
+      run = omega (arith, two_run bytes (omega (arith, long)) first b b_is ends_at);
+      value = two_value bytes (omega (arith, long)) first b b_is ends_at two two_is;
       ends = ends;
     }
 
-pub short_of : (bytes : List ℕ) (one other : ℕ) (b : Bool) (two : ℕ) → 3 < length bytes → is_ascii_digit (get_or bytes 0 0) ≡ true → b ≡ is_ascii_digit (get_or bytes 1 0)
+pub two_of : (bytes : List ℕ) (one other : ℕ) (b : Bool) (two : ℕ) → 3 < length bytes → is_ascii_digit (get_or bytes 0 0) ≡ true → b ≡ is_ascii_digit (get_or bytes 1 0)
     → is_separator (get_or bytes (2 + bool_byte b - 1) 0) ≡ true → one ≡ get_or bytes 0 0 - 48 → (b ≡ true → other ≡ get_or bytes 1 0 - 48)
-    → two ≡ cond b (one * 10 + other) one → IsUsualNumber bytes two (2 + bool_byte b)
-short_of bytes one other true two long first b_is ends one_is other_is two_is = short bytes true two long first b_is ends (two_is ∙ rw (one_is, other_is refl) refl)
-short_of bytes one other false two long first b_is ends one_is other_is two_is = short bytes false two long first b_is ends (two_is ∙ one_is)
+    → two ≡ cond b (one * 10 + other) one → IsShortNumber bytes two (2 + bool_byte b)
+two_of bytes one other true two long first b_is ends one_is other_is two_is = two_are bytes true two long first b_is ends (two_is ∙ rw (one_is, other_is refl) refl)
+two_of bytes one other false two long first b_is ends one_is other_is two_is = two_are bytes false two long first b_is ends (two_is ∙ one_is)
 
 -- how many digits there are, by which of them the code has looked at
 seen_digits : (b c : Bool) (digits : ℕ) → 0 < digits → digits ≤ 3 → (1 < digits → b ≡ true) → (digits ≡ 1 → b ≡ false) → (2 < digits → c ≡ true) → (digits ≡ 2 → c ≡ false) → digits ≡ 1 + bool_byte b + bool_byte (b && c)
@@ -130,7 +130,7 @@ and_false true = refl
 and_false false = refl
 
 -- A number of at most three digits is found.
-module _ (bytes : List ℕ) (n len : ℕ) (is : IsUsualNumber bytes n len) where
+module _ (bytes : List ℕ) (n len : ℕ) (is : IsShortNumber bytes n len) where
   pub digit_at : (k : ℕ) → 1 + k < len → is_ascii_digit (get_or bytes k 0) ≡ true
   digit_at k less = prefix_len_passes is_ascii_digit bytes k 0 (omega (arith, less, is.run))
 
@@ -144,8 +144,8 @@ module _ (bytes : List ℕ) (n len : ℕ) (is : IsUsualNumber bytes n len) where
       let last : digits ≡ 2 + bool_byte b + bool_byte (b && c) - 1 = omega (arith, run) in
       subst (λ (d : ℕ). is_separator (get_or bytes d 0) ≡ true) last is.ends
 
-  pub short_ends_behind : len ≤ 3 → (b : Bool) → b ≡ is_ascii_digit (get_or bytes 1 0) → is_separator (get_or bytes (2 + bool_byte b - 1) 0) ≡ true
-  short_ends_behind few b b_is =
+  pub two_ends_behind : len ≤ 3 → (b : Bool) → b ≡ is_ascii_digit (get_or bytes 1 0) → is_separator (get_or bytes (2 + bool_byte b - 1) 0) ≡ true
+  two_ends_behind few b b_is =
       let digits = len - 1 in
       let behind : is_ascii_digit (get_or bytes digits 0) ≡ false = no_digit (get_or bytes digits 0) is.ends in
       let run = seen_digits b false digits (omega (arith, is.some)) (omega (arith, few)) (λ more. b_is ∙ digit_at 1 (omega (arith, more)))

@@ -2,28 +2,28 @@
 ghost use Rattle.std.specs.Prelude.{◌≡◌, ◌+◌, ◌-◌, ◌*◌, ◌<◌, nat_lt, if◌then◌else◌, ◌&&◌, true, IsTrue, length, IfSome, IfNone};
 ghost use mir.Val.{bool_byte};
 ghost use Rattle.std.specs.Char.{is_ascii_digit};
-ghost use Rattle.blt_reader.specs.Scan.{is_separator};
-ghost use Rattle.blt_reader.specs.Usual.{IsUsualNumber, HasNoNumberWithin, may_end};
+ghost use Rattle.blt_reader.specs.Scan.{is_separator, may_end};
+ghost use Rattle.blt_reader.specs.ShortNumber.{IsShortNumber, HasNoNumberWithin};
 
 /// A number of one to three digits with one separator behind it: its value, and how long both are. It is
 /// looked for where four bytes are left at least, and not with three digits where these are `rare`. There
 /// is no branch on how many digits there are, since that changes from token to token.
 #[inline(always)]
-pub fn usual_number(bytes: &[u8], rare: bool) -> Option<(u32, usize)>
-    ensures found { IfSome result (λ found. IsUsualNumber bytes.now found.0 found.1) }
+pub(crate) fn short_number(bytes: &[u8], rare: bool) -> Option<(u32, usize)>
+    ensures found { IfSome result (λ found. IsShortNumber bytes.now found.0 found.1) }
     ensures none { IfNone result (3 < length bytes.now → HasNoNumberWithin (if rare then 3 else 4) bytes.now) }
 {
     if rare {
-        short_number(bytes)
+        number_of_two(bytes)
     } else {
-        longer_number(bytes)
+        number_of_three(bytes)
     }
 }
 
 // The same of at most two digits.
 #[inline(always)]
-fn short_number(bytes: &[u8]) -> Option<(u32, usize)>
-    ensures found { IfSome result (λ found. IsUsualNumber bytes.now found.0 found.1) }
+fn number_of_two(bytes: &[u8]) -> Option<(u32, usize)>
+    ensures found { IfSome result (λ found. IsShortNumber bytes.now found.0 found.1) }
     ensures none { IfNone result (3 < length bytes.now → HasNoNumberWithin 3 bytes.now) }
 {
     let [first, second, _, _, ..] = bytes else {
@@ -41,8 +41,8 @@ fn short_number(bytes: &[u8]) -> Option<(u32, usize)>
 
 // The same of at most three digits.
 #[inline(always)]
-fn longer_number(bytes: &[u8]) -> Option<(u32, usize)>
-    ensures found { IfSome result (λ found. IsUsualNumber bytes.now found.0 found.1) }
+fn number_of_three(bytes: &[u8]) -> Option<(u32, usize)>
+    ensures found { IfSome result (λ found. IsShortNumber bytes.now found.0 found.1) }
     ensures none { IfNone result (3 < length bytes.now → HasNoNumberWithin 4 bytes.now) }
 {
     let [first, second, third, _, ..] = bytes else {
@@ -50,7 +50,7 @@ fn longer_number(bytes: &[u8]) -> Option<(u32, usize)>
     };
     let (first, second, third) = (digit(*first), digit(*second), digit(*third));
     let (two, three) = (second < 10, third < 10);
-    let len = usual_len(two, three);
+    let len = short_len(two, three);
     let behind = bytes[len - 1];
     if first < 10 && is_separator(behind) {
         let value = with_digit_if(two, first, second);
@@ -62,7 +62,7 @@ fn longer_number(bytes: &[u8]) -> Option<(u32, usize)>
 
 // How long a number and the separator behind it are, where its second and its third byte are digits or not.
 #[inline(always)]
-fn usual_len(two: bool, three: bool) -> usize
+fn short_len(two: bool, three: bool) -> usize
     ensures { result ≡ 2 + bool_byte two + bool_byte (two && three) }
 {
     let at_least_two = if three { 4 } else { 3 };
@@ -89,7 +89,7 @@ fn with_digit_if(is: bool, value: u32, digit: u32) -> u32
 
 /// Whether this byte belongs to no token.
 #[inline(always)]
-pub fn is_separator(b: u8) -> bool
+pub(crate) fn is_separator(b: u8) -> bool
     ensures { result ≡ is_separator b }
 {
     b == b'\t' || b == b'\n' || b == b'\r' || b == b' '
@@ -97,7 +97,7 @@ pub fn is_separator(b: u8) -> bool
 
 /// Whether a token may end before this byte.
 #[inline(always)]
-pub fn may_end(b: u8) -> bool
+pub(crate) fn may_end(b: u8) -> bool
     ensures { result ≡ may_end b }
 {
     is_separator(b) || b == b'#'

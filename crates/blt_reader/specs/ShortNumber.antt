@@ -4,12 +4,8 @@ use Rattle.std.specs.List.{prefix_len, take_while}
 use Rattle.std.specs.Char.{is_ascii_digit}
 use Rattle.blt_reader.specs.Scan.{is_separator, number}
 
--- a byte that may stand right behind a token
-abbrev pub may_end : ℕ → Bool
-may_end b = is_separator b || b == 35
-
 -- digits, and a separator right behind them: together so many bytes
-pub record IsUsualNumber (bytes : List ℕ) (n len : ℕ) : Type 0 where
+pub record IsShortNumber (bytes : List ℕ) (n len : ℕ) : Type 0 where
   pub inside : len ≤ length bytes
   pub some : 1 < len
   pub run : len ≡ 1 + prefix_len is_ascii_digit bytes
@@ -18,4 +14,4 @@ pub record IsUsualNumber (bytes : List ℕ) (n len : ℕ) : Type 0 where
 
 -- no number of at most so many bytes stands there so
 abbrev pub HasNoNumberWithin : ℕ → List ℕ → Type 0
-HasNoNumberWithin most bytes = (n len : ℕ) → len ≤ most → ¬ IsUsualNumber bytes n len
+HasNoNumberWithin most bytes = (n len : ℕ) → len ≤ most → ¬ IsShortNumber bytes n len

@@ -4,7 +4,7 @@ use Rattle.blt_reader.specs.Blt.{AreLines}
 use Rattle.blt_reader.specs.Judged.{reads}
 use Rattle.blt_reader.specs.BallotTable.{Limit, Between, at_line}
 use Rattle.blt_reader.specs.Reads.{IsBehind, tokens_left}
-use Rattle.blt_reader.proofs.lines.read_lines_near.Given as goal
+use Rattle.blt_reader.proofs.lines.read_lines_ahead.Given as goal
 
 abbrev pub invariant-loop-count : goal.invariant-loop-count
 invariant-loop-count l =

@@ -9,7 +9,7 @@ use Rattle.blt_reader.specs.BallotTable.{Limit, Between, with_line, at_line}
 use Rattle.blt_reader.proofs.BallotSoundness.{one_line_more}
 use Rattle.blt_reader.proofs.Reading.{behind_trans}
 use Rattle.blt_reader.proofs.LineSteps.{count_stops, all_read, too_many, line_begins, line_fails, one_line}
-use Rattle.blt_reader.proofs.lines.read_lines_near.Goals as goal
+use Rattle.blt_reader.proofs.lines.read_lines_ahead.Goals as goal
 
 pub returns-then-count-most-clause-reads : goal.returns-then-count-most-clause-reads
 returns-then-count-most-clause-reads c =

@@ -3,22 +3,22 @@ use Rattle.std.proofs.lemmas.List.{take_rest}
 use Rattle.blt_reader.specs.Scan.{cut}
 use Rattle.blt_reader.specs.Token.{Number, with_front}
 use Rattle.blt_reader.specs.Reader.{Reader}
-use Rattle.blt_reader.specs.Usual.{IsUsualNumber}
+use Rattle.blt_reader.specs.ShortNumber.{IsShortNumber}
 use Rattle.blt_reader.proofs.Reading.{behind_one}
 use Rattle.blt_reader.proofs.Cutting.{over_number}
-use Rattle.blt_reader.proofs.tokens.Tokens.next_nought.Goals as goal
+use Rattle.blt_reader.proofs.tokens.Tokens.next_zero.Goals as goal
 
 pub returns-clause-number : goal.returns-clause-number
 returns-clause-number c =
     let bytes = c.self.inside.bytes.now in
-    let found = subst (λ (l : List ℕ). IsUsualNumber l c.in_ok-n.n c.in_ok-n.len) (take_rest bytes c.self.inside.at) c.in_ok-n.ensures.found in
-    let nought : c.in_ok-n.n ≡ 0 = omega (arith, c.if-n-gt0.false) in
+    let found = subst (λ (l : List ℕ). IsShortNumber l c.in_ok-n.n c.in_ok-n.len) (take_rest bytes c.self.inside.at) c.in_ok-n.ensures.found in
+    let ending : c.in_ok-n.n ≡ 0 = omega (arith, c.if-n-gt0.false) in
     sym (ap (λ (r : Reader). r.rest) c.self.view_is) ∙ over_number c.self.inside.letters bytes c.self.inside.at c.in_ok-n.n c.in_ok-n.len c.self.invariant found
-    ∙ ap (λ (n : ℕ). with_front (record { at = c.self.inside.at; item = Number n }) (cut c.self.inside.letters 0 (c.self.inside.at + c.in_ok-n.len) bytes)) nought
+    ∙ ap (λ (n : ℕ). with_front (record { at = c.self.inside.at; item = Number n }) (cut c.self.inside.letters 0 (c.self.inside.at + c.in_ok-n.len) bytes)) ending
 
 pub returns-clause-behind : goal.returns-clause-behind
 returns-clause-behind c =
     let bytes = c.self.inside.bytes.now in
-    let found = subst (λ (l : List ℕ). IsUsualNumber l c.in_ok-n.n c.in_ok-n.len) (take_rest bytes c.self.inside.at) c.in_ok-n.ensures.found in
+    let found = subst (λ (l : List ℕ). IsShortNumber l c.in_ok-n.n c.in_ok-n.len) (take_rest bytes c.self.inside.at) c.in_ok-n.ensures.found in
     behind_one c.args.self.now _ (record { at = c.self.inside.at; item = Number c.in_ok-n.n }) (ap (λ (r : Reader). r.bytes) c.self.view_is)
     (sym (ap (λ (r : Reader). r.rest) c.self.view_is) ∙ over_number c.self.inside.letters bytes c.self.inside.at c.in_ok-n.n c.in_ok-n.len c.self.invariant found)

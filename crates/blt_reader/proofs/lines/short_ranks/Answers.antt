@@ -7,10 +7,10 @@ use Rattle.blt_reader.specs.Reads.{Marks}
 use Rattle.blt_reader.proofs.Reading.{behind_trans, fewer_left}
 use Rattle.blt_reader.proofs.LineSteps.{line_ends, one_more}
 use Rattle.blt_reader.proofs.RankSteps.{room_for_one, one_put_in, one_put_in_ranked, one_put_in_marked}
-use Rattle.blt_reader.proofs.lines.usual_ranks.Goals as goal
+use Rattle.blt_reader.proofs.lines.short_ranks.Goals as goal
 
-pub returns-in-Some-nought-clause-ended : goal.returns-in-Some-nought-clause-ended
-returns-in-Some-nought-clause-ended c ended = c.loop-n.invariant.same ∙ line_ends c.args.candidates (take c.loop-n.len c.loop-n.ranks) _ _ 0 _ (ap (λ (r : Reader). r.rest) (sym c.in_default.ensures.none) ∙ c.in-Some-nought.ensures.number) refl
+pub returns-in-Some-ending-clause-ended : goal.returns-in-Some-ending-clause-ended
+returns-in-Some-ending-clause-ended c ended = c.loop-n.invariant.same ∙ line_ends c.args.candidates (take c.loop-n.len c.loop-n.ranks) _ _ 0 _ (ap (λ (r : Reader). r.rest) (sym c.in_default.ensures.none) ∙ c.in-Some-ending.ensures.number) refl
 
 pub bounds-ranks-len : goal.bounds-ranks-len
 bounds-ranks-len c =
@@ -39,6 +39,6 @@ loop-n-preserved c =
       numbers = ap length c.mark.ensures.after ∙ length-set c.loop-n.named n true ∙ before.numbers;
       marks = subst (λ (named : List Bool). Marks candidates named (take (len + 1) (slice_set all len n))) (sym c.mark.ensures.after)
           (one_put_in_marked candidates len n all before.room before.within before.ranking some inside once c.loop-n.named before.numbers before.marks);
-      not_more = omega (arith, before.not_more, fewer_left c.loop-n.near.rest c.next_unnamed.new.self.rest _ given);
+      not_more = omega (arith, before.not_more, fewer_left c.loop-n.ahead.rest c.next_unnamed.new.self.rest _ given);
       behind = behind_trans before.behind c.in-Some.ensures.behind;
     }
