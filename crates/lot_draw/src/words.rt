@@ -135,4 +135,17 @@ mod tests {
         }
         Ok(())
     }
+
+    // The letter takes two bytes.
+    #[test]
+    fn a_seed_has_at_most_a_thousand_bytes(rt: HostRuntime) -> Result<(), Fail> {
+        let mut seed = String::new(rt.alloc());
+        for _ in 0..500 {
+            seed.push_str("é")?;
+        }
+        assert!(rt; is_seed(seed.as_str()));
+        seed.push_str("4")?;
+        assert!(rt; !is_seed(seed.as_str()));
+        Ok(())
+    }
 }
