@@ -386,3 +386,11 @@ fn behind_a_mark(rt: HostRuntime) -> Result<(), Fail> {
         ],
     )
 }
+
+// No run in the tests of the program prints these words.
+#[test]
+fn in_words_of_their_kinds(rt: HostRuntime) {
+    assert_eq!(rt; BallotsInRoll.word(), b"BallotsInRoll".as_slice());
+    assert_eq!(rt; BadOmega.word(), b"BadOmega".as_slice());
+    assert_eq!(rt; TooManyFreezes.word(), b"TooManyFreezes".as_slice());
+}
