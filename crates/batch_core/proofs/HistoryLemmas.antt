@@ -10,12 +10,19 @@ answered_more : (book : BookState) (es : List Entry) (e : Entry) → IsAnsweredB
 answered_more book [] e legal is = (is, tt)
 answered_more book (x ∷ es) e legal is = (legal.0, answered_more (after book x.call) es e legal.1 is)
 
+answered_there : (book : BookState) (es more : List Entry) (e : Entry) → IsAnsweredBy book (es ++ e ∷ more) → e.reply ≡ reply (after_all book es) e.call
+answered_there book [] more e legal = legal.0
+answered_there book (x ∷ es) more e legal = answered_there (after book x.call) es more e legal.1
+
 after_more : (book : BookState) (es : List Entry) (e : Entry) → after_all book (es ++ e ∷ []) ≡ after (after_all book es) e.call
 after_more book [] e = refl
 after_more book (x ∷ es) e = after_more (after book x.call) es e
 
 pub legal_more : (history : List Entry) (e : Entry) → IsLegal history → e.reply ≡ reply (after_all empty history) e.call → IsLegal (history ++ e ∷ [])
 legal_more history e legal is = answered_more empty history e legal is
+
+pub legal_there : (history more : List Entry) (e : Entry) → IsLegal (history ++ e ∷ more) → e.reply ≡ reply (after_all empty history) e.call
+legal_there history more e legal = answered_there empty history more e legal
 
 pub book_more : (history : List Entry) (e : Entry) → after_all empty (history ++ e ∷ []) ≡ after (after_all empty history) e.call
 book_more history e = after_more empty history e

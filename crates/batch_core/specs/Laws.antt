@@ -15,6 +15,12 @@ GrowsByAnAnswer =
     (history : List Entry) (e : Entry) → IsLegal history → e.reply ≡ reply (after_all empty history) e.call
     → IsLegal (history ++ e ∷ [])
 
+-- each call of a legal history has the reply of the book that the calls before it have led to
+abbrev pub AnswersEachCall : Type 0
+AnswersEachCall =
+    (history more : List Entry) (e : Entry) → IsLegal (history ++ e ∷ more)
+    → e.reply ≡ reply (after_all empty history) e.call
+
 -- the book after one more call is the book before it after this call
 abbrev pub LeadsOn : Type 0
 LeadsOn =

@@ -23,7 +23,8 @@ pub use change::Change;
 pub use entries::Entries;
 pub use entry::Entry;
 pub use laws::{
-    a_book_answers_a_history, lawful_calls_leave_lawful_batches, struck_candidates_are_listed_once,
+    a_book_answers_a_history, a_legal_history_has_the_books_replies,
+    lawful_calls_leave_lawful_batches, struck_candidates_are_listed_once,
 };
 pub use no_memory::NoMemory;
 pub use push_back::PushBack;
