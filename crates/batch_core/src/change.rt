@@ -116,6 +116,12 @@ mod tests {
             let change = Change::Withdraw { batch, revision };
             assert_eq!(rt; change.is_lawful(3), lawful, "at {batch} {revision}");
             assert_eq!(rt; change.batch(), batch);
+            let corrected = Change::Correct {
+                batch,
+                revision,
+                ballots: Ballots::new(rt.alloc(), 3),
+            };
+            assert_eq!(rt; corrected.is_lawful(3), lawful, "at {batch} {revision}");
         }
     }
 
