@@ -97,8 +97,8 @@ fn counts_the_sample(rt: HostRuntime) -> Result<(), Fail> {
 }
 
 // Files with their lots and sheets: a transfer, nobody voted for, fewer candidates than seats, all
-// withdrawn, one ballot each.
-const ELECTIONS: [(&str, &[u8], &[u8]); 5] = [
+// withdrawn, one ballot each, a surplus just below omega, and one of omega.
+const ELECTIONS: [(&str, &[u8], &[u8]); 7] = [
     (
         "count --lots 1,2,3",
         b"3 2\n10 1 0\n4 2 0\n3 3 0\n0\n\"A\" \"B\" \"C\" \"T\"\n",
@@ -146,6 +146,39 @@ result\n1 elected A\n2 defeated B\n3 defeated C\nend\n",
 round 1 iteration 1\n1 hopeful 1.000000000 1.000000000\n2 hopeful 1.000000000 1.000000000\n\
 total 2.000000000\nquota 1.000000001\nsurplus 0.000000000\nstep defeat 2 tied 1 2\n\
 result\n1 elected A\n2 defeated B\nend\n",
+    ),
+    (
+        "count --lots 1,2,3",
+        b"3 2\n1000 1 3 0\n600 2 0\n200 3 0\n0\n\"A\" \"B\" \"C\" \"T\"\n",
+        b"title T\nseats 2\ncandidates 3\nballots 1800\n\
+round 1 iteration 1\n1 hopeful 1.000000000 1000.000000000\n2 hopeful 1.000000000 600.000000000\n\
+3 hopeful 1.000000000 200.000000000\ntotal 1800.000000000\nquota 600.000000001\nsurplus 399.999999999\n\
+elected 1\nstep elected\n\
+round 2 iteration 1\n1 elected 1.000000000 1000.000000000\n2 hopeful 1.000000000 600.000000000\n\
+3 hopeful 1.000000000 200.000000000\ntotal 1800.000000000\nquota 600.000000001\nsurplus 399.999999999\n\
+step iterate\n\
+round 2 iteration 2\n1 elected 0.600000001 600.000001000\n2 hopeful 1.000000000 600.000000000\n\
+3 hopeful 1.000000000 599.999999000\ntotal 1800.000000000\nquota 600.000000001\nsurplus 0.000000999\n\
+step defeat 3 tied 3\n\
+result\n1 elected A\n2 elected B\n3 defeated C\nend\n",
+    ),
+    (
+        "count --lots 1,2,3",
+        b"3 2\n1003 1 3 0\n520 2 0\n37 3 0\n0\n\"A\" \"B\" \"C\" \"T\"\n",
+        b"title T\nseats 2\ncandidates 3\nballots 1560\n\
+round 1 iteration 1\n1 hopeful 1.000000000 1003.000000000\n2 hopeful 1.000000000 520.000000000\n\
+3 hopeful 1.000000000 37.000000000\ntotal 1560.000000000\nquota 520.000000001\nsurplus 482.999999999\n\
+elected 1\nstep elected\n\
+round 2 iteration 1\n1 elected 1.000000000 1003.000000000\n2 hopeful 1.000000000 520.000000000\n\
+3 hopeful 1.000000000 37.000000000\ntotal 1560.000000000\nquota 520.000000001\nsurplus 482.999999999\n\
+step iterate\n\
+round 2 iteration 2\n1 elected 0.518444667 520.000001001\n2 hopeful 1.000000000 520.000000000\n\
+3 hopeful 1.000000000 519.999998999\ntotal 1560.000000000\nquota 520.000000001\nsurplus 0.000001000\n\
+step iterate\n\
+round 2 iteration 3\n1 elected 0.518444667 520.000001001\n2 hopeful 1.000000000 520.000000000\n\
+3 hopeful 1.000000000 519.999998999\ntotal 1560.000000000\nquota 520.000000001\nsurplus 0.000001000\n\
+step defeat 3 tied 3\n\
+result\n1 elected A\n2 elected B\n3 defeated C\nend\n",
     ),
 ];
 
