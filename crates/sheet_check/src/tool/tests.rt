@@ -3,6 +3,42 @@ use crate::sample::{FILE, sheet};
 use byte_edge::{MemorySink, MemorySource};
 use std::test::Fail;
 
+// Sheets with their ballot files: in the first a surplus of 0.000000999 is below omega; in the second one of 0.000001 is
+// not, and is transferred once, which leaves it as it is.
+const AT_OMEGA: [(&[u8], &[u8]); 2] = [
+    (
+        b"title T\nseats 2\ncandidates 3\nballots 1800\n\
+round 1 iteration 1\n1 hopeful 1.000000000 1000.000000000\n2 hopeful 1.000000000 600.000000000\n\
+3 hopeful 1.000000000 200.000000000\ntotal 1800.000000000\nquota 600.000000001\nsurplus 399.999999999\n\
+elected 1\nstep elected\n\
+round 2 iteration 1\n1 elected 1.000000000 1000.000000000\n2 hopeful 1.000000000 600.000000000\n\
+3 hopeful 1.000000000 200.000000000\ntotal 1800.000000000\nquota 600.000000001\nsurplus 399.999999999\n\
+step iterate\n\
+round 2 iteration 2\n1 elected 0.600000001 600.000001000\n2 hopeful 1.000000000 600.000000000\n\
+3 hopeful 1.000000000 599.999999000\ntotal 1800.000000000\nquota 600.000000001\nsurplus 0.000000999\n\
+step defeat 3 tied 3\n\
+result\n1 elected A\n2 elected B\n3 defeated C\nend\n",
+        b"3 2\n1000 1 3 0\n600 2 0\n200 3 0\n0\n\"A\" \"B\" \"C\" \"T\"\n",
+    ),
+    (
+        b"title T\nseats 2\ncandidates 3\nballots 1560\n\
+round 1 iteration 1\n1 hopeful 1.000000000 1003.000000000\n2 hopeful 1.000000000 520.000000000\n\
+3 hopeful 1.000000000 37.000000000\ntotal 1560.000000000\nquota 520.000000001\nsurplus 482.999999999\n\
+elected 1\nstep elected\n\
+round 2 iteration 1\n1 elected 1.000000000 1003.000000000\n2 hopeful 1.000000000 520.000000000\n\
+3 hopeful 1.000000000 37.000000000\ntotal 1560.000000000\nquota 520.000000001\nsurplus 482.999999999\n\
+step iterate\n\
+round 2 iteration 2\n1 elected 0.518444667 520.000001001\n2 hopeful 1.000000000 520.000000000\n\
+3 hopeful 1.000000000 519.999998999\ntotal 1560.000000000\nquota 520.000000001\nsurplus 0.000001000\n\
+step iterate\n\
+round 2 iteration 3\n1 elected 0.518444667 520.000001001\n2 hopeful 1.000000000 520.000000000\n\
+3 hopeful 1.000000000 519.999998999\ntotal 1560.000000000\nquota 520.000000001\nsurplus 0.000001000\n\
+step defeat 3 tied 3\n\
+result\n1 elected A\n2 elected B\n3 defeated C\nend\n",
+        b"3 2\n1003 1 3 0\n520 2 0\n37 3 0\n0\n\"A\" \"B\" \"C\" \"T\"\n",
+    ),
+];
+
 /// How a check ended, and what was written.
 #[derive(Drop)]
 struct Ran {
@@ -50,16 +86,27 @@ fn a_sheet_gets_the_line_of_its_verdict(rt: HostRuntime) -> Result<(), Fail> {
     Ok(())
 }
 
-// The line `end` that stands alone is a sheet of four bytes. A byte order mark before it makes it another
-// line.
+// Candidate 1 keeps 0.600000001 of 1,000 votes, or 0.518444667 of 1,003.
+#[test]
+fn a_sheet_is_checked_at_the_omega_of_all_files(rt: HostRuntime) -> Result<(), Fail> {
+    for (text, file) in AT_OMEGA {
+        let ran = run(&rt, rt.alloc(), "1,2,3", text, file, &[])?;
+        assert_eq!(rt; ran.written.as_slice(), b"sheet true\n".as_slice());
+    }
+    Ok(())
+}
+
+// The line `end` that stands alone is a sheet of four bytes, and a second one is of the file. A byte order mark before
+// it makes it another line.
 #[test]
 fn a_refusal_has_its_place_in_the_whole(rt: HostRuntime) -> Result<(), Fail> {
     let alloc = rt.alloc();
-    let cases: [(&[u8], &[u8], &[u8]); 6] = [
+    let cases: [(&[u8], &[u8], &[u8]); 7] = [
         (b"", b"", b"refused Ended at 0\n"),
         (b"end", b"", b"refused Ended at 3\n"),
         (b"\xef\xbb\xbfend\n", FILE, b"refused Ended at 116\n"),
         (b"end\n", b"3 0\n", b"refused BadHeader at 6\n"),
+        (b"end\nend\n", b"3 0\n", b"refused BadByte at 4\n"),
         (
             b"\nend\n",
             b"\xef\xbb\xbf3 0\n",
