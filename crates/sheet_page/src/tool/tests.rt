@@ -1,6 +1,7 @@
 // Whole runs over memory: sheets worked by hand, and texts that are none.
 use super::*;
 use byte_edge::{MemorySink, MemorySource};
+use std::process::ExitCode;
 use std::test::Fail;
 
 mod ties;
@@ -110,6 +111,7 @@ fn a_write_that_fails_ends_the_writing(rt: HostRuntime) -> Result<(), Fail> {
 fn what_is_no_sheet_is_malformed(rt: HostRuntime) -> Result<(), Fail> {
     let ran = run(rt.alloc(), "--as csv", b"title\n", &[])?;
     assert_eq!(rt; ran.end, PageEnd::Malformed);
+    assert_eq!(rt; ran.end.exit_code(), ExitCode::from(3));
     assert_eq!(rt; ran.written.as_slice(), b"sheet malformed\n".as_slice());
     let unwritten = run(rt.alloc(), "--as csv", b"title\n", &[1])?;
     assert_eq!(rt; unwritten.end, PageEnd::Ran(End::SinkFault));
