@@ -42,6 +42,41 @@ round 2 iteration 3\n1 hopeful 1.000000000 3.638888885\n2 hopeful 1.000000000 3.
 quota 3.500000001\nsurplus 0.450000014\nelected 1\nstep elected\n\
 result\n1 elected Ann\n2 defeated Ben\n3 elected Cid\n4 elected Dee\nend\n";
 
+// What a surplus below omega comes to, and one of omega itself, which is transferred.
+const AT_OMEGA: [(&[u8], &[u8]); 2] = [
+    (
+        b"3 2\n1000 1 3 0\n600 2 0\n200 3 0\n0\n\"A\" \"B\" \"C\" \"T\"\n",
+        b"title T\nseats 2\ncandidates 3\nballots 1800\n\
+round 1 iteration 1\n1 hopeful 1.000000000 1000.000000000\n2 hopeful 1.000000000 600.000000000\n\
+3 hopeful 1.000000000 200.000000000\ntotal 1800.000000000\nquota 600.000000001\nsurplus 399.999999999\n\
+elected 1\nstep elected\n\
+round 2 iteration 1\n1 elected 1.000000000 1000.000000000\n2 hopeful 1.000000000 600.000000000\n\
+3 hopeful 1.000000000 200.000000000\ntotal 1800.000000000\nquota 600.000000001\nsurplus 399.999999999\n\
+step iterate\n\
+round 2 iteration 2\n1 elected 0.600000001 600.000001000\n2 hopeful 1.000000000 600.000000000\n\
+3 hopeful 1.000000000 599.999999000\ntotal 1800.000000000\nquota 600.000000001\nsurplus 0.000000999\n\
+step defeat 3 tied 3\n\
+result\n1 elected A\n2 elected B\n3 defeated C\nend\n",
+    ),
+    (
+        b"3 2\n1003 1 3 0\n520 2 0\n37 3 0\n0\n\"A\" \"B\" \"C\" \"T\"\n",
+        b"title T\nseats 2\ncandidates 3\nballots 1560\n\
+round 1 iteration 1\n1 hopeful 1.000000000 1003.000000000\n2 hopeful 1.000000000 520.000000000\n\
+3 hopeful 1.000000000 37.000000000\ntotal 1560.000000000\nquota 520.000000001\nsurplus 482.999999999\n\
+elected 1\nstep elected\n\
+round 2 iteration 1\n1 elected 1.000000000 1003.000000000\n2 hopeful 1.000000000 520.000000000\n\
+3 hopeful 1.000000000 37.000000000\ntotal 1560.000000000\nquota 520.000000001\nsurplus 482.999999999\n\
+step iterate\n\
+round 2 iteration 2\n1 elected 0.518444667 520.000001001\n2 hopeful 1.000000000 520.000000000\n\
+3 hopeful 1.000000000 519.999998999\ntotal 1560.000000000\nquota 520.000000001\nsurplus 0.000001000\n\
+step iterate\n\
+round 2 iteration 3\n1 elected 0.518444667 520.000001001\n2 hopeful 1.000000000 520.000000000\n\
+3 hopeful 1.000000000 519.999998999\ntotal 1560.000000000\nquota 520.000000001\nsurplus 0.000001000\n\
+step defeat 3 tied 3\n\
+result\n1 elected A\n2 elected B\n3 defeated C\nend\n",
+    ),
+];
+
 /// How a run ended, and what it wrote.
 #[derive(Drop)]
 struct Ran {
@@ -82,6 +117,17 @@ fn what_a_price_takes_whole_goes_to_nobody_behind(rt: HostRuntime) -> Result<(),
     let ran = run(rt.alloc(), "--lots 1,2,3,4", OTHERWISE, &[], &[])?;
     assert_eq!(rt; ran.end, End::Done);
     assert_eq!(rt; ran.written.as_slice(), OTHERWISE_SHEET);
+    Ok(())
+}
+
+// Candidate 1 keeps 0.600000001 of 1,000 votes, and is 0.000000999 above the quota; or 0.518444667 of 1,003, and is
+// 0.000001 above it, at the next price too.
+#[test]
+fn a_surplus_below_omega_is_not_transferred(rt: HostRuntime) -> Result<(), Fail> {
+    for (file, sheet) in AT_OMEGA {
+        let ran = run(rt.alloc(), "--lots 1,2,3", file, &[], &[])?;
+        assert_eq!(rt; ran.written.as_slice(), sheet);
+    }
     Ok(())
 }
 
