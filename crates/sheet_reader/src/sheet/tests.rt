@@ -43,6 +43,10 @@ fn other_texts_are_malformed(rt: HostRuntime) -> Result<(), Fail> {
         b"title \nseats 1\ncandidates 2\nballots 0\nresult\n1 elected \nend\n",
         b"title \nseats 1\ncandidates 1\nballots 0\nresult\n1 elected\nend\n",
         b"title \nseats 1\ncandidates 1\nballots 0\nresult\n2 elected \nend\n",
+        b"title \nseats 251\ncandidates 1\nballots 0\nresult\n1 elected \nend\n",
+        b"title \nseats 1\ncandidates 0\nballots 0\nresult\nend\n",
+        b"title \nseats 1\ncandidates 1\nballots 1000000000\nresult\n1 elected \nend\n",
+        b"title \nseats 1\ncandidates 2\nballots 0\nround 1 iteration 1\n1 hopeful 1.000000000 0.000000000\n2 hopeful 1.000000000 0.000000000\ntotal 0.000000000\nquota 0.000000001\nsurplus 0.000000000\nstep defeat 1 tied 2\nresult\n1 defeated \n2 elected \nend\n",
     ];
     for text in others {
         assert_eq!(rt;
