@@ -6,8 +6,9 @@ use candidate_roll::{Name, Names, Roll, State, States};
 use fixed_place::{Amount, Keep};
 use std::test::Fail;
 
+// No iteration of a count elects and caps. In this made row both lines stand, in their order.
 #[test]
-fn writes_who_was_capped(rt: HostRuntime) -> Result<(), Fail> {
+fn writes_who_was_elected_and_who_was_capped(rt: HostRuntime) -> Result<(), Fail> {
     let alloc = rt.alloc();
     let mut row = Row::<9>::new(alloc, 2)?;
     row.round = 4;
@@ -18,6 +19,7 @@ fn writes_who_was_capped(rt: HostRuntime) -> Result<(), Fail> {
     row.total = Amount::from_units(3_999_999_999);
     row.quota = Amount::from_units(1_333_333_334);
     row.surplus = Amount::from_units(2_666_666_665);
+    row.elected.set(1, true);
     row.capped.set(0, true);
     let mut sink = MemorySink::with_room(alloc, 1_000, 1_400, Vec::new(alloc))?;
     assert_eq!(rt; write_row(&row, &mut sink), Ok(()));
@@ -25,7 +27,7 @@ fn writes_who_was_capped(rt: HostRuntime) -> Result<(), Fail> {
                 1 elected 1.000000000 3.999999999\n\
                 2 withdrawn 0.000000000 0.000000000\n\
                 total 3.999999999\nquota 1.333333334\nsurplus 2.666666665\n\
-                capped 1\nstep iterate\n";
+                elected 2\ncapped 1\nstep iterate\n";
     assert_eq!(rt; sink.bytes(), text.as_bytes());
     Ok(())
 }
