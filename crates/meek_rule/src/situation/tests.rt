@@ -278,8 +278,12 @@ fn a_surplus_of_omega_is_transferred(rt: HostRuntime) -> Result<(), Fail> {
 #[test]
 fn a_surplus_below_omega_defeats(rt: HostRuntime) -> Result<(), Fail> {
     let votes = [4_000_001_000, 4_000_000_000, 3_999_999_000];
-    let now = expect_settled(&rt, rt.alloc(), 1, None, &votes, defeats_the_third(999))?;
+    let mut now = expect_settled(&rt, rt.alloc(), 1, None, &votes, defeats_the_third(999))?;
     let states = [ELECTED, HOPEFUL, DEFEATED];
+    expect_situation(&rt, &now, &states, &[ONE, ONE, 0], 3, 1, None);
+    assert!(rt; now.is_complete());
+    now.finish();
+    let states = [ELECTED, ELECTED, DEFEATED];
     expect_situation(&rt, &now, &states, &[ONE, ONE, 0], 3, 1, None);
     Ok(())
 }
