@@ -17,5 +17,6 @@ mod FrontLemmas
 mod PackedLemmas
 mod OrderedEntries
 mod ListingLemmas
+mod KindLemmas
 mod ShelfLemmas
 mod ShortTextLemmas

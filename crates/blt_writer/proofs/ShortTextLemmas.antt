@@ -19,6 +19,22 @@ front_put {X} at j l bytes part inside short =
     ap (λ (k : ℕ). take (k + l) (before ++ (part ++ rest))) (sym long)
     ∙ (take-append-add before (part ++ rest) l ∙ ap (λ (xs : List X). before ++ xs) (take-append-le l part rest short))
 
+one_more : (xs : List ℕ) (i k d : ℕ) → i + k < length xs → drop (i + k) xs ≡ get_or xs (i + k) d ∷ drop (i + (k + 1)) xs
+one_more xs i k d inside = drop_more xs (i + k) d inside ∙ ap (λ (m : ℕ). get_or xs (i + k) d ∷ drop m xs) (omega arith)
+
+-- four bytes by their places
+pub four_at :
+    (xs : List ℕ) (i d : ℕ) → i + 4 ≤ length xs → get_or xs i d ∷ get_or xs (i + 1) d ∷ get_or xs (i + 2) d ∷ get_or xs (i + 3) d ∷ [] ≡ take 4 (drop i xs)
+four_at xs i d inside =
+    let a = get_or xs i d in
+    let b = get_or xs (i + 1) d in
+    let c = get_or xs (i + 2) d in
+    sym
+    (ap (λ (l : List ℕ). take 4 l) (drop_more xs i d (omega (arith, inside)))
+    ∙ (ap (λ (l : List ℕ). a ∷ take 3 l) (one_more xs i 1 d (omega (arith, inside)))
+    ∙ (ap (λ (l : List ℕ). a ∷ b ∷ take 2 l) (one_more xs i 2 d (omega (arith, inside)))
+    ∙ ap (λ (l : List ℕ). a ∷ b ∷ c ∷ take 1 l) (one_more xs i 3 d (omega (arith, inside))))))
+
 pub put_number :
     (texts lens : List ℕ) (n at j k : ℕ) (bytes part : List ℕ) → AreTexts texts lens → n < 256 → at + 4 ≤ length bytes → k ≡ 4
     → part ≡ take k (drop (4 * n) texts)

@@ -10,6 +10,7 @@ mod cursor;
 mod entry;
 mod export;
 mod file;
+mod kinds;
 mod laws;
 mod listing;
 mod merge;

@@ -53,7 +53,13 @@ impl ShortNumbers {
         ensures same_length { length bytes.new ≡ length bytes.old }
     {
         let from = 4 * n as usize;
-        bytes[at..at + 4].copy_from_slice(&self.texts[from..from + 4]);
+        let text = [
+            self.texts[from],
+            self.texts[from + 1],
+            self.texts[from + 2],
+            self.texts[from + 3],
+        ];
+        bytes[at..at + 4].copy_from_slice(&text);
         at + self.lens[n as usize] as usize
     }
 }
