@@ -5,6 +5,7 @@ ghost use Rattle.blt_writer.specs.Packed.{front, ranking_at};
 use crate::NoMemory;
 use crate::entry::Entry;
 use plain_ballots::BallotLine;
+use std::mem;
 
 /// Packs the ranking of a line behind the others.
 pub(crate) fn pack(line: &BallotLine, ranks: &mut Vec<u8>) -> Result<Entry, NoMemory>
@@ -26,7 +27,8 @@ pub(crate) fn pack(line: &BallotLine, ranks: &mut Vec<u8>) -> Result<Entry, NoMe
     })
 }
 
-/// Puts the length of a ranking behind the others, and then its candidates.
+/// Puts the length of a ranking behind the others, and then its candidates. The list is taken out meanwhile, so
+/// that its length is not written to memory with each candidate.
 fn push_ranking(ranks: &mut Vec<u8>, candidates: &[u32]) -> Result<(), NoMemory>
     requires candidates { All (λ c. (1 ≤ c) × (c ≤ 250)) candidates.now }
     requires short { length candidates.now ≤ 250 }
@@ -36,10 +38,13 @@ fn push_ranking(ranks: &mut Vec<u8>, candidates: &[u32]) -> Result<(), NoMemory>
     if ranks.reserve(candidates.len() + 1).is_err() {
         return Err(NoMemory);
     }
-    ranks.push_reserved(candidates.len() as u8);
+    let empty = Vec::new(*ranks.allocator());
+    let mut longer = mem::replace(ranks, empty);
+    longer.push_reserved(candidates.len() as u8);
     for candidate in candidates {
-        ranks.push_reserved(*candidate as u8);
+        longer.push_reserved(*candidate as u8);
     }
+    *ranks = longer;
     Ok(())
 }
 
