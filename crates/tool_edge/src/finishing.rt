@@ -57,4 +57,15 @@ mod tests {
         }
         Ok(())
     }
+
+    // A flush by `close` would be the second call, and this one the third.
+    #[test]
+    fn nothing_is_flushed_behind_a_write_that_failed(rt: HostRuntime) -> Result<(), Fail> {
+        let alloc = rt.alloc();
+        let mut sink = MemorySink::with_room(alloc, 9, 9, vec![in alloc; 1, 2]?)?;
+        let wrote = write_all(&mut sink, b"abc");
+        assert_eq!(rt; close(&mut sink, wrote), End::SinkFault);
+        assert!(rt; sink.flush().is_err());
+        Ok(())
+    }
 }

@@ -22,6 +22,7 @@ fn takes_the_option_and_its_list_alone(rt: HostRuntime) -> Result<(), Fail> {
         "--lots 1,",
         "lots 1",
         "--lots 1 2",
+        "1,2 --lots",
     ] {
         let words = words_of(alloc, text)?;
         let refused = takes_lots(alloc, words.as_slice()).map(|lots| lots.len());
