@@ -1,28 +1,46 @@
 -- What contracts see of a scribe.
-use Rattle.std.specs.Prelude.{◌≡◌, ℕ, List, [], ◌++◌, Some}
+use Rattle.std.specs.Prelude.{◌≡◌, ℕ, List, [], ◌∷◌, ◌++◌, map, Some}
 use Rattle.tally_board.specs.declared.ballot_move.Move.{Move}
 use Rattle.tally_board.specs.declared.board.Board.{Board}
+use Rattle.tally_board.specs.declared.entry.Entry.{Entry}
 use Rattle.tally_board.specs.declared.view.View.{View}
 use Rattle.tally_board.specs.Moves.{IsStory}
-use Rattle.tally_board.specs.Rule.{candidates_of, shown}
+use Rattle.tally_board.specs.Rule.{IsNoted, candidates_of, shown}
+use Rattle.tally_board.specs.Told.{Name, Told, nowhere}
 
--- the number of candidates, the moves that were published, and those that are pending
+-- the board, the number of candidates, the moves that were published, and those that are pending
 pub record Desk : Type 0 where
+  pub board : Name
   pub candidates : ℕ
   pub published : List Move
   pub pending : List Move
 
 abbrev pub no_desk : Desk
-no_desk = record { candidates = 0; published = []; pending = [] }
+no_desk = record { board = nowhere; candidates = 0; published = []; pending = [] }
 
--- the scribe of a board, which shows this, and with these moves pending
-abbrev pub desk_of : Board → List Move → Desk
-desk_of b moves = record { candidates = candidates_of b; published = shown b; pending = moves }
+-- the moves of these entries
+abbrev pub steps : List Entry → List Move
+steps entries = map (λ e. e.step) entries
 
--- the scribe knows the number of candidates, and its pending moves can be made
-abbrev pub IsScribe : View → Board → List Move → Type 0
-IsScribe v b moves = (v.candidates ≡ Some (candidates_of b)) × ∥ IsStory (candidates_of b) (shown b ++ moves) ∥₁
+-- the scribe of this board, which shows this, and with these entries pending
+abbrev pub desk_of : Name → Board → List Entry → Desk
+desk_of z b entries = record { board = z; candidates = candidates_of b; published = shown b; pending = steps entries }
+
+-- each entry has a note of all moves before it
+abbrev pub AreNoted : Name → List Move → List Entry → Type 0
+AreNoted z moves [] = Unit {0}
+AreNoted z moves (e ∷ es) = (e.before ≡ record { board = z; moves = moves }) × AreNoted z (moves ++ e.step ∷ []) es
+
+-- the scribe knows what the board shows, its pending moves can be made, and `all` is a note of both
+pub record IsScribe (v : View) (b : Board) (entries : List Entry) (all : Told) : Type 0 where
+  pub candidates : v.candidates ≡ Some (candidates_of b)
+  pub home : v.home ≡ Some b.before
+  pub board : b.before.board ≡ all.board
+  pub noted : IsNoted b
+  pub entries_noted : AreNoted all.board (shown b) entries
+  pub moves : all.moves ≡ shown b ++ steps entries
+  pub story : ∥ IsStory (candidates_of b) (shown b ++ steps entries) ∥₁
 
 -- the scribe of a new board
-abbrev pub new_desk : ℕ → Desk
-new_desk candidates = record { candidates = candidates; published = []; pending = [] }
+abbrev pub new_desk : Name → ℕ → Desk
+new_desk z candidates = record { board = z; candidates = candidates; published = []; pending = [] }

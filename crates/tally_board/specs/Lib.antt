@@ -2,6 +2,10 @@ pub mod Moves
 pub mod Stories
 pub mod Begins
 pub mod There
+pub mod Marks
+pub mod Lines
+pub mod Law
+pub mod Told
 pub mod Rule
 pub mod Desk
 pub mod Sight

@@ -8,6 +8,7 @@ use Rattle.tally_board.specs.declared.view.View.{View}
 use Rattle.tally_board.specs.Begins.{Begins}
 use Rattle.tally_board.specs.Moves.{IsStory}
 use Rattle.tally_board.specs.Stories.{moves_of}
+use Rattle.tally_board.specs.Told.{Name, Told, front}
 
 -- how many candidates the board has
 abbrev pub candidates_of : Board → ℕ
@@ -17,28 +18,37 @@ candidates_of b = length b.totals
 abbrev pub shown : Board → List Move
 shown b = moves_of b.story
 
--- what v knows is so of a board with so many candidates and these moves
-pub record Knows (candidates : ℕ) (moves : List Move) (v : View) : Type 0 where
+-- the board's note is of all moves but the last
+abbrev pub IsNoted : Board → Type 0
+IsNoted b = b.before.moves ≡ front (shown b)
+
+-- what v knows is so of this board, with so many candidates and these moves
+pub record Knows (board : Name) (candidates : ℕ) (moves : List Move) (v : View) : Type 0 where
+  pub home_is : (t : Told) → v.home ≡ Some t → t.board ≡ board
   pub candidates_is : (n : ℕ) → v.candidates ≡ Some n → n ≡ candidates
   pub seen : Begins v.seen moves
 
--- the board's moves could be made, and each has seen a front of them
+-- the same, of what the board b shows
+abbrev pub KnowsOf : Board → View → Type 0
+KnowsOf b v = Knows b.before.board (candidates_of b) (shown b) v
+
+-- the board's moves could be made, its note is of all but the last, and each has seen a front of them
 abbrev pub Keeps : Board → List View → Type 0
-Keeps b views = ∥ IsStory (candidates_of b) (shown b) ∥₁
-    × ((seat : ℕ) (v : View) → get_elem? views seat ≡ some v → Knows (candidates_of b) (shown b) v)
+Keeps b views = ∥ IsStory (candidates_of b) (shown b) ∥₁ × IsNoted b
+    × ((seat : ℕ) (v : View) → get_elem? views seat ≡ some v → KnowsOf b v)
 
 -- who looks at the board has seen all its moves
 abbrev pub looked : Board → View
-looked b = record { candidates = Some (candidates_of b); seen = shown b }
+looked b = record { candidates = Some (candidates_of b); home = Some b.before; seen = shown b }
 
 -- x is the board before, and y after
 abbrev pub Looks : View → Board → Board → View → Type 0
-Looks v x y w = (w ≡ looked y) × Knows (candidates_of y) (shown y) v × ∥ IsStory (candidates_of y) (shown y) ∥₁
+Looks v x y w = (w ≡ looked y) × KnowsOf y v × ∥ IsStory (candidates_of y) (shown y) ∥₁ × IsNoted y
 
 -- who comes knows nothing
 abbrev pub newcomer : View
-newcomer = record { candidates = None; seen = [] }
+newcomer = record { candidates = None; home = None; seen = [] }
 
--- v is told the number of candidates that w knows
+-- v is told the board and the number of candidates that w knows
 abbrev pub named : View → View → View
-named v w = record { candidates = w.candidates; seen = v.seen }
+named v w = record { candidates = w.candidates; home = w.home; seen = v.seen }

@@ -2,28 +2,31 @@
 use Rattle.std.specs.Prelude.{◌≡◌, ℕ, List, [], Option, Some}
 use Rattle.tally_board.specs.declared.ballot_move.Move.{Move}
 use Rattle.tally_board.specs.declared.view.View.{View}
-use Rattle.tally_board.specs.There.{or_else}
+use Rattle.tally_board.specs.Begins.{Begins}
+use Rattle.tally_board.specs.There.{or_else, IsThere}
+use Rattle.tally_board.specs.Told.{Name}
 
--- the number of candidates, the moves that were seen, and how often the board could not be entered
+-- the board, the number of candidates, the moves that were seen, those of the longest note that was
+-- learnt, and how often a read was refused
 pub record Sight : Type 0 where
+  pub board : Name
   pub candidates : ℕ
   pub seen : List Move
+  pub told : List Move
   pub refused : ℕ
-
-abbrev pub no_sight : ℕ → Sight
-no_sight refused = record { candidates = 0; seen = []; refused = refused }
 
 abbrev pub or_zero : Option ℕ → ℕ
 or_zero = or_else 0 (λ n. n)
 
--- the watcher that knows this
-abbrev pub sight_of : View → ℕ → Sight
-sight_of v refused = record { candidates = or_zero v.candidates; seen = v.seen; refused = refused }
+abbrev pub candidates_told : View → ℕ
+candidates_told v = or_zero v.candidates
 
--- v was told the number of candidates
-abbrev pub IsNamed : View → Type 0
-IsNamed v = v.candidates ≡ Some (or_zero v.candidates)
+-- v knows which board it is and how many candidates it has, and has seen no less than these moves
+pub record IsWatcher (v : View) (z : Name) (moves : List Move) : Type 0 where
+  pub candidates : v.candidates ≡ Some (candidates_told v)
+  pub home : IsThere (λ t. t.board ≡ z) v.home
+  pub seen : Begins moves v.seen
 
 -- a watcher of a new board
-abbrev pub new_sight : ℕ → Sight
-new_sight candidates = record { candidates = candidates; seen = []; refused = 0 }
+abbrev pub new_sight : Name → ℕ → Sight
+new_sight z candidates = record { board = z; candidates = candidates; seen = []; told = []; refused = 0 }

@@ -5,11 +5,14 @@ ghost use Rattle.tally_board.specs.Sight.{new_sight};
 ghost use Rattle.tally_board.specs.declared.no_board.NoBoard.TheVariants.{NoPlace};
 
 use crate::board::Board;
+use crate::chronicle::Chronicle;
 use crate::rule::{Look, Name, Tell};
 use crate::scribe::Inner;
+use crate::story::Story;
 use crate::{NoBoard, NoMemory, Scribe, Watcher, Watchers};
 use left_right::writer::Writer;
 use std::alloc::Global;
+use std::snapshot::Snapshot;
 use std::sync::Wait;
 
 /// The scribe of a new board with room for so many watchers.
@@ -20,10 +23,12 @@ fn begin<R: Wait>(
     places: usize,
 ) -> Result<Scribe, NoMemory>
     requires { (0 < places) × (places ≤ 16) }
-    ensures { IfOk result (λ s. s ≡ new_desk candidates) }
+    ensures { IfOk result (λ s. s ≡ new_desk s.board candidates) }
 {
-    let first = Board::empty(alloc, candidates)?;
-    let second = Board::empty(alloc, candidates)?;
+    let chronicle = Chronicle::new();
+    let note = chronicle.note();
+    let first = Board::empty(alloc, candidates, &note)?;
+    let second = Board::empty(alloc, candidates, &note)?;
     let writer: Inner = match Writer::new(alloc, first, second, places) {
         Ok(writer) => writer,
         Err(_) => return Err(NoMemory),
@@ -34,13 +39,15 @@ fn begin<R: Wait>(
     }
     Ok(Scribe {
         writer: Some(writer),
+        chronicle,
     })
 }
 
 /// A new watcher, where there is a place for it.
 fn seat(scribe: &mut Scribe) -> Option<Watcher>
+    requires { scribe.old ≡ new_desk scribe.old.board scribe.old.candidates }
     ensures scribe { scribe.new ≡ scribe.old }
-    ensures watcher { IfSome result (λ w. w ≡ new_sight scribe.old.candidates) }
+    ensures watcher { IfSome result (λ w. w ≡ new_sight scribe.old.board scribe.old.candidates) }
 {
     match &mut scribe.writer {
         None => unreachable!(),
@@ -49,6 +56,8 @@ fn seat(scribe: &mut Scribe) -> Option<Watcher>
             reader.learn::<Name>(writer.tell::<Tell>());
             Some(Watcher {
                 reader: Some(reader),
+                told: scribe.chronicle.note(),
+                seen: Snapshot::of(&Story::Empty),
                 refused: 0,
             })
         }
@@ -57,9 +66,11 @@ fn seat(scribe: &mut Scribe) -> Option<Watcher>
 
 /// Puts so many new watchers behind those of the list.
 fn fill(scribe: &mut Scribe, list: &mut Watchers, count: u32) -> Result<(), NoBoard>
+    requires { scribe.old ≡ new_desk scribe.old.board scribe.old.candidates }
     ensures scribe { scribe.new ≡ scribe.old }
     ensures list { IfOk result
-        (λ _. list.new ≡ list.old ++ replicate count (new_sight scribe.old.candidates)) }
+        (λ _. list.new
+        ≡ list.old ++ replicate count (new_sight scribe.old.board scribe.old.candidates)) }
     ensures cause { IfErr result (λ _. 0 < count) }
 {
     if count == 0 {
@@ -83,8 +94,8 @@ pub fn open_board<R: Wait>(
     watchers: u32,
 ) -> Result<(Scribe, Watchers), NoBoard>
     requires { (1 ≤ candidates) × (candidates ≤ 250) × (watchers ≤ 16) }
-    ensures scribe { IfOk result (λ t. t.0 ≡ new_desk candidates) }
-    ensures watchers { IfOk result (λ t. t.1 ≡ replicate watchers (new_sight candidates)) }
+    ensures scribe { IfOk result (λ t. t.0 ≡ new_desk t.0.board candidates) }
+    ensures watchers { IfOk result (λ t. t.1 ≡ replicate watchers (new_sight t.0.board candidates)) }
     ensures cause { IfErr result (λ e. e ≡ NoPlace → 0 < watchers) }
 {
     let places = watchers.max(1) as usize;

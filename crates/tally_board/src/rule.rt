@@ -31,7 +31,7 @@ impl Split<View> for Tell {
     ghost right = { λ v. v };
 }
 
-/// A new watcher is told the number of candidates.
+/// A new watcher is told which board it is, and the number of candidates.
 pub struct Name;
 
 impl Join<View> for Name {

@@ -3,9 +3,11 @@ ghost use Rattle.std.specs.Prelude.{◌≡◌, [], ◌∷◌, ◌++◌, MatchRes
 ghost use Rattle.tally_board.specs.Moves.{CanMove, totals_after};
 
 use crate::board::Board;
+use crate::chronicle::Chronicle;
+use crate::entry::Entry;
 use crate::rule::{Begun, Look};
 use crate::view::View;
-use crate::{Move, MoveBack, Totals};
+use crate::{Move, MoveBack, Note, Totals};
 use left_right::writer::Writer;
 use std::marker::Model;
 use std::mem;
@@ -14,15 +16,17 @@ use std::sync::Wait;
 #[cfg(test)]
 mod tests;
 
-pub(crate) type Inner = Writer<Board, Move, View, Begun>;
+pub(crate) type Inner = Writer<Board, Entry, View, Begun>;
 
-/// The one who changes a board. Contracts see the number of candidates, the moves that it has
-/// published, and those that are pending.
+/// The one who changes a board. Contracts see which board it is, the number of candidates, the moves
+/// that it has published, and those that are pending.
 ///
 /// It is not `Drop`: end it by [`close`](Scribe::close).
 pub struct Scribe {
     // It is away only while a call publishes.
     pub(crate) writer: Option<Inner>,
+    // All moves, published or pending.
+    pub(crate) chronicle: Chronicle,
 }
 
 impl Model for Scribe {
@@ -34,10 +38,11 @@ impl Model for Scribe {
     ghost Value = { Desk };
 
     ghost view = { λ s. or_else no_desk
-        (λ w. desk_of w.desk.shown.value (drop w.behind w.log.items)) s.writer };
+        (λ w. desk_of s.chronicle.board w.desk.shown.value (drop w.behind w.log.items)) s.writer };
 
     ghost invariant = { λ s. IsThere
-        (λ w. IsScribe (known w.desk.place) w.desk.shown.value (drop w.behind w.log.items)) s.writer };
+        (λ w. IsScribe (known w.desk.place) w.desk.shown.value (drop w.behind w.log.items) s.chronicle)
+        s.writer };
 }
 
 impl Scribe {
@@ -48,21 +53,30 @@ impl Scribe {
             (λ _. self.new ≡ record self.old { pending = self.old.pending ++ step ∷ [] })
             (λ back. (back.step ≡ step) × (self.new ≡ self.old)) }
     {
+        let entry = Entry {
+            step,
+            before: self.chronicle.note(),
+        };
         match &mut self.writer {
             None => unreachable!(),
-            Some(writer) => match writer.append(step) {
-                Ok(()) => Ok(()),
-                Err(step) => Err(MoveBack { step }),
+            Some(writer) => match writer.append(entry) {
+                Ok(()) => {
+                    self.chronicle.push(step);
+                    Ok(())
+                }
+                Err(entry) => Err(MoveBack { step: entry.step }),
             },
         }
     }
 
-    /// Publishes the pending moves, all at once. It waits for those who still look at the board as
-    /// it was before the last call.
-    pub fn publish<R: Wait>(&mut self, rt: &R)
-        ensures { self.new
+    /// Publishes the pending moves, all at once, and gives a note of all published moves. It waits for
+    /// those who still look at the board as it was before the last call.
+    pub fn publish<R: Wait>(&mut self, rt: &R) -> Note
+        ensures published { self.new
             ≡ record self.old { published = self.old.published ++ self.old.pending; pending = [] } }
+        ensures note { (result.board ≡ self.new.board) × (result.moves ≡ self.new.published) }
     {
+        let note = self.chronicle.note();
         match self.writer.take() {
             None => unreachable!(),
             Some(writer) => {
@@ -71,7 +85,7 @@ impl Scribe {
                     unreachable!();
                 }
                 match mem::replace(&mut self.writer, Some(writer)) {
-                    None => {}
+                    None => note,
                     Some(_) => unreachable!(),
                 }
             }
@@ -90,7 +104,10 @@ impl Scribe {
 
     /// Ends the board. It waits for those who look at it.
     pub fn close<R: Wait>(self, rt: &R) {
-        let Self { writer } = self;
+        let Self {
+            writer,
+            chronicle: _chronicle,
+        } = self;
         match writer {
             None => unreachable!(),
             Some(writer) => drop(writer.take(rt)),

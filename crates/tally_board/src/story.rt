@@ -12,6 +12,7 @@ pub enum Story {
 impl Story {
     ghost use Rattle.std.specs.Prelude.{◌≡◌, ◌∷◌, [], ◌++◌};
     ghost use Rattle.tally_board.specs.Stories.{moves_of};
+    ghost use Rattle.tally_board.specs.Told.{front, listed};
 
     /// Puts a move at the end.
     pub fn push(&mut self, step: Move)
@@ -19,5 +20,15 @@ impl Story {
     {
         let before = Snapshot::of(self);
         *self = Story::Longer(before, step);
+    }
+
+    /// The last move, if there is one.
+    pub fn last(&self) -> Option<Move>
+        ensures { moves_of self.now ≡ front (moves_of self.now) ++ listed result }
+    {
+        match self {
+            Story::Empty => None,
+            Story::Longer(_, step) => Some(*step),
+        }
     }
 }

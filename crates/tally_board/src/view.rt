@@ -1,11 +1,13 @@
 // What a scribe or a watcher knows of a board. It stands in proofs alone.
-use crate::Move;
+use crate::{Move, Note};
 use std::collections::LinkedList;
 
 /// What is known of a board. No value of it is ever made.
 pub struct View {
     /// How many candidates there are, once that was told.
     pub candidates: Option<u64>,
+    /// A note of the board, once that was told.
+    pub home: Option<Note>,
     /// The moves that were seen.
     pub seen: LinkedList<Move>,
 }

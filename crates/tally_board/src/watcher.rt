@@ -5,48 +5,75 @@ ghost use Rattle.tally_board.specs.Moves.{totals_after};
 
 use crate::board::Board;
 use crate::rule::{Begun, Look};
+use crate::story::Story;
 use crate::view::View;
-use crate::{NoReading, Totals};
+use crate::{NoReading, Note, Totals};
 use left_right::reader::Reader;
 use std::marker::Model;
+use std::snapshot::Snapshot;
 
 pub(crate) type Inner = Reader<Board, View, Begun>;
 
-/// One who reads a board. Contracts see the number of candidates, the moves that it has seen, and
-/// how often it was refused.
+/// One who reads a board. Contracts see which board it is, the number of candidates, the moves that it
+/// has seen, those of the longest note that it learnt, and how often it was refused.
 #[derive(Drop)]
 pub struct Watcher {
     // It is away only while a call reads.
     pub(crate) reader: Option<Inner>,
+    pub(crate) told: Note,
+    pub(crate) seen: Snapshot<Story>,
     pub(crate) refused: u64,
 }
 
 impl Model for Watcher {
     ghost use Rattle.std.specs.Prelude.{◌≡◌};
     ghost use Rattle.left_right.specs.Sides.{view as known};
-    ghost use Rattle.tally_board.specs.Sight.{Sight, no_sight, sight_of, IsNamed};
+    ghost use Rattle.tally_board.specs.Sight.{Sight, IsWatcher, candidates_told};
+    ghost use Rattle.tally_board.specs.Stories.{moves_of};
     ghost use Rattle.tally_board.specs.There.{or_else, IsThere};
 
     ghost Value = { Sight };
 
-    ghost view = { λ w. or_else (no_sight w.refused) (λ r. sight_of (known r.place) w.refused) w.reader };
+    ghost view = { λ w. record {
+      board = w.told.board;
+      candidates = or_else 0 (λ r. candidates_told (known r.place)) w.reader;
+      seen = moves_of w.seen.value;
+      told = w.told.moves;
+      refused = w.refused;
+    } };
 
-    ghost invariant = { λ w. IsThere (λ r. IsNamed (known r.place)) w.reader };
+    ghost invariant = { λ w. IsThere
+        (λ r. IsWatcher (known r.place) w.told.board (moves_of w.seen.value)) w.reader };
 }
 
 impl Watcher {
-    /// How often the board could not be entered. It stays at the greatest number.
+    /// How often a read was refused. It stays at the greatest number.
     pub fn refused(&self) -> u64
         ensures { result ≡ self.now.refused }
     {
         self.refused
     }
 
-    /// Reads the totals after the moves that are seen then: those that were seen before, and what
-    /// follows them. It takes no memory, and waits for nobody.
+    /// Takes in a note: from then on, each read gives the totals after moves that begin with those of
+    /// the note.
+    pub fn learn(&mut self, note: Note)
+        requires { note.board ≡ self.old.board }
+        ensures same { self.new ≡ record self.old { told = self.new.told } }
+        ensures before { Begins self.old.told self.new.told }
+        ensures note { Begins note.moves self.new.told }
+    {
+        self.told = self.told.longer(note);
+    }
+
+    /// Reads the totals after the moves that are seen then: those that were seen before and those of
+    /// each note that was learnt, and what follows them. It takes no memory, and waits for nobody. It is
+    /// refused where the board can't be entered, or where its moves are as many as the greatest number.
     pub fn read(&mut self, into: &mut Totals) -> Result<(), NoReading>
         requires { length into.old ≡ self.old.candidates }
+        ensures board { self.new.board ≡ self.old.board }
         ensures candidates { self.new.candidates ≡ self.old.candidates }
+        ensures told { self.new.told ≡ self.old.told }
+        ensures learnt { OnOk result (Begins self.old.told self.new.seen) }
         ensures seen { Begins self.old.seen self.new.seen }
         ensures totals { OnOk result (into.new ≡ totals_after self.old.candidates self.new.seen) }
         ensures length { length into.new ≡ length into.old }
@@ -60,16 +87,29 @@ impl Watcher {
             None => unreachable!(),
             Some(reader) => match reader.enter_as::<Look>() {
                 Ok(reading) => {
+                    if !reading.get().shows(&self.told) {
+                        self.reader = Some(reading.leave());
+                        self.refused = one_more(self.refused);
+                        return Err(NoReading);
+                    }
                     into.copy_from(&reading.get().totals);
+                    self.seen = Snapshot::of(&reading.get().story);
                     self.reader = Some(reading.leave());
                     Ok(())
                 }
                 Err(reader) => {
                     self.reader = Some(reader);
-                    self.refused = self.refused.saturating_add(1);
+                    self.refused = one_more(self.refused);
                     Err(NoReading)
                 }
             },
         }
     }
+}
+
+// It stays at the greatest number.
+fn one_more(count: u64) -> u64
+    ensures { (count < result) ⊎ (result ≡ 2 ^ 64 - 1) }
+{
+    count.saturating_add(1)
 }

@@ -1,6 +1,6 @@
 ghost use Rattle.std.specs.Prelude.{◌≡◌, [], length};
 
-use crate::{Move, Scribe, Totals, Watcher, open_board};
+use crate::{Move, Note, Scribe, Totals, Watcher, open_board};
 use std::sync::Wait;
 use std::sync::atomic::{AtomicBool, Ordering};
 use std::test::Fail;
@@ -16,7 +16,8 @@ const LOOKS: u32 = 50_000_000;
 // One ballot more for candidate 1, up to so many.
 fn publish_one<R: Wait>(rt: &R, scribe: &mut Scribe) -> bool
     requires { scribe.old.pending ≡ [] }
-    ensures { scribe.new.pending ≡ [] }
+    ensures board { scribe.new.board ≡ scribe.old.board }
+    ensures pending { scribe.new.pending ≡ [] }
 {
     let totals = scribe.totals();
     if totals.len() == 0 || *totals.get(0) >= MANY {
@@ -32,16 +33,18 @@ fn publish_one<R: Wait>(rt: &R, scribe: &mut Scribe) -> bool
     added
 }
 
-// Publishes all moves, one by one, and then says so.
-fn publish_all<R: Wait>(rt: &R, scribe: &mut Scribe, published: &AtomicBool) -> bool
+// Publishes all moves, one by one, and then says so. It gives two notes of all.
+fn publish_all<R: Wait>(rt: &R, scribe: &mut Scribe, published: &AtomicBool) -> (bool, Note, Note)
     requires { scribe.old.pending ≡ [] }
+    ensures one { result.1.board ≡ scribe.old.board }
+    ensures other { result.2.board ≡ scribe.old.board }
 {
     let mut fine = true;
     for _ in 0..MANY {
         fine = publish_one(rt, scribe) && fine;
     }
     published.store(true, Ordering::SeqCst);
-    fine
+    (fine, scribe.publish(rt), scribe.publish(rt))
 }
 
 fn first_of(totals: &Totals) -> u64 {
@@ -51,10 +54,16 @@ fn first_of(totals: &Totals) -> u64 {
     }
 }
 
-// Reads until a read began after all was published: what it gave, and how many reads were refused
-// or went back.
-fn read_all(mut watcher: Watcher, mut totals: Totals, published: &AtomicBool) -> (u64, u32)
+// Reads until a read began after all was published, and counts the reads that were refused or went
+// back.
+fn read_all(
+    mut watcher: Watcher,
+    mut totals: Totals,
+    published: &AtomicBool,
+) -> (Watcher, Totals, u32)
     requires { length totals ≡ watcher.candidates }
+    ensures board { result.0.board ≡ watcher.board }
+    ensures length { length result.1 ≡ result.0.candidates }
 {
     let mut last = 0;
     let mut wrong = 0u32;
@@ -67,10 +76,21 @@ fn read_all(mut watcher: Watcher, mut totals: Totals, published: &AtomicBool) ->
         }
         last = total;
         if is_last {
-            return (last, wrong);
+            return (watcher, totals, wrong);
         }
     }
-    (last, wrong)
+    (watcher, totals, wrong)
+}
+
+// What a watcher reads once it has learnt a note, and how often it was refused.
+fn read_noted(mut watcher: Watcher, mut totals: Totals, note: Note) -> (u64, u64)
+    requires board { note.board ≡ watcher.board }
+    requires length { length totals ≡ watcher.candidates }
+{
+    watcher.learn(note);
+    let is_read = watcher.read(&mut totals).is_ok();
+    let total = if is_read { first_of(&totals) } else { 0 };
+    (total, watcher.refused())
 }
 
 // Two watchers read, in a thread each.
@@ -81,9 +101,11 @@ fn read_beside<R: Threads>(
     first: Totals,
     second: Totals,
     published: &AtomicBool,
-) -> ((u64, u32), (u64, u32))
+) -> ((Watcher, Totals, u32), (Watcher, Totals, u32))
     requires one { length first ≡ one.candidates }
     requires other { length second ≡ other.candidates }
+    ensures one { (result.0.0.board ≡ one.board) × (length result.0.1 ≡ result.0.0.candidates) }
+    ensures other { (result.1.0.board ≡ other.board) × (length result.1.1 ≡ result.1.0.candidates) }
 {
     thread::join(
         rt,
@@ -92,7 +114,8 @@ fn read_beside<R: Threads>(
     )
 }
 
-// A scribe publishes beside two watchers.
+// A scribe publishes beside two watchers, and each reads once more when it has learnt a note of all
+// moves.
 fn race<R: Threads + Wait + Sync>(
     rt: &R,
     scribe: &mut Scribe,
@@ -100,19 +123,23 @@ fn race<R: Threads + Wait + Sync>(
     other: Watcher,
     first: Totals,
     second: Totals,
-) -> (bool, (u64, u32), (u64, u32))
+) -> (bool, (u32, u32), (u64, u64), (u64, u64))
     requires scribe { scribe.old.pending ≡ [] }
-    requires one { length first ≡ one.candidates }
-    requires other { length second ≡ other.candidates }
+    requires one { (length first ≡ one.candidates) × (one.board ≡ scribe.old.board) }
+    requires other { (length second ≡ other.candidates) × (other.board ≡ scribe.old.board) }
 {
     let published = AtomicBool::new(false);
     let flag = &published;
-    let ((one, other), fine) = thread::join(
+    let ((one, other), (fine, note, again)) = thread::join(
         rt,
         || read_beside(rt, one, other, first, second, flag),
         || publish_all(rt, scribe, flag),
     );
-    (fine, one, other)
+    let (one, first, wrong) = one;
+    let (other, second, bad) = other;
+    let last = read_noted(one, first, note);
+    let end = read_noted(other, second, again);
+    (fine, (wrong, bad), last, end)
 }
 
 #[test]
@@ -126,31 +153,33 @@ fn reads_beside_a_scribe_never_go_back(rt: HostRuntime) -> Result<(), Fail> {
     };
     let seen = race(&rt, &mut scribe, one, other, first, second);
     scribe.close(&rt);
-    assert_eq!(rt; seen, (true, (1_000, 0), (1_000, 0)));
+    assert_eq!(rt; seen, (true, (0, 0), (1_000, 0), (1_000, 0)));
     Ok(())
 }
 
 #[test]
-fn published_moves_are_read(rt: HostRuntime) -> Result<(), Fail> {
-    let mut totals = Totals::filled(rt.alloc(), 2, 7)?;
-    let (mut scribe, mut watchers) = open_board(&rt, rt.alloc(), 2, 2)?;
-    let step = Move {
-        candidate: 1,
-        ballots: 3,
-        comes: true,
+fn boards_are_apart(rt: HostRuntime) -> Result<(), Fail> {
+    let first = Totals::filled(rt.alloc(), 1, 7)?;
+    let second = Totals::filled(rt.alloc(), 1, 7)?;
+    let (mut one, mut its) = open_board(&rt, rt.alloc(), 1, 1)?;
+    let Ok((mut other, mut others)) = open_board(&rt, rt.alloc(), 1, 1) else {
+        one.close(&rt);
+        return Err(Fail::from("two boards were asked for"));
     };
-    let added = scribe.append(step);
-    scribe.publish(&rt);
-    let shown = *scribe.totals().get(0);
-    let count = watchers.len();
-    let (mut read, mut refused) = (false, 1);
-    if let Some(mut watcher) = watchers.pop() {
-        read = watcher.read(&mut totals).is_ok();
-        refused = watcher.refused();
-    }
-    scribe.close(&rt);
-    assert!(rt; added.is_ok() && read);
-    assert_eq!(rt; (count, shown, refused), (2, 3, 0));
-    assert_eq!(rt; totals.items(), [3, 0].as_slice());
+    let added = publish_one(&rt, &mut one);
+    let more = publish_one(&rt, &mut one);
+    let apart = publish_one(&rt, &mut other);
+    let (note, another) = (one.publish(&rt), other.publish(&rt));
+    let shown = (first_of(one.totals()), first_of(other.totals()));
+    let count = its.len();
+    let read = match (its.pop(), others.pop()) {
+        (Some(a), Some(b)) => (read_noted(a, first, note), read_noted(b, second, another)),
+        _ => ((0, 1), (0, 1)),
+    };
+    one.close(&rt);
+    other.close(&rt);
+    assert!(rt; added && more && apart);
+    assert_eq!(rt; (count, shown), (1, (2, 1)));
+    assert_eq!(rt; read, ((2, 0), (1, 0)));
     Ok(())
 }
