@@ -36,7 +36,7 @@ none_kept n kept is batch range =
 
 -- a hall in which no ballots stand
 pub nothing_shown : (hall : Hall) (n : ℕ) → n ≤ 250 → hall.book.candidates ≡ n → hall.book.shard ≡ 1 → hall.book.shards ≡ 1 → hall.book.entries ≡ []
-    → hall.scribe ≡ new_desk n → hall.kept.items ≡ replicate 9999 (record { candidates = n; lines = [] }) → IsShown hall
+    → hall.scribe ≡ new_desk hall.scribe.board n → hall.kept.items ≡ replicate 9999 (record { candidates = n; lines = [] }) → IsShown hall
 nothing_shown hall n few candidates shard shards entries board kept = let none : BallotList = record { candidates = n; lines = [] } in record {
   few = subst (λ (k : ℕ). k ≤ 250) (sym candidates) few;
   shard = shard;
