@@ -37,8 +37,9 @@ fn plans_of(alloc: Global, ballots: &Ballots) -> Result<Plans, Fail>
     ensures { IfOk result (λ plans. length (all_ballots plans) ≤ 999999999) }
 {
     lines_stand_for_ballots();
-    let _sound = ballots.lines();
-    let plans = Plans::dealt(alloc, ballots.copy(alloc)?, 2)?;
+    let own = ballots.copy(alloc)?;
+    let _sound = own.lines();
+    let plans = Plans::dealt(alloc, own, 2)?;
     Ok(plans)
 }
 

@@ -57,8 +57,9 @@ fn plans_of(alloc: Global, ballots: &Ballots, shards: u32) -> Result<Plans, Fail
     ensures few { IfOk result (λ plans. length (all_ballots plans) ≤ 999999999) }
 {
     lines_stand_for_ballots();
-    let _sound = ballots.lines();
-    let plans = Plans::dealt(alloc, ballots.copy(alloc)?, shards)?;
+    let own = ballots.copy(alloc)?;
+    let _sound = own.lines();
+    let plans = Plans::dealt(alloc, own, shards)?;
     Ok(plans)
 }
 

@@ -6,7 +6,7 @@ use Rattle.vote_spread.proofs.plan_spread.tests.plans_of.Goals as goal
 
 pub returns-clause-few : goal.returns-clause-few
 returns-clause-few c =
-    let lines = c.args.ballots.now.lines in
+    let lines = c.in_ok-own.own.lines in
     let plans = c.in_ok-plans.plans in
     let same = length_permutation (all_ballots plans) (plain lines) c.in_ok-plans.ensures.ballots in
     omega (arith, same, c.lines_stand_for_ballots.ensures.count lines, c.lines-sound.ensures.sound.bounded)
