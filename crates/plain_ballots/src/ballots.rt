@@ -1,5 +1,5 @@
 // The ballots of an election.
-ghost use Rattle.std.specs.Prelude.{◌≡◌, ◌+◌, ◌<◌, ◌≤◌, ◌↔◌, [], ◌∷◌, ◌++◌, IfOk, IfErr, OnOk, OnErr};
+ghost use Rattle.std.specs.Prelude.{◌≡◌, ◌+◌, ◌<◌, ◌≤◌, ◌↔◌, [], ◌∷◌, ◌++◌, IfNone, IfOk, IfErr, IfSome, IsNone, OnOk, OnErr};
 ghost use Rattle.plain_ballots.specs.Ballots.{IsSound, ballot_count, HandsBack};
 ghost use Rattle.plain_ballots.specs.Ranking.{IsRanking};
 
@@ -61,6 +61,19 @@ impl Ballots {
             }
             Err(failed) => Err(LineStop::NoMemory(failed.value)),
         }
+    }
+
+    /// Takes the last line out. Whoever makes something else of many ballots can let go of each line as it goes.
+    pub fn pop_line(&mut self) -> Option<BallotLine>
+        ensures last { IfSome result (λ line. self.old ≡ record self.new { lines = self.new.lines ++ line ∷ [] }) }
+        ensures ranking { IfSome result (λ line. IsRanking self.old.candidates line.ranking) }
+        ensures counted { IfSome result (λ line. 1 ≤ line.count) }
+        ensures empty { IsNone result ↔ (self.old.lines ≡ []) }
+        ensures kept { IfNone result (self.new ≡ self.old) }
+    {
+        let line = self.lines.pop()?;
+        self.total -= line.count as u64;
+        Some(line)
     }
 
     /// Adds copies of the lines of another list at the end, in their order.
@@ -166,6 +179,19 @@ mod tests {
         assert_eq!(rt; back.count, 1);
         assert_eq!(rt; back.ranking.ranks(), [1, 2].as_slice());
         assert_eq!(rt; (ballots.total(), ballots.lines().len()), (999_999_999, 1));
+        Ok(())
+    }
+
+    #[test]
+    fn the_last_line_is_taken_out(rt: HostRuntime) -> Result<(), Fail> {
+        let mut ballots = Ballots::new(rt.alloc(), 2);
+        ballots.push_line(line(rt.alloc(), 3)?)?;
+        ballots.push_line(line(rt.alloc(), 5)?)?;
+        let counts = [ballots.pop_line(), ballots.pop_line()].map(|line| line.map(|line| line.count));
+        assert_eq!(rt; counts, [Some(5), Some(3)]);
+        assert_eq!(rt; (ballots.total(), ballots.lines().len()), (0, 0));
+        assert!(rt; ballots.pop_line().is_none());
+        assert_eq!(rt; ballots.candidates(), 2);
         Ok(())
     }
 
