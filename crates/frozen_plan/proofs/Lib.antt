@@ -9,4 +9,5 @@ mod ChainLemmas
 mod MergeLemmas
 mod GroupLemmas
 mod ShareLemmas
+mod LastLines
 mod TurnLemmas

@@ -1,11 +1,10 @@
 -- Lines that come into a share.
-use Rattle.std.proofs.Common.{◌≡◌, ◌≢◌, ℕ, ◌+◌, ◌%◌, ◌≤◌, ◌<◌, ◌==◌, List, [], ◌∷◌, ◌++◌, All, length, take, drop, get_or, set, true, false, ⊎_elim, mod-lt, replicate, arith, refl, ap, sym, ◌∙◌, subst, zero, suc, append_assoc}
+use Rattle.std.proofs.Common.{◌≡◌, ◌≢◌, ℕ, ◌+◌, ◌%◌, ◌≤◌, ◌<◌, List, [], ◌∷◌, ◌++◌, All, length, take, drop, get_or, replicate, arith, refl, ap, sym, ◌∙◌, subst, zero, suc, append_assoc}
 use Rattle.std.specs.List.Sorted.{IsPermutation}
-use Rattle.std.proofs.lemmas.Bool.Decides.{eqb_tells}
-use Rattle.std.proofs.lemmas.List.Sorted.{All-permutation, IsPermutation-sym}
+use Rattle.std.proofs.lemmas.List.Sorted.{All-permutation, IsPermutation-append_left, IsPermutation-refl, IsPermutation-sym, IsPermutation-trans, length_permutation}
 use Rattle.plain_ballots.proofs.PermutationLemmas.{flat_map-IsPermutation}
 use Rattle.std.proofs.lemmas.Grind.{flat_map-append}
-use Rattle.std.proofs.lemmas.List.{append-nil, length-set, get_or-set_same, get_or-set_other, drop_at, drop-append-le, length-append}
+use Rattle.std.proofs.lemmas.List.{append-nil, drop_at, drop-append-le, length-append}
 use Rattle.std.proofs.lemmas.List.Elements.{All-nil, All-tail, All-append}
 use Rattle.plain_ballots.specs.declared.ballot_line.BallotLine.{BallotLine}
 use Rattle.plain_ballots.specs.Ballots.{ballot_count}
@@ -15,7 +14,7 @@ use Rattle.frozen_plan.specs.declared.share.Placed.{Placed}
 use Rattle.frozen_plan.specs.declared.share.Share.{Share}
 use Rattle.frozen_plan.specs.Share.{until_zero, rest_of, rests, IsKept, IsShare, line_count}
 use Rattle.frozen_plan.specs.Dealing.{dealt, share}
-use Rattle.frozen_plan.specs.Dealt.{IsDealt, AreDealt}
+use Rattle.frozen_plan.specs.Dealt.{StandsFor, IsDealt}
 use Rattle.frozen_plan.proofs.RunLemmas.{length-rests}
 use Rattle.std.proofs.lemmas.List.Sums.{sum_by-cons}
 use Rattle.frozen_plan.proofs.DealingLemmas.{All-one, share_more, dealt_here, dealt_elsewhere, dealt_some}
@@ -101,49 +100,63 @@ module _ (n : ℕ) (bytes : List ℕ) (lines : List Placed) (ranking : List ℕ)
 
 -- ---- lines that are dealt
 
--- a line is dealt to this share
+-- a share takes in equal ballots
+pub stands_longer : (candidates : ℕ) (bag more : List (List ℕ)) (line : BallotLine) (placed : Placed) (old new : Share)
+    → candidates ≤ 250 → IsRanking candidates line.ranking → 1 ≤ line.count
+    → placed.start ≡ length old.ranks.items → placed.count ≡ line.count
+    → new.ranks.items ≡ old.ranks.items ++ (line.ranking ++ 0 ∷ []) → new.lines.items ≡ old.lines.items ++ placed ∷ []
+    → IsPermutation (bag ++ replicate line.count line.ranking) more → StandsFor candidates bag old → StandsFor candidates more new
+stands_longer candidates bag more line placed old new few ranking some start count bytes_are lines_are same before =
+    let bytes = old.ranks.items in
+    let now = old.lines.items in
+    let ended = line.ranking ++ 0 ∷ [] in
+    let equal = replicate line.count line.ranking in
+    let so_far = rests bytes 0 now in
+    let counted : 1 ≤ placed.count = omega (arith, some, count) in
+    let own : rests new.ranks.items 0 new.lines.items ≡ so_far ++ equal =
+    ap (λ (b : List ℕ). rests b 0 new.lines.items) bytes_are
+    ∙ (ap (λ (l : List Placed). rests (bytes ++ ended) 0 l) lines_are
+    ∙ (rests_longer candidates bytes now line.ranking placed few before.sound ranking start counted
+    ∙ ap (λ (k : ℕ). so_far ++ replicate k line.ranking) count)) in
+    record {
+      sound = subst (λ (b : List ℕ). IsShare candidates b new.lines.items) (sym bytes_are)
+          (subst (λ (l : List Placed). IsShare candidates (bytes ++ ended) l) (sym lines_are) (share_longer candidates bytes now line.ranking placed few before.sound ranking start counted));
+      all = subst (λ (l : List (List ℕ)). IsPermutation l more) (sym own)
+          (IsPermutation-trans (so_far ++ equal) (bag ++ equal) more (IsPermutation-append_left equal so_far bag before.all) same);
+    }
+
+pub own_line : (n s i : ℕ) (line : BallotLine) → i % n ≡ s → dealt n (s + 1) i line ≡ replicate line.count line.ranking
+own_line n s i line mine = subst (λ (t : ℕ). dealt n (t + 1) i line ≡ replicate line.count line.ranking) mine (dealt_here n i line)
+
+-- the next line is dealt to this share
 pub dealt_to : (candidates n s i : ℕ) (lines : List BallotLine) (line : BallotLine) (placed : Placed) (old new : Share)
     → candidates ≤ 250 → i < length lines → line ≡ get_or lines i line → IsRanking candidates line.ranking → 1 ≤ line.count → i % n ≡ s
     → placed.start ≡ length old.ranks.items → placed.count ≡ line.count
     → new.ranks.items ≡ old.ranks.items ++ (line.ranking ++ 0 ∷ []) → new.lines.items ≡ old.lines.items ++ placed ∷ []
-    → IsDealt candidates n (s + 1) (take i lines) old → IsDealt candidates n (s + 1) (take (i + 1) lines) new
+    → IsDealt candidates n (s + 1) 0 (take i lines) old → IsDealt candidates n (s + 1) 0 (take (i + 1) lines) new
 dealt_to candidates n s i lines line placed old new few inside at ranking some mine start count bytes_are lines_are before =
-    let bytes = old.ranks.items in
-    let now = old.lines.items in
-    let more = line.ranking ++ 0 ∷ [] in
-    let counted : 1 ≤ placed.count = omega (arith, some, count) in
     let so_far = share n (s + 1) 0 (take i lines) in
-    let own : dealt n (s + 1) i line ≡ replicate line.count line.ranking = subst (λ (t : ℕ). dealt n (t + 1) i line ≡ replicate line.count line.ranking) mine (dealt_here n i line) in
-    record {
-      sound = subst (λ (b : List ℕ). IsShare candidates b new.lines.items) (sym bytes_are)
-          (subst (λ (l : List Placed). IsShare candidates (bytes ++ more) l) (sym lines_are) (share_longer candidates bytes now line.ranking placed few before.sound ranking start counted));
-      ballots = ap (λ (b : List ℕ). rests b 0 new.lines.items) bytes_are
-          ∙ (ap (λ (l : List Placed). rests (bytes ++ more) 0 l) lines_are
-          ∙ (rests_longer candidates bytes now line.ranking placed few before.sound ranking start counted
-          ∙ (ap (λ (l : List (List ℕ)). l ++ replicate placed.count line.ranking) before.ballots
-          ∙ (ap (λ (k : ℕ). so_far ++ replicate k line.ranking) count
-          ∙ (ap (λ (l : List (List ℕ)). so_far ++ l) (sym own)
-          ∙ sym (share_more n (s + 1) lines i line inside at))))));
-    }
+    let equal = replicate line.count line.ranking in
+    let more : so_far ++ equal ≡ share n (s + 1) 0 (take (i + 1) lines) = ap (λ (l : List (List ℕ)). so_far ++ l) (sym (own_line n s i line mine)) ∙ sym (share_more n (s + 1) lines i line inside at) in
+    stands_longer candidates so_far (share n (s + 1) 0 (take (i + 1) lines)) line placed old new few ranking some start count bytes_are lines_are
+    (subst (IsPermutation (so_far ++ equal)) more (IsPermutation-refl (so_far ++ equal))) before
 
 -- or to another
 pub not_dealt_to : (candidates n s i : ℕ) (lines : List BallotLine) (line : BallotLine) (old : Share) → i < length lines → line ≡ get_or lines i line → i % n ≢ s
-    → IsDealt candidates n (s + 1) (take i lines) old → IsDealt candidates n (s + 1) (take (i + 1) lines) old
+    → IsDealt candidates n (s + 1) 0 (take i lines) old → IsDealt candidates n (s + 1) 0 (take (i + 1) lines) old
 not_dealt_to candidates n s i lines line old inside at other before =
     let so_far = share n (s + 1) 0 (take i lines) in
     let none = dealt_elsewhere n i line (s + 1) (λ e. other (omega arith)) in
-    record {
-      sound = before.sound;
-      ballots = before.ballots ∙ (sym (append-nil so_far) ∙ (ap (λ (l : List (List ℕ)). so_far ++ l) (sym none) ∙ sym (share_more n (s + 1) lines i line inside at)));
-    }
+    let same : so_far ≡ share n (s + 1) 0 (take (i + 1) lines) = sym (append-nil so_far) ∙ (ap (λ (l : List (List ℕ)). so_far ++ l) (sym none) ∙ sym (share_more n (s + 1) lines i line inside at)) in
+    subst (λ (l : List (List ℕ)). StandsFor candidates l old) same before
 
 -- no line is dealt yet
-pub none_dealt : (candidates n s : ℕ) (empty : Share) → empty.ranks.items ≡ [] → empty.lines.items ≡ [] → IsDealt candidates n s [] empty
-none_dealt candidates n s empty no_bytes no_lines = record {
+pub none_dealt : (candidates n s i : ℕ) (empty : Share) → empty.ranks.items ≡ [] → empty.lines.items ≡ [] → IsDealt candidates n s i [] empty
+none_dealt candidates n s i empty no_bytes no_lines = record {
   sound = subst (λ (b : List ℕ). IsShare candidates b empty.lines.items) (sym no_bytes)
       (subst (λ (l : List Placed). IsShare candidates [] l) (sym no_lines)
       (record { numbers = All-nil (λ (c : ℕ). c ≤ candidates); kept = All-nil (IsKept []); short = All-nil (λ (l : Placed). length (rest_of [] 0 l) ≤ 250); counted = All-nil (λ (l : Placed). 1 ≤ l.count) }));
-  ballots = ap (λ (l : List Placed). rests empty.ranks.items 0 l) no_lines;
+  all = subst (λ (l : List Placed). IsPermutation (rests empty.ranks.items 0 l) []) (sym no_lines) (IsPermutation-refl []);
 }
 
 share_few : (n s i : ℕ) (lines : List BallotLine) → length (share n s i lines) ≤ ballot_count lines
@@ -153,32 +166,9 @@ share_few n s i (line ∷ lines) =
     omega (arith, length-append own (share n s (i + 1) lines), dealt_some n s i line, share_few n s (i + 1) lines, sum_by-cons (λ (l : BallotLine). l.count) line lines)
 
 -- a share has no more ballots than there are
-pub share_counted : (candidates n s : ℕ) (lines : List BallotLine) (one : Share) → IsDealt candidates n s lines one → line_count one.lines.items ≤ ballot_count lines
+pub share_counted : (candidates n s : ℕ) (lines : List BallotLine) (one : Share) → IsDealt candidates n s 0 lines one → line_count one.lines.items ≤ ballot_count lines
 share_counted candidates n s lines one is =
-    omega (arith, length-rests one.ranks.items 0 one.lines.items, ap length is.ballots, share_few n s 0 lines)
-
--- one more line is dealt
-pub dealt_turn : (candidates i m k : ℕ) (lines : List BallotLine) (line : BallotLine) (shares : List Share) (d : Share) (placed : Placed) (new : Share)
-    → candidates ≤ 250 → i < length lines → line ≡ get_or lines i line → IsRanking candidates line.ranking → 1 ≤ line.count → 1 ≤ m → length shares ≡ m → k ≡ i % m
-    → placed.start ≡ length (get_or shares k d).ranks.items → placed.count ≡ line.count
-    → new.ranks.items ≡ (get_or shares k d).ranks.items ++ (line.ranking ++ 0 ∷ []) → new.lines.items ≡ (get_or shares k d).lines.items ++ placed ∷ []
-    → AreDealt candidates (take i lines) shares → AreDealt candidates (take (i + 1) lines) (set shares k new)
-dealt_turn candidates i m k lines line shares d placed new few inside at ranking some shards as_many turn start count bytes_are lines_are before s e within =
-    let here : k < m = omega (arith, turn, mod-lt i {m = m} (omega (arith, shards))) in
-    let short : s < length shares = omega (arith, within, length-set shares k new) in
-    let all = as_many ∙ sym (length-set shares k new ∙ as_many) in
-    let old : IsDealt candidates m (k + 1) (take i lines) (get_or shares k d) = subst (λ (t : ℕ). IsDealt candidates t (k + 1) (take i lines) (get_or shares k d)) as_many (before k d (omega (arith, here, as_many))) in
-    subst (λ (t : ℕ). IsDealt candidates t (s + 1) (take (i + 1) lines) (get_or (set shares k new) s e)) (sym (length-set shares k new ∙ as_many))
-    (⊎_elim
-    (λ (same : ((s == k) ≡ true) × (s ≡ k)).
-    subst (λ (t : ℕ). IsDealt candidates m (t + 1) (take (i + 1) lines) (get_or (set shares k new) t e)) (sym same.1)
-    (subst (IsDealt candidates m (k + 1) (take (i + 1) lines)) (sym (get_or-set_same shares k new e (omega (arith, here, as_many))))
-    (dealt_to candidates m k i lines line placed (get_or shares k d) new few inside at ranking some (sym turn) start count bytes_are lines_are old)))
-    (λ (other : ((s == k) ≡ false) × (s ≢ k)).
-    let kept : IsDealt candidates m (s + 1) (take i lines) (get_or shares s e) = subst (λ (t : ℕ). IsDealt candidates t (s + 1) (take i lines) (get_or shares s e)) as_many (before s e short) in
-    subst (IsDealt candidates m (s + 1) (take (i + 1) lines)) (sym (get_or-set_other shares k s new e other.1))
-    (not_dealt_to candidates m s i lines line (get_or shares s e) inside at (λ same. other.1 (sym same ∙ sym turn)) kept))
-    (eqb_tells s k))
+    omega (arith, length-rests one.ranks.items 0 one.lines.items, length_permutation (rests one.ranks.items 0 one.lines.items) (share n s 0 lines) is.all, share_few n s 0 lines)
 
 -- sorted lines are as good
 pub sorted_share : (n : ℕ) (bytes : List ℕ) (lines sorted : List Placed) → IsPermutation lines sorted → IsShare n bytes lines → IsShare n bytes sorted

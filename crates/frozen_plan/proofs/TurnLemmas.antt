@@ -44,10 +44,10 @@ before_its_turn n turn j within below same = let is = mod-eq_of_lt {n = j} {m = 
 -- ---- a share
 
 one_other : (candidates n s j : ℕ) (lines : List BallotLine) (one : Share) → j % n ≢ s
-    → IsDealt candidates n (s + 1) (take j lines) one → IsDealt candidates n (s + 1) (take (j + 1) lines) one
+    → IsDealt candidates n (s + 1) 0 (take j lines) one → IsDealt candidates n (s + 1) 0 (take (j + 1) lines) one
 one_other candidates n s j lines one other before = ⊎_elim
     (λ (past : (_) × (length lines ≤ j)).
-    subst (λ (l : List BallotLine). IsDealt candidates n (s + 1) l one) (take_all j lines past.1 ∙ sym (take_all (j + 1) lines (omega (arith, past.1)))) before)
+    subst (λ (l : List BallotLine). IsDealt candidates n (s + 1) 0 l one) (take_all j lines past.1 ∙ sym (take_all (j + 1) lines (omega (arith, past.1)))) before)
     (λ (inside : (_) × (j < length lines)).
     let none : BallotLine = record { count = 0; ranking = [] } in
     let line = get_or lines j none in
@@ -56,12 +56,12 @@ one_other candidates n s j lines one other before = ⊎_elim
 
 -- lines that go to others leave a share as it is
 pub none_between : (candidates n s i k : ℕ) (lines : List BallotLine) (one : Share) → ((j : ℕ) → i ≤ j → j < i + k → j % n ≢ s)
-    → IsDealt candidates n (s + 1) (take i lines) one → IsDealt candidates n (s + 1) (take (i + k) lines) one
+    → IsDealt candidates n (s + 1) 0 (take i lines) one → IsDealt candidates n (s + 1) 0 (take (i + k) lines) one
 none_between candidates n s i zero lines one others before =
-    subst (λ (j : ℕ). IsDealt candidates n (s + 1) (take j lines) one) (omega arith) before
+    subst (λ (j : ℕ). IsDealt candidates n (s + 1) 0 (take j lines) one) (omega arith) before
 none_between candidates n s i (suc k) lines one others before =
     let so_far = none_between candidates n s i k lines one (λ j from below. others j from (omega (arith, below))) before in
-    subst (λ (j : ℕ). IsDealt candidates n (s + 1) (take j lines) one) (omega arith)
+    subst (λ (j : ℕ). IsDealt candidates n (s + 1) 0 (take j lines) one) (omega arith)
     (one_other candidates n s (i + k) lines one (others (i + k) (omega arith) (omega arith)) so_far)
 
 -- ---- plans of all shards

@@ -10,15 +10,19 @@ use Rattle.frozen_plan.specs.Dealing as dealing
 abbrev pub AreEmpty : List Share → Type 0
 AreEmpty shares = All (λ share. (share.ranks.items ≡ []) × (share.lines.items ≡ [])) shares
 
--- the share of shard s among n of these lines, of rankings of so many candidates
-pub record IsDealt (candidates n s : ℕ) (lines : List BallotLine) (share : Share) : Type 0 where
+-- the share stands for these ballots, as rankings of so many candidates
+pub record StandsFor (candidates : ℕ) (ballots : List (List ℕ)) (share : Share) : Type 0 where
   pub sound : IsShare candidates share.ranks.items share.lines.items
-  pub ballots : rests share.ranks.items 0 share.lines.items ≡ dealing.share n s 0 lines
+  pub all : IsPermutation (rests share.ranks.items 0 share.lines.items) ballots
+
+-- the share of shard s among n of the lines from place i on, of rankings of so many candidates
+abbrev pub IsDealt : (candidates n s i : ℕ) → List BallotLine → Share → Type 0
+IsDealt candidates n s i lines = StandsFor candidates (dealing.share n s i lines)
 
 -- each share is that of its shard
-abbrev pub AreDealt : (candidates : ℕ) → List BallotLine → List Share → Type 0
-AreDealt candidates lines shares =
-    (s : ℕ) (d : Share) → s < length shares → IsDealt candidates (length shares) (s + 1) lines (slice_index_or shares s d)
+abbrev pub AreDealt : (candidates i : ℕ) → List BallotLine → List Share → Type 0
+AreDealt candidates i lines shares =
+    (s : ℕ) (d : Share) → s < length shares → IsDealt candidates (length shares) (s + 1) i lines (slice_index_or shares s d)
 
 -- the plan of the share of shard s among n of these lines, of rankings of so many candidates
 pub record IsOfShare (candidates n s : ℕ) (lines : List BallotLine) (plan : PlanRows) : Type 0 where

@@ -7,7 +7,7 @@ ghost use Rattle.frozen_plan.specs.Plan.{all_ballots};
 
 use crate::share::Share;
 use crate::{NoMemory, Plan, Plans};
-use plain_ballots::{BallotLine, Ballots};
+use plain_ballots::Ballots;
 use std::alloc::Global;
 
 #[cfg(test)]
@@ -50,12 +50,11 @@ fn shares_of(alloc: Global, ballots: Ballots, shards: u32) -> Result<Vec<Share>,
     requires shards { 1 ≤ shards }
     requires candidates { ballots.candidates ≤ 250 }
     ensures as_many { IfOk result (λ shares. length shares.items ≡ shards) }
-    ensures dealt { IfOk result (λ shares. AreDealt ballots.candidates ballots.lines shares.items) }
+    ensures dealt { IfOk result (λ shares. AreDealt ballots.candidates 0 ballots.lines shares.items) }
     ensures sound { IfOk result (λ _. IsSound ballots.candidates ballots.lines) }
 {
-    let lines = ballots.lines();
-    let mut shares = empty_shares(alloc, shards, lines.len())?;
-    deal(ballots.candidates(), lines, shares.as_mut_slice())?;
+    let mut shares = empty_shares(alloc, shards, ballots.lines().len())?;
+    deal(ballots, shares.as_mut_slice())?;
     Ok(shares)
 }
 
@@ -76,27 +75,27 @@ fn empty_shares(alloc: Global, shards: u32, lines: usize) -> Result<Vec<Share>, 
     Ok(shares)
 }
 
-/// Deals lines out, one to each share in turn.
-fn deal(candidates: u32, lines: &[BallotLine], shares: &mut [Share]) -> Result<(), NoMemory>
-    requires candidates { candidates ≤ 250 }
-    requires sound { IsSound candidates lines.now }
+/// Deals the lines of ballots out, one to each share in turn. They are taken from the last to the first, and
+/// each is let go when its share has it, so that few ballots stand beside many shares.
+fn deal(mut ballots: Ballots, shares: &mut [Share]) -> Result<(), NoMemory>
+    requires candidates { ballots.candidates ≤ 250 }
     requires some { 1 ≤ length shares.old }
     requires empty { AreEmpty shares.old }
-    ensures { OnOk result (AreDealt candidates lines.now shares.new) }
+    ensures { OnOk result (AreDealt ballots.candidates 0 ballots.lines shares.new) }
 {
     let shards = shares.len();
-    let mut turn = 0;
-    for line in lines {
-        shares[turn].take(line)?;
-        turn = after(turn, shards);
+    let mut turn = ballots.lines().len() % shards;
+    while let Some(line) = ballots.pop_line() {
+        turn = before(turn, shards);
+        shares[turn].take(&line)?;
     }
     Ok(())
 }
 
-/// Whose turn it is after another's, of so many in a circle.
-fn after(turn: usize, shards: usize) -> usize
-    requires { turn < shards }
-    ensures { result ≡ (turn + 1) % shards }
+/// Whose turn it was before another's, of so many in a circle.
+fn before(turn: usize, shards: usize) -> usize
+    requires { 1 ≤ shards }
+    ensures { (place : ℕ) → (place + 1) % shards ≡ turn → result ≡ place % shards }
 {
-    if turn + 1 < shards { turn + 1 } else { 0 }
+    if turn > 0 { turn - 1 } else { shards - 1 }
 }

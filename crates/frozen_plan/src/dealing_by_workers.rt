@@ -114,7 +114,7 @@ fn share_of(
     requires shards { shards < 2 ^ 32 }
     requires candidates { candidates ≤ 250 }
     requires sound { IsSound candidates lines.now }
-    ensures { IfOk result (IsDealt candidates shards (turn + 1) lines.now) }
+    ensures { IfOk result (IsDealt candidates shards (turn + 1) 0 lines.now) }
 {
     let mut share = Share::new(alloc, lines.len().div_ceil(shards))?;
     let mut i = turn;

@@ -187,7 +187,9 @@ mod tests {
         let mut ballots = Ballots::new(rt.alloc(), 2);
         ballots.push_line(line(rt.alloc(), 3)?)?;
         ballots.push_line(line(rt.alloc(), 5)?)?;
-        let counts = [ballots.pop_line(), ballots.pop_line()].map(|line| line.map(|line| line.count));
+        let counts = [ballots.pop_line(), ballots.pop_line()].map(|line| line.map(
+            |line| line.count,
+        ));
         assert_eq!(rt; counts, [Some(5), Some(3)]);
         assert_eq!(rt; (ballots.total(), ballots.lines().len()), (0, 0));
         assert!(rt; ballots.pop_line().is_none());

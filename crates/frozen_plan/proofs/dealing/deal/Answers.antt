@@ -1,32 +1,34 @@
-use Rattle.std.proofs.Common.{ℕ, ◌+◌, ◌≤◌, ◌%◌, length, get_or, arith, refl, ap, sym, ◌∙◌, subst}
-use Rattle.std.proofs.Math.Nat.{mod-add-mod}
+use Rattle.std.proofs.Common.{◌%◌, ◌+◌, List, [], length, get_or, refl, ap, sym, append-nil}
 use Rattle.plain_ballots.specs.declared.ballot_line.BallotLine.{BallotLine}
-use Rattle.plain_ballots.specs.Ranking.{IsRanking}
-use Rattle.ranking_trie.proofs.LineLemmas.{ranking_at}
 use Rattle.frozen_plan.specs.declared.share.Placed.{Placed}
-use Rattle.frozen_plan.proofs.ShareLemmas.{dealt_turn}
+use Rattle.frozen_plan.proofs.ShareLemmas.{none_dealt}
+use Rattle.frozen_plan.proofs.LastLines.{one_less}
 use Rattle.frozen_plan.proofs.dealing.deal.Goals as goal
 
-pub take-requires : goal.take-requires
-take-requires c =
-    let n = c.args.candidates in
-    let line = c.line-item.result in
-    let ranking : IsRanking n line.ranking = ranking_at n c.args.lines.now c.loop-line.line-index line c.requires.sound c.loop-line-test.true c.line-item.is in
-    λ k d inside. omega (arith, (ranking.numbers k d inside).1, c.requires.candidates)
+pub loop-line-init : goal.loop-line-init
+loop-line-init c = record {
+  behind = [];
+  all = sym (append-nil c.args.ballots.lines);
+  candidates = refl;
+  dealt = λ s d inside.
+      let empty = c.requires.empty s d inside in
+      none_dealt c.args.ballots.candidates (length c.args.shares.now) (s + 1) (length c.args.ballots.lines) (get_or c.args.shares.now s d) empty.0 empty.1;
+  as_many = refl;
+  turn = ap (λ (l : List BallotLine). length l % length c.args.shares.now) c.lines.ensures.lines;
+}
+
+pub loop-line-preserved-in_ok-take : goal.loop-line-preserved-in_ok-take
+loop-line-preserved-in_ok-take c =
+    let line = c.in-Some.line in
+    let own = c.index-shares-turn.result in
+    let placed : Placed = record { front = c.in_ok-take.ensures.lines.0; start = length (get_or c.loop-line.shares c.before-turn.result own).ranks.items; count = line.count } in
+    one_less c.args.ballots.candidates c.args.ballots.lines (length c.args.shares.now) c.loop-line.ballots c.pop_line.new.self line c.loop-line.shares c.loop-line.turn c.before-turn.result own placed c.take.new.self
+    c.loop-line.invariant c.in-Some.ensures.last c.requires.candidates c.in-Some.ensures.ranking c.in-Some.ensures.counted c.requires.some c.before-turn.ensures refl refl c.in_ok-take.ensures.ranks c.in_ok-take.ensures.lines.1
 
 pub loop-line-preserved : goal.loop-line-preserved
 loop-line-preserved c =
-    let n = c.args.candidates in
-    let i = c.loop-line.line-index in
-    let turn = c.loop-line.turn in
-    let m = length c.args.shares.now in
-    let line = c.line-item.result in
-    let before = c.loop-line.invariant in
-    let ranking : IsRanking n line.ranking = ranking_at n c.args.lines.now i line c.requires.sound c.loop-line-test.true c.line-item.is in
-    let counted : 1 ≤ line.count = subst (λ (l : BallotLine). 1 ≤ l.count) (sym c.line-item.is) (c.requires.sound.counted i line c.loop-line-test.true) in
-    let placed : Placed = record { front = c.in_ok-take.ensures.lines.0; start = length (get_or c.loop-line.shares turn c.index-shares-turn.result).ranks.items; count = line.count } in
-    record {
-      dealt = dealt_turn n i m turn c.args.lines.now line c.loop-line.shares c.index-shares-turn.result placed c.take.new.self
-          c.requires.candidates c.loop-line-test.true c.line-item.is ranking counted c.requires.some c.loop-line.auto.shares before.turn refl refl c.in_ok-take.ensures.ranks c.in_ok-take.ensures.lines.1 before.dealt;
-      turn = c.after-turn.ensures ∙ (ap (λ (t : ℕ). (t + 1) % m) before.turn ∙ mod-add-mod i m 1);
-    }
+    let line = c.in-Some.line in
+    let own = c.index-shares-turn.result in
+    let placed : Placed = record { front = c.in_ok-take.ensures.lines.0; start = length (get_or c.loop-line.shares c.before-turn.result own).ranks.items; count = line.count } in
+    one_less c.args.ballots.candidates c.args.ballots.lines (length c.args.shares.now) c.loop-line.ballots c.pop_line.new.self line c.loop-line.shares c.loop-line.turn c.before-turn.result own placed c.take.new.self
+    c.loop-line.invariant c.in-Some.ensures.last c.requires.candidates c.in-Some.ensures.ranking c.in-Some.ensures.counted c.requires.some c.before-turn.ensures refl refl c.in_ok-take.ensures.ranks c.in_ok-take.ensures.lines.1

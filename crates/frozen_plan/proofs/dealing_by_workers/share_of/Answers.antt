@@ -25,10 +25,10 @@ loop-i-init c =
     record {
       turn = mod-eq_of_lt c.requires.turn;
       dealt =
-          subst (λ j. IsDealt c.args.candidates c.args.shards (turn + 1) (take j c.args.lines.now) share) start
+          subst (λ j. IsDealt c.args.candidates c.args.shards (turn + 1) 0 (take j c.args.lines.now) share) start
           (none_between c.args.candidates c.args.shards turn 0 turn c.args.lines.now share
           (λ j from below. before_its_turn c.args.shards turn j c.requires.turn (omega (arith, below)))
-          (none_dealt c.args.candidates c.args.shards (turn + 1) share c.in_ok-share.ensures.0 c.in_ok-share.ensures.1));
+          (none_dealt c.args.candidates c.args.shards (turn + 1) 0 share c.in_ok-share.ensures.0 c.in_ok-share.ensures.1));
     }
 
 pub loop-i-preserved : goal.loop-i-preserved
@@ -45,13 +45,13 @@ loop-i-preserved c =
     let ranking : IsRanking n line.ranking = ranking_at n lines i line c.requires.sound c.loop-i-test.true c.index-lines-i.is in
     let counted : 1 ≤ line.count = subst (λ (l : BallotLine). 1 ≤ l.count) (sym c.index-lines-i.is) (c.requires.sound.counted i line c.loop-i-test.true) in
     let placed : Placed = record { front = c.in_ok-take.ensures.lines.0; start = length c.loop-i.share.ranks.items; count = line.count } in
-    let dealt : IsDealt n shards (turn + 1) (take (i + 1) lines) now =
+    let dealt : IsDealt n shards (turn + 1) 0 (take (i + 1) lines) now =
     dealt_to n shards turn i lines line placed c.loop-i.share now
     c.requires.candidates c.loop-i-test.true c.index-lines-i.is ranking counted own refl refl c.in_ok-take.ensures.ranks c.in_ok-take.ensures.lines.1 c.loop-i.invariant.dealt in
     let next : i + 1 + (shards - 1) ≡ i + shards = omega (arith, some) in
     record {
       turn = add-mod_right i shards ∙ own;
-      dealt = subst (λ j. IsDealt n shards (turn + 1) (take j lines) now) next
+      dealt = subst (λ j. IsDealt n shards (turn + 1) 0 (take j lines) now) next
           (none_between n shards turn (i + 1) (shards - 1) lines now
           (λ j from below same. not_its_turn shards i j some (omega (arith, from)) (omega (arith, below, next)) (same ∙ sym own)) dealt);
     }
@@ -59,4 +59,4 @@ loop-i-preserved c =
 pub returns : goal.returns
 returns c =
     let all : take c.loop-i.i c.args.lines.now ≡ c.args.lines.now = take_all c.loop-i.i c.args.lines.now (omega (arith, c.loop-i-test.false)) in
-    subst (λ (l : List BallotLine). IsDealt c.args.candidates c.args.shards (c.args.turn + 1) l c.loop-i.share) all c.loop-i.invariant.dealt
+    subst (λ (l : List BallotLine). IsDealt c.args.candidates c.args.shards (c.args.turn + 1) 0 l c.loop-i.share) all c.loop-i.invariant.dealt

@@ -2,11 +2,12 @@ use Rattle.std.proofs.Common.{◌≡◌, ◌≢◌, ℕ, ◌+◌, ◌∷◌, [],
 use Rattle.std.specs.List.Sorted.{IsPermutation}
 use Rattle.std.proofs.lemmas.List.{length-set, get_or-set_other}
 use Rattle.std.proofs.lemmas.List.Elements.{All-append}
+use Rattle.std.proofs.lemmas.List.Sorted.{IsPermutation-trans}
 use Rattle.frozen_plan.specs.declared.share.Share.{Share}
 use Rattle.frozen_plan.specs.Dealing.{share, AreOfShares}
 use Rattle.frozen_plan.specs.Dealt.{IsDealt}
 use Rattle.frozen_plan.specs.Plan.{PlanRows, plan_ballots}
-use Rattle.frozen_plan.specs.Share.{line_count}
+use Rattle.frozen_plan.specs.Share.{line_count, rests}
 use Rattle.frozen_plan.proofs.DealingLemmas.{All-one, one_plan_more, shares_are_all}
 use Rattle.frozen_plan.proofs.ShareLemmas.{share_counted}
 use Rattle.frozen_plan.proofs.plans.Plans.dealt.Goals as goal
@@ -30,8 +31,9 @@ loop-shard-preserved c =
     let shares = c.loop-shard.shares.items in
     let now = c.index_mut.result.now in
     let before = c.loop-shard.invariant in
-    let dealt : IsDealt candidates n (shard + 1) lines now = subst (IsDealt candidates n (shard + 1) lines) (sym c.index_mut.ensures.value) (before.left shard now (omega arith) c.loop-shard-test.true) in
-    let whole : IsPermutation (plan_ballots plan.rows) (share n (shard + 1) 0 lines) = subst (IsPermutation (plan_ballots plan.rows)) dealt.ballots c.in_ok-plan.ensures.ballots in
+    let dealt : IsDealt candidates n (shard + 1) 0 lines now = subst (IsDealt candidates n (shard + 1) 0 lines) (sym c.index_mut.ensures.value) (before.left shard now (omega arith) c.loop-shard-test.true) in
+    let whole : IsPermutation (plan_ballots plan.rows) (share n (shard + 1) 0 lines) =
+    IsPermutation-trans (plan_ballots plan.rows) (rests now.ranks.items 0 now.lines.items) (share n (shard + 1) 0 lines) c.in_ok-plan.ensures.ballots dealt.all in
     let own : IsPermutation (plan_ballots plan.rows) (share n (1 + length plans) 0 lines) =
     subst (λ (t : ℕ). IsPermutation (plan_ballots plan.rows) (share n t 0 lines)) (omega (arith, before.as_many)) whole in
     let one : All (λ (p : PlanRows). p.candidates ≡ candidates) (plan ∷ []) = All-one (λ (p : PlanRows). p.candidates ≡ candidates) plan (c.in_ok-plan.ensures.candidates ∙ c.candidates-candidates.ensures) in
@@ -43,7 +45,7 @@ loop-shard-preserved c =
       room = length-set shares shard c.from_share.new.share ∙ before.room;
       left = λ s d later inside.
           let other : s ≢ shard = omega (arith, later) in
-          subst (IsDealt candidates n (s + 1) lines) (sym (get_or-set_other shares shard s c.from_share.new.share d other)) (before.left s d (omega (arith, later)) inside);
+          subst (IsDealt candidates n (s + 1) 0 lines) (sym (get_or-set_other shares shard s c.from_share.new.share d other)) (before.left s d (omega (arith, later)) inside);
     }
 
 pub returns-clause-ballots : goal.returns-clause-ballots
