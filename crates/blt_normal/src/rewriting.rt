@@ -22,7 +22,7 @@ pub(crate) fn rewrite<K: Sink>(alloc: Global, input: &[u8], sink: &mut K) -> End
         Err(stop) => return refuse_input(sink, stop),
     };
     let _candidates = roll.candidates();
-    let Ok(listing) = Listing::begin(alloc, &roll, &ballots) else {
+    let Ok(listing) = Listing::begin(alloc, &roll, ballots) else {
         return End::NoMemory;
     };
     let wrote = write_listing(&listing, sink);

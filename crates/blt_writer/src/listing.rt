@@ -37,11 +37,12 @@ impl<'e> Model for Listing<'e> {
 }
 
 impl<'e> Listing<'e> {
-    /// Puts the lines of ballots in order. All its memory is taken here.
-    pub fn begin(alloc: Global, roll: &'e Roll, ballots: &Ballots) -> Result<Listing<'e>, NoMemory>
-        requires { ballots.now.candidates ≤ 250 }
+    /// Puts the lines of ballots in order, and lets go of each as it comes to its place. All its memory is
+    /// taken here.
+    pub fn begin(alloc: Global, roll: &'e Roll, ballots: Ballots) -> Result<Listing<'e>, NoMemory>
+        requires { ballots.candidates ≤ 250 }
         ensures roll { IfOk result (λ listing. listing.roll ≡ roll.entry.now) }
-        ensures ballots { IfOk result (λ listing. IsPermutation listing.ballots (plain ballots.now.lines)) }
+        ensures ballots { IfOk result (λ listing. IsPermutation listing.ballots (plain ballots.lines)) }
     {
         lines_stand_for_ballots();
         let _sound = ballots.lines();

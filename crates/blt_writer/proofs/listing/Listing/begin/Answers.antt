@@ -14,7 +14,7 @@ sort_each-requires c = subst AreShelved (sym c.as_mut_slice.ensures.value) c.in_
 
 pub invariant_of-result : goal.invariant_of-result
 invariant_of-result c =
-    let lines = c.args.ballots.now.lines in
+    let lines = c.args.ballots.lines in
     let shelves = c.in_ok-shelves.shelves in
     let now = c.sort_each.new.shelves in
     let back = written_back now shelves.items shelves.len (omega arith) in
@@ -29,7 +29,7 @@ invariant_of-result c =
 
 pub returns-clause-ballots : goal.returns-clause-ballots
 returns-clause-ballots c =
-    let lines = c.args.ballots.now.lines in
+    let lines = c.args.ballots.lines in
     let shelves = c.in_ok-shelves.shelves in
     let now = c.sort_each.new.shelves in
     let back = written_back now shelves.items shelves.len (omega arith) in
