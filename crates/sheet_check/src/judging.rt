@@ -31,6 +31,10 @@ use vote_spread::{Lanes, PlanSpread};
 /// Below so many units of 10^-9 votes a surplus is not transferred.
 const OMEGA: u64 = 1_000;
 
+// The ballots are dealt to as many shares. A share is small then, so that the memory which lines gave back,
+// ranking by ranking, is used for its ranks.
+const SHARES: u32 = 16;
+
 /// The verdict on a text that is held to be the sheet of an election, whose lots are of its candidates. The
 /// count is run again by one worker; what it writes is compared with the text as it comes, and kept nowhere.
 /// The ballots are let go before the count begins.
@@ -88,15 +92,15 @@ fn first_difference<R: Threads + Sync>(
     { lanes.run::<9, R, FreeGate>(rt, &FreeGate) };
     let Election { roll, ballots } = election;
     let candidates = roll.candidates();
-    let plans = plan_of(alloc, ballots)?;
+    let plans = plans_of(alloc, ballots)?;
     let Ok(mut spread) = PlanSpread::<9, _>::begin(alloc, plans, candidates, 1, run) else {
         return Err(NoMemory);
     };
     difference_from_count(alloc, bytes, &roll, lots, &mut spread)
 }
 
-/// One plan of all these ballots, which are let go.
-fn plan_of(alloc: Global, ballots: Ballots) -> Result<Plans, NoMemory>
+/// Plans of all these ballots, which are let go.
+fn plans_of(alloc: Global, ballots: Ballots) -> Result<Plans, NoMemory>
     requires candidates { (1 ≤ ballots.candidates) × (ballots.candidates ≤ 250) }
     ensures candidates { IfOk result (All (λ plan. plan.candidates ≡ ballots.candidates)) }
     ensures ballots { IfOk result (λ plans. IsPermutation (all_ballots plans) (plain ballots.lines)) }
@@ -104,7 +108,7 @@ fn plan_of(alloc: Global, ballots: Ballots) -> Result<Plans, NoMemory>
 {
     lines_stand_for_ballots();
     let _sound = ballots.lines();
-    match Plans::dealt(alloc, ballots, 1) {
+    match Plans::dealt(alloc, ballots, SHARES) {
         Ok(plans) => Ok(plans),
         Err(_) => Err(NoMemory),
     }

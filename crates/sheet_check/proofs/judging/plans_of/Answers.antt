@@ -2,7 +2,7 @@ use Rattle.std.proofs.Common.{ℕ, ◌≤◌, sym, ◌∙◌, subst}
 use Rattle.std.proofs.lemmas.List.Sorted.{length_permutation}
 use Rattle.plain_ballots.specs.Ballots.{plain}
 use Rattle.frozen_plan.specs.Plan.{all_ballots}
-use Rattle.sheet_check.proofs.judging.plan_of.Goals as goal
+use Rattle.sheet_check.proofs.judging.plans_of.Goals as goal
 
 pub returns-in-Ok-clause-few : goal.returns-in-Ok-clause-few
 returns-in-Ok-clause-few c =
