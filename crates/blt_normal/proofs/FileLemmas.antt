@@ -4,13 +4,10 @@ use Rattle.std.specs.Prelude.{Option, Result, Ok, Err, IsPermutation}
 use Rattle.std.proofs.lemmas.List.Sorted.{IsPermutation-trans, IsPermutation-sym}
 use Rattle.candidate_roll.specs.Roll.{RollList}
 use Rattle.plain_ballots.specs.Ballots.{plain}
-use Rattle.plain_ballots.specs.declared.ballot_line.BallotLine.{BallotLine}
 use Rattle.blt_reader.specs.Poll.{Poll}
-use Rattle.blt_writer.specs.Order.{AreLinesOf}
-use Rattle.blt_writer.specs.Text.{IsBltText, file_text}
+use Rattle.blt_writer.specs.Text.{IsBltText}
 use Rattle.blt_writer.specs.Laws.{TextsAreRead}
 use Rattle.piece_text.specs.Writing.{Writes}
-use Rattle.tool_edge.specs.declared.end.End.{End}
 use Rattle.tool_edge.specs.declared.end.End.TheVariants.{Done}
 use Rattle.tool_edge.specs.Streams.{writing}
 use Rattle.tool_edge.specs.Contest.{SaysPoll}
@@ -18,7 +15,7 @@ use Rattle.tool_edge.specs.Finishing.{Wrote}
 use Rattle.tool_edge.specs.Tool.{IsOwedFor}
 use Rattle.tool_edge.specs.Tools.{file_limit}
 use Rattle.blt_normal.specs.Laws.{TextsStay}
-use Rattle.blt_normal.specs.Owed.{OwesText, normal_tool}
+use Rattle.blt_normal.specs.Owed.{normal_tool}
 
 -- The text of some ballots is that of the same ballots in another order.
 text_moved : (one other : List (List ℕ)) (roll : RollList) (text : List ℕ) → IsPermutation one other → IsBltText one roll text → IsBltText other roll text

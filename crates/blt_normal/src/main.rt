@@ -23,6 +23,6 @@ fn main(rt: HostRuntime) -> ExitCode {
     };
     let mut source = StdSource::new(rt.reader());
     let mut sink = StdSink::new(writer);
-    let end = normal(rt.alloc(), words.as_slice(), &mut source, &mut sink);
+    let end = normal(&rt, rt.alloc(), words.as_slice(), &mut source, &mut sink);
     end.exit_code()
 }

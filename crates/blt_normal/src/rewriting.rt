@@ -9,10 +9,19 @@ use blt_reader::{Election, read_blt};
 use blt_writer::{Listing, write_listing};
 use byte_edge::Sink;
 use std::alloc::Global;
+use std::thread::Threads;
 use tool_edge::{End, close, refuse_input};
 
+// Lines are put in order by at most as many workers: more than a machine has processors, as some have more lines.
+const WORKERS: u32 = 16;
+
 /// Writes the canonical text of a file, or its refusal.
-pub(crate) fn rewrite<K: Sink>(alloc: Global, input: &[u8], sink: &mut K) -> End
+pub(crate) fn rewrite<R: Threads + Sync, K: Sink>(
+    rt: &R,
+    alloc: Global,
+    input: &[u8],
+    sink: &mut K,
+) -> End
     requires { length input.now ≤ 67108864 }
     ensures { FinishesOwed (IsOwedFor normal_tool (tt {0}) input.now) result
         (writing K.written K.faults sink.old sink.new) }
@@ -22,7 +31,7 @@ pub(crate) fn rewrite<K: Sink>(alloc: Global, input: &[u8], sink: &mut K) -> End
         Err(stop) => return refuse_input(sink, stop),
     };
     let _candidates = roll.candidates();
-    let Ok(listing) = Listing::begin(alloc, &roll, ballots) else {
+    let Ok(listing) = Listing::begin(rt, alloc, &roll, ballots, WORKERS) else {
         return End::NoMemory;
     };
     let wrote = write_listing(&listing, sink);

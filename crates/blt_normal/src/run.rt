@@ -7,13 +7,15 @@ ghost use Rattle.blt_normal.specs.Owed.{normal_tool};
 use crate::rewriting::rewrite;
 use byte_edge::{Sink, Source};
 use std::alloc::Global;
+use std::thread::Threads;
 use tool_edge::{
     End, FILE_LIMIT, files_are_not_refused, files_are_refused_once, open, takes_nothing,
 };
 
 /// Writes the canonical text of the ballot file that the source gives. No words are taken. All memory
-/// is taken before the first byte.
-pub fn normal<S: Source, K: Sink>(
+/// is taken before the first byte. The lines are put in order in threads, where there are any to be had.
+pub fn normal<R: Threads + Sync, S: Source, K: Sink>(
+    rt: &R,
     alloc: Global,
     words: &[String],
     source: &mut S,
@@ -29,7 +31,7 @@ pub fn normal<S: Source, K: Sink>(
         Ok(opened) => opened,
         Err(end) => return end,
     };
-    rewrite(alloc, opened.input.as_slice(), sink)
+    rewrite(rt, alloc, opened.input.as_slice(), sink)
 }
 
 #[cfg(test)]

@@ -12,6 +12,7 @@ use candidate_roll::Roll;
 use plain_ballots::{Ballots, lines_stand_for_ballots};
 use std::alloc::Global;
 use std::marker::Model;
+use std::thread::Threads;
 
 /// The ballots of an election under a roll, in the order in which their file lists them.
 #[derive(Drop)]
@@ -37,17 +38,24 @@ impl<'e> Model for Listing<'e> {
 }
 
 impl<'e> Listing<'e> {
-    /// Puts the lines of ballots in order, and lets go of each as it comes to its place. All its memory is
-    /// taken here.
-    pub fn begin(alloc: Global, roll: &'e Roll, ballots: Ballots) -> Result<Listing<'e>, NoMemory>
-        requires { ballots.candidates ≤ 250 }
+    /// Puts the lines of ballots in order, by at most so many workers, each in a thread of its own, and lets
+    /// go of each line as it comes to its place. All memory is taken here.
+    pub fn begin<R: Threads + Sync>(
+        rt: &R,
+        alloc: Global,
+        roll: &'e Roll,
+        ballots: Ballots,
+        workers: u32,
+    ) -> Result<Listing<'e>, NoMemory>
+        requires candidates { ballots.candidates ≤ 250 }
+        requires workers { 1 ≤ workers }
         ensures roll { IfOk result (λ listing. listing.roll ≡ roll.entry.now) }
         ensures ballots { IfOk result (λ listing. IsPermutation listing.ballots (plain ballots.lines)) }
     {
         lines_stand_for_ballots();
         let _sound = ballots.lines();
         let mut shelves = shelved(alloc, ballots)?;
-        sort_each(shelves.as_mut_slice());
+        sort_each(rt, shelves.as_mut_slice(), workers);
         Ok(Listing { roll, shelves })
     }
 }

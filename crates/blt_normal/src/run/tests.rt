@@ -17,24 +17,30 @@ struct Ran {
 }
 
 /// A run over memory; the writes and flushes with these numbers fail.
-fn run(alloc: Global, words: &str, input: &[u8], failing: &[u64]) -> Result<Ran, Fail> {
+fn run<R: Threads + Sync>(
+    rt: &R,
+    alloc: Global,
+    words: &str,
+    input: &[u8],
+    failing: &[u64],
+) -> Result<Ran, Fail> {
     let mut list = Vec::new(alloc);
     for word in words.split_whitespace() {
         list.push(word.to_string(alloc)?)?;
     }
     let mut source = MemorySource::new(input.to_vec(alloc)?, 16, Vec::new(alloc));
     let mut sink = MemorySink::with_room(alloc, 1_000, 1_000, failing.to_vec(alloc)?)?;
-    let end = normal(alloc, list.as_slice(), &mut source, &mut sink);
+    let end = normal(rt, alloc, list.as_slice(), &mut source, &mut sink);
     let written = sink.bytes().to_vec(alloc)?;
     Ok(Ran { end, written })
 }
 
 #[test]
 fn lines_stand_in_order_and_stay_so(rt: HostRuntime) -> Result<(), Fail> {
-    let first = run(rt.alloc(), "", SAMPLE, &[])?;
+    let first = run(&rt, rt.alloc(), "", SAMPLE, &[])?;
     assert_eq!(rt; first.end, End::Done);
     assert_eq!(rt; first.written.as_slice(), SAMPLE_TEXT);
-    let again = run(rt.alloc(), "", SAMPLE_TEXT, &[])?;
+    let again = run(&rt, rt.alloc(), "", SAMPLE_TEXT, &[])?;
     assert_eq!(rt; again.written.as_slice(), SAMPLE_TEXT);
     Ok(())
 }
@@ -44,7 +50,7 @@ fn lines_stand_in_order_and_stay_so(rt: HostRuntime) -> Result<(), Fail> {
 fn what_other_tools_write_comes_to_one_form(rt: HostRuntime) -> Result<(), Fail> {
     let file =
         b"\xef\xbb\xbf3 1 # one seat\r\n-3 -3\r\n2 0\r\n007 1 0\r\n1 3 0\r\n2 2 0\r\n0\r\n\"A\" \"B\" \"C\"\r\n\"T\" \"note\" \"x\"\r\n";
-    let ran = run(rt.alloc(), "", file, &[])?;
+    let ran = run(&rt, rt.alloc(), "", file, &[])?;
     let text = b"3 1\n-3\n2 0\n7 1 0\n2 2 0\n1 3 0\n0\n\"A\"\n\"B\"\n\"C\"\n\"T\"\n";
     assert_eq!(rt; ran.written.as_slice(), text.as_slice());
     Ok(())
@@ -53,7 +59,7 @@ fn what_other_tools_write_comes_to_one_form(rt: HostRuntime) -> Result<(), Fail>
 #[test]
 fn lines_of_one_ranking_come_together(rt: HostRuntime) -> Result<(), Fail> {
     let file = b"2 1\n1 1 0\n2 1 0\n0\n\"A\"\n\"B\"\n\"T\"\n";
-    let ran = run(rt.alloc(), "", file, &[])?;
+    let ran = run(&rt, rt.alloc(), "", file, &[])?;
     let text = b"2 1\n3 1 0\n0\n\"A\"\n\"B\"\n\"T\"\n";
     assert_eq!(rt; ran.written.as_slice(), text.as_slice());
     Ok(())
@@ -64,7 +70,7 @@ fn lines_of_one_ranking_come_together(rt: HostRuntime) -> Result<(), Fail> {
 fn long_rankings_stand_in_order_too(rt: HostRuntime) -> Result<(), Fail> {
     let file =
         b"10 1\n300 1 2 3 4 5 6 7 8 10 0\n1 1 2 3 4 5 6 7 8 9 0\n2 1 2 3 4 5 6 7 8 0\n4 1 2 3 4 5 6 7 8 9 0\n0\n\"A\"\n\"B\"\n\"C\"\n\"D\"\n\"E\"\n\"F\"\n\"G\"\n\"H\"\n\"I\"\n\"J\"\n\"T\"\n";
-    let ran = run(rt.alloc(), "", file, &[])?;
+    let ran = run(&rt, rt.alloc(), "", file, &[])?;
     let text =
         b"10 1\n2 1 2 3 4 5 6 7 8 0\n5 1 2 3 4 5 6 7 8 9 0\n300 1 2 3 4 5 6 7 8 10 0\n0\n\"A\"\n\"B\"\n\"C\"\n\"D\"\n\"E\"\n\"F\"\n\"G\"\n\"H\"\n\"I\"\n\"J\"\n\"T\"\n";
     assert_eq!(rt; ran.written.as_slice(), text.as_slice());
@@ -73,10 +79,10 @@ fn long_rankings_stand_in_order_too(rt: HostRuntime) -> Result<(), Fail> {
 
 #[test]
 fn a_word_is_refused_and_so_is_what_is_no_file(rt: HostRuntime) -> Result<(), Fail> {
-    let word = run(rt.alloc(), "x", SAMPLE, &[])?;
+    let word = run(&rt, rt.alloc(), "x", SAMPLE, &[])?;
     assert_eq!(rt; word.end, End::BadWords);
     assert_eq!(rt; word.written.as_slice(), b"refused BadWords\n".as_slice());
-    let empty = run(rt.alloc(), "", b"", &[])?;
+    let empty = run(&rt, rt.alloc(), "", b"", &[])?;
     assert_eq!(rt;
         empty.written.as_slice(),
         b"refused Ended at 0\n".as_slice()
@@ -86,7 +92,7 @@ fn a_word_is_refused_and_so_is_what_is_no_file(rt: HostRuntime) -> Result<(), Fa
 
 #[test]
 fn a_write_that_fails_is_a_fault(rt: HostRuntime) -> Result<(), Fail> {
-    let ran = run(rt.alloc(), "", SAMPLE, &[1])?;
+    let ran = run(&rt, rt.alloc(), "", SAMPLE, &[1])?;
     assert_eq!(rt; ran.end, End::SinkFault);
     assert_eq!(rt; ran.written.len(), 0);
     Ok(())

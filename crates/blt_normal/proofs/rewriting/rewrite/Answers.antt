@@ -1,6 +1,5 @@
-use Rattle.std.proofs.Common.{ℕ, List, sym, subst, inr}
+use Rattle.std.proofs.Common.{subst, inr}
 use Rattle.std.specs.Prelude.{Err, false}
-use Rattle.plain_ballots.specs.Ballots.{plain}
 use Rattle.blt_reader.specs.Election.{poll}
 use Rattle.blt_reader.specs.Reads.{IfFault}
 use Rattle.blt_reader.specs.Said.{of_a_file, IsFileRefusal}
