@@ -63,7 +63,8 @@ impl Ballots {
         }
     }
 
-    /// Takes the last line out. Whoever makes something else of many ballots can let go of each line as it goes.
+    /// Takes the last line out, and gives memory back each time less than half of it is in use: whoever makes something
+    /// else of many ballots can let go of each line as it goes.
     pub fn pop_line(&mut self) -> Option<BallotLine>
         ensures last { IfSome result (λ line. self.old ≡ record self.new { lines = self.new.lines ++ line ∷ [] }) }
         ensures ranking { IfSome result (λ line. IsRanking self.old.candidates line.ranking) }
@@ -73,6 +74,7 @@ impl Ballots {
     {
         let line = self.lines.pop()?;
         self.total -= line.count as u64;
+        give_back(&mut self.lines);
         Some(line)
     }
 
@@ -125,6 +127,15 @@ impl Ballots {
         ensures sound { IsSound self.now.candidates self.now.lines }
     {
         self.lines.as_slice()
+    }
+}
+
+/// Gives memory back where less than half of it is in use.
+fn give_back(lines: &mut Vec<BallotLine>)
+    ensures { lines.new.items ≡ lines.old.items }
+{
+    if lines.len() < lines.capacity() / 2 {
+        lines.shrink_to_fit();
     }
 }
 

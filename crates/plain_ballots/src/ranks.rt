@@ -6,13 +6,13 @@ use crate::NoMemory;
 use std::alloc::Global;
 
 /// As many ranks lie in the value itself.
-pub const FEW: usize = 7;
+pub(crate) const FEW: usize = 7;
 
 /// Ranks, few of which lie in the value itself, as those of most ballots do, and take no memory of their
 /// own. The numbers behind the first `len` of the few mean nothing. The few stand in the variant itself
 /// and not in a type of their own, so that its tag and `len` take no more room together than one rank.
 #[derive(Drop)]
-pub enum Ranks {
+pub(crate) enum Ranks {
     Few { len: u8, ranks: [u32; FEW] },
     Many(Vec<u32>),
 }
@@ -20,7 +20,7 @@ pub enum Ranks {
 impl Ranks {
     /// The first `len` of these numbers. It takes memory once, where they are many.
     #[inline(always)]
-    pub fn new(alloc: Global, ranks: &[u32], len: usize) -> Result<Ranks, NoMemory>
+    pub(crate) fn new(alloc: Global, ranks: &[u32], len: usize) -> Result<Ranks, NoMemory>
         requires { len ≤ length ranks.now }
         ensures kept { IfOk result (λ all. kept all ≡ take len ranks.now) }
         ensures within { IfOk result IsWithin }
@@ -38,7 +38,7 @@ impl Ranks {
     }
 
     #[inline(always)]
-    pub fn as_slice(&self) -> &[u32]
+    pub(crate) fn as_slice(&self) -> &[u32]
         requires { IsWithin self.now }
         ensures { result.now ≡ kept self.now }
     {
