@@ -4,10 +4,10 @@ use Rattle.std.specs.List.{flat_map, range_with_len}
 use Rattle.std.specs.List.Sorted.{IsPermutation}
 use Rattle.std.proofs.lemmas.Bool.Decides.{eqb_tells}
 use Rattle.std.proofs.lemmas.List.{take_more, length-replicate}
-use Rattle.std.proofs.lemmas.List.Sorted.{IsPermutation-refl, IsPermutation-trans, IsPermutation-append, IsPermutation-append_right}
+use Rattle.std.proofs.lemmas.List.Sorted.{length_permutation, IsPermutation-refl, IsPermutation-trans, IsPermutation-append, IsPermutation-append_right}
 use Rattle.ranking_trie.proofs.BagLemmas.{IsPermutation-shift}
 use Rattle.plain_ballots.specs.declared.ballot_line.BallotLine.{BallotLine}
-use Rattle.plain_ballots.specs.Ballots.{plain}
+use Rattle.plain_ballots.specs.Ballots.{plain, ballot_count}
 use Rattle.frozen_plan.specs.Plan.{PlanRows, plan_ballots, all_ballots}
 use Rattle.frozen_plan.specs.Dealing.{dealt, share, AreOfShares}
 
@@ -126,3 +126,10 @@ pub shares_are_all : (n : ℕ) (lines : List BallotLine) (plans : List PlanRows)
 shares_are_all n lines plans some as_many are =
     let every = subst (λ (k : ℕ). IsPermutation (all_ballots plans) (flat_map (λ t. share n t 0 lines) (range_with_len 1 k))) as_many (shares_together n 1 lines plans are) in
     IsPermutation-trans (all_ballots plans) (flat_map (λ t. share n t 0 lines) (range_with_len 1 n)) (plain lines) every (all_dealt n some 0 lines)
+
+-- the plans of all shards have no more ballots than a list of lines may have
+pub few_in_shares : (n : ℕ) (lines : List BallotLine) (plans : List PlanRows) → 1 ≤ n → length plans ≡ n → AreOfShares n 1 lines plans
+    → ((ls : List BallotLine) → length (plain ls) ≡ ballot_count ls) → ballot_count lines ≤ 999999999 → length (all_ballots plans) ≤ 999999999
+few_in_shares n lines plans some as_many shares count few =
+    subst (λ (k : ℕ). k ≤ 999999999)
+    (sym (count lines) ∙ length_permutation (all_ballots plans) (plain lines) (shares_are_all n lines plans some as_many shares)) few

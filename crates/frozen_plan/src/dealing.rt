@@ -7,7 +7,7 @@ ghost use Rattle.frozen_plan.specs.Plan.{all_ballots};
 
 use crate::share::Share;
 use crate::{NoMemory, Plan, Plans};
-use plain_ballots::Ballots;
+use plain_ballots::{Ballots, lines_stand_for_ballots};
 use std::alloc::Global;
 
 #[cfg(test)]
@@ -23,7 +23,9 @@ impl Plans {
         ensures candidates { IfOk result (All (λ plan. plan.candidates ≡ ballots.candidates)) }
         ensures shares { IfOk result (AreOfShares shards 1 ballots.lines) }
         ensures ballots { IfOk result (λ plans. IsPermutation (all_ballots plans) (plain ballots.lines)) }
+        ensures few { IfOk result (λ plans. length (all_ballots plans) ≤ 999999999) }
     {
+        lines_stand_for_ballots();
         let candidates = ballots.candidates();
         let mut shares = shares_of(alloc, ballots, shards)?;
         let mut plans = Plans::new(alloc);

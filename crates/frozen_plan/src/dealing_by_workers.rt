@@ -8,7 +8,7 @@ ghost use Rattle.frozen_plan.specs.Plan.{all_ballots};
 use crate::dealing::add_plan;
 use crate::share::Share;
 use crate::{NoMemory, Plan, Plans};
-use plain_ballots::{BallotLine, Ballots};
+use plain_ballots::{BallotLine, Ballots, lines_stand_for_ballots};
 use std::alloc::Global;
 use std::thread;
 use std::thread::Threads;
@@ -34,7 +34,9 @@ impl Plans {
         ensures candidates { IfOk result (All (λ plan. plan.candidates ≡ ballots.candidates)) }
         ensures shares { IfOk result (AreOfShares shards 1 ballots.lines) }
         ensures ballots { IfOk result (λ plans. IsPermutation (all_ballots plans) (plain ballots.lines)) }
+        ensures few { IfOk result (λ plans. length (all_ballots plans) ≤ 999999999) }
     {
+        lines_stand_for_ballots();
         if workers == 1 {
             return Plans::dealt(alloc, ballots, shards);
         }

@@ -8,7 +8,6 @@ mod DayOffice
 mod BegunSheets
 mod DaySheets
 mod BegunSpreads
-mod Dealt
 mod DayEnding
 mod MadeTexts
 mod MadeHead

@@ -19,7 +19,7 @@ use lent_spread::Lent;
 use lot_order::Lots;
 use meek_count::Count;
 use meek_rule::Spread;
-use plain_ballots::{Ballots, lines_stand_for_ballots};
+use plain_ballots::Ballots;
 use sheet_text::{sheets_are_unique, write_sheet};
 use std::alloc::Global;
 use std::thread::Threads;
@@ -101,8 +101,6 @@ fn deal<R: Threads + Sync>(
     ensures ballots { IfOk result (λ plans. IsPermutation (all_ballots plans) (plain ballots.lines)) }
     ensures few { IfOk result (λ plans. length (all_ballots plans) ≤ 999999999) }
 {
-    lines_stand_for_ballots();
-    let _sound = ballots.lines();
     Plans::dealt_by(rt, alloc, ballots, split.shards(), split.workers())
 }
 

@@ -14,7 +14,7 @@ use candidate_roll::Roll;
 use fixed_place::Amount;
 use frozen_plan::Plans;
 use lot_order::Lots;
-use plain_ballots::{Ballots, lines_stand_for_ballots};
+use plain_ballots::Ballots;
 use sheet_text::sheets_are_unique;
 use std::alloc::Global;
 use tool_edge::{Contest, End, close, refuse_input};
@@ -54,10 +54,7 @@ fn plans_of(alloc: Global, ballots: Ballots) -> Result<Plans, frozen_plan::NoMem
     ensures ballots { IfOk result (λ plans. IsPermutation (all_ballots plans) (plain ballots.lines)) }
     ensures few { IfOk result (λ plans. length (all_ballots plans) ≤ 999999999) }
 {
-    lines_stand_for_ballots();
-    let _sound = ballots.lines();
-    let plans = Plans::dealt(alloc, ballots, 1)?;
-    Ok(plans)
+    Plans::dealt(alloc, ballots, 1)
 }
 
 /// Counts what a distribution holds and writes the sheet. All memory is taken before the first byte.

@@ -5,7 +5,7 @@ ghost use Rattle.frozen_plan.specs.Plan.{all_ballots};
 use super::*;
 use byte_edge::MemorySink;
 use candidate_roll::{Name, Names};
-use plain_ballots::{BallotLine, Ballots, Ranking, lines_stand_for_ballots};
+use plain_ballots::{BallotLine, Ballots, Ranking};
 use std::test::Fail;
 
 fn roll(alloc: Global) -> Result<Roll, Fail> {
@@ -36,9 +36,7 @@ fn plans_of(alloc: Global, ballots: &Ballots) -> Result<Plans, Fail>
     requires { (1 ≤ ballots.now.candidates) × (ballots.now.candidates ≤ 250) }
     ensures { IfOk result (λ plans. length (all_ballots plans) ≤ 999999999) }
 {
-    lines_stand_for_ballots();
     let own = ballots.copy(alloc)?;
-    let _sound = own.lines();
     let plans = Plans::dealt(alloc, own, 2)?;
     Ok(plans)
 }

@@ -7,7 +7,7 @@ ghost use Rattle.vote_spread.specs.Lanes.{HaveCounted};
 use super::*;
 use byte_edge::{FreeGate, Gate};
 use fixed_place::{Amount, Keep};
-use plain_ballots::{BallotLine, Ballots, Ranking, lines_stand_for_ballots};
+use plain_ballots::{BallotLine, Ballots, Ranking};
 use std::process::Abort;
 use std::test::Fail;
 use std::thread::Threads;
@@ -56,9 +56,7 @@ fn plans_of(alloc: Global, ballots: &Ballots, shards: u32) -> Result<Plans, Fail
     ensures candidates { IfOk result (All (λ plan. plan.candidates ≡ ballots.now.candidates)) }
     ensures few { IfOk result (λ plans. length (all_ballots plans) ≤ 999999999) }
 {
-    lines_stand_for_ballots();
     let own = ballots.copy(alloc)?;
-    let _sound = own.lines();
     let plans = Plans::dealt(alloc, own, shards)?;
     Ok(plans)
 }

@@ -8,7 +8,7 @@ use byte_edge::MemorySink;
 use candidate_roll::{Name, Names, Roll};
 use fixed_place::Keep;
 use lot_order::Lots;
-use plain_ballots::{BallotLine, Ballots, Ranking, lines_stand_for_ballots};
+use plain_ballots::{BallotLine, Ballots, Ranking};
 use std::test::Fail;
 
 /// Adds so many ballots of one ranking.
@@ -27,9 +27,7 @@ fn plans_of(alloc: Global, ballots: &Ballots) -> Result<Plans, Fail>
     ensures candidates { IfOk result (All (λ plan. plan.candidates ≡ ballots.now.candidates)) }
     ensures few { IfOk result (λ plans. length (all_ballots plans) ≤ 999999999) }
 {
-    lines_stand_for_ballots();
     let own = ballots.copy(alloc)?;
-    let _sound = own.lines();
     let plans = Plans::dealt(alloc, own, 2)?;
     Ok(plans)
 }

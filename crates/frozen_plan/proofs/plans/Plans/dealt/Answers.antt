@@ -8,7 +8,7 @@ use Rattle.frozen_plan.specs.Dealing.{share, AreOfShares}
 use Rattle.frozen_plan.specs.Dealt.{IsDealt}
 use Rattle.frozen_plan.specs.Plan.{PlanRows, plan_ballots}
 use Rattle.frozen_plan.specs.Share.{line_count, rests}
-use Rattle.frozen_plan.proofs.DealingLemmas.{All-one, one_plan_more, shares_are_all}
+use Rattle.frozen_plan.proofs.DealingLemmas.{All-one, one_plan_more, shares_are_all, few_in_shares}
 use Rattle.frozen_plan.proofs.ShareLemmas.{share_counted}
 use Rattle.frozen_plan.proofs.plans.Plans.dealt.Goals as goal
 
@@ -53,3 +53,9 @@ returns-clause-ballots c =
     let before = c.loop-shard.invariant in
     let all : length c.loop-shard.plans ≡ c.args.shards = omega (arith, before.as_many, c.loop-shard-test.false) in
     shares_are_all c.args.shards c.args.ballots.lines c.loop-shard.plans c.requires.shards all before.shares
+
+pub returns-clause-few : goal.returns-clause-few
+returns-clause-few c =
+    let before = c.loop-shard.invariant in
+    let all : length c.loop-shard.plans ≡ c.args.shards = omega (arith, before.as_many, c.loop-shard-test.false) in
+    few_in_shares c.args.shards c.args.ballots.lines c.loop-shard.plans c.requires.shards all before.shares c.lines_stand_for_ballots.ensures.count c.in_ok-shares.ensures.sound.bounded
