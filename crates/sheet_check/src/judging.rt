@@ -21,8 +21,8 @@ use lent_spread::Lent;
 use lot_order::Lots;
 use meek_count::Count;
 use meek_rule::Spread;
-use plain_ballots::{Ballots, lines_stand_for_ballots};
-use sheet_reader::{SheetStop, read_sheet};
+use plain_ballots::Ballots;
+use sheet_reader::{SheetStop, check_form};
 use sheet_text::{sheets_are_unique, write_sheet};
 use std::alloc::Global;
 use std::thread::Threads;
@@ -30,10 +30,6 @@ use vote_spread::{Lanes, PlanSpread};
 
 /// Below so many units of 10^-9 votes a surplus is not transferred.
 const OMEGA: u64 = 1_000;
-
-// The ballots are dealt to as many shares. A share is small then, so that the memory which lines gave back,
-// ranking by ranking, is used for its ranks.
-const SHARES: u32 = 16;
 
 /// The verdict on a text that is held to be the sheet of an election, whose lots are of its candidates. The
 /// count is run again by one worker; what it writes is compared with the text as it comes, and kept nowhere.
@@ -58,14 +54,14 @@ pub fn judge<R: Threads + Sync>(
     }
 }
 
-/// Whether a text has the form of a sheet. The values that it says are let go.
+/// Whether a text has the form of a sheet.
 fn has_form(alloc: Global, bytes: &[u8]) -> Result<bool, NoMemory>
     ensures { IfOk result (λ has. MatchBool has
         ((values : SheetList) × HasForm 9 bytes.now values)
         ((values : SheetList) → ¬ (HasForm 9 bytes.now values))) }
 {
-    match read_sheet(alloc, bytes) {
-        Ok(_) => Ok(true),
+    match check_form(alloc, bytes) {
+        Ok(()) => Ok(true),
         Err(SheetStop::Malformed) => Ok(false),
         Err(SheetStop::NoMemory) => Err(NoMemory),
     }
@@ -99,16 +95,14 @@ fn first_difference<R: Threads + Sync>(
     difference_from_count(alloc, bytes, &roll, lots, &mut spread)
 }
 
-/// Plans of all these ballots, which are let go.
+/// All these ballots as one plan. Each line is let go as the plan's share has it.
 fn plans_of(alloc: Global, ballots: Ballots) -> Result<Plans, NoMemory>
     requires candidates { (1 ≤ ballots.candidates) × (ballots.candidates ≤ 250) }
     ensures candidates { IfOk result (All (λ plan. plan.candidates ≡ ballots.candidates)) }
     ensures ballots { IfOk result (λ plans. IsPermutation (all_ballots plans) (plain ballots.lines)) }
     ensures few { IfOk result (λ plans. length (all_ballots plans) ≤ 999999999) }
 {
-    lines_stand_for_ballots();
-    let _sound = ballots.lines();
-    match Plans::dealt(alloc, ballots, SHARES) {
+    match Plans::dealt(alloc, ballots, 1) {
         Ok(plans) => Ok(plans),
         Err(_) => Err(NoMemory),
     }

@@ -1,9 +1,10 @@
 //! A sheet as it is read: [`read_sheet`] gives the values that a text writes, where it is the text of a
-//! sheet at all.
+//! sheet at all, and [`check_form`] says whether it is.
 #![tactic(auto)]
 
 mod cut;
 mod decision;
+mod form;
 mod head;
 mod laws;
 mod lines;
@@ -18,6 +19,7 @@ mod sheet_stop;
 mod sheet_values;
 mod standing;
 
+pub use form::check_form;
 pub use laws::{sheets_are_read_back, written_values_are_read};
 pub use push_back::PushBack;
 pub use row_list::RowList;

@@ -1,4 +1,5 @@
 use super::*;
+use crate::check_form;
 use candidate_roll::State;
 use meek_rule::Step;
 use std::test::Fail;
@@ -30,10 +31,28 @@ fn the_sample_sheet_says_its_values(rt: HostRuntime) -> Result<(), Fail> {
     Ok(())
 }
 
+/// Both readers of sheets take this text, or refuse it as malformed.
+fn is_taken(alloc: Global, text: &[u8]) -> Result<bool, SheetStop> {
+    let checked = check_form(alloc, text);
+    match read_sheet(alloc, text) {
+        Ok(_) => checked.and(Ok(true)),
+        Err(stop) => match checked {
+            Err(SheetStop::Malformed) if stop == SheetStop::Malformed => Ok(false),
+            _ => Err(stop),
+        },
+    }
+}
+
+#[test]
+fn sheets_are_taken_by_both_readers(rt: HostRuntime) -> Result<(), Fail> {
+    assert_eq!(rt; is_taken(rt.alloc(), SAMPLE), Ok(true));
+    let short = b"title \nseats 1\ncandidates 1\nballots 0\nresult\n1 elected \nend\n";
+    assert_eq!(rt; is_taken(rt.alloc(), short), Ok(true));
+    Ok(())
+}
+
 #[test]
 fn other_texts_are_malformed(rt: HostRuntime) -> Result<(), Fail> {
-    let short = b"title \nseats 1\ncandidates 1\nballots 0\nresult\n1 elected \nend\n";
-    assert!(rt; read_sheet(rt.alloc(), short).is_ok());
     let others = [
         b"".as_slice(),
         b"title \nseats 1\ncandidates 1\nballots 0\nresult\n1 elected \nend",
@@ -49,10 +68,7 @@ fn other_texts_are_malformed(rt: HostRuntime) -> Result<(), Fail> {
         b"title \nseats 1\ncandidates 2\nballots 0\nround 1 iteration 1\n1 hopeful 1.000000000 0.000000000\n2 hopeful 1.000000000 0.000000000\ntotal 0.000000000\nquota 0.000000001\nsurplus 0.000000000\nstep defeat 1 tied 2\nresult\n1 defeated \n2 elected \nend\n",
     ];
     for text in others {
-        assert_eq!(rt;
-            read_sheet(rt.alloc(), text).err(),
-            Some(SheetStop::Malformed)
-        );
+        assert_eq!(rt; is_taken(rt.alloc(), text), Ok(false));
     }
     Ok(())
 }
