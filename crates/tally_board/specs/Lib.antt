@@ -9,3 +9,4 @@ pub mod Told
 pub mod Rule
 pub mod Desk
 pub mod Sight
+pub mod Worked

@@ -26,6 +26,7 @@ mod totals;
 mod view;
 mod watcher;
 mod watchers;
+mod worked;
 
 pub use ballot_move::Move;
 pub use move_back::MoveBack;
@@ -38,3 +39,4 @@ pub use scribe::Scribe;
 pub use totals::Totals;
 pub use watcher::Watcher;
 pub use watchers::Watchers;
+pub use worked::worked_boards;
