@@ -1,13 +1,12 @@
 // Eight passes in eight threads, which enter, correct and withdraw one another's batches, strike and
 // freeze. The history in the end is played again by a book of this test's own.
 ghost use Rattle.std.specs.Prelude.{◌≡◌, IfOk};
+ghost use denote.Param.Send.{IsSync};
 
 use super::replay::Replay;
-use super::steps::{
-    NotPlayed, Note, Step, closed, joined, noted, opened, shown, step_of, version_for_clerk,
-};
+use super::steps::{NotPlayed, Note, Step, clerk_freeze, closed, joined, noted, opened, step_of};
 use crate::{Clerk, Office, Pass};
-use batch_core::Reply;
+use batch_core::Entry;
 use byte_edge::FreeGate;
 use call_register::History;
 use std::alloc::Global;
@@ -92,22 +91,8 @@ fn step_at(place: u32) -> Step {
 /// A pass with all that it noted.
 #[derive(Drop)]
 struct Team {
-    caller: u32,
     pass: Pass,
     notes: Vec<Note>,
-}
-
-/// A team of this caller, with room for its notes.
-fn team_of(alloc: Global, clerk: &mut Clerk, office: &Office, caller: u32) -> Result<Team, Fail>
-    requires { clerk.old.desk.office ≡ office.now }
-    ensures desk { clerk.new.desk.office ≡ office.now }
-    ensures team { IfOk result (λ team. team.pass.office ≡ office.now) }
-{
-    Ok(Team {
-        caller,
-        pass: joined(alloc, clerk, office, caller)?,
-        notes: Vec::new(alloc),
-    })
 }
 
 /// Makes one call and notes it.
@@ -129,13 +114,17 @@ fn play_step<R: Wait>(
     }
 }
 
-/// A team after all its calls, or those up to the first that wasn't answered.
-fn play<R: Wait>(rt: &R, alloc: Global, office: &Office, mut team: Team) -> Team
-    requires office { team.pass.office ≡ office.now }
+/// A team of this pass after all its calls, or those up to the first that wasn't answered.
+fn play<R: Wait>(rt: &R, alloc: Global, office: &Office, pass: Pass) -> Team
+    requires office { pass.office ≡ office.now }
     requires candidates { office.now.candidates ≡ 3 }
     ensures { result.pass.office ≡ office.now }
 {
-    let first = team.caller.wrapping_mul(2);
+    let first = pass.caller().wrapping_mul(2);
+    let mut team = Team {
+        pass,
+        notes: Vec::new(alloc),
+    };
     for call in 0..CALLS {
         let step = step_at(first.wrapping_add(call));
         if play_step(rt, alloc, office, &mut team, step).is_err() {
@@ -145,135 +134,83 @@ fn play<R: Wait>(rt: &R, alloc: Global, office: &Office, mut team: Team) -> Team
     team
 }
 
-/// Two teams.
+/// The clerk, who took the passes of some teams in, and what these noted, each caller's notes before
+/// those of the callers after it.
 #[derive(Drop)]
-struct Pair {
-    one: Team,
-    other: Team,
+struct Played {
+    clerk: Clerk,
+    notes: Vec<Vec<Note>>,
 }
 
-/// Four teams.
-#[derive(Drop)]
-struct Four {
-    front: Pair,
-    back: Pair,
-}
-
-/// Plays two teams in two threads.
-fn play_two<R: Threads + Wait + Sync>(rt: &R, alloc: Global, office: &Office, pair: Pair) -> Pair
-    requires pair { (pair.one.pass.office ≡ office.now) × (pair.other.pass.office ≡ office.now) }
-    requires candidates { office.now.candidates ≡ 3 }
-    ensures { (result.one.pass.office ≡ office.now) × (result.other.pass.office ≡ office.now) }
-{
-    let Pair { one, other } = pair;
-    let (one, other) = thread::join(
-        rt,
-        || play(rt, alloc, office, one),
-        || play(rt, alloc, office, other),
-    );
-    Pair { one, other }
-}
-
-/// Plays four teams in four threads.
-fn play_four<R: Threads + Wait + Sync>(rt: &R, alloc: Global, office: &Office, four: Four) -> Four
-    requires front { (four.front.one.pass.office ≡ office.now) × (four.front.other.pass.office ≡ office.now) }
-    requires back { (four.back.one.pass.office ≡ office.now) × (four.back.other.pass.office ≡ office.now) }
-    requires candidates { office.now.candidates ≡ 3 }
-    ensures front { (result.front.one.pass.office ≡ office.now) × (result.front.other.pass.office ≡ office.now) }
-    ensures back { (result.back.one.pass.office ≡ office.now) × (result.back.other.pass.office ≡ office.now) }
-{
-    let Four { front, back } = four;
-    let (front, back) = thread::join(
-        rt,
-        || -> Pair
-            requires { (front.one.pass.office ≡ office.now) × (front.other.pass.office ≡ office.now) × (office.now.candidates ≡ 3) }
-            ensures { (result.one.pass.office ≡ office.entry.now) × (result.other.pass.office ≡ office.entry.now) }
-        { play_two(rt, alloc, office, front) },
-        || -> Pair
-            requires { (back.one.pass.office ≡ office.now) × (back.other.pass.office ≡ office.now) × (office.now.candidates ≡ 3) }
-            ensures { (result.one.pass.office ≡ office.entry.now) × (result.other.pass.office ≡ office.entry.now) }
-        { play_two(rt, alloc, office, back) },
-    );
-    Four { front, back }
-}
-
-/// Plays eight teams in eight threads, takes their passes in, and gives what they noted, each caller's
-/// notes behind those of the callers before it.
-fn play_eight<R: Threads + Wait + Sync>(
+/// Plays so many teams, of this caller and those after it, each in a thread of its own, and takes
+/// their passes in.
+#[cycle(teams)]
+fn play_teams<R: Threads + Wait + Sync>(
     rt: &R,
     alloc: Global,
     office: &Office,
-    clerk: &mut Clerk,
-    low: Four,
-    high: Four,
-) -> Result<Vec<Vec<Note>>, Fail>
-    requires desk { clerk.old.desk.office ≡ office.now }
-    requires low_front { (low.front.one.pass.office ≡ office.now) × (low.front.other.pass.office ≡ office.now) }
-    requires low_back { (low.back.one.pass.office ≡ office.now) × (low.back.other.pass.office ≡ office.now) }
-    requires high_front { (high.front.one.pass.office ≡ office.now) × (high.front.other.pass.office ≡ office.now) }
-    requires high_back { (high.back.one.pass.office ≡ office.now) × (high.back.other.pass.office ≡ office.now) }
+    mut clerk: Clerk,
+    caller: u32,
+    many: u32,
+) -> Result<Played, NotPlayed>
+    requires sync { IsSync R.row }
+    requires desk { clerk.desk.office ≡ office.now }
     requires candidates { office.now.candidates ≡ 3 }
-    ensures { clerk.new.desk.office ≡ office.now }
+    ensures { IfOk result (λ played. played.clerk.desk.office ≡ office.now) }
 {
-    let (low, high) = thread::join(
-        rt,
-        || -> Four
-            requires { (low.front.one.pass.office ≡ office.now) × (low.front.other.pass.office ≡ office.now) × (low.back.one.pass.office ≡ office.now) × (low.back.other.pass.office ≡ office.now) × (office.now.candidates ≡ 3) }
-            ensures { (result.front.one.pass.office ≡ office.entry.now) × (result.front.other.pass.office ≡ office.entry.now) × (result.back.one.pass.office ≡ office.entry.now) × (result.back.other.pass.office ≡ office.entry.now) }
-        { play_four(rt, alloc, office, low) },
-        || -> Four
-            requires { (high.front.one.pass.office ≡ office.now) × (high.front.other.pass.office ≡ office.now) × (high.back.one.pass.office ≡ office.now) × (high.back.other.pass.office ≡ office.now) × (office.now.candidates ≡ 3) }
-            ensures { (result.front.one.pass.office ≡ office.entry.now) × (result.front.other.pass.office ≡ office.entry.now) × (result.back.one.pass.office ≡ office.entry.now) × (result.back.other.pass.office ≡ office.entry.now) }
-        { play_four(rt, alloc, office, high) },
-    );
-    let mut notes = Vec::new(alloc);
-    take_in_two(clerk, office, low.front, &mut notes)?;
-    take_in_two(clerk, office, low.back, &mut notes)?;
-    take_in_two(clerk, office, high.front, &mut notes)?;
-    take_in_two(clerk, office, high.back, &mut notes)?;
-    Ok(notes)
+    if many == 0 {
+        return Ok(Played {
+            clerk,
+            notes: Vec::new(alloc),
+        });
+    }
+    let pass = joined(alloc, &mut clerk, office, caller)?;
+    let next = caller.wrapping_add(1);
+    let fewer = many - 1;
+    let rest = move || -> Result<Played, NotPlayed>
+        requires { IsSync R.row × (clerk.desk.office ≡ office.now) × (office.now.candidates ≡ 3) }
+        ensures { IfOk result (λ played. played.clerk.desk.office ≡ office.entry.now) }
+    { play_teams(rt, alloc, office, clerk, next, fewer) };
+    let (team, played) = thread::join(rt, || play(rt, alloc, office, pass), rest);
+    taken_in(office, team, played)
 }
 
-/// Teams of this caller and the next.
-fn pair_of(alloc: Global, clerk: &mut Clerk, office: &Office, caller: u32) -> Result<Pair, Fail>
-    requires { clerk.old.desk.office ≡ office.now }
-    ensures desk { clerk.new.desk.office ≡ office.now }
-    ensures pair { IfOk result (λ pair. (pair.one.pass.office ≡ office.now) × (pair.other.pass.office ≡ office.now)) }
-{
-    let one = team_of(alloc, clerk, office, caller)?;
-    let other = team_of(alloc, clerk, office, caller.wrapping_add(1))?;
-    Ok(Pair { one, other })
-}
-
-/// Teams of this caller and the next three.
-fn four_of(alloc: Global, clerk: &mut Clerk, office: &Office, caller: u32) -> Result<Four, Fail>
-    requires { clerk.old.desk.office ≡ office.now }
-    ensures desk { clerk.new.desk.office ≡ office.now }
-    ensures front { IfOk result (λ four. (four.front.one.pass.office ≡ office.now) × (four.front.other.pass.office ≡ office.now)) }
-    ensures back { IfOk result (λ four. (four.back.one.pass.office ≡ office.now) × (four.back.other.pass.office ≡ office.now)) }
-{
-    let front = pair_of(alloc, clerk, office, caller)?;
-    let back = pair_of(alloc, clerk, office, caller.wrapping_add(2))?;
-    Ok(Four { front, back })
-}
-
-/// Takes two passes in, and puts what they noted behind the notes of others.
-fn take_in_two(
-    clerk: &mut Clerk,
+/// Takes a team's pass in, and puts what it noted before the notes of others.
+fn taken_in(
     office: &Office,
-    pair: Pair,
-    notes: &mut Vec<Vec<Note>>,
-) -> Result<(), Fail>
-    requires desk { clerk.old.desk.office ≡ office.now }
-    requires pair { (pair.one.pass.office ≡ office.now) × (pair.other.pass.office ≡ office.now) }
-    ensures { clerk.new.desk.office ≡ office.now }
+    team: Team,
+    played: Result<Played, NotPlayed>,
+) -> Result<Played, NotPlayed>
+    requires team { team.pass.office ≡ office.now }
+    requires desk { IfOk played (λ played. played.clerk.desk.office ≡ office.now) }
+    ensures { IfOk result (λ played. played.clerk.desk.office ≡ office.now) }
 {
-    let Pair { one, other } = pair;
-    clerk.take_in(office, one.pass);
-    clerk.take_in(office, other.pass);
-    notes.push(one.notes)?;
-    notes.push(other.notes)?;
-    Ok(())
+    let Played {
+        mut clerk,
+        mut notes,
+    } = played?;
+    let Team { pass, notes: own } = team;
+    clerk.take_in(office, pass);
+    match notes.insert(0, own) {
+        Ok(()) => Ok(Played { clerk, notes }),
+        Err(_) => Err(NotPlayed),
+    }
+}
+
+/// The history of eight teams and a freeze of the clerk, and what all noted, the clerk first.
+fn eight_played<R: Threads + Wait + Sync>(
+    rt: &R,
+    alloc: Global,
+) -> Result<(History, Vec<Vec<Note>>), Fail> {
+    let (office, clerk) = opened(alloc, 3)?;
+    let Played {
+        mut clerk,
+        mut notes,
+    } = play_teams(rt, alloc, &office, clerk, 1, 8)?;
+    let last = clerk_freeze(rt, alloc, &office, &mut clerk);
+    let history = closed(office, alloc, clerk);
+    notes.insert(0, vec![in alloc; last?]?)?;
+    Ok((history?, notes))
 }
 
 /// The next note of a caller whose notes stand at its number.
@@ -284,8 +221,24 @@ fn next_note(notes: &[Vec<Note>], next: &mut [usize; 9], caller: u32) -> Option<
     note
 }
 
-/// Plays the history again. Each call stands where its caller noted it, after the caller's earlier ones,
-/// and has the reply and the version that the replay gives there.
+/// An entry stands where its caller noted it, after the caller's earlier ones, and has the reply and the
+/// version that the replay gives there.
+fn replay_entry<R: Abort>(
+    rt: &R,
+    replay: &mut Replay,
+    notes: &[Vec<Note>],
+    next: &mut [usize; 9],
+    at: u64,
+    entry: &Entry,
+) -> Result<(), Fail> {
+    let step = step_of(&entry.call).ok_or("the call is no step")?;
+    let note = replay.note(at, step)?;
+    assert_eq!(rt; entry.reply, note.reply, "at {at}");
+    assert_eq!(rt; next_note(notes, next, entry.caller), Some(note), "at {at}");
+    Ok(())
+}
+
+/// Plays the history again, up to each note that was taken.
 fn replay_all<R: Abort>(
     rt: &R,
     alloc: Global,
@@ -297,36 +250,23 @@ fn replay_all<R: Abort>(
     let mut at = 0u64;
     for entry in history.entries().items() {
         at = at.wrapping_add(1);
-        let step = step_of(&entry.call).ok_or("the call is no step")?;
-        let note = replay.note(at, step)?;
-        assert_eq!(rt; entry.reply, note.reply, "at {at}");
-        assert_eq!(rt;
-            next_note(notes, &mut next, entry.caller),
-            Some(note),
-            "at {at}"
-        );
+        replay_entry(rt, &mut replay, notes, &mut next, at, entry)?;
     }
+    all_were_played(rt, &next, notes);
+    Ok(())
+}
+
+/// Each caller's notes were played again to the last one.
+fn all_were_played<R: Abort>(rt: &R, next: &[usize; 9], notes: &[Vec<Note>]) {
     for (made, notes) in next.iter().zip(notes) {
         assert_eq!(rt; *made, notes.len());
     }
-    Ok(())
 }
 
 #[test]
 fn eight_passes_make_one_history(rt: HostRuntime) -> Result<(), Fail> {
     let alloc = rt.alloc();
-    let (office, mut clerk) = opened(alloc, 3)?;
-    let low = four_of(alloc, &mut clerk, &office, 1)?;
-    let high = four_of(alloc, &mut clerk, &office, 5)?;
-    let mut notes = play_eight(&rt, alloc, &office, &mut clerk, low, high)?;
-    let version = version_for_clerk(&rt, alloc, &office, &mut clerk)?;
-    let last = Note {
-        step: Step::Freeze,
-        reply: Reply::Frozen,
-        frozen: Some(shown(version)),
-    };
-    notes.insert(0, vec![in alloc; last]?)?;
-    let history = closed(office, alloc, clerk)?;
+    let (history, notes) = eight_played(&rt, alloc)?;
     assert_eq!(rt; history.entries().len(), 257);
     replay_all(&rt, alloc, &history, notes.as_slice())
 }

@@ -1,8 +1,8 @@
 // Two passes in two threads, held up at gates.
-ghost use Rattle.std.specs.Prelude.{◌≡◌};
+ghost use Rattle.std.specs.Prelude.{◌≡◌, ◌≤◌};
 
-use super::steps::{Step, closed, joined, noted, opened};
-use crate::{Office, Pass};
+use super::steps::{NotPlayed, Step, closed, joined, noted, opened};
+use crate::{Clerk, Office, Pass};
 use byte_edge::{Gate, Place};
 use std::alloc::Global;
 use std::sync::Wait;
@@ -58,6 +58,43 @@ fn entered_at_once<R: Threads + Wait + Sync, G: Gate + Sync>(
     )
 }
 
+/// Two passes are made, enter a batch each at this gate, and are taken in.
+fn enter_both<R: Threads + Wait + Sync, G: Gate + Sync>(
+    rt: &R,
+    alloc: Global,
+    office: &Office,
+    clerk: &mut Clerk,
+    gate: &G,
+) -> Result<(), NotPlayed>
+    requires desk { clerk.old.desk.office ≡ office.now }
+    requires candidates { office.now.candidates ≡ 3 }
+    ensures { clerk.new.desk.office ≡ office.now }
+{
+    let one = joined(alloc, clerk, office, 1)?;
+    let two = joined(alloc, clerk, office, 2)?;
+    let (one, two) = entered_at_once(rt, alloc, office, one, two, gate);
+    clerk.take_in(office, one);
+    clerk.take_in(office, two);
+    Ok(())
+}
+
+/// How many entries there are after two passes entered a batch each at this gate, in an office of so
+/// many shards.
+fn entries_of_both<R: Threads + Wait + Sync, G: Gate + Sync>(
+    rt: &R,
+    alloc: Global,
+    shards: u32,
+    gate: &G,
+) -> Result<usize, NotPlayed>
+    requires { (1 ≤ shards) × (shards ≤ 64) }
+{
+    let (office, mut clerk) = opened(alloc, shards)?;
+    let entered = enter_both(rt, alloc, &office, &mut clerk, gate);
+    let history = closed(office, alloc, clerk);
+    entered?;
+    Ok(history?.entries().len())
+}
+
 /// Holds the callers in the turns of two shards until both have come.
 #[derive(Drop)]
 struct MeetingGate {
@@ -91,22 +128,16 @@ impl Gate for MeetingGate {
 // With one lock for all shards the callers would never meet.
 #[test]
 fn two_shards_are_changed_at_the_same_time(rt: HostRuntime) -> Result<(), Fail> {
-    let alloc = rt.alloc();
     let gate = MeetingGate {
         first: AtomicBool::new(false),
         second: AtomicBool::new(false),
         missed: AtomicBool::new(false),
     };
-    let (office, mut clerk) = opened(alloc, 2)?;
-    let one = joined(alloc, &mut clerk, &office, 1)?;
-    let two = joined(alloc, &mut clerk, &office, 2)?;
-    let (one, two) = entered_at_once(&rt, alloc, &office, one, two, &gate);
+    let entries = entries_of_both(&rt, rt.alloc(), 2, &gate)?;
     assert!(rt; gate.first.load(Ordering::SeqCst));
     assert!(rt; gate.second.load(Ordering::SeqCst));
     assert!(rt; !gate.missed.load(Ordering::SeqCst));
-    clerk.take_in(&office, one);
-    clerk.take_in(&office, two);
-    assert_eq!(rt; closed(office, alloc, clerk)?.entries().len(), 2);
+    assert_eq!(rt; entries, 2);
     Ok(())
 }
 
@@ -137,20 +168,14 @@ impl Gate for LonelyGate {
 // If the gate were passed before the turn is taken, or after it was given back, the callers would meet.
 #[test]
 fn one_shard_is_changed_by_one_caller_at_a_time(rt: HostRuntime) -> Result<(), Fail> {
-    let alloc = rt.alloc();
     let gate = LonelyGate {
         held: AtomicBool::new(false),
         met: AtomicBool::new(false),
         passed: AtomicU64::new(0),
     };
-    let (office, mut clerk) = opened(alloc, 1)?;
-    let one = joined(alloc, &mut clerk, &office, 1)?;
-    let two = joined(alloc, &mut clerk, &office, 2)?;
-    let (one, two) = entered_at_once(&rt, alloc, &office, one, two, &gate);
+    let entries = entries_of_both(&rt, rt.alloc(), 1, &gate)?;
     assert!(rt; !gate.met.load(Ordering::SeqCst));
     assert_eq!(rt; gate.passed.load(Ordering::SeqCst), 2);
-    clerk.take_in(&office, one);
-    clerk.take_in(&office, two);
-    assert_eq!(rt; closed(office, alloc, clerk)?.entries().len(), 2);
+    assert_eq!(rt; entries, 2);
     Ok(())
 }

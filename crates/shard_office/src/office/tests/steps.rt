@@ -196,6 +196,31 @@ pub(super) fn version_for_clerk<R: Wait>(
     }
 }
 
+/// What the clerk notes of a freeze.
+pub(super) fn clerk_freeze<R: Wait>(
+    rt: &R,
+    alloc: Global,
+    office: &Office,
+    clerk: &mut Clerk,
+) -> Result<Note, NotPlayed>
+    requires { clerk.old.desk.office ≡ office.now }
+    ensures { clerk.new.desk.office ≡ office.now }
+{
+    match version_for_clerk(rt, alloc, office, clerk) {
+        Ok(version) => Ok(note_of(version)),
+        Err(_) => Err(NotPlayed),
+    }
+}
+
+/// The note of a freeze that gave this version.
+fn note_of(version: Version) -> Note {
+    Note {
+        step: Step::Freeze,
+        reply: Reply::Frozen,
+        frozen: Some(shown(version)),
+    }
+}
+
 /// What a pass notes of its next step, which passes this gate.
 pub(super) fn noted<R: Wait, G: Gate>(
     rt: &R,
@@ -212,11 +237,7 @@ pub(super) fn noted<R: Wait, G: Gate>(
     let reply = match step {
         Step::Freeze => {
             let version = version_for(rt, alloc, office, pass)?;
-            return Ok(Note {
-                step,
-                reply: Reply::Frozen,
-                frozen: Some(shown(version)),
-            });
+            return Ok(note_of(version));
         }
         Step::Strike(candidate) => reply_to_strike(rt, office, pass, candidate)?,
         Step::Enter { .. } | Step::Correct { .. } | Step::Withdraw { .. } => {
@@ -258,7 +279,7 @@ fn change_of(alloc: Global, step: Step) -> Result<Change, NotPlayed> {
 }
 
 /// What a version shows.
-pub(super) fn shown(version: Version) -> Frozen {
+fn shown(version: Version) -> Frozen {
     let at = version.at();
     let struck = three(version.struck());
     Frozen {

@@ -8,18 +8,18 @@ use Rattle.shard_office.specs.contracts.office.tests.eight_passes.Team as team
 use Rattle.std.specs.Prelude.{codes}
 use Rattle.std.proofs.Crossing as heap
 use Rattle.shard_office.proofs.Shared.{office_sync, closure_of_four}
-use Rattle.shard_office.proofs.office.tests.eight_passes.play_two.Goals as goal
+use Rattle.shard_office.proofs.office.tests.eight_passes.+teams.Goals as goal
 
 team_fields : IsSend team.the_field.row
-team_fields = struct_send (shape team.the_type) (search sendable, (pass_send, (Vec-send _ note.the_send, tt)))
+team_fields = struct_send (shape team.the_type) (pass_send, (Vec-send _ note.the_send, tt))
 
 team_send : IsSend team.the_row
 team_send = recorded_send team.the_field.row _ _ team.the_type.to_one team_fields
 
-pub join-one-requires-send-F : goal.join-one-requires-send-F
-join-one-requires-send-F g c κs within =
-    param_send 1 _ (arg_send _ yes _ (closure_of_four (codes "shard_office::office::tests::eight_passes::fn::play_two::join+arg2+Self") _ _ _ _
-    (shr_send _ _ _ c.type_bounds.sync-R) (shr_send _ _ _ heap.sync) (shr_send _ _ _ office_sync) team_send))
+pub join-team-requires-send-F : goal.join-team-requires-send-F
+join-team-requires-send-F g t c κs within =
+    param_send 1 _ (arg_send _ yes _ (closure_of_four (codes "shard_office::office::tests::eight_passes::fn::play_teams::join+Self") _ _ _ _
+    (shr_send _ _ _ c.requires.sync) (shr_send _ _ _ heap.sync) (shr_send _ _ _ office_sync) pass_send))
 
-pub join-one-requires-send-A : goal.join-one-requires-send-A
-join-one-requires-send-A g c κs within = let a = team_send in search sendable
+pub join-team-requires-send-A : goal.join-team-requires-send-A
+join-team-requires-send-A g t c κs within = let a = team_send in search sendable
