@@ -97,24 +97,47 @@ fn give_line<const P: usize>(count: u32, ranks: &[u32], keeps: &[Keep<P>], tally
 mod tests {
     use super::*;
     use plain_ballots::Ranking;
+    use std::alloc::Global;
+    use std::process::Abort;
     use std::test::Fail;
 
-    #[test]
-    fn each_ballot_of_a_line_is_rounded_by_itself(rt: HostRuntime) -> Result<(), Fail> {
-        let alloc = rt.alloc();
+    /// Three ballots that rank both candidates.
+    fn three_of_two(alloc: Global) -> Result<FlatSpread, Fail> {
         let mut ballots = Ballots::new(alloc, 2);
         let ranking = Ranking::try_new(alloc, 2, &[1, 2])?;
         ballots.push_line(BallotLine { count: 3, ranking })?;
+        Ok(FlatSpread::new(ballots))
+    }
+
+    fn two_keeps(alloc: Global) -> Result<Keeps<9>, Fail> {
         let mut keeps = Keeps::filled(alloc, 2, Keep::from_units(571_428_572))?;
         keeps.set(1, Keep::from_units(666_666_667));
+        Ok(keeps)
+    }
+
+    /// Distributes over two amounts of five units; the votes are these.
+    fn gives(
+        rt: &impl Abort,
+        alloc: Global,
+        flat: &mut FlatSpread,
+        votes: [Amount<9>; 2],
+    ) -> Result<(), Fail> {
+        let keeps = two_keeps(alloc)?;
         let mut tally = Amounts::filled(alloc, 2, Amount::from_units(5))?;
-        let mut flat = FlatSpread::new(ballots);
-        Spread::<9>::spread(&mut flat, &keeps, &mut tally);
+        assert!(rt; keeps.len() == 2 && Spread::<9>::candidates(flat) == 2);
+        Spread::<9>::spread(flat, &keeps, &mut tally);
+        assert_eq!(rt; tally.items(), votes.as_slice());
+        Ok(())
+    }
+
+    #[test]
+    fn each_ballot_of_a_line_is_rounded_by_itself(rt: HostRuntime) -> Result<(), Fail> {
+        let mut flat = three_of_two(rt.alloc())?;
         let votes = [
             Amount::from_units(1_714_285_716),
             Amount::from_units(857_142_858),
         ];
-        assert_eq!(rt; tally.items(), votes.as_slice());
+        gives(&rt, rt.alloc(), &mut flat, votes)?;
         assert_eq!(rt; Spread::<9>::ballots(&flat), 3);
         assert_eq!(rt; Spread::<9>::candidates(&flat), 2);
         Ok(())

@@ -75,18 +75,11 @@ pub fn settle_checked<const P: usize>(
     row: &mut Row<P>,
 ) {
     let n = now.states().len();
-    assert!(rt; !now.is_complete());
-    assert!(rt; now.round < 1000 && now.iteration < 1000);
-    assert!(rt; votes.len() == n);
-    assert!(rt; lots.candidates() as usize == n);
-    assert!(rt; row.states.len() == n);
-    assert!(rt; row.keeps.len() == n);
-    assert!(rt; row.votes.len() == n);
-    assert!(rt; row.elected.len() == n);
-    assert!(rt; row.capped.len() == n);
-    assert!(rt; row.tied.len() == n);
-    assert!(rt; have_only_running_votes(now.states(), votes));
-    assert!(rt; sum_fits(votes));
+    assert!(rt; !now.is_complete() && now.round < 1000 && now.iteration < 1000);
+    assert!(rt; votes.len() == n && lots.candidates() as usize == n);
+    assert!(rt; row.states.len() == n && row.keeps.len() == n && row.votes.len() == n);
+    assert!(rt; row.elected.len() == n && row.capped.len() == n && row.tied.len() == n);
+    assert!(rt; have_only_running_votes(now.states(), votes) && sum_fits(votes));
     now.settle(votes, lots, row);
 }
 

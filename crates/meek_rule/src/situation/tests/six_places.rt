@@ -24,13 +24,19 @@ fn add(
     Ok(())
 }
 
-/// A roll of candidates A, B and C for two seats.
-fn three_for_two(alloc: Global) -> Result<Roll, Fail> {
+fn three_names(alloc: Global) -> Result<Names, Fail> {
     let mut names = Names::new(alloc);
     for name in ["A", "B", "C"] {
         names.push(Name::try_new(alloc, name.as_bytes())?)?;
     }
-    Ok(Roll::try_new(alloc, 2, names, Name::try_new(alloc, b"T")?, &[])?)
+    Ok(names)
+}
+
+/// A roll of candidates A, B and C for two seats.
+fn three_for_two(alloc: Global) -> Result<Roll, Fail> {
+    let title = Name::try_new(alloc, b"T")?;
+    let names = three_names(alloc)?;
+    Ok(Roll::try_new(alloc, 2, names, title, &[])?)
 }
 
 /// Distributes and settles once.
@@ -118,22 +124,43 @@ fn seventeen(rt: &impl Abort, alloc: Global) -> Result<FlatSpread, Fail> {
     Ok(FlatSpread::new(ballots))
 }
 
-#[test]
-fn a_count_at_six_places_with_an_omega_of_one_unit(rt: HostRuntime) -> Result<(), Fail> {
-    let mut flat = seventeen(&rt, rt.alloc())?;
-    let roll = three_for_two(rt.alloc())?;
-    let lots = Lots::try_new(rt.alloc(), &[1, 2, 3], 3)?;
-    let mut now = Situation::<6>::begin(rt.alloc(), &roll, Amount::from_units(1))?;
-    let mut row = Row::new(rt.alloc(), 3)?;
+/// The situation that the count opens with.
+fn opened(alloc: Global) -> Result<Situation<6>, Fail> {
+    let roll = three_for_two(alloc)?;
+    Ok(Situation::<6>::begin(alloc, &roll, Amount::from_units(1))?)
+}
+
+/// Counts turn by turn.
+fn expect_turns(
+    rt: &impl Abort,
+    alloc: Global,
+    flat: &mut FlatSpread,
+    now: &mut Situation<6>,
+) -> Result<(), Fail> {
+    let lots = Lots::try_new(alloc, &[1, 2, 3], 3)?;
+    let mut row = Row::new(alloc, 3)?;
     for turned in TURNS {
-        turn(&rt, rt.alloc(), &mut flat, &mut now, &lots, &mut row)?;
-        expect_turned(&rt, &row, turned);
+        turn(rt, alloc, flat, now, &lots, &mut row)?;
+        expect_turned(rt, &row, turned);
     }
+    Ok(())
+}
+
+/// The count is complete; the first two are elected, and the third is defeated.
+fn expect_end(rt: &impl Abort, now: &mut Situation<6>) {
     assert!(rt; now.is_complete());
     now.finish();
     assert_eq!(rt;
         now.states().items(),
         [State::Elected, State::Elected, State::Defeated].as_slice()
     );
+}
+
+#[test]
+fn a_count_at_six_places_with_an_omega_of_one_unit(rt: HostRuntime) -> Result<(), Fail> {
+    let mut flat = seventeen(&rt, rt.alloc())?;
+    let mut now = opened(rt.alloc())?;
+    expect_turns(&rt, rt.alloc(), &mut flat, &mut now)?;
+    expect_end(&rt, &mut now);
     Ok(())
 }
