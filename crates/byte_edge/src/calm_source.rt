@@ -54,17 +54,26 @@ impl Source for CalmSource {
 mod tests {
     use super::*;
     use crate::{ReadStop, read_all};
+    use std::process::Abort;
     use std::test::Fail;
+
+    /// Each read gives so many bytes, and the buffer is these then.
+    fn gives(rt: &impl Abort, source: &mut CalmSource, reads: &[(usize, [u8; 3])]) {
+        let mut buf = [0; 3];
+        for (n, bytes) in reads {
+            assert_eq!(rt; source.read(&mut buf), Ok(*n));
+            assert_eq!(rt; buf, *bytes);
+        }
+    }
 
     #[test]
     fn it_gives_its_bytes(rt: HostRuntime) -> Result<(), Fail> {
         let mut source = CalmSource::new(b"abcde".to_vec(rt.alloc())?);
-        let mut buf = [0; 3];
-        assert_eq!(rt; source.read(&mut buf), Ok(3));
-        assert_eq!(rt; buf, *b"abc");
-        assert_eq!(rt; source.read(&mut buf), Ok(2));
-        assert_eq!(rt; buf, *b"dec");
-        assert_eq!(rt; source.read(&mut buf), Ok(0));
+        gives(
+            &rt,
+            &mut source,
+            &[(3, *b"abc"), (2, *b"dec"), (0, *b"dec")],
+        );
         Ok(())
     }
 

@@ -116,21 +116,42 @@ impl Sink for MemorySink {
 #[cfg(test)]
 mod tests {
     use super::*;
+    use std::process::Abort;
     use std::test::Fail;
+
+    /// Writes the piece, or flushes where it is empty.
+    fn call(sink: &mut MemorySink, piece: &[u8]) -> Result<usize, Failed> {
+        if piece.is_empty() {
+            return match sink.flush() {
+                Ok(()) => Ok(0),
+                Err(Failed) => Err(Failed),
+            };
+        }
+        sink.write(piece)
+    }
+
+    /// The sink gives this answer, and has taken these bytes then.
+    fn answers(
+        rt: &impl Abort,
+        sink: &mut MemorySink,
+        piece: &[u8],
+        answer: Result<usize, Failed>,
+        bytes: &[u8],
+    ) {
+        assert_eq!(rt; call(sink, piece), answer);
+        assert_eq!(rt; sink.bytes(), bytes);
+    }
 
     #[test]
     fn it_takes_and_fails_as_told(rt: HostRuntime) -> Result<(), Fail> {
-        let alloc = rt.alloc();
-        let mut sink = MemorySink::with_room(alloc, 4, 3, vec![in alloc; 2, 4]?)?;
-        assert_eq!(rt; sink.write(b"abcde"), Ok(3));
-        assert_eq!(rt; sink.write(b"de"), Err(Failed));
-        assert_eq!(rt; sink.flush(), Ok(()));
-        assert_eq!(rt; sink.flush(), Err(Failed));
-        assert_eq!(rt; sink.bytes(), b"abc".as_slice());
-        assert_eq!(rt; sink.write(b"de"), Ok(1));
-        assert_eq!(rt; sink.write(b"e"), Err(Failed));
-        assert_eq!(rt; sink.flush(), Ok(()));
-        assert_eq!(rt; sink.bytes(), b"abcd".as_slice());
+        let mut sink = MemorySink::with_room(rt.alloc(), 4, 3, vec![in rt.alloc(); 2, 4]?)?;
+        answers(&rt, &mut sink, b"abcde", Ok(3), b"abc");
+        answers(&rt, &mut sink, b"de", Err(Failed), b"abc");
+        answers(&rt, &mut sink, b"", Ok(0), b"abc");
+        answers(&rt, &mut sink, b"", Err(Failed), b"abc");
+        answers(&rt, &mut sink, b"de", Ok(1), b"abcd");
+        answers(&rt, &mut sink, b"e", Err(Failed), b"abcd");
+        answers(&rt, &mut sink, b"", Ok(0), b"abcd");
         Ok(())
     }
 }

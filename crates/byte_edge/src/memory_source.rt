@@ -72,19 +72,39 @@ impl Source for MemorySource {
 #[cfg(test)]
 mod tests {
     use super::*;
+    use std::process::Abort;
     use std::test::Fail;
+
+    /// Each read gives its answer, and the front of the buffer is its bytes then.
+    fn gives(
+        rt: &impl Abort,
+        source: &mut MemorySource,
+        reads: &[(Result<usize, Failed>, [u8; 2])],
+    ) {
+        let mut buf = [0; 4];
+        for (answer, front) in reads {
+            assert_eq!(rt; source.read(&mut buf), *answer);
+            assert_eq!(rt; [buf[0], buf[1]], *front);
+        }
+    }
 
     #[test]
     fn it_gives_and_fails_as_told(rt: HostRuntime) -> Result<(), Fail> {
-        let alloc = rt.alloc();
-        let mut source = MemorySource::new(b"abcde".to_vec(alloc)?, 2, vec![in alloc; 2, 5]?);
-        let mut buf = [0; 4];
-        let answers = [Ok(2), Err(Failed), Ok(2), Ok(1), Err(Failed), Ok(0), Ok(0)];
-        let fronts: [&[u8]; 7] = [b"ab", b"ab", b"cd", b"ed", b"ed", b"ed", b"ed"];
-        for (answer, front) in answers.iter().zip(fronts) {
-            assert_eq!(rt; source.read(&mut buf), *answer);
-            assert_eq!(rt; &buf[..2], front);
-        }
+        let failing = vec![in rt.alloc(); 2, 5]?;
+        let mut source = MemorySource::new(b"abcde".to_vec(rt.alloc())?, 2, failing);
+        gives(
+            &rt,
+            &mut source,
+            &[
+                (Ok(2), *b"ab"),
+                (Err(Failed), *b"ab"),
+                (Ok(2), *b"cd"),
+                (Ok(1), *b"ed"),
+                (Err(Failed), *b"ed"),
+                (Ok(0), *b"ed"),
+                (Ok(0), *b"ed"),
+            ],
+        );
         Ok(())
     }
 }

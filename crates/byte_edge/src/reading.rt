@@ -83,41 +83,57 @@ fn zeroes(alloc: Global, len: usize) -> Result<Vec<u8>, AllocError>
 mod tests {
     use super::*;
     use crate::MemorySource;
+    use std::process::Abort;
     use std::test::Fail;
 
-    #[test]
-    fn all_that_is_left_is_read(rt: HostRuntime) -> Result<(), Fail> {
-        let alloc = rt.alloc();
-        let mut source = MemorySource::new(b"abcde".to_vec(alloc)?, 2, Vec::new(alloc));
-        let bytes = read_all(alloc, &mut source, 5)?;
-        assert_eq!(rt; bytes.as_slice(), b"abcde".as_slice());
-        let bytes = read_all(alloc, &mut source, 0)?;
-        assert_eq!(rt; bytes.as_slice(), b"".as_slice());
+    /// Gives "abcde", two bytes at a read: three reads of bytes, and the fourth finds the end.
+    fn source_of(alloc: Global, failing: &[u64]) -> Result<MemorySource, Fail> {
+        Ok(MemorySource::new(b"abcde".to_vec(alloc)?, 2, failing.to_vec(alloc)?))
+    }
+
+    fn gives(
+        rt: &impl Abort,
+        alloc: Global,
+        source: &mut MemorySource,
+        limit: usize,
+        due: &[u8],
+    ) -> Result<(), Fail> {
+        let bytes = read_all(alloc, source, limit)?;
+        assert_eq!(rt; bytes.as_slice(), due);
         Ok(())
     }
 
-    // Two bytes at a read: three reads of bytes, and the fourth finds the end.
+    /// Why "abcde" is not read.
+    fn refusal(alloc: Global, failing: &[u64], limit: usize) -> Result<Option<ReadStop>, Fail> {
+        let mut source = source_of(alloc, failing)?;
+        match read_all(alloc, &mut source, limit) {
+            Ok(_) => Ok(None),
+            Err(stop) => Ok(Some(stop)),
+        }
+    }
+
+    #[test]
+    fn all_that_is_left_is_read(rt: HostRuntime) -> Result<(), Fail> {
+        let mut source = source_of(rt.alloc(), &[])?;
+        gives(&rt, rt.alloc(), &mut source, 5, b"abcde")?;
+        gives(&rt, rt.alloc(), &mut source, 0, b"")
+    }
+
     #[test]
     fn each_read_may_fail(rt: HostRuntime) -> Result<(), Fail> {
-        let alloc = rt.alloc();
         for call in 1..5 {
-            let mut source = MemorySource::new(b"abcde".to_vec(alloc)?, 2, vec![in alloc; call]?);
-            let answer = read_all(alloc, &mut source, 5).map(|bytes| bytes.len());
-            assert_eq!(rt; answer, Err(ReadStop::Failed), "at call {call}");
+            let stop = refusal(rt.alloc(), &[call], 5)?;
+            assert_eq!(rt; stop, Some(ReadStop::Failed), "at call {call}");
         }
-        let mut source = MemorySource::new(b"abcde".to_vec(alloc)?, 2, vec![in alloc; 5]?);
-        let bytes = read_all(alloc, &mut source, 5)?;
-        assert_eq!(rt; bytes.as_slice(), b"abcde".as_slice());
-        Ok(())
+        let mut source = source_of(rt.alloc(), &[5])?;
+        gives(&rt, rt.alloc(), &mut source, 5, b"abcde")
     }
 
     #[test]
     fn more_than_the_limit_is_too_long(rt: HostRuntime) -> Result<(), Fail> {
-        let alloc = rt.alloc();
         for limit in [0, 1, 4] {
-            let mut source = MemorySource::new(b"abcde".to_vec(alloc)?, 2, Vec::new(alloc));
-            let answer = read_all(alloc, &mut source, limit).map(|bytes| bytes.len());
-            assert_eq!(rt; answer, Err(ReadStop::TooLong), "at limit {limit}");
+            let stop = refusal(rt.alloc(), &[], limit)?;
+            assert_eq!(rt; stop, Some(ReadStop::TooLong), "at limit {limit}");
         }
         Ok(())
     }
@@ -125,14 +141,8 @@ mod tests {
     #[test]
     fn more_than_one_chunk_is_read(rt: HostRuntime) -> Result<(), Fail> {
         let alloc = rt.alloc();
-        let mut source = MemorySource::new(
-            vec![in alloc; 7; 200_001]?,
-            usize::MAX,
-            Vec::new(alloc),
-        );
-        let bytes = read_all(alloc, &mut source, 200_001)?;
-        assert_eq!(rt; bytes.len(), 200_001);
-        assert!(rt; bytes.iter().all(|byte| *byte == 7));
-        Ok(())
+        let sevens = vec![in alloc; 7; 200_001]?;
+        let mut source = MemorySource::new(sevens.clone()?, usize::MAX, Vec::new(alloc));
+        gives(&rt, alloc, &mut source, 200_001, sevens.as_slice())
     }
 }

@@ -68,28 +68,40 @@ impl<W: Write> Sink for StdSink<W> {
 mod tests {
     use super::*;
     use std::io::{self, BufWriter};
+    use std::process::Abort;
     use std::test::Fail;
+
+    /// The sink takes the whole piece.
+    fn takes<S: Sink>(rt: &impl Abort, sink: &mut S, piece: &[u8]) {
+        assert!(rt; !piece.is_empty());
+        assert_eq!(rt; sink.write(piece), Ok(piece.len()));
+    }
 
     #[test]
     fn it_writes_to_a_vector(rt: HostRuntime) -> Result<(), Fail> {
         let mut sink = StdSink::new(Vec::new(rt.alloc()));
-        assert_eq!(rt; sink.write(b"abc"), Ok(3));
-        assert_eq!(rt; sink.write(b"de"), Ok(2));
+        takes(&rt, &mut sink, b"abc");
+        takes(&rt, &mut sink, b"de");
         assert_eq!(rt; sink.flush(), Ok(()));
         assert_eq!(rt; sink.writer.as_slice(), b"abcde".as_slice());
         assert_eq!(rt; sink.faults, 0);
         Ok(())
     }
 
-    #[test]
-    fn a_flush_reaches_the_writer_behind_a_buffer(rt: HostRuntime) -> Result<(), Fail> {
-        let buffered = BufWriter::new(rt.alloc(), Vec::new(rt.alloc()))?;
-        let mut sink = StdSink::new(buffered);
-        assert_eq!(rt; sink.write(b"abc"), Ok(3));
+    /// Nothing reaches the vector before the flush, and all of it then.
+    fn holds_back(rt: &impl Abort, sink: &mut StdSink<BufWriter<Vec<u8>>>) {
+        takes(rt, sink, b"abc");
         assert_eq!(rt; sink.writer.get_ref().len(), 0);
         assert_eq!(rt; sink.flush(), Ok(()));
         assert_eq!(rt; sink.writer.get_ref().as_slice(), b"abc".as_slice());
         assert_eq!(rt; sink.faults, 0);
+    }
+
+    #[test]
+    fn a_flush_reaches_the_writer_behind_a_buffer(rt: HostRuntime) -> Result<(), Fail> {
+        let buffered = BufWriter::new(rt.alloc(), Vec::new(rt.alloc()))?;
+        let mut sink = StdSink::new(buffered);
+        holds_back(&rt, &mut sink);
         Ok(())
     }
 

@@ -59,11 +59,10 @@ mod tests {
     fn it_reads_a_slice(rt: HostRuntime) -> Result<(), Fail> {
         let mut source = StdSource::new(b"abcde".as_slice());
         let mut buf = [0; 3];
-        assert_eq!(rt; source.read(&mut buf), Ok(3));
-        assert_eq!(rt; buf, *b"abc");
-        assert_eq!(rt; source.read(&mut buf), Ok(2));
-        assert_eq!(rt; buf, *b"dec");
-        assert_eq!(rt; source.read(&mut buf), Ok(0));
+        for (n, bytes) in [(3, *b"abc"), (2, *b"dec"), (0, *b"dec")] {
+            assert_eq!(rt; source.read(&mut buf), Ok(n));
+            assert_eq!(rt; buf, bytes);
+        }
         assert_eq!(rt; source.faults, 0);
         Ok(())
     }

@@ -1,18 +1,15 @@
 // Ballot lines of a batch, worked out by hand.
+use crate::due::{has_ballots, has_lines};
 use crate::{BltStop, FaultKind, InputFault, Next, Token, Tokens, What, read_lines};
+use std::alloc::Global;
+use std::process::Abort;
 use std::test::Fail;
 
 #[test]
 fn of_a_batch(rt: HostRuntime) -> Result<(), Fail> {
     let mut tokens = Tokens::new(b"60 2 1 0 40 0 0 7", true);
     let ballots = read_lines(rt.alloc(), &mut tokens, 2, 100, FaultKind::BatchTooLarge)?;
-    assert_eq!(rt; ballots.candidates(), 2);
-    assert_eq!(rt; ballots.total(), 100);
-    let lines = ballots.lines();
-    assert_eq!(rt; lines.len(), 2);
-    assert_eq!(rt; lines[0].count, 60);
-    assert_eq!(rt; lines[0].ranking.ranks(), [2, 1].as_slice());
-    assert_eq!(rt; lines[1].ranking.ranks(), [].as_slice());
+    has_ballots(&rt, &ballots, 2, 100, &[(60, &[2, 1]), (40, &[])]);
     let behind = Token {
         at: 16,
         stop: 17,
@@ -39,6 +36,27 @@ fn refused_as_they_are_told(rt: HostRuntime) {
     }
 }
 
+/// The text is read to its end, and has these lines of 1,235 ballots.
+fn has_two_lines(
+    rt: &impl Abort,
+    alloc: Global,
+    text: &[u8],
+    candidates: u32,
+    due: &[(u32, &[u32])],
+) -> Result<(), Fail> {
+    let mut tokens = Tokens::new(text, false);
+    let ballots = read_lines(
+        alloc,
+        &mut tokens,
+        candidates,
+        1235,
+        FaultKind::TooManyBallots,
+    )?;
+    has_lines(rt, ballots.lines(), due);
+    assert_eq!(rt; tokens.next(), Next::End);
+    Ok(())
+}
+
 /// Leading zeros, comments, long gaps and numbers of three digits and more stand among short ones.
 #[test]
 fn of_numbers_of_any_length(rt: HostRuntime) -> Result<(), Fail> {
@@ -62,20 +80,13 @@ fn of_numbers_of_any_length(rt: HostRuntime) -> Result<(), Fail> {
             [99, 1001].as_slice(),
         ),
     ] {
-        let mut tokens = Tokens::new(text, false);
-        let ballots = read_lines(
+        has_two_lines(
+            &rt,
             rt.alloc(),
-            &mut tokens,
+            text,
             candidates,
-            1235,
-            FaultKind::TooManyBallots,
+            &[(1, first), (1234, second)],
         )?;
-        let lines = ballots.lines();
-        assert_eq!(rt; lines.len(), 2);
-        assert_eq!(rt; (lines[0].count, lines[1].count), (1, 1234));
-        assert_eq!(rt; lines[0].ranking.ranks(), first);
-        assert_eq!(rt; lines[1].ranking.ranks(), second);
-        assert_eq!(rt; tokens.next(), Next::End);
     }
     Ok(())
 }

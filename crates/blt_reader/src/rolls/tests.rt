@@ -2,6 +2,7 @@
 use crate::FaultKind::{
     BadByte, BadHeader, BadNumber, BadWithdrawn, BallotsInRoll, Ended, NameExpected,
 };
+use crate::due::{Due, has_ballots, has_roll};
 use crate::{BltStop, FaultKind, InputFault, Next, Token, Tokens, What, read_roll};
 use std::alloc::Global;
 use std::process::Abort;
@@ -30,11 +31,15 @@ fn with_ballots(rt: HostRuntime) -> Result<(), Fail> {
     let file = b"2 1 -2 3 1 2 0 0 \"A\" \"B\" \"T\" lots 2 1 0";
     let mut tokens = Tokens::new(file, true);
     let election = read_roll(rt.alloc(), &mut tokens, true)?;
-    assert_eq!(rt; election.roll.candidates(), 2);
-    assert_eq!(rt; election.roll.is_withdrawn(2), true);
-    assert_eq!(rt; election.roll.title().bytes(), b"T".as_slice());
-    assert_eq!(rt; election.ballots.total(), 3);
-    assert_eq!(rt; election.ballots.lines().len(), 1);
+    let due = Due {
+        seats: 1,
+        withdrawn: &[2],
+        lines: &[(3, &[1, 2])],
+        names: &[b"A", b"B"],
+        title: b"T",
+    };
+    has_roll(&rt, &election.roll, &due);
+    has_ballots(&rt, &election.ballots, 2, 3, due.lines);
     let lots = Token {
         at: 29,
         stop: 33,
@@ -48,11 +53,15 @@ fn with_ballots(rt: HostRuntime) -> Result<(), Fail> {
 fn without_ballots(rt: HostRuntime) -> Result<(), Fail> {
     let mut tokens = Tokens::new(b"2 3 -1 -1 0 \"A\" \"B\" \"\" 5", false);
     let election = read_roll(rt.alloc(), &mut tokens, false)?;
-    assert_eq!(rt; election.roll.seats(), 3);
-    assert_eq!(rt; election.roll.candidates(), 2);
-    assert_eq!(rt; election.roll.is_withdrawn(1), true);
-    assert_eq!(rt; election.roll.is_withdrawn(2), false);
-    assert_eq!(rt; election.ballots.total(), 0);
+    let due = Due {
+        seats: 3,
+        withdrawn: &[1],
+        lines: &[],
+        names: &[b"A", b"B"],
+        title: b"",
+    };
+    has_roll(&rt, &election.roll, &due);
+    has_ballots(&rt, &election.ballots, 2, 0, due.lines);
     let behind = Token {
         at: 23,
         stop: 24,
