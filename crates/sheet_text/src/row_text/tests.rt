@@ -4,12 +4,12 @@ use crate::{write_head, write_result};
 use byte_edge::MemorySink;
 use candidate_roll::{Name, Names, Roll, State, States};
 use fixed_place::{Amount, Keep};
+use std::alloc::Global;
+use std::process::Abort;
 use std::test::Fail;
 
-// No iteration of a count elects and caps. In this made row both lines stand, in their order.
-#[test]
-fn writes_who_was_elected_and_who_was_capped(rt: HostRuntime) -> Result<(), Fail> {
-    let alloc = rt.alloc();
+/// Writes a row that elects and caps.
+fn write_made_row(rt: &impl Abort, alloc: Global, sink: &mut MemorySink) -> Result<(), Fail> {
     let mut row = Row::<9>::new(alloc, 2)?;
     row.round = 4;
     row.iteration = 2;
@@ -21,8 +21,16 @@ fn writes_who_was_elected_and_who_was_capped(rt: HostRuntime) -> Result<(), Fail
     row.surplus = Amount::from_units(2_666_666_665);
     row.elected.set(1, true);
     row.capped.set(0, true);
+    assert_eq!(rt; write_row(&row, sink), Ok(()));
+    Ok(())
+}
+
+// No iteration of a count elects and caps. In this made row both lines stand, in their order.
+#[test]
+fn writes_who_was_elected_and_who_was_capped(rt: HostRuntime) -> Result<(), Fail> {
+    let alloc = rt.alloc();
     let mut sink = MemorySink::with_room(alloc, 1_000, 1_400, Vec::new(alloc))?;
-    assert_eq!(rt; write_row(&row, &mut sink), Ok(()));
+    write_made_row(&rt, alloc, &mut sink)?;
     let text = "round 4 iteration 2\n\
                 1 elected 1.000000000 3.999999999\n\
                 2 withdrawn 0.000000000 0.000000000\n\
@@ -32,17 +40,33 @@ fn writes_who_was_elected_and_who_was_capped(rt: HostRuntime) -> Result<(), Fail
     Ok(())
 }
 
+/// One candidate without a name, in an election without a title.
+fn nameless(alloc: Global) -> Result<Roll, Fail> {
+    let mut names = Names::new(alloc);
+    names.push(Name::try_new(alloc, b"")?)?;
+    Ok(Roll::try_new(alloc, 1, names, Name::try_new(alloc, b"")?, &[])?)
+}
+
+/// Writes a head and a result.
+fn write_ends(rt: &impl Abort, roll: &Roll, states: &States, sink: &mut MemorySink) {
+    assert_eq!(rt; states.len(), roll.candidates() as usize);
+    assert_eq!(rt; write_head(roll, 999_999_999, sink), Ok(()));
+    assert_eq!(rt; write_result(roll, states, sink), Ok(()));
+}
+
+/// Writes the head and the result of that election, in which the candidate is elected.
+fn write_nameless(rt: &impl Abort, alloc: Global, sink: &mut MemorySink) -> Result<(), Fail> {
+    let roll = nameless(alloc)?;
+    let states = States::filled(alloc, 1, State::Elected)?;
+    write_ends(rt, &roll, &states, sink);
+    Ok(())
+}
+
 #[test]
 fn keeps_the_space_before_an_empty_name(rt: HostRuntime) -> Result<(), Fail> {
     let alloc = rt.alloc();
-    let mut names = Names::new(alloc);
-    names.push(Name::try_new(alloc, b"")?)?;
-    let roll = Roll::try_new(alloc, 1, names, Name::try_new(alloc, b"")?, &[])?;
     let mut sink = MemorySink::with_room(alloc, 1_000, 1_400, Vec::new(alloc))?;
-    assert_eq!(rt; write_head(&roll, 999_999_999, &mut sink), Ok(()));
-    let states = States::filled(alloc, 1, State::Elected)?;
-    assert_eq!(rt; roll.candidates(), 1);
-    assert_eq!(rt; write_result(&roll, &states, &mut sink), Ok(()));
+    write_nameless(&rt, alloc, &mut sink)?;
     let text = "title \nseats 1\ncandidates 1\nballots 999999999\nresult\n1 elected \nend\n";
     assert_eq!(rt; sink.bytes(), text.as_bytes());
     Ok(())
