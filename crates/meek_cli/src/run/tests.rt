@@ -5,14 +5,16 @@ mod days;
 mod flushes;
 mod lanes;
 mod large_inputs;
+mod meetings;
 mod refusals;
 mod teams;
 mod trials;
 
 use crate::{Status, meek};
 use blt_reader::{FaultKind, InputFault};
-use byte_edge::{FreeGate, MemorySink, MemorySource};
+use byte_edge::{FreeGate, Gate, MemorySink, MemorySource, Sink, Source};
 use std::alloc::Global;
+use std::process::Abort;
 use std::sync::Wait;
 use std::test::Fail;
 use std::thread::Threads;
@@ -32,7 +34,7 @@ round 2 iteration 2\n1 elected 0.571428572 4.000000004\n2 withdrawn 0.000000000 
 quota 4.000000001\nsurplus 0.000000003\nstep defeat 3 tied 3\n\
 result\n1 elected Ann\n2 withdrawn Ben\n3 defeated Cid\n4 elected Dee\nend\n";
 
-/// What a run answered and wrote, and how many calls its history has.
+/// How a run ended, how many calls its history has, and what it wrote.
 #[derive(Drop)]
 struct Ran {
     status: Status,
@@ -49,56 +51,89 @@ fn words_of(alloc: Global, text: &str) -> Result<Vec<String>, Fail> {
     Ok(words)
 }
 
+/// Does what the words ask for: how that ended, and how many calls its history has.
+fn call<R: Threads + Wait + Sync, S: Source, K: Sink, G: Gate + Sync>(
+    rt: &R,
+    alloc: Global,
+    words: &str,
+    source: &mut S,
+    sink: &mut K,
+    gate: &G,
+) -> Result<(Status, usize), Fail> {
+    let words = words_of(alloc, words)?;
+    let outcome = meek(rt, alloc, words.as_slice(), source, sink, gate);
+    Ok((outcome.status, outcome.history.entries().len()))
+}
+
+/// The numbers of the reads and of the writes that fail.
+type Failing<'a> = (&'a [u64], &'a [u64]);
+
 /// A run over memory, at most 16 bytes a read and 1,400 a write; the calls with these numbers fail.
-fn run_failing<R: Threads + Wait + Sync>(
+fn run<R: Threads + Wait + Sync, G: Gate + Sync>(
     rt: &R,
     alloc: Global,
     words: &str,
     input: &[u8],
-    reads: &[u64],
-    writes: &[u64],
+    failing: Failing<'_>,
+    gate: &G,
 ) -> Result<Ran, Fail> {
-    let words = words_of(alloc, words)?;
+    let (reads, writes) = failing;
     let mut source = MemorySource::new(input.to_vec(alloc)?, 16, reads.to_vec(alloc)?);
     let mut sink = MemorySink::with_room(alloc, 100_000, 1_400, writes.to_vec(alloc)?)?;
-    let outcome = meek(
-        rt,
-        alloc,
-        words.as_slice(),
-        &mut source,
-        &mut sink,
-        &FreeGate,
-    );
+    let (status, calls) = call(rt, alloc, words, &mut source, &mut sink, gate)?;
     let written = sink.bytes().to_vec(alloc)?;
     Ok(Ran {
-        status: outcome.status,
-        calls: outcome.history.entries().len(),
+        status,
+        calls,
         written,
     })
 }
 
-fn run<R: Threads + Wait + Sync>(
+/// How a run has to end: its status, how many calls its history has, and what it has written.
+type Ending<'a> = (Status, usize, &'a [u8]);
+
+/// A run over memory, of which these calls fail, ends so.
+fn ends_failing<R: Threads + Wait + Abort + Sync>(
     rt: &R,
     alloc: Global,
     words: &str,
     input: &[u8],
-) -> Result<Ran, Fail> {
-    run_failing(rt, alloc, words, input, &[], &[])
-}
-
-#[test]
-fn counts_the_sample(rt: HostRuntime) -> Result<(), Fail> {
-    for words in ["count --lots 1,2,3,4", "count --lots=1,2,3,4"] {
-        let ran = run(&rt, rt.alloc(), words, SAMPLE)?;
-        assert_eq!(rt; ran.status, Status::Done);
-        assert_eq!(rt; ran.written.as_slice(), SAMPLE_SHEET);
-    }
+    failing: Failing<'_>,
+    end: Ending<'_>,
+) -> Result<(), Fail> {
+    let ran = run(rt, alloc, words, input, failing, &FreeGate)?;
+    let (reads, writes) = failing;
+    let (status, calls, written) = end;
+    assert_eq!(rt;
+        ran.written.as_slice(),
+        written,
+        "{words}, {reads:?} and {writes:?} fail"
+    );
+    assert_eq!(rt;
+        (ran.status, ran.calls),
+        (status, calls),
+        "{words}, {reads:?} and {writes:?} fail"
+    );
     Ok(())
 }
 
-// Files with their lots and sheets: a transfer, nobody voted for, fewer candidates than seats, all
-// withdrawn, one ballot each, a surplus just below omega, and one of omega.
-const ELECTIONS: [(&str, &[u8], &[u8]); 7] = [
+/// A run over memory ends so.
+fn ends<R: Threads + Wait + Abort + Sync>(
+    rt: &R,
+    alloc: Global,
+    words: &str,
+    input: &[u8],
+    end: Ending<'_>,
+) -> Result<(), Fail> {
+    ends_failing(rt, alloc, words, input, (&[], &[]), end)
+}
+
+// Files with their lots and sheets: the sample, a transfer, nobody voted for, fewer candidates than seats,
+// all withdrawn, one ballot each, a surplus just below omega, one of omega, a file as most tools write it,
+// and the most ballots that a file may have.
+const ELECTIONS: [(&str, &[u8], &[u8]); 11] = [
+    ("count --lots 1,2,3,4", SAMPLE, SAMPLE_SHEET),
+    ("count --lots=1,2,3,4", SAMPLE, SAMPLE_SHEET),
     (
         "count --lots 1,2,3",
         b"3 2\n10 1 0\n4 2 0\n3 3 0\n0\n\"A\" \"B\" \"C\" \"T\"\n",
@@ -180,112 +215,101 @@ round 2 iteration 3\n1 elected 0.518444667 520.000001001\n2 hopeful 1.000000000 
 step defeat 3 tied 3\n\
 result\n1 elected A\n2 elected B\n3 defeated C\nend\n",
     ),
-];
-
-#[test]
-fn counts_small_elections(rt: HostRuntime) -> Result<(), Fail> {
-    for (words, file, sheet) in ELECTIONS {
-        let ran = run(&rt, rt.alloc(), words, file)?;
-        assert_eq!(rt; ran.status, Status::Done, "{words}");
-        assert_eq!(rt; ran.written.as_slice(), sheet, "{words}");
-    }
-    Ok(())
-}
-
-// As most tools write it: a byte order mark, carriage returns, a comment, leading zeros, a
-// candidate withdrawn twice, an empty ballot, and strings behind the title.
-#[test]
-fn counts_what_tools_write(rt: HostRuntime) -> Result<(), Fail> {
-    let file =
-        b"\xEF\xBB\xBF3 1 # one seat\r\n-3 -3\r\n2 0\r\n007 1 0\r\n1 3 0\r\n2 2 0\r\n0\r\n\"A\" \"B\" \"C\"\r\n\"T\" \"note\" \"x\"\r\n";
-    let sheet = b"title T\nseats 1\ncandidates 3\nballots 12\n\
+    // A byte order mark, carriage returns, a comment, leading zeros, a candidate withdrawn twice, an empty
+    // ballot, and strings behind the title.
+    (
+        "count --lots 1,2,3",
+        b"\xEF\xBB\xBF3 1 # one seat\r\n-3 -3\r\n2 0\r\n007 1 0\r\n1 3 0\r\n2 2 0\r\n0\r\n\"A\" \"B\" \"C\"\r\n\"T\" \"note\" \"x\"\r\n",
+        b"title T\nseats 1\ncandidates 3\nballots 12\n\
 round 1 iteration 1\n1 hopeful 1.000000000 7.000000000\n2 hopeful 1.000000000 2.000000000\n\
 3 withdrawn 0.000000000 0.000000000\ntotal 9.000000000\nquota 4.500000001\nsurplus 2.499999999\n\
 elected 1\nstep elected\n\
-result\n1 elected A\n2 defeated B\n3 withdrawn C\nend\n";
-    let ran = run(&rt, rt.alloc(), "count --lots 1,2,3", file)?;
-    assert_eq!(rt; ran.status, Status::Done);
-    assert_eq!(rt; ran.written.as_slice(), sheet.as_slice());
-    Ok(())
-}
-
-// The most ballots that a file may have.
-#[test]
-fn counts_the_most_ballots(rt: HostRuntime) -> Result<(), Fail> {
-    let sheet = b"title T\nseats 1\ncandidates 2\nballots 999999999\n\
+result\n1 elected A\n2 defeated B\n3 withdrawn C\nend\n",
+    ),
+    (
+        "count --lots 1,2",
+        b"2 1\n999999999 1 0\n0\n\"A\" \"B\" \"T\"\n",
+        b"title T\nseats 1\ncandidates 2\nballots 999999999\n\
 round 1 iteration 1\n1 hopeful 1.000000000 999999999.000000000\n2 hopeful 1.000000000 0.000000000\n\
 total 999999999.000000000\nquota 499999999.500000001\nsurplus 499999999.499999999\n\
 elected 1\nstep elected\n\
-result\n1 elected A\n2 defeated B\nend\n";
-    let ran = run(
-        &rt,
-        rt.alloc(),
-        "count --lots 1,2",
-        b"2 1\n999999999 1 0\n0\n\"A\" \"B\" \"T\"\n",
-    )?;
-    assert_eq!(rt; ran.status, Status::Done);
-    assert_eq!(rt; ran.written.as_slice(), sheet.as_slice());
+result\n1 elected A\n2 defeated B\nend\n",
+    ),
+];
+
+#[test]
+fn counts_elections(rt: HostRuntime) -> Result<(), Fail> {
+    for (words, file, sheet) in ELECTIONS {
+        ends(&rt, rt.alloc(), words, file, (Status::Done, 0, sheet))?;
+    }
     Ok(())
 }
 
-// Each front of the sample's 109 bytes: it ends too early, but where it ends right behind a minus.
+// Each front of the sample's 109 bytes: it ends too early, but where it ends right behind a minus. The last
+// line feed may be left out.
 #[test]
 fn refuses_each_front_of_the_sample(rt: HostRuntime) -> Result<(), Fail> {
+    let alloc = rt.alloc();
+    let words = "count --lots 1,2,3,4";
     assert_eq!(rt; SAMPLE.len(), 109);
     for n in 0..108 {
-        let ran = run(&rt, rt.alloc(), "count --lots 1,2,3,4", &SAMPLE[..n])?;
-        let fault = if n == 14 {
-            InputFault {
-                kind: FaultKind::BadByte,
-                at: 13,
-            }
+        let (kind, name, at) = if n == 14 {
+            (FaultKind::BadByte, "BadByte", 13)
         } else {
-            InputFault {
-                kind: FaultKind::Ended,
-                at: n,
-            }
+            (FaultKind::Ended, "Ended", n)
         };
-        assert_eq!(rt; ran.status, Status::BadInput(fault), "{n} bytes");
-        let line = if n == 14 {
-            format!(in rt.alloc(); "refused BadByte at 13\n")?
-        } else {
-            format!(in rt.alloc(); "refused Ended at {n}\n")?
-        };
-        assert_eq!(rt; ran.written.as_slice(), line.as_bytes(), "{n} bytes");
+        let line = format!(in alloc; "refused {name} at {at}\n")?;
+        let status = Status::BadInput(InputFault { kind, at });
+        ends(
+            &rt,
+            alloc,
+            words,
+            &SAMPLE[..n],
+            (status, 0, line.as_bytes()),
+        )?;
     }
-    let ran = run(&rt, rt.alloc(), "count --lots 1,2,3,4", &SAMPLE[..108])?;
-    assert_eq!(rt; ran.written.as_slice(), SAMPLE_SHEET);
-    Ok(())
+    ends(
+        &rt,
+        alloc,
+        words,
+        &SAMPLE[..108],
+        (Status::Done, 0, SAMPLE_SHEET),
+    )
 }
 
 // The sheet of the sample has 38 lines, each written as one piece, and one flush behind the last.
 #[test]
 fn writes_the_lines_before_a_failure(rt: HostRuntime) -> Result<(), Fail> {
-    for k in 1..39 {
-        let ran = run_failing(&rt, rt.alloc(), "count --lots 1,2,3,4", SAMPLE, &[], &[k])?;
-        assert_eq!(rt; ran.status, Status::SinkFault, "call {k}");
-        let lines = ran.written.iter().filter(|b| **b == b'\n').count();
-        assert_eq!(rt; lines as u64 + 1, k, "call {k}");
-        assert!(rt;
-            SAMPLE_SHEET.starts_with(ran.written.as_slice()),
-            "call {k}"
-        );
+    let alloc = rt.alloc();
+    let words = "count --lots 1,2,3,4";
+    let mut line: u64 = 0;
+    for at in 0..SAMPLE_SHEET.len() {
+        if at == 0 || SAMPLE_SHEET[at - 1] == b'\n' {
+            line = line.saturating_add(1);
+            let end = (Status::SinkFault, 0, &SAMPLE_SHEET[..at]);
+            ends_failing(&rt, alloc, words, SAMPLE, (&[], &[line]), end)?;
+        }
     }
-    let flushed = run_failing(&rt, rt.alloc(), "count --lots 1,2,3,4", SAMPLE, &[], &[39])?;
-    assert_eq!(rt; flushed.status, Status::SinkFault);
-    assert_eq!(rt; flushed.written.as_slice(), SAMPLE_SHEET);
-    let done = run_failing(&rt, rt.alloc(), "count --lots 1,2,3,4", SAMPLE, &[], &[40])?;
-    assert_eq!(rt; done.status, Status::Done);
-    Ok(())
+    assert_eq!(rt; line, 38);
+    let fault = (Status::SinkFault, 0, SAMPLE_SHEET);
+    ends_failing(&rt, alloc, words, SAMPLE, (&[], &[39]), fault)?;
+    let done = (Status::Done, 0, SAMPLE_SHEET);
+    ends_failing(&rt, alloc, words, SAMPLE, (&[], &[40]), done)
 }
 
 // The sample is read in seven pieces and an end.
 #[test]
 fn writes_nothing_after_a_failed_read(rt: HostRuntime) -> Result<(), Fail> {
     for k in 1..9 {
-        let ran = run_failing(&rt, rt.alloc(), "count --lots 1,2,3,4", SAMPLE, &[k], &[])?;
-        assert_eq!(rt; ran.status, Status::SourceFault, "call {k}");
-        assert!(rt; ran.written.is_empty(), "call {k}");
+        let end = (Status::SourceFault, 0, b"".as_slice());
+        ends_failing(
+            &rt,
+            rt.alloc(),
+            "count --lots 1,2,3,4",
+            SAMPLE,
+            (&[k], &[]),
+            end,
+        )?;
     }
     Ok(())
 }

@@ -2,8 +2,12 @@
 // calls fell in, each text is held against the book's rules by a replay of that order.
 use super::run;
 use crate::Status;
+use byte_edge::FreeGate;
 use std::alloc::Global;
+use std::process::Abort;
+use std::sync::Wait;
 use std::test::Fail;
+use std::thread::Threads;
 
 const TEAMS: u32 = 16;
 
@@ -151,20 +155,30 @@ end
     )?)
 }
 
+/// The day's text is that of a replay of its order.
+fn is_played_by_the_rules<R: Threads + Wait + Abort + Sync>(
+    rt: &R,
+    alloc: Global,
+    day: &[u8],
+    round: u32,
+) -> Result<(), Fail> {
+    let words = "day --shards 2 --workers 1";
+    let ran = run(rt, alloc, words, day, (&[], &[]), &FreeGate)?;
+    assert_eq!(rt;
+        (ran.status, ran.calls),
+        (Status::Done, 65),
+        "round {round}"
+    );
+    let text = replayed(alloc, ran.written.as_slice())?;
+    assert_eq!(rt; ran.written.as_slice(), text.as_slice(), "round {round}");
+    Ok(())
+}
+
 #[test]
 fn sixteen_teams_contend_for_two_batches(rt: HostRuntime) -> Result<(), Fail> {
     let day = contended_day(rt.alloc())?;
     for round in 0..100 {
-        let ran = run(
-            &rt,
-            rt.alloc(),
-            "day --shards 2 --workers 1",
-            day.as_slice(),
-        )?;
-        assert_eq!(rt; ran.status, Status::Done, "round {round}");
-        assert_eq!(rt; ran.calls, 65, "round {round}");
-        let text = replayed(rt.alloc(), ran.written.as_slice())?;
-        assert_eq!(rt; ran.written.as_slice(), text.as_slice(), "round {round}");
+        is_played_by_the_rules(&rt, rt.alloc(), day.as_slice(), round)?;
     }
     Ok(())
 }

@@ -1,9 +1,10 @@
 // The sink is flushed behind the last byte, at each end of a run that writes all it owes.
-use super::{SAMPLE, SAMPLE_SHEET, words_of};
-use crate::{Status, meek};
+use super::{SAMPLE, SAMPLE_SHEET, call};
+use crate::Status;
 use byte_edge::{FreeGate, MemorySource, StdSink};
 use std::alloc::Global;
 use std::io::{self, BufWriter, Write};
+use std::process::Abort;
 use std::sync::Wait;
 use std::test::Fail;
 use std::thread::Threads;
@@ -58,40 +59,42 @@ fn run_into<R: Threads + Wait + Sync, W: Write + Drop>(
     input: &[u8],
     writer: W,
 ) -> Result<Status, Fail> {
-    let words = words_of(alloc, words)?;
     let mut source = MemorySource::new(input.to_vec(alloc)?, 16, Vec::new(alloc));
     let mut sink = StdSink::new(writer);
-    let outcome = meek(
-        rt,
-        alloc,
-        words.as_slice(),
-        &mut source,
-        &mut sink,
-        &FreeGate,
-    );
-    Ok(outcome.status)
+    let (status, _) = call(rt, alloc, words, &mut source, &mut sink, &FreeGate)?;
+    Ok(status)
 }
 
 fn is_refused(status: Status) -> bool {
     matches!(status, Status::BadWords | Status::BadInput(_))
 }
 
+/// No bytes yet.
+fn none_noted(alloc: Global) -> Noted {
+    Noted {
+        bytes: Vec::new(alloc),
+        flushed: false,
+    }
+}
+
+/// The writer has these bytes, and was flushed behind them.
+fn holds_flushed(rt: &impl Abort, writer: &Noted, words: &str, written: &[u8]) {
+    assert_eq!(rt; writer.bytes.as_slice(), written, "{words}");
+    assert!(rt; writer.flushed, "{words}");
+}
+
 #[test]
 fn flushes_behind_the_last_byte(rt: HostRuntime) -> Result<(), Fail> {
     let alloc = rt.alloc();
     for (words, input, written) in ENDS {
-        let mut writer = Noted {
-            bytes: Vec::new(alloc),
-            flushed: false,
-        };
+        let mut writer = none_noted(alloc);
         let status = run_into(&rt, alloc, words, input, &mut writer)?;
+        holds_flushed(&rt, &writer, words, written);
         assert_eq!(rt;
             is_refused(status),
             written.starts_with(b"refused"),
             "{words}"
         );
-        assert_eq!(rt; writer.bytes.as_slice(), written, "{words}");
-        assert!(rt; writer.flushed, "{words}");
     }
     Ok(())
 }
@@ -101,14 +104,10 @@ fn flushes_behind_the_last_byte(rt: HostRuntime) -> Result<(), Fail> {
 fn flushes_a_buffer_of_std(rt: HostRuntime) -> Result<(), Fail> {
     let alloc = rt.alloc();
     for (words, input, written) in ENDS {
-        let mut writer = Noted {
-            bytes: Vec::new(alloc),
-            flushed: false,
-        };
+        let mut writer = none_noted(alloc);
         let buffer = BufWriter::new(alloc, &mut writer)?;
         let _status = run_into(&rt, alloc, words, input, buffer)?;
-        assert_eq!(rt; writer.bytes.as_slice(), written, "{words}");
-        assert!(rt; writer.flushed, "{words}");
+        holds_flushed(&rt, &writer, words, written);
     }
     Ok(())
 }
