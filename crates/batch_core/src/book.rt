@@ -177,6 +177,3 @@ fn append(ballots: &mut Ballots, batch: &Batch) -> Result<(), NoMemory>
         Err(AppendStop::NoMemory) => Err(NoMemory),
     }
 }
-
-#[cfg(test)]
-mod tests;

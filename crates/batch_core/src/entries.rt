@@ -94,33 +94,3 @@ impl Entries {
         &self.list[i]
     }
 }
-
-#[cfg(test)]
-mod tests {
-    use super::*;
-    use crate::{Call, Reply};
-    use std::test::Fail;
-
-    fn freeze_of(caller: u32) -> Entry {
-        Entry {
-            caller,
-            call: Call::Freeze,
-            reply: Reply::Frozen,
-        }
-    }
-
-    #[test]
-    fn entries_are_turned_round(rt: HostRuntime) -> Result<(), Fail> {
-        let mut entries = Entries::new(rt.alloc());
-        entries.push(freeze_of(1))?;
-        entries.reserve(2)?;
-        entries.push_reserved(freeze_of(2));
-        entries.push_reserved(freeze_of(3));
-        entries.reverse();
-        assert_eq!(rt; entries.pop().ok_or("no entry")?.caller, 1);
-        assert_eq!(rt; entries.len(), 2);
-        assert_eq!(rt; entries.items()[0].caller, 3);
-        assert_eq!(rt; entries.get(1).caller, 2);
-        Ok(())
-    }
-}

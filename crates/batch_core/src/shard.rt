@@ -11,21 +11,3 @@ pub fn shard_of(batch: u32, shards: u32) -> u32
 {
     (batch - 1) % shards + 1
 }
-
-#[cfg(test)]
-mod tests {
-    use super::*;
-
-    #[test]
-    fn batches_are_dealt_out_in_turn(rt: HostRuntime) {
-        for (batch, shards, shard) in [
-            (1, 3, 1),
-            (3, 3, 3),
-            (4, 3, 1),
-            (9_999, 64, 15),
-            (9, 1, 1),
-        ] {
-            assert_eq!(rt; shard_of(batch, shards), shard, "at {batch} of {shards}");
-        }
-    }
-}

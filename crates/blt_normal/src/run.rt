@@ -33,6 +33,3 @@ pub fn normal<R: Threads + Sync, S: Source, K: Sink>(
     };
     rewrite(rt, alloc, opened.input.as_slice(), sink)
 }
-
-#[cfg(test)]
-mod tests;

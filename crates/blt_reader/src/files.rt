@@ -50,6 +50,3 @@ fn read_further(tokens: &mut Tokens<'_>) -> Result<(), InputFault>
         }
     }
 }
-
-#[cfg(test)]
-mod tests;

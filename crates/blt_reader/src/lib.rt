@@ -3,8 +3,6 @@
 #![tactic(auto)]
 
 mod blt_stop;
-#[cfg(test)]
-mod due;
 mod election;
 mod fault_kind;
 mod files;

@@ -183,6 +183,3 @@ fn add_line(ballots: &mut Ballots, line: BallotLine) -> Result<(), BltStop>
         Err(LineStop::TooMany(_)) => unreachable!(),
     }
 }
-
-#[cfg(test)]
-mod tests;

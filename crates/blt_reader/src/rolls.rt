@@ -84,6 +84,3 @@ fn new_roll(
         Err(RollStop::BadSeats) => unreachable!(),
     }
 }
-
-#[cfg(test)]
-mod tests;

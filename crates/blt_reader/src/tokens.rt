@@ -238,6 +238,3 @@ impl<'a> Tokens<'a> {
         }
     }
 }
-
-#[cfg(test)]
-mod tests;

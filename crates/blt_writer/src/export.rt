@@ -84,6 +84,3 @@ pub fn write_blt<K: Sink>(export: &mut Export<'_>, sink: &mut K) -> Result<(), F
     write_merged(export.cursors.as_mut_slice(), &mut export.ranking, sink)?;
     write_closing(export.roll, sink)
 }
-
-#[cfg(test)]
-mod tests;

@@ -54,38 +54,3 @@ impl Sink for CountSink {
         Ok(())
     }
 }
-
-#[cfg(test)]
-mod tests {
-    use super::*;
-    use crate::write_all;
-    use std::process::Abort;
-    use std::test::Fail;
-
-    fn takes(rt: &impl Abort, sink: &mut CountSink, piece: &[u8]) {
-        assert!(rt; !piece.is_empty());
-        assert_eq!(rt; sink.write(piece), Ok(piece.len()));
-    }
-
-    #[test]
-    fn it_counts_the_bytes(rt: HostRuntime) -> Result<(), Fail> {
-        let mut sink = CountSink::new();
-        assert_eq!(rt; sink.taken(), 0);
-        takes(&rt, &mut sink, b"abc");
-        takes(&rt, &mut sink, b"de");
-        assert_eq!(rt; sink.flush(), Ok(()));
-        assert_eq!(rt; sink.taken(), 5);
-        Ok(())
-    }
-
-    // That no write to it fails is proved at the arm that can't be reached.
-    #[test]
-    fn writing_all_to_it_never_fails(rt: HostRuntime) -> Result<(), Fail> {
-        let mut sink = CountSink::new();
-        match write_all(&mut sink, b"abcdefg") {
-            Ok(()) => assert_eq!(rt; sink.taken(), 7),
-            Err(Failed) => unreachable!(),
-        }
-        Ok(())
-    }
-}

@@ -87,39 +87,3 @@ impl Names {
         &self.list[i]
     }
 }
-
-#[cfg(test)]
-mod tests {
-    use super::*;
-    use std::test::Fail;
-
-    #[test]
-    fn the_last_name_comes_out_first(rt: HostRuntime) -> Result<(), Fail> {
-        let mut names = Names::new(rt.alloc());
-        for text in [b"Ann", b"Ben", b"Cid"] {
-            let pushed = names.push(Name::try_new(rt.alloc(), text)?);
-            assert!(rt; pushed.is_ok());
-        }
-        names.reverse();
-        assert_eq!(rt; names.pop().ok_or("no name")?.bytes(), b"Ann".as_slice());
-        assert_eq!(rt; names.len(), 2);
-        assert_eq!(rt; names.items()[0].bytes(), b"Cid".as_slice());
-        assert_eq!(rt; names.get(1).bytes(), b"Ben".as_slice());
-        Ok(())
-    }
-
-    #[test]
-    fn a_copy_has_the_names_in_their_order(rt: HostRuntime) -> Result<(), Fail> {
-        let mut names = Names::new(rt.alloc());
-        for text in [b"Ann", b"Ben"] {
-            let pushed = names.push(Name::try_new(rt.alloc(), text)?);
-            assert!(rt; pushed.is_ok());
-        }
-        let copy = names.copy(rt.alloc())?;
-        assert_eq!(rt; names.len(), 2);
-        assert_eq!(rt; copy.len(), 2);
-        assert_eq!(rt; copy.items()[0].bytes(), b"Ann".as_slice());
-        assert_eq!(rt; copy.items()[1].bytes(), b"Ben".as_slice());
-        Ok(())
-    }
-}

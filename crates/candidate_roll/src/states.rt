@@ -66,21 +66,3 @@ impl States {
         self.list.copy_from_slice(other.list.as_slice());
     }
 }
-
-#[cfg(test)]
-mod tests {
-    use super::*;
-    use std::test::Fail;
-
-    #[test]
-    fn states_are_set_and_taken_over(rt: HostRuntime) -> Result<(), Fail> {
-        let mut states = States::filled(rt.alloc(), 2, State::Hopeful)?;
-        states.set(1, State::Elected);
-        let mut others = States::filled(rt.alloc(), 2, State::Withdrawn)?;
-        others.copy_from(&states);
-        assert_eq!(rt; others.len(), 2);
-        assert_eq!(rt; others.items(), [State::Hopeful, State::Elected].as_slice());
-        assert_eq!(rt; *others.get(1), State::Elected);
-        Ok(())
-    }
-}

@@ -34,20 +34,3 @@ fn write_other<K: Sink>(field: &[u8], sink: &mut K) -> Result<(), Failed>
     write_bytes(b",", sink)?;
     write_field(field, sink)
 }
-
-#[cfg(test)]
-mod tests {
-    use super::*;
-    use byte_edge::MemorySink;
-    use std::test::Fail;
-
-    #[test]
-    fn fields_stand_in_quotes_where_they_must(rt: HostRuntime) -> Result<(), Fail> {
-        let mut sink = MemorySink::with_room(rt.alloc(), 200, 7, Vec::new(rt.alloc()))?;
-        write_record(b"Doe, \"Jo\"", &[b"3.000000000", b"", b"a\nb"], &mut sink)?;
-        write_record(b"1", &[], &mut sink)?;
-        let text = b"\"Doe, \"\"Jo\"\"\",3.000000000,,\"a\nb\"\r\n1\r\n";
-        assert_eq!(rt; sink.bytes(), text.as_slice());
-        Ok(())
-    }
-}

@@ -73,6 +73,3 @@ fn read_nothing(tokens: &mut Tokens<'_>) -> Result<(), InputFault>
         Next::Fault(fault) => Err(fault),
     }
 }
-
-#[cfg(test)]
-mod tests;

@@ -70,26 +70,3 @@ impl<const P: usize> Keeps<P> {
         self.list.copy_from_slice(other.list.as_slice());
     }
 }
-
-#[cfg(test)]
-mod tests {
-    use super::*;
-    use std::test::Fail;
-
-    #[test]
-    fn keeps_its_items(rt: HostRuntime) -> Result<(), Fail> {
-        let mut list = Keeps::<6>::filled(rt.alloc(), 3, Keep::from_units(5))?;
-        assert_eq!(rt; list.len(), 3);
-        list.set(1, Keep::from_units(7));
-        let units = list
-            .items()
-            .iter()
-            .map(|item| item.units())
-            .collect::<Vec<u64>>(rt.alloc())?;
-        assert_eq!(rt; units.as_slice(), [5, 7, 5].as_slice());
-        let mut other = Keeps::filled(rt.alloc(), 3, Keep::from_units(0))?;
-        other.copy_from(&list);
-        assert_eq!(rt; other.get(1).units(), 7);
-        Ok(())
-    }
-}

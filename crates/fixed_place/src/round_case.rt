@@ -31,6 +31,3 @@ fn is_wrong<const P: usize>(case: &RoundCase<P>) -> bool
 {
     mul_up(case.a, case.k) != case.kept
 }
-
-#[cfg(test)]
-mod tests;

@@ -68,6 +68,3 @@ pub fn sum_checked<const P: usize>(a: Amount<P>, b: Amount<P>) -> Option<Amount<
         None
     }
 }
-
-#[cfg(test)]
-mod tests;

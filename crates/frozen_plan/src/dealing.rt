@@ -10,9 +10,6 @@ use crate::{NoMemory, Plan, Plans};
 use plain_ballots::{Ballots, lines_stand_for_ballots};
 use std::alloc::Global;
 
-#[cfg(test)]
-mod tests;
-
 impl Plans {
     /// Deals the lines of ballots out among so many shards, the first line to the first shard, and
     /// makes a plan of what each gets. The ballots are let go before the first plan is made.

@@ -13,9 +13,6 @@ use std::alloc::Global;
 use std::thread;
 use std::thread::Threads;
 
-#[cfg(test)]
-mod tests;
-
 impl Plans {
     /// What [`Plans::dealt`] gives, made by at most so many workers. Each worker deals the lines of its
     /// shards and makes their plans in a thread of its own; where none can be had, the caller's thread

@@ -15,8 +15,6 @@ mod plan_row;
 mod plans;
 mod push_back;
 mod rows;
-#[cfg(test)]
-mod samples;
 mod share;
 
 pub use laws::one_bag_has_one_plan;

@@ -1,6 +1,6 @@
 // A trie's bag of ballots, frozen.
 ghost use Rattle.std.specs.Prelude.{◌≡◌, ◌≤◌, IfOk, length};
-ghost use Rattle.frozen_plan.specs.Plan.{IsPlan, ballot_count, plan_ballots};
+ghost use Rattle.frozen_plan.specs.Plan.{IsPlan, plan_ballots};
 ghost use Rattle.frozen_plan.specs.Rows.{AreRowsOf};
 
 use crate::rows::{append, push_forest};
@@ -10,9 +10,6 @@ use std::alloc::Global;
 use std::marker::Model;
 
 mod lines;
-#[cfg(test)]
-mod tests;
-
 /// The nodes of a trie in preorder, its root first: the ballots of its bag.
 #[derive(Debug, Drop)]
 pub struct Plan {

@@ -32,6 +32,3 @@ impl<'a, const P: usize, D: Spread<P>> Spread<P> for Lent<'a, D> {
         self.spread.spread(keeps, tally);
     }
 }
-
-#[cfg(test)]
-mod tests;

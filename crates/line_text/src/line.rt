@@ -116,6 +116,3 @@ fn behind_first(text: &[u8]) -> &[u8]
 {
     &text[1..]
 }
-
-#[cfg(test)]
-mod tests;

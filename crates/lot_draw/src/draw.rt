@@ -80,6 +80,3 @@ fn remainder(bytes: &[u8], modulus: u32) -> u32
     }
     rest
 }
-
-#[cfg(test)]
-mod tests;

@@ -32,15 +32,3 @@ fn push_behind(line: &mut Line, others: usize, candidate: u32)
     line.push_bytes(b",");
     line.push_count(candidate as u64);
 }
-
-#[cfg(test)]
-mod tests {
-    use super::*;
-
-    #[test]
-    fn commas_stand_between(rt: HostRuntime) {
-        let mut line = Line::new();
-        push_drawn(&mut line, &[3, 1, 2]);
-        assert_eq!(rt; line.bytes(), b"3,1,2\n".as_slice());
-    }
-}

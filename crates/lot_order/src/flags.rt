@@ -72,23 +72,3 @@ impl Flags {
         self.list.fill(item);
     }
 }
-
-#[cfg(test)]
-mod tests {
-    use super::*;
-    use std::test::Fail;
-
-    #[test]
-    fn marks_are_set_filled_and_taken_over(rt: HostRuntime) -> Result<(), Fail> {
-        let mut flags = Flags::filled(rt.alloc(), 3, false)?;
-        flags.set(1, true);
-        assert_eq!(rt; flags.items(), [false, true, false].as_slice());
-        assert_eq!(rt; (*flags.get(1), flags.len()), (true, 3));
-        let mut others = Flags::filled(rt.alloc(), 3, false)?;
-        others.fill(true);
-        assert_eq!(rt; others.items(), [true, true, true].as_slice());
-        others.copy_from(&flags);
-        assert_eq!(rt; others.items(), [false, true, false].as_slice());
-        Ok(())
-    }
-}

@@ -102,6 +102,3 @@ fn run_with_input<R: Threads + Wait + Sync, S: Source, K: Sink, G: Gate + Sync>(
         Err(status) => Outcome::without_calls(alloc, status),
     }
 }
-
-#[cfg(test)]
-mod tests;

@@ -185,6 +185,3 @@ fn is_election<const P: usize>(row: &Row<P>) -> bool
 {
     row.step == Step::Elected
 }
-
-#[cfg(test)]
-mod tests;

@@ -1,5 +1,5 @@
 // An election between two iterations.
-ghost use Rattle.std.specs.Prelude.{◌≡◌, ◌+◌, ◌^◌, ◌<◌, ◌≤◌, true, false, length, sum, IfOk};
+ghost use Rattle.std.specs.Prelude.{◌≡◌, ◌+◌, ◌^◌, ◌<◌, ◌≤◌, true, length, IfOk};
 ghost use Rattle.fixed_place.specs.Rounding.{scale, most};
 ghost use Rattle.meek_rule.specs.Situation.{IsValid, IsOnItsWay, opening, is_complete, finished};
 
@@ -105,6 +105,27 @@ impl<const P: usize> Situation<P> {
         &self.keeps
     }
 
+    /// The number of the round, from 1 on.
+    pub fn round(&self) -> u32
+        ensures { result ≡ self.now.round }
+    {
+        self.round
+    }
+
+    /// The number of the iteration within its round, from 1 on.
+    pub fn iteration(&self) -> u64
+        ensures { result ≡ self.now.iteration }
+    {
+        self.iteration
+    }
+
+    /// The surplus of the iteration before in this round, or none at its first.
+    pub fn previous(&self) -> Option<Amount<P>>
+        ensures { result ≡ self.now.previous }
+    {
+        self.previous
+    }
+
     /// Whether all seats are taken, or nobody is left to be defeated.
     pub fn is_complete(&self) -> bool
         ensures { result ≡ is_complete self.now }
@@ -127,6 +148,3 @@ impl<const P: usize> Situation<P> {
         end_states(&mut self.states, full);
     }
 }
-
-#[cfg(test)]
-mod tests;

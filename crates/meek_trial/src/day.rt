@@ -141,6 +141,3 @@ fn put_withdrawal(text: &mut Vec<u8>, b: u64) -> Result<(), NoMemory>
     push_number(&mut line, revision, b"\n");
     put_line(text, &line)
 }
-
-#[cfg(test)]
-mod tests;

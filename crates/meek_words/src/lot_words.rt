@@ -77,24 +77,3 @@ impl LotWords {
         &self.list[i]
     }
 }
-
-#[cfg(test)]
-mod tests {
-    use super::*;
-    use std::test::Fail;
-
-    #[test]
-    fn is_a_list(rt: HostRuntime) -> Result<(), Fail> {
-        let mut lots = LotWords::new(rt.alloc());
-        assert_eq!(rt; lots.pop(), None);
-        for number in [7, 0, 999_999_999] {
-            assert!(rt; lots.push(number).is_ok());
-        }
-        lots.reverse();
-        assert_eq!(rt; lots.items(), [999_999_999, 0, 7].as_slice());
-        assert_eq!(rt; lots.pop(), Some(7));
-        assert_eq!(rt; lots.len(), 2);
-        assert_eq!(rt; *lots.get(1), 0);
-        Ok(())
-    }
-}

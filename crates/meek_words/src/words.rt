@@ -26,6 +26,3 @@ pub fn read_words(alloc: Global, words: &[String]) -> Result<Command, WordsStop>
     let values = found::values(alloc, behind)?;
     Command::from_values(alloc, first, values)
 }
-
-#[cfg(test)]
-mod tests;

@@ -10,9 +10,6 @@ use atomic_table::{Badge, Seat, Table};
 use std::alloc::Global;
 use std::marker::Model;
 
-#[cfg(test)]
-mod tests;
-
 /// A tie between two numbers. Contracts see which tie it is.
 ///
 /// None of its calls waits, and none but [`Tie::try_new`] takes memory.

@@ -40,6 +40,3 @@ fn write_byte<K: Sink>(byte: u8, sink: &mut K) -> Result<(), Failed>
         _ => write_bytes(&[byte], sink),
     }
 }
-
-#[cfg(test)]
-mod tests;

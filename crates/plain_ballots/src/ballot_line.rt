@@ -21,19 +21,3 @@ impl BallotLine {
         })
     }
 }
-
-#[cfg(test)]
-mod tests {
-    use super::*;
-    use std::test::Fail;
-
-    #[test]
-    fn a_copy_has_the_count_and_the_ranks(rt: HostRuntime) -> Result<(), Fail> {
-        let ranking = Ranking::try_new(rt.alloc(), 9, &[9, 3, 1, 7, 2, 8, 5, 4])?;
-        let line = BallotLine { count: 7, ranking };
-        let copy = line.copy(rt.alloc())?;
-        assert_eq!(rt; (copy.count, line.count), (7, 7));
-        assert_eq!(rt; copy.ranking.ranks(), [9, 3, 1, 7, 2, 8, 5, 4].as_slice());
-        Ok(())
-    }
-}

@@ -41,26 +41,3 @@ impl<L: Ledger> Steps<L> {
         self.book.add(&mut self.share, 1);
     }
 }
-
-#[cfg(test)]
-mod tests {
-    use super::*;
-    use std::marker::Brand;
-    use std::mem;
-
-    fn two_steps<L: Ledger>(blank: Blank)
-        requires name { blank.name ≡ L.name }
-        requires parts { blank.parts ≡ L.parts }
-        requires some_part { 0 < blank.parts }
-    {
-        let mut steps = Steps::<L>::new(blank);
-        steps.tick();
-        steps.tick();
-    }
-
-    #[test]
-    fn steps_take_no_bytes(rt: HostRuntime) {
-        two_steps::<Brand>(Blank::new(1));
-        assert_eq!(rt; mem::size_of::<Steps<Brand>>(), 0);
-    }
-}

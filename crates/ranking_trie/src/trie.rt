@@ -1,5 +1,5 @@
 // A bag of ballots.
-ghost use Rattle.std.specs.Prelude.{◌≡◌, ℕ, ◌+◌, ◌≤◌, [], ◌++◌, length, replicate, OnOk, IfOk, IsPermutation, vec_len};
+ghost use Rattle.std.specs.Prelude.{◌≡◌, ◌+◌, ◌≤◌, [], ◌++◌, length, replicate, OnOk, IfOk, IsPermutation, vec_len};
 ghost use Rattle.plain_ballots.specs.Ranking.{IsRanking};
 ghost use Rattle.plain_ballots.specs.Ballots.{ballot_count, plain};
 ghost use Rattle.ranking_trie.specs.Bag.{bag, node_count, IsRising, IsWithin};
@@ -19,9 +19,6 @@ use std::alloc::Global;
 use std::marker::Model;
 use std::mem;
 use std::sync::ledger::Ledger;
-
-#[cfg(test)]
-mod tests;
 
 /// A bag of ballots as a trie of their rankings: rankings that begin alike share the nodes of that
 /// beginning. It is seen as its single rankings in lexicographic order, and as room for so many

@@ -166,6 +166,3 @@ impl ShardBook {
         self.entries
     }
 }
-
-#[cfg(test)]
-mod tests;

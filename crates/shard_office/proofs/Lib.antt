@@ -23,4 +23,4 @@ mod HistoryLemmas
 mod LateLemmas
 mod Mine
 pub mod Sendable
-mod Shared
+pub mod Shared

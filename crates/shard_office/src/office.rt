@@ -268,6 +268,3 @@ fn ended(office: Office, alloc: Global, clerk: Clerk) -> Closing
         rest: lists,
     }
 }
-
-#[cfg(test)]
-mod tests;

@@ -144,6 +144,3 @@ fn difference_from_sheet_of<D: Spread<9>>(
         Err(_) => Some(sink.difference_from_front()),
     }
 }
-
-#[cfg(test)]
-mod tests;

@@ -107,6 +107,3 @@ fn write_verdict<R: Threads + Sync, K: Sink>(
         Err(_) => End::NoMemory,
     }
 }
-
-#[cfg(test)]
-mod tests;

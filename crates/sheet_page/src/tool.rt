@@ -92,6 +92,3 @@ fn write_values<K: Sink>(format: Format, values: &SheetValues, sink: &mut K) -> 
         Format::Json => write_json(values, sink),
     }
 }
-
-#[cfg(test)]
-mod tests;

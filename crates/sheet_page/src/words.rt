@@ -36,6 +36,3 @@ fn format_of(name: &str) -> Option<Format>
         _ => None,
     }
 }
-
-#[cfg(test)]
-mod tests;

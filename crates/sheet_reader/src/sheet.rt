@@ -75,6 +75,3 @@ fn read_rows(alloc: Global, lines: &mut Lines<'_>, candidates: u32) -> Result<Ro
     }
     Ok(rows)
 }
-
-#[cfg(test)]
-mod tests;

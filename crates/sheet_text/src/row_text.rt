@@ -175,6 +175,3 @@ fn push_step(line: &mut Line, step: Step, tied: &Flags)
         }
     }
 }
-
-#[cfg(test)]
-mod tests;

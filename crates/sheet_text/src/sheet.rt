@@ -37,6 +37,3 @@ pub fn write_sheet<const P: usize, D: Spread<P> + Drop, K: Sink>(
     }
     write_result_by(&mut line, count.roll(), count.states(), sink)
 }
-
-#[cfg(test)]
-mod tests;

@@ -13,9 +13,6 @@ use std::marker::Model;
 use std::mem;
 use std::sync::Wait;
 
-#[cfg(test)]
-mod tests;
-
 pub(crate) type Inner = Writer<Board, Entry, View, Begun>;
 
 /// The one who changes a board. Contracts see which board it is, the number of candidates, the moves

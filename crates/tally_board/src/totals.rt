@@ -82,21 +82,3 @@ impl Totals {
         };
     }
 }
-
-#[cfg(test)]
-mod tests {
-    use super::*;
-    use std::test::Fail;
-
-    #[test]
-    fn totals_are_set_and_taken_over(rt: HostRuntime) -> Result<(), Fail> {
-        let mut totals = Totals::filled(rt.alloc(), 3, 4)?;
-        totals.set(1, 9);
-        assert_eq!(rt; totals.items(), [4, 9, 4].as_slice());
-        assert_eq!(rt; (*totals.get(1), totals.len()), (9, 3));
-        let mut others = Totals::filled(rt.alloc(), 3, 0)?;
-        others.copy_from(&totals);
-        assert_eq!(rt; others.items(), [4, 9, 4].as_slice());
-        Ok(())
-    }
-}

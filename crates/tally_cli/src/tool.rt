@@ -96,6 +96,3 @@ fn tally_scripts<R: Wait>(
     scribe.close(rt);
     text
 }
-
-#[cfg(test)]
-mod tests;

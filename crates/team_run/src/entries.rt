@@ -132,6 +132,3 @@ fn push_reply(line: &mut Line, reply: Reply)
         Reply::AlreadyStruck => line.push_bytes(b"already"),
     }
 }
-
-#[cfg(test)]
-mod tests;

@@ -86,6 +86,3 @@ fn by_place(mut versions: Vec<Version>) -> Versions
     versions.sort_unstable_by_key(|version| version.at());
     Versions { list: versions }
 }
-
-#[cfg(test)]
-mod tests;

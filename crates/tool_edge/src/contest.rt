@@ -2,7 +2,7 @@
 ghost use Rattle.std.specs.Prelude.{◌≡◌, length};
 ghost use Rattle.tool_edge.specs.Contest.{ReadsContest, lots_stop};
 
-use blt_reader::{BltStop, Election, FaultKind, InputFault, read_blt};
+use blt_reader::{BltStop, Election, FaultKind, read_blt};
 use lot_order::{Lots, LotsStop};
 use std::alloc::Global;
 
@@ -41,6 +41,3 @@ pub fn lots_stop(lots: &[u32], stop: LotsStop) -> BltStop
     };
     BltStop::refused(FaultKind::BadLots, at)
 }
-
-#[cfg(test)]
-mod tests;

@@ -46,28 +46,3 @@ impl End {
         }
     }
 }
-
-#[cfg(test)]
-mod tests {
-    use super::*;
-    use blt_reader::FaultKind;
-
-    #[test]
-    fn has_its_number(rt: HostRuntime) {
-        let fault = InputFault {
-            kind: FaultKind::BadByte,
-            at: 7,
-        };
-        let ends = [
-            End::Done,
-            End::SourceFault,
-            End::BadWords,
-            End::BadInput(fault),
-            End::SinkFault,
-            End::NoMemory,
-        ];
-        for (end, code) in ends.iter().zip(0..6) {
-            assert_eq!(rt; end.exit_code(), ExitCode::from(code));
-        }
-    }
-}

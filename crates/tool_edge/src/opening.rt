@@ -77,6 +77,3 @@ fn too_long(limit: usize) -> InputFault
         at: limit,
     }
 }
-
-#[cfg(test)]
-mod tests;

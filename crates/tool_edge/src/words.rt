@@ -41,6 +41,3 @@ pub fn takes_nothing(words: &[String]) -> Result<(), WordsStop>
         Err(WordsStop::BadWords)
     }
 }
-
-#[cfg(test)]
-mod tests;

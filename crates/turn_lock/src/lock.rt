@@ -17,9 +17,6 @@ use std::marker::Model;
 use std::snapshot::Snapshot;
 use std::sync::Wait;
 
-#[cfg(test)]
-mod tests;
-
 // The word of the turn, and what it shows.
 const TURN: usize = 0;
 

@@ -1,5 +1,5 @@
 // A distribution of the ballots of plans by lanes.
-ghost use Rattle.std.specs.Prelude.{◌≡◌, ℕ, ◌≤◌, ◌^◌, All, IfOk, length};
+ghost use Rattle.std.specs.Prelude.{◌≡◌, ◌≤◌, ◌^◌, All, IfOk, length};
 ghost use Rattle.fixed_place.specs.Rounding.{scale};
 ghost use Rattle.frozen_plan.specs.Plan.{all_ballots};
 ghost use Rattle.meek_rule.specs.Rule.{Meek};
@@ -11,9 +11,6 @@ use fixed_place::{Amounts, Keeps};
 use frozen_plan::Plans;
 use meek_rule::Spread;
 use std::alloc::Global;
-
-#[cfg(test)]
-mod tests;
 
 /// Distributes the ballots of plans by workers' lanes, which `run` runs.
 #[derive(Drop)]

@@ -34,6 +34,3 @@ pub fn warren<S: Source, K: Sink>(
     };
     count(alloc, opened.asked.items(), opened.input.as_slice(), sink)
 }
-
-#[cfg(test)]
-mod tests;

@@ -13,9 +13,6 @@ use meek_rule::Spread;
 use std::alloc::Global;
 use std::marker::Model;
 
-#[cfg(test)]
-mod tests;
-
 /// Distributes the ballots of plans by Warren's rule: each ballot pays each of its candidates, in
 /// order of rank, the candidate's price, or all that it has left where that is less.
 #[derive(Drop)]

@@ -2,7 +2,8 @@ use mir.Syntax.{named}
 use denote.Param.{param}
 use denote.Param.Send.{IsSync, sendable, shr_sync}
 use Rattle.std.proofs.Crossing as heap
-use Rattle.team_run.proofs.Crosses.{team_send, office_sync, four_sync}
+use Rattle.team_run.proofs.Crosses.{team_send, four_sync}
+use Rattle.shard_office.proofs.Shared.{office_sync}
 use Rattle.team_run.proofs.threads.run_each.Goals as goal
 
 pub for_each_mut-requires-send-T : goal.for_each_mut-requires-send-T

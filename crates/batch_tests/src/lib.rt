@@ -1,0 +1,27 @@
+//! Tests of the public calls of batch_core, call_register, ranking_trie and shard_book.
+#![tactic(auto)]
+
+#[cfg(test)]
+mod book;
+#[cfg(test)]
+mod calls;
+#[cfg(test)]
+mod change;
+#[cfg(test)]
+mod entries;
+#[cfg(test)]
+mod entry_lists;
+#[cfg(test)]
+mod history;
+#[cfg(test)]
+mod marks;
+#[cfg(test)]
+mod one_shard;
+#[cfg(test)]
+mod register;
+#[cfg(test)]
+mod shard;
+#[cfg(test)]
+mod trie;
+#[cfg(test)]
+mod weaving;

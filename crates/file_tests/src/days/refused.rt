@@ -1,0 +1,412 @@
+// Malformed files, each with the kind of its refusal and the place.
+use blt_reader::FaultKind::{
+    BadBatch, BadByte, BadHeader, BadLots, BadNumber, BadOmega, BadPlaces, BadRevision, BadTeam,
+    BadWithdrawn, BallotsInRoll, BatchTooLarge, Ended, NameExpected, NoSuchCandidate, Repeated,
+    TooManyFreezes, Trailing, WordExpected,
+};
+use blt_reader::{BltStop, FaultKind, InputFault};
+use day_reader::read_day;
+use std::alloc::Global;
+use std::process::Abort;
+use std::test::Fail;
+
+/// Two candidates and their lots, 29 bytes.
+const HEAD: &[u8] = b"2 1\n0\n\"A\" \"B\" \"T\"\nlots 2 1 0\n";
+
+/// Why a file is refused, if it is.
+fn fault_of(alloc: Global, file: &[u8]) -> Result<Option<InputFault>, Fail> {
+    match read_day(alloc, file) {
+        Ok(_) => Ok(None),
+        Err(BltStop::Fault(fault)) => Ok(Some(fault)),
+        Err(stop) => Err(stop)?,
+    }
+}
+
+/// Why the file of this front and this rest is refused, if it is.
+fn answer(alloc: Global, front: &[u8], rest: &[u8]) -> Result<Option<InputFault>, Fail> {
+    let mut file = front.to_vec(alloc)?;
+    file.extend_from_slice(rest)?;
+    fault_of(alloc, file.as_slice())
+}
+
+/// The first file that is not refused for its reason at its place, with what is said of it.
+fn first_wrong(
+    alloc: Global,
+    front: &[u8],
+    files: &[(&[u8], FaultKind, usize)],
+) -> Result<Option<(usize, Option<InputFault>)>, Fail> {
+    for (i, (rest, kind, at)) in files.iter().enumerate() {
+        let fault = answer(alloc, front, rest)?;
+        if fault != Some(InputFault::new(*kind, *at)) {
+            return Ok(Some((i, fault)));
+        }
+    }
+    Ok(None)
+}
+
+/// Each file is refused for this reason at this place.
+fn refused(
+    rt: &impl Abort,
+    alloc: Global,
+    front: &[u8],
+    files: &[(&[u8], FaultKind, usize)],
+) -> Result<(), Fail> {
+    assert_eq!(rt; first_wrong(alloc, front, files)?, None);
+    Ok(())
+}
+
+#[test]
+fn in_the_roll(rt: HostRuntime) -> Result<(), Fail> {
+    refused(
+        &rt,
+        rt.alloc(),
+        b"",
+        &[
+            (b"", Ended, 0),
+            (b"0 1", BadHeader, 0),
+            (b"1 team", BadHeader, 2),
+            (b"2 1\n-3", BadWithdrawn, 4),
+            (b"2 1\n1 1 0\n0\n", BallotsInRoll, 4),
+            (b"2 1\n-1 7", BallotsInRoll, 7),
+            (b"1 1 lots", BadNumber, 4),
+            (b"1 1 0 lots", NameExpected, 6),
+            (b"1 1 0 \"A\" lots", NameExpected, 10),
+            (b"1 1 0 \"A\" \"", Ended, 11),
+            (b"1 1 0 Lots", BadByte, 6),
+        ],
+    )
+}
+
+#[test]
+fn behind_the_title(rt: HostRuntime) -> Result<(), Fail> {
+    refused(
+        &rt,
+        rt.alloc(),
+        b"1 1 0 \"A\" \"T\" ",
+        &[
+            (b"", Ended, 14),
+            (b"\"x\"", Ended, 17),
+            (b"5", WordExpected, 14),
+            (b"-1", WordExpected, 14),
+            (b"end", WordExpected, 14),
+            (b"team 1", WordExpected, 14),
+            (b"lot 1", WordExpected, 14),
+            (b"lotss 1", WordExpected, 14),
+            (b"\"x\" places 9", WordExpected, 18),
+            (b"lots1", BadByte, 18),
+        ],
+    )
+}
+
+#[test]
+fn among_the_lots(rt: HostRuntime) -> Result<(), Fail> {
+    refused(
+        &rt,
+        rt.alloc(),
+        b"2 1 0 \"A\" \"B\" \"T\" lots ",
+        &[
+            (b"", Ended, 23),
+            (b"0", BadLots, 23),
+            (b"3", BadLots, 23),
+            (b"4294967297", BadLots, 23),
+            (b"-1", BadNumber, 23),
+            (b"\"A\"", BadNumber, 23),
+            (b"end", BadNumber, 23),
+            (b"2 2 0", BadLots, 25),
+            (b"2 0", BadLots, 25),
+            (b"2 1 1 0", BadLots, 27),
+            (b"2 1", Ended, 26),
+        ],
+    )
+}
+
+#[test]
+fn behind_the_lots(rt: HostRuntime) -> Result<(), Fail> {
+    refused(
+        &rt,
+        rt.alloc(),
+        HEAD,
+        &[
+            (b"", Ended, 29),
+            (b"enter 7\n0\nend\n", WordExpected, 29),
+            (b"0", WordExpected, 29),
+            (b"-1", WordExpected, 29),
+            (b"\"x\"\nend\n", WordExpected, 29),
+            (b"lots 2 1 0", WordExpected, 29),
+            (b"omega 1", WordExpected, 29),
+            (b"freeze", WordExpected, 29),
+            (b"strike 1", WordExpected, 29),
+            (b"teamx 1\nend\n", WordExpected, 29),
+            (b"TEAM 1\nend\n", BadByte, 29),
+        ],
+    )
+}
+
+#[test]
+fn at_the_places(rt: HostRuntime) -> Result<(), Fail> {
+    refused(
+        &rt,
+        rt.alloc(),
+        HEAD,
+        &[
+            (b"places", Ended, 35),
+            (b"places 5 omega 1\n", BadPlaces, 36),
+            (b"places 10 omega 1\n", BadPlaces, 36),
+            (b"places 0", BadPlaces, 36),
+            (b"places -6", BadNumber, 36),
+            (b"places \"6\"", BadNumber, 36),
+            (b"places omega 1", BadNumber, 36),
+            (b"places 6", Ended, 37),
+            (b"places 6 team 1\n", WordExpected, 38),
+            (b"places 6 1", WordExpected, 38),
+            (b"places 6 \"omega\"", WordExpected, 38),
+        ],
+    )
+}
+
+#[test]
+fn at_the_omega(rt: HostRuntime) -> Result<(), Fail> {
+    refused(
+        &rt,
+        rt.alloc(),
+        HEAD,
+        &[
+            (b"places 6 omega", Ended, 43),
+            (b"places 6 omega 0\n", BadOmega, 44),
+            (b"places 6 omega 1000001", BadOmega, 44),
+            (b"places 9 omega 4294967297", BadOmega, 44),
+            (b"places 6 omega -1", BadNumber, 44),
+            (b"places 6 omega team", BadNumber, 44),
+            (b"places 6 omega \"1\"", BadNumber, 44),
+            (b"places 6 omega 1", Ended, 45),
+            (b"places 6 omega 1 places 6", WordExpected, 46),
+            (b"places 6 omega 1 omega 1", WordExpected, 46),
+            (b"places 6 omega 1 7", WordExpected, 46),
+        ],
+    )
+}
+
+#[test]
+fn at_the_number_of_a_team(rt: HostRuntime) -> Result<(), Fail> {
+    refused(
+        &rt,
+        rt.alloc(),
+        HEAD,
+        &[
+            (b"team", Ended, 33),
+            (b"team 0\nend\n", BadTeam, 34),
+            (b"team 17\nend\n", BadTeam, 34),
+            (b"team 4294967297", BadTeam, 34),
+            (b"team -1", BadNumber, 34),
+            (b"team \"1\"", BadNumber, 34),
+            (b"team one", BadNumber, 34),
+            (b"team 1\nteam 1\nend\n", BadTeam, 41),
+            (b"team 2\nteam 1\nteam 2\nend\n", BadTeam, 48),
+            (b"team 1 team", Ended, 40),
+        ],
+    )
+}
+
+#[test]
+fn at_a_seventeenth_team(rt: HostRuntime) -> Result<(), Fail> {
+    refused(
+        &rt,
+        rt.alloc(),
+        HEAD,
+        &[(
+            b"team 1\nteam 2\nteam 3\nteam 4\nteam 5\nteam 6\nteam 7\nteam 8\nteam 9\nteam 10\nteam 11\nteam 12\nteam 13\nteam 14\nteam 15\nteam 16\nteam 1\nend\n",
+            BadTeam,
+            148,
+        )],
+    )
+}
+
+#[test]
+fn within_a_team(rt: HostRuntime) -> Result<(), Fail> {
+    refused(
+        &rt,
+        rt.alloc(),
+        HEAD,
+        &[
+            (b"team 1\n", Ended, 36),
+            (b"team 1\n7", WordExpected, 36),
+            (b"team 1\n-1", WordExpected, 36),
+            (b"team 1\n\"x\"", WordExpected, 36),
+            (b"team 1\nplaces 6\n", WordExpected, 36),
+            (b"team 1\nlots 1 2 0", WordExpected, 36),
+            (b"team 1\nomega 1", WordExpected, 36),
+            (b"team 1\ncorrects 1 1", WordExpected, 36),
+            (b"team 1\nwithdraw 7 1 1", WordExpected, 49),
+            (b"team 1\nstrike 1 1", WordExpected, 45),
+            (b"team 1\nfreeze7", BadByte, 42),
+        ],
+    )
+}
+
+#[test]
+fn at_a_ninth_freeze(rt: HostRuntime) -> Result<(), Fail> {
+    refused(
+        &rt,
+        rt.alloc(),
+        HEAD,
+        &[
+            (
+                b"team 1\nfreeze\nfreeze\nfreeze\nfreeze\nfreeze\nfreeze\nfreeze\nfreeze\nfreeze\nend\n",
+                TooManyFreezes,
+                92,
+            ),
+            (
+                b"team 1\nfreeze\nfreeze\nfreeze\nfreeze\nteam 2\nfreeze\nfreeze\nfreeze\nfreeze\nfreeze\n",
+                TooManyFreezes,
+                99,
+            ),
+        ],
+    )
+}
+
+#[test]
+fn at_a_batch(rt: HostRuntime) -> Result<(), Fail> {
+    refused(
+        &rt,
+        rt.alloc(),
+        HEAD,
+        &[
+            (b"team 1\nenter", Ended, 41),
+            (b"team 1\nenter 0", BadBatch, 42),
+            (b"team 1\nenter 10000\n0\nend\n", BadBatch, 42),
+            (b"team 1\nenter -1", BadNumber, 42),
+            (b"team 1\nenter \"1\"", BadNumber, 42),
+            (b"team 1\nenter end", BadNumber, 42),
+            (b"team 1\ncorrect 0 1", BadBatch, 44),
+            (b"team 1\ncorrect -7 1", BadNumber, 44),
+            (b"team 1\nwithdraw 10000 1", BadBatch, 45),
+            (b"team 1\nwithdraw", Ended, 44),
+        ],
+    )
+}
+
+#[test]
+fn at_a_revision(rt: HostRuntime) -> Result<(), Fail> {
+    refused(
+        &rt,
+        rt.alloc(),
+        HEAD,
+        &[
+            (b"team 1\nwithdraw 7 0\nend\n", BadRevision, 47),
+            (b"team 1\nwithdraw 7 10000", BadRevision, 47),
+            (b"team 1\nwithdraw 7 -1", BadNumber, 47),
+            (b"team 1\nwithdraw 7 end", BadNumber, 47),
+            (b"team 1\nwithdraw 7", Ended, 46),
+            (b"team 1\ncorrect 7 0", BadRevision, 46),
+            (b"team 1\ncorrect 7 10000\n0\nend\n", BadRevision, 46),
+            (b"team 1\ncorrect 7 \"1\"", BadNumber, 46),
+            (b"team 1\ncorrect 7 team", BadNumber, 46),
+            (b"team 1\ncorrect 7", Ended, 45),
+        ],
+    )
+}
+
+#[test]
+fn among_the_ballots(rt: HostRuntime) -> Result<(), Fail> {
+    refused(
+        &rt,
+        rt.alloc(),
+        HEAD,
+        &[
+            (b"team 1\nenter 7\n", Ended, 44),
+            (b"team 1\nenter 7\n-1", BadNumber, 44),
+            (b"team 1\nenter 7\n\"A\"", BadNumber, 44),
+            (b"team 1\nenter 7\nend", BadNumber, 44),
+            (b"team 1\nenter 7\n1 3 0", NoSuchCandidate, 46),
+            (b"team 1\nenter 7\n1 1 1 0\n", Repeated, 48),
+            (b"team 1\nenter 7\n1 -1", BadNumber, 46),
+            (b"team 1\nenter 7\n1 1 team", BadNumber, 48),
+            (b"team 1\nenter 7\n1 1", Ended, 47),
+            (b"team 1\nenter 7\n0\n0", WordExpected, 46),
+        ],
+    )
+}
+
+#[test]
+fn at_a_ballot_too_many(rt: HostRuntime) -> Result<(), Fail> {
+    refused(
+        &rt,
+        rt.alloc(),
+        HEAD,
+        &[
+            (b"team 1\nenter 7\n100001 1 0\n0\nend\n", BatchTooLarge, 44),
+            (b"team 1\nenter 7\n4294967296 1 0\n", BatchTooLarge, 44),
+            (
+                b"team 1\nenter 7\n100000 1 0\n1 2 0\n0\n",
+                BatchTooLarge,
+                55,
+            ),
+            (b"team 1\ncorrect 7 1\n100001 1 0\n", BatchTooLarge, 48),
+        ],
+    )
+}
+
+#[test]
+fn at_a_candidate_to_strike(rt: HostRuntime) -> Result<(), Fail> {
+    refused(
+        &rt,
+        rt.alloc(),
+        HEAD,
+        &[
+            (b"team 1\nstrike 3\nend\n", NoSuchCandidate, 43),
+            (b"team 1\nstrike 0", NoSuchCandidate, 43),
+            (b"team 1\nstrike 4294967297", NoSuchCandidate, 43),
+            (b"team 1\nstrike -1", BadNumber, 43),
+            (b"team 1\nstrike \"A\"", BadNumber, 43),
+            (b"team 1\nstrike end", BadNumber, 43),
+            (b"team 1\nstrike", Ended, 42),
+        ],
+    )
+}
+
+#[test]
+fn behind_the_end(rt: HostRuntime) -> Result<(), Fail> {
+    refused(
+        &rt,
+        rt.alloc(),
+        HEAD,
+        &[
+            (b"end\nend\n", Trailing, 33),
+            (b"end 7", Trailing, 33),
+            (b"end -1", Trailing, 33),
+            (b"end \"x\"\n", Trailing, 33),
+            (b"end team 1", Trailing, 33),
+            (b"team 1 end freeze", Trailing, 40),
+            (b"end End", BadByte, 33),
+            (b"end -", BadByte, 33),
+            (b"end.", BadByte, 32),
+            (b"end \"x", Ended, 35),
+        ],
+    )
+}
+
+// The mark's three bytes count in places.
+#[test]
+fn behind_a_mark(rt: HostRuntime) -> Result<(), Fail> {
+    refused(
+        &rt,
+        rt.alloc(),
+        b"\xEF\xBB\xBF1 1 0 \"A\" \"T\" ",
+        &[
+            (b"", Ended, 17),
+            (b"end", WordExpected, 17),
+            (b"lots 0", BadLots, 22),
+            (b"lots 1 0 places 5", BadPlaces, 33),
+            (b"lots 1 0 team 0", BadTeam, 31),
+            (b"lots 1 0 end end", Trailing, 30),
+        ],
+    )
+}
+
+// No run in the tests of the program prints these words.
+#[test]
+fn in_words_of_their_kinds(rt: HostRuntime) {
+    let words = [BallotsInRoll.word(), BadOmega.word(), TooManyFreezes.word()];
+    let due = [b"BallotsInRoll".as_slice(), b"BadOmega", b"TooManyFreezes"];
+    assert_eq!(rt; words, due);
+}

@@ -1,0 +1,58 @@
+// What a test looks for in an election that was read.
+use candidate_roll::Roll;
+use plain_ballots::{BallotLine, Ballots};
+use std::process::Abort;
+
+/// An election: its lines as counts with rankings, and its names in number order.
+#[derive(Clone, Copy)]
+pub(crate) struct Due<'a> {
+    pub seats: u32,
+    pub withdrawn: &'a [u32],
+    pub lines: &'a [(u32, &'a [u32])],
+    pub names: &'a [&'a [u8]],
+    pub title: &'a [u8],
+}
+
+/// The roll has the seats, the title, the names and the withdrawn that are due.
+pub(crate) fn has_roll(rt: &impl Abort, roll: &Roll, due: &Due) {
+    let said = (
+        roll.seats(),
+        roll.candidates() as usize,
+        roll.title().bytes(),
+    );
+    assert_eq!(rt; said, (due.seats, due.names.len(), due.title));
+    for (c, name) in (1..251).zip(due.names) {
+        let said = said_of(roll, c);
+        assert_eq!(rt; said, Some((*name, due.withdrawn.contains(&c))));
+    }
+}
+
+/// The name of a candidate, and whether it is withdrawn.
+pub(crate) fn said_of(roll: &Roll, c: u32) -> Option<(&[u8], bool)> {
+    if c < 1 || roll.candidates() < c {
+        return None;
+    }
+    Some((roll.name(c).bytes(), roll.is_withdrawn(c)))
+}
+
+/// The ballots have so many candidates and ballots, and these lines.
+pub(crate) fn has_ballots(
+    rt: &impl Abort,
+    ballots: &Ballots,
+    candidates: u32,
+    total: u64,
+    lines: &[(u32, &[u32])],
+) {
+    assert_eq!(rt;
+        (ballots.candidates(), ballots.total()),
+        (candidates, total)
+    );
+    has_lines(rt, ballots.lines(), lines);
+}
+
+pub(crate) fn has_lines(rt: &impl Abort, lines: &[BallotLine], due: &[(u32, &[u32])]) {
+    assert_eq!(rt; lines.len(), due.len());
+    for (line, due) in lines.iter().zip(due) {
+        assert_eq!(rt; (line.count, line.ranking.ranks()), *due);
+    }
+}

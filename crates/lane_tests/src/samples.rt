@@ -1,0 +1,46 @@
+// Ballots for the tests, and the rows that plans of them have.
+ghost use Rattle.std.specs.Prelude.{◌≡◌, IfOk};
+
+use frozen_plan::Plan;
+use plain_ballots::{BallotLine, Ballots, Ranking};
+use std::alloc::Global;
+use std::process::Abort;
+use std::test::Fail;
+
+/// How many ballots there are of a ranking.
+pub(crate) type Line = (u32, &'static [u32]);
+
+/// The depth, the candidate, the ballots and the skip of a row.
+pub(crate) type RowFigures = (u16, u16, u64, usize);
+
+/// Adds a line.
+fn add(alloc: Global, ballots: &mut Ballots, line: &Line) -> Result<(), Fail>
+    ensures { ballots.new.candidates ≡ ballots.old.candidates }
+{
+    let (count, ranks) = *line;
+    if count == 0 {
+        return Err(Fail::from("a line without ballots"));
+    }
+    let ranking = Ranking::try_new(alloc, ballots.candidates(), ranks)?;
+    ballots.push_line(BallotLine { count, ranking })?;
+    Ok(())
+}
+
+/// So many ballots of each ranking.
+pub(crate) fn ballots_of(alloc: Global, candidates: u32, lines: &[Line]) -> Result<Ballots, Fail>
+    ensures { IfOk result (λ ballots. ballots.candidates ≡ candidates) }
+{
+    let mut ballots = Ballots::new(alloc, candidates);
+    for line in lines {
+        add(alloc, &mut ballots, line)?;
+    }
+    Ok(ballots)
+}
+
+/// A plan has these rows.
+pub(crate) fn has_rows(rt: &impl Abort, plan: &Plan, rows: &[RowFigures]) {
+    assert_eq!(rt; plan.rows().len(), rows.len());
+    for (row, figures) in plan.rows().iter().zip(rows) {
+        assert_eq!(rt; (row.depth, row.candidate, row.ballots, row.skip), *figures);
+    }
+}

@@ -1,0 +1,21 @@
+//! Ballot files in their canonical form, as a program.
+#![tactic(auto)]
+
+use blt_normal::normal;
+use byte_edge::{StdSink, StdSource};
+use std::io::{self, BufWriter};
+use std::process::ExitCode;
+use tool_edge::{End, NO_WORDS, words_of};
+
+fn main(rt: HostRuntime) -> ExitCode {
+    let Ok(words) = words_of(&rt) else {
+        return ExitCode::from(NO_WORDS);
+    };
+    let Ok(writer) = BufWriter::new(rt.alloc(), io::writer(&rt)) else {
+        return End::NoMemory.exit_code();
+    };
+    let mut source = StdSource::new(rt.reader());
+    let mut sink = StdSink::new(writer);
+    let end = normal(&rt, rt.alloc(), words.as_slice(), &mut source, &mut sink);
+    end.exit_code()
+}

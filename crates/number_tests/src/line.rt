@@ -1,0 +1,86 @@
+// Tests of line_text: line.
+ghost use Rattle.std.specs.Prelude.{◌≡◌, ◌≤◌};
+ghost use Rattle.fixed_place.specs.Rounding.{scale, most};
+
+use fixed_place::{Amount, Keep};
+use line_text::Line;
+use std::process::Abort;
+
+/// This whole number has this text.
+#[tactic(auto, using(line_text::proofs::Lengths::lengths))]
+fn count_says(rt: &impl Abort, n: u64, text: &[u8]) {
+    let mut line = Line::new();
+    line.push_count(n);
+    assert_eq!(rt; line.bytes(), text);
+}
+
+/// So many units of votes have this text.
+#[tactic(auto, using(line_text::proofs::Lengths::lengths))]
+fn amount_says<const P: usize>(rt: &impl Abort, units: u64, text: &[u8])
+    requires places { (6 ≤ P) × (P ≤ 9) }
+    requires bound { units ≤ most P }
+{
+    let mut line = Line::new();
+    line.push_amount(Amount::<P>::from_units(units));
+    assert_eq!(rt; line.bytes(), text);
+}
+
+/// So many units of a keep value have this text.
+#[tactic(auto, using(line_text::proofs::Lengths::lengths))]
+fn keep_says<const P: usize>(rt: &impl Abort, units: u64, text: &[u8])
+    requires places { (6 ≤ P) × (P ≤ 9) }
+    requires bound { units ≤ scale P }
+{
+    let mut line = Line::new();
+    line.push_keep(Keep::<P>::from_units(units));
+    assert_eq!(rt; line.bytes(), text);
+}
+
+#[test]
+#[tactic(auto, using(line_text::proofs::Lengths::lengths))]
+fn begins_empty_and_clears(rt: HostRuntime) {
+    let mut line = Line::new();
+    line.push_bytes(b"end");
+    line.clear();
+    line.push_bytes(b"seats ");
+    line.push_count(2);
+    assert_eq!(rt; line.bytes(), b"seats 2".as_slice());
+}
+
+#[test]
+fn fills_up(rt: HostRuntime) {
+    let mut line = Line::new();
+    line.push_bytes(&[b'a'; 1399]);
+    line.push_bytes(b"b");
+    assert_eq!(rt;
+        (line.bytes().len(), line.bytes().last()),
+        (1400, Some(&b'b'))
+    );
+}
+
+#[test]
+fn prints_whole_numbers(rt: HostRuntime) {
+    count_says(&rt, 0, b"0");
+    count_says(&rt, 7, b"7");
+    count_says(&rt, 250, b"250");
+    count_says(&rt, u64::MAX, b"18446744073709551615");
+}
+
+#[test]
+fn prints_as_many_digits_as_places(rt: HostRuntime) {
+    amount_says::<6>(&rt, 5_666_670, b"5.666670");
+    keep_says::<6>(&rt, 566_667, b"0.566667");
+    amount_says::<7>(&rt, 12, b"0.0000012");
+    amount_says::<8>(&rt, 1_020_000_000, b"10.20000000");
+    keep_says::<8>(&rt, 100_000_000, b"1.00000000");
+    keep_says::<9>(&rt, 571_428_572, b"0.571428572");
+}
+
+#[test]
+fn prints_amounts_at_nine_places(rt: HostRuntime) {
+    amount_says::<9>(&rt, 0, b"0.000000000");
+    amount_says::<9>(&rt, 1, b"0.000000001");
+    amount_says::<9>(&rt, 4_000_000_001, b"4.000000001");
+    amount_says::<9>(&rt, 999_999_999_000_000_000, b"999999999.000000000");
+    amount_says::<9>(&rt, 1_000_000_000_000_000_000, b"1000000000.000000000");
+}

@@ -1,0 +1,103 @@
+// Elections for the tests.
+ghost use Rattle.std.specs.Prelude.{◌≡◌, ◌≤◌, IfOk};
+ghost use Rattle.fixed_place.specs.Rounding.{scale};
+ghost use Rattle.meek_count.specs.Progress.{HasJustBegun};
+
+use candidate_roll::{Name, Names, Roll};
+use fixed_place::Amount;
+use lot_order::Lots;
+use meek_count::Count;
+use meek_rule::{FlatSpread, NoMemory};
+use plain_ballots::{BallotLine, Ballots, Ranking, lines_stand_for_ballots};
+use std::alloc::Global;
+use std::process::Abort;
+use std::test::Fail;
+
+/// An election: its seats, a letter for each candidate's name, its lots, and how many ballots there are
+/// of each ranking.
+#[derive(Clone, Copy)]
+pub(crate) struct Election {
+    pub(crate) seats: u32,
+    pub(crate) letters: &'static [u8],
+    pub(crate) lots: &'static [u32],
+    pub(crate) lines: &'static [(u32, &'static [u32])],
+}
+
+/// Ten ballots for A, four for B and three for C.
+pub(crate) const TEN_FOUR_THREE: Election = Election {
+    seats: 2,
+    letters: b"ABC",
+    lots: &[1, 2, 3],
+    lines: &[(10, &[1]), (4, &[2]), (3, &[3])],
+};
+
+/// The candidates' names, a letter each.
+fn names_of(alloc: Global, letters: &[u8]) -> Result<Names, Fail> {
+    let mut names = Names::new(alloc);
+    for letter in letters {
+        names.push(Name::try_new(alloc, &[*letter])?)?;
+    }
+    Ok(names)
+}
+
+/// A roll of these candidates.
+pub(crate) fn roll_with(
+    alloc: Global,
+    seats: u32,
+    names: Names,
+    title: &[u8],
+) -> Result<Roll, Fail> {
+    let title = Name::try_new(alloc, title)?;
+    Ok(Roll::try_new(alloc, seats, names, title, &[])?)
+}
+
+/// The roll of an election, whose title is `T`, and its lots.
+pub(crate) fn roll_and_lots(alloc: Global, election: &Election) -> Result<(Roll, Lots), Fail> {
+    let names = names_of(alloc, election.letters)?;
+    let roll = roll_with(alloc, election.seats, names, b"T")?;
+    let lots = Lots::try_new(alloc, election.lots, roll.candidates())?;
+    Ok((roll, lots))
+}
+
+/// Adds a line.
+fn add(alloc: Global, ballots: &mut Ballots, line: (u32, &[u32])) -> Result<(), Fail> {
+    let (count, ranks) = line;
+    if count == 0 {
+        return Err(Fail::from("a line without ballots"));
+    }
+    let ranking = Ranking::try_new(alloc, ballots.candidates(), ranks)?;
+    ballots.push_line(BallotLine { count, ranking })?;
+    Ok(())
+}
+
+/// So many ballots of each ranking.
+pub(crate) fn ballots_of(
+    alloc: Global,
+    candidates: u32,
+    lines: &[(u32, &[u32])],
+) -> Result<Ballots, Fail> {
+    let mut ballots = Ballots::new(alloc, candidates);
+    for line in lines {
+        add(alloc, &mut ballots, *line)?;
+    }
+    Ok(ballots)
+}
+
+/// Begins the count of these ballots.
+pub(crate) fn begin<'a, const P: usize>(
+    rt: &impl Abort,
+    alloc: Global,
+    roll: &'a Roll,
+    lots: &'a Lots,
+    ballots: Ballots,
+    omega: Amount<P>,
+) -> Result<Count<'a, P, FlatSpread>, NoMemory>
+    requires { (1 ≤ omega) × (omega ≤ 1000000) }
+    ensures { IfOk result (HasJustBegun (scale P)) }
+{
+    let (candidates, all) = (ballots.candidates(), roll.candidates());
+    assert!(rt; lots.candidates() == all && candidates == all);
+    let _sound = ballots.lines();
+    lines_stand_for_ballots();
+    Count::begin(alloc, roll, lots, FlatSpread::new(ballots), omega)
+}

@@ -1,0 +1,23 @@
+//! Whether a text is the sheet of an election: the count is run again, and what it writes is compared
+//! with the text as it comes.
+//!
+//! [`judge`] gives the verdict on a text, an election and its lots; [`verdicts_are_unique`] says that
+//! each text has one. [`check`] is the whole tool, over an input that is a sheet and behind it a ballot
+//! file.
+#![tactic(auto)]
+
+mod comparing;
+mod contest_behind;
+mod judging;
+mod laws;
+mod no_memory;
+mod split;
+mod tool;
+mod verdict;
+mod verdict_line;
+
+pub use judging::judge;
+pub use laws::verdicts_are_unique;
+pub use no_memory::NoMemory;
+pub use tool::check;
+pub use verdict::Verdict;

@@ -1,0 +1,31 @@
+//! A sheet shown to people and to programs: as a page of its own, as a table for spreadsheets, or as
+//! JSON.
+//!
+//! [`page`] is the whole tool: [`takes_format`] reads the words, `read_sheet` the values, and what is
+//! written is a function of these values.
+#![tactic(auto)]
+
+mod cell;
+mod csv;
+mod elected;
+mod format;
+mod html;
+mod iterations;
+mod json;
+mod json_text;
+mod laws;
+mod page_end;
+mod pen;
+mod picture;
+mod piece;
+mod round_parts;
+mod rounds;
+mod tool;
+mod values;
+mod words;
+
+pub use format::Format;
+pub use laws::{pages_nest, strings_are_read_back, tables_are_read_back};
+pub use page_end::PageEnd;
+pub use tool::page;
+pub use words::takes_format;

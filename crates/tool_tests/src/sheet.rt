@@ -1,0 +1,75 @@
+// Tests of sheet_reader: sheet.
+use candidate_roll::State;
+use meek_rule::Step;
+use sheet_reader::{SheetStop, check_form, read_sheet};
+use std::alloc::Global;
+use std::test::Fail;
+
+const SAMPLE: &[u8] =
+    b"title Sample\nseats 2\ncandidates 4\nballots 13\nround 1 iteration 1\n1 hopeful 1.000000000 7.000000000\n2 withdrawn 0.000000000 0.000000000\n3 hopeful 1.000000000 1.000000000\n4 hopeful 1.000000000 4.000000000\ntotal 12.000000000\nquota 4.000000001\nsurplus 2.999999999\nelected 1\nstep elected\nround 2 iteration 1\n1 elected 1.000000000 7.000000000\n2 withdrawn 0.000000000 0.000000000\n3 hopeful 1.000000000 1.000000000\n4 hopeful 1.000000000 4.000000000\ntotal 12.000000000\nquota 4.000000001\nsurplus 2.999999999\nstep iterate\nround 2 iteration 2\n1 elected 0.571428572 4.000000004\n2 withdrawn 0.000000000 0.000000000\n3 hopeful 1.000000000 3.999999996\n4 hopeful 1.000000000 4.000000000\ntotal 12.000000000\nquota 4.000000001\nsurplus 0.000000003\nstep defeat 3 tied 3\nresult\n1 elected Ann\n2 withdrawn Ben\n3 defeated Cid\n4 elected Dee\nend\n";
+
+#[test]
+fn the_sample_sheet_says_its_values(rt: HostRuntime) -> Result<(), Fail> {
+    let values = read_sheet(rt.alloc(), SAMPLE)?;
+    assert_eq!(rt; values.title.bytes(), b"Sample".as_slice());
+    assert_eq!(rt; (values.seats, values.ballots), (2, 13));
+    assert_eq!(rt; (values.names.len(), values.rows.len()), (4, 3));
+    let row = values.rows.items().get(2).ok_or("no third row")?;
+    assert_eq!(rt;
+        (row.round, row.iteration, row.step),
+        (2, 2, Step::Defeat(3))
+    );
+    let vote = row.votes.items().get(2).ok_or("no third vote")?;
+    assert_eq!(rt; vote.units(), 3_999_999_996);
+    assert_eq!(rt; row.tied.items(), [false, false, true, false].as_slice());
+    let last = [
+        State::Elected,
+        State::Withdrawn,
+        State::Defeated,
+        State::Elected,
+    ];
+    assert_eq!(rt; values.last.items(), last.as_slice());
+    Ok(())
+}
+
+/// Both readers of sheets take this text, or refuse it as malformed.
+fn is_taken(alloc: Global, text: &[u8]) -> Result<bool, SheetStop> {
+    let checked = check_form(alloc, text);
+    match read_sheet(alloc, text) {
+        Ok(_) => checked.and(Ok(true)),
+        Err(stop) => match checked {
+            Err(SheetStop::Malformed) if stop == SheetStop::Malformed => Ok(false),
+            _ => Err(stop),
+        },
+    }
+}
+
+#[test]
+fn sheets_are_taken_by_both_readers(rt: HostRuntime) -> Result<(), Fail> {
+    assert_eq!(rt; is_taken(rt.alloc(), SAMPLE), Ok(true));
+    let short = b"title \nseats 1\ncandidates 1\nballots 0\nresult\n1 elected \nend\n";
+    assert_eq!(rt; is_taken(rt.alloc(), short), Ok(true));
+    Ok(())
+}
+
+#[test]
+fn other_texts_are_malformed(rt: HostRuntime) -> Result<(), Fail> {
+    let others = [
+        b"".as_slice(),
+        b"title \nseats 1\ncandidates 1\nballots 0\nresult\n1 elected \nend",
+        b"title \nseats 1\ncandidates 1\nballots 0\nresult\n1 elected \nend\n\n",
+        b"title \nseats 01\ncandidates 1\nballots 0\nresult\n1 elected \nend\n",
+        b"title \nseats 0\ncandidates 1\nballots 0\nresult\n1 elected \nend\n",
+        b"title \nseats 1\ncandidates 2\nballots 0\nresult\n1 elected \nend\n",
+        b"title \nseats 1\ncandidates 1\nballots 0\nresult\n1 elected\nend\n",
+        b"title \nseats 1\ncandidates 1\nballots 0\nresult\n2 elected \nend\n",
+        b"title \nseats 251\ncandidates 1\nballots 0\nresult\n1 elected \nend\n",
+        b"title \nseats 1\ncandidates 0\nballots 0\nresult\nend\n",
+        b"title \nseats 1\ncandidates 1\nballots 1000000000\nresult\n1 elected \nend\n",
+        b"title \nseats 1\ncandidates 2\nballots 0\nround 1 iteration 1\n1 hopeful 1.000000000 0.000000000\n2 hopeful 1.000000000 0.000000000\ntotal 0.000000000\nquota 0.000000001\nsurplus 0.000000000\nstep defeat 1 tied 2\nresult\n1 defeated \n2 elected \nend\n",
+    ];
+    for text in others {
+        assert_eq!(rt; is_taken(rt.alloc(), text), Ok(false));
+    }
+    Ok(())
+}

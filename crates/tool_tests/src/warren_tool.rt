@@ -1,0 +1,157 @@
+// Whole runs over memory: an election that Meek's rule counts alike, one that it counts otherwise, refusals, and
+// a source or a sink that fails. Expected bytes were worked out by a program that was written from the rule.
+use crate::memory::{sink_of, source_of, words_of};
+use blt_reader::{FaultKind, InputFault};
+use std::alloc::Global;
+use std::test::Fail;
+use tool_edge::End;
+use warren_cli::warren;
+
+const ALIKE: &[u8] = b"3 2\n10 1 0\n4 2 0\n3 3 0\n0\n\"A\"\n\"B\"\n\"C\"\n\"T\"\n";
+
+const ALIKE_SHEET: &[u8] = b"title T\nseats 2\ncandidates 3\nballots 17\n\
+round 1 iteration 1\n1 hopeful 1.000000000 10.000000000\n2 hopeful 1.000000000 4.000000000\n\
+3 hopeful 1.000000000 3.000000000\ntotal 17.000000000\nquota 5.666666667\nsurplus 4.333333333\n\
+elected 1\nstep elected\n\
+round 2 iteration 1\n1 elected 1.000000000 10.000000000\n2 hopeful 1.000000000 4.000000000\n\
+3 hopeful 1.000000000 3.000000000\ntotal 17.000000000\nquota 5.666666667\nsurplus 4.333333333\n\
+step iterate\n\
+round 2 iteration 2\n1 elected 0.566666667 5.666666670\n2 hopeful 1.000000000 4.000000000\n\
+3 hopeful 1.000000000 3.000000000\ntotal 12.666666670\nquota 4.222222224\nsurplus 1.444444446\n\
+step iterate\n\
+round 2 iteration 3\n1 elected 0.422222223 4.222222230\n2 hopeful 1.000000000 4.000000000\n\
+3 hopeful 1.000000000 3.000000000\ntotal 11.222222230\nquota 3.740740744\nsurplus 0.740740742\n\
+elected 2\nstep elected\n\
+result\n1 elected A\n2 elected B\n3 defeated C\nend\n";
+
+const OTHERWISE: &[u8] =
+    b"4 3\n5 3 1 0\n9 4 3 2 0\n0\n\"Ann\"\n\"Ben\"\n\"Cid\"\n\"Dee\"\n\"Meek or Warren\"\n";
+
+const OTHERWISE_SHEET: &[u8] = b"title Meek or Warren\nseats 3\ncandidates 4\nballots 14\n\
+round 1 iteration 1\n1 hopeful 1.000000000 0.000000000\n2 hopeful 1.000000000 0.000000000\n\
+3 hopeful 1.000000000 5.000000000\n4 hopeful 1.000000000 9.000000000\ntotal 14.000000000\n\
+quota 3.500000001\nsurplus 6.999999998\nelected 3 4\nstep elected\n\
+round 2 iteration 1\n1 hopeful 1.000000000 0.000000000\n2 hopeful 1.000000000 0.000000000\n\
+3 elected 1.000000000 5.000000000\n4 elected 1.000000000 9.000000000\ntotal 14.000000000\n\
+quota 3.500000001\nsurplus 6.999999998\nstep iterate\n\
+round 2 iteration 2\n1 hopeful 1.000000000 1.499999995\n2 hopeful 1.000000000 0.000000000\n\
+3 elected 0.700000001 9.000000004\n4 elected 0.388888889 3.500000001\ntotal 14.000000000\n\
+quota 3.500000001\nsurplus 5.500000003\nstep iterate\n\
+round 2 iteration 3\n1 hopeful 1.000000000 3.638888885\n2 hopeful 1.000000000 3.049999983\n\
+3 elected 0.272222223 3.811111122\n4 elected 0.388888890 3.500000010\ntotal 14.000000000\n\
+quota 3.500000001\nsurplus 0.450000014\nelected 1\nstep elected\n\
+result\n1 elected Ann\n2 defeated Ben\n3 elected Cid\n4 elected Dee\nend\n";
+
+// What a surplus below omega comes to, and one of omega itself, which is transferred.
+const AT_OMEGA: [(&[u8], &[u8]); 2] = [
+    (
+        b"3 2\n1000 1 3 0\n600 2 0\n200 3 0\n0\n\"A\" \"B\" \"C\" \"T\"\n",
+        b"title T\nseats 2\ncandidates 3\nballots 1800\n\
+round 1 iteration 1\n1 hopeful 1.000000000 1000.000000000\n2 hopeful 1.000000000 600.000000000\n\
+3 hopeful 1.000000000 200.000000000\ntotal 1800.000000000\nquota 600.000000001\nsurplus 399.999999999\n\
+elected 1\nstep elected\n\
+round 2 iteration 1\n1 elected 1.000000000 1000.000000000\n2 hopeful 1.000000000 600.000000000\n\
+3 hopeful 1.000000000 200.000000000\ntotal 1800.000000000\nquota 600.000000001\nsurplus 399.999999999\n\
+step iterate\n\
+round 2 iteration 2\n1 elected 0.600000001 600.000001000\n2 hopeful 1.000000000 600.000000000\n\
+3 hopeful 1.000000000 599.999999000\ntotal 1800.000000000\nquota 600.000000001\nsurplus 0.000000999\n\
+step defeat 3 tied 3\n\
+result\n1 elected A\n2 elected B\n3 defeated C\nend\n",
+    ),
+    (
+        b"3 2\n1003 1 3 0\n520 2 0\n37 3 0\n0\n\"A\" \"B\" \"C\" \"T\"\n",
+        b"title T\nseats 2\ncandidates 3\nballots 1560\n\
+round 1 iteration 1\n1 hopeful 1.000000000 1003.000000000\n2 hopeful 1.000000000 520.000000000\n\
+3 hopeful 1.000000000 37.000000000\ntotal 1560.000000000\nquota 520.000000001\nsurplus 482.999999999\n\
+elected 1\nstep elected\n\
+round 2 iteration 1\n1 elected 1.000000000 1003.000000000\n2 hopeful 1.000000000 520.000000000\n\
+3 hopeful 1.000000000 37.000000000\ntotal 1560.000000000\nquota 520.000000001\nsurplus 482.999999999\n\
+step iterate\n\
+round 2 iteration 2\n1 elected 0.518444667 520.000001001\n2 hopeful 1.000000000 520.000000000\n\
+3 hopeful 1.000000000 519.999998999\ntotal 1560.000000000\nquota 520.000000001\nsurplus 0.000001000\n\
+step iterate\n\
+round 2 iteration 3\n1 elected 0.518444667 520.000001001\n2 hopeful 1.000000000 520.000000000\n\
+3 hopeful 1.000000000 519.999998999\ntotal 1560.000000000\nquota 520.000000001\nsurplus 0.000001000\n\
+step defeat 3 tied 3\n\
+result\n1 elected A\n2 elected B\n3 defeated C\nend\n",
+    ),
+];
+
+/// How a run ended, and what it wrote.
+#[derive(Drop)]
+struct Ran {
+    end: End,
+    written: Vec<u8>,
+}
+
+/// A run over memory, at most 16 bytes a read; the calls with these numbers fail.
+fn run(
+    alloc: Global,
+    words: &str,
+    input: &[u8],
+    reads: &[u64],
+    writes: &[u64],
+) -> Result<Ran, Fail> {
+    let words = words_of(alloc, words)?;
+    let mut source = source_of(alloc, input, 16, reads)?;
+    let mut sink = sink_of(alloc, 10_000, 1_400, writes)?;
+    let end = warren(alloc, words.as_slice(), &mut source, &mut sink);
+    let written = sink.bytes().to_vec(alloc)?;
+    Ok(Ran { end, written })
+}
+
+#[test]
+fn ballots_of_one_candidate_are_counted_as_by_meeks_rule(rt: HostRuntime) -> Result<(), Fail> {
+    let ran = run(rt.alloc(), "--lots 1,2,3", ALIKE, &[], &[])?;
+    assert_eq!(rt; ran.end, End::Done);
+    assert_eq!(rt; ran.written.as_slice(), ALIKE_SHEET);
+    Ok(())
+}
+
+// Meek's rule elects candidate 2 in place of candidate 1.
+#[test]
+fn what_a_price_takes_whole_goes_to_nobody_behind(rt: HostRuntime) -> Result<(), Fail> {
+    let ran = run(rt.alloc(), "--lots 1,2,3,4", OTHERWISE, &[], &[])?;
+    assert_eq!(rt; ran.end, End::Done);
+    assert_eq!(rt; ran.written.as_slice(), OTHERWISE_SHEET);
+    Ok(())
+}
+
+// Candidate 1 keeps 0.600000001 of 1,000 votes, and is 0.000000999 above the quota; or 0.518444667 of 1,003, and is
+// 0.000001 above it, at the next price too.
+#[test]
+fn a_surplus_below_omega_is_not_transferred(rt: HostRuntime) -> Result<(), Fail> {
+    for (file, sheet) in AT_OMEGA {
+        let ran = run(rt.alloc(), "--lots 1,2,3", file, &[], &[])?;
+        assert_eq!(rt; ran.written.as_slice(), sheet);
+    }
+    Ok(())
+}
+
+#[test]
+fn words_and_lots_are_refused(rt: HostRuntime) -> Result<(), Fail> {
+    let ran = run(rt.alloc(), "--lots", ALIKE, &[], &[])?;
+    assert_eq!(rt; ran.end, End::BadWords);
+    let ran = run(rt.alloc(), "--lots 1,2,2", ALIKE, &[], &[])?;
+    let fault = InputFault {
+        kind: FaultKind::BadLots,
+        at: 3,
+    };
+    assert_eq!(rt; ran.end, End::BadInput(fault));
+    assert_eq!(rt;
+        ran.written.as_slice(),
+        b"refused BadLots at 3\n".as_slice()
+    );
+    Ok(())
+}
+
+#[test]
+fn a_source_or_a_sink_may_fail(rt: HostRuntime) -> Result<(), Fail> {
+    let ran = run(rt.alloc(), "--lots 1,2,3", ALIKE, &[2], &[])?;
+    assert_eq!(rt; ran.end, End::SourceFault);
+    assert_eq!(rt; ran.written.len(), 0);
+    let ran = run(rt.alloc(), "--lots 1,2,3", ALIKE, &[], &[2])?;
+    assert_eq!(rt; ran.end, End::SinkFault);
+    assert_eq!(rt; ran.written.as_slice(), b"title T\n".as_slice());
+    Ok(())
+}

@@ -1,0 +1,72 @@
+// Tests of candidate_roll: roll.
+use crate::names::three_names;
+use candidate_roll::{Name, Names, Roll, RollStop};
+use std::alloc::Global;
+use std::process::Abort;
+use std::test::Fail;
+
+/// A roll of three candidates, of whom the third is withdrawn.
+fn one_withdrawn(rt: &impl Abort, alloc: Global) -> Result<Roll, Fail> {
+    let title = Name::try_new(alloc, b"Sample")?;
+    let names = three_names(alloc)?;
+    assert_eq!(rt; names.len(), 3);
+    let roll = Roll::try_new(alloc, 1, names, title, &[3, 3])?;
+    Ok(roll)
+}
+
+/// The same roll with the second struck.
+fn two_withdrawn(rt: &impl Abort, alloc: Global) -> Result<Roll, Fail> {
+    let roll = one_withdrawn(rt, alloc)?;
+    assert_eq!(rt; roll.candidates(), 3);
+    let later = roll.with_struck(alloc, &[2])?;
+    Ok(later)
+}
+
+/// Three candidates for one seat, of whom these are withdrawn.
+fn look_at_roll(rt: &impl Abort, roll: &Roll, withdrawn: (bool, bool, bool)) {
+    assert_eq!(rt; roll.candidates(), 3);
+    assert_eq!(rt; roll.seats(), 1);
+    assert_eq!(rt; roll.name(1).bytes(), b"Ann".as_slice());
+    assert_eq!(rt; roll.name(3).bytes(), b"Cid".as_slice());
+    assert_eq!(rt; roll.title().bytes(), b"Sample".as_slice());
+    assert_eq!(rt;
+        (
+            roll.is_withdrawn(1),
+            roll.is_withdrawn(2),
+            roll.is_withdrawn(3)
+        ),
+        withdrawn
+    );
+}
+
+#[test]
+fn has_the_names_and_the_withdrawn(rt: HostRuntime) -> Result<(), Fail> {
+    look_at_roll(&rt, &one_withdrawn(&rt, rt.alloc())?, (false, false, true));
+    look_at_roll(&rt, &two_withdrawn(&rt, rt.alloc())?, (false, true, true));
+    Ok(())
+}
+
+/// Why these names and seats make no roll.
+fn stop_of(alloc: Global, seats: u32, names: Names) -> Result<Option<RollStop>, Fail> {
+    let title = Name::try_new(alloc, b"T")?;
+    Ok(Roll::try_new(alloc, seats, names, title, &[]).err())
+}
+
+#[test]
+fn says_why_there_is_no_roll(rt: HostRuntime) -> Result<(), Fail> {
+    let nobody = stop_of(rt.alloc(), 0, Names::new(rt.alloc()))?;
+    assert_eq!(rt; nobody, Some(RollStop::BadCount));
+    for (seats, stop) in [
+        (0, Some(RollStop::BadSeats)),
+        (251, Some(RollStop::BadSeats)),
+        (250, None),
+    ] {
+        let names = three_names(rt.alloc())?;
+        assert_eq!(rt;
+            stop_of(rt.alloc(), seats, names)?,
+            stop,
+            "at {seats} seats"
+        );
+    }
+    Ok(())
+}
