@@ -233,10 +233,7 @@ fn lanes_of(
     };
     for k in 0..workers {
         let room = room_of(branches, k as usize, workers as usize);
-        let lane = Lane::new(alloc, candidates as usize, room)?;
-        if lanes.push(lane).is_err() {
-            return Err(NoMemory);
-        }
+        lanes.push_reserved(Lane::new(alloc, candidates as usize, room)?);
     }
     Ok(lanes)
 }
