@@ -1,12 +1,77 @@
-use Rattle.std.proofs.Common.{◌≡◌, List, length, take, sym, ap, ◌∙◌, subst, arith}
+use Rattle.std.proofs.Common.{◌≡◌, ◌<◌, List, length, take, refl, sym, ap, ◌∙◌, subst, arith, Some}
 use Rattle.std.specs.Prelude.{slice_get, vec_len}
+use Rattle.std.proofs.lemmas.List.{take_all}
+use Rattle.atomic_table.specs.Seated.{TableId}
 use Rattle.batch_core.specs.Entries.{EntryList}
 use Rattle.call_register.specs.declared.mark.Mark.{Mark}
 use Rattle.shard_office.specs.Values.{SeenRegister}
-use Rattle.shard_office.specs.Closing.{AreEnded}
-use Rattle.shard_office.proofs.Places.{front_less}
+use Rattle.shard_office.specs.Closing.{MayEnd, AreEnded}
+use Rattle.shard_office.proofs.Places.{front_less, get_in, get_lt}
+use Rattle.shard_office.proofs.TurnLists.{same_place}
 use Rattle.shard_office.proofs.ClosingLemmas.{ended_more}
 use Rattle.shard_office.proofs.ending.end_all.Goals as goal
+
+-- the last seat that is left may end the last lock
+may : (c : goal.After-end-arg-1) → MayEnd c.args.shards c.args.candidates c.args.locks.items c.args.ties.now.items c.len-i.result c.in-Some-pop.seat
+may c =
+    let seats = front_less c.pop-in-Some.new.self.items c.args.seats.items c.in-Some-pop.seat (vec_len c.loop-lock.seats) (sym c.in-Some-pop.ensures.items ∙ c.loop-lock.invariant.seats) in
+    let count = c.loop-lock.invariant.count in
+    let m : length c.pop-in-Some.new.self.items ≡ c.len-i.result = omega (arith, c.len-i.ensures, c.pop-in-Some.new.self.ok.0, c.in-Some.ensures.cases, c.in-Some-pop.ensures.cases) in
+    c.requires.may c.len-i.result c.in-Some-pop.seat (ap (slice_get c.args.seats.items) (sym m) ∙ seats.1)
+
+pub end-requires-clause-own : goal.end-requires-clause-own
+end-requires-clause-own c =
+    let locks = front_less c.pop.new.self.items c.args.locks.items c.in-Some.lock (vec_len c.loop-lock.locks) (sym c.in-Some.ensures.items ∙ c.loop-lock.invariant.locks) in
+    let n : length c.pop.new.self.items ≡ c.len-i.result = omega (arith, c.len-i.ensures, c.pop.new.self.ok.0) in
+    same_place c.args.locks.items c.len-i.result (length c.pop.new.self.items) c.in-Some-pop.seat.lock c.in-Some.lock (sym n) (may c).lock locks.1
+
+pub end-requires-clause-alone : goal.end-requires-clause-alone
+end-requires-clause-alone c =
+    let m = may c in
+    (m.first, m.free, m.alone)
+
+-- the tie at the place of the last lock that is left
+tie : (c : goal.After-end-arg-1) → slice_get c.args.ties.now.items c.len-i.result ≡ Some c.index.result.now
+tie c =
+    let lt : c.len-i.result < length c.args.ties.now.items = omega (arith, c.args.ties.now.ok.0, c.requires.len, c.loop-lock.invariant.done, c.len-i.ensures, c.in-Some.ensures.cases) in
+    get_in c.args.ties.now.items c.len-i.result c.index.result.now lt c.index.ensures
+
+pub end-requires-clause-name : goal.end-requires-clause-name
+end-requires-clause-name c = (may c).name c.index.result.now (tie c)
+
+pub end-requires-clause-tie : goal.end-requires-clause-tie
+end-requires-clause-tie c = ap (λ (l : List TableId). slice_get l c.len-i.result) (ap (λ (r : SeenRegister). r.ties) c.loop-lock.invariant.kept ∙ c.requires.ties) ∙ tie c
+
+pub index-requires : goal.index-requires
+index-requires c = omega (arith, c.requires.len, c.loop-lock.invariant.done, c.len-i.ensures, c.in-Some.ensures.cases)
+
+pub push_reserved-requires : goal.push_reserved-requires
+push_reserved-requires c = omega (arith, c.loop-lock.invariant.done, c.loop-lock.invariant.room, c.in-Some.ensures.cases)
+
+pub loop-lock-init : goal.loop-lock-init
+loop-lock-init c = 
+    let none : length c.args.lists.now.items ≡ 0 = ap (λ (l : List EntryList). length l) c.requires.room.0 in
+    record {
+      count = sym c.requires.len.0;
+      done = omega (arith, none, c.args.lists.now.ok.0);
+      room = c.requires.room.1;
+      locks = sym (take_all (vec_len c.args.locks) c.args.locks.items (omega (arith, c.args.locks.ok.0)));
+      seats = sym (take_all (vec_len c.args.seats) c.args.seats.items (omega (arith, c.args.seats.ok.0)));
+      kept = refl;
+      ended = λ j l s at _. absurd (omega (arith, get_lt c.args.lists.now.items j l at));
+    }
+
+pub loop-lock-smaller : goal.loop-lock-smaller
+loop-lock-smaller c = omega (arith, c.in-Some.ensures.cases)
+
+pub unreachable-requires : goal.unreachable-requires
+unreachable-requires c = omega (arith, c.loop-lock.invariant.count, c.in-Some.ensures.cases, c.in-None.ensures.cases)
+
+pub returns-clause-kept : goal.returns-clause-kept
+returns-clause-kept c = c.loop-lock.invariant.kept
+
+pub returns-clause-len : goal.returns-clause-len
+returns-clause-len c = omega (arith, c.loop-lock.invariant.done, c.in_default.ensures.cases)
 
 pub loop-lock-preserved : goal.loop-lock-preserved
 loop-lock-preserved c =
