@@ -49,7 +49,7 @@ pub push_reserved-requires : goal.push_reserved-requires
 push_reserved-requires c = omega (arith, c.loop-lock.invariant.done, c.loop-lock.invariant.room, c.in-Some.ensures.cases)
 
 pub loop-lock-init : goal.loop-lock-init
-loop-lock-init c = 
+loop-lock-init c =
     let none : length c.args.lists.now.items ≡ 0 = ap (λ (l : List EntryList). length l) c.requires.room.0 in
     record {
       count = sym c.requires.len.0;
