@@ -1,4 +1,4 @@
-use Rattle.std.proofs.Common.{◌≡◌, ℕ, ◌+◌, ◌<◌, false, length, subst, ◌∙◌, arith}
+use Rattle.std.proofs.Common.{◌≡◌, ℕ, ◌+◌, ◌<◌, false, length, subst, arith}
 use Rattle.fixed_place.specs.Rounding.{scale}
 use Rattle.vote_spread.specs.Shares.{HasCounted}
 use Rattle.vote_spread.specs.LaneSeen.{LaneSeen, IsFit}
