@@ -64,12 +64,11 @@ fn empty_shares(alloc: Global, shards: u32, lines: usize) -> Result<Vec<Share>, 
     ensures empty { IfOk result (λ shares. AreEmpty shares.items) }
 {
     let each = lines.div_ceil(shards as usize);
-    let mut shares = Vec::new(alloc);
+    let Ok(mut shares) = Vec::with_capacity(alloc, shards as usize) else {
+        return Err(NoMemory);
+    };
     for i in 0..shards {
-        let share = Share::new(alloc, each)?;
-        if shares.push(share).is_err() {
-            return Err(NoMemory);
-        }
+        shares.push_reserved(Share::new(alloc, each)?);
     }
     Ok(shares)
 }
