@@ -1,10 +1,12 @@
-use Rattle.std.proofs.Common.{◌≡◌, ◌≤◌, ℕ, ◌+◌, ◌-◌, ◌*◌, List, [], ◌∷◌, ◌++◌, length, get_or, map, drop, sum_by, arith, ap, sym, subst, ◌∙◌}
+use Rattle.std.proofs.Common.{Result, Ok, Err, ◌≡◌, ◌≤◌, ℕ, ◌+◌, ◌-◌, ◌*◌, List, [], ◌∷◌, ◌++◌, length, get_or, map, drop, sum_by, arith, ap, sym, subst, ◌∙◌}
+use Rattle.std.specs.Prelude.{OnOk}
 use Rattle.std.specs.List.{All, flat_map}
 use Rattle.std.proofs.lemmas.List.{length-append, length-map, get_or-map}
 use Rattle.frozen_plan.specs.declared.plan_row.PlanRow.{PlanRow}
 use Rattle.vote_spread.specs.Stem.{Stem, stem_of_row}
+use Rattle.vote_spread.specs.Packed.{AreRows}
 use Rattle.vote_spread.specs.Merged.{front, behind, AreParts, IsAlone, HasMerged}
-use Rattle.vote_spread.proofs.MergeLemmas.{IsMerging, merged_many, merging-begin, merging-end, merging-next}
+use Rattle.vote_spread.proofs.MergeLemmas.{IsMerging, merged_one, merged_many, merging-begin, merging-end, merging-next}
 use Rattle.vote_spread.proofs.OpenedLemmas.{may_open}
 use Rattle.vote_spread.proofs.TailLemmas.{alike_nodes}
 use Rattle.vote_spread.proofs.TakenLemmas.{all_taken, fewer_rows, nodes_are_parts, room_below, taken_few}
@@ -155,3 +157,88 @@ merge_nodes-returns-clause-merged t c =
     (subst (λ (l : List (List PlanRow)). HasMerged (d + 1) l c.push-2.new.self now) low c.in_ok-merge.ensures.merged) in
     subst (HasMerged d nodes old) (sym (c.close.ensures first))
     (merged_many d k c.open_all-ballots.result nodes none first old now c.len-at.result c.requires.depth.0 c.requires.some c.requires.nodes.each c.requires.alone c.open_all-ballots.ensures.ballots c.len-at.ensures.value below)
+
+then_ok : {T E P Q : Type 0} (r : Result T E) → (P → Q) → OnOk r P → OnOk r Q
+then_ok (Ok x) f p = f p
+then_ok (Err x) f p = p
+
+-- a list of one
+alone : {A : Type 0} (l : List A) (x e : A) → length l ≡ 1 → x ≡ get_or l 0 e → l ≡ x ∷ []
+alone [] x e one is = absurd (omega arith)
+alone (y ∷ []) x e one is = ap (λ z. z ∷ []) (sym is)
+alone (y ∷ z ∷ zs) x e one is = absurd (omega arith)
+
+pub merge-take_nodes-many-requires-clause-rows : goal.merge-take_nodes-many-requires-clause-rows
+merge-take_nodes-many-requires-clause-rows t c = (c.args.depth, c.loop-candidate.invariant.merging.are.each)
+
+pub merge-take_nodes-many-requires-clause-room : goal.merge-take_nodes-many-requires-clause-room
+merge-take_nodes-many-requires-clause-room t c =
+    let d = c.args.depth in
+    let rest = c.loop-candidate.parts in
+    let inv = c.loop-candidate.invariant in
+    let depths : 252 - d ≡ (251 - d) + 1 = omega (arith, c.requires.depth) in
+    let room : ((251 - d) + 1) * length rest ≤ length c.loop-candidate.room =
+    omega (arith, ap (λ (m : ℕ). m * length rest) depths, ap (λ (m : ℕ). (252 - d) * m) inv.as_many, inv.as_much_room, c.requires.room) in
+    (room_below (251 - d) (length rest) (length rest) (length c.loop-candidate.room) (omega arith) room).0
+
+pub merge-returns-clause-as_many : goal.merge-returns-clause-as_many
+merge-returns-clause-as_many t c = c.loop-candidate.invariant.as_many
+
+pub merge-returns-clause-as_much_room : goal.merge-returns-clause-as_much_room
+merge-returns-clause-as_much_room t c = c.loop-candidate.invariant.as_much_room
+
+pub merge_nodes-pack_node-requires-clause-depth : goal.merge_nodes-pack_node-requires-clause-depth
+merge_nodes-pack_node-requires-clause-depth t c = c.requires.depth
+
+pub merge_nodes-pack_node-requires-clause-rows : goal.merge_nodes-pack_node-requires-clause-rows
+merge_nodes-pack_node-requires-clause-rows t c = subst (AreRows 250 c.args.depth) (sym c.rows.ensures) (c.requires.nodes.each 0 c.index-nodes-0.result c.requires.some)
+
+pub merge_nodes-pack_node-requires-clause-some : goal.merge_nodes-pack_node-requires-clause-some
+merge_nodes-pack_node-requires-clause-some t c = subst (λ (l : List PlanRow). 1 ≤ length l) (sym c.rows.ensures) (c.requires.alone 0 c.index-nodes-0.result c.requires.some).some
+
+pub merge_nodes-pack_node-requires-clause-one : goal.merge_nodes-pack_node-requires-clause-one
+merge_nodes-pack_node-requires-clause-one t c = λ d.
+    subst (λ (l : List PlanRow). (get_or l 0 d).skip ≡ length l) (sym c.rows.ensures) ((c.requires.alone 0 c.index-nodes-0.result c.requires.some).whole d)
+
+pub merge_nodes-returns-then-nodes-eq1-clause-merged : goal.merge_nodes-returns-then-nodes-eq1-clause-merged
+merge_nodes-returns-then-nodes-eq1-clause-merged t c =
+    let d = c.args.depth in
+    let nodes = c.args.nodes.now in
+    let rows = c.rows.result.now in
+    let old = c.args.branches.now in
+    let now = c.pack_node.new.branches in
+    let one : nodes ≡ rows ∷ [] = alone nodes rows c.index-nodes-0.result c.if-nodes-eq1.true c.rows.ensures in
+    then_ok c.pack_node.result (λ has. subst (λ (l : List (List PlanRow)). HasMerged d l old now) (sym one) (merged_one d rows old now has)) c.pack_node.ensures
+
+pub merge_nodes-go_on_alike-alike-requires : goal.merge_nodes-go_on_alike-alike-requires
+merge_nodes-go_on_alike-alike-requires t c = record {
+  some = c.requires.some;
+  rows = λ k d lt. (c.requires.alone k d lt).some;
+}
+
+pub merge_nodes-open_all-ballots-requires-clause-some : goal.merge_nodes-open_all-ballots-requires-clause-some
+merge_nodes-open_all-ballots-requires-clause-some t c = λ k d lt. (c.requires.alone k d lt).some
+
+pub merge_nodes-push-requires-2-clause-depth : goal.merge_nodes-push-requires-2-clause-depth
+merge_nodes-push-requires-2-clause-depth t c = (may_open c.args.depth c.args.candidate c.args.nodes.now none c.requires.some c.requires.nodes c.requires.alone).shallow
+
+pub merge_nodes-returns-then-alike-clause-as_many : goal.merge_nodes-returns-then-alike-clause-as_many
+merge_nodes-returns-then-alike-clause-as_many t c =
+    ap (λ (l : List (List PlanRow)). length l) c.open_all-ballots.ensures.below ∙ length-map c.args.nodes.now (λ (rows : List PlanRow). drop 1 rows)
+
+pub merge_nodes-close-requires : goal.merge_nodes-close-requires
+merge_nodes-close-requires t c =
+    let old = c.args.branches.now in
+    let first : Stem = record { depth = c.args.depth; candidate = c.args.candidate; ballots = c.open_all-ballots.result; skip = 1; tail = [] } in
+    let added = c.in_ok-merge.ensures.merged.added in
+    let one : length c.push-2.new.self ≡ length old + 1 = ap (λ (l : List Stem). length l) c.in_ok-push-2.ensures ∙ length-append old (first ∷ []) in
+    let all : length c.merge.new.branches ≡ length c.push-2.new.self + length added = ap (λ (l : List Stem). length l) c.in_ok-merge.ensures.merged.is ∙ length-append c.push-2.new.self added in
+    omega (arith, one, all, c.len-at.ensures.value)
+
+pub merge_nodes-returns-clause-as_many : goal.merge_nodes-returns-clause-as_many
+merge_nodes-returns-clause-as_many t c =
+    c.in_ok-merge.ensures.as_many
+    ∙ (ap (λ (l : List (List PlanRow)). length l) c.open_all-ballots.ensures.below ∙ length-map c.args.nodes.now (λ (rows : List PlanRow). drop 1 rows))
+
+pub merge_nodes-returns-clause-as_much_room : goal.merge_nodes-returns-clause-as_much_room
+merge_nodes-returns-clause-as_much_room t c = c.in_ok-merge.ensures.as_much_room
