@@ -16,7 +16,6 @@ use std::alloc::Global;
 
 /// Ballot lines up to the 0 behind them, of together at most `most` ballots. `refusal` is the kind
 /// of fault of a count that goes past them.
-#[tactic(auto, using(crate::proofs::Reading::behind_trans))]
 pub fn read_lines(
     alloc: Global,
     tokens: &mut Tokens<'_>,
@@ -35,7 +34,6 @@ pub fn read_lines(
 }
 
 /// The same, where the first count was taken already, with its place.
-#[tactic(auto, using(crate::proofs::Reading::behind_trans))]
 pub(crate) fn read_lines_from(
     alloc: Global,
     tokens: &mut Tokens<'_>,
@@ -57,7 +55,6 @@ pub(crate) fn read_lines_from(
 }
 
 // The same over tokens that nobody else sees, so that their place can stay in a register.
-#[tactic(auto, using(crate::proofs::Reading::behind_trans))]
 #[inline(always)]
 fn read_lines_ahead(
     alloc: Global,
@@ -93,7 +90,6 @@ fn read_lines_ahead(
 }
 
 // Candidates in order of rank, up to the 0 behind them: they stand in front of `ranks`, and are so many.
-#[tactic(auto, using(crate::proofs::Reading::behind_trans))]
 #[inline(always)]
 fn read_ranks(
     tokens: &mut Tokens<'_>,
@@ -134,7 +130,6 @@ fn read_ranks(
 
 // As many ranks as are short numbers and may stand there, and whether the 0 behind them was one too.
 // Nothing is called in the loop, so that all of it stays in registers.
-#[tactic(auto, using(crate::proofs::Reading::behind_trans))]
 #[inline(never)]
 fn short_ranks(
     tokens: &mut Tokens<'_>,

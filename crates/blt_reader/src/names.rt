@@ -31,7 +31,6 @@ pub(crate) fn read_name<const MAX: usize>(
 }
 
 /// The names of all candidates, in number order.
-#[tactic(auto, using(crate::proofs::Reading::behind_trans))]
 pub(crate) fn read_names(
     alloc: Global,
     tokens: &mut Tokens<'_>,

@@ -19,7 +19,6 @@ pub(crate) struct Opening {
     pub first: (u32, usize),
 }
 
-#[tactic(auto, using(crate::proofs::Reading::behind_trans))]
 pub(crate) fn read_opening(alloc: Global, tokens: &mut Tokens<'_>) -> Result<Opening, BltStop>
     ensures reads { ReadsOpening tokens.old.rest result tokens.new.rest }
     ensures sound { IfOk result IsOpening }
@@ -54,7 +53,6 @@ fn read_size(tokens: &mut Tokens<'_>) -> Result<u32, InputFault>
 }
 
 // Withdrawn candidates, up to the first count behind them and its place.
-#[tactic(auto, using(crate::proofs::Reading::behind_trans))]
 fn read_withdrawn(
     alloc: Global,
     tokens: &mut Tokens<'_>,

@@ -36,7 +36,6 @@ pub fn read_roll(
     }
 }
 
-#[tactic(auto, using(crate::proofs::Reading::behind_trans))]
 fn read_up_to_title(
     alloc: Global,
     tokens: &mut Tokens<'_>,

@@ -1,13 +1,14 @@
-use Rattle.std.proofs.Common.{◌≡◌, ℕ, ◌+◌, ◌≤◌, [], take, sym, ◌∙◌, ap, subst, arith}
+use Rattle.std.proofs.Common.{◌≡◌, ℕ, ◌+◌, ◌≤◌, List, [], take, sym, ◌∙◌, ap, subst, arith}
 use Rattle.std.proofs.lemmas.Result.{err_from_is_err_and}
 use Rattle.plain_ballots.specs.Ballots.{BallotList, ballot_count}
+use Rattle.plain_ballots.specs.Ranking.{IsRanking}
 use Rattle.plain_ballots.specs.declared.ballot_line.BallotLine.{BallotLine}
 use Rattle.blt_reader.specs.Token.{Scan}
 use Rattle.blt_reader.specs.Blt.{AreLines}
 use Rattle.blt_reader.specs.Judged.{reads}
 use Rattle.blt_reader.specs.BallotTable.{Limit, Between, with_line, at_line}
 use Rattle.blt_reader.proofs.BallotSoundness.{one_line_more}
-use Rattle.blt_reader.proofs.Reading.{behind_trans}
+use Rattle.blt_reader.proofs.Reading.{behind_trans, behind_itself, fewer_left}
 use Rattle.blt_reader.proofs.LineSteps.{count_stops, all_read, too_many, line_begins, line_fails, one_line}
 use Rattle.blt_reader.proofs.lines.read_lines_ahead.Goals as goal
 
@@ -62,3 +63,36 @@ loop-count-preserved c =
       room = c.in_ok-len.ensures.room ∙ before.room;
       behind = behind_trans before.behind (behind_trans c.in_ok-len.ensures.behind c.in_ok-next.ensures.behind);
     }
+
+pub returns-in_err-len-clause-behind : goal.returns-in_err-len-clause-behind
+returns-in_err-len-clause-behind c = behind_trans c.loop-count.invariant.behind c.in_err-len.ensures.behind
+
+pub returns-in_err-ranking-clause-behind : goal.returns-in_err-ranking-clause-behind
+returns-in_err-ranking-clause-behind c = behind_trans c.loop-count.invariant.behind c.in_ok-len.ensures.behind
+
+pub returns-in_err-add_line-clause-behind : goal.returns-in_err-add_line-clause-behind
+returns-in_err-add_line-clause-behind c = behind_trans c.loop-count.invariant.behind c.in_ok-len.ensures.behind
+
+pub returns-in_err-next-clause-behind : goal.returns-in_err-next-clause-behind
+returns-in_err-next-clause-behind c = behind_trans c.loop-count.invariant.behind (behind_trans c.in_ok-len.ensures.behind c.in_err-next.ensures.behind)
+
+pub returns-in_err-named-clause-behind : goal.returns-in_err-named-clause-behind
+returns-in_err-named-clause-behind c = behind_itself c.args.tokens.now
+
+pub returns-in_err-room-clause-behind : goal.returns-in_err-room-clause-behind
+returns-in_err-room-clause-behind c = behind_itself c.args.tokens.now
+
+pub overflow_sub-most : goal.overflow_sub-most
+overflow_sub-most c = omega (arith, c.total.ensures, c.loop-count.invariant.lines.bounded)
+
+pub add_line-requires-clause-ranking : goal.add_line-requires-clause-ranking
+add_line-requires-clause-ranking c =
+    let candidates = c.loop-count.ballots.candidates in
+    subst (λ (r : List ℕ). IsRanking candidates r) (sym c.in_ok-ranking.ensures)
+    (subst (λ (n : ℕ). IsRanking n (take c.in_ok-len.len c.read_ranks.new.ranks)) (sym c.loop-count.invariant.candidates) c.in_ok-len.ensures.ranking)
+
+pub add_line-requires-clause-room : goal.add_line-requires-clause-room
+add_line-requires-clause-room c = omega (arith, c.if-count-most.false, c.total.ensures, c.loop-count.invariant.lines.bounded, c.requires)
+
+pub loop-count-smaller : goal.loop-count-smaller
+loop-count-smaller c = omega (arith, c.in_ok-len.ensures.fewer, fewer_left c.read_ranks.new.tokens.rest c.next_number.new.self.rest _ c.in_ok-next.ensures.number)

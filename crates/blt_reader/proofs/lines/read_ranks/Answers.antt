@@ -52,3 +52,24 @@ loop-n-preserved c =
       not_more = omega (arith, before.not_more, fewer_left c.loop-n.tokens.rest c.next_number.new.self.rest _ given);
       behind = behind_trans before.behind c.in_ok-n.ensures.behind;
     }
+
+pub returns-in_err-n-clause-behind : goal.returns-in_err-n-clause-behind
+returns-in_err-n-clause-behind c = behind_trans c.loop-n.invariant.behind c.in_err-n.ensures.behind
+
+pub returns-then-n-eq0-clause-behind : goal.returns-then-n-eq0-clause-behind
+returns-then-n-eq0-clause-behind c = behind_trans c.loop-n.invariant.behind c.in_ok-n.ensures.behind
+
+pub returns-then-n-candidates-clause-behind : goal.returns-then-n-candidates-clause-behind
+returns-then-n-candidates-clause-behind c = behind_trans c.loop-n.invariant.behind c.in_ok-n.ensures.behind
+
+pub returns-then-mark-clause-behind : goal.returns-then-mark-clause-behind
+returns-then-mark-clause-behind c = behind_trans c.loop-n.invariant.behind c.in_ok-n.ensures.behind
+
+pub returns-then-n-eq0-clause-fewer : goal.returns-then-n-eq0-clause-fewer
+returns-then-n-eq0-clause-fewer c = omega (arith, c.loop-n.invariant.not_more, fewer_left c.loop-n.tokens.rest c.next_number.new.self.rest _ c.in_ok-n.ensures.number)
+
+pub loop-n-smaller : goal.loop-n-smaller
+loop-n-smaller c = omega (arith, fewer_left c.loop-n.tokens.rest c.next_number.new.self.rest _ c.in_ok-n.ensures.number)
+
+pub overflow_add-len : goal.overflow_add-len
+overflow_add-len c = omega (arith, c.loop-n.invariant.within, c.ranges.candidates)

@@ -42,3 +42,15 @@ loop-n-preserved c =
       not_more = omega (arith, before.not_more, fewer_left c.loop-n.ahead.rest c.next_unnamed.new.self.rest _ given);
       behind = behind_trans before.behind c.in-Some.ensures.behind;
     }
+
+pub returns-in-Some-ending-clause-behind : goal.returns-in-Some-ending-clause-behind
+returns-in-Some-ending-clause-behind c = behind_trans c.loop-n.invariant.behind (behind_trans c.in_default.ensures.behind c.in-Some-ending.ensures.behind)
+
+pub returns-in-None-clause-behind : goal.returns-in-None-clause-behind
+returns-in-None-clause-behind c = behind_trans c.loop-n.invariant.behind (behind_trans c.in_default.ensures.behind c.in-None.ensures.behind)
+
+pub loop-n-smaller : goal.loop-n-smaller
+loop-n-smaller c = omega (arith, fewer_left c.loop-n.ahead.rest c.next_unnamed.new.self.rest _ c.in-Some.ensures.number)
+
+pub overflow_add-len : goal.overflow_add-len
+overflow_add-len c = omega (arith, c.loop-n.invariant.within, c.ranges.candidates)

@@ -24,3 +24,9 @@ loop-preserved c =
       counted = ap length pushed ∙ length_push c.loop.names c.in_ok-name.name ∙ omega (arith, c.loop.invariant.counted);
       behind = behind_trans c.loop.invariant.behind c.in_ok-name.ensures.behind;
     }
+
+pub returns-in_err-name-clause-behind : goal.returns-in_err-name-clause-behind
+returns-in_err-name-clause-behind c = behind_trans c.loop.invariant.behind c.in_err-name.ensures.behind
+
+pub returns-in_err-push-clause-behind : goal.returns-in_err-push-clause-behind
+returns-in_err-push-clause-behind c = behind_trans c.loop.invariant.behind c.in_ok-name.ensures.behind

@@ -1,6 +1,7 @@
 use Rattle.std.proofs.Common.{◌∙◌}
 use Rattle.std.proofs.lemmas.Result.{err_from_is_err_and}
 use Rattle.blt_reader.proofs.OpeningSteps.{candidates_stop, candidates_read, seats_stop, seats_read, Opens, opened, opening_fails}
+use Rattle.blt_reader.proofs.Reading.{behind_trans}
 use Rattle.blt_reader.proofs.opening.read_opening.Goals as goal
 
 pub returns-in_err-candidates-clause-reads : goal.returns-in_err-candidates-clause-reads
@@ -27,3 +28,12 @@ returns-clause-reads c =
     let opens : Opens candidates c.in_ok-seats.seats c.args.tokens.now.rest c.read_size-2.new.tokens.rest =
     λ limit. candidates_read limit _ _ candidates c.in_ok-candidates.ensures.size ∙ seats_read limit _ _ candidates c.in_ok-seats.seats c.in_ok-seats.ensures.size in
     opened _ _ _ _ opens c.in_ok-first.ensures.reads
+
+pub returns-in_err-seats-clause-behind : goal.returns-in_err-seats-clause-behind
+returns-in_err-seats-clause-behind c = behind_trans c.in_ok-candidates.ensures.behind c.in_err-seats.ensures.behind
+
+pub returns-in_err-first-clause-behind : goal.returns-in_err-first-clause-behind
+returns-in_err-first-clause-behind c = behind_trans c.in_ok-candidates.ensures.behind (behind_trans c.in_ok-seats.ensures.behind c.in_err-first.ensures.behind)
+
+pub returns-clause-behind : goal.returns-clause-behind
+returns-clause-behind c = behind_trans c.in_ok-candidates.ensures.behind (behind_trans c.in_ok-seats.ensures.behind c.in_ok-first.ensures.behind)

@@ -5,7 +5,7 @@ use Rattle.blt_reader.specs.declared.what.What.{What}
 use Rattle.blt_reader.specs.Token.{with_front}
 use Rattle.blt_reader.specs.Reader.{said}
 use Rattle.blt_reader.specs.Blt.{IsIn}
-use Rattle.blt_reader.proofs.Reading.{behind_trans}
+use Rattle.blt_reader.proofs.Reading.{behind_trans, behind_itself, fewer_left}
 use Rattle.blt_reader.proofs.OpeningSteps.{one_withdrawn, listed_each, withdrawn_refused, withdrawn_ended, NotWithdrawn, bad_withdrawn, no_count}
 use Rattle.blt_reader.proofs.opening.read_withdrawn.Goals as goal
 use Rattle.blt_reader.proofs.opening.read_withdrawn.Goals.{then-n-ge1+else-n-candidates, else-n-ge1}
@@ -44,3 +44,24 @@ loop-named-preserved c =
       numbers = c.in_ok-list_once-in-Minus.ensures.numbers ∙ before.numbers;
       behind = behind_trans before.behind c.in_ok-token.ensures.behind;
     }
+
+pub returns-in_err-token-clause-behind : goal.returns-in_err-token-clause-behind
+returns-in_err-token-clause-behind c = behind_trans c.loop-named.invariant.behind c.in_err-token.ensures.behind
+
+pub returns-in-Number-clause-behind : goal.returns-in-Number-clause-behind
+returns-in-Number-clause-behind c = behind_trans c.loop-named.invariant.behind c.in_ok-token.ensures.behind
+
+pub returns-in_err-list_once-in-Minus-clause-behind : goal.returns-in_err-list_once-in-Minus-clause-behind
+returns-in_err-list_once-in-Minus-clause-behind c = behind_trans c.loop-named.invariant.behind c.in_ok-token.ensures.behind
+
+pub returns-in-Minus-2-clause-behind : goal.returns-in-Minus-2-clause-behind
+returns-in-Minus-2-clause-behind c = behind_trans c.loop-named.invariant.behind c.in_ok-token.ensures.behind
+
+pub returns-in_default-clause-behind : goal.returns-in_default-clause-behind
+returns-in_default-clause-behind c = behind_trans c.loop-named.invariant.behind c.in_ok-token.ensures.behind
+
+pub loop-named-smaller : goal.loop-named-smaller
+loop-named-smaller c = omega (arith, fewer_left c.loop-named.tokens.rest c.next_token.new.self.rest _ c.in_ok-token.ensures.token)
+
+pub returns-in_err-named-clause-behind : goal.returns-in_err-named-clause-behind
+returns-in_err-named-clause-behind c = behind_itself c.args.tokens.now

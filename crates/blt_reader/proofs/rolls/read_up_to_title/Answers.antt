@@ -4,6 +4,7 @@ use Rattle.candidate_roll.specs.Roll.{withdrawn_marks}
 use Rattle.blt_reader.specs.BallotTable.{Limit}
 use Rattle.blt_reader.specs.Election.{poll}
 use Rattle.blt_reader.proofs.RollSteps.{HeadingOf, ballots_fail, ballots_read, names_stop, title_stop, all_read}
+use Rattle.blt_reader.proofs.Reading.{behind_trans}
 use Rattle.blt_reader.proofs.rolls.read_up_to_title.Goals as goal
 
 pub returns-in_err-ballots-clause-reads : goal.returns-in_err-ballots-clause-reads
@@ -43,3 +44,18 @@ returns-clause-reads c =
     let roll_is : c.in_ok-roll.roll ≡ record { seats = c.in_ok-opening.opening.seats; names = names; title = c.in_ok-title.title; withdrawn = withdrawn_marks (length names) c.in_ok-opening.opening.withdrawn.items } = c.in_ok-roll.ensures.roll ∙ ap (λ (w : List ℕ). record { seats = c.in_ok-opening.opening.seats; names = names; title = c.in_ok-title.title; withdrawn = withdrawn_marks (length names) w }) c.as_slice.ensures.value in
     all_read limit c.args.tokens.now.rest c.in_ok-opening.opening c.read_opening.new.tokens.rest opened lines names c.in_ok-names.ensures.all c.in_ok-title.title c.in_ok-roll.roll _ _
     (ballots_read limit c.args.tokens.now.rest c.in_ok-opening.opening c.read_opening.new.tokens.rest opened lines _ some c.in_ok-ballots.ensures.reads ∙ c.in_ok-names.ensures.reads limit heading lines refl) c.in_ok-title.ensures.name roll_is
+
+pub returns-in_err-ballots-clause-behind : goal.returns-in_err-ballots-clause-behind
+returns-in_err-ballots-clause-behind c = behind_trans c.in_ok-opening.ensures.behind c.in_err-ballots.ensures.behind
+
+pub returns-in_err-names-clause-behind : goal.returns-in_err-names-clause-behind
+returns-in_err-names-clause-behind c = behind_trans c.in_ok-opening.ensures.behind (behind_trans c.in_ok-ballots.ensures.behind c.in_err-names.ensures.behind)
+
+pub returns-in_err-title-clause-behind : goal.returns-in_err-title-clause-behind
+returns-in_err-title-clause-behind c = behind_trans c.in_ok-opening.ensures.behind (behind_trans c.in_ok-ballots.ensures.behind (behind_trans c.in_ok-names.ensures.behind c.in_err-title.ensures.behind))
+
+pub returns-in_err-roll-clause-behind : goal.returns-in_err-roll-clause-behind
+returns-in_err-roll-clause-behind c = behind_trans c.in_ok-opening.ensures.behind (behind_trans c.in_ok-ballots.ensures.behind (behind_trans c.in_ok-names.ensures.behind c.in_ok-title.ensures.behind))
+
+pub returns-clause-behind : goal.returns-clause-behind
+returns-clause-behind c = behind_trans c.in_ok-opening.ensures.behind (behind_trans c.in_ok-ballots.ensures.behind (behind_trans c.in_ok-names.ensures.behind c.in_ok-title.ensures.behind))
