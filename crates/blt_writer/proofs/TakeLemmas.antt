@@ -2,7 +2,7 @@
 use Rattle.std.proofs.Common.{◌≡◌, ℕ, ◌+◌, ◌-◌, ◌≤◌, Bool, true, false, cond, List, [], ◌∷◌, length, get_or, take, drop, All, arith, refl, ap, sym, subst, ◌∙◌}
 use Rattle.std.specs.Prelude.{AllPairs}
 use Rattle.std.specs.Ordering.{is_lt}
-use Rattle.std.proofs.lemmas.List.{take_rest, drop-drop}
+use Rattle.std.proofs.lemmas.List.{take_rest, drop-drop, length-drop}
 use Rattle.std.proofs.lemmas.List.Elements.{All-tail}
 use Rattle.frozen_plan.specs.declared.plan_row.PlanRow.{PlanRow}
 use Rattle.frozen_plan.specs.Plan.{IsPlan}
@@ -71,6 +71,22 @@ cut_is rows whole at same = take_rest rows at ∙ ap (drop at) same
 
 next_is : (rows whole : List PlanRow) (at : ℕ) → rows ≡ whole → take (length rows - (at + 1)) (drop (at + 1) rows) ≡ drop 1 (drop at whole)
 next_is rows whole at same = cut_is rows whole (at + 1) same ∙ sym (drop-drop 1 at whole)
+
+pub here_nodes : (rows whole : List PlanRow) (at : ℕ) → rows ≡ whole → IsRest (drop at whole) → AreNodes (take (length rows - at) (drop at rows))
+here_nodes rows whole at same is = subst AreNodes (sym (cut_is rows whole at same)) is.nodes
+
+-- there is a row where a line is
+pub here_some :
+    (r path : List ℕ) (rows whole : List PlanRow) (at : ℕ) (seen : List BallotLine) → rows ≡ whole
+    → lines_from path (drop at whole) ≡ seen → is_first r seen ≡ true → 1 ≤ length (take (length rows - at) (drop at rows))
+here_some r path rows whole at seen same is first =
+    subst (λ (l : List PlanRow). 1 ≤ length l) (sym (cut_is rows whole at same)) (some_row r path (drop at whole) (ap (is_first r) is ∙ first))
+
+pub here_inside :
+    (r path : List ℕ) (rows whole : List PlanRow) (at : ℕ) (seen : List BallotLine) → rows ≡ whole
+    → lines_from path (drop at whole) ≡ seen → is_first r seen ≡ true → at + 1 ≤ length rows
+here_inside r path rows whole at seen same is first =
+    omega (arith, some_row r path (drop at whole) (ap (is_first r) is ∙ first), length-drop at whole, ap length same)
 
 pub next_nodes : (rows whole : List PlanRow) (at : ℕ) → rows ≡ whole → IsRest (drop at whole) → AreNodes (take (length rows - (at + 1)) (drop (at + 1) rows))
 next_nodes rows whole at same is = subst AreNodes (sym (next_is rows whole at same)) (rest_behind (drop at whole) is).nodes
