@@ -1,6 +1,6 @@
-use Rattle.std.proofs.Common.{◌≡◌, ℕ, List, take, drop, ◌∷◌, ◌++◌, arith, ap, sym, subst, ◌∙◌, All}
+use Rattle.std.proofs.Common.{◌≡◌, ◌+◌, ℕ, List, take, drop, length, get_or, ◌∷◌, ◌++◌, arith, ap, sym, subst, ◌∙◌, All}
 use Rattle.std.specs.List.{sum_by}
-use Rattle.std.proofs.lemmas.List.{nil_from_length}
+use Rattle.std.proofs.lemmas.List.{nil_from_length, length-drop, length-take}
 use Rattle.std.proofs.lemmas.List.Elements.{All-drop}
 use Rattle.plain_ballots.specs.Ballots.{ballot_count}
 use Rattle.blt_writer.specs.declared.entry.Entry.{Entry}
@@ -61,3 +61,21 @@ pub returns-clause-written : goal.returns-clause-written
 returns-clause-written g c =
     let empty = nil_from_length c.loop-rest.rest.now (omega (arith, c.loop-rest-test.false)) in
     listing_done _ c.loop-rest.invariant.so_far (ap (entry_lines c.args.ranks.now) empty) c.flush.ensures.written
+
+pub split_at-requires : goal.split_at-requires
+split_at-requires g c = c.run_of.ensures.within
+
+pub add-requires-clause-short : goal.add-requires-clause-short
+add-requires-clause-short g c =
+    let ranks = c.args.ranks.now in
+    let start = c.entry_at-first.result.start in
+    let behind = drop (start + 1) ranks in
+    omega (arith, ap (λ (r : List ℕ). length r) c.ranking_at.ensures, length-take (get_or ranks start 0) behind, c.type_inv.ranks start)
+
+pub add-requires-clause-room : goal.add-requires-clause-room
+add-requires-clause-room g c = c.in_ok-make_room.ensures.room
+
+pub loop-rest-smaller : goal.loop-rest-smaller
+loop-rest-smaller g c =
+    let rest = c.loop-rest.rest.now in
+    omega (arith, ap (λ (es : List Entry). length es) c.split_at.ensures.back, length-drop c.run_of.result rest, c.run_of.ensures.some, c.loop-rest-test.true)
