@@ -68,19 +68,35 @@ fn call<R: Threads + Wait + Sync, S: Source, K: Sink, G: Gate + Sync>(
 /// The numbers of the reads and of the writes that fail.
 type Failing<'a> = (&'a [u64], &'a [u64]);
 
-/// A run over memory, at most 16 bytes a read and 1,400 a write; the calls with these numbers fail.
+/// Does what the words ask for over this input, at most 16 bytes a read; the reads with these numbers fail.
+fn call_with<R: Threads + Wait + Sync, G: Gate + Sync>(
+    rt: &R,
+    alloc: Global,
+    (words, input): (&str, &[u8]),
+    reads: &[u64],
+    sink: &mut MemorySink,
+    gate: &G,
+) -> Result<(Status, usize), Fail> {
+    let mut source = MemorySource::new(input.to_vec(alloc)?, 16, reads.to_vec(alloc)?);
+    call(rt, alloc, words, &mut source, sink, gate)
+}
+
+/// A sink in memory, at most 1,400 bytes a write; the calls with these numbers fail.
+fn sink_of(alloc: Global, failing: &[u64]) -> Result<MemorySink, Fail> {
+    let failing = failing.to_vec(alloc)?;
+    Ok(MemorySink::with_room(alloc, 100_000, 1_400, failing)?)
+}
+
+/// A run over memory of which no call fails.
 fn run<R: Threads + Wait + Sync, G: Gate + Sync>(
     rt: &R,
     alloc: Global,
     words: &str,
     input: &[u8],
-    failing: Failing<'_>,
     gate: &G,
 ) -> Result<Ran, Fail> {
-    let (reads, writes) = failing;
-    let mut source = MemorySource::new(input.to_vec(alloc)?, 16, reads.to_vec(alloc)?);
-    let mut sink = MemorySink::with_room(alloc, 100_000, 1_400, writes.to_vec(alloc)?)?;
-    let (status, calls) = call(rt, alloc, words, &mut source, &mut sink, gate)?;
+    let mut sink = sink_of(alloc, &[])?;
+    let (status, calls) = call_with(rt, alloc, (words, input), &[], &mut sink, gate)?;
     let written = sink.bytes().to_vec(alloc)?;
     Ok(Ran {
         status,
@@ -98,20 +114,15 @@ fn ends_failing<R: Threads + Wait + Abort + Sync>(
     alloc: Global,
     words: &str,
     input: &[u8],
-    failing: Failing<'_>,
+    (reads, writes): Failing<'_>,
     end: Ending<'_>,
 ) -> Result<(), Fail> {
-    let ran = run(rt, alloc, words, input, failing, &FreeGate)?;
-    let (reads, writes) = failing;
-    let (status, calls, written) = end;
+    let mut sink = sink_of(alloc, writes)?;
+    let run = (words, input);
+    let (status, calls) = call_with(rt, alloc, run, reads, &mut sink, &FreeGate)?;
     assert_eq!(rt;
-        ran.written.as_slice(),
-        written,
-        "{words}, {reads:?} and {writes:?} fail"
-    );
-    assert_eq!(rt;
-        (ran.status, ran.calls),
-        (status, calls),
+        (status, calls, sink.bytes()),
+        end,
         "{words}, {reads:?} and {writes:?} fail"
     );
     Ok(())

@@ -1,9 +1,11 @@
 // Tests of sheet_check: check tool.
 use crate::memory::sink_of;
 use crate::sample::{FILE, sheet};
+use blt_reader::{FaultKind, InputFault};
 use byte_edge::{MemorySink, MemorySource};
 use sheet_check::check;
 use std::alloc::Global;
+use std::process::Abort;
 use std::test::Fail;
 use std::thread::Threads;
 use tool_edge::End;
@@ -44,13 +46,6 @@ result\n1 elected A\n2 elected B\n3 defeated C\nend\n",
     ),
 ];
 
-/// How a check ended, and what was written.
-#[derive(Drop)]
-struct Ran {
-    end: End,
-    written: Vec<u8>,
-}
-
 /// The words that give these lots.
 fn lots_words(alloc: Global, lots: &str) -> Result<Vec<String>, Fail> {
     let mut words = Vec::new(alloc);
@@ -72,8 +67,7 @@ fn end_of<R: Threads + Sync>(
     rt: &R,
     alloc: Global,
     lots: &str,
-    text: &[u8],
-    file: &[u8],
+    (text, file): (&[u8], &[u8]),
     sink: &mut MemorySink,
 ) -> Result<End, Fail> {
     let words = lots_words(alloc, lots)?;
@@ -81,24 +75,37 @@ fn end_of<R: Threads + Sync>(
     Ok(check(rt, alloc, words.as_slice(), &mut source, sink))
 }
 
-/// Checks a text with a file behind it, where the write calls of these numbers fail.
-fn run<R: Threads + Sync>(
+/// A check of a text with a file behind it ends so, and writes this; the writes and flushes with these
+/// numbers fail.
+fn ends<R: Threads + Sync + Abort>(
     rt: &R,
     alloc: Global,
     lots: &str,
-    text: &[u8],
-    file: &[u8],
+    input: (&[u8], &[u8]),
     failing: &[u64],
-) -> Result<Ran, Fail> {
+    (end, line): (End, &[u8]),
+) -> Result<(), Fail> {
     let mut sink = sink_of(alloc, 100, 100, failing)?;
-    let end = end_of(rt, alloc, lots, text, file, &mut sink)?;
-    let written = sink.bytes().to_vec(alloc)?;
-    Ok(Ran { end, written })
+    let found = end_of(rt, alloc, lots, input, &mut sink)?;
+    assert_eq!(rt; (found, sink.bytes()), (end, line));
+    Ok(())
+}
+
+/// The sample election's sheet with this quota and these votes gets this line by these lots.
+fn gets<R: Threads + Sync + Abort>(
+    rt: &R,
+    alloc: Global,
+    lots: &str,
+    (quota, votes): (&[u8], &[u8]),
+    line: &[u8],
+) -> Result<(), Fail> {
+    let text = sheet(alloc, quota, votes)?;
+    let input = (text.as_slice(), FILE);
+    ends(rt, alloc, lots, input, &[], (End::Done, line))
 }
 
 #[test]
 fn a_sheet_gets_the_line_of_its_verdict(rt: HostRuntime) -> Result<(), Fail> {
-    let alloc = rt.alloc();
     let cases: [(&str, &[u8], &[u8], &[u8]); 4] = [
         ("1,2,3,4", b"01", b"6", b"sheet true\n"),
         ("4,3,2,1", b"01", b"6", b"sheet true\n"),
@@ -106,10 +113,7 @@ fn a_sheet_gets_the_line_of_its_verdict(rt: HostRuntime) -> Result<(), Fail> {
         ("1,2,3,4", b"1", b"6", b"sheet malformed\n"),
     ];
     for (lots, quota, votes, line) in cases {
-        let text = sheet(alloc, quota, votes)?;
-        let ran = run(&rt, alloc, lots, text.as_slice(), FILE, &[])?;
-        assert_eq!(rt; ran.end, End::Done);
-        assert_eq!(rt; ran.written.as_slice(), line);
+        gets(&rt, rt.alloc(), lots, (quota, votes), line)?;
     }
     Ok(())
 }
@@ -117,43 +121,66 @@ fn a_sheet_gets_the_line_of_its_verdict(rt: HostRuntime) -> Result<(), Fail> {
 // Candidate 1 keeps 0.600000001 of 1,000 votes, or 0.518444667 of 1,003.
 #[test]
 fn a_sheet_is_checked_at_the_omega_of_all_files(rt: HostRuntime) -> Result<(), Fail> {
-    for (text, file) in AT_OMEGA {
-        let ran = run(&rt, rt.alloc(), "1,2,3", text, file, &[])?;
-        assert_eq!(rt; ran.written.as_slice(), b"sheet true\n".as_slice());
+    for input in AT_OMEGA {
+        let due = (End::Done, b"sheet true\n".as_slice());
+        ends(&rt, rt.alloc(), "1,2,3", input, &[], due)?;
     }
     Ok(())
 }
 
 // The line `end` that stands alone is a sheet of four bytes, and a second one is of the file. A byte order mark before
 // it makes it another line.
+const REFUSED: [(&[u8], &[u8], FaultKind, usize, &[u8]); 7] = [
+    (b"", b"", FaultKind::Ended, 0, b"refused Ended at 0\n"),
+    (b"end", b"", FaultKind::Ended, 3, b"refused Ended at 3\n"),
+    (
+        b"\xef\xbb\xbfend\n",
+        FILE,
+        FaultKind::Ended,
+        116,
+        b"refused Ended at 116\n",
+    ),
+    (
+        b"end\n",
+        b"3 0\n",
+        FaultKind::BadHeader,
+        6,
+        b"refused BadHeader at 6\n",
+    ),
+    (
+        b"end\nend\n",
+        b"3 0\n",
+        FaultKind::BadByte,
+        4,
+        b"refused BadByte at 4\n",
+    ),
+    (
+        b"\nend\n",
+        b"\xef\xbb\xbf3 0\n",
+        FaultKind::BadHeader,
+        10,
+        b"refused BadHeader at 10\n",
+    ),
+    (
+        b"end\n",
+        b"1 1 0 \"A\" \"T\"",
+        FaultKind::BadLots,
+        2,
+        b"refused BadLots at 2\n",
+    ),
+];
+
 #[test]
 fn a_refusal_has_its_place_in_the_whole(rt: HostRuntime) -> Result<(), Fail> {
-    let alloc = rt.alloc();
-    let cases: [(&[u8], &[u8], &[u8]); 7] = [
-        (b"", b"", b"refused Ended at 0\n"),
-        (b"end", b"", b"refused Ended at 3\n"),
-        (b"\xef\xbb\xbfend\n", FILE, b"refused Ended at 116\n"),
-        (b"end\n", b"3 0\n", b"refused BadHeader at 6\n"),
-        (b"end\nend\n", b"3 0\n", b"refused BadByte at 4\n"),
-        (
-            b"\nend\n",
-            b"\xef\xbb\xbf3 0\n",
-            b"refused BadHeader at 10\n",
-        ),
-        (b"end\n", b"1 1 0 \"A\" \"T\"", b"refused BadLots at 2\n"),
-    ];
-    for (text, file, line) in cases {
-        let ran = run(&rt, alloc, "1,2,3,4", text, file, &[])?;
-        assert_eq!(rt; ran.written.as_slice(), line);
-        assert!(rt; matches!(ran.end, End::BadInput(_)));
+    for (text, file, kind, at, line) in REFUSED {
+        let end = End::BadInput(InputFault::new(kind, at));
+        ends(&rt, rt.alloc(), "1,2,3,4", (text, file), &[], (end, line))?;
     }
     Ok(())
 }
 
 #[test]
 fn a_flush_that_fails_is_a_fault(rt: HostRuntime) -> Result<(), Fail> {
-    let ran = run(&rt, rt.alloc(), "1,2,3,4", b"end\n", FILE, &[2])?;
-    assert_eq!(rt; ran.end, End::SinkFault);
-    assert_eq!(rt; ran.written.as_slice(), b"sheet malformed\n".as_slice());
-    Ok(())
+    let due = (End::SinkFault, b"sheet malformed\n".as_slice());
+    ends(&rt, rt.alloc(), "1,2,3,4", (b"end\n", FILE), &[2], due)
 }

@@ -1,44 +1,42 @@
 // Tests of lot_draw: draw tool.
 use crate::memory::{sink_of, words_of};
-use byte_edge::MemorySink;
 use lot_draw::draw_in_public;
 use std::alloc::Global;
 use std::process::Abort;
 use std::test::Fail;
 use tool_edge::End;
 
-/// A draw by these words ends so.
+/// A draw by these words ends so, and writes this; the writes and flushes with these numbers fail.
 fn ends(
     rt: &impl Abort,
     alloc: Global,
     line: &str,
-    sink: &mut MemorySink,
-    end: End,
+    failing: &[u64],
+    (end, text): (End, &[u8]),
 ) -> Result<(), Fail> {
     let words = words_of(alloc, line)?;
-    assert_eq!(rt; draw_in_public(alloc, words.as_slice(), sink), end);
+    draws(rt, alloc, &words, failing, (end, text))
+}
+
+fn draws(
+    rt: &impl Abort,
+    alloc: Global,
+    words: &[String],
+    failing: &[u64],
+    (end, text): (End, &[u8]),
+) -> Result<(), Fail> {
+    let mut sink = sink_of(alloc, 99, 99, failing)?;
+    let found = draw_in_public(alloc, words, &mut sink);
+    assert_eq!(rt; (found, sink.bytes()), (end, text));
     Ok(())
 }
 
 #[test]
 fn the_line_or_the_refusal_is_written(rt: HostRuntime) -> Result<(), Fail> {
-    let mut sink = sink_of(rt.alloc(), 99, 9, &[])?;
-    ends(
-        &rt,
-        rt.alloc(),
-        "--candidates 1 --seed 0",
-        &mut sink,
-        End::Done,
-    )?;
-    ends(
-        &rt,
-        rt.alloc(),
-        "--candidates 0 --seed 0",
-        &mut sink,
-        End::BadWords,
-    )?;
-    assert_eq!(rt; sink.bytes(), b"1\nrefused BadWords\n".as_slice());
-    Ok(())
+    let line = (End::Done, b"1\n".as_slice());
+    ends(&rt, rt.alloc(), "--candidates 1 --seed 0", &[], line)?;
+    let refusal = (End::BadWords, b"refused BadWords\n".as_slice());
+    ends(&rt, rt.alloc(), "--candidates 0 --seed 0", &[], refusal)
 }
 
 /// The words that ask for a draw of three candidates from this seed.
@@ -54,20 +52,11 @@ fn three_from(alloc: Global, seed: &str) -> Result<Vec<String>, Fail> {
 #[test]
 fn the_line_of_three_candidates_is_written(rt: HostRuntime) -> Result<(), Fail> {
     let words = three_from(rt.alloc(), "2 6 5 3 5")?;
-    let mut sink = sink_of(rt.alloc(), 99, 9, &[])?;
-    let end = draw_in_public(rt.alloc(), words.as_slice(), &mut sink);
-    assert_eq!(rt; (end, sink.bytes()), (End::Done, b"2,3,1\n".as_slice()));
-    Ok(())
+    draws(&rt, rt.alloc(), &words, &[], (End::Done, b"2,3,1\n"))
 }
 
 #[test]
 fn a_flush_that_fails_is_a_fault(rt: HostRuntime) -> Result<(), Fail> {
-    let mut sink = sink_of(rt.alloc(), 99, 99, &[2])?;
-    ends(
-        &rt,
-        rt.alloc(),
-        "--candidates 1 --seed 0",
-        &mut sink,
-        End::SinkFault,
-    )
+    let due = (End::SinkFault, b"1\n".as_slice());
+    ends(&rt, rt.alloc(), "--candidates 1 --seed 0", &[2], due)
 }

@@ -2,26 +2,45 @@
 use lot_draw::takes_draw;
 use meek_words::WordsStop;
 use std::alloc::Global;
+use std::process::Abort;
 use std::test::Fail;
 
-fn words(rt: &HostRuntime, text: &str) -> Result<Vec<String>, Fail> {
-    let mut words = Vec::new(rt.alloc());
+/// The words of a line, which one space stands between.
+fn words(alloc: Global, text: &str) -> Result<Vec<String>, Fail> {
+    let mut words = Vec::new(alloc);
     for word in text.split(' ') {
-        words.push(String::from_str(rt.alloc(), word)?)?;
+        words.push(String::from_str(alloc, word)?)?;
     }
     Ok(words)
 }
 
+/// What the words of a line ask for.
+fn asks(
+    rt: &impl Abort,
+    alloc: Global,
+    text: &str,
+    want: Result<(&str, u32), WordsStop>,
+) -> Result<(), Fail> {
+    let words = words(alloc, text)?;
+    assert_eq!(rt; (text, takes_draw(alloc, &words)), (text, want));
+    Ok(())
+}
+
 #[test]
 fn the_options_stand_in_either_order(rt: HostRuntime) -> Result<(), Fail> {
-    let one = words(&rt, "--seed 4-6-1 --candidates 003")?;
-    assert_eq!(rt; takes_draw(rt.alloc(), one.as_slice()), Ok(("4-6-1", 3)));
-    let other = words(&rt, "--candidates 250 --seed --seed")?;
-    assert_eq!(rt;
-        takes_draw(rt.alloc(), other.as_slice()),
-        Ok(("--seed", 250))
-    );
-    Ok(())
+    let alloc = rt.alloc();
+    asks(
+        &rt,
+        alloc,
+        "--seed 4-6-1 --candidates 003",
+        Ok(("4-6-1", 3)),
+    )?;
+    asks(
+        &rt,
+        alloc,
+        "--candidates 250 --seed --seed",
+        Ok(("--seed", 250)),
+    )
 }
 
 #[test]
@@ -35,9 +54,7 @@ fn other_words_are_refused(rt: HostRuntime) -> Result<(), Fail> {
         "--seed  --candidates 3",
         "--seed 4 --candidates 3 3",
     ] {
-        let words = words(&rt, text)?;
-        let refused = takes_draw(rt.alloc(), words.as_slice());
-        assert_eq!(rt; refused, Err(WordsStop::BadWords), "at {text}");
+        asks(&rt, rt.alloc(), text, Err(WordsStop::BadWords))?;
     }
     Ok(())
 }

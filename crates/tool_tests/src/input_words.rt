@@ -1,23 +1,29 @@
 // Tests of tool_edge: input words.
+use crate::memory::words_of;
 use meek_words::WordsStop;
 use std::alloc::Global;
+use std::process::Abort;
 use std::test::Fail;
 use tool_edge::{takes_lots, takes_nothing};
 
-fn words_of(alloc: Global, text: &str) -> Result<Vec<String>, Fail> {
-    let mut words = Vec::new(alloc);
-    for word in text.split_whitespace() {
-        words.push(word.to_string(alloc)?)?;
-    }
-    Ok(words)
+#[test]
+fn takes_the_option_and_its_list(rt: HostRuntime) -> Result<(), Fail> {
+    let words = words_of(rt.alloc(), "--lots 2,1,03")?;
+    let lots = takes_lots(rt.alloc(), words.as_slice())?;
+    assert_eq!(rt; lots.items(), [2, 1, 3].as_slice());
+    Ok(())
+}
+
+/// The words of a line are no list of lots.
+fn is_refused(rt: &impl Abort, alloc: Global, text: &str) -> Result<(), Fail> {
+    let words = words_of(alloc, text)?;
+    let refused = takes_lots(alloc, words.as_slice()).map(|lots| lots.len());
+    assert_eq!(rt; refused, Err(WordsStop::BadWords), "{text}");
+    Ok(())
 }
 
 #[test]
-fn takes_the_option_and_its_list_alone(rt: HostRuntime) -> Result<(), Fail> {
-    let alloc = rt.alloc();
-    let words = words_of(alloc, "--lots 2,1,03")?;
-    let lots = takes_lots(alloc, words.as_slice())?;
-    assert_eq!(rt; lots.items(), [2, 1, 3].as_slice());
+fn takes_nothing_beside(rt: HostRuntime) -> Result<(), Fail> {
     for text in [
         "",
         "--lots",
@@ -27,18 +33,15 @@ fn takes_the_option_and_its_list_alone(rt: HostRuntime) -> Result<(), Fail> {
         "--lots 1 2",
         "1,2 --lots",
     ] {
-        let words = words_of(alloc, text)?;
-        let refused = takes_lots(alloc, words.as_slice()).map(|lots| lots.len());
-        assert_eq!(rt; refused, Err(WordsStop::BadWords), "{text}");
+        is_refused(&rt, rt.alloc(), text)?;
     }
     Ok(())
 }
 
 #[test]
 fn takes_no_word(rt: HostRuntime) -> Result<(), Fail> {
-    let alloc = rt.alloc();
-    assert_eq!(rt; takes_nothing(words_of(alloc, "")?.as_slice()), Ok(()));
-    let words = words_of(alloc, "--help")?;
+    assert_eq!(rt; takes_nothing(&[]), Ok(()));
+    let words = words_of(rt.alloc(), "--help")?;
     assert_eq!(rt; takes_nothing(words.as_slice()), Err(WordsStop::BadWords));
     Ok(())
 }

@@ -44,13 +44,6 @@ const SAMPLE_HTML: &[u8] =
 const HOSTILE_HTML: &[u8] =
     b"<!DOCTYPE html><html lang=\"en\"><head><meta charset=\"utf-8\"><meta name=\"viewport\" content=\"width=device-width\"><title>&lt;script&gt;alert(1)&lt;/script&gt;</title><style>body{font:16px/1.5 system-ui,sans-serif;max-width:72em;margin:auto;padding:1em;overflow-wrap:anywhere}section{overflow-x:auto}table{border-collapse:collapse;font-variant-numeric:tabular-nums}th,td{border:1px solid #888;padding:.2em .5em;text-align:right;vertical-align:top;min-width:6em;max-width:16em}th{background:#eee;overflow-wrap:break-word}td{white-space:nowrap}th:first-child{position:sticky;left:0;min-width:4em}small{display:block}svg{display:block;width:100%;max-width:32em;height:auto;overflow:visible}text{font:13px system-ui,sans-serif}text.elected{font-weight:bold}rect{fill:#7aa6d6;stroke:#25466b}rect.elected{fill:#2e8b57;stroke:#0b3d22;stroke-width:2}rect.defeated,rect.withdrawn{fill:#fff;stroke:#666;stroke-dasharray:4 3}line{stroke:#b00000;stroke-width:2;stroke-dasharray:7 4;mix-blend-mode:multiply}summary{cursor:pointer;padding:.5em 0}@media print{body{padding:0}table{font-size:10px}section:has(th:nth-child(10)){display:none}h2,p{break-after:avoid}svg{max-width:20em}svg:not(:has(rect:nth-of-type(46))){width:auto;max-height:85vh}tr{break-inside:avoid}details:not([open]){display:none}}</style></head><body><h1>&lt;script&gt;alert(1)&lt;/script&gt;</h1><p>Seats: 1. Ballots: 2.</p><section><h2>Elected</h2><ol><li>O&#39;Neil &amp;quot; &amp;: elected in round 2</li></ol></section><section><h2>Votes at the end of each round</h2><table><tr><th>Round</th><th>Quota</th><th>On no candidate</th><th>O&#39;Neil &amp;quot; &amp;</th><th>a\xEF\xBF\xBDb\xEF\xBF\xBD</th><th>\xD8\xB9\xE6\x9D\x8E&lt;/td&gt;</th></tr><tr><th>1</th><td>1.000000001</td><td>0.000000000</td><td>1.000000000 <small>hopeful</small></td><td>1.000000000 <small>hopeful</small></td><td>0.000000000 <small>defeated</small></td></tr><tr><th>2</th><td>0.875000001</td><td>0.250000000</td><td>1.500000000 <small>elected</small></td><td>0.250000000 <small>hopeful</small></td><td>0.000000000 <small>defeated</small></td></tr></table></section><section><h2>Round 1</h2><p>Quota 1.000000001: the broken line. On no candidate: 0.000000000.</p><svg role=\"img\" viewBox=\"0 0 400 108\"><title>Votes at the end of round 1: a bar for each candidate, and the quota as a line. The table above has the numbers.</title><text class=\"hopeful\" y=\"16\">hopeful 1.000000000 O&#39;Neil &amp;quot; &amp;</text><rect class=\"hopeful\" y=\"21\" width=\"266\" height=\"12\"></rect><text class=\"hopeful\" y=\"52\">hopeful 1.000000000 a\xEF\xBF\xBDb\xEF\xBF\xBD</text><rect class=\"hopeful\" y=\"57\" width=\"266\" height=\"12\"></rect><text class=\"defeated\" y=\"88\">defeated 0.000000000 \xD8\xB9\xE6\x9D\x8E&lt;/td&gt;</text><rect class=\"defeated\" y=\"93\" width=\"0\" height=\"12\"></rect><line x1=\"266\" x2=\"266\" y2=\"108\"></line></svg><details><summary>Iterations of round 1</summary><table><tr><th>Candidate</th><th>State before</th><th>Keep value</th><th>Vote</th></tr><tbody><tr><th colspan=\"4\">Iteration 1: total 2.000000000, quota 1.000000001, surplus 0.000000000, step defeat</th></tr><tr><th>O&#39;Neil &amp;quot; &amp;</th><td>hopeful</td><td>1.000000000</td><td>1.000000000</td></tr><tr><th>a\xEF\xBF\xBDb\xEF\xBF\xBD</th><td>hopeful</td><td>1.000000000</td><td>1.000000000</td></tr><tr><th>\xD8\xB9\xE6\x9D\x8E&lt;/td&gt;</th><td>hopeful</td><td>1.000000000</td><td>0.000000000</td></tr></tbody></table></details></section><section><h2>Round 2</h2><p>Quota 0.875000001: the broken line. On no candidate: 0.250000000.</p><svg role=\"img\" viewBox=\"0 0 400 108\"><title>Votes at the end of round 2: a bar for each candidate, and the quota as a line. The table above has the numbers.</title><text class=\"elected\" y=\"16\">elected 1.500000000 O&#39;Neil &amp;quot; &amp;</text><rect class=\"elected\" y=\"21\" width=\"400\" height=\"12\"></rect><text class=\"hopeful\" y=\"52\">hopeful 0.250000000 a\xEF\xBF\xBDb\xEF\xBF\xBD</text><rect class=\"hopeful\" y=\"57\" width=\"66\" height=\"12\"></rect><text class=\"defeated\" y=\"88\">defeated 0.000000000 \xD8\xB9\xE6\x9D\x8E&lt;/td&gt;</text><rect class=\"defeated\" y=\"93\" width=\"0\" height=\"12\"></rect><line x1=\"233\" x2=\"233\" y2=\"108\"></line></svg><details><summary>Iterations of round 2</summary><table><tr><th>Candidate</th><th>State before</th><th>Keep value</th><th>Vote</th></tr><tbody><tr><th colspan=\"4\">Iteration 1: total 1.750000000, quota 0.875000001, surplus 0.624999999, step elected</th></tr><tr><th>O&#39;Neil &amp;quot; &amp;</th><td>hopeful</td><td>1.000000000</td><td>1.500000000</td></tr><tr><th>a\xEF\xBF\xBDb\xEF\xBF\xBD</th><td>hopeful</td><td>1.000000000</td><td>0.250000000</td></tr><tr><th>\xD8\xB9\xE6\x9D\x8E&lt;/td&gt;</th><td>defeated</td><td>0.000000000</td><td>0.000000000</td></tr></tbody></table></details></section></body></html>";
 
-/// How a run ended, and what it wrote.
-#[derive(Drop)]
-struct Ran {
-    end: PageEnd,
-    written: Vec<u8>,
-}
-
 /// How a run ends that writes into this sink.
 fn end_of(
     alloc: Global,
@@ -63,30 +56,18 @@ fn end_of(
     Ok(page(alloc, words.as_slice(), &mut source, sink))
 }
 
-/// A run over memory; the writes and flushes with these numbers fail.
-fn run(alloc: Global, words: &str, input: &[u8], failing: &[u64]) -> Result<Ran, Fail> {
+/// A run of these words over this sheet ends so, and writes this; the writes and flushes with these
+/// numbers fail.
+fn ends(
+    rt: &impl Abort,
+    alloc: Global,
+    (words, sheet): (&str, &[u8]),
+    failing: &[u64],
+    (end, text): (PageEnd, &[u8]),
+) -> Result<(), Fail> {
     let mut sink = sink_of(alloc, 20_000, 20_000, failing)?;
-    let end = end_of(alloc, words, input, &mut sink)?;
-    let written = sink.bytes().to_vec(alloc)?;
-    Ok(Ran { end, written })
-}
-
-#[test]
-fn a_table_of_a_sheet_without_iterations_is_its_head(rt: HostRuntime) -> Result<(), Fail> {
-    let ran = run(rt.alloc(), "--as csv", ONE, &[])?;
-    assert_eq!(rt; ran.end, PageEnd::Ran(End::Done));
-    let head =
-        b"round,iteration,candidate,name,outcome,state,keep,vote,elected,capped,tied,defeated,total,quota,surplus,step\r\n";
-    assert_eq!(rt; ran.written.as_slice(), head.as_slice());
-    Ok(())
-}
-
-#[test]
-fn json_of_a_sheet_without_iterations(rt: HostRuntime) -> Result<(), Fail> {
-    let ran = run(rt.alloc(), "--as json", ONE, &[])?;
-    let text =
-        b"{\"title\":\"A & B\",\"seats\":1,\"ballots\":0,\"candidates\":[{\"number\":1,\"name\":\"<Ann>\",\"outcome\":\"elected\"}],\"iterations\":[]}\n";
-    assert_eq!(rt; ran.written.as_slice(), text.as_slice());
+    let found = end_of(alloc, words, sheet, &mut sink)?;
+    assert_eq!(rt; (found, sink.bytes()), (end, text));
     Ok(())
 }
 
@@ -98,15 +79,26 @@ fn is_shown(
     sheet: &[u8],
     text: &[u8],
 ) -> Result<(), Fail> {
-    let ran = run(alloc, words, sheet, &[])?;
     let done = PageEnd::Ran(End::Done);
-    assert_eq!(rt; (ran.end, ran.written.as_slice()), (done, text));
-    Ok(())
+    ends(rt, alloc, (words, sheet), &[], (done, text))
+}
+
+#[test]
+fn a_table_of_a_sheet_without_iterations_is_its_head(rt: HostRuntime) -> Result<(), Fail> {
+    let head =
+        b"round,iteration,candidate,name,outcome,state,keep,vote,elected,capped,tied,defeated,total,quota,surplus,step\r\n";
+    is_shown(&rt, rt.alloc(), "--as csv", ONE, head)
+}
+
+#[test]
+fn json_of_a_sheet_without_iterations(rt: HostRuntime) -> Result<(), Fail> {
+    let text =
+        b"{\"title\":\"A & B\",\"seats\":1,\"ballots\":0,\"candidates\":[{\"number\":1,\"name\":\"<Ann>\",\"outcome\":\"elected\"}],\"iterations\":[]}\n";
+    is_shown(&rt, rt.alloc(), "--as json", ONE, text)
 }
 
 #[test]
 fn a_sheet_as_a_second_program_shows_it(rt: HostRuntime) -> Result<(), Fail> {
-    let alloc = rt.alloc();
     let cases = [
         ("", ONE, ONE_HTML),
         ("", HOSTILE, HOSTILE_HTML),
@@ -116,29 +108,30 @@ fn a_sheet_as_a_second_program_shows_it(rt: HostRuntime) -> Result<(), Fail> {
         ("--as json", ODD, ODD_JSON),
     ];
     for (words, sheet, text) in cases {
-        is_shown(&rt, alloc, words, sheet, text)?;
+        is_shown(&rt, rt.alloc(), words, sheet, text)?;
     }
     Ok(())
 }
 
 #[test]
 fn a_write_that_fails_ends_the_writing(rt: HostRuntime) -> Result<(), Fail> {
-    let ran = run(rt.alloc(), "--as csv", SAMPLE, &[3])?;
-    assert_eq!(rt; ran.end, PageEnd::Ran(End::SinkFault));
-    assert_eq!(rt; ran.written.as_slice(), b"round,".as_slice());
-    Ok(())
+    let due = (PageEnd::Ran(End::SinkFault), b"round,".as_slice());
+    ends(&rt, rt.alloc(), ("--as csv", SAMPLE), &[3], due)
 }
 
 #[test]
 fn what_is_no_sheet_is_malformed(rt: HostRuntime) -> Result<(), Fail> {
-    let ran = run(rt.alloc(), "--as csv", b"title\n", &[])?;
-    assert_eq!(rt; ran.end, PageEnd::Malformed);
-    assert_eq!(rt; ran.end.exit_code(), ExitCode::from(3));
-    assert_eq!(rt; ran.written.as_slice(), b"sheet malformed\n".as_slice());
-    let unwritten = run(rt.alloc(), "--as csv", b"title\n", &[1])?;
-    assert_eq!(rt; unwritten.end, PageEnd::Ran(End::SinkFault));
-    let words = run(rt.alloc(), "--as pdf", ONE, &[])?;
-    assert_eq!(rt; words.end, PageEnd::Ran(End::BadWords));
-    assert_eq!(rt; words.written.as_slice(), b"refused BadWords\n".as_slice());
-    Ok(())
+    assert_eq!(rt; PageEnd::Malformed.exit_code(), ExitCode::from(3));
+    let run = ("--as csv", b"title\n".as_slice());
+    let line = b"sheet malformed\n";
+    ends(&rt, rt.alloc(), run, &[], (PageEnd::Malformed, line))?;
+    let unwritten = (PageEnd::Ran(End::SinkFault), b"".as_slice());
+    ends(&rt, rt.alloc(), run, &[1], unwritten)
+}
+
+#[test]
+fn other_words_are_refused(rt: HostRuntime) -> Result<(), Fail> {
+    let line = b"refused BadWords\n";
+    let due = (PageEnd::Ran(End::BadWords), line.as_slice());
+    ends(&rt, rt.alloc(), ("--as pdf", ONE), &[], due)
 }

@@ -1,15 +1,21 @@
 // Tests of sheet_page: page words.
+use crate::memory::words_of;
 use meek_words::WordsStop;
 use sheet_page::{Format, takes_format};
 use std::alloc::Global;
+use std::process::Abort;
 use std::test::Fail;
 
-fn words_of(alloc: Global, text: &str) -> Result<Vec<String>, Fail> {
-    let mut words = Vec::new(alloc);
-    for word in text.split_whitespace() {
-        words.push(word.to_string(alloc)?)?;
-    }
-    Ok(words)
+/// What the words of a line ask for.
+fn asks(
+    rt: &impl Abort,
+    alloc: Global,
+    text: &str,
+    format: Result<Format, WordsStop>,
+) -> Result<(), Fail> {
+    let words = words_of(alloc, text)?;
+    assert_eq!(rt; takes_format(words.as_slice()), format, "{text}");
+    Ok(())
 }
 
 #[test]
@@ -28,8 +34,7 @@ fn takes_a_format_or_nothing(rt: HostRuntime) -> Result<(), Fail> {
         ("--as csv csv", Err(WordsStop::BadWords)),
     ];
     for (text, format) in cases {
-        let words = words_of(rt.alloc(), text)?;
-        assert_eq!(rt; takes_format(words.as_slice()), format, "{text}");
+        asks(&rt, rt.alloc(), text, format)?;
     }
     Ok(())
 }

@@ -1,6 +1,7 @@
 // Tests of tally_board: scribe.
 ghost use Rattle.std.specs.Prelude.{◌≡◌, [], length};
 
+use std::alloc::Global;
 use std::sync::Wait;
 use std::sync::atomic::{AtomicBool, Ordering};
 use std::test::Fail;
@@ -158,29 +159,48 @@ fn reads_beside_a_scribe_never_go_back(rt: HostRuntime) -> Result<(), Fail> {
     Ok(())
 }
 
+// What a watcher reads behind so many moves on its board.
+fn read_behind<R: Wait>(
+    rt: &R,
+    scribe: &mut Scribe,
+    moves: u32,
+    watcher: Watcher,
+    totals: Totals,
+) -> (u64, u64)
+    requires pending { scribe.old.pending ≡ [] }
+    requires board { watcher.board ≡ scribe.old.board }
+    requires length { length totals ≡ watcher.candidates }
+{
+    for _ in 0..moves {
+        publish_one(rt, scribe);
+    }
+    let note = scribe.publish(rt);
+    read_noted(watcher, totals, note)
+}
+
+// What the watcher of a new board reads behind one move there.
+fn read_of_another<R: Threads + Wait>(rt: &R, alloc: Global) -> Result<(u64, u64), Fail> {
+    let totals = Totals::filled(alloc, 1, 7)?;
+    let (mut scribe, mut watchers) = open_board(rt, alloc, 1, 1)?;
+    let seen = match watchers.pop() {
+        Some(watcher) => read_behind(rt, &mut scribe, 1, watcher, totals),
+        None => (0, 1),
+    };
+    scribe.close(rt);
+    Ok(seen)
+}
+
 #[test]
 fn boards_are_apart(rt: HostRuntime) -> Result<(), Fail> {
-    let first = Totals::filled(rt.alloc(), 1, 7)?;
-    let second = Totals::filled(rt.alloc(), 1, 7)?;
-    let (mut one, mut its) = open_board(&rt, rt.alloc(), 1, 1)?;
-    let Ok((mut other, mut others)) = open_board(&rt, rt.alloc(), 1, 1) else {
-        one.close(&rt);
-        return Err(Fail::from("two boards were asked for"));
+    let totals = Totals::filled(rt.alloc(), 1, 7)?;
+    let (mut scribe, mut watchers) = open_board(&rt, rt.alloc(), 1, 1)?;
+    publish_one(&rt, &mut scribe);
+    let other = read_of_another(&rt, rt.alloc());
+    let seen = match watchers.pop() {
+        Some(watcher) => read_behind(&rt, &mut scribe, 1, watcher, totals),
+        None => (0, 1),
     };
-    let added = publish_one(&rt, &mut one);
-    let more = publish_one(&rt, &mut one);
-    let apart = publish_one(&rt, &mut other);
-    let (note, another) = (one.publish(&rt), other.publish(&rt));
-    let shown = (first_of(one.totals()), first_of(other.totals()));
-    let count = its.len();
-    let read = match (its.pop(), others.pop()) {
-        (Some(a), Some(b)) => (read_noted(a, first, note), read_noted(b, second, another)),
-        _ => ((0, 1), (0, 1)),
-    };
-    one.close(&rt);
-    other.close(&rt);
-    assert!(rt; added && more && apart);
-    assert_eq!(rt; (count, shown), (1, (2, 1)));
-    assert_eq!(rt; read, ((2, 0), (1, 0)));
+    scribe.close(&rt);
+    assert_eq!(rt; (seen, other?), ((2, 0), (1, 0)));
     Ok(())
 }

@@ -9,19 +9,13 @@ const SAMPLE: &[u8] =
     b"title Sample\nseats 2\ncandidates 4\nballots 13\nround 1 iteration 1\n1 hopeful 1.000000000 7.000000000\n2 withdrawn 0.000000000 0.000000000\n3 hopeful 1.000000000 1.000000000\n4 hopeful 1.000000000 4.000000000\ntotal 12.000000000\nquota 4.000000001\nsurplus 2.999999999\nelected 1\nstep elected\nround 2 iteration 1\n1 elected 1.000000000 7.000000000\n2 withdrawn 0.000000000 0.000000000\n3 hopeful 1.000000000 1.000000000\n4 hopeful 1.000000000 4.000000000\ntotal 12.000000000\nquota 4.000000001\nsurplus 2.999999999\nstep iterate\nround 2 iteration 2\n1 elected 0.571428572 4.000000004\n2 withdrawn 0.000000000 0.000000000\n3 hopeful 1.000000000 3.999999996\n4 hopeful 1.000000000 4.000000000\ntotal 12.000000000\nquota 4.000000001\nsurplus 0.000000003\nstep defeat 3 tied 3\nresult\n1 elected Ann\n2 withdrawn Ben\n3 defeated Cid\n4 elected Dee\nend\n";
 
 #[test]
-fn the_sample_sheet_says_its_values(rt: HostRuntime) -> Result<(), Fail> {
+fn the_sample_sheet_says_its_election(rt: HostRuntime) -> Result<(), Fail> {
     let values = read_sheet(rt.alloc(), SAMPLE)?;
-    assert_eq!(rt; values.title.bytes(), b"Sample".as_slice());
-    assert_eq!(rt; (values.seats, values.ballots), (2, 13));
-    assert_eq!(rt; (values.names.len(), values.rows.len()), (4, 3));
-    let row = values.rows.items().get(2).ok_or("no third row")?;
+    let head = (values.seats, values.ballots, values.names.len());
     assert_eq!(rt;
-        (row.round, row.iteration, row.step),
-        (2, 2, Step::Defeat(3))
+        (values.title.bytes(), head),
+        (b"Sample".as_slice(), (2, 13, 4))
     );
-    let vote = row.votes.items().get(2).ok_or("no third vote")?;
-    assert_eq!(rt; vote.units(), 3_999_999_996);
-    assert_eq!(rt; row.tied.items(), [false, false, true, false].as_slice());
     let last = [
         State::Elected,
         State::Withdrawn,
@@ -29,6 +23,21 @@ fn the_sample_sheet_says_its_values(rt: HostRuntime) -> Result<(), Fail> {
         State::Elected,
     ];
     assert_eq!(rt; values.last.items(), last.as_slice());
+    Ok(())
+}
+
+#[test]
+fn the_sample_sheet_says_its_last_iteration(rt: HostRuntime) -> Result<(), Fail> {
+    let rows = read_sheet(rt.alloc(), SAMPLE)?.rows;
+    let row = rows.items().get(2).ok_or("no third row")?;
+    let turn = (rows.len(), row.round, row.iteration, row.step);
+    assert_eq!(rt; turn, (3, 2, 2, Step::Defeat(3)));
+    let vote = row.votes.items().get(2).ok_or("no third vote")?;
+    let tied = [false, false, true, false];
+    assert_eq!(rt;
+        (vote.units(), row.tied.items()),
+        (3_999_999_996, tied.as_slice())
+    );
     Ok(())
 }
 

@@ -1,6 +1,9 @@
 // Tests of tally_cli: tally tool.
-use crate::memory::{sink_of, source_of};
+use crate::memory::{sink_of, source_of, words_of};
+use blt_reader::{FaultKind, InputFault};
+use byte_edge::MemorySink;
 use std::alloc::Global;
+use std::process::Abort;
 use std::sync::Wait;
 use std::test::Fail;
 use tally_cli::tally;
@@ -22,17 +25,32 @@ const CORRECTED: &[u8] =
     b"3 1\n0\n\"A\" \"B\" \"C\" \"T\"\nlots 1 2 3 0\nteam 2\ncorrect 5 1\n2 3 1 0\n1 0\n0\n\
 team 1\nenter 5\n4 1 2 0\n1 2 0\n0\nend\n";
 
-fn run(
+/// How a run ends that writes into this sink.
+fn end_of(
     rt: &impl Wait,
     alloc: Global,
-    words: &[String],
+    words: &str,
     input: &[u8],
-    failing: &[u64],
-) -> Result<(End, Vec<u8>), Fail> {
+    sink: &mut MemorySink,
+) -> Result<End, Fail> {
+    let words = words_of(alloc, words)?;
     let mut source = source_of(alloc, input, 16, &[])?;
+    Ok(tally(rt, alloc, words.as_slice(), &mut source, sink))
+}
+
+/// A run of these words over this input ends so, and writes this; the writes and flushes with these
+/// numbers fail.
+fn ends<R: Wait + Abort>(
+    rt: &R,
+    alloc: Global,
+    (words, input): (&str, &[u8]),
+    failing: &[u64],
+    (end, text): (End, &[u8]),
+) -> Result<(), Fail> {
     let mut sink = sink_of(alloc, 99, 99, failing)?;
-    let end = tally(rt, alloc, words, &mut source, &mut sink);
-    Ok((end, sink.bytes().to_vec(alloc)?))
+    let found = end_of(rt, alloc, words, input, &mut sink)?;
+    assert_eq!(rt; (found, sink.bytes()), (end, text));
+    Ok(())
 }
 
 #[test]
@@ -42,28 +60,23 @@ fn the_last_totals_are_written(rt: HostRuntime) -> Result<(), Fail> {
         (WITHDRAWN, b"1 0\n2 0\n".as_slice()),
         (CORRECTED, b"1 0\n2 0\n3 2\n".as_slice()),
     ] {
-        let (end, written) = run(&rt, rt.alloc(), &[], input, &[])?;
-        assert_eq!(rt; end, End::Done);
-        assert_eq!(rt; written.as_slice(), text);
+        ends(&rt, rt.alloc(), ("", input), &[], (End::Done, text))?;
     }
     Ok(())
 }
 
 #[test]
 fn words_and_other_files_are_refused(rt: HostRuntime) -> Result<(), Fail> {
-    let word = String::from_str(rt.alloc(), "--lots")?;
-    let (end, written) = run(&rt, rt.alloc(), &[word], STRUCK, &[])?;
-    assert_eq!(rt; end, End::BadWords);
-    assert_eq!(rt; written.as_slice(), b"refused BadWords\n".as_slice());
-    let (_, written) = run(&rt, rt.alloc(), &[], b"3 1\n", &[])?;
-    assert_eq!(rt; written.as_slice(), b"refused Ended at 4\n".as_slice());
-    Ok(())
+    let word = (End::BadWords, b"refused BadWords\n".as_slice());
+    ends(&rt, rt.alloc(), ("--lots", STRUCK), &[], word)?;
+    let ended = End::BadInput(InputFault::new(FaultKind::Ended, 4));
+    let line = b"refused Ended at 4\n";
+    ends(&rt, rt.alloc(), ("", b"3 1\n"), &[], (ended, line))
 }
 
 // The text is one write, and the flush is the call behind it.
 #[test]
 fn a_flush_that_fails_is_a_fault(rt: HostRuntime) -> Result<(), Fail> {
-    let (end, _) = run(&rt, rt.alloc(), &[], STRUCK, &[2])?;
-    assert_eq!(rt; end, End::SinkFault);
-    Ok(())
+    let due = (End::SinkFault, b"1 3\n2 2\n3 0\n".as_slice());
+    ends(&rt, rt.alloc(), ("", STRUCK), &[2], due)
 }

@@ -2,7 +2,9 @@
 // a source or a sink that fails. Expected bytes were worked out by a program that was written from the rule.
 use crate::memory::{sink_of, source_of, words_of};
 use blt_reader::{FaultKind, InputFault};
+use byte_edge::MemorySink;
 use std::alloc::Global;
+use std::process::Abort;
 use std::test::Fail;
 use tool_edge::End;
 use warren_cli::warren;
@@ -77,44 +79,45 @@ result\n1 elected A\n2 elected B\n3 defeated C\nend\n",
     ),
 ];
 
-/// How a run ended, and what it wrote.
-#[derive(Drop)]
-struct Ran {
-    end: End,
-    written: Vec<u8>,
-}
-
-/// A run over memory, at most 16 bytes a read; the calls with these numbers fail.
-fn run(
+/// How a run ends that writes into this sink, at most 16 bytes a read; the reads with these numbers fail.
+fn end_of(
     alloc: Global,
-    words: &str,
-    input: &[u8],
+    (words, input): (&str, &[u8]),
     reads: &[u64],
-    writes: &[u64],
-) -> Result<Ran, Fail> {
+    sink: &mut MemorySink,
+) -> Result<End, Fail> {
     let words = words_of(alloc, words)?;
     let mut source = source_of(alloc, input, 16, reads)?;
+    Ok(warren(alloc, words.as_slice(), &mut source, sink))
+}
+
+/// A run of these words over this input ends so, and writes this; the reads, and the writes and
+/// flushes, with these numbers fail.
+fn ends(
+    rt: &impl Abort,
+    alloc: Global,
+    run: (&str, &[u8]),
+    (reads, writes): (&[u64], &[u64]),
+    (end, text): (End, &[u8]),
+) -> Result<(), Fail> {
     let mut sink = sink_of(alloc, 10_000, 1_400, writes)?;
-    let end = warren(alloc, words.as_slice(), &mut source, &mut sink);
-    let written = sink.bytes().to_vec(alloc)?;
-    Ok(Ran { end, written })
+    let found = end_of(alloc, run, reads, &mut sink)?;
+    assert_eq!(rt; (found, sink.bytes()), (end, text));
+    Ok(())
 }
 
 #[test]
 fn ballots_of_one_candidate_are_counted_as_by_meeks_rule(rt: HostRuntime) -> Result<(), Fail> {
-    let ran = run(rt.alloc(), "--lots 1,2,3", ALIKE, &[], &[])?;
-    assert_eq!(rt; ran.end, End::Done);
-    assert_eq!(rt; ran.written.as_slice(), ALIKE_SHEET);
-    Ok(())
+    let run = ("--lots 1,2,3", ALIKE);
+    ends(&rt, rt.alloc(), run, (&[], &[]), (End::Done, ALIKE_SHEET))
 }
 
 // Meek's rule elects candidate 2 in place of candidate 1.
 #[test]
 fn what_a_price_takes_whole_goes_to_nobody_behind(rt: HostRuntime) -> Result<(), Fail> {
-    let ran = run(rt.alloc(), "--lots 1,2,3,4", OTHERWISE, &[], &[])?;
-    assert_eq!(rt; ran.end, End::Done);
-    assert_eq!(rt; ran.written.as_slice(), OTHERWISE_SHEET);
-    Ok(())
+    let run = ("--lots 1,2,3,4", OTHERWISE);
+    let due = (End::Done, OTHERWISE_SHEET);
+    ends(&rt, rt.alloc(), run, (&[], &[]), due)
 }
 
 // Candidate 1 keeps 0.600000001 of 1,000 votes, and is 0.000000999 above the quota; or 0.518444667 of 1,003, and is
@@ -122,36 +125,27 @@ fn what_a_price_takes_whole_goes_to_nobody_behind(rt: HostRuntime) -> Result<(),
 #[test]
 fn a_surplus_below_omega_is_not_transferred(rt: HostRuntime) -> Result<(), Fail> {
     for (file, sheet) in AT_OMEGA {
-        let ran = run(rt.alloc(), "--lots 1,2,3", file, &[], &[])?;
-        assert_eq!(rt; ran.written.as_slice(), sheet);
+        let run = ("--lots 1,2,3", file);
+        ends(&rt, rt.alloc(), run, (&[], &[]), (End::Done, sheet))?;
     }
     Ok(())
 }
 
 #[test]
 fn words_and_lots_are_refused(rt: HostRuntime) -> Result<(), Fail> {
-    let ran = run(rt.alloc(), "--lots", ALIKE, &[], &[])?;
-    assert_eq!(rt; ran.end, End::BadWords);
-    let ran = run(rt.alloc(), "--lots 1,2,2", ALIKE, &[], &[])?;
-    let fault = InputFault {
-        kind: FaultKind::BadLots,
-        at: 3,
-    };
-    assert_eq!(rt; ran.end, End::BadInput(fault));
-    assert_eq!(rt;
-        ran.written.as_slice(),
-        b"refused BadLots at 3\n".as_slice()
-    );
-    Ok(())
+    let words = (End::BadWords, b"refused BadWords\n".as_slice());
+    ends(&rt, rt.alloc(), ("--lots", ALIKE), (&[], &[]), words)?;
+    let fault = InputFault::new(FaultKind::BadLots, 3);
+    let lots = (End::BadInput(fault), b"refused BadLots at 3\n".as_slice());
+    let run = ("--lots 1,2,2", ALIKE);
+    ends(&rt, rt.alloc(), run, (&[], &[]), lots)
 }
 
 #[test]
 fn a_source_or_a_sink_may_fail(rt: HostRuntime) -> Result<(), Fail> {
-    let ran = run(rt.alloc(), "--lots 1,2,3", ALIKE, &[2], &[])?;
-    assert_eq!(rt; ran.end, End::SourceFault);
-    assert_eq!(rt; ran.written.len(), 0);
-    let ran = run(rt.alloc(), "--lots 1,2,3", ALIKE, &[], &[2])?;
-    assert_eq!(rt; ran.end, End::SinkFault);
-    assert_eq!(rt; ran.written.as_slice(), b"title T\n".as_slice());
-    Ok(())
+    let run = ("--lots 1,2,3", ALIKE);
+    let unread = (End::SourceFault, b"".as_slice());
+    ends(&rt, rt.alloc(), run, (&[2], &[]), unread)?;
+    let unwritten = (End::SinkFault, b"title T\n".as_slice());
+    ends(&rt, rt.alloc(), run, (&[], &[2]), unwritten)
 }

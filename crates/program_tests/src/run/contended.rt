@@ -163,7 +163,7 @@ fn is_played_by_the_rules<R: Threads + Wait + Abort + Sync>(
     round: u32,
 ) -> Result<(), Fail> {
     let words = "day --shards 2 --workers 1";
-    let ran = run(rt, alloc, words, day, (&[], &[]), &FreeGate)?;
+    let ran = run(rt, alloc, words, day, &FreeGate)?;
     assert_eq!(rt;
         (ran.status, ran.calls),
         (Status::Done, 65),

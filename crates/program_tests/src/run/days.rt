@@ -136,10 +136,10 @@ fn refuses<R: Threads + Wait + Abort + Sync>(
     day: &[u8],
     line: &[u8],
 ) -> Result<(), Fail> {
-    let ran = run(rt, alloc, "day", day, (&[], &[]), &FreeGate)?;
+    let ran = run(rt, alloc, "day", day, &FreeGate)?;
+    let code = ran.status.exit_code();
+    assert_eq!(rt; (code, ran.calls), (ExitCode::from(3), 0));
     assert_eq!(rt; ran.written.as_slice(), line);
-    assert_eq!(rt; ran.status.exit_code(), ExitCode::from(3));
-    assert_eq!(rt; ran.calls, 0);
     Ok(())
 }
 

@@ -4,7 +4,11 @@ use super::meetings::Meeting;
 use super::{ELECTIONS, SAMPLE, SAMPLE_SHEET, ends, run};
 use byte_edge::{Gate, Place};
 use meek_cli::Status;
+use std::alloc::Global;
+use std::process::Abort;
+use std::sync::Wait;
 use std::test::Fail;
+use std::thread::Threads;
 
 #[test]
 fn counts_the_sample_in_lanes(rt: HostRuntime) -> Result<(), Fail> {
@@ -57,22 +61,28 @@ candidates 2\nballots 5\nround 1 iteration 1\n1 hopeful 1.000000000 3.000000000\
 2 hopeful 1.000000000 2.000000000\ntotal 5.000000000\nquota 2.500000001\nsurplus 0.499999999\n\
 elected 1\nstep elected\nresult\n1 elected A\n2 defeated B\nend\n";
 
+/// Two lanes that count at the same time write this.
+fn meet<R: Threads + Wait + Abort + Sync>(
+    rt: &R,
+    alloc: Global,
+    words: &str,
+    input: &[u8],
+    written: &[u8],
+) -> Result<(), Fail> {
+    let gate = LaneGate(Meeting::new());
+    let ran = run(rt, alloc, words, input, &gate)?;
+    assert!(rt; gate.0.has_been(), "{words}");
+    assert_eq!(rt;
+        (ran.status, ran.written.as_slice()),
+        (Status::Done, written)
+    );
+    Ok(())
+}
+
 // Lanes that ran one after another would never meet. The sheet of a freeze is counted in lanes too.
 #[test]
 fn two_lanes_count_at_the_same_time(rt: HostRuntime) -> Result<(), Fail> {
-    for (words, input, written) in [
-        (
-            "count --lots 1,2,3,4 --shards 2 --workers 2",
-            SAMPLE,
-            SAMPLE_SHEET,
-        ),
-        ("day --shards 2 --workers 2", DAY, DAY_TEXT),
-    ] {
-        let gate = LaneGate(Meeting::new());
-        let ran = run(&rt, rt.alloc(), words, input, (&[], &[]), &gate)?;
-        assert_eq!(rt; ran.written.as_slice(), written, "{words}");
-        assert_eq!(rt; ran.status, Status::Done, "{words}");
-        assert!(rt; gate.0.has_been(), "{words}");
-    }
-    Ok(())
+    let words = "count --lots 1,2,3,4 --shards 2 --workers 2";
+    meet(&rt, rt.alloc(), words, SAMPLE, SAMPLE_SHEET)?;
+    meet(&rt, rt.alloc(), "day --shards 2 --workers 2", DAY, DAY_TEXT)
 }

@@ -26,7 +26,7 @@ fn two_teams_are_in_the_turns_of_two_shards(rt: HostRuntime) -> Result<(), Fail>
     let day =
         b"2 1\n0\n\"A\" \"B\" \"T\"\nlots 2 1 0\nteam 1\nenter 1\n3 1 2 0\n0\nteam 2\nenter 2\n2 2 0\n0\nend\n";
     let words = "day --shards 2 --workers 2";
-    let ran = run(&rt, rt.alloc(), words, day, (&[], &[]), &gate)?;
+    let ran = run(&rt, rt.alloc(), words, day, &gate)?;
     let one =
         b"1 team 1 enter 1 entered\n2 team 2 enter 2 entered\n3 clerk freeze frozen\nsheet 3\ntitle T\n";
     let other =

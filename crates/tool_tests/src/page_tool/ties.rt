@@ -1,7 +1,10 @@
 // Sheets worked by hand: one where several are tied, and one where a keep value is capped. What they are
 // as a table and as JSON is a second program's, in Python with its modules csv and json.
-use super::run;
+use super::{end_of, is_shown};
+use crate::memory::sink_of;
 use bstr::ByteSlice;
+use std::alloc::Global;
+use std::process::Abort;
 use std::test::Fail;
 
 // Nobody votes: the lots alone decide, 2, 3, 1.
@@ -33,25 +36,24 @@ fn who_is_tied_and_who_is_capped(rt: HostRuntime) -> Result<(), Fail> {
         ("--as json", CAPPED, CAPPED_JSON),
     ];
     for (words, sheet, text) in cases {
-        let ran = run(rt.alloc(), words, sheet, &[])?;
-        assert_eq!(rt; ran.written.as_slice(), text);
+        is_shown(&rt, rt.alloc(), words, sheet, text)?;
     }
+    Ok(())
+}
+
+/// The page of the sheet has this piece.
+fn has(rt: &impl Abort, alloc: Global, sheet: &[u8], piece: &[u8]) -> Result<(), Fail> {
+    let mut sink = sink_of(alloc, 20_000, 20_000, &[])?;
+    end_of(alloc, "", sheet, &mut sink)?;
+    assert!(rt; sink.bytes().contains_str(piece));
     Ok(())
 }
 
 /// No vote reaches the quota: it has the whole width, 400, and each bar its part of it.
 #[test]
 fn a_quota_above_all_votes_has_the_whole_width(rt: HostRuntime) -> Result<(), Fail> {
-    let cases: [(&[u8], &[u8]); 2] = [
-        (TIE, b"<line x1=\"400\" x2=\"400\" y2=\"108\"></line>"),
-        (
-            TIE,
-            b"<rect class=\"hopeful\" y=\"21\" width=\"0\" height=\"12\"></rect>",
-        ),
-    ];
-    for (sheet, text) in cases {
-        let ran = run(rt.alloc(), "", sheet, &[])?;
-        assert!(rt; ran.written.as_slice().contains_str(text));
-    }
-    Ok(())
+    let line = b"<line x1=\"400\" x2=\"400\" y2=\"108\"></line>";
+    has(&rt, rt.alloc(), TIE, line)?;
+    let bar = b"<rect class=\"hopeful\" y=\"21\" width=\"0\" height=\"12\"></rect>";
+    has(&rt, rt.alloc(), TIE, bar)
 }

@@ -1,8 +1,6 @@
 // The three candidates' count that docs/RULE.md works by hand.
-use super::run;
-use sheet_page::PageEnd;
+use super::is_shown;
 use std::test::Fail;
-use tool_edge::End;
 
 const SHEET: &[u8] =
     b"title T\nseats 2\ncandidates 3\nballots 17\nround 1 iteration 1\n1 hopeful 1.000000000 10.000000000\n2 hopeful 1.000000000 4.000000000\n3 hopeful 1.000000000 3.000000000\ntotal 17.000000000\nquota 5.666666667\nsurplus 4.333333333\nelected 1\nstep elected\nround 2 iteration 1\n1 elected 1.000000000 10.000000000\n2 hopeful 1.000000000 4.000000000\n3 hopeful 1.000000000 3.000000000\ntotal 17.000000000\nquota 5.666666667\nsurplus 4.333333333\nstep iterate\nround 2 iteration 2\n1 elected 0.566666667 5.666666670\n2 hopeful 1.000000000 4.000000000\n3 hopeful 1.000000000 3.000000000\ntotal 12.666666670\nquota 4.222222224\nsurplus 1.444444446\nstep iterate\nround 2 iteration 3\n1 elected 0.422222223 4.222222230\n2 hopeful 1.000000000 4.000000000\n3 hopeful 1.000000000 3.000000000\ntotal 11.222222230\nquota 3.740740744\nsurplus 0.740740742\nelected 2\nstep elected\nresult\n1 elected A\n2 elected B\n3 defeated C\nend\n";
@@ -17,9 +15,7 @@ const JSON: &[u8] =
 #[test]
 fn the_transfer_that_is_worked_by_hand(rt: HostRuntime) -> Result<(), Fail> {
     for (words, text) in [("--as csv", CSV), ("--as json", JSON)] {
-        let ran = run(rt.alloc(), words, SHEET, &[])?;
-        assert_eq!(rt; ran.end, PageEnd::Ran(End::Done));
-        assert_eq!(rt; ran.written.as_slice(), text);
+        is_shown(&rt, rt.alloc(), words, SHEET, text)?;
     }
     Ok(())
 }
