@@ -1,16 +1,23 @@
 // Tests of piece_text: bytes.
-use byte_edge::{Failed, MemorySink};
+use crate::memory::sink_of;
+use byte_edge::Failed;
 use piece_text::write_bytes;
 use std::test::Fail;
 
 #[test]
 fn pieces_follow_one_another(rt: HostRuntime) -> Result<(), Fail> {
-    let alloc = rt.alloc();
-    let mut sink = MemorySink::with_room(alloc, 9, 2, vec![in alloc; 5]?)?;
-    write_bytes(b"abc", &mut sink)?;
-    write_bytes(b"", &mut sink)?;
-    write_bytes(b"def", &mut sink)?;
+    let mut sink = sink_of(rt.alloc(), 9, 2, &[])?;
+    for piece in [b"abc".as_slice(), b"", b"def"] {
+        write_bytes(piece, &mut sink)?;
+    }
     assert_eq!(rt; sink.bytes(), b"abcdef".as_slice());
-    assert_eq!(rt; write_bytes(b"g", &mut sink), Err(Failed));
+    Ok(())
+}
+
+#[test]
+fn a_write_that_fails_is_told(rt: HostRuntime) -> Result<(), Fail> {
+    let mut sink = sink_of(rt.alloc(), 9, 2, &[2])?;
+    let wrote = write_bytes(b"abc", &mut sink);
+    assert_eq!(rt; (wrote, sink.bytes()), (Err(Failed), b"ab".as_slice()));
     Ok(())
 }

@@ -104,15 +104,17 @@ fn gets<R: Threads + Sync + Abort>(
     ends(rt, alloc, lots, input, &[], (End::Done, line))
 }
 
+// Lots, the last digits of the first quota and of candidate 3's last votes, and the line.
+const VERDICTS: [(&str, &[u8], &[u8], &[u8]); 4] = [
+    ("1,2,3,4", b"01", b"6", b"sheet true\n"),
+    ("4,3,2,1", b"01", b"6", b"sheet true\n"),
+    ("1,2,3,4", b"01", b"7", b"sheet false at line 27\n"),
+    ("1,2,3,4", b"1", b"6", b"sheet malformed\n"),
+];
+
 #[test]
 fn a_sheet_gets_the_line_of_its_verdict(rt: HostRuntime) -> Result<(), Fail> {
-    let cases: [(&str, &[u8], &[u8], &[u8]); 4] = [
-        ("1,2,3,4", b"01", b"6", b"sheet true\n"),
-        ("4,3,2,1", b"01", b"6", b"sheet true\n"),
-        ("1,2,3,4", b"01", b"7", b"sheet false at line 27\n"),
-        ("1,2,3,4", b"1", b"6", b"sheet malformed\n"),
-    ];
-    for (lots, quota, votes, line) in cases {
+    for (lots, quota, votes, line) in VERDICTS {
         gets(&rt, rt.alloc(), lots, (quota, votes), line)?;
     }
     Ok(())

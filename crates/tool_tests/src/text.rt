@@ -1,35 +1,34 @@
 // Tests of page_tree: text.
+use crate::memory::sink_of;
 use byte_edge::{Failed, MemorySink};
 use page_tree::{Attribute, write_end, write_start, write_text};
 use std::alloc::Global;
+use std::process::Abort;
 use std::test::Fail;
 
-fn sink(alloc: Global) -> Result<MemorySink, Fail> {
-    Ok(MemorySink::with_room(alloc, 1000, 7, Vec::new(alloc))?)
+/// A text is written so.
+fn is_shown(rt: &impl Abort, alloc: Global, text: &[u8], shown: &[u8]) -> Result<(), Fail> {
+    let mut sink = sink_of(alloc, 1_000, 7, &[])?;
+    write_text(text, &mut sink)?;
+    assert_eq!(rt; sink.bytes(), shown);
+    Ok(())
 }
 
 #[test]
 fn markup_in_a_text_is_written_as_entities(rt: HostRuntime) -> Result<(), Fail> {
-    let mut sink = sink(rt.alloc())?;
-    write_text(b"<b>\"Tom & Jerry's\"</b>", &mut sink)?;
     let shown = b"&lt;b&gt;&quot;Tom &amp; Jerry&#39;s&quot;&lt;/b&gt;";
-    assert_eq!(rt; sink.bytes(), shown.as_slice());
-    Ok(())
+    is_shown(&rt, rt.alloc(), b"<b>\"Tom & Jerry's\"</b>", shown)
 }
 
 // U+FFFD is EF BF BD in UTF-8; a front of a character that is cut short is one replacement sign.
 #[test]
 fn what_is_no_utf8_is_the_replacement_sign(rt: HostRuntime) -> Result<(), Fail> {
-    let mut sink = sink(rt.alloc())?;
-    write_text(b"a\xFFb\xE4\xB8\xADc\xE4\xB8", &mut sink)?;
     let shown = b"a\xEF\xBF\xBDb\xE4\xB8\xADc\xEF\xBF\xBD";
-    assert_eq!(rt; sink.bytes(), shown.as_slice());
-    Ok(())
+    is_shown(&rt, rt.alloc(), b"a\xFFb\xE4\xB8\xADc\xE4\xB8", shown)
 }
 
-#[test]
-fn an_element_with_attributes(rt: HostRuntime) -> Result<(), Fail> {
-    let mut sink = sink(rt.alloc())?;
+/// A cell with two attributes and a text in it.
+fn write_cell(sink: &mut MemorySink) -> Result<(), Failed> {
     let class = Attribute {
         name: b"class",
         value: b"elected",
@@ -38,9 +37,15 @@ fn an_element_with_attributes(rt: HostRuntime) -> Result<(), Fail> {
         name: b"title",
         value: b"a\"b",
     };
-    write_start(b"td", &[class, title], &mut sink)?;
-    write_text(b"3", &mut sink)?;
-    write_end(b"td", &mut sink)?;
+    write_start(b"td", &[class, title], sink)?;
+    write_text(b"3", sink)?;
+    write_end(b"td", sink)
+}
+
+#[test]
+fn an_element_with_attributes(rt: HostRuntime) -> Result<(), Fail> {
+    let mut sink = sink_of(rt.alloc(), 1_000, 7, &[])?;
+    write_cell(&mut sink)?;
     let shown = b"<td class=\"elected\" title=\"a&quot;b\">3</td>";
     assert_eq!(rt; sink.bytes(), shown.as_slice());
     Ok(())
@@ -48,9 +53,8 @@ fn an_element_with_attributes(rt: HostRuntime) -> Result<(), Fail> {
 
 #[test]
 fn a_failure_is_handed_on(rt: HostRuntime) -> Result<(), Fail> {
-    let alloc = rt.alloc();
-    let mut sink = MemorySink::with_room(alloc, 1000, 7, vec![in alloc; 2]?)?;
-    assert_eq!(rt; write_text(b"ab", &mut sink), Err(Failed));
-    assert_eq!(rt; sink.bytes(), b"a".as_slice());
+    let mut sink = sink_of(rt.alloc(), 1_000, 7, &[2])?;
+    let wrote = write_text(b"ab", &mut sink);
+    assert_eq!(rt; (wrote, sink.bytes()), (Err(Failed), b"a".as_slice()));
     Ok(())
 }
