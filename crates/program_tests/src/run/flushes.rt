@@ -79,35 +79,53 @@ fn none_noted(alloc: Global) -> Noted {
 
 /// The writer has these bytes, and was flushed behind them.
 fn holds_flushed(rt: &impl Abort, writer: &Noted, words: &str, written: &[u8]) {
-    assert_eq!(rt; writer.bytes.as_slice(), written, "{words}");
-    assert!(rt; writer.flushed, "{words}");
+    let found = (writer.flushed, writer.bytes.as_slice());
+    assert_eq!(rt; found, (true, written), "{words}");
+}
+
+/// A run ends as a refusal or not, as what it writes says, and flushes behind it.
+fn flushes<R: Threads + Wait + Abort + Sync>(
+    rt: &R,
+    alloc: Global,
+    words: &str,
+    input: &[u8],
+    written: &[u8],
+) -> Result<(), Fail> {
+    let mut writer = none_noted(alloc);
+    let status = run_into(rt, alloc, words, input, &mut writer)?;
+    holds_flushed(rt, &writer, words, written);
+    let refused = written.starts_with(b"refused");
+    assert_eq!(rt; (words, is_refused(status)), (words, refused));
+    Ok(())
 }
 
 #[test]
 fn flushes_behind_the_last_byte(rt: HostRuntime) -> Result<(), Fail> {
-    let alloc = rt.alloc();
     for (words, input, written) in ENDS {
-        let mut writer = none_noted(alloc);
-        let status = run_into(&rt, alloc, words, input, &mut writer)?;
-        holds_flushed(&rt, &writer, words, written);
-        assert_eq!(rt;
-            is_refused(status),
-            written.starts_with(b"refused"),
-            "{words}"
-        );
+        flushes(&rt, rt.alloc(), words, input, written)?;
     }
     Ok(())
 }
 
-// What a buffer of std holds back is handed on by the flush, which is handed on too.
+/// What a buffer of std holds back is handed on by the flush, which is handed on too.
+fn flushes_a_buffer<R: Threads + Wait + Abort + Sync>(
+    rt: &R,
+    alloc: Global,
+    words: &str,
+    input: &[u8],
+    written: &[u8],
+) -> Result<(), Fail> {
+    let mut writer = none_noted(alloc);
+    let buffer = BufWriter::new(alloc, &mut writer)?;
+    let _status = run_into(rt, alloc, words, input, buffer)?;
+    holds_flushed(rt, &writer, words, written);
+    Ok(())
+}
+
 #[test]
 fn flushes_a_buffer_of_std(rt: HostRuntime) -> Result<(), Fail> {
-    let alloc = rt.alloc();
     for (words, input, written) in ENDS {
-        let mut writer = none_noted(alloc);
-        let buffer = BufWriter::new(alloc, &mut writer)?;
-        let _status = run_into(&rt, alloc, words, input, buffer)?;
-        holds_flushed(&rt, &writer, words, written);
+        flushes_a_buffer(&rt, rt.alloc(), words, input, written)?;
     }
     Ok(())
 }

@@ -1,7 +1,7 @@
 // Inputs as long as they may be, and longer, whose bytes were worked out by hand.
-use super::call;
+use super::{call, sink_of};
 use blt_reader::{FaultKind, InputFault};
-use byte_edge::{CalmSource, CountSink, FreeGate, MemorySink, Sink};
+use byte_edge::{CalmSource, CountSink, FreeGate, Sink};
 use meek_cli::Status;
 use std::alloc::Global;
 use std::process::Abort;
@@ -31,39 +31,38 @@ fn writes<R: Threads + Wait + Abort + Sync>(
     status: Status,
     written: &[u8],
 ) -> Result<(), Fail> {
-    let mut sink = MemorySink::with_room(alloc, 100_000, 1_400, Vec::new(alloc))?;
-    assert_eq!(rt; run_into(rt, alloc, words, input, &mut sink)?, status);
-    assert_eq!(rt; sink.bytes(), written);
+    let mut sink = sink_of(alloc, &[])?;
+    let found = run_into(rt, alloc, words, input, &mut sink)?;
+    assert_eq!(rt; (found, sink.bytes()), (status, written));
     Ok(())
 }
 
 // One byte more than a ballot file or a day may have.
 #[test]
 fn refuses_a_long_input(rt: HostRuntime) -> Result<(), Fail> {
-    let cases: [(&str, usize, &[u8]); 2] = [
-        (
-            "count --lots 1",
-            67_108_864,
-            b"refused TooLong at 67108864\n",
-        ),
-        ("day", 16_777_216, b"refused TooLong at 16777216\n"),
-    ];
-    for (words, limit, line) in cases {
-        let spaces = vec![in rt.alloc(); b' '; limit + 1]?;
-        let fault = InputFault {
-            kind: FaultKind::TooLong,
-            at: limit,
-        };
-        writes(
-            &rt,
-            rt.alloc(),
-            words,
-            spaces,
-            Status::BadInput(fault),
-            line,
-        )?;
-    }
-    Ok(())
+    let line = b"refused TooLong at 67108864\n";
+    is_too_long(&rt, rt.alloc(), "count --lots 1", 67_108_864, line)?;
+    is_too_long(
+        &rt,
+        rt.alloc(),
+        "day",
+        16_777_216,
+        b"refused TooLong at 16777216\n",
+    )
+}
+
+/// So many spaces and one more are refused.
+fn is_too_long<R: Threads + Wait + Abort + Sync>(
+    rt: &R,
+    alloc: Global,
+    words: &str,
+    limit: u32,
+    line: &[u8],
+) -> Result<(), Fail> {
+    let limit = limit as usize;
+    let spaces = vec![in alloc; b' '; limit + 1]?;
+    let status = Status::BadInput(InputFault::new(FaultKind::TooLong, limit));
+    writes(rt, alloc, words, spaces, status, line)
 }
 
 /// The numbers from 1 to 250 with this between them.
@@ -129,11 +128,8 @@ fn counts_bytes<R: Threads + Wait + Abort + Sync>(
     taken: u64,
 ) -> Result<(), Fail> {
     let mut counter = CountSink::new();
-    assert_eq!(rt;
-        run_into(rt, alloc, words, input, &mut counter)?,
-        Status::Done
-    );
-    assert_eq!(rt; counter.taken(), taken);
+    let status = run_into(rt, alloc, words, input, &mut counter)?;
+    assert_eq!(rt; (status, counter.taken()), (Status::Done, taken));
     Ok(())
 }
 
