@@ -1,5 +1,6 @@
 use Rattle.std.proofs.Common.{◌∙◌}
 use Rattle.std.proofs.lemmas.Result.{err_from_is_err_and}
+use Rattle.blt_reader.proofs.Reading.{behind_trans}
 use Rattle.day_reader.proofs.CallSteps.{withdraw_stops, withdraw_batch, withdraw_revision_stops, withdraw_revision}
 use Rattle.day_reader.proofs.calls.read_withdraw.Goals as goal
 
@@ -15,3 +16,12 @@ returns-in_err-revision-clause-reads c =
 
 pub returns-clause-reads : goal.returns-clause-reads
 returns-clause-reads c = λ candidates. withdraw_batch candidates _ _ c.in_ok-batch.batch c.in_ok-batch.ensures.number ∙ withdraw_revision candidates _ _ c.in_ok-batch.batch c.in_ok-revision.revision c.in_ok-revision.ensures.number
+
+pub returns-in_err-batch-clause-behind : goal.returns-in_err-batch-clause-behind
+returns-in_err-batch-clause-behind c = c.in_err-batch.ensures.behind
+
+pub returns-in_err-revision-clause-behind : goal.returns-in_err-revision-clause-behind
+returns-in_err-revision-clause-behind c = behind_trans c.in_ok-batch.ensures.behind c.in_err-revision.ensures.behind
+
+pub returns-clause-behind : goal.returns-clause-behind
+returns-clause-behind c = behind_trans c.in_ok-batch.ensures.behind c.in_ok-revision.ensures.behind

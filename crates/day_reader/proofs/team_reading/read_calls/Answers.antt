@@ -50,3 +50,21 @@ loop-keyword-preserved c =
       team = c.in_ok-add_call.ensures.team ∙ before.team;
       behind = behind_trans before.behind (behind_trans c.in_ok-keyword.ensures.behind c.in_ok-call.ensures.behind);
     }
+
+pub returns-in_err-keyword-clause-behind : goal.returns-in_err-keyword-clause-behind
+returns-in_err-keyword-clause-behind c = behind_trans c.loop-keyword.invariant.behind c.in_err-keyword.ensures.behind
+
+pub returns-then-len-clause-behind : goal.returns-then-len-clause-behind
+returns-then-len-clause-behind c = behind_trans c.loop-keyword.invariant.behind c.in_ok-keyword.ensures.behind
+
+pub returns-in-Team-clause-behind : goal.returns-in-Team-clause-behind
+returns-in-Team-clause-behind c = behind_trans c.loop-keyword.invariant.behind c.in_ok-keyword.ensures.behind
+
+pub returns-in-End-clause-behind : goal.returns-in-End-clause-behind
+returns-in-End-clause-behind c = behind_trans c.loop-keyword.invariant.behind c.in_ok-keyword.ensures.behind
+
+pub returns-in_err-call-clause-behind : goal.returns-in_err-call-clause-behind
+returns-in_err-call-clause-behind c = behind_trans c.loop-keyword.invariant.behind (behind_trans c.in_ok-keyword.ensures.behind c.in_err-call.ensures.behind)
+
+pub returns-in_err-add_call-clause-behind : goal.returns-in_err-add_call-clause-behind
+returns-in_err-add_call-clause-behind c = behind_trans c.loop-keyword.invariant.behind (behind_trans c.in_ok-keyword.ensures.behind c.in_ok-call.ensures.behind)

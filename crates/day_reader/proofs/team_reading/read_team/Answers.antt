@@ -2,6 +2,7 @@ use Rattle.std.proofs.Common.{List, sym, ◌∙◌, ap}
 use Rattle.std.proofs.lemmas.Result.{err_from_is_err_and}
 use Rattle.batch_core.specs.declared.call.Call.{Call}
 use Rattle.blt_reader.specs.Judged.{reads}
+use Rattle.blt_reader.proofs.Reading.{behind_trans}
 use Rattle.day_reader.specs.declared.script.Script.{Script}
 use Rattle.day_reader.specs.TeamTable.{InTeam, at_teams}
 use Rattle.day_reader.specs.Reads.{next_team}
@@ -27,3 +28,15 @@ returns-clause-reads c =
     ∙ ap (λ (l : List Call). reads (at_teams c.args.candidates) (InTeam c.args.teams.now (record { team = c.in_ok-team.team; calls = l })) c.read_number.new.tokens.rest) (sym c.new.ensures)
     ∙ c.in_ok-more.ensures.reads
     ∙ ap (λ (l : List Script). next_team c.args.candidates l c.in_ok-more.more c.read_calls.new.tokens.rest) (sym c.in_ok-push.ensures.ok)
+
+pub returns-in_err-team-clause-behind : goal.returns-in_err-team-clause-behind
+returns-in_err-team-clause-behind c = c.in_err-team.ensures.behind
+
+pub returns-in_err-more-clause-behind : goal.returns-in_err-more-clause-behind
+returns-in_err-more-clause-behind c = behind_trans c.in_ok-team.ensures.behind c.in_err-more.ensures.behind
+
+pub returns-in_err-push-clause-behind : goal.returns-in_err-push-clause-behind
+returns-in_err-push-clause-behind c = behind_trans c.in_ok-team.ensures.behind c.in_ok-more.ensures.behind
+
+pub returns-clause-behind : goal.returns-clause-behind
+returns-clause-behind c = behind_trans c.in_ok-team.ensures.behind c.in_ok-more.ensures.behind

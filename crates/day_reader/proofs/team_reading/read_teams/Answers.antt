@@ -19,3 +19,9 @@ loop-more-preserved c = record {
 
 pub returns-clause-reads : goal.returns-clause-reads
 returns-clause-reads c = c.loop-more.invariant.same ∙ ap (λ (b : Bool). next_team c.args.candidates c.loop-more.teams b c.loop-more.tokens.rest) c.loop-more-test.false
+
+pub returns-in_err-more-clause-behind : goal.returns-in_err-more-clause-behind
+returns-in_err-more-clause-behind c = behind_trans c.loop-more.invariant.behind c.in_err-more.ensures.behind
+
+pub returns-clause-behind : goal.returns-clause-behind
+returns-clause-behind c = c.loop-more.invariant.behind
