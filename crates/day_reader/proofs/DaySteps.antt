@@ -16,7 +16,7 @@ use Rattle.blt_reader.specs.Said.{of_a_roll}
 use Rattle.blt_reader.specs.Reads.{IfFault, Reads}
 use Rattle.blt_reader.proofs.Tables.{behind_front, behind_inner, reads_front}
 use Rattle.blt_reader.proofs.FrontRuling.{itself}
-use Rattle.blt_reader.proofs.Reading.{inner_read, inner_fails}
+use Rattle.blt_reader.proofs.Reading.{inner_read, inner_stopped, inner_fails}
 use Rattle.day_reader.specs.declared.scale.Scale as scaled
 use Rattle.day_reader.specs.declared.script.Script.{Script}
 use Rattle.day_reader.specs.declared.day.Day.{Day}
@@ -64,28 +64,38 @@ module _ (start : Scan) where
   unfolding at_token
   roll_read election new is = inner_read (blt.at_token of_a_roll) at_token (λ e. InRoll e) (λ p. BehindTitle p.roll) (λ e item. refl) blt.Candidates start (poll election) new is
 
-  module _ (roll : RollList) (candidates : ℕ) (all : candidates ≡ length roll.names) where
-    pub lots_fail : (old new : Scan) (why : BltStop) → GoesTo (Lot roll []) old → Reads (at_lot candidates) [] (λ (lots : List ℕ). lots) old (Err why) new → Reads at_token (InRoll blt.Candidates) (λ (day : Day). day) start (Err why) new
-    unfolding at_token
-    lots_fail old new why so_far is = inner_fails (at_lot (length roll.names)) at_token (λ l. Lot roll l) (λ l. BehindLots roll l) (λ e item. refl) [] old (λ (lots : List ℕ). lots) (λ (day : Day). day) (InRoll blt.Candidates) start new why so_far
-        (subst (λ n. Reads (at_lot n) [] (λ (lots : List ℕ). lots) old (Err why) new) all is)
+  -- where what follows is a day, the whole is
+  pub goes_on_to : (expected : Expected) (old new : Scan) (result : Result Day BltStop) → GoesTo expected old → Reads at_token expected (λ (day : Day). day) old result new → Reads at_token (InRoll blt.Candidates) (λ (day : Day). day) start result new
+  goes_on_to expected old new (Ok day) so_far is = so_far ∙ is
+  goes_on_to expected old new (Err (stop.Fault fault)) so_far is = so_far ∙ is
+  goes_on_to expected old new (Err stop.NoMemory) so_far is = tt
 
-    pub lots_done : (old new : Scan) (lots : List ℕ) → GoesTo (Lot roll []) old → reads (at_lot candidates) [] old ≡ Ok (lots, new) → GoesTo (BehindLots roll lots) new
-    unfolding at_token
-    lots_done old new lots so_far is = so_far ∙ inner_read (at_lot (length roll.names)) at_token (λ l. Lot roll l) (λ l. BehindLots roll l) (λ e item. refl) [] old lots new
-        (subst (λ n. reads (at_lot n) [] old ≡ Ok (lots, new)) all is)
+-- what leads nowhere says no day
+pub leads_to_none : {A : Type 0} (expected : Expected) (old new : Scan) (why : BltStop) (onward : A → Result (Day × Scan) Stopped) → LeadsOrWants (reads at_token expected old) (Err why) onward new → Reads at_token expected (λ (day : Day). day) old (Err why) new
+leads_to_none expected old new (stop.Fault fault) onward is = is
+leads_to_none expected old new stop.NoMemory onward is = tt
 
-    module _ (lots : List ℕ) (old mid new : Scan) (read : scaled.Scale) (so_far : GoesTo (BehindLots roll lots) old) (is : IsScaled old read mid) where
-      pub scripts_fail : (why : BltStop) → ReadsScripts candidates read.team_follows mid (Err why) new → Reads at_token (InRoll blt.Candidates) (λ (day : Day). day) start (Err why) new
-      scripts_fail (stop.Fault fault) scripts = so_far ∙ is.same roll lots ∙ scripts (record { roll = roll; lots = lots; scale = is.scale }) (sym all)
-      scripts_fail stop.NoMemory scripts = tt
+module _ (roll : RollList) (candidates : ℕ) (all : length roll.names ≡ candidates) where
+  pub order_read : (old mid new : Scan) (result : Result (List ℕ) BltStop) → reads at_token (BehindTitle roll) old ≡ reads at_token (Lot roll []) mid → Reads (at_lot candidates) [] (λ (lots : List ℕ). lots) mid result new
+      → LeadsOrWants (reads at_token (BehindTitle roll) old) result (λ lots. reads at_token (BehindLots roll lots) new) new
+  unfolding at_token
+  order_read old mid new (Ok lots) so_far is = so_far ∙ inner_read (at_lot (length roll.names)) at_token (λ l. Lot roll l) (λ l. BehindLots roll l) (λ e item. refl) [] mid lots new
+      (subst (λ n. reads (at_lot n) [] mid ≡ Ok (lots, new)) (sym all) is)
+  order_read old mid new (Err (stop.Fault fault)) so_far is = so_far ∙ inner_stopped (at_lot (length roll.names)) at_token (λ l. Lot roll l) (λ l. BehindLots roll l) (λ e item. refl) [] mid (record { fault = fault; rest = new })
+      (subst (λ n. reads (at_lot n) [] mid ≡ Err (record { fault = fault; rest = new })) (sym all) is)
+  order_read old mid new (Err stop.NoMemory) so_far is = tt
 
-      pub all_read : (scripts : List Script) → ReadsScripts candidates read.team_follows mid (Ok scripts) new
-          → reads at_token (InRoll blt.Candidates) start ≡ Ok (record { roll = roll; lots = lots; places = read.places; omega = read.omega; scripts = scripts }, new)
-      all_read scripts found =
-          so_far ∙ is.same roll lots ∙ found (record { roll = roll; lots = lots; scale = is.scale }) (sym all)
-          ∙ ap (λ (n : ℕ). Ok (record { roll = roll; lots = lots; places = n; omega = (scale_of is.scale).omega; scripts = scripts }, new)) (sym is.places)
-          ∙ ap (λ (n : ℕ). Ok (record { roll = roll; lots = lots; places = read.places; omega = n; scripts = scripts }, new)) (sym is.omega)
+  module _ (lots : List ℕ) (old mid new : Scan) (read : scaled.Scale) (is : IsScaled old read mid) where
+    pub scripts_fail : {A : Type 0} (why : BltStop) (onward : A → Result (Day × Scan) Stopped) → ReadsScripts candidates read.team_follows mid (Err why) new → LeadsOrWants (reads at_token (BehindLots roll lots) old) (Err why) onward new
+    scripts_fail (stop.Fault fault) onward scripts = is.same roll lots ∙ scripts (record { roll = roll; lots = lots; scale = is.scale }) all
+    scripts_fail stop.NoMemory onward scripts = tt
+
+    pub scripts_read : (scripts : List Script) → ReadsScripts candidates read.team_follows mid (Ok scripts) new
+        → reads at_token (BehindLots roll lots) old ≡ Ok (record { roll = roll; lots = lots; places = read.places; omega = read.omega; scripts = scripts }, new)
+    scripts_read scripts found =
+        is.same roll lots ∙ found (record { roll = roll; lots = lots; scale = is.scale }) all
+        ∙ ap (λ (n : ℕ). Ok (record { roll = roll; lots = lots; places = n; omega = (scale_of is.scale).omega; scripts = scripts }, new)) (sym is.places)
+        ∙ ap (λ (n : ℕ). Ok (record { roll = roll; lots = lots; places = read.places; omega = n; scripts = scripts }, new)) (sym is.omega)
 
 -- ---- behind the end
 

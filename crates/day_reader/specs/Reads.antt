@@ -41,6 +41,11 @@ IsLotsWord item at (Err fault) = (fault ≡ record { kind = WordExpected; at = a
 abbrev pub ReadsToLots : Scan → Result (Unit {0}) InputFault → Scan → Type 0
 ReadsToLots old result new = (roll : RollList) → Leads (reads at_token (BehindTitle roll) old) result (λ _. reads at_token (Lot roll []) new) new
 
+-- the strings behind the title, and the lots of so many candidates
+abbrev pub ReadsOrder : ℕ → Scan → Result (List ℕ) BltStop → Scan → Type 0
+ReadsOrder candidates old result new = (roll : RollList) → length roll.names ≡ candidates
+    → LeadsOrWants (reads at_token (BehindTitle roll) old) result (λ lots. reads at_token (BehindLots roll lots) new) new
+
 -- a team behind the head, or the end
 abbrev pub team_or_end : Head → Bool → Scan → Result (Day × Scan) Stopped
 team_or_end head true text = reads at_token (Teams head (TeamNumber [])) text
@@ -106,6 +111,11 @@ with_scripts head scripts = record {
 abbrev pub ReadsScripts : ℕ → Bool → Scan → Result (List Script) BltStop → Scan → Type 0
 ReadsScripts candidates team_follows old result new = (head : Head) → length head.roll.names ≡ candidates
     → LeadsOrWants (team_or_end head team_follows old) result (λ scripts. Ok (with_scripts head scripts, new)) new
+
+-- the places, omega and scripts of a day, whatever its roll and lots
+abbrev pub ReadsBehindLots : ℕ → Scan → Result (code.Scale × List Script) BltStop → Scan → Type 0
+ReadsBehindLots candidates old result new = (roll : RollList) (lots : List ℕ) → length roll.names ≡ candidates
+    → LeadsOrWants (reads at_token (BehindLots roll lots) old) result (λ found. Ok (record { roll = roll; lots = lots; places = found.0.places; omega = found.0.omega; scripts = found.1 }, new)) new
 
 -- ---- the whole file
 

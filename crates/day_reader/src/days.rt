@@ -5,15 +5,17 @@ ghost use Rattle.blt_reader.specs.BltTable.{Candidates};
 ghost use Rattle.blt_reader.specs.Refusal.{IsAccepted};
 ghost use Rattle.blt_reader.specs.Reads.{IfFault, IsBehind, Reads};
 ghost use Rattle.day_reader.specs.Day.{IsDay};
-ghost use Rattle.day_reader.specs.DayTable.{InRoll, at_token};
+ghost use Rattle.day_reader.specs.DayTable.{InRoll, BehindLots, at_token};
 ghost use Rattle.day_reader.specs.Said.{reading, IsDayRefusal, AreScripts};
-ghost use Rattle.day_reader.specs.Reads.{IsAtEnd, SaysDay};
+ghost use Rattle.day_reader.specs.Reads.{IsAtEnd, ReadsBehindLots, SaysDay};
 
-use crate::Day;
-use crate::lots::{read_lots, read_to_lots};
-use crate::scale::read_scale;
+use crate::lots::read_order;
+use crate::scale::{Scale, read_scale};
 use crate::team_reading::read_scripts;
+use crate::{Day, Scripts};
 use blt_reader::{BltStop, FaultKind, InputFault, Next, Tokens, read_roll};
+use candidate_roll::Roll;
+use lot_order::Lots;
 use std::alloc::Global;
 
 /// Reads a day file: Ok where it has no refusal, with the day that it says.
@@ -45,11 +47,21 @@ fn read_to_end(alloc: Global, tokens: &mut Tokens<'_>) -> Result<Day, BltStop>
     ensures behind { IsBehind tokens.old tokens.new }
 {
     let roll = read_roll(alloc, tokens, false)?.roll;
-    let candidates = roll.candidates();
-    read_to_lots(tokens)?;
-    let lots = read_lots(alloc, tokens, candidates)?;
-    let scale = read_scale(tokens)?;
-    let scripts = read_scripts(alloc, tokens, candidates, scale.team_follows)?;
+    let lots = read_order(alloc, tokens, roll.candidates())?;
+    read_behind_lots(alloc, tokens, roll, lots)
+}
+
+// What stands behind the lots, up to the word `end`.
+fn read_behind_lots(
+    alloc: Global,
+    tokens: &mut Tokens<'_>,
+    roll: Roll,
+    lots: Lots,
+) -> Result<Day, BltStop>
+    ensures reads { Reads at_token (BehindLots roll lots) (λ day. day) tokens.old.rest result tokens.new.rest }
+    ensures behind { IsBehind tokens.old tokens.new }
+{
+    let (scale, scripts) = read_scaled_scripts(alloc, tokens, roll.candidates())?;
     Ok(Day {
         roll,
         lots,
@@ -57,6 +69,21 @@ fn read_to_end(alloc: Global, tokens: &mut Tokens<'_>) -> Result<Day, BltStop>
         omega: scale.omega,
         scripts,
     })
+}
+
+// The places and omega, and the teams, whatever stood before them.
+#[tactic(auto, using(blt_reader::proofs::Reading::behind_trans))]
+fn read_scaled_scripts(
+    alloc: Global,
+    tokens: &mut Tokens<'_>,
+    candidates: u32,
+) -> Result<(Scale, Scripts), BltStop>
+    ensures reads { ReadsBehindLots candidates tokens.old.rest result tokens.new.rest }
+    ensures behind { IsBehind tokens.old tokens.new }
+{
+    let scale = read_scale(tokens)?;
+    let scripts = read_scripts(alloc, tokens, candidates, scale.team_follows)?;
+    Ok((scale, scripts))
 }
 
 // Nothing may stand behind the end.

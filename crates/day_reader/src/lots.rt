@@ -5,7 +5,7 @@ ghost use Rattle.blt_reader.specs.Reads.{IsBehind, Reads};
 ghost use Rattle.blt_reader.specs.declared.blt_stop.BltStop.TheVariants as stop;
 ghost use Rattle.day_reader.specs.Day.{AreAllLots};
 ghost use Rattle.day_reader.specs.DayTable.{at_lot};
-ghost use Rattle.day_reader.specs.Reads.{IsLotsWord, ReadsToLots};
+ghost use Rattle.day_reader.specs.Reads.{IsLotsWord, ReadsOrder, ReadsToLots};
 
 use crate::keyword::Keyword;
 use crate::words::keyword_at;
@@ -13,9 +13,24 @@ use blt_reader::{BltStop, FaultKind, InputFault, Token, Tokens, What};
 use lot_order::{Flags, Lots};
 use std::alloc::Global;
 
+/// Strings that are not kept, and the lots of so many candidates.
+#[tactic(auto, using(blt_reader::proofs::Reading::behind_trans))]
+pub(crate) fn read_order(
+    alloc: Global,
+    tokens: &mut Tokens<'_>,
+    candidates: u32,
+) -> Result<Lots, BltStop>
+    requires { candidates ≤ 250 }
+    ensures reads { ReadsOrder candidates tokens.old.rest result tokens.new.rest }
+    ensures behind { IsBehind tokens.old tokens.new }
+{
+    read_to_lots(tokens)?;
+    read_lots(alloc, tokens, candidates)
+}
+
 /// Strings that are not kept, and the word `lots`.
 #[tactic(auto, using(blt_reader::proofs::Reading::behind_trans))]
-pub(crate) fn read_to_lots(tokens: &mut Tokens<'_>) -> Result<(), InputFault>
+fn read_to_lots(tokens: &mut Tokens<'_>) -> Result<(), InputFault>
     ensures reads { ReadsToLots tokens.old.rest result tokens.new.rest }
     ensures behind { IsBehind tokens.old tokens.new }
 {
@@ -43,11 +58,7 @@ fn lots_word(tokens: &Tokens<'_>, token: Token) -> Result<(), InputFault>
 
 /// Candidates, each of them once, and the 0 behind them.
 #[tactic(auto, using(blt_reader::proofs::Reading::behind_trans))]
-pub(crate) fn read_lots(
-    alloc: Global,
-    tokens: &mut Tokens<'_>,
-    candidates: u32,
-) -> Result<Lots, BltStop>
+fn read_lots(alloc: Global, tokens: &mut Tokens<'_>, candidates: u32) -> Result<Lots, BltStop>
     requires { candidates ≤ 250 }
     ensures reads { Reads (at_lot candidates) [] (λ lots. lots) tokens.old.rest result tokens.new.rest }
     ensures behind { IsBehind tokens.old tokens.new }

@@ -61,3 +61,21 @@ loop-order-preserved c =
           ∙ ap (λ (l : List ℕ). list_any (λ d. d == m) l) (sym c.in_ok-push.ensures.items);
       behind = behind_trans before.behind c.in_ok-n.ensures.behind;
     }
+
+pub returns-in_err-n-clause-behind : goal.returns-in_err-n-clause-behind
+returns-in_err-n-clause-behind c = behind_trans c.loop-order.invariant.behind c.in_err-n.ensures.behind
+
+pub returns-then-len-candidates-clause-behind : goal.returns-then-len-candidates-clause-behind
+returns-then-len-candidates-clause-behind c = behind_trans c.loop-order.invariant.behind c.in_ok-n.ensures.behind
+
+pub returns-then-n-eq0-clause-behind : goal.returns-then-n-eq0-clause-behind
+returns-then-n-eq0-clause-behind c = behind_trans c.loop-order.invariant.behind c.in_ok-n.ensures.behind
+
+pub returns-then-n-candidates-clause-behind : goal.returns-then-n-candidates-clause-behind
+returns-then-n-candidates-clause-behind c = behind_trans c.loop-order.invariant.behind c.in_ok-n.ensures.behind
+
+pub returns-then-get-clause-behind : goal.returns-then-get-clause-behind
+returns-then-get-clause-behind c = behind_trans c.loop-order.invariant.behind c.in_ok-n.ensures.behind
+
+pub returns-in_err-push-clause-behind : goal.returns-in_err-push-clause-behind
+returns-in_err-push-clause-behind c = behind_trans c.loop-order.invariant.behind c.in_ok-n.ensures.behind
