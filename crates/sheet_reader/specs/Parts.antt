@@ -1,13 +1,15 @@
 -- The lines of a sheet, part by part.
-use Rattle.std.specs.Prelude.{◌≡◌, ℕ, ◌+◌, ◌≢◌, All, Bool, List, [], ◌∷◌, ◌++◌, codes, decimal, slice_index, slice_set}
+use Rattle.std.specs.Prelude.{◌≡◌, ℕ, ◌+◌, ◌≢◌, ◌≤◌, All, Bool, List, [], ◌∷◌, ◌++◌, codes, decimal, length, slice_index, slice_set}
 use Rattle.std.specs.List.{flat_map}
+use Rattle.candidate_roll.specs.Name.{IsName}
+use Rattle.candidate_roll.specs.Roll.{IsFew}
 use Rattle.candidate_roll.specs.State.{state_at}
 use Rattle.candidate_roll.specs.declared.state.State.{State}
 use Rattle.fixed_place.specs.Text.{text_of}
 use Rattle.meek_rule.specs.Places.{each_place}
 use Rattle.meek_rule.specs.Row.{Row}
 use Rattle.meek_rule.specs.declared.step.Step.{Step}
-use Rattle.sheet_text.specs.Lines.{state_word, marked_lines, step_line, row_lines}
+use Rattle.sheet_text.specs.Lines.{state_word, marked_lines, step_line, row_lines, outcome_line}
 use Rattle.sheet_reader.specs.Cut.{standing_line}
 use Rattle.sheet_reader.specs.Form.{IsPrintableRow}
 
@@ -15,6 +17,16 @@ use Rattle.sheet_reader.specs.Form.{IsPrintableRow}
 abbrev pub count_lines : (seats candidates ballots : ℕ) → List (List ℕ)
 count_lines seats candidates ballots =
     (codes "seats " ++ decimal seats) ∷ (codes "candidates " ++ decimal candidates) ∷ (codes "ballots " ++ decimal ballots) ∷ []
+
+-- how a sheet begins
+abbrev pub head_lines : (title : List ℕ) → (seats candidates ballots : ℕ) → List (List ℕ)
+head_lines title seats candidates ballots = (codes "title " ++ title) ∷ count_lines seats candidates ballots
+
+-- no title and numbers come next
+abbrev pub NoHead : (lines : List (List ℕ)) → Type 0
+NoHead lines =
+    (title : List ℕ) (seats candidates ballots : ℕ) (rest : List (List ℕ)) → IsName 1000 title → IsFew seats → IsFew candidates → ballots ≤ 999999999
+    → lines ≢ head_lines title seats candidates ballots ++ rest
 
 -- the numbers of a round and an iteration
 abbrev pub number_line_of : (round iteration : ℕ) → List ℕ
@@ -45,6 +57,14 @@ defeat_line c tied = codes "step defeat " ++ (decimal c ++ 32 ∷ (codes "tied" 
 -- the last state and the name of the candidate at a place
 abbrev pub outcome_of : (p : ℕ) → State → (name : List ℕ) → List ℕ
 outcome_of p state name = decimal (p + 1) ++ 32 ∷ (state_word state ++ 32 ∷ name)
+
+-- how a sheet of n candidates ends
+abbrev pub end_lines : (n : ℕ) → List State → (names : List (List ℕ)) → List (List ℕ)
+end_lines n states names = each_place n (outcome_line states names) ++ codes "end" ∷ []
+
+-- the end of a sheet of n candidates is not what comes next
+abbrev pub NoEnd : (n : ℕ) → (lines : List (List ℕ)) → Type 0
+NoEnd n lines = (states : List State) (names : List (List ℕ)) → length names ≡ n → All (IsName 200) names → lines ≢ end_lines n states names
 
 -- the lines of some iterations
 abbrev pub rows_lines : (places : ℕ) → List Row → List (List ℕ)

@@ -7,9 +7,9 @@ ghost use Rattle.sheet_reader.specs.Refusal.{Stops};
 ghost use Rattle.sheet_reader.specs.Values.{SheetList};
 
 use crate::SheetStop;
-use crate::head::{read_counts, read_title};
+use crate::head::read_head;
 use crate::lines::{Lines, is_ended};
-use crate::outcomes::read_outcomes;
+use crate::outcomes::read_end;
 use crate::row_reader::read_row;
 use line_text::Line;
 use meek_rule::Row;
@@ -25,28 +25,19 @@ pub fn check_form(alloc: Global, bytes: &[u8]) -> Result<(), SheetStop>
         return Err(SheetStop::Malformed);
     }
     let mut lines = Lines::new(bytes);
-    let _title = match read_title(alloc, &mut lines) {
-        Ok(title) => title,
+    let candidates = match read_head(alloc, &mut lines) {
+        Ok(head) => head.candidates,
         Err(stop) => return Err(stop),
-    };
-    let Some((_seats, candidates, _ballots)) = read_counts(&mut lines) else {
-        return Err(SheetStop::Malformed);
     };
     match skip_rows(alloc, &mut lines, candidates) {
         Ok(()) => {}
         Err(stop) => return Err(stop),
     }
-    let _outcomes = match read_outcomes(alloc, &mut lines, candidates as usize) {
+    let _outcomes = match read_end(alloc, &mut lines, candidates as usize) {
         Ok(outcomes) => outcomes,
         Err(stop) => return Err(stop),
     };
-    if !lines.skips(b"end") {
-        return Err(SheetStop::Malformed);
-    }
-    match lines.next() {
-        None => Ok(()),
-        Some(_) => Err(SheetStop::Malformed),
-    }
+    Ok(())
 }
 
 /// Reads past all iterations of so many candidates and the line of the result.

@@ -2,7 +2,7 @@
 ghost use Rattle.std.specs.Prelude.{◌≡◌, ◌≢◌, ◌<◌, ◌≤◌, ◌^◌, ◌∷◌, ◌++◌, ℕ, List, codes, decimal, MatchOption, MatchResult};
 ghost use Rattle.candidate_roll.specs.Name.{IsName};
 ghost use Rattle.candidate_roll.specs.Roll.{IsFew};
-ghost use Rattle.sheet_reader.specs.Parts.{count_lines};
+ghost use Rattle.sheet_reader.specs.Parts.{NoHead, count_lines, head_lines};
 ghost use Rattle.sheet_reader.specs.Refusal.{Stops};
 
 use crate::SheetStop;
@@ -11,8 +11,39 @@ use crate::number::read_count;
 use candidate_roll::{Name, NameStop};
 use std::alloc::Global;
 
+/// What stands in a sheet before its iterations.
+#[derive(Drop)]
+pub(crate) struct Head {
+    pub title: Name<1000>,
+    pub seats: u32,
+    pub candidates: u32,
+    pub ballots: u32,
+}
+
+/// The title and the numbers of a sheet.
+pub(crate) fn read_head(alloc: Global, lines: &mut Lines<'_>) -> Result<Head, SheetStop>
+    ensures { MatchResult result
+        (λ head. IsName 1000 head.title × IsFew head.seats × IsFew head.candidates × (head.ballots ≤ 999999999)
+        × (lines.old ≡ head_lines head.title head.seats head.candidates head.ballots ++ lines.new))
+        (λ stop. Stops stop (NoHead lines.old)) }
+{
+    let title = match read_title(alloc, lines) {
+        Ok(title) => title,
+        Err(stop) => return Err(stop),
+    };
+    match read_counts(lines) {
+        Some((seats, candidates, ballots)) => Ok(Head {
+            title,
+            seats,
+            candidates,
+            ballots,
+        }),
+        None => Err(SheetStop::Malformed),
+    }
+}
+
 /// The title of a sheet.
-pub(crate) fn read_title(alloc: Global, lines: &mut Lines<'_>) -> Result<Name<1000>, SheetStop>
+fn read_title(alloc: Global, lines: &mut Lines<'_>) -> Result<Name<1000>, SheetStop>
     ensures { MatchResult result
         (λ title. IsName 1000 title × (lines.old ≡ (codes "title " ++ title) ∷ lines.new))
         (λ stop. Stops stop ((title : List ℕ) (rest : List (List ℕ)) → IsName 1000 title
@@ -41,7 +72,7 @@ pub(crate) fn read_name<const MAX: usize>(
 }
 
 /// The numbers of seats, candidates and ballots.
-pub(crate) fn read_counts(lines: &mut Lines<'_>) -> Option<(u32, u32, u32)>
+fn read_counts(lines: &mut Lines<'_>) -> Option<(u32, u32, u32)>
     ensures { MatchOption result
         ((seats candidates ballots : ℕ) (rest : List (List ℕ)) → IsFew seats → IsFew candidates → ballots ≤ 999999999
         → lines.old ≢ count_lines seats candidates ballots ++ rest)

@@ -1,10 +1,10 @@
 // How a sheet ends: what became of each candidate.
-ghost use Rattle.std.specs.Prelude.{◌≡◌, ◌≢◌, ◌+◌, ◌<◌, ◌≤◌, ◌∷◌, ◌++◌, ℕ, List, All, length, MatchOption, MatchResult};
+ghost use Rattle.std.specs.Prelude.{◌≡◌, ◌≢◌, ◌+◌, ◌<◌, ◌≤◌, [], ◌∷◌, ◌++◌, ℕ, List, All, codes, length, MatchBool, MatchOption, MatchResult};
 ghost use Rattle.candidate_roll.specs.Name.{IsName};
 ghost use Rattle.candidate_roll.specs.declared.state.State.{State};
 ghost use Rattle.meek_rule.specs.Places.{each_place};
 ghost use Rattle.sheet_text.specs.Lines.{outcome_line};
-ghost use Rattle.sheet_reader.specs.Parts.{outcome_of};
+ghost use Rattle.sheet_reader.specs.Parts.{NoEnd, end_lines, outcome_of};
 ghost use Rattle.sheet_reader.specs.Refusal.{Stops};
 
 use crate::SheetStop;
@@ -16,8 +16,43 @@ use crate::standing::read_state;
 use candidate_roll::{Name, Names, State, States};
 use std::alloc::Global;
 
+/// The last states and the names of `n` candidates, where the sheet ends behind them.
+pub(crate) fn read_end(
+    alloc: Global,
+    lines: &mut Lines<'_>,
+    n: usize,
+) -> Result<(States, Names), SheetStop>
+    requires few { n ≤ 250 }
+    ensures { MatchResult result
+        (λ read. (length read.0 ≡ n) × (length read.1 ≡ n) × All (IsName 200) read.1 × (lines.old ≡ end_lines n read.0 read.1))
+        (λ stop. Stops stop (NoEnd n lines.old)) }
+{
+    let outcomes = match read_outcomes(alloc, lines, n) {
+        Ok(outcomes) => outcomes,
+        Err(stop) => return Err(stop),
+    };
+    if is_at_end(lines) {
+        Ok(outcomes)
+    } else {
+        Err(SheetStop::Malformed)
+    }
+}
+
+/// Whether only the last line of a sheet is left.
+fn is_at_end(lines: &mut Lines<'_>) -> bool
+    ensures { MatchBool result (lines.old ≡ codes "end" ∷ []) (lines.old ≢ codes "end" ∷ []) }
+{
+    if !lines.skips(b"end") {
+        return false;
+    }
+    match lines.next() {
+        None => true,
+        Some(_) => false,
+    }
+}
+
 /// The last states and the names of `n` candidates.
-pub(crate) fn read_outcomes(
+fn read_outcomes(
     alloc: Global,
     lines: &mut Lines<'_>,
     n: usize,

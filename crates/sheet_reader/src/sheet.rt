@@ -5,9 +5,9 @@ ghost use Rattle.sheet_reader.specs.Parts.{NoRows, rows_lines};
 ghost use Rattle.sheet_reader.specs.Reading.{Reads};
 ghost use Rattle.sheet_reader.specs.Refusal.{Stops};
 
-use crate::head::{read_counts, read_title};
+use crate::head::read_head;
 use crate::lines::{Lines, is_ended};
-use crate::outcomes::read_outcomes;
+use crate::outcomes::read_end;
 use crate::row_reader::read_row;
 use crate::{RowList, SheetStop, SheetValues};
 use line_text::Line;
@@ -22,35 +22,26 @@ pub fn read_sheet(alloc: Global, bytes: &[u8]) -> Result<SheetValues, SheetStop>
         return Err(SheetStop::Malformed);
     }
     let mut lines = Lines::new(bytes);
-    let title = match read_title(alloc, &mut lines) {
-        Ok(title) => title,
+    let head = match read_head(alloc, &mut lines) {
+        Ok(head) => head,
         Err(stop) => return Err(stop),
     };
-    let Some((seats, candidates, ballots)) = read_counts(&mut lines) else {
-        return Err(SheetStop::Malformed);
-    };
-    let rows = match read_rows(alloc, &mut lines, candidates) {
+    let rows = match read_rows(alloc, &mut lines, head.candidates) {
         Ok(rows) => rows,
         Err(stop) => return Err(stop),
     };
-    let (last, names) = match read_outcomes(alloc, &mut lines, candidates as usize) {
+    let (last, names) = match read_end(alloc, &mut lines, head.candidates as usize) {
         Ok(outcomes) => outcomes,
         Err(stop) => return Err(stop),
     };
-    if !lines.skips(b"end") {
-        return Err(SheetStop::Malformed);
-    }
-    match lines.next() {
-        None => Ok(SheetValues {
-            title,
-            seats,
-            ballots: ballots as u64,
-            names,
-            rows,
-            last,
-        }),
-        Some(_) => Err(SheetStop::Malformed),
-    }
+    Ok(SheetValues {
+        title: head.title,
+        seats: head.seats,
+        ballots: head.ballots as u64,
+        names,
+        rows,
+        last,
+    })
 }
 
 /// All iterations of so many candidates, up to the line of the result.

@@ -1,5 +1,5 @@
-use Rattle.std.proofs.Common.{[], length}
-use Rattle.sheet_reader.proofs.ReadSheet.{at_counts, at_end, at_rows, behind_counts, outcomes_stop, rows_stop, title_stops}
+use Rattle.sheet_reader.specs.Values.{SheetList}
+use Rattle.sheet_reader.proofs.ReadSheet.{end_stops, head_stops, rows_stop, sheet_read}
 use Rattle.sheet_reader.proofs.SheetLines.{form_ends}
 use Rattle.sheet_reader.proofs.WordLines.{stop_later}
 use Rattle.sheet_reader.proofs.sheet.read_sheet.Goals as goal
@@ -8,32 +8,21 @@ pub returns-then-not-is_ended : goal.returns-then-not-is_ended
 returns-then-not-is_ended c v is = let front = form_ends c.args.bytes.now v is in c.if-not-is_ended.ensures front.0 front.1
 
 pub returns-in-Err : goal.returns-in-Err
-returns-in-Err c = stop_later _ (title_stops c.args.bytes.now _ c.new-lines.ensures) c.in-Err.ensures
-
-pub returns-in_default : goal.returns-in_default
-returns-in_default c v is =
-    c.in_default.ensures v.seats (length v.names) v.ballots (behind_counts v) is.in_range.seats is.in_range.candidates is.in_range.ballots
-    (at_counts c.args.bytes.now _ v _ _ c.new-lines.ensures is c.in-Ok.ensures.1)
+returns-in-Err c = stop_later _ (head_stops c.args.bytes.now _ c.new-lines.ensures) c.in-Err.ensures
 
 pub returns-in-Err-read_rows : goal.returns-in-Err-read_rows
 returns-in-Err-read_rows c =
-    stop_later _ (rows_stop c.args.bytes.now _ _ _ _ _ _ _ c.new-lines.ensures c.in-Ok.ensures.1 c.in-Some.ensures.1 c.in-Some.ensures.3) c.in-Err-read_rows.ensures
+    stop_later _ (rows_stop c.args.bytes.now _ c.new-lines.ensures _ _ _ _ _ c.in-Ok.ensures.2 c.in-Ok.ensures.4) c.in-Err-read_rows.ensures
 
-pub returns-in-Err-read_outcomes : goal.returns-in-Err-read_outcomes
-returns-in-Err-read_outcomes c =
+pub returns-in-Err-read_end : goal.returns-in-Err-read_end
+returns-in-Err-read_end c =
     stop_later _
-    (outcomes_stop c.args.bytes.now _ _ _ _ _ _ _ _ _ c.new-lines.ensures c.in-Ok.ensures.1 c.in-Some.ensures.1 c.in-Some.ensures.3
-    c.in-Ok-read_rows.ensures.0 c.in-Ok-read_rows.ensures.1)
-    c.in-Err-read_outcomes.ensures
+    (end_stops c.args.bytes.now _ c.new-lines.ensures _ _ _ _ _ c.in-Ok.ensures.2 c.in-Ok.ensures.4 _ _ c.in-Ok-read_rows.ensures.0 c.in-Ok-read_rows.ensures.1)
+    c.in-Err-read_end.ensures
 
-pub returns-then-not-skips : goal.returns-then-not-skips
-returns-then-not-skips c v is =
-    let at = at_rows c.args.bytes.now _ v _ _ _ _ _ _ c.new-lines.ensures is c.in-Ok.ensures.1 c.in-Some.ensures.1 c.in-Some.ensures.3 in
-    c.if-not-skips.ensures.1 [] (at_end _ c.args.bytes.now v _ _ _ _ _ _ is at c.in-Ok-read_rows.ensures.0 c.in-Ok-read_rows.ensures.1 c.in-Ok-read_outcomes.ensures.3)
-
-pub returns-in-Some-next : goal.returns-in-Some-next
-returns-in-Some-next c v is =
-    let at = at_rows c.args.bytes.now _ v _ _ _ _ _ _ c.new-lines.ensures is c.in-Ok.ensures.1 c.in-Some.ensures.1 c.in-Some.ensures.3 in
-    let end = at_end _ c.args.bytes.now v _ _ _ _ _ _ is at c.in-Ok-read_rows.ensures.0 c.in-Ok-read_rows.ensures.1 c.in-Ok-read_outcomes.ensures.3 in
-    let more = c.in-Some-next.ensures in
-    let skipped = c.if-not-skips.ensures in cc
+pub returns : goal.returns
+returns c =
+    let head = c.in-Ok.head in
+    let ends = c.in-Ok-read_end.outcomes in
+    let values : SheetList = record { title = head.title; seats = head.seats; ballots = head.ballots; names = ends.1; rows = c.in-Ok-read_rows.rows; last = ends.0 } in
+    sheet_read {values = values} c.args.bytes.now head.candidates _ _ _ c.if-not-is_ended.ensures c.new-lines.ensures c.in-Ok.ensures c.in-Ok-read_rows.ensures c.in-Ok-read_end.ensures
