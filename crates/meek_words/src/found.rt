@@ -1,10 +1,10 @@
 //! The values as clap finds them, once it is known that clap takes the words.
 ghost use Rattle.std.specs.Prelude.{◌≡◌, IfErr, IfOk, List, false, map, string_bytes};
 ghost use Rattle.clap.specs.Walk.{rule_of};
-ghost use Rattle.clap.specs.Simple.{app_of};
+ghost use Rattle.clap.specs.Simple.{app_of, with_rule};
 ghost use Rattle.meek_words.specs.Parts.{AreParts, AreSpelled, Part, given_of};
 ghost use Rattle.meek_words.specs.Values.{given_by};
-ghost use Rattle.meek_words.specs.ClapCommand.{option_rule, plain_rule, command_line, three_options};
+ghost use Rattle.meek_words.specs.ClapCommand.{option_rule, plain_rule, bare, command_line, three_options};
 
 use crate::WordsStop;
 use crate::values::Values;
@@ -26,18 +26,33 @@ fn plain_word<'a>(alloc: Global) -> Arg<'a>
     Arg::new(alloc, "plain").action(ArgAction::Set)
 }
 
-/// The three options, and neither help nor version.
+/// No options, and neither help nor version.
+fn nothing<'a>(alloc: Global) -> Command<'a>
+    ensures { app_of result ≡ bare }
+{
+    Command::new(alloc, "meek")
+        .no_binary_name(true)
+        .disable_help_flag(true)
+        .disable_version_flag(true)
+}
+
+fn with_option<'a>(
+    alloc: Global,
+    command: Command<'a>,
+    name: &'a str,
+) -> Result<Command<'a>, AllocError>
+    ensures { IfOk result (λ added. app_of added ≡ with_rule (app_of command.entry) (option_rule name.entry.now)) }
+{
+    command.arg(option(alloc, name))
+}
+
+/// The three options.
 fn options<'a>(alloc: Global) -> Result<Command<'a>, AllocError>
     ensures { IfOk result (λ command. app_of command ≡ three_options) }
 {
-    let command = Command::new(alloc, "meek")
-        .no_binary_name(true)
-        .disable_help_flag(true)
-        .disable_version_flag(true);
-    let command = command.arg(option(alloc, "lots"))?;
-    let command = command.arg(option(alloc, "shards"))?;
-    let command = command.arg(option(alloc, "workers"))?;
-    Ok(command)
+    let command = with_option(alloc, nothing(alloc), "lots")?;
+    let command = with_option(alloc, command, "shards")?;
+    with_option(alloc, command, "workers")
 }
 
 /// The three options, and one plain word.
@@ -45,8 +60,7 @@ fn command<'a>(alloc: Global) -> Result<Command<'a>, AllocError>
     ensures { IfOk result (λ command. app_of command ≡ command_line) }
 {
     let command = options(alloc)?;
-    let command = command.arg(plain_word(alloc))?;
-    Ok(command)
+    command.arg(plain_word(alloc))
 }
 
 /// The values of words that are options and plain words, as clap finds them.
