@@ -1,13 +1,14 @@
 -- What a table makes of the next token, and of a front that an inner table reads.
-use Rattle.std.proofs.Common.{◌≡◌, ℕ, List, [], ◌∷◌, refl, ◌∙◌, ap, Ok, Err}
+use Rattle.std.proofs.Common.{◌≡◌, ℕ, ◌<◌, List, [], ◌∷◌, length, refl, ◌∙◌, ap, Ok, Err, arith, length-append}
 use Rattle.std.specs.Prelude.{Result, Bool}
 use Rattle.blt_reader.specs.declared.fault_kind.FaultKind.{FaultKind}
 use Rattle.blt_reader.specs.declared.input_fault.InputFault.{InputFault}
 use Rattle.blt_reader.specs.declared.blt_stop.BltStop.{BltStop}
 use Rattle.blt_reader.specs.declared.blt_stop.BltStop.TheVariants as stop
 use Rattle.blt_reader.specs.Token.{Item, Number, Minus, Text, Word, Placed, Ending, Scan, with_front}
+use Rattle.blt_reader.specs.Reader.{Reader}
 use Rattle.blt_reader.specs.Judged.{Judged, then_on, Progress, GoesOn, Ends, Stopped, carried_to, on_progress, front_of, reads}
-use Rattle.blt_reader.specs.Reads.{Stops, Accepts, as_number, Reads}
+use Rattle.blt_reader.specs.Reads.{Stops, Accepts, as_number, IsBehind, Reads, tokens_left}
 use Rattle.blt_reader.proofs.Judgements.{accepted, same_kind}
 use Rattle.blt_reader.proofs.Tables.{behind_inner}
 use Rattle.blt_reader.proofs.Reading.{goes_on, ends_with, refused_at, stops}
@@ -116,3 +117,7 @@ no_number test refusal (Word letters) kind e = ap Err (same_kind e)
 pub leads : {A V : Type 0} {whole part : Result (V × Scan) Stopped} → whole ≡ part → (onward : A → Result (V × Scan) Stopped) (rest : Scan) (result : Result A InputFault) → Leads part result onward rest → Leads whole result onward rest
 leads same onward rest (Ok found) is = same ∙ is
 leads same onward rest (Err fault) is = same ∙ is
+
+-- behind a token that was given fewer are left
+pub fewer_left : (old mid new : Reader) (token : Placed) → old.rest ≡ with_front token mid.rest → IsBehind mid new → tokens_left new < tokens_left old
+fewer_left old mid new token given behind = omega (arith, ap (λ (s : Scan). length s.tokens) given, ap (λ (l : List Placed). length l) behind.tokens, length-append behind.given new.rest.tokens)

@@ -7,6 +7,7 @@ use Rattle.blt_reader.proofs.Reading.{behind_trans}
 use Rattle.day_reader.specs.declared.script.Script.{Script}
 use Rattle.day_reader.specs.Call.{is_freeze, freezes}
 use Rattle.day_reader.specs.TeamTable.{InTeam, and_team, at_teams}
+use Rattle.day_reader.proofs.Steps.{fewer_left, leads_fail}
 use Rattle.day_reader.proofs.TeamLists.{one_if, freezes_call}
 use Rattle.day_reader.proofs.TeamSteps.{team_stops, next_team_word, team_too_many, end_word}
 use Rattle.day_reader.proofs.team_reading.read_calls.Goals as goal
@@ -68,3 +69,13 @@ returns-in_err-call-clause-behind c = behind_trans c.loop-keyword.invariant.behi
 
 pub returns-in_err-add_call-clause-behind : goal.returns-in_err-add_call-clause-behind
 returns-in_err-add_call-clause-behind c = behind_trans c.loop-keyword.invariant.behind (behind_trans c.in_ok-keyword.ensures.behind c.in_ok-call.ensures.behind)
+
+pub loop-keyword-smaller : goal.loop-keyword-smaller
+loop-keyword-smaller c = fewer_left c.loop-keyword.tokens c.next_keyword.new.tokens c.read_call.new.tokens _ c.in_ok-keyword.ensures.keyword c.in_ok-call.ensures.behind
+
+pub returns-in_err-call-clause-reads : goal.returns-in_err-call-clause-reads
+returns-in_err-call-clause-reads c =
+    let p = err_from_is_err_and c.from_residual-in_err-call.result c.from_residual-in_err-call.ensures.1 in
+    let before = c.loop-keyword.invariant in
+    let begun = before.same ∙ ap (λ (s : Scan). reads (at_teams c.args.candidates) (InTeam c.args.before.now c.loop-keyword.script) s) c.in_ok-keyword.ensures.keyword in
+    rw (p.1, p.2) (leads_fail _ _ begun _ _ _ _ (c.in_err-call.ensures.reads c.args.before.now c.loop-keyword.script (sym before.counted)))

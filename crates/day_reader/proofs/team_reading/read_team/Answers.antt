@@ -6,7 +6,7 @@ use Rattle.blt_reader.proofs.Reading.{behind_trans}
 use Rattle.day_reader.specs.declared.script.Script.{Script}
 use Rattle.day_reader.specs.TeamTable.{InTeam, at_teams}
 use Rattle.day_reader.specs.Reads.{next_team}
-use Rattle.day_reader.proofs.Steps.{leads_fail}
+use Rattle.day_reader.proofs.Steps.{fewer_left, leads_fail}
 use Rattle.day_reader.proofs.TeamSteps.{number_stops, number_read}
 use Rattle.day_reader.proofs.team_reading.read_team.Goals as goal
 
@@ -40,3 +40,6 @@ returns-in_err-push-clause-behind c = behind_trans c.in_ok-team.ensures.behind c
 
 pub returns-clause-behind : goal.returns-clause-behind
 returns-clause-behind c = behind_trans c.in_ok-team.ensures.behind c.in_ok-more.ensures.behind
+
+pub returns-clause-fewer : goal.returns-clause-fewer
+returns-clause-fewer c = fewer_left c.args.tokens.now c.read_number.new.tokens c.read_calls.new.tokens _ c.in_ok-team.ensures.number.given c.in_ok-more.ensures.behind
