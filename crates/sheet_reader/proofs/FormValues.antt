@@ -1,18 +1,14 @@
 -- A text with the form of a sheet says its values.
-use Rattle.std.proofs.Common.{◌≡◌, ℕ, ◌<◌, ◌≤◌, List, [], ◌∷◌, ◌++◌, length, refl, sym, ◌∙◌, ap, subst, arith}
-use Rattle.std.specs.Prelude.{codes, decimal, All, slice_index_or, Result, Ok, Err}
+use Rattle.std.proofs.Common.{◌≡◌, ℕ, ◌<◌, ◌≤◌, List, [], ◌∷◌, ◌++◌, length, refl, sym, ◌∙◌, ap, arith}
+use Rattle.std.specs.Prelude.{codes, decimal, slice_index_or, Ok, Err}
 use Rattle.std.proofs.lemmas.Fmt.{decimal_injective}
 use Rattle.std.proofs.lemmas.List.{ext_get_or}
 use Rattle.candidate_roll.specs.State.{state_at}
 use Rattle.candidate_roll.specs.declared.state.State.{State}
 use Rattle.candidate_roll.specs.declared.state.State.TheVariants.{Withdrawn}
 use Rattle.meek_rule.specs.Places.{each_place}
-use Rattle.meek_rule.specs.Row.{Row}
-use Rattle.sheet_text.specs.Lines.{outcome_line, state_word}
-use Rattle.sheet_reader.specs.Form.{HasForm, IsPrintableRow}
+use Rattle.sheet_text.specs.Lines.{outcome_line}
 use Rattle.sheet_reader.specs.Laws.{FormSaysItsValues, WrittenValuesAreRead}
-use Rattle.sheet_reader.specs.Values.{SheetList}
-use Rattle.sheet_reader.specs.declared.sheet_stop.SheetStop.{SheetStop}
 use Rattle.sheet_reader.specs.declared.sheet_stop.SheetStop.TheVariants.{Malformed, NoMemory}
 use Rattle.sheet_reader.proofs.LineLemmas.{outcome_once}
 use Rattle.sheet_reader.proofs.LineParts.{heads, behind_front, behind_as_long, length-each_place}

@@ -1,5 +1,5 @@
 -- The lines of an iteration say its values.
-use Rattle.std.proofs.Common.{◌≡◌, ℕ, ◌+◌, ◌<◌, ◌≤◌, ◌^◌, Bool, true, false, List, [], ◌∷◌, ◌++◌, length, replicate, get_or, refl, sym, ◌∙◌, ap, subst, arith}
+use Rattle.std.proofs.Common.{◌≡◌, ℕ, ◌<◌, ◌≤◌, ◌^◌, Bool, true, false, List, [], ◌∷◌, ◌++◌, length, get_or, refl, sym, ◌∙◌, ap, arith}
 use Rattle.std.specs.Prelude.{◌≢◌, codes, decimal, All, slice_index}
 use Rattle.std.specs.List.{list_any}
 use Rattle.std.proofs.lemmas.Fmt.{decimal_injective}
@@ -7,7 +7,6 @@ use Rattle.std.proofs.lemmas.List.{ext_get_or}
 use Rattle.std.proofs.lemmas.List.Elements.{All-get_or, All-head, All-tail}
 use Rattle.std.proofs.lemmas.List.FromFn.{get_or-map-range_with_len}
 use Rattle.candidate_roll.specs.State.{state_at}
-use Rattle.candidate_roll.specs.declared.state.State.{State}
 use Rattle.candidate_roll.specs.declared.state.State.TheVariants.{Withdrawn}
 use Rattle.fixed_place.specs.Rounding.{scale, most}
 use Rattle.fixed_place.specs.Text.{text_of}
@@ -18,7 +17,7 @@ use Rattle.meek_rule.specs.declared.step.Step.TheVariants.{Elected, Iterate, Def
 use Rattle.sheet_text.specs.Lines.{listed, marked_lines, step_line, row_lines}
 use Rattle.meek_count.specs.Ranges.{HasTiedFor}
 use Rattle.sheet_reader.specs.Form.{IsPrintableRow}
-use Rattle.sheet_reader.specs.Parts.{number_line_of, standing_lines, standing_at, amount_lines_of, decision_lines_of, rows_lines}
+use Rattle.sheet_reader.specs.Parts.{number_line_of, standing_lines, standing_at, rows_lines}
 use Rattle.sheet_reader.proofs.Cuts.{cut_once, decimal_without, amount_injective}
 use Rattle.sheet_reader.proofs.LineLemmas.{listed_once, standing_once}
 use Rattle.sheet_reader.proofs.LineParts.{heads, behind_front, behind_as_long, length-each_place, any_none, marked_or_not, with_line}

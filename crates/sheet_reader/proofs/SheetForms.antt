@@ -1,6 +1,5 @@
 -- The sheet of an election has the form, with the values of its count.
-use Rattle.std.proofs.Common.{◌≡◌, ℕ, List, length, refl, sym, ◌∙◌, ap, subst}
-use Rattle.std.specs.Prelude.{All, Result}
+use Rattle.std.proofs.Common.{◌≡◌, ℕ, List, length, refl, sym, ◌∙◌, subst}
 use Rattle.candidate_roll.specs.Roll.{RollList}
 use Rattle.candidate_roll.specs.declared.state.State.{State}
 use Rattle.meek_rule.specs.Row.{Row}
@@ -8,10 +7,9 @@ use Rattle.meek_rule.specs.Rule.{Rule}
 use Rattle.meek_count.specs.Laws.{IsElection, EachElectionHasOneCount, RowsStayInRange}
 use Rattle.meek_count.specs.Rows.{IsCountUnder}
 use Rattle.sheet_text.specs.Lines.{text_of_lines}
-use Rattle.sheet_text.specs.Sheet.{IsSheetUnder, sheet_lines}
+use Rattle.sheet_text.specs.Sheet.{sheet_lines}
 use Rattle.sheet_reader.specs.Form.{HasForm}
 use Rattle.sheet_reader.specs.Laws.{HasNames, values_of, SheetsHaveTheForm, SheetsAreReadBack}
-use Rattle.sheet_reader.specs.Values.{SheetList}
 use Rattle.sheet_reader.proofs.FormValues.{values_are_read}
 
 -- what a count makes of an election has the form

@@ -1,5 +1,5 @@
 -- What is read of a text.
-use Rattle.std.specs.Prelude.{◌≡◌, ℕ, List, MatchResult, Result, Ok, Err}
+use Rattle.std.specs.Prelude.{◌≡◌, ℕ, List, MatchResult, Result}
 use Rattle.sheet_reader.specs.declared.sheet_stop.SheetStop.{SheetStop}
 use Rattle.sheet_reader.specs.declared.sheet_stop.SheetStop.TheVariants.{NoMemory}
 use Rattle.sheet_reader.specs.Form.{HasForm}
