@@ -1,6 +1,6 @@
 // Tests of sheet_check: check tool.
-use crate::memory::sink_of;
-use crate::sample::{FILE, sheet};
+use crate::memory::{sink_of, words_of};
+use crate::sample::{AT_OMEGA, FILE, sheet};
 use blt_reader::{FaultKind, InputFault};
 use byte_edge::{MemorySink, MemorySource};
 use sheet_check::check;
@@ -9,51 +9,6 @@ use std::process::Abort;
 use std::test::Fail;
 use std::thread::Threads;
 use tool_edge::End;
-
-// Sheets with their ballot files: in the first a surplus of 0.000000999 is below omega; in the second one of 0.000001 is
-// not, and is transferred once, which leaves it as it is.
-const AT_OMEGA: [(&[u8], &[u8]); 2] = [
-    (
-        b"title T\nseats 2\ncandidates 3\nballots 1800\n\
-round 1 iteration 1\n1 hopeful 1.000000000 1000.000000000\n2 hopeful 1.000000000 600.000000000\n\
-3 hopeful 1.000000000 200.000000000\ntotal 1800.000000000\nquota 600.000000001\nsurplus 399.999999999\n\
-elected 1\nstep elected\n\
-round 2 iteration 1\n1 elected 1.000000000 1000.000000000\n2 hopeful 1.000000000 600.000000000\n\
-3 hopeful 1.000000000 200.000000000\ntotal 1800.000000000\nquota 600.000000001\nsurplus 399.999999999\n\
-step iterate\n\
-round 2 iteration 2\n1 elected 0.600000001 600.000001000\n2 hopeful 1.000000000 600.000000000\n\
-3 hopeful 1.000000000 599.999999000\ntotal 1800.000000000\nquota 600.000000001\nsurplus 0.000000999\n\
-step defeat 3 tied 3\n\
-result\n1 elected A\n2 elected B\n3 defeated C\nend\n",
-        b"3 2\n1000 1 3 0\n600 2 0\n200 3 0\n0\n\"A\" \"B\" \"C\" \"T\"\n",
-    ),
-    (
-        b"title T\nseats 2\ncandidates 3\nballots 1560\n\
-round 1 iteration 1\n1 hopeful 1.000000000 1003.000000000\n2 hopeful 1.000000000 520.000000000\n\
-3 hopeful 1.000000000 37.000000000\ntotal 1560.000000000\nquota 520.000000001\nsurplus 482.999999999\n\
-elected 1\nstep elected\n\
-round 2 iteration 1\n1 elected 1.000000000 1003.000000000\n2 hopeful 1.000000000 520.000000000\n\
-3 hopeful 1.000000000 37.000000000\ntotal 1560.000000000\nquota 520.000000001\nsurplus 482.999999999\n\
-step iterate\n\
-round 2 iteration 2\n1 elected 0.518444667 520.000001001\n2 hopeful 1.000000000 520.000000000\n\
-3 hopeful 1.000000000 519.999998999\ntotal 1560.000000000\nquota 520.000000001\nsurplus 0.000001000\n\
-step iterate\n\
-round 2 iteration 3\n1 elected 0.518444667 520.000001001\n2 hopeful 1.000000000 520.000000000\n\
-3 hopeful 1.000000000 519.999998999\ntotal 1560.000000000\nquota 520.000000001\nsurplus 0.000001000\n\
-step defeat 3 tied 3\n\
-result\n1 elected A\n2 elected B\n3 defeated C\nend\n",
-        b"3 2\n1003 1 3 0\n520 2 0\n37 3 0\n0\n\"A\" \"B\" \"C\" \"T\"\n",
-    ),
-];
-
-/// The words that give these lots.
-fn lots_words(alloc: Global, lots: &str) -> Result<Vec<String>, Fail> {
-    let mut words = Vec::new(alloc);
-    for word in ["--lots", lots] {
-        words.push(String::from_str(alloc, word)?)?;
-    }
-    Ok(words)
-}
 
 /// A source of a text with a file behind it.
 fn text_and_file(alloc: Global, text: &[u8], file: &[u8]) -> Result<MemorySource, Fail> {
@@ -66,11 +21,11 @@ fn text_and_file(alloc: Global, text: &[u8], file: &[u8]) -> Result<MemorySource
 fn end_of<R: Threads + Sync>(
     rt: &R,
     alloc: Global,
-    lots: &str,
+    words: &str,
     (text, file): (&[u8], &[u8]),
     sink: &mut MemorySink,
 ) -> Result<End, Fail> {
-    let words = lots_words(alloc, lots)?;
+    let words = words_of(alloc, words)?;
     let mut source = text_and_file(alloc, text, file)?;
     Ok(check(rt, alloc, words.as_slice(), &mut source, sink))
 }
@@ -80,42 +35,42 @@ fn end_of<R: Threads + Sync>(
 fn ends<R: Threads + Sync + Abort>(
     rt: &R,
     alloc: Global,
-    lots: &str,
+    words: &str,
     input: (&[u8], &[u8]),
     failing: &[u64],
     (end, line): (End, &[u8]),
 ) -> Result<(), Fail> {
     let mut sink = sink_of(alloc, 100, 100, failing)?;
-    let found = end_of(rt, alloc, lots, input, &mut sink)?;
+    let found = end_of(rt, alloc, words, input, &mut sink)?;
     assert_eq!(rt; (found, sink.bytes()), (end, line));
     Ok(())
 }
 
-/// The sample election's sheet with this quota and these votes gets this line by these lots.
+/// The sample election's sheet with this quota and these votes gets this line by these words.
 fn gets<R: Threads + Sync + Abort>(
     rt: &R,
     alloc: Global,
-    lots: &str,
+    words: &str,
     (quota, votes): (&[u8], &[u8]),
     line: &[u8],
 ) -> Result<(), Fail> {
     let text = sheet(alloc, quota, votes)?;
     let input = (text.as_slice(), FILE);
-    ends(rt, alloc, lots, input, &[], (End::Done, line))
+    ends(rt, alloc, words, input, &[], (End::Done, line))
 }
 
-// Lots, the last digits of the first quota and of candidate 3's last votes, and the line.
+// Words, the last digits of the first quota and of candidate 3's last votes, and the line.
 const VERDICTS: [(&str, &[u8], &[u8], &[u8]); 4] = [
-    ("1,2,3,4", b"01", b"6", b"sheet true\n"),
-    ("4,3,2,1", b"01", b"6", b"sheet true\n"),
-    ("1,2,3,4", b"01", b"7", b"sheet false at line 27\n"),
-    ("1,2,3,4", b"1", b"6", b"sheet malformed\n"),
+    ("--lots 1,2,3,4", b"01", b"6", b"sheet true\n"),
+    ("--lots 4,3,2,1", b"01", b"6", b"sheet true\n"),
+    ("--lots 1,2,3,4", b"01", b"7", b"sheet false at line 27\n"),
+    ("--lots 1,2,3,4", b"1", b"6", b"sheet malformed\n"),
 ];
 
 #[test]
 fn a_sheet_gets_the_line_of_its_verdict(rt: HostRuntime) -> Result<(), Fail> {
-    for (lots, quota, votes, line) in VERDICTS {
-        gets(&rt, rt.alloc(), lots, (quota, votes), line)?;
+    for (words, quota, votes, line) in VERDICTS {
+        gets(&rt, rt.alloc(), words, (quota, votes), line)?;
     }
     Ok(())
 }
@@ -123,9 +78,9 @@ fn a_sheet_gets_the_line_of_its_verdict(rt: HostRuntime) -> Result<(), Fail> {
 // Candidate 1 keeps 0.600000001 of 1,000 votes, or 0.518444667 of 1,003.
 #[test]
 fn a_sheet_is_checked_at_the_omega_of_all_files(rt: HostRuntime) -> Result<(), Fail> {
-    for input in AT_OMEGA {
+    for (file, sheet) in AT_OMEGA {
         let due = (End::Done, b"sheet true\n".as_slice());
-        ends(&rt, rt.alloc(), "1,2,3", input, &[], due)?;
+        ends(&rt, rt.alloc(), "--lots 1,2,3", (sheet, file), &[], due)?;
     }
     Ok(())
 }
@@ -176,7 +131,14 @@ const REFUSED: [(&[u8], &[u8], FaultKind, usize, &[u8]); 7] = [
 fn a_refusal_has_its_place_in_the_whole(rt: HostRuntime) -> Result<(), Fail> {
     for (text, file, kind, at, line) in REFUSED {
         let end = End::BadInput(InputFault::new(kind, at));
-        ends(&rt, rt.alloc(), "1,2,3,4", (text, file), &[], (end, line))?;
+        ends(
+            &rt,
+            rt.alloc(),
+            "--lots 1,2,3,4",
+            (text, file),
+            &[],
+            (end, line),
+        )?;
     }
     Ok(())
 }
@@ -184,5 +146,12 @@ fn a_refusal_has_its_place_in_the_whole(rt: HostRuntime) -> Result<(), Fail> {
 #[test]
 fn a_flush_that_fails_is_a_fault(rt: HostRuntime) -> Result<(), Fail> {
     let due = (End::SinkFault, b"sheet malformed\n".as_slice());
-    ends(&rt, rt.alloc(), "1,2,3,4", (b"end\n", FILE), &[2], due)
+    ends(
+        &rt,
+        rt.alloc(),
+        "--lots 1,2,3,4",
+        (b"end\n", FILE),
+        &[2],
+        due,
+    )
 }

@@ -1,4 +1,5 @@
 // Tests of lot_draw: draw tool.
+use crate::draw_words::seed_words;
 use crate::memory::{sink_of, words_of};
 use lot_draw::draw_in_public;
 use std::alloc::Global;
@@ -18,6 +19,7 @@ fn ends(
     draws(rt, alloc, &words, failing, (end, text))
 }
 
+/// The same of words that are cut already.
 fn draws(
     rt: &impl Abort,
     alloc: Global,
@@ -39,19 +41,10 @@ fn the_line_or_the_refusal_is_written(rt: HostRuntime) -> Result<(), Fail> {
     ends(&rt, rt.alloc(), "--candidates 0 --seed 0", &[], refusal)
 }
 
-/// The words that ask for a draw of three candidates from this seed.
-fn three_from(alloc: Global, seed: &str) -> Result<Vec<String>, Fail> {
-    let mut words = Vec::new(alloc);
-    for word in ["--seed", seed, "--candidates", "3"] {
-        words.push(String::from_str(alloc, word)?)?;
-    }
-    Ok(words)
-}
-
 // The order is that of a program in Python with its hashlib.
 #[test]
 fn the_line_of_three_candidates_is_written(rt: HostRuntime) -> Result<(), Fail> {
-    let words = three_from(rt.alloc(), "2 6 5 3 5")?;
+    let words = seed_words(rt.alloc(), "2 6 5 3 5")?;
     draws(&rt, rt.alloc(), &words, &[], (End::Done, b"2,3,1\n"))
 }
 

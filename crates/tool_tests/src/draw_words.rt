@@ -59,7 +59,8 @@ fn other_words_are_refused(rt: HostRuntime) -> Result<(), Fail> {
     Ok(())
 }
 
-fn seed_words(alloc: Global, seed: &str) -> Result<Vec<String>, Fail> {
+/// The words that ask for a draw of three candidates from this seed.
+pub(crate) fn seed_words(alloc: Global, seed: &str) -> Result<Vec<String>, Fail> {
     let mut words = Vec::new(alloc);
     for word in ["--seed", seed, "--candidates", "3"] {
         words.push(String::from_str(alloc, word)?)?;

@@ -1,5 +1,6 @@
 // Whole runs over memory: files worked by hand, one of them written twice, refusals, and a sink that fails.
 use crate::memory::{sink_of, source_of, words_of};
+use crate::sample::FILE;
 use blt_normal::normal;
 use blt_reader::{FaultKind, InputFault};
 use byte_edge::MemorySink;
@@ -9,10 +10,7 @@ use std::test::Fail;
 use std::thread::Threads;
 use tool_edge::End;
 
-const SAMPLE: &[u8] =
-    b"# sample\n4 2\n-2\n3 1 3 4 0\n4 1 3 2 0\n2 4 1 3 0\n1 2 0\n2 2 4 3 1 0\n1 3 4 2 0\n0\n\"Ann\"\n\"Ben\"\n\"Cid\"\n\"Dee\"\n\"Sample\"\n";
-
-const SAMPLE_TEXT: &[u8] =
+const FILE_TEXT: &[u8] =
     b"4 2\n-2\n4 1 3 2 0\n3 1 3 4 0\n1 2 0\n2 2 4 3 1 0\n1 3 4 2 0\n2 4 1 3 0\n0\n\"Ann\"\n\"Ben\"\n\"Cid\"\n\"Dee\"\n\"Sample\"\n";
 
 /// How a run ends that writes into this sink.
@@ -55,8 +53,8 @@ fn ends<R: Threads + Sync + Abort>(
 
 #[test]
 fn lines_stand_in_order_and_stay_so(rt: HostRuntime) -> Result<(), Fail> {
-    comes_to(&rt, rt.alloc(), SAMPLE, SAMPLE_TEXT)?;
-    comes_to(&rt, rt.alloc(), SAMPLE_TEXT, SAMPLE_TEXT)
+    comes_to(&rt, rt.alloc(), FILE, FILE_TEXT)?;
+    comes_to(&rt, rt.alloc(), FILE_TEXT, FILE_TEXT)
 }
 
 // A byte order mark, a comment, ends of lines of two bytes, a candidate struck twice and zeros in front of a count.
@@ -88,7 +86,7 @@ fn long_rankings_stand_in_order_too(rt: HostRuntime) -> Result<(), Fail> {
 #[test]
 fn a_word_is_refused_and_so_is_what_is_no_file(rt: HostRuntime) -> Result<(), Fail> {
     let word = (End::BadWords, b"refused BadWords\n".as_slice());
-    ends(&rt, rt.alloc(), ("x", SAMPLE), &[], word)?;
+    ends(&rt, rt.alloc(), ("x", FILE), &[], word)?;
     let empty = End::BadInput(InputFault::new(FaultKind::Ended, 0));
     let line = b"refused Ended at 0\n";
     ends(&rt, rt.alloc(), ("", b""), &[], (empty, line))
@@ -96,5 +94,5 @@ fn a_word_is_refused_and_so_is_what_is_no_file(rt: HostRuntime) -> Result<(), Fa
 
 #[test]
 fn a_write_that_fails_is_a_fault(rt: HostRuntime) -> Result<(), Fail> {
-    ends(&rt, rt.alloc(), ("", SAMPLE), &[1], (End::SinkFault, b""))
+    ends(&rt, rt.alloc(), ("", FILE), &[1], (End::SinkFault, b""))
 }

@@ -3,6 +3,7 @@ mod ties;
 mod transfer;
 
 use crate::memory::{sink_of, source_of, words_of};
+use crate::sample::SHEET;
 use byte_edge::MemorySink;
 use sheet_page::{PageEnd, page};
 use std::alloc::Global;
@@ -11,9 +12,6 @@ use std::test::Fail;
 use tool_edge::{End, open};
 
 const ONE: &[u8] = b"title A & B\nseats 1\ncandidates 1\nballots 0\nresult\n1 elected <Ann>\nend\n";
-
-const SAMPLE: &[u8] =
-    b"title Sample\nseats 2\ncandidates 4\nballots 13\nround 1 iteration 1\n1 hopeful 1.000000000 7.000000000\n2 withdrawn 0.000000000 0.000000000\n3 hopeful 1.000000000 1.000000000\n4 hopeful 1.000000000 4.000000000\ntotal 12.000000000\nquota 4.000000001\nsurplus 2.999999999\nelected 1\nstep elected\nround 2 iteration 1\n1 elected 1.000000000 7.000000000\n2 withdrawn 0.000000000 0.000000000\n3 hopeful 1.000000000 1.000000000\n4 hopeful 1.000000000 4.000000000\ntotal 12.000000000\nquota 4.000000001\nsurplus 2.999999999\nstep iterate\nround 2 iteration 2\n1 elected 0.571428572 4.000000004\n2 withdrawn 0.000000000 0.000000000\n3 hopeful 1.000000000 3.999999996\n4 hopeful 1.000000000 4.000000000\ntotal 12.000000000\nquota 4.000000001\nsurplus 0.000000003\nstep defeat 3 tied 3\nresult\n1 elected Ann\n2 withdrawn Ben\n3 defeated Cid\n4 elected Dee\nend\n";
 
 // What a second program wrote of it, in Python with its modules csv and json.
 const SAMPLE_CSV: &[u8] =
@@ -102,9 +100,9 @@ fn a_sheet_as_a_second_program_shows_it(rt: HostRuntime) -> Result<(), Fail> {
     let cases = [
         ("", ONE, ONE_HTML),
         ("", HOSTILE, HOSTILE_HTML),
-        ("--as html", SAMPLE, SAMPLE_HTML),
-        ("--as csv", SAMPLE, SAMPLE_CSV),
-        ("--as json", SAMPLE, SAMPLE_JSON),
+        ("--as html", SHEET, SAMPLE_HTML),
+        ("--as csv", SHEET, SAMPLE_CSV),
+        ("--as json", SHEET, SAMPLE_JSON),
         ("--as json", ODD, ODD_JSON),
     ];
     for (words, sheet, text) in cases {
@@ -116,7 +114,7 @@ fn a_sheet_as_a_second_program_shows_it(rt: HostRuntime) -> Result<(), Fail> {
 #[test]
 fn a_write_that_fails_ends_the_writing(rt: HostRuntime) -> Result<(), Fail> {
     let due = (PageEnd::Ran(End::SinkFault), b"round,".as_slice());
-    ends(&rt, rt.alloc(), ("--as csv", SAMPLE), &[3], due)
+    ends(&rt, rt.alloc(), ("--as csv", SHEET), &[3], due)
 }
 
 #[test]

@@ -1,16 +1,14 @@
 // Tests of sheet_reader: sheet.
+use crate::sample::SHEET;
 use candidate_roll::State;
 use meek_rule::Step;
 use sheet_reader::{SheetStop, check_form, read_sheet};
 use std::alloc::Global;
 use std::test::Fail;
 
-const SAMPLE: &[u8] =
-    b"title Sample\nseats 2\ncandidates 4\nballots 13\nround 1 iteration 1\n1 hopeful 1.000000000 7.000000000\n2 withdrawn 0.000000000 0.000000000\n3 hopeful 1.000000000 1.000000000\n4 hopeful 1.000000000 4.000000000\ntotal 12.000000000\nquota 4.000000001\nsurplus 2.999999999\nelected 1\nstep elected\nround 2 iteration 1\n1 elected 1.000000000 7.000000000\n2 withdrawn 0.000000000 0.000000000\n3 hopeful 1.000000000 1.000000000\n4 hopeful 1.000000000 4.000000000\ntotal 12.000000000\nquota 4.000000001\nsurplus 2.999999999\nstep iterate\nround 2 iteration 2\n1 elected 0.571428572 4.000000004\n2 withdrawn 0.000000000 0.000000000\n3 hopeful 1.000000000 3.999999996\n4 hopeful 1.000000000 4.000000000\ntotal 12.000000000\nquota 4.000000001\nsurplus 0.000000003\nstep defeat 3 tied 3\nresult\n1 elected Ann\n2 withdrawn Ben\n3 defeated Cid\n4 elected Dee\nend\n";
-
 #[test]
 fn the_sample_sheet_says_its_election(rt: HostRuntime) -> Result<(), Fail> {
-    let values = read_sheet(rt.alloc(), SAMPLE)?;
+    let values = read_sheet(rt.alloc(), SHEET)?;
     let head = (values.seats, values.ballots, values.names.len());
     assert_eq!(rt;
         (values.title.bytes(), head),
@@ -28,7 +26,7 @@ fn the_sample_sheet_says_its_election(rt: HostRuntime) -> Result<(), Fail> {
 
 #[test]
 fn the_sample_sheet_says_its_last_iteration(rt: HostRuntime) -> Result<(), Fail> {
-    let rows = read_sheet(rt.alloc(), SAMPLE)?.rows;
+    let rows = read_sheet(rt.alloc(), SHEET)?.rows;
     let row = rows.items().get(2).ok_or("no third row")?;
     let turn = (rows.len(), row.round, row.iteration, row.step);
     assert_eq!(rt; turn, (3, 2, 2, Step::Defeat(3)));
@@ -55,7 +53,7 @@ fn is_taken(alloc: Global, text: &[u8]) -> Result<bool, SheetStop> {
 
 #[test]
 fn sheets_are_taken_by_both_readers(rt: HostRuntime) -> Result<(), Fail> {
-    assert_eq!(rt; is_taken(rt.alloc(), SAMPLE), Ok(true));
+    assert_eq!(rt; is_taken(rt.alloc(), SHEET), Ok(true));
     let short = b"title \nseats 1\ncandidates 1\nballots 0\nresult\n1 elected \nend\n";
     assert_eq!(rt; is_taken(rt.alloc(), short), Ok(true));
     Ok(())

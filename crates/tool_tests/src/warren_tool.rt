@@ -1,6 +1,7 @@
 // Whole runs over memory: an election that Meek's rule counts alike, one that it counts otherwise, refusals, and
 // a source or a sink that fails. Expected bytes were worked out by a program that was written from the rule.
 use crate::memory::{sink_of, source_of, words_of};
+use crate::sample::AT_OMEGA;
 use blt_reader::{FaultKind, InputFault};
 use byte_edge::MemorySink;
 use std::alloc::Global;
@@ -43,41 +44,6 @@ round 2 iteration 3\n1 hopeful 1.000000000 3.638888885\n2 hopeful 1.000000000 3.
 3 elected 0.272222223 3.811111122\n4 elected 0.388888890 3.500000010\ntotal 14.000000000\n\
 quota 3.500000001\nsurplus 0.450000014\nelected 1\nstep elected\n\
 result\n1 elected Ann\n2 defeated Ben\n3 elected Cid\n4 elected Dee\nend\n";
-
-// What a surplus below omega comes to, and one of omega itself, which is transferred.
-const AT_OMEGA: [(&[u8], &[u8]); 2] = [
-    (
-        b"3 2\n1000 1 3 0\n600 2 0\n200 3 0\n0\n\"A\" \"B\" \"C\" \"T\"\n",
-        b"title T\nseats 2\ncandidates 3\nballots 1800\n\
-round 1 iteration 1\n1 hopeful 1.000000000 1000.000000000\n2 hopeful 1.000000000 600.000000000\n\
-3 hopeful 1.000000000 200.000000000\ntotal 1800.000000000\nquota 600.000000001\nsurplus 399.999999999\n\
-elected 1\nstep elected\n\
-round 2 iteration 1\n1 elected 1.000000000 1000.000000000\n2 hopeful 1.000000000 600.000000000\n\
-3 hopeful 1.000000000 200.000000000\ntotal 1800.000000000\nquota 600.000000001\nsurplus 399.999999999\n\
-step iterate\n\
-round 2 iteration 2\n1 elected 0.600000001 600.000001000\n2 hopeful 1.000000000 600.000000000\n\
-3 hopeful 1.000000000 599.999999000\ntotal 1800.000000000\nquota 600.000000001\nsurplus 0.000000999\n\
-step defeat 3 tied 3\n\
-result\n1 elected A\n2 elected B\n3 defeated C\nend\n",
-    ),
-    (
-        b"3 2\n1003 1 3 0\n520 2 0\n37 3 0\n0\n\"A\" \"B\" \"C\" \"T\"\n",
-        b"title T\nseats 2\ncandidates 3\nballots 1560\n\
-round 1 iteration 1\n1 hopeful 1.000000000 1003.000000000\n2 hopeful 1.000000000 520.000000000\n\
-3 hopeful 1.000000000 37.000000000\ntotal 1560.000000000\nquota 520.000000001\nsurplus 482.999999999\n\
-elected 1\nstep elected\n\
-round 2 iteration 1\n1 elected 1.000000000 1003.000000000\n2 hopeful 1.000000000 520.000000000\n\
-3 hopeful 1.000000000 37.000000000\ntotal 1560.000000000\nquota 520.000000001\nsurplus 482.999999999\n\
-step iterate\n\
-round 2 iteration 2\n1 elected 0.518444667 520.000001001\n2 hopeful 1.000000000 520.000000000\n\
-3 hopeful 1.000000000 519.999998999\ntotal 1560.000000000\nquota 520.000000001\nsurplus 0.000001000\n\
-step iterate\n\
-round 2 iteration 3\n1 elected 0.518444667 520.000001001\n2 hopeful 1.000000000 520.000000000\n\
-3 hopeful 1.000000000 519.999998999\ntotal 1560.000000000\nquota 520.000000001\nsurplus 0.000001000\n\
-step defeat 3 tied 3\n\
-result\n1 elected A\n2 elected B\n3 defeated C\nend\n",
-    ),
-];
 
 /// How a run ends that writes into this sink, at most 16 bytes a read; the reads with these numbers fail.
 fn end_of(
