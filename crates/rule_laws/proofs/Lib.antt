@@ -19,3 +19,4 @@ mod Renamed
 mod RenamedIteration
 mod RenamedCount
 mod UnheardHolds
+mod UnheardAtSixPlaces

@@ -6,7 +6,7 @@ ghost use Rattle.rule_laws.specs.Strikes.{StrikingChangesNothing};
 ghost use Rattle.rule_laws.specs.Majority.{FirstShareWins, MajorityWins};
 ghost use Rattle.rule_laws.specs.Coalition.{SolidMajorityWins, CoalitionsAreSeated, SharesAreSeated, ShareGetsASeat};
 ghost use Rattle.rule_laws.specs.Orderly.{OrderlyCountsAreProportional};
-ghost use Rattle.rule_laws.specs.Unheard.{AllRankDeeLast};
+ghost use Rattle.rule_laws.specs.Unheard.{AllRankDeeLast, AllRankDeeLastAtSixPlaces};
 
 /// A count fills its seats, or elects all who were not withdrawn where those are fewer. Whoever was elected or
 /// defeated in an iteration is so in each later one and at the end, where nobody is hopeful. Who was withdrawn ends
@@ -52,8 +52,9 @@ pub fn coalitions_are_seated()
     ensures one { ShareGetsASeat }
 {}
 
-/// What the rule does not promise: in a count worked by hand a candidate whom all voters rank last, and who never has
-/// a vote, is elected.
+/// What the rule does not promise: in two counts worked by hand a candidate whom all voters rank last, and who never
+/// has a vote, is elected. One has eleven voters and one decimal place, the other is one that this office would count.
 pub fn unanimity_fails()
-    ensures { AllRankDeeLast }
+    ensures by_hand { AllRankDeeLast }
+    ensures at_six_places { AllRankDeeLastAtSixPlaces }
 {}
