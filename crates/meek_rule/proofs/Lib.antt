@@ -3,10 +3,10 @@ pub mod EndLemmas
 pub mod PlaceLemmas
 pub mod ProgressLemmas
 pub mod RuleLemmas
-mod SettleLemmas
+pub mod SettleLemmas
 pub mod StateCounts
 mod StrictOrder
-mod TestLemmas
+pub mod TestLemmas
 pub mod TieLemmas
 pub mod TotalLemmas
 pub mod ValidLemmas

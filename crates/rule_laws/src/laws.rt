@@ -1,0 +1,59 @@
+// What voters expect of every count, by either rule.
+ghost use Rattle.rule_laws.specs.Seats.{SeatsAreFilled, NobodyHopesAtTheEnd, DecidedStaysDecided, WithdrawnAreOut};
+ghost use Rattle.rule_laws.specs.NoTies.{LotsBreakTiesAlone};
+ghost use Rattle.rule_laws.specs.Renaming.{NumbersMeanNothing};
+ghost use Rattle.rule_laws.specs.Strikes.{StrikingChangesNothing};
+ghost use Rattle.rule_laws.specs.Majority.{FirstShareWins, MajorityWins};
+ghost use Rattle.rule_laws.specs.Coalition.{SolidMajorityWins, CoalitionsAreSeated, SharesAreSeated, ShareGetsASeat};
+ghost use Rattle.rule_laws.specs.Orderly.{OrderlyCountsAreProportional};
+ghost use Rattle.rule_laws.specs.Unheard.{AllRankDeeLast};
+
+/// A count fills its seats, or elects all who were not withdrawn where those are fewer. Whoever was elected or
+/// defeated in an iteration is so in each later one and at the end, where nobody is hopeful. Who was withdrawn ends
+/// so, and nobody else does.
+pub fn seats_are_filled()
+    ensures filled { SeatsAreFilled }
+    ensures none_hopeful { NobodyHopesAtTheEnd }
+    ensures decided { DecidedStaysDecided }
+    ensures withdrawn { WithdrawnAreOut }
+{}
+
+/// Where no iteration of a count has a tie, for defeat or for a last seat, each other order of lots gives the same
+/// count, row for row.
+pub fn lots_break_ties_alone()
+    ensures { LotsBreakTiesAlone }
+{}
+
+/// With other numbers on ballots, roll and lots the count is the same under these numbers.
+pub fn numbers_mean_nothing()
+    ensures { NumbersMeanNothing }
+{}
+
+/// A candidate who was withdrawn may as well be struck from all ballots: the count is the same, row for row.
+pub fn strikes_change_nothing()
+    ensures { StrikingChangesNothing }
+{}
+
+/// Who is first, of those not withdrawn, on more than a share of the ballots is elected, where there is a share for
+/// each seat and one besides; with one seat that is more than half. And with one seat, of candidates whom more than
+/// half of the voters rank above all others one is elected.
+pub fn majorities_win()
+    ensures share { FirstShareWins }
+    ensures first { MajorityWins }
+    ensures solid { SolidMajorityWins }
+{}
+
+/// Voters who rank the same candidates above all others get as many seats for these as they have quotas, and as much
+/// besides as the iterations leave over: where nobody is defeated while a surplus is left the count is proportional.
+pub fn coalitions_are_seated()
+    ensures quotas { CoalitionsAreSeated }
+    ensures shares { SharesAreSeated }
+    ensures orderly { OrderlyCountsAreProportional }
+    ensures one { ShareGetsASeat }
+{}
+
+/// What the rule does not promise: in a count worked by hand a candidate whom all voters rank last, and who never has
+/// a vote, is elected.
+pub fn unanimity_fails()
+    ensures { AllRankDeeLast }
+{}

@@ -1,0 +1,10 @@
+//! What voters expect of a count, as laws over the definitions of the rule, and one count that shows what
+//! the rule does not promise. Nothing here runs. docs/LAWS.md says each law in plain words.
+#![tactic(auto)]
+
+mod laws;
+
+pub use laws::{
+    coalitions_are_seated, lots_break_ties_alone, majorities_win, numbers_mean_nothing,
+    seats_are_filled, strikes_change_nothing, unanimity_fails,
+};
