@@ -1,3 +1,4 @@
 // Whole day files, worked out by hand.
 mod accepted;
+mod edges;
 mod refused;

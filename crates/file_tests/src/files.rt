@@ -1,3 +1,4 @@
 // Whole ballot files, worked out by hand.
 mod accepted;
+mod edges;
 mod refused;

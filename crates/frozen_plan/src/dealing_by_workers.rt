@@ -13,6 +13,9 @@ use std::alloc::Global;
 use std::thread;
 use std::thread::Threads;
 
+/// Fewer lines than these are dealt by the caller: threads cost more than they bring.
+const MANY: usize = 20_000;
+
 impl Plans {
     /// What [`Plans::dealt`] gives, made by at most so many workers. Each worker deals the lines of its
     /// shards and makes their plans in a thread of its own; where none can be had, the caller's thread
@@ -34,7 +37,7 @@ impl Plans {
         ensures few { IfOk result (λ plans. length (all_ballots plans) ≤ 999999999) }
     {
         lines_stand_for_ballots();
-        if workers == 1 {
+        if workers == 1 || ballots.lines().len() < MANY {
             return Plans::dealt(alloc, ballots, shards);
         }
         let candidates = ballots.candidates();

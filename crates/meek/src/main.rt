@@ -7,11 +7,14 @@ use std::io::{self, BufWriter};
 use std::process::ExitCode;
 use tool_edge::{NO_WORDS, words_of};
 
+/// How many bytes of a sheet are handed to the system at once.
+const ROOM: usize = 1 << 18;
+
 fn main(rt: HostRuntime) -> ExitCode {
     let Ok(words) = words_of(&rt) else {
         return ExitCode::from(NO_WORDS);
     };
-    let Ok(writer) = BufWriter::new(rt.alloc(), io::writer(&rt)) else {
+    let Ok(writer) = BufWriter::with_capacity(rt.alloc(), ROOM, io::writer(&rt)) else {
         return Status::NoMemory.exit_code();
     };
     let mut source = StdSource::new(rt.reader());

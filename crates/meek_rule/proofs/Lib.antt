@@ -17,3 +17,4 @@ mod WinnersOrder
 pub mod WinnersUnique
 mod WorkedEdgesHold
 mod WorkedHolds
+mod WorkedStepsHold

@@ -14,5 +14,6 @@ pub mod LowestVote
 pub mod Worked
 pub mod WorkedKeeps
 pub mod WorkedMarks
+pub mod WorkedSteps
 pub mod Laws
 pub mod Steps

@@ -2,6 +2,7 @@
 ghost use Rattle.meek_rule.specs.Worked.{CappedKeep, Overfill, SurplusOfOmega, SurplusBelowOmega, SurplusNotFalling, SurplusFalling, TieWithinSurplus, ThreeBallots};
 ghost use Rattle.meek_rule.specs.WorkedKeeps.{RoundedUpTwice, NoVotesSameKeep, OneWholeVoteIsNoCap, CappedFromBelowOne};
 ghost use Rattle.meek_rule.specs.WorkedMarks.{OverfillByVotes, KeepsStayAtElection, TieAtTheSurplus, ElectedAreNotTied};
+ghost use Rattle.meek_rule.specs.WorkedSteps.{OverfillByLots, BelowTheQuotaIsNoCap, OmegaAboveTheSurplus, OmegaOfTheSurplus, ElectedInAThirdIteration, TieByLots, TwoAtOnce};
 
 /// Iterations worked by hand are the rule's.
 pub fn worked_iterations()
@@ -20,5 +21,12 @@ pub fn worked_iterations()
     ensures keeps_stay_at_election { KeepsStayAtElection }
     ensures tie_at_the_surplus { TieAtTheSurplus }
     ensures elected_are_not_tied { ElectedAreNotTied }
+    ensures overfill_by_lots { OverfillByLots }
+    ensures below_the_quota_is_no_cap { BelowTheQuotaIsNoCap }
+    ensures omega_above_the_surplus { OmegaAboveTheSurplus }
+    ensures omega_of_the_surplus { OmegaOfTheSurplus }
+    ensures elected_in_a_third_iteration { ElectedInAThirdIteration }
+    ensures tie_by_lots { TieByLots }
+    ensures two_at_once { TwoAtOnce }
     ensures three_ballots { ThreeBallots }
 {}

@@ -1,6 +1,6 @@
 // Tests of sheet_check: check tool.
 use crate::memory::{sink_of, words_of};
-use crate::sample::{AT_OMEGA, FILE, sheet};
+use crate::sample::{AT_OMEGA, FILE, TIED, sheet};
 use blt_reader::{FaultKind, InputFault};
 use byte_edge::{MemorySink, MemorySource};
 use sheet_check::check;
@@ -71,6 +71,19 @@ const VERDICTS: [(&str, &[u8], &[u8], &[u8]); 4] = [
 fn a_sheet_gets_the_line_of_its_verdict(rt: HostRuntime) -> Result<(), Fail> {
     for (words, quota, votes, line) in VERDICTS {
         gets(&rt, rt.alloc(), words, (quota, votes), line)?;
+    }
+    Ok(())
+}
+
+#[test]
+fn a_sheet_is_checked_by_the_lots_of_the_words(rt: HostRuntime) -> Result<(), Fail> {
+    let (file, text) = TIED;
+    for (words, line) in [
+        ("--lots 2,1", b"sheet true\n".as_slice()),
+        ("--lots 1,2", b"sheet false at line 11\n"),
+    ] {
+        let due = (End::Done, line);
+        ends(&rt, rt.alloc(), words, (text, file), &[], due)?;
     }
     Ok(())
 }

@@ -19,6 +19,14 @@ round 2 iteration 2\n1 elected 0.571428572 4.000000004\n2 withdrawn 0.000000000 
 quota 4.000000001\nsurplus 0.000000003\nstep defeat 3 tied 3\n\
 result\n1 elected Ann\n2 withdrawn Ben\n3 defeated Cid\n4 elected Dee\nend\n";
 
+/// A ballot file of two candidates who are tied, and its sheet by the lots 2, 1.
+pub(crate) const TIED: (&[u8], &[u8]) = (
+    b"2 1\n1 1 0\n1 2 0\n0\n\"A\"\n\"B\"\n\"T\"\n",
+    b"title T\nseats 1\ncandidates 2\nballots 2\nround 1 iteration 1\n1 hopeful 1.000000000 1.000000000\n\
+2 hopeful 1.000000000 1.000000000\ntotal 2.000000000\nquota 1.000000001\nsurplus 0.000000000\n\
+step defeat 2 tied 1 2\nresult\n1 elected A\n2 defeated B\nend\n",
+);
+
 /// Ballot files of three candidates with their sheets by the lots in number order: in the first a surplus of
 /// 0.000000999 is below omega; in the second one of 0.000001 is not, and is transferred once, which leaves it as
 /// it is.

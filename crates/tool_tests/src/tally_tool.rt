@@ -25,6 +25,10 @@ const CORRECTED: &[u8] =
     b"3 1\n0\n\"A\" \"B\" \"C\" \"T\"\nlots 1 2 3 0\nteam 2\ncorrect 5 1\n2 3 1 0\n1 0\n0\n\
 team 1\nenter 5\n4 1 2 0\n1 2 0\n0\nend\n";
 
+// The roll itself has candidate 1 withdrawn, whose first preferences are counted all the same.
+const ROLL_WITHDRAWN: &[u8] =
+    b"3 1\n-1\n0\n\"A\" \"B\" \"C\" \"T\"\nlots 3 2 1 0\nteam 1\nenter 1\n3 1 2 0\n2 2 0\n0\nend\n";
+
 /// How a run ends that writes into this sink.
 fn end_of(
     rt: &impl Wait,
@@ -59,6 +63,7 @@ fn the_last_totals_are_written(rt: HostRuntime) -> Result<(), Fail> {
         (STRUCK, b"1 3\n2 2\n3 0\n".as_slice()),
         (WITHDRAWN, b"1 0\n2 0\n".as_slice()),
         (CORRECTED, b"1 0\n2 0\n3 2\n".as_slice()),
+        (ROLL_WITHDRAWN, b"1 3\n2 2\n3 0\n".as_slice()),
     ] {
         ends(&rt, rt.alloc(), ("", input), &[], (End::Done, text))?;
     }

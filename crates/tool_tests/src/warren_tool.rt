@@ -1,7 +1,7 @@
 // Whole runs over memory: an election that Meek's rule counts alike, one that it counts otherwise, refusals, and
 // a source or a sink that fails. Expected bytes were worked out by a program that was written from the rule.
 use crate::memory::{sink_of, source_of, words_of};
-use crate::sample::AT_OMEGA;
+use crate::sample::{AT_OMEGA, TIED};
 use blt_reader::{FaultKind, InputFault};
 use byte_edge::MemorySink;
 use std::alloc::Global;
@@ -95,6 +95,14 @@ fn a_surplus_below_omega_is_not_transferred(rt: HostRuntime) -> Result<(), Fail>
         ends(&rt, rt.alloc(), run, (&[], &[]), (End::Done, sheet))?;
     }
     Ok(())
+}
+
+// By the lots 2, 1 candidate 2 is defeated; by the lots 1, 2 it would be candidate 1.
+#[test]
+fn a_tie_is_broken_by_the_lots_of_the_words(rt: HostRuntime) -> Result<(), Fail> {
+    let (file, sheet) = TIED;
+    let run = ("--lots 2,1", file);
+    ends(&rt, rt.alloc(), run, (&[], &[]), (End::Done, sheet))
 }
 
 #[test]

@@ -5,7 +5,7 @@ use std::process::Abort;
 use std::test::Fail;
 
 /// Adds a name at the end.
-fn add(alloc: Global, names: &mut Names, text: &[u8]) -> Result<(), Fail> {
+pub(crate) fn add(alloc: Global, names: &mut Names, text: &[u8]) -> Result<(), Fail> {
     let name = Name::try_new(alloc, text)?;
     if names.push(name).is_err() {
         return Err(Fail::from("no memory"));

@@ -1,5 +1,5 @@
 // Tests of candidate_roll: roll.
-use crate::names::three_names;
+use crate::names::{add, three_names};
 use candidate_roll::{Name, Names, Roll, RollStop};
 use std::alloc::Global;
 use std::process::Abort;
@@ -67,6 +67,25 @@ fn says_why_there_is_no_roll(rt: HostRuntime) -> Result<(), Fail> {
             stop,
             "at {seats} seats"
         );
+    }
+    Ok(())
+}
+
+/// So many names.
+fn names(alloc: Global, len: usize) -> Result<Names, Fail> {
+    let mut names = Names::new(alloc);
+    for _ in 0..len {
+        add(alloc, &mut names, b"A")?;
+    }
+    Ok(names)
+}
+
+#[test]
+fn at_most_250_names_make_a_roll(rt: HostRuntime) -> Result<(), Fail> {
+    for (len, stop) in [(1, None), (250, None), (251, Some(RollStop::BadCount))] {
+        let names = names(rt.alloc(), len)?;
+        let said = stop_of(rt.alloc(), 1, names)?;
+        assert_eq!(rt; (len, said), (len, stop));
     }
     Ok(())
 }

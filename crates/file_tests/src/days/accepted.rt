@@ -8,10 +8,10 @@ use std::process::Abort;
 use std::test::Fail;
 
 /// A call's word and numbers, with a 0 where it has none, and its lines as counts with rankings.
-type DueCall<'a> = (&'a str, [u32; 2], &'a [(u32, &'a [u32])]);
+pub(super) type DueCall<'a> = (&'a str, [u32; 2], &'a [(u32, &'a [u32])]);
 
 /// A team and its calls.
-type DueScript<'a> = (u32, &'a [DueCall<'a>]);
+pub(super) type DueScript<'a> = (u32, &'a [DueCall<'a>]);
 
 /// What a file of two candidates or more says.
 #[derive(Clone, Copy)]
@@ -226,7 +226,7 @@ fn teams_in_any_order(rt: HostRuntime) -> Result<(), Fail> {
 }
 
 /// The places and the omega of a file.
-fn law_of(alloc: Global, file: &[u8]) -> Result<[u32; 2], Fail> {
+pub(super) fn law_of(alloc: Global, file: &[u8]) -> Result<[u32; 2], Fail> {
     let day = read_day(alloc, file)?;
     Ok([day.places, day.omega])
 }
@@ -245,7 +245,12 @@ fn each_number_of_places(rt: HostRuntime) -> Result<(), Fail> {
 }
 
 /// The scripts of a file are these.
-fn calls(rt: &impl Abort, alloc: Global, file: &[u8], due: &[DueScript]) -> Result<(), Fail> {
+pub(super) fn calls(
+    rt: &impl Abort,
+    alloc: Global,
+    file: &[u8],
+    due: &[DueScript],
+) -> Result<(), Fail> {
     let day = read_day(alloc, file)?;
     has_scripts(rt, day.scripts.items(), due);
     Ok(())

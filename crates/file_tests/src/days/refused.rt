@@ -11,7 +11,7 @@ use std::process::Abort;
 use std::test::Fail;
 
 /// Two candidates and their lots, 29 bytes.
-const HEAD: &[u8] = b"2 1\n0\n\"A\" \"B\" \"T\"\nlots 2 1 0\n";
+pub(super) const HEAD: &[u8] = b"2 1\n0\n\"A\" \"B\" \"T\"\nlots 2 1 0\n";
 
 /// Why a file is refused, if it is.
 fn fault_of(alloc: Global, file: &[u8]) -> Result<Option<InputFault>, Fail> {
@@ -45,7 +45,7 @@ fn first_wrong(
 }
 
 /// Each file is refused for this reason at this place.
-fn refused(
+pub(super) fn refused(
     rt: &impl Abort,
     alloc: Global,
     front: &[u8],

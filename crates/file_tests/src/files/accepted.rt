@@ -45,6 +45,23 @@ fn with_the_fewest_tokens(rt: HostRuntime) -> Result<(), Fail> {
     )
 }
 
+// Leading zeros are no part of a number's size, however many there are.
+#[test]
+fn with_numbers_of_eleven_digits(rt: HostRuntime) -> Result<(), Fail> {
+    says(
+        &rt,
+        rt.alloc(),
+        b"00000000002 00000000001\n-00000000002\n00000000003 00000000001 0\n0\n\"A\" \"B\" \"T\"",
+        &Due {
+            seats: 1,
+            withdrawn: &[2],
+            lines: &[(3, &[1])],
+            names: &[b"A", b"B"],
+            title: b"T",
+        },
+    )
+}
+
 // A comment may stand right behind a token, and strings keep what looks like one.
 #[test]
 fn with_lines_that_have_no_meaning(rt: HostRuntime) -> Result<(), Fail> {

@@ -65,9 +65,60 @@ round 2 iteration 3\n1 elected 0.422223 4.222230\n2 hopeful 1.000000 4.000000\n\
 3 hopeful 1.000000 3.000000\ntotal 11.222230\nquota 3.740744\nsurplus 0.740742\nelected 2\nstep elected\n\
 result\n1 elected A\n2 elected B\n3 defeated C\nend\n";
 
+// A team freezes twice, with a correction between, and enters more behind: each sheet is over what stands at its freeze.
+const TWICE_FROZEN: &[u8] =
+    b"2 1\n0\n\"A\" \"B\" \"T\"\nlots 2 1 0\nteam 1\nenter 1\n3 1 0\n0\nfreeze\ncorrect 1 1\n2 2 0\n0\n\
+freeze\nenter 2\n4 1 0\n0\nend\n";
+
+const TWICE_FROZEN_TEXT: &[u8] = b"1 team 1 enter 1 entered\n2 team 1 freeze frozen\n3 team 1 correct 1 1 corrected 2\n\
+4 team 1 freeze frozen\n5 team 1 enter 2 entered\n6 clerk freeze frozen\nsheet 2\ntitle T\nseats 1\n\
+candidates 2\nballots 3\nround 1 iteration 1\n1 hopeful 1.000000000 3.000000000\n\
+2 hopeful 1.000000000 0.000000000\ntotal 3.000000000\nquota 1.500000001\nsurplus 1.499999999\n\
+elected 1\nstep elected\nresult\n1 elected A\n2 defeated B\nend\nsheet 4\ntitle T\nseats 1\n\
+candidates 2\nballots 2\nround 1 iteration 1\n1 hopeful 1.000000000 0.000000000\n\
+2 hopeful 1.000000000 2.000000000\ntotal 2.000000000\nquota 1.000000001\nsurplus 0.999999999\n\
+elected 2\nstep elected\nresult\n1 defeated A\n2 elected B\nend\nsheet 6\ntitle T\nseats 1\n\
+candidates 2\nballots 6\nround 1 iteration 1\n1 hopeful 1.000000000 4.000000000\n\
+2 hopeful 1.000000000 2.000000000\ntotal 6.000000000\nquota 3.000000001\nsurplus 0.999999999\n\
+elected 1\nstep elected\nresult\n1 elected A\n2 defeated B\nend\n";
+
+// A day's own omega of 999 units: a surplus of 999 is transferred once, and does not fall.
+const OWN_OMEGA: &[u8] =
+    b"3 2\n0\n\"A\" \"B\" \"C\" \"T\"\nlots 1 2 3 0\nplaces 9 omega 999\nteam 1\nenter 1\n1000 1 3 0\n\
+600 2 0\n200 3 0\n0\nend\n";
+
+const OWN_OMEGA_TEXT: &[u8] = b"1 team 1 enter 1 entered\n2 clerk freeze frozen\nsheet 2\ntitle T\nseats 2\ncandidates 3\nballots 1800\n\
+round 1 iteration 1\n1 hopeful 1.000000000 1000.000000000\n2 hopeful 1.000000000 600.000000000\n\
+3 hopeful 1.000000000 200.000000000\ntotal 1800.000000000\nquota 600.000000001\nsurplus 399.999999999\n\
+elected 1\nstep elected\nround 2 iteration 1\n1 elected 1.000000000 1000.000000000\n\
+2 hopeful 1.000000000 600.000000000\n3 hopeful 1.000000000 200.000000000\ntotal 1800.000000000\n\
+quota 600.000000001\nsurplus 399.999999999\nstep iterate\nround 2 iteration 2\n\
+1 elected 0.600000001 600.000001000\n2 hopeful 1.000000000 600.000000000\n\
+3 hopeful 1.000000000 599.999999000\ntotal 1800.000000000\nquota 600.000000001\nsurplus 0.000000999\n\
+step iterate\nround 2 iteration 3\n1 elected 0.600000001 600.000001000\n\
+2 hopeful 1.000000000 600.000000000\n3 hopeful 1.000000000 599.999999000\ntotal 1800.000000000\n\
+quota 600.000000001\nsurplus 0.000000999\nstep defeat 3 tied 3\nresult\n1 elected A\n2 elected B\n\
+3 defeated C\nend\n";
+
+// A day at seven places.
+const SEVEN_PLACES: &[u8] =
+    b"3 2\n0\n\"A\" \"B\" \"C\" \"T\"\nlots 1 2 3 0\nplaces 7 omega 1\nteam 1\nenter 1\n1000 1 3 0\n600 2 0\n\
+200 3 0\n0\nend\n";
+
+const SEVEN_PLACES_TEXT: &[u8] = b"1 team 1 enter 1 entered\n2 clerk freeze frozen\nsheet 2\ntitle T\nseats 2\ncandidates 3\nballots 1800\n\
+round 1 iteration 1\n1 hopeful 1.0000000 1000.0000000\n2 hopeful 1.0000000 600.0000000\n\
+3 hopeful 1.0000000 200.0000000\ntotal 1800.0000000\nquota 600.0000001\nsurplus 399.9999999\nelected 1\n\
+step elected\nround 2 iteration 1\n1 elected 1.0000000 1000.0000000\n2 hopeful 1.0000000 600.0000000\n\
+3 hopeful 1.0000000 200.0000000\ntotal 1800.0000000\nquota 600.0000001\nsurplus 399.9999999\n\
+step iterate\nround 2 iteration 2\n1 elected 0.6000001 600.0001000\n2 hopeful 1.0000000 600.0000000\n\
+3 hopeful 1.0000000 599.9999000\ntotal 1800.0000000\nquota 600.0000001\nsurplus 0.0000999\n\
+step iterate\nround 2 iteration 3\n1 elected 0.6000001 600.0001000\n2 hopeful 1.0000000 600.0000000\n\
+3 hopeful 1.0000000 599.9999000\ntotal 1800.0000000\nquota 600.0000001\nsurplus 0.0000999\n\
+step defeat 3 tied 3\nresult\n1 elected A\n2 elected B\n3 defeated C\nend\n";
+
 // Words, a day, its number of calls, and its text in parts. A team is answered, and its ballots are counted
 // at each freeze; a struck candidate is withdrawn from then on; and a day is counted at its own places.
-const DAYS: [(&str, &[u8], usize, &[&[u8]]); 6] = [
+const DAYS: [(&str, &[u8], usize, &[&[u8]]); 9] = [
     (
         "day",
         ONE_TEAM,
@@ -96,6 +147,9 @@ const DAYS: [(&str, &[u8], usize, &[&[u8]]); 6] = [
     ("day --shards 1 --workers 1", STRUCK, 5, &[STRUCK_TEXT]),
     ("day --shards 64 --workers 32", STRUCK, 5, &[STRUCK_TEXT]),
     ("day", SIX_PLACES, 2, &[SIX_PLACES_TEXT]),
+    ("day", TWICE_FROZEN, 6, &[TWICE_FROZEN_TEXT]),
+    ("day", OWN_OMEGA, 2, &[OWN_OMEGA_TEXT]),
+    ("day", SEVEN_PLACES, 2, &[SEVEN_PLACES_TEXT]),
 ];
 
 #[test]

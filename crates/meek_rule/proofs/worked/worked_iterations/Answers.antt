@@ -1,5 +1,6 @@
 use Rattle.meek_rule.proofs.WorkedHolds.{CappedKeep-holds, Overfill-holds, SurplusOfOmega-holds, SurplusBelowOmega-holds, SurplusNotFalling-holds, SurplusFalling-holds, TieWithinSurplus-holds, ThreeBallots-holds}
 use Rattle.meek_rule.proofs.WorkedEdgesHold.{RoundedUpTwice-holds, NoVotesSameKeep-holds, OneWholeVoteIsNoCap-holds, CappedFromBelowOne-holds, OverfillByVotes-holds, KeepsStayAtElection-holds, TieAtTheSurplus-holds, ElectedAreNotTied-holds}
+use Rattle.meek_rule.proofs.WorkedStepsHold.{OverfillByLots-holds, BelowTheQuotaIsNoCap-holds, OmegaAboveTheSurplus-holds, OmegaOfTheSurplus-holds, ElectedInAThirdIteration-holds, TieByLots-holds, TwoAtOnce-holds}
 use Rattle.meek_rule.proofs.worked.worked_iterations.Goals as goal
 
 pub returns-clause-capped_keep : goal.returns-clause-capped_keep
@@ -49,3 +50,24 @@ returns-clause-tie_at_the_surplus c = TieAtTheSurplus-holds
 
 pub returns-clause-elected_are_not_tied : goal.returns-clause-elected_are_not_tied
 returns-clause-elected_are_not_tied c = ElectedAreNotTied-holds
+
+pub returns-clause-overfill_by_lots : goal.returns-clause-overfill_by_lots
+returns-clause-overfill_by_lots c = OverfillByLots-holds
+
+pub returns-clause-below_the_quota_is_no_cap : goal.returns-clause-below_the_quota_is_no_cap
+returns-clause-below_the_quota_is_no_cap c = BelowTheQuotaIsNoCap-holds
+
+pub returns-clause-omega_above_the_surplus : goal.returns-clause-omega_above_the_surplus
+returns-clause-omega_above_the_surplus c = OmegaAboveTheSurplus-holds
+
+pub returns-clause-omega_of_the_surplus : goal.returns-clause-omega_of_the_surplus
+returns-clause-omega_of_the_surplus c = OmegaOfTheSurplus-holds
+
+pub returns-clause-elected_in_a_third_iteration : goal.returns-clause-elected_in_a_third_iteration
+returns-clause-elected_in_a_third_iteration c = ElectedInAThirdIteration-holds
+
+pub returns-clause-tie_by_lots : goal.returns-clause-tie_by_lots
+returns-clause-tie_by_lots c = TieByLots-holds
+
+pub returns-clause-two_at_once : goal.returns-clause-two_at_once
+returns-clause-two_at_once c = TwoAtOnce-holds
