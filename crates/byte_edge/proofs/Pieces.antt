@@ -11,9 +11,6 @@ pub record IsWrittenUpTo (old new : Option (List ℕ)) (all rest : List ℕ) : T
   pub split : all ≡ front ++ rest
   pub appended : Appends old new front
 
-pub nothing_yet : (old : Option (List ℕ)) (all : List ℕ) → IsWrittenUpTo old old all all
-nothing_yet old all = record { front = []; split = refl; appended = Appends-nil old }
-
 pub next_piece : (old mid new : Option (List ℕ)) (all rest : List ℕ) (n : ℕ) → IsWrittenUpTo old mid all rest → Appends mid new (take n rest) → IsWrittenUpTo old new all (drop n rest)
 next_piece old mid new all rest n so_far piece = record {
   front = so_far.front ++ take n rest;

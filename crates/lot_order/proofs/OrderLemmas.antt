@@ -19,14 +19,6 @@ AreLots-more n order i sound below some few new = record {
   different = rw (take_more order i 0 below) (all_pairs_push (λ (a b : ℕ). a ≢ b) (take i order) (get_or order i 0) sound.different (λ k d inside same. new (subst (Contains (take i order)) same (Contains-get_or (take i order) k d inside))));
 }
 
--- no marks, nobody in the order
-pub Sees-nil : (n : ℕ) → Sees (replicate n false) []
-Sees-nil n = record {
-  marked = λ p below marked. absurd (let below_n : p < n = omega (arith, length-replicate n false) in let e = get_or-replicate n p false false below_n in cc);
-  unmarked = λ p below unmarked found. omega (arith, found.1);
-  as_many = sum_by-replicate (λ (mark : Bool). cond mark 1 0) n false ∙ mul-zero n;
-}
-
 -- who stands in an order that grows by c, other than c, stood in it before
 stood_before : (order : List ℕ) (c d : ℕ) → c ≢ d → Contains (order ++ c ∷ []) d → Contains order d
 stood_before order c d other found =

@@ -23,12 +23,6 @@ digit_below_ten d h =
     let r = in_range d h in
     omega (arith, digit_value_digit d r)
 
-pub digits_from_pass : (ds : List ℕ) → AllPass is_ascii_digit ds → AllDigits 10 ds
-digits_from_pass [] h = tt
-digits_from_pass (d ∷ ds) h =
-    let P : ℕ → Type 0 = λ b. is_ascii_digit b ≡ true in
-    (digit_below_ten d (All-head P d ds h), digits_from_pass ds (All-tail P d ds h))
-
 pub pass_from_digits : (ds : List ℕ) → AllDigits 10 ds → AllPass is_ascii_digit ds
 pass_from_digits [] h = All-nil (λ b. is_ascii_digit b ≡ true)
 pass_from_digits (d ∷ ds) h =

@@ -67,10 +67,6 @@ sum_of_marks true false apart = refl
 sum_of_marks false true apart = refl
 sum_of_marks false false apart = refl
 
-mark_le_one : (b : Bool) → cond b 1 0 ≤ 1
-mark_le_one true = omega arith
-mark_le_one false = omega arith
-
 pub once_more : (old new : Stood) (done : List Part) (part : Part) → StoodOnce old done → stands old (option_of part) ≡ false
     → ((other : Option OptionName) → stands new other ≡ (stands old other || same_option other (option_of part))) → StoodOnce new (done ++ part ∷ [])
 once_more old new done part once first noted option =
@@ -88,13 +84,6 @@ twice stood done behind part once again few =
     count_push option done part ∙ ap (λ b. length (values_of option done) + cond b 1 0) (same_option-refl option) in
     let all = ap length (values_of-append option (done ++ part ∷ []) behind) ∙ length-append (values_of option (done ++ part ∷ [])) (values_of option behind) in
     omega (arith, one, two, all, few)
-
-pub parts_from_front : (words : List Word) (done : List Part) (rest : List Word) (stood : Stood) → IsFront words done rest → StoodOnce stood done → rest ≡ [] → AreParts words done
-parts_from_front words done rest stood front once end = record {
-  spelled = front.spelled ∙ ap (λ words. flat_map words_of done ++ words) end ∙ append-nil (flat_map words_of done);
-  values = front.values;
-  once = λ option. subst (λ n. n ≤ 1) (sym (once option)) (mark_le_one (stands stood option));
-}
 
 -- what is left behind a front of parts is parts
 pub parts_left : (words : List Word) (done parts : List Part) (rest : List Word) → IsFront words done rest → AreParts words parts

@@ -131,13 +131,6 @@ rankings_below m front c n inner all =
     let here = All-right (λ r. IsRanking m (front ++ c ∷ r)) (replicate n []) inner (All-unmap (λ r. IsRanking m (front ++ r)) (λ (r : List ℕ). c ∷ r) (replicate n [] ++ inner) all) in
     λ k d inside. subst (IsRanking m) (sym (append_assoc front (c ∷ []) (get_or inner k d))) (here k d inside)
 
--- and at it
-pub ranking_here : (m : ℕ) (front : List ℕ) (c n : ℕ) (inner : List (List ℕ)) → All (λ r. IsRanking m (front ++ r)) (below c n inner) → 1 ≤ n → IsRanking m (front ++ c ∷ [])
-ranking_here m front c n inner all some =
-    let here = All-left (λ r. IsRanking m (front ++ c ∷ r)) (replicate n []) inner (All-unmap (λ r. IsRanking m (front ++ r)) (λ (r : List ℕ). c ∷ r) (replicate n [] ++ inner) all) in
-    let many = length-replicate {A = List ℕ} n [] in
-    subst (λ (r : List ℕ). IsRanking m (front ++ c ∷ r)) (get_or-replicate n 0 [] [] (omega arith)) (here 0 [] (omega arith))
-
 pub count-push : (lines : List BallotLine) (n : ℕ) (r : List ℕ) → ballot_count (lines ++ line_of n r) ≡ ballot_count lines + n
 count-push lines n r = omega (arith, sum_by-append (λ (l : BallotLine). l.count) lines (line_of n r), count-line_of n r)
 

@@ -1,10 +1,9 @@
 // The index of a shard's batches.
-ghost use Rattle.std.specs.Prelude.{◌≡◌, ℕ, ◌≤◌, ◌==◌, if◌then◌else◌, nat_eq, option_map, IfSome, OnOk};
+ghost use Rattle.std.specs.Prelude.{◌≡◌, ℕ, ◌≤◌, ◌==◌, if◌then◌else◌, nat_eq, option_map, IfSome};
 ghost use Rattle.indexmap.specs.IndexMap.{get, spare};
 ghost use Rattle.batch_core.specs.Book.{batch_of, change_reply};
 ghost use Rattle.shard_book.specs.Rows.{outline, index_after, standing_place};
 
-use crate::NoMemory;
 use crate::row::Row;
 use batch_core::{Change, Reply};
 use indexmap::IndexMap;
@@ -16,17 +15,6 @@ pub(crate) fn standing_place(index: &IndexMap<u32, Row>, batch: u32) -> Option<u
     match index.get(&batch) {
         Some(row) => row.place,
         None => None,
-    }
-}
-
-/// Makes room for a batch that was not entered yet.
-pub(crate) fn reserve_row(index: &mut IndexMap<u32, Row>) -> Result<(), NoMemory>
-    ensures rows { (b : ℕ) → get nat_eq index.new b ≡ get nat_eq index.old b }
-    ensures room { OnOk result (1 ≤ spare index.new) }
-{
-    match index.reserve(1) {
-        Ok(()) => Ok(()),
-        Err(_) => Err(NoMemory),
     }
 }
 

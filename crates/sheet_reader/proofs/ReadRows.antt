@@ -82,13 +82,6 @@ pub record AreReadUpTo (n : ℕ) (lines : List (List ℕ)) (rows : List Row) (le
       → lines ≡ rows_lines 9 others ++ codes "result" ∷ rest
       → (more : List Row) × All (IsPrintableRow 9 n) more × (left ≡ rows_lines 9 more ++ codes "result" ∷ rest)
 
-pub none_read : (n : ℕ) (lines : List (List ℕ)) → AreReadUpTo n lines [] lines
-none_read n lines = record {
-  printable = All-nil (IsPrintableRow 9 n);
-  read = refl;
-  whole = λ others rest all e. (others, all, e);
-}
-
 -- Where no line of the result comes next, an iteration does.
 row_next : (n : ℕ) (left : List (List ℕ)) (more : List Row) (rest : List (List ℕ)) → All (IsPrintableRow 9 n) more
     → ((rest : List (List ℕ)) → left ≢ codes "result" ∷ rest) → left ≡ rows_lines 9 more ++ codes "result" ∷ rest

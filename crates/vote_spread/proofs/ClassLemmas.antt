@@ -22,18 +22,6 @@ passes_zero s k is = elim (cases_eq k 0) [
       ]
 ]
 
-keeps_whole : (s k : ℕ) → class_of s k ≡ Keeps → k ≡ s
-keeps_whole s k is = elim (cases_eq k s) [
-  | inl all ↦ all
-  | inr less ↦
-      let shares : cond (k == s) Keeps Shares ≡ Shares = ap (λ b. cond b Keeps Shares) (ne_eqb k s less) in
-      let other : class_of s k ≡ cond (k == 0) Passes Shares = ap (λ c. cond (k == 0) Passes c) shares in
-      elim (cases_eq k 0) [
-        | inl none ↦ let passes : cond (k == 0) Passes Shares ≡ Passes = ap (λ b. cond b Passes Shares) (eq-eqb k 0 none) in absurd (cc)
-        | inr some ↦ let no : cond (k == 0) Passes Shares ≡ Shares = ap (λ b. cond b Passes Shares) (ne_eqb k 0 some) in absurd (cc)
-      ]
-]
-
 -- a candidate has the class of its keep value
 class_at : (s : ℕ) (keeps : List ℕ) (classes : List Class) (i : ℕ) (d : Class) → AreOf s keeps classes → i < length classes → class_of s (get_or keeps i 0) ≡ get_or classes i d
 class_at s keeps classes i d are lt =
@@ -46,12 +34,3 @@ passed s keeps classes w r d are lt is =
     let none : get_or keeps (r - 1) 0 ≡ 0 = passes_zero s (get_or keeps (r - 1) 0) (class_at s keeps classes (r - 1) d are lt ∙ is) in
     let zero : w * 0 ≡ 0 = omega arith in
     ap (λ k. up s w k) none ∙ (ap (λ n. div_ceil n s) zero ∙ omega (arith, div-eq_of_lt {n = 0} {m = s} are.whole, mod-eq_of_lt {n = 0} {m = s} are.whole))
-
--- one that keeps the whole leaves nothing
-pub all_kept : (s : ℕ) (keeps : List ℕ) (classes : List Class) (w r : ℕ) (d : Class) → AreOf s keeps classes → r - 1 < length classes → get_or classes (r - 1) d ≡ Keeps → w - kept s keeps w r ≡ 0
-all_kept s keeps classes w r d are lt is =
-    let whole : get_or keeps (r - 1) 0 ≡ s = keeps_whole s (get_or keeps (r - 1) 0) (class_at s keeps classes (r - 1) d are lt ∙ is) in
-    let same : s - s ≡ 0 = omega arith in
-    let nothing : w * (s - s) ≡ 0 = ap (λ n. w * n) same ∙ omega arith in
-    ap (λ k. w - up s w k) whole
-    ∙ (sym (left-share s w s are.whole (omega arith)) ∙ (ap (λ n. n / s) nothing ∙ zero-div s))

@@ -120,12 +120,3 @@ sum-drop_zeros xs a (suc t) none =
       | inr le ↦ ap sum (drop_all a xs le ∙ sym (drop_all (a + 1) xs (omega arith)))
     ] in
     first ∙ (sum-drop_zeros xs (a + 1) t (λ k over under. none k (omega arith) (omega arith)) ∙ ap (λ n. sum (drop n xs)) (omega arith))
-
--- there is room for what the next candidate of some ballots keeps
-pub next_fits : (s : ℕ) (keeps : List ℕ) (w : ℕ) (ranks : List ℕ) (i c count now whole room : ℕ) → i < length ranks → get_or ranks i 0 ≡ c → now + count * given s keeps w (drop i ranks) c ≡ whole → whole ≤ room → now + count * kept s keeps w (get_or ranks i 0) ≤ room
-next_fits s keeps w ranks i c count now whole room below at missing fits =
-    let k = kept s keeps w (get_or ranks i 0) in
-    let behind = given s keeps (w - k) (drop (i + 1) ranks) c in
-    let split : count * given s keeps w (drop i ranks) c ≡ count * k + count * behind =
-    ap (λ n. count * n) (given-here s keeps w ranks i c below at) ∙ mul-add count k behind in
-    omega arith

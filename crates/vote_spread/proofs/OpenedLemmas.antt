@@ -118,6 +118,3 @@ may_open d c nodes e some are alone =
       known = omega (arith, k.1.0);
       shallow = omega (arith, k.1.1);
     }
-
-pub some_rows : (c : ℕ) (nodes : List (List PlanRow)) → All (IsAlone c) nodes → All (λ rows. 1 ≤ length rows) nodes
-some_rows c nodes alone k e inside = (alone k e inside).some

@@ -62,9 +62,3 @@ put_leaves Shares classes at candidate ballots old new put some =
     subst (λ (l : List Stem). Leaves classes at candidate (seen old) l (Some (at + 1))) (sym (pushed old new row (put.stands refl)))
     (omega arith, omega arith, λ s keeps are. row_leaves s keeps at candidate ballots (seen old) put.depth)
 put_leaves Keeps classes at candidate ballots old new put some = absurd (false≢true some)
-
-pub put_ends : (x : Class) (classes : List Class) (at candidate ballots : ℕ) (old new : List Row) → IsPut x classes at candidate ballots old new → leaves_some x ≡ false → Leaves classes at candidate (seen old) (seen new) None
-put_ends Passes classes at candidate ballots old new put none = absurd (false≢true (sym none))
-put_ends Shares classes at candidate ballots old new put none = absurd (false≢true (sym none))
-put_ends Keeps classes at candidate ballots old new put none =
-    λ s keeps are. all_kept s keeps classes _ candidate _ are (omega (arith, put.number, put.known)) (put.class Keeps)
