@@ -23,17 +23,6 @@ pub record IsMerging {S : Type 0} (w : S → Option (List ℕ)) (f : S → ℕ) 
   pub so_far : (rest : List BallotLine) → AreLinesOf (all_plain now) rest → AreLinesOf (all_plain old) (done ++ rest)
   pub wrote : Wrote w f a b (flat_map ballot_text done)
 
-pub merging_begun :
-    {S : Type 0} (w : S → Option (List ℕ)) (f : S → ℕ) (a : S) (old : List (List BallotLine)) → length (all_plain old) ≤ 999999999
-    → AreInOrder old → IsMerging w f a a old old
-merging_begun w f a old few order = record {
-  few = few;
-  order = order;
-  done = [];
-  so_far = λ rest are. are;
-  wrote = wrote_nothing w f a;
-}
-
 -- the line of a ranking and its number of ballots
 abbrev pub line : (count : ℕ) → (ranking : List ℕ) → BallotLine
 line n r = record { count = n; ranking = r }

@@ -108,10 +108,6 @@ module _ (packed : List ℕ) (entries : List Entry) (line : BallotLine) (sound :
   one_line_more ranks more ranks_are entries_are =
       ap (λ (p : List ℕ). entry_lines p more) ranks_are ∙ (ap (entry_lines ranks_then) entries_are ∙ lines_then)
 
--- what a ranking of few candidates has
-pub of_few : (n : ℕ) (ranking : List ℕ) → n ≤ 250 → IsRanking n ranking → All IsCandidate ranking
-of_few n ranking few is = All-weaker (λ (c : ℕ). (1 ≤ c) × (c ≤ n)) IsCandidate (λ c numbered. (numbered.0, omega (arith, numbered.1, few))) ranking is.numbers
-
 -- The lines of entries, in whatever order the entries stand.
 pub same_entry_lines : (packed : List ℕ) (entries now : List Entry) → IsPermutation entries now → IsPermutation (entry_lines packed entries) (entry_lines packed now)
 same_entry_lines packed entries now moved = IsPermutation-map (line_of packed) entries now moved

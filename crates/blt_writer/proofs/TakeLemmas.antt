@@ -57,13 +57,6 @@ rest_behind (row ∷ behind) is = record { nodes = is.nodes.1; below_root = belo
 pub rising_plan : (n : ℕ) (rows : List PlanRow) → IsPlan n rows → (path : List ℕ) → length path ≡ 250 → AllPairs StandsBefore (lines_from path rows)
 rising_plan n rows plan path long = subst (AllPairs StandsBefore) (sym (plan_is n rows plan path long)) (root_first _ n 0 1 _ plan.grown)
 
--- whose next ranking is ahead
-pub ahead_is : (one other : List BallotLine) (a b : List ℕ) → IsHead a one → IsHead b other → is_lt (order a b) ≡ is_ahead one other
-ahead_is [] other a b first second = absurd first
-ahead_is (x ∷ xs) [] a b first second = absurd second
-ahead_is (x ∷ xs) (y ∷ ys) a b first second =
-    ap (λ (r : List ℕ). is_lt (order r b)) first ∙ ap (λ (r : List ℕ). is_lt (order x.ranking r)) second
-
 -- ---- the same of the rows as they are cut from a plan
 
 cut_is : (rows whole : List PlanRow) (at : ℕ) → rows ≡ whole → take (length rows - at) (drop at rows) ≡ drop at whole

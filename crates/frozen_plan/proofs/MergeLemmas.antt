@@ -10,12 +10,6 @@ use Rattle.frozen_plan.proofs.RunLemmas.{nothing, rest_none, rest_more, length-r
 
 -- ---- equal rankings
 
--- where both have one candidate, what stands behind it decides
-pub same_so_far : (bytes : List ℕ) (at c : ℕ) (one other : Placed) → rank_of bytes at one ≡ c → rank_of bytes at other ≡ c → 1 ≤ c
-    → rest_of bytes (at + 1) one ≡ rest_of bytes (at + 1) other → rest_of bytes at one ≡ rest_of bytes at other
-same_so_far bytes at c one other here there some behind =
-    rest_more bytes at c one here some ∙ (ap (λ (r : List ℕ). c ∷ r) behind ∙ sym (rest_more bytes at c other there some))
-
 -- and where both end, they are equal
 pub same_end : (bytes : List ℕ) (at : ℕ) (one other : Placed) → rank_of bytes at one ≡ 0 → rank_of bytes at other ≡ 0 → rest_of bytes at one ≡ rest_of bytes at other
 same_end bytes at one other here there = rest_none bytes at one here ∙ sym (rest_none bytes at other there)

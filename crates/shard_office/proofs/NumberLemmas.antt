@@ -18,13 +18,6 @@ has_below p b (q ∷ qs) f h = ⊎_elim
     let lt = f.1 in (below.0, omega arith))
     (eqb_tells p q)
 
-has_not : (p b : ℕ) (qs : List ℕ) → AreFalling b qs → b ≤ p → has p qs ≡ false
-has_not p b [] f le = refl
-has_not p b (q ∷ qs) f le =
-    let lt = f.1 in
-    let ne : p ≢ q = λ e. omega arith in
-    ap (λ c. c || has p qs) (ne_eqb p q ne) ∙ has_not p q qs f.2 (omega arith)
-
 without_none : (p b : ℕ) (qs : List ℕ) → AreFalling b qs → b ≤ p → without p qs ≡ qs
 without_none p b [] f le = refl
 without_none p b (q ∷ qs) f le =

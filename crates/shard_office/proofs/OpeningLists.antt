@@ -20,16 +20,6 @@ use Rattle.shard_office.proofs.Lists.{read_at}
 use Rattle.shard_office.proofs.TurnLists.{get_push, get_front, get_last, same_place}
 use Rattle.shard_office.proofs.Places.{map-push}
 
-pub none_opened : (shards candidates : ℕ) (locks ties : List TableId) (seats : List ShardSeat) (halves : List SeenHalf) → locks ≡ [] → ties ≡ [] → seats ≡ [] → halves ≡ [] → AreOpened shards candidates 0 locks ties seats halves
-none_opened shards candidates locks ties seats halves l t s h = record {
-  locks_are = ap length l;
-  ties_are = ap length t;
-  seats_are = ap length s;
-  opened = λ i x e. absurd (let lt = get_lt seats i x e in let n = ap length s in omega arith);
-  halves_are = ap ties_of h ∙ sym t;
-  unnumbered = λ i x e. absurd (let lt = get_lt halves i x e in let n = ap length h in omega arith);
-}
-
 pub opened_more : (shards candidates n : ℕ) (locks ties : List TableId) (seats : List ShardSeat) (halves : List SeenHalf) (lock tie : TableId) → AreOpened shards candidates n locks ties seats halves
     → AreOpened shards candidates (n + 1) (locks ++ lock ∷ []) (ties ++ tie ∷ []) (seats ++ first_sight lock (Some (record { shard = n + 1; shards = shards; candidates = candidates; tie = tie })) ∷ []) (halves ++ record { tie = tie; number = 0 } ∷ [])
 opened_more shards candidates n locks ties seats halves lock tie are =

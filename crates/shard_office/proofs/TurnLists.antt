@@ -65,13 +65,6 @@ held_more held seats n x y v are len at is i w s ev es = ⊎_elim
     (get_set seats n i y s es))
     (get_push held v i w ev)
 
-pub none_taken : (seats : List ShardSeat) → TookTurns 0 seats seats
-none_taken seats = record {
-  len = refl;
-  taken = λ i x y lt. absurd (omega arith);
-  others = λ i le. refl;
-}
-
 pub taken_more : (n : ℕ) (olds news after : List ShardSeat) → TookTurns n olds news → length after ≡ length news
     → ((x y : ShardSeat) → slice_get news n ≡ Some x → slice_get after n ≡ Some y → Took x y) → ((i : ℕ) → i ≢ n → slice_get after i ≡ slice_get news i) → TookTurns (n + 1) olds after
 taken_more n olds news after have len here beside = record {
@@ -83,13 +76,6 @@ taken_more n olds news after have len here beside = record {
       here x y (have.others n (omega arith) ∙ (ap (slice_get olds) (sym is) ∙ ex)) (ap (slice_get after) (sym is) ∙ ey))
       (cases_lt i n);
   others = λ i le. beside i (λ e. omega arith) ∙ have.others i (omega arith);
-}
-
-pub none_given : (seats : List ShardSeat) (n : ℕ) → length seats ≤ n → GaveTurns n seats seats
-none_given seats n few = record {
-  len = refl;
-  given = λ i x y le ex ey. absurd (let lt = get_lt seats i x ex in omega arith);
-  others = λ i lt. refl;
 }
 
 pub given_more : (n : ℕ) (olds news after : List ShardSeat) → GaveTurns (n + 1) olds news → length after ≡ length news

@@ -13,13 +13,6 @@ end_fits input at stands =
 pub nowhere : (input : List ℕ) → ((k : ℕ) → k < length input → ¬ HasEndAt input k) → HasNoEnd input
 nowhere input none at stands = none at (omega (arith, end_fits input at stands)) stands
 
--- no line begins behind another byte
-pub not_started : (input : List ℕ) (at : ℕ) → 0 < at → slice_index input (at - 1) ≢ 10 → ¬ HasEndAt input at
-not_started input at some other stands = elim stands.starts [
-  | inl front ↦ absurd (omega (arith, some, front))
-  | inr behind ↦ other behind
-]
-
 -- the split at the first such line
 pub split_at_end : (input : List ℕ) (at : ℕ) → HasEndAt input at → ((k : ℕ) → k < at → ¬ HasEndAt input k) → IsSplit input (take (at + 4) input) (drop (at + 4) input)
 split_at_end input at stands none =

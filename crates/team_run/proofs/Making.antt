@@ -58,12 +58,6 @@ made_first office caller calls left pass next versions m same none = record {
   calls = m.whole ∙ ap (λ (o : List Entry). calls_of o ++ reverse left) (sym none);
 }
 
--- no call is left
-pub made_all : (office : OfficeState) (caller : ℕ) (calls left : List Call) (pass : PassState) (versions : List VersionState)
-    → IsMaking office caller calls left pass versions → left ≡ [] → calls_of (own pass) ≡ calls
-made_all office caller calls left pass versions m is =
-    sym (m.whole ∙ (ap (λ (l : List Call). calls_of (own pass) ++ reverse l) is ∙ append-nil (calls_of (own pass))))
-
 pub begun_all : (office : OfficeState) (caller : ℕ) (calls left : List Call) (pass : PassState) (versions : List VersionState)
     → IsMaking office caller calls left pass versions → left ≡ [] → HasBegun pass (record { team = caller; calls = calls })
 begun_all office caller calls left pass versions m is = record {

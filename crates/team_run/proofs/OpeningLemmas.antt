@@ -39,10 +39,6 @@ next_rises : (office : OfficeState) (old new : ClerkState) (scripts left rest : 
     → IsOpening office old scripts left new teams → left ≡ rest ++ script ∷ [] → RisesFrom new.last_caller (script ∷ reverse rest)
 next_rises office old new scripts left rest script teams o is = subst (RisesFrom new.last_caller) (turned_last left rest script is) o.rises
 
-pub next_above : (office : OfficeState) (old new : ClerkState) (scripts left rest : List Script) (script : Script) (teams : List Team)
-    → IsOpening office old scripts left new teams → left ≡ rest ++ script ∷ [] → new.last_caller < script.team
-next_above office old new scripts left rest script teams o is = (next_rises office old new scripts left rest script teams o is).0
-
 pub next_can : (office : OfficeState) (old new : ClerkState) (scripts left rest : List Script) (script : Script) (teams : List Team)
     → IsOpening office old scripts left new teams → left ≡ rest ++ script ∷ [] → All (IsAnswerable office.candidates) script.calls
 next_can office old new scripts left rest script teams o is =
@@ -74,14 +70,3 @@ opening_more office old now new scripts left rest script teams more team o is gi
       rises = subst (λ (n : ℕ). RisesFrom n (reverse rest)) (sym given.last_caller) (next_rises office old now scripts left rest script teams o is).1;
       answerable = (All-split (CanAnswer office) rest script (subst (All (CanAnswer office)) is o.answerable)).0;
     }
-
--- a pass was refused
-pub opening_same : (office : OfficeState) (old now new : ClerkState) (scripts left : List Script) (teams more : List Team)
-    → IsOpening office old scripts left now teams → new ≡ now → more ≡ teams → HasOpened office old scripts new more
-opening_same office old now new scripts left teams more o clerk same =
-    subst (λ (k : ClerkState). HasOpened office old scripts k more) (sym clerk) (subst (HasOpened office old scripts now) (sym same) o.opened)
-
-pub opening_all : (office : OfficeState) (old new : ClerkState) (scripts left : List Script) (teams : List Team)
-    → IsOpening office old scripts left new teams → left ≡ [] → map asked teams ≡ scripts
-opening_all office old new scripts left teams o none =
-    sym (o.whole ∙ (ap (λ (l : List Script). map asked teams ++ reverse l) none ∙ append-nil (map asked teams)))

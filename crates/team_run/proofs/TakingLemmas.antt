@@ -49,11 +49,6 @@ taking_none office old teams left versions of many none is = record {
   versions_are = λ whole. (none, All-nil IsWhole);
 }
 
-pub next_of_office : (office : OfficeState) (old now : ClerkState) (teams left rest : List Team) (team : Team) (versions : List VersionState) (whole : Bool)
-    → IsTaking office old teams left now versions whole → left ≡ rest ++ team ∷ [] → team.pass.office ≡ office
-next_of_office office old now teams left rest team versions whole t is =
-    (All-split (IsOfOffice office) rest team (subst (All (IsOfOffice office)) is t.of_office)).1
-
 pub taking_more : (office : OfficeState) (old now new : ClerkState) (teams left rest : List Team) (team : Team) (versions more : List VersionState) (whole then : Bool)
     → IsTaking office old teams left now versions whole → left ≡ rest ++ team ∷ [] → IsSameClerk now new → new.taken ≡ now.taken ++ team.pass ∷ []
     → new.open_teams + 1 ≡ now.open_teams
@@ -81,20 +76,3 @@ taking_more office old now new teams left rest team versions more whole then t i
         All-push IsWhole t.done team before.1 a.1,
       );
 }
-
-pub taken_all : (office : OfficeState) (old new : ClerkState) (teams left : List Team) (versions : List VersionState) (whole : Bool)
-    (t : IsTaking office old teams left new versions whole) → left ≡ [] → t.done ≡ teams
-taken_all office old new teams left versions whole t none =
-    sym (t.parts ∙ (ap (λ (l : List Team). t.done ++ reverse l) none ∙ append-nil t.done))
-
-pub passes_taken : (office : OfficeState) (old new : ClerkState) (teams left : List Team) (versions : List VersionState) (whole : Bool)
-    → IsTaking office old teams left new versions whole → left ≡ [] → new.taken ≡ old.taken ++ passes_of teams
-passes_taken office old new teams left versions whole t none =
-    t.taken ∙ ap (λ (l : List Team). old.taken ++ passes_of l) (taken_all office old new teams left versions whole t none)
-
-pub versions_taken : (office : OfficeState) (old new : ClerkState) (teams left : List Team) (versions : List VersionState) (whole : Bool)
-    → IsTaking office old teams left new versions whole → left ≡ [] → whole ≡ true
-    → (versions ≡ flat_map versions_of teams) × All (λ team. team.refused ≡ false) teams
-versions_taken office old new teams left versions whole t none fine =
-    subst (λ (l : List Team). (versions ≡ flat_map versions_of l) × All (λ team. team.refused ≡ false) l)
-    (taken_all office old new teams left versions whole t none) (t.versions_are fine)

@@ -31,12 +31,6 @@ freezes_more old new call is =
     let parts = count_append (calls_of (own old)) (call ∷ []) in
     omega (arith, both, parts)
 
-pub no_freeze_more : (old new : PassState) (call : Call) → is_freeze call ≡ false → calls_of (own new) ≡ calls_of (own old) ++ call ∷ [] → freezes_of new ≡ freezes_of old
-no_freeze_more old new call none is =
-    let more = freezes_more old new call is in
-    let no_freeze : once (is_freeze call) ≡ once false = ap once none in
-    omega (arith, more, no_freeze)
-
 pub still_at_work : VersionsStay → (old new : PassState) (versions : List VersionState) → IsSamePass old new → freezes_of new ≡ freezes_of old → IsAtWork old versions → IsAtWork new versions
 still_at_work stay old new versions same none work = record {
   as_many = work.as_many ∙ sym none;
