@@ -1,6 +1,10 @@
 -- Orderly counts are proportional.
 use Rattle.std.proofs.Common.{◌≡◌, ℕ, ◌+◌, ◌-◌, ◌*◌, ◌<◌, ◌≤◌, ◌&&◌, not, Bool, true, false, cond, List, ◌++◌, length, get_or, sum, All, arith, refl, ap}
-use Rattle.std.proofs.Common.{sym, subst, ◌∙◌, ◌||◌}
+use Rattle.std.proofs.Common.{sym, subst, ◌∙◌, ◌||◌, ◌/◌, inl, inr, zero, suc, lit≤}
+use Rattle.std.proofs.Math.Nat.{pow-suc, mul_comm, mul-le-mul_left, mul-le-mul_right, lt_of_mul-lt-mul_right, div-mul-le_self}
+use Rattle.std.proofs.lemmas.Bool.{cases_eq}
+use Rattle.std.proofs.lemmas.List.{length-append}
+use Rattle.std.proofs.lemmas.List.Sorted.{length_permutation}
 use Rattle.std.specs.List.Sorted.{IsPermutation}
 use Rattle.fixed_place.specs.Rounding.{scale}
 use Rattle.candidate_roll.specs.Roll.{RollList}
@@ -134,3 +138,48 @@ count-orderly rule places units ballots coalition others roll lots rows last mem
     (omega (arith, running, count-total n (λ p. mark_at members p && not (mark_at roll.withdrawn p))))
     (shares_enough (scale places) (length ballots) (length coalition) k (u + d) (roll.seats + 1) (omega arith) small more) in
     omega (arith, members-total n members last)
+
+-- HUNDREDTHS
+
+-- one vote has at least a million units
+million : (places : ℕ) → 6 ≤ places → 1000000 ≤ scale places
+million zero from = absurd (omega arith)
+million (suc n) from =
+    elim (cases_eq n 5) [
+      | inl same ↦ subst (λ (m : ℕ). 1000000 ≤ scale (suc m)) (sym same) (lit≤ tt)
+      | inr other ↦ rw pow-suc (omega (arith, million n (omega arith)))
+    ]
+
+-- who are more than k shares of all are so of at most as many shares as there are seats
+k_within : (k b h seats : ℕ) → h ≤ b → k * b < h * (seats + 1) → k ≤ seats
+k_within k b h seats part more =
+    let whole : h * (seats + 1) ≤ b * (seats + 1) = mul-le-mul_right (seats + 1) part in
+    let turned : b * (seats + 1) ≡ (seats + 1) * b = mul_comm b (seats + 1) in
+    let less : k * b < (seats + 1) * b = omega arith in
+    let fewer : k < seats + 1 = lt_of_mul-lt-mul_right b less in
+    omega arith
+
+-- the hundredth, the nine thousandths and k units are at most a share of a vote
+hundredths : (s k seats : ℕ) → 1000000 ≤ s → seats ≤ 49 → k ≤ seats → (k + (s / 100 + s * 9 / 1000)) * (seats + 1) ≤ s
+hundredths s k seats big few within =
+    let share : (k + (s / 100 + s * 9 / 1000)) * (seats + 1) ≤ (k + (s / 100 + s * 9 / 1000)) * 50 =
+    mul-le-mul_left (k + (s / 100 + s * 9 / 1000)) (omega arith) in
+    let parts : (k + (s / 100 + s * 9 / 1000)) * 50 ≤ s = omega (arith, div-mul-le_self s 100, div-mul-le_self (s * 9) 1000) in
+    omega arith
+
+pub count-quiet : (rule : Rule) (places units : ℕ) (ballots coalition others : List (List ℕ)) (roll : RollList) (lots : List ℕ) (rows : List Row)
+    (last : List State) (members : List Bool) (k : ℕ)
+    → IsElection places units ballots roll lots → IsPermutation ballots (coalition ++ others)
+    → IsCountUnder rule places units ballots roll lots rows last
+    → roll.seats ≤ 49
+    → All (IsSolid (length roll.names) roll.withdrawn members) coalition
+    → k ≤ running_members (length roll.names) roll.withdrawn members
+    → All (IsOrderly (scale places / 100) (scale places * 9 / 1000)) rows
+    → k * length ballots < length coalition * (roll.seats + 1)
+    → k ≤ elected_members (length roll.names) members last
+count-quiet rule places units ballots coalition others roll lots rows last members k is moved counted few solid running orderly more =
+    let part : length coalition ≤ length ballots =
+    omega (arith, length_permutation ballots (coalition ++ others) moved, length-append coalition others) in
+    count-orderly rule places units ballots coalition others roll lots rows last members k (scale places / 100) (scale places * 9 / 1000)
+    is moved counted solid running orderly
+    (hundredths (scale places) k roll.seats (million places is.places_from) few (k_within k (length ballots) (length coalition) roll.seats part more)) more

@@ -1,19 +1,17 @@
 -- The worked count at six places: its ballots are too many to be gone through one by one, so equal ones are taken together.
-use Rattle.std.proofs.Common.{◌≡◌, ℕ, ◌+◌, ◌*◌, refl, sym, subst, ◌∙◌, lit≤, true, false, List, [], ◌∷◌, ◌++◌, replicate, Some, None, Option}
+use Rattle.std.proofs.Common.{◌≡◌, ℕ, ◌+◌, ◌*◌, refl, sym, subst, ◌∙◌, lit≤, List, [], ◌∷◌, ◌++◌, replicate, Some, None, Option}
 use Rattle.std.proofs.lemmas.List.Sums.{sum_by-append}
 use Rattle.std.proofs.lemmas.List.Folds.{sum_by-replicate}
 use Rattle.candidate_roll.specs.declared.state.State.{State}
 use Rattle.candidate_roll.specs.declared.state.State.TheVariants.{Hopeful, Elected as IsElected, Defeated}
-use Rattle.meek_rule.specs.declared.step.Step.TheVariants.{Elected, Iterate, Defeat}
 use Rattle.meek_rule.specs.Places.{each_place}
 use Rattle.meek_rule.specs.Situation.{Situation}
-use Rattle.meek_rule.specs.Row.{Row}
 use Rattle.meek_rule.specs.Rule.{Meek}
 use Rattle.meek_rule.specs.Weights.{given_under, vote_under, votes_under}
 use Rattle.meek_rule.specs.Iteration.{Settle}
 use Rattle.meek_rule.proofs.WinnersByTest.{winners_by_test}
 use Rattle.meek_count.specs.Rows.{IsCount}
-use Rattle.rule_laws.specs.Unheard.{four_for_three, none_of_four, two_are_elected, AllRankDeeLastAtSixPlaces}
+use Rattle.rule_laws.specs.Unheard.{four_for_three, two_are_elected, all_of_million, two_of_million, passed_of_million, AllRankDeeLastAtSixPlaces}
 
 -- ballots of two kinds
 abbrev kinds : (a b : ℕ) → List (List ℕ)
@@ -52,42 +50,9 @@ between states keeps round iteration previous = record {
 abbrev before_it : Situation
 before_it = between (Hopeful ∷ Hopeful ∷ Hopeful ∷ Hopeful ∷ []) (1000000 ∷ 1000000 ∷ 1000000 ∷ 1000000 ∷ []) 1 1 None
 
-abbrev first_row : Row
-first_row = record {
-  round = 1;
-  iteration = 1;
-  states = Hopeful ∷ Hopeful ∷ Hopeful ∷ Hopeful ∷ [];
-  keeps = 1000000 ∷ 1000000 ∷ 1000000 ∷ 1000000 ∷ [];
-  votes = 899999000000 ∷ 300000000000 ∷ 0 ∷ 0 ∷ [];
-  total = 1199999000000;
-  quota = 299999750001;
-  surplus = 599999499998;
-  elected = true ∷ true ∷ false ∷ false ∷ [];
-  capped = none_of_four;
-  tied = none_of_four;
-  step = Elected;
-}
-
-abbrev second_row : Row
-second_row = record first_row {
-  round = 2;
-  states = two_are_elected;
-  elected = none_of_four;
-  step = Iterate;
-}
-
-abbrev third_row : Row
-third_row = record second_row {
-  iteration = 2;
-  keeps = 333334 ∷ 1000000 ∷ 1000000 ∷ 1000000 ∷ [];
-  votes = 300000266666 ∷ 899998733334 ∷ 0 ∷ 0 ∷ [];
-  tied = false ∷ false ∷ true ∷ true ∷ [];
-  step = Defeat 3;
-}
-
 -- so the count of ballots of these two kinds, so many of each, is this one
 many-of_kinds : (a b : ℕ) → 899999 ≡ a → 300000 ≡ b
-    → IsCount 6 1000 (kinds a b) four_for_three (3 ∷ 1 ∷ 2 ∷ 4 ∷ []) (first_row ∷ second_row ∷ third_row ∷ [])
+    → IsCount 6 1000 (kinds a b) four_for_three (3 ∷ 1 ∷ 2 ∷ 4 ∷ []) (all_of_million ∷ two_of_million ∷ passed_of_million ∷ [])
     (IsElected ∷ IsElected ∷ Defeated ∷ IsElected ∷ [])
 many-of_kinds a b a_is b_is =
     let lots : List ℕ = 3 ∷ 1 ∷ 2 ∷ 4 ∷ [] in
@@ -95,7 +60,7 @@ many-of_kinds a b a_is b_is =
     let second : Situation = between two_are_elected whole 2 1 None in
     let third : Situation = between two_are_elected (333334 ∷ 1000000 ∷ 1000000 ∷ 1000000 ∷ []) 2 2 (Some 599999499998) in
     let end : Situation = between (IsElected ∷ IsElected ∷ Defeated ∷ Hopeful ∷ []) (333334 ∷ 1000000 ∷ 0 ∷ 1000000 ∷ []) 3 1 None in
-    let one : Settle 1000000 before_it first_row.votes lots first_row second = record {
+    let one : Settle 1000000 before_it all_of_million.votes lots all_of_million second = record {
       round = refl;
       iteration = refl;
       states = refl;
@@ -107,7 +72,7 @@ many-of_kinds a b a_is b_is =
       surplus_is = refl;
       leaves = (lit≤ tt, refl, refl, refl);
     } in
-    let two : Settle 1000000 second second_row.votes lots second_row third = record {
+    let two : Settle 1000000 second two_of_million.votes lots two_of_million third = record {
       round = refl;
       iteration = refl;
       states = refl;
@@ -119,7 +84,7 @@ many-of_kinds a b a_is b_is =
       surplus_is = refl;
       leaves = (refl, refl, refl, refl, refl);
     } in
-    let three : Settle 1000000 third third_row.votes lots third_row end = record {
+    let three : Settle 1000000 third passed_of_million.votes lots passed_of_million end = record {
       round = refl;
       iteration = refl;
       states = refl;
@@ -134,17 +99,17 @@ many-of_kinds a b a_is b_is =
       refl,
       (
         second,
-        subst (λ (v : List ℕ). Settle 1000000 before_it v lots first_row second) (kinds-votes a b whole a_is b_is) one,
+        subst (λ (v : List ℕ). Settle 1000000 before_it v lots all_of_million second) (kinds-votes a b whole a_is b_is) one,
         (
           refl,
           (
             third,
-            subst (λ (v : List ℕ). Settle 1000000 second v lots second_row third) (kinds-votes a b whole a_is b_is) two,
+            subst (λ (v : List ℕ). Settle 1000000 second v lots two_of_million third) (kinds-votes a b whole a_is b_is) two,
             (
               refl,
               (
                 end,
-                subst (λ (v : List ℕ). Settle 1000000 third v lots third_row end) (kinds-votes a b third.keeps a_is b_is) three,
+                subst (λ (v : List ℕ). Settle 1000000 third v lots passed_of_million end) (kinds-votes a b third.keeps a_is b_is) three,
                 (refl, refl),
               ),
             ),

@@ -1,5 +1,5 @@
 -- Counts in which next to nothing is left over, which are proportional.
-use Rattle.std.specs.Prelude.{◌≡◌, ℕ, ◌+◌, ◌-◌, ◌*◌, ◌<◌, ◌≤◌, if◌then◌else◌, Bool, List, ◌++◌, length, sum, slice_index, All}
+use Rattle.std.specs.Prelude.{◌≡◌, ℕ, ◌+◌, ◌-◌, ◌*◌, ◌/◌, ◌<◌, ◌≤◌, if◌then◌else◌, Bool, List, ◌++◌, length, sum, slice_index, All}
 use Rattle.std.specs.List.Sorted.{IsPermutation}
 use Rattle.fixed_place.specs.Rounding.{scale}
 use Rattle.candidate_roll.specs.Roll.{RollList}
@@ -36,5 +36,20 @@ OrderlyCountsAreProportional =
     → k ≤ running_members (length roll.names) roll.withdrawn members
     → All (IsOrderly u d) rows
     → (k + (u + d)) * (roll.seats + 1) ≤ scale places
+    → k * length ballots < length coalition * (roll.seats + 1)
+    → k ≤ elected_members (length roll.names) members last
+
+-- So at any number of places, with at most 49 seats: a count is proportional where nobody is defeated while more than a hundredth
+-- of a vote of surplus is left, and those who hold seats never lack more than nine thousandths of a vote together.
+abbrev pub QuietCountsAreProportional : Type 0
+QuietCountsAreProportional =
+    (rule : Rule) (places omega : ℕ) (ballots coalition others : List (List ℕ)) (roll : RollList) (lots : List ℕ) (rows : List Row) (last : List State)
+    (members : List Bool) (k : ℕ)
+    → IsElection places omega ballots roll lots → IsPermutation ballots (coalition ++ others)
+    → IsCountUnder rule places omega ballots roll lots rows last
+    → roll.seats ≤ 49
+    → All (IsSolid (length roll.names) roll.withdrawn members) coalition
+    → k ≤ running_members (length roll.names) roll.withdrawn members
+    → All (IsOrderly (scale places / 100) (scale places * 9 / 1000)) rows
     → k * length ballots < length coalition * (roll.seats + 1)
     → k ≤ elected_members (length roll.names) members last

@@ -5,7 +5,7 @@ ghost use Rattle.rule_laws.specs.Renaming.{NumbersMeanNothing};
 ghost use Rattle.rule_laws.specs.Strikes.{StrikingChangesNothing};
 ghost use Rattle.rule_laws.specs.Majority.{FirstShareWins, MajorityWins};
 ghost use Rattle.rule_laws.specs.Coalition.{SolidMajorityWins, CoalitionsAreSeated, SharesAreSeated, ShareGetsASeat};
-ghost use Rattle.rule_laws.specs.Orderly.{OrderlyCountsAreProportional};
+ghost use Rattle.rule_laws.specs.Orderly.{OrderlyCountsAreProportional, QuietCountsAreProportional};
 ghost use Rattle.rule_laws.specs.Unheard.{AllRankDeeLast, AllRankDeeLastAtSixPlaces};
 
 /// A count fills its seats, or elects all who were not withdrawn where those are fewer. Whoever was elected or
@@ -49,6 +49,7 @@ pub fn coalitions_are_seated()
     ensures quotas { CoalitionsAreSeated }
     ensures shares { SharesAreSeated }
     ensures orderly { OrderlyCountsAreProportional }
+    ensures hundredths { QuietCountsAreProportional }
     ensures one { ShareGetsASeat }
 {}
 
