@@ -10,18 +10,14 @@ use Rattle.std.proofs.lemmas.List.Sums.{sum_by-append, sum_by-cons}
 use Rattle.plain_ballots.specs.Ballots.{ballot_count}
 use Rattle.plain_ballots.specs.Ranking.{IsRanking}
 use Rattle.plain_ballots.specs.declared.ballot_line.BallotLine.{BallotLine}
-use Rattle.blt_reader.specs.Token.{Item, Number}
+use Rattle.input_text.specs.Token.{Item, Number}
 use Rattle.blt_reader.specs.Blt.{AreLines, ballot, ballots}
-use Rattle.blt_reader.specs.Judged.{Judged, after, Progress, GoesOn, Ends}
+use Rattle.input_text.specs.Judged.{Judged, after, Progress, GoesOn, Ends, closed}
 use Rattle.blt_reader.specs.BallotTable.{at_rank, Limit, Lines, Between, Within, with_line, at_line}
-use Rattle.blt_reader.proofs.Judgements.{nonzero}
-use Rattle.blt_reader.proofs.Tables.{in_parts, closed, carried_is, place_of, carries}
-
--- a candidate that stands among different ones doesn't stand before
-pub not_before : (before behind : List ℕ) (n : ℕ) → AllPairs (λ a b. a ≢ b) (before ++ n ∷ behind) → list_any (λ r. r == n) before ≡ false
-not_before before behind n different = list_any_none (λ r. r == n) before (All-from_get_or (λ r. (r == n) ≡ false) before 0 (λ i inside.
-    ne_eqb (get_or before i 0) n (λ same. different i (length before) 0 inside (omega (arith, length-append before (n ∷ behind)))
-    (get_or_append_left before (n ∷ behind) 0 i inside ∙ same ∙ sym (get_or_at before n behind 0 (length before) refl)))))
+use Rattle.blt_reader.specs.Front.{IsLineFront}
+use Rattle.input_text.proofs.Judgements.{nonzero}
+use Rattle.input_text.proofs.Repeats.{not_before}
+use Rattle.input_text.proofs.Tables.{in_parts, carried_is, place_of, carries}
 
 -- ---- one ballot line
 
@@ -80,3 +76,16 @@ module _ (candidates : ℕ) (limit : Limit) where
 
   pub reads_ballots : (lines : List BallotLine) → AreLines candidates limit.most lines → Reads (GoesOn (Between [])) (ballots lines) (Ends lines)
   reads_ballots lines are = in_parts Table (GoesOn (Between [])) (GoesOn (Between lines)) (flat_map ballot lines) (Number 0 ∷ []) (reads_lines lines are)
+
+  abbrev Begin : Progress Lines (List BallotLine)
+  Begin = GoesOn (Between [])
+
+  pub reads_line_front :
+      (expected : Progress Lines (List BallotLine)) (items : List Item) → IsLineFront candidates limit.most expected items
+      → Reads Begin items expected
+  reads_line_front (GoesOn (Between lines)) items is = subst (λ (l : List Item). Reads Begin l (GoesOn (Between lines))) is.1 (reads_lines lines is.0)
+  reads_line_front (GoesOn (Within lines count ranks)) items is =
+      subst (λ (l : List Item). Reads Begin l (GoesOn (Within lines count ranks))) is.1 (
+        in_parts Table Begin (GoesOn (Between lines)) (flat_map ballot lines) (Number count ∷ map Number ranks) (reads_lines lines is.0.before)
+        ∙ reads_begun_line lines count ranks is.0.ranking is.0.counted is.0.room)
+  reads_line_front (Ends lines) items is = subst (λ (l : List Item). Reads Begin l (Ends lines)) is.1 (reads_ballots lines is.0)

@@ -6,15 +6,16 @@ use Rattle.std.proofs.lemmas.Bool.{le-leb}
 use Rattle.std.proofs.lemmas.List.{append-nil, length_push, length-append, length-replicate}
 use Rattle.std.proofs.lemmas.List.Elements.{All-head, All-tail, All-replicate}
 use Rattle.plain_ballots.specs.declared.ballot_line.BallotLine.{BallotLine}
-use Rattle.blt_reader.specs.Token.{Item, Number, Minus, Text}
+use Rattle.input_text.specs.Token.{Item, Number, Minus, Text}
 use Rattle.blt_reader.specs.Poll.{Poll}
-use Rattle.blt_reader.specs.Blt.{IsIn, AreLines, ballot, ballots, IsUpToTitle, IsBlt}
-use Rattle.blt_reader.specs.Judged.{Judged, after, Progress, GoesOn, Ends, going_on}
+use Rattle.input_text.specs.Range.{IsIn}
+use Rattle.blt_reader.specs.Blt.{AreLines, ballot, ballots, IsUpToTitle, IsBlt}
+use Rattle.input_text.specs.Judged.{Judged, after, Progress, GoesOn, Ends, going_on, closed}
 use Rattle.blt_reader.specs.BallotTable.{Limit, Lines, Between, Within, at_line}
 use Rattle.blt_reader.specs.BltTable.{Heading, Expected, Candidates, Seats, Withdrawn, Ballots, Name, Title, at_token, behind_name, poll_of, behind_title, at_file_token}
 use Rattle.blt_reader.specs.Front.{opening_of, begun, AreBegun, IsFront}
-use Rattle.blt_reader.proofs.Judgements.{to_range}
-use Rattle.blt_reader.proofs.Tables.{in_parts, closed, carried_is, place_of, carries}
+use Rattle.input_text.proofs.Judgements.{to_range}
+use Rattle.input_text.proofs.Tables.{in_parts, carried_is, place_of, carries}
 use Rattle.blt_reader.proofs.NameSteps.{name_expected, title_expected}
 use Rattle.blt_reader.proofs.BallotCompleteness.{reads_begun_line, reads_lines, reads_ballots}
 

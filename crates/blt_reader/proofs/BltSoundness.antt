@@ -5,16 +5,17 @@ use Rattle.std.proofs.lemmas.Bool.{leb-true, eqb-true, cond_both}
 use Rattle.std.proofs.lemmas.List.{append-nil, map-append, length_push}
 use Rattle.std.proofs.lemmas.List.Elements.{All-nil, All-push}
 use Rattle.plain_ballots.specs.declared.ballot_line.BallotLine.{BallotLine}
-use Rattle.blt_reader.specs.Token.{Item, Number, Minus, Text}
+use Rattle.input_text.specs.Token.{Item, Number, Minus, Text}
 use Rattle.candidate_roll.specs.Roll.{withdrawn_marks}
 use Rattle.blt_reader.specs.Poll.{Poll}
-use Rattle.blt_reader.specs.Blt.{IsIn, AreLines, opening, ballots, IsUpToTitle, IsBlt}
-use Rattle.blt_reader.specs.Judged.{Judged, Progress, GoesOn, Ends}
+use Rattle.input_text.specs.Range.{IsIn, is_in}
+use Rattle.blt_reader.specs.Blt.{AreLines, opening, ballots, IsUpToTitle, IsBlt}
+use Rattle.input_text.specs.Judged.{Judged, Progress, GoesOn, Ends}
 use Rattle.blt_reader.specs.BallotTable.{Limit, Lines, Between, at_line}
-use Rattle.blt_reader.specs.BltTable.{Heading, Expected, Candidates, Seats, Withdrawn, Ballots, Name, Title, is_in, within_ballots, behind_name, poll_of, at_token, at_file_token}
+use Rattle.blt_reader.specs.BltTable.{Heading, Expected, Candidates, Seats, Withdrawn, Ballots, Name, Title, within_ballots, behind_name, poll_of, at_token, at_file_token}
 use Rattle.blt_reader.specs.Front.{opening_of, begun, AreBegun, IsInBallots, IsInNames, IsFront, IsRollFront, IsFileFront}
 use Rattle.blt_reader.specs.Said.{at_roll_token}
-use Rattle.blt_reader.proofs.Judgements.{refused, same_value, passed, in_range}
+use Rattle.input_text.proofs.Judgements.{refused, same_value, passed, in_range}
 use Rattle.blt_reader.proofs.BallotSoundness.{no_lines, line_goes_on}
 
 below : (k n c : ℕ) → k ≡ n + 1 → n < c → (k == c) ≡ false → k < c

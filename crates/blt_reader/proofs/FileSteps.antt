@@ -1,26 +1,27 @@
 -- A whole file: its front up to the title, and the strings behind it.
 use Rattle.std.proofs.Common.{◌≡◌, ℕ, List, refl, ◌∙◌, ap, Ok, Err}
 use Rattle.std.specs.Prelude.{Result, IfOk}
-use Rattle.blt_reader.specs.declared.fault_kind.FaultKind.TheVariants.{Trailing}
-use Rattle.blt_reader.specs.declared.input_fault.InputFault.{InputFault}
+use Rattle.input_text.specs.declared.fault_kind.FaultKind.TheVariants.{Trailing}
+use Rattle.input_text.specs.declared.input_fault.InputFault.{InputFault}
 use Rattle.blt_reader.specs.declared.election.Election.{Election}
-use Rattle.blt_reader.specs.declared.blt_stop.BltStop.{BltStop}
-use Rattle.blt_reader.specs.declared.blt_stop.BltStop.TheVariants as stop
-use Rattle.blt_reader.specs.declared.what.What.{What}
-use Rattle.blt_reader.specs.declared.what.What.TheVariants as code
-use Rattle.blt_reader.specs.Token.{AtEnd, AtFault, Scan, ends, with_front}
-use Rattle.blt_reader.specs.Reader.{said}
+use Rattle.input_text.specs.declared.input_stop.InputStop.{InputStop}
+use Rattle.input_text.specs.declared.input_stop.InputStop.TheVariants as stop
+use Rattle.input_text.specs.declared.what.What.{What}
+use Rattle.input_text.specs.declared.what.What.TheVariants as code
+use Rattle.input_text.specs.Token.{AtEnd, AtFault, Scan, ends, with_front}
+use Rattle.input_text.specs.Reader.{said}
 use Rattle.blt_reader.specs.Poll.{Poll}
 use Rattle.blt_reader.specs.Election.{poll}
-use Rattle.blt_reader.specs.Judged.{outcome, GoesOn, Ends, ended, Stopped, reads}
+use Rattle.input_text.specs.Judged.{outcome, GoesOn, Ends, ended, Stopped, reads}
 use Rattle.blt_reader.specs.BallotTable.{Limit}
 use Rattle.blt_reader.specs.BltTable.{Candidates, at_token, at_file_token}
 use Rattle.blt_reader.specs.Blt.{IsBlt}
-use Rattle.blt_reader.specs.Refusal.{IsAccepted}
+use Rattle.input_text.specs.Refusal.{IsAccepted}
 use Rattle.blt_reader.specs.Said.{said_by, IsFileRefusal}
-use Rattle.blt_reader.specs.Reads.{IfFault, Reads, ReadsFurther, SaysFile}
-use Rattle.blt_reader.proofs.Tables.{behind_front, reads_front}
-use Rattle.blt_reader.proofs.FrontRuling.{itself}
+use Rattle.input_text.specs.Reads.{IfFault, Reads}
+use Rattle.blt_reader.specs.Reads.{ReadsFurther, SaysFile}
+use Rattle.input_text.proofs.Tables.{behind_front, reads_front}
+use Rattle.input_text.proofs.FrontRuling.{itself}
 use Rattle.blt_reader.proofs.BltLaws.{accepts_files, refuses_by_the_rule}
 
 module _ (limit : Limit) where
@@ -59,17 +60,17 @@ module _ (limit : Limit) where
   pub says_trailing : (text rest : Scan) (election : Election) (fault : InputFault) → reads (at_token limit) Candidates text ≡ Ok (poll election, rest) → ReadsFurther rest (Err fault) → SaysFile (said_by limit text) (Err (stop.Fault fault))
   says_trailing text rest election fault is further = in_two text ∙ ap (λ (r : Result (Poll × Scan) Stopped). behind_front r Behind) is ∙ further limit (poll election)
 
-  pub says_front : (text rest : Scan) (why : BltStop) → Reads (at_token limit) Candidates poll text (Err why) rest → SaysFile (said_by limit text) (Err why)
+  pub says_front : (text rest : Scan) (why : InputStop) → Reads (at_token limit) Candidates poll text (Err why) rest → SaysFile (said_by limit text) (Err why)
   says_front text rest (stop.Fault fault) is = in_two text ∙ ap (λ (r : Result (Poll × Scan) Stopped). behind_front r Behind) is
   says_front text rest stop.NoMemory is = tt
 
   -- ---- what is answered, by the laws
 
-  pub says_file : (text : Scan) (result : Result Election BltStop) → SaysFile (said_by limit text) result → IfOk result (λ e. IsAccepted (IsBlt limit.most) text (poll e))
+  pub says_file : (text : Scan) (result : Result Election InputStop) → SaysFile (said_by limit text) result → IfOk result (λ e. IsAccepted (IsBlt limit.most) text (poll e))
   says_file text (Ok election) is = (accepts_files limit text (poll election)).0 is
   says_file text (Err why) is = tt
 
-  pub refuses_file : (text : Scan) (result : Result Election BltStop) → SaysFile (said_by limit text) result → IfFault result (λ fault. IsFileRefusal limit text fault)
+  pub refuses_file : (text : Scan) (result : Result Election InputStop) → SaysFile (said_by limit text) result → IfFault result (λ fault. IsFileRefusal limit text fault)
   refuses_file text (Ok election) is = tt
   refuses_file text (Err (stop.Fault fault)) is = (refuses_by_the_rule limit text fault).0 is
   refuses_file text (Err stop.NoMemory) is = tt

@@ -6,16 +6,17 @@ use Rattle.std.proofs.lemmas.List.Folds.{list_any-append}
 use Rattle.std.proofs.lemmas.Grind.{common_steps}
 use Rattle.plain_ballots.specs.Ballots.{ballot_count}
 use Rattle.plain_ballots.specs.declared.ballot_line.BallotLine.{BallotLine}
-use Rattle.blt_reader.specs.declared.fault_kind.FaultKind.{FaultKind}
-use Rattle.blt_reader.specs.declared.fault_kind.FaultKind.TheVariants.{NoSuchCandidate, Repeated}
-use Rattle.blt_reader.specs.declared.input_fault.InputFault.{InputFault}
-use Rattle.blt_reader.specs.declared.blt_stop.BltStop.{BltStop}
-use Rattle.blt_reader.specs.Token.{Item, Number, Minus, Text, Word, Scan, with_front}
-use Rattle.blt_reader.specs.Judged.{reads}
+use Rattle.input_text.specs.declared.fault_kind.FaultKind.{FaultKind}
+use Rattle.input_text.specs.declared.fault_kind.FaultKind.TheVariants.{NoSuchCandidate, Repeated}
+use Rattle.input_text.specs.declared.input_fault.InputFault.{InputFault}
+use Rattle.input_text.specs.declared.input_stop.InputStop.{InputStop}
+use Rattle.input_text.specs.Token.{Item, Number, Minus, Text, Word, Scan, with_front}
+use Rattle.input_text.specs.Judged.{reads}
 use Rattle.blt_reader.specs.BallotTable.{at_rank, Limit, Lines, Between, Within, with_line, at_line}
-use Rattle.blt_reader.specs.Reads.{Stops, as_number, Reads, Marks}
-use Rattle.blt_reader.proofs.Judgements.{accepted, same_kind}
-use Rattle.blt_reader.proofs.Reading.{goes_on, ends_with, refused_at, stops, inner_read, inner_fails}
+use Rattle.input_text.specs.Reads.{Stops, as_number, Reads}
+use Rattle.blt_reader.specs.Reads.{Marks}
+use Rattle.input_text.proofs.Judgements.{accepted, same_kind}
+use Rattle.input_text.proofs.Reading.{goes_on, ends_with, refused_at, stops, inner_read, inner_fails}
 
 -- ---- a candidate or 0
 
@@ -82,7 +83,7 @@ module _ (candidates : ℕ) (limit : Limit) (lines : List BallotLine) where
     pub line_read : (old new : Scan) (ranks : List ℕ) → reads (at_rank candidates) [] old ≡ Ok (ranks, new) → reads (at_line candidates limit) (Within lines count []) old ≡ reads (at_line candidates limit) (Between (with_line lines count ranks)) new
     line_read old new ranks is = inner_read (at_rank candidates) (at_line candidates limit) (λ r. Within lines count r) (λ r. Between (with_line lines count r)) (λ r item. refl) [] old ranks new is
 
-    pub line_fails : {R Q : Type 0} (found : R → List ℕ) (value : Q → List BallotLine) (begun : Lines) (start old new : Scan) (why : BltStop) → reads (at_line candidates limit) begun start ≡ reads (at_line candidates limit) (Within lines count []) old
+    pub line_fails : {R Q : Type 0} (found : R → List ℕ) (value : Q → List BallotLine) (begun : Lines) (start old new : Scan) (why : InputStop) → reads (at_line candidates limit) begun start ≡ reads (at_line candidates limit) (Within lines count []) old
         → Reads (at_rank candidates) [] found old (Err why) new → Reads (at_line candidates limit) begun value start (Err why) new
     line_fails found value begun start old new why so_far is = inner_fails (at_rank candidates) (at_line candidates limit) (λ r. Within lines count r) (λ r. Between (with_line lines count r)) (λ r item. refl) [] old found value begun start new why so_far is
 

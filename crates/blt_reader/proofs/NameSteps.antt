@@ -2,17 +2,18 @@
 use Rattle.std.proofs.Common.{◌≡◌, ℕ, ◌<◌, List, [], ◌∷◌, ◌++◌, length, true, false, ◌==◌, nat_le, refl, ◌∙◌, ap, arith, Ok, Err}
 use Rattle.std.proofs.lemmas.Bool.{eq-eqb, ne_eqb}
 use Rattle.plain_ballots.specs.declared.ballot_line.BallotLine.{BallotLine}
-use Rattle.blt_reader.specs.declared.fault_kind.FaultKind.{FaultKind}
-use Rattle.blt_reader.specs.declared.input_fault.InputFault.{InputFault}
-use Rattle.blt_reader.specs.declared.blt_stop.BltStop.{BltStop}
-use Rattle.blt_reader.specs.declared.blt_stop.BltStop.TheVariants as stop
-use Rattle.blt_reader.specs.Token.{Item, Number, Minus, Text, Word, Scan}
-use Rattle.blt_reader.specs.Judged.{GoesOn, Ends, reads}
+use Rattle.input_text.specs.declared.fault_kind.FaultKind.{FaultKind}
+use Rattle.input_text.specs.declared.input_fault.InputFault.{InputFault}
+use Rattle.input_text.specs.declared.input_stop.InputStop.{InputStop}
+use Rattle.input_text.specs.declared.input_stop.InputStop.TheVariants as stop
+use Rattle.input_text.specs.Token.{Item, Number, Minus, Text, Word, Scan}
+use Rattle.input_text.specs.Judged.{GoesOn, Ends, reads}
 use Rattle.blt_reader.specs.BallotTable.{Limit}
 use Rattle.blt_reader.specs.BltTable.{Heading, Expected, Name, Title, behind_name, poll_of, at_token}
-use Rattle.blt_reader.specs.Reads.{Stops, Accepts, as_name, OnFault, ReadsNames}
-use Rattle.blt_reader.proofs.Judgements.{refused, same_kind, passed, failed}
-use Rattle.blt_reader.proofs.Reading.{goes_on, ends_with, stops}
+use Rattle.input_text.specs.Reads.{Stops, Accepts, OnFault}
+use Rattle.blt_reader.specs.Reads.{as_name, ReadsNames}
+use Rattle.input_text.proofs.Judgements.{refused, same_kind, passed, failed}
+use Rattle.input_text.proofs.Reading.{goes_on, ends_with, stops}
 
 pub name_expected : (h : Heading) (lines : List BallotLine) (names : List (List ℕ)) → length names < h.candidates → behind_name h lines names ≡ Name h lines names
 name_expected h lines names fewer =
@@ -78,7 +79,7 @@ module _ (limit : Limit) (h : Heading) (lines : List BallotLine) (names : List (
       ∙ ends_with (at_token limit) (Title h lines names) old new is.token (poll_of h lines names title) is.given (a_title is.token.item title is.accepted)
 
 -- a name that isn't read ends the names
-pub names_fail : (candidates : ℕ) (names : List (List ℕ)) (start old new : Scan) (why : BltStop) → length names < candidates
+pub names_fail : (candidates : ℕ) (names : List (List ℕ)) (start old new : Scan) (why : InputStop) → length names < candidates
     → ((limit : Limit) (heading : Heading) (lines : List BallotLine) → heading.candidates ≡ candidates → reads (at_token limit) (behind_name heading lines []) start ≡ reads (at_token limit) (behind_name heading lines names) old)
     → OnFault why (λ fault. Stops (as_name 200) old fault new) → ReadsNames candidates start (Err why) new
 names_fail candidates names start old new (stop.Fault fault) fewer so_far is = λ limit heading lines same. so_far limit heading lines same ∙ name_stops limit heading lines names old new fault (omega (arith, fewer, same)) is

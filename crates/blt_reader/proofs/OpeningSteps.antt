@@ -6,24 +6,25 @@ use Rattle.std.proofs.lemmas.Bool.{eqb-true}
 use Rattle.std.proofs.lemmas.List.Elements.{All-push}
 use Rattle.std.proofs.lemmas.List.Folds.{list_any-append}
 use Rattle.candidate_roll.specs.Roll.{is_listed, withdrawn_marks}
-use Rattle.blt_reader.specs.declared.fault_kind.FaultKind.{FaultKind}
-use Rattle.blt_reader.specs.declared.fault_kind.FaultKind.TheVariants.{BadNumber, BadWithdrawn}
-use Rattle.blt_reader.specs.declared.input_fault.InputFault.{InputFault}
-use Rattle.blt_reader.specs.declared.blt_stop.BltStop.{BltStop}
-use Rattle.blt_reader.specs.declared.blt_stop.BltStop.TheVariants as stop
+use Rattle.input_text.specs.declared.fault_kind.FaultKind.{FaultKind}
+use Rattle.input_text.specs.declared.fault_kind.FaultKind.TheVariants.{BadNumber, BadWithdrawn}
+use Rattle.input_text.specs.declared.input_fault.InputFault.{InputFault}
+use Rattle.input_text.specs.declared.input_stop.InputStop.{InputStop}
+use Rattle.input_text.specs.declared.input_stop.InputStop.TheVariants as stop
 use Rattle.blt_reader.specs.declared.opening.Opening.{Opening}
-use Rattle.blt_reader.specs.declared.what.What.{What}
-use Rattle.blt_reader.specs.declared.what.What.TheVariants as code
-use Rattle.blt_reader.specs.Token.{Item, Number, Minus, Text, Word, Placed, Scan, with_front}
-use Rattle.blt_reader.specs.Blt.{IsIn}
-use Rattle.blt_reader.specs.Reader.{said}
-use Rattle.blt_reader.specs.Judged.{GoesOn, front_of, reads}
+use Rattle.input_text.specs.declared.what.What.{What}
+use Rattle.input_text.specs.declared.what.What.TheVariants as code
+use Rattle.input_text.specs.Token.{Item, Number, Minus, Text, Word, Placed, Scan, with_front}
+use Rattle.input_text.specs.Range.{IsIn, is_in}
+use Rattle.input_text.specs.Reader.{said}
+use Rattle.input_text.specs.Judged.{GoesOn, front_of, reads}
 use Rattle.blt_reader.specs.BallotTable.{Limit, Between}
-use Rattle.blt_reader.specs.BltTable.{Heading, Expected, Candidates, Seats, Withdrawn, Ballots, is_in, at_token}
-use Rattle.blt_reader.specs.Reads.{IsEnded, Stops, Accepts, as_size}
+use Rattle.blt_reader.specs.BltTable.{Heading, Expected, Candidates, Seats, Withdrawn, Ballots, at_token}
+use Rattle.input_text.specs.Reads.{IsEnded, Stops, Accepts}
+use Rattle.blt_reader.specs.Reads.{as_size}
 use Rattle.blt_reader.specs.Opening.{IsListedMore, IsWithdrawn, ReadsWithdrawn, IsOpened, ReadsOpening}
-use Rattle.blt_reader.proofs.Judgements.{refused, same_kind, passed, failed, in_range, to_range}
-use Rattle.blt_reader.proofs.Reading.{goes_on, refused_at, ended_so, stops}
+use Rattle.input_text.proofs.Judgements.{refused, same_kind, passed, failed, in_range, to_range}
+use Rattle.input_text.proofs.Reading.{goes_on, refused_at, ended_so, stops}
 
 -- ---- sizes
 
@@ -165,6 +166,6 @@ opened start old new opening opens is = record {
       ∙ first_number limit (record { candidates = opening.candidates; seats = opening.seats; withdrawn = is.listed }) opening.first.0 opening.first.1 new;
 }
 
-pub opening_fails : (candidates seats : ℕ) (start old new : Scan) (ws : List ℕ) (why : BltStop) → Opens candidates seats start old → ReadsWithdrawn candidates old ws (Err why) new → ReadsOpening start (Err why) new
+pub opening_fails : (candidates seats : ℕ) (start old new : Scan) (ws : List ℕ) (why : InputStop) → Opens candidates seats start old → ReadsWithdrawn candidates old ws (Err why) new → ReadsOpening start (Err why) new
 opening_fails candidates seats start old new ws (stop.Fault fault) opens is = λ limit. opens limit ∙ is limit seats
 opening_fails candidates seats start old new ws stop.NoMemory opens is = tt

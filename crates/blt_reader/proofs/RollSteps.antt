@@ -3,17 +3,18 @@ use Rattle.std.proofs.Common.{◌≡◌, ℕ, ◌<◌, List, [], length, Bool, r
 use Rattle.plain_ballots.specs.Ballots.{BallotList}
 use Rattle.plain_ballots.specs.declared.ballot_line.BallotLine.{BallotLine}
 use Rattle.candidate_roll.specs.Roll.{RollList, withdrawn_marks}
-use Rattle.blt_reader.specs.declared.blt_stop.BltStop.{BltStop}
-use Rattle.blt_reader.specs.declared.blt_stop.BltStop.TheVariants as stop
+use Rattle.input_text.specs.declared.input_stop.InputStop.{InputStop}
+use Rattle.input_text.specs.declared.input_stop.InputStop.TheVariants as stop
 use Rattle.blt_reader.specs.declared.opening.Opening.{Opening}
-use Rattle.blt_reader.specs.Token.{Item, Number, Scan, with_front}
+use Rattle.input_text.specs.Token.{Item, Number, Scan, with_front}
 use Rattle.blt_reader.specs.Poll.{Poll}
-use Rattle.blt_reader.specs.Judged.{carried, reads}
+use Rattle.input_text.specs.Judged.{carried, reads}
 use Rattle.blt_reader.specs.BallotTable.{Limit, Lines, Between, at_line}
 use Rattle.blt_reader.specs.BltTable.{Heading, Expected, Candidates, Ballots, Name, behind_name, poll_of, at_token}
-use Rattle.blt_reader.specs.Reads.{Stops, Accepts, as_name, OnFault, Reads, ReadsNames}
+use Rattle.input_text.specs.Reads.{Stops, Accepts, OnFault, Reads}
+use Rattle.blt_reader.specs.Reads.{as_name, ReadsNames}
 use Rattle.blt_reader.specs.Opening.{IsOpened}
-use Rattle.blt_reader.proofs.Reading.{inner_read, inner_fails}
+use Rattle.input_text.proofs.Reading.{inner_read, inner_fails}
 use Rattle.blt_reader.proofs.NameSteps.{name_expected, title_stops, title_read}
 
 module _ (limit : Limit) (start : Scan) (opening : Opening) (behind_opening : Scan) (is : IsOpened start opening behind_opening) where
@@ -30,7 +31,7 @@ module _ (limit : Limit) (start : Scan) (opening : Opening) (behind_opening : Sc
   unfolding at_token
   within lines item = refl
 
-  pub ballots_fail : {Q : Type 0} (value : Q → Poll) (new : Scan) (why : BltStop) → Reads (at_line opening.candidates limit) (Between []) (λ (b : BallotList). b.lines) FirstText (Err why) new → Reads (at_token limit) Candidates value start (Err why) new
+  pub ballots_fail : {Q : Type 0} (value : Q → Poll) (new : Scan) (why : InputStop) → Reads (at_line opening.candidates limit) (Between []) (λ (b : BallotList). b.lines) FirstText (Err why) new → Reads (at_token limit) Candidates value start (Err why) new
   ballots_fail value new why fails =
       inner_fails (at_line opening.candidates limit) (at_token limit) (λ l. Ballots HeadingOf l) (λ l. Name HeadingOf l []) within (Between []) FirstText (λ (b : BallotList). b.lines) value Candidates start new why (is.same limit) fails
 
@@ -41,12 +42,12 @@ module _ (limit : Limit) (start : Scan) (opening : Opening) (behind_opening : Sc
       ∙ ap (λ (s : Expected). reads (at_token limit) s new) (sym (name_expected HeadingOf lines [] some))
 
   module _ (lines : List BallotLine) where
-    pub names_stop : {Q : Type 0} (value : Q → Poll) (old new : Scan) (why : BltStop) → GoesTo (behind_name HeadingOf lines []) old → ReadsNames opening.candidates old (Err why) new → Reads (at_token limit) Candidates value start (Err why) new
+    pub names_stop : {Q : Type 0} (value : Q → Poll) (old new : Scan) (why : InputStop) → GoesTo (behind_name HeadingOf lines []) old → ReadsNames opening.candidates old (Err why) new → Reads (at_token limit) Candidates value start (Err why) new
     names_stop value old new (stop.Fault fault) goes fails = goes ∙ fails limit HeadingOf lines refl
     names_stop value old new stop.NoMemory goes fails = tt
 
     module _ (names : List (List ℕ)) (all : length names ≡ opening.candidates) where
-      pub title_stop : {Q : Type 0} (value : Q → Poll) (old new : Scan) (why : BltStop) → GoesTo (behind_name HeadingOf lines names) old → OnFault why (λ fault. Stops (as_name 1000) old fault new) → Reads (at_token limit) Candidates value start (Err why) new
+      pub title_stop : {Q : Type 0} (value : Q → Poll) (old new : Scan) (why : InputStop) → GoesTo (behind_name HeadingOf lines names) old → OnFault why (λ fault. Stops (as_name 1000) old fault new) → Reads (at_token limit) Candidates value start (Err why) new
       title_stop value old new (stop.Fault fault) goes fails = goes ∙ title_stops limit HeadingOf lines names old new fault all fails
       title_stop value old new stop.NoMemory goes fails = tt
 

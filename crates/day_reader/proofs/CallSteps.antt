@@ -4,13 +4,13 @@ use Rattle.plain_ballots.specs.Ballots.{BallotList}
 use Rattle.batch_core.specs.declared.change.Change.TheVariants.{Enter, Correct, Withdraw}
 use Rattle.batch_core.specs.declared.call.Call.{Call}
 use Rattle.batch_core.specs.declared.call.Call.TheVariants.{Change, Strike}
-use Rattle.blt_reader.specs.declared.fault_kind.FaultKind.TheVariants.{NoSuchCandidate}
-use Rattle.blt_reader.specs.declared.input_fault.InputFault.{InputFault}
-use Rattle.blt_reader.specs.declared.blt_stop.BltStop.{BltStop}
-use Rattle.blt_reader.specs.Token.{Scan}
-use Rattle.blt_reader.specs.Judged.{GoesOn, Ends, reads}
+use Rattle.input_text.specs.declared.fault_kind.FaultKind.TheVariants.{NoSuchCandidate}
+use Rattle.input_text.specs.declared.input_fault.InputFault.{InputFault}
+use Rattle.input_text.specs.declared.input_stop.InputStop.{InputStop}
+use Rattle.input_text.specs.Token.{Scan}
+use Rattle.input_text.specs.Judged.{GoesOn, Ends, reads}
 use Rattle.blt_reader.specs.BallotTable.{Between, at_line}
-use Rattle.blt_reader.specs.Reads.{Stops, Accepts, Reads}
+use Rattle.input_text.specs.Reads.{Stops, Accepts, Reads}
 use Rattle.day_reader.specs.CallTable.{as_between, as_batch, as_revision, InCall, EnterBatch, CorrectBatch, WithdrawBatch, CorrectRevision, WithdrawRevision, EnterLines, CorrectLines, StrikeCandidate, of_a_batch, entered, corrected, at_call}
 use Rattle.day_reader.proofs.Steps.{judged_read, judged_stops, within_read, within_fails}
 
@@ -74,7 +74,7 @@ module _ (candidates : ℕ) where
 
     -- ---- the ballots
 
-    pub entering_fails : (batch : ℕ) (start : Scan) (why : BltStop) → Leads_on EnterBatch start (EnterLines batch (Between [])) old → Reads (at_line candidates of_a_batch) (Between []) (λ (all : BallotList). all.lines) old (Err why) new → Reads (at_call candidates) EnterBatch (λ (call : Call). call) start (Err why) new
+    pub entering_fails : (batch : ℕ) (start : Scan) (why : InputStop) → Leads_on EnterBatch start (EnterLines batch (Between [])) old → Reads (at_line candidates of_a_batch) (Between []) (λ (all : BallotList). all.lines) old (Err why) new → Reads (at_call candidates) EnterBatch (λ (call : Call). call) start (Err why) new
     unfolding at_call
     entering_fails batch start why so_far is = within_fails (at_line candidates of_a_batch) (at_call candidates) (λ more. EnterLines batch more) (λ all. Ends (entered candidates batch all)) (λ lines item. refl) (Between []) old new
         (λ (all : BallotList). all.lines) (λ (call : Call). call) EnterBatch start why so_far is
@@ -86,7 +86,7 @@ module _ (candidates : ℕ) where
         ∙ within_read (at_line candidates of_a_batch) (at_call candidates) (λ more. EnterLines batch more) (λ all. Ends (entered candidates batch all)) (λ lines item. refl) (Between []) old new all.lines is
         ∙ ap (λ (n : ℕ). Ok (Change (Enter batch (record { candidates = n; lines = all.lines })), new)) (sym same)
 
-    pub correcting_fails : (batch revision : ℕ) (start : Scan) (why : BltStop) → Leads_on CorrectBatch start (CorrectLines batch revision (Between [])) old → Reads (at_line candidates of_a_batch) (Between []) (λ (all : BallotList). all.lines) old (Err why) new → Reads (at_call candidates) CorrectBatch (λ (call : Call). call) start (Err why) new
+    pub correcting_fails : (batch revision : ℕ) (start : Scan) (why : InputStop) → Leads_on CorrectBatch start (CorrectLines batch revision (Between [])) old → Reads (at_line candidates of_a_batch) (Between []) (λ (all : BallotList). all.lines) old (Err why) new → Reads (at_call candidates) CorrectBatch (λ (call : Call). call) start (Err why) new
     unfolding at_call
     correcting_fails batch revision start why so_far is = within_fails (at_line candidates of_a_batch) (at_call candidates) (λ more. CorrectLines batch revision more) (λ all. Ends (corrected candidates batch revision all)) (λ lines item. refl) (Between []) old new
         (λ (all : BallotList). all.lines) (λ (call : Call). call) CorrectBatch start why so_far is

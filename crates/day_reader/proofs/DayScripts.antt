@@ -6,14 +6,14 @@ use Rattle.std.proofs.lemmas.List.Sorted.{All-permutation, sum_by-IsPermutation}
 use Rattle.batch_core.specs.declared.change.Change.TheVariants.{Enter, Correct, Withdraw}
 use Rattle.batch_core.specs.declared.call.Call.{Call}
 use Rattle.batch_core.specs.declared.call.Call.TheVariants.{Change, Freeze, Strike}
-use Rattle.blt_reader.specs.declared.blt_stop.BltStop.{BltStop}
-use Rattle.blt_reader.specs.Token.{Item, Scan}
-use Rattle.blt_reader.specs.Refusal.{items_of}
+use Rattle.input_text.specs.declared.input_stop.InputStop.{InputStop}
+use Rattle.input_text.specs.Token.{Item, Scan}
+use Rattle.input_text.specs.Refusal.{items_of}
 use Rattle.day_reader.specs.declared.script.Script.{Script}
 use Rattle.day_reader.specs.declared.day.Day.{Day}
 use Rattle.day_reader.specs.Call.{IsCall, is_freeze}
 use Rattle.day_reader.specs.Day.{AreDifferent, MayBeScale, Scale, scale_of, by_number, IsDay}
-use Rattle.day_reader.specs.Said.{said_by, IsAnswerable, AreScripts}
+use Rattle.day_reader.specs.Said.{said_by, IsAnswerable, AreScripts, AcceptsDays}
 use Rattle.day_reader.specs.Reads.{SaysDay}
 use Rattle.day_reader.proofs.TeamLists.{team_of}
 use Rattle.day_reader.proofs.ByNumber.{is_moved, is_rising}
@@ -49,20 +49,20 @@ scale_in : (scale : Option Scale) → MayBeScale scale → ((6 ≤ (scale_of sca
 scale_in (Some scale) is = ((is.least_places, is.most_places), (is.omega_in.least, is.omega_in.most))
 scale_in None is = ((omega arith, omega arith), (omega arith, omega arith))
 
-module _ (text : Scan) where
+module _ (law : AcceptsDays) (text : Scan) where
   -- what holds of each day that a text says, holds of an answer
-  of_day : (P : Day → Type 0) → ((items : List Item) (day : Day) → IsDay items day → P day) → (result : Result Day BltStop) → SaysDay (said_by text) result → IfOk result P
-  of_day P holds (Ok day) is = holds (items_of text.tokens) day (says_day text (Ok day) is).file
+  of_day : (P : Day → Type 0) → ((items : List Item) (day : Day) → IsDay items day → P day) → (result : Result Day InputStop) → SaysDay (said_by text) result → IfOk result P
+  of_day P holds (Ok day) is = holds (items_of text.tokens) day (says_day law text (Ok day) is).file
   of_day P holds (Err why) is = tt
 
-  pub has_scripts : (result : Result Day BltStop) → SaysDay (said_by text) result → IfOk result (λ day. AreScripts (length day.roll.names) day.scripts)
+  pub has_scripts : (result : Result Day InputStop) → SaysDay (said_by text) result → IfOk result (λ day. AreScripts (length day.roll.names) day.scripts)
   has_scripts = of_day (λ day. AreScripts (length day.roll.names) day.scripts) scripts_are
 
-  pub has_lots : (result : Result Day BltStop) → SaysDay (said_by text) result → IfOk result (λ day. length day.lots ≡ length day.roll.names)
+  pub has_lots : (result : Result Day InputStop) → SaysDay (said_by text) result → IfOk result (λ day. length day.lots ≡ length day.roll.names)
   has_lots = of_day (λ day. length day.lots ≡ length day.roll.names) (λ items day is. is.lots.all)
 
-  pub has_places : (result : Result Day BltStop) → SaysDay (said_by text) result → IfOk result (λ day. (6 ≤ day.places) × (day.places ≤ 9))
+  pub has_places : (result : Result Day InputStop) → SaysDay (said_by text) result → IfOk result (λ day. (6 ≤ day.places) × (day.places ≤ 9))
   has_places = of_day (λ day. (6 ≤ day.places) × (day.places ≤ 9)) (λ items day is. subst (λ n. (6 ≤ n) × (n ≤ 9)) (sym is.places) (scale_in is.scale is.scale_in).0)
 
-  pub has_omega : (result : Result Day BltStop) → SaysDay (said_by text) result → IfOk result (λ day. (1 ≤ day.omega) × (day.omega ≤ 1000000))
+  pub has_omega : (result : Result Day InputStop) → SaysDay (said_by text) result → IfOk result (λ day. (1 ≤ day.omega) × (day.omega ≤ 1000000))
   has_omega = of_day (λ day. (1 ≤ day.omega) × (day.omega ≤ 1000000)) (λ items day is. subst (λ n. (1 ≤ n) × (n ≤ 1000000)) (sym is.omega) (scale_in is.scale is.scale_in).1)

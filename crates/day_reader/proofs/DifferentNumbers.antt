@@ -10,7 +10,7 @@ use Rattle.std.proofs.lemmas.List.Folds.{list_any_at}
 use Rattle.std.proofs.lemmas.List.FromFn.{length-range_with_len, get_or-range_with_len}
 use Rattle.std.proofs.lemmas.List.Quantifiers.{all_pairs_push}
 use Rattle.std.proofs.lemmas.Map.Made.{is_member-Decides, length-le_from_is_member, IsDistinct-from_AllPairs}
-use Rattle.blt_reader.specs.Blt.{IsIn}
+use Rattle.input_text.specs.Range.{IsIn}
 use Rattle.day_reader.specs.Day.{AreDifferent}
 
 pub no_numbers : (greatest : ℕ) → AreDifferent greatest []

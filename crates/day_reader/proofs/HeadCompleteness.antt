@@ -6,16 +6,16 @@ use Rattle.std.proofs.lemmas.Bool.{le-leb, eq-eqb}
 use Rattle.std.proofs.lemmas.List.{append-nil, length_push}
 use Rattle.std.proofs.lemmas.List.Elements.{All-head, All-tail}
 use Rattle.candidate_roll.specs.Roll.{RollList}
-use Rattle.blt_reader.specs.Token.{Item, Number, Text}
+use Rattle.input_text.specs.Token.{Item, Number, Minus, Text, Word}
 use Rattle.blt_reader.specs.Poll.{Poll}
-use Rattle.blt_reader.specs.Blt.{IsIn, IsBlt}
-use Rattle.blt_reader.specs.Judged.{Judged, then_on, after, Progress, GoesOn, Ends}
+use Rattle.input_text.specs.Range.{IsIn}
+use Rattle.blt_reader.specs.Blt.{IsBlt}
+use Rattle.input_text.specs.Judged.{Judged, then_on, after, Progress, GoesOn, Ends, carried, closed}
 use Rattle.blt_reader.specs.BltTable as blt
-use Rattle.blt_reader.specs.Said.{of_a_roll, nothing_more}
-use Rattle.blt_reader.proofs.Judgements.{nonzero, to_range}
-use Rattle.blt_reader.proofs.Tables.{in_parts, closed, carried_is, place_of, carries}
-use Rattle.blt_reader.proofs.BallotCompleteness.{not_before}
-use Rattle.blt_reader.proofs.BltCompleteness as roll
+use Rattle.blt_reader.specs.Said.{of_a_roll}
+use Rattle.input_text.proofs.Judgements.{refused, same_value, nonzero, to_range}
+use Rattle.input_text.proofs.Tables.{in_parts, carried_is, place_of, carries, accepts_along}
+use Rattle.input_text.proofs.Repeats.{not_before}
 use Rattle.day_reader.specs.declared.keyword.Keyword.{Keyword}
 use Rattle.day_reader.specs.declared.keyword.Keyword.TheVariants as key
 use Rattle.day_reader.specs.declared.day.Day.{Day}
@@ -24,6 +24,8 @@ use Rattle.day_reader.specs.Day.{AreDifferent, AreAllLots, lots_items, Scale, Is
 use Rattle.day_reader.specs.TeamTable.{TeamNumber}
 use Rattle.day_reader.specs.DayTable.{at_lot, Head, Expected, InRoll, BehindTitle, Lot, BehindLots, Places, BehindPlaces, Omega, BehindOmega, Teams, day_of, behind_title, behind_head, behind_lots, behind_places, at_token, at_file_token}
 use Rattle.day_reader.specs.Front.{head_items, IsHead, IsPlaces}
+use Rattle.day_reader.specs.Shared.{Shared}
+use Rattle.day_reader.proofs.SharedParts.{reads_roll_front}
 use Rattle.day_reader.proofs.Keywords.{reads_word}
 use Rattle.day_reader.proofs.DifferentNumbers.{one_is_missing}
 
@@ -38,24 +40,37 @@ word_read expected f keyword next items rule e =
 
 -- ---- the roll
 
-pub in_roll : (items : List Item) (first last : Progress blt.Expected Poll) → after (closed (blt.at_token of_a_roll)) first items ≡ Ok last
-    → after at_file_token (place_of (λ e. GoesOn (InRoll e)) (λ poll. GoesOn (BehindTitle poll.roll)) first) items ≡ Ok (place_of (λ e. GoesOn (InRoll e)) (λ poll. GoesOn (BehindTitle poll.roll)) last)
-unfolding at_token
-in_roll items = carries (blt.at_token of_a_roll) at_file_token (λ e. GoesOn (InRoll e)) (λ poll. GoesOn (BehindTitle poll.roll))
-    (λ e item. carried_is (λ more. InRoll more) (λ poll. BehindTitle poll.roll) (blt.at_token of_a_roll e item)) items
+-- what is expected in a day file where this is expected in its roll
+abbrev pub roll_place : Progress blt.Expected Poll → Progress Expected Day
+roll_place = place_of (λ e. GoesOn (InRoll e)) (λ poll. GoesOn (BehindTitle poll.roll))
 
-reads_further : (texts : List (List ℕ)) (is : RollList) → Reads (BehindTitle is) (map Text texts) (GoesOn (BehindTitle is))
-unfolding at_token
-reads_further [] is = refl
-reads_further (text ∷ texts) is = reads_further texts is
+carried_on : (next : Progress blt.Expected Poll) → carried {W = Day} (λ e. InRoll e) (λ (poll : Poll). BehindTitle poll.roll) (Ok next) ≡ Ok (roll_place next)
+carried_on (GoesOn next) = refl
+carried_on (Ends poll) = refl
 
-pub reads_roll : (is : RollList) (items : List Item) → IsBlt 0 items (record { roll = is; lines = [] }) → Reads (InRoll blt.Candidates) items (GoesOn (BehindTitle is))
-reads_roll is items file =
+goes_along :
+    (expected next : Progress blt.Expected Poll) (item : Item) → blt.at_file_token of_a_roll expected item ≡ Ok next
+    → at_file_token (roll_place expected) item ≡ Ok (roll_place next)
+unfolding at_token
+goes_along (GoesOn expected) next item e =
+    ap (λ (j : Judged (Progress blt.Expected Poll)). carried {W = Day} (λ e. InRoll e) (λ (poll : Poll). BehindTitle poll.roll) j) e ∙ carried_on next
+goes_along (Ends poll) next (Text text) e = ap (λ (p : Progress blt.Expected Poll). Ok (roll_place p)) (same_value e)
+goes_along (Ends poll) next (Number n) e = absurd (refused e)
+goes_along (Ends poll) next (Minus n) e = absurd (refused e)
+goes_along (Ends poll) next (Word letters) e = absurd (refused e)
+
+-- what the table of ballot files accepts of a roll, that of day files does
+pub in_roll :
+    (items : List Item) (first last : Progress blt.Expected Poll) → after (blt.at_file_token of_a_roll) first items ≡ Ok last
+    → after at_file_token (roll_place first) items ≡ Ok (roll_place last)
+in_roll = accepts_along (blt.at_file_token of_a_roll) at_file_token roll_place goes_along
+
+pub reads_roll :
+    Shared → (is : RollList) (items : List Item) → IsBlt 0 items (record { roll = is; lines = [] })
+    → Reads (InRoll blt.Candidates) items (GoesOn (BehindTitle is))
+reads_roll shared is items file =
     let poll : Poll = record { roll = is; lines = [] } in
-    ap (λ (l : List Item). after at_file_token (GoesOn (InRoll blt.Candidates)) l) file.spelled
-    ∙ in_parts at_file_token (GoesOn (InRoll blt.Candidates)) (GoesOn (BehindTitle is)) file.front (map Text file.further)
-    (in_roll file.front (GoesOn blt.Candidates) (Ends poll) (roll.reads_up_to_title of_a_roll nothing_more file.front poll file.up_to_title))
-    ∙ reads_further file.further is
+    in_roll items (GoesOn blt.Candidates) (Ends poll) (reads_roll_front shared (Ends poll) items file)
 
 -- ---- the lots
 

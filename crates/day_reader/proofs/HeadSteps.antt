@@ -6,23 +6,23 @@ use Rattle.std.proofs.lemmas.Bool.Decides.{eqb_tells}
 use Rattle.std.proofs.lemmas.Grind.{get_or-set_at}
 use Rattle.std.proofs.lemmas.List.Folds.{list_any-append}
 use Rattle.lot_order.specs.Flags.{mark_at}
-use Rattle.blt_reader.specs.Blt.{IsIn}
-use Rattle.blt_reader.specs.declared.blt_stop.BltStop.{BltStop}
-use Rattle.blt_reader.specs.declared.blt_stop.BltStop.TheVariants as stop
+use Rattle.input_text.specs.Range.{IsIn}
+use Rattle.input_text.specs.declared.input_stop.InputStop.{InputStop}
+use Rattle.input_text.specs.declared.input_stop.InputStop.TheVariants as stop
 use Rattle.std.specs.List.{list_any}
 use Rattle.std.proofs.lemmas.Bool.{eq-eqb, ne_eqb, le-leb, lt-leb}
 use Rattle.candidate_roll.specs.Roll.{RollList}
-use Rattle.blt_reader.specs.declared.fault_kind.FaultKind.{FaultKind}
-use Rattle.blt_reader.specs.declared.fault_kind.FaultKind.TheVariants.{BadLots, WordExpected, BadPlaces, BadOmega}
-use Rattle.blt_reader.specs.declared.input_fault.InputFault.{InputFault}
-use Rattle.blt_reader.specs.declared.what.What.{What}
-use Rattle.blt_reader.specs.declared.what.What.TheVariants as code
-use Rattle.blt_reader.specs.Token.{Item, Number, Minus, Text, Word, Scan, with_front}
-use Rattle.blt_reader.specs.Reader.{said}
-use Rattle.blt_reader.specs.Judged.{Judged, then_on, Progress, GoesOn, Ends, reads}
-use Rattle.blt_reader.specs.Reads.{IsEnded, Stops, Accepts, as_number, Reads}
-use Rattle.blt_reader.proofs.Judgements.{refused, accepted, same_value, same_kind}
-use Rattle.blt_reader.proofs.Reading.{goes_on, ends_with, refused_at, ended_so, stops}
+use Rattle.input_text.specs.declared.fault_kind.FaultKind.{FaultKind}
+use Rattle.input_text.specs.declared.fault_kind.FaultKind.TheVariants.{BadLots, WordExpected, BadPlaces, BadOmega}
+use Rattle.input_text.specs.declared.input_fault.InputFault.{InputFault}
+use Rattle.input_text.specs.declared.what.What.{What}
+use Rattle.input_text.specs.declared.what.What.TheVariants as code
+use Rattle.input_text.specs.Token.{Item, Number, Minus, Text, Word, Scan, with_front}
+use Rattle.input_text.specs.Reader.{said}
+use Rattle.input_text.specs.Judged.{Judged, then_on, Progress, GoesOn, Ends, reads}
+use Rattle.input_text.specs.Reads.{IsEnded, Stops, Accepts, as_number, Reads}
+use Rattle.input_text.proofs.Judgements.{refused, accepted, same_value, same_kind}
+use Rattle.input_text.proofs.Reading.{goes_on, ends_with, refused_at, ended_so, stops}
 use Rattle.day_reader.specs.declared.keyword.Keyword.{Keyword}
 use Rattle.day_reader.specs.declared.keyword.Keyword.TheVariants as key
 use Rattle.day_reader.specs.declared.scale.Scale as scaled
@@ -226,6 +226,6 @@ one_marked_more candidates stood lots n is same marks c some within =
     ]
 
 -- lots as the code reads them, where they end
-pub lots_read : (candidates : ℕ) (start rest : Scan) (lots : List ℕ) (result : Result (List ℕ) BltStop) → reads (at_lot candidates) [] start ≡ Ok (lots, rest) → IfOk result (λ found. found ≡ lots) → IfErr result (λ why. why ≡ stop.NoMemory) → Reads (at_lot candidates) [] (λ (found : List ℕ). found) start result rest
+pub lots_read : (candidates : ℕ) (start rest : Scan) (lots : List ℕ) (result : Result (List ℕ) InputStop) → reads (at_lot candidates) [] start ≡ Ok (lots, rest) → IfOk result (λ found. found ≡ lots) → IfErr result (λ why. why ≡ stop.NoMemory) → Reads (at_lot candidates) [] (λ (found : List ℕ). found) start result rest
 lots_read candidates start rest lots (Ok found) is same memory = is ∙ ap (λ (l : List ℕ). Ok (l, rest)) (sym same)
-lots_read candidates start rest lots (Err why) is same memory = subst (λ (w : BltStop). Reads (at_lot candidates) [] (λ (found : List ℕ). found) start (Err w) rest) (sym memory) tt
+lots_read candidates start rest lots (Err why) is same memory = subst (λ (w : InputStop). Reads (at_lot candidates) [] (λ (found : List ℕ). found) start (Err w) rest) (sym memory) tt

@@ -1,13 +1,13 @@
 -- The words of day files, as the table reads them.
 use Rattle.std.proofs.Common.{◌≡◌, ℕ, List, cond, refl, sym, ap, subst, inl, inr, bytes_eq, Ok}
 use Rattle.std.specs.Prelude.{Option, Some, None, IfSome}
-use Rattle.blt_reader.specs.declared.what.What.{What}
-use Rattle.blt_reader.specs.declared.what.What.TheVariants as code
-use Rattle.blt_reader.specs.Reader.{said, says}
+use Rattle.input_text.specs.declared.what.What.{What}
+use Rattle.input_text.specs.declared.what.What.TheVariants as code
+use Rattle.input_text.specs.Reader.{said, says}
 use Rattle.std.proofs.lemmas.Slice.Eq.{bytes_eq-Decides}
-use Rattle.blt_reader.specs.Token.{Item, Number, Minus, Text, Word}
-use Rattle.blt_reader.specs.Judged.{Judged}
-use Rattle.blt_reader.proofs.Judgements.{refused, same_value, went}
+use Rattle.input_text.specs.Token.{Item, Number, Minus, Text, Word}
+use Rattle.input_text.specs.Judged.{Judged}
+use Rattle.input_text.proofs.Judgements.{refused, same_value, went}
 use Rattle.day_reader.specs.declared.keyword.Keyword.{Keyword}
 use Rattle.day_reader.specs.declared.keyword.Keyword.TheVariants.{Lots, Places, Omega, Team, Enter, Correct, Withdraw, Strike, Freeze, End}
 use Rattle.day_reader.specs.Keyword.{letters_of, word, keyword_of, as_keyword}

@@ -1,17 +1,17 @@
 -- What a table makes of the next token, and of a front that an inner table reads.
 use Rattle.std.proofs.Common.{◌≡◌, ℕ, ◌<◌, List, [], ◌∷◌, length, refl, ◌∙◌, ap, Ok, Err, arith, length-append}
 use Rattle.std.specs.Prelude.{Result, Bool}
-use Rattle.blt_reader.specs.declared.fault_kind.FaultKind.{FaultKind}
-use Rattle.blt_reader.specs.declared.input_fault.InputFault.{InputFault}
-use Rattle.blt_reader.specs.declared.blt_stop.BltStop.{BltStop}
-use Rattle.blt_reader.specs.declared.blt_stop.BltStop.TheVariants as stop
-use Rattle.blt_reader.specs.Token.{Item, Number, Minus, Text, Word, Placed, Ending, Scan, with_front}
-use Rattle.blt_reader.specs.Reader.{Reader}
-use Rattle.blt_reader.specs.Judged.{Judged, then_on, Progress, GoesOn, Ends, Stopped, carried_to, on_progress, front_of, reads}
-use Rattle.blt_reader.specs.Reads.{Stops, Accepts, as_number, IsBehind, Reads, tokens_left}
-use Rattle.blt_reader.proofs.Judgements.{accepted, same_kind}
-use Rattle.blt_reader.proofs.Tables.{behind_inner}
-use Rattle.blt_reader.proofs.Reading.{goes_on, ends_with, refused_at, stops}
+use Rattle.input_text.specs.declared.fault_kind.FaultKind.{FaultKind}
+use Rattle.input_text.specs.declared.input_fault.InputFault.{InputFault}
+use Rattle.input_text.specs.declared.input_stop.InputStop.{InputStop}
+use Rattle.input_text.specs.declared.input_stop.InputStop.TheVariants as stop
+use Rattle.input_text.specs.Token.{Item, Number, Minus, Text, Word, Placed, Ending, Scan, with_front}
+use Rattle.input_text.specs.Reader.{Reader}
+use Rattle.input_text.specs.Judged.{Judged, then_on, Progress, GoesOn, Ends, Stopped, carried_to, on_progress, front_of, reads}
+use Rattle.input_text.specs.Reads.{Stops, Accepts, as_number, IsBehind, Reads, tokens_left}
+use Rattle.input_text.proofs.Judgements.{accepted, same_kind}
+use Rattle.input_text.proofs.Tables.{behind_inner}
+use Rattle.input_text.proofs.Reading.{goes_on, ends_with, refused_at, stops}
 use Rattle.day_reader.specs.declared.keyword.Keyword.{Keyword}
 use Rattle.day_reader.specs.Keyword.{word, as_keyword}
 use Rattle.day_reader.specs.CallTable.{as_tested}
@@ -92,7 +92,7 @@ module _ {S V T W : Type 0} (inner : S → Item → Judged (Progress S V)) (oute
     within_stops fault e = within expected old ∙ ap (λ (r : Result (V × Scan) Stopped). behind_inner r (λ value rest. onward outer (behind value) rest)) e
 
     -- where the inner table fails, what led there fails
-    pub within_fails : {R Q : Type 0} (found : R → V) (value : Q → W) (begun : T) (start : Scan) (why : BltStop) → reads outer begun start ≡ reads outer (inside expected) old → Reads inner expected found old (Err why) new → Reads outer begun value start (Err why) new
+    pub within_fails : {R Q : Type 0} (found : R → V) (value : Q → W) (begun : T) (start : Scan) (why : InputStop) → reads outer begun start ≡ reads outer (inside expected) old → Reads inner expected found old (Err why) new → Reads outer begun value start (Err why) new
     within_fails found value begun start (stop.Fault fault) so_far is = so_far ∙ within_stops fault is
     within_fails found value begun start stop.NoMemory so_far is = tt
 
@@ -100,7 +100,7 @@ module _ {S V T W : Type 0} (inner : S → Item → Judged (Progress S V)) (oute
 
 module _ {V : Type 0} (whole part : Result (V × Scan) Stopped) (same : whole ≡ part) where
   -- what led to a text that fails, fails
-  pub leads_fail : {A B : Type 0} (why : BltStop) (to : A → Result (V × Scan) Stopped) (onto : B → Result (V × Scan) Stopped) (rest : Scan) → LeadsOrWants part (Err why) to rest → LeadsOrWants whole (Err why) onto rest
+  pub leads_fail : {A B : Type 0} (why : InputStop) (to : A → Result (V × Scan) Stopped) (onto : B → Result (V × Scan) Stopped) (rest : Scan) → LeadsOrWants part (Err why) to rest → LeadsOrWants whole (Err why) onto rest
   leads_fail (stop.Fault fault) to onto rest is = same ∙ is
   leads_fail stop.NoMemory to onto rest is = tt
 

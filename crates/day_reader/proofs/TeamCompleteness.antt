@@ -9,13 +9,15 @@ use Rattle.std.proofs.lemmas.List.Sums.{sum_by-append, sum_by-cons}
 use Rattle.batch_core.specs.declared.change.Change.TheVariants.{Enter, Correct, Withdraw}
 use Rattle.batch_core.specs.declared.call.Call.{Call}
 use Rattle.batch_core.specs.declared.call.Call.TheVariants.{Change, Freeze, Strike}
-use Rattle.blt_reader.specs.Token.{Item, Number}
-use Rattle.blt_reader.specs.Blt.{IsIn, ballots}
-use Rattle.blt_reader.specs.Judged.{Judged, then_on, after, Progress, GoesOn, Ends}
+use Rattle.input_text.specs.Token.{Item, Number}
+use Rattle.input_text.specs.Range.{IsIn}
+use Rattle.blt_reader.specs.Blt.{ballots}
+use Rattle.input_text.specs.Judged.{Judged, then_on, after, Progress, GoesOn, Ends, closed}
 use Rattle.blt_reader.specs.Front.{begun}
-use Rattle.blt_reader.proofs.Judgements.{to_range}
-use Rattle.blt_reader.proofs.Tables.{in_parts, closed, carried_is, place_of, carries}
-use Rattle.blt_reader.proofs.BallotCompleteness.{not_before}
+use Rattle.blt_reader.specs.Said.{ExpectsLinesRightly}
+use Rattle.input_text.proofs.Judgements.{to_range}
+use Rattle.input_text.proofs.Tables.{in_parts, carried_is, place_of, carries}
+use Rattle.input_text.proofs.Repeats.{not_before}
 use Rattle.day_reader.specs.declared.keyword.Keyword.{Keyword}
 use Rattle.day_reader.specs.declared.keyword.Keyword.TheVariants as key
 use Rattle.day_reader.specs.declared.script.Script.{Script}
@@ -39,7 +41,7 @@ number_in : (b : Bool) → b ≡ false → not b ≡ true
 number_in true e = sym e
 number_in false e = refl
 
-module _ (candidates : ℕ) where
+module _ (rightly : ExpectsLinesRightly) (candidates : ℕ) where
   -- a front part of teams
   front_of_teams : (before behind : List Script) → AreTeams candidates (before ++ behind) → AreTeams candidates before
   front_of_teams before behind are =
@@ -75,31 +77,31 @@ module _ (candidates : ℕ) where
     in_call items = carries (at_call candidates) Table (λ e. GoesOn (WithinCall before script e)) (λ c. GoesOn (InTeam before (with_call script c)))
         (λ e item. carried_is (λ more. WithinCall before script more) (λ c. InTeam before (with_call script c)) (at_call candidates e item)) items
 
-    begins : (keyword : Keyword) (first expected : InCall) (items : List Item) → in_team before script keyword ≡ Ok (GoesOn (WithinCall before script first)) → call.ReadsCall candidates first items (GoesOn expected) → ReadsTeams (InTeam before script) (word keyword ∷ items) (GoesOn (WithinCall before script expected))
+    begins : (keyword : Keyword) (first expected : InCall) (items : List Item) → in_team before script keyword ≡ Ok (GoesOn (WithinCall before script first)) → call.ReadsCall rightly candidates first items (GoesOn expected) → ReadsTeams (InTeam before script) (word keyword ∷ items) (GoesOn (WithinCall before script expected))
     begins keyword first expected items e read = word_read keyword (GoesOn (WithinCall before script first)) items e ∙ in_call items (GoesOn first) (GoesOn expected) read
 
-    whole : (keyword : Keyword) (first : InCall) (found : Call) (items : List Item) → in_team before script keyword ≡ Ok (GoesOn (WithinCall before script first)) → call.ReadsCall candidates first items (Ends found) → ReadsTeams (InTeam before script) (word keyword ∷ items) (GoesOn (InTeam before (with_call script found)))
+    whole : (keyword : Keyword) (first : InCall) (found : Call) (items : List Item) → in_team before script keyword ≡ Ok (GoesOn (WithinCall before script first)) → call.ReadsCall rightly candidates first items (Ends found) → ReadsTeams (InTeam before script) (word keyword ∷ items) (GoesOn (InTeam before (with_call script found)))
     whole keyword first found items e read = word_read keyword (GoesOn (WithinCall before script first)) items e ∙ in_call items (GoesOn first) (Ends found) read
 
     pub reads_begun_call : (expected : InCall) → IsBegunCall candidates expected → ReadsTeams (InTeam before script) (begun_call expected) (GoesOn (WithinCall before script expected))
     reads_begun_call EnterBatch is = begins key.Enter EnterBatch EnterBatch [] refl refl
     reads_begun_call CorrectBatch is = begins key.Correct CorrectBatch CorrectBatch [] refl refl
     reads_begun_call WithdrawBatch is = begins key.Withdraw WithdrawBatch WithdrawBatch [] refl refl
-    reads_begun_call (CorrectRevision batch) is = begins key.Correct CorrectBatch (CorrectRevision batch) (Number batch ∷ []) refl (call.reads_correct_batch candidates batch is)
-    reads_begun_call (WithdrawRevision batch) is = begins key.Withdraw WithdrawBatch (WithdrawRevision batch) (Number batch ∷ []) refl (call.reads_withdraw_batch candidates batch is)
-    reads_begun_call (EnterLines batch lines) is = begins key.Enter EnterBatch (EnterLines batch lines) (Number batch ∷ begun lines) refl (call.reads_enter_lines candidates batch lines is)
-    reads_begun_call (CorrectLines batch revision lines) is = begins key.Correct CorrectBatch (CorrectLines batch revision lines) (Number batch ∷ Number revision ∷ begun lines) refl (call.reads_correct_lines candidates batch revision lines is)
+    reads_begun_call (CorrectRevision batch) is = begins key.Correct CorrectBatch (CorrectRevision batch) (Number batch ∷ []) refl (call.reads_correct_batch rightly candidates batch is)
+    reads_begun_call (WithdrawRevision batch) is = begins key.Withdraw WithdrawBatch (WithdrawRevision batch) (Number batch ∷ []) refl (call.reads_withdraw_batch rightly candidates batch is)
+    reads_begun_call (EnterLines batch lines) is = begins key.Enter EnterBatch (EnterLines batch lines) (Number batch ∷ begun lines) refl (call.reads_enter_lines rightly candidates batch lines is)
+    reads_begun_call (CorrectLines batch revision lines) is = begins key.Correct CorrectBatch (CorrectLines batch revision lines) (Number batch ∷ Number revision ∷ begun lines) refl (call.reads_correct_lines rightly candidates batch revision lines is)
     reads_begun_call StrikeCandidate is = begins key.Strike StrikeCandidate StrikeCandidate [] refl refl
 
     reads_freeze : freezes (and_team before script) < 8 → in_team before script key.Freeze ≡ Ok (GoesOn (InTeam before (with_call script Freeze)))
     reads_freeze few = rw (lt-ltb (freezes (and_team before script)) 8 few) refl
 
     reads_call : (found : Call) → IsCall candidates found → freezes (and_team before script) + one_if (is_freeze found) ≤ 8 → ReadsTeams (InTeam before script) (call_items found) (GoesOn (InTeam before (with_call script found)))
-    reads_call (Change (Enter batch all)) is few = whole key.Enter EnterBatch (Change (Enter batch all)) (Number batch ∷ ballots all.lines) refl (call.reads_enter candidates batch all is.0 is.1)
-    reads_call (Change (Correct batch revision all)) is few = whole key.Correct CorrectBatch (Change (Correct batch revision all)) (Number batch ∷ Number revision ∷ ballots all.lines) refl (call.reads_correct candidates batch revision all is.0 is.1 is.2)
-    reads_call (Change (Withdraw batch revision)) is few = whole key.Withdraw WithdrawBatch (Change (Withdraw batch revision)) (Number batch ∷ Number revision ∷ []) refl (call.reads_withdraw candidates batch revision is.0 is.1)
+    reads_call (Change (Enter batch all)) is few = whole key.Enter EnterBatch (Change (Enter batch all)) (Number batch ∷ ballots all.lines) refl (call.reads_enter rightly candidates batch all is.0 is.1)
+    reads_call (Change (Correct batch revision all)) is few = whole key.Correct CorrectBatch (Change (Correct batch revision all)) (Number batch ∷ Number revision ∷ ballots all.lines) refl (call.reads_correct rightly candidates batch revision all is.0 is.1 is.2)
+    reads_call (Change (Withdraw batch revision)) is few = whole key.Withdraw WithdrawBatch (Change (Withdraw batch revision)) (Number batch ∷ Number revision ∷ []) refl (call.reads_withdraw rightly candidates batch revision is.0 is.1)
     reads_call Freeze is few = word_read key.Freeze (GoesOn (InTeam before (with_call script Freeze))) [] (reads_freeze (omega (arith, few)))
-    reads_call (Strike candidate) is few = whole key.Strike StrikeCandidate (Strike candidate) (Number candidate ∷ []) refl (call.reads_strike candidates candidate is)
+    reads_call (Strike candidate) is few = whole key.Strike StrikeCandidate (Strike candidate) (Number candidate ∷ []) refl (call.reads_strike rightly candidates candidate is)
 
   -- ---- a team
 
@@ -180,7 +182,7 @@ module _ (candidates : ℕ) where
       )
   teams_can_end (InTeam before script) is some = (word key.End ∷ [], and_team before script, team_can_end before script)
   teams_can_end (WithinCall before script expected) is some =
-      let rest = call.call_can_end candidates expected some in (
+      let rest = call.call_can_end rightly candidates expected some in (
         rest.0 ++ word key.End ∷ [],
         and_team before (with_call script rest.1),
         in_parts Table (GoesOn (WithinCall before script expected)) (GoesOn (InTeam before (with_call script rest.1))) rest.0 (word key.End ∷ []) (in_call before script rest.0 (GoesOn expected) (Ends rest.1) rest.2)

@@ -7,8 +7,8 @@ use Rattle.std.proofs.lemmas.List.Elements.{All-nil, All-push}
 use Rattle.std.proofs.lemmas.List.Sums.{sum_by_push}
 use Rattle.std.proofs.lemmas.Grind.{flat_map-append}
 use Rattle.batch_core.specs.declared.call.Call.{Call}
-use Rattle.blt_reader.specs.Token.{Item}
-use Rattle.blt_reader.specs.Blt.{IsIn}
+use Rattle.input_text.specs.Token.{Item}
+use Rattle.input_text.specs.Range.{IsIn}
 use Rattle.day_reader.specs.declared.script.Script.{Script}
 use Rattle.day_reader.specs.Call.{call_items, IsCall, is_freeze, freezes}
 use Rattle.day_reader.specs.Day.{AreDifferent, team_items, AreTeams}

@@ -4,14 +4,14 @@ use Rattle.std.specs.Prelude.{Result, IfOk, IfErr}
 use Rattle.std.proofs.lemmas.Bool.{lt-ltb, le-ltb}
 use Rattle.batch_core.specs.declared.call.Call.{Call}
 use Rattle.batch_core.specs.declared.call.Call.TheVariants as call
-use Rattle.blt_reader.specs.declared.fault_kind.FaultKind.TheVariants.{WordExpected, BadTeam, TooManyFreezes}
-use Rattle.blt_reader.specs.declared.input_fault.InputFault.{InputFault}
-use Rattle.blt_reader.specs.declared.blt_stop.BltStop.{BltStop}
-use Rattle.blt_reader.specs.declared.blt_stop.BltStop.TheVariants as stop
-use Rattle.blt_reader.specs.Token.{Scan, with_front}
-use Rattle.blt_reader.specs.Judged.{GoesOn, Ends, reads}
-use Rattle.blt_reader.specs.Reads.{Stops, Accepts, Reads}
-use Rattle.blt_reader.proofs.Reading.{inner_read, inner_stopped}
+use Rattle.input_text.specs.declared.fault_kind.FaultKind.TheVariants.{WordExpected, BadTeam, TooManyFreezes}
+use Rattle.input_text.specs.declared.input_fault.InputFault.{InputFault}
+use Rattle.input_text.specs.declared.input_stop.InputStop.{InputStop}
+use Rattle.input_text.specs.declared.input_stop.InputStop.TheVariants as stop
+use Rattle.input_text.specs.Token.{Scan, with_front}
+use Rattle.input_text.specs.Judged.{GoesOn, Ends, reads}
+use Rattle.input_text.specs.Reads.{Stops, Accepts, Reads}
+use Rattle.input_text.proofs.Reading.{inner_read, inner_stopped}
 use Rattle.day_reader.specs.declared.keyword.Keyword.{Keyword}
 use Rattle.day_reader.specs.declared.keyword.Keyword.TheVariants as key
 use Rattle.day_reader.specs.declared.script.Script.{Script}
@@ -57,7 +57,7 @@ module _ (candidates : ℕ) (before : List Script) where
 
       -- ---- the calls
 
-      pub call_read : (rest : Scan) (first : InCall) (result : Result Call BltStop) → in_team before script keyword ≡ Ok (GoesOn (WithinCall before script first)) → Reads (at_call candidates) first (λ (c : Call). c) new result rest
+      pub call_read : (rest : Scan) (first : InCall) (result : Result Call InputStop) → in_team before script keyword ≡ Ok (GoesOn (WithinCall before script first)) → Reads (at_call candidates) first (λ (c : Call). c) new result rest
           → LeadsOrWants (reads (at_teams candidates) (InTeam before script) old) result (λ c. reads (at_teams candidates) (InTeam before (with_call script c)) rest) rest
       unfolding at_teams
       call_read rest first (Ok found) leads is =
@@ -74,7 +74,7 @@ module _ (candidates : ℕ) (before : List Script) where
       freezes_no_more : 8 ≤ freezes (and_team before script) → in_team before script key.Freeze ≡ Err TooManyFreezes
       freezes_no_more many = rw (le-ltb (freezes (and_team before script)) 8 many) refl
 
-      pub freeze_read : (count more : ℕ) (result : Result Call BltStop) → keyword ≡ key.Freeze → freezes (and_team before script) ≡ count → IfOk result (λ c. (c ≡ call.Freeze) × (count < 8) × (more ≡ count + 1))
+      pub freeze_read : (count more : ℕ) (result : Result Call InputStop) → keyword ≡ key.Freeze → freezes (and_team before script) ≡ count → IfOk result (λ c. (c ≡ call.Freeze) × (count < 8) × (more ≡ count + 1))
           → IfErr result (λ why. (8 ≤ count) × (why ≡ stop.Fault (record { kind = TooManyFreezes; at = at })))
           → LeadsOrWants (reads (at_teams candidates) (InTeam before script) old) result (λ c. reads (at_teams candidates) (InTeam before (with_call script c)) new) new
       unfolding at_teams
@@ -83,7 +83,7 @@ module _ (candidates : ℕ) (before : List Script) where
           (ap (in_team before script) is ∙ freezes_now (subst (λ n. n < 8) (sym counts) frozen.1))
           ∙ ap (λ (c : Call). reads (at_teams candidates) (InTeam before (with_call script c)) new) (sym frozen.0)
       freeze_read count more (Err why) is counts frozen full =
-          subst (λ (w : BltStop). LeadsOrWants (reads (at_teams candidates) (InTeam before script) old) (Err w) (λ c. reads (at_teams candidates) (InTeam before (with_call script c)) new) new) (sym full.1)
+          subst (λ (w : InputStop). LeadsOrWants (reads (at_teams candidates) (InTeam before script) old) (Err w) (λ c. reads (at_teams candidates) (InTeam before (with_call script c)) new) new) (sym full.1)
           (word_refused (at_teams candidates) (InTeam before script) (in_team before script) old new keyword at refl given TooManyFreezes (ap (in_team before script) is ∙ freezes_no_more (subst (λ n. 8 ≤ n) (sym counts) full.0)))
 
       no_call : (k : Keyword) → (k ≡ key.Enter → ⊥) → (k ≡ key.Correct → ⊥) → (k ≡ key.Withdraw → ⊥) → (k ≡ key.Strike → ⊥) → (k ≡ key.Freeze → ⊥) → (EndsTeam k → ⊥) → in_team before script k ≡ Err WordExpected

@@ -1,9 +1,9 @@
 -- The words of day files.
 use Rattle.std.specs.Prelude.{ℕ, List, codes, if◌then◌else◌, Ok, Err}
 use Rattle.std.specs.Str.{bytes_eq}
-use Rattle.blt_reader.specs.declared.fault_kind.FaultKind.TheVariants.{WordExpected}
-use Rattle.blt_reader.specs.Token.{Item, Word}
-use Rattle.blt_reader.specs.Judged.{Judged}
+use Rattle.input_text.specs.declared.fault_kind.FaultKind.TheVariants.{WordExpected}
+use Rattle.input_text.specs.Token.{Item, Word}
+use Rattle.input_text.specs.Judged.{Judged}
 use Rattle.day_reader.specs.declared.keyword.Keyword.{Keyword}
 use Rattle.day_reader.specs.declared.keyword.Keyword.TheVariants.{Lots, Places, Omega, Team, Enter, Correct, Withdraw, Strike, Freeze, End}
 

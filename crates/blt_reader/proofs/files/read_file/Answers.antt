@@ -1,8 +1,8 @@
 use Rattle.std.proofs.Common.{◌≡◌, false, ap, subst, Ok, Err}
 use Rattle.std.proofs.lemmas.Result.{err_from_is_err_and}
-use Rattle.blt_reader.specs.Token.{Scan}
-use Rattle.blt_reader.specs.Reader.{Reader}
-use Rattle.blt_reader.specs.Scan.{scan}
+use Rattle.input_text.specs.Token.{Scan}
+use Rattle.input_text.specs.Reader.{Reader}
+use Rattle.input_text.specs.Scan.{scan}
 use Rattle.blt_reader.specs.Said.{of_a_file, said_by}
 use Rattle.blt_reader.specs.Reads.{SaysFile}
 use Rattle.blt_reader.proofs.FileSteps.{says_all, says_trailing, says_front}

@@ -1,9 +1,9 @@
 use Rattle.std.proofs.Common.{◌≡◌}
 use Rattle.blt_reader.specs.Poll.{Poll}
-use Rattle.blt_reader.specs.Judged.{outcome, Ends, ended}
+use Rattle.input_text.specs.Judged.{outcome, Ends, ended}
 use Rattle.blt_reader.specs.BallotTable.{Limit}
 use Rattle.blt_reader.specs.BltTable.{at_file_token}
-use Rattle.blt_reader.specs.Reads.{tokens_left}
+use Rattle.input_text.specs.Reads.{tokens_left}
 use Rattle.blt_reader.proofs.files.read_further.Given as goal
 
 abbrev pub invariant-loop-token : goal.invariant-loop-token

@@ -1,10 +1,10 @@
 use Rattle.std.proofs.Common.{◌≡◌, ℕ, ◌+◌, ◌==◌, List, length, take, slice_set, Bool, true, false, sym, ◌∙◌, ap, subst, arith, length-set}
 use Rattle.std.specs.List.{list_any}
 use Rattle.std.proofs.lemmas.Result.{err_from_is_err_and}
-use Rattle.blt_reader.specs.Judged.{reads}
+use Rattle.input_text.specs.Judged.{reads}
 use Rattle.blt_reader.specs.BallotTable.{at_rank}
 use Rattle.blt_reader.specs.Reads.{Marks}
-use Rattle.blt_reader.proofs.Reading.{behind_trans, fewer_left}
+use Rattle.input_text.proofs.Reading.{behind_trans, fewer_left}
 use Rattle.blt_reader.proofs.LineSteps.{rank_stops, line_ends, above, again, one_more}
 use Rattle.blt_reader.proofs.RankSteps.{room_for_one, one_put_in, one_put_in_ranked, one_put_in_marked}
 use Rattle.blt_reader.proofs.lines.read_ranks.Goals as goal

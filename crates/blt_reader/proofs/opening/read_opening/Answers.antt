@@ -1,7 +1,7 @@
 use Rattle.std.proofs.Common.{◌∙◌}
 use Rattle.std.proofs.lemmas.Result.{err_from_is_err_and}
 use Rattle.blt_reader.proofs.OpeningSteps.{candidates_stop, candidates_read, seats_stop, seats_read, Opens, opened, opening_fails}
-use Rattle.blt_reader.proofs.Reading.{behind_trans}
+use Rattle.input_text.proofs.Reading.{behind_trans}
 use Rattle.blt_reader.proofs.opening.read_opening.Goals as goal
 
 pub returns-in_err-candidates-clause-reads : goal.returns-in_err-candidates-clause-reads

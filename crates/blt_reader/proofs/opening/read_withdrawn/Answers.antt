@@ -1,11 +1,11 @@
 use Rattle.std.proofs.Common.{sym, ◌∙◌, ap, subst, arith}
 use Rattle.std.proofs.lemmas.Result.{err_from_is_err_and}
-use Rattle.blt_reader.specs.declared.fault_kind.FaultKind.TheVariants.{BadWithdrawn, BadNumber}
-use Rattle.blt_reader.specs.declared.what.What.{What}
-use Rattle.blt_reader.specs.Token.{with_front}
-use Rattle.blt_reader.specs.Reader.{said}
-use Rattle.blt_reader.specs.Blt.{IsIn}
-use Rattle.blt_reader.proofs.Reading.{behind_trans, behind_itself, fewer_left}
+use Rattle.input_text.specs.declared.fault_kind.FaultKind.TheVariants.{BadWithdrawn, BadNumber}
+use Rattle.input_text.specs.declared.what.What.{What}
+use Rattle.input_text.specs.Token.{with_front}
+use Rattle.input_text.specs.Reader.{said}
+use Rattle.input_text.specs.Range.{IsIn}
+use Rattle.input_text.proofs.Reading.{behind_trans, behind_itself, fewer_left}
 use Rattle.blt_reader.proofs.OpeningSteps.{one_withdrawn, listed_each, withdrawn_refused, withdrawn_ended, NotWithdrawn, bad_withdrawn, no_count}
 use Rattle.blt_reader.proofs.opening.read_withdrawn.Goals as goal
 use Rattle.blt_reader.proofs.opening.read_withdrawn.Goals.{then-n-ge1+else-n-candidates, else-n-ge1}

@@ -4,7 +4,7 @@ use Rattle.candidate_roll.specs.Roll.{withdrawn_marks}
 use Rattle.blt_reader.specs.BallotTable.{Limit}
 use Rattle.blt_reader.specs.Election.{poll}
 use Rattle.blt_reader.proofs.RollSteps.{HeadingOf, ballots_fail, ballots_read, names_stop, title_stop, all_read}
-use Rattle.blt_reader.proofs.Reading.{behind_trans}
+use Rattle.input_text.proofs.Reading.{behind_trans}
 use Rattle.blt_reader.proofs.rolls.read_up_to_title.Goals as goal
 
 pub returns-in_err-ballots-clause-reads : goal.returns-in_err-ballots-clause-reads

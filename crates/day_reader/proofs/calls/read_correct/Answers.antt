@@ -1,6 +1,6 @@
 use Rattle.std.proofs.Common.{◌∙◌}
 use Rattle.std.proofs.lemmas.Result.{err_from_is_err_and}
-use Rattle.blt_reader.proofs.Reading.{behind_trans}
+use Rattle.input_text.proofs.Reading.{behind_trans}
 use Rattle.day_reader.proofs.CallSteps.{correct_stops, correct_batch, correct_revision_stops, correct_revision, correcting_fails, correcting_read}
 use Rattle.day_reader.proofs.calls.read_correct.Goals as goal
 

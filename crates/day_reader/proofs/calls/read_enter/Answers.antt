@@ -1,5 +1,5 @@
 use Rattle.std.proofs.lemmas.Result.{err_from_is_err_and}
-use Rattle.blt_reader.proofs.Reading.{behind_trans}
+use Rattle.input_text.proofs.Reading.{behind_trans}
 use Rattle.day_reader.proofs.CallSteps.{enter_stops, enter_batch, entering_fails, entering_read}
 use Rattle.day_reader.proofs.calls.read_enter.Goals as goal
 

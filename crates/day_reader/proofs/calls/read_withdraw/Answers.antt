@@ -1,6 +1,6 @@
 use Rattle.std.proofs.Common.{◌∙◌}
 use Rattle.std.proofs.lemmas.Result.{err_from_is_err_and}
-use Rattle.blt_reader.proofs.Reading.{behind_trans}
+use Rattle.input_text.proofs.Reading.{behind_trans}
 use Rattle.day_reader.proofs.CallSteps.{withdraw_stops, withdraw_batch, withdraw_revision_stops, withdraw_revision}
 use Rattle.day_reader.proofs.calls.read_withdraw.Goals as goal
 

@@ -1,6 +1,6 @@
 use Rattle.std.proofs.Common.{Err, sym, ◌∙◌}
 use Rattle.std.proofs.lemmas.Result.{err_from_is_err_and}
-use Rattle.blt_reader.proofs.Reading.{behind_trans}
+use Rattle.input_text.proofs.Reading.{behind_trans}
 use Rattle.day_reader.specs.DayTable.{BehindTitle, BehindLots}
 use Rattle.day_reader.proofs.DaySteps.{roll_fails, roll_read, goes_on_to, leads_to_none}
 use Rattle.day_reader.proofs.days.read_to_end.Goals as goal

@@ -2,9 +2,9 @@ use Rattle.std.proofs.Common.{◌≡◌, ◌≢◌, ℕ, ◌-◌, ◌≤◌, ◌
 use Rattle.std.specs.List.{list_any}
 use Rattle.std.proofs.lemmas.Result.{err_from_is_err_and}
 use Rattle.lot_order.specs.Flags.{mark_at}
-use Rattle.blt_reader.specs.Blt.{IsIn}
-use Rattle.blt_reader.specs.Judged.{reads}
-use Rattle.blt_reader.proofs.Reading.{behind_trans}
+use Rattle.input_text.specs.Range.{IsIn}
+use Rattle.input_text.specs.Judged.{reads}
+use Rattle.input_text.proofs.Reading.{behind_trans}
 use Rattle.day_reader.specs.Day.{AreDifferent, AreAllLots}
 use Rattle.day_reader.specs.DayTable.{at_lot}
 use Rattle.day_reader.proofs.DifferentNumbers.{one_number_more, at_most}

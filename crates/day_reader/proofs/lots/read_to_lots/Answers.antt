@@ -1,8 +1,8 @@
 use Rattle.std.proofs.Common.{ℕ, List, sym, ◌∙◌, ap}
-use Rattle.blt_reader.specs.Token.{with_front}
-use Rattle.blt_reader.specs.Reader.{said}
+use Rattle.input_text.specs.Token.{with_front}
+use Rattle.input_text.specs.Reader.{said}
 use Rattle.std.proofs.lemmas.Result.{err_from_is_err_and}
-use Rattle.blt_reader.proofs.Reading.{behind_trans}
+use Rattle.input_text.proofs.Reading.{behind_trans}
 use Rattle.day_reader.proofs.Steps.{leads}
 use Rattle.day_reader.proofs.HeadSteps.{string_passed, title_ends, title_word}
 use Rattle.day_reader.proofs.lots.read_to_lots.Goals as goal

@@ -1,7 +1,7 @@
 use Rattle.std.proofs.Common.{◌≡◌}
 use Rattle.candidate_roll.specs.Roll.{RollList}
-use Rattle.blt_reader.specs.Judged.{reads}
-use Rattle.blt_reader.specs.Reads.{IsBehind, tokens_left}
+use Rattle.input_text.specs.Judged.{reads}
+use Rattle.input_text.specs.Reads.{IsBehind, tokens_left}
 use Rattle.day_reader.specs.DayTable.{BehindTitle, at_token}
 use Rattle.day_reader.proofs.lots.read_to_lots.Given as goal
 

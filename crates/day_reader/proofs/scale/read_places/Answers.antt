@@ -1,7 +1,7 @@
 use Rattle.std.proofs.Common.{refl, ◌∙◌}
 use Rattle.std.specs.Prelude.{Some}
 use Rattle.std.proofs.lemmas.Result.{err_from_is_err_and}
-use Rattle.blt_reader.proofs.Reading.{behind_trans}
+use Rattle.input_text.proofs.Reading.{behind_trans}
 use Rattle.day_reader.specs.Day.{Scale}
 use Rattle.day_reader.specs.DayTable.{BehindOmega, behind_head}
 use Rattle.day_reader.proofs.HeadSteps.{places_stop, places_read, places_end_stops, omega_missing, omega_word, omega_stops, omega_read, omega_end_stops, head_leads, head_fails, behind_omega}

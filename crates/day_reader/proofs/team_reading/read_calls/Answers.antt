@@ -1,9 +1,9 @@
 use Rattle.std.proofs.Common.{ℕ, ◌+◌, ◌<◌, ◌≤◌, length, sym, ◌∙◌, ap, arith}
 use Rattle.std.proofs.lemmas.List.{length_push}
 use Rattle.std.proofs.lemmas.Result.{err_from_is_err_and}
-use Rattle.blt_reader.specs.Token.{Scan}
-use Rattle.blt_reader.specs.Judged.{reads}
-use Rattle.blt_reader.proofs.Reading.{behind_trans}
+use Rattle.input_text.specs.Token.{Scan}
+use Rattle.input_text.specs.Judged.{reads}
+use Rattle.input_text.proofs.Reading.{behind_trans}
 use Rattle.day_reader.specs.declared.script.Script.{Script}
 use Rattle.day_reader.specs.Call.{is_freeze, freezes}
 use Rattle.day_reader.specs.TeamTable.{InTeam, and_team, at_teams}

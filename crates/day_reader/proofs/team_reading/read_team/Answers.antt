@@ -1,8 +1,8 @@
 use Rattle.std.proofs.Common.{List, sym, ◌∙◌, ap}
 use Rattle.std.proofs.lemmas.Result.{err_from_is_err_and}
 use Rattle.batch_core.specs.declared.call.Call.{Call}
-use Rattle.blt_reader.specs.Judged.{reads}
-use Rattle.blt_reader.proofs.Reading.{behind_trans}
+use Rattle.input_text.specs.Judged.{reads}
+use Rattle.input_text.proofs.Reading.{behind_trans}
 use Rattle.day_reader.specs.declared.script.Script.{Script}
 use Rattle.day_reader.specs.TeamTable.{InTeam, at_teams}
 use Rattle.day_reader.specs.Reads.{next_team}

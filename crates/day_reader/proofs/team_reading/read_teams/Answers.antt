@@ -1,6 +1,6 @@
 use Rattle.std.proofs.Common.{Bool, ◌∙◌, ap}
 use Rattle.std.proofs.lemmas.Result.{err_from_is_err_and}
-use Rattle.blt_reader.proofs.Reading.{behind_trans}
+use Rattle.input_text.proofs.Reading.{behind_trans}
 use Rattle.day_reader.specs.Reads.{next_team}
 use Rattle.day_reader.proofs.Steps.{leads_fail}
 use Rattle.day_reader.proofs.team_reading.read_teams.Goals as goal
