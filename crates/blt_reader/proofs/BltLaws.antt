@@ -20,30 +20,44 @@ use Rattle.input_text.proofs.Ruling.{front_behind, Follows, expects, follows_ope
 use Rattle.input_text.proofs.FrontRuling.{reads_fronts, refuses_fronts}
 
 module _ (limit : Limit) where
-  roll_read : (expected : Progress Expected Poll) (items : List Item) → IsRollFront limit.most expected items → after (at_roll_token limit) (GoesOn Candidates) items ≡ Ok expected
+  roll_read :
+      (expected : Progress Expected Poll) (items : List Item) → IsRollFront limit.most expected items
+      → after (at_roll_token limit) (GoesOn Candidates) items ≡ Ok expected
   roll_read (GoesOn expected) items front = reads_front limit nothing_more expected items front
   roll_read (Ends poll) items front = reads_up_to_title limit nothing_more items poll front
 
-  file_read : (expected : Progress Expected Poll) (items : List Item) → IsFileFront limit.most expected items → after (at_file_token limit) (GoesOn Candidates) items ≡ Ok expected
+  file_read :
+      (expected : Progress Expected Poll) (items : List Item) → IsFileFront limit.most expected items
+      → after (at_file_token limit) (GoesOn Candidates) items ≡ Ok expected
   file_read (GoesOn expected) items front = reads_front limit behind_title expected items front
   file_read (Ends poll) items front = reads_blt limit items poll front
 
   abbrev Completes : (Progress Expected Poll → Item → Judged (Progress Expected Poll)) → Progress Expected Poll → Type 0
-  Completes table expected = (more : List Item) × (last : Progress Expected Poll) × (poll : Poll) × (after table expected more ≡ Ok last) × (ended last ≡ Some poll)
+  Completes table expected =
+      (more : List Item) × (last : Progress Expected Poll) × (poll : Poll) × (after table expected more ≡ Ok last)
+      × (ended last ≡ Some poll)
 
-  roll_completes : (expected : Progress Expected Poll) (items : List Item) → IsRollFront limit.most expected items → Completes (at_roll_token limit) expected
+  roll_completes :
+      (expected : Progress Expected Poll) (items : List Item) → IsRollFront limit.most expected items
+      → Completes (at_roll_token limit) expected
   roll_completes (GoesOn expected) items front = let rest = can_go_on limit nothing_more expected items front in (rest.0, Ends rest.1, rest.1, rest.2, refl)
   roll_completes (Ends poll) items front = ([], Ends poll, poll, refl, refl)
 
-  file_completes : (expected : Progress Expected Poll) (items : List Item) → IsFileFront limit.most expected items → Completes (at_file_token limit) expected
+  file_completes :
+      (expected : Progress Expected Poll) (items : List Item) → IsFileFront limit.most expected items
+      → Completes (at_file_token limit) expected
   file_completes (GoesOn expected) items front = let rest = can_go_on limit behind_title expected items front in (rest.0, Ends rest.1, rest.1, rest.2, refl)
   file_completes (Ends poll) items front = ([], Ends poll, poll, refl, refl)
 
-  roll_ends : (expected : Progress Expected Poll) (poll : Poll) (items : List Item) → IsRollFront limit.most expected items → ended expected ≡ Some poll → IsUpToTitle limit.most items poll
+  roll_ends :
+      (expected : Progress Expected Poll) (poll : Poll) (items : List Item) → IsRollFront limit.most expected items
+      → ended expected ≡ Some poll → IsUpToTitle limit.most items poll
   roll_ends (GoesOn expected) poll items front is = absurd (none_not is)
   roll_ends (Ends value) poll items front is = subst (IsUpToTitle limit.most items) (same_some is) front
 
-  file_ends : (expected : Progress Expected Poll) (poll : Poll) (items : List Item) → IsFileFront limit.most expected items → ended expected ≡ Some poll → IsBlt limit.most items poll
+  file_ends :
+      (expected : Progress Expected Poll) (poll : Poll) (items : List Item) → IsFileFront limit.most expected items
+      → ended expected ≡ Some poll → IsBlt limit.most items poll
   file_ends (GoesOn expected) poll items front is = absurd (none_not is)
   file_ends (Ends value) poll items front is = subst (IsBlt limit.most items) (same_some is) front
 

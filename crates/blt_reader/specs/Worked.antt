@@ -1,5 +1,5 @@
 -- Ballot files worked by hand.
-use Rattle.std.specs.Prelude.{◌≡◌, ℕ, List, [], ◌∷◌, ◌++◌, true, false, codes, replicate, Result, Ok, Err}
+use Rattle.std.specs.Prelude.{◌≡◌, ℕ, [], ◌∷◌, ◌++◌, true, false, codes, replicate, Result, Ok, Err}
 use Rattle.input_text.specs.declared.fault_kind.FaultKind.{FaultKind}
 use Rattle.input_text.specs.declared.fault_kind.FaultKind.TheVariants.{BadByte, BadNumber, BadHeader, BadWithdrawn, NoSuchCandidate, Repeated, TooManyBallots, NameExpected, TooLongName, Ended, Trailing}
 use Rattle.input_text.specs.declared.input_fault.InputFault.{InputFault}

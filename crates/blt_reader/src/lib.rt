@@ -17,8 +17,7 @@ mod worked;
 
 pub use election::Election;
 pub use files::read_blt;
-pub use input_text::InputStop as BltStop;
-pub use input_text::{FaultKind, InputFault, Next, Token, Tokens, What};
+pub use input_text::{FaultKind, InputFault, InputStop as BltStop, Next, Token, Tokens, What};
 pub use laws::{
     accepts_files, accepts_rolls, expects_lines_rightly, expects_rightly, expects_rolls_rightly,
     follows_open_lists, has_one_poll, refuses_all_else, refuses_by_the_rule,

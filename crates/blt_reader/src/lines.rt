@@ -171,11 +171,7 @@ fn short_ranks(
 // The next token where it is a short number of a candidate who isn't named yet, and its place. Else
 // nothing is taken.
 #[inline(always)]
-fn next_unnamed(
-    tokens: &mut Tokens<'_>,
-    candidates: u32,
-    named: &Named,
-) -> Option<(u32, usize)>
+fn next_unnamed(tokens: &mut Tokens<'_>, candidates: u32, named: &Named) -> Option<(u32, usize)>
     requires { length named.now ≡ candidates + 1 }
     ensures number { IfSome result (λ found. tokens.old.rest ≡ with_front (record { at = found.1; item = Number found.0 }) tokens.new.rest) }
     ensures candidate { IfSome result (λ found. (1 ≤ found.0) × (found.0 ≤ candidates)) }

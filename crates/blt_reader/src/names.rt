@@ -6,8 +6,8 @@ ghost use Rattle.input_text.specs.declared.input_stop.InputStop.TheVariants as s
 ghost use Rattle.input_text.specs.Reads.{IsBehind, Stops, Accepts, IfFault};
 ghost use Rattle.blt_reader.specs.Reads.{as_name, ReadsNames};
 
-use input_text::{FaultKind, InputStop, Tokens, What};
 use candidate_roll::{Name, NameStop, Names};
+use input_text::{FaultKind, InputStop, Tokens, What};
 use std::alloc::Global;
 
 /// A name, or a title, of at most `MAX` bytes.

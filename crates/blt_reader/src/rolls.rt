@@ -7,12 +7,12 @@ ghost use Rattle.blt_reader.specs.Said.{limit_of, IsRollOf, IsRollRefusal};
 ghost use Rattle.input_text.specs.Reads.{IsBehind, IfFault, Reads};
 ghost use Rattle.blt_reader.specs.Election.{poll};
 
+use crate::Election;
 use crate::lines::read_lines_from;
 use crate::names::{read_name, read_names};
 use crate::opening::read_opening;
-use crate::Election;
-use input_text::{FaultKind, InputStop, Tokens};
 use candidate_roll::{Name, Names, Roll, RollStop};
+use input_text::{FaultKind, InputStop, Tokens};
 use std::alloc::Global;
 
 /// Reads a file up to its title and no further: an Ok leaves the reader right behind the title.

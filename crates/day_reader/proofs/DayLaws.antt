@@ -15,15 +15,22 @@ use Rattle.day_reader.proofs.DaySoundness.{day_goes_on}
 use Rattle.day_reader.proofs.DayCompleteness.{reads_front, reads_day, can_go_on}
 
 module _ (shared : Shared) where
-  day_read : (expected : Progress Expected Day) (items : List Item) → IsFileFront expected items → after at_file_token start items ≡ Ok expected
+  day_read :
+      (expected : Progress Expected Day) (items : List Item) → IsFileFront expected items
+      → after at_file_token start items ≡ Ok expected
   day_read (GoesOn expected) items front = reads_front shared expected items front
   day_read (Ends day) items front = reads_day shared items day front
 
-  day_completes : (expected : Progress Expected Day) (items : List Item) → IsFileFront expected items → (more : List Item) × (last : Progress Expected Day) × (day : Day) × (after at_file_token expected more ≡ Ok last) × (ended last ≡ Some day)
+  day_completes :
+      (expected : Progress Expected Day) (items : List Item) → IsFileFront expected items
+      → (more : List Item) × (last : Progress Expected Day) × (day : Day) × (after at_file_token expected more ≡ Ok last)
+      × (ended last ≡ Some day)
   day_completes (GoesOn expected) items front = let rest = can_go_on shared expected items front in (rest.0, Ends rest.1, rest.1, rest.2, refl)
   day_completes (Ends day) items front = ([], Ends day, day, refl, refl)
 
-  day_ends : (expected : Progress Expected Day) (day : Day) (items : List Item) → IsFileFront expected items → ended expected ≡ Some day → IsDay items day
+  day_ends :
+      (expected : Progress Expected Day) (day : Day) (items : List Item) → IsFileFront expected items → ended expected ≡ Some day
+      → IsDay items day
   day_ends (GoesOn expected) day items front is = absurd (none_not is)
   day_ends (Ends value) day items front is = subst (IsDay items) (same_some is) front
 

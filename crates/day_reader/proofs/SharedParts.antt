@@ -64,7 +64,8 @@ module _ (rightly : ExpectsLinesRightly) (candidates : ℕ) (limit : Limit) wher
       one_more LineTable Begin (IsLineFront candidates limit.most) (rightly candidates limit) (GoesOn lines) next item (begun lines)
       (are, refl) e
 
-  pub reads_begun : (lines : Lines) → AreBegun candidates limit.most lines → after LineTable Begin (begun lines) ≡ Ok (GoesOn lines)
+  pub reads_begun :
+      (lines : Lines) → AreBegun candidates limit.most lines → after LineTable Begin (begun lines) ≡ Ok (GoesOn lines)
   reads_begun lines are = (rightly candidates limit (begun lines) (GoesOn lines)).1 (are, refl)
 
   pub reads_ballots :

@@ -15,8 +15,8 @@ use crate::scale::{Scale, read_scale};
 use crate::team_reading::read_scripts;
 use crate::{Day, Scripts};
 use blt_reader::read_roll;
-use input_text::{FaultKind, InputFault, InputStop, Next, Tokens};
 use candidate_roll::Roll;
+use input_text::{FaultKind, InputFault, InputStop, Next, Tokens};
 use lot_order::Lots;
 use std::alloc::Global;
 

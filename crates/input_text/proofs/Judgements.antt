@@ -28,12 +28,15 @@ module _ {A E : Type 0} where
   same_kind {a} e = ap (kind_or a) e
 
   -- a test that has to have passed
-  pub passed : (b : Bool) (v y : A) (kind : E) → ◌≡◌ {A = Result A E} (cond b (Ok v) (Err kind)) (Ok y) → (b ≡ true) × (v ≡ y)
+  pub passed :
+      (b : Bool) (v y : A) (kind : E) → ◌≡◌ {A = Result A E} (cond b (Ok v) (Err kind)) (Ok y) → (b ≡ true) × (v ≡ y)
   passed true v y kind e = (refl, same_value e)
   passed false v y kind e = absurd (refused e)
 
 -- a test that can't have passed, whatever would have come of it
-pub failed : {A B E : Type 0} (b : Bool) (v : A) (w : B) (kind other : E) → ◌≡◌ {A = Result A E} (cond b (Ok v) (Err kind)) (Err other) → ◌≡◌ {A = Result B E} (cond b (Ok w) (Err kind)) (Err other)
+pub failed :
+    {A B E : Type 0} (b : Bool) (v : A) (w : B) (kind other : E) → ◌≡◌ {A = Result A E} (cond b (Ok v) (Err kind)) (Err other)
+    → ◌≡◌ {A = Result B E} (cond b (Ok w) (Err kind)) (Err other)
 failed true v w kind other e = absurd (accepted e)
 failed false v w kind other e = ap Err (same_kind e)
 

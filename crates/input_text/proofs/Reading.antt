@@ -15,7 +15,8 @@ use Rattle.input_text.proofs.Tables.{behind_inner, reads_inner}
 
 -- ---- where the reader stands
 
-pub behind_one : (old new : Reader) (token : Placed) → new.bytes ≡ old.bytes → old.rest ≡ with_front token new.rest → IsBehind old new
+pub behind_one :
+    (old new : Reader) (token : Placed) → new.bytes ≡ old.bytes → old.rest ≡ with_front token new.rest → IsBehind old new
 behind_one old new token bytes given = record {
   bytes = bytes;
   given = token ∷ [];
@@ -62,20 +63,29 @@ module _ {S V : Type 0} (table : S → Item → Judged (Progress S V)) (expected
   abbrev Made : Placed → Judged (Progress S V) → Result (V × Scan) Stopped
   Made token judged = on_progress token.at judged new (λ next. reads table next new)
 
-  taken : (token : Placed) (judged : Judged (Progress S V)) → old ≡ with_front token new → table expected token.item ≡ judged → reads table expected old ≡ Made token judged
+  taken :
+      (token : Placed) (judged : Judged (Progress S V)) → old ≡ with_front token new → table expected token.item ≡ judged
+      → reads table expected old ≡ Made token judged
   unfolding front_of
   taken token judged given is = ap (λ (s : Scan). reads table expected s) given ∙ ap (Made token) is
 
-  pub goes_on : (token : Placed) (next : S) → old ≡ with_front token new → table expected token.item ≡ Ok (GoesOn next) → reads table expected old ≡ reads table next new
+  pub goes_on :
+      (token : Placed) (next : S) → old ≡ with_front token new → table expected token.item ≡ Ok (GoesOn next)
+      → reads table expected old ≡ reads table next new
   goes_on token next given is = taken token (Ok (GoesOn next)) given is
 
-  pub ends_with : (token : Placed) (value : V) → old ≡ with_front token new → table expected token.item ≡ Ok (Ends value) → reads table expected old ≡ Ok (value, new)
+  pub ends_with :
+      (token : Placed) (value : V) → old ≡ with_front token new → table expected token.item ≡ Ok (Ends value)
+      → reads table expected old ≡ Ok (value, new)
   ends_with token value given is = taken token (Ok (Ends value)) given is
 
-  pub refused_at : (token : Placed) (kind : FaultKind) → old ≡ with_front token new → table expected token.item ≡ Err kind → reads table expected old ≡ Err (record { fault = record { kind = kind; at = token.at }; rest = new })
+  pub refused_at :
+      (token : Placed) (kind : FaultKind) → old ≡ with_front token new → table expected token.item ≡ Err kind
+      → reads table expected old ≡ Err (record { fault = record { kind = kind; at = token.at }; rest = new })
   refused_at token kind given is = taken token (Err kind) given is
 
-  pub ended_so : (fault : InputFault) → IsEnded old fault new → reads table expected old ≡ Err (record { fault = fault; rest = new })
+  pub ended_so :
+      (fault : InputFault) → IsEnded old fault new → reads table expected old ≡ Err (record { fault = fault; rest = new })
   unfolding front_of
   ended_so fault is =
       let whole : old ≡ ends old.ending = ap (λ (l : List Placed). record { tokens = l; ending = old.ending }) is.none_left in
@@ -84,9 +94,14 @@ module _ {S V : Type 0} (table : S → Item → Judged (Progress S V)) (expected
       ∙ ap (λ (s : Scan). Err (record { fault = fault; rest = s })) (sym (is.same ∙ whole))
 
   -- a token that this judgement refuses, as the table does, or none
-  pub stops : {A : Type 0} (judge : Item → Judged A) (fault : InputFault) → ((item : Item) (kind : FaultKind) → judge item ≡ Err kind → table expected item ≡ Err kind) → Stops judge old fault new → reads table expected old ≡ Err (record { fault = fault; rest = new })
+  pub stops :
+      {A : Type 0} (judge : Item → Judged A) (fault : InputFault)
+      → ((item : Item) (kind : FaultKind) → judge item ≡ Err kind → table expected item ≡ Err kind) → Stops judge old fault new
+      → reads table expected old ≡ Err (record { fault = fault; rest = new })
   stops judge fault alike (inl is) = ended_so fault is
-  stops judge fault alike (inr is) = refused_at is.token fault.kind is.given (alike is.token.item fault.kind is.kind) ∙ ap (λ (at : ℕ). Err (record { fault = record { kind = fault.kind; at = at }; rest = new })) is.place
+  stops judge fault alike (inr is) =
+      refused_at is.token fault.kind is.given (alike is.token.item fault.kind is.kind)
+      ∙ ap (λ (at : ℕ). Err (record { fault = record { kind = fault.kind; at = at }; rest = new })) is.place
 
 -- ---- what a table makes of a front that an inner table reads
 
@@ -95,12 +110,18 @@ module _ {S V T W : Type 0} (inner : S → Item → Judged (Progress S V)) (oute
   in_two : reads outer (inside expected) old ≡ behind_inner (reads inner expected old) (λ value rest. reads outer (behind value) rest)
   in_two = reads_inner inner outer inside behind same old.tokens old.ending expected
 
-  pub inner_read : (value : V) (new : Scan) → reads inner expected old ≡ Ok (value, new) → reads outer (inside expected) old ≡ reads outer (behind value) new
+  pub inner_read :
+      (value : V) (new : Scan) → reads inner expected old ≡ Ok (value, new)
+      → reads outer (inside expected) old ≡ reads outer (behind value) new
   inner_read value new e = in_two ∙ ap (λ (r : Result (V × Scan) Stopped). behind_inner r (λ value rest. reads outer (behind value) rest)) e
 
-  pub inner_stopped : (stopped : Stopped) → reads inner expected old ≡ Err stopped → reads outer (inside expected) old ≡ Err stopped
+  pub inner_stopped :
+      (stopped : Stopped) → reads inner expected old ≡ Err stopped → reads outer (inside expected) old ≡ Err stopped
   inner_stopped stopped e = in_two ∙ ap (λ (r : Result (V × Scan) Stopped). behind_inner r (λ value rest. reads outer (behind value) rest)) e
 
-  pub inner_fails : {R Q : Type 0} (found : R → V) (value : Q → W) (begun : T) (start new : Scan) (why : InputStop) → reads outer begun start ≡ reads outer (inside expected) old → Reads inner expected found old (Err why) new → Reads outer begun value start (Err why) new
+  pub inner_fails :
+      {R Q : Type 0} (found : R → V) (value : Q → W) (begun : T) (start new : Scan) (why : InputStop)
+      → reads outer begun start ≡ reads outer (inside expected) old → Reads inner expected found old (Err why) new
+      → Reads outer begun value start (Err why) new
   inner_fails found value begun start new (stop.Fault fault) so_far is = so_far ∙ inner_stopped (record { fault = fault; rest = new }) is
   inner_fails found value begun start new stop.NoMemory so_far is = tt

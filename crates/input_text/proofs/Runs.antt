@@ -27,16 +27,22 @@ digit_is : (b : ℕ) → is_ascii_digit b ≡ true → digit_value b ≡ b - 48
 digit_is b digit = grind arith
 
 -- one more digit
-pub number_more : (digits : List ℕ) (i : ℕ) → i < length digits → is_ascii_digit (get_or digits i 0) ≡ true → number (take (i + 1) digits) ≡ min (number (take i digits) * 10 + (get_or digits i 0 - 48)) 4294967295
+pub number_more :
+    (digits : List ℕ) (i : ℕ) → i < length digits → is_ascii_digit (get_or digits i 0) ≡ true
+    → number (take (i + 1) digits) ≡ min (number (take i digits) * 10 + (get_or digits i 0 - 48)) 4294967295
 number_more digits i within digit =
     let value = digits_value_more 10 digits i within in
     let last = digit_is (get_or digits i 0) digit in
     rw (value, last) (sym (capped (digits_value 10 (take i digits)) (get_or digits i 0 - 48)))
 
 -- the same of so many bytes of the rest of a text
-pub inner_passes : (p : ℕ → Bool) (behind rest : List ℕ) (n m : ℕ) → behind ≡ rest → n ≡ prefix_len p behind → m ≡ n → AllPass p (take m rest)
-inner_passes p behind rest n m same is eq = subst (λ (k : ℕ). AllPass p (take k rest)) (sym (eq ∙ is ∙ ap (λ (l : List ℕ). prefix_len p l) same)) (run_passes p rest)
+pub inner_passes :
+    (p : ℕ → Bool) (behind rest : List ℕ) (n m : ℕ) → behind ≡ rest → n ≡ prefix_len p behind → m ≡ n → AllPass p (take m rest)
+inner_passes p behind rest n m same is eq =
+    subst (λ (k : ℕ). AllPass p (take k rest)) (sym (eq ∙ is ∙ ap (λ (l : List ℕ). prefix_len p l) same)) (run_passes p rest)
 
 -- where a run ends
-pub run_len : (p : ℕ → Bool) (xs : List ℕ) (n : ℕ) → n ≤ length xs → ((k : ℕ) → k < n → p (get_or xs k 0) ≡ true) → (n < length xs → p (get_or xs n 0) ≡ false) → n ≡ prefix_len p xs
+pub run_len :
+    (p : ℕ → Bool) (xs : List ℕ) (n : ℕ) → n ≤ length xs → ((k : ℕ) → k < n → p (get_or xs k 0) ≡ true)
+    → (n < length xs → p (get_or xs n 0) ≡ false) → n ≡ prefix_len p xs
 run_len p xs n within passes stops = sym (prefix_len_is p xs n 0 within passes stops)

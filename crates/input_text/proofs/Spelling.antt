@@ -13,7 +13,8 @@ use Rattle.input_text.specs.Written.{Spells, Each, IsWhole}
 use Rattle.input_text.proofs.WrittenRuns.{run_len, run_is, drop_front, take_front, digits_of, no_digit, no_letter}
 
 -- a token at the front, and what is behind it
-lexed : (at : ℕ) (b : ℕ) (behind : List ℕ) (item : Item) (n : ℕ) → piece true (b ∷ behind) ≡ Lexeme item (suc n) → n ≤ length behind
+lexed :
+    (at : ℕ) (b : ℕ) (behind : List ℕ) (item : Item) (n : ℕ) → piece true (b ∷ behind) ≡ Lexeme item (suc n) → n ≤ length behind
     → cut true at 0 (b ∷ behind) ≡ with_front (record { at = at; item = item }) (cut true (at + suc n) 0 (drop n behind))
 unfolding cut
 lexed at b behind item n is within =
@@ -34,7 +35,8 @@ gapped at s rest is = ap (λ (p : Piece). beginning at p (λ m. cut true (at + 1
 -- a token of these bytes, and the separator behind it
 both : (b : ℕ) (bytes : List ℕ) (s : ℕ) (item : Item) → is_separator s ≡ true
     → ((rest : List ℕ) → piece true (b ∷ (bytes ++ s ∷ rest)) ≡ Lexeme item (suc (length bytes)))
-    → (at : ℕ) (rest : List ℕ) → cut true at 0 (b ∷ (bytes ++ s ∷ rest)) ≡ with_front (record { at = at; item = item }) (cut true (at + length (b ∷ (bytes ++ s ∷ []))) 0 rest)
+    → (at : ℕ) (rest : List ℕ) → cut true at 0 (b ∷ (bytes ++ s ∷ rest))
+    ≡ with_front (record { at = at; item = item }) (cut true (at + length (b ∷ (bytes ++ s ∷ []))) 0 rest)
 both b bytes s item is found at rest =
     let long : length (bytes ++ s ∷ rest) ≡ length bytes + suc (length rest) = length-append bytes (s ∷ rest) in
     let short : length (bytes ++ s ∷ []) ≡ length bytes + 1 = length-append bytes (s ∷ []) in
@@ -47,9 +49,12 @@ both b bytes s item is found at rest =
 spelled : (b : ℕ) (bytes : List ℕ) (s : ℕ) (item : Item) → is_separator s ≡ true
     → ((rest : List ℕ) → piece true (b ∷ (bytes ++ s ∷ rest)) ≡ Lexeme item (suc (length bytes))) → Spells (b ∷ (bytes ++ s ∷ [])) (item ∷ [])
 spelled b bytes s item is found =
-    let flat : (rest : List ℕ) → (b ∷ (bytes ++ s ∷ [])) ++ rest ≡ b ∷ (bytes ++ s ∷ rest) = λ rest. ap (λ (l : List ℕ). b ∷ l) (append_assoc bytes (s ∷ []) rest) in
+    let flat : (rest : List ℕ) → (b ∷ (bytes ++ s ∷ [])) ++ rest ≡ b ∷ (bytes ++ s ∷ rest) =
+    λ rest. ap (λ (l : List ℕ). b ∷ l) (append_assoc bytes (s ∷ []) rest) in
     record {
-      items_are = λ at rest. ap (λ (l : List ℕ). items_of (cut true at 0 l).tokens) (flat rest) ∙ ap (λ (t : Scan). items_of t.tokens) (both b bytes s item is found at rest);
+      items_are =
+          λ at rest. ap (λ (l : List ℕ). items_of (cut true at 0 l).tokens) (flat rest)
+          ∙ ap (λ (t : Scan). items_of t.tokens) (both b bytes s item is found at rest);
       ending = λ at rest. ap (λ (l : List ℕ). (cut true at 0 l).ending) (flat rest) ∙ ap (λ (t : Scan). t.ending) (both b bytes s item is found at rest);
     }
 
@@ -78,7 +83,9 @@ number_at bytes s rest each is =
     ∙ (ap (λ (may : Bool). cond may (Lexeme (Number (number (take_while is_ascii_digit xs))) (length bytes)) (Wrong (length bytes))) ends
     ∙ ap (λ (l : List ℕ). Lexeme (Number (number l)) (length bytes)) run)
 
-pub number_spelled : (bytes : List ℕ) (s n : ℕ) → 0 < length bytes → Each is_ascii_digit bytes → number bytes ≡ n → is_separator s ≡ true → Spells (bytes ++ s ∷ []) (Number n ∷ [])
+pub number_spelled :
+    (bytes : List ℕ) (s n : ℕ) → 0 < length bytes → Each is_ascii_digit bytes → number bytes ≡ n → is_separator s ≡ true
+    → Spells (bytes ++ s ∷ []) (Number n ∷ [])
 number_spelled [] s n some each value is = absurd (omega arith)
 number_spelled (b ∷ bytes) s n some each value is =
     spelled b bytes s (Number n) is (λ rest.
@@ -115,7 +122,9 @@ word_at bytes s rest each is =
     ∙ (ap (λ (may : Bool). cond may (Lexeme (Word (take_while is_ascii_lowercase xs)) (length bytes)) (Wrong (length bytes))) ends
     ∙ ap (λ (l : List ℕ). Lexeme (Word l) (length bytes)) run)
 
-pub words : (b : ℕ) (letters : List ℕ) (s : ℕ) → Each is_ascii_lowercase (b ∷ letters) → is_separator s ≡ true → Spells ((b ∷ letters) ++ s ∷ []) (Word (b ∷ letters) ∷ [])
+pub words :
+    (b : ℕ) (letters : List ℕ) (s : ℕ) → Each is_ascii_lowercase (b ∷ letters) → is_separator s ≡ true
+    → Spells ((b ∷ letters) ++ s ∷ []) (Word (b ∷ letters) ∷ [])
 words b letters s each is =
     spelled b letters s (Word (b ∷ letters)) is (λ rest. letter_piece b (letters ++ s ∷ rest) each.0 ∙ word_at (b ∷ letters) s rest each is)
 
@@ -134,7 +143,9 @@ string_at bytes s rest each is =
     let front : take (length bytes) (bytes ++ 34 ∷ s ∷ rest) ≡ bytes = take_front bytes (34 ∷ s ∷ rest) in
     rw len (rw behind (rw (follows s rest is) (ap (λ (l : List ℕ). Lexeme (Text l) (length bytes + 2)) front)))
 
-pub strings : (bytes : List ℕ) (s : ℕ) → Each is_in_string bytes → is_separator s ≡ true → Spells (34 ∷ (bytes ++ 34 ∷ s ∷ [])) (Text bytes ∷ [])
+pub strings :
+    (bytes : List ℕ) (s : ℕ) → Each is_in_string bytes → is_separator s ≡ true
+    → Spells (34 ∷ (bytes ++ 34 ∷ s ∷ [])) (Text bytes ∷ [])
 strings bytes s each is =
     let flat : (t : List ℕ) → (bytes ++ 34 ∷ []) ++ t ≡ bytes ++ 34 ∷ t = λ t. append_assoc bytes (34 ∷ []) t in
     let long : length (bytes ++ 34 ∷ []) ≡ length bytes + 1 = length-append bytes (34 ∷ []) in
@@ -145,7 +156,8 @@ strings bytes s each is =
 
 -- ---- parts
 
-pub parts : (one other : List ℕ) (items more : List Item) → Spells one items → Spells other more → Spells (one ++ other) (items ++ more)
+pub parts :
+    (one other : List ℕ) (items more : List Item) → Spells one items → Spells other more → Spells (one ++ other) (items ++ more)
 parts one other items more a b =
     let place : (at : ℕ) → at + length one + length other ≡ at + length (one ++ other) = λ at. (let l = length-append one other in omega arith) in
     record {
@@ -173,7 +185,8 @@ pub each_part : {A B : Type 0} (text : A → List ℕ) (items : B → List Item)
 each_part {A} text items f [] spelled' = nothing
 each_part {A} text items f (x ∷ xs) spelled' =
     let P : A → Type 0 = λ x. Spells (text x) (items (f x)) in
-    parts (text x) (flat_map text xs) (items (f x)) (flat_map items (map f xs)) (All-head P x xs spelled') (each_part text items f xs (All-tail P x xs spelled'))
+    parts (text x) (flat_map text xs) (items (f x)) (flat_map items (map f xs)) (All-head P x xs spelled')
+    (each_part text items f xs (All-tail P x xs spelled'))
 
 at_end : (at : ℕ) → cut true at 0 [] ≡ ends (AtEnd at)
 unfolding cut
@@ -181,9 +194,13 @@ at_end at = refl
 
 pub whole : (bytes : List ℕ) (items : List Item) → mark_len bytes ≡ 0 → Spells bytes items → IsWhole (scan bytes true) items
 whole bytes items none spells =
-    let start : scan bytes true ≡ cut true 0 0 (bytes ++ []) = ap (λ (k : ℕ). cut true 0 k bytes) none ∙ ap (λ (l : List ℕ). cut true 0 0 l) (sym (append-nil bytes)) in
+    let start : scan bytes true ≡ cut true 0 0 (bytes ++ []) =
+    ap (λ (k : ℕ). cut true 0 k bytes) none ∙ ap (λ (l : List ℕ). cut true 0 0 l) (sym (append-nil bytes)) in
     record {
-      items_are = ap (λ (t : Scan). items_of t.tokens) start ∙ (spells.items_are 0 [] ∙ (ap (λ (t : Scan). items ++ items_of t.tokens) (at_end (0 + length bytes)) ∙ append-nil items));
+      items_are =
+          ap (λ (t : Scan). items_of t.tokens) start
+          ∙ (spells.items_are 0 []
+          ∙ (ap (λ (t : Scan). items ++ items_of t.tokens) (at_end (0 + length bytes)) ∙ append-nil items));
       at = 0 + length bytes;
       ending = ap (λ (t : Scan). t.ending) start ∙ (spells.ending 0 [] ∙ ap (λ (t : Scan). t.ending) (at_end (0 + length bytes)));
     }

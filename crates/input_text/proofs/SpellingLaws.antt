@@ -17,7 +17,9 @@ goes_over-trans (Separator b behind is over) more = Separator b behind is (goes_
 goes_over-trans (Comment line behind passes stops over) more = Comment line behind passes stops (goes_over-trans over more)
 
 -- separators and comments may stand before a text
-behind_gap : (stop : ℕ) (tokens : List Placed) (text rest : List ℕ) → GoesOver rest text → IsText stop tokens rest → IsText stop tokens text
+behind_gap :
+    (stop : ℕ) (tokens : List Placed) (text rest : List ℕ) → GoesOver rest text → IsText stop tokens rest
+    → IsText stop tokens text
 behind_gap stop [] text rest over is = goes_over-trans over is
 behind_gap stop (token ∷ tokens) text rest over is = (
   is.0,
@@ -36,10 +38,14 @@ is_at_end (AtFault fault) = false
 module _ (letters : Bool) (bytes : List ℕ) (end : ℕ) where
   -- from each later place on the text is the tokens that are cut there
   abbrev LaterAre : ℕ → Type 0
-  LaterAre at = (place : ℕ) (tokens : List Placed) → at < place → place ≤ length bytes → cut letters 0 place bytes ≡ whole tokens end → IsText (length bytes) tokens (drop place bytes)
+  LaterAre at =
+      (place : ℕ) (tokens : List Placed) → at < place → place ≤ length bytes → cut letters 0 place bytes ≡ whole tokens end
+      → IsText (length bytes) tokens (drop place bytes)
 
   -- so it is from this place on
-  by_piece : (at : ℕ) (tokens : List Placed) → at < length bytes → LaterAre at → cut letters 0 at bytes ≡ whole tokens end → (p : Piece) → piece letters (drop at bytes) ≡ p → IsPieceOf (drop at bytes) p → IsText (length bytes) tokens (drop at bytes)
+  by_piece :
+      (at : ℕ) (tokens : List Placed) → at < length bytes → LaterAre at → cut letters 0 at bytes ≡ whole tokens end → (p : Piece)
+      → piece letters (drop at bytes) ≡ p → IsPieceOf (drop at bytes) p → IsText (length bytes) tokens (drop at bytes)
   by_piece at tokens inside later is (Gap n) found part =
       let within : at + n ≤ length bytes = omega (arith, part.1, length-drop at bytes) in
       let over = over_gap letters bytes at n inside found part.0 within in
@@ -71,19 +77,25 @@ module _ (letters : Bool) (bytes : List ℕ) (end : ℕ) where
   by_piece at tokens inside later is (Unclosed n) found part =
       absurd (false≢true (ap (λ (s : Scan). is_at_end s.ending) (sym (at_unclosed letters bytes at n inside found) ∙ is)))
 
-  at_its_end : (at : ℕ) (tokens : List Placed) → at ≡ length bytes → cut letters 0 at bytes ≡ whole tokens end → IsText (length bytes) tokens (drop at bytes)
+  at_its_end :
+      (at : ℕ) (tokens : List Placed) → at ≡ length bytes → cut letters 0 at bytes ≡ whole tokens end
+      → IsText (length bytes) tokens (drop at bytes)
   at_its_end at tokens last is =
       let none : [] ≡ tokens = ap (λ (s : Scan). s.tokens) (sym (at_end letters bytes at last) ∙ is) in
       subst (λ (ts : List Placed). IsText (length bytes) ts (drop at bytes)) none
       (subst (λ (t : List ℕ). GoesOver [] t) (sym (drop_all at bytes (omega (arith, last)))) Nothing)
 
-  from_place : (left at : ℕ) (tokens : List Placed) → at ≤ length bytes → length bytes ≤ at + left → cut letters 0 at bytes ≡ whole tokens end → IsText (length bytes) tokens (drop at bytes)
+  from_place :
+      (left at : ℕ) (tokens : List Placed) → at ≤ length bytes → length bytes ≤ at + left
+      → cut letters 0 at bytes ≡ whole tokens end → IsText (length bytes) tokens (drop at bytes)
   from_place zero at tokens within fuel is = at_its_end at tokens (omega arith) is
   from_place (suc left) at tokens within fuel is =
       elim (cases_lt at (length bytes)) [
         | inl inside ↦
-            by_piece at tokens inside (λ place ts further reached cuts. from_place left place ts reached (omega arith) cuts) is (piece letters (drop at bytes)) refl
-            (subst (λ (xs : List ℕ). IsPieceOf xs (piece letters xs)) (sym (drop_more bytes at 0 inside)) (piece_is letters (get_or bytes at 0) (drop (at + 1) bytes)))
+            by_piece at tokens inside (λ place ts further reached cuts. from_place left place ts reached (omega arith) cuts) is
+            (piece letters (drop at bytes)) refl
+            (subst (λ (xs : List ℕ). IsPieceOf xs (piece letters xs)) (sym (drop_more bytes at 0 inside))
+            (piece_is letters (get_or bytes at 0) (drop (at + 1) bytes)))
         | inr past ↦ at_its_end at tokens (omega arith) is
       ]
 
@@ -107,5 +119,7 @@ mark_within (a ∷ (b ∷ [])) = no_mark (nat_eq 0xEF a) (nat_eq 0xBB b) 2
 mark_within (a ∷ (b ∷ (c ∷ rest))) =
     mark_fits (starts_with nat_eq (a ∷ (b ∷ (c ∷ rest))) (0xEF ∷ 0xBB ∷ 0xBF ∷ [])) (length (a ∷ (b ∷ (c ∷ rest)))) (omega arith)
 
-pub cuts_to_tokens : (bytes : List ℕ) (letters : Bool) (tokens : List Placed) (end : ℕ) → scan bytes letters ≡ whole tokens end → IsText (length bytes) tokens (drop (mark_len bytes) bytes)
+pub cuts_to_tokens :
+    (bytes : List ℕ) (letters : Bool) (tokens : List Placed) (end : ℕ) → scan bytes letters ≡ whole tokens end
+    → IsText (length bytes) tokens (drop (mark_len bytes) bytes)
 cuts_to_tokens bytes letters tokens end is = from_place letters bytes end (length bytes) (mark_len bytes) tokens (mark_within bytes) (omega arith) is

@@ -27,7 +27,9 @@ drop_next b xs n = ap (λ (m : ℕ). drop m (b ∷ xs)) (add-one n)
 some_run : (p : ℕ → Bool) (b : ℕ) (behind : List ℕ) → p b ≡ true → 0 < prefix_len p (b ∷ behind)
 some_run p b behind passes = subst (λ (c : Bool). 0 < cond c (1 + prefix_len p behind) 0) (sym passes) (omega arith)
 
-token_is : (item : Item) (n : ℕ) (xs : List ℕ) → 0 < n → n ≤ length xs → Spells item (take n xs) → (f : Bool) → may_follow (drop n xs) ≡ f → IsPieceOf xs (cond f (Lexeme item n) (Wrong n))
+token_is :
+    (item : Item) (n : ℕ) (xs : List ℕ) → 0 < n → n ≤ length xs → Spells item (take n xs) → (f : Bool)
+    → may_follow (drop n xs) ≡ f → IsPieceOf xs (cond f (Lexeme item n) (Wrong n))
 token_is item n xs some within spells true follows = (some, within, spells, follows)
 token_is item n xs some within spells false follows = tt
 
@@ -38,7 +40,8 @@ number_is b behind digit =
     let n : ℕ = prefix_len is_ascii_digit xs in
     let some : 0 < n = some_run is_ascii_digit b behind digit in
     let long : 1 ≤ length (take n xs) = omega (arith, some, length-prefix_len is_ascii_digit xs) in
-    token_is (Number (number (take_while is_ascii_digit xs))) n xs some (prefix_len-le-length is_ascii_digit xs) (long, run_passes is_ascii_digit xs, refl) (may_follow (drop n xs)) refl
+    token_is (Number (number (take_while is_ascii_digit xs))) n xs some (prefix_len-le-length is_ascii_digit xs)
+    (long, run_passes is_ascii_digit xs, refl) (may_follow (drop n xs)) refl
 
 word_is : (b : ℕ) (behind : List ℕ) → is_ascii_lowercase b ≡ true → IsPieceOf (b ∷ behind) (word_piece (b ∷ behind))
 unfolding word_piece
@@ -47,7 +50,8 @@ word_is b behind letter =
     let n : ℕ = prefix_len is_ascii_lowercase xs in
     let some : 0 < n = some_run is_ascii_lowercase b behind letter in
     let long : 1 ≤ length (take n xs) = omega (arith, some, length-prefix_len is_ascii_lowercase xs) in
-    token_is (Word (take_while is_ascii_lowercase xs)) n xs some (prefix_len-le-length is_ascii_lowercase xs) (long, run_passes is_ascii_lowercase xs, refl) (may_follow (drop n xs)) refl
+    token_is (Word (take_while is_ascii_lowercase xs)) n xs some (prefix_len-le-length is_ascii_lowercase xs)
+    (long, run_passes is_ascii_lowercase xs, refl) (may_follow (drop n xs)) refl
 
 minus_is : (behind : List ℕ) → IsPieceOf (45 ∷ behind) (minus_piece behind)
 unfolding minus_piece
@@ -56,7 +60,10 @@ minus_is behind = go (prefix_len is_ascii_digit behind == 0) (may_follow (drop (
     n : ℕ
     n = prefix_len is_ascii_digit behind
 
-    go : (none follows : Bool) → (n == 0) ≡ none → may_follow (drop n behind) ≡ follows → IsPieceOf (45 ∷ behind) (cond none (Wrong 0) (cond follows (Lexeme (Minus (number (take_while is_ascii_digit behind))) (n + 1)) (Wrong (n + 1))))
+    go :
+        (none follows : Bool) → (n == 0) ≡ none → may_follow (drop n behind) ≡ follows
+        → IsPieceOf (45 ∷ behind)
+        (cond none (Wrong 0) (cond follows (Lexeme (Minus (number (take_while is_ascii_digit behind))) (n + 1)) (Wrong (n + 1))))
     go true follows is may = tt
     go false false is may = tt
     go false true is may =
@@ -75,7 +82,10 @@ string_is behind = go (drop (prefix_len is_in_string behind) behind) refl
     n : ℕ
     n = prefix_len is_in_string behind
 
-    closed : (b : ℕ) (rest : List ℕ) → drop n behind ≡ b ∷ rest → (quote follows : Bool) → (b == 34) ≡ quote → may_follow rest ≡ follows → IsPieceOf (34 ∷ behind) (cond quote (cond follows (Lexeme (Text (take n behind)) (n + 2)) (Wrong (n + 2))) (Wrong (n + 1)))
+    closed :
+        (b : ℕ) (rest : List ℕ) → drop n behind ≡ b ∷ rest → (quote follows : Bool) → (b == 34) ≡ quote
+        → may_follow rest ≡ follows → IsPieceOf (34 ∷ behind)
+        (cond quote (cond follows (Lexeme (Text (take n behind)) (n + 2)) (Wrong (n + 2))) (Wrong (n + 1)))
     closed b rest is false follows at may = tt
     closed b rest is true false at may = tt
     closed b rest is true true at may =
@@ -121,11 +131,19 @@ unfolding piece
 piece_is letters b behind =
     go (is_separator b) (b == 35) (is_ascii_digit b) (b == 45) (b == 34) (letters && is_ascii_lowercase b) refl refl refl refl refl refl
   where
-    go : (s h d m q l : Bool) → is_separator b ≡ s → (b == 35) ≡ h → is_ascii_digit b ≡ d → (b == 45) ≡ m → (b == 34) ≡ q → (letters && is_ascii_lowercase b) ≡ l → IsPieceOf (b ∷ behind) (cond s (Gap 1) (cond h (Gap (1 + prefix_len is_in_line behind)) (cond d (number_piece (b ∷ behind)) (cond m (minus_piece behind) (cond q (string_piece behind) (cond l (word_piece (b ∷ behind)) (Wrong 0)))))))
+    go :
+        (s h d m q l : Bool) → is_separator b ≡ s → (b == 35) ≡ h → is_ascii_digit b ≡ d → (b == 45) ≡ m → (b == 34) ≡ q
+        → (letters && is_ascii_lowercase b) ≡ l → IsPieceOf (b ∷ behind)
+        (cond s (Gap 1) (cond h (Gap (1 + prefix_len is_in_line behind))
+        (cond d (number_piece (b ∷ behind))
+        (cond m (minus_piece behind) (cond q (string_piece behind) (cond l (word_piece (b ∷ behind)) (Wrong 0)))))))
     go true h d m q l is e1 e2 e3 e4 e5 = (omega arith, omega arith, Separator b behind is Nothing)
-    go false true d m q l e0 is e2 e3 e4 e5 = subst (λ (c : ℕ). IsPieceOf (c ∷ behind) (Gap (1 + prefix_len is_in_line behind))) (sym (eqb-true b 35 is)) (comment_is behind)
+    go false true d m q l e0 is e2 e3 e4 e5 =
+        subst (λ (c : ℕ). IsPieceOf (c ∷ behind) (Gap (1 + prefix_len is_in_line behind))) (sym (eqb-true b 35 is))
+        (comment_is behind)
     go false false true m q l e0 e1 is e3 e4 e5 = number_is b behind is
     go false false false true q l e0 e1 e2 is e4 e5 = subst (λ (c : ℕ). IsPieceOf (c ∷ behind) (minus_piece behind)) (sym (eqb-true b 45 is)) (minus_is behind)
-    go false false false false true l e0 e1 e2 e3 is e5 = subst (λ (c : ℕ). IsPieceOf (c ∷ behind) (string_piece behind)) (sym (eqb-true b 34 is)) (string_is behind)
+    go false false false false true l e0 e1 e2 e3 is e5 =
+        subst (λ (c : ℕ). IsPieceOf (c ∷ behind) (string_piece behind)) (sym (eqb-true b 34 is)) (string_is behind)
     go false false false false false true e0 e1 e2 e3 e4 is = word_is b behind (and_parts letters (is_ascii_lowercase b) is).1
     go false false false false false false e0 e1 e2 e3 e4 e5 = tt

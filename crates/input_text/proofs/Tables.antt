@@ -9,21 +9,30 @@ use Rattle.input_text.proofs.Judgements.{refused, same_value}
 -- ---- parts
 
 module _ {S : Type 0} (table : S → Item → Judged S) where
-  then_rest : (judged : Judged S) (last : S) (xs ys : List Item) → then_on judged (λ next. after table next xs) ≡ Ok last → ((next : S) → after table next xs ≡ Ok last → after table next (xs ++ ys) ≡ after table last ys) → then_on judged (λ next. after table next (xs ++ ys)) ≡ after table last ys
+  then_rest :
+      (judged : Judged S) (last : S) (xs ys : List Item) → then_on judged (λ next. after table next xs) ≡ Ok last
+      → ((next : S) → after table next xs ≡ Ok last → after table next (xs ++ ys) ≡ after table last ys)
+      → then_on judged (λ next. after table next (xs ++ ys)) ≡ after table last ys
   then_rest (Ok next) last xs ys e rest = rest next e
   then_rest (Err kind) last xs ys e rest = absurd (refused e)
 
   -- behind a part that is accepted the rest goes on
-  pub in_parts : (start middle : S) (xs ys : List Item) → after table start xs ≡ Ok middle → after table start (xs ++ ys) ≡ after table middle ys
+  pub in_parts :
+      (start middle : S) (xs ys : List Item) → after table start xs ≡ Ok middle
+      → after table start (xs ++ ys) ≡ after table middle ys
   in_parts start middle [] ys e = ap (λ (s : S). after table s ys) (same_value e)
   in_parts start middle (x ∷ xs) ys e = then_rest (table start x) middle xs ys e (λ next on. in_parts next middle xs ys on)
 
-  front_then : (judged : Judged S) (last : S) (xs ys : List Item) → then_on judged (λ next. after table next (xs ++ ys)) ≡ Ok last → ((next : S) → after table next (xs ++ ys) ≡ Ok last → IsOk (after table next xs)) → IsOk (then_on judged (λ next. after table next xs))
+  front_then :
+      (judged : Judged S) (last : S) (xs ys : List Item) → then_on judged (λ next. after table next (xs ++ ys)) ≡ Ok last
+      → ((next : S) → after table next (xs ++ ys) ≡ Ok last → IsOk (after table next xs))
+      → IsOk (then_on judged (λ next. after table next xs))
   front_then (Ok next) last xs ys e rest = rest next e
   front_then (Err kind) last xs ys e rest = absurd (refused e)
 
   -- no item of a front part of an accepted list is refused
-  pub front_read : (start last : S) (xs ys : List Item) → after table start (xs ++ ys) ≡ Ok last → IsOk (after table start xs)
+  pub front_read :
+      (start last : S) (xs ys : List Item) → after table start (xs ++ ys) ≡ Ok last → IsOk (after table start xs)
   front_read start last [] ys e = refl
   front_read start last (x ∷ xs) ys e = front_then (table start x) last xs ys e (λ next on. front_read next last xs ys on)
 
@@ -42,7 +51,8 @@ module _ {S T : Type 0} (one : S → Item → Judged S) (other : T → Item → 
   and_item expected last item items (Err kind) is e rest = absurd (refused e)
 
   -- what the one table accepts, the other accepts
-  pub accepts_along : (items : List Item) (start last : S) → after one start items ≡ Ok last → after other (place start) items ≡ Ok (place last)
+  pub accepts_along :
+      (items : List Item) (start last : S) → after one start items ≡ Ok last → after other (place start) items ≡ Ok (place last)
   accepts_along [] start last e = ap (λ (s : S). Ok (place s)) (same_value e)
   accepts_along (item ∷ items) start last e =
       and_item start last item items (one start item) refl e (λ next on. accepts_along items next last on)
@@ -65,12 +75,16 @@ module _ {S V T : Type 0} (inner : S → Item → Judged (Progress S V)) (outer 
   abbrev place : Progress S V → T
   place = place_of inside behind
 
-  leads : (judged : Judged (Progress S V)) (next : Progress S V) → judged ≡ Ok next → carried_to inside behind judged ≡ Ok (place next)
+  leads :
+      (judged : Judged (Progress S V)) (next : Progress S V) → judged ≡ Ok next
+      → carried_to inside behind judged ≡ Ok (place next)
   leads (Ok (GoesOn found)) next e = ap (λ (p : Progress S V). Ok (place p)) (same_value e)
   leads (Ok (Ends value)) next e = ap (λ (p : Progress S V). Ok (place p)) (same_value e)
   leads (Err kind) next e = absurd (refused e)
 
-  goes_along : (expected next : Progress S V) (item : Item) → closed inner expected item ≡ Ok next → outer (place expected) item ≡ Ok (place next)
+  goes_along :
+      (expected next : Progress S V) (item : Item) → closed inner expected item ≡ Ok next
+      → outer (place expected) item ≡ Ok (place next)
   goes_along (GoesOn expected) next item e = same expected item ∙ leads (inner expected item) next e
   goes_along (Ends value) next item e = absurd (refused e)
 
@@ -87,19 +101,22 @@ abbrev pub behind_front : {V W : Type 0} → Result (V × Scan) Stopped → (V �
 behind_front (Ok read) next = next read.0 read.1
 behind_front (Err stopped) next = Err stopped.fault
 
-abbrev pub behind_inner : {V W : Type 0} → Result (V × Scan) Stopped → (V → Scan → Result (W × Scan) Stopped) → Result (W × Scan) Stopped
+abbrev pub behind_inner :
+    {V W : Type 0} → Result (V × Scan) Stopped → (V → Scan → Result (W × Scan) Stopped) → Result (W × Scan) Stopped
 behind_inner (Ok read) next = next read.0 read.1
 behind_inner (Err stopped) next = Err stopped
 
 module _ {S V T W : Type 0} (inner : S → Item → Judged (Progress S V)) (outer : T → Item → Judged T) (whole : T → Option W) (inside : S → T) (behind : V → T)
-    (same : (expected : S) (item : Item) → outer (inside expected) item ≡ carried_to inside behind (inner expected item)) (unfinished : (expected : S) → whole (inside expected) ≡ None) where
+    (same : (expected : S) (item : Item) → outer (inside expected) item ≡ carried_to inside behind (inner expected item))
+    (unfinished : (expected : S) → whole (inside expected) ≡ None) where
   abbrev Onward : V → Scan → Result W InputFault
   Onward value rest = outcome outer whole (behind value) rest.tokens rest.ending
 
   abbrev ReadsOn : List Placed → Ending → Type 0
   ReadsOn tokens ending = (expected : S) → outcome outer whole (inside expected) tokens ending ≡ behind_front (front_of inner expected tokens ending) Onward
 
-  on_token : (token : Placed) (tokens : List Placed) (ending : Ending) (judged : Judged (Progress S V)) → ReadsOn tokens ending
+  on_token :
+      (token : Placed) (tokens : List Placed) (ending : Ending) (judged : Judged (Progress S V)) → ReadsOn tokens ending
       → at_place token.at (carried_to inside behind judged) (λ next. outcome outer whole next tokens ending)
       ≡ behind_front (on_progress token.at judged (record { tokens = tokens; ending = ending }) (λ next. front_of inner next tokens ending)) Onward
   on_token token tokens ending (Ok (GoesOn next)) rest = rest next
@@ -123,7 +140,8 @@ module _ {S V T W : Type 0} (inner : S → Item → Judged (Progress S V)) (oute
   abbrev ReadsOnIn : List Placed → Ending → Type 0
   ReadsOnIn tokens ending = (expected : S) → front_of outer (inside expected) tokens ending ≡ behind_inner (front_of inner expected tokens ending) OnwardIn
 
-  on_token_in : (token : Placed) (tokens : List Placed) (ending : Ending) (judged : Judged (Progress S V)) → ReadsOnIn tokens ending
+  on_token_in :
+      (token : Placed) (tokens : List Placed) (ending : Ending) (judged : Judged (Progress S V)) → ReadsOnIn tokens ending
       → on_progress token.at (carried {W = W} inside behind judged) (record { tokens = tokens; ending = ending }) (λ next. front_of outer next tokens ending)
       ≡ behind_inner (on_progress token.at judged (record { tokens = tokens; ending = ending }) (λ next. front_of inner next tokens ending)) OnwardIn
   on_token_in token tokens ending (Ok (GoesOn next)) rest = rest next
@@ -135,5 +153,6 @@ module _ {S V T W : Type 0} (inner : S → Item → Judged (Progress S V)) (oute
   unfolding front_of
   reads_inner [] ending expected = refl
   reads_inner (token ∷ tokens) ending expected =
-      ap (λ (j : Judged (Progress T W)). on_progress token.at j (record { tokens = tokens; ending = ending }) (λ next. front_of outer next tokens ending)) (same expected token.item)
+      ap (λ (j : Judged (Progress T W)). on_progress token.at j (record { tokens = tokens; ending = ending })
+      (λ next. front_of outer next tokens ending)) (same expected token.item)
       ∙ on_token_in token tokens ending (inner expected token.item) (reads_inner tokens ending)

@@ -7,7 +7,8 @@ use Rattle.std.proofs.lemmas.Fmt.{decimal_by_steps}
 use Rattle.input_text.specs.Scan.{is_separator}
 use Rattle.input_text.specs.Written.{Each}
 
-pub run_len : (p : ℕ → Bool) (xs : List ℕ) (y : ℕ) (ys : List ℕ) → Each p xs → p y ≡ false → prefix_len p (xs ++ y ∷ ys) ≡ length xs
+pub run_len :
+    (p : ℕ → Bool) (xs : List ℕ) (y : ℕ) (ys : List ℕ) → Each p xs → p y ≡ false → prefix_len p (xs ++ y ∷ ys) ≡ length xs
 run_len p [] y ys each stops = rw stops refl
 run_len p (x ∷ xs) y ys each stops = let rest = run_len p xs y ys each.1 stops in rw each.0 (rw rest (omega arith))
 

@@ -10,13 +10,17 @@ use Rattle.blt_reader.proofs.RankSteps.{room_for_one, one_put_in, one_put_in_ran
 use Rattle.blt_reader.proofs.lines.short_ranks.Goals as goal
 
 pub returns-in-Some-ending-clause-ended : goal.returns-in-Some-ending-clause-ended
-returns-in-Some-ending-clause-ended c ended = c.loop-n.invariant.same ∙ line_ends c.args.candidates (take c.loop-n.len c.loop-n.ranks) _ _ 0 _ (ap (λ (r : Reader). r.rest) (sym c.in_default.ensures.none) ∙ c.in-Some-ending.ensures.number) refl
+returns-in-Some-ending-clause-ended c ended =
+    c.loop-n.invariant.same ∙ line_ends c.args.candidates
+    (take c.loop-n.len c.loop-n.ranks) _ _ 0
+    _ (ap (λ (r : Reader). r.rest) (sym c.in_default.ensures.none) ∙ c.in-Some-ending.ensures.number) refl
 
 pub bounds-ranks-len : goal.bounds-ranks-len
 bounds-ranks-len c =
     let before = c.loop-n.invariant in
     let found = c.in-Some.ensures.candidate in
-    let once : list_any (λ r. r == c.in-Some.n) (take c.loop-n.len c.loop-n.ranks) ≡ false = sym (before.marks c.in-Some.n found.1) ∙ c.in-Some.ensures.unnamed in
+    let once : list_any (λ r. r == c.in-Some.n) (take c.loop-n.len c.loop-n.ranks) ≡ false =
+    sym (before.marks c.in-Some.n found.1) ∙ c.in-Some.ensures.unnamed in
     room_for_one c.args.candidates c.loop-n.len c.in-Some.n c.loop-n.ranks before.room before.within before.ranking found.0 found.1 once
 
 pub loop-n-preserved : goal.loop-n-preserved
@@ -32,7 +36,8 @@ loop-n-preserved c =
     let once : list_any (λ r. r == n) (take len all) ≡ false = sym (before.marks n inside) ∙ c.in-Some.ensures.unnamed in
     record {
       same = before.same ∙ one_more candidates (take len all) _ _ n c.in-Some.field-0-1 given (omega (arith, some)) inside once
-          ∙ ap (λ (l : List ℕ). reads (at_rank candidates) l c.next_unnamed.new.tokens.rest) (sym (one_put_in candidates len n all before.room before.within before.ranking some inside once));
+          ∙ ap (λ (l : List ℕ). reads (at_rank candidates) l c.next_unnamed.new.tokens.rest)
+          (sym (one_put_in candidates len n all before.room before.within before.ranking some inside once));
       ranking = one_put_in_ranked candidates len n all before.room before.within before.ranking some inside once;
       within = omega (arith, before.room, room_for_one candidates len n all before.room before.within before.ranking some inside once);
       room = length-set all len n ∙ before.room;

@@ -12,7 +12,8 @@ pub returns-in_err-day : goal.returns-in_err-day
 returns-in_err-day c =
     let p = err_from_is_err_and c.from_residual.result c.from_residual.ensures.1 in
     let text : c.new-tokens.result.rest ≡ scan c.args.bytes.now true = ap (λ (r : Reader). r.rest) c.new-tokens.ensures in
-    rw (p.1, p.2) (subst (λ (s : Scan). SaysDay (said_by s) (Err c.in_err-day.field-0.0)) text (says_front _ _ c.in_err-day.field-0.0 c.in_err-day.ensures.reads))
+    rw (p.1, p.2) (subst (λ (s : Scan). SaysDay (said_by s) (Err c.in_err-day.field-0.0)) text
+    (says_front _ _ c.in_err-day.field-0.0 c.in_err-day.ensures.reads))
 
 pub returns-in_err-read_nothing : goal.returns-in_err-read_nothing
 returns-in_err-read_nothing c =

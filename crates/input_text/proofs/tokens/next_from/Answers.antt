@@ -45,7 +45,10 @@ returns-in-Unclosed-clause-gives c =
     let bytes = c.args.bytes.now in
     let at = c.loop-at.at in
     let found = sym (c.in-Unclosed.ensures.is ∙ ap (piece c.args.letters) (take_rest bytes at)) in
-    rw c.fault-in-Unclosed.ensures (c.loop-at.invariant.same ∙ at_unclosed c.args.letters bytes at c.in-Unclosed.n c.loop-at-test.true found, sym c.loop-at.invariant.same)
+    rw c.fault-in-Unclosed.ensures (
+      c.loop-at.invariant.same ∙ at_unclosed c.args.letters bytes at c.in-Unclosed.n c.loop-at-test.true found,
+      sym c.loop-at.invariant.same,
+    )
 
 pub returns-clause-gives : goal.returns-clause-gives
 returns-clause-gives c =

@@ -19,7 +19,8 @@ returns-clause-behind c =
     let bytes = c.self.inside.bytes.now in
     let found = subst (λ (l : List ℕ). IsShortNumber l c.in_ok-n.n c.in_ok-n.len) (take_rest bytes c.self.inside.at) c.in_ok-n.ensures.found in
     behind_one c.args.self.now _ (record { at = c.self.inside.at; item = Number c.in_ok-n.n }) (ap (λ (r : Reader). r.bytes) c.self.view_is)
-    (sym (ap (λ (r : Reader). r.rest) c.self.view_is) ∙ over_number c.self.inside.letters bytes c.self.inside.at c.in_ok-n.n c.in_ok-n.len c.self.invariant found)
+    (sym (ap (λ (r : Reader). r.rest) c.self.view_is)
+    ∙ over_number c.self.inside.letters bytes c.self.inside.at c.in_ok-n.n c.in_ok-n.len c.self.invariant found)
 
 -- what holds in any case holds where nothing was found
 where_none : {A : Type 0} (found : Option A) (P : Type 0) → P → IfNone found P
