@@ -6,15 +6,16 @@ use Rattle.std.proofs.lemmas.Bool.{le-leb}
 use Rattle.std.proofs.lemmas.List.{append-nil, length_push, length-append, length-replicate}
 use Rattle.std.proofs.lemmas.List.Elements.{All-head, All-tail, All-replicate}
 use Rattle.plain_ballots.specs.declared.ballot_line.BallotLine.{BallotLine}
-use Rattle.blt_reader.specs.Token.{Item, Number, Minus, Text}
+use Rattle.input_text.specs.Token.{Item, Number, Minus, Text}
 use Rattle.blt_reader.specs.Poll.{Poll}
-use Rattle.blt_reader.specs.Blt.{IsIn, AreLines, ballot, ballots, IsUpToTitle, IsBlt}
-use Rattle.blt_reader.specs.Judged.{Judged, after, Progress, GoesOn, Ends, going_on}
+use Rattle.input_text.specs.Range.{IsIn}
+use Rattle.blt_reader.specs.Blt.{AreLines, ballot, ballots, IsUpToTitle, IsBlt}
+use Rattle.input_text.specs.Judged.{Judged, after, Progress, GoesOn, Ends, going_on, closed}
 use Rattle.blt_reader.specs.BallotTable.{Limit, Lines, Between, Within, at_line}
 use Rattle.blt_reader.specs.BltTable.{Heading, Expected, Candidates, Seats, Withdrawn, Ballots, Name, Title, at_token, behind_name, poll_of, behind_title, at_file_token}
 use Rattle.blt_reader.specs.Front.{opening_of, begun, AreBegun, IsFront}
-use Rattle.blt_reader.proofs.Judgements.{to_range}
-use Rattle.blt_reader.proofs.Tables.{in_parts, closed, carried_is, place_of, carries}
+use Rattle.input_text.proofs.Judgements.{to_range}
+use Rattle.input_text.proofs.Tables.{in_parts, carried_is, place_of, carries}
 use Rattle.blt_reader.proofs.NameSteps.{name_expected, title_expected}
 use Rattle.blt_reader.proofs.BallotCompleteness.{reads_begun_line, reads_lines, reads_ballots}
 
@@ -32,11 +33,16 @@ module _ (limit : Limit) (behind : Poll → Item → Judged (Progress Expected P
   abbrev Start : ℕ → ℕ → Heading
   Start candidates seats = record { candidates = candidates; seats = seats; withdrawn = [] }
 
-  reads_numbers : (candidates seats : ℕ) (rest : List Item) → IsIn 250 candidates → IsIn 250 seats → after Table (GoesOn Candidates) (Number candidates ∷ Number seats ∷ rest) ≡ after Table (GoesOn (Withdrawn (Start candidates seats))) rest
+  reads_numbers :
+      (candidates seats : ℕ) (rest : List Item) → IsIn 250 candidates → IsIn 250 seats
+      → after Table (GoesOn Candidates) (Number candidates ∷ Number seats ∷ rest)
+      ≡ after Table (GoesOn (Withdrawn (Start candidates seats))) rest
   unfolding at_token
   reads_numbers candidates seats rest c s = rw (to_range 250 candidates c, to_range 250 seats s) refl
 
-  reads_withdrawn : (numbers : List ℕ) (h : Heading) → All (IsIn h.candidates) numbers → Reads (Withdrawn h) (map Minus numbers) (GoesOn (Withdrawn (record h { withdrawn = h.withdrawn ++ numbers })))
+  reads_withdrawn :
+      (numbers : List ℕ) (h : Heading) → All (IsIn h.candidates) numbers
+      → Reads (Withdrawn h) (map Minus numbers) (GoesOn (Withdrawn (record h { withdrawn = h.withdrawn ++ numbers })))
   unfolding at_token
   reads_withdrawn [] h each = ap (λ (w : List ℕ). Ok (GoesOn (Withdrawn (record h { withdrawn = w })))) (sym (append-nil h.withdrawn))
   reads_withdrawn (n ∷ numbers) h each =
@@ -44,41 +50,63 @@ module _ (limit : Limit) (behind : Poll → Item → Judged (Progress Expected P
       (reads_withdrawn numbers (record h { withdrawn = h.withdrawn ++ n ∷ [] }) (All-tail (IsIn h.candidates) n numbers each)
       ∙ ap (λ (w : List ℕ). Ok (GoesOn (Withdrawn (record h { withdrawn = w })))) (append_assoc h.withdrawn (n ∷ []) numbers))
 
-  pub reads_opening : (h : Heading) → IsIn 250 h.candidates → IsIn 250 h.seats → All (IsIn h.candidates) h.withdrawn → Reads Candidates (opening_of h) (GoesOn (Withdrawn h))
-  reads_opening h candidates seats each = reads_numbers h.candidates h.seats (map Minus h.withdrawn) candidates seats ∙ reads_withdrawn h.withdrawn (Start h.candidates h.seats) each
+  pub reads_opening :
+      (h : Heading) → IsIn 250 h.candidates → IsIn 250 h.seats → All (IsIn h.candidates) h.withdrawn
+      → Reads Candidates (opening_of h) (GoesOn (Withdrawn h))
+  reads_opening h candidates seats each =
+      reads_numbers h.candidates h.seats (map Minus h.withdrawn) candidates seats
+      ∙ reads_withdrawn h.withdrawn (Start h.candidates h.seats) each
 
   -- what the table of ballots accepts is accepted within the file
-  in_ballots : (h : Heading) (items : List Item) (start last : Progress Lines (List BallotLine)) → after (closed (at_line h.candidates limit)) start items ≡ Ok last
-      → after Table (place_of (λ lines. GoesOn (Ballots h lines)) (λ lines. GoesOn (Name h lines [])) start) items ≡ Ok (place_of (λ lines. GoesOn (Ballots h lines)) (λ lines. GoesOn (Name h lines [])) last)
+  in_ballots :
+      (h : Heading) (items : List Item) (start last : Progress Lines (List BallotLine))
+      → after (closed (at_line h.candidates limit)) start items ≡ Ok last
+      → after Table (place_of (λ lines. GoesOn (Ballots h lines)) (λ lines. GoesOn (Name h lines [])) start) items
+      ≡ Ok (place_of (λ lines. GoesOn (Ballots h lines)) (λ lines. GoesOn (Name h lines [])) last)
   unfolding at_token
   in_ballots h items = carries (at_line h.candidates limit) Table (λ lines. GoesOn (Ballots h lines)) (λ lines. GoesOn (Name h lines []))
       (λ lines item. carried_is (λ more. Ballots h more) (λ all. Name h all []) (at_line h.candidates limit lines item)) items
 
   -- the first count is judged as every count is
-  pub first_number : (h : Heading) (n : ℕ) (items : List Item) → after Table (GoesOn (Withdrawn h)) (Number n ∷ items) ≡ after Table (GoesOn (Ballots h (Between []))) (Number n ∷ items)
+  pub first_number :
+      (h : Heading) (n : ℕ) (items : List Item) → after Table (GoesOn (Withdrawn h)) (Number n ∷ items)
+      ≡ after Table (GoesOn (Ballots h (Between []))) (Number n ∷ items)
   unfolding at_token
   first_number h n items = refl
 
-  first_lines : (lines : List BallotLine) (h : Heading) → 0 < length (flat_map ballot lines) → after Table (GoesOn (Withdrawn h)) (flat_map ballot lines) ≡ after Table (GoesOn (Ballots h (Between []))) (flat_map ballot lines)
+  first_lines :
+      (lines : List BallotLine) (h : Heading) → 0 < length (flat_map ballot lines)
+      → after Table (GoesOn (Withdrawn h)) (flat_map ballot lines)
+      ≡ after Table (GoesOn (Ballots h (Between []))) (flat_map ballot lines)
   first_lines [] h some = absurd (omega arith)
   first_lines (line ∷ lines) h some = first_number h line.count _
 
-  first_ballots : (lines : List BallotLine) (h : Heading) (rest : List Item) → after Table (GoesOn (Withdrawn h)) (ballots lines ++ rest) ≡ after Table (GoesOn (Ballots h (Between []))) (ballots lines ++ rest)
+  first_ballots :
+      (lines : List BallotLine) (h : Heading) (rest : List Item)
+      → after Table (GoesOn (Withdrawn h)) (ballots lines ++ rest)
+      ≡ after Table (GoesOn (Ballots h (Between []))) (ballots lines ++ rest)
   first_ballots [] h rest = first_number h 0 _
   first_ballots (line ∷ lines) h rest = first_number h line.count _
 
-  reads_begun : (lines : Lines) (h : Heading) → AreBegun h.candidates limit.most lines → after (closed (at_line h.candidates limit)) (GoesOn (Between [])) (begun lines) ≡ Ok (GoesOn lines)
+  reads_begun :
+      (lines : Lines) (h : Heading) → AreBegun h.candidates limit.most lines
+      → after (closed (at_line h.candidates limit)) (GoesOn (Between [])) (begun lines) ≡ Ok (GoesOn lines)
   reads_begun (Between lines) h are = reads_lines h.candidates limit lines are
   reads_begun (Within lines count ranks) h are =
-      in_parts (closed (at_line h.candidates limit)) (GoesOn (Between [])) (GoesOn (Between lines)) (flat_map ballot lines) (Number count ∷ map Number ranks) (reads_lines h.candidates limit lines are.before)
+      in_parts (closed (at_line h.candidates limit)) (GoesOn (Between [])) (GoesOn (Between lines)) (flat_map ballot lines)
+      (Number count ∷ map Number ranks) (reads_lines h.candidates limit lines are.before)
       ∙ reads_begun_line h.candidates limit lines count ranks are.ranking are.counted are.room
 
-  first_begun : (lines : Lines) (h : Heading) → 0 < length (begun lines) → after Table (GoesOn (Withdrawn h)) (begun lines) ≡ after Table (GoesOn (Ballots h (Between []))) (begun lines)
+  first_begun :
+      (lines : Lines) (h : Heading) → 0 < length (begun lines)
+      → after Table (GoesOn (Withdrawn h)) (begun lines) ≡ after Table (GoesOn (Ballots h (Between []))) (begun lines)
   first_begun (Between lines) h some = first_lines lines h some
   first_begun (Within [] count ranks) h some = first_number h count _
   first_begun (Within (line ∷ lines) count ranks) h some = first_number h line.count _
 
-  reads_names : (more names : List (List ℕ)) (h : Heading) (lines : List BallotLine) → All (λ name. length name ≤ 200) more → length names + length more ≤ h.candidates
+  reads_names :
+      (more names : List (List ℕ)) (h : Heading) (lines : List BallotLine) → All (λ name. length name ≤ 200) more
+      → length names + length more ≤ h.candidates
       → Reads (behind_name h lines names) (map Text more) (GoesOn (behind_name h lines (names ++ more)))
   unfolding at_token
   reads_names [] names h lines short fewer = ap (λ (n : List (List ℕ)). Ok (GoesOn (behind_name h lines n))) (sym (append-nil names))
@@ -89,23 +117,30 @@ module _ (limit : Limit) (behind : Poll → Item → Judged (Progress Expected P
       (reads_names more (names ++ name ∷ []) h lines (All-tail (λ (n : List ℕ). length n ≤ 200) name more short) counts
       ∙ ap (λ (n : List (List ℕ)). Ok (GoesOn (behind_name h lines n))) (append_assoc names (name ∷ []) more))
 
-  reads_title : (h : Heading) (lines : List BallotLine) (names : List (List ℕ)) (title : List ℕ) → length title ≤ 1000 → Reads (Title h lines names) (Text title ∷ []) (Ends (poll_of h lines names title))
+  reads_title :
+      (h : Heading) (lines : List BallotLine) (names : List (List ℕ)) (title : List ℕ) → length title ≤ 1000
+      → Reads (Title h lines names) (Text title ∷ []) (Ends (poll_of h lines names title))
   unfolding at_token
   reads_title h lines names title short = rw (le-leb (length title) 1000 short) refl
 
   -- the opening, all ballots and some names
-  reads_up_to_names : (h : Heading) (lines : List BallotLine) (names : List (List ℕ)) → IsIn 250 h.candidates → IsIn 250 h.seats → All (IsIn h.candidates) h.withdrawn → AreLines h.candidates limit.most lines
-      → All (λ name. length name ≤ 200) names → length names ≤ h.candidates → Reads Candidates (opening_of h ++ (ballots lines ++ map Text names)) (GoesOn (behind_name h lines names))
+  reads_up_to_names :
+      (h : Heading) (lines : List BallotLine) (names : List (List ℕ)) → IsIn 250 h.candidates → IsIn 250 h.seats
+      → All (IsIn h.candidates) h.withdrawn → AreLines h.candidates limit.most lines
+      → All (λ name. length name ≤ 200) names → length names ≤ h.candidates
+      → Reads Candidates (opening_of h ++ (ballots lines ++ map Text names)) (GoesOn (behind_name h lines names))
   reads_up_to_names h lines names candidates seats each are short fewer =
       let some : 0 < h.candidates = omega (arith, candidates.least) in
       in_parts Table (GoesOn Candidates) (GoesOn (Withdrawn h)) (opening_of h) (ballots lines ++ map Text names) (reads_opening h candidates seats each)
       ∙ first_ballots lines h (map Text names)
-      ∙ in_parts Table (GoesOn (Ballots h (Between []))) (GoesOn (Name h lines [])) (ballots lines) (map Text names) (in_ballots h (ballots lines) (GoesOn (Between [])) (Ends lines) (reads_ballots h.candidates limit lines are))
+      ∙ in_parts Table (GoesOn (Ballots h (Between []))) (GoesOn (Name h lines [])) (ballots lines) (map Text names)
+      (in_ballots h (ballots lines) (GoesOn (Between [])) (Ends lines) (reads_ballots h.candidates limit lines are))
       ∙ ap (λ (s : Expected). after Table (GoesOn s) (map Text names)) (sym (name_expected h lines [] some))
       ∙ reads_names names [] h lines short (omega (arith, fewer))
 
   -- each front part is read as such
-  pub reads_front : (expected : Expected) (items : List Item) → IsFront limit.most expected items → Reads Candidates items (GoesOn expected)
+  pub reads_front :
+      (expected : Expected) (items : List Item) → IsFront limit.most expected items → Reads Candidates items (GoesOn expected)
   unfolding at_token
   reads_front Candidates items front = ap (λ (l : List Item). after Table (GoesOn Candidates) l) front
   reads_front (Seats candidates) items front = ap (λ (l : List Item). after Table (GoesOn Candidates) l) front.1 ∙ rw (to_range 250 candidates front.0) refl
@@ -114,7 +149,8 @@ module _ (limit : Limit) (behind : Poll → Item → Judged (Progress Expected P
       ∙ reads_opening h front.numbers.candidates front.numbers.seats front.numbers.each_withdrawn
   reads_front (Ballots h lines) items front =
       ap (λ (l : List Item). after Table (GoesOn Candidates) l) front.0.spelled
-      ∙ in_parts Table (GoesOn Candidates) (GoesOn (Withdrawn h)) (opening_of h) (begun lines) (reads_opening h front.0.numbers.candidates front.0.numbers.seats front.0.numbers.each_withdrawn)
+      ∙ in_parts Table (GoesOn Candidates) (GoesOn (Withdrawn h)) (opening_of h) (begun lines)
+      (reads_opening h front.0.numbers.candidates front.0.numbers.seats front.0.numbers.each_withdrawn)
       ∙ first_begun lines h front.1
       ∙ in_ballots h (begun lines) (GoesOn (Between [])) (GoesOn lines) (reads_begun lines h front.0.so_far)
   reads_front (Name h lines names) items front =
@@ -129,7 +165,8 @@ module _ (limit : Limit) (behind : Poll → Item → Judged (Progress Expected P
       ∙ ap (λ (s : Expected). Ok (GoesOn s)) (title_expected h lines names front.1)
 
   -- and so is each file up to its title
-  pub reads_up_to_title : (items : List Item) (poll : Poll) → IsUpToTitle limit.most items poll → Reads Candidates items (Ends poll)
+  pub reads_up_to_title :
+      (items : List Item) (poll : Poll) → IsUpToTitle limit.most items poll → Reads Candidates items (Ends poll)
   reads_up_to_title items poll is =
       let names = poll.roll.names in
       let h : Heading = record { candidates = length names; seats = poll.roll.seats; withdrawn = is.withdrawn } in
@@ -138,10 +175,16 @@ module _ (limit : Limit) (behind : Poll → Item → Judged (Progress Expected P
       ∙ ap (λ (l : List Item). opening_of h ++ l) (sym (append_assoc (ballots poll.lines) (map Text names) (Text poll.roll.title ∷ [])))
       ∙ sym (append_assoc (opening_of h) (ballots poll.lines ++ map Text names) (Text poll.roll.title ∷ [])) in
       ap (λ (l : List Item). after Table (GoesOn Candidates) l) regrouped
-      ∙ in_parts Table (GoesOn Candidates) (GoesOn (Title h poll.lines names)) (opening_of h ++ (ballots poll.lines ++ map Text names)) (Text poll.roll.title ∷ [])
-      (reads_up_to_names h poll.lines names is.candidates is.seats is.each_withdrawn is.lines is.names fewer ∙ ap (λ (s : Expected). Ok (GoesOn s)) (title_expected h poll.lines names refl))
+      ∙ in_parts Table (GoesOn Candidates) (GoesOn (Title h poll.lines names))
+      (opening_of h ++ (ballots poll.lines ++ map Text names)) (Text poll.roll.title ∷ [])
+      (reads_up_to_names h poll.lines names is.candidates is.seats is.each_withdrawn is.lines is.names fewer
+      ∙ ap (λ (s : Expected). Ok (GoesOn s)) (title_expected h poll.lines names refl))
       ∙ reads_title h poll.lines names poll.roll.title is.title
-      ∙ ap (λ (marks : List Bool). Ok (Ends (record { roll = record { seats = poll.roll.seats; names = names; title = poll.roll.title; withdrawn = marks }; lines = poll.lines }))) (sym is.marks)
+      ∙ ap (λ (marks : List Bool).
+      Ok (Ends (record {
+        roll = record { seats = poll.roll.seats; names = names; title = poll.roll.title; withdrawn = marks };
+        lines = poll.lines;
+      }))) (sym is.marks)
 
   -- ---- lists that can go on to a file
 
@@ -151,7 +194,8 @@ module _ (limit : Limit) (behind : Poll → Item → Judged (Progress Expected P
   title_missing : (h : Heading) (lines : List BallotLine) (names : List (List ℕ)) → CanGoOn (Title h lines names)
   title_missing h lines names = (Text [] ∷ [], _, reads_title h lines names [] (omega arith))
 
-  names_missing : (h : Heading) (lines : List BallotLine) (names : List (List ℕ)) → length names < h.candidates → CanGoOn (Name h lines names)
+  names_missing :
+      (h : Heading) (lines : List BallotLine) (names : List (List ℕ)) → length names < h.candidates → CanGoOn (Name h lines names)
   names_missing h lines names fewer =
       let fill : List (List ℕ) = replicate (h.candidates - length names) [] in
       let counts : length names + length fill ≡ h.candidates = omega (arith, fewer, length-replicate {A = List ℕ} (h.candidates - length names) []) in
@@ -161,7 +205,8 @@ module _ (limit : Limit) (behind : Poll → Item → Judged (Progress Expected P
         _,
         ap (λ (s : Expected). after Table (GoesOn s) (map Text fill ++ Text [] ∷ [])) (sym (name_expected h lines names fewer))
             ∙ in_parts Table (GoesOn (behind_name h lines names)) (GoesOn (Title h lines (names ++ fill))) (map Text fill) (Text [] ∷ [])
-            (reads_names fill names h lines (short_names (h.candidates - length names)) within ∙ ap (λ (s : Expected). Ok (GoesOn s)) (title_expected h lines (names ++ fill) all))
+            (reads_names fill names h lines (short_names (h.candidates - length names)) within
+            ∙ ap (λ (s : Expected). Ok (GoesOn s)) (title_expected h lines (names ++ fill) all))
             ∙ reads_title h lines (names ++ fill) [] (omega arith),
       )
 
@@ -173,9 +218,13 @@ module _ (limit : Limit) (behind : Poll → Item → Judged (Progress Expected P
   unfolding at_token
   no_ballots h some = let rest = names_missing h [] [] some in (Number 0 ∷ rest.0, rest.1, rest.2)
 
-  line_ends : (h : Heading) (lines : List BallotLine) (count : ℕ) (ranks : List ℕ) → 0 < h.candidates → CanGoOn (Ballots h (Within lines count ranks))
+  line_ends :
+      (h : Heading) (lines : List BallotLine) (count : ℕ) (ranks : List ℕ) → 0 < h.candidates
+      → CanGoOn (Ballots h (Within lines count ranks))
   unfolding at_token
-  line_ends h lines count ranks some = let rest = ballots_end h (lines ++ (record { count = count; ranking = ranks }) ∷ []) some in (Number 0 ∷ rest.0, rest.1, rest.2)
+  line_ends h lines count ranks some =
+      let rest = ballots_end h (lines ++ (record { count = count; ranking = ranks }) ∷ []) some in
+      (Number 0 ∷ rest.0, rest.1, rest.2)
 
   one_seat : (candidates : ℕ) → 0 < candidates → CanGoOn (Seats candidates)
   unfolding at_token
@@ -195,12 +244,17 @@ module _ (limit : Limit) (behind : Poll → Item → Judged (Progress Expected P
   can_go_on (Title h lines names) items front = title_missing h lines names
 
 -- strings behind the title change nothing
-reads_further : (limit : Limit) (texts : List (List ℕ)) (poll : Poll) → after (at_file_token limit) (Ends poll) (map Text texts) ≡ Ok (Ends poll)
+reads_further :
+    (limit : Limit) (texts : List (List ℕ)) (poll : Poll)
+    → after (at_file_token limit) (Ends poll) (map Text texts) ≡ Ok (Ends poll)
 reads_further limit [] poll = refl
 reads_further limit (text ∷ texts) poll = reads_further limit texts poll
 
-pub reads_blt : (limit : Limit) (items : List Item) (poll : Poll) → IsBlt limit.most items poll → after (at_file_token limit) (GoesOn Candidates) items ≡ Ok (Ends poll)
+pub reads_blt :
+    (limit : Limit) (items : List Item) (poll : Poll) → IsBlt limit.most items poll
+    → after (at_file_token limit) (GoesOn Candidates) items ≡ Ok (Ends poll)
 reads_blt limit items poll is =
     ap (λ (l : List Item). after (at_file_token limit) (GoesOn Candidates) l) is.spelled
-    ∙ in_parts (at_file_token limit) (GoesOn Candidates) (Ends poll) is.front (map Text is.further) (reads_up_to_title limit behind_title is.front poll is.up_to_title)
+    ∙ in_parts (at_file_token limit) (GoesOn Candidates) (Ends poll) is.front (map Text is.further)
+    (reads_up_to_title limit behind_title is.front poll is.up_to_title)
     ∙ reads_further limit is.further poll

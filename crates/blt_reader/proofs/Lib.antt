@@ -1,21 +1,9 @@
-mod Runs
-mod Cutting
-mod ShortNumbers
-pub mod Judgements
-pub mod Tables
-pub mod BallotSoundness
-pub mod BallotCompleteness
-pub mod BltSoundness
-pub mod BltCompleteness
-pub mod Ruling
-pub mod FrontRuling
+mod BallotSoundness
+mod BallotCompleteness
+mod BltSoundness
+mod BltCompleteness
 mod BltLaws
-mod SpellingLaws
-mod SpellingLemmas
 mod Stamps
-pub mod WrittenRuns
-pub mod Spelling
-pub mod Reading
 mod LineSteps
 mod RankSteps
 mod NameSteps

@@ -3,10 +3,10 @@ use Rattle.std.specs.Prelude.{ℕ, ◌+◌, List, [], ◌∷◌, ◌++◌, ◌==
 use Rattle.std.specs.List.{list_any}
 use Rattle.plain_ballots.specs.Ballots.{ballot_count}
 use Rattle.plain_ballots.specs.declared.ballot_line.BallotLine.{BallotLine}
-use Rattle.blt_reader.specs.declared.fault_kind.FaultKind.{FaultKind}
-use Rattle.blt_reader.specs.declared.fault_kind.FaultKind.TheVariants.{BadNumber, NoSuchCandidate, Repeated}
-use Rattle.blt_reader.specs.Token.{Item, Number}
-use Rattle.blt_reader.specs.Judged.{Judged, Progress, GoesOn, Ends, carried}
+use Rattle.input_text.specs.declared.fault_kind.FaultKind.{FaultKind}
+use Rattle.input_text.specs.declared.fault_kind.FaultKind.TheVariants.{BadNumber, NoSuchCandidate, Repeated}
+use Rattle.input_text.specs.Token.{Item, Number}
+use Rattle.input_text.specs.Judged.{Judged, Progress, GoesOn, Ends, carried}
 
 -- ---- one ballot line
 

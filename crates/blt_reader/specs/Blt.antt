@@ -4,14 +4,10 @@ use Rattle.std.specs.List.{flat_map}
 use Rattle.plain_ballots.specs.Ballots.{ballot_count}
 use Rattle.plain_ballots.specs.Ranking.{IsRanking}
 use Rattle.plain_ballots.specs.declared.ballot_line.BallotLine.{BallotLine}
-use Rattle.blt_reader.specs.Token.{Item, Number, Minus, Text}
+use Rattle.input_text.specs.Token.{Item, Number, Minus, Text}
+use Rattle.input_text.specs.Range.{IsIn}
 use Rattle.candidate_roll.specs.Roll.{withdrawn_marks}
 use Rattle.blt_reader.specs.Poll.{Poll}
-
--- from 1 to the greatest
-pub record IsIn (greatest n : ℕ) : Type 0 where
-  pub least : 1 ≤ n
-  pub most : n ≤ greatest
 
 -- lines of ballots among so many candidates, each of at least one ballot, and together of at most so many
 pub record AreLines (candidates most : ℕ) (lines : List BallotLine) : Type 0 where

@@ -1,11 +1,12 @@
 -- What is expected in a ballot file, and what an item leads to there.
-use Rattle.std.specs.Prelude.{ℕ, List, [], ◌∷◌, ◌++◌, length, Bool, ◌&&◌, ◌==◌, if◌then◌else◌, nat_le, Ok, Err}
+use Rattle.std.specs.Prelude.{ℕ, List, [], ◌∷◌, ◌++◌, length, ◌==◌, if◌then◌else◌, nat_le, Ok, Err}
 use Rattle.plain_ballots.specs.declared.ballot_line.BallotLine.{BallotLine}
-use Rattle.blt_reader.specs.declared.fault_kind.FaultKind.TheVariants.{BadHeader, BadWithdrawn, NameExpected, TooLongName, Trailing}
-use Rattle.blt_reader.specs.Token.{Item, Number, Minus, Text}
+use Rattle.input_text.specs.declared.fault_kind.FaultKind.TheVariants.{BadHeader, BadWithdrawn, NameExpected, TooLongName, Trailing}
+use Rattle.input_text.specs.Token.{Item, Number, Minus, Text}
+use Rattle.input_text.specs.Range.{is_in}
 use Rattle.candidate_roll.specs.Roll.{withdrawn_marks}
 use Rattle.blt_reader.specs.Poll.{Poll}
-use Rattle.blt_reader.specs.Judged.{Judged, Progress, GoesOn, Ends, carried, going_on}
+use Rattle.input_text.specs.Judged.{Judged, Progress, GoesOn, Ends, carried, going_on}
 use Rattle.blt_reader.specs.BallotTable.{Limit, Lines, Between, at_line}
 
 -- the numbers of candidates and seats, and the withdrawn candidates so far
@@ -24,9 +25,6 @@ pub data Expected : Type 0 where
   Ballots : (heading : Heading) (lines : Lines) → Expected
   Name : (heading : Heading) (lines : List BallotLine) (names : List (List ℕ)) → Expected
   Title : (heading : Heading) (lines : List BallotLine) (names : List (List ℕ)) → Expected
-
-abbrev pub is_in : ℕ → ℕ → Bool
-is_in greatest n = nat_le 1 n && nat_le n greatest
 
 abbrev pub at_candidates : ℕ → Judged (Progress Expected Poll)
 at_candidates n = if is_in 250 n then Ok (GoesOn (Seats n)) else Err BadHeader

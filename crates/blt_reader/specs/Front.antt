@@ -4,10 +4,11 @@ use Rattle.std.specs.List.{flat_map}
 use Rattle.plain_ballots.specs.Ballots.{ballot_count}
 use Rattle.plain_ballots.specs.Ranking.{IsRanking}
 use Rattle.plain_ballots.specs.declared.ballot_line.BallotLine.{BallotLine}
-use Rattle.blt_reader.specs.Token.{Item, Number, Text}
+use Rattle.input_text.specs.Token.{Item, Number, Text}
 use Rattle.blt_reader.specs.Poll.{Poll}
-use Rattle.blt_reader.specs.Judged.{Progress, GoesOn, Ends}
-use Rattle.blt_reader.specs.Blt.{IsIn, AreLines, ballot, ballots, opening, IsUpToTitle, IsBlt}
+use Rattle.input_text.specs.Judged.{Progress, GoesOn, Ends}
+use Rattle.input_text.specs.Range.{IsIn}
+use Rattle.blt_reader.specs.Blt.{AreLines, ballot, ballots, opening, IsUpToTitle, IsBlt}
 use Rattle.blt_reader.specs.BallotTable.{Lines, Between, Within}
 use Rattle.blt_reader.specs.BltTable.{Heading, Expected, Candidates, Seats, Withdrawn, Ballots, Name, Title}
 
@@ -67,3 +68,18 @@ IsRollFront most (Ends poll) items = IsUpToTitle most items poll
 abbrev pub IsFileFront : ℕ → Progress Expected Poll → List Item → Type 0
 IsFileFront most (GoesOn expected) items = IsFront most expected items
 IsFileFront most (Ends poll) items = IsBlt most items poll
+
+-- ---- ballot lines alone, as other files have them too
+
+-- the items of the lines so far
+abbrev pub lined : Progress Lines (List BallotLine) → List Item
+lined (GoesOn lines) = begun lines
+lined (Ends lines) = ballots lines
+
+abbrev pub AreLinedIn : ℕ → ℕ → Progress Lines (List BallotLine) → Type 0
+AreLinedIn candidates most (GoesOn lines) = AreBegun candidates most lines
+AreLinedIn candidates most (Ends lines) = AreLines candidates most lines
+
+-- The items are ballot lines up to where this is expected, or up to the 0 behind them.
+abbrev pub IsLineFront : ℕ → ℕ → Progress Lines (List BallotLine) → List Item → Type 0
+IsLineFront candidates most expected items = AreLinedIn candidates most expected × (lined expected ≡ items)

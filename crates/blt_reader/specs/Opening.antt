@@ -1,12 +1,12 @@
 -- What stands before the ballots of a file, as the code reads it.
 use Rattle.std.specs.Prelude.{◌≡◌, ◌<◌, ℕ, List, [], ◌∷◌, ◌++◌, length, Bool, true, false, slice_index_or, All, Result, Ok, Err, ◌⊎◌}
 use Rattle.candidate_roll.specs.Roll.{is_listed, withdrawn_marks}
-use Rattle.blt_reader.specs.declared.blt_stop.BltStop.{BltStop}
-use Rattle.blt_reader.specs.declared.blt_stop.BltStop.TheVariants as stop
+use Rattle.input_text.specs.declared.input_stop.InputStop.{InputStop}
+use Rattle.input_text.specs.declared.input_stop.InputStop.TheVariants as stop
 use Rattle.blt_reader.specs.declared.opening.Opening.{Opening}
-use Rattle.blt_reader.specs.Token.{Number, Scan, with_front}
-use Rattle.blt_reader.specs.Blt.{IsIn}
-use Rattle.blt_reader.specs.Judged.{reads}
+use Rattle.input_text.specs.Token.{Number, Scan, with_front}
+use Rattle.input_text.specs.Range.{IsIn}
+use Rattle.input_text.specs.Judged.{reads}
 use Rattle.blt_reader.specs.BallotTable.{Limit, Between}
 use Rattle.blt_reader.specs.BltTable.{Candidates, Withdrawn, Ballots, at_token}
 
@@ -25,7 +25,7 @@ pub record IsWithdrawn (candidates : ℕ) (start : Scan) (withdrawn : List ℕ) 
   pub same : (limit : Limit) (seats : ℕ) → reads (at_token limit) (Withdrawn (record { candidates = candidates; seats = seats; withdrawn = [] })) start
       ≡ reads (at_token limit) (Withdrawn (record { candidates = candidates; seats = seats; withdrawn = listed })) rest
 
-abbrev pub ReadsWithdrawn : ℕ → Scan → List ℕ → Result (ℕ × ℕ) BltStop → Scan → Type 0
+abbrev pub ReadsWithdrawn : ℕ → Scan → List ℕ → Result (ℕ × ℕ) InputStop → Scan → Type 0
 ReadsWithdrawn candidates old withdrawn (Ok first) new = IsWithdrawn candidates old withdrawn (with_front (record { at = first.1; item = Number first.0 }) new)
 ReadsWithdrawn candidates old withdrawn (Err (stop.Fault fault)) new = (limit : Limit) (seats : ℕ) → reads (at_token limit) (Withdrawn (record { candidates = candidates; seats = seats; withdrawn = [] })) old ≡ Err (record { fault = fault; rest = new })
 ReadsWithdrawn candidates old withdrawn (Err stop.NoMemory) new = Unit {0}
@@ -42,7 +42,7 @@ pub record IsOpened (start : Scan) (opening : Opening) (rest : Scan) : Type 0 wh
   pub same : (limit : Limit) → reads (at_token limit) Candidates start
       ≡ reads (at_token limit) (Ballots (record { candidates = opening.candidates; seats = opening.seats; withdrawn = listed }) (Between [])) (with_front (record { at = opening.first.1; item = Number opening.first.0 }) rest)
 
-abbrev pub ReadsOpening : Scan → Result Opening BltStop → Scan → Type 0
+abbrev pub ReadsOpening : Scan → Result Opening InputStop → Scan → Type 0
 ReadsOpening old (Ok opening) new = IsOpened old opening new
 ReadsOpening old (Err (stop.Fault fault)) new = (limit : Limit) → reads (at_token limit) Candidates old ≡ Err (record { fault = fault; rest = new })
 ReadsOpening old (Err stop.NoMemory) new = Unit {0}

@@ -1,16 +1,17 @@
 -- What a ballot file says, or why it is refused.
-use Rattle.std.specs.Prelude.{◌≡◌, ℕ, List, Bool, true, false, Result, Ok, Err, IsOk, ◌↔◌}
-use Rattle.blt_reader.specs.declared.fault_kind.FaultKind.TheVariants.{TooManyBallots, BallotsInRoll, Trailing}
-use Rattle.blt_reader.specs.declared.input_fault.InputFault.{InputFault}
-use Rattle.blt_reader.specs.Token.{Item, Scan}
-use Rattle.blt_reader.specs.Scan.{scan}
+use Rattle.std.specs.Prelude.{◌≡◌, ℕ, List, [], Bool, true, false, Result, Ok, Err, IsOk, ◌↔◌}
+use Rattle.input_text.specs.declared.fault_kind.FaultKind.TheVariants.{TooManyBallots, BallotsInRoll, Trailing}
+use Rattle.input_text.specs.declared.input_fault.InputFault.{InputFault}
+use Rattle.input_text.specs.Token.{Item, Scan}
+use Rattle.input_text.specs.Scan.{scan}
+use Rattle.plain_ballots.specs.declared.ballot_line.BallotLine.{BallotLine}
 use Rattle.blt_reader.specs.Poll.{Poll}
 use Rattle.blt_reader.specs.Blt.{IsUpToTitle, IsBlt}
-use Rattle.blt_reader.specs.Judged.{Judged, after, outcome, Progress, GoesOn, ended, Stopped, reads, going_on}
-use Rattle.blt_reader.specs.BallotTable.{Limit}
+use Rattle.input_text.specs.Judged.{Judged, after, outcome, Progress, GoesOn, ended, Stopped, reads, going_on, closed}
+use Rattle.blt_reader.specs.BallotTable.{Limit, Lines, Between, at_line}
 use Rattle.blt_reader.specs.BltTable.{Expected, Candidates, at_token, at_file_token}
-use Rattle.blt_reader.specs.Front.{IsRollFront, IsFileFront}
-use Rattle.blt_reader.specs.Refusal.{IsOpen, IsAccepted, IsFrontOf, IsRefusal, IsFrontRefusal}
+use Rattle.blt_reader.specs.Front.{IsRollFront, IsFileFront, IsLineFront}
+use Rattle.input_text.specs.Refusal.{IsOpen, IsAccepted, IsFrontOf, IsRefusal, IsFrontRefusal}
 
 -- a file has at most 999,999,999 ballots
 abbrev pub of_a_file : Limit
@@ -34,7 +35,7 @@ abbrev pub reading : List ℕ → Result Poll InputFault
 reading bytes = said_by of_a_file (scan bytes false)
 
 abbrev pub IsFileRefusal : Limit → Scan → InputFault → Type 0
-IsFileRefusal limit = IsRefusal (IsBlt limit.most) (at_file_token limit) (IsFileFront limit.most)
+IsFileRefusal limit = IsRefusal (IsBlt limit.most) (at_file_token limit) (GoesOn Candidates)
 
 -- ---- a roll, which is a file up to its title
 
@@ -53,7 +54,7 @@ abbrev pub at_roll_token : Limit → Progress Expected Poll → Item → Judged 
 at_roll_token limit = going_on (at_token limit) nothing_more
 
 abbrev pub IsRollRefusal : Limit → Scan → InputFault → Type 0
-IsRollRefusal limit = IsFrontRefusal (IsUpToTitle limit.most) (at_roll_token limit) (IsRollFront limit.most)
+IsRollRefusal limit = IsFrontRefusal (IsUpToTitle limit.most) (at_roll_token limit) (GoesOn Candidates)
 
 -- ---- laws
 
@@ -88,3 +89,16 @@ AcceptsRolls = (limit : Limit) (text : Scan) (poll : Poll) (rest : Scan) → (ro
 -- Otherwise it is refused exactly by the rule.
 abbrev pub RefusesRollsByTheRule : Type 0
 RefusesRollsByTheRule = (limit : Limit) (text : Scan) (fault : InputFault) → ((rest : Scan) × (roll_reading limit text ≡ Err (record { fault = fault; rest = rest }))) ↔ IsRollRefusal limit text fault
+
+-- The table of a roll expects exactly what the list before it expects.
+abbrev pub ExpectsRollsRightly : Type 0
+ExpectsRollsRightly =
+    (limit : Limit) (items : List Item) (expected : Progress Expected Poll)
+    → (after (at_roll_token limit) (GoesOn Candidates) items ≡ Ok expected) ↔ IsRollFront limit.most expected items
+
+-- The table of ballot lines expects exactly what the lines before it expect.
+abbrev pub ExpectsLinesRightly : Type 0
+ExpectsLinesRightly =
+    (candidates : ℕ) (limit : Limit) (items : List Item) (expected : Progress Lines (List BallotLine))
+    → (after (closed (at_line candidates limit)) (GoesOn (Between [])) items ≡ Ok expected)
+    ↔ IsLineFront candidates limit.most expected items

@@ -1,34 +1,10 @@
--- Texts and ballot files worked by hand.
-use Rattle.std.specs.Prelude.{◌≡◌, ℕ, List, [], ◌∷◌, ◌++◌, true, false, codes, replicate, Result, Ok, Err}
-use Rattle.blt_reader.specs.declared.fault_kind.FaultKind.{FaultKind}
-use Rattle.blt_reader.specs.declared.fault_kind.FaultKind.TheVariants.{BadByte, BadNumber, BadHeader, BadWithdrawn, NoSuchCandidate, Repeated, TooManyBallots, NameExpected, TooLongName, Ended, Trailing}
-use Rattle.blt_reader.specs.declared.input_fault.InputFault.{InputFault}
-use Rattle.blt_reader.specs.Token.{Number, Minus, Text, Word, AtEnd, AtFault}
-use Rattle.blt_reader.specs.Scan.{scan}
+-- Ballot files worked by hand.
+use Rattle.std.specs.Prelude.{◌≡◌, ℕ, [], ◌∷◌, ◌++◌, true, false, codes, replicate, Result, Ok, Err}
+use Rattle.input_text.specs.declared.fault_kind.FaultKind.{FaultKind}
+use Rattle.input_text.specs.declared.fault_kind.FaultKind.TheVariants.{BadByte, BadNumber, BadHeader, BadWithdrawn, NoSuchCandidate, Repeated, TooManyBallots, NameExpected, TooLongName, Ended, Trailing}
+use Rattle.input_text.specs.declared.input_fault.InputFault.{InputFault}
 use Rattle.blt_reader.specs.Poll.{Poll}
 use Rattle.blt_reader.specs.Said.{reading}
-
--- The text of two numbers, a string, a word and a number past 32 bits. Where it may have no words, it ends at the word.
-abbrev pub mixed : List ℕ
-mixed = codes " 12 -03 \"a b\"#c\nend 4294967296"
-
-pub record Cuts : Type 0 where
-  pub with_words : scan mixed true ≡ record {
-    tokens = record { at = 1; item = Number 12 }
-        ∷ record { at = 4; item = Minus 3 }
-        ∷ record { at = 8; item = Text (codes "a b") }
-        ∷ record { at = 16; item = Word (codes "end") }
-        ∷ record { at = 20; item = Number 4294967295 }
-        ∷ [];
-    ending = AtEnd 30;
-  }
-  pub without : scan mixed false ≡ record {
-    tokens = record { at = 1; item = Number 12 }
-        ∷ record { at = 4; item = Minus 3 }
-        ∷ record { at = 8; item = Text (codes "a b") }
-        ∷ [];
-    ending = AtFault (record { kind = BadByte; at = 16 });
-  }
 
 -- a comment, a withdrawn candidate and six lines
 abbrev pub SampleFile : Type 0

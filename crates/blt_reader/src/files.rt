@@ -1,17 +1,19 @@
 // Whole ballot files.
 ghost use Rattle.std.specs.Prelude.{◌≡◌, false, length, IfOk};
-ghost use Rattle.blt_reader.specs.Scan.{scan};
+ghost use Rattle.input_text.specs.Scan.{scan};
 ghost use Rattle.blt_reader.specs.Blt.{IsBlt};
-ghost use Rattle.blt_reader.specs.Refusal.{IsAccepted};
+ghost use Rattle.input_text.specs.Refusal.{IsAccepted};
 ghost use Rattle.blt_reader.specs.Said.{of_a_file, reading, IsFileRefusal};
-ghost use Rattle.blt_reader.specs.Reads.{IfFault, SaysFile, ReadsFurther};
+ghost use Rattle.input_text.specs.Reads.{IfFault};
+ghost use Rattle.blt_reader.specs.Reads.{SaysFile, ReadsFurther};
 ghost use Rattle.blt_reader.specs.Election.{poll};
 
-use crate::{BltStop, Election, FaultKind, InputFault, Next, Tokens, What, read_roll};
+use crate::{Election, read_roll};
+use input_text::{FaultKind, InputFault, InputStop, Next, Tokens, What};
 use std::alloc::Global;
 
 /// Reads a ballot file: Ok where it has no refusal, with the election that it says.
-pub fn read_blt(alloc: Global, bytes: &[u8]) -> Result<Election, BltStop>
+pub fn read_blt(alloc: Global, bytes: &[u8]) -> Result<Election, InputStop>
     ensures accepted { IfOk result (λ e. IsAccepted (IsBlt 999999999) (scan bytes.now false) (poll e)) }
     ensures refused { IfFault result (λ fault. IsFileRefusal of_a_file (scan bytes.now false) fault) }
     ensures says { SaysFile (reading bytes.now) result }
@@ -20,7 +22,7 @@ pub fn read_blt(alloc: Global, bytes: &[u8]) -> Result<Election, BltStop>
     read_file(alloc, bytes)
 }
 
-fn read_file(alloc: Global, bytes: &[u8]) -> Result<Election, BltStop>
+fn read_file(alloc: Global, bytes: &[u8]) -> Result<Election, InputStop>
     ensures says { SaysFile (reading bytes.now) result }
     ensures candidates { IfOk result (λ e. e.ballots.candidates ≡ length e.roll.names) }
 {

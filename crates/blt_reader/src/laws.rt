@@ -1,7 +1,5 @@
 // What the definitions of ballot files amount to. Each law is the contract of a function with nothing to do.
-ghost use Rattle.blt_reader.specs.Spelling.{CutsToTokens};
-ghost use Rattle.blt_reader.specs.Said.{HasOnePoll, FollowsOpenLists, ExpectsRightly, AcceptsFiles, RefusesByTheRule, RefusesAllElse, AcceptsRolls, RefusesRollsByTheRule};
-ghost use Rattle.blt_reader.specs.Written.{NumbersAreRead, DigitsAreRead, WordsAreRead, StringsAreRead, PartsFollow, NothingIsRead, WholeIsRead};
+ghost use Rattle.blt_reader.specs.Said.{HasOnePoll, FollowsOpenLists, ExpectsRightly, AcceptsFiles, RefusesByTheRule, RefusesAllElse, AcceptsRolls, RefusesRollsByTheRule, ExpectsRollsRightly, ExpectsLinesRightly};
 
 /// A list of tokens is the file of at most one election.
 pub fn has_one_poll()
@@ -44,19 +42,12 @@ pub fn refuses_rolls_by_the_rule()
     ensures { RefusesRollsByTheRule }
 {}
 
-/// A text that is written from items, each with a separator behind it, is cut into just these items.
-pub fn written_items_are_read()
-    ensures numbers { NumbersAreRead }
-    ensures digits { DigitsAreRead }
-    ensures words { WordsAreRead }
-    ensures strings { StringsAreRead }
-    ensures parts { PartsFollow }
-    ensures nothing { NothingIsRead }
-    ensures whole { WholeIsRead }
+/// The table of a roll expects exactly what the list before it expects.
+pub fn expects_rolls_rightly()
+    ensures { ExpectsRollsRightly }
 {}
 
-/// A text that is cut up to its end is its tokens at their places, with nothing but separators and
-/// comments between them.
-pub fn cuts_to_tokens()
-    ensures { CutsToTokens }
+/// The table of ballot lines expects exactly what the lines before it expect, in whatever file they stand.
+pub fn expects_lines_rightly()
+    ensures { ExpectsLinesRightly }
 {}

@@ -1,16 +1,17 @@
 // Ballot lines.
-ghost use Rattle.std.specs.Prelude.{◌≡◌, ◌+◌, ◌<◌, ◌≤◌, [], ◌∷◌, ◌++◌, length, take, replicate, true, false, Ok, IfOk, IfErr, OnOk};
+ghost use Rattle.std.specs.Prelude.{◌≡◌, ◌+◌, ◌<◌, ◌≤◌, [], ◌∷◌, ◌++◌, length, take, replicate, slice_index_or, true, false, Ok, IfOk, IfErr, IfSome, IfNone, OnOk};
 ghost use Rattle.plain_ballots.specs.Ballots.{ballot_count};
 ghost use Rattle.plain_ballots.specs.Ranking.{IsRanking};
-ghost use Rattle.blt_reader.specs.declared.blt_stop.BltStop.TheVariants as stop;
-ghost use Rattle.blt_reader.specs.Token.{Number, with_front};
+ghost use Rattle.input_text.specs.declared.input_stop.InputStop.TheVariants as stop;
+ghost use Rattle.input_text.specs.Token.{Number, with_front};
 ghost use Rattle.blt_reader.specs.Blt.{AreLines};
 ghost use Rattle.blt_reader.specs.BallotTable.{at_rank, Between, at_line};
-ghost use Rattle.blt_reader.specs.Judged.{reads};
-ghost use Rattle.blt_reader.specs.Reads.{IsBehind, tokens_left, Reads, Marks};
+ghost use Rattle.input_text.specs.Judged.{reads};
+ghost use Rattle.input_text.specs.Reads.{IsBehind, tokens_left, Reads};
+ghost use Rattle.blt_reader.specs.Reads.{Marks};
 
 use crate::named::Named;
-use crate::{BltStop, FaultKind, Tokens};
+use input_text::{FaultKind, InputStop, Tokens};
 use plain_ballots::{BallotLine, Ballots, LineStop, Ranking};
 use std::alloc::Global;
 
@@ -22,7 +23,7 @@ pub fn read_lines(
     candidates: u32,
     most: u32,
     refusal: FaultKind,
-) -> Result<Ballots, BltStop>
+) -> Result<Ballots, InputStop>
     requires { most ≤ 999999999 }
     ensures reads { Reads (at_line candidates (record { most = most; refusal = refusal })) (Between []) (λ b. b.lines) tokens.old.rest result tokens.new.rest }
     ensures candidates { IfOk result (λ b. b.candidates ≡ candidates) }
@@ -41,7 +42,7 @@ pub(crate) fn read_lines_from(
     most: u32,
     refusal: FaultKind,
     first: (u32, usize),
-) -> Result<Ballots, BltStop>
+) -> Result<Ballots, InputStop>
     requires { most ≤ 999999999 }
     ensures reads { Reads (at_line candidates (record { most = most; refusal = refusal })) (Between []) (λ b. b.lines) (with_front (record { at = first.1; item = Number first.0 }) tokens.old.rest) result tokens.new.rest }
     ensures candidates { IfOk result (λ b. b.candidates ≡ candidates) }
@@ -63,7 +64,7 @@ fn read_lines_ahead(
     most: u32,
     refusal: FaultKind,
     first: (u32, usize),
-) -> Result<Ballots, BltStop>
+) -> Result<Ballots, InputStop>
     requires { most ≤ 999999999 }
     ensures reads { Reads (at_line candidates (record { most = most; refusal = refusal })) (Between []) (λ b. b.lines) (with_front (record { at = first.1; item = Number first.0 }) tokens.old.rest) result tokens.new.rest }
     ensures candidates { IfOk result (λ b. b.candidates ≡ candidates) }
@@ -77,10 +78,12 @@ fn read_lines_ahead(
     let (mut count, mut at) = first;
     while count > 0 {
         if count as u64 > most as u64 - ballots.total() {
-            return Err(BltStop::refused(refusal, at));
+            return Err(InputStop::refused(refusal, at));
         }
         let len = read_ranks(tokens, candidates, &mut named, ranks)?;
-        let ranking = Ranking::of_front(alloc, ranks, len)?;
+        let Ok(ranking) = Ranking::of_front(alloc, ranks, len) else {
+            return Err(InputStop::NoMemory);
+        };
         add_line(&mut ballots, BallotLine { count, ranking })?;
         let next = tokens.next_number()?;
         count = next.0;
@@ -96,7 +99,7 @@ fn read_ranks(
     candidates: u32,
     named: &mut Named,
     ranks: &mut [u32],
-) -> Result<usize, BltStop>
+) -> Result<usize, InputStop>
     requires numbers { length named.old ≡ candidates + 1 }
     requires room { length ranks.old ≡ candidates }
     ensures reads { Reads (at_rank candidates) [] (λ len. take len ranks.new) tokens.old.rest result tokens.new.rest }
@@ -118,10 +121,10 @@ fn read_ranks(
             return Ok(len);
         }
         if n > candidates {
-            return Err(BltStop::refused(FaultKind::NoSuchCandidate, at));
+            return Err(InputStop::refused(FaultKind::NoSuchCandidate, at));
         }
         if named.mark(n as usize) {
-            return Err(BltStop::refused(FaultKind::Repeated, at));
+            return Err(InputStop::refused(FaultKind::Repeated, at));
         }
         ranks[len] = n;
         len += 1;
@@ -152,12 +155,12 @@ fn short_ranks(
 {
     let mut ahead = tokens.same();
     let mut len = 0;
-    while let Some((n, _)) = ahead.next_unnamed(candidates, named) {
+    while let Some((n, _)) = next_unnamed(&mut ahead, candidates, named) {
         named.mark(n as usize);
         ranks[len] = n;
         len += 1;
     }
-    let ending = ahead.next_zero();
+    let ending = next_zero(&mut ahead);
     *tokens = ahead;
     match ending {
         Some(_) => (len, true),
@@ -165,7 +168,43 @@ fn short_ranks(
     }
 }
 
-fn add_line(ballots: &mut Ballots, line: BallotLine) -> Result<(), BltStop>
+// The next token where it is a short number of a candidate who isn't named yet, and its place. Else
+// nothing is taken.
+#[inline(always)]
+fn next_unnamed(tokens: &mut Tokens<'_>, candidates: u32, named: &Named) -> Option<(u32, usize)>
+    requires { length named.now ≡ candidates + 1 }
+    ensures number { IfSome result (λ found. tokens.old.rest ≡ with_front (record { at = found.1; item = Number found.0 }) tokens.new.rest) }
+    ensures candidate { IfSome result (λ found. (1 ≤ found.0) × (found.0 ≤ candidates)) }
+    ensures unnamed { IfSome result (λ found. slice_index_or named.now found.0 false ≡ false) }
+    ensures none { IfNone result (tokens.new ≡ tokens.old) }
+    ensures behind { IsBehind tokens.old tokens.new }
+{
+    let mut ahead = tokens.same();
+    let (n, at) = ahead.next_short(candidates < 100)?;
+    if n == 0 || n > candidates || named.has(n as usize) {
+        return None;
+    }
+    *tokens = ahead;
+    Some((n, at))
+}
+
+// Whether the next token is a short 0, and its place. It is taken then, and else nothing is.
+#[inline(always)]
+fn next_zero(tokens: &mut Tokens<'_>) -> Option<usize>
+    ensures number { IfSome result (λ at. tokens.old.rest ≡ with_front (record { at = at; item = Number 0 }) tokens.new.rest) }
+    ensures none { IfNone result (tokens.new ≡ tokens.old) }
+    ensures behind { IsBehind tokens.old tokens.new }
+{
+    let mut ahead = tokens.same();
+    let (n, at) = ahead.next_short(true)?;
+    if n > 0 {
+        return None;
+    }
+    *tokens = ahead;
+    Some(at)
+}
+
+fn add_line(ballots: &mut Ballots, line: BallotLine) -> Result<(), InputStop>
     requires ranking { IsRanking ballots.old.candidates line.ranking }
     requires counted { 1 ≤ line.count }
     requires room { ballot_count ballots.old.lines + line.count ≤ 999999999 }
@@ -174,7 +213,7 @@ fn add_line(ballots: &mut Ballots, line: BallotLine) -> Result<(), BltStop>
 {
     match ballots.push_line(line) {
         Ok(()) => Ok(()),
-        Err(LineStop::NoMemory(_)) => Err(BltStop::NoMemory),
+        Err(LineStop::NoMemory(_)) => Err(InputStop::NoMemory),
         Err(LineStop::TooMany(_)) => unreachable!(),
     }
 }

@@ -1,12 +1,13 @@
 // What stands before the ballots of a file.
 ghost use Rattle.std.specs.Prelude.{◌≡◌, ◌+◌, ◌<◌, [], length, All, IfOk, IfErr, OnOk};
-ghost use Rattle.blt_reader.specs.declared.blt_stop.BltStop.TheVariants as stop;
-ghost use Rattle.blt_reader.specs.Blt.{IsIn};
+ghost use Rattle.input_text.specs.declared.input_stop.InputStop.TheVariants as stop;
+ghost use Rattle.input_text.specs.Range.{IsIn};
 ghost use Rattle.blt_reader.specs.Opening.{Marks, IsListedMore, ReadsWithdrawn, ReadsOpening, IsOpening};
-ghost use Rattle.blt_reader.specs.Reads.{IsBehind, Stops, Accepts, as_size};
+ghost use Rattle.input_text.specs.Reads.{IsBehind, Stops, Accepts};
+ghost use Rattle.blt_reader.specs.Reads.{as_size};
 
 use crate::named::Named;
-use crate::{BltStop, FaultKind, InputFault, Tokens, What};
+use input_text::{FaultKind, InputFault, InputStop, Tokens, What};
 use std::alloc::Global;
 
 /// The numbers of candidates and seats, each withdrawn candidate once, and the first count, which
@@ -19,7 +20,7 @@ pub(crate) struct Opening {
     pub first: (u32, usize),
 }
 
-pub(crate) fn read_opening(alloc: Global, tokens: &mut Tokens<'_>) -> Result<Opening, BltStop>
+pub(crate) fn read_opening(alloc: Global, tokens: &mut Tokens<'_>) -> Result<Opening, InputStop>
     ensures reads { ReadsOpening tokens.old.rest result tokens.new.rest }
     ensures sound { IfOk result IsOpening }
     ensures behind { IsBehind tokens.old tokens.new }
@@ -58,7 +59,7 @@ fn read_withdrawn(
     tokens: &mut Tokens<'_>,
     candidates: u32,
     withdrawn: &mut Vec<u32>,
-) -> Result<(u32, usize), BltStop>
+) -> Result<(u32, usize), InputStop>
     requires { withdrawn.old.items ≡ [] }
     ensures reads { ReadsWithdrawn candidates tokens.old.rest withdrawn.new.items result tokens.new.rest }
     ensures each { OnOk result (All (IsIn candidates) withdrawn.new.items) }
@@ -72,14 +73,14 @@ fn read_withdrawn(
             What::Minus(n) if n >= 1 && n <= candidates => {
                 list_once(&mut named, withdrawn, n)?;
             }
-            What::Minus(_) => return Err(BltStop::refused(FaultKind::BadWithdrawn, token.at)),
-            _ => return Err(BltStop::refused(FaultKind::BadNumber, token.at)),
+            What::Minus(_) => return Err(InputStop::refused(FaultKind::BadWithdrawn, token.at)),
+            _ => return Err(InputStop::refused(FaultKind::BadNumber, token.at)),
         }
     }
 }
 
 // Puts a number on a list unless it stands there.
-fn list_once(named: &mut Named, listed: &mut Vec<u32>, n: u32) -> Result<(), BltStop>
+fn list_once(named: &mut Named, listed: &mut Vec<u32>, n: u32) -> Result<(), InputStop>
     requires inside { n < length named.old }
     requires marks { Marks named.old listed.old.items }
     ensures more { OnOk result (IsListedMore listed.old.items n listed.new.items) }

@@ -1,17 +1,18 @@
 // Files up to their title.
 ghost use Rattle.std.specs.Prelude.{◌≡◌, ◌≤◌, length, All, IfOk, IfErr};
 ghost use Rattle.candidate_roll.specs.Roll.{IsFew, withdrawn_marks};
-ghost use Rattle.blt_reader.specs.declared.blt_stop.BltStop.TheVariants as stop;
+ghost use Rattle.input_text.specs.declared.input_stop.InputStop.TheVariants as stop;
 ghost use Rattle.blt_reader.specs.BltTable.{Candidates, at_token};
 ghost use Rattle.blt_reader.specs.Said.{limit_of, IsRollOf, IsRollRefusal};
-ghost use Rattle.blt_reader.specs.Reads.{IsBehind, IfFault, Reads};
+ghost use Rattle.input_text.specs.Reads.{IsBehind, IfFault, Reads};
 ghost use Rattle.blt_reader.specs.Election.{poll};
 
+use crate::Election;
 use crate::lines::read_lines_from;
 use crate::names::{read_name, read_names};
 use crate::opening::read_opening;
-use crate::{BltStop, Election, FaultKind, Tokens};
 use candidate_roll::{Name, Names, Roll, RollStop};
+use input_text::{FaultKind, InputStop, Tokens};
 use std::alloc::Global;
 
 /// Reads a file up to its title and no further: an Ok leaves the reader right behind the title.
@@ -22,7 +23,7 @@ pub fn read_roll(
     alloc: Global,
     tokens: &mut Tokens<'_>,
     with_ballots: bool,
-) -> Result<Election, BltStop>
+) -> Result<Election, InputStop>
     ensures accepted { IfOk result (λ e. IsRollOf (limit_of with_ballots) tokens.old.rest (poll e) tokens.new.rest) }
     ensures refused { IfFault result (λ fault. IsRollRefusal (limit_of with_ballots) tokens.old.rest fault) }
     ensures reads { Reads (at_token (limit_of with_ballots)) Candidates poll tokens.old.rest result tokens.new.rest }
@@ -41,7 +42,7 @@ fn read_up_to_title(
     tokens: &mut Tokens<'_>,
     most: u32,
     refusal: FaultKind,
-) -> Result<Election, BltStop>
+) -> Result<Election, InputStop>
     requires { most ≤ 999999999 }
     ensures reads { Reads (at_token (record { most = most; refusal = refusal })) Candidates poll tokens.old.rest result tokens.new.rest }
     ensures candidates { IfOk result (λ e. e.ballots.candidates ≡ length e.roll.names) }
@@ -69,7 +70,7 @@ fn new_roll(
     names: Names,
     title: Name<1000>,
     withdrawn: &[u32],
-) -> Result<Roll, BltStop>
+) -> Result<Roll, InputStop>
     requires seats { IsFew seats }
     requires candidates { IsFew (length names) }
     requires withdrawn { All (λ c. (1 ≤ c) × (c ≤ length names)) withdrawn.now }
@@ -78,7 +79,7 @@ fn new_roll(
 {
     match Roll::try_new(alloc, seats, names, title, withdrawn) {
         Ok(roll) => Ok(roll),
-        Err(RollStop::NoMemory) => Err(BltStop::NoMemory),
+        Err(RollStop::NoMemory) => Err(InputStop::NoMemory),
         Err(RollStop::BadCount) => unreachable!(),
         Err(RollStop::BadSeats) => unreachable!(),
     }

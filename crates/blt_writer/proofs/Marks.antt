@@ -6,7 +6,7 @@ use Rattle.std.proofs.lemmas.List.Elements.{All-filter}
 use Rattle.std.proofs.lemmas.List.FromFn.{length-range_with_len, get_or-range_with_len, fill_by_all}
 use Rattle.std.proofs.lemmas.Map.Views.{any-filter_same}
 use Rattle.candidate_roll.specs.Roll.{is_withdrawn, is_listed, withdrawn_marks}
-use Rattle.blt_reader.specs.Blt.{IsIn}
+use Rattle.input_text.specs.Range.{IsIn}
 use Rattle.blt_writer.specs.Text.{withdrawn_numbers}
 
 below_or_at : (a c : ℕ) → a ≤ c → (suc a ≤ c) ⊎ (a ≡ c)

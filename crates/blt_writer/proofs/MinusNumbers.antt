@@ -3,11 +3,11 @@ use Rattle.std.proofs.Common.{◌≡◌, ℕ, zero, suc, ◌+◌, ◌-◌, ◌^�
 use Rattle.std.specs.Prelude.{decimal}
 use Rattle.std.specs.Char.{is_ascii_digit}
 use Rattle.std.proofs.lemmas.Fmt.{decimal_is_IsNumeral, decimal_nonempty}
-use Rattle.blt_reader.specs.Token.{Minus, Scan, with_front}
-use Rattle.blt_reader.specs.Scan.{is_separator, number, may_follow, Piece, Gap, Lexeme, piece, minus_piece, cut, beginning}
-use Rattle.blt_reader.specs.Refusal.{items_of}
-use Rattle.blt_reader.specs.Written.{Spells, Each}
-use Rattle.blt_reader.proofs.WrittenRuns.{run_len, drop_front, take_front, digits_of, no_digit}
+use Rattle.input_text.specs.Token.{Minus, Scan, with_front}
+use Rattle.input_text.specs.Scan.{is_separator, number, may_follow, Piece, Gap, Lexeme, piece, minus_piece, cut, beginning}
+use Rattle.input_text.specs.Refusal.{items_of}
+use Rattle.input_text.specs.Written.{Spells, Each}
+use Rattle.input_text.proofs.WrittenRuns.{run_len, drop_front, take_front, digits_of, no_digit}
 
 -- the bytes of a token that was cut off are passed over
 skipped : (at n : ℕ) (behind : List ℕ) → n ≤ length behind → cut true at n behind ≡ cut true (at + n) 0 (drop n behind)

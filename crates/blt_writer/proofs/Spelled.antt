@@ -6,11 +6,11 @@ use Rattle.std.proofs.lemmas.Bool.Decides.{nat_tests}
 use Rattle.std.proofs.lemmas.List.Elements.{All-head, All-tail}
 use Rattle.candidate_roll.specs.Name.{IsName}
 use Rattle.plain_ballots.specs.declared.ballot_line.BallotLine.{BallotLine}
-use Rattle.blt_reader.specs.Token.{Number, Minus, Text}
-use Rattle.blt_reader.specs.Scan.{is_in_string}
+use Rattle.input_text.specs.Token.{Number, Minus, Text}
+use Rattle.input_text.specs.Scan.{is_in_string}
 use Rattle.blt_reader.specs.Blt.{ballot}
-use Rattle.blt_reader.specs.Written.{Spells, Each}
-use Rattle.blt_reader.proofs.Spelling.{numbers, number_spelled, strings, parts, nothing}
+use Rattle.input_text.specs.Written.{Spells, Each}
+use Rattle.input_text.proofs.Spelling.{numbers, number_spelled, strings, parts, nothing}
 use Rattle.blt_writer.specs.Text.{number_then, head_text, withdrawn_text, ballot_text, quoted}
 use Rattle.blt_writer.proofs.MinusNumbers.{minus_spelled}
 

@@ -3,9 +3,9 @@ use Rattle.std.proofs.Common.{◌≡◌, ◌⊎◌, ℕ, ◌+◌, ◌-◌, zero,
 use Rattle.std.specs.Char.{is_ascii_digit, is_ascii_lowercase}
 use Rattle.std.specs.List.{take_while, prefix_len}
 use Rattle.std.specs.Prelude.{drop}
-use Rattle.blt_reader.specs.Token.{Item, Word, AtEnd, Scan, with_front}
-use Rattle.blt_reader.specs.Scan.{is_separator, may_follow, Piece, Gap, Lexeme, Wrong, Unclosed, word_piece, piece, beginning, cut}
-use Rattle.blt_reader.specs.Refusal.{items_of}
+use Rattle.input_text.specs.Token.{Item, Word, AtEnd, Scan, with_front}
+use Rattle.input_text.specs.Scan.{is_separator, may_follow, Piece, Gap, Lexeme, Wrong, Unclosed, word_piece, piece, beginning, cut}
+use Rattle.input_text.specs.Refusal.{items_of}
 
 abbrev NoWord : Item → Type 0
 NoWord (Word letters) = ⊥

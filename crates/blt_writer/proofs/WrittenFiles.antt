@@ -14,14 +14,15 @@ use Rattle.plain_ballots.specs.declared.ballot_line.BallotLine.{BallotLine}
 use Rattle.plain_ballots.specs.Ballots.{plain}
 use Rattle.plain_ballots.specs.Ranking.{IsRanking}
 use Rattle.plain_ballots.proofs.PlainLemmas.{length-plain}
-use Rattle.blt_reader.specs.Token.{Item, Number, Minus, Text, Scan}
-use Rattle.blt_reader.specs.Scan.{mark_len, scan}
+use Rattle.input_text.specs.Token.{Item, Number, Minus, Text, Scan}
+use Rattle.input_text.specs.Scan.{mark_len, scan}
 use Rattle.blt_reader.specs.Poll.{Poll}
-use Rattle.blt_reader.specs.Refusal.{items_of, IsAccepted}
-use Rattle.blt_reader.specs.Blt.{IsIn, AreLines, ballot, ballots, opening, IsBlt}
-use Rattle.blt_reader.specs.Written.{Spells, Each, IsWhole}
-use Rattle.blt_reader.proofs.Spelling.{parts, whole}
-use Rattle.blt_reader.proofs.WrittenRuns.{digits_of}
+use Rattle.input_text.specs.Refusal.{items_of, IsAccepted}
+use Rattle.input_text.specs.Range.{IsIn}
+use Rattle.blt_reader.specs.Blt.{AreLines, ballot, ballots, opening, IsBlt}
+use Rattle.input_text.specs.Written.{Spells, Each, IsWhole}
+use Rattle.input_text.proofs.Spelling.{parts, whole}
+use Rattle.input_text.proofs.WrittenRuns.{digits_of}
 use Rattle.blt_writer.specs.Order.{AreLinesOf}
 use Rattle.blt_writer.specs.Text.{head_text, withdrawn_numbers, withdrawn_text, ballot_text, quoted, opening_text, closing_text, file_text}
 use Rattle.blt_writer.specs.Laws.{IsNamedRoll, AreBallotsOf, TextsAreRead}

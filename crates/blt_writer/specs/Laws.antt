@@ -4,10 +4,10 @@ use Rattle.candidate_roll.specs.Name.{IsName}
 use Rattle.candidate_roll.specs.Roll.{RollList, IsRoll}
 use Rattle.plain_ballots.specs.Ballots.{plain}
 use Rattle.plain_ballots.specs.Ranking.{IsRanking}
-use Rattle.blt_reader.specs.Scan.{scan}
+use Rattle.input_text.specs.Scan.{scan}
 use Rattle.blt_reader.specs.Poll.{Poll}
 use Rattle.blt_reader.specs.Blt.{IsBlt}
-use Rattle.blt_reader.specs.Refusal.{IsAccepted}
+use Rattle.input_text.specs.Refusal.{IsAccepted}
 use Rattle.blt_writer.specs.Text.{IsBltText}
 
 -- a roll with names and a title that can be printed

@@ -6,14 +6,14 @@ use Rattle.std.proofs.lemmas.List.Sorted.{All-permutation, sum_by-IsPermutation}
 use Rattle.batch_core.specs.declared.change.Change.TheVariants.{Enter, Correct, Withdraw}
 use Rattle.batch_core.specs.declared.call.Call.{Call}
 use Rattle.batch_core.specs.declared.call.Call.TheVariants.{Change, Freeze, Strike}
-use Rattle.blt_reader.specs.declared.blt_stop.BltStop.{BltStop}
-use Rattle.blt_reader.specs.Token.{Item, Scan}
-use Rattle.blt_reader.specs.Refusal.{items_of}
+use Rattle.input_text.specs.declared.input_stop.InputStop.{InputStop}
+use Rattle.input_text.specs.Token.{Item, Scan}
+use Rattle.input_text.specs.Refusal.{items_of}
 use Rattle.day_reader.specs.declared.script.Script.{Script}
 use Rattle.day_reader.specs.declared.day.Day.{Day}
 use Rattle.day_reader.specs.Call.{IsCall, is_freeze}
 use Rattle.day_reader.specs.Day.{AreDifferent, MayBeScale, Scale, scale_of, by_number, IsDay}
-use Rattle.day_reader.specs.Said.{said_by, IsAnswerable, AreScripts}
+use Rattle.day_reader.specs.Said.{said_by, IsAnswerable, AreScripts, AcceptsDays}
 use Rattle.day_reader.specs.Reads.{SaysDay}
 use Rattle.day_reader.proofs.TeamLists.{team_of}
 use Rattle.day_reader.proofs.ByNumber.{is_moved, is_rising}
@@ -26,7 +26,8 @@ answerable candidates (Change (Withdraw batch revision)) is = ((is.0.least, is.0
 answerable candidates Freeze is = tt
 answerable candidates (Strike candidate) is = (is.least, is.most)
 
-numbers_in : (teams : List Script) → AreDifferent 16 (map team_of teams) → All (λ script. (1 ≤ script.team) × (script.team ≤ 16)) teams
+numbers_in :
+    (teams : List Script) → AreDifferent 16 (map team_of teams) → All (λ script. (1 ≤ script.team) × (script.team ≤ 16)) teams
 numbers_in teams are k d inside =
     let is = are.in_range k 0 (omega (arith, inside, length-map teams team_of)) in
     let same = get_or-map team_of teams k d 0 inside in
@@ -41,28 +42,45 @@ scripts_are items day is =
     subst (AreScripts candidates) (sym is.scripts) (record {
       numbers = All-permutation (λ (s : Script). (1 ≤ s.team) × (s.team ≤ 16)) teams (by_number teams) moved (numbers_in teams are.numbers);
       rising = is_rising teams are.numbers;
-      calls = All-permutation (λ (s : Script). All (IsAnswerable candidates) s.calls) teams (by_number teams) moved (λ k d inside. λ i e there. answerable candidates _ (are.calls k d inside i e there));
+      calls =
+          All-permutation (λ (s : Script). All (IsAnswerable candidates) s.calls) teams (by_number teams) moved
+          (λ k d inside. λ i e there. answerable candidates _ (are.calls k d inside i e there));
       few_freezes = omega (arith, are.few_freezes, sum_by-IsPermutation (λ (s : Script). count_by is_freeze s.calls) teams (by_number teams) moved);
     })
 
-scale_in : (scale : Option Scale) → MayBeScale scale → ((6 ≤ (scale_of scale).places) × ((scale_of scale).places ≤ 9)) × ((1 ≤ (scale_of scale).omega) × ((scale_of scale).omega ≤ 1000000))
+scale_in :
+    (scale : Option Scale) → MayBeScale scale → ((6 ≤ (scale_of scale).places) × ((scale_of scale).places ≤ 9))
+    × ((1 ≤ (scale_of scale).omega) × ((scale_of scale).omega ≤ 1000000))
 scale_in (Some scale) is = ((is.least_places, is.most_places), (is.omega_in.least, is.omega_in.most))
 scale_in None is = ((omega arith, omega arith), (omega arith, omega arith))
 
-module _ (text : Scan) where
+module _ (law : AcceptsDays) (text : Scan) where
   -- what holds of each day that a text says, holds of an answer
-  of_day : (P : Day → Type 0) → ((items : List Item) (day : Day) → IsDay items day → P day) → (result : Result Day BltStop) → SaysDay (said_by text) result → IfOk result P
-  of_day P holds (Ok day) is = holds (items_of text.tokens) day (says_day text (Ok day) is).file
+  of_day :
+      (P : Day → Type 0) → ((items : List Item) (day : Day) → IsDay items day → P day) → (result : Result Day InputStop)
+      → SaysDay (said_by text) result → IfOk result P
+  of_day P holds (Ok day) is = holds (items_of text.tokens) day (says_day law text (Ok day) is).file
   of_day P holds (Err why) is = tt
 
-  pub has_scripts : (result : Result Day BltStop) → SaysDay (said_by text) result → IfOk result (λ day. AreScripts (length day.roll.names) day.scripts)
+  pub has_scripts :
+      (result : Result Day InputStop) → SaysDay (said_by text) result
+      → IfOk result (λ day. AreScripts (length day.roll.names) day.scripts)
   has_scripts = of_day (λ day. AreScripts (length day.roll.names) day.scripts) scripts_are
 
-  pub has_lots : (result : Result Day BltStop) → SaysDay (said_by text) result → IfOk result (λ day. length day.lots ≡ length day.roll.names)
+  pub has_lots :
+      (result : Result Day InputStop) → SaysDay (said_by text) result
+      → IfOk result (λ day. length day.lots ≡ length day.roll.names)
   has_lots = of_day (λ day. length day.lots ≡ length day.roll.names) (λ items day is. is.lots.all)
 
-  pub has_places : (result : Result Day BltStop) → SaysDay (said_by text) result → IfOk result (λ day. (6 ≤ day.places) × (day.places ≤ 9))
-  has_places = of_day (λ day. (6 ≤ day.places) × (day.places ≤ 9)) (λ items day is. subst (λ n. (6 ≤ n) × (n ≤ 9)) (sym is.places) (scale_in is.scale is.scale_in).0)
+  pub has_places :
+      (result : Result Day InputStop) → SaysDay (said_by text) result → IfOk result (λ day. (6 ≤ day.places) × (day.places ≤ 9))
+  has_places =
+      of_day (λ day. (6 ≤ day.places) × (day.places ≤ 9))
+      (λ items day is. subst (λ n. (6 ≤ n) × (n ≤ 9)) (sym is.places) (scale_in is.scale is.scale_in).0)
 
-  pub has_omega : (result : Result Day BltStop) → SaysDay (said_by text) result → IfOk result (λ day. (1 ≤ day.omega) × (day.omega ≤ 1000000))
-  has_omega = of_day (λ day. (1 ≤ day.omega) × (day.omega ≤ 1000000)) (λ items day is. subst (λ n. (1 ≤ n) × (n ≤ 1000000)) (sym is.omega) (scale_in is.scale is.scale_in).1)
+  pub has_omega :
+      (result : Result Day InputStop) → SaysDay (said_by text) result
+      → IfOk result (λ day. (1 ≤ day.omega) × (day.omega ≤ 1000000))
+  has_omega =
+      of_day (λ day. (1 ≤ day.omega) × (day.omega ≤ 1000000))
+      (λ items day is. subst (λ n. (1 ≤ n) × (n ≤ 1000000)) (sym is.omega) (scale_in is.scale is.scale_in).1)

@@ -10,13 +10,15 @@ use Rattle.std.proofs.lemmas.List.Folds.{list_any_at}
 use Rattle.std.proofs.lemmas.List.FromFn.{length-range_with_len, get_or-range_with_len}
 use Rattle.std.proofs.lemmas.List.Quantifiers.{all_pairs_push}
 use Rattle.std.proofs.lemmas.Map.Made.{is_member-Decides, length-le_from_is_member, IsDistinct-from_AllPairs}
-use Rattle.blt_reader.specs.Blt.{IsIn}
+use Rattle.input_text.specs.Range.{IsIn}
 use Rattle.day_reader.specs.Day.{AreDifferent}
 
 pub no_numbers : (greatest : ℕ) → AreDifferent greatest []
 no_numbers greatest = record { in_range = All-nil (IsIn greatest); different = λ i j d before within. absurd (omega arith) }
 
-pub one_number_more : (greatest : ℕ) (numbers : List ℕ) (n : ℕ) → AreDifferent greatest numbers → IsIn greatest n → list_any (λ c. c == n) numbers ≡ false → AreDifferent greatest (numbers ++ n ∷ [])
+pub one_number_more :
+    (greatest : ℕ) (numbers : List ℕ) (n : ℕ) → AreDifferent greatest numbers → IsIn greatest n
+    → list_any (λ c. c == n) numbers ≡ false → AreDifferent greatest (numbers ++ n ∷ [])
 one_number_more greatest numbers n are is new = record {
   in_range = All-push (IsIn greatest) numbers n are.in_range is;
   different = all_pairs_push (λ a b. a ≢ b) numbers n are.different (λ k d inside same.
@@ -36,7 +38,9 @@ pub at_most : (greatest : ℕ) (numbers : List ℕ) → AreDifferent greatest nu
 at_most greatest numbers are =
     let distinct = IsDistinct-from_AllPairs {eq = nat_eq} Decides-eqb numbers are.different in
     let fewer = length-le_from_is_member nat_eq_equiv numbers (range_with_len 1 greatest) distinct (λ q found.
-    (is_member-Decides Decides-eqb (range_with_len 1 greatest) q).1 (up_to greatest q (All-contains (IsIn greatest) numbers q are.in_range ((is_member-Decides Decides-eqb numbers q).0 found)))) in
+    (is_member-Decides Decides-eqb (range_with_len 1 greatest) q).1
+    (up_to greatest q (All-contains (IsIn greatest) numbers q are.in_range
+    ((is_member-Decides Decides-eqb numbers q).0 found)))) in
     omega (arith, fewer, length-range_with_len 1 greatest)
 
 abbrev Missing : ℕ → List ℕ → Type 0
@@ -48,7 +52,9 @@ AllStand greatest numbers = (n : ℕ) → IsIn greatest n → list_any (λ c. c 
 wider : (greatest n : ℕ) → IsIn greatest n → IsIn (suc greatest) n
 wider greatest n is = record { least = is.least; most = omega (arith, is.most) }
 
-or_missing : (greatest : ℕ) (numbers : List ℕ) (stands : Bool) → list_any (λ c. c == suc greatest) numbers ≡ stands → Missing greatest numbers ⊎ AllStand greatest numbers → Missing (suc greatest) numbers ⊎ AllStand (suc greatest) numbers
+or_missing :
+    (greatest : ℕ) (numbers : List ℕ) (stands : Bool) → list_any (λ c. c == suc greatest) numbers ≡ stands
+    → Missing greatest numbers ⊎ AllStand greatest numbers → Missing (suc greatest) numbers ⊎ AllStand (suc greatest) numbers
 or_missing greatest numbers stands is (inl found) = inl (found.0, wider greatest found.0 found.1, found.2)
 or_missing greatest numbers false is (inr all) = inl (suc greatest, record { least = omega arith; most = omega arith }, is)
 or_missing greatest numbers true is (inr all) = inr (λ n in_it. elim (eqb_tells n (suc greatest)) [
@@ -80,7 +86,9 @@ stands_in [] n = refl
 stands_in (c ∷ numbers) n = rw (turned c n, stands_in numbers n) refl
 
 -- where there are fewer, one can come behind them
-pub one_is_missing : (greatest : ℕ) (numbers : List ℕ) → length numbers < greatest → (n : ℕ) × IsIn greatest n × (list_any (λ c. c == n) numbers ≡ false)
+pub one_is_missing :
+    (greatest : ℕ) (numbers : List ℕ) → length numbers < greatest
+    → (n : ℕ) × IsIn greatest n × (list_any (λ c. c == n) numbers ≡ false)
 one_is_missing greatest numbers fewer = elim (sought greatest numbers) [
   | inl found ↦ found
   | inr all ↦ (

@@ -1,31 +1,41 @@
 -- The words of day files, as the table reads them.
-use Rattle.std.proofs.Common.{◌≡◌, ℕ, List, cond, refl, sym, ap, subst, inl, inr, bytes_eq, Ok}
+use Rattle.std.proofs.Common.{◌≡◌, ℕ, Bool, true, false, List, [], ◌∷◌, cond, refl, sym, ap, subst, bytes_eq, Ok}
 use Rattle.std.specs.Prelude.{Option, Some, None, IfSome}
-use Rattle.blt_reader.specs.declared.what.What.{What}
-use Rattle.blt_reader.specs.declared.what.What.TheVariants as code
-use Rattle.blt_reader.specs.Reader.{said, says}
+use Rattle.std.specs.List.{find}
+use Rattle.std.specs.Option.{ok_or}
+use Rattle.input_text.specs.declared.what.What.{What}
+use Rattle.input_text.specs.declared.what.What.TheVariants as code
+use Rattle.input_text.specs.Reader.{said, says}
 use Rattle.std.proofs.lemmas.Slice.Eq.{bytes_eq-Decides}
-use Rattle.blt_reader.specs.Token.{Item, Number, Minus, Text, Word}
-use Rattle.blt_reader.specs.Judged.{Judged}
-use Rattle.blt_reader.proofs.Judgements.{refused, same_value, went}
+use Rattle.input_text.specs.Token.{Item, Number, Minus, Text, Word}
+use Rattle.input_text.specs.declared.fault_kind.FaultKind.TheVariants.{WordExpected}
+use Rattle.input_text.proofs.Judgements.{refused, same_value}
 use Rattle.day_reader.specs.declared.keyword.Keyword.{Keyword}
 use Rattle.day_reader.specs.declared.keyword.Keyword.TheVariants.{Lots, Places, Omega, Team, Enter, Correct, Withdraw, Strike, Freeze, End}
-use Rattle.day_reader.specs.Keyword.{letters_of, word, keyword_of, as_keyword}
+use Rattle.day_reader.specs.Keyword.{letters_of, keywords, word, keyword_of, as_keyword}
 
--- either these letters are this word, or the rest decides
-either : (letters : List ℕ) (this found : Keyword) (rest : Judged Keyword) → cond (bytes_eq letters (letters_of this)) (Ok this) rest ≡ Ok found
-    → (rest ≡ Ok found → letters ≡ letters_of found) → letters ≡ letters_of found
-either letters this found rest e other = elim (went (bytes_eq letters (letters_of this)) (Ok this) rest (Ok found) e) [
-  | inl hit ↦ (let same : letters ≡ letters_of this = (bytes_eq-Decides letters (letters_of this)).0 hit.0 in rw (← same_value hit.1) same)
-  | inr miss ↦ other miss.1
-]
+abbrev Among : List ℕ → List Keyword → Option Keyword
+Among letters list = find (λ keyword. bytes_eq letters (letters_of keyword)) list
+
+-- either these letters are this word, or the rest of the list decides
+either :
+    (letters : List ℕ) (this found : Keyword) (list : List Keyword) (hit : Bool) → bytes_eq letters (letters_of this) ≡ hit
+    → ok_or (cond hit (Some this) (Among letters list)) WordExpected ≡ Ok found
+    → (ok_or (Among letters list) WordExpected ≡ Ok found → letters ≡ letters_of found) → letters ≡ letters_of found
+either letters this found list true is e rest =
+    let same : letters ≡ letters_of this = (bytes_eq-Decides letters (letters_of this)).0 is in rw (← same_value e) same
+either letters this found list false is e rest = rest e
+
+found_among :
+    (letters : List ℕ) (found : Keyword) (list : List Keyword) → ok_or (Among letters list) WordExpected ≡ Ok found
+    → letters ≡ letters_of found
+found_among letters found [] e = absurd (refused e)
+found_among letters found (this ∷ list) e =
+    either letters this found list (bytes_eq letters (letters_of this)) refl e (λ e. found_among letters found list e)
 
 pub letters_are : (letters : List ℕ) (found : Keyword) → keyword_of letters ≡ Ok found → letters ≡ letters_of found
 unfolding keyword_of
-letters_are letters found e =
-    either letters Lots found _ e (λ e. either letters Places found _ e (λ e. either letters Omega found _ e (λ e. either letters Team found _ e (λ e.
-    either letters Enter found _ e (λ e. either letters Correct found _ e (λ e. either letters Withdraw found _ e (λ e. either letters Strike found _ e (λ e.
-    either letters Freeze found _ e (λ e. either letters End found _ e (λ e. absurd (refused e)))))))))))
+letters_are letters found e = found_among letters found keywords e
 
 pub item_is : (item : Item) (found : Keyword) → as_keyword item ≡ Ok found → item ≡ word found
 item_is (Word letters) found e = ap Word (letters_are letters found e)
@@ -48,12 +58,18 @@ reads_word End = refl
 
 -- ---- words of the text
 
-word_known : (letters : List ℕ) (found : Option Keyword) → IfSome found (λ keyword. keyword_of letters ≡ Ok keyword) → IfSome found (λ keyword. Word letters ≡ word keyword)
+word_known :
+    (letters : List ℕ) (found : Option Keyword) → IfSome found (λ keyword. keyword_of letters ≡ Ok keyword)
+    → IfSome found (λ keyword. Word letters ≡ word keyword)
 word_known letters (Some keyword) known = ap Word (letters_are letters keyword known)
 word_known letters None known = tt
 
-pub said_word : (bytes : List ℕ) (at stop : ℕ) (what : What) (letters : List ℕ) (found : Option Keyword) → what ≡ code.Word → says (said bytes at stop what) letters → IfSome found (λ keyword. keyword_of letters ≡ Ok keyword)
+pub said_word :
+    (bytes : List ℕ) (at stop : ℕ) (what : What) (letters : List ℕ) (found : Option Keyword) → what ≡ code.Word
+    → says (said bytes at stop what) letters → IfSome found (λ keyword. keyword_of letters ≡ Ok keyword)
     → IfSome found (λ keyword. said bytes at stop what ≡ word keyword)
 said_word bytes at stop what letters found is same known =
-    let spelled : (w : What) → w ≡ code.Word → says (said bytes at stop w) letters → said bytes at stop w ≡ Word letters = λ w is_word. subst (λ (v : What). says (said bytes at stop v) letters → said bytes at stop v ≡ Word letters) (sym is_word) (λ e. ap Word (sym e)) in
+    let spelled : (w : What) → w ≡ code.Word → says (said bytes at stop w) letters → said bytes at stop w ≡ Word letters =
+    λ w is_word. subst (λ (v : What). says (said bytes at stop v) letters → said bytes at stop v ≡ Word letters) (sym is_word)
+    (λ e. ap Word (sym e)) in
     subst (λ (i : Item). IfSome found (λ keyword. i ≡ word keyword)) (sym (spelled what is same)) (word_known letters found known)

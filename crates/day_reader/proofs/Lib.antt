@@ -1,5 +1,6 @@
 mod Keywords
 mod DifferentNumbers
+mod SharedParts
 mod CallSoundness
 mod TeamLists
 mod TeamSoundness

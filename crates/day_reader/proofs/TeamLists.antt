@@ -7,8 +7,8 @@ use Rattle.std.proofs.lemmas.List.Elements.{All-nil, All-push}
 use Rattle.std.proofs.lemmas.List.Sums.{sum_by_push}
 use Rattle.std.proofs.lemmas.Grind.{flat_map-append}
 use Rattle.batch_core.specs.declared.call.Call.{Call}
-use Rattle.blt_reader.specs.Token.{Item}
-use Rattle.blt_reader.specs.Blt.{IsIn}
+use Rattle.input_text.specs.Token.{Item}
+use Rattle.input_text.specs.Range.{IsIn}
 use Rattle.day_reader.specs.declared.script.Script.{Script}
 use Rattle.day_reader.specs.Call.{call_items, IsCall, is_freeze, freezes}
 use Rattle.day_reader.specs.Day.{AreDifferent, team_items, AreTeams}
@@ -34,22 +34,29 @@ stands_number teams n = any_mapped (λ c. c == n) team_of teams
 
 -- ---- freezes
 
-pub freezes_push : (before : List Script) (script : Script) → freezes (and_team before script) ≡ freezes before + count_by is_freeze script.calls
+pub freezes_push :
+    (before : List Script) (script : Script) → freezes (and_team before script) ≡ freezes before + count_by is_freeze script.calls
 freezes_push before script = sum_by_push (λ (s : Script). count_by is_freeze s.calls) before script
 
 abbrev pub one_if : Bool → ℕ
 one_if b = cond b 1 0
 
-pub freezes_call : (before : List Script) (script : Script) (call : Call) → freezes (and_team before (with_call script call)) ≡ freezes (and_team before script) + one_if (is_freeze call)
+pub freezes_call :
+    (before : List Script) (script : Script) (call : Call)
+    → freezes (and_team before (with_call script call)) ≡ freezes (and_team before script) + one_if (is_freeze call)
 freezes_call before script call =
-    let last : count_by is_freeze (script.calls ++ call ∷ []) ≡ count_by is_freeze script.calls + one_if (is_freeze call) = sum_by_push (λ (c : Call). one_if (is_freeze c)) script.calls call in
+    let last : count_by is_freeze (script.calls ++ call ∷ []) ≡ count_by is_freeze script.calls + one_if (is_freeze call) =
+    sum_by_push (λ (c : Call). one_if (is_freeze c)) script.calls call in
     omega (arith, freezes_push before script, freezes_push before (with_call script call), last)
 
 -- ---- teams
 
-pub numbers_push : (before : List Script) (script : Script) → AreDifferent 16 (map team_of before) → IsIn 16 script.team → stands before script.team ≡ false → AreDifferent 16 (map team_of (and_team before script))
+pub numbers_push :
+    (before : List Script) (script : Script) → AreDifferent 16 (map team_of before) → IsIn 16 script.team
+    → stands before script.team ≡ false → AreDifferent 16 (map team_of (and_team before script))
 numbers_push before script are is new =
-    subst (AreDifferent 16) (sym (map-append team_of before (script ∷ []))) (one_number_more 16 (map team_of before) script.team are is (stands_number before script.team ∙ new))
+    subst (AreDifferent 16) (sym (map-append team_of before (script ∷ [])))
+    (one_number_more 16 (map team_of before) script.team are is (stands_number before script.team ∙ new))
 
 module _ (candidates : ℕ) where
   abbrev AreCalls : Script → Type 0
@@ -58,25 +65,38 @@ module _ (candidates : ℕ) where
   pub no_teams : AreTeams candidates []
   no_teams = record { numbers = no_numbers 16; calls = All-nil AreCalls; few_freezes = omega arith }
 
-  pub one_team_more : (before : List Script) (n : ℕ) → AreTeams candidates before → IsIn 16 n → stands before n ≡ false → AreTeams candidates (and_team before (no_calls n))
+  pub one_team_more :
+      (before : List Script) (n : ℕ) → AreTeams candidates before → IsIn 16 n → stands before n ≡ false
+      → AreTeams candidates (and_team before (no_calls n))
   one_team_more before n are is new = record {
     numbers = numbers_push before (no_calls n) are.numbers is new;
     calls = All-push AreCalls before (no_calls n) are.calls (All-nil (IsCall candidates));
     few_freezes = omega (arith, freezes_push before (no_calls n), are.few_freezes);
   }
 
-  pub one_call_more : (before : List Script) (script : Script) (call : Call) → AreTeams candidates (and_team before script) → IsCall candidates call → freezes (and_team before script) + one_if (is_freeze call) ≤ 8 → AreTeams candidates (and_team before (with_call script call))
+  pub one_call_more :
+      (before : List Script) (script : Script) (call : Call) → AreTeams candidates (and_team before script)
+      → IsCall candidates call → freezes (and_team before script) + one_if (is_freeze call) ≤ 8
+      → AreTeams candidates (and_team before (with_call script call))
   one_call_more before script call are is few = record {
     numbers = subst (AreDifferent 16) (map-append team_of before (script ∷ []) ∙ sym (map-append team_of before (with_call script call ∷ []))) are.numbers;
-    calls = All-push AreCalls before (with_call script call) (all_before AreCalls before (script ∷ []) are.calls) (All-push (IsCall candidates) script.calls call (at_last AreCalls before script are.calls) is);
+    calls =
+        All-push AreCalls before (with_call script call) (all_before AreCalls before (script ∷ []) are.calls)
+        (All-push (IsCall candidates) script.calls call (at_last AreCalls before script are.calls) is);
     few_freezes = omega (arith, freezes_call before script call, few);
   }
 
 -- ---- their items
 
-pub items_push : (before : List Script) (script : Script) → flat_map team_items (and_team before script) ≡ flat_map team_items before ++ team_items script
-items_push before script = flat_map-append team_items before (script ∷ []) ∙ ap (λ (l : List Item). flat_map team_items before ++ l) (append-nil (team_items script))
+pub items_push :
+    (before : List Script) (script : Script) → flat_map team_items (and_team before script)
+    ≡ flat_map team_items before ++ team_items script
+items_push before script =
+    flat_map-append team_items before (script ∷ [])
+    ∙ ap (λ (l : List Item). flat_map team_items before ++ l) (append-nil (team_items script))
 
 pub items_call : (script : Script) (call : Call) → team_items (with_call script call) ≡ team_items script ++ call_items call
 items_call script call =
-    ap (λ (l : List Item). team_items (no_calls script.team) ++ l) (flat_map-append call_items script.calls (call ∷ []) ∙ ap (λ (l : List Item). flat_map call_items script.calls ++ l) (append-nil (call_items call)))
+    ap (λ (l : List Item). team_items (no_calls script.team) ++ l)
+    (flat_map-append call_items script.calls (call ∷ [])
+    ∙ ap (λ (l : List Item). flat_map call_items script.calls ++ l) (append-nil (call_items call)))

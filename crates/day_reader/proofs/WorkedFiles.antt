@@ -1,6 +1,6 @@
 -- Day files worked by hand, by computation.
 use Rattle.std.proofs.Common.{refl}
-use Rattle.blt_reader.specs.Scan as text
+use Rattle.input_text.specs.Scan as text
 use Rattle.blt_reader.specs.BltTable as blt
 use Rattle.day_reader.specs.Keyword.{keyword_of}
 use Rattle.day_reader.specs.Day.{by_number}

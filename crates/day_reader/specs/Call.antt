@@ -4,8 +4,9 @@ use Rattle.plain_ballots.specs.Ballots.{BallotList}
 use Rattle.batch_core.specs.declared.change.Change.TheVariants.{Enter, Correct, Withdraw}
 use Rattle.batch_core.specs.declared.call.Call.{Call}
 use Rattle.batch_core.specs.declared.call.Call.TheVariants.{Change, Freeze, Strike}
-use Rattle.blt_reader.specs.Token.{Item, Number}
-use Rattle.blt_reader.specs.Blt.{IsIn, AreLines, ballots}
+use Rattle.input_text.specs.Token.{Item, Number}
+use Rattle.input_text.specs.Range.{IsIn}
+use Rattle.blt_reader.specs.Blt.{AreLines, ballots}
 use Rattle.day_reader.specs.declared.keyword.Keyword.TheVariants as key
 use Rattle.day_reader.specs.declared.script.Script.{Script}
 use Rattle.day_reader.specs.Keyword.{word}

@@ -4,10 +4,10 @@ use Rattle.plain_ballots.specs.declared.ballot_line.BallotLine.{BallotLine}
 use Rattle.batch_core.specs.declared.change.Change.TheVariants.{Enter, Correct, Withdraw}
 use Rattle.batch_core.specs.declared.call.Call.{Call}
 use Rattle.batch_core.specs.declared.call.Call.TheVariants.{Change, Strike}
-use Rattle.blt_reader.specs.declared.fault_kind.FaultKind.{FaultKind}
-use Rattle.blt_reader.specs.declared.fault_kind.FaultKind.TheVariants.{BadNumber, NoSuchCandidate, BadBatch, BadRevision, BatchTooLarge}
-use Rattle.blt_reader.specs.Token.{Item, Number}
-use Rattle.blt_reader.specs.Judged.{Judged, then_on, Progress, GoesOn, Ends, carried_to}
+use Rattle.input_text.specs.declared.fault_kind.FaultKind.{FaultKind}
+use Rattle.input_text.specs.declared.fault_kind.FaultKind.TheVariants.{BadNumber, NoSuchCandidate, BadBatch, BadRevision, BatchTooLarge}
+use Rattle.input_text.specs.Token.{Item, Number}
+use Rattle.input_text.specs.Judged.{Judged, then_on, Progress, GoesOn, Ends, carried_to}
 use Rattle.blt_reader.specs.BallotTable.{Limit, Lines, Between, at_line}
 
 -- ---- numbers

@@ -1,8 +1,9 @@
 -- A day file, as the list of what its tokens say.
 use Rattle.std.specs.Prelude.{◌≡◌, ◌≢◌, ◌≤◌, ◌==◌, ℕ, List, [], ◌∷◌, ◌++◌, length, map, filter, All, AllPairs, Option, Some, None, unwrap_or, ⊤}
 use Rattle.std.specs.List.{flat_map, range_with_len}
-use Rattle.blt_reader.specs.Token.{Item, Number}
-use Rattle.blt_reader.specs.Blt.{IsIn, IsBlt}
+use Rattle.input_text.specs.Token.{Item, Number}
+use Rattle.input_text.specs.Range.{IsIn}
+use Rattle.blt_reader.specs.Blt.{IsBlt}
 use Rattle.day_reader.specs.declared.keyword.Keyword.TheVariants as key
 use Rattle.day_reader.specs.declared.script.Script.{Script}
 use Rattle.day_reader.specs.declared.day.Day.{Day}

@@ -2,9 +2,9 @@
 use Rattle.std.specs.Prelude.{ℕ, List, [], ◌∷◌, ◌++◌, length, ◌==◌, if◌then◌else◌, nat_le, Option, Some, None, Ok, Err}
 use Rattle.std.specs.List.{list_any}
 use Rattle.candidate_roll.specs.Roll.{RollList}
-use Rattle.blt_reader.specs.declared.fault_kind.FaultKind.TheVariants.{BadNumber, BadLots, WordExpected, BadPlaces, BadOmega, Trailing}
-use Rattle.blt_reader.specs.Token.{Item, Number, Text}
-use Rattle.blt_reader.specs.Judged.{Judged, then_on, Progress, GoesOn, Ends, carried, carried_to, going_on}
+use Rattle.input_text.specs.declared.fault_kind.FaultKind.TheVariants.{BadNumber, BadLots, WordExpected, BadPlaces, BadOmega, Trailing}
+use Rattle.input_text.specs.Token.{Item, Number, Text}
+use Rattle.input_text.specs.Judged.{Judged, then_on, Progress, GoesOn, Ends, carried, carried_to, going_on}
 use Rattle.blt_reader.specs.BltTable as blt
 use Rattle.blt_reader.specs.Said.{of_a_roll}
 use Rattle.day_reader.specs.declared.keyword.Keyword.{Keyword}

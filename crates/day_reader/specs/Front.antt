@@ -2,9 +2,10 @@
 use Rattle.std.specs.Prelude.{◌≡◌, ◌<◌, ◌≤◌, ℕ, ⊤, List, [], ◌∷◌, ◌++◌, length, map, Some}
 use Rattle.std.specs.List.{flat_map}
 use Rattle.candidate_roll.specs.Roll.{RollList}
-use Rattle.blt_reader.specs.Token.{Item, Number}
-use Rattle.blt_reader.specs.Blt.{IsIn, IsBlt}
-use Rattle.blt_reader.specs.Judged.{Progress, GoesOn, Ends}
+use Rattle.input_text.specs.Token.{Item, Number}
+use Rattle.input_text.specs.Range.{IsIn}
+use Rattle.blt_reader.specs.Blt.{IsBlt}
+use Rattle.input_text.specs.Judged.{Progress, GoesOn, Ends}
 use Rattle.blt_reader.specs.Front as blt
 use Rattle.blt_reader.specs.Front.{begun, AreBegun}
 use Rattle.day_reader.specs.declared.keyword.Keyword.TheVariants as key

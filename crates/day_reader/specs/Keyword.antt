@@ -1,9 +1,11 @@
 -- The words of day files.
-use Rattle.std.specs.Prelude.{ℕ, List, codes, if◌then◌else◌, Ok, Err}
+use Rattle.std.specs.Prelude.{ℕ, List, [], ◌∷◌, codes, Err}
+use Rattle.std.specs.List.{find}
+use Rattle.std.specs.Option.{ok_or}
 use Rattle.std.specs.Str.{bytes_eq}
-use Rattle.blt_reader.specs.declared.fault_kind.FaultKind.TheVariants.{WordExpected}
-use Rattle.blt_reader.specs.Token.{Item, Word}
-use Rattle.blt_reader.specs.Judged.{Judged}
+use Rattle.input_text.specs.declared.fault_kind.FaultKind.TheVariants.{WordExpected}
+use Rattle.input_text.specs.Token.{Item, Word}
+use Rattle.input_text.specs.Judged.{Judged}
 use Rattle.day_reader.specs.declared.keyword.Keyword.{Keyword}
 use Rattle.day_reader.specs.declared.keyword.Keyword.TheVariants.{Lots, Places, Omega, Team, Enter, Correct, Withdraw, Strike, Freeze, End}
 
@@ -23,20 +25,12 @@ letters_of End = codes "end"
 abbrev pub word : Keyword → Item
 word keyword = Word (letters_of keyword)
 
+abbrev pub keywords : List Keyword
+keywords = Lots ∷ Places ∷ Omega ∷ Team ∷ Enter ∷ Correct ∷ Withdraw ∷ Strike ∷ Freeze ∷ End ∷ []
+
 -- the word that has these letters
 unfoldable pub keyword_of : List ℕ → Judged Keyword
-keyword_of letters =
-    if bytes_eq letters (codes "lots") then Ok Lots
-    else if bytes_eq letters (codes "places") then Ok Places
-    else if bytes_eq letters (codes "omega") then Ok Omega
-    else if bytes_eq letters (codes "team") then Ok Team
-    else if bytes_eq letters (codes "enter") then Ok Enter
-    else if bytes_eq letters (codes "correct") then Ok Correct
-    else if bytes_eq letters (codes "withdraw") then Ok Withdraw
-    else if bytes_eq letters (codes "strike") then Ok Strike
-    else if bytes_eq letters (codes "freeze") then Ok Freeze
-    else if bytes_eq letters (codes "end") then Ok End
-    else Err WordExpected
+keyword_of letters = ok_or (find (λ keyword. bytes_eq letters (letters_of keyword)) keywords) WordExpected
 
 abbrev pub as_keyword : Item → Judged Keyword
 as_keyword (Word letters) = keyword_of letters

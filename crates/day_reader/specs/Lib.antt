@@ -5,6 +5,7 @@ pub mod CallTable
 pub mod TeamTable
 pub mod DayTable
 pub mod Front
+pub mod Shared
 pub mod Said
 pub mod Reads
 pub mod Worked

@@ -2,12 +2,12 @@
 use Rattle.std.specs.Prelude.{◌≡◌, ℕ, List, [], map, length, Bool, true, false, Option, Some, Result, Ok, Err}
 use Rattle.candidate_roll.specs.Roll.{RollList}
 use Rattle.batch_core.specs.declared.call.Call.{Call}
-use Rattle.blt_reader.specs.declared.fault_kind.FaultKind.TheVariants.{WordExpected}
-use Rattle.blt_reader.specs.declared.input_fault.InputFault.{InputFault}
-use Rattle.blt_reader.specs.declared.blt_stop.BltStop.{BltStop}
-use Rattle.blt_reader.specs.declared.blt_stop.BltStop.TheVariants as stop
-use Rattle.blt_reader.specs.Token.{Item, Scan, with_front}
-use Rattle.blt_reader.specs.Judged.{then_on, outcome, Ends, ended, Stopped, reads}
+use Rattle.input_text.specs.declared.fault_kind.FaultKind.TheVariants.{WordExpected}
+use Rattle.input_text.specs.declared.input_fault.InputFault.{InputFault}
+use Rattle.input_text.specs.declared.input_stop.InputStop.{InputStop}
+use Rattle.input_text.specs.declared.input_stop.InputStop.TheVariants as stop
+use Rattle.input_text.specs.Token.{Item, Scan, with_front}
+use Rattle.input_text.specs.Judged.{then_on, outcome, Ends, ended, Stopped, reads}
 use Rattle.day_reader.specs.declared.keyword.Keyword.{Keyword}
 use Rattle.day_reader.specs.declared.keyword.Keyword.TheVariants as key
 use Rattle.day_reader.specs.declared.scale.Scale as code
@@ -25,7 +25,7 @@ Leads said (Ok found) onward rest = said ≡ onward found
 Leads said (Err fault) onward rest = said ≡ Err (record { fault = fault; rest = rest })
 
 -- The same, but that nothing is said where memory is wanted.
-abbrev pub LeadsOrWants : {A V : Type 0} → Result (V × Scan) Stopped → Result A BltStop → (A → Result (V × Scan) Stopped) → Scan → Type 0
+abbrev pub LeadsOrWants : {A V : Type 0} → Result (V × Scan) Stopped → Result A InputStop → (A → Result (V × Scan) Stopped) → Scan → Type 0
 LeadsOrWants said (Ok found) onward rest = said ≡ onward found
 LeadsOrWants said (Err (stop.Fault fault)) onward rest = said ≡ Err (record { fault = fault; rest = rest })
 LeadsOrWants said (Err stop.NoMemory) onward rest = Unit {0}
@@ -42,7 +42,7 @@ abbrev pub ReadsToLots : Scan → Result (Unit {0}) InputFault → Scan → Type
 ReadsToLots old result new = (roll : RollList) → Leads (reads at_token (BehindTitle roll) old) result (λ _. reads at_token (Lot roll []) new) new
 
 -- the strings behind the title, and the lots of so many candidates
-abbrev pub ReadsOrder : ℕ → Scan → Result (List ℕ) BltStop → Scan → Type 0
+abbrev pub ReadsOrder : ℕ → Scan → Result (List ℕ) InputStop → Scan → Type 0
 ReadsOrder candidates old result new = (roll : RollList) → length roll.names ≡ candidates
     → LeadsOrWants (reads at_token (BehindTitle roll) old) result (λ lots. reads at_token (BehindLots roll lots) new) new
 
@@ -88,7 +88,7 @@ abbrev pub team_numbers : List Script → List ℕ
 team_numbers teams = map (λ script. script.team) teams
 
 -- a call behind its word, in whichever team
-abbrev pub ReadsCall : ℕ → ℕ → Keyword → ℕ → Scan → Result Call BltStop → Scan → Type 0
+abbrev pub ReadsCall : ℕ → ℕ → Keyword → ℕ → Scan → Result Call InputStop → Scan → Type 0
 ReadsCall candidates count keyword at old result new = (before : List Script) (script : Script) → freezes (and_team before script) ≡ count
     → LeadsOrWants (reads (at_teams candidates) (InTeam before script) (with_front (record { at = at; item = word keyword }) old)) result (λ call. reads (at_teams candidates) (InTeam before (with_call script call)) new) new
 
@@ -108,12 +108,12 @@ with_scripts head scripts = record {
 }
 
 -- all teams behind a head, by rising number
-abbrev pub ReadsScripts : ℕ → Bool → Scan → Result (List Script) BltStop → Scan → Type 0
+abbrev pub ReadsScripts : ℕ → Bool → Scan → Result (List Script) InputStop → Scan → Type 0
 ReadsScripts candidates team_follows old result new = (head : Head) → length head.roll.names ≡ candidates
     → LeadsOrWants (team_or_end head team_follows old) result (λ scripts. Ok (with_scripts head scripts, new)) new
 
 -- the places, omega and scripts of a day, whatever its roll and lots
-abbrev pub ReadsBehindLots : ℕ → Scan → Result (code.Scale × List Script) BltStop → Scan → Type 0
+abbrev pub ReadsBehindLots : ℕ → Scan → Result (code.Scale × List Script) InputStop → Scan → Type 0
 ReadsBehindLots candidates old result new = (roll : RollList) (lots : List ℕ) → length roll.names ≡ candidates
     → LeadsOrWants (reads at_token (BehindLots roll lots) old) result (λ found. Ok (record { roll = roll; lots = lots; places = found.0.places; omega = found.0.omega; scripts = found.1 }, new)) new
 
@@ -125,7 +125,7 @@ IsAtEnd text (Ok done) = (day : Day) → outcome at_file_token ended (Ends day) 
 IsAtEnd text (Err fault) = (day : Day) → outcome at_file_token ended (Ends day) text.tokens text.ending ≡ Err fault
 
 -- the day is the one that was said, and the fault the refusal
-abbrev pub SaysDay : Result Day InputFault → Result Day BltStop → Type 0
+abbrev pub SaysDay : Result Day InputFault → Result Day InputStop → Type 0
 SaysDay said (Ok day) = said ≡ Ok day
 SaysDay said (Err (stop.Fault fault)) = said ≡ Err fault
 SaysDay said (Err stop.NoMemory) = Unit {0}

@@ -3,12 +3,12 @@ use Rattle.std.specs.Prelude.{◌≡◌, ◌<◌, ◌≤◌, ℕ, List, true, Re
 use Rattle.batch_core.specs.declared.call.Call.{Call}
 use Rattle.batch_core.specs.declared.call.Call.TheVariants.{Change, Freeze, Strike}
 use Rattle.batch_core.specs.Lawful.{IsLawful}
-use Rattle.blt_reader.specs.declared.input_fault.InputFault.{InputFault}
-use Rattle.blt_reader.specs.Token.{Item, Scan}
-use Rattle.blt_reader.specs.Scan.{scan}
-use Rattle.blt_reader.specs.Judged.{after, outcome, Progress, GoesOn, ended}
+use Rattle.input_text.specs.declared.input_fault.InputFault.{InputFault}
+use Rattle.input_text.specs.Token.{Item, Scan}
+use Rattle.input_text.specs.Scan.{scan}
+use Rattle.input_text.specs.Judged.{after, outcome, Progress, GoesOn, ended}
 use Rattle.blt_reader.specs.BltTable.{Candidates}
-use Rattle.blt_reader.specs.Refusal.{IsOpen, IsAccepted, IsRefusal}
+use Rattle.input_text.specs.Refusal.{IsOpen, IsAccepted, IsRefusal}
 use Rattle.day_reader.specs.declared.script.Script.{Script}
 use Rattle.day_reader.specs.declared.day.Day.{Day}
 use Rattle.day_reader.specs.Call.{freezes}
@@ -28,7 +28,7 @@ abbrev pub reading : List ℕ → Result Day InputFault
 reading bytes = said_by (scan bytes true)
 
 abbrev pub IsDayRefusal : Scan → InputFault → Type 0
-IsDayRefusal = IsRefusal IsDay at_file_token IsFileFront
+IsDayRefusal = IsRefusal IsDay at_file_token start
 
 -- ---- laws
 

@@ -3,9 +3,9 @@ use Rattle.std.specs.Prelude.{ℕ, List, [], ◌∷◌, ◌++◌, length, Bool, 
 use Rattle.std.specs.List.{list_any}
 use Rattle.batch_core.specs.declared.call.Call.{Call}
 use Rattle.batch_core.specs.declared.call.Call.TheVariants as call
-use Rattle.blt_reader.specs.declared.fault_kind.FaultKind.TheVariants.{WordExpected, BadTeam, TooManyFreezes}
-use Rattle.blt_reader.specs.Token.{Item}
-use Rattle.blt_reader.specs.Judged.{Judged, then_on, Progress, GoesOn, Ends, carried}
+use Rattle.input_text.specs.declared.fault_kind.FaultKind.TheVariants.{WordExpected, BadTeam, TooManyFreezes}
+use Rattle.input_text.specs.Token.{Item}
+use Rattle.input_text.specs.Judged.{Judged, then_on, Progress, GoesOn, Ends, carried}
 use Rattle.day_reader.specs.declared.keyword.Keyword.{Keyword}
 use Rattle.day_reader.specs.declared.keyword.Keyword.TheVariants.{Team, Enter, Correct, Withdraw, Strike, Freeze, End}
 use Rattle.day_reader.specs.declared.script.Script.{Script}

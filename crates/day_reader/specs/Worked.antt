@@ -3,9 +3,9 @@ use Rattle.std.specs.Prelude.{◌≡◌, ℕ, List, [], ◌∷◌, ◌++◌, fal
 use Rattle.candidate_roll.specs.Roll.{RollList}
 use Rattle.batch_core.specs.declared.change.Change.TheVariants.{Enter, Correct, Withdraw}
 use Rattle.batch_core.specs.declared.call.Call.TheVariants.{Change, Freeze, Strike}
-use Rattle.blt_reader.specs.declared.fault_kind.FaultKind.{FaultKind}
-use Rattle.blt_reader.specs.declared.fault_kind.FaultKind.TheVariants.{BadByte, NoSuchCandidate, Repeated, Ended, Trailing, BallotsInRoll, BadLots, WordExpected, BadTeam, BadBatch, BadRevision, BatchTooLarge, TooManyFreezes, BadPlaces, BadOmega}
-use Rattle.blt_reader.specs.declared.input_fault.InputFault.{InputFault}
+use Rattle.input_text.specs.declared.fault_kind.FaultKind.{FaultKind}
+use Rattle.input_text.specs.declared.fault_kind.FaultKind.TheVariants.{BadByte, NoSuchCandidate, Repeated, Ended, Trailing, BallotsInRoll, BadLots, WordExpected, BadTeam, BadBatch, BadRevision, BatchTooLarge, TooManyFreezes, BadPlaces, BadOmega}
+use Rattle.input_text.specs.declared.input_fault.InputFault.{InputFault}
 use Rattle.day_reader.specs.declared.day.Day.{Day}
 use Rattle.day_reader.specs.Said.{reading}
 

@@ -1,9 +1,9 @@
 // The calls of a team.
 ghost use Rattle.std.specs.Prelude.{◌≡◌, ◌+◌, ◌<◌, ◌≤◌, ℕ, false, if◌then◌else◌, IfOk, IfErr};
 ghost use Rattle.batch_core.specs.declared.call.Call.TheVariants.{Freeze};
-ghost use Rattle.blt_reader.specs.declared.fault_kind.FaultKind.TheVariants.{TooManyFreezes};
-ghost use Rattle.blt_reader.specs.declared.blt_stop.BltStop.TheVariants as stop;
-ghost use Rattle.blt_reader.specs.Reads.{IsBehind, Reads};
+ghost use Rattle.input_text.specs.declared.fault_kind.FaultKind.TheVariants.{TooManyFreezes};
+ghost use Rattle.input_text.specs.declared.input_stop.InputStop.TheVariants as stop;
+ghost use Rattle.input_text.specs.Reads.{IsBehind, Reads};
 ghost use Rattle.day_reader.specs.CallTable.{EnterBatch, CorrectBatch, WithdrawBatch, StrikeCandidate, at_call};
 ghost use Rattle.day_reader.specs.Call.{is_freeze};
 ghost use Rattle.day_reader.specs.Reads.{ReadsCall, EndsTeam};
@@ -11,7 +11,8 @@ ghost use Rattle.day_reader.specs.Reads.{ReadsCall, EndsTeam};
 use crate::keyword::Keyword;
 use crate::numbers::read_between;
 use batch_core::{Call, Change};
-use blt_reader::{BltStop, FaultKind, InputFault, Tokens, read_lines};
+use blt_reader::read_lines;
+use input_text::{FaultKind, InputFault, InputStop, Tokens};
 use std::alloc::Global;
 
 /// At most so many freezes stand in a file.
@@ -24,7 +25,7 @@ const MOST_BALLOTS: u32 = 100_000;
 const LAST: u32 = 9_999;
 
 /// The call that begins with this word at this place. `frozen` counts the freezes up to it.
-#[tactic(auto, using(blt_reader::proofs::Reading::behind_trans))]
+#[tactic(auto, using(input_text::proofs::Reading::behind_trans))]
 pub(crate) fn read_call(
     alloc: Global,
     tokens: &mut Tokens<'_>,
@@ -32,7 +33,7 @@ pub(crate) fn read_call(
     keyword: Keyword,
     at: usize,
     frozen: &mut u32,
-) -> Result<Call, BltStop>
+) -> Result<Call, InputStop>
     requires { ¬ EndsTeam keyword }
     ensures reads { ReadsCall candidates frozen.old keyword at tokens.old.rest result tokens.new.rest }
     ensures counted { IfOk result (λ call. frozen.new ≡ frozen.old + (if is_freeze call then 1 else 0)) }
@@ -44,12 +45,12 @@ pub(crate) fn read_call(
         Keyword::Withdraw => read_withdraw(tokens),
         Keyword::Strike => read_strike(tokens, candidates),
         Keyword::Freeze => count_freeze(at, frozen),
-        _ => Err(BltStop::refused(FaultKind::WordExpected, at)),
+        _ => Err(InputStop::refused(FaultKind::WordExpected, at)),
     }
 }
 
-#[tactic(auto, using(blt_reader::proofs::Reading::behind_trans))]
-fn read_enter(alloc: Global, tokens: &mut Tokens<'_>, candidates: u32) -> Result<Call, BltStop>
+#[tactic(auto, using(input_text::proofs::Reading::behind_trans))]
+fn read_enter(alloc: Global, tokens: &mut Tokens<'_>, candidates: u32) -> Result<Call, InputStop>
     ensures reads { Reads (at_call candidates) EnterBatch (λ call. call) tokens.old.rest result tokens.new.rest }
     ensures no_freeze { IfOk result (λ call. is_freeze call ≡ false) }
     ensures behind { IsBehind tokens.old tokens.new }
@@ -65,8 +66,8 @@ fn read_enter(alloc: Global, tokens: &mut Tokens<'_>, candidates: u32) -> Result
     Ok(Call::Change(Change::Enter { batch, ballots }))
 }
 
-#[tactic(auto, using(blt_reader::proofs::Reading::behind_trans))]
-fn read_correct(alloc: Global, tokens: &mut Tokens<'_>, candidates: u32) -> Result<Call, BltStop>
+#[tactic(auto, using(input_text::proofs::Reading::behind_trans))]
+fn read_correct(alloc: Global, tokens: &mut Tokens<'_>, candidates: u32) -> Result<Call, InputStop>
     ensures reads { Reads (at_call candidates) CorrectBatch (λ call. call) tokens.old.rest result tokens.new.rest }
     ensures no_freeze { IfOk result (λ call. is_freeze call ≡ false) }
     ensures behind { IsBehind tokens.old tokens.new }
@@ -87,8 +88,8 @@ fn read_correct(alloc: Global, tokens: &mut Tokens<'_>, candidates: u32) -> Resu
     }))
 }
 
-#[tactic(auto, using(blt_reader::proofs::Reading::behind_trans))]
-fn read_withdraw(tokens: &mut Tokens<'_>) -> Result<Call, BltStop>
+#[tactic(auto, using(input_text::proofs::Reading::behind_trans))]
+fn read_withdraw(tokens: &mut Tokens<'_>) -> Result<Call, InputStop>
     ensures reads { (candidates : ℕ) → Reads (at_call candidates) WithdrawBatch (λ call. call) tokens.old.rest result tokens.new.rest }
     ensures no_freeze { IfOk result (λ call. is_freeze call ≡ false) }
     ensures behind { IsBehind tokens.old tokens.new }
@@ -98,8 +99,8 @@ fn read_withdraw(tokens: &mut Tokens<'_>) -> Result<Call, BltStop>
     Ok(Call::Change(Change::Withdraw { batch, revision }))
 }
 
-#[tactic(auto, using(blt_reader::proofs::Reading::behind_trans))]
-fn read_strike(tokens: &mut Tokens<'_>, candidates: u32) -> Result<Call, BltStop>
+#[tactic(auto, using(input_text::proofs::Reading::behind_trans))]
+fn read_strike(tokens: &mut Tokens<'_>, candidates: u32) -> Result<Call, InputStop>
     ensures reads { Reads (at_call candidates) StrikeCandidate (λ call. call) tokens.old.rest result tokens.new.rest }
     ensures no_freeze { IfOk result (λ call. is_freeze call ≡ false) }
     ensures behind { IsBehind tokens.old tokens.new }
@@ -108,12 +109,12 @@ fn read_strike(tokens: &mut Tokens<'_>, candidates: u32) -> Result<Call, BltStop
     Ok(Call::Strike(candidate))
 }
 
-fn count_freeze(at: usize, frozen: &mut u32) -> Result<Call, BltStop>
+fn count_freeze(at: usize, frozen: &mut u32) -> Result<Call, InputStop>
     ensures one_more { IfOk result (λ call. (call ≡ Freeze) × (frozen.old < 8) × (frozen.new ≡ frozen.old + 1)) }
     ensures full { IfErr result (λ why. (8 ≤ frozen.old) × (why ≡ stop.Fault (record { kind = TooManyFreezes; at = at }))) }
 {
     if *frozen >= MOST_FREEZES {
-        return Err(BltStop::Fault(InputFault {
+        return Err(InputStop::Fault(InputFault {
             kind: FaultKind::TooManyFreezes,
             at,
         }));

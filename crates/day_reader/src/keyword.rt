@@ -1,6 +1,6 @@
 // The words of day files.
 ghost use Rattle.std.specs.Prelude.{◌≡◌, Ok, Err, IfSome, IfNone};
-ghost use Rattle.blt_reader.specs.declared.fault_kind.FaultKind.TheVariants.{WordExpected};
+ghost use Rattle.input_text.specs.declared.fault_kind.FaultKind.TheVariants.{WordExpected};
 ghost use Rattle.day_reader.specs.Keyword.{keyword_of};
 
 /// A word of a day file. The laws on texts that are read back speak of them.

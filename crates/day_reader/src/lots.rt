@@ -1,25 +1,25 @@
 // The lots of a day.
 ghost use Rattle.std.specs.Prelude.{◌≡◌, ◌≤◌, [], length, IfOk, IfErr};
-ghost use Rattle.blt_reader.specs.Reader.{IsTokenAt, said};
-ghost use Rattle.blt_reader.specs.Reads.{IsBehind, Reads};
-ghost use Rattle.blt_reader.specs.declared.blt_stop.BltStop.TheVariants as stop;
+ghost use Rattle.input_text.specs.Reader.{IsTokenAt, said};
+ghost use Rattle.input_text.specs.Reads.{IsBehind, Reads};
+ghost use Rattle.input_text.specs.declared.input_stop.InputStop.TheVariants as stop;
 ghost use Rattle.day_reader.specs.Day.{AreAllLots};
 ghost use Rattle.day_reader.specs.DayTable.{at_lot};
 ghost use Rattle.day_reader.specs.Reads.{IsLotsWord, ReadsOrder, ReadsToLots};
 
 use crate::keyword::Keyword;
 use crate::words::keyword_at;
-use blt_reader::{BltStop, FaultKind, InputFault, Token, Tokens, What};
+use input_text::{FaultKind, InputFault, InputStop, Token, Tokens, What};
 use lot_order::{Flags, Lots};
 use std::alloc::Global;
 
 /// Strings that are not kept, and the lots of so many candidates.
-#[tactic(auto, using(blt_reader::proofs::Reading::behind_trans))]
+#[tactic(auto, using(input_text::proofs::Reading::behind_trans))]
 pub(crate) fn read_order(
     alloc: Global,
     tokens: &mut Tokens<'_>,
     candidates: u32,
-) -> Result<Lots, BltStop>
+) -> Result<Lots, InputStop>
     requires { candidates ≤ 250 }
     ensures reads { ReadsOrder candidates tokens.old.rest result tokens.new.rest }
     ensures behind { IsBehind tokens.old tokens.new }
@@ -29,7 +29,7 @@ pub(crate) fn read_order(
 }
 
 /// Strings that are not kept, and the word `lots`.
-#[tactic(auto, using(blt_reader::proofs::Reading::behind_trans))]
+#[tactic(auto, using(input_text::proofs::Reading::behind_trans))]
 fn read_to_lots(tokens: &mut Tokens<'_>) -> Result<(), InputFault>
     ensures reads { ReadsToLots tokens.old.rest result tokens.new.rest }
     ensures behind { IsBehind tokens.old tokens.new }
@@ -57,29 +57,29 @@ fn lots_word(tokens: &Tokens<'_>, token: Token) -> Result<(), InputFault>
 }
 
 /// Candidates, each of them once, and the 0 behind them.
-#[tactic(auto, using(blt_reader::proofs::Reading::behind_trans))]
-fn read_lots(alloc: Global, tokens: &mut Tokens<'_>, candidates: u32) -> Result<Lots, BltStop>
+#[tactic(auto, using(input_text::proofs::Reading::behind_trans))]
+fn read_lots(alloc: Global, tokens: &mut Tokens<'_>, candidates: u32) -> Result<Lots, InputStop>
     requires { candidates ≤ 250 }
     ensures reads { Reads (at_lot candidates) [] (λ lots. lots) tokens.old.rest result tokens.new.rest }
     ensures behind { IsBehind tokens.old tokens.new }
 {
     let Ok(mut stood) = Flags::filled(alloc, candidates as usize, false) else {
-        return Err(BltStop::NoMemory);
+        return Err(InputStop::NoMemory);
     };
     let mut order = Vec::new(alloc);
     loop {
         let (n, at) = tokens.next_number()?;
         if n == 0 {
             if order.len() < candidates as usize {
-                return Err(BltStop::refused(FaultKind::BadLots, at));
+                return Err(InputStop::refused(FaultKind::BadLots, at));
             }
             return new_lots(alloc, order.as_slice(), candidates);
         }
         if n > candidates {
-            return Err(BltStop::refused(FaultKind::BadLots, at));
+            return Err(InputStop::refused(FaultKind::BadLots, at));
         }
         if *stood.get(n as usize - 1) {
-            return Err(BltStop::refused(FaultKind::BadLots, at));
+            return Err(InputStop::refused(FaultKind::BadLots, at));
         }
         stood.set(n as usize - 1, true);
         order.push(n)?;
@@ -87,7 +87,7 @@ fn read_lots(alloc: Global, tokens: &mut Tokens<'_>, candidates: u32) -> Result<
 }
 
 // The lots of an order that is known to be one.
-fn new_lots(alloc: Global, order: &[u32], candidates: u32) -> Result<Lots, BltStop>
+fn new_lots(alloc: Global, order: &[u32], candidates: u32) -> Result<Lots, InputStop>
     requires few { candidates ≤ 250 }
     requires lots { AreAllLots candidates order.now }
     ensures lots { IfOk result (λ lots. lots ≡ order.now) }
@@ -95,6 +95,6 @@ fn new_lots(alloc: Global, order: &[u32], candidates: u32) -> Result<Lots, BltSt
 {
     match Lots::try_new(alloc, order, candidates) {
         Ok(lots) => Ok(lots),
-        Err(_) => Err(BltStop::NoMemory),
+        Err(_) => Err(InputStop::NoMemory),
     }
 }

@@ -1,12 +1,12 @@
 // Numbers of day files.
 ghost use Rattle.std.specs.Prelude.{IfOk, IfErr};
-ghost use Rattle.blt_reader.specs.Reads.{IsBehind, Stops, Accepts};
+ghost use Rattle.input_text.specs.Reads.{IsBehind, Stops, Accepts};
 ghost use Rattle.day_reader.specs.CallTable.{as_between};
 
-use blt_reader::{FaultKind, InputFault, Tokens};
+use input_text::{FaultKind, InputFault, Tokens};
 
 /// A number from the least to the most. Another number is refused with this kind of fault.
-#[tactic(auto, using(blt_reader::proofs::Reading::behind_trans))]
+#[tactic(auto, using(input_text::proofs::Reading::behind_trans))]
 pub(crate) fn read_between(
     tokens: &mut Tokens<'_>,
     least: u32,

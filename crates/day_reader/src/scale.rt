@@ -1,11 +1,11 @@
 // The places and omega of a day.
-ghost use Rattle.blt_reader.specs.Reads.{IsBehind};
+ghost use Rattle.input_text.specs.Reads.{IsBehind};
 ghost use Rattle.day_reader.specs.Reads.{BeginsTeam, ReadsPlaces, ReadsScale};
 
 use crate::keyword::Keyword;
 use crate::numbers::read_between;
 use crate::words::next_keyword;
-use blt_reader::{FaultKind, InputFault, Tokens};
+use input_text::{FaultKind, InputFault, Tokens};
 
 /// The places behind the point, omega in units of the last place, and whether a team follows them or
 /// the end.
@@ -17,7 +17,7 @@ pub(crate) struct Scale {
 }
 
 /// What stands between the lots and the number of the first team, or the end.
-#[tactic(auto, using(blt_reader::proofs::Reading::behind_trans))]
+#[tactic(auto, using(input_text::proofs::Reading::behind_trans))]
 pub(crate) fn read_scale(tokens: &mut Tokens<'_>) -> Result<Scale, InputFault>
     ensures reads { ReadsScale tokens.old.rest result tokens.new.rest }
     ensures behind { IsBehind tokens.old tokens.new }
@@ -33,7 +33,7 @@ pub(crate) fn read_scale(tokens: &mut Tokens<'_>) -> Result<Scale, InputFault>
     }
 }
 
-#[tactic(auto, using(blt_reader::proofs::Reading::behind_trans))]
+#[tactic(auto, using(input_text::proofs::Reading::behind_trans))]
 fn read_places(tokens: &mut Tokens<'_>) -> Result<Scale, InputFault>
     ensures reads { ReadsPlaces tokens.old.rest result tokens.new.rest }
     ensures behind { IsBehind tokens.old tokens.new }

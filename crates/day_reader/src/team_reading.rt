@@ -1,9 +1,9 @@
 // The teams of a day.
 ghost use Rattle.std.specs.Prelude.{◌≡◌, ◌<◌, false, [], Ok, OnOk, IfOk, IfErr};
-ghost use Rattle.blt_reader.specs.Blt.{IsIn};
-ghost use Rattle.blt_reader.specs.declared.blt_stop.BltStop.TheVariants as stop;
-ghost use Rattle.blt_reader.specs.Judged.{reads};
-ghost use Rattle.blt_reader.specs.Reads.{IsBehind, Stops, Accepts, tokens_left};
+ghost use Rattle.input_text.specs.Range.{IsIn};
+ghost use Rattle.input_text.specs.declared.input_stop.InputStop.TheVariants as stop;
+ghost use Rattle.input_text.specs.Judged.{reads};
+ghost use Rattle.input_text.specs.Reads.{IsBehind, Stops, Accepts, tokens_left};
 ghost use Rattle.day_reader.specs.Call.{freezes};
 ghost use Rattle.day_reader.specs.TeamTable.{TeamNumber, InTeam, as_team, stands, with_call, and_team, at_teams};
 ghost use Rattle.day_reader.specs.Reads.{LeadsOrWants, next_team, ReadsScripts};
@@ -14,7 +14,7 @@ use crate::teams::Teams;
 use crate::words::next_keyword;
 use crate::{Script, Scripts};
 use batch_core::{Call, Calls};
-use blt_reader::{BltStop, FaultKind, InputFault, Tokens};
+use input_text::{FaultKind, InputFault, InputStop, Tokens};
 use std::alloc::Global;
 
 /// At most so many teams stand in a file.
@@ -22,13 +22,13 @@ const MOST_TEAMS: usize = 16;
 
 /// All teams by rising number, up to the end. `team_follows` says whether the word of a first one
 /// was taken, or the end.
-#[tactic(auto, using(blt_reader::proofs::Reading::behind_trans))]
+#[tactic(auto, using(input_text::proofs::Reading::behind_trans))]
 pub(crate) fn read_scripts(
     alloc: Global,
     tokens: &mut Tokens<'_>,
     candidates: u32,
     team_follows: bool,
-) -> Result<Scripts, BltStop>
+) -> Result<Scripts, InputStop>
     ensures reads { ReadsScripts candidates team_follows tokens.old.rest result tokens.new.rest }
     ensures behind { IsBehind tokens.old tokens.new }
 {
@@ -36,13 +36,13 @@ pub(crate) fn read_scripts(
     teams.by_number()
 }
 
-#[tactic(auto, using(blt_reader::proofs::Reading::behind_trans))]
+#[tactic(auto, using(input_text::proofs::Reading::behind_trans))]
 fn read_teams(
     alloc: Global,
     tokens: &mut Tokens<'_>,
     candidates: u32,
     team_follows: bool,
-) -> Result<Teams, BltStop>
+) -> Result<Teams, InputStop>
     ensures reads { LeadsOrWants (next_team candidates [] team_follows tokens.old.rest) result (λ teams. Ok (teams, tokens.new.rest)) tokens.new.rest }
     ensures behind { IsBehind tokens.old tokens.new }
 {
@@ -55,13 +55,13 @@ fn read_teams(
 }
 
 // A team behind its word, up to the word of the next one or the end.
-#[tactic(auto, using(blt_reader::proofs::Reading::behind_trans))]
+#[tactic(auto, using(input_text::proofs::Reading::behind_trans))]
 fn read_team(
     alloc: Global,
     tokens: &mut Tokens<'_>,
     candidates: u32,
     teams: &mut Teams,
-) -> Result<bool, BltStop>
+) -> Result<bool, InputStop>
     ensures reads { LeadsOrWants (reads (at_teams candidates) (TeamNumber teams.old) tokens.old.rest) result (λ more. next_team candidates teams.new more tokens.new.rest) tokens.new.rest }
     ensures fewer { OnOk result (tokens_left tokens.new < tokens_left tokens.old) }
     ensures behind { IsBehind tokens.old tokens.new }
@@ -78,7 +78,7 @@ fn read_team(
 }
 
 // The number of a team.
-#[tactic(auto, using(blt_reader::proofs::Reading::behind_trans))]
+#[tactic(auto, using(input_text::proofs::Reading::behind_trans))]
 fn read_number(tokens: &mut Tokens<'_>, before: &Teams) -> Result<u32, InputFault>
     ensures number { IfOk result (λ n. Accepts (as_team before.now) tokens.old.rest n tokens.new.rest) }
     ensures in_range { IfOk result (IsIn 16) }
@@ -94,7 +94,7 @@ fn read_number(tokens: &mut Tokens<'_>, before: &Teams) -> Result<u32, InputFaul
 }
 
 // The calls of a team, up to the word of the next one or the end.
-#[tactic(auto, using(blt_reader::proofs::Reading::behind_trans))]
+#[tactic(auto, using(input_text::proofs::Reading::behind_trans))]
 fn read_calls(
     alloc: Global,
     tokens: &mut Tokens<'_>,
@@ -102,7 +102,7 @@ fn read_calls(
     before: &Teams,
     script: &mut Script,
     frozen: &mut u32,
-) -> Result<bool, BltStop>
+) -> Result<bool, InputStop>
     requires { frozen.old ≡ freezes (and_team before.now script.old) }
     ensures reads { LeadsOrWants (reads (at_teams candidates) (InTeam before.now script.old) tokens.old.rest) result (λ more. next_team candidates (and_team before.now script.new) more tokens.new.rest) tokens.new.rest }
     ensures counted { OnOk result (frozen.new ≡ freezes (and_team before.now script.new)) }
@@ -114,7 +114,7 @@ fn read_calls(
         match keyword {
             Keyword::Team => {
                 if before.len() >= MOST_TEAMS - 1 {
-                    return Err(BltStop::refused(FaultKind::BadTeam, at));
+                    return Err(InputStop::refused(FaultKind::BadTeam, at));
                 }
                 return Ok(true);
             }
@@ -126,13 +126,13 @@ fn read_calls(
     }
 }
 
-fn add_call(script: &mut Script, call: Call) -> Result<(), BltStop>
+fn add_call(script: &mut Script, call: Call) -> Result<(), InputStop>
     ensures added { OnOk result (script.new ≡ with_call script.old call) }
     ensures team { script.new.team ≡ script.old.team }
     ensures only_memory { IfErr result (λ why. why ≡ stop.NoMemory) }
 {
     match script.calls.push(call) {
         Ok(()) => Ok(()),
-        Err(_) => Err(BltStop::NoMemory),
+        Err(_) => Err(InputStop::NoMemory),
     }
 }

@@ -1,14 +1,14 @@
 // Teams that a day file has named.
 ghost use Rattle.std.specs.Prelude.{◌≡◌, ◌<◌, false, [], length, IfOk, IfErr, OnOk};
-ghost use Rattle.blt_reader.specs.Blt.{IsIn};
-ghost use Rattle.blt_reader.specs.declared.blt_stop.BltStop.TheVariants as stop;
+ghost use Rattle.input_text.specs.Range.{IsIn};
+ghost use Rattle.input_text.specs.declared.input_stop.InputStop.TheVariants as stop;
 ghost use Rattle.day_reader.specs.Call.{freezes};
 ghost use Rattle.day_reader.specs.Day.{AreDifferent, by_number};
 ghost use Rattle.day_reader.specs.TeamTable.{stands, and_team};
 ghost use Rattle.day_reader.specs.Reads.{team_numbers};
 
 use crate::{Script, Scripts};
-use blt_reader::BltStop;
+use input_text::InputStop;
 use std::alloc::Global;
 use std::marker::Model;
 
@@ -66,7 +66,7 @@ impl Teams {
     }
 
     /// Adds a team; `frozen` counts the freezes of all teams then.
-    pub(crate) fn push(&mut self, script: Script, frozen: u32) -> Result<(), BltStop>
+    pub(crate) fn push(&mut self, script: Script, frozen: u32) -> Result<(), InputStop>
         requires number { IsIn 16 script.team }
         requires new { stands self.old script.team ≡ false }
         requires counted { frozen ≡ freezes (and_team self.old script) }
@@ -78,12 +78,12 @@ impl Teams {
                 self.frozen = frozen;
                 Ok(())
             }
-            Err(_) => Err(BltStop::NoMemory),
+            Err(_) => Err(InputStop::NoMemory),
         }
     }
 
     /// The scripts by rising number.
-    pub(crate) fn by_number(self) -> Result<Scripts, BltStop>
+    pub(crate) fn by_number(self) -> Result<Scripts, InputStop>
         ensures ok { IfOk result (λ scripts. scripts ≡ by_number self) }
         ensures only_memory { IfErr result (λ why. why ≡ stop.NoMemory) }
     {

@@ -1,16 +1,16 @@
 // Words of day files.
 ghost use Rattle.std.specs.Prelude.{◌≡◌, Err, IfOk, IfErr, IfSome, IfNone};
-ghost use Rattle.blt_reader.specs.declared.fault_kind.FaultKind.TheVariants.{WordExpected};
-ghost use Rattle.blt_reader.specs.Token.{with_front};
-ghost use Rattle.blt_reader.specs.Reader.{IsTokenAt, said};
-ghost use Rattle.blt_reader.specs.Reads.{IsBehind, Stops};
+ghost use Rattle.input_text.specs.declared.fault_kind.FaultKind.TheVariants.{WordExpected};
+ghost use Rattle.input_text.specs.Token.{with_front};
+ghost use Rattle.input_text.specs.Reader.{IsTokenAt, said};
+ghost use Rattle.input_text.specs.Reads.{IsBehind, Stops};
 ghost use Rattle.day_reader.specs.Keyword.{word, as_keyword};
 
 use crate::keyword::Keyword;
-use blt_reader::{FaultKind, InputFault, Token, Tokens, What};
+use input_text::{FaultKind, InputFault, Token, Tokens, What};
 
 /// The next token, which has to be a word, and its place.
-#[tactic(auto, using(blt_reader::proofs::Reading::behind_trans))]
+#[tactic(auto, using(input_text::proofs::Reading::behind_trans))]
 pub(crate) fn next_keyword(tokens: &mut Tokens<'_>) -> Result<(Keyword, usize), InputFault>
     ensures keyword { IfOk result (λ found. tokens.old.rest ≡ with_front (record { at = found.1; item = word found.0 }) tokens.new.rest) }
     ensures fault { IfErr result (λ fault. Stops as_keyword tokens.old.rest fault tokens.new.rest) }

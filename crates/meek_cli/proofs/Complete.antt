@@ -3,8 +3,8 @@ use Rattle.std.proofs.Common.{◌≡◌, ◌⊎◌, ℕ, List, refl, sym, ◌∙
 use Rattle.std.specs.Prelude.{Option, Some, Ok, Err}
 use Rattle.meek_words.specs.declared.command.Command.TheVariants.{Count, Day as DayWords, Trial}
 use Rattle.byte_edge.specs.Faults.{Rose}
-use Rattle.blt_reader.specs.declared.input_fault.InputFault.{InputFault}
-use Rattle.blt_reader.specs.Scan.{scan}
+use Rattle.input_text.specs.declared.input_fault.InputFault.{InputFault}
+use Rattle.input_text.specs.Scan.{scan}
 use Rattle.day_reader.specs.declared.day.Day.{Day}
 use Rattle.day_reader.specs.Said.{said_by, AcceptsDays, RefusesByTheRule}
 use Rattle.meek_words.specs.Forms.{HaveOneCommand}

@@ -1,9 +1,9 @@
 -- How a day ends.
 use Rattle.std.proofs.Common.{◌≡◌, ℕ, ◌≤◌, List, [], length, true, refl, sym, subst, inl, inr}
-use Rattle.blt_reader.specs.declared.blt_stop.BltStop.{BltStop}
-use Rattle.blt_reader.specs.declared.blt_stop.BltStop.TheVariants.{Fault, NoMemory as NoInputRead}
-use Rattle.blt_reader.specs.Reads.{OnFault}
-use Rattle.blt_reader.specs.Scan.{scan}
+use Rattle.input_text.specs.declared.input_stop.InputStop.{InputStop}
+use Rattle.input_text.specs.declared.input_stop.InputStop.TheVariants.{Fault, NoMemory as NoInputRead}
+use Rattle.input_text.specs.Reads.{OnFault}
+use Rattle.input_text.specs.Scan.{scan}
 use Rattle.day_reader.specs.Said.{IsDayRefusal}
 use Rattle.batch_core.specs.declared.entry.Entry.{Entry}
 use Rattle.day_reader.specs.declared.day.Day.{Day}
@@ -21,7 +21,7 @@ use Rattle.meek_cli.specs.Run.{FinishesDay, PlaysDay, WritesDay}
 
 -- A day that is refused is answered by its line, or memory was wanted.
 pub refused_day :
-    (input : List ℕ) (stop : BltStop) (status : Status) (outcome : Outcome) (sink : Writing) → length input ≤ day_limit
+    (input : List ℕ) (stop : InputStop) (status : Status) (outcome : Outcome) (sink : Writing) → length input ≤ day_limit
     → OnFault stop (IsDayRefusal (scan input true)) → outcome ≡ record { status = status; history = [] }
     → RefusesInput stop status sink → FinishesDay input outcome.status outcome.history sink
 refused_day input (Fault fault) status outcome sink short refused is finishes =

@@ -10,7 +10,7 @@ use Rattle.plain_ballots.specs.declared.ballot_line.BallotLine.{BallotLine}
 use Rattle.batch_core.specs.declared.change.Change.TheVariants.{Enter, Correct, Withdraw}
 use Rattle.batch_core.specs.declared.call.Call.{Call}
 use Rattle.batch_core.specs.declared.call.Call.TheVariants.{Change}
-use Rattle.blt_reader.specs.Blt.{IsIn}
+use Rattle.input_text.specs.Range.{IsIn}
 use Rattle.day_reader.specs.declared.script.Script.{Script}
 use Rattle.day_reader.specs.Call.{IsCall, IsBatch, is_freeze, freezes}
 use Rattle.day_reader.specs.Day.{AreDifferent, AreTeams}

@@ -8,13 +8,14 @@ use Rattle.std.proofs.lemmas.List.Elements.{All-nil, All-from_recursion}
 use Rattle.std.proofs.lemmas.List.FromFn.{get_or-map-range_with_len}
 use Rattle.plain_ballots.specs.Ranking.{IsRanking}
 use Rattle.plain_ballots.specs.declared.ballot_line.BallotLine.{BallotLine}
-use Rattle.blt_reader.specs.Token.{Item, Number, Text}
-use Rattle.blt_reader.specs.Scan.{scan, is_in_string, mark_len}
-use Rattle.blt_reader.specs.Refusal.{IsAccepted}
-use Rattle.blt_reader.specs.Blt.{IsIn, IsBlt}
-use Rattle.blt_reader.specs.Written.{Spells, Each}
-use Rattle.blt_reader.proofs.WrittenRuns.{digits_of, each_append}
-use Rattle.blt_reader.proofs.Spelling.{strings, parts, whole}
+use Rattle.input_text.specs.Token.{Item, Number, Text}
+use Rattle.input_text.specs.Scan.{scan, is_in_string, mark_len}
+use Rattle.input_text.specs.Refusal.{IsAccepted}
+use Rattle.input_text.specs.Range.{IsIn}
+use Rattle.blt_reader.specs.Blt.{IsBlt}
+use Rattle.input_text.specs.Written.{Spells, Each}
+use Rattle.input_text.proofs.WrittenRuns.{digits_of, each_append}
+use Rattle.input_text.proofs.Spelling.{strings, parts, whole}
 use Rattle.day_reader.specs.declared.keyword.Keyword.TheVariants as key
 use Rattle.day_reader.specs.Keyword.{word}
 use Rattle.day_reader.specs.Day.{IsDay, team_items}

@@ -3,10 +3,10 @@ use Rattle.std.proofs.Common.{◌≡◌, ℕ, ◌<◌, List, [], ◌∷◌, ◌+
 use Rattle.std.specs.Prelude.{codes, ⊤}
 use Rattle.std.specs.List.{flat_map}
 use Rattle.std.specs.Char.{is_ascii_digit}
-use Rattle.blt_reader.specs.Token.{Number, Text}
-use Rattle.blt_reader.specs.Scan.{number, is_in_string}
-use Rattle.blt_reader.specs.Written.{Spells, Each}
-use Rattle.blt_reader.proofs.Spelling.{number_spelled, words, strings, parts, nothing}
+use Rattle.input_text.specs.Token.{Number, Text}
+use Rattle.input_text.specs.Scan.{number, is_in_string}
+use Rattle.input_text.specs.Written.{Spells, Each}
+use Rattle.input_text.proofs.Spelling.{number_spelled, words, strings, parts, nothing}
 use Rattle.day_reader.specs.declared.keyword.Keyword.TheVariants as key
 use Rattle.day_reader.specs.Keyword.{word}
 use Rattle.meek_trial.specs.Trial.{roll_lines, lots_line}

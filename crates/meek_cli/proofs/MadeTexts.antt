@@ -6,10 +6,10 @@ use Rattle.std.proofs.lemmas.Nat.{mul-le}
 use Rattle.std.proofs.lemmas.List.Concat.{flat_map-append}
 use Rattle.std.proofs.lemmas.List.Elements.{All-head, All-tail, All-weaker}
 use Rattle.std.proofs.lemmas.List.FromFn.{get_or-range_with_len, length-range_with_len}
-use Rattle.blt_reader.specs.Token.{Number}
+use Rattle.input_text.specs.Token.{Number}
 use Rattle.blt_reader.specs.Blt.{ballot, ballots}
-use Rattle.blt_reader.specs.Written.{Spells}
-use Rattle.blt_reader.proofs.Spelling.{numbers, number_spelled, words, parts, nothing, each_part}
+use Rattle.input_text.specs.Written.{Spells}
+use Rattle.input_text.proofs.Spelling.{numbers, number_spelled, words, parts, nothing, each_part}
 use Rattle.batch_core.specs.declared.change.Change.TheVariants.{Enter, Correct, Withdraw}
 use Rattle.batch_core.specs.declared.call.Call.{Call}
 use Rattle.batch_core.specs.declared.call.Call.TheVariants.{Change}

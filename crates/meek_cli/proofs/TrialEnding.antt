@@ -6,8 +6,8 @@ use Rattle.plain_ballots.specs.Ballots.{plain}
 use Rattle.candidate_roll.specs.Roll.{RollList}
 use Rattle.candidate_roll.specs.declared.state.State.{State}
 use Rattle.fixed_place.specs.Rounding.{scale}
-use Rattle.blt_reader.specs.Scan.{scan}
-use Rattle.blt_reader.specs.Refusal.{IsAccepted}
+use Rattle.input_text.specs.Scan.{scan}
+use Rattle.input_text.specs.Refusal.{IsAccepted}
 use Rattle.day_reader.specs.Day.{IsDay}
 use Rattle.day_reader.specs.declared.day.Day.{Day}
 use Rattle.day_reader.specs.Said.{AcceptsDays, reading}

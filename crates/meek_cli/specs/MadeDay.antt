@@ -4,8 +4,8 @@ use Rattle.std.specs.List.{flat_map, range_with_len}
 use Rattle.plain_ballots.specs.Ballots.{BallotList}
 use Rattle.plain_ballots.specs.declared.ballot_line.BallotLine.{BallotLine}
 use Rattle.candidate_roll.specs.Roll.{withdrawn_marks}
-use Rattle.blt_reader.specs.Scan.{scan}
-use Rattle.blt_reader.specs.Refusal.{IsAccepted}
+use Rattle.input_text.specs.Scan.{scan}
+use Rattle.input_text.specs.Refusal.{IsAccepted}
 use Rattle.batch_core.specs.declared.change.Change.TheVariants.{Enter, Correct, Withdraw}
 use Rattle.batch_core.specs.declared.call.Call.{Call}
 use Rattle.batch_core.specs.declared.call.Call.TheVariants.{Change}

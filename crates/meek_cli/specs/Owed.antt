@@ -1,10 +1,10 @@
 -- What is owed for words and an input: a status, a history, and the bytes to be written with it.
 use Rattle.std.specs.Prelude.{◌≡◌, ◌⊎◌, ℕ, ◌≤◌, List, [], length, true, Option}
 use Rattle.plain_ballots.specs.Ballots.{plain}
-use Rattle.blt_reader.specs.declared.input_fault.InputFault.{InputFault}
-use Rattle.blt_reader.specs.Scan.{scan}
+use Rattle.input_text.specs.declared.input_fault.InputFault.{InputFault}
+use Rattle.input_text.specs.Scan.{scan}
 use Rattle.blt_reader.specs.Poll.{Poll}
-use Rattle.blt_reader.specs.Refusal.{IsAccepted}
+use Rattle.input_text.specs.Refusal.{IsAccepted}
 use Rattle.sheet_text.specs.Sheet.{IsSheet}
 use Rattle.batch_core.specs.declared.entry.Entry.{Entry}
 use Rattle.day_reader.specs.declared.day.Day.{Day}

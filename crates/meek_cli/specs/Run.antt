@@ -4,7 +4,7 @@ use Rattle.candidate_roll.specs.Roll.{RollList}
 use Rattle.sheet_text.specs.Sheet.{IsSheet}
 use Rattle.std.specs.Io.KnownBytes.{IsAtEnd}
 use Rattle.byte_edge.specs.Faults.{Rose}
-use Rattle.blt_reader.specs.declared.input_fault.InputFault.{InputFault}
+use Rattle.input_text.specs.declared.input_fault.InputFault.{InputFault}
 use Rattle.batch_core.specs.declared.entry.Entry.{Entry}
 use Rattle.day_reader.specs.declared.day.Day.{Day}
 use Rattle.meek_cli.specs.declared.terms.Terms.{Terms}

@@ -2,7 +2,7 @@
 ghost use Rattle.std.specs.Prelude.{◌≡◌, ◌⊎◌, ℕ, List, map};
 ghost use Rattle.std.specs.Io.KnownBytes.{IsAtEnd};
 ghost use Rattle.std.specs.String.{string_bytes};
-ghost use Rattle.blt_reader.specs.declared.input_fault.InputFault.{InputFault};
+ghost use Rattle.input_text.specs.declared.input_fault.InputFault.{InputFault};
 ghost use Rattle.tool_edge.specs.declared.end.End.{End as Status};
 ghost use Rattle.tool_edge.specs.declared.end.End.TheVariants.{Done, BadInput, NoMemory};
 ghost use Rattle.tool_edge.specs.Streams.{reading, writing};

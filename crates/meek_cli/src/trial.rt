@@ -3,8 +3,8 @@ ghost use Rattle.std.specs.Prelude.{◌≡◌, ◌≤◌, ◌++◌, ◌∷◌, [
 ghost use Rattle.fixed_place.specs.Rounding.{scale};
 ghost use Rattle.meek_rule.specs.Rule.{Meek};
 ghost use Rattle.vote_spread.specs.Lanes.{HaveCounted};
-ghost use Rattle.blt_reader.specs.Scan.{scan};
-ghost use Rattle.blt_reader.specs.Refusal.{IsAccepted};
+ghost use Rattle.input_text.specs.Scan.{scan};
+ghost use Rattle.input_text.specs.Refusal.{IsAccepted};
 ghost use Rattle.day_reader.specs.Day.{IsDay};
 ghost use Rattle.day_reader.specs.Said.{AreScripts};
 ghost use Rattle.batch_core.specs.Histories.{IsLegal};

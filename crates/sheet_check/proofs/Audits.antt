@@ -1,9 +1,9 @@
 -- What is accepted is not refused, and what is answered is owed.
 use Rattle.std.proofs.Common.{◌≡◌, ℕ, ◌≤◌, List, length, take, refl, sym, ◌∙◌, ap, subst, inl, inr}
 use Rattle.std.specs.Prelude.{Err}
-use Rattle.blt_reader.specs.declared.input_fault.InputFault.{InputFault}
-use Rattle.blt_reader.specs.declared.blt_stop.BltStop.{BltStop}
-use Rattle.blt_reader.specs.declared.blt_stop.BltStop.TheVariants.{Fault, NoMemory as NoInputRead}
+use Rattle.input_text.specs.declared.input_fault.InputFault.{InputFault}
+use Rattle.input_text.specs.declared.input_stop.InputStop.{InputStop}
+use Rattle.input_text.specs.declared.input_stop.InputStop.TheVariants.{Fault, NoMemory as NoInputRead}
 use Rattle.tool_edge.specs.declared.contest.Contest.{Contest}
 use Rattle.tool_edge.specs.declared.end.End.{End}
 use Rattle.tool_edge.specs.declared.end.End.TheVariants.{BadInput}
@@ -77,7 +77,7 @@ ended_early lots input fault end sink short ends finishes =
 
 -- What stands behind the sheet is refused.
 pub refused_behind :
-    (lots input sheet file : List ℕ) (before : ℕ) (stop : BltStop) (end : End) (sink : Writing) → length input ≤ file_limit
+    (lots input sheet file : List ℕ) (before : ℕ) (stop : InputStop) (end : End) (sink : Writing) → length input ≤ file_limit
     → IsSplit input sheet file → before ≡ length sheet → ReadsBehind before lots file (Err stop)
     → RefusesInput stop end sink → FinishesOwed (IsOwedFor audits lots input) end sink
 refused_behind lots input sheet file before (Fault fault) end sink short split same why finishes =

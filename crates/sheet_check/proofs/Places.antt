@@ -4,13 +4,13 @@ use Rattle.std.proofs.Common.{ℕ, ◌+◌, ◌-◌, ◌≤◌, ◌==◌, ◌&&�
 use Rattle.std.specs.List.{prefix_len, take_while}
 use Rattle.std.specs.Char.{is_ascii_digit, is_ascii_lowercase}
 use Rattle.std.proofs.lemmas.List.Sums.{prefix_len-le-length}
-use Rattle.blt_reader.specs.declared.input_fault.InputFault.{InputFault}
-use Rattle.blt_reader.specs.declared.blt_stop.BltStop.{BltStop}
-use Rattle.blt_reader.specs.declared.blt_stop.BltStop.TheVariants.{Fault, NoMemory}
-use Rattle.blt_reader.specs.Token.{Number, Minus, Word, Placed, Ending, AtEnd, AtFault, Scan}
-use Rattle.blt_reader.specs.Scan.{is_separator, is_in_line, is_in_string, number, may_follow, Piece, Gap, Lexeme, Wrong, Unclosed, number_piece, minus_piece, closed_by, string_piece, word_piece, piece, beginning, cut, mark_len, scan}
+use Rattle.input_text.specs.declared.input_fault.InputFault.{InputFault}
+use Rattle.input_text.specs.declared.input_stop.InputStop.{InputStop}
+use Rattle.input_text.specs.declared.input_stop.InputStop.TheVariants.{Fault, NoMemory}
+use Rattle.input_text.specs.Token.{Number, Minus, Word, Placed, Ending, AtEnd, AtFault, Scan}
+use Rattle.input_text.specs.Scan.{is_separator, is_in_line, is_in_string, number, may_follow, Piece, Gap, Lexeme, Wrong, Unclosed, number_piece, minus_piece, closed_by, string_piece, word_piece, piece, beginning, cut, mark_len, scan}
 use Rattle.blt_reader.specs.Said.{of_a_file, IsFileRefusal}
-use Rattle.blt_reader.specs.Reads.{OnFault}
+use Rattle.input_text.specs.Reads.{OnFault}
 use Rattle.tool_edge.specs.Contest.{IsRefusedFile}
 
 -- ---- one piece
@@ -135,7 +135,7 @@ file_refusal_near file fault refused =
 
 -- so there is room for its place in the whole
 pub room_for_place :
-    (before : ℕ) (file : List ℕ) (stop : BltStop) → before + length file ≤ 67108864
+    (before : ℕ) (file : List ℕ) (stop : InputStop) → before + length file ≤ 67108864
     → OnFault stop (λ fault. IsRefusedFile file fault) → OnFault stop (λ fault. before + fault.at ≤ 67108866)
 room_for_place before file (Fault fault) short refused = omega (arith, short, file_refusal_near file fault refused)
 room_for_place before file NoMemory short refused = tt

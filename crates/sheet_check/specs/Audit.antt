@@ -1,10 +1,10 @@
 -- What the checker accepts, refuses and writes.
 use Rattle.std.specs.Prelude.{◌≡◌, ◌⊎◌, ℕ, ◌+◌, List, [], ◌∷◌, ◌++◌, length, codes, decimal, Result, Ok, Err}
 use Rattle.plain_ballots.specs.Ballots.{plain}
-use Rattle.blt_reader.specs.declared.fault_kind.FaultKind.TheVariants.{Ended}
-use Rattle.blt_reader.specs.declared.input_fault.InputFault.{InputFault}
-use Rattle.blt_reader.specs.declared.blt_stop.BltStop.{BltStop}
-use Rattle.blt_reader.specs.declared.blt_stop.BltStop.TheVariants.{Fault, NoMemory}
+use Rattle.input_text.specs.declared.fault_kind.FaultKind.TheVariants.{Ended}
+use Rattle.input_text.specs.declared.input_fault.InputFault.{InputFault}
+use Rattle.input_text.specs.declared.input_stop.InputStop.{InputStop}
+use Rattle.input_text.specs.declared.input_stop.InputStop.TheVariants.{Fault, NoMemory}
 use Rattle.blt_reader.specs.Poll.{Poll}
 use Rattle.tool_edge.specs.declared.contest.Contest.{Contest}
 use Rattle.tool_edge.specs.declared.end.End.{End}
@@ -30,7 +30,7 @@ IsAudit lots input = (sheet : List ℕ) × (file : List ℕ) × IsSplit input sh
 abbrev pub behind : ℕ → InputFault → InputFault
 behind before fault = record { kind = fault.kind; at = before + fault.at }
 
-abbrev pub stop_behind : ℕ → BltStop → BltStop
+abbrev pub stop_behind : ℕ → InputStop → InputStop
 stop_behind before (Fault fault) = Fault (behind before fault)
 stop_behind before NoMemory = NoMemory
 
@@ -51,7 +51,7 @@ IsRefusedAudit lots input fault =
     ⊎ ((sheet : List ℕ) × (file : List ℕ) × IsSplit input sheet file × IsRefusedBehind (length sheet) lots file fault)
 
 -- Ok is what the lots and the file say; a fault is why they are refused.
-abbrev pub ReadsBehind : (before : ℕ) → (lots file : List ℕ) → Result Contest BltStop → Type 0
+abbrev pub ReadsBehind : (before : ℕ) → (lots file : List ℕ) → Result Contest InputStop → Type 0
 ReadsBehind before lots file (Ok contest) = IsContest lots file contest
 ReadsBehind before lots file (Err (Fault fault)) = IsRefusedBehind before lots file fault
 ReadsBehind before lots file (Err NoMemory) = Unit {0}

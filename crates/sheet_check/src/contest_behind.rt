@@ -1,6 +1,6 @@
 // A ballot file behind other bytes, with an order of lots.
 ghost use Rattle.std.specs.Prelude.{◌≡◌, ◌≤◌, ◌+◌, length};
-ghost use Rattle.blt_reader.specs.Reads.{OnFault};
+ghost use Rattle.input_text.specs.Reads.{OnFault};
 ghost use Rattle.sheet_check.specs.Audit.{ReadsBehind, stop_behind};
 
 use blt_reader::{BltStop, InputFault, read_blt};

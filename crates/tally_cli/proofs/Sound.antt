@@ -1,8 +1,8 @@
 -- A tool that takes no words and reads day files answers each run by one cause.
 use Rattle.std.proofs.Common.{◌≡◌, true, refl}
 use Rattle.std.specs.Prelude.{Result, Ok, Err}
-use Rattle.blt_reader.specs.declared.input_fault.InputFault.{InputFault}
-use Rattle.blt_reader.specs.Scan.{scan}
+use Rattle.input_text.specs.declared.input_fault.InputFault.{InputFault}
+use Rattle.input_text.specs.Scan.{scan}
 use Rattle.day_reader.specs.declared.day.Day.{Day}
 use Rattle.day_reader.specs.Said.{AcceptsDays, RefusesByTheRule}
 use Rattle.tool_edge.specs.Tool.{IsSound}

@@ -6,11 +6,11 @@ use Rattle.lot_order.specs.Lots.{IsOrder, IsLotsStop}
 use Rattle.lot_order.specs.Laws.{HasOneRefusal}
 use Rattle.lot_order.specs.declared.lots_stop.LotsStop.{LotsStop}
 use Rattle.lot_order.specs.declared.lots_stop.LotsStop.TheVariants.{NotAll, Twice, OutOfRange, NoMemory as NoLots}
-use Rattle.blt_reader.specs.declared.fault_kind.FaultKind.TheVariants.{BadLots}
-use Rattle.blt_reader.specs.declared.input_fault.InputFault.{InputFault}
-use Rattle.blt_reader.specs.declared.blt_stop.BltStop.{BltStop}
-use Rattle.blt_reader.specs.declared.blt_stop.BltStop.TheVariants.{Fault, NoMemory as NoInput}
-use Rattle.blt_reader.specs.Scan.{scan}
+use Rattle.input_text.specs.declared.fault_kind.FaultKind.TheVariants.{BadLots}
+use Rattle.input_text.specs.declared.input_fault.InputFault.{InputFault}
+use Rattle.input_text.specs.declared.input_stop.InputStop.{InputStop}
+use Rattle.input_text.specs.declared.input_stop.InputStop.TheVariants.{Fault, NoMemory as NoInput}
+use Rattle.input_text.specs.Scan.{scan}
 use Rattle.blt_reader.specs.Poll.{Poll}
 use Rattle.blt_reader.specs.Said.{of_a_file, said_by, AcceptsFiles, RefusesByTheRule}
 use Rattle.meek_words.specs.Numerals.{Word, IsLotList, HaveOneLotList}
@@ -71,7 +71,7 @@ stop_at n lots place (inr (inr (c, first, is))) =
     (NotAll c, first, ap (λ (at : ℕ). Fault (record { kind = BadLots; at = at })) (sym is))
 
 -- the place of a fault
-abbrev place_of : BltStop → ℕ
+abbrev place_of : InputStop → ℕ
 place_of (Fault fault) = fault.at
 place_of NoInput = 0
 
@@ -111,17 +111,17 @@ have_one_order one words lots others (word, is, list) (again, is_again, list_aga
 
 -- A file was read, and the lots are not an order of its candidates.
 pub bad_lots :
-    (lots input : List ℕ) (poll : Poll) (stop : LotsStop) (result : BltStop) → SaysPoll input poll
+    (lots input : List ℕ) (poll : Poll) (stop : LotsStop) (result : InputStop) → SaysPoll input poll
     → IsLotsStop (length poll.roll.names) lots stop → result ≡ lots_stop (length lots) stop
     → ReadsContest lots input (Err result)
 bad_lots lots input poll (NotAll c) result file is same =
-    subst (λ (s : BltStop). ReadsContest lots input (Err s)) (sym same)
+    subst (λ (s : InputStop). ReadsContest lots input (Err s)) (sym same)
     (inr (record { poll = poll; file = file; place = length lots + 1; lots_at = inr (inr (c, is, refl)); fault_is = refl }))
 bad_lots lots input poll (Twice place) result file is same =
-    subst (λ (s : BltStop). ReadsContest lots input (Err s)) (sym same)
+    subst (λ (s : InputStop). ReadsContest lots input (Err s)) (sym same)
     (inr (record { poll = poll; file = file; place = place; lots_at = inl is; fault_is = refl }))
 bad_lots lots input poll (OutOfRange place) result file is same =
-    subst (λ (s : BltStop). ReadsContest lots input (Err s)) (sym same)
+    subst (λ (s : InputStop). ReadsContest lots input (Err s)) (sym same)
     (inr (record { poll = poll; file = file; place = place; lots_at = inr (inl is); fault_is = refl }))
 bad_lots lots input poll NoLots result file is same =
-    subst (λ (s : BltStop). ReadsContest lots input (Err s)) (sym same) tt
+    subst (λ (s : InputStop). ReadsContest lots input (Err s)) (sym same) tt

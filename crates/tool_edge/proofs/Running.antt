@@ -5,9 +5,9 @@ use Rattle.std.proofs.lemmas.List.{append-nil, length-replicate}
 use Rattle.std.specs.Io.KnownBytes.{Appends, Consumes, IsAtEnd}
 use Rattle.byte_edge.specs.Bytes.{IsLongerThan}
 use Rattle.byte_edge.specs.Faults.{Rose}
-use Rattle.blt_reader.specs.declared.input_fault.InputFault.{InputFault}
-use Rattle.blt_reader.specs.declared.blt_stop.BltStop.{BltStop}
-use Rattle.blt_reader.specs.declared.blt_stop.BltStop.TheVariants.{Fault, NoMemory as NoInputRead}
+use Rattle.input_text.specs.declared.input_fault.InputFault.{InputFault}
+use Rattle.input_text.specs.declared.input_stop.InputStop.{InputStop}
+use Rattle.input_text.specs.declared.input_stop.InputStop.TheVariants.{Fault, NoMemory as NoInputRead}
 use Rattle.meek_words.specs.Numerals.{Word}
 use Rattle.meek_words.specs.declared.words_stop.WordsStop.{WordsStop}
 use Rattle.meek_words.specs.declared.words_stop.WordsStop.TheVariants.{BadWords as BadWordsStop, NoMemory as NoWordsRead}
@@ -279,7 +279,7 @@ module _ {A : Type 0} (tool : Tool A) where
 
   -- An input that is no input of this tool was answered by its line, or memory was wanted.
   pub refused :
-      (asked : A) (input : List ℕ) (stop : BltStop) (end : End) (sink : Writing) → length input ≤ tool.limit
+      (asked : A) (input : List ℕ) (stop : InputStop) (end : End) (sink : Writing) → length input ≤ tool.limit
       → ((fault : InputFault) → stop ≡ Fault fault → tool.Refuses asked input fault) → RefusesInput stop end sink
       → FinishesOwed (IsOwedFor tool asked input) end sink
   refused asked input (Fault fault) end sink short refuses finishes =

@@ -3,15 +3,15 @@ use Rattle.std.specs.Prelude.{◌≡◌, ◌⊎◌, ℕ, ◌+◌, List, length, 
 use Rattle.lot_order.specs.Lots.{IsOrder, IsTwiceAt, IsOutOfRangeAt, IsFirstMissing}
 use Rattle.lot_order.specs.declared.lots_stop.LotsStop.{LotsStop}
 use Rattle.lot_order.specs.declared.lots_stop.LotsStop.TheVariants.{NotAll, Twice, OutOfRange, NoMemory as NoLots}
-use Rattle.blt_reader.specs.declared.fault_kind.FaultKind.TheVariants.{BadLots}
-use Rattle.blt_reader.specs.declared.input_fault.InputFault.{InputFault}
-use Rattle.blt_reader.specs.declared.blt_stop.BltStop.{BltStop}
-use Rattle.blt_reader.specs.declared.blt_stop.BltStop.TheVariants.{Fault, NoMemory}
-use Rattle.blt_reader.specs.Scan.{scan}
+use Rattle.input_text.specs.declared.fault_kind.FaultKind.TheVariants.{BadLots}
+use Rattle.input_text.specs.declared.input_fault.InputFault.{InputFault}
+use Rattle.input_text.specs.declared.input_stop.InputStop.{InputStop}
+use Rattle.input_text.specs.declared.input_stop.InputStop.TheVariants.{Fault, NoMemory}
+use Rattle.input_text.specs.Scan.{scan}
 use Rattle.blt_reader.specs.Poll.{Poll}
 use Rattle.blt_reader.specs.Election.{poll}
 use Rattle.blt_reader.specs.Blt.{IsBlt}
-use Rattle.blt_reader.specs.Refusal.{IsAccepted}
+use Rattle.input_text.specs.Refusal.{IsAccepted}
 use Rattle.blt_reader.specs.Said.{of_a_file, IsFileRefusal}
 use Rattle.tool_edge.specs.declared.contest.Contest.{Contest}
 
@@ -30,7 +30,7 @@ IsBadPlace n lots place =
     ⊎ (IsOutOfRangeAt n lots place ⊎ ((c : ℕ) × IsFirstMissing n lots c × (place ≡ length lots + 1)))
 
 -- what lots of this length are refused for, or that memory is wanted
-abbrev pub lots_stop : ℕ → LotsStop → BltStop
+abbrev pub lots_stop : ℕ → LotsStop → InputStop
 lots_stop len (NotAll c) = Fault (record { kind = BadLots; at = len + 1 })
 lots_stop len (Twice place) = Fault (record { kind = BadLots; at = place })
 lots_stop len (OutOfRange place) = Fault (record { kind = BadLots; at = place })
@@ -61,7 +61,7 @@ pub record IsContest (lots input : List ℕ) (contest : Contest) : Type 0 where
   pub ballots_of_all : contest.election.ballots.candidates ≡ length contest.election.roll.names
 
 -- Ok is what the lots and the file say; a fault is why they are refused.
-abbrev pub ReadsContest : (lots input : List ℕ) → Result Contest BltStop → Type 0
+abbrev pub ReadsContest : (lots input : List ℕ) → Result Contest InputStop → Type 0
 ReadsContest lots input (Ok contest) = IsContest lots input contest
 ReadsContest lots input (Err (Fault fault)) = IsRefusedContest lots input fault
 ReadsContest lots input (Err NoMemory) = Unit {0}

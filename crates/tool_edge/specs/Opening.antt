@@ -3,8 +3,8 @@ use Rattle.std.specs.Prelude.{◌≡◌, ◌⊎◌, ℕ, ◌<◌, ◌≤◌, Lis
 use Rattle.std.specs.Io.KnownBytes.{Consumes, IsAtEnd}
 use Rattle.byte_edge.specs.Bytes.{IsLongerThan}
 use Rattle.byte_edge.specs.Faults.{Rose}
-use Rattle.blt_reader.specs.declared.fault_kind.FaultKind.TheVariants.{TooLong}
-use Rattle.blt_reader.specs.declared.input_fault.InputFault.{InputFault}
+use Rattle.input_text.specs.declared.fault_kind.FaultKind.TheVariants.{TooLong}
+use Rattle.input_text.specs.declared.input_fault.InputFault.{InputFault}
 use Rattle.meek_words.specs.declared.words_stop.WordsStop.{WordsStop}
 use Rattle.tool_edge.specs.declared.end.End.{End}
 use Rattle.tool_edge.specs.declared.end.End.TheVariants.{SourceFault, BadInput, NoMemory}

@@ -1,7 +1,7 @@
 -- The lines of refusals. 10 ends a line.
 use Rattle.std.specs.Prelude.{ℕ, List, [], ◌∷◌, ◌++◌, codes, decimal}
-use Rattle.blt_reader.specs.FaultWords.{kind_word}
-use Rattle.blt_reader.specs.declared.input_fault.InputFault.{InputFault}
+use Rattle.input_text.specs.FaultWords.{kind_word}
+use Rattle.input_text.specs.declared.input_fault.InputFault.{InputFault}
 
 -- the kind and the place of an input's fault
 abbrev pub fault_line : InputFault → List ℕ

@@ -1,10 +1,10 @@
 use Rattle.std.proofs.Common.{subst, inr}
 use Rattle.std.specs.Prelude.{Err, false}
 use Rattle.blt_reader.specs.Election.{poll}
-use Rattle.blt_reader.specs.Reads.{IfFault}
+use Rattle.input_text.specs.Reads.{IfFault}
 use Rattle.blt_reader.specs.Said.{of_a_file, IsFileRefusal}
-use Rattle.blt_reader.specs.Scan.{scan}
-use Rattle.blt_reader.specs.declared.blt_stop.BltStop.{BltStop}
+use Rattle.input_text.specs.Scan.{scan}
+use Rattle.input_text.specs.declared.input_stop.InputStop.{InputStop}
 use Rattle.blt_reader.specs.declared.election.Election.{Election}
 use Rattle.tool_edge.specs.declared.end.End.TheVariants.{Done}
 use Rattle.tool_edge.specs.Streams.{writing}
@@ -18,7 +18,7 @@ pub returns-in-Err : goal.returns-in-Err
 returns-in-Err g c =
     refused normal_tool (tt {0}) c.args.input.now c.in-Err.stop c.refuse_input.result
     (writing g.K.Sink.written g.K.Sink.faults c.args.sink.now c.refuse_input.new.sink) c.requires
-    (λ fault is. subst (λ (stop : BltStop). IfFault {R = Election} (Err stop) (λ f. IsFileRefusal of_a_file (scan c.args.input.now false) f)) is c.in-Err.ensures.refused)
+    (λ fault is. subst (λ (stop : InputStop). IfFault {R = Election} (Err stop) (λ f. IsFileRefusal of_a_file (scan c.args.input.now false) f)) is c.in-Err.ensures.refused)
     c.refuse_input.ensures
 
 -- the ballots of the plans are those of the file

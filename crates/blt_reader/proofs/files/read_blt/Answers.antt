@@ -1,5 +1,5 @@
 use Rattle.std.proofs.Common.{false}
-use Rattle.blt_reader.specs.Scan.{scan}
+use Rattle.input_text.specs.Scan.{scan}
 use Rattle.blt_reader.specs.Said.{of_a_file}
 use Rattle.blt_reader.proofs.FileSteps.{says_file, refuses_file}
 use Rattle.blt_reader.proofs.files.read_blt.Goals as goal

@@ -1,9 +1,9 @@
 use Rattle.std.proofs.Common.{◌≡◌, ◌+◌, [], length}
-use Rattle.blt_reader.specs.Token.{Number, with_front}
+use Rattle.input_text.specs.Token.{Number, with_front}
 use Rattle.blt_reader.specs.Blt.{AreLines}
-use Rattle.blt_reader.specs.Judged.{reads}
+use Rattle.input_text.specs.Judged.{reads}
 use Rattle.blt_reader.specs.BallotTable.{Limit, Between, at_line}
-use Rattle.blt_reader.specs.Reads.{IsBehind, tokens_left}
+use Rattle.input_text.specs.Reads.{IsBehind, tokens_left}
 use Rattle.blt_reader.proofs.lines.read_lines_ahead.Given as goal
 
 abbrev pub invariant-loop-count : goal.invariant-loop-count

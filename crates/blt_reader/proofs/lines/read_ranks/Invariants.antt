@@ -1,8 +1,9 @@
 use Rattle.std.proofs.Common.{◌≡◌, ◌+◌, ◌≤◌, [], length, take}
 use Rattle.plain_ballots.specs.Ranking.{IsRanking}
-use Rattle.blt_reader.specs.Judged.{reads}
+use Rattle.input_text.specs.Judged.{reads}
 use Rattle.blt_reader.specs.BallotTable.{at_rank}
-use Rattle.blt_reader.specs.Reads.{IsBehind, tokens_left, Marks}
+use Rattle.input_text.specs.Reads.{IsBehind, tokens_left}
+use Rattle.blt_reader.specs.Reads.{Marks}
 use Rattle.blt_reader.proofs.lines.read_ranks.Given as goal
 
 abbrev pub invariant-loop-n : goal.invariant-loop-n

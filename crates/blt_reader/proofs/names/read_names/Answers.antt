@@ -1,9 +1,9 @@
 use Rattle.std.proofs.Common.{ℕ, ◌<◌, List, length, sym, ◌∙◌, ap, arith}
 use Rattle.std.proofs.lemmas.List.{length_push}
 use Rattle.std.proofs.lemmas.Result.{err_from_is_err_and}
-use Rattle.blt_reader.specs.Judged.{reads}
+use Rattle.input_text.specs.Judged.{reads}
 use Rattle.blt_reader.specs.BltTable.{behind_name, at_token}
-use Rattle.blt_reader.proofs.Reading.{behind_trans}
+use Rattle.input_text.proofs.Reading.{behind_trans}
 use Rattle.blt_reader.proofs.NameSteps.{names_fail, name_read}
 use Rattle.blt_reader.proofs.names.read_names.Goals as goal
 
@@ -16,7 +16,7 @@ returns-in_err-name-clause-reads c =
 pub loop-preserved : goal.loop-preserved
 loop-preserved c =
     let fewer : length c.loop.names < c.args.candidates = omega (arith, c.loop.invariant.counted, c.loop-test.true) in
-    let pushed = c.in_ok-push.ensures.ok in
+    let pushed = c.in-Ok.ensures.ok in
     record {
       same = λ limit heading lines same. c.loop.invariant.same limit heading lines same
           ∙ name_read limit heading lines c.loop.names _ _ c.in_ok-name.name (omega (arith, fewer, same)) c.in_ok-name.ensures.name
@@ -28,5 +28,5 @@ loop-preserved c =
 pub returns-in_err-name-clause-behind : goal.returns-in_err-name-clause-behind
 returns-in_err-name-clause-behind c = behind_trans c.loop.invariant.behind c.in_err-name.ensures.behind
 
-pub returns-in_err-push-clause-behind : goal.returns-in_err-push-clause-behind
-returns-in_err-push-clause-behind c = behind_trans c.loop.invariant.behind c.in_ok-name.ensures.behind
+pub returns-in_default-clause-behind : goal.returns-in_default-clause-behind
+returns-in_default-clause-behind c = behind_trans c.loop.invariant.behind c.in_ok-name.ensures.behind

@@ -1,9 +1,9 @@
 use Rattle.std.proofs.Common.{◌≡◌, List, [], length}
 use Rattle.plain_ballots.specs.declared.ballot_line.BallotLine.{BallotLine}
-use Rattle.blt_reader.specs.Judged.{reads}
+use Rattle.input_text.specs.Judged.{reads}
 use Rattle.blt_reader.specs.BallotTable.{Limit}
 use Rattle.blt_reader.specs.BltTable.{Heading, behind_name, at_token}
-use Rattle.blt_reader.specs.Reads.{IsBehind}
+use Rattle.input_text.specs.Reads.{IsBehind}
 use Rattle.blt_reader.proofs.names.read_names.Given as goal
 
 abbrev pub invariant-loop : goal.invariant-loop

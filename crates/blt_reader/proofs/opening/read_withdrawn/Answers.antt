@@ -1,11 +1,11 @@
 use Rattle.std.proofs.Common.{sym, ◌∙◌, ap, subst, arith}
 use Rattle.std.proofs.lemmas.Result.{err_from_is_err_and}
-use Rattle.blt_reader.specs.declared.fault_kind.FaultKind.TheVariants.{BadWithdrawn, BadNumber}
-use Rattle.blt_reader.specs.declared.what.What.{What}
-use Rattle.blt_reader.specs.Token.{with_front}
-use Rattle.blt_reader.specs.Reader.{said}
-use Rattle.blt_reader.specs.Blt.{IsIn}
-use Rattle.blt_reader.proofs.Reading.{behind_trans, behind_itself, fewer_left}
+use Rattle.input_text.specs.declared.fault_kind.FaultKind.TheVariants.{BadWithdrawn, BadNumber}
+use Rattle.input_text.specs.declared.what.What.{What}
+use Rattle.input_text.specs.Token.{with_front}
+use Rattle.input_text.specs.Reader.{said}
+use Rattle.input_text.specs.Range.{IsIn}
+use Rattle.input_text.proofs.Reading.{behind_trans, behind_itself, fewer_left}
 use Rattle.blt_reader.proofs.OpeningSteps.{one_withdrawn, listed_each, withdrawn_refused, withdrawn_ended, NotWithdrawn, bad_withdrawn, no_count}
 use Rattle.blt_reader.proofs.opening.read_withdrawn.Goals as goal
 use Rattle.blt_reader.proofs.opening.read_withdrawn.Goals.{then-n-ge1+else-n-candidates, else-n-ge1}
@@ -19,8 +19,12 @@ pub returns-in-Minus-2-clause-reads : goal.returns-in-Minus-2-clause-reads
 returns-in-Minus-2-clause-reads c =
     let token = c.in_ok-token.token in
     let bytes = c.loop-named.tokens.bytes in
-    let outside : IsIn c.args.candidates c.in-Minus.n → ⊥ = λ is. elim c.if-n-ge1.branch [ then-n-ge1+else-n-candidates w ↦ absurd (omega (arith, is.most)) | else-n-ge1 w ↦ absurd (omega (arith, is.least)) ] in
-    let refused : NotWithdrawn c.args.candidates (said bytes token.at token.stop token.what) BadWithdrawn = subst (λ (w : What). NotWithdrawn c.args.candidates (said bytes token.at token.stop w) BadWithdrawn) (sym c.in-Minus.is) (bad_withdrawn c.args.candidates c.in-Minus.n outside) in
+    let outside : IsIn c.args.candidates c.in-Minus.n → ⊥ =
+    λ is. elim c.if-n-ge1.branch
+    [ then-n-ge1+else-n-candidates w ↦ absurd (omega (arith, is.most)) | else-n-ge1 w ↦ absurd (omega (arith, is.least)) ] in
+    let refused : NotWithdrawn c.args.candidates (said bytes token.at token.stop token.what) BadWithdrawn =
+    subst (λ (w : What). NotWithdrawn c.args.candidates (said bytes token.at token.stop w) BadWithdrawn) (sym c.in-Minus.is)
+    (bad_withdrawn c.args.candidates c.in-Minus.n outside) in
     rw c.refused.ensures (withdrawn_refused c.args.candidates _ _ _ _ _ BadWithdrawn c.loop-named.invariant.so_far c.in_ok-token.ensures.token refused)
 
 pub returns-in_default-clause-reads : goal.returns-in_default-clause-reads
@@ -36,7 +40,10 @@ loop-named-preserved c =
     let n = c.in-Minus.n in
     let more = c.in_ok-list_once-in-Minus.ensures.more in
     let is : IsIn c.args.candidates n = record { least = c.if-n-ge1.true; most = c.if-n-candidates.true } in
-    let given = c.in_ok-token.ensures.token ∙ ap (λ (w : What). with_front (record { at = token.at; item = said c.loop-named.tokens.bytes token.at token.stop w }) c.next_token.new.self.rest) c.in-Minus.is in
+    let given =
+    c.in_ok-token.ensures.token
+    ∙ ap (λ (w : What). with_front (record { at = token.at; item = said c.loop-named.tokens.bytes token.at token.stop w })
+    c.next_token.new.self.rest) c.in-Minus.is in
     record {
       so_far = one_withdrawn c.args.candidates _ _ _ _ _ n token.at before.so_far given is more;
       each = listed_each (IsIn c.args.candidates) _ _ n before.each is more;

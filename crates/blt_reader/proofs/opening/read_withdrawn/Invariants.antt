@@ -1,7 +1,7 @@
 use Rattle.std.proofs.Common.{◌≡◌, ◌+◌, length}
 use Rattle.std.specs.Prelude.{All}
-use Rattle.blt_reader.specs.Blt.{IsIn}
-use Rattle.blt_reader.specs.Reads.{IsBehind, tokens_left}
+use Rattle.input_text.specs.Range.{IsIn}
+use Rattle.input_text.specs.Reads.{IsBehind, tokens_left}
 use Rattle.blt_reader.specs.Opening.{Marks, IsWithdrawn}
 use Rattle.blt_reader.proofs.opening.read_withdrawn.Given as goal
 

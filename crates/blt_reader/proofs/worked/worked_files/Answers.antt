@@ -1,11 +1,7 @@
 use Rattle.std.proofs.Common.{refl}
-use Rattle.blt_reader.specs.Scan.{cut, piece, number_piece, minus_piece, string_piece, word_piece}
+use Rattle.input_text.specs.Scan.{cut, piece, number_piece, minus_piece, string_piece, word_piece}
 use Rattle.blt_reader.specs.BltTable.{at_token}
 use Rattle.blt_reader.proofs.worked.worked_files.Goals as goal
-
-pub returns-clause-cuts : goal.returns-clause-cuts
-unfolding cut piece number_piece minus_piece string_piece word_piece
-returns-clause-cuts c = record { with_words = refl; without = refl }
 
 pub returns-clause-sample : goal.returns-clause-sample
 unfolding cut piece number_piece minus_piece string_piece word_piece at_token

@@ -2,9 +2,9 @@ use Rattle.std.proofs.Common.{◌≡◌, ◌≢◌, ℕ, ◌-◌, ◌≤◌, ◌
 use Rattle.std.specs.List.{list_any}
 use Rattle.std.proofs.lemmas.Result.{err_from_is_err_and}
 use Rattle.lot_order.specs.Flags.{mark_at}
-use Rattle.blt_reader.specs.Blt.{IsIn}
-use Rattle.blt_reader.specs.Judged.{reads}
-use Rattle.blt_reader.proofs.Reading.{behind_trans}
+use Rattle.input_text.specs.Range.{IsIn}
+use Rattle.input_text.specs.Judged.{reads}
+use Rattle.input_text.proofs.Reading.{behind_trans}
 use Rattle.day_reader.specs.Day.{AreDifferent, AreAllLots}
 use Rattle.day_reader.specs.DayTable.{at_lot}
 use Rattle.day_reader.proofs.DifferentNumbers.{one_number_more, at_most}
@@ -19,29 +19,38 @@ returns-in_err-n-clause-reads c =
 pub returns-then-len-candidates-clause-reads : goal.returns-then-len-candidates-clause-reads
 returns-then-len-candidates-clause-reads c =
     let few : length c.loop-order.order.items ≢ c.args.candidates = λ same. omega (arith, same, c.len.ensures, c.if-len-candidates.true) in
-    rw c.refused.ensures (c.loop-order.invariant.same ∙ lots_missing c.args.candidates c.loop-order.order.items _ _ c.in_ok-n.n c.in_ok-n.at c.in_ok-n.ensures.number c.if-n-eq0.true few)
+    rw c.refused.ensures
+    (c.loop-order.invariant.same ∙ lots_missing c.args.candidates c.loop-order.order.items _ _ c.in_ok-n.n c.in_ok-n.at
+    c.in_ok-n.ensures.number c.if-n-eq0.true few)
 
 pub new_lots-requires-clause-lots : goal.new_lots-requires-clause-lots
 new_lots-requires-clause-lots c =
     let lots = c.loop-order.order.items in
-    let all : length lots ≡ c.args.candidates = omega (arith, at_most c.args.candidates lots c.loop-order.invariant.numbers, c.len.ensures, c.if-len-candidates.false) in
+    let all : length lots ≡ c.args.candidates =
+    omega (arith, at_most c.args.candidates lots c.loop-order.invariant.numbers, c.len.ensures, c.if-len-candidates.false) in
     subst (AreAllLots c.args.candidates) (sym c.as_slice.ensures.value) (record { numbers = c.loop-order.invariant.numbers; all = all })
 
 pub returns-then-n-eq0-clause-reads : goal.returns-then-n-eq0-clause-reads
 returns-then-n-eq0-clause-reads c =
     let lots = c.loop-order.order.items in
-    let all : length lots ≡ c.args.candidates = omega (arith, at_most c.args.candidates lots c.loop-order.invariant.numbers, c.len.ensures, c.if-len-candidates.false) in
+    let all : length lots ≡ c.args.candidates =
+    omega (arith, at_most c.args.candidates lots c.loop-order.invariant.numbers, c.len.ensures, c.if-len-candidates.false) in
     let read = c.loop-order.invariant.same ∙ lots_end c.args.candidates lots _ _ c.in_ok-n.n c.in_ok-n.at c.in_ok-n.ensures.number c.if-n-eq0.true all
     ∙ ap (λ (l : List ℕ). Ok (l, c.next_number.new.self.rest)) (sym c.as_slice.ensures.value) in
     lots_read c.args.candidates _ _ c.as_slice.result.now c.new_lots.result read c.new_lots.ensures.lots c.new_lots.ensures.only_memory
 
 pub returns-then-n-candidates-clause-reads : goal.returns-then-n-candidates-clause-reads
-returns-then-n-candidates-clause-reads c = rw c.refused-then-n-candidates.ensures (c.loop-order.invariant.same ∙ above c.args.candidates c.loop-order.order.items _ _ c.in_ok-n.n c.in_ok-n.at c.in_ok-n.ensures.number c.if-n-eq0.false c.if-n-candidates.true)
+returns-then-n-candidates-clause-reads c =
+    rw c.refused-then-n-candidates.ensures
+    (c.loop-order.invariant.same ∙ above c.args.candidates c.loop-order.order.items _ _ c.in_ok-n.n c.in_ok-n.at
+    c.in_ok-n.ensures.number c.if-n-eq0.false c.if-n-candidates.true)
 
 pub returns-then-get-clause-reads : goal.returns-then-get-clause-reads
 returns-then-get-clause-reads c =
     let some : 1 ≤ c.in_ok-n.n = omega (arith, c.if-n-eq0.false) in
-    rw c.refused-then-get.ensures (c.loop-order.invariant.same ∙ again c.args.candidates c.loop-order.order.items _ _ c.in_ok-n.n c.in_ok-n.at c.in_ok-n.ensures.number c.if-n-eq0.false c.if-n-candidates.false
+    rw c.refused-then-get.ensures
+    (c.loop-order.invariant.same ∙ again c.args.candidates c.loop-order.order.items _ _ c.in_ok-n.n c.in_ok-n.at
+    c.in_ok-n.ensures.number c.if-n-eq0.false c.if-n-candidates.false
     (sym (c.loop-order.invariant.marks c.in_ok-n.n some c.if-n-candidates.false) ∙ sym c.get.ensures.mark ∙ c.if-get.true))
 
 pub loop-order-preserved : goal.loop-order-preserved

@@ -1,8 +1,8 @@
 use Rattle.std.proofs.Common.{◌≡◌, ℕ, ◌-◌, ◌≤◌, ◌==◌, [], length}
 use Rattle.std.specs.List.{list_any}
 use Rattle.lot_order.specs.Flags.{mark_at}
-use Rattle.blt_reader.specs.Judged.{reads}
-use Rattle.blt_reader.specs.Reads.{IsBehind, tokens_left}
+use Rattle.input_text.specs.Judged.{reads}
+use Rattle.input_text.specs.Reads.{IsBehind, tokens_left}
 use Rattle.day_reader.specs.Day.{AreDifferent}
 use Rattle.day_reader.specs.DayTable.{at_lot}
 use Rattle.day_reader.proofs.lots.read_lots.Given as goal

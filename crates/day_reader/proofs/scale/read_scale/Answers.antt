@@ -11,19 +11,30 @@ returns-in_err-keyword-clause-reads c =
     rw (p.1, p.2) (λ roll lots. lots_end_stops roll lots _ _ _ c.in_err-keyword.ensures.fault)
 
 pub returns-in-Places-clause-reads : goal.returns-in-Places-clause-reads
-returns-in-Places-clause-reads c = reads_scale_part _ _ _ c.in_ok-keyword.keyword c.in_ok-keyword.at c.in_ok-keyword.ensures.keyword c.in-Places.is c.read_places.result c.read_places.ensures.reads
+returns-in-Places-clause-reads c =
+    reads_scale_part _ _ _ c.in_ok-keyword.keyword c.in_ok-keyword.at c.in_ok-keyword.ensures.keyword c.in-Places.is
+    c.read_places.result c.read_places.ensures.reads
 
 pub returns-in_err-begins_team-in_default-clause-reads : goal.returns-in_err-begins_team-in_default-clause-reads
 returns-in_err-begins_team-in_default-clause-reads c =
     let p = err_from_is_err_and c.from_residual-in_err-begins_team-in_default.result c.from_residual-in_err-begins_team-in_default.ensures.1 in
-    rw (p.1, p.2) (λ roll lots. head_fails (BehindLots roll lots) (record { roll = roll; lots = lots; scale = None }) (behind_lots roll lots) _ _ c.in_ok-keyword.at c.in_ok-keyword.keyword _
-    (behind_the_lots roll lots c.in_ok-keyword.keyword, not_places roll lots c.in_ok-keyword.keyword c.in_default.not-Places, c.in_ok-keyword.ensures.keyword) c.in_err-begins_team-in_default.ensures)
+    rw (p.1, p.2) (λ roll lots. head_fails (BehindLots roll lots) (record { roll = roll; lots = lots; scale = None })
+    (behind_lots roll lots) _ _ c.in_ok-keyword.at c.in_ok-keyword.keyword _ (
+      behind_the_lots roll lots c.in_ok-keyword.keyword,
+      not_places roll lots c.in_ok-keyword.keyword c.in_default.not-Places,
+      c.in_ok-keyword.ensures.keyword,
+    ) c.in_err-begins_team-in_default.ensures)
 
 pub returns-in_ok-begins_team-in_default-clause-reads : goal.returns-in_ok-begins_team-in_default-clause-reads
 returns-in_ok-begins_team-in_default-clause-reads c = record {
   scale = None;
   places = refl;
   omega = refl;
-  same = λ roll lots. head_leads (BehindLots roll lots) (record { roll = roll; lots = lots; scale = None }) (behind_lots roll lots) _ _ c.in_ok-keyword.at c.in_ok-keyword.keyword c.in_ok-begins_team-in_default.field-0
-      (behind_the_lots roll lots c.in_ok-keyword.keyword, not_places roll lots c.in_ok-keyword.keyword c.in_default.not-Places, c.in_ok-keyword.ensures.keyword) c.in_ok-begins_team-in_default.ensures;
+  same =
+      λ roll lots. head_leads (BehindLots roll lots) (record { roll = roll; lots = lots; scale = None })
+      (behind_lots roll lots) _ _ c.in_ok-keyword.at c.in_ok-keyword.keyword c.in_ok-begins_team-in_default.field-0 (
+        behind_the_lots roll lots c.in_ok-keyword.keyword,
+        not_places roll lots c.in_ok-keyword.keyword c.in_default.not-Places,
+        c.in_ok-keyword.ensures.keyword,
+      ) c.in_ok-begins_team-in_default.ensures;
 }

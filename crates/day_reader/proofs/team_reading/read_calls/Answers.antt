@@ -1,9 +1,9 @@
 use Rattle.std.proofs.Common.{ℕ, ◌+◌, ◌<◌, ◌≤◌, length, sym, ◌∙◌, ap, arith}
 use Rattle.std.proofs.lemmas.List.{length_push}
 use Rattle.std.proofs.lemmas.Result.{err_from_is_err_and}
-use Rattle.blt_reader.specs.Token.{Scan}
-use Rattle.blt_reader.specs.Judged.{reads}
-use Rattle.blt_reader.proofs.Reading.{behind_trans}
+use Rattle.input_text.specs.Token.{Scan}
+use Rattle.input_text.specs.Judged.{reads}
+use Rattle.input_text.proofs.Reading.{behind_trans}
 use Rattle.day_reader.specs.declared.script.Script.{Script}
 use Rattle.day_reader.specs.Call.{is_freeze, freezes}
 use Rattle.day_reader.specs.TeamTable.{InTeam, and_team, at_teams}
@@ -19,16 +19,23 @@ returns-in_err-keyword-clause-reads c =
 
 pub returns-then-len-clause-reads : goal.returns-then-len-clause-reads
 returns-then-len-clause-reads c =
-    let many : 16 ≤ length (and_team c.args.before.now c.loop-keyword.script) = omega (arith, c.len.ensures, c.if-len.true, length_push c.args.before.now c.loop-keyword.script) in
-    rw c.refused.ensures (c.loop-keyword.invariant.same ∙ team_too_many c.args.candidates c.args.before.now c.loop-keyword.script _ _ c.in_ok-keyword.keyword c.in_ok-keyword.at c.in_ok-keyword.ensures.keyword c.in-Team.is many)
+    let many : 16 ≤ length (and_team c.args.before.now c.loop-keyword.script) =
+    omega (arith, c.len.ensures, c.if-len.true, length_push c.args.before.now c.loop-keyword.script) in
+    rw c.refused.ensures
+    (c.loop-keyword.invariant.same ∙ team_too_many c.args.candidates c.args.before.now c.loop-keyword.script
+    _ _ c.in_ok-keyword.keyword c.in_ok-keyword.at c.in_ok-keyword.ensures.keyword c.in-Team.is many)
 
 pub returns-in-Team-clause-reads : goal.returns-in-Team-clause-reads
 returns-in-Team-clause-reads c =
-    let few : length (and_team c.args.before.now c.loop-keyword.script) < 16 = omega (arith, c.len.ensures, c.if-len.false, length_push c.args.before.now c.loop-keyword.script) in
-    c.loop-keyword.invariant.same ∙ next_team_word c.args.candidates c.args.before.now c.loop-keyword.script _ _ c.in_ok-keyword.keyword c.in_ok-keyword.at c.in_ok-keyword.ensures.keyword c.in-Team.is few
+    let few : length (and_team c.args.before.now c.loop-keyword.script) < 16 =
+    omega (arith, c.len.ensures, c.if-len.false, length_push c.args.before.now c.loop-keyword.script) in
+    c.loop-keyword.invariant.same ∙ next_team_word c.args.candidates c.args.before.now c.loop-keyword.script
+    _ _ c.in_ok-keyword.keyword c.in_ok-keyword.at c.in_ok-keyword.ensures.keyword c.in-Team.is few
 
 pub returns-in-End-clause-reads : goal.returns-in-End-clause-reads
-returns-in-End-clause-reads c = c.loop-keyword.invariant.same ∙ end_word c.args.candidates c.args.before.now c.loop-keyword.script _ _ c.in_ok-keyword.keyword c.in_ok-keyword.at c.in_ok-keyword.ensures.keyword c.in-End.is
+returns-in-End-clause-reads c =
+    c.loop-keyword.invariant.same ∙ end_word c.args.candidates c.args.before.now c.loop-keyword.script _ _ c.in_ok-keyword.keyword
+    c.in_ok-keyword.at c.in_ok-keyword.ensures.keyword c.in-End.is
 
 pub returns-in_err-add_call-clause-reads : goal.returns-in_err-add_call-clause-reads
 returns-in_err-add_call-clause-reads c =
@@ -47,7 +54,10 @@ loop-keyword-preserved c =
           ∙ ap (λ (s : Scan). reads table (InTeam teams script) s) c.in_ok-keyword.ensures.keyword
           ∙ c.in_ok-call.ensures.reads teams script (sym before.counted)
           ∙ ap (λ (s : Script). reads table (InTeam teams s) c.read_call.new.tokens.rest) (sym c.in_ok-add_call.ensures.added);
-      counted = c.in_ok-call.ensures.counted ∙ ap (λ (n : ℕ). n + one_if (is_freeze call)) before.counted ∙ sym (freezes_call teams script call) ∙ ap (λ (s : Script). freezes (and_team teams s)) (sym c.in_ok-add_call.ensures.added);
+      counted =
+          c.in_ok-call.ensures.counted ∙ ap (λ (n : ℕ). n + one_if (is_freeze call)) before.counted
+          ∙ sym (freezes_call teams script call) ∙ ap (λ (s : Script). freezes (and_team teams s))
+          (sym c.in_ok-add_call.ensures.added);
       team = c.in_ok-add_call.ensures.team ∙ before.team;
       behind = behind_trans before.behind (behind_trans c.in_ok-keyword.ensures.behind c.in_ok-call.ensures.behind);
     }
@@ -71,11 +81,15 @@ pub returns-in_err-add_call-clause-behind : goal.returns-in_err-add_call-clause-
 returns-in_err-add_call-clause-behind c = behind_trans c.loop-keyword.invariant.behind (behind_trans c.in_ok-keyword.ensures.behind c.in_ok-call.ensures.behind)
 
 pub loop-keyword-smaller : goal.loop-keyword-smaller
-loop-keyword-smaller c = fewer_left c.loop-keyword.tokens c.next_keyword.new.tokens c.read_call.new.tokens _ c.in_ok-keyword.ensures.keyword c.in_ok-call.ensures.behind
+loop-keyword-smaller c =
+    fewer_left c.loop-keyword.tokens c.next_keyword.new.tokens c.read_call.new.tokens _ c.in_ok-keyword.ensures.keyword
+    c.in_ok-call.ensures.behind
 
 pub returns-in_err-call-clause-reads : goal.returns-in_err-call-clause-reads
 returns-in_err-call-clause-reads c =
     let p = err_from_is_err_and c.from_residual-in_err-call.result c.from_residual-in_err-call.ensures.1 in
     let before = c.loop-keyword.invariant in
-    let begun = before.same ∙ ap (λ (s : Scan). reads (at_teams c.args.candidates) (InTeam c.args.before.now c.loop-keyword.script) s) c.in_ok-keyword.ensures.keyword in
+    let begun =
+    before.same ∙ ap (λ (s : Scan). reads (at_teams c.args.candidates) (InTeam c.args.before.now c.loop-keyword.script) s)
+    c.in_ok-keyword.ensures.keyword in
     rw (p.1, p.2) (leads_fail _ _ begun _ _ _ _ (c.in_err-call.ensures.reads c.args.before.now c.loop-keyword.script (sym before.counted)))

@@ -1,6 +1,6 @@
 use Rattle.std.proofs.Common.{◌≡◌}
-use Rattle.blt_reader.specs.Judged.{reads}
-use Rattle.blt_reader.specs.Reads.{IsBehind, tokens_left}
+use Rattle.input_text.specs.Judged.{reads}
+use Rattle.input_text.specs.Reads.{IsBehind, tokens_left}
 use Rattle.day_reader.specs.Call.{freezes}
 use Rattle.day_reader.specs.TeamTable.{InTeam, and_team, at_teams}
 use Rattle.day_reader.proofs.team_reading.read_calls.Given as goal

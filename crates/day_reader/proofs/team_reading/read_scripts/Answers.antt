@@ -8,4 +8,6 @@ returns-in_err-teams-clause-reads c =
     rw (p.1, p.2) (teams_fail c.args.candidates c.args.team_follows _ _ _ c.in_err-teams.ensures.reads)
 
 pub returns-clause-reads : goal.returns-clause-reads
-returns-clause-reads c = teams_read c.args.candidates c.args.team_follows _ _ c.in_ok-teams.teams c.by_number.result c.in_ok-teams.ensures.reads c.by_number.ensures.ok c.by_number.ensures.only_memory
+returns-clause-reads c =
+    teams_read c.args.candidates c.args.team_follows _ _ c.in_ok-teams.teams c.by_number.result c.in_ok-teams.ensures.reads
+    c.by_number.ensures.ok c.by_number.ensures.only_memory

@@ -1,6 +1,6 @@
 use Rattle.std.proofs.Common.{Bool, ◌∙◌, ap}
 use Rattle.std.proofs.lemmas.Result.{err_from_is_err_and}
-use Rattle.blt_reader.proofs.Reading.{behind_trans}
+use Rattle.input_text.proofs.Reading.{behind_trans}
 use Rattle.day_reader.specs.Reads.{next_team}
 use Rattle.day_reader.proofs.Steps.{leads_fail}
 use Rattle.day_reader.proofs.team_reading.read_teams.Goals as goal
@@ -13,12 +13,16 @@ returns-in_err-more-clause-reads c =
 
 pub loop-more-preserved : goal.loop-more-preserved
 loop-more-preserved c = record {
-  same = c.loop-more.invariant.same ∙ ap (λ (b : Bool). next_team c.args.candidates c.loop-more.teams b c.loop-more.tokens.rest) c.loop-more-test.true ∙ c.in_ok-more.ensures.reads;
+  same =
+      c.loop-more.invariant.same ∙ ap (λ (b : Bool). next_team c.args.candidates c.loop-more.teams b c.loop-more.tokens.rest)
+      c.loop-more-test.true ∙ c.in_ok-more.ensures.reads;
   behind = behind_trans c.loop-more.invariant.behind c.in_ok-more.ensures.behind;
 }
 
 pub returns-clause-reads : goal.returns-clause-reads
-returns-clause-reads c = c.loop-more.invariant.same ∙ ap (λ (b : Bool). next_team c.args.candidates c.loop-more.teams b c.loop-more.tokens.rest) c.loop-more-test.false
+returns-clause-reads c =
+    c.loop-more.invariant.same ∙ ap (λ (b : Bool). next_team c.args.candidates c.loop-more.teams b c.loop-more.tokens.rest)
+    c.loop-more-test.false
 
 pub returns-in_err-more-clause-behind : goal.returns-in_err-more-clause-behind
 returns-in_err-more-clause-behind c = behind_trans c.loop-more.invariant.behind c.in_err-more.ensures.behind

@@ -1,5 +1,5 @@
 use Rattle.std.proofs.Common.{◌≡◌, []}
-use Rattle.blt_reader.specs.Reads.{IsBehind, tokens_left}
+use Rattle.input_text.specs.Reads.{IsBehind, tokens_left}
 use Rattle.day_reader.specs.Reads.{next_team}
 use Rattle.day_reader.proofs.team_reading.read_teams.Given as goal
 

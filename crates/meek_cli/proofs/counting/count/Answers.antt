@@ -2,7 +2,7 @@ use Rattle.std.proofs.Common.{ℕ, List, subst}
 use Rattle.std.specs.Prelude.{Err}
 use Rattle.plain_ballots.specs.Ballots.{plain}
 use Rattle.blt_reader.specs.Election.{poll}
-use Rattle.blt_reader.specs.declared.blt_stop.BltStop.{BltStop}
+use Rattle.input_text.specs.declared.input_stop.InputStop.{InputStop}
 use Rattle.tool_edge.specs.Streams.{writing}
 use Rattle.tool_edge.specs.Contest.{ReadsContest, SaysContest}
 use Rattle.tool_edge.proofs.Running.{refused}
@@ -16,7 +16,7 @@ returns-in-Err g c =
     let read = subst (λ (i : List ℕ). ReadsContest c.args.lots.now i (Err c.in-Err.stop)) c.as_slice.ensures.value c.in-Err.ensures in
     refused counts c.args.lots.now c.args.input.items c.in-Err.stop c.refuse_input.result
     (writing g.K.Sink.written g.K.Sink.faults c.args.sink.now c.refuse_input.new.sink) c.requires
-    (λ fault is. subst (λ (stop : BltStop). ReadsContest c.args.lots.now c.args.input.items (Err stop)) is read)
+    (λ fault is. subst (λ (stop : InputStop). ReadsContest c.args.lots.now c.args.input.items (Err stop)) is read)
     c.refuse_input.ensures
 
 -- the lots are those of the words

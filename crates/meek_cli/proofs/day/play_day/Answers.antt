@@ -1,6 +1,6 @@
 use Rattle.std.proofs.Common.{ℕ, List, true, subst}
-use Rattle.blt_reader.specs.Reads.{OnFault}
-use Rattle.blt_reader.specs.Scan.{scan}
+use Rattle.input_text.specs.Reads.{OnFault}
+use Rattle.input_text.specs.Scan.{scan}
 use Rattle.day_reader.specs.Said.{IsDayRefusal}
 use Rattle.meek_cli.proofs.DayEnding.{refused_day}
 use Rattle.meek_cli.proofs.day.play_day.Goals as goal

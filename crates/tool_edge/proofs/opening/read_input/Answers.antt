@@ -1,5 +1,5 @@
 use Rattle.std.proofs.Common.{refl, subst, inr}
-use Rattle.blt_reader.specs.declared.input_fault.InputFault.{InputFault}
+use Rattle.input_text.specs.declared.input_fault.InputFault.{InputFault}
 use Rattle.tool_edge.specs.declared.end.End.TheVariants.{BadInput}
 use Rattle.tool_edge.specs.Refusals.{fault_line}
 use Rattle.tool_edge.specs.Streams.{writing}

@@ -1,0 +1,14 @@
+pub mod Token
+pub mod Scan
+pub mod Reader
+pub mod ShortNumber
+pub mod Pieces
+pub mod Range
+pub mod Judged
+pub mod FaultWords
+pub mod Refusal
+pub mod Reads
+pub mod Written
+pub mod Spelling
+pub mod Worked
+pub mod WorkedBytes
