@@ -9,7 +9,6 @@ use Rattle.vote_spread.specs.declared.row.Row.{Row}
 use Rattle.vote_spread.specs.Class.{keeps_some, leaves_some}
 use Rattle.vote_spread.specs.Stem.{Stem}
 use Rattle.vote_spread.specs.Rows.{row_stem, seen, Continues, Leaves}
-use Rattle.vote_spread.proofs.ClassLemmas.{all_kept}
 use Rattle.vote_spread.proofs.TotalLemmas.{row_continues, row_leaves, passes_continues, passes_leaves}
 
 -- a row behind others
