@@ -79,18 +79,7 @@ module _ (limit : Limit) (old new : Scan) where
         (n : ℕ) → Accepts as_size old n new → reads (at_token limit) (Seats candidates) old ≡ reads (at_token limit) (Start n) new
     seats_read n is = goes_on (at_token limit) (Seats candidates) old new is.token (Start n) is.given (some_seats is.token.item n is.accepted)
 
--- a size that the code accepts is one
-pub size_in_range : (item : Item) (n : ℕ) → as_size item ≡ Ok n → IsIn 250 n
-size_in_range (Number k) n e = let ok = passed (is_in 250 k) k n _ e in subst (IsIn 250) ok.1 (in_range 250 k ok.0)
-size_in_range (Minus k) n e = absurd (refused e)
-size_in_range (Text bytes) n e = absurd (refused e)
-size_in_range (Word letters) n e = absurd (refused e)
-
 -- ---- withdrawn candidates
-
-pub none_withdrawn :
-    (candidates : ℕ) (start : Scan) (withdrawn : List ℕ) → withdrawn ≡ [] → IsWithdrawn candidates start withdrawn start
-none_withdrawn candidates start withdrawn none = record { listed = []; alike = λ n. ap (λ (l : List ℕ). is_listed l n) (sym none); same = λ limit seats. refl }
 
 or_nothing : (b : Bool) → (b || (false || false)) ≡ b
 or_nothing true = refl

@@ -80,12 +80,6 @@ module _ (roll : RollList) (old new : Scan) where
       (behind_it bytes begin stop what not ∙ is.1 roll)
       ∙ ap (λ (why : InputFault). Err (record { fault = why; rest = new })) (sym is.0)
 
--- words that are not `lots`
-pub no_word_there :
-    (item : Item) → as_keyword item ≡ Err WordExpected → (roll : RollList)
-    → then_on (as_keyword item) (behind_title roll) ≡ Err WordExpected
-no_word_there item is roll = ap (λ (j : Judged Keyword). then_on j (behind_title roll)) is
-
 not_lots : (roll : RollList) (keyword : Keyword) → (keyword ≡ key.Lots → ⊥) → behind_title roll keyword ≡ Err WordExpected
 not_lots roll key.Lots not = absurd (not refl)
 not_lots roll keyword not = refl

@@ -44,11 +44,6 @@ module _ {S V A : Type 0} (table : S → Item → Judged (Progress S V)) (expect
       (fault : InputFault) → Stops judge old fault new → reads table expected old ≡ Err (record { fault = fault; rest = new })
   judged_stops fault is = stops table expected old new judge fault (λ item kind e. rule item ∙ ap (λ (j : Judged A). then_on j f) e) is
 
-pub word_accepted :
-    (old new : Scan) (keyword : Keyword) (at : ℕ) → old ≡ with_front (record { at = at; item = word keyword }) new
-    → Accepts as_keyword old keyword new
-word_accepted old new keyword at given = record { token = record { at = at; item = word keyword }; given = given; accepted = reads_word keyword }
-
 module _ {S V : Type 0} (table : S → Item → Judged (Progress S V)) (expected : S) (f : Keyword → Judged (Progress S V))
     (old new : Scan) (keyword : Keyword) (at : ℕ) (rule : table expected (word keyword) ≡ then_on (as_keyword (word keyword)) f)
     (given : old ≡ with_front (record { at = at; item = word keyword }) new) where

@@ -39,10 +39,6 @@ number_free :
 number_free before script are = sym (stands_number before script.team)
     ∙ not_before (map team_of before) [] script.team (subst (AllPairs (λ a b. a ≢ b)) (map-append team_of before (script ∷ [])) are.different)
 
-number_in : (b : Bool) → b ≡ false → not b ≡ true
-number_in true e = sym e
-number_in false e = refl
-
 module _ (rightly : ExpectsLinesRightly) (candidates : ℕ) where
   -- a front part of teams
   front_of_teams : (before behind : List Script) → AreTeams candidates (before ++ behind) → AreTeams candidates before
