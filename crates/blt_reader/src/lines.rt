@@ -179,12 +179,12 @@ fn next_unnamed(tokens: &mut Tokens<'_>, candidates: u32, named: &Named) -> Opti
     ensures none { IfNone result (tokens.new ≡ tokens.old) }
     ensures behind { IsBehind tokens.old tokens.new }
 {
-    let mut ahead = tokens.same();
-    let (n, at) = ahead.next_short(candidates < 100)?;
+    let before = tokens.same();
+    let (n, at) = tokens.next_short(candidates < 100)?;
     if n == 0 || n > candidates || named.has(n as usize) {
+        *tokens = before;
         return None;
     }
-    *tokens = ahead;
     Some((n, at))
 }
 
@@ -195,12 +195,12 @@ fn next_zero(tokens: &mut Tokens<'_>) -> Option<usize>
     ensures none { IfNone result (tokens.new ≡ tokens.old) }
     ensures behind { IsBehind tokens.old tokens.new }
 {
-    let mut ahead = tokens.same();
-    let (n, at) = ahead.next_short(true)?;
+    let before = tokens.same();
+    let (n, at) = tokens.next_short(true)?;
     if n > 0 {
+        *tokens = before;
         return None;
     }
-    *tokens = ahead;
     Some(at)
 }
 
