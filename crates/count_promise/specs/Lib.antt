@@ -1,0 +1,4 @@
+pub mod Lots
+pub mod Left
+pub mod Lines
+pub mod Laws
