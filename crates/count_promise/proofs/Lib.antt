@@ -5,3 +5,4 @@ mod Parts
 mod Bounds
 mod NoTie
 mod Promises
+mod Owing

@@ -2,3 +2,5 @@ pub mod Lots
 pub mod Left
 pub mod Lines
 pub mod Laws
+pub mod Owed
+pub mod Worked

@@ -11,11 +11,11 @@ ghost use Rattle.count_promise.specs.Left.{first_defeat};
 ghost use Rattle.count_promise.specs.Lots.{is_by_lot, is_in};
 ghost use Rattle.count_promise.specs.Lines.{amount_line, defeat_lots, election_lots, further_text, greatest_line, lots_of, lots_text, not_promised_line, promise_line, promise_text};
 
+use crate::Text;
 use crate::group::Group;
 use crate::lots::{defeat_is_by_lot, election_is_by_lot, is_by_lot, is_in};
 use crate::measures::{defeated, first_defeat};
 use crate::peaks::peaks_of;
-use crate::Text;
 use meek_rule::Row;
 use sheet_reader::SheetValues;
 use std::alloc::{AllocError, Global};
