@@ -1,5 +1,5 @@
 -- What an iteration leaves over for some candidates is covered by what it leaves over at most.
-use Rattle.std.proofs.Common.{◌≡◌, ◌∙◌, ℕ, ◌+◌, ◌-◌, ◌*◌, ◌<◌, ◌≤◌, ◌&&◌, ◌||◌, not, zero, suc, Bool, true, false, cond, List, [], ◌∷◌, length, sum, slice_index, get_or, All, arith, refl, ap, sym, subst, add-one}
+use Rattle.std.proofs.Common.{◌≡◌, ◌∙◌, ℕ, ◌+◌, ◌-◌, ◌*◌, ◌≤◌, ◌&&◌, ◌||◌, not, zero, suc, Bool, true, false, cond, List, [], ◌∷◌, length, sum, slice_index, get_or, All, arith, ap, sym, subst, add-one}
 use Rattle.std.proofs.Math.Nat.{add-mul}
 use Rattle.candidate_roll.specs.State.{state_at}
 use Rattle.candidate_roll.specs.declared.state.State.{State}
@@ -11,12 +11,11 @@ use Rattle.meek_rule.specs.Row.{Row}
 use Rattle.meek_rule.specs.Rule.{Rule}
 use Rattle.meek_rule.specs.Situation.{Situation, is_elected}
 use Rattle.meek_rule.specs.Surplus.{holds_seat, surplus}
-use Rattle.meek_rule.specs.Weights.{votes_under}
 use Rattle.meek_rule.proofs.PlaceLemmas.{count_more, sum_more}
 use Rattle.meek_count.specs.Rows.{Rows}
-use Rattle.rule_laws.specs.Coalition.{left_over, members_surplus, others_lack}
+use Rattle.rule_laws.specs.Coalition.{left_over, members_surplus}
 use Rattle.rule_laws.specs.Orderly.{shortfalls}
-use Rattle.count_promise.specs.Left.{greatest_by, lack_at, left_at_most, slack, surplus_at}
+use Rattle.count_promise.specs.Left.{lack_at, left_at_most, slack, surplus_at}
 use Rattle.count_promise.proofs.Items.{greatest_all}
 
 module _ (q : ℕ) (v : ℕ → ℕ) where

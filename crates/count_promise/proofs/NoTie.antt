@@ -1,6 +1,5 @@
 -- No lot decided anything where no iteration has a tie, and the other way round.
-use Rattle.std.proofs.Common.{◌≡◌, ◌∙◌, ℕ, ◌+◌, ◌<◌, ◌≤◌, ◌&&◌, ◌||◌, not, nat_le, zero, suc, Bool, true, false, cond, List, [], ◌∷◌, ◌++◌, length, slice_index, get_or, drop, replicate, All, arith, refl, ap, sym, subst, inl, inr, append_assoc}
-use Rattle.std.specs.Prelude.{codes, decimal}
+use Rattle.std.proofs.Common.{◌≡◌, ◌∙◌, ℕ, ◌<◌, ◌≤◌, ◌&&◌, ◌||◌, not, nat_le, zero, suc, Bool, true, false, cond, List, [], ◌∷◌, ◌++◌, length, slice_index, get_or, drop, replicate, All, arith, refl, ap, sym, subst, inl, inr}
 use Rattle.std.specs.List.{flat_map, list_any}
 use Rattle.std.proofs.lemmas.Bool.{and_from, and_left, and_parts, and_right, cases_Bool, leb-false, lt-leb, not-true, not_from_false, or_from, or_parts}
 use Rattle.std.proofs.lemmas.List.Folds.{list_any_at, list_any_none}
@@ -16,11 +15,11 @@ use Rattle.meek_rule.specs.Situation.{is_hopeful}
 use Rattle.meek_rule.proofs.WinnersByCount.{marked_place}
 use Rattle.meek_count.specs.Ranges.{HasTiedFor}
 use Rattle.rule_laws.specs.NoTies.{HasNoTie}
-use Rattle.sheet_text.specs.Lines.{ended, number_line}
+use Rattle.sheet_text.specs.Lines.{ended}
 use Rattle.sheet_reader.specs.Form.{IsPrintableRow}
 use Rattle.sheet_reader.specs.Values.{SheetList}
 use Rattle.count_promise.specs.Lots.{defeat_is_by_lot, election_is_by_lot, is_by_lot, is_left_out, is_seated_by_lot, leaves_out, some_left_out_has}
-use Rattle.count_promise.specs.Lines.{defeat_lots, election_lots, further_text, lot_defeat_line, lot_election_line, lots_of, lots_text, no_lot, promise_text}
+use Rattle.count_promise.specs.Lines.{defeat_lots, election_lots, further_text, lot_defeat_line, lot_election_line, lots_of, lots_text, no_lot}
 use Rattle.count_promise.specs.Laws.{SaysNoLot}
 use Rattle.count_promise.proofs.Places.{any_nowhere, nowhere_here}
 

@@ -3,7 +3,7 @@ use Rattle.std.proofs.Common.{◌≡◌, ℕ, ◌≤◌, List, length, refl, sym
 use Rattle.sheet_reader.specs.Form.{HasForm}
 use Rattle.sheet_reader.specs.Values.{SheetList}
 use Rattle.tool_edge.specs.declared.end.End.{End}
-use Rattle.tool_edge.specs.declared.end.End.TheVariants.{Done, BadInput}
+use Rattle.tool_edge.specs.declared.end.End.TheVariants.{BadInput}
 use Rattle.tool_edge.specs.Streams.{Writing}
 use Rattle.tool_edge.specs.Finishing.{Finishes, FinishesOwed}
 use Rattle.tool_edge.specs.Tool.{IsOwedFor, IsSound}

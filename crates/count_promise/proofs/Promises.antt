@@ -1,9 +1,8 @@
 -- What the sheet of a count promises is so.
-use Rattle.std.proofs.Common.{◌≡◌, ℕ, ◌+◌, ◌*◌, ◌≤◌, List, ◌++◌, length, All, sym, subst}
+use Rattle.std.proofs.Common.{◌≡◌, ℕ, ◌+◌, ◌*◌, ◌≤◌, List, length, All, sym, subst}
 use Rattle.fixed_place.specs.Rounding.{scale}
 use Rattle.candidate_roll.specs.Roll.{RollList}
 use Rattle.meek_rule.specs.Rule.{Rule}
-use Rattle.meek_rule.specs.Row.{Row}
 use Rattle.meek_rule.specs.Situation.{opening}
 use Rattle.rule_laws.specs.Coalition.{CoalitionsAreSeated, IsSolid, elected_members, running_members, whole_quota}
 use Rattle.rule_laws.specs.NoTies.{HasNoTie, LotsBreakTiesAlone}

@@ -1,6 +1,5 @@
 -- What holds in every count, where its sheet promises it.
-use Rattle.std.specs.Prelude.{◌≡◌, ◌↔◌, ℕ, ◌*◌, ◌+◌, ◌≤◌, Bool, false, List, ◌++◌, length, All}
-use Rattle.std.specs.List.{list_any}
+use Rattle.std.specs.Prelude.{◌≡◌, ◌↔◌, ℕ, ◌*◌, ◌+◌, ◌≤◌, Bool, List, ◌++◌, length, All}
 use Rattle.std.specs.List.Sorted.{IsPermutation}
 use Rattle.fixed_place.specs.Rounding.{scale}
 use Rattle.candidate_roll.specs.Roll.{RollList}

@@ -1,5 +1,5 @@
 -- The lines of what a count promises.
-use Rattle.std.specs.Prelude.{ℕ, if◌then◌else◌, List, [], ◌∷◌, ◌++◌, length, codes, decimal, Option, Some, None}
+use Rattle.std.specs.Prelude.{ℕ, if◌then◌else◌, List, [], ◌++◌, length, codes, decimal, Option, Some, None}
 use Rattle.std.specs.List.{flat_map, list_any}
 use Rattle.fixed_place.specs.Rounding.{scale}
 use Rattle.fixed_place.specs.Text.{text_of}

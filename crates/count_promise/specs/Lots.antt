@@ -1,5 +1,5 @@
 -- Where lots decided.
-use Rattle.std.specs.Prelude.{ℕ, ◌&&◌, ◌||◌, nat_le, not, Bool, true, false, length, slice_index}
+use Rattle.std.specs.Prelude.{ℕ, ◌&&◌, ◌||◌, nat_le, not, Bool, false, length, slice_index}
 use Rattle.std.specs.List.{range_with_len, list_any}
 use Rattle.lot_order.specs.Flags.{mark_at}
 use Rattle.meek_rule.specs.Places.{marked_count}

@@ -1,5 +1,4 @@
 use Rattle.std.proofs.Common.{◌≡◌, ◌∙◌, ◌++◌, ap, List, ℕ}
-use Rattle.meek_rule.specs.Row.{Row}
 use Rattle.sheet_reader.specs.Values.{SheetList}
 use Rattle.count_promise.specs.Lines.{further_text, lots_text}
 use Rattle.count_promise.proofs.lines.promise_of.Goals as goal

@@ -1,7 +1,6 @@
 use Rattle.std.proofs.Common.{◌≡◌, ◌∙◌, ◌++◌, List, ℕ, ap, append_assoc, subst}
 use Rattle.std.specs.Prelude.{OnOk, codes}
 use Rattle.fixed_place.specs.Rounding.{scale}
-use Rattle.meek_rule.specs.Row.{Row}
 use Rattle.rule_laws.specs.Coalition.{whole_quota}
 use Rattle.sheet_text.specs.Lines.{ended}
 use Rattle.sheet_reader.specs.Values.{SheetList}

@@ -1,4 +1,4 @@
-use Rattle.std.proofs.Common.{◌≡◌, ◌∙◌, ◌<◌, ap, arith, sym, length}
+use Rattle.std.proofs.Common.{◌∙◌, ap, arith, sym, length}
 use Rattle.meek_rule.specs.Row.{Row}
 use Rattle.count_promise.specs.Lots.{elects}
 use Rattle.count_promise.proofs.Places.{any_here, any_nowhere, none_more}
