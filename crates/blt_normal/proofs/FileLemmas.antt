@@ -29,7 +29,7 @@ text_moved one other roll text moved (lines, are, is) = (
 pub owed_for_file :
     (input : List ℕ) (poll : Poll) (ballots : List (List ℕ)) (roll : RollList) (text : List ℕ) → length input ≤ file_limit
     → SaysPoll input poll → IsPermutation ballots (plain poll.lines) → roll ≡ poll.roll → IsBltText ballots roll text
-    → IsOwedFor normal_tool (tt {0}) input Done text
+    → IsOwedFor normal_tool (tt {0}) input (tt {0}) Done text
 owed_for_file input poll ballots roll text short says moved same is =
     (short, (poll, says, subst (λ (r : RollList). IsBltText (plain poll.lines) r text) same (text_moved ballots (plain poll.lines) roll text moved is)))
 

@@ -23,7 +23,7 @@ pub(crate) fn rewrite<R: Threads + Sync, K: Sink>(
     sink: &mut K,
 ) -> End
     requires { length input.now ≤ 67108864 }
-    ensures { FinishesOwed (IsOwedFor normal_tool (tt {0}) input.now) result
+    ensures { FinishesOwed (IsOwedFor normal_tool (tt {0}) input.now (tt {0})) result
         (writing K.written K.faults sink.old sink.new) }
 {
     let Election { ballots, roll } = match read_blt(alloc, input) {

@@ -22,7 +22,7 @@ pub fn normal<R: Threads + Sync, S: Source, K: Sink>(
     sink: &mut K,
 ) -> End
     ensures { IsRun normal_tool (map string_bytes words.now)
-        (reading S.left S.faults source.old source.new) (writing K.written K.faults sink.old sink.new) result }
+        (reading S.left S.faults source.old source.new) (writing K.written K.faults sink.old sink.new) result (tt {0}) }
 {
     files_are_not_refused();
     files_are_refused_once();

@@ -4,7 +4,7 @@ use Rattle.tool_edge.specs.declared.end.End.{End}
 use Rattle.tool_edge.specs.declared.end.End.TheVariants.{Done, SourceFault, BadWords, BadInput, SinkFault, NoMemory}
 
 -- the number that the program ends with
-abbrev pub code_of : End → ℕ
+abbrev pub code_of : {F : Type 0} → End F → ℕ
 code_of Done = 0
 code_of SourceFault = 1
 code_of BadWords = 2

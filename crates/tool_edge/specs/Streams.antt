@@ -41,3 +41,7 @@ NothingRead source = NoReadFailed source × Keeps source.left source.left_then
 
 abbrev pub NothingWritten : Writing → Type 0
 NothingWritten sink = NoWriteFailed sink × Keeps sink.written sink.written_then
+
+-- a run without a source
+abbrev pub no_source : Reading
+no_source = record { left = None; left_then = None; faults = 0; faults_then = 0 }

@@ -1,15 +1,20 @@
 -- Tools over ballot files.
-use Rattle.std.specs.Prelude.{◌≡◌, ℕ, List}
-use Rattle.input_text.specs.declared.input_fault.InputFault.{InputFault}
+use Rattle.std.specs.Prelude.{◌≡◌, ℕ, List, Some}
+use Rattle.blt_reader.specs.declared.input_fault.InputFault.{InputFault}
 use Rattle.blt_reader.specs.Poll.{Poll}
 use Rattle.meek_words.specs.Numerals.{Word}
 use Rattle.tool_edge.specs.Words.{TakesNothing, TakesLots}
 use Rattle.tool_edge.specs.Contest.{SaysPoll, IsRefusedFile, SaysContest, IsRefusedContest}
+use Rattle.tool_edge.specs.Refusals.{file_refusals}
 use Rattle.tool_edge.specs.Tool.{Tool}
 
 -- the greatest length of a tool's input, in bytes
 abbrev pub file_limit : ℕ
 file_limit = 67108864
+
+-- the greatest length of a day file, in bytes
+abbrev pub day_limit : ℕ
+day_limit = 16777216
 
 abbrev pub IsFile : (input : List ℕ) → Type 0
 IsFile input = (poll : Poll) × SaysPoll input poll
@@ -18,23 +23,27 @@ abbrev pub IsContestFile : (lots input : List ℕ) → Type 0
 IsContestFile lots input = (poll : Poll) × SaysContest lots input poll
 
 -- a tool that takes lots and a ballot file
-abbrev pub over_contests : (Owes : (lots input bytes : List ℕ) → Type 0) → Tool (List ℕ)
+abbrev pub over_contests : (Owes : (lots input bytes : List ℕ) → Type 0) → Tool (List ℕ) (Unit {0}) InputFault
 over_contests Owes = record {
   Takes = TakesLots;
-  limit = file_limit;
+  limit = λ lots. Some file_limit;
   Accepts = IsContestFile;
   Refuses = IsRefusedContest;
-  Owes = Owes;
+  refusals = file_refusals;
+  Owes = λ lots input history. Owes lots input;
+  no_calls = tt;
 }
 
 -- a tool that takes no words and a ballot file
-abbrev pub over_files : {A : Type 0} → (Owes : (input bytes : List ℕ) → Type 0) → Tool A
+abbrev pub over_files : {A : Type 0} → (Owes : (input bytes : List ℕ) → Type 0) → Tool A (Unit {0}) InputFault
 over_files Owes = record {
   Takes = TakesNothing;
-  limit = file_limit;
+  limit = λ asked. Some file_limit;
   Accepts = λ asked. IsFile;
   Refuses = λ asked. IsRefusedFile;
-  Owes = λ asked. Owes;
+  refusals = file_refusals;
+  Owes = λ asked input history. Owes input;
+  no_calls = tt;
 }
 
 -- ---- laws

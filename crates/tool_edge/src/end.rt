@@ -6,9 +6,9 @@ ghost use Rattle.tool_edge.specs.End.{code_of};
 use blt_reader::InputFault;
 use std::process::ExitCode;
 
-/// How a run ended.
+/// How a run ended. The input may be refused for such a fault.
 #[derive(Clone, Copy, Debug, PartialEq, Eq)]
-pub enum End {
+pub enum End<F = InputFault> {
     /// All was done.
     Done,
     /// Reading failed. Nothing was written.
@@ -16,14 +16,14 @@ pub enum End {
     /// The words ask for nothing that is done here. Their line was written.
     BadWords,
     /// The input is refused, for this fault. Its line was written.
-    BadInput(InputFault),
+    BadInput(F),
     /// Writing failed. A front of what was owed was written.
     SinkFault,
     /// There was not enough memory. Nothing was written.
     NoMemory,
 }
 
-impl End {
+impl<F> End<F> {
     /// The exit status of a program whose run ended so.
     pub fn exit_code(&self) -> ExitCode
         ensures value { exit_status result ≡ code_of self.now }

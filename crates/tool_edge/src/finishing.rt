@@ -7,7 +7,7 @@ use crate::End;
 use byte_edge::{Failed, Sink, write_all};
 
 /// Writes the bytes and flushes. A failure takes the place of the end that was due.
-pub fn finish<K: Sink>(sink: &mut K, due: End, bytes: &[u8]) -> End
+pub fn finish<F: Copy, K: Sink>(sink: &mut K, due: End<F>, bytes: &[u8]) -> End<F>
     ensures { Finishes due bytes.now result (writing K.written K.faults sink.old sink.new) }
 {
     if let Err(_) = write_all(sink, bytes) {
@@ -20,7 +20,7 @@ pub fn finish<K: Sink>(sink: &mut K, due: End, bytes: &[u8]) -> End
 }
 
 /// Ends a run whose bytes were written piece by piece: flushes, unless writing them failed.
-pub fn close<K: Sink>(sink: &mut K, wrote: Result<(), Failed>) -> End
+pub fn close<F, K: Sink>(sink: &mut K, wrote: Result<(), Failed>) -> End<F>
     ensures { Closes wrote result (writing K.written K.faults sink.old sink.new) }
 {
     if let Err(_) = wrote {

@@ -4,14 +4,14 @@ ghost use Rattle.tool_edge.specs.Refusals.{fault_line, words_line};
 ghost use Rattle.tool_edge.specs.Streams.{writing};
 ghost use Rattle.tool_edge.specs.Finishing.{Finishes, RefusesInput, RefusesWords};
 
-use crate::{End, finish};
+use crate::{End, Fault, finish};
 use blt_reader::{BltStop, InputFault};
 use byte_edge::Sink;
 use line_text::Line;
 use meek_words::WordsStop;
 
-/// Puts the line of a refusal together.
-fn fault_line(fault: InputFault) -> Line
+/// Puts the line of a refused file together.
+pub(crate) fn fault_line(fault: InputFault) -> Line
     ensures { result ≡ fault_line fault }
 {
     let mut line = Line::new();
@@ -24,15 +24,15 @@ fn fault_line(fault: InputFault) -> Line
 }
 
 /// Writes the line of a refused input, and flushes.
-pub fn refuse<K: Sink>(sink: &mut K, fault: InputFault) -> End
-    ensures { Finishes (End.BadInput fault) (fault_line fault) result
+pub fn refuse<F: Fault, K: Sink>(sink: &mut K, fault: F) -> End<F>
+    ensures { Finishes (End.BadInput fault) (F.refusals.line fault) result
         (writing K.written K.faults sink.old sink.new) }
 {
-    let line = fault_line(fault);
+    let line = fault.line();
     finish(sink, End::BadInput(fault), line.bytes())
 }
 
-/// Answers what stopped the reading of an input: a fault by its line.
+/// Answers what stopped the reading of a file: a fault by its line.
 pub fn refuse_input<K: Sink>(sink: &mut K, stop: BltStop) -> End
     ensures { RefusesInput stop result (writing K.written K.faults sink.old sink.new) }
 {
@@ -43,7 +43,7 @@ pub fn refuse_input<K: Sink>(sink: &mut K, stop: BltStop) -> End
 }
 
 /// Answers words that ask for nothing by their line.
-pub fn refuse_words<K: Sink>(sink: &mut K, stop: WordsStop) -> End
+pub fn refuse_words<F: Copy, K: Sink>(sink: &mut K, stop: WordsStop) -> End<F>
     ensures { RefusesWords stop result (writing K.written K.faults sink.old sink.new) }
 {
     match stop {

@@ -8,7 +8,7 @@ use meek_words::{LotWords, WordsStop, read_lots};
 use std::alloc::Global;
 
 /// The numbers of one word that is a list of lots.
-pub fn lots_of(alloc: Global, word: &String) -> Result<LotWords, WordsStop>
+fn lots_of(alloc: Global, word: &String) -> Result<LotWords, WordsStop>
     ensures accepted { IfOk result (IsLotList (string_bytes word.now)) }
     ensures one { (lots : List ℕ) → IsLotList (string_bytes word.now) lots
         → IfOk result (λ read. read ≡ lots) }

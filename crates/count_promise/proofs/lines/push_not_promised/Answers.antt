@@ -1,0 +1,29 @@
+use Rattle.std.proofs.Common.{◌∙◌, ◌++◌, [], ◌∷◌, List, ℕ, ap}
+use Rattle.std.specs.Prelude.{codes, decimal}
+use Rattle.fixed_place.specs.Text.{text_of}
+use Rattle.meek_rule.specs.Row.{Row}
+use Rattle.sheet_text.specs.Lines.{number_line}
+use Rattle.count_promise.specs.Left.{defeated}
+use Rattle.count_promise.proofs.Pushes.{pushed, pushed_last}
+use Rattle.count_promise.proofs.lines.push_not_promised.Goals as goal
+
+pub returns : goal.returns
+returns c =
+    let old : List ℕ = c.args.text.now in
+    let row : Row = c.args.row.now in
+    let one : List ℕ = codes "not promised: " in
+    let two : List ℕ = one ++ number_line row in
+    let three : List ℕ = two ++ codes " defeats " in
+    let four : List ℕ = three ++ decimal (defeated row.step) in
+    let five : List ℕ = four ++ codes " while " in
+    let six : List ℕ = five ++ text_of 9 row.surplus in
+    let loser = ap (λ (k : ℕ). c.push_bytes-2.new.self ++ decimal k) (c.defeated.ensures ∙ ap (λ (r : Row). defeated r.step) c.row.view_is) in
+    let units = ap (λ (u : ℕ). c.push_bytes-3.new.self ++ text_of 9 u) c.surplus_of.ensures.value in
+    let first = c.in_ok-push_bytes.ensures in
+    let second = pushed old one (number_line row) _ _ first c.in_ok-push_number.ensures in
+    let third = pushed old two (codes " defeats ") _ _ second c.in_ok-push_bytes-2.ensures in
+    let fourth = pushed old three (decimal (defeated row.step)) _ _ third (c.in_ok-push_count.ensures ∙ loser) in
+    let fifth = pushed old four (codes " while ") _ _ fourth c.in_ok-push_bytes-3.ensures in
+    let sixth = pushed old five (text_of 9 row.surplus) _ _ fifth (c.in_ok-push_units.ensures ∙ units) in
+    let seventh = pushed old six (codes " votes of surplus are not passed on") _ _ sixth c.in_ok-push_bytes-4.ensures in
+    pushed_last old (six ++ codes " votes of surplus are not passed on") (10 ∷ []) _ _ c.push_bytes-5.result seventh c.push_bytes-5.ensures

@@ -1,0 +1,17 @@
+use Rattle.std.proofs.Common.{◌∙◌, ap, arith, sym, length}
+use Rattle.meek_rule.specs.Row.{Row}
+use Rattle.count_promise.specs.Lots.{leaves_out}
+use Rattle.count_promise.proofs.Places.{any_here, any_nowhere, none_more}
+use Rattle.count_promise.proofs.lots.some_left_out_has.Goals as goal
+
+pub loop-p-preserved : goal.loop-p-preserved
+loop-p-preserved c =
+    none_more (leaves_out c.args.row.now c.args.vote) c.loop-p.p c.loop-p.invariant (sym c.leaves_out.ensures ∙ c.if-leaves_out.false)
+
+pub returns-then-leaves_out : goal.returns-then-leaves_out
+returns-then-leaves_out c =
+    sym (any_here (leaves_out c.args.row.now c.args.vote) (length c.args.row.now.states) c.loop-p.p (omega (arith, ap (λ (row : Row). length row.states) c.row.view_is)) (sym c.leaves_out.ensures ∙ c.if-leaves_out.true))
+
+pub returns : goal.returns
+returns c =
+    sym (any_nowhere (leaves_out c.args.row.now c.args.vote) (length c.args.row.now.states) (λ q below. c.loop-p.invariant q (omega (arith, ap (λ (row : Row). length row.states) c.row.view_is))))

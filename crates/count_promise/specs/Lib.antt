@@ -1,0 +1,6 @@
+pub mod Lots
+pub mod Left
+pub mod Lines
+pub mod Laws
+pub mod Owed
+pub mod Worked
