@@ -1,53 +1,79 @@
 -- What the tool owes, and how it ends.
-use Rattle.std.proofs.Common.{◌≡◌, refl, sym, subst, ℕ, ◌≤◌, List, arith, inl, inr}
-use Rattle.std.specs.Prelude.{All, Option}
+use Rattle.std.proofs.Common.{◌≡◌, ◌∙◌, refl, sym, ap, subst, ℕ, ◌≤◌, List, [], get_or, arith, inl, inr}
+use Rattle.std.specs.Prelude.{All, Option, Err}
 use Rattle.std.proofs.KnownBytes.{Keeps-refl}
 use Rattle.std.proofs.lemmas.List.Elements.{All-from_get_or}
 use Rattle.lot_order.specs.Lots.{IsOrder}
-use Rattle.meek_words.specs.Numerals.{Word}
+use Rattle.meek_words.specs.Numerals.{Word, number_of}
 use Rattle.meek_words.specs.declared.words_stop.WordsStop.{WordsStop}
 use Rattle.meek_words.specs.declared.words_stop.WordsStop.TheVariants.{BadWords as BadWordsStop, NoMemory as NoWordsRead}
+use Rattle.blt_reader.specs.declared.input_fault.InputFault.{InputFault}
 use Rattle.tool_edge.specs.declared.end.End.{End}
-use Rattle.tool_edge.specs.declared.end.End.TheVariants.{Done, BadWords}
-use Rattle.tool_edge.specs.Refusals.{words_line}
-use Rattle.tool_edge.specs.Streams.{Writing, NothingWritten, writing}
-use Rattle.tool_edge.specs.Finishing.{FinishesOwed, RefusesWords, Answers}
-use Rattle.tool_edge.specs.Tool.{IsOwedForWords}
-use Rattle.tool_edge.proofs.Ending.{OwesAnswers, finished, answered}
+use Rattle.tool_edge.specs.Streams.{Writing, NothingRead, NothingWritten, no_source, writing}
+use Rattle.tool_edge.specs.Finishing.{FinishesOwed, RefusesWords}
+use Rattle.tool_edge.specs.Words.{IsAsked}
+use Rattle.tool_edge.specs.Tool.{IsOwedFor, IsRun, IsSound, no_history}
+use Rattle.tool_edge.proofs.Running.{refused_words, worked, works_alone}
 use Rattle.lot_draw.specs.Words.{Asked, Says, TakesDraw}
-use Rattle.lot_draw.specs.Owed.{OwesDraw}
+use Rattle.lot_draw.specs.Owed.{draws}
 
--- what may be owed for words
-abbrev pub Owed : List Word → End → List ℕ → Type 0
-Owed words = IsOwedForWords TakesDraw OwesDraw words
+-- ---- what words ask for
 
--- the line of a draw, at the end of the work
-abbrev pub IsOwedLine : Asked → End → List ℕ → Type 0
-IsOwedLine asked due bytes = (due ≡ Done) × OwesDraw asked bytes
+same_asked : (one other : Asked) → one.seed ≡ other.seed → one.candidates ≡ other.candidates → one ≡ other
+same_asked one other seeds counts = λ i. let a : Asked = record { seed = seeds i; candidates = counts i } in a
 
-only_answers : (words : List Word) → OwesAnswers (Owed words)
-only_answers words = record {
-  no_source_fault = λ bytes owed. owed;
-  no_sink_fault = λ bytes owed. owed;
-  no_want = λ bytes owed. owed;
+-- the values of the options are in the words
+same_values :
+    (one other : Asked) (number again : Word) → one.seed ≡ other.seed → number ≡ again → Says one.seed number one.candidates
+    → Says other.seed again other.candidates → one ≡ other
+same_values one other number again seeds numbers says repeats =
+    same_asked one other seeds (says.value ∙ (ap number_of numbers ∙ sym repeats.value))
+
+one_draw : (words : List Word) (one other : Asked) → TakesDraw words one → TakesDraw words other → one ≡ other
+one_draw words one other takes again =
+    elim takes.options [
+      | inl first ↦ elim again.options [
+        | inl same ↦
+            let is = sym first ∙ same in
+            same_values one other takes.number again.number (ap (λ (ws : List Word). get_or ws 1 []) is) (ap (λ (ws : List Word). get_or ws 3 []) is) takes.says again.says
+        | inr swapped ↦ absurd (omega (arith, ap (λ (ws : List Word). get_or (get_or ws 0 []) 2 0) (sym first ∙ swapped)))
+      ]
+      | inr first ↦ elim again.options [
+        | inl swapped ↦ absurd (omega (arith, ap (λ (ws : List Word). get_or (get_or ws 0 []) 2 0) (sym first ∙ swapped)))
+        | inr same ↦
+            let is = sym first ∙ same in
+            same_values one other takes.number again.number (ap (λ (ws : List Word). get_or ws 3 []) is) (ap (λ (ws : List Word). get_or ws 1 []) is) takes.says again.says
+      ]
+    ]
+
+sound : IsSound draws
+sound = record {
+  one = one_draw;
+  either = λ asked input fault accepted refused. refused;
+  once = λ asked input fault other refused again. absurd refused;
+  owed = λ asked input history bytes owes. tt;
 }
 
-owed_line : (words : List Word) (asked : Asked) (end : End) (sink : Writing) → TakesDraw words asked → FinishesOwed (IsOwedLine asked) end sink → FinishesOwed (Owed words) end sink
-owed_line words asked end sink takes (inl want) = inl want
-owed_line words asked end sink takes (inr (due, bytes, owed, finishes)) =
-    inr (due, bytes, subst (λ (d : End). Owed words d bytes) (sym owed.0) (asked, takes, owed.1), finishes)
+-- ---- a run
+
+nothing_read : NothingRead no_source
+nothing_read = (refl, Keeps-refl no_source.left)
 
 -- words that ask for a draw, and its line
-pub drawn_answers : (words : List Word) (asked : Asked) (end : End) (sink : Writing) → TakesDraw words asked → FinishesOwed (IsOwedLine asked) end sink → Answers (Owed words) end sink
-drawn_answers words asked end sink takes finishes =
-    answered (Owed words) end sink (only_answers words) (owed_line words asked end sink takes finishes)
+pub drawn : (words : List Word) (asked : Asked) (end : End InputFault) (sink : Writing) → TakesDraw words asked
+    → FinishesOwed (IsOwedFor draws asked [] no_history) end sink → IsRun draws words no_source sink end no_history
+drawn words asked end sink takes finishes =
+    worked draws words asked [] end no_history no_source sink sound takes (refl, nothing_read) (works_alone draws asked [] end sink finishes)
+
+none_asked : (words : List Word) (stop : WordsStop) → (stop ≡ BadWordsStop → (asked : Asked) → ¬ (TakesDraw words asked)) → IsAsked TakesDraw words (Err stop)
+none_asked words BadWordsStop none = none refl
+none_asked words NoWordsRead none = tt
 
 -- words that ask for none, and theirs
-pub refused_answers : (words : List Word) (stop : WordsStop) (end : End) (sink : Writing) → (stop ≡ BadWordsStop → (asked : Asked) → ¬ (TakesDraw words asked)) → RefusesWords stop end sink → Answers (Owed words) end sink
-refused_answers words BadWordsStop end sink none refuses =
-    finished (Owed words) BadWords words_line end sink (only_answers words) (none refl, refl) refuses
-refused_answers words NoWordsRead end sink none refuses =
-    subst (λ (e : End). Answers (Owed words) e sink) (sym refuses.0) refuses.1
+pub refused : (words : List Word) (stop : WordsStop) (end : End InputFault) (sink : Writing) → (stop ≡ BadWordsStop → (asked : Asked) → ¬ (TakesDraw words asked))
+    → RefusesWords stop end sink → IsRun draws words no_source sink end no_history
+refused words stop end sink none refuses =
+    refused_words draws words stop end no_source sink sound (none_asked words stop none) nothing_read refuses
 
 pub nothing_written : {K : Type 0} (written : K → Option (List ℕ)) (faults : K → ℕ) (sink : K) → NothingWritten (writing written faults sink sink)
 nothing_written written faults sink = (refl, Keeps-refl (written sink))
@@ -62,5 +88,7 @@ pub asked-few : (seed number : Word) (n : ℕ) → Says seed number n → n ≤ 
 asked-few seed number n says = omega (arith, says.value, says.numeral.most)
 
 -- the same seed by another name
-pub owed_alike : (seed other : Word) (n : ℕ) (end : End) (sink : Writing) → seed ≡ other → FinishesOwed (IsOwedLine (record { seed = seed; candidates = n })) end sink → FinishesOwed (IsOwedLine (record { seed = other; candidates = n })) end sink
-owed_alike seed other n end sink same = subst (λ (s : Word). FinishesOwed (IsOwedLine (record { seed = s; candidates = n })) end sink) same
+pub owed_alike : (seed other : Word) (n : ℕ) (end : End InputFault) (sink : Writing) → seed ≡ other
+    → FinishesOwed (IsOwedFor draws (record { seed = seed; candidates = n }) [] no_history) end sink
+    → FinishesOwed (IsOwedFor draws (record { seed = other; candidates = n }) [] no_history) end sink
+owed_alike seed other n end sink same = subst (λ (s : Word). FinishesOwed (IsOwedFor draws (record { seed = s; candidates = n }) [] no_history) end sink) same

@@ -1,11 +1,10 @@
 // The tool that draws lots.
-ghost use Rattle.std.specs.Prelude.{◌≡◌, ◌≤◌, map};
+ghost use Rattle.std.specs.Prelude.{◌≡◌, ◌≤◌, [], map};
 ghost use Rattle.std.specs.String.{string_bytes};
-ghost use Rattle.tool_edge.specs.Finishing.{Answers, FinishesOwed};
-ghost use Rattle.tool_edge.specs.Streams.{writing};
-ghost use Rattle.tool_edge.specs.Tool.{IsOwedForWords};
-ghost use Rattle.lot_draw.specs.Owed.{OwesDraw};
-ghost use Rattle.lot_draw.specs.Words.{TakesDraw};
+ghost use Rattle.tool_edge.specs.Finishing.{FinishesOwed};
+ghost use Rattle.tool_edge.specs.Streams.{no_source, writing};
+ghost use Rattle.tool_edge.specs.Tool.{IsOwedFor, IsRun, no_history};
+ghost use Rattle.lot_draw.specs.Owed.{draws};
 
 use crate::{draw_lots, push_drawn, takes_draw};
 use byte_edge::Sink;
@@ -13,10 +12,10 @@ use line_text::Line;
 use std::alloc::Global;
 use tool_edge::{End, finish, refuse_words};
 
-/// Draws the lots that the words ask for, and writes their line.
+/// Draws the lots that the words ask for, and writes their line. Nothing is read.
 pub fn draw_in_public<K: Sink>(alloc: Global, words: &[String], sink: &mut K) -> End
-    ensures { Answers (IsOwedForWords TakesDraw OwesDraw (map string_bytes words.now)) result
-        (writing K.written K.faults sink.old sink.new) }
+    ensures { IsRun draws (map string_bytes words.now) no_source
+        (writing K.written K.faults sink.old sink.new) result no_history }
 {
     match takes_draw(alloc, words) {
         Ok((seed, candidates)) => write_draw(alloc, seed.as_bytes(), candidates, sink),
@@ -27,7 +26,7 @@ pub fn draw_in_public<K: Sink>(alloc: Global, words: &[String], sink: &mut K) ->
 fn write_draw<K: Sink>(alloc: Global, seed: &[u8], candidates: u32, sink: &mut K) -> End
     requires { candidates ≤ 250 }
     ensures { FinishesOwed
-        (λ due bytes. (due ≡ End.Done) × OwesDraw (record { seed = seed.now; candidates = candidates }) bytes)
+        (IsOwedFor draws (record { seed = seed.now; candidates = candidates }) [] no_history)
         result (writing K.written K.faults sink.old sink.new) }
 {
     match draw_lots(alloc, seed, candidates) {

@@ -1,5 +1,5 @@
 -- How the writing of a count ends.
-use Rattle.std.proofs.Common.{◌≡◌, ℕ, ◌≤◌, List, length, subst, inl, inr}
+use Rattle.std.proofs.Common.{◌≡◌, ℕ, ◌≤◌, List, length, refl, subst, inl, inr}
 use Rattle.std.specs.Prelude.{Option, Result, Ok, Err, OnOk, OnErr, IsPermutation}
 use Rattle.byte_edge.specs.Faults.{CountsFault}
 use Rattle.candidate_roll.specs.Roll.{RollList}
@@ -9,7 +9,7 @@ use Rattle.meek_rule.specs.Rule.{Meek}
 use Rattle.meek_count.specs.Progress.{Progress}
 use Rattle.sheet_text.specs.Laws.{OrderOfBallotsLeavesTheSheet}
 use Rattle.sheet_text.specs.Sheet.{IsSheet, IsSheetOf, AppendsSheet, AppendsFrontOfSheet}
-use Rattle.tool_edge.specs.declared.end.End.{End as Status}
+use Rattle.meek_cli.specs.Status.{Status}
 use Rattle.tool_edge.specs.declared.end.End.TheVariants.{Done}
 use Rattle.tool_edge.specs.Streams.{Writing, writing}
 use Rattle.tool_edge.specs.Contest.{SaysContest}
@@ -61,4 +61,4 @@ pub counted :
     → FinishesCount lots input status sink
 counted lots input poll status sink short says (inl nothing) = inl nothing
 counted lots input poll status sink short says (inr (bytes, is, finishes)) =
-    inr (Done, bytes, (short, record { poll = poll; says = says; sheet = is }), finishes)
+    inr (Done, bytes, (short, (refl, record { poll = poll; says = says; sheet = is })), finishes)

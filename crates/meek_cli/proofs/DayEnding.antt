@@ -1,22 +1,23 @@
 -- How a day ends.
 use Rattle.std.proofs.Common.{◌≡◌, ℕ, ◌≤◌, List, [], length, true, refl, sym, subst, inl, inr}
-use Rattle.input_text.specs.declared.input_stop.InputStop.{InputStop}
-use Rattle.input_text.specs.declared.input_stop.InputStop.TheVariants.{Fault, NoMemory as NoInputRead}
-use Rattle.input_text.specs.Reads.{OnFault}
-use Rattle.input_text.specs.Scan.{scan}
+use Rattle.blt_reader.specs.declared.blt_stop.BltStop.{BltStop}
+use Rattle.blt_reader.specs.Reads.{OnFault}
+use Rattle.blt_reader.specs.Scan.{scan}
 use Rattle.day_reader.specs.Said.{IsDayRefusal}
 use Rattle.batch_core.specs.declared.entry.Entry.{Entry}
 use Rattle.day_reader.specs.declared.day.Day.{Day}
-use Rattle.tool_edge.specs.declared.end.End.{End as Status}
-use Rattle.tool_edge.specs.declared.end.End.TheVariants.{BadInput, NoMemory}
+use Rattle.tool_edge.specs.declared.end.End.TheVariants.{Done, NoMemory}
 use Rattle.tool_edge.specs.Streams.{Writing}
-use Rattle.tool_edge.specs.Refusals.{fault_line}
 use Rattle.tool_edge.specs.Finishing.{RefusesInput}
+use Rattle.tool_edge.specs.Tools.{day_limit}
+use Rattle.tool_edge.proofs.Running.{refused, works_alone}
 use Rattle.meek_cli.specs.declared.outcome.Outcome.{Outcome}
 use Rattle.meek_cli.specs.declared.terms.Terms.{Terms}
-use Rattle.meek_cli.specs.Owed.{day_limit}
+use Rattle.meek_cli.specs.declared.work.Work.TheVariants.{Day as DayWork}
+use Rattle.meek_cli.specs.Status.{Status}
 use Rattle.meek_cli.specs.DayHistory.{IsHistoryOf}
 use Rattle.meek_cli.specs.DayText.{terms_of, IsDayText}
+use Rattle.meek_cli.specs.Owed.{SaysDay, meek}
 use Rattle.meek_cli.specs.Run.{FinishesDay, PlaysDay, WritesDay}
 
 -- A day that is refused is answered by its line, or memory was wanted.
@@ -24,11 +25,18 @@ pub refused_day :
     (input : List ℕ) (stop : InputStop) (status : Status) (outcome : Outcome) (sink : Writing) → length input ≤ day_limit
     → OnFault stop (IsDayRefusal (scan input true)) → outcome ≡ record { status = status; history = [] }
     → RefusesInput stop status sink → FinishesDay input outcome.status outcome.history sink
-refused_day input (Fault fault) status outcome sink short refused is finishes =
-    subst (λ (o : Outcome). FinishesDay input o.status o.history sink) (sym is)
-    (inr (BadInput fault, fault_line fault, (inr (short, refused), refl, refl), finishes))
-refused_day input NoInputRead status outcome sink short refused is (same, nothing) =
-    subst (λ (o : Outcome). FinishesDay input o.status o.history sink) (sym is) (inl (same, refl, nothing))
+refused_day input stop status outcome sink short why is finishes =
+    let done = refused meek DayWork input stop status sink refl short
+    (λ fault same. subst (λ (s : BltStop). OnFault s (IsDayRefusal (scan input true))) same why) finishes in
+    subst (λ (o : Outcome). FinishesDay input o.status o.history sink) (sym is) (works_alone meek DayWork input status sink done)
+
+-- what playing a day of the file came to is what the work on the file came to
+pub day_of :
+    (input : List ℕ) (day : Day) (status : Status) (history : List Entry) (sink : Writing) → length input ≤ day_limit
+    → SaysDay input day → PlaysDay day status history sink → FinishesDay input status history sink
+day_of input day status history sink short says (inl nothing) = inl nothing
+day_of input day status history sink short says (inr (calls, (text, is, finishes))) =
+    inr (Done, text, (short, record { day = day; says = says; calls = calls; text = is }), finishes)
 
 -- what writing the text came to is what playing the day came to
 pub played :

@@ -19,7 +19,7 @@ use Rattle.team_run.specs.EntryText.{entries_text}
 use Rattle.meek_cli.specs.DayText.{roll_with, freeze_places, sheet_line, AreSheets}
 use Rattle.shard_office.specs.Laws.{StandsIn}
 use Rattle.meek_cli.specs.Frozen.{AreFrozen}
-use Rattle.tool_edge.specs.declared.end.End.{End as Status}
+use Rattle.meek_cli.specs.Status.{Status}
 use Rattle.tool_edge.specs.Streams.{Writing}
 use Rattle.meek_cli.specs.Run.{WritesDay, WritesDues}
 use Rattle.meek_cli.specs.DueSheets.{SheetDue, head_of, dues_of, IsHeadOf, AreDueTexts}

@@ -11,10 +11,10 @@ use Rattle.meek_count.specs.Rows.{Rows}
 use Rattle.meek_count.specs.Progress.{Progress, HasJustBegun, HasRest}
 use Rattle.sheet_text.specs.Lines.{text_of_lines, ended}
 use Rattle.sheet_text.specs.Sheet.{sheet_lines, IsSheetOf, AppendsSheet, AppendsFrontOfSheet}
-use Rattle.meek_cli.specs.Bytes.{WroteBytes, StoppedBytes, WritesBytes}
+use Rattle.piece_text.specs.Writing.{Wrote as WroteBytes, Stopped as StoppedBytes, Writes as WritesBytes}
+use Rattle.piece_text.proofs.Written.{wrote_nothing, wrote_later, stopped_later, stops}
 use Rattle.meek_cli.specs.DayText.{sheet_line}
 use Rattle.meek_cli.specs.DueSheets.{SheetDue, HasSheet, IsDueText, AreDueTexts}
-use Rattle.meek_cli.proofs.WritingBytes.{wrote_no_bytes, wrote_both, stopped_in_second, stopped_in_first}
 
 -- a count that was just begun has a sheet
 pub sheet_of : (places : ℕ) (count : Progress) → HasJustBegun (scale places) count → HasRest Meek (scale places) count → (sheet : List ℕ) × IsSheetOf Meek places count sheet
@@ -38,7 +38,7 @@ pub stopped_in_line :
     → StoppedBytes w f a b (ended (sheet_line at)) → WritesDue w f a b places (due_at at count) r
 stopped_in_line places at count r failed begun rest stopped =
     let sheet = sheet_of places count begun rest in
-    (ended (sheet_line at) ++ sheet.0, (sheet.0, sheet.1, refl), stopped_in_first sheet.0 r failed stopped)
+    (ended (sheet_line at) ++ sheet.0, (sheet.0, sheet.1, refl), stops sheet.0 r failed stopped)
 
 -- behind the line the sheet was written, or a front of it
 pub wrote_sheet :
@@ -47,9 +47,9 @@ pub wrote_sheet :
     → OnErr r (AppendsFrontOfSheet Meek places count (w b) (w c)) → CountsFault (f b) (f c) r
     → WritesDue w f a c places (due_at at count) r
 wrote_sheet c places at count (Ok x) did (sheet, is, all) front faults =
-    (ended (sheet_line at) ++ sheet, (sheet, is, refl), wrote_both did (record { whole = all; calm = faults }))
+    (ended (sheet_line at) ++ sheet, (sheet, is, refl), wrote_later did (record { whole = all; calm = faults }))
 wrote_sheet c places at count (Err e) did all (sheet, is, front) faults =
-    (ended (sheet_line at) ++ sheet, (sheet, is, refl), stopped_in_second did (record { part = front; rose = faults }))
+    (ended (sheet_line at) ++ sheet, (sheet, is, refl), stopped_later did (record { part = front; rose = faults }))
 
 -- ---- one sheet after another
 
@@ -65,7 +65,7 @@ pub writing_none :
     → All (HasSheet places) all → IsWriting w f a a places all left
 writing_none w f a places all left is sheets = record {
   text = [];
-  wrote = wrote_no_bytes w f a;
+  wrote = wrote_nothing w f a;
   onward = λ more texts. subst (λ (l : List SheetDue). AreDueTexts places l more) is texts;
   sheets = subst (All (HasSheet places)) (sym is) sheets;
 }
@@ -78,7 +78,7 @@ writing_more places all left rest due so_far is (text, of, wrote) =
     let sheets = subst (All (HasSheet places)) is so_far.sheets in
     record {
       text = so_far.text ++ text;
-      wrote = wrote_both so_far.wrote wrote;
+      wrote = wrote_later so_far.wrote wrote;
       onward = λ more texts.
           subst (AreDueTexts places all) (sym (append_assoc so_far.text text more))
           (so_far.onward (text ++ more)
@@ -106,7 +106,7 @@ writing_stopped {w} {f} {a} {c} places all left rest due r failed so_far is (tex
       so_far.text ++ (text ++ others.0),
       whole,
       subst (λ (bytes : List ℕ). WritesBytes w f a c bytes r) (append_assoc so_far.text text others.0)
-          (stopped_in_first others.0 r failed (stopped_in_second so_far.wrote stopped)),
+          (stops others.0 r failed (stopped_later so_far.wrote stopped)),
     )
 
 pub writing_all :

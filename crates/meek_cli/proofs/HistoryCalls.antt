@@ -10,7 +10,9 @@ use Rattle.batch_core.specs.declared.entry.Entry.{Entry}
 use Rattle.batch_core.specs.Histories.{own_calls}
 use Rattle.day_reader.specs.declared.script.Script.{Script}
 use Rattle.day_reader.specs.Said.{IsAnswerable, AreScripts}
-use Rattle.meek_cli.specs.DayHistory.{calls_of, script_of, clerk_freeze, EndsWithTheClerk, IsHistoryOf}
+use Rattle.team_run.specs.Teams.{calls_of}
+use Rattle.team_run.specs.Endings.{calls_in}
+use Rattle.meek_cli.specs.DayHistory.{clerk_freeze, EndsWithTheClerk, IsHistoryOf}
 use Rattle.meek_cli.specs.Standing.{HasNumber, HaveNumbers}
 
 module _ (P : Call → Type 0) where
@@ -34,7 +36,7 @@ module _ (P : Call → Type 0) where
   taken_if false s rest here others = others
 
   -- what holds of the calls of all scripts holds of those of one team
-  one_script : (scripts : List Script) (team : ℕ) → All (λ s. All P s.calls) scripts → All P (script_of scripts team)
+  one_script : (scripts : List Script) (team : ℕ) → All (λ s. All P s.calls) scripts → All P (calls_in scripts team)
   one_script [] team all = All-nil P
   one_script (s ∷ ss) team all =
       taken_if (s.team == team) s (filter (λ (s : Script). s.team == team) ss) (All-head (λ (s : Script). All P s.calls) s ss all)

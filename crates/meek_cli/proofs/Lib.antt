@@ -1,5 +1,4 @@
-mod Ending
-mod Complete
+mod Sound
 mod CountEnding
 mod Rooms
 mod WritingBytes

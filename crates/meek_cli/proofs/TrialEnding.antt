@@ -23,7 +23,7 @@ use Rattle.batch_core.specs.Histories.{after_all, standing_after, struck_after}
 use Rattle.frozen_plan.specs.Plan.{all_ballots}
 use Rattle.shard_office.specs.Versions.{VersionState}
 use Rattle.meek_trial.specs.Trial.{trial_day}
-use Rattle.tool_edge.specs.declared.end.End.{End as Status}
+use Rattle.meek_cli.specs.Status.{Status}
 use Rattle.tool_edge.specs.declared.end.End.TheVariants.{Done}
 use Rattle.meek_cli.specs.declared.summary.Summary.{Summary}
 use Rattle.meek_cli.specs.declared.terms.Terms.{Terms}
@@ -47,7 +47,7 @@ pub trial_of :
     → PlaysTrial number day status history sink → FinishesTrial number status history sink
 trial_of number day status history sink says (inl nothing) = inl nothing
 trial_of number day status history sink says (inr (calls, (text, is, finishes))) =
-    inr (Done, text, record { day = day; says = says; calls = calls; summary = is }, finishes)
+    inr (Done, text, (tt, record { day = day; says = says; calls = calls; summary = is }), finishes)
 
 -- ---- the summary
 

@@ -1,19 +1,12 @@
 -- The history of a day: who has called in it, and how it ends.
-use Rattle.std.specs.Prelude.{◌≡◌, ℕ, ◌≤◌, ◌==◌, List, [], ◌∷◌, ◌++◌, map, filter}
-use Rattle.std.specs.List.{flat_map}
-use Rattle.batch_core.specs.declared.call.Call.{Call}
+use Rattle.std.specs.Prelude.{◌≡◌, ℕ, ◌≤◌, List, [], ◌∷◌, ◌++◌}
 use Rattle.batch_core.specs.declared.call.Call.TheVariants.{Freeze}
 use Rattle.batch_core.specs.declared.reply.Reply.TheVariants.{Frozen}
 use Rattle.batch_core.specs.declared.entry.Entry.{Entry}
 use Rattle.batch_core.specs.Histories.{IsLegal, own_calls}
 use Rattle.day_reader.specs.declared.script.Script.{Script}
-
-abbrev pub calls_of : List Entry → List Call
-calls_of entries = map (λ e. e.call) entries
-
--- the calls of a team in the scripts, none where it has no script
-abbrev pub script_of : List Script → ℕ → List Call
-script_of scripts team = flat_map (λ s. s.calls) (filter (λ s. s.team == team) scripts)
+use Rattle.team_run.specs.Teams.{calls_of}
+use Rattle.team_run.specs.Endings.{calls_in}
 
 -- the clerk is caller 0
 abbrev pub clerk_freeze : Entry
@@ -29,4 +22,4 @@ pub record EndsWithTheClerk (history : List Entry) : Type 0 where
 pub record IsHistoryOf (scripts : List Script) (history : List Entry) : Type 0 where
   pub legal : IsLegal history
   pub ends : EndsWithTheClerk history
-  pub whole : (team : ℕ) → 1 ≤ team → calls_of (own_calls team history) ≡ script_of scripts team
+  pub whole : (team : ℕ) → 1 ≤ team → calls_of (own_calls team history) ≡ calls_in scripts team

@@ -1,35 +1,24 @@
--- The work that words ask for.
-use Rattle.std.specs.Prelude.{◌≡◌, ℕ, ◌≤◌, List, []}
-use Rattle.batch_core.specs.declared.entry.Entry.{Entry}
+-- The work that words ask for. How many shards and workers it is shared among makes no difference to what is owed.
+use Rattle.std.specs.Prelude.{ℕ, ◌≤◌, List, Option, Some, None}
+use Rattle.meek_words.specs.Forms.{HasForm}
+use Rattle.meek_words.specs.declared.command.Command.TheVariants.{Count as CountWords, Day as DayWords, Trial as TrialWords}
+use Rattle.tool_edge.specs.Tools.{file_limit, day_limit}
 use Rattle.meek_cli.specs.declared.work.Work.{Work}
-use Rattle.meek_cli.specs.declared.work.Work.TheVariants.{File, Trial}
-use Rattle.meek_cli.specs.declared.file_work.FileWork.{FileWork}
-use Rattle.meek_cli.specs.declared.file_work.FileWork.TheVariants.{Count, Day}
-use Rattle.tool_edge.specs.declared.end.End.{End as Status}
-use Rattle.tool_edge.specs.Streams.{Writing}
-use Rattle.tool_edge.specs.Tools.{file_limit}
-use Rattle.meek_cli.specs.Owed.{day_limit, AsksForCount, AsksForDay, AsksForTrial}
-use Rattle.meek_cli.specs.Run.{FinishesCount, FinishesDay}
+use Rattle.meek_cli.specs.declared.work.Work.TheVariants.{Count, Day, Trial}
 
-abbrev pub AsksForFileWork : List (List ℕ) → FileWork → Type 0
-AsksForFileWork words (Count lots split) = AsksForCount words lots
-AsksForFileWork words (Day split) = AsksForDay words
-
+-- for a count by these lots, a day, or the trial of this number
 abbrev pub AsksFor : List (List ℕ) → Work → Type 0
-AsksFor words (File work) = AsksForFileWork words work
-AsksFor words (Trial number split) = AsksForTrial words number
+AsksFor words (Count lots) = (shards : ℕ) × (workers : ℕ) × HasForm words (CountWords lots shards workers)
+AsksFor words Day = (shards : ℕ) × (workers : ℕ) × HasForm words (DayWords shards workers)
+AsksFor words (Trial number) = (shards : ℕ) × (workers : ℕ) × HasForm words (TrialWords number shards workers)
+
+-- the greatest length of its input, in bytes; a trial reads none
+abbrev pub limit_of : Work → Option ℕ
+limit_of (Count lots) = Some file_limit
+limit_of Day = Some day_limit
+limit_of (Trial number) = None
 
 -- a trial's number is from 1 to 1,000
 abbrev pub IsNumbered : Work → Type 0
-IsNumbered (File work) = Unit {0}
-IsNumbered (Trial number split) = (1 ≤ number) × (number ≤ 1000)
-
--- the greatest length of the input, in bytes
-abbrev pub limit_of : FileWork → ℕ
-limit_of (Count lots split) = file_limit
-limit_of (Day split) = day_limit
-
--- what the work came to with this input
-abbrev pub FinishesWork : FileWork → (input : List ℕ) → Status → List Entry → Writing → Type 0
-FinishesWork (Count lots split) input status history sink = (history ≡ []) × FinishesCount lots input status sink
-FinishesWork (Day split) input status history sink = FinishesDay input status history sink
+IsNumbered (Trial number) = (1 ≤ number) × (number ≤ 1000)
+IsNumbered other = Unit {0}

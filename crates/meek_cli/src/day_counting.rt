@@ -3,7 +3,7 @@ ghost use Rattle.std.specs.Prelude.{◌≡◌, ◌≤◌, ℕ, List, ◌++◌, m
 ghost use Rattle.fixed_place.specs.Rounding.{scale};
 ghost use Rattle.meek_rule.specs.Rule.{Meek};
 ghost use Rattle.vote_spread.specs.Lanes.{HaveCounted};
-ghost use Rattle.meek_cli.specs.Bytes.{WritesBytes};
+ghost use Rattle.piece_text.specs.Writing.{Writes as WritesBytes};
 ghost use Rattle.team_run.specs.EntryText.{entries_text};
 ghost use Rattle.meek_cli.specs.Frozen.{AreFrozen};
 ghost use Rattle.meek_cli.specs.DueSheets.{head_of, dues_of, IsHeadOf, HasSheet, AreDueTexts};

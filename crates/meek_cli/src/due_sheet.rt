@@ -5,7 +5,7 @@ ghost use Rattle.meek_rule.specs.Rule.{Meek};
 ghost use Rattle.sheet_text.specs.Lines.{ended};
 ghost use Rattle.meek_cli.specs.DayText.{sheet_line};
 ghost use Rattle.meek_cli.specs.DueSheets.{due_of, HasSheet, IsDueText};
-ghost use Rattle.meek_cli.specs.Bytes.{WritesBytes};
+ghost use Rattle.piece_text.specs.Writing.{Writes as WritesBytes};
 
 use crate::sheet_head::SheetHead;
 use byte_edge::{Failed, Sink, write_all};

@@ -7,7 +7,6 @@ mod counting;
 mod day;
 mod day_counting;
 mod due_sheet;
-mod file_work;
 mod made_days;
 mod office;
 mod outcome;

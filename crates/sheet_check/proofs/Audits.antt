@@ -11,7 +11,7 @@ use Rattle.tool_edge.specs.Streams.{Writing}
 use Rattle.tool_edge.specs.Refusals.{fault_line}
 use Rattle.tool_edge.specs.Contest.{IsContest}
 use Rattle.tool_edge.specs.Finishing.{Finishes, FinishesOwed, RefusesInput}
-use Rattle.tool_edge.specs.Tool.{IsOwedFor, IsSound}
+use Rattle.tool_edge.specs.Tool.{IsOwedFor, IsSound, no_history}
 use Rattle.tool_edge.specs.Tools.{file_limit, IsContestFile, HaveOneOrder, FilesAreNotRefused, ContestsAreNotRefused, ContestsAreRefusedOnce}
 use Rattle.blt_reader.specs.Election.{poll}
 use Rattle.sheet_check.specs.Input.{IsSplit}
@@ -62,54 +62,54 @@ sound one files either once = record {
   one = one;
   either = not_refused either;
   once = refused_once files once;
-  owed = λ lots input bytes owes. (owes.0, owes.1, owes.2, (owes.3.0, owes.3.1));
+  owed = λ lots input history bytes owes. (owes.0, owes.1, owes.2, (owes.3.0, owes.3.1));
 }
 
 -- ---- the whole input
 
 -- No line is `end`.
 pub ended_early :
-    (lots input : List ℕ) (fault : InputFault) (end : End) (sink : Writing) → length input ≤ file_limit
+    (lots input : List ℕ) (fault : InputFault) (end : End InputFault) (sink : Writing) → length input ≤ file_limit
     → EndsInSheet input fault → Finishes (BadInput fault) (fault_line fault) end sink
-    → FinishesOwed (IsOwedFor audits lots input) end sink
+    → FinishesOwed (IsOwedFor audits lots input no_history) end sink
 ended_early lots input fault end sink short ends finishes =
-    inr (BadInput fault, fault_line fault, (inr (short, inl ends), refl), finishes)
+    inr (BadInput fault, fault_line fault, (inr (short, inl ends), refl, refl), finishes)
 
 -- What stands behind the sheet is refused.
 pub refused_behind :
-    (lots input sheet file : List ℕ) (before : ℕ) (stop : InputStop) (end : End) (sink : Writing) → length input ≤ file_limit
+    (lots input sheet file : List ℕ) (before : ℕ) (stop : BltStop) (end : End InputFault) (sink : Writing) → length input ≤ file_limit
     → IsSplit input sheet file → before ≡ length sheet → ReadsBehind before lots file (Err stop)
-    → RefusesInput stop end sink → FinishesOwed (IsOwedFor audits lots input) end sink
+    → RefusesInput stop end sink → FinishesOwed (IsOwedFor audits lots input no_history) end sink
 refused_behind lots input sheet file before (Fault fault) end sink short split same why finishes =
     let at = subst (λ (n : ℕ). IsRefusedBehind n lots file fault) same why in
-    inr (BadInput fault, fault_line fault, (inr (short, inr (sheet, file, split, at)), refl), finishes)
+    inr (BadInput fault, fault_line fault, (inr (short, inr (sheet, file, split, at)), refl, refl), finishes)
 refused_behind lots input sheet file before NoInputRead end sink short split same why nothing = inl nothing
 
 owed_for_input :
-    (lots input sheet file : List ℕ) (contest : Contest) (due : End) (bytes : List ℕ) → length input ≤ file_limit
+    (lots input sheet file : List ℕ) (contest : Contest) (due : End InputFault) (bytes : List ℕ) → length input ≤ file_limit
     → IsSplit input sheet file → IsContest lots file contest
-    → IsOwedVerdict (poll contest.election) contest.lots sheet due bytes → IsOwedFor audits lots input due bytes
+    → IsOwedVerdict (poll contest.election) contest.lots sheet due bytes → IsOwedFor audits lots input no_history due bytes
 owed_for_input lots input sheet file contest due bytes short split is (done, owed) =
     let mine = subst (λ (l : List ℕ). OwesVerdict (poll contest.election) l sheet bytes) is.lots_are owed in
-    subst (λ (d : End). IsOwedFor audits lots input d bytes) (sym done)
+    subst (λ (d : End InputFault). IsOwedFor audits lots input no_history d bytes) (sym done)
     (short, (sheet, file, split, (poll contest.election, is.says, mine)))
 
 -- The verdict on the sheet is what is owed for the input.
 judged :
-    (lots input sheet file : List ℕ) (contest : Contest) (end : End) (sink : Writing) → length input ≤ file_limit
+    (lots input sheet file : List ℕ) (contest : Contest) (end : End InputFault) (sink : Writing) → length input ≤ file_limit
     → IsSplit input sheet file → IsContest lots file contest
     → FinishesOwed (IsOwedVerdict (poll contest.election) contest.lots sheet) end sink
-    → FinishesOwed (IsOwedFor audits lots input) end sink
+    → FinishesOwed (IsOwedFor audits lots input no_history) end sink
 judged lots input sheet file contest end sink short split is (inl nothing) = inl nothing
 judged lots input sheet file contest end sink short split is (inr (due, bytes, owed, finishes)) =
     inr (due, bytes, owed_for_input lots input sheet file contest due bytes short split is owed, finishes)
 
 -- The same where the verdict is on what is left of the input without its file.
 pub judged_front :
-    (lots input sheet file front : List ℕ) (contest : Contest) (end : End) (sink : Writing) → length input ≤ file_limit
+    (lots input sheet file front : List ℕ) (contest : Contest) (end : End InputFault) (sink : Writing) → length input ≤ file_limit
     → IsSplit input sheet file → front ≡ take (length sheet) input → IsContest lots file contest
     → FinishesOwed (IsOwedVerdict (poll contest.election) contest.lots front) end sink
-    → FinishesOwed (IsOwedFor audits lots input) end sink
+    → FinishesOwed (IsOwedFor audits lots input no_history) end sink
 judged_front lots input sheet file front contest end sink short split same is finishes =
     judged lots input sheet file contest end sink short split is
     (subst (λ (s : List ℕ). FinishesOwed (IsOwedVerdict (poll contest.election) contest.lots s) end sink)

@@ -1,5 +1,5 @@
 -- What the checker accepts, refuses and writes.
-use Rattle.std.specs.Prelude.{◌≡◌, ◌⊎◌, ℕ, ◌+◌, List, [], ◌∷◌, ◌++◌, length, codes, decimal, Result, Ok, Err}
+use Rattle.std.specs.Prelude.{◌≡◌, ◌⊎◌, ℕ, ◌+◌, List, [], ◌∷◌, ◌++◌, length, codes, decimal, Some, Result, Ok, Err}
 use Rattle.plain_ballots.specs.Ballots.{plain}
 use Rattle.input_text.specs.declared.fault_kind.FaultKind.TheVariants.{Ended}
 use Rattle.input_text.specs.declared.input_fault.InputFault.{InputFault}
@@ -9,9 +9,10 @@ use Rattle.blt_reader.specs.Poll.{Poll}
 use Rattle.tool_edge.specs.declared.contest.Contest.{Contest}
 use Rattle.tool_edge.specs.declared.end.End.{End}
 use Rattle.tool_edge.specs.declared.end.End.TheVariants.{Done}
+use Rattle.tool_edge.specs.Refusals.{file_refusals}
 use Rattle.tool_edge.specs.Words.{TakesLots}
 use Rattle.tool_edge.specs.Contest.{IsRefusedFile, HasBadLots, SaysContest, IsContest}
-use Rattle.tool_edge.specs.Tool.{Tool}
+use Rattle.tool_edge.specs.Tool.{Tool, no_history}
 use Rattle.tool_edge.specs.Tools.{file_limit, IsContestFile}
 use Rattle.sheet_check.specs.declared.verdict.Verdict.{Verdict}
 use Rattle.sheet_check.specs.declared.verdict.Verdict.TheVariants.{True, False, Malformed}
@@ -71,7 +72,7 @@ pub record OwesVerdict (poll : Poll) (lots sheet bytes : List ℕ) : Type 0 wher
   pub line : bytes ≡ verdict_line verdict
 
 -- that line, with the end of a run that is done
-abbrev pub IsOwedVerdict : Poll → (lots sheet : List ℕ) → End → (bytes : List ℕ) → Type 0
+abbrev pub IsOwedVerdict : Poll → (lots sheet : List ℕ) → End InputFault → (bytes : List ℕ) → Type 0
 IsOwedVerdict poll lots sheet due bytes = (due ≡ Done) × OwesVerdict poll lots sheet bytes
 
 -- the verdict on the input's sheet by the input's file and the lots
@@ -82,11 +83,13 @@ OwesAudit lots input bytes =
 
 -- ---- the tool
 
-abbrev pub audits : Tool (List ℕ)
+abbrev pub audits : Tool (List ℕ) (Unit {0}) InputFault
 audits = record {
   Takes = TakesLots;
-  limit = file_limit;
+  limit = λ lots. Some file_limit;
   Accepts = IsAudit;
   Refuses = IsRefusedAudit;
-  Owes = OwesAudit;
+  refusals = file_refusals;
+  Owes = λ lots input history. OwesAudit lots input;
+  no_calls = no_history;
 }

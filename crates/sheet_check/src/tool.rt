@@ -3,7 +3,7 @@ ghost use Rattle.std.specs.Prelude.{◌≡◌, ◌≤◌, map, length, take};
 ghost use Rattle.std.specs.String.{string_bytes};
 ghost use Rattle.tool_edge.specs.Finishing.{FinishesOwed};
 ghost use Rattle.tool_edge.specs.Streams.{reading, writing};
-ghost use Rattle.tool_edge.specs.Tool.{IsOwedFor, IsRun};
+ghost use Rattle.tool_edge.specs.Tool.{IsOwedFor, IsRun, no_history};
 ghost use Rattle.blt_reader.specs.Election.{poll};
 ghost use Rattle.sheet_check.specs.Audit.{audits, IsOwedVerdict};
 
@@ -30,7 +30,7 @@ pub fn check<R: Threads + Sync, S: Source, K: Sink>(
     sink: &mut K,
 ) -> End
     ensures { IsRun audits (map string_bytes words.now)
-        (reading S.left S.faults source.old source.new) (writing K.written K.faults sink.old sink.new) result }
+        (reading S.left S.faults source.old source.new) (writing K.written K.faults sink.old sink.new) result no_history }
 {
     words_have_one_order();
     files_are_not_refused();
@@ -54,7 +54,7 @@ fn check_input<R: Threads + Sync, K: Sink>(
     sink: &mut K,
 ) -> End
     requires { length input.items ≤ 67108864 }
-    ensures { FinishesOwed (IsOwedFor audits lots.now input.items) result
+    ensures { FinishesOwed (IsOwedFor audits lots.now input.items no_history) result
         (writing K.written K.faults sink.old sink.new) }
 {
     let Some((sheet, file)) = split(input.as_slice()) else {

@@ -2,7 +2,7 @@
 //! JSON.
 //!
 //! [`page`] is the whole tool: [`takes_format`] reads the words, `read_sheet` the values, and what is
-//! written is a function of these values.
+//! written is a function of these values. What is no sheet is refused with a [`PageFault`].
 #![tactic(auto)]
 
 mod cell;
@@ -14,7 +14,7 @@ mod iterations;
 mod json;
 mod json_text;
 mod laws;
-mod page_end;
+mod page_fault;
 mod pen;
 mod picture;
 mod piece;
@@ -26,6 +26,6 @@ mod words;
 
 pub use format::Format;
 pub use laws::{pages_nest, strings_are_read_back, tables_are_read_back};
-pub use page_end::PageEnd;
+pub use page_fault::PageFault;
 pub use tool::page;
 pub use words::takes_format;

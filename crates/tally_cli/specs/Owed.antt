@@ -1,16 +1,19 @@
 -- What the tool owes for a day file.
-use Rattle.std.specs.Prelude.{◌≡◌, ℕ, true, List, [], ◌∷◌, ◌++◌, length, decimal}
+use Rattle.std.specs.Prelude.{◌≡◌, ℕ, true, Some, List, [], ◌∷◌, ◌++◌, length, decimal}
 use Rattle.std.specs.List.{flat_map, range_with_len}
-use Rattle.input_text.specs.Scan.{scan}
-use Rattle.input_text.specs.Refusal.{IsAccepted}
+use Rattle.blt_reader.specs.declared.input_fault.InputFault.{InputFault}
+use Rattle.blt_reader.specs.Scan.{scan}
+use Rattle.blt_reader.specs.Refusal.{IsAccepted}
 use Rattle.plain_ballots.specs.Ballots.{plain}
 use Rattle.batch_core.specs.declared.entry.Entry.{Entry}
 use Rattle.batch_core.specs.Histories.{standing_after}
 use Rattle.day_reader.specs.declared.day.Day.{Day}
 use Rattle.day_reader.specs.Day.{IsDay}
 use Rattle.day_reader.specs.Said.{IsDayRefusal}
+use Rattle.tool_edge.specs.Refusals.{file_refusals}
 use Rattle.tool_edge.specs.Words.{TakesNothing}
-use Rattle.tool_edge.specs.Tool.{Tool}
+use Rattle.tool_edge.specs.Tool.{Tool, no_history}
+use Rattle.tool_edge.specs.Tools.{day_limit}
 use Rattle.tally_cli.specs.First.{first}
 use Rattle.tally_cli.specs.Changes.{IsHistoryOf}
 
@@ -30,16 +33,14 @@ pub record OwesTally (input bytes : List ℕ) : Type 0 where
   pub changes : IsHistoryOf day.scripts history
   pub text : bytes ≡ total_lines (length day.roll.names) (first (plain (standing_after history (length history))))
 
--- the greatest length of an input, in bytes
-abbrev pub day_limit : ℕ
-day_limit = 16777216
-
 -- the tool: no words, and a day file
-abbrev pub over_days : Tool (Unit {0})
+abbrev pub over_days : Tool (Unit {0}) (Unit {0}) InputFault
 over_days = record {
   Takes = TakesNothing;
-  limit = day_limit;
+  limit = λ asked. Some day_limit;
   Accepts = λ asked input. (day : Day) × IsAccepted IsDay (scan input true) day;
   Refuses = λ asked input. IsDayRefusal (scan input true);
-  Owes = λ asked. OwesTally;
+  refusals = file_refusals;
+  Owes = λ asked input history. OwesTally input;
+  no_calls = no_history;
 }

@@ -7,7 +7,7 @@ ghost use Rattle.batch_core.specs.Histories.{standing_after};
 ghost use Rattle.day_reader.specs.Said.{IsAnswerable};
 ghost use Rattle.tool_edge.specs.Finishing.{FinishesOwed};
 ghost use Rattle.tool_edge.specs.Streams.{reading, writing};
-ghost use Rattle.tool_edge.specs.Tool.{IsOwedFor, IsRun};
+ghost use Rattle.tool_edge.specs.Tool.{IsOwedFor, IsRun, no_history};
 ghost use Rattle.tally_cli.specs.Changes.{IsHistoryOf};
 ghost use Rattle.tally_cli.specs.First.{first};
 ghost use Rattle.tally_cli.specs.Owed.{over_days, total_lines};
@@ -22,10 +22,7 @@ use byte_edge::{Sink, Source};
 use day_reader::{Script, accepts_days, read_day, refuses_by_the_rule};
 use std::alloc::Global;
 use std::sync::Wait;
-use tool_edge::{End, finish, open, refuse_input, takes_nothing};
-
-/// The greatest length of an input, in bytes.
-const DAY_LIMIT: usize = 16_777_216;
+use tool_edge::{DAY_LIMIT, End, finish, open, refuse_input, takes_nothing};
 
 /// Shows the first preferences of a day on a board, change by change, and writes the last totals.
 pub fn tally<R: Wait, S: Source, K: Sink>(
@@ -37,7 +34,7 @@ pub fn tally<R: Wait, S: Source, K: Sink>(
 ) -> End
     ensures { IsRun over_days (map string_bytes words.now)
         (reading S.left S.faults source.old source.new)
-        (writing K.written K.faults sink.old sink.new) result }
+        (writing K.written K.faults sink.old sink.new) result no_history }
 {
     accepts_days();
     refuses_by_the_rule();
@@ -57,7 +54,7 @@ fn tally_input<R: Wait, K: Sink>(
     sink: &mut K,
 ) -> End
     requires { length input.now ≤ 16777216 }
-    ensures { FinishesOwed (IsOwedFor over_days asked input.now) result
+    ensures { FinishesOwed (IsOwedFor over_days asked input.now no_history) result
         (writing K.written K.faults sink.old sink.new) }
 {
     let day = match read_day(alloc, input) {

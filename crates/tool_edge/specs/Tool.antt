@@ -22,6 +22,10 @@ pub record Tool (A H F : Type 0) : Type 1 where
   pub Owes : A → (input : List ℕ) → (history : H) → (bytes : List ℕ) → Type 0
   pub no_calls : H
 
+-- what a run of a tool has called that calls nothing
+abbrev pub no_history : Unit {0}
+no_history = tt
+
 module _ {A H F : Type 0} (tool : Tool A H F) where
   -- What is asked is done with an input.
   abbrev pub AsksForInput : A → Type 0

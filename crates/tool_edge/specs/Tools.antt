@@ -1,12 +1,12 @@
--- Tools over ballot files.
-use Rattle.std.specs.Prelude.{◌≡◌, ℕ, List, Some}
+-- Tools over ballot files, and tools over words alone.
+use Rattle.std.specs.Prelude.{◌≡◌, ℕ, List, Some, None}
 use Rattle.blt_reader.specs.declared.input_fault.InputFault.{InputFault}
 use Rattle.blt_reader.specs.Poll.{Poll}
 use Rattle.meek_words.specs.Numerals.{Word}
 use Rattle.tool_edge.specs.Words.{TakesNothing, TakesLots}
 use Rattle.tool_edge.specs.Contest.{SaysPoll, IsRefusedFile, SaysContest, IsRefusedContest}
 use Rattle.tool_edge.specs.Refusals.{file_refusals}
-use Rattle.tool_edge.specs.Tool.{Tool}
+use Rattle.tool_edge.specs.Tool.{Tool, no_history}
 
 -- the greatest length of a tool's input, in bytes
 abbrev pub file_limit : ℕ
@@ -31,7 +31,7 @@ over_contests Owes = record {
   Refuses = IsRefusedContest;
   refusals = file_refusals;
   Owes = λ lots input history. Owes lots input;
-  no_calls = tt;
+  no_calls = no_history;
 }
 
 -- a tool that takes no words and a ballot file
@@ -43,7 +43,21 @@ over_files Owes = record {
   Refuses = λ asked. IsRefusedFile;
   refusals = file_refusals;
   Owes = λ asked input history. Owes input;
-  no_calls = tt;
+  no_calls = no_history;
+}
+
+-- a tool that takes words, reads nothing and refuses nothing but words
+abbrev pub over_words :
+    {A : Type 0} → (Takes : List Word → A → Type 0) → (Owes : A → (bytes : List ℕ) → Type 0)
+    → Tool A (Unit {0}) InputFault
+over_words Takes Owes = record {
+  Takes = Takes;
+  limit = λ asked. None;
+  Accepts = λ asked input. Unit {0};
+  Refuses = λ asked input fault. ⊥;
+  refusals = file_refusals;
+  Owes = λ asked input history. Owes asked;
+  no_calls = no_history;
 }
 
 -- ---- laws

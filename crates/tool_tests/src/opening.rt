@@ -12,7 +12,8 @@ use tool_edge::{End, Opened, open};
 fn opened(alloc: Global) -> Result<Opened<u32>, Fail> {
     let mut source = source_of(alloc, b"abcd", 3, &[])?;
     let mut sink = sink_of(alloc, 0, 1, &[])?;
-    match open(alloc, Ok(7u32), 4, &mut source, &mut sink) {
+    let opened: Result<Opened<u32>, End> = open(alloc, Ok(7u32), 4, &mut source, &mut sink);
+    match opened {
         Ok(opened) => Ok(opened),
         Err(_) => Err(Fail::from("not opened")),
     }

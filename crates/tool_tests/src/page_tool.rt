@@ -5,7 +5,7 @@ mod transfer;
 use crate::memory::{sink_of, source_of, words_of};
 use crate::sample::SHEET;
 use byte_edge::MemorySink;
-use sheet_page::{PageEnd, page};
+use sheet_page::{PageFault, page};
 use std::alloc::Global;
 use std::process::{Abort, ExitCode};
 use std::test::Fail;
@@ -48,7 +48,7 @@ fn end_of(
     words: &str,
     input: &[u8],
     sink: &mut MemorySink,
-) -> Result<PageEnd, Fail> {
+) -> Result<End<PageFault>, Fail> {
     let words = words_of(alloc, words)?;
     let mut source = source_of(alloc, input, 16, &[])?;
     Ok(page(alloc, words.as_slice(), &mut source, sink))
@@ -61,7 +61,7 @@ fn ends(
     alloc: Global,
     (words, sheet): (&str, &[u8]),
     failing: &[u64],
-    (end, text): (PageEnd, &[u8]),
+    (end, text): (End<PageFault>, &[u8]),
 ) -> Result<(), Fail> {
     let mut sink = sink_of(alloc, 20_000, 20_000, failing)?;
     let found = end_of(alloc, words, sheet, &mut sink)?;
@@ -77,8 +77,7 @@ fn is_shown(
     sheet: &[u8],
     text: &[u8],
 ) -> Result<(), Fail> {
-    let done = PageEnd::Ran(End::Done);
-    ends(rt, alloc, (words, sheet), &[], (done, text))
+    ends(rt, alloc, (words, sheet), &[], (End::Done, text))
 }
 
 #[test]
@@ -113,23 +112,24 @@ fn a_sheet_as_a_second_program_shows_it(rt: HostRuntime) -> Result<(), Fail> {
 
 #[test]
 fn a_write_that_fails_ends_the_writing(rt: HostRuntime) -> Result<(), Fail> {
-    let due = (PageEnd::Ran(End::SinkFault), b"round,".as_slice());
+    let due = (End::SinkFault, b"round,".as_slice());
     ends(&rt, rt.alloc(), ("--as csv", SHEET), &[3], due)
 }
 
 #[test]
 fn what_is_no_sheet_is_malformed(rt: HostRuntime) -> Result<(), Fail> {
-    assert_eq!(rt; PageEnd::Malformed.exit_code(), ExitCode::from(3));
+    let malformed = End::BadInput(PageFault::Malformed);
+    assert_eq!(rt; malformed.exit_code(), ExitCode::from(3));
     let run = ("--as csv", b"title\n".as_slice());
     let line = b"sheet malformed\n";
-    ends(&rt, rt.alloc(), run, &[], (PageEnd::Malformed, line))?;
-    let unwritten = (PageEnd::Ran(End::SinkFault), b"".as_slice());
+    ends(&rt, rt.alloc(), run, &[], (malformed, line))?;
+    let unwritten = (End::SinkFault, b"".as_slice());
     ends(&rt, rt.alloc(), run, &[1], unwritten)
 }
 
 #[test]
 fn other_words_are_refused(rt: HostRuntime) -> Result<(), Fail> {
     let line = b"refused BadWords\n";
-    let due = (PageEnd::Ran(End::BadWords), line.as_slice());
+    let due = (End::BadWords, line.as_slice());
     ends(&rt, rt.alloc(), ("--as pdf", ONE), &[], due)
 }

@@ -4,6 +4,7 @@ use Rattle.std.specs.Prelude.{Option, Result, Ok, Err, OnOk, OnErr, IsPermutatio
 use Rattle.byte_edge.specs.Faults.{CountsFault}
 use Rattle.candidate_roll.specs.Roll.{RollList}
 use Rattle.plain_ballots.specs.Ballots.{plain}
+use Rattle.blt_reader.specs.declared.input_fault.InputFault.{InputFault}
 use Rattle.blt_reader.specs.Poll.{Poll}
 use Rattle.meek_rule.specs.Rule.{Warren}
 use Rattle.meek_count.specs.Progress.{Progress}
@@ -14,7 +15,7 @@ use Rattle.tool_edge.specs.declared.end.End.TheVariants.{Done}
 use Rattle.tool_edge.specs.Streams.{Writing, writing}
 use Rattle.tool_edge.specs.Contest.{SaysContest}
 use Rattle.tool_edge.specs.Finishing.{FinishesOwed, Wrote}
-use Rattle.tool_edge.specs.Tool.{IsOwedFor}
+use Rattle.tool_edge.specs.Tool.{IsOwedFor, no_history}
 use Rattle.tool_edge.specs.Tools.{over_contests, file_limit}
 use Rattle.warren_cli.specs.Owed.{OwesWarren, IsSheetOwed}
 
@@ -48,18 +49,18 @@ wrote_sheet written faults old new roll lots ballots count (Err stop) of whole (
 
 -- The sheet of the plan's ballots is what is owed for the file.
 owed_for_file :
-    (lots input : List ℕ) (poll : Poll) (ballots : List (List ℕ)) (due : End) (bytes : List ℕ) → length input ≤ file_limit
+    (lots input : List ℕ) (poll : Poll) (ballots : List (List ℕ)) (due : End InputFault) (bytes : List ℕ) → length input ≤ file_limit
     → SaysContest lots input poll → OrderOfBallotsLeavesTheSheet → IsPermutation ballots (plain poll.lines)
-    → IsSheetOwed ballots poll.roll lots due bytes → IsOwedFor (over_contests OwesWarren) lots input due bytes
+    → IsSheetOwed ballots poll.roll lots due bytes → IsOwedFor (over_contests OwesWarren) lots input no_history due bytes
 owed_for_file lots input poll ballots Done bytes short says leaves same owed =
     (short, (poll, says, (leaves Warren 9 1000 ballots (plain poll.lines) poll.roll lots bytes same).0 owed))
 owed_for_file lots input poll ballots due bytes short says leaves same owed = absurd owed
 
 pub counted :
-    (lots input : List ℕ) (poll : Poll) (ballots : List (List ℕ)) (end : End) (sink : Writing) → length input ≤ file_limit
+    (lots input : List ℕ) (poll : Poll) (ballots : List (List ℕ)) (end : End InputFault) (sink : Writing) → length input ≤ file_limit
     → SaysContest lots input poll → OrderOfBallotsLeavesTheSheet → IsPermutation ballots (plain poll.lines)
     → FinishesOwed (IsSheetOwed ballots poll.roll lots) end sink
-    → FinishesOwed (IsOwedFor (over_contests OwesWarren) lots input) end sink
+    → FinishesOwed (IsOwedFor (over_contests OwesWarren) lots input no_history) end sink
 counted lots input poll ballots end sink short says leaves same (inl nothing) = inl nothing
 counted lots input poll ballots end sink short says leaves same (inr (due, bytes, owed, finishes)) =
     inr (due, bytes, owed_for_file lots input poll ballots due bytes short says leaves same owed, finishes)

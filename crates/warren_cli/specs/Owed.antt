@@ -2,6 +2,7 @@
 use Rattle.std.specs.Prelude.{ℕ, List}
 use Rattle.candidate_roll.specs.Roll.{RollList}
 use Rattle.plain_ballots.specs.Ballots.{plain}
+use Rattle.blt_reader.specs.declared.input_fault.InputFault.{InputFault}
 use Rattle.blt_reader.specs.Poll.{Poll}
 use Rattle.meek_rule.specs.Rule.{Warren}
 use Rattle.sheet_text.specs.Sheet.{IsSheetUnder}
@@ -15,6 +16,6 @@ OwesWarren lots input bytes =
     (poll : Poll) × SaysContest lots input poll × IsSheetUnder Warren 9 1000 (plain poll.lines) poll.roll lots bytes
 
 -- the sheet by Warren's rule of these ballots, and nothing else
-abbrev pub IsSheetOwed : (ballots : List (List ℕ)) → RollList → (lots : List ℕ) → End → (bytes : List ℕ) → Type 0
+abbrev pub IsSheetOwed : (ballots : List (List ℕ)) → RollList → (lots : List ℕ) → End InputFault → (bytes : List ℕ) → Type 0
 IsSheetOwed ballots roll lots Done bytes = IsSheetUnder Warren 9 1000 ballots roll lots bytes
 IsSheetOwed ballots roll lots other bytes = ⊥

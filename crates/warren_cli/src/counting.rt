@@ -4,7 +4,7 @@ ghost use Rattle.plain_ballots.specs.Ballots.{plain};
 ghost use Rattle.frozen_plan.specs.Plan.{all_ballots};
 ghost use Rattle.tool_edge.specs.Finishing.{FinishesOwed};
 ghost use Rattle.tool_edge.specs.Streams.{writing};
-ghost use Rattle.tool_edge.specs.Tool.{IsOwedFor};
+ghost use Rattle.tool_edge.specs.Tool.{IsOwedFor, no_history};
 ghost use Rattle.tool_edge.specs.Tools.{over_contests};
 ghost use Rattle.warren_cli.specs.Owed.{OwesWarren, IsSheetOwed};
 
@@ -26,7 +26,7 @@ const OMEGA: u64 = 1_000;
 /// Counts the ballots of a file by these lots, and writes the sheet or the refusal.
 pub(crate) fn count<K: Sink>(alloc: Global, lots: &[u32], input: &[u8], sink: &mut K) -> End
     requires { length input.now ≤ 67108864 }
-    ensures { FinishesOwed (IsOwedFor (over_contests OwesWarren) lots.now input.now) result
+    ensures { FinishesOwed (IsOwedFor (over_contests OwesWarren) lots.now input.now no_history) result
         (writing K.written K.faults sink.old sink.new) }
 {
     // The sheet of the plan's ballots is that of the file's.

@@ -1,7 +1,7 @@
 // A whole run.
 ghost use Rattle.std.specs.Prelude.{map, string_bytes};
 ghost use Rattle.tool_edge.specs.Streams.{reading, writing};
-ghost use Rattle.tool_edge.specs.Tool.{IsRun};
+ghost use Rattle.tool_edge.specs.Tool.{IsRun, no_history};
 ghost use Rattle.tool_edge.specs.Tools.{over_contests};
 ghost use Rattle.warren_cli.specs.Owed.{OwesWarren};
 
@@ -22,7 +22,7 @@ pub fn warren<S: Source, K: Sink>(
     sink: &mut K,
 ) -> End
     ensures { IsRun (over_contests OwesWarren) (map string_bytes words.now)
-        (reading S.left S.faults source.old source.new) (writing K.written K.faults sink.old sink.new) result }
+        (reading S.left S.faults source.old source.new) (writing K.written K.faults sink.old sink.new) result no_history }
 {
     words_have_one_order();
     contests_are_not_refused();

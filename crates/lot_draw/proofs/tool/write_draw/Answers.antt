@@ -17,7 +17,7 @@ returns-in-Ok g c =
       Done,
       c.bytes.result.now,
       (
-        refl,
+        tt,
         record {
           order = c.in-Ok.order.items;
           drawn = c.in-Ok.ensures.drawn;

@@ -1,4 +1,4 @@
-use Rattle.std.proofs.Common.{ℕ, List, subst}
+use Rattle.std.proofs.Common.{ℕ, List, refl, subst}
 use Rattle.std.specs.Prelude.{Err}
 use Rattle.plain_ballots.specs.Ballots.{plain}
 use Rattle.blt_reader.specs.Election.{poll}
@@ -6,7 +6,8 @@ use Rattle.input_text.specs.declared.input_stop.InputStop.{InputStop}
 use Rattle.tool_edge.specs.Streams.{writing}
 use Rattle.tool_edge.specs.Contest.{ReadsContest, SaysContest}
 use Rattle.tool_edge.proofs.Running.{refused}
-use Rattle.meek_cli.specs.Owed.{counts}
+use Rattle.meek_cli.specs.declared.work.Work.TheVariants.{Count}
+use Rattle.meek_cli.specs.Owed.{meek}
 use Rattle.meek_cli.specs.Run.{WritesCount}
 use Rattle.meek_cli.proofs.CountEnding.{counted}
 use Rattle.meek_cli.proofs.counting.count.Goals as goal
@@ -14,9 +15,9 @@ use Rattle.meek_cli.proofs.counting.count.Goals as goal
 pub returns-in-Err : goal.returns-in-Err
 returns-in-Err g c =
     let read = subst (λ (i : List ℕ). ReadsContest c.args.lots.now i (Err c.in-Err.stop)) c.as_slice.ensures.value c.in-Err.ensures in
-    refused counts c.args.lots.now c.args.input.items c.in-Err.stop c.refuse_input.result
-    (writing g.K.Sink.written g.K.Sink.faults c.args.sink.now c.refuse_input.new.sink) c.requires
-    (λ fault is. subst (λ (stop : InputStop). ReadsContest c.args.lots.now c.args.input.items (Err stop)) is read)
+    refused meek (Count c.args.lots.now) c.args.input.items c.in-Err.stop c.refuse_input.result
+    (writing g.K.Sink.written g.K.Sink.faults c.args.sink.now c.refuse_input.new.sink) refl c.requires
+    (λ fault is. subst (λ (stop : BltStop). ReadsContest c.args.lots.now c.args.input.items (Err stop)) is read)
     c.refuse_input.ensures
 
 -- the lots are those of the words

@@ -1,6 +1,8 @@
 use Rattle.std.proofs.Common.{map, refl}
+use Rattle.std.specs.Prelude.{Some}
 use Rattle.std.specs.String.{string_bytes}
 use Rattle.tool_edge.specs.Streams.{reading, writing}
+use Rattle.tool_edge.specs.Tools.{file_limit}
 use Rattle.tool_edge.proofs.Running.{stopped, worked_on}
 use Rattle.sheet_check.specs.Audit.{audits}
 use Rattle.sheet_check.proofs.Audits.{sound}
@@ -8,7 +10,7 @@ use Rattle.sheet_check.proofs.tool.check.Goals as goal
 
 pub returns-in-Err : goal.returns-in-Err
 returns-in-Err g c =
-    stopped audits (map string_bytes c.args.words.now) c.takes_lots-asked.result c.in-Err.end
+    stopped audits (Some file_limit) (λ lots. refl) (map string_bytes c.args.words.now) c.takes_lots-asked.result c.in-Err.end
     (reading g.S.Source.left g.S.Source.faults c.args.source.now c.open.new.source)
     (writing g.K.Sink.written g.K.Sink.faults c.args.sink.now c.open.new.sink)
     (sound c.words_have_one_order.ensures c.files_are_not_refused.ensures c.contests_are_not_refused.ensures c.contests_are_refused_once.ensures) c.takes_lots-asked.ensures c.in-Err.ensures.stopped

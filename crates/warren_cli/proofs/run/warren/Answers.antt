@@ -1,19 +1,19 @@
-use Rattle.std.proofs.Common.{map}
-use Rattle.std.specs.Prelude.{string_bytes}
+use Rattle.std.proofs.Common.{map, refl}
+use Rattle.std.specs.Prelude.{Some, string_bytes}
 use Rattle.tool_edge.specs.Streams.{reading, writing}
 use Rattle.tool_edge.specs.Tool.{IsSound}
-use Rattle.tool_edge.specs.Tools.{over_contests, HaveOneOrder, ContestsAreNotRefused, ContestsAreRefusedOnce}
+use Rattle.tool_edge.specs.Tools.{file_limit, over_contests, HaveOneOrder, ContestsAreNotRefused, ContestsAreRefusedOnce}
 use Rattle.tool_edge.proofs.Running.{stopped, worked_on}
 use Rattle.warren_cli.specs.Owed.{OwesWarren}
 use Rattle.warren_cli.proofs.run.warren.Goals as goal
 
 sound : HaveOneOrder → ContestsAreNotRefused → ContestsAreRefusedOnce → IsSound (over_contests OwesWarren)
 sound one either once =
-    record { one = one; either = either; once = once; owed = λ lots input bytes owes. (owes.0, owes.1) }
+    record { one = one; either = either; once = once; owed = λ lots input history bytes owes. (owes.0, owes.1) }
 
 pub returns-in-Err : goal.returns-in-Err
 returns-in-Err g c =
-    stopped (over_contests OwesWarren) (map string_bytes c.args.words.now) c.takes_lots-asked.result c.in-Err.end
+    stopped (over_contests OwesWarren) (Some file_limit) (λ lots. refl) (map string_bytes c.args.words.now) c.takes_lots-asked.result c.in-Err.end
     (reading g.S.Source.left g.S.Source.faults c.args.source.now c.open.new.source)
     (writing g.K.Sink.written g.K.Sink.faults c.args.sink.now c.open.new.sink)
     (sound c.words_have_one_order.ensures c.contests_are_not_refused.ensures c.contests_are_refused_once.ensures) c.takes_lots-asked.ensures c.in-Err.ensures.stopped
