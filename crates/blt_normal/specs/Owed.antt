@@ -1,7 +1,7 @@
 -- What is owed for a ballot file.
 use Rattle.std.specs.Prelude.{ℕ, List}
 use Rattle.plain_ballots.specs.Ballots.{plain}
-use Rattle.blt_reader.specs.declared.input_fault.InputFault.{InputFault}
+use Rattle.input_text.specs.declared.input_fault.InputFault.{InputFault}
 use Rattle.blt_reader.specs.Poll.{Poll}
 use Rattle.blt_writer.specs.Text.{IsBltText}
 use Rattle.tool_edge.specs.Contest.{SaysPoll}

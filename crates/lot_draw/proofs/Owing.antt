@@ -7,7 +7,7 @@ use Rattle.lot_order.specs.Lots.{IsOrder}
 use Rattle.meek_words.specs.Numerals.{Word, number_of}
 use Rattle.meek_words.specs.declared.words_stop.WordsStop.{WordsStop}
 use Rattle.meek_words.specs.declared.words_stop.WordsStop.TheVariants.{BadWords as BadWordsStop, NoMemory as NoWordsRead}
-use Rattle.blt_reader.specs.declared.input_fault.InputFault.{InputFault}
+use Rattle.input_text.specs.declared.input_fault.InputFault.{InputFault}
 use Rattle.tool_edge.specs.declared.end.End.{End}
 use Rattle.tool_edge.specs.Streams.{Writing, NothingRead, NothingWritten, no_source, writing}
 use Rattle.tool_edge.specs.Finishing.{FinishesOwed, RefusesWords}

@@ -1,6 +1,6 @@
 -- What the tool that draws lots owes.
 use Rattle.std.specs.Prelude.{◌≡◌, ℕ, List}
-use Rattle.blt_reader.specs.declared.input_fault.InputFault.{InputFault}
+use Rattle.input_text.specs.declared.input_fault.InputFault.{InputFault}
 use Rattle.lot_order.specs.Lots.{IsOrder}
 use Rattle.lot_draw.specs.Draw.{IsDraw}
 use Rattle.lot_draw.specs.DrawnLine.{drawn_line}

@@ -1,8 +1,8 @@
 -- How a day ends.
 use Rattle.std.proofs.Common.{◌≡◌, ℕ, ◌≤◌, List, [], length, true, refl, sym, subst, inl, inr}
-use Rattle.blt_reader.specs.declared.blt_stop.BltStop.{BltStop}
-use Rattle.blt_reader.specs.Reads.{OnFault}
-use Rattle.blt_reader.specs.Scan.{scan}
+use Rattle.input_text.specs.declared.input_stop.InputStop.{InputStop}
+use Rattle.input_text.specs.Reads.{OnFault}
+use Rattle.input_text.specs.Scan.{scan}
 use Rattle.day_reader.specs.Said.{IsDayRefusal}
 use Rattle.batch_core.specs.declared.entry.Entry.{Entry}
 use Rattle.day_reader.specs.declared.day.Day.{Day}
@@ -27,7 +27,7 @@ pub refused_day :
     → RefusesInput stop status sink → FinishesDay input outcome.status outcome.history sink
 refused_day input stop status outcome sink short why is finishes =
     let done = refused meek DayWork input stop status sink refl short
-    (λ fault same. subst (λ (s : BltStop). OnFault s (IsDayRefusal (scan input true))) same why) finishes in
+    (λ fault same. subst (λ (s : InputStop). OnFault s (IsDayRefusal (scan input true))) same why) finishes in
     subst (λ (o : Outcome). FinishesDay input o.status o.history sink) (sym is) (works_alone meek DayWork input status sink done)
 
 -- what playing a day of the file came to is what the work on the file came to

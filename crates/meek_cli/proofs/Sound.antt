@@ -7,8 +7,8 @@ use Rattle.meek_words.specs.declared.words_stop.WordsStop.{WordsStop}
 use Rattle.meek_words.specs.declared.words_stop.WordsStop.TheVariants.{BadWords as BadWordsStop, NoMemory as NoWordsRead}
 use Rattle.meek_words.specs.Forms.{HasForm, HaveOneCommand}
 use Rattle.meek_words.specs.declared.command.Command.{Command}
-use Rattle.blt_reader.specs.declared.input_fault.InputFault.{InputFault}
-use Rattle.blt_reader.specs.Scan.{scan}
+use Rattle.input_text.specs.declared.input_fault.InputFault.{InputFault}
+use Rattle.input_text.specs.Scan.{scan}
 use Rattle.day_reader.specs.Said.{said_by, AcceptsDays, RefusesByTheRule}
 use Rattle.batch_core.specs.declared.entry.Entry.{Entry}
 use Rattle.tool_edge.specs.Streams.{NothingRead, reading}

@@ -77,7 +77,7 @@ ended_early lots input fault end sink short ends finishes =
 
 -- What stands behind the sheet is refused.
 pub refused_behind :
-    (lots input sheet file : List ℕ) (before : ℕ) (stop : BltStop) (end : End InputFault) (sink : Writing) → length input ≤ file_limit
+    (lots input sheet file : List ℕ) (before : ℕ) (stop : InputStop) (end : End InputFault) (sink : Writing) → length input ≤ file_limit
     → IsSplit input sheet file → before ≡ length sheet → ReadsBehind before lots file (Err stop)
     → RefusesInput stop end sink → FinishesOwed (IsOwedFor audits lots input no_history) end sink
 refused_behind lots input sheet file before (Fault fault) end sink short split same why finishes =

@@ -369,7 +369,7 @@ module _ {A H F : Type 0} (tool : Tool A H F) where
 
 -- A file that is no input of this tool was answered by its line, or memory was wanted.
 pub refused :
-    {A H : Type 0} (tool : Tool A H InputFault) (asked : A) (input : List ℕ) (stop : BltStop) (end : End InputFault)
+    {A H : Type 0} (tool : Tool A H InputFault) (asked : A) (input : List ℕ) (stop : InputStop) (end : End InputFault)
     (sink : Writing) → tool.refusals ≡ file_refusals → IsWithin (tool.limit asked) input
     → ((fault : InputFault) → stop ≡ Fault fault → tool.Refuses asked input fault) → RefusesInput stop end sink
     → FinishesOwed (IsOwedFor tool asked input tool.no_calls) end sink

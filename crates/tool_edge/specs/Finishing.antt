@@ -7,9 +7,9 @@ use Rattle.tool_edge.specs.declared.end.End.{End}
 use Rattle.tool_edge.specs.declared.end.End.TheVariants.{Done, SourceFault, BadWords, BadInput, SinkFault, NoMemory}
 use Rattle.meek_words.specs.declared.words_stop.WordsStop.{WordsStop}
 use Rattle.meek_words.specs.declared.words_stop.WordsStop.TheVariants.{BadWords as BadWordsStop, NoMemory as NoWordsRead}
-use Rattle.blt_reader.specs.declared.input_fault.InputFault.{InputFault}
-use Rattle.blt_reader.specs.declared.blt_stop.BltStop.{BltStop}
-use Rattle.blt_reader.specs.declared.blt_stop.BltStop.TheVariants.{Fault, NoMemory as NoInputRead}
+use Rattle.input_text.specs.declared.input_fault.InputFault.{InputFault}
+use Rattle.input_text.specs.declared.input_stop.InputStop.{InputStop}
+use Rattle.input_text.specs.declared.input_stop.InputStop.TheVariants.{Fault, NoMemory as NoInputRead}
 use Rattle.tool_edge.specs.Refusals.{fault_line, words_line}
 use Rattle.tool_edge.specs.Streams.{Writing, NoWriteFailed, NothingWritten}
 
@@ -43,7 +43,7 @@ RefusesWords BadWordsStop end sink = Finishes BadWords words_line end sink
 RefusesWords NoWordsRead end sink = (end ≡ NoMemory) × NothingWritten sink
 
 -- An input that is refused is answered by its line.
-abbrev pub RefusesInput : BltStop → End InputFault → Writing → Type 0
+abbrev pub RefusesInput : InputStop → End InputFault → Writing → Type 0
 RefusesInput (Fault fault) end sink = Finishes (BadInput fault) (fault_line fault) end sink
 RefusesInput NoInputRead end sink = (end ≡ NoMemory) × NothingWritten sink
 

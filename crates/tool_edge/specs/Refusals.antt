@@ -1,8 +1,8 @@
 -- How an input or words are refused. 10 ends a line.
 use Rattle.std.specs.Prelude.{ℕ, List, [], ◌∷◌, ◌++◌, codes, decimal}
-use Rattle.blt_reader.specs.FaultWords.{kind_word}
-use Rattle.blt_reader.specs.declared.fault_kind.FaultKind.TheVariants.{TooLong}
-use Rattle.blt_reader.specs.declared.input_fault.InputFault.{InputFault}
+use Rattle.input_text.specs.FaultWords.{kind_word}
+use Rattle.input_text.specs.declared.fault_kind.FaultKind.TheVariants.{TooLong}
+use Rattle.input_text.specs.declared.input_fault.InputFault.{InputFault}
 
 -- How inputs are refused: the line of each fault, and the fault of an input of more bytes than may be read.
 pub record Refusals (F : Type 0) : Type 0 where

@@ -18,7 +18,7 @@ pub returns-in-Err : goal.returns-in-Err
 returns-in-Err g c =
     refused normal_tool (tt {0}) c.args.input.now c.in-Err.stop c.refuse_input.result
     (writing g.K.Sink.written g.K.Sink.faults c.args.sink.now c.refuse_input.new.sink) refl c.requires
-    (λ fault is. subst (λ (stop : BltStop). IfFault {R = Election} (Err stop) (λ f. IsFileRefusal of_a_file (scan c.args.input.now false) f)) is c.in-Err.ensures.refused)
+    (λ fault is. subst (λ (stop : InputStop). IfFault {R = Election} (Err stop) (λ f. IsFileRefusal of_a_file (scan c.args.input.now false) f)) is c.in-Err.ensures.refused)
     c.refuse_input.ensures
 
 -- the ballots of the plans are those of the file

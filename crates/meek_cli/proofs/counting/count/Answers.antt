@@ -17,7 +17,7 @@ returns-in-Err g c =
     let read = subst (λ (i : List ℕ). ReadsContest c.args.lots.now i (Err c.in-Err.stop)) c.as_slice.ensures.value c.in-Err.ensures in
     refused meek (Count c.args.lots.now) c.args.input.items c.in-Err.stop c.refuse_input.result
     (writing g.K.Sink.written g.K.Sink.faults c.args.sink.now c.refuse_input.new.sink) refl c.requires
-    (λ fault is. subst (λ (stop : BltStop). ReadsContest c.args.lots.now c.args.input.items (Err stop)) is read)
+    (λ fault is. subst (λ (stop : InputStop). ReadsContest c.args.lots.now c.args.input.items (Err stop)) is read)
     c.refuse_input.ensures
 
 -- the lots are those of the words

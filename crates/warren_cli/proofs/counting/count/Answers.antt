@@ -16,7 +16,7 @@ pub returns-in-Err : goal.returns-in-Err
 returns-in-Err g c =
     refused (over_contests OwesWarren) c.args.lots.now c.args.input.now c.in-Err.stop c.refuse_input.result
     (writing g.K.Sink.written g.K.Sink.faults c.args.sink.now c.refuse_input.new.sink) refl c.requires
-    (λ fault is. subst (λ (stop : BltStop). ReadsContest c.args.lots.now c.args.input.now (Err stop)) is c.in-Err.ensures)
+    (λ fault is. subst (λ (stop : InputStop). ReadsContest c.args.lots.now c.args.input.now (Err stop)) is c.in-Err.ensures)
     c.refuse_input.ensures
 
 -- the plan's ballots are those of the file, and its lots are those of the words
