@@ -1,0 +1,11 @@
+//! Tests of the page of a sheet, its table and its JSON, and the crates that write them.
+#![tactic(auto)]
+
+#[cfg(test)]
+mod page_tool;
+#[cfg(test)]
+mod page_words;
+#[cfg(test)]
+mod record;
+#[cfg(test)]
+mod text;

@@ -1,0 +1,134 @@
+// Whole runs over memory: sheets worked by hand, and texts that are none.
+mod ties;
+mod transfer;
+
+use byte_edge::MemorySink;
+use sample_runs::{SHEET, sink_of, source_of, words_of};
+use sheet_page::{PageFault, page};
+use std::alloc::Global;
+use std::process::{Abort, ExitCode};
+use std::test::Fail;
+use tool_edge::{End, open};
+
+const ONE: &[u8] = b"title A & B\nseats 1\ncandidates 1\nballots 0\nresult\n1 elected <Ann>\nend\n";
+
+// What a second program wrote of it, in Python with its modules csv and json.
+const SAMPLE_CSV: &[u8] =
+    b"round,iteration,candidate,name,outcome,state,keep,vote,elected,capped,tied,defeated,total,quota,surplus,step\r\n1,1,1,Ann,elected,hopeful,1.000000000,7.000000000,yes,no,no,no,12.000000000,4.000000001,2.999999999,elected\r\n1,1,2,Ben,withdrawn,withdrawn,0.000000000,0.000000000,no,no,no,no,12.000000000,4.000000001,2.999999999,elected\r\n1,1,3,Cid,defeated,hopeful,1.000000000,1.000000000,no,no,no,no,12.000000000,4.000000001,2.999999999,elected\r\n1,1,4,Dee,elected,hopeful,1.000000000,4.000000000,no,no,no,no,12.000000000,4.000000001,2.999999999,elected\r\n2,1,1,Ann,elected,elected,1.000000000,7.000000000,no,no,no,no,12.000000000,4.000000001,2.999999999,iterate\r\n2,1,2,Ben,withdrawn,withdrawn,0.000000000,0.000000000,no,no,no,no,12.000000000,4.000000001,2.999999999,iterate\r\n2,1,3,Cid,defeated,hopeful,1.000000000,1.000000000,no,no,no,no,12.000000000,4.000000001,2.999999999,iterate\r\n2,1,4,Dee,elected,hopeful,1.000000000,4.000000000,no,no,no,no,12.000000000,4.000000001,2.999999999,iterate\r\n2,2,1,Ann,elected,elected,0.571428572,4.000000004,no,no,no,no,12.000000000,4.000000001,0.000000003,defeat\r\n2,2,2,Ben,withdrawn,withdrawn,0.000000000,0.000000000,no,no,no,no,12.000000000,4.000000001,0.000000003,defeat\r\n2,2,3,Cid,defeated,hopeful,1.000000000,3.999999996,no,no,yes,yes,12.000000000,4.000000001,0.000000003,defeat\r\n2,2,4,Dee,elected,hopeful,1.000000000,4.000000000,no,no,no,no,12.000000000,4.000000001,0.000000003,defeat\r\n";
+
+const SAMPLE_JSON: &[u8] =
+    b"{\"title\":\"Sample\",\"seats\":2,\"ballots\":13,\"candidates\":[{\"number\":1,\"name\":\"Ann\",\"outcome\":\"elected\"},{\"number\":2,\"name\":\"Ben\",\"outcome\":\"withdrawn\"},{\"number\":3,\"name\":\"Cid\",\"outcome\":\"defeated\"},{\"number\":4,\"name\":\"Dee\",\"outcome\":\"elected\"}],\"iterations\":[{\"round\":1,\"iteration\":1,\"total\":\"12.000000000\",\"quota\":\"4.000000001\",\"surplus\":\"2.999999999\",\"step\":\"elected\",\"candidates\":[{\"number\":1,\"state\":\"hopeful\",\"keep\":\"1.000000000\",\"vote\":\"7.000000000\",\"elected\":true,\"capped\":false,\"tied\":false,\"defeated\":false},{\"number\":2,\"state\":\"withdrawn\",\"keep\":\"0.000000000\",\"vote\":\"0.000000000\",\"elected\":false,\"capped\":false,\"tied\":false,\"defeated\":false},{\"number\":3,\"state\":\"hopeful\",\"keep\":\"1.000000000\",\"vote\":\"1.000000000\",\"elected\":false,\"capped\":false,\"tied\":false,\"defeated\":false},{\"number\":4,\"state\":\"hopeful\",\"keep\":\"1.000000000\",\"vote\":\"4.000000000\",\"elected\":false,\"capped\":false,\"tied\":false,\"defeated\":false}]},{\"round\":2,\"iteration\":1,\"total\":\"12.000000000\",\"quota\":\"4.000000001\",\"surplus\":\"2.999999999\",\"step\":\"iterate\",\"candidates\":[{\"number\":1,\"state\":\"elected\",\"keep\":\"1.000000000\",\"vote\":\"7.000000000\",\"elected\":false,\"capped\":false,\"tied\":false,\"defeated\":false},{\"number\":2,\"state\":\"withdrawn\",\"keep\":\"0.000000000\",\"vote\":\"0.000000000\",\"elected\":false,\"capped\":false,\"tied\":false,\"defeated\":false},{\"number\":3,\"state\":\"hopeful\",\"keep\":\"1.000000000\",\"vote\":\"1.000000000\",\"elected\":false,\"capped\":false,\"tied\":false,\"defeated\":false},{\"number\":4,\"state\":\"hopeful\",\"keep\":\"1.000000000\",\"vote\":\"4.000000000\",\"elected\":false,\"capped\":false,\"tied\":false,\"defeated\":false}]},{\"round\":2,\"iteration\":2,\"total\":\"12.000000000\",\"quota\":\"4.000000001\",\"surplus\":\"0.000000003\",\"step\":\"defeat\",\"candidates\":[{\"number\":1,\"state\":\"elected\",\"keep\":\"0.571428572\",\"vote\":\"4.000000004\",\"elected\":false,\"capped\":false,\"tied\":false,\"defeated\":false},{\"number\":2,\"state\":\"withdrawn\",\"keep\":\"0.000000000\",\"vote\":\"0.000000000\",\"elected\":false,\"capped\":false,\"tied\":false,\"defeated\":false},{\"number\":3,\"state\":\"hopeful\",\"keep\":\"1.000000000\",\"vote\":\"3.999999996\",\"elected\":false,\"capped\":false,\"tied\":true,\"defeated\":true},{\"number\":4,\"state\":\"hopeful\",\"keep\":\"1.000000000\",\"vote\":\"4.000000000\",\"elected\":false,\"capped\":false,\"tied\":false,\"defeated\":false}]}]}\n";
+
+// A comma, backslashes and a byte that is no UTF-8.
+const ODD: &[u8] =
+    b"title \\ & <T>\nseats 1\ncandidates 3\nballots 2\nround 1 iteration 1\n1 hopeful 1.000000000 1.000000000\n2 hopeful 1.000000000 1.000000000\n3 hopeful 1.000000000 0.000000000\ntotal 2.000000000\nquota 1.000000001\nsurplus 0.000000000\nstep defeat 3 tied 3\nresult\n1 elected Doe, J\n2 defeated a\xFFb\n3 defeated C\\D\nend\n";
+
+const ODD_JSON: &[u8] =
+    b"{\"title\":\"\\\\ & <T>\",\"seats\":1,\"ballots\":2,\"candidates\":[{\"number\":1,\"name\":\"Doe, J\",\"outcome\":\"elected\"},{\"number\":2,\"name\":\"a\xEF\xBF\xBDb\",\"outcome\":\"defeated\"},{\"number\":3,\"name\":\"C\\\\D\",\"outcome\":\"defeated\"}],\"iterations\":[{\"round\":1,\"iteration\":1,\"total\":\"2.000000000\",\"quota\":\"1.000000001\",\"surplus\":\"0.000000000\",\"step\":\"defeat\",\"candidates\":[{\"number\":1,\"state\":\"hopeful\",\"keep\":\"1.000000000\",\"vote\":\"1.000000000\",\"elected\":false,\"capped\":false,\"tied\":false,\"defeated\":false},{\"number\":2,\"state\":\"hopeful\",\"keep\":\"1.000000000\",\"vote\":\"1.000000000\",\"elected\":false,\"capped\":false,\"tied\":false,\"defeated\":false},{\"number\":3,\"state\":\"hopeful\",\"keep\":\"1.000000000\",\"vote\":\"0.000000000\",\"elected\":false,\"capped\":false,\"tied\":true,\"defeated\":true}]}]}\n";
+
+// Markup, quotes, bytes that are no UTF-8, and letters of other scripts.
+const HOSTILE: &[u8] =
+    b"title <script>alert(1)</script>\nseats 1\ncandidates 3\nballots 2\nround 1 iteration 1\n1 hopeful 1.000000000 1.000000000\n2 hopeful 1.000000000 1.000000000\n3 hopeful 1.000000000 0.000000000\ntotal 2.000000000\nquota 1.000000001\nsurplus 0.000000000\nstep defeat 3 tied 3\nround 2 iteration 1\n1 hopeful 1.000000000 1.500000000\n2 hopeful 1.000000000 0.250000000\n3 defeated 0.000000000 0.000000000\ntotal 1.750000000\nquota 0.875000001\nsurplus 0.624999999\nelected 1\nstep elected\nresult\n1 elected O'Neil &quot; &\n2 defeated a\xFFb\xE2\x82\n3 defeated \xD8\xB9\xE6\x9D\x8E</td>\nend\n";
+
+// The page of the sheet of one candidate, worked by hand.
+const ONE_HTML: &[u8] =
+    b"<!DOCTYPE html><html lang=\"en\"><head><meta charset=\"utf-8\"><meta name=\"viewport\" content=\"width=device-width\"><title>A &amp; B</title><style>body{font:16px/1.5 system-ui,sans-serif;max-width:72em;margin:auto;padding:1em;overflow-wrap:anywhere}section{overflow-x:auto}table{border-collapse:collapse;font-variant-numeric:tabular-nums}th,td{border:1px solid #888;padding:.2em .5em;text-align:right;vertical-align:top;min-width:6em;max-width:16em}th{background:#eee;overflow-wrap:break-word}td{white-space:nowrap}th:first-child{position:sticky;left:0;min-width:4em}small{display:block}svg{display:block;width:100%;max-width:32em;height:auto;overflow:visible}text{font:13px system-ui,sans-serif}text.elected{font-weight:bold}rect{fill:#7aa6d6;stroke:#25466b}rect.elected{fill:#2e8b57;stroke:#0b3d22;stroke-width:2}rect.defeated,rect.withdrawn{fill:#fff;stroke:#666;stroke-dasharray:4 3}line{stroke:#b00000;stroke-width:2;stroke-dasharray:7 4;mix-blend-mode:multiply}summary{cursor:pointer;padding:.5em 0}@media print{body{padding:0}table{font-size:10px}section:has(th:nth-child(10)){display:none}h2,p{break-after:avoid}svg{max-width:20em}svg:not(:has(rect:nth-of-type(46))){width:auto;max-height:85vh}tr{break-inside:avoid}details:not([open]){display:none}}</style></head><body><h1>A &amp; B</h1><p>Seats: 1. Ballots: 0.</p><section><h2>Elected</h2><ol><li>&lt;Ann&gt;: elected at the end, to a seat that was left</li></ol></section><section><h2>Votes at the end of each round</h2><table><tr><th>Round</th><th>Quota</th><th>On no candidate</th><th>&lt;Ann&gt;</th></tr></table></section></body></html>";
+
+// What a second program wrote, in Python.
+const SAMPLE_HTML: &[u8] =
+    b"<!DOCTYPE html><html lang=\"en\"><head><meta charset=\"utf-8\"><meta name=\"viewport\" content=\"width=device-width\"><title>Sample</title><style>body{font:16px/1.5 system-ui,sans-serif;max-width:72em;margin:auto;padding:1em;overflow-wrap:anywhere}section{overflow-x:auto}table{border-collapse:collapse;font-variant-numeric:tabular-nums}th,td{border:1px solid #888;padding:.2em .5em;text-align:right;vertical-align:top;min-width:6em;max-width:16em}th{background:#eee;overflow-wrap:break-word}td{white-space:nowrap}th:first-child{position:sticky;left:0;min-width:4em}small{display:block}svg{display:block;width:100%;max-width:32em;height:auto;overflow:visible}text{font:13px system-ui,sans-serif}text.elected{font-weight:bold}rect{fill:#7aa6d6;stroke:#25466b}rect.elected{fill:#2e8b57;stroke:#0b3d22;stroke-width:2}rect.defeated,rect.withdrawn{fill:#fff;stroke:#666;stroke-dasharray:4 3}line{stroke:#b00000;stroke-width:2;stroke-dasharray:7 4;mix-blend-mode:multiply}summary{cursor:pointer;padding:.5em 0}@media print{body{padding:0}table{font-size:10px}section:has(th:nth-child(10)){display:none}h2,p{break-after:avoid}svg{max-width:20em}svg:not(:has(rect:nth-of-type(46))){width:auto;max-height:85vh}tr{break-inside:avoid}details:not([open]){display:none}}</style></head><body><h1>Sample</h1><p>Seats: 2. Ballots: 13.</p><section><h2>Elected</h2><ol><li>Ann: elected in round 1</li><li>Dee: elected at the end, to a seat that was left</li></ol></section><section><h2>Votes at the end of each round</h2><table><tr><th>Round</th><th>Quota</th><th>On no candidate</th><th>Ann</th><th>Ben</th><th>Cid</th><th>Dee</th></tr><tr><th>1</th><td>4.000000001</td><td>1.000000000</td><td>7.000000000 <small>elected</small></td><td>0.000000000 <small>withdrawn</small></td><td>1.000000000 <small>hopeful</small></td><td>4.000000000 <small>hopeful</small></td></tr><tr><th>2</th><td>4.000000001</td><td>1.000000000</td><td>4.000000004 <small>elected</small></td><td>0.000000000 <small>withdrawn</small></td><td>3.999999996 <small>defeated</small></td><td>4.000000000 <small>hopeful</small></td></tr></table></section><section><h2>Round 1</h2><p>Quota 4.000000001: the broken line. On no candidate: 1.000000000.</p><svg role=\"img\" viewBox=\"0 0 400 144\"><title>Votes at the end of round 1: a bar for each candidate, and the quota as a line. The table above has the numbers.</title><text class=\"elected\" y=\"16\">elected 7.000000000 Ann</text><rect class=\"elected\" y=\"21\" width=\"400\" height=\"12\"></rect><text class=\"withdrawn\" y=\"52\">withdrawn 0.000000000 Ben</text><rect class=\"withdrawn\" y=\"57\" width=\"0\" height=\"12\"></rect><text class=\"hopeful\" y=\"88\">hopeful 1.000000000 Cid</text><rect class=\"hopeful\" y=\"93\" width=\"57\" height=\"12\"></rect><text class=\"hopeful\" y=\"124\">hopeful 4.000000000 Dee</text><rect class=\"hopeful\" y=\"129\" width=\"228\" height=\"12\"></rect><line x1=\"228\" x2=\"228\" y2=\"144\"></line></svg><details><summary>Iterations of round 1</summary><table><tr><th>Candidate</th><th>State before</th><th>Keep value</th><th>Vote</th></tr><tbody><tr><th colspan=\"4\">Iteration 1: total 12.000000000, quota 4.000000001, surplus 2.999999999, step elected</th></tr><tr><th>Ann</th><td>hopeful</td><td>1.000000000</td><td>7.000000000</td></tr><tr><th>Ben</th><td>withdrawn</td><td>0.000000000</td><td>0.000000000</td></tr><tr><th>Cid</th><td>hopeful</td><td>1.000000000</td><td>1.000000000</td></tr><tr><th>Dee</th><td>hopeful</td><td>1.000000000</td><td>4.000000000</td></tr></tbody></table></details></section><section><h2>Round 2</h2><p>Quota 4.000000001: the broken line. On no candidate: 1.000000000.</p><svg role=\"img\" viewBox=\"0 0 400 144\"><title>Votes at the end of round 2: a bar for each candidate, and the quota as a line. The table above has the numbers.</title><text class=\"elected\" y=\"16\">elected 4.000000004 Ann</text><rect class=\"elected\" y=\"21\" width=\"228\" height=\"12\"></rect><text class=\"withdrawn\" y=\"52\">withdrawn 0.000000000 Ben</text><rect class=\"withdrawn\" y=\"57\" width=\"0\" height=\"12\"></rect><text class=\"defeated\" y=\"88\">defeated 3.999999996 Cid</text><rect class=\"defeated\" y=\"93\" width=\"228\" height=\"12\"></rect><text class=\"hopeful\" y=\"124\">hopeful 4.000000000 Dee</text><rect class=\"hopeful\" y=\"129\" width=\"228\" height=\"12\"></rect><line x1=\"228\" x2=\"228\" y2=\"144\"></line></svg><details><summary>Iterations of round 2</summary><table><tr><th>Candidate</th><th>State before</th><th>Keep value</th><th>Vote</th></tr><tbody><tr><th colspan=\"4\">Iteration 1: total 12.000000000, quota 4.000000001, surplus 2.999999999, step iterate</th></tr><tr><th>Ann</th><td>elected</td><td>1.000000000</td><td>7.000000000</td></tr><tr><th>Ben</th><td>withdrawn</td><td>0.000000000</td><td>0.000000000</td></tr><tr><th>Cid</th><td>hopeful</td><td>1.000000000</td><td>1.000000000</td></tr><tr><th>Dee</th><td>hopeful</td><td>1.000000000</td><td>4.000000000</td></tr></tbody><tbody><tr><th colspan=\"4\">Iteration 2: total 12.000000000, quota 4.000000001, surplus 0.000000003, step defeat</th></tr><tr><th>Ann</th><td>elected</td><td>0.571428572</td><td>4.000000004</td></tr><tr><th>Ben</th><td>withdrawn</td><td>0.000000000</td><td>0.000000000</td></tr><tr><th>Cid</th><td>hopeful</td><td>1.000000000</td><td>3.999999996</td></tr><tr><th>Dee</th><td>hopeful</td><td>1.000000000</td><td>4.000000000</td></tr></tbody></table></details></section></body></html>";
+
+const HOSTILE_HTML: &[u8] =
+    b"<!DOCTYPE html><html lang=\"en\"><head><meta charset=\"utf-8\"><meta name=\"viewport\" content=\"width=device-width\"><title>&lt;script&gt;alert(1)&lt;/script&gt;</title><style>body{font:16px/1.5 system-ui,sans-serif;max-width:72em;margin:auto;padding:1em;overflow-wrap:anywhere}section{overflow-x:auto}table{border-collapse:collapse;font-variant-numeric:tabular-nums}th,td{border:1px solid #888;padding:.2em .5em;text-align:right;vertical-align:top;min-width:6em;max-width:16em}th{background:#eee;overflow-wrap:break-word}td{white-space:nowrap}th:first-child{position:sticky;left:0;min-width:4em}small{display:block}svg{display:block;width:100%;max-width:32em;height:auto;overflow:visible}text{font:13px system-ui,sans-serif}text.elected{font-weight:bold}rect{fill:#7aa6d6;stroke:#25466b}rect.elected{fill:#2e8b57;stroke:#0b3d22;stroke-width:2}rect.defeated,rect.withdrawn{fill:#fff;stroke:#666;stroke-dasharray:4 3}line{stroke:#b00000;stroke-width:2;stroke-dasharray:7 4;mix-blend-mode:multiply}summary{cursor:pointer;padding:.5em 0}@media print{body{padding:0}table{font-size:10px}section:has(th:nth-child(10)){display:none}h2,p{break-after:avoid}svg{max-width:20em}svg:not(:has(rect:nth-of-type(46))){width:auto;max-height:85vh}tr{break-inside:avoid}details:not([open]){display:none}}</style></head><body><h1>&lt;script&gt;alert(1)&lt;/script&gt;</h1><p>Seats: 1. Ballots: 2.</p><section><h2>Elected</h2><ol><li>O&#39;Neil &amp;quot; &amp;: elected in round 2</li></ol></section><section><h2>Votes at the end of each round</h2><table><tr><th>Round</th><th>Quota</th><th>On no candidate</th><th>O&#39;Neil &amp;quot; &amp;</th><th>a\xEF\xBF\xBDb\xEF\xBF\xBD</th><th>\xD8\xB9\xE6\x9D\x8E&lt;/td&gt;</th></tr><tr><th>1</th><td>1.000000001</td><td>0.000000000</td><td>1.000000000 <small>hopeful</small></td><td>1.000000000 <small>hopeful</small></td><td>0.000000000 <small>defeated</small></td></tr><tr><th>2</th><td>0.875000001</td><td>0.250000000</td><td>1.500000000 <small>elected</small></td><td>0.250000000 <small>hopeful</small></td><td>0.000000000 <small>defeated</small></td></tr></table></section><section><h2>Round 1</h2><p>Quota 1.000000001: the broken line. On no candidate: 0.000000000.</p><svg role=\"img\" viewBox=\"0 0 400 108\"><title>Votes at the end of round 1: a bar for each candidate, and the quota as a line. The table above has the numbers.</title><text class=\"hopeful\" y=\"16\">hopeful 1.000000000 O&#39;Neil &amp;quot; &amp;</text><rect class=\"hopeful\" y=\"21\" width=\"266\" height=\"12\"></rect><text class=\"hopeful\" y=\"52\">hopeful 1.000000000 a\xEF\xBF\xBDb\xEF\xBF\xBD</text><rect class=\"hopeful\" y=\"57\" width=\"266\" height=\"12\"></rect><text class=\"defeated\" y=\"88\">defeated 0.000000000 \xD8\xB9\xE6\x9D\x8E&lt;/td&gt;</text><rect class=\"defeated\" y=\"93\" width=\"0\" height=\"12\"></rect><line x1=\"266\" x2=\"266\" y2=\"108\"></line></svg><details><summary>Iterations of round 1</summary><table><tr><th>Candidate</th><th>State before</th><th>Keep value</th><th>Vote</th></tr><tbody><tr><th colspan=\"4\">Iteration 1: total 2.000000000, quota 1.000000001, surplus 0.000000000, step defeat</th></tr><tr><th>O&#39;Neil &amp;quot; &amp;</th><td>hopeful</td><td>1.000000000</td><td>1.000000000</td></tr><tr><th>a\xEF\xBF\xBDb\xEF\xBF\xBD</th><td>hopeful</td><td>1.000000000</td><td>1.000000000</td></tr><tr><th>\xD8\xB9\xE6\x9D\x8E&lt;/td&gt;</th><td>hopeful</td><td>1.000000000</td><td>0.000000000</td></tr></tbody></table></details></section><section><h2>Round 2</h2><p>Quota 0.875000001: the broken line. On no candidate: 0.250000000.</p><svg role=\"img\" viewBox=\"0 0 400 108\"><title>Votes at the end of round 2: a bar for each candidate, and the quota as a line. The table above has the numbers.</title><text class=\"elected\" y=\"16\">elected 1.500000000 O&#39;Neil &amp;quot; &amp;</text><rect class=\"elected\" y=\"21\" width=\"400\" height=\"12\"></rect><text class=\"hopeful\" y=\"52\">hopeful 0.250000000 a\xEF\xBF\xBDb\xEF\xBF\xBD</text><rect class=\"hopeful\" y=\"57\" width=\"66\" height=\"12\"></rect><text class=\"defeated\" y=\"88\">defeated 0.000000000 \xD8\xB9\xE6\x9D\x8E&lt;/td&gt;</text><rect class=\"defeated\" y=\"93\" width=\"0\" height=\"12\"></rect><line x1=\"233\" x2=\"233\" y2=\"108\"></line></svg><details><summary>Iterations of round 2</summary><table><tr><th>Candidate</th><th>State before</th><th>Keep value</th><th>Vote</th></tr><tbody><tr><th colspan=\"4\">Iteration 1: total 1.750000000, quota 0.875000001, surplus 0.624999999, step elected</th></tr><tr><th>O&#39;Neil &amp;quot; &amp;</th><td>hopeful</td><td>1.000000000</td><td>1.500000000</td></tr><tr><th>a\xEF\xBF\xBDb\xEF\xBF\xBD</th><td>hopeful</td><td>1.000000000</td><td>0.250000000</td></tr><tr><th>\xD8\xB9\xE6\x9D\x8E&lt;/td&gt;</th><td>defeated</td><td>0.000000000</td><td>0.000000000</td></tr></tbody></table></details></section></body></html>";
+
+/// How a run ends that writes into this sink.
+fn end_of(
+    alloc: Global,
+    words: &str,
+    input: &[u8],
+    sink: &mut MemorySink,
+) -> Result<End<PageFault>, Fail> {
+    let words = words_of(alloc, words)?;
+    let mut source = source_of(alloc, input, 16, &[])?;
+    Ok(page(alloc, words.as_slice(), &mut source, sink))
+}
+
+/// A run of these words over this sheet ends so, and writes this; the writes and flushes with these
+/// numbers fail.
+fn ends(
+    rt: &impl Abort,
+    alloc: Global,
+    (words, sheet): (&str, &[u8]),
+    failing: &[u64],
+    (end, text): (End<PageFault>, &[u8]),
+) -> Result<(), Fail> {
+    let mut sink = sink_of(alloc, 20_000, 20_000, failing)?;
+    let found = end_of(alloc, words, sheet, &mut sink)?;
+    assert_eq!(rt; (found, sink.bytes()), (end, text));
+    Ok(())
+}
+
+/// The words show the sheet as this text.
+fn is_shown(
+    rt: &impl Abort,
+    alloc: Global,
+    words: &str,
+    sheet: &[u8],
+    text: &[u8],
+) -> Result<(), Fail> {
+    ends(rt, alloc, (words, sheet), &[], (End::Done, text))
+}
+
+#[test]
+fn a_table_of_a_sheet_without_iterations_is_its_head(rt: HostRuntime) -> Result<(), Fail> {
+    let head =
+        b"round,iteration,candidate,name,outcome,state,keep,vote,elected,capped,tied,defeated,total,quota,surplus,step\r\n";
+    is_shown(&rt, rt.alloc(), "--as csv", ONE, head)
+}
+
+#[test]
+fn json_of_a_sheet_without_iterations(rt: HostRuntime) -> Result<(), Fail> {
+    let text =
+        b"{\"title\":\"A & B\",\"seats\":1,\"ballots\":0,\"candidates\":[{\"number\":1,\"name\":\"<Ann>\",\"outcome\":\"elected\"}],\"iterations\":[]}\n";
+    is_shown(&rt, rt.alloc(), "--as json", ONE, text)
+}
+
+#[test]
+fn a_sheet_as_a_second_program_shows_it(rt: HostRuntime) -> Result<(), Fail> {
+    let cases = [
+        ("", ONE, ONE_HTML),
+        ("", HOSTILE, HOSTILE_HTML),
+        ("--as html", SHEET, SAMPLE_HTML),
+        ("--as csv", SHEET, SAMPLE_CSV),
+        ("--as json", SHEET, SAMPLE_JSON),
+        ("--as json", ODD, ODD_JSON),
+    ];
+    for (words, sheet, text) in cases {
+        is_shown(&rt, rt.alloc(), words, sheet, text)?;
+    }
+    Ok(())
+}
+
+#[test]
+fn a_write_that_fails_ends_the_writing(rt: HostRuntime) -> Result<(), Fail> {
+    let due = (End::SinkFault, b"round,".as_slice());
+    ends(&rt, rt.alloc(), ("--as csv", SHEET), &[3], due)
+}
+
+#[test]
+fn what_is_no_sheet_is_malformed(rt: HostRuntime) -> Result<(), Fail> {
+    let malformed = End::BadInput(PageFault::Malformed);
+    assert_eq!(rt; malformed.exit_code(), ExitCode::from(3));
+    let run = ("--as csv", b"title\n".as_slice());
+    let line = b"sheet malformed\n";
+    ends(&rt, rt.alloc(), run, &[], (malformed, line))?;
+    let unwritten = (End::SinkFault, b"".as_slice());
+    ends(&rt, rt.alloc(), run, &[1], unwritten)
+}
+
+#[test]
+fn other_words_are_refused(rt: HostRuntime) -> Result<(), Fail> {
+    let line = b"refused BadWords\n";
+    let due = (End::BadWords, line.as_slice());
+    ends(&rt, rt.alloc(), ("--as pdf", ONE), &[], due)
+}
