@@ -1,5 +1,5 @@
-pub mod Places
-pub mod Items
+mod Places
+mod Items
 mod Pushes
 mod Parts
 mod Bounds
