@@ -70,7 +70,8 @@ const TWICE_FROZEN: &[u8] =
     b"2 1\n0\n\"A\" \"B\" \"T\"\nlots 2 1 0\nteam 1\nenter 1\n3 1 0\n0\nfreeze\ncorrect 1 1\n2 2 0\n0\n\
 freeze\nenter 2\n4 1 0\n0\nend\n";
 
-const TWICE_FROZEN_TEXT: &[u8] = b"1 team 1 enter 1 entered\n2 team 1 freeze frozen\n3 team 1 correct 1 1 corrected 2\n\
+const TWICE_FROZEN_TEXT: &[u8] =
+    b"1 team 1 enter 1 entered\n2 team 1 freeze frozen\n3 team 1 correct 1 1 corrected 2\n\
 4 team 1 freeze frozen\n5 team 1 enter 2 entered\n6 clerk freeze frozen\nsheet 2\ntitle T\nseats 1\n\
 candidates 2\nballots 3\nround 1 iteration 1\n1 hopeful 1.000000000 3.000000000\n\
 2 hopeful 1.000000000 0.000000000\ntotal 3.000000000\nquota 1.500000001\nsurplus 1.499999999\n\
@@ -87,7 +88,8 @@ const OWN_OMEGA: &[u8] =
     b"3 2\n0\n\"A\" \"B\" \"C\" \"T\"\nlots 1 2 3 0\nplaces 9 omega 999\nteam 1\nenter 1\n1000 1 3 0\n\
 600 2 0\n200 3 0\n0\nend\n";
 
-const OWN_OMEGA_TEXT: &[u8] = b"1 team 1 enter 1 entered\n2 clerk freeze frozen\nsheet 2\ntitle T\nseats 2\ncandidates 3\nballots 1800\n\
+const OWN_OMEGA_TEXT: &[u8] =
+    b"1 team 1 enter 1 entered\n2 clerk freeze frozen\nsheet 2\ntitle T\nseats 2\ncandidates 3\nballots 1800\n\
 round 1 iteration 1\n1 hopeful 1.000000000 1000.000000000\n2 hopeful 1.000000000 600.000000000\n\
 3 hopeful 1.000000000 200.000000000\ntotal 1800.000000000\nquota 600.000000001\nsurplus 399.999999999\n\
 elected 1\nstep elected\nround 2 iteration 1\n1 elected 1.000000000 1000.000000000\n\
@@ -105,7 +107,8 @@ const SEVEN_PLACES: &[u8] =
     b"3 2\n0\n\"A\" \"B\" \"C\" \"T\"\nlots 1 2 3 0\nplaces 7 omega 1\nteam 1\nenter 1\n1000 1 3 0\n600 2 0\n\
 200 3 0\n0\nend\n";
 
-const SEVEN_PLACES_TEXT: &[u8] = b"1 team 1 enter 1 entered\n2 clerk freeze frozen\nsheet 2\ntitle T\nseats 2\ncandidates 3\nballots 1800\n\
+const SEVEN_PLACES_TEXT: &[u8] =
+    b"1 team 1 enter 1 entered\n2 clerk freeze frozen\nsheet 2\ntitle T\nseats 2\ncandidates 3\nballots 1800\n\
 round 1 iteration 1\n1 hopeful 1.0000000 1000.0000000\n2 hopeful 1.0000000 600.0000000\n\
 3 hopeful 1.0000000 200.0000000\ntotal 1800.0000000\nquota 600.0000001\nsurplus 399.9999999\nelected 1\n\
 step elected\nround 2 iteration 1\n1 elected 1.0000000 1000.0000000\n2 hopeful 1.0000000 600.0000000\n\
