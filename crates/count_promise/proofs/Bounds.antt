@@ -1,5 +1,6 @@
 -- What an iteration leaves over for some candidates is covered by what it leaves over at most.
-use Rattle.std.proofs.Common.{◌≡◌, ◌∙◌, ℕ, ◌+◌, ◌-◌, ◌*◌, ◌≤◌, ◌&&◌, ◌||◌, not, zero, suc, Bool, true, false, cond, List, [], ◌∷◌, length, sum, slice_index, get_or, All, arith, ap, sym, subst, add-one}
+use Rattle.std.proofs.Common.{◌≡◌, ◌∙◌, ℕ, ◌+◌, ◌-◌, ◌*◌, ◌≤◌, ◌&&◌, ◌||◌, not, zero, suc, Bool, true}
+use Rattle.std.proofs.Common.{false, cond, List, [], ◌∷◌, length, sum, slice_index, get_or, All, arith, ap, sym, subst, add-one}
 use Rattle.std.proofs.Math.Nat.{add-mul}
 use Rattle.candidate_roll.specs.State.{state_at}
 use Rattle.candidate_roll.specs.declared.state.State.{State}
@@ -38,7 +39,8 @@ module _ (q : ℕ) (v : ℕ → ℕ) where
   lack_point false true w = omega arith
   lack_point false false w = omega arith
 
-  others_covered : (members holds : ℕ → Bool) (n : ℕ) → quotas_at (λ p. not (members p) && holds p) n ≤ votes_at (λ p. not (members p) && holds p) n + lacks_at holds n
+  others_covered :
+      (members holds : ℕ → Bool) (n : ℕ) → quotas_at (λ p. not (members p) && holds p) n ≤ votes_at (λ p. not (members p) && holds p) n + lacks_at holds n
   others_covered members holds zero = omega arith
   others_covered members holds (suc n) =
       let theirs : ℕ → Bool = λ p. not (members p) && holds p in
@@ -90,7 +92,8 @@ left_covered members row is Elected =
     omega arith
 left_covered members row is (Defeat c) =
     subst (λ (u : ℕ). members_surplus members row ≤ u + shortfalls row) (sym is)
-    (let le = members_covered row.quota (λ p. slice_index row.votes p) (mark_at members) (λ p. is_elected (state_at row.states p)) (mark_at row.elected) (length row.states) in
+    (let le = members_covered row.quota (λ p. slice_index row.votes p) (mark_at members) (λ p. is_elected (state_at row.states p)) (mark_at
+    row.elected) (length row.states) in
     omega arith)
 left_covered members row is Iterate = omega arith
 
@@ -111,6 +114,7 @@ pub slack_covers :
     → Rows rule s ballots lots now rows last → All (λ row. left_over members row.step row ≤ slack rows) rows
 slack_covers rule s ballots lots now rows last members leads k d below =
     let row : Row = get_or rows k d in
-    let here : left_over members row.step row ≤ left_at_most row = left_covered members row (surpluses rule s ballots lots now rows last leads k d below) row.step in
+    let here : left_over members row.step row ≤ left_at_most row =
+    left_covered members row (surpluses rule s ballots lots now rows last leads k d below) row.step in
     let most : left_at_most row ≤ slack rows = greatest_all left_at_most rows k d below in
     omega arith

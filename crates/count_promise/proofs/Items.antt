@@ -1,5 +1,6 @@
 -- Lists item by item: the first that passes, the greatest value, and the texts of all.
-use Rattle.std.proofs.Common.{◌≡◌, ◌∙◌, ℕ, ◌+◌, ◌<◌, ◌≤◌, zero, suc, Bool, true, false, cond, List, [], ◌∷◌, ◌++◌, length, take, get_or, All, arith, inl, inr, refl, ap, sym, subst, append-nil, append_assoc}
+use Rattle.std.proofs.Common.{◌≡◌, ◌∙◌, ℕ, ◌+◌, ◌<◌, ◌≤◌, zero, suc, Bool, true, false, cond, List, []}
+use Rattle.std.proofs.Common.{◌∷◌, ◌++◌, length, take, get_or, All, arith, inl, inr, refl, ap, sym, subst, append-nil, append_assoc}
 use Rattle.std.specs.Prelude.{max, find, Option, Some, None}
 use Rattle.std.specs.List.{flat_map}
 use Rattle.std.specs.Option.{option_or}
@@ -15,7 +16,8 @@ module _ {X : Type 0} where
   some_none x off = cc
 
   -- the first that passes stands behind others that don't
-  pub find_here : (test : X → Bool) (xs : List X) (i : ℕ) (x : X) → i < length xs → find test (take i xs) ≡ None → x ≡ get_or xs i x → test x ≡ true → find test xs ≡ Some x
+  pub find_here :
+      (test : X → Bool) (xs : List X) (i : ℕ) (x : X) → i < length xs → find test (take i xs) ≡ None → x ≡ get_or xs i x → test x ≡ true → find test xs ≡ Some x
   find_here test [] i x below none is passes = absurd (omega arith)
   find_here test (y ∷ ys) zero x below none is passes =
       subst (λ (z : X). cond (test z) (Some z) (find test ys) ≡ Some x) is (ap (λ (b : Bool). cond b (Some x) (find test ys)) passes)
@@ -28,7 +30,9 @@ module _ {X : Type 0} where
       ]
 
   -- one more that fails
-  pub find_more : (test : X → Bool) (xs : List X) (i : ℕ) (x : X) → i < length xs → find test (take i xs) ≡ None → x ≡ get_or xs i x → test x ≡ false → find test (take (i + 1) xs) ≡ None
+  pub find_more :
+      (test : X → Bool) (xs : List X) (i : ℕ) (x : X) → i < length xs → find test (take i xs) ≡ None → x ≡ get_or xs i x → test x ≡ false
+      → find test (take (i + 1) xs) ≡ None
   find_more test xs i x below none is fails =
       ap (find test) (take_more xs i x below)
       ∙ (find-append test (take i xs) (get_or xs i x ∷ [])
@@ -36,7 +40,8 @@ module _ {X : Type 0} where
       (ap (λ (b : Bool). cond b (Some (get_or xs i x)) None) (ap test (sym is) ∙ fails)))
 
   -- one more value
-  pub greatest_more : (f : X → ℕ) (xs : List X) (i : ℕ) (x : X) → x ≡ get_or xs i x → i < length xs → greatest_by f (take (i + 1) xs) ≡ max (greatest_by f (take i xs)) (f x)
+  pub greatest_more :
+      (f : X → ℕ) (xs : List X) (i : ℕ) (x : X) → x ≡ get_or xs i x → i < length xs → greatest_by f (take (i + 1) xs) ≡ max (greatest_by f (take i xs)) (f x)
   greatest_more f xs i x is below =
       ap (greatest_by f) (take_more xs i x below)
       ∙ max_push (greatest_by f) f refl (λ y ys. refl) (take i xs) (get_or xs i x)
@@ -51,7 +56,8 @@ module _ {X : Type 0} where
       omega arith
 
   -- one more text
-  pub texts_more : (g : X → List ℕ) (xs : List X) (i : ℕ) (x : X) → x ≡ get_or xs i x → i < length xs → flat_map g (take (i + 1) xs) ≡ flat_map g (take i xs) ++ g x
+  pub texts_more :
+      (g : X → List ℕ) (xs : List X) (i : ℕ) (x : X) → x ≡ get_or xs i x → i < length xs → flat_map g (take (i + 1) xs) ≡ flat_map g (take i xs) ++ g x
   texts_more g xs i x is below =
       ap (flat_map g) (take_more xs i x below)
       ∙ flat_map-append g (take i xs) (get_or xs i x ∷ [])

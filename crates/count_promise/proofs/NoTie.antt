@@ -1,5 +1,6 @@
 -- No lot decided anything where no iteration has a tie, and the other way round.
-use Rattle.std.proofs.Common.{◌≡◌, ◌∙◌, ℕ, ◌<◌, ◌≤◌, ◌&&◌, ◌||◌, not, nat_le, zero, suc, Bool, true, false, cond, List, [], ◌∷◌, ◌++◌, length, slice_index, get_or, drop, replicate, All, arith, refl, ap, sym, subst, inl, inr}
+use Rattle.std.proofs.Common.{◌≡◌, ◌∙◌, ℕ, ◌<◌, ◌≤◌, ◌&&◌, ◌||◌, not, nat_le, zero, suc, Bool, true, false, cond, List}
+use Rattle.std.proofs.Common.{[], ◌∷◌, ◌++◌, length, slice_index, get_or, drop, replicate, All, arith, refl, ap, sym, subst, inl, inr}
 use Rattle.std.specs.List.{flat_map, list_any}
 use Rattle.std.proofs.lemmas.Bool.{and_from, and_left, and_parts, and_right, cases_Bool, leb-false, lt-leb, not-true, not_from_false, or_from, or_parts}
 use Rattle.std.proofs.lemmas.List.Folds.{list_any_at, list_any_none}

@@ -10,8 +10,11 @@ loop-p-preserved c =
 
 pub returns-then-is_seated_by_lot : goal.returns-then-is_seated_by_lot
 returns-then-is_seated_by_lot c =
-    sym (any_here (is_seated_by_lot c.args.row.now) (length c.args.row.now.states) c.loop-p.p (omega (arith, ap (λ (row : Row). length row.states) c.row.view_is)) (sym c.is_seated_by_lot.ensures ∙ c.if-is_seated_by_lot.true))
+    let size = ap (λ (row : Row). length row.states) c.row.view_is in
+    let is = sym c.is_seated_by_lot.ensures ∙ c.if-is_seated_by_lot.true in
+    sym (any_here (is_seated_by_lot c.args.row.now) (length c.args.row.now.states) c.loop-p.p (omega (arith, size)) is)
 
 pub returns : goal.returns
 returns c =
-    sym (any_nowhere (is_seated_by_lot c.args.row.now) (length c.args.row.now.states) (λ q below. c.loop-p.invariant q (omega (arith, ap (λ (row : Row). length row.states) c.row.view_is))))
+    let size = ap (λ (row : Row). length row.states) c.row.view_is in
+    sym (any_nowhere (is_seated_by_lot c.args.row.now) (length c.args.row.now.states) (λ q below. c.loop-p.invariant q (omega (arith, size))))

@@ -10,8 +10,11 @@ loop-p-preserved c =
 
 pub returns-then-elects : goal.returns-then-elects
 returns-then-elects c =
-    sym (any_here (elects c.args.row.now c.args.vote) (length c.args.row.now.states) c.loop-p.p (omega (arith, ap (λ (row : Row). length row.states) c.row.view_is)) (sym c.elects.ensures ∙ c.if-elects.true))
+    let size = ap (λ (row : Row). length row.states) c.row.view_is in
+    let is = sym c.elects.ensures ∙ c.if-elects.true in
+    sym (any_here (elects c.args.row.now c.args.vote) (length c.args.row.now.states) c.loop-p.p (omega (arith, size)) is)
 
 pub returns : goal.returns
 returns c =
-    sym (any_nowhere (elects c.args.row.now c.args.vote) (length c.args.row.now.states) (λ q below. c.loop-p.invariant q (omega (arith, ap (λ (row : Row). length row.states) c.row.view_is))))
+    let size = ap (λ (row : Row). length row.states) c.row.view_is in
+    sym (any_nowhere (elects c.args.row.now c.args.vote) (length c.args.row.now.states) (λ q below. c.loop-p.invariant q (omega (arith, size))))

@@ -10,8 +10,11 @@ loop-p-preserved c =
 
 pub returns-then-leaves_out : goal.returns-then-leaves_out
 returns-then-leaves_out c =
-    sym (any_here (leaves_out c.args.row.now c.args.vote) (length c.args.row.now.states) c.loop-p.p (omega (arith, ap (λ (row : Row). length row.states) c.row.view_is)) (sym c.leaves_out.ensures ∙ c.if-leaves_out.true))
+    let size = ap (λ (row : Row). length row.states) c.row.view_is in
+    let is = sym c.leaves_out.ensures ∙ c.if-leaves_out.true in
+    sym (any_here (leaves_out c.args.row.now c.args.vote) (length c.args.row.now.states) c.loop-p.p (omega (arith, size)) is)
 
 pub returns : goal.returns
 returns c =
-    sym (any_nowhere (leaves_out c.args.row.now c.args.vote) (length c.args.row.now.states) (λ q below. c.loop-p.invariant q (omega (arith, ap (λ (row : Row). length row.states) c.row.view_is))))
+    let size = ap (λ (row : Row). length row.states) c.row.view_is in
+    sym (any_nowhere (leaves_out c.args.row.now c.args.vote) (length c.args.row.now.states) (λ q below. c.loop-p.invariant q (omega (arith, size))))
