@@ -2,7 +2,7 @@
 ghost use Rattle.std.specs.Prelude.{◌≤◌, length};
 ghost use Rattle.tool_edge.specs.Finishing.{FinishesOwed};
 ghost use Rattle.tool_edge.specs.Streams.{writing};
-ghost use Rattle.tool_edge.specs.Tool.{IsOwedFor};
+ghost use Rattle.tool_edge.specs.Tool.{IsOwedFor, no_history};
 ghost use Rattle.blt_normal.specs.Owed.{normal_tool};
 
 use blt_reader::{Election, read_blt};
@@ -23,7 +23,7 @@ pub(crate) fn rewrite<R: Threads + Sync, K: Sink>(
     sink: &mut K,
 ) -> End
     requires { length input.now ≤ 67108864 }
-    ensures { FinishesOwed (IsOwedFor normal_tool (tt {0}) input.now (tt {0})) result
+    ensures { FinishesOwed (IsOwedFor normal_tool (tt {0}) input.now no_history) result
         (writing K.written K.faults sink.old sink.new) }
 {
     let Election { ballots, roll } = match read_blt(alloc, input) {

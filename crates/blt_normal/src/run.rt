@@ -1,7 +1,7 @@
 // A whole run.
 ghost use Rattle.std.specs.Prelude.{map, string_bytes};
 ghost use Rattle.tool_edge.specs.Streams.{reading, writing};
-ghost use Rattle.tool_edge.specs.Tool.{IsRun};
+ghost use Rattle.tool_edge.specs.Tool.{IsRun, no_history};
 ghost use Rattle.blt_normal.specs.Owed.{normal_tool};
 
 use crate::rewriting::rewrite;
@@ -22,7 +22,7 @@ pub fn normal<R: Threads + Sync, S: Source, K: Sink>(
     sink: &mut K,
 ) -> End
     ensures { IsRun normal_tool (map string_bytes words.now)
-        (reading S.left S.faults source.old source.new) (writing K.written K.faults sink.old sink.new) result (tt {0}) }
+        (reading S.left S.faults source.old source.new) (writing K.written K.faults sink.old sink.new) result no_history }
 {
     files_are_not_refused();
     files_are_refused_once();
