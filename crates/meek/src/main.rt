@@ -12,7 +12,8 @@ fn main(rt: HostRuntime) -> ExitCode {
         return ExitCode::from(NO_WORDS);
     };
     let Ok(writer) = BufWriter::new(rt.alloc(), io::writer(&rt)) else {
-        return Status::NoMemory.exit_code();
+        let status: Status = Status::NoMemory;
+        return status.exit_code();
     };
     let mut source = StdSource::new(rt.reader());
     let mut sink = StdSink::new(writer);

@@ -12,7 +12,8 @@ fn main(rt: HostRuntime) -> ExitCode {
         return ExitCode::from(NO_WORDS);
     };
     let Ok(writer) = BufWriter::new(rt.alloc(), io::writer(&rt)) else {
-        return End::NoMemory.exit_code();
+        let end: End = End::NoMemory;
+        return end.exit_code();
     };
     let mut sink = StdSink::new(writer);
     let end = draw_in_public(rt.alloc(), words.as_slice(), &mut sink);

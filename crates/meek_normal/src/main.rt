@@ -12,7 +12,8 @@ fn main(rt: HostRuntime) -> ExitCode {
         return ExitCode::from(NO_WORDS);
     };
     let Ok(writer) = BufWriter::new(rt.alloc(), io::writer(&rt)) else {
-        return End::NoMemory.exit_code();
+        let end: End = End::NoMemory;
+        return end.exit_code();
     };
     let mut source = StdSource::new(rt.reader());
     let mut sink = StdSink::new(writer);

@@ -41,7 +41,8 @@ fn ends_as_what_was_due_or_as_a_fault(rt: HostRuntime) -> Result<(), Fail> {
 fn nothing_is_flushed_behind_a_write_that_failed(rt: HostRuntime) -> Result<(), Fail> {
     let mut sink = sink_of(rt.alloc(), 9, 9, &[1, 2])?;
     let wrote = write_all(&mut sink, b"abc");
-    assert_eq!(rt; close(&mut sink, wrote), End::SinkFault);
+    let end: End = close(&mut sink, wrote);
+    assert_eq!(rt; end, End::SinkFault);
     assert!(rt; sink.flush().is_err());
     Ok(())
 }
