@@ -81,24 +81,20 @@ fn other_texts_are_malformed(rt: HostRuntime) -> Result<(), Fail> {
     Ok(())
 }
 
-/// A sheet of two candidates and one iteration: its title, the number of the iteration, the vote of candidate 1, and
-/// this candidate's name.
-type Said<'a> = (&'a str, &'a str, &'a str, &'a str);
-
-fn sheet_with(alloc: Global, (title, number, vote, name): Said) -> Result<String, Fail> {
-    let head = format!(in alloc;
-        "title {title}\nseats 1\ncandidates 2\nballots 0\nround {number}\n"
+/// A sheet of two candidates and one iteration, with this title, number of the iteration, vote and name of candidate 1.
+fn sheet_with(
+    alloc: Global,
+    title: &str,
+    number: &str,
+    vote: &str,
+    name: &str,
+) -> Result<String, Fail> {
+    let text = format!(in alloc;
+        "title {title}\nseats 1\ncandidates 2\nballots 0\nround {number}\n\
+1 hopeful 1.000000000 {vote}\n2 hopeful 1.000000000 0.000000000\n\
+total 0.000000000\nquota 0.000000001\nsurplus 0.000000000\nstep defeat 1 tied 1 2\n\
+result\n1 defeated {name}\n2 elected B\nend\n"
     )?;
-    let votes = format!(in alloc;
-        "1 hopeful 1.000000000 {vote}\n2 hopeful 1.000000000 0.000000000\n"
-    )?;
-    let sums =
-        "total 0.000000000\nquota 0.000000001\nsurplus 0.000000000\nstep defeat 1 tied 1 2\n";
-    let last = format!(in alloc; "result\n1 defeated {name}\n2 elected B\nend\n")?;
-    let mut text = head;
-    for part in [votes.as_str(), sums, last.as_str()] {
-        text.push_str(part)?;
-    }
     Ok(text)
 }
 
@@ -112,8 +108,8 @@ fn letters(alloc: Global, len: usize) -> Result<String, Fail> {
 }
 
 /// Whether a sheet that says this is taken.
-fn takes(alloc: Global, said: Said) -> Result<bool, Fail> {
-    let text = sheet_with(alloc, said)?;
+fn takes(alloc: Global, title: &str, number: &str, vote: &str, name: &str) -> Result<bool, Fail> {
+    let text = sheet_with(alloc, title, number, vote, name)?;
     Ok(is_taken(alloc, text.as_bytes())?)
 }
 
@@ -138,24 +134,30 @@ fn numbers_have_their_greatest(rt: HostRuntime) -> Result<(), Fail> {
     .iter()
     .enumerate()
     {
-        let taken = takes(rt.alloc(), ("T", number, vote, "A"))?;
+        let taken = takes(rt.alloc(), "T", number, vote, "A")?;
         assert_eq!(rt; (i, taken), (i, *due));
     }
     Ok(())
 }
 
+/// Whether a sheet with a title and a name of so many letters is taken.
+fn takes_letters(alloc: Global, title: usize, name: usize) -> Result<bool, Fail> {
+    let title = letters(alloc, title)?;
+    let name = letters(alloc, name)?;
+    takes(
+        alloc,
+        title.as_str(),
+        "1 iteration 1",
+        "0.000000000",
+        name.as_str(),
+    )
+}
+
 #[test]
 fn names_and_titles_have_their_longest(rt: HostRuntime) -> Result<(), Fail> {
     for (title, name, due) in [(1_000, 200, true), (1_001, 200, false), (1_000, 201, false)] {
-        let title_text = letters(rt.alloc(), title)?;
-        let name_text = letters(rt.alloc(), name)?;
-        let said = (
-            title_text.as_str(),
-            "1 iteration 1",
-            "0.000000000",
-            name_text.as_str(),
-        );
-        assert_eq!(rt; (title, name, takes(rt.alloc(), said)?), (title, name, due));
+        let taken = takes_letters(rt.alloc(), title, name)?;
+        assert_eq!(rt; (title, name, taken), (title, name, due));
     }
     Ok(())
 }
@@ -163,11 +165,8 @@ fn names_and_titles_have_their_longest(rt: HostRuntime) -> Result<(), Fail> {
 #[test]
 fn names_and_titles_have_no_quote_and_no_tab(rt: HostRuntime) -> Result<(), Fail> {
     for (title, name) in [("T\"", "A"), ("T", "A\""), ("T\t", "A"), ("T", "A\t")] {
-        let said = (title, "1 iteration 1", "0.000000000", name);
-        assert_eq!(rt;
-            (title, name, takes(rt.alloc(), said)?),
-            (title, name, false)
-        );
+        let taken = takes(rt.alloc(), title, "1 iteration 1", "0.000000000", name)?;
+        assert_eq!(rt; (title, name, taken), (title, name, false));
     }
     Ok(())
 }
@@ -177,7 +176,8 @@ fn sheet_of(alloc: Global, candidates: u32) -> Result<String, Fail> {
     let mut text = format!(in alloc;
         "title T\nseats 1\ncandidates {candidates}\nballots 0\nresult\n1 elected A\n"
     )?;
-    for c in 2..candidates + 1 {
+    for before in 1..candidates {
+        let c = before + 1;
         let line = format!(in alloc; "{c} defeated A\n")?;
         text.push_str(line.as_str())?;
     }
