@@ -1,5 +1,7 @@
 -- A sorted list of batches, piece by piece, is the batches by rising number.
-use Rattle.std.proofs.Common.{◌≡◌, ◌≢◌, ◌⊎◌, ℕ, zero, suc, ◌+◌, ◌<◌, ◌≤◌, ◌==◌, true, false, List, [], ◌∷◌, ◌++◌, refl, sym, ap, ◌∙◌, subst, ⊎_elim, inl, inr, arith, Option, Some, None, eq-eqb, ne_eqb, append_assoc}
+use Rattle.std.proofs.Common.{◌≡◌, ◌≢◌, ◌⊎◌, ℕ, zero, suc, ◌+◌, ◌<◌, ◌≤◌, ◌==◌, true, false, List, [], ◌∷◌}
+use Rattle.std.proofs.Common.{◌++◌, refl, sym, ap, ◌∙◌, subst, ⊎_elim, inl, inr, arith, Option, Some, None}
+use Rattle.std.proofs.Common.{eq-eqb, ne_eqb, append_assoc}
 use Rattle.std.specs.Prelude.{is_some, All}
 use Rattle.std.specs.List.{flat_map, range_with_len, AllByRecursion}
 use Rattle.std.specs.List.Sorted.{IsStrictlySortedBy}
@@ -32,7 +34,9 @@ less-lt : (x y : ℕ) → nat_cmp x y ≡ Less → x < y
 less-lt x y less = grind (arith, nat_tests)
 
 -- the numbers of a list whose keys are above x
-above : (x k : ℕ) (es : List (ℕ × Batch)) → AllByRecursion (λ y. nat_cmp x y ≡ Less) (keys_of es) → is_some (by_number es k) ≡ true → x < k
+above :
+    (x k : ℕ) (es : List (ℕ × Batch)) → AllByRecursion (λ y. nat_cmp x y ≡ Less) (keys_of es)
+    → is_some (by_number es k) ≡ true → x < k
 above x k [] all some = absurd (cc)
 above x k (e ∷ es) all some = ⊎_elim
     (λ (h : ((k == e.0) ≡ true) × (k ≡ e.0)). subst (λ n. x < n) (sym h.1) (less-lt x e.0 all.0))
@@ -48,19 +52,28 @@ module _ {Y : Type 0} (g : Option Batch → List Y) (none : g None ≡ []) where
   no_pieces zero a = refl
   no_pieces (suc n) a = λ i. none i ++ no_pieces n (a + 1) i
 
-  pub in_order : (n a : ℕ) (es : List (ℕ × Batch)) → IsStrictlySortedBy nat_cmp (keys_of es) → ((k : ℕ) → is_some (by_number es k) ≡ true → (a ≤ k) × (k < a + n))
+  pub in_order :
+      (n a : ℕ) (es : List (ℕ × Batch)) → IsStrictlySortedBy nat_cmp (keys_of es)
+      → ((k : ℕ) → is_some (by_number es k) ≡ true → (a ≤ k) × (k < a + n))
       → flat_map (λ b. g (by_number es b)) (range_with_len a n) ≡ flat_map (λ (e : ℕ × Batch). g (Some e.1)) es
   in_order n a [] sorted within = no_pieces n a
-  in_order zero a (e ∷ es) sorted within = let h = within e.0 (ap is_some (found_head e.0 e es refl)) in absurd (omega (arith, h.0, h.1))
+  in_order zero a (e ∷ es) sorted within =
+      let h = within e.0 (ap is_some (found_head e.0 e es refl)) in absurd (omega (arith, h.0, h.1))
   in_order (suc n) a (e ∷ es) sorted within =
       let first = within e.0 (ap is_some (found_head e.0 e es refl)) in
-      let tail_above : (k : ℕ) → is_some (by_number es k) ≡ true → e.0 < k = λ k some. above e.0 k es (sorted_head nat_cmp e.0 (keys_of es) sorted) some in
+      let tail_above : (k : ℕ) → is_some (by_number es k) ≡ true → e.0 < k =
+      λ k some. above e.0 k es (sorted_head nat_cmp e.0 (keys_of es) sorted) some in
       ⊎_elim
       (λ (h : ((a == e.0) ≡ true) × (a ≡ e.0)).
       let is = h.1 in
-      let later : flat_map (λ b. g (by_number (e ∷ es) b)) (range_with_len (a + 1) n) ≡ flat_map (λ b. g (by_number es b)) (range_with_len (a + 1) n) =
-      same_pieces (λ b. g (by_number es b)) (λ b. g (by_number (e ∷ es) b)) e.0 (λ b ne. ap g (found_tail b e es ne)) n (a + 1) (omega arith) in
-      let rest : flat_map (λ b. g (by_number es b)) (range_with_len (a + 1) n) ≡ flat_map (λ (x : ℕ × Batch). g (Some x.1)) es =
+      let later :
+      flat_map (λ b. g (by_number (e ∷ es) b)) (range_with_len (a + 1) n)
+      ≡ flat_map (λ b. g (by_number es b)) (range_with_len (a + 1) n) =
+      same_pieces (λ b. g (by_number es b)) (λ b. g (by_number (e ∷ es) b)) e.0
+      (λ b ne. ap g (found_tail b e es ne)) n (a + 1) (omega arith) in
+      let rest :
+      flat_map (λ b. g (by_number es b)) (range_with_len (a + 1) n)
+      ≡ flat_map (λ (x : ℕ × Batch). g (Some x.1)) es =
       in_order n (a + 1) es (sorted_tail nat_cmp e.0 (keys_of es) sorted) (λ k some.
       let over = tail_above k some in
       let up = (within k (by_tail k some over)).1 in (omega arith, omega arith)) in
@@ -76,7 +89,10 @@ module _ {Y : Type 0} (g : Option Batch → List Y) (none : g None ≡ []) where
       ∙ in_order n (a + 1) (e ∷ es) sorted (λ k some.
       let low = (within k some).0 in
       let up = (within k some).1 in
-      let other : a ≢ k = λ is. absurd (let t : true ≡ false = sym some ∙ (ap (λ j. is_some (by_number (e ∷ es) j)) (sym is) ∙ ap is_some missing) in cc t) in
+      let other : a ≢ k =
+      λ is. absurd (let t : true ≡ false =
+      sym some ∙ (ap (λ j. is_some (by_number (e ∷ es) j)) (sym is) ∙ ap is_some missing) in
+      cc t) in
       (omega arith, omega arith)))
       (eqb_tells a e.0)
     where
@@ -96,14 +112,19 @@ kept_bounds candidates k None kept some = absurd (cc)
 kept_bounds candidates k (Some batch) kept some = kept.0
 
 -- the lines of the batches in the list's order are the standing lines by rising number
-pub by_values : (candidates : ℕ) (struck : List ℕ) (es : List (ℕ × Batch)) → IsStrictlySortedBy nat_cmp (keys_of es) → AreKept candidates (by_number es)
+pub by_values :
+    (candidates : ℕ) (struck : List ℕ) (es : List (ℕ × Batch)) → IsStrictlySortedBy nat_cmp (keys_of es)
+    → AreKept candidates (by_number es)
     → all_lines (values_of es) ≡ standing (record { batches = by_number es; struck = struck })
 unfolding last_batch
 by_values candidates struck es sorted kept =
     flat_map-map (λ b. lines_of (Some b)) (λ (e : ℕ × Batch). e.1) es
-    ∙ sym (in_order lines_of refl 9999 1 es sorted (λ k some. let b = kept_bounds candidates k (by_number es k) (kept k) some in (b.0, omega (arith, b.1))))
+    ∙ sym (in_order lines_of refl 9999 1 es sorted (λ k some.
+    let b = kept_bounds candidates k (by_number es k) (kept k) some in (b.0, omega (arith, b.1))))
 
-kept_tail : (candidates : ℕ) (e : ℕ × Batch) (es : List (ℕ × Batch)) → IsStrictlySortedBy nat_cmp (keys_of (e ∷ es)) → AreKept candidates (by_number (e ∷ es)) → AreKept candidates (by_number es)
+kept_tail :
+    (candidates : ℕ) (e : ℕ × Batch) (es : List (ℕ × Batch)) → IsStrictlySortedBy nat_cmp (keys_of (e ∷ es))
+    → AreKept candidates (by_number (e ∷ es)) → AreKept candidates (by_number es)
 kept_tail candidates e es sorted kept k = ⊎_elim
     (λ (m : by_number es k ≡ None). subst (IsKept candidates k) (sym m) tt)
     (λ (s : is_some (by_number es k) ≡ true).
@@ -111,14 +132,20 @@ kept_tail candidates e es sorted kept k = ⊎_elim
     subst (IsKept candidates k) (found_tail k e es (λ is. let i = is in let o = over in omega arith)) (kept k))
     (none_or_some (by_number es k))
 
-pub all_fit : (candidates : ℕ) (es : List (ℕ × Batch)) → IsStrictlySortedBy nat_cmp (keys_of es) → AreKept candidates (by_number es) → AreOfBatches candidates (values_of es)
+pub all_fit :
+    (candidates : ℕ) (es : List (ℕ × Batch)) → IsStrictlySortedBy nat_cmp (keys_of es)
+    → AreKept candidates (by_number es) → AreOfBatches candidates (values_of es)
 all_fit candidates [] sorted kept = λ k d lt. absurd (omega arith)
 all_fit candidates (e ∷ es) sorted kept =
     let here = subst (IsKept candidates e.0) (found_head e.0 e es refl) (kept e.0) in
-    All-cons (λ (b : Batch). AreOfBatch candidates b.standing) e.1 (values_of es) here.2 (all_fit candidates es (sorted_tail nat_cmp e.0 (keys_of es) sorted) (kept_tail candidates e es sorted kept))
+    All-cons (λ (b : Batch). AreOfBatch candidates b.standing) e.1 (values_of es) here.2
+    (all_fit candidates es (sorted_tail nat_cmp e.0 (keys_of es) sorted)
+    (kept_tail candidates e es sorted kept))
 
 -- there is room for the next batch's lines
-pub room_for : (candidates : ℕ) (book : BookState) (lines : List BallotLine) (batch : Batch) (left : List Batch) → AreKept candidates book.batches → lines ++ all_lines (batch ∷ left) ≡ standing book
+pub room_for :
+    (candidates : ℕ) (book : BookState) (lines : List BallotLine) (batch : Batch) (left : List Batch)
+    → AreKept candidates book.batches → lines ++ all_lines (batch ∷ left) ≡ standing book
     → ballot_count lines + ballot_count (lines_of (Some batch)) ≤ 999999999
 room_for candidates book lines batch left kept is =
     let total = standing_total candidates book kept in
@@ -128,7 +155,9 @@ room_for candidates book lines batch left kept is =
     omega arith
 
 -- one batch's lines more
-pub lines_more : (lines new : List BallotLine) (batch : Batch) (left : List Batch) (all : List BallotLine) → lines ++ all_lines (batch ∷ left) ≡ all → new ≡ lines ++ ballot_lines batch.standing
+pub lines_more :
+    (lines new : List BallotLine) (batch : Batch) (left : List Batch) (all : List BallotLine)
+    → lines ++ all_lines (batch ∷ left) ≡ all → new ≡ lines ++ ballot_lines batch.standing
     → new ++ all_lines left ≡ all
 lines_more lines new batch left all so_far is =
     ap (λ l. l ++ all_lines left) is ∙ (append_assoc lines (ballot_lines batch.standing) (all_lines left) ∙ so_far)

@@ -18,7 +18,9 @@ use Rattle.blt_normal.specs.Laws.{TextsStay}
 use Rattle.blt_normal.specs.Owed.{normal_tool}
 
 -- The text of some ballots is that of the same ballots in another order.
-text_moved : (one other : List (List ℕ)) (roll : RollList) (text : List ℕ) → IsPermutation one other → IsBltText one roll text → IsBltText other roll text
+text_moved :
+    (one other : List (List ℕ)) (roll : RollList) (text : List ℕ) → IsPermutation one other
+    → IsBltText one roll text → IsBltText other roll text
 text_moved one other roll text moved (lines, are, is) = (
   lines,
   record { rising = are.rising; counted = are.counted; same = IsPermutation-trans _ _ _ are.same moved },
@@ -30,8 +32,15 @@ pub owed_for_file :
     (input : List ℕ) (poll : Poll) (ballots : List (List ℕ)) (roll : RollList) (text : List ℕ) → length input ≤ file_limit
     → SaysPoll input poll → IsPermutation ballots (plain poll.lines) → roll ≡ poll.roll → IsBltText ballots roll text
     → IsOwedFor normal_tool (tt {0}) input no_history Done text
-owed_for_file input poll ballots roll text short says moved same is =
-    (short, (poll, says, subst (λ (r : RollList). IsBltText (plain poll.lines) r text) same (text_moved ballots (plain poll.lines) roll text moved is)))
+owed_for_file input poll ballots roll text short says moved same is = (
+  short,
+  (
+    poll,
+    says,
+    subst (λ (r : RollList). IsBltText (plain poll.lines) r text) same
+        (text_moved ballots (plain poll.lines) roll text moved is),
+  ),
+)
 
 -- what was written, as a tool's end takes it
 pub wrote_text :

@@ -1,5 +1,6 @@
 -- The tables of ballots accept all ballots.
-use Rattle.std.proofs.Common.{◌≡◌, ℕ, ◌+◌, ◌≤◌, ◌≢◌, List, [], ◌∷◌, ◌++◌, map, refl, sym, ◌∙◌, ap, subst, arith, append_assoc, Ok}
+use Rattle.std.proofs.Common.{◌≡◌, ℕ, ◌+◌, ◌≤◌, ◌≢◌, List, [], ◌∷◌, ◌++◌, map, refl, sym, ◌∙◌, ap, subst}
+use Rattle.std.proofs.Common.{arith, append_assoc, Ok}
 use Rattle.std.specs.Prelude.{All, AllPairs}
 use Rattle.std.specs.List.{flat_map}
 use Rattle.std.proofs.lemmas.Bool.{le-leb}
@@ -32,7 +33,8 @@ module _ (candidates : ℕ) where
       let in_it = All-head IsNumber n ranks each in
       let regrouped = append_assoc before (n ∷ []) ranks in
       rw (nonzero n in_it.0, le-leb n candidates in_it.1, not_before before ranks n different)
-      (reads_ranks ranks (before ++ n ∷ []) (All-tail IsNumber n ranks each) (subst (AllPairs (λ a b. a ≢ b)) (sym regrouped) different)
+      (reads_ranks ranks (before ++ n ∷ []) (All-tail IsNumber n ranks each)
+      (subst (AllPairs (λ a b. a ≢ b)) (sym regrouped) different)
       ∙ ap (λ (r : List ℕ). Ok (GoesOn r)) regrouped)
 
   pub reads_ranking :
@@ -54,7 +56,8 @@ module _ (candidates : ℕ) (limit : Limit) where
   count_read :
       (lines : List BallotLine) (count : ℕ) (items : List Item) → 1 ≤ count → ballot_count lines + count ≤ limit.most
       → after Table (GoesOn (Between lines)) (Number count ∷ items) ≡ after Table (GoesOn (Within lines count [])) items
-  count_read lines count items counted room = rw (nonzero count counted, le-leb (ballot_count lines + count) limit.most room) refl
+  count_read lines count items counted room =
+      rw (nonzero count counted, le-leb (ballot_count lines + count) limit.most room) refl
 
   -- what the table of one line accepts is accepted within the lines
   within :
@@ -67,7 +70,8 @@ module _ (candidates : ℕ) (limit : Limit) where
   within lines count items =
       carries (at_rank candidates) Table (λ ranks. GoesOn (Within lines count ranks))
       (λ ranks. GoesOn (Between (with_line lines count ranks)))
-      (λ ranks item. carried_is (λ more. Within lines count more) (λ all. Between (with_line lines count all)) (at_rank candidates ranks item)) items
+      (λ ranks item. carried_is (λ more. Within lines count more) (λ all. Between (with_line lines count all))
+      (at_rank candidates ranks item)) items
 
   pub reads_begun_line :
       (lines : List BallotLine) (count : ℕ) (ranks : List ℕ) → IsRanking candidates ranks → 1 ≤ count
@@ -75,7 +79,8 @@ module _ (candidates : ℕ) (limit : Limit) where
       (GoesOn (Within lines count ranks))
   reads_begun_line lines count ranks is counted room =
       count_read lines count (map Number ranks) counted room
-      ∙ within lines count (map Number ranks) (GoesOn []) (GoesOn ranks) (reads_ranks candidates ranks [] is.numbers is.different)
+      ∙ within lines count (map Number ranks) (GoesOn []) (GoesOn ranks)
+      (reads_ranks candidates ranks [] is.numbers is.different)
 
   pub reads_line :
       (lines : List BallotLine) (line : BallotLine) → IsRanking candidates line.ranking → 1 ≤ line.count
@@ -87,10 +92,12 @@ module _ (candidates : ℕ) (limit : Limit) where
       (reads_ranking candidates line.ranking is)
 
   reads_more_lines :
-      (more lines : List BallotLine) → All (λ line. IsRanking candidates line.ranking) more → All (λ line. 1 ≤ line.count) more
+      (more lines : List BallotLine) → All (λ line. IsRanking candidates line.ranking) more
+      → All (λ line. 1 ≤ line.count) more
       → ballot_count (lines ++ more) ≤ limit.most → Reads (GoesOn (Between lines)) (flat_map ballot more)
       (GoesOn (Between (lines ++ more)))
-  reads_more_lines [] lines rankings counted room = ap (λ (l : List BallotLine). Ok (GoesOn (Between l))) (sym (append-nil lines))
+  reads_more_lines [] lines rankings counted room =
+      ap (λ (l : List BallotLine). Ok (GoesOn (Between l))) (sym (append-nil lines))
   reads_more_lines (line ∷ more) lines rankings counted room =
       let regrouped = append_assoc lines (line ∷ []) more in
       let all = sum_by-append (λ (l : BallotLine). l.count) lines (line ∷ more) in
@@ -110,8 +117,11 @@ module _ (candidates : ℕ) (limit : Limit) where
   reads_lines lines are = reads_more_lines lines [] are.rankings are.counted are.bounded
 
   pub reads_ballots :
-      (lines : List BallotLine) → AreLines candidates limit.most lines → Reads (GoesOn (Between [])) (ballots lines) (Ends lines)
-  reads_ballots lines are = in_parts Table (GoesOn (Between [])) (GoesOn (Between lines)) (flat_map ballot lines) (Number 0 ∷ []) (reads_lines lines are)
+      (lines : List BallotLine) → AreLines candidates limit.most lines
+      → Reads (GoesOn (Between [])) (ballots lines) (Ends lines)
+  reads_ballots lines are =
+      in_parts Table (GoesOn (Between [])) (GoesOn (Between lines)) (flat_map ballot lines) (Number 0 ∷ [])
+      (reads_lines lines are)
 
   abbrev Begin : Progress Lines (List BallotLine)
   Begin = GoesOn (Between [])
@@ -119,9 +129,12 @@ module _ (candidates : ℕ) (limit : Limit) where
   pub reads_line_front :
       (expected : Progress Lines (List BallotLine)) (items : List Item) → IsLineFront candidates limit.most expected items
       → Reads Begin items expected
-  reads_line_front (GoesOn (Between lines)) items is = subst (λ (l : List Item). Reads Begin l (GoesOn (Between lines))) is.1 (reads_lines lines is.0)
+  reads_line_front (GoesOn (Between lines)) items is =
+      subst (λ (l : List Item). Reads Begin l (GoesOn (Between lines))) is.1 (reads_lines lines is.0)
   reads_line_front (GoesOn (Within lines count ranks)) items is =
       subst (λ (l : List Item). Reads Begin l (GoesOn (Within lines count ranks))) is.1 (
-      in_parts Table Begin (GoesOn (Between lines)) (flat_map ballot lines) (Number count ∷ map Number ranks) (reads_lines lines is.0.before)
+      in_parts Table Begin (GoesOn (Between lines)) (flat_map ballot lines) (Number count ∷ map Number ranks)
+      (reads_lines lines is.0.before)
       ∙ reads_begun_line lines count ranks is.0.ranking is.0.counted is.0.room)
-  reads_line_front (Ends lines) items is = subst (λ (l : List Item). Reads Begin l (Ends lines)) is.1 (reads_ballots lines is.0)
+  reads_line_front (Ends lines) items is =
+      subst (λ (l : List Item). Reads Begin l (Ends lines)) is.1 (reads_ballots lines is.0)

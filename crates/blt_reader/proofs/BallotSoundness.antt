@@ -1,5 +1,6 @@
 -- What the tables of ballots accept so far is a front part of ballots.
-use Rattle.std.proofs.Common.{◌≡◌, ℕ, ◌+◌, ◌≤◌, ◌≢◌, List, [], ◌∷◌, ◌++◌, map, false, refl, sym, ◌∙◌, ap, subst, arith, inl, inr, append_assoc, get_or, nat_le, ◌==◌, Ok, Err}
+use Rattle.std.proofs.Common.{◌≡◌, ℕ, ◌+◌, ◌≤◌, ◌≢◌, List, [], ◌∷◌, ◌++◌, map, false, refl, sym, ◌∙◌, ap}
+use Rattle.std.proofs.Common.{subst, arith, inl, inr, append_assoc, get_or, nat_le, ◌==◌, Ok, Err}
 use Rattle.std.specs.List.{flat_map, list_any}
 use Rattle.std.proofs.lemmas.Bool.{true≢false, leb-true, eqb-true, eq-eqb}
 use Rattle.std.proofs.lemmas.List.{append-nil, map-append}
@@ -19,7 +20,11 @@ use Rattle.blt_reader.specs.Front.{begun, IsOpenLine, AreBegun, IsLineFront}
 use Rattle.input_text.proofs.Judgements.{refused, same_value, passed, went, not_zero}
 
 pub no_ranks : (candidates : ℕ) → IsRanking candidates []
-no_ranks candidates = record { numbers = All-nil (λ r. (1 ≤ r) × (r ≤ candidates)); different = λ i j d before within. absurd (omega arith) }
+no_ranks candidates =
+    record {
+      numbers = All-nil (λ r. (1 ≤ r) × (r ≤ candidates));
+      different = λ i j d before within. absurd (omega arith);
+    }
 
 -- a candidate behind others from which it differs
 pub one_rank_more :
@@ -56,8 +61,10 @@ module _ (candidates : ℕ) where
       | inr above ↦ absurd (refused above.1)
       | inl within ↦ elim (went (list_any (λ r. r == n) ranks) _ _ (Ok next) within.1) [
         | inl again ↦ absurd (refused again.1)
-        | inr new ↦ subst (λ r. IsRankFront r (map Number ranks ++ Number n ∷ [])) (same_value new.1)
-            (one_rank_more candidates ranks n is (not_zero n miss.0) (leb-true n candidates within.0) new.0, map-append Number ranks (n ∷ []))
+        | inr new ↦ subst (λ r. IsRankFront r (map Number ranks ++ Number n ∷ [])) (same_value new.1) (
+          one_rank_more candidates ranks n is (not_zero n miss.0) (leb-true n candidates within.0) new.0,
+          map-append Number ranks (n ∷ []),
+        )
       ]
     ]
   ]
@@ -98,7 +105,9 @@ module _ (candidates : ℕ) (limit : Limit) where
     | inl hit ↦ subst (λ l. IsFront l (flat_map ballot lines ++ Number n ∷ [])) (same_value hit.1)
         (are, ap (λ (k : ℕ). flat_map ballot lines ++ Number k ∷ []) (sym (eqb-true n 0 hit.0)))
     | inr miss ↦
-        let room = passed (nat_le (ballot_count lines + n) limit.most) (GoesOn (Within lines n [])) next limit.refusal miss.1 in
+        let room =
+        passed (nat_le (ballot_count lines + n) limit.most) (GoesOn (Within lines n [])) next
+        limit.refusal miss.1 in
         subst (λ l. IsFront l (flat_map ballot lines ++ Number n ∷ [])) room.1 (
           record {
             before = are;
@@ -139,4 +148,5 @@ module _ (candidates : ℕ) (limit : Limit) where
       → at_line candidates limit lines x ≡ Ok next → IsFront next (begun lines ++ x ∷ [])
   line_goes_on (Between lines) next (Number n) are e = count_goes_on lines next n are e
   line_goes_on (Between lines) next x are e = absurd (refused e)
-  line_goes_on (Within lines count ranks) next x is e = within_goes_on lines count ranks x next (at_rank candidates ranks x) is refl e
+  line_goes_on (Within lines count ranks) next x is e =
+      within_goes_on lines count ranks x next (at_rank candidates ranks x) is refl e

@@ -1,5 +1,6 @@
 -- The table of ballot files accepts each front part of a file, and each front part can go on to a file.
-use Rattle.std.proofs.Common.{◌≡◌, ℕ, ◌+◌, ◌-◌, ◌<◌, ◌≤◌, List, [], ◌∷◌, ◌++◌, length, map, Bool, refl, sym, ◌∙◌, ap, arith, append_assoc, Ok}
+use Rattle.std.proofs.Common.{◌≡◌, ℕ, ◌+◌, ◌-◌, ◌<◌, ◌≤◌, List, [], ◌∷◌, ◌++◌, length, map, Bool, refl, sym}
+use Rattle.std.proofs.Common.{◌∙◌, ap, arith, append_assoc, Ok}
 use Rattle.std.specs.Prelude.{All, replicate}
 use Rattle.std.specs.List.{flat_map}
 use Rattle.std.proofs.lemmas.Bool.{le-leb}
@@ -12,7 +13,8 @@ use Rattle.input_text.specs.Range.{IsIn}
 use Rattle.blt_reader.specs.Blt.{AreLines, ballot, ballots, IsUpToTitle, IsBlt}
 use Rattle.input_text.specs.Judged.{Judged, after, Progress, GoesOn, Ends, going_on, closed}
 use Rattle.blt_reader.specs.BallotTable.{Limit, Lines, Between, Within, at_line}
-use Rattle.blt_reader.specs.BltTable.{Heading, Expected, Candidates, Seats, Withdrawn, Ballots, Name, Title, at_token, behind_name, poll_of, behind_title, at_file_token}
+use Rattle.blt_reader.specs.BltTable.{Heading, Expected, Candidates, Seats, Withdrawn, Ballots, Name, Title}
+use Rattle.blt_reader.specs.BltTable.{at_token, behind_name, poll_of, behind_title, at_file_token}
 use Rattle.blt_reader.specs.Front.{opening_of, begun, AreBegun, IsFront}
 use Rattle.input_text.proofs.Judgements.{to_range}
 use Rattle.input_text.proofs.Tables.{in_parts, carried_is, place_of, carries}
@@ -44,11 +46,13 @@ module _ (limit : Limit) (behind : Poll → Item → Judged (Progress Expected P
       (numbers : List ℕ) (h : Heading) → All (IsIn h.candidates) numbers
       → Reads (Withdrawn h) (map Minus numbers) (GoesOn (Withdrawn (record h { withdrawn = h.withdrawn ++ numbers })))
   unfolding at_token
-  reads_withdrawn [] h each = ap (λ (w : List ℕ). Ok (GoesOn (Withdrawn (record h { withdrawn = w })))) (sym (append-nil h.withdrawn))
+  reads_withdrawn [] h each =
+      ap (λ (w : List ℕ). Ok (GoesOn (Withdrawn (record h { withdrawn = w })))) (sym (append-nil h.withdrawn))
   reads_withdrawn (n ∷ numbers) h each =
       rw (to_range h.candidates n (All-head (IsIn h.candidates) n numbers each))
       (reads_withdrawn numbers (record h { withdrawn = h.withdrawn ++ n ∷ [] }) (All-tail (IsIn h.candidates) n numbers each)
-      ∙ ap (λ (w : List ℕ). Ok (GoesOn (Withdrawn (record h { withdrawn = w })))) (append_assoc h.withdrawn (n ∷ []) numbers))
+      ∙ ap (λ (w : List ℕ). Ok (GoesOn (Withdrawn (record h { withdrawn = w }))))
+      (append_assoc h.withdrawn (n ∷ []) numbers))
 
   pub reads_opening :
       (h : Heading) → IsIn 250 h.candidates → IsIn 250 h.seats → All (IsIn h.candidates) h.withdrawn
@@ -64,8 +68,11 @@ module _ (limit : Limit) (behind : Poll → Item → Judged (Progress Expected P
       → after Table (place_of (λ lines. GoesOn (Ballots h lines)) (λ lines. GoesOn (Name h lines [])) start) items
       ≡ Ok (place_of (λ lines. GoesOn (Ballots h lines)) (λ lines. GoesOn (Name h lines [])) last)
   unfolding at_token
-  in_ballots h items = carries (at_line h.candidates limit) Table (λ lines. GoesOn (Ballots h lines)) (λ lines. GoesOn (Name h lines []))
-      (λ lines item. carried_is (λ more. Ballots h more) (λ all. Name h all []) (at_line h.candidates limit lines item)) items
+  in_ballots h items =
+      carries (at_line h.candidates limit) Table (λ lines. GoesOn (Ballots h lines))
+      (λ lines. GoesOn (Name h lines []))
+      (λ lines item. carried_is (λ more. Ballots h more) (λ all. Name h all [])
+      (at_line h.candidates limit lines item)) items
 
   -- the first count is judged as every count is
   pub first_number :
@@ -109,11 +116,15 @@ module _ (limit : Limit) (behind : Poll → Item → Judged (Progress Expected P
       → length names + length more ≤ h.candidates
       → Reads (behind_name h lines names) (map Text more) (GoesOn (behind_name h lines (names ++ more)))
   unfolding at_token
-  reads_names [] names h lines short fewer = ap (λ (n : List (List ℕ)). Ok (GoesOn (behind_name h lines n))) (sym (append-nil names))
+  reads_names [] names h lines short fewer =
+      ap (λ (n : List (List ℕ)). Ok (GoesOn (behind_name h lines n))) (sym (append-nil names))
   reads_names (name ∷ more) names h lines short fewer =
       let one_more : length names < h.candidates = omega (arith, fewer) in
       let counts : length (names ++ name ∷ []) + length more ≤ h.candidates = omega (arith, fewer, length_push names name) in
-      rw (name_expected h lines names one_more, le-leb (length name) 200 (All-head (λ (n : List ℕ). length n ≤ 200) name more short))
+      rw (
+        name_expected h lines names one_more,
+        le-leb (length name) 200 (All-head (λ (n : List ℕ). length n ≤ 200) name more short),
+      )
       (reads_names more (names ++ name ∷ []) h lines (All-tail (λ (n : List ℕ). length n ≤ 200) name more short) counts
       ∙ ap (λ (n : List (List ℕ)). Ok (GoesOn (behind_name h lines n))) (append_assoc names (name ∷ []) more))
 
@@ -131,7 +142,8 @@ module _ (limit : Limit) (behind : Poll → Item → Judged (Progress Expected P
       → Reads Candidates (opening_of h ++ (ballots lines ++ map Text names)) (GoesOn (behind_name h lines names))
   reads_up_to_names h lines names candidates seats each are short fewer =
       let some : 0 < h.candidates = omega (arith, candidates.least) in
-      in_parts Table (GoesOn Candidates) (GoesOn (Withdrawn h)) (opening_of h) (ballots lines ++ map Text names) (reads_opening h candidates seats each)
+      in_parts Table (GoesOn Candidates) (GoesOn (Withdrawn h)) (opening_of h)
+      (ballots lines ++ map Text names) (reads_opening h candidates seats each)
       ∙ first_ballots lines h (map Text names)
       ∙ in_parts Table (GoesOn (Ballots h (Between []))) (GoesOn (Name h lines [])) (ballots lines) (map Text names)
       (in_ballots h (ballots lines) (GoesOn (Between [])) (Ends lines) (reads_ballots h.candidates limit lines are))
@@ -140,10 +152,13 @@ module _ (limit : Limit) (behind : Poll → Item → Judged (Progress Expected P
 
   -- each front part is read as such
   pub reads_front :
-      (expected : Expected) (items : List Item) → IsFront limit.most expected items → Reads Candidates items (GoesOn expected)
+      (expected : Expected) (items : List Item) → IsFront limit.most expected items
+      → Reads Candidates items (GoesOn expected)
   unfolding at_token
   reads_front Candidates items front = ap (λ (l : List Item). after Table (GoesOn Candidates) l) front
-  reads_front (Seats candidates) items front = ap (λ (l : List Item). after Table (GoesOn Candidates) l) front.1 ∙ rw (to_range 250 candidates front.0) refl
+  reads_front (Seats candidates) items front =
+      ap (λ (l : List Item). after Table (GoesOn Candidates) l) front.1
+      ∙ rw (to_range 250 candidates front.0) refl
   reads_front (Withdrawn h) items front =
       ap (λ (l : List Item). after Table (GoesOn Candidates) l) (front.spelled ∙ append-nil (opening_of h))
       ∙ reads_opening h front.numbers.candidates front.numbers.seats front.numbers.each_withdrawn
@@ -156,12 +171,14 @@ module _ (limit : Limit) (behind : Poll → Item → Judged (Progress Expected P
   reads_front (Name h lines names) items front =
       let is = front.0 in
       ap (λ (l : List Item). after Table (GoesOn Candidates) l) is.spelled
-      ∙ reads_up_to_names h lines names is.numbers.candidates is.numbers.seats is.numbers.each_withdrawn is.all_lines is.so_far (omega (arith, front.1))
+      ∙ reads_up_to_names h lines names is.numbers.candidates is.numbers.seats is.numbers.each_withdrawn
+      is.all_lines is.so_far (omega (arith, front.1))
       ∙ ap (λ (s : Expected). Ok (GoesOn s)) (name_expected h lines names front.1)
   reads_front (Title h lines names) items front =
       let is = front.0 in
       ap (λ (l : List Item). after Table (GoesOn Candidates) l) is.spelled
-      ∙ reads_up_to_names h lines names is.numbers.candidates is.numbers.seats is.numbers.each_withdrawn is.all_lines is.so_far (omega (arith, front.1))
+      ∙ reads_up_to_names h lines names is.numbers.candidates is.numbers.seats is.numbers.each_withdrawn
+      is.all_lines is.so_far (omega (arith, front.1))
       ∙ ap (λ (s : Expected). Ok (GoesOn s)) (title_expected h lines names front.1)
 
   -- and so is each file up to its title
@@ -171,8 +188,11 @@ module _ (limit : Limit) (behind : Poll → Item → Judged (Progress Expected P
       let names = poll.roll.names in
       let h : Heading = record { candidates = length names; seats = poll.roll.seats; withdrawn = is.withdrawn } in
       let fewer : length names ≤ length names = omega arith in
-      let regrouped : items ≡ (opening_of h ++ (ballots poll.lines ++ map Text names)) ++ Text poll.roll.title ∷ [] = is.spelled
-      ∙ ap (λ (l : List Item). opening_of h ++ l) (sym (append_assoc (ballots poll.lines) (map Text names) (Text poll.roll.title ∷ [])))
+      let regrouped :
+      items ≡ (opening_of h ++ (ballots poll.lines ++ map Text names)) ++ Text poll.roll.title ∷ [] =
+      is.spelled
+      ∙ ap (λ (l : List Item). opening_of h ++ l)
+      (sym (append_assoc (ballots poll.lines) (map Text names) (Text poll.roll.title ∷ [])))
       ∙ sym (append_assoc (opening_of h) (ballots poll.lines ++ map Text names) (Text poll.roll.title ∷ [])) in
       ap (λ (l : List Item). after Table (GoesOn Candidates) l) regrouped
       ∙ in_parts Table (GoesOn Candidates) (GoesOn (Title h poll.lines names))
@@ -195,16 +215,20 @@ module _ (limit : Limit) (behind : Poll → Item → Judged (Progress Expected P
   title_missing h lines names = (Text [] ∷ [], _, reads_title h lines names [] (omega arith))
 
   names_missing :
-      (h : Heading) (lines : List BallotLine) (names : List (List ℕ)) → length names < h.candidates → CanGoOn (Name h lines names)
+      (h : Heading) (lines : List BallotLine) (names : List (List ℕ)) → length names < h.candidates
+      → CanGoOn (Name h lines names)
   names_missing h lines names fewer =
       let fill : List (List ℕ) = replicate (h.candidates - length names) [] in
-      let counts : length names + length fill ≡ h.candidates = omega (arith, fewer, length-replicate {A = List ℕ} (h.candidates - length names) []) in
+      let counts : length names + length fill ≡ h.candidates =
+      omega (arith, fewer, length-replicate {A = List ℕ} (h.candidates - length names) []) in
       let within : length names + length fill ≤ h.candidates = omega (arith, counts) in
       let all : length (names ++ fill) ≡ h.candidates = length-append names fill ∙ counts in (
         map Text fill ++ Text [] ∷ [],
         _,
-        ap (λ (s : Expected). after Table (GoesOn s) (map Text fill ++ Text [] ∷ [])) (sym (name_expected h lines names fewer))
-            ∙ in_parts Table (GoesOn (behind_name h lines names)) (GoesOn (Title h lines (names ++ fill))) (map Text fill) (Text [] ∷ [])
+        ap (λ (s : Expected). after Table (GoesOn s) (map Text fill ++ Text [] ∷ []))
+            (sym (name_expected h lines names fewer))
+            ∙ in_parts Table (GoesOn (behind_name h lines names)) (GoesOn (Title h lines (names ++ fill)))
+            (map Text fill) (Text [] ∷ [])
             (reads_names fill names h lines (short_names (h.candidates - length names)) within
             ∙ ap (λ (s : Expected). Ok (GoesOn s)) (title_expected h lines (names ++ fill) all))
             ∙ reads_title h lines (names ++ fill) [] (omega arith),
@@ -228,7 +252,10 @@ module _ (limit : Limit) (behind : Poll → Item → Judged (Progress Expected P
 
   one_seat : (candidates : ℕ) → 0 < candidates → CanGoOn (Seats candidates)
   unfolding at_token
-  one_seat candidates some = let rest = no_ballots (record { candidates = candidates; seats = 1; withdrawn = [] }) some in (Number 1 ∷ rest.0, rest.1, rest.2)
+  one_seat candidates some =
+      let rest =
+      no_ballots (record { candidates = candidates; seats = 1; withdrawn = [] }) some in
+      (Number 1 ∷ rest.0, rest.1, rest.2)
 
   one_candidate : CanGoOn Candidates
   unfolding at_token
@@ -239,7 +266,8 @@ module _ (limit : Limit) (behind : Poll → Item → Judged (Progress Expected P
   can_go_on (Seats candidates) items front = one_seat candidates (omega (arith, front.0.least))
   can_go_on (Withdrawn h) items front = no_ballots h (omega (arith, front.numbers.candidates.least))
   can_go_on (Ballots h (Between lines)) items front = ballots_end h lines (omega (arith, front.0.numbers.candidates.least))
-  can_go_on (Ballots h (Within lines count ranks)) items front = line_ends h lines count ranks (omega (arith, front.0.numbers.candidates.least))
+  can_go_on (Ballots h (Within lines count ranks)) items front =
+      line_ends h lines count ranks (omega (arith, front.0.numbers.candidates.least))
   can_go_on (Name h lines names) items front = names_missing h lines names front.1
   can_go_on (Title h lines names) items front = title_missing h lines names
 

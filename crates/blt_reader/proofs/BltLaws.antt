@@ -10,13 +10,16 @@ use Rattle.input_text.specs.Judged.{Judged, after, Progress, GoesOn, Ends, ended
 use Rattle.blt_reader.specs.BallotTable.{Limit, Lines, Between, at_line}
 use Rattle.blt_reader.specs.BltTable.{Expected, Candidates, at_token, behind_title, at_file_token}
 use Rattle.blt_reader.specs.Front.{IsRollFront, IsFileFront, IsLineFront}
-use Rattle.blt_reader.specs.Said.{nothing_more, at_roll_token, HasOnePoll, FollowsOpenLists, ExpectsRightly, AcceptsFiles, RefusesByTheRule, RefusesAllElse, AcceptsRolls, RefusesRollsByTheRule, ExpectsRollsRightly, ExpectsLinesRightly}
+use Rattle.blt_reader.specs.Said.{nothing_more, at_roll_token, HasOnePoll, FollowsOpenLists, ExpectsRightly}
+use Rattle.blt_reader.specs.Said.{AcceptsFiles, RefusesByTheRule, RefusesAllElse, AcceptsRolls}
+use Rattle.blt_reader.specs.Said.{RefusesRollsByTheRule, ExpectsRollsRightly, ExpectsLinesRightly}
 use Rattle.input_text.proofs.Judgements.{refused, same_some, none_not}
 use Rattle.blt_reader.proofs.BallotSoundness.{no_lines, line_goes_on}
 use Rattle.blt_reader.proofs.BallotCompleteness.{reads_line_front}
 use Rattle.blt_reader.proofs.BltSoundness.{roll_goes_on, file_goes_on}
 use Rattle.blt_reader.proofs.BltCompleteness.{reads_front, reads_up_to_title, can_go_on, reads_blt}
-use Rattle.input_text.proofs.Ruling.{front_behind, Follows, expects, follows_open, one_value, refuses_by_rule, accepts, refuses_else}
+use Rattle.input_text.proofs.Ruling.{front_behind, Follows, expects, follows_open, one_value, refuses_by_rule}
+use Rattle.input_text.proofs.Ruling.{accepts, refuses_else}
 use Rattle.input_text.proofs.FrontRuling.{reads_fronts, refuses_fronts}
 
 module _ (limit : Limit) where
@@ -40,13 +43,19 @@ module _ (limit : Limit) where
   roll_completes :
       (expected : Progress Expected Poll) (items : List Item) → IsRollFront limit.most expected items
       → Completes (at_roll_token limit) expected
-  roll_completes (GoesOn expected) items front = let rest = can_go_on limit nothing_more expected items front in (rest.0, Ends rest.1, rest.1, rest.2, refl)
+  roll_completes (GoesOn expected) items front =
+      let rest =
+      can_go_on limit nothing_more expected items front in
+      (rest.0, Ends rest.1, rest.1, rest.2, refl)
   roll_completes (Ends poll) items front = ([], Ends poll, poll, refl, refl)
 
   file_completes :
       (expected : Progress Expected Poll) (items : List Item) → IsFileFront limit.most expected items
       → Completes (at_file_token limit) expected
-  file_completes (GoesOn expected) items front = let rest = can_go_on limit behind_title expected items front in (rest.0, Ends rest.1, rest.1, rest.2, refl)
+  file_completes (GoesOn expected) items front =
+      let rest =
+      can_go_on limit behind_title expected items front in
+      (rest.0, Ends rest.1, rest.1, rest.2, refl)
   file_completes (Ends poll) items front = ([], Ends poll, poll, refl, refl)
 
   roll_ends :
@@ -61,7 +70,9 @@ module _ (limit : Limit) where
   file_ends (GoesOn expected) poll items front is = absurd (none_not is)
   file_ends (Ends value) poll items front is = subst (IsBlt limit.most items) (same_some is) front
 
-  pub roll_follows : Follows (at_roll_token limit) ended (GoesOn Candidates) (IsUpToTitle limit.most) (IsRollFront limit.most)
+  pub roll_follows :
+      Follows (at_roll_token limit) ended (GoesOn Candidates) (IsUpToTitle limit.most)
+      (IsRollFront limit.most)
   roll_follows = record {
     begins = refl;
     steps = roll_goes_on limit;
@@ -84,32 +95,48 @@ module _ (limit : Limit) where
 pub has_one_poll : HasOnePoll
 has_one_poll most items one other a b =
     let limit : Limit = record { most = most; refusal = TooManyBallots } in
-    one_value (at_file_token limit) ended (GoesOn Candidates) (IsBlt most) (IsFileFront most) (file_follows limit) items one other a b
+    one_value (at_file_token limit) ended (GoesOn Candidates) (IsBlt most) (IsFileFront most)
+    (file_follows limit) items one other a b
 
 pub follows_open_lists : FollowsOpenLists
-follows_open_lists limit = follows_open (at_file_token limit) ended (GoesOn Candidates) (IsBlt limit.most) (IsFileFront limit.most) (file_follows limit)
+follows_open_lists limit =
+    follows_open (at_file_token limit) ended (GoesOn Candidates) (IsBlt limit.most) (IsFileFront limit.most)
+    (file_follows limit)
 
 pub expects_rightly : ExpectsRightly
-expects_rightly limit = expects (at_file_token limit) ended (GoesOn Candidates) (IsBlt limit.most) (IsFileFront limit.most) (file_follows limit)
+expects_rightly limit =
+    expects (at_file_token limit) ended (GoesOn Candidates) (IsBlt limit.most) (IsFileFront limit.most)
+    (file_follows limit)
 
 pub accepts_files : AcceptsFiles
-accepts_files limit = accepts (at_file_token limit) ended (GoesOn Candidates) (IsBlt limit.most) (IsFileFront limit.most) (file_follows limit)
+accepts_files limit =
+    accepts (at_file_token limit) ended (GoesOn Candidates) (IsBlt limit.most) (IsFileFront limit.most)
+    (file_follows limit)
 
 pub refuses_by_the_rule : RefusesByTheRule
-refuses_by_the_rule limit = refuses_by_rule (at_file_token limit) ended (GoesOn Candidates) (IsBlt limit.most) (IsFileFront limit.most) (file_follows limit)
+refuses_by_the_rule limit =
+    refuses_by_rule (at_file_token limit) ended (GoesOn Candidates) (IsBlt limit.most)
+    (IsFileFront limit.most) (file_follows limit)
 
 pub refuses_all_else : RefusesAllElse
-refuses_all_else limit = refuses_else (at_file_token limit) ended (GoesOn Candidates) (IsBlt limit.most) (IsFileFront limit.most) (file_follows limit)
+refuses_all_else limit =
+    refuses_else (at_file_token limit) ended (GoesOn Candidates) (IsBlt limit.most) (IsFileFront limit.most)
+    (file_follows limit)
 
 pub accepts_rolls : AcceptsRolls
-accepts_rolls limit = reads_fronts (at_token limit) Candidates (IsUpToTitle limit.most) (IsRollFront limit.most) (roll_follows limit)
+accepts_rolls limit =
+    reads_fronts (at_token limit) Candidates (IsUpToTitle limit.most) (IsRollFront limit.most)
+    (roll_follows limit)
 
 pub refuses_rolls_by_the_rule : RefusesRollsByTheRule
-refuses_rolls_by_the_rule limit = refuses_fronts (at_token limit) Candidates (IsUpToTitle limit.most) (IsRollFront limit.most) (roll_follows limit)
+refuses_rolls_by_the_rule limit =
+    refuses_fronts (at_token limit) Candidates (IsUpToTitle limit.most) (IsRollFront limit.most)
+    (roll_follows limit)
 
 pub expects_rolls_rightly : ExpectsRollsRightly
 expects_rolls_rightly limit =
-    expects (at_roll_token limit) ended (GoesOn Candidates) (IsUpToTitle limit.most) (IsRollFront limit.most) (roll_follows limit)
+    expects (at_roll_token limit) ended (GoesOn Candidates) (IsUpToTitle limit.most) (IsRollFront limit.most)
+    (roll_follows limit)
 
 -- ---- ballot lines
 
@@ -128,7 +155,8 @@ module _ (candidates : ℕ) (limit : Limit) where
 
 pub expects_lines_rightly : ExpectsLinesRightly
 expects_lines_rightly candidates limit items expected = (
-  front_behind (LineTable candidates limit) (IsLineFront candidates limit.most) (line_steps candidates limit) items [] (GoesOn (Between [])) expected
+  front_behind (LineTable candidates limit) (IsLineFront candidates limit.most) (line_steps candidates limit)
+      items [] (GoesOn (Between [])) expected
       (no_lines candidates limit.most, refl),
   reads_line_front candidates limit expected items,
 )

@@ -1,5 +1,6 @@
 -- What the table of ballot files accepts so far is a front part of a file.
-use Rattle.std.proofs.Common.{◌≡◌, ℕ, ◌+◌, ◌<◌, ◌≤◌, List, [], ◌∷◌, ◌++◌, length, map, false, refl, sym, ◌∙◌, ap, subst, arith, append_assoc, nat_le, ◌==◌, Ok, Err}
+use Rattle.std.proofs.Common.{◌≡◌, ℕ, ◌+◌, ◌<◌, ◌≤◌, List, [], ◌∷◌, ◌++◌, length, map, false, refl, sym, ◌∙◌}
+use Rattle.std.proofs.Common.{ap, subst, arith, append_assoc, nat_le, ◌==◌, Ok, Err}
 use Rattle.std.specs.Prelude.{All}
 use Rattle.std.proofs.lemmas.Bool.{leb-true, eqb-true, cond_both}
 use Rattle.std.proofs.lemmas.List.{append-nil, map-append, length_push}
@@ -12,7 +13,8 @@ use Rattle.input_text.specs.Range.{IsIn, is_in}
 use Rattle.blt_reader.specs.Blt.{AreLines, opening, ballots, IsUpToTitle, IsBlt}
 use Rattle.input_text.specs.Judged.{Judged, Progress, GoesOn, Ends}
 use Rattle.blt_reader.specs.BallotTable.{Limit, Lines, Between, at_line}
-use Rattle.blt_reader.specs.BltTable.{Heading, Expected, Candidates, Seats, Withdrawn, Ballots, Name, Title, within_ballots, behind_name, poll_of, at_token, at_file_token}
+use Rattle.blt_reader.specs.BltTable.{Heading, Expected, Candidates, Seats, Withdrawn, Ballots, Name, Title}
+use Rattle.blt_reader.specs.BltTable.{within_ballots, behind_name, poll_of, at_token, at_file_token}
 use Rattle.blt_reader.specs.Front.{opening_of, begun, AreBegun, IsInBallots, IsInNames, IsFront, IsRollFront, IsFileFront}
 use Rattle.blt_reader.specs.Said.{at_roll_token}
 use Rattle.input_text.proofs.Judgements.{refused, same_value, passed, in_range}
@@ -37,7 +39,8 @@ module _ (most : ℕ) (heading : Heading) where
     };
     so_far = front.so_far;
     spelled = ap (λ (l : List Item). l ++ Minus n ∷ []) (front.spelled ∙ append-nil was)
-        ∙ ap (λ (l : List Item). Number heading.candidates ∷ Number heading.seats ∷ l) (sym (map-append Minus heading.withdrawn (n ∷ [])))
+        ∙ ap (λ (l : List Item). Number heading.candidates ∷ Number heading.seats ∷ l)
+        (sym (map-append Minus heading.withdrawn (n ∷ [])))
         ∙ sym (append-nil (opening heading.candidates heading.seats (heading.withdrawn ++ n ∷ [])));
   }
 
@@ -87,7 +90,11 @@ module _ (most : ℕ) (heading : Heading) where
       cond_both (length (names ++ name ∷ []) == heading.candidates) (Title heading lines (names ++ name ∷ []))
       (Name heading lines (names ++ name ∷ [])) (λ s. IsFront most s (items ++ Text name ∷ []))
       (λ full. (now, eqb-true (length (names ++ name ∷ [])) heading.candidates full))
-      (λ differs. (now, below (length (names ++ name ∷ [])) (length names) heading.candidates (length_push names name) fewer differs))
+      (λ differs. (
+        now,
+        below (length (names ++ name ∷ [])) (length names) heading.candidates (length_push names name) fewer
+            differs,
+      ))
 
   titled :
       (lines : List BallotLine) (names : List (List ℕ)) (title : List ℕ) (items : List Item)
@@ -99,7 +106,8 @@ module _ (most : ℕ) (heading : Heading) where
     spelled = ap (λ (l : List Item). l ++ Text title ∷ []) front.spelled
         ∙ append_assoc was (ballots lines ++ map Text names) (Text title ∷ [])
         ∙ ap (λ (l : List Item). was ++ l) (append_assoc (ballots lines) (map Text names) (Text title ∷ []))
-        ∙ ap (λ (c : ℕ). opening c heading.seats heading.withdrawn ++ (ballots lines ++ (map Text names ++ Text title ∷ []))) (sym same);
+        ∙ ap (λ (c : ℕ). opening c heading.seats heading.withdrawn
+        ++ (ballots lines ++ (map Text names ++ Text title ∷ []))) (sym same);
     candidates = subst (IsIn 250) (sym same) front.numbers.candidates;
     seats = front.numbers.seats;
     each_withdrawn = subst (λ (c : ℕ). All (IsIn c) heading.withdrawn) (sym same) front.numbers.each_withdrawn;
@@ -119,20 +127,24 @@ module _ (limit : Limit) where
   ballots_go_on heading lines x next items (Err kind) front is e = absurd (refused e)
   ballots_go_on heading lines x next items (Ok (GoesOn l)) front is e =
       let more = line_goes_on heading.candidates limit lines (GoesOn l) x front.so_far is in
-      subst (λ s. IsRollFront limit.most s (items ++ x ∷ [])) (same_value e)
-      (in_ballots limit.most heading lines l x items front more.0 more.1, omega (arith, ap length more.1, length_push (begun lines) x))
+      subst (λ s. IsRollFront limit.most s (items ++ x ∷ [])) (same_value e) (
+        in_ballots limit.most heading lines l x items front more.0 more.1,
+        omega (arith, ap length more.1, length_push (begun lines) x),
+      )
   ballots_go_on heading lines x next items (Ok (Ends l)) front is e =
       let more = line_goes_on heading.candidates limit lines (Ends l) x front.so_far is in
       subst (λ s. IsRollFront limit.most s (items ++ x ∷ [])) (same_value e)
       (all_ballots limit.most heading lines l x items front more.0 more.1, omega (arith, front.numbers.candidates.least))
 
   goes_on :
-      (expected : Expected) (next : Progress Expected Poll) (x : Item) (items : List Item) → IsFront limit.most expected items
+      (expected : Expected) (next : Progress Expected Poll) (x : Item) (items : List Item)
+      → IsFront limit.most expected items
       → at_token limit expected x ≡ Ok next → IsRollFront limit.most next (items ++ x ∷ [])
   unfolding at_token
   goes_on Candidates next (Number n) items front e =
       let ok = passed (is_in 250 n) _ next _ e in
-      subst (λ s. IsRollFront limit.most s (items ++ Number n ∷ [])) ok.1 (in_range 250 n ok.0, ap (λ (l : List Item). l ++ Number n ∷ []) front)
+      subst (λ s. IsRollFront limit.most s (items ++ Number n ∷ [])) ok.1
+      (in_range 250 n ok.0, ap (λ (l : List Item). l ++ Number n ∷ []) front)
   goes_on Candidates next x items front e = absurd (refused e)
   goes_on (Seats candidates) next (Number n) items front e =
       let ok = passed (is_in 250 n) _ next _ e in
@@ -144,7 +156,8 @@ module _ (limit : Limit) where
   goes_on (Seats candidates) next x items front e = absurd (refused e)
   goes_on (Withdrawn heading) next (Minus n) items front e =
       let ok = passed (is_in heading.candidates n) _ next _ e in
-      subst (λ s. IsRollFront limit.most s (items ++ Minus n ∷ [])) ok.1 (one_withdrawn limit.most heading n items front (in_range heading.candidates n ok.0))
+      subst (λ s. IsRollFront limit.most s (items ++ Minus n ∷ [])) ok.1
+      (one_withdrawn limit.most heading n items front (in_range heading.candidates n ok.0))
   goes_on (Withdrawn heading) next x items front e = ballots_go_on heading (Between []) x next items _ front refl e
   goes_on (Ballots heading lines) next x items front e = ballots_go_on heading lines x next items _ front.0 refl e
   goes_on (Name heading lines names) next (Text name) items front e =
@@ -180,7 +193,9 @@ module _ (limit : Limit) where
   one_string_more text items poll is = record {
     front = is.front;
     further = is.further ++ text ∷ [];
-    spelled = ap (λ (l : List Item). l ++ Text text ∷ []) is.spelled ∙ append_assoc is.front (map Text is.further) (Text text ∷ [])
+    spelled =
+        ap (λ (l : List Item). l ++ Text text ∷ []) is.spelled
+        ∙ append_assoc is.front (map Text is.further) (Text text ∷ [])
         ∙ ap (λ (l : List Item). is.front ++ l) (sym (map-append Text is.further (text ∷ [])));
     up_to_title = is.up_to_title;
   }
@@ -188,7 +203,8 @@ module _ (limit : Limit) where
   pub file_goes_on :
       (expected next : Progress Expected Poll) (x : Item) (items : List Item) → IsFileFront limit.most expected items
       → at_file_token limit expected x ≡ Ok next → IsFileFront limit.most next (items ++ x ∷ [])
-  file_goes_on (GoesOn expected) next x items front e = as_file_front next (items ++ x ∷ []) (goes_on expected next x items front e)
+  file_goes_on (GoesOn expected) next x items front e =
+      as_file_front next (items ++ x ∷ []) (goes_on expected next x items front e)
   file_goes_on (Ends poll) next (Text text) items front e =
       subst (λ s. IsFileFront limit.most s (items ++ Text text ∷ [])) (same_value e) (one_string_more text items poll front)
   file_goes_on (Ends poll) next x items front e = absurd (refused e)

@@ -50,7 +50,8 @@ module _ (limit : Limit) where
       (poll : Poll) (old new : Scan) (bytes : List ℕ) (at begin stop : ℕ) (what : What)
       → old ≡ with_front (record { at = at; item = said bytes begin stop what }) new → (what ≡ code.Text → ⊥)
       → Behind poll old ≡ Err (record { kind = Trailing; at = at })
-  trailing poll old new bytes at begin stop what given not = ap (Behind poll) given ∙ trails poll bytes at begin stop what new not
+  trailing poll old new bytes at begin stop what given not =
+      ap (Behind poll) given ∙ trails poll bytes at begin stop what new not
 
   pub well_ended : (poll : Poll) (old : Scan) (at : ℕ) → old ≡ ends (AtEnd at) → Behind poll old ≡ Ok poll
   well_ended poll old at is = ap (Behind poll) is
@@ -68,7 +69,9 @@ module _ (limit : Limit) where
   pub says_all :
       (text rest : Scan) (election : Election) → reads (at_token limit) Candidates text ≡ Ok (poll election, rest)
       → ReadsFurther rest (Ok tt) → SaysFile (said_by limit text) (Ok election)
-  says_all text rest election is further = in_two text ∙ ap (λ (r : Result (Poll × Scan) Stopped). behind_front r Behind) is ∙ further limit (poll election)
+  says_all text rest election is further =
+      in_two text ∙ ap (λ (r : Result (Poll × Scan) Stopped). behind_front r Behind) is
+      ∙ further limit (poll election)
 
   pub says_trailing :
       (text rest : Scan) (election : Election) (fault : InputFault)
@@ -80,7 +83,8 @@ module _ (limit : Limit) where
   pub says_front :
       (text rest : Scan) (why : InputStop) → Reads (at_token limit) Candidates poll text (Err why) rest
       → SaysFile (said_by limit text) (Err why)
-  says_front text rest (stop.Fault fault) is = in_two text ∙ ap (λ (r : Result (Poll × Scan) Stopped). behind_front r Behind) is
+  says_front text rest (stop.Fault fault) is =
+      in_two text ∙ ap (λ (r : Result (Poll × Scan) Stopped). behind_front r Behind) is
   says_front text rest stop.NoMemory is = tt
 
   -- ---- what is answered, by the laws

@@ -1,5 +1,6 @@
 -- One number more within ballots.
-use Rattle.std.proofs.Common.{◌≡◌, ℕ, ◌+◌, ◌<◌, ◌≤◌, List, [], ◌∷◌, ◌++◌, length, Bool, true, false, ◌==◌, ◌||◌, refl, sym, ◌∙◌, ap, arith, get_or, set, Ok, Err}
+use Rattle.std.proofs.Common.{◌≡◌, ℕ, ◌+◌, ◌<◌, ◌≤◌, List, [], ◌∷◌, ◌++◌, length, Bool, true, false, ◌==◌}
+use Rattle.std.proofs.Common.{◌||◌, refl, sym, ◌∙◌, ap, arith, get_or, set, Ok, Err}
 use Rattle.std.specs.List.{list_any}
 use Rattle.std.proofs.lemmas.Bool.{eq-eqb, ne_eqb, le-leb, lt-leb}
 use Rattle.std.proofs.lemmas.List.Folds.{list_any-append}
@@ -39,12 +40,16 @@ module _ (candidates : ℕ) (ranks : List ℕ) where
     pub above :
         (n ≡ 0 → ⊥) → candidates < n → reads (at_rank candidates) ranks old
         ≡ Err (record { fault = record { kind = NoSuchCandidate; at = at }; rest = new })
-    above some greater = refused_at (at_rank candidates) ranks old new _ NoSuchCandidate given (rw (ne_eqb n 0 some, lt-leb n candidates greater) refl)
+    above some greater =
+        refused_at (at_rank candidates) ranks old new _ NoSuchCandidate given
+        (rw (ne_eqb n 0 some, lt-leb n candidates greater) refl)
 
     pub again :
         (n ≡ 0 → ⊥) → n ≤ candidates → list_any (λ r. r == n) ranks ≡ true
         → reads (at_rank candidates) ranks old ≡ Err (record { fault = record { kind = Repeated; at = at }; rest = new })
-    again some within twice = refused_at (at_rank candidates) ranks old new _ Repeated given (rw (ne_eqb n 0 some, le-leb n candidates within, twice) refl)
+    again some within twice =
+        refused_at (at_rank candidates) ranks old new _ Repeated given
+        (rw (ne_eqb n 0 some, le-leb n candidates within, twice) refl)
 
     pub one_more :
         (n ≡ 0 → ⊥) → n ≤ candidates → list_any (λ r. r == n) ranks ≡ false
@@ -88,7 +93,9 @@ module _ (candidates : ℕ) (limit : Limit) (lines : List BallotLine) where
     Text_at = with_front (record { at = at; item = Number n }) rest
 
     pub all_read : n ≡ 0 → reads (at_line candidates limit) (Between lines) Text_at ≡ Ok (lines, rest)
-    all_read none = ends_with (at_line candidates limit) (Between lines) Text_at rest _ lines refl (rw (eq-eqb n 0 none) refl)
+    all_read none =
+        ends_with (at_line candidates limit) (Between lines) Text_at rest _ lines refl
+        (rw (eq-eqb n 0 none) refl)
 
     pub too_many :
         (n ≡ 0 → ⊥) → limit.most < ballot_count lines + n
@@ -100,7 +107,8 @@ module _ (candidates : ℕ) (limit : Limit) (lines : List BallotLine) where
 
     pub line_begins :
         (n ≡ 0 → ⊥) → ballot_count lines + n ≤ limit.most
-        → reads (at_line candidates limit) (Between lines) Text_at ≡ reads (at_line candidates limit) (Within lines n []) rest
+        → reads (at_line candidates limit) (Between lines) Text_at
+        ≡ reads (at_line candidates limit) (Within lines n []) rest
     line_begins some room =
         goes_on (at_line candidates limit) (Between lines) Text_at rest _ (Within lines n []) refl
         (rw (ne_eqb n 0 some, le-leb (ballot_count lines + n) limit.most room) refl)
@@ -116,9 +124,11 @@ module _ (candidates : ℕ) (limit : Limit) (lines : List BallotLine) where
         (λ r. Between (with_line lines count r)) (λ r item. refl) [] old ranks new is
 
     pub line_fails :
-        {R Q : Type 0} (found : R → List ℕ) (value : Q → List BallotLine) (begun : Lines) (start old new : Scan) (why : InputStop)
+        {R Q : Type 0} (found : R → List ℕ) (value : Q → List BallotLine) (begun : Lines)
+        (start old new : Scan) (why : InputStop)
         → reads (at_line candidates limit) begun start ≡ reads (at_line candidates limit) (Within lines count []) old
-        → Reads (at_rank candidates) [] found old (Err why) new → Reads (at_line candidates limit) begun value start (Err why) new
+        → Reads (at_rank candidates) [] found old (Err why) new
+        → Reads (at_line candidates limit) begun value start (Err why) new
     line_fails found value begun start old new why so_far is =
         inner_fails (at_rank candidates) (at_line candidates limit) (λ r. Within lines count r)
         (λ r. Between (with_line lines count r)) (λ r item. refl) [] old found value begun start new why so_far is

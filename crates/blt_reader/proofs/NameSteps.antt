@@ -1,5 +1,6 @@
 -- One name more, and the title.
-use Rattle.std.proofs.Common.{◌≡◌, ℕ, ◌<◌, List, [], ◌∷◌, ◌++◌, length, true, false, ◌==◌, nat_le, refl, ◌∙◌, ap, arith, Ok, Err}
+use Rattle.std.proofs.Common.{◌≡◌, ℕ, ◌<◌, List, [], ◌∷◌, ◌++◌, length, true, false, ◌==◌, nat_le, refl, ◌∙◌}
+use Rattle.std.proofs.Common.{ap, arith, Ok, Err}
 use Rattle.std.proofs.lemmas.Bool.{eq-eqb, ne_eqb}
 use Rattle.plain_ballots.specs.declared.ballot_line.BallotLine.{BallotLine}
 use Rattle.input_text.specs.declared.fault_kind.FaultKind.{FaultKind}
@@ -19,7 +20,8 @@ pub name_expected :
     (h : Heading) (lines : List BallotLine) (names : List (List ℕ)) → length names < h.candidates
     → behind_name h lines names ≡ Name h lines names
 name_expected h lines names fewer =
-    let differs : (length names == h.candidates) ≡ false = ne_eqb (length names) h.candidates (λ same. absurd (omega (arith, fewer, same))) in
+    let differs : (length names == h.candidates) ≡ false =
+    ne_eqb (length names) h.candidates (λ same. absurd (omega (arith, fewer, same))) in
     rw differs refl
 
 pub title_expected :
@@ -96,7 +98,8 @@ module _ (limit : Limit) (h : Heading) (lines : List BallotLine) (names : List (
       → reads (at_token limit) (behind_name h lines names) old ≡ Ok (poll_of h lines names title, new)
   title_read title all is =
       ap (λ (s : Expected). reads (at_token limit) s old) (title_expected h lines names all)
-      ∙ ends_with (at_token limit) (Title h lines names) old new is.token (poll_of h lines names title) is.given (a_title is.token.item title is.accepted)
+      ∙ ends_with (at_token limit) (Title h lines names) old new is.token (poll_of h lines names title)
+      is.given (a_title is.token.item title is.accepted)
 
 -- a name that isn't read ends the names
 pub names_fail :

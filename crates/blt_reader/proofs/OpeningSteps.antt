@@ -1,5 +1,6 @@
 -- The numbers of candidates and seats, and one withdrawn candidate more.
-use Rattle.std.proofs.Common.{◌≡◌, ℕ, ◌+◌, List, [], ◌∷◌, ◌++◌, map, Bool, true, false, ◌==◌, ◌||◌, refl, sym, ◌∙◌, ap, subst, inl, inr, Ok, Err}
+use Rattle.std.proofs.Common.{◌≡◌, ℕ, ◌+◌, List, [], ◌∷◌, ◌++◌, map, Bool, true, false, ◌==◌, ◌||◌, refl, sym}
+use Rattle.std.proofs.Common.{◌∙◌, ap, subst, inl, inr, Ok, Err}
 use Rattle.std.specs.Prelude.{All}
 use Rattle.std.specs.List.{range_with_len}
 use Rattle.std.proofs.lemmas.Bool.{eqb-true}
@@ -43,14 +44,17 @@ module _ (limit : Limit) (old new : Scan) where
 
   some_candidates : (item : Item) (n : ℕ) → as_size item ≡ Ok n → at_token limit Candidates item ≡ Ok (GoesOn (Seats n))
   unfolding at_token
-  some_candidates (Number k) n e = let ok = passed (is_in 250 k) k n _ e in rw ok.0 (ap (λ (c : ℕ). Ok (GoesOn (Seats c))) ok.1)
+  some_candidates (Number k) n e =
+      let ok = passed (is_in 250 k) k n _ e in rw ok.0 (ap (λ (c : ℕ). Ok (GoesOn (Seats c))) ok.1)
   some_candidates (Minus k) n e = absurd (refused e)
   some_candidates (Text bytes) n e = absurd (refused e)
   some_candidates (Word letters) n e = absurd (refused e)
 
   pub candidates_read :
       (n : ℕ) → Accepts as_size old n new → reads (at_token limit) Candidates old ≡ reads (at_token limit) (Seats n) new
-  candidates_read n is = goes_on (at_token limit) Candidates old new is.token (Seats n) is.given (some_candidates is.token.item n is.accepted)
+  candidates_read n is =
+      goes_on (at_token limit) Candidates old new is.token (Seats n) is.given
+      (some_candidates is.token.item n is.accepted)
 
   module _ (candidates : ℕ) where
     no_seats : (item : Item) (kind : FaultKind) → as_size item ≡ Err kind → at_token limit (Seats candidates) item ≡ Err kind
@@ -76,8 +80,11 @@ module _ (limit : Limit) (old new : Scan) where
     some_seats (Word letters) n e = absurd (refused e)
 
     pub seats_read :
-        (n : ℕ) → Accepts as_size old n new → reads (at_token limit) (Seats candidates) old ≡ reads (at_token limit) (Start n) new
-    seats_read n is = goes_on (at_token limit) (Seats candidates) old new is.token (Start n) is.given (some_seats is.token.item n is.accepted)
+        (n : ℕ) → Accepts as_size old n new
+        → reads (at_token limit) (Seats candidates) old ≡ reads (at_token limit) (Start n) new
+    seats_read n is =
+        goes_on (at_token limit) (Seats candidates) old new is.token (Start n) is.given
+        (some_seats is.token.item n is.accepted)
 
 -- ---- withdrawn candidates
 
@@ -95,7 +102,8 @@ or_listed ws n m false is listed = or_nothing (is_listed ws m)
 listed_alike :
     (ws new : List ℕ) (n m : ℕ) → IsListedMore ws n new → (is_listed ws m || ((n == m) || false)) ≡ is_listed new m
 listed_alike ws new n m (inl is) = or_listed ws n m (n == m) refl is.1 ∙ ap (λ (l : List ℕ). is_listed l m) (sym is.0)
-listed_alike ws new n m (inr is) = sym (list_any-append (λ d. d == m) ws (n ∷ [])) ∙ ap (λ (l : List ℕ). is_listed l m) (sym is)
+listed_alike ws new n m (inr is) =
+    sym (list_any-append (λ d. d == m) ws (n ∷ [])) ∙ ap (λ (l : List ℕ). is_listed l m) (sym is)
 
 pub one_withdrawn :
     (candidates : ℕ) (start old new : Scan) (ws more : List ℕ) (n at : ℕ) → IsWithdrawn candidates start ws old
@@ -105,18 +113,21 @@ unfolding at_token
 one_withdrawn candidates start old new ws more n at before given is listed = record {
   listed = before.listed ++ n ∷ [];
   alike =
-      λ m. list_any-append (λ d. d == m) before.listed (n ∷ []) ∙ ap (λ (b : Bool). b || ((n == m) || false)) (before.alike m)
+      λ m. list_any-append (λ d. d == m) before.listed (n ∷ [])
+      ∙ ap (λ (b : Bool). b || ((n == m) || false)) (before.alike m)
       ∙ listed_alike ws more n m listed;
   same =
       λ limit seats. before.same limit seats ∙ goes_on (at_token limit)
       (Withdrawn (record { candidates = candidates; seats = seats; withdrawn = before.listed })) old new
       (record { at = at; item = Minus n })
-      (Withdrawn (record { candidates = candidates; seats = seats; withdrawn = before.listed ++ n ∷ [] })) given (rw (to_range candidates n is) refl);
+      (Withdrawn (record { candidates = candidates; seats = seats; withdrawn = before.listed ++ n ∷ [] }))
+      given (rw (to_range candidates n is) refl);
 }
 
 map_alike : (f g : ℕ → Bool) (xs : List ℕ) → ((x : ℕ) → f x ≡ g x) → map f xs ≡ map g xs
 map_alike f g [] alike = refl
-map_alike f g (x ∷ xs) alike = ap (λ (b : Bool). b ∷ map f xs) (alike x) ∙ ap (λ (l : List Bool). g x ∷ l) (map_alike f g xs alike)
+map_alike f g (x ∷ xs) alike =
+    ap (λ (b : Bool). b ∷ map f xs) (alike x) ∙ ap (λ (l : List Bool). g x ∷ l) (map_alike f g xs alike)
 
 pub marks_alike :
     (candidates : ℕ) (listed ws : List ℕ) → ((n : ℕ) → is_listed listed n ≡ is_listed ws n)
@@ -132,21 +143,25 @@ listed_each P ws more n each is (inr pushed) = subst (All P) (sym pushed) (All-p
 -- ---- what else stands where a withdrawn candidate or a count is expected
 
 abbrev pub NotWithdrawn : ℕ → Item → FaultKind → Type 0
-NotWithdrawn candidates item kind = (limit : Limit) (h : Heading) → h.candidates ≡ candidates → at_token limit (Withdrawn h) item ≡ Err kind
+NotWithdrawn candidates item kind =
+    (limit : Limit) (h : Heading) → h.candidates ≡ candidates → at_token limit (Withdrawn h) item ≡ Err kind
 
 pub withdrawn_refused :
     (candidates : ℕ) (start old new : Scan) (ws : List ℕ) (token : Placed) (kind : FaultKind)
     → IsWithdrawn candidates start ws old → old ≡ with_front token new → NotWithdrawn candidates token.item kind
     → ReadsWithdrawn candidates start ws (Err (stop.Fault (record { kind = kind; at = token.at }))) new
 withdrawn_refused candidates start old new ws token kind before given not = λ limit seats. before.same limit seats
-    ∙ refused_at (at_token limit) (Withdrawn (record { candidates = candidates; seats = seats; withdrawn = before.listed })) old
+    ∙ refused_at (at_token limit)
+    (Withdrawn (record { candidates = candidates; seats = seats; withdrawn = before.listed })) old
     new token kind given (not limit _ refl)
 
 pub withdrawn_ended :
     (candidates : ℕ) (start old new : Scan) (ws : List ℕ) (fault : InputFault) → IsWithdrawn candidates start ws old
     → IsEnded old fault new → ReadsWithdrawn candidates start ws (Err (stop.Fault fault)) new
 withdrawn_ended candidates start old new ws fault before is = λ limit seats. before.same limit seats
-    ∙ ended_so (at_token limit) (Withdrawn (record { candidates = candidates; seats = seats; withdrawn = before.listed })) old new fault is
+    ∙ ended_so (at_token limit)
+    (Withdrawn (record { candidates = candidates; seats = seats; withdrawn = before.listed })) old new fault
+    is
 
 out_of_range :
     (candidates n : ℕ) (is : Bool) → is_in candidates n ≡ is → (IsIn candidates n → ⊥) → is_in candidates n ≡ false
@@ -190,7 +205,9 @@ opened start old new opening opens is = record {
   listed = is.listed;
   marks = marks_alike opening.candidates is.listed opening.withdrawn.items is.alike;
   same = λ limit. opens limit ∙ is.same limit opening.seats
-      ∙ first_number limit (record { candidates = opening.candidates; seats = opening.seats; withdrawn = is.listed }) opening.first.0 opening.first.1 new;
+      ∙ first_number limit
+      (record { candidates = opening.candidates; seats = opening.seats; withdrawn = is.listed })
+      opening.first.0 opening.first.1 new;
 }
 
 pub opening_fails :

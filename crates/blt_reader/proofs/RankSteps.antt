@@ -1,5 +1,6 @@
 -- One rank more in front of a list that has room for as many as there are candidates.
-use Rattle.std.proofs.Common.{◌≡◌, ℕ, ◌+◌, ◌<◌, ◌≤◌, List, [], ◌∷◌, ◌++◌, length, take, slice_set, set, Bool, true, false, ◌==◌, sym, ◌∙◌, ap, subst, arith, length-append}
+use Rattle.std.proofs.Common.{◌≡◌, ℕ, ◌+◌, ◌<◌, ◌≤◌, List, [], ◌∷◌, ◌++◌, length, take, slice_set, set, Bool}
+use Rattle.std.proofs.Common.{true, false, ◌==◌, sym, ◌∙◌, ap, subst, arith, length-append}
 use Rattle.std.specs.List.{list_any}
 use Rattle.std.proofs.lemmas.List.{length-take-le, take_more_set}
 use Rattle.plain_ballots.specs.Ranking.{IsRanking}
@@ -34,5 +35,6 @@ module _ (candidates len n : ℕ) (ranks : List ℕ) (room : length ranks ≡ ca
   pub one_put_in_marked :
       (named : List Bool) → length named ≡ candidates + 1 → Marks candidates named (take len ranks)
       → Marks candidates (set named n true) (take (len + 1) (slice_set ranks len n))
-  one_put_in_marked named numbers marks m small = one_marked_more candidates named (take len ranks) n (omega (arith, numbers, inside)) marks m small
+  one_put_in_marked named numbers marks m small =
+      one_marked_more candidates named (take len ranks) n (omega (arith, numbers, inside)) marks m small
       ∙ ap (λ (l : List ℕ). list_any (λ r. r == m) l) (sym one_put_in)

@@ -17,7 +17,8 @@ use Rattle.blt_reader.specs.Opening.{IsOpened}
 use Rattle.input_text.proofs.Reading.{inner_read, inner_fails}
 use Rattle.blt_reader.proofs.NameSteps.{name_expected, title_stops, title_read}
 
-module _ (limit : Limit) (start : Scan) (opening : Opening) (behind_opening : Scan) (is : IsOpened start opening behind_opening) where
+module _ (limit : Limit) (start : Scan) (opening : Opening) (behind_opening : Scan)
+    (is : IsOpened start opening behind_opening) where
   abbrev pub HeadingOf : Heading
   HeadingOf = record { candidates = opening.candidates; seats = opening.seats; withdrawn = is.listed }
 
@@ -29,7 +30,8 @@ module _ (limit : Limit) (start : Scan) (opening : Opening) (behind_opening : Sc
 
   within :
       (lines : Lines) (item : Item) → at_token limit (Ballots HeadingOf lines) item
-      ≡ carried {W = Poll} (λ l. Ballots HeadingOf l) (λ l. Name HeadingOf l []) (at_line opening.candidates limit lines item)
+      ≡ carried {W = Poll} (λ l. Ballots HeadingOf l) (λ l. Name HeadingOf l [])
+      (at_line opening.candidates limit lines item)
   unfolding at_token
   within lines item = refl
 
@@ -38,7 +40,8 @@ module _ (limit : Limit) (start : Scan) (opening : Opening) (behind_opening : Sc
       → Reads (at_line opening.candidates limit) (Between []) (λ (b : BallotList). b.lines) FirstText (Err why) new
       → Reads (at_token limit) Candidates value start (Err why) new
   ballots_fail value new why fails =
-      inner_fails (at_line opening.candidates limit) (at_token limit) (λ l. Ballots HeadingOf l) (λ l. Name HeadingOf l []) within
+      inner_fails (at_line opening.candidates limit) (at_token limit) (λ l. Ballots HeadingOf l)
+      (λ l. Name HeadingOf l []) within
       (Between []) FirstText (λ (b : BallotList). b.lines) value Candidates start new why (is.same limit) fails
 
   pub ballots_read :
@@ -63,18 +66,29 @@ module _ (limit : Limit) (start : Scan) (opening : Opening) (behind_opening : Sc
           {Q : Type 0} (value : Q → Poll) (old new : Scan) (why : InputStop) → GoesTo (behind_name HeadingOf lines names) old
           → OnFault why (λ fault. Stops (as_name 1000) old fault new)
           → Reads (at_token limit) Candidates value start (Err why) new
-      title_stop value old new (stop.Fault fault) goes fails = goes ∙ title_stops limit HeadingOf lines names old new fault all fails
+      title_stop value old new (stop.Fault fault) goes fails =
+          goes ∙ title_stops limit HeadingOf lines names old new fault all fails
       title_stop value old new stop.NoMemory goes fails = tt
 
       pub all_read :
           (title : List ℕ) (roll : RollList) (old new : Scan) → GoesTo (behind_name HeadingOf lines names) old
           → Accepts (as_name 1000) old title new
-          → roll ≡ record { seats = opening.seats; names = names; title = title; withdrawn = withdrawn_marks (length names) opening.withdrawn.items }
+          → roll
+          ≡ record {
+            seats = opening.seats;
+            names = names;
+            title = title;
+            withdrawn = withdrawn_marks (length names) opening.withdrawn.items;
+          }
           → reads (at_token limit) Candidates start ≡ Ok (record { roll = roll; lines = lines }, new)
       all_read title roll old new goes read roll_is =
           let marks : withdrawn_marks opening.candidates is.listed ≡ withdrawn_marks (length names) opening.withdrawn.items =
           is.marks ∙ ap (λ (c : ℕ). withdrawn_marks c opening.withdrawn.items) (sym all) in
           let same : poll_of HeadingOf lines names title ≡ record { roll = roll; lines = lines } =
-          ap (λ (m : List Bool). record { roll = record { seats = opening.seats; names = names; title = title; withdrawn = m }; lines = lines }) marks
+          ap (λ (m : List Bool). record {
+            roll =
+                record { seats = opening.seats; names = names; title = title; withdrawn = m };
+            lines = lines;
+          }) marks
           ∙ ap (λ (r : RollList). record { roll = r; lines = lines }) (sym roll_is) in
           goes ∙ title_read limit HeadingOf lines names old new title all read ∙ ap (λ (p : Poll). Ok (p, new)) same

@@ -7,7 +7,8 @@ use Rattle.std.specs.Ordering.{ordering_reverse}
 use Rattle.std.proofs.lemmas.Cmp.{nat_list_cmp_total}
 use Rattle.std.proofs.lemmas.List.Elements.{All-nil, All-cons, All-head, All-tail}
 use Rattle.std.proofs.lemmas.List.Kept.{AllPairs-cons}
-use Rattle.std.proofs.lemmas.List.Sorted.{IsPermutation-refl, IsPermutation-trans, IsPermutation-cons, IsPermutation-append_right}
+use Rattle.std.proofs.lemmas.List.Sorted.{IsPermutation-refl, IsPermutation-trans, IsPermutation-cons}
+use Rattle.std.proofs.lemmas.List.Sorted.{IsPermutation-append_right}
 use Rattle.plain_ballots.specs.declared.ballot_line.BallotLine.{BallotLine}
 use Rattle.plain_ballots.specs.Ballots.{plain}
 use Rattle.plain_ballots.proofs.PermutationLemmas.{IsPermutation-shift}
@@ -49,7 +50,9 @@ before_put :
     (x : BallotLine) (r : List ℕ) (ls : List BallotLine) → order x.ranking r ≡ Less → All (StandsBefore x) ls
     → All (StandsBefore x) (put r ls)
 before_put x r [] is all = All-cons (StandsBefore x) (single r) [] is (All-nil (StandsBefore x))
-before_put x r (l ∷ ls) is all = before_placed (order r l.ranking) x r l ls (put r ls) is all (before_put x r ls is (All-tail (StandsBefore x) l ls all))
+before_put x r (l ∷ ls) is all =
+    before_placed (order r l.ranking) x r l ls (put r ls) is all
+    (before_put x r ls is (All-tail (StandsBefore x) l ls all))
 
 -- ---- the lines stay in order
 
@@ -75,7 +78,8 @@ counted_placed :
     → All IsCounted (placed o r l ls among)
 counted_placed Less r l ls among counted later = All-cons IsCounted (single r) (l ∷ ls) (omega arith) counted
 counted_placed Equal r l ls among counted later =
-    All-cons IsCounted (record { count = suc l.count; ranking = l.ranking }) ls (omega arith) (All-tail IsCounted l ls counted)
+    All-cons IsCounted (record { count = suc l.count; ranking = l.ranking }) ls (omega arith)
+    (All-tail IsCounted l ls counted)
 counted_placed Greater r l ls among counted later = All-cons IsCounted l among (All-head IsCounted l ls counted) later
 
 counted_put : (r : List ℕ) (ls : List BallotLine) → All IsCounted ls → All IsCounted (put r ls)
@@ -110,13 +114,20 @@ lines_of [] = []
 lines_of (r ∷ bag) = put r (lines_of bag)
 
 pub are_lines_of : (bag : List (List ℕ)) → AreLinesOf bag (lines_of bag)
-are_lines_of [] = record { rising = λ i j d rises inside. absurd (omega arith); counted = All-nil IsCounted; same = IsPermutation-refl [] }
+are_lines_of [] =
+    record {
+      rising = λ i j d rises inside. absurd (omega arith);
+      counted = All-nil IsCounted;
+      same = IsPermutation-refl [];
+    }
 are_lines_of (r ∷ bag) =
     let before = are_lines_of bag in
     record {
       rising = rising_put r (lines_of bag) before.rising;
       counted = counted_put r (lines_of bag) before.counted;
-      same = IsPermutation-trans _ _ _ (ballots_put r (lines_of bag)) (IsPermutation-cons r (plain (lines_of bag)) bag before.same);
+      same =
+          IsPermutation-trans _ _ _ (ballots_put r (lines_of bag))
+          (IsPermutation-cons r (plain (lines_of bag)) bag before.same);
     }
 
 pub every_bag_has_a_text : EveryBagHasAText

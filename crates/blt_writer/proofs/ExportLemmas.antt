@@ -1,5 +1,6 @@
 -- An export's ballots, and what is written of them.
-use Rattle.std.proofs.Common.{◌≡◌, ℕ, List, [], ◌∷◌, ◌++◌, length, take, drop, Option, Result, Ok, Err, IsErr, refl, ap, sym, subst, ◌∙◌, append_assoc}
+use Rattle.std.proofs.Common.{◌≡◌, ℕ, List, [], ◌∷◌, ◌++◌, length, take, drop, Option, Result, Ok, Err, IsErr}
+use Rattle.std.proofs.Common.{refl, ap, sym, subst, ◌∙◌, append_assoc}
 use Rattle.std.specs.Prelude.{IsPermutation}
 use Rattle.std.specs.List.{flat_map}
 use Rattle.std.proofs.lemmas.List.{take_at}
@@ -20,7 +21,8 @@ use Rattle.blt_writer.proofs.EveryText.{lines_of, are_lines_of}
 
 -- one plan more has its cursor
 pub plan_taken :
-    (items more : List (List BallotLine)) (others rest : List PlanRows) (x : List BallotLine) (plan : PlanRows) (bag : List (List ℕ))
+    (items more : List (List BallotLine)) (others rest : List PlanRows) (x : List BallotLine)
+    (plan : PlanRows) (bag : List (List ℕ))
     → more ≡ items ++ x ∷ [] → others ≡ rest ++ plan ∷ [] → plain x ≡ plan_ballots plan.rows
     → IsPermutation (all_plain items ++ all_ballots others) bag → IsPermutation (all_plain more ++ all_ballots rest) bag
 plan_taken items more others rest x plan bag more_is others_are same so_far =
@@ -31,7 +33,8 @@ plan_taken items more others rest x plan bag more_is others_are same so_far =
     let front : all_plain more ≡ done ++ mine =
     ap all_plain more_is ∙ (flat_map-append plain items (x ∷ []) ∙ ap (λ (l : List (List ℕ)). done ++ (l ++ [])) same) in
     let behind : all_ballots others ≡ left ++ mine = ap all_ballots others_are ∙ flat_map-append ballots rest (plan ∷ []) in
-    let start : all_plain more ++ left ≡ done ++ (mine ++ left) = ap (λ (l : List (List ℕ)). l ++ left) front ∙ append_assoc done mine left in
+    let start : all_plain more ++ left ≡ done ++ (mine ++ left) =
+    ap (λ (l : List (List ℕ)). l ++ left) front ∙ append_assoc done mine left in
     subst (λ (l : List (List ℕ)). IsPermutation l bag) (sym start)
     (IsPermutation-trans _ _ _ (IsPermutation-append_right done _ _ (IsPermutation-append_comm mine left))
     (subst (λ (l : List (List ℕ)). IsPermutation (done ++ l) bag) behind so_far))
@@ -50,8 +53,11 @@ opening_stopped export r failed stopped =
 
 -- those of the ballots were not
 pub lines_stopped :
-    {S T E : Type 0} {w : S → Option (List ℕ)} {f : S → ℕ} {a b c : S} (export : Exported) (r : Result T E) (e : Failed) → IsErr r
-    → Wrote w f a b (opening_text export.roll) → WritesLines {S = S} {T = Unit {0}} {E = Failed} w f b c export.ballots (Err e) → WritesText w f a c export r
+    {S T E : Type 0} {w : S → Option (List ℕ)} {f : S → ℕ} {a b c : S} (export : Exported) (r : Result T E)
+    (e : Failed) → IsErr r
+    → Wrote w f a b (opening_text export.roll)
+    → WritesLines {S = S} {T = Unit {0}} {E = Failed} w f b c export.ballots (Err e)
+    → WritesText w f a c export r
 lines_stopped {c} export r e failed wrote lines = record {
   text = file_text export.roll lines.lines;
   is = (lines.lines, lines.are, refl);
@@ -61,7 +67,8 @@ lines_stopped {c} export r e failed wrote lines = record {
 -- nor those behind them, or all were
 pub closed :
     {S T E : Type 0} {w : S → Option (List ℕ)} {f : S → ℕ} {a b c d : S} (export : Exported) (r : Result T E) (v : Unit {0})
-    → Wrote w f a b (opening_text export.roll) → WritesLines {S = S} {T = Unit {0}} {E = Failed} w f b c export.ballots (Ok v)
+    → Wrote w f a b (opening_text export.roll)
+    → WritesLines {S = S} {T = Unit {0}} {E = Failed} w f b c export.ballots (Ok v)
     → Writes w f c d (closing_text export.roll) r → WritesText w f a d export r
 closed {d} export r v wrote lines closing = record {
   text = file_text export.roll lines.lines;

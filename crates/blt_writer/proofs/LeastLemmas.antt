@@ -1,5 +1,6 @@
 -- Which list begins with the least ranking.
-use Rattle.std.proofs.Common.{◌≡◌, ℕ, ◌+◌, ◌-◌, ◌<◌, true, false, List, [], ◌∷◌, ◌++◌, length, map, get_or, take, drop, All, arith, refl, ap, sym, subst, ◌∙◌, inl, inr}
+use Rattle.std.proofs.Common.{◌≡◌, ℕ, ◌+◌, ◌-◌, ◌<◌, true, false, List, [], ◌∷◌, ◌++◌, length, map, get_or}
+use Rattle.std.proofs.Common.{take, drop, All, arith, refl, ap, sym, subst, ◌∙◌, inl, inr}
 use Rattle.std.specs.declared.cmp.Ordering.{Ordering}
 use Rattle.std.specs.declared.cmp.Ordering.TheVariants.{Less, Equal, Greater}
 use Rattle.std.specs.Ordering.{is_lt, ordering_then}
@@ -59,7 +60,8 @@ split_last P n k below before last =
 
 pub none_takes :
     (lists : List (List BallotLine)) (n place : ℕ) (x y : List BallotLine) → n < length lists → place < length lists
-    → x ≡ get_or lists n x → y ≡ get_or lists place y → is_ahead x y ≡ true → NoneAhead lists n place → NoneAhead lists (n + 1) n
+    → x ≡ get_or lists n x → y ≡ get_or lists place y → is_ahead x y ≡ true → NoneAhead lists n place
+    → NoneAhead lists (n + 1) n
 none_takes lists n place x y inside there is_x is_y ahead none d k below =
     let at_x = get_or_read lists n x inside is_x d in
     let at_y = get_or_read lists place y there is_y d in
@@ -71,7 +73,8 @@ none_takes lists n place x y inside there is_x is_y ahead none d k below =
 
 pub none_keeps :
     (lists : List (List BallotLine)) (n place : ℕ) (x y : List BallotLine) → n < length lists → place < length lists
-    → x ≡ get_or lists n x → y ≡ get_or lists place y → is_ahead x y ≡ false → NoneAhead lists n place → NoneAhead lists (n + 1) place
+    → x ≡ get_or lists n x → y ≡ get_or lists place y → is_ahead x y ≡ false → NoneAhead lists n place
+    → NoneAhead lists (n + 1) place
 none_keeps lists n place x y inside there is_x is_y behind none d k below =
     let at_x = get_or_read lists n x inside is_x d in
     let at_y = get_or_read lists place y there is_y d in
@@ -90,11 +93,14 @@ none_before (l ∷ ls) [] r head none = absurd head
 none_before (l ∷ ls) (y ∷ ys) r head none =
     λ before. false≢true (sym none ∙ ap is_lt (ap (order l.ranking) (sym head) ∙ before))
 
-head_at : (lists : List (List BallotLine)) (place : ℕ) (x : List BallotLine) (r : List ℕ) → place < length lists → x ≡ get_or lists place x → IsHead r x → (d : List BallotLine) → IsHead r (get_or lists place d)
+head_at :
+    (lists : List (List BallotLine)) (place : ℕ) (x : List BallotLine) (r : List ℕ) → place < length lists
+    → x ≡ get_or lists place x → IsHead r x → (d : List BallotLine) → IsHead r (get_or lists place d)
 head_at lists place x r inside is head d = subst (IsHead r) (get_or_read lists place x inside is d) head
 
 pub least_is :
-    (lists : List (List BallotLine)) (place : ℕ) (x : List BallotLine) (r : List ℕ) → place < length lists → x ≡ get_or lists place x
+    (lists : List (List BallotLine)) (place : ℕ) (x : List BallotLine) (r : List ℕ) → place < length lists
+    → x ≡ get_or lists place x
     → IsHead r x → IsFirst lists place → IsLeast r lists
 least_is lists place x r inside is head first = record {
   from =
@@ -110,7 +116,8 @@ empty_of [] none = refl
 empty_of (l ∷ ls) none = absurd (false≢true (sym none))
 
 pub none_is :
-    (lists : List (List BallotLine)) (place : ℕ) (x : List BallotLine) → x ≡ get_or lists place x → x ≡ [] → IsFirst lists place
+    (lists : List (List BallotLine)) (place : ℕ) (x : List BallotLine) → x ≡ get_or lists place x → x ≡ []
+    → IsFirst lists place
     → All (λ ls. ls ≡ []) lists
 none_is lists place x is empty first =
     All-weaker (λ (ls : List BallotLine). is_ahead ls [] ≡ false) (λ (ls : List BallotLine). ls ≡ []) empty_of lists

@@ -36,7 +36,8 @@ pairs_tail R x xs pairs = λ i j d rises inside. pairs (suc i) (suc j) d (omega 
 
 -- what stands before the first of some lines stands before each
 pub before_all :
-    (x y : BallotLine) (ys : List BallotLine) → StandsBefore x y → AllPairs StandsBefore (y ∷ ys) → All (StandsBefore x) (y ∷ ys)
+    (x y : BallotLine) (ys : List BallotLine) → StandsBefore x y → AllPairs StandsBefore (y ∷ ys)
+    → All (StandsBefore x) (y ∷ ys)
 before_all x y ys is rising =
     All-cons (StandsBefore x) y ys is
     (All-weaker (StandsBefore y) (StandsBefore x) (λ z later. before_trans x.ranking y.ranking z.ranking is later) ys
@@ -47,7 +48,9 @@ before_all x y ys is rising =
 abbrev pub weigh : (List ℕ → ℕ) → List BallotLine → ℕ
 weigh f ls = sum_by (λ (line : BallotLine). line.count * f line.ranking) ls
 
-pub weigh-cons : (f : List ℕ → ℕ) (l : BallotLine) (ls : List BallotLine) → weigh f (l ∷ ls) ≡ l.count * f l.ranking + weigh f ls
+pub weigh-cons :
+    (f : List ℕ → ℕ) (l : BallotLine) (ls : List BallotLine)
+    → weigh f (l ∷ ls) ≡ l.count * f l.ranking + weigh f ls
 weigh-cons f l ls = sum_by-cons (λ (line : BallotLine). line.count * f line.ranking) l ls
 
 -- 1 for this ranking, and 0 for others

@@ -1,12 +1,16 @@
 -- Lines that stand in order, written ranking by ranking.
-use Rattle.std.proofs.Common.{◌≡◌, ◌≢◌, ℕ, zero, suc, ◌+◌, ◌<◌, ◌≤◌, List, [], ◌∷◌, ◌++◌, length, take, drop, get_or, replicate, All, Option, Result, IsErr, Ok, Err, arith, refl, ap, sym, subst, ◌∙◌, append_assoc, append-nil}
+use Rattle.std.proofs.Common.{◌≡◌, ◌≢◌, ℕ, zero, suc, ◌+◌, ◌<◌, ◌≤◌, List, [], ◌∷◌, ◌++◌, length, take, drop}
+use Rattle.std.proofs.Common.{get_or, replicate, All, Option, Result, IsErr, Ok, Err, arith, refl, ap, sym}
+use Rattle.std.proofs.Common.{subst, ◌∙◌, append_assoc, append-nil}
 use Rattle.std.specs.Prelude.{IsPermutation, false}
 use Rattle.std.specs.List.{flat_map, sum_by}
 use Rattle.std.specs.declared.cmp.Ordering.{Ordering}
 use Rattle.std.specs.declared.cmp.Ordering.TheVariants.{Less, Equal, Greater}
 use Rattle.std.specs.Ordering.{is_eq, ordering_reverse}
 use Rattle.std.proofs.lemmas.Cmp.{nat_list_cmp_total}
-use Rattle.std.proofs.lemmas.List.{length-append, length-replicate, length-take, length-drop, map-append, take-append-drop, get_or-take, get_or-drop, replicate-append-replicate, get_or-append-add}
+use Rattle.std.proofs.lemmas.List.{length-append, length-replicate, length-take, length-drop, map-append}
+use Rattle.std.proofs.lemmas.List.{take-append-drop, get_or-take, get_or-drop, replicate-append-replicate}
+use Rattle.std.proofs.lemmas.List.{get_or-append-add}
 use Rattle.std.proofs.lemmas.List.Concat.{flat_map-append}
 use Rattle.std.proofs.lemmas.List.Elements.{All-nil, All-cons, All-head, All-tail, All-map, All-weaker, All-from_get_or}
 use Rattle.std.proofs.lemmas.List.Sorted.{IsPermutation-refl}
@@ -34,7 +38,8 @@ pub same_ballots :
 same_ballots r [] behind all = refl
 same_ballots r (l ∷ same) behind all =
     let IsIt : BallotLine → Type 0 = λ l. l.ranking ≡ r in
-    let count : ballot_count (l ∷ same) ≡ l.count + ballot_count same = sum_by-cons (λ (line : BallotLine). line.count) l same in
+    let count : ballot_count (l ∷ same) ≡ l.count + ballot_count same =
+    sum_by-cons (λ (line : BallotLine). line.count) l same in
     let rest = same_ballots r same behind (All-tail IsIt l same all) in
     ap (λ (q : List ℕ). replicate l.count q ++ plain (same ++ behind)) (All-head IsIt l same all)
     ∙ (ap (λ (bag : List (List ℕ)). replicate l.count r ++ bag) rest
@@ -69,11 +74,15 @@ behind_later r (l ∷ behind) listed other from =
     (not_equal (order l.ranking r) l.ranking r refl other) in
     plain_all (IsLater r) (l ∷ behind)
     (All-cons (λ (l : BallotLine). IsLater r l.ranking) l behind first
-    (λ i d inside. let next = get_or behind i d in before_by (order l.ranking next.ranking) r l.ranking next.ranking refl first (listed 0 (suc i) d (omega arith) (omega (arith, inside)))))
+    (λ i d inside. let next =
+    get_or behind i d in
+    before_by (order l.ranking next.ranking) r l.ranking next.ranking refl first
+    (listed 0 (suc i) d (omega arith) (omega (arith, inside)))))
 
 -- Some lines were written or stand on the page, and with any lines of the ballots that are left they are lines of all
 -- ballots.
-pub record IsListing {S : Type 0} (w : S → Option (List ℕ)) (f : S → ℕ) (a b : S) (page : List ℕ) (old now : List BallotLine) : Type 0 where
+pub record IsListing {S : Type 0} (w : S → Option (List ℕ)) (f : S → ℕ) (a b : S) (page : List ℕ)
+    (old now : List BallotLine) : Type 0 where
   pub few : length (plain now) ≤ 999999999
   pub counted : All (λ (l : BallotLine). 1 ≤ l.count) now
   pub listed : AreListed now
@@ -84,7 +93,8 @@ pub record IsListing {S : Type 0} (w : S → Option (List ℕ)) (f : S → ℕ) 
   pub wrote : Wrote w f a b gone
 
 pub listing_begun :
-    {S : Type 0} (w : S → Option (List ℕ)) (f : S → ℕ) (a : S) (page : List ℕ) (old : List BallotLine) → page ≡ [] → length (plain old) ≤ 999999999
+    {S : Type 0} (w : S → Option (List ℕ)) (f : S → ℕ) (a : S) (page : List ℕ) (old : List BallotLine)
+    → page ≡ [] → length (plain old) ≤ 999999999
     → All (λ (l : BallotLine). 1 ≤ l.count) old → AreListed old → IsListing w f a a page old old
 listing_begun w f a page old empty few counted listed = record {
   few = few;
@@ -99,7 +109,8 @@ listing_begun w f a page old empty few counted listed = record {
 
 -- what stood on the page was handed over
 pub listing_handed :
-    {S T E : Type 0} {w : S → Option (List ℕ)} {f : S → ℕ} {a b c : S} {page after : List ℕ} {old now : List BallotLine} (v : T)
+    {S T E : Type 0} {w : S → Option (List ℕ)} {f : S → ℕ} {a b c : S} {page after : List ℕ}
+    {old now : List BallotLine} (v : T)
     → IsListing w f a b page old now → HandsOver {T = T} {E = E} w f b c page after (Ok v) → IsListing w f a c after old now
 listing_handed {after} v is handed = record {
   few = is.few;
@@ -114,8 +125,10 @@ listing_handed {after} v is handed = record {
 
 -- or was not
 pub listing_stopped :
-    {S T E V F : Type 0} {w : S → Option (List ℕ)} {f : S → ℕ} {a b c : S} {page after : List ℕ} {old now : List BallotLine} (e : F) (result : Result T E)
-    → IsErr result → IsListing w f a b page old now → HandsOver {T = V} {E = F} w f b c page after (Err e) → WritesLines w f a c (plain old) result
+    {S T E V F : Type 0} {w : S → Option (List ℕ)} {f : S → ℕ} {a b c : S} {page after : List ℕ}
+    {old now : List BallotLine} (e : F) (result : Result T E)
+    → IsErr result → IsListing w f a b page old now → HandsOver {T = V} {E = F} w f b c page after (Err e)
+    → WritesLines w f a c (plain old) result
 listing_stopped {w} {f} {a} {c} {page} {after} {now} e result failed is handed =
     let rest = lines_of (plain now) in
     let text : (is.gone ++ handed.front) ++ (after ++ flat_map ballot_text rest) ≡ flat_map ballot_text (is.done ++ rest) =
@@ -134,17 +147,23 @@ listing_stopped {w} {f} {a} {c} {page} {after} {now} e result failed is handed =
 listed_behind : (same behind : List BallotLine) → AreListed (same ++ behind) → AreListed behind
 listed_behind [] behind listed = listed
 listed_behind (l ∷ same) behind listed =
-    listed_behind same behind (pairs_tail (λ (one other : BallotLine). order other.ranking one.ranking ≢ Less) l (same ++ behind) listed)
+    listed_behind same behind (pairs_tail (λ (one other : BallotLine). order other.ranking one.ranking ≢ Less)
+    l (same ++ behind) listed)
 
-counted_behind : (same behind : List BallotLine) → All (λ (l : BallotLine). 1 ≤ l.count) (same ++ behind) → All (λ (l : BallotLine). 1 ≤ l.count) behind
+counted_behind :
+    (same behind : List BallotLine) → All (λ (l : BallotLine). 1 ≤ l.count) (same ++ behind)
+    → All (λ (l : BallotLine). 1 ≤ l.count) behind
 counted_behind [] behind counted = counted
 counted_behind (l ∷ same) behind counted =
     counted_behind same behind (All-tail (λ (l : BallotLine). 1 ≤ l.count) l (same ++ behind) counted)
 
-from_behind : (r : List ℕ) (first : BallotLine) (same behind : List BallotLine) → first.ranking ≡ r → AreListed (first ∷ (same ++ behind)) → All (λ (l : BallotLine). order l.ranking r ≡ Less → ⊥) behind
+from_behind :
+    (r : List ℕ) (first : BallotLine) (same behind : List BallotLine) → first.ranking ≡ r
+    → AreListed (first ∷ (same ++ behind)) → All (λ (l : BallotLine). order l.ranking r ≡ Less → ⊥) behind
 from_behind r first same behind is listed i d inside before =
     let size = length-append same behind in
-    let here : get_or (first ∷ (same ++ behind)) (suc (length same + i)) d ≡ get_or behind i d = get_or-append-add same behind i d in
+    let here : get_or (first ∷ (same ++ behind)) (suc (length same + i)) d ≡ get_or behind i d =
+    get_or-append-add same behind i d in
     listed 0 (suc (length same + i)) d (omega arith) (omega (arith, size, inside))
     (ap (λ (l : BallotLine). order l.ranking first.ranking) here ∙ (ap (order (get_or behind i d).ranking) is ∙ before))
 
@@ -158,7 +177,8 @@ pub record AreParted (r : List ℕ) (now : List BallotLine) (first : BallotLine)
   pub alike : All (λ (l : BallotLine). l.ranking ≡ r) (first ∷ same)
   pub other : BeginsOther r behind
 
-module _ {S : Type 0} {w : S → Option (List ℕ)} {f : S → ℕ} {a b : S} {page : List ℕ} {old now : List BallotLine} (r : List ℕ) (first : BallotLine)
+module _ {S : Type 0} {w : S → Option (List ℕ)} {f : S → ℕ} {a b : S} {page : List ℕ}
+    {old now : List BallotLine} (r : List ℕ) (first : BallotLine)
     (same behind : List BallotLine) (is : IsListing w f a b page old now) (parted : AreParted r now first same behind) where
   abbrev pub count : ℕ
   count = ballot_count (first ∷ same)
@@ -183,12 +203,15 @@ module _ {S : Type 0} {w : S → Option (List ℕ)} {f : S → ℕ} {a b : S} {p
       behind_later r behind (listed_behind (first ∷ same) behind listed) parted.other
       (from_behind r first same behind (All-head (λ (l : BallotLine). l.ranking ≡ r) first same parted.alike) listed)
 
-  longer : (rest : List BallotLine) → AreLinesOf (plain behind) rest → AreLinesOf (plain old) ((is.done ++ written (line count r)) ++ rest)
+  longer :
+      (rest : List BallotLine) → AreLinesOf (plain behind) rest
+      → AreLinesOf (plain old) ((is.done ++ written (line count r)) ++ rest)
   longer rest are =
       subst (AreLinesOf (plain old)) (sym (append_assoc is.done (written (line count r)) rest))
       (is.so_far (written (line count r) ++ rest)
       (one_more count r (plain now) (plain behind) rest
-      (subst (λ (bag : List (List ℕ)). IsPermutation bag (replicate count r ++ plain behind)) (sym whole) (IsPermutation-refl (replicate count r ++ plain behind)))
+      (subst (λ (bag : List (List ℕ)). IsPermutation bag (replicate count r ++ plain behind)) (sym whole)
+      (IsPermutation-refl (replicate count r ++ plain behind)))
       later are))
 
   text : flat_map ballot_text (written (line count r)) ≡ ballot_text (line count r)
@@ -210,13 +233,15 @@ module _ {S : Type 0} {w : S → Option (List ℕ)} {f : S → ℕ} {a b : S} {p
     parts =
         sym (append_assoc is.gone page (ballot_text (line count r)))
         ∙ (ap (λ (l : List ℕ). l ++ ballot_text (line count r)) is.parts
-        ∙ (ap (λ (l : List ℕ). flat_map ballot_text is.done ++ l) (sym text) ∙ sym (flat_map-append ballot_text is.done (written (line count r)))));
+        ∙ (ap (λ (l : List ℕ). flat_map ballot_text is.done ++ l) (sym text)
+        ∙ sym (flat_map-append ballot_text is.done (written (line count r)))));
     wrote = is.wrote;
   }
 
 -- nothing is left to be listed, and the page is written
 pub listing_done :
-    {S T E : Type 0} {w : S → Option (List ℕ)} {f : S → ℕ} {a b c : S} {page : List ℕ} {old now : List BallotLine} (result : Result T E)
+    {S T E : Type 0} {w : S → Option (List ℕ)} {f : S → ℕ} {a b c : S} {page : List ℕ}
+    {old now : List BallotLine} (result : Result T E)
     → IsListing w f a b page old now → now ≡ [] → Writes w f b c page result → WritesLines w f a c (plain old) result
 listing_done {w} {f} {a} {c} {old} result is empty writes = record {
   lines = is.done;
@@ -228,12 +253,16 @@ listing_done {w} {f} {a} {c} {old} result is empty writes = record {
 
 -- ---- the lines of entries
 
-pub counted_lines : (packed : List ℕ) (entries : List Entry) → All (IsEntry packed) entries → All (λ (l : BallotLine). 1 ≤ l.count) (entry_lines packed entries)
+pub counted_lines :
+    (packed : List ℕ) (entries : List Entry) → All (IsEntry packed) entries
+    → All (λ (l : BallotLine). 1 ≤ l.count) (entry_lines packed entries)
 counted_lines packed entries sound =
     All-map (λ (l : BallotLine). 1 ≤ l.count) (line_of packed) entries
     (All-weaker (IsEntry packed) (λ (e : Entry). 1 ≤ e.count) (λ e is. is.counted) entries sound)
 
-pub count_of_lines : (packed : List ℕ) (entries : List Entry) → ballot_count (entry_lines packed entries) ≡ sum_by (λ (e : Entry). e.count) entries
+pub count_of_lines :
+    (packed : List ℕ) (entries : List Entry)
+    → ballot_count (entry_lines packed entries) ≡ sum_by (λ (e : Entry). e.count) entries
 count_of_lines packed [] = refl
 count_of_lines packed (e ∷ entries) =
     omega (
@@ -256,45 +285,58 @@ parted_by packed n first entries alike other =
     record {
       parts =
           ap (λ (es : List Entry). entry_lines packed (first ∷ es)) (sym (take-append-drop n entries))
-          ∙ ap (λ (ls : List BallotLine). line_of packed first ∷ ls) (map-append (line_of packed) (take n entries) (drop n entries));
+          ∙ ap (λ (ls : List BallotLine). line_of packed first ∷ ls)
+          (map-append (line_of packed) (take n entries) (drop n entries));
       alike =
           All-map (λ (l : BallotLine). l.ranking ≡ r) (line_of packed) (first ∷ take n entries)
           (All-from_get_or IsIt (first ∷ take n entries) first
           (λ i inside.
           let size = length-take n entries in
-          subst IsIt (sym (get_or-take (suc n) (first ∷ entries) i first (omega (arith, inside, size)))) (alike i (omega (arith, inside, size)))));
+          subst IsIt (sym (get_or-take (suc n) (first ∷ entries) i first (omega (arith, inside, size))))
+          (alike i (omega (arith, inside, size)))));
       other = begins_other packed r n first entries other;
     }
   where
-    begins_with : (packed r : List ℕ) (behind : List Entry) (d : Entry) → (0 < length behind → ranking_at packed (get_or behind 0 d).start ≢ r) → BeginsOther r (entry_lines packed behind)
+    begins_with :
+        (packed r : List ℕ) (behind : List Entry) (d : Entry)
+        → (0 < length behind → ranking_at packed (get_or behind 0 d).start ≢ r)
+        → BeginsOther r (entry_lines packed behind)
     begins_with packed r [] d other = tt
     begins_with packed r (e ∷ behind) d other = other (omega arith)
 
-    begins_other : (packed r : List ℕ) (n : ℕ) (d : Entry) (entries : List Entry) → (n < length entries → ranking_at packed (get_or entries n d).start ≢ r) → BeginsOther r (entry_lines packed (drop n entries))
+    begins_other :
+        (packed r : List ℕ) (n : ℕ) (d : Entry) (entries : List Entry)
+        → (n < length entries → ranking_at packed (get_or entries n d).start ≢ r)
+        → BeginsOther r (entry_lines packed (drop n entries))
     begins_other packed r n d entries other =
         begins_with packed r (drop n entries) d
         (λ some.
         let size = length-drop n entries in
         let none_more : n + 0 ≡ n = omega arith in
-        let at : get_or (drop n entries) 0 d ≡ get_or entries n d = get_or-drop n entries 0 d ∙ ap (λ (k : ℕ). get_or entries k d) none_more in
+        let at : get_or (drop n entries) 0 d ≡ get_or entries n d =
+        get_or-drop n entries 0 d ∙ ap (λ (k : ℕ). get_or entries k d) none_more in
         subst (λ (e : Entry). ranking_at packed e.start ≢ r) (sym at) (other (omega (arith, some, size))))
 
 pub parted :
-    (packed : List ℕ) (entries : List Entry) (n : ℕ) (first : Entry) → 0 < length entries → ((d : Entry) → first ≡ get_or entries 0 d)
+    (packed : List ℕ) (entries : List Entry) (n : ℕ) (first : Entry) → 0 < length entries
+    → ((d : Entry) → first ≡ get_or entries 0 d)
     → IsRun packed entries n
     → AreParted (ranking_at packed first.start) (entry_lines packed entries) (line_of packed first)
     (entry_lines packed (drop 1 (take n entries))) (entry_lines packed (drop n entries))
 parted packed [] n first some at run = absurd (omega (arith, some))
 parted packed (e ∷ entries) zero first some at run = absurd (omega (arith, run.some))
 parted packed (e ∷ entries) (suc n) first some at run =
-    subst (λ (one : Entry). AreParted (ranking_at packed one.start) (entry_lines packed (e ∷ entries)) (line_of packed one) (entry_lines packed (take n entries)) (entry_lines packed (drop n entries)))
+    subst (λ (one : Entry). AreParted (ranking_at packed one.start) (entry_lines packed (e ∷ entries))
+    (line_of packed one) (entry_lines packed (take n entries)) (entry_lines packed (drop n entries)))
     (sym (at e)) (parted_by packed n e entries (run.alike e) (λ inside. run.other e (omega (arith, inside))))
 
 -- how many ballots the run has
 pub count_of_run :
-    (packed : List ℕ) (entries : List Entry) (n : ℕ) (first : Entry) → 0 < length entries → ((d : Entry) → first ≡ get_or entries 0 d)
+    (packed : List ℕ) (entries : List Entry) (n : ℕ) (first : Entry) → 0 < length entries
+    → ((d : Entry) → first ≡ get_or entries 0 d)
     → IsRun packed entries n
-    → sum_by (λ (e : Entry). e.count) (take n entries) ≡ ballot_count (line_of packed first ∷ entry_lines packed (drop 1 (take n entries)))
+    → sum_by (λ (e : Entry). e.count) (take n entries)
+    ≡ ballot_count (line_of packed first ∷ entry_lines packed (drop 1 (take n entries)))
 count_of_run packed [] n first some at run = absurd (omega (arith, some))
 count_of_run packed (e ∷ entries) zero first some at run = absurd (omega (arith, run.some))
 count_of_run packed (e ∷ entries) (suc n) first some at run =

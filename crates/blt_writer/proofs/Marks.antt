@@ -1,5 +1,6 @@
 -- The withdrawn candidates, listed by rising number, are marked as they were.
-use Rattle.std.proofs.Common.{◌≡◌, ◌⊎◌, inl, inr, eq-eqb, ℕ, zero, suc, ◌+◌, ◌-◌, ◌<◌, ◌≤◌, ◌==◌, ◌&&◌, ◌||◌, Bool, true, false, List, length, All, get_or, refl, sym, ap, ◌∙◌, arith}
+use Rattle.std.proofs.Common.{◌≡◌, ◌⊎◌, inl, inr, eq-eqb, ℕ, zero, suc, ◌+◌, ◌-◌, ◌<◌, ◌≤◌, ◌==◌, ◌&&◌, ◌||◌}
+use Rattle.std.proofs.Common.{Bool, true, false, List, length, All, get_or, refl, sym, ap, ◌∙◌, arith}
 use Rattle.std.specs.List.{list_any, range_with_len}
 use Rattle.std.proofs.lemmas.Bool.Decides.{nat_tests}
 use Rattle.std.proofs.lemmas.List.Elements.{All-filter}
@@ -28,19 +29,25 @@ and_true false b is = refl
 in_range : (a n c : ℕ) → a ≤ c → c < a + n → list_any (λ d. d == c) (range_with_len a n) ≡ true
 in_range a zero c low high = absurd (omega arith)
 in_range a (suc n) c low high =
-    in_either a c (list_any (λ d. d == c) (range_with_len (a + 1) n)) (below_or_at a c low) (λ passed. in_range (a + 1) n c (omega arith) (omega arith))
+    in_either a c (list_any (λ d. d == c) (range_with_len (a + 1) n)) (below_or_at a c low)
+    (λ passed. in_range (a + 1) n c (omega arith) (omega arith))
 
 listed_as_marked :
-    (withdrawn : List Bool) (k : ℕ) → k < length withdrawn → get_or withdrawn k false ≡ is_listed (withdrawn_numbers withdrawn) (k + 1)
+    (withdrawn : List Bool) (k : ℕ) → k < length withdrawn
+    → get_or withdrawn k false ≡ is_listed (withdrawn_numbers withdrawn) (k + 1)
 listed_as_marked withdrawn k below =
     let n = length withdrawn in
     let same : (d : ℕ) → (d == k + 1) ≡ true → is_withdrawn withdrawn d ≡ get_or withdrawn k false =
     λ d is. (let at : d - 1 ≡ k = grind (arith, nat_tests) in ap (λ (i : ℕ). get_or withdrawn i false) at) in
     let there = in_range 1 n (k + 1) (omega arith) (omega arith) in
-    let both = any-filter_same (λ d. d == k + 1) (is_withdrawn withdrawn) (get_or withdrawn k false) same (range_with_len 1 n) in
+    let both =
+    any-filter_same (λ d. d == k + 1) (is_withdrawn withdrawn) (get_or withdrawn k false) same
+    (range_with_len 1 n) in
     sym (both ∙ and_true (get_or withdrawn k false) (list_any (λ d. d == k + 1) (range_with_len 1 n)) there)
 
-pub marks_are : (n : ℕ) (withdrawn : List Bool) → length withdrawn ≡ n → withdrawn ≡ withdrawn_marks n (withdrawn_numbers withdrawn)
+pub marks_are :
+    (n : ℕ) (withdrawn : List Bool) → length withdrawn ≡ n
+    → withdrawn ≡ withdrawn_marks n (withdrawn_numbers withdrawn)
 marks_are n withdrawn same =
     fill_by_all (λ p. is_listed (withdrawn_numbers withdrawn) (p + 1)) withdrawn n false same
     (λ k below. listed_as_marked withdrawn k (omega (arith, same)))

@@ -1,5 +1,7 @@
 -- A minus and digits with a separator behind them are read as a minus number.
-use Rattle.std.proofs.Common.{◌≡◌, ℕ, zero, suc, ◌+◌, ◌-◌, ◌^◌, ◌<◌, ◌≤◌, ◌==◌, ◌||◌, min, Bool, true, false, List, [], ◌∷◌, ◌++◌, length, drop, take, refl, ap, ◌∙◌, arith, append_assoc, length-append}
+use Rattle.std.proofs.Common.{◌≡◌, ℕ, zero, suc, ◌+◌, ◌-◌, ◌^◌, ◌<◌, ◌≤◌, ◌==◌, ◌||◌, min, Bool, true, false}
+use Rattle.std.proofs.Common.{List, [], ◌∷◌, ◌++◌, length, drop, take, refl, ap, ◌∙◌, arith, append_assoc}
+use Rattle.std.proofs.Common.{length-append}
 use Rattle.std.specs.Prelude.{decimal}
 use Rattle.std.specs.Char.{is_ascii_digit}
 use Rattle.std.proofs.lemmas.Fmt.{decimal_is_IsNumeral, decimal_nonempty}
@@ -37,7 +39,9 @@ minus digits s rest some each is =
     ap may_follow (drop_front digits (s ∷ rest)) ∙ ap (λ (b : Bool). b || s == 35) is in
     rw len (rw more (rw ends (rw front refl)))
 
-cut_off : (digits : List ℕ) (s at : ℕ) (rest : List ℕ) → 0 < length digits → Each is_ascii_digit digits → is_separator s ≡ true
+cut_off :
+    (digits : List ℕ) (s at : ℕ) (rest : List ℕ) → 0 < length digits → Each is_ascii_digit digits
+    → is_separator s ≡ true
     → cut true at 0 (45 ∷ (digits ++ s ∷ rest))
     ≡ with_front (record { at = at; item = Minus (number digits) }) (cut true (at + length (45 ∷ (digits ++ s ∷ []))) 0 rest)
 unfolding cut
@@ -61,7 +65,9 @@ minus_spelled n s most is =
     let value : number (decimal n) ≡ n = ap (λ (k : ℕ). min k 4294967295) (decimal_is_IsNumeral n fits).1 ∙ (omega arith) in
     let flat : (rest : List ℕ) → (45 ∷ (decimal n ++ s ∷ [])) ++ rest ≡ 45 ∷ (decimal n ++ s ∷ rest) =
     λ rest. ap (λ (l : List ℕ). 45 ∷ l) (append_assoc (decimal n) (s ∷ []) rest) in
-    let whole = λ (at : ℕ) (rest : List ℕ). ap (cut true at 0) (flat rest) ∙ cut_off (decimal n) s at rest (decimal_nonempty n fits) (digits_of n fits) is in
+    let whole =
+    λ (at : ℕ) (rest : List ℕ). ap (cut true at 0) (flat rest)
+    ∙ cut_off (decimal n) s at rest (decimal_nonempty n fits) (digits_of n fits) is in
     record {
       items_are = λ at rest.
           ap (λ (t : Scan). items_of t.tokens) (whole at rest)

@@ -14,7 +14,8 @@ use Rattle.plain_ballots.proofs.PlainLemmas.{sum_by-plain}
 use Rattle.blt_writer.specs.Order.{StandsBefore, AreLinesOf}
 use Rattle.blt_writer.specs.Text.{file_text}
 use Rattle.blt_writer.specs.Laws.{OneBagHasOneText}
-use Rattle.blt_writer.proofs.LineOrder.{order, same_place, pairs_head, pairs_tail, before_all, weigh, weigh-cons, is_it, it_is, none_later}
+use Rattle.blt_writer.proofs.LineOrder.{order, same_place, pairs_head, pairs_tail, before_all, weigh}
+use Rattle.blt_writer.proofs.LineOrder.{weigh-cons, is_it, it_is, none_later}
 
 -- lines in order, each of at least one ballot
 record AreRising (ls : List BallotLine) : Type 0 where
@@ -35,7 +36,9 @@ some_first : (l : BallotLine) (ls : List BallotLine) → AreRising (l ∷ ls) �
 some_first l ls is = All-head (λ (line : BallotLine). 1 ≤ line.count) l ls is.counted
 
 -- the first line's ballots
-first_weight : (l : BallotLine) (ls : List BallotLine) → weigh (is_it l.ranking) (l ∷ ls) ≡ l.count + weigh (is_it l.ranking) ls
+first_weight :
+    (l : BallotLine) (ls : List BallotLine)
+    → weigh (is_it l.ranking) (l ∷ ls) ≡ l.count + weigh (is_it l.ranking) ls
 first_weight l ls =
     let one : l.count * is_it l.ranking l.ranking ≡ l.count * 1 = ap (λ (n : ℕ). l.count * n) (it_is l.ranking) in
     omega (arith, one, weigh-cons (is_it l.ranking) l ls)

@@ -1,7 +1,9 @@
 -- Rankings that are packed one behind another.
-use Rattle.std.proofs.Common.{◌≡◌, ℕ, ◌+◌, ◌<◌, ◌≤◌, List, [], ◌∷◌, ◌++◌, All, length, take, drop, replicate, refl, ap, sym, subst, ◌∙◌, arith, append_assoc}
+use Rattle.std.proofs.Common.{◌≡◌, ℕ, ◌+◌, ◌<◌, ◌≤◌, List, [], ◌∷◌, ◌++◌, All, length, take, drop, replicate}
+use Rattle.std.proofs.Common.{refl, ap, sym, subst, ◌∙◌, arith, append_assoc}
 use Rattle.std.specs.Prelude.{IsPermutation, slice_index}
-use Rattle.std.proofs.lemmas.List.{get_or_append_left, get_or_at, drop-append-le, drop_at, take-append-le, take_all, length-drop, length-append, length_push, map_push}
+use Rattle.std.proofs.lemmas.List.{get_or_append_left, get_or_at, drop-append-le, drop_at, take-append-le}
+use Rattle.std.proofs.lemmas.List.{take_all, length-drop, length-append, length_push, map_push}
 use Rattle.std.proofs.lemmas.List.Elements.{All-push, All-tail, All-weaker}
 use Rattle.std.proofs.lemmas.List.Sorted.{IsPermutation-map}
 use Rattle.plain_ballots.specs.Ballots.{plain}
@@ -48,7 +50,9 @@ entry_kept packed more entry is =
       counted = is.counted;
     }
 
-lines_kept : (packed more : List ℕ) (entries : List Entry) → All (IsEntry packed) entries → entry_lines (packed ++ more) entries ≡ entry_lines packed entries
+lines_kept :
+    (packed more : List ℕ) (entries : List Entry) → All (IsEntry packed) entries
+    → entry_lines (packed ++ more) entries ≡ entry_lines packed entries
 lines_kept packed more [] all = refl
 lines_kept packed more (entry ∷ entries) all =
     let first : line_of (packed ++ more) entry ≡ line_of packed entry =
@@ -91,7 +95,8 @@ module _ (packed : List ℕ) (entries : List Entry) (line : BallotLine) (sound :
   sound_then : All (IsEntry ranks_then) entries_then
   sound_then =
       All-push (IsEntry ranks_then) entries (entry_of packed line)
-      (All-weaker (IsEntry packed) (IsEntry ranks_then) (entry_kept packed (length line.ranking ∷ line.ranking)) entries sound) own_entry
+      (All-weaker (IsEntry packed) (IsEntry ranks_then)
+      (entry_kept packed (length line.ranking ∷ line.ranking)) entries sound) own_entry
 
   lines_then : entry_lines ranks_then entries_then ≡ entry_lines packed entries ++ line ∷ []
   lines_then =
@@ -100,16 +105,23 @@ module _ (packed : List ℕ) (entries : List Entry) (line : BallotLine) (sound :
       (lines_kept packed (length line.ranking ∷ line.ranking) entries sound)
       ∙ ap (λ (l : BallotLine). entry_lines packed entries ++ l ∷ []) own_line)
 
-  pub still_sound : (ranks : List ℕ) (more : List Entry) → ranks ≡ ranks_then → more ≡ entries_then → All (IsEntry ranks) more
+  pub still_sound :
+      (ranks : List ℕ) (more : List Entry) → ranks ≡ ranks_then → more ≡ entries_then
+      → All (IsEntry ranks) more
   still_sound ranks more ranks_are entries_are =
-      subst (λ (p : List ℕ). All (IsEntry p) more) (sym ranks_are) (subst (All (IsEntry ranks_then)) (sym entries_are) sound_then)
+      subst (λ (p : List ℕ). All (IsEntry p) more) (sym ranks_are)
+      (subst (All (IsEntry ranks_then)) (sym entries_are) sound_then)
 
-  pub one_line_more : (ranks : List ℕ) (more : List Entry) → ranks ≡ ranks_then → more ≡ entries_then → entry_lines ranks more ≡ entry_lines packed entries ++ line ∷ []
+  pub one_line_more :
+      (ranks : List ℕ) (more : List Entry) → ranks ≡ ranks_then → more ≡ entries_then
+      → entry_lines ranks more ≡ entry_lines packed entries ++ line ∷ []
   one_line_more ranks more ranks_are entries_are =
       ap (λ (p : List ℕ). entry_lines p more) ranks_are ∙ (ap (entry_lines ranks_then) entries_are ∙ lines_then)
 
 -- The lines of entries, in whatever order the entries stand.
-pub same_entry_lines : (packed : List ℕ) (entries now : List Entry) → IsPermutation entries now → IsPermutation (entry_lines packed entries) (entry_lines packed now)
+pub same_entry_lines :
+    (packed : List ℕ) (entries now : List Entry) → IsPermutation entries now
+    → IsPermutation (entry_lines packed entries) (entry_lines packed now)
 same_entry_lines packed entries now moved = IsPermutation-map (line_of packed) entries now moved
 
 -- The ballots of lines, in whatever order the lines stand.

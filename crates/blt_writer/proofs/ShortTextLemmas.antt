@@ -1,9 +1,12 @@
 -- The texts of short numbers, four bytes for each.
-use Rattle.std.proofs.Common.{◌≡◌, ◌≢◌, ℕ, ◌+◌, ◌-◌, ◌*◌, ◌<◌, ◌≤◌, List, [], ◌∷◌, ◌++◌, length, take, drop, get_or, set, ap, sym, subst, ◌∙◌, arith, ⊎_elim, append_assoc}
+use Rattle.std.proofs.Common.{◌≡◌, ◌≢◌, ℕ, ◌+◌, ◌-◌, ◌*◌, ◌<◌, ◌≤◌, List, [], ◌∷◌, ◌++◌, length, take, drop}
+use Rattle.std.proofs.Common.{get_or, set, ap, sym, subst, ◌∙◌, arith, ⊎_elim, append_assoc}
 use Rattle.std.specs.Prelude.{decimal, slice_index}
 use Rattle.std.proofs.Math.Seq.{take-append-add}
 use Rattle.std.proofs.lemmas.Bool.{cases_lt}
-use Rattle.std.proofs.lemmas.List.{length-append, length-take-le, length-drop, length-set, take-append-le, take-take, drop_at, drop-append-le, drop-take, drop_more, set_at, get_or-set_same, get_or-set_other}
+use Rattle.std.proofs.lemmas.List.{length-append, length-take-le, length-drop, length-set, take-append-le}
+use Rattle.std.proofs.lemmas.List.{take-take, drop_at, drop-append-le, drop-take, drop_more, set_at}
+use Rattle.std.proofs.lemmas.List.{get_or-set_same, get_or-set_other}
 use borrow.Rule.Slice.PartMut.{put_mid}
 use Rattle.blt_writer.specs.ShortTexts.{AreTexts, AreTextsBelow, IsTextOf}
 use Rattle.blt_writer.specs.Text.{number_then}
@@ -24,7 +27,9 @@ one_more xs i k d inside = drop_more xs (i + k) d inside ∙ ap (λ (m : ℕ). g
 
 -- four bytes by their places
 pub four_at :
-    (xs : List ℕ) (i d : ℕ) → i + 4 ≤ length xs → get_or xs i d ∷ get_or xs (i + 1) d ∷ get_or xs (i + 2) d ∷ get_or xs (i + 3) d ∷ [] ≡ take 4 (drop i xs)
+    (xs : List ℕ) (i d : ℕ) → i + 4 ≤ length xs
+    → get_or xs i d ∷ get_or xs (i + 1) d ∷ get_or xs (i + 2) d ∷ get_or xs (i + 3) d ∷ []
+    ≡ take 4 (drop i xs)
 four_at xs i d inside =
     let a = get_or xs i d in
     let b = get_or xs (i + 1) d in
@@ -36,21 +41,25 @@ four_at xs i d inside =
     ∙ ap (λ (l : List ℕ). a ∷ b ∷ c ∷ take 1 l) (one_more xs i 3 d (omega (arith, inside))))))
 
 pub put_number :
-    (texts lens : List ℕ) (n at j k : ℕ) (bytes part : List ℕ) → AreTexts texts lens → n < 256 → at + 4 ≤ length bytes → k ≡ 4
+    (texts lens : List ℕ) (n at j k : ℕ) (bytes part : List ℕ) → AreTexts texts lens → n < 256
+    → at + 4 ≤ length bytes → k ≡ 4
     → part ≡ take k (drop (4 * n) texts)
     → take (at + slice_index lens n) (put_mid at j bytes part) ≡ take at bytes ++ number_then 32 n
 put_number texts lens n at j k bytes part are below room four is =
     let each = are.each n below in
     let l = slice_index lens n in
     let left = length-drop (4 * n) texts in
-    let size : length part ≡ 4 = ap length is ∙ (length-take-le k (drop (4 * n) texts) (omega (arith, left, are.texts_long, below, four)) ∙ four) in
+    let size : length part ≡ 4 =
+    ap length is
+    ∙ (length-take-le k (drop (4 * n) texts) (omega (arith, left, are.texts_long, below, four)) ∙ four) in
     front_put at j l bytes part (omega (arith, room)) (omega (arith, size, each.short))
     ∙ ap (λ (xs : List ℕ). take at bytes ++ xs)
     (ap (take l) is ∙ (take-take l k (drop (4 * n) texts) (omega (arith, each.short, four)) ∙ each.text))
 
 -- ---- one number more is spelled
 
-module _ (texts lens text : List ℕ) (n j : ℕ) (below : n < 256) (are : AreTextsBelow n texts lens) (is : text ≡ decimal n) (short : length text ≤ 3)
+module _ (texts lens text : List ℕ) (n j : ℕ) (below : n < 256) (are : AreTextsBelow n texts lens)
+    (is : text ≡ decimal n) (short : length text ≤ 3)
     (as_long : j ≡ length text) where
   abbrev from : ℕ
   from = 4 * n
@@ -76,8 +85,10 @@ module _ (texts lens text : List ℕ) (n j : ℕ) (below : n < 256) (are : AreTe
   parted : texts_then ≡ take from texts ++ (text ++ 32 ∷ drop 1 rest)
   parted =
       let all : put_mid from j texts text ≡ (take from texts ++ text) ++ (get_or rest 0 0 ∷ drop 1 rest) =
-      sym (append_assoc (take from texts) text rest) ∙ ap (λ (xs : List ℕ). (take from texts ++ text) ++ xs) (drop_more rest 0 0 some_rest) in
-      let long : length (take from texts ++ text) ≡ from + length text = omega (arith, length-append (take from texts) text, before_is) in
+      sym (append_assoc (take from texts) text rest)
+      ∙ ap (λ (xs : List ℕ). (take from texts ++ text) ++ xs) (drop_more rest 0 0 some_rest) in
+      let long : length (take from texts ++ text) ≡ from + length text =
+      omega (arith, length-append (take from texts) text, before_is) in
       ap (λ (xs : List ℕ). set xs (from + length text) 32) all
       ∙ (set_at (take from texts ++ text) (get_or rest 0 0) (drop 1 rest) 32 (from + length text) long
       ∙ append_assoc (take from texts) text (32 ∷ drop 1 rest))
@@ -101,7 +112,8 @@ module _ (texts lens text : List ℕ) (n j : ℕ) (below : n < 256) (are : AreTe
 
   new_text : IsTextOf texts_then lens_then n
   new_text =
-      let len : slice_index lens_then n ≡ length text + 1 = get_or-set_same lens n (length text + 1) 0 (omega (arith, are.lens_long, below)) in
+      let len : slice_index lens_then n ≡ length text + 1 =
+      get_or-set_same lens n (length text + 1) 0 (omega (arith, are.lens_long, below)) in
       record {
         short = omega (arith, len, short);
         text =
@@ -128,7 +140,8 @@ module _ (texts lens text : List ℕ) (n j : ℕ) (below : n < 256) (are : AreTe
         text =
             ap (λ (k : ℕ). take k (drop (4 * m) texts_then)) len
             ∙ (ap (λ (xs : List ℕ). take l (drop (4 * m) xs)) parted
-            ∙ (ap (take l) (drop-append-le (4 * m) (take from texts) (text ++ 32 ∷ drop 1 rest) (omega (arith, before, before_is)))
+            ∙ (ap (take l) (drop-append-le (4 * m) (take from texts) (text ++ 32 ∷ drop 1 rest)
+            (omega (arith, before, before_is)))
             ∙ (take-append-le l own (text ++ 32 ∷ drop 1 rest) room
             ∙ (ap (take l) front ∙ (take-take l gap (drop (4 * m) texts) (omega (arith, before, old.short)) ∙ old.text)))));
       }
@@ -140,6 +153,8 @@ module _ (texts lens text : List ℕ) (n j : ℕ) (below : n < 256) (are : AreTe
     each =
         λ m within.
         ⊎_elim (λ (before : m < n). old_text m before)
-        (λ (behind : n ≤ m). let here : m ≡ n = omega (arith, within, behind) in subst (IsTextOf texts_then lens_then) (sym here) new_text)
+        (λ (behind : n ≤ m). let here : m ≡ n =
+        omega (arith, within, behind) in
+        subst (IsTextOf texts_then lens_then) (sym here) new_text)
         (cases_lt m n);
   }

@@ -1,5 +1,7 @@
 -- The lines at the rows of a forest.
-use Rattle.std.proofs.Common.{◌≡◌, ℕ, ◌+◌, ◌-◌, ◌≤◌, List, [], ◌∷◌, ◌++◌, length, map, get_or, take, drop, set, replicate, All, arith, refl, ap, sym, subst, ◌∙◌, zero, suc, append_assoc, append-nil}
+use Rattle.std.proofs.Common.{◌≡◌, ℕ, ◌+◌, ◌-◌, ◌≤◌, List, [], ◌∷◌, ◌++◌, length, map, get_or, take, drop}
+use Rattle.std.proofs.Common.{set, replicate, All, arith, refl, ap, sym, subst, ◌∙◌, zero, suc, append_assoc}
+use Rattle.std.proofs.Common.{append-nil}
 use Rattle.std.proofs.lemmas.List.{length-append, length-set, take_at, drop_at, take-set-le, take_more_set, map-append}
 use Rattle.std.proofs.lemmas.List.Elements.{All-nil, All-cons, All-append}
 use Rattle.frozen_plan.specs.declared.plan_row.PlanRow.{PlanRow}
@@ -40,20 +42,28 @@ nodes_are : (d : ℕ) (f : Forest) → nodes_of (rows_of d f) ≡ f
 nodes_are d f = read-rows_of (length (rows_of d f)) d f (omega arith)
 
 -- the rows right behind a row, as many as it has below it
-below_is : (d : ℕ) (inner : Forest) (rest : List PlanRow) → take ((length (rows_of d inner) + 1) - 1) (rows_of d inner ++ rest) ≡ rows_of d inner
+below_is :
+    (d : ℕ) (inner : Forest) (rest : List PlanRow)
+    → take ((length (rows_of d inner) + 1) - 1) (rows_of d inner ++ rest) ≡ rows_of d inner
 below_is d inner rest =
     let low = rows_of d inner in
     let skip : (length low + 1) - 1 ≡ length low = omega arith in
     ap (λ m. take m (low ++ rest)) skip ∙ take_at low rest (length low) refl
 
-ends_are : (d n : ℕ) (inner : Forest) (rest : List PlanRow) → (n + through inner) - through (nodes_of (take ((length (rows_of d inner) + 1) - 1) (rows_of d inner ++ rest))) ≡ n
+ends_are :
+    (d n : ℕ) (inner : Forest) (rest : List PlanRow)
+    → (n + through inner)
+    - through (nodes_of (take ((length (rows_of d inner) + 1) - 1) (rows_of d inner ++ rest))) ≡ n
 ends_are d n inner rest =
-    let same : nodes_of (take ((length (rows_of d inner) + 1) - 1) (rows_of d inner ++ rest)) ≡ inner = ap nodes_of (below_is d inner rest) ∙ nodes_are d inner in
+    let same : nodes_of (take ((length (rows_of d inner) + 1) - 1) (rows_of d inner ++ rest)) ≡ inner =
+    ap nodes_of (below_is d inner rest) ∙ nodes_are d inner in
     ap (λ (g : Forest). (n + through inner) - through g) same ∙ omega arith
 
 -- the row of a node
 abbrev row_of : (d c n : ℕ) → Forest → PlanRow
-row_of d c n inner = record { depth = d; candidate = c; ballots = n + through inner; skip = length (rows_of (d + 1) inner) + 1 }
+row_of d c n inner =
+    record
+    { depth = d; candidate = c; ballots = n + through inner; skip = length (rows_of (d + 1) inner) + 1 }
 
 -- The lines of a forest's rows are its lines.
 pub walk_lines :
@@ -68,7 +78,8 @@ walk_lines path n low d (Grown c m inner next) rest some long grown =
     let others = rows_of d next in
     let row : PlanRow = row_of d c m inner in
     let one : d - 1 + 1 ≡ d = omega arith in
-    let ranking : take d here ≡ front ++ c ∷ [] = ap (λ j. take j here) (sym one) ∙ take_more_set path (d - 1) c (omega (arith, grown.2)) in
+    let ranking : take d here ≡ front ++ c ∷ [] =
+    ap (λ j. take j here) (sym one) ∙ take_more_set path (d - 1) c (omega (arith, grown.2)) in
     let cut : (under ++ others) ++ rest ≡ under ++ (others ++ rest) = append_assoc under others rest in
     let count : ends_at row (under ++ (others ++ rest)) ≡ m = ends_are (d + 1) m inner (others ++ rest) in
     let line : BallotLine = record { count = m; ranking = front ++ c ∷ [] } in
@@ -76,10 +87,14 @@ walk_lines path n low d (Grown c m inner next) rest some long grown =
     ap (λ (k : ℕ). let l : BallotLine = record { count = k; ranking = take d here } in l) count
     ∙ ap (λ (r : List ℕ). let l : BallotLine = record { count = m; ranking = r } in l) ranking in
     let deeper : d + 1 - 1 ≡ d = omega arith in
-    let inside : lines_behind here (under ++ (others ++ rest)) ≡ lines_of (front ++ c ∷ []) inner ++ lines_behind then (others ++ rest) =
+    let inside :
+    lines_behind here (under ++ (others ++ rest))
+    ≡ lines_of (front ++ c ∷ []) inner ++ lines_behind then (others ++ rest) =
     walk_lines here n 0 (d + 1) inner (others ++ rest) (omega arith) (length-set path (d - 1) c ∙ long) grown.4
     ∙ ap (λ (q : List ℕ). lines_of q inner ++ lines_behind then (others ++ rest)) (ap (λ j. take j here) deeper ∙ ranking) in
-    let kept : take (d - 1) then ≡ front = front_kept here (d + 1) inner (d - 1) (omega arith) ∙ take-set-le (d - 1) path (d - 1) c (omega arith) in
+    let kept : take (d - 1) then ≡ front =
+    front_kept here (d + 1) inner (d - 1) (omega arith)
+    ∙ take-set-le (d - 1) path (d - 1) c (omega arith) in
     let behind : lines_behind then (others ++ rest) ≡ lines_of front next ++ lines_behind (path_after then d next) rest =
     walk_lines then n c d next rest some (length_kept here (d + 1) inner ∙ (length-set path (d - 1) c ∙ long)) grown.5
     ∙ ap (λ (q : List ℕ). lines_of q next ++ lines_behind (path_after then d next) rest) kept in
@@ -87,11 +102,14 @@ walk_lines path n low d (Grown c m inner next) rest some long grown =
     ∙ (ap (λ (l : BallotLine). l ∷ lines_behind here (under ++ (others ++ rest))) first
     ∙ (ap (λ (l : List BallotLine). line ∷ l) inside
     ∙ (ap (λ (l : List BallotLine). line ∷ (lines_of (front ++ c ∷ []) inner ++ l)) behind
-    ∙ ap (λ (l : List BallotLine). line ∷ l) (sym (append_assoc (lines_of (front ++ c ∷ []) inner) (lines_of front next) (lines_behind (path_after then d next) rest))))))
+    ∙ ap (λ (l : List BallotLine). line ∷ l) (sym (append_assoc (lines_of (front ++ c ∷ []) inner)
+    (lines_of front next) (lines_behind (path_after then d next) rest))))))
 
 -- ---- the ballots of the lines
 
-map_led : (p : List ℕ) (c : ℕ) (xs : List (List ℕ)) → map (λ r. (p ++ c ∷ []) ++ r) xs ≡ map (λ r. p ++ r) (map (λ r. c ∷ r) xs)
+map_led :
+    (p : List ℕ) (c : ℕ) (xs : List (List ℕ))
+    → map (λ r. (p ++ c ∷ []) ++ r) xs ≡ map (λ r. p ++ r) (map (λ r. c ∷ r) xs)
 map_led p c [] = refl
 map_led p c (x ∷ xs) =
     ap (λ (r : List ℕ). r ∷ map (λ q. (p ++ c ∷ []) ++ q) xs) (append_assoc p (c ∷ []) x)
@@ -100,7 +118,8 @@ map_led p c (x ∷ xs) =
 map_none : (q : List ℕ) (n : ℕ) → map (λ r. q ++ r) (replicate n []) ≡ replicate n q
 map_none q zero = refl
 map_none q (suc n) =
-    ap (λ (r : List ℕ). r ∷ map (λ s. q ++ s) (replicate n [])) (append-nil q) ∙ ap (λ (l : List (List ℕ)). q ∷ l) (map_none q n)
+    ap (λ (r : List ℕ). r ∷ map (λ s. q ++ s) (replicate n [])) (append-nil q)
+    ∙ ap (λ (l : List (List ℕ)). q ∷ l) (map_none q n)
 
 pub plain-lines_of : (p : List ℕ) (f : Forest) → plain (lines_of p f) ≡ map (λ r. p ++ r) (ballots_of f)
 plain-lines_of p Bare = refl
@@ -121,7 +140,9 @@ plain-lines_of p (Grown c n inner next) =
 
 -- ---- each row has those below it right behind
 
-pub nodes_of_rows : (n low d : ℕ) (f : Forest) (rest : List PlanRow) → IsGrown n low d f → AreNodes rest → AreNodes (rows_of d f ++ rest)
+pub nodes_of_rows :
+    (n low d : ℕ) (f : Forest) (rest : List PlanRow) → IsGrown n low d f → AreNodes rest
+    → AreNodes (rows_of d f ++ rest)
 nodes_of_rows n low d Bare rest grown are = are
 nodes_of_rows n low d (Grown c m inner next) rest grown are =
     let under = rows_of (d + 1) inner in
@@ -146,7 +167,8 @@ below_root n low d Bare some = All-nil (λ (row : PlanRow). 1 ≤ row.depth)
 below_root n low d (Grown c m inner next) some =
     let P : PlanRow → Type 0 = λ row. 1 ≤ row.depth in
     All-cons P (row_of d c m inner) (rows_of (d + 1) inner ++ rows_of d next) some
-    (All-append P (rows_of (d + 1) inner) (rows_of d next) (below_root n low (d + 1) inner (omega arith)) (below_root n low d next some))
+    (All-append P (rows_of (d + 1) inner) (rows_of d next) (below_root n low (d + 1) inner (omega arith))
+    (below_root n low d next some))
 
 -- ---- siblings, one after the other
 
@@ -157,7 +179,9 @@ pub record IsStep (d : ℕ) (rows : List PlanRow) (row : PlanRow) : Type 0 where
   pub behind : drop row.skip rows ≡ rows_of d (nodes_of (drop row.skip rows))
   pub goes_through : through (nodes_of rows) ≡ row.ballots + through (nodes_of (drop row.skip rows))
 
-step_forest : (d : ℕ) (f : Forest) (e : PlanRow) → 1 ≤ length (rows_of d f) → IsStep d (rows_of d f) (get_or (rows_of d f) 0 e)
+step_forest :
+    (d : ℕ) (f : Forest) (e : PlanRow) → 1 ≤ length (rows_of d f)
+    → IsStep d (rows_of d f) (get_or (rows_of d f) 0 e)
 step_forest d Bare e some = absurd (omega arith)
 step_forest d (Grown c m inner next) e some =
     let under = rows_of (d + 1) inner in
@@ -171,24 +195,34 @@ step_forest d (Grown c m inner next) e some =
       some = omega arith;
       inside = omega (arith, length-append under others);
       behind = gone ∙ ap (rows_of d) (sym behind);
-      goes_through = ap through (nodes_are d (Grown c m inner next)) ∙ ap (λ (g : Forest). m + through inner + through g) (sym behind);
+      goes_through =
+          ap through (nodes_are d (Grown c m inner next))
+          ∙ ap (λ (g : Forest). m + through inner + through g) (sym behind);
     }
 
-pub siblings_step : (d : ℕ) (rows : List PlanRow) (e : PlanRow) → rows ≡ rows_of d (nodes_of rows) → 1 ≤ length rows → IsStep d rows (get_or rows 0 e)
+pub siblings_step :
+    (d : ℕ) (rows : List PlanRow) (e : PlanRow) → rows ≡ rows_of d (nodes_of rows) → 1 ≤ length rows
+    → IsStep d rows (get_or rows 0 e)
 siblings_step d rows e are some =
-    subst (λ (l : List PlanRow). IsStep d l (get_or l 0 e)) (sym are) (step_forest d (nodes_of rows) e (omega (arith, ap length are)))
+    subst (λ (l : List PlanRow). IsStep d l (get_or l 0 e)) (sym are)
+    (step_forest d (nodes_of rows) e (omega (arith, ap length are)))
 
 -- ---- a whole plan
 
 -- the rows of a plan are its root and those of its nodes
-pub plan_is : (n : ℕ) (rows : List PlanRow) → IsPlan n rows → (path : List ℕ) → length path ≡ 250 → lines_from path rows ≡ record { count = ballot_count rows - through (forest_of rows); ranking = [] } ∷ lines_of [] (forest_of rows)
+pub plan_is :
+    (n : ℕ) (rows : List PlanRow) → IsPlan n rows → (path : List ℕ) → length path ≡ 250
+    → lines_from path rows
+    ≡ record { count = ballot_count rows - through (forest_of rows); ranking = [] }
+    ∷ lines_of [] (forest_of rows)
 plan_is n rows plan path long =
     let f = forest_of rows in
     let ends = ballot_count rows - through f in
     let none : List PlanRow = [] in
     let whole : rows_of 1 f ++ none ≡ rows_of 1 f = append-nil (rows_of 1 f) in
     let walked : lines_behind path (rows_of 1 f) ≡ lines_of [] f =
-    ap (lines_behind path) (sym whole) ∙ (walk_lines path n 0 1 f none (omega arith) long plan.grown ∙ append-nil (lines_of [] f)) in
+    ap (lines_behind path) (sym whole)
+    ∙ (walk_lines path n 0 1 f none (omega arith) long plan.grown ∙ append-nil (lines_of [] f)) in
     let all : take ((length (rows_of 1 f) + 1) - 1) (rows_of 1 f) ≡ rows_of 1 f =
     ap (λ (l : List PlanRow). take ((length (rows_of 1 f) + 1) - 1) l) (sym whole) ∙ below_is 1 f none in
     let same : nodes_of (take ((length (rows_of 1 f) + 1) - 1) (rows_of 1 f)) ≡ f = ap nodes_of all ∙ nodes_are 1 f in
@@ -203,11 +237,14 @@ map_front [] = refl
 map_front (x ∷ xs) = ap (λ (l : List (List ℕ)). x ∷ l) (map_front xs)
 
 -- the lines of a plan stand for its ballots
-pub plain-plan : (n : ℕ) (rows : List PlanRow) → IsPlan n rows → (path : List ℕ) → length path ≡ 250 → plain (lines_from path rows) ≡ plan_ballots rows
+pub plain-plan :
+    (n : ℕ) (rows : List PlanRow) → IsPlan n rows → (path : List ℕ) → length path ≡ 250
+    → plain (lines_from path rows) ≡ plan_ballots rows
 plain-plan n rows plan path long =
     let f = forest_of rows in
     ap plain (plan_is n rows plan path long)
-    ∙ ap (λ (l : List (List ℕ)). replicate (ballot_count rows - through f) [] ++ l) (plain-lines_of [] f ∙ map_front (ballots_of f))
+    ∙ ap (λ (l : List (List ℕ)). replicate (ballot_count rows - through f) [] ++ l)
+    (plain-lines_of [] f ∙ map_front (ballots_of f))
 
 rest_of_rows : (n ends : ℕ) (f : Forest) → IsGrown n 0 1 f → IsRest (plan_rows ends f)
 rest_of_rows n ends f grown =
@@ -233,4 +270,5 @@ rest_of_rows n ends f grown =
 -- and are rows from the root on
 pub rest_of_plan : (n : ℕ) (rows : List PlanRow) → IsPlan n rows → IsRest rows
 rest_of_plan n rows plan =
-    subst IsRest (sym plan.preorder) (rest_of_rows n (ballot_count rows - through (forest_of rows)) (forest_of rows) plan.grown)
+    subst IsRest (sym plan.preorder)
+    (rest_of_rows n (ballot_count rows - through (forest_of rows)) (forest_of rows) plan.grown)

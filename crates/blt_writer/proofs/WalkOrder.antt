@@ -1,5 +1,6 @@
 -- The lines of a forest stand in order.
-use Rattle.std.proofs.Common.{◌≡◌, ℕ, ◌+◌, ◌<◌, List, [], ◌∷◌, ◌++◌, All, arith, refl, ap, sym, ◌∙◌, append_assoc, append-nil}
+use Rattle.std.proofs.Common.{◌≡◌, ℕ, ◌+◌, ◌<◌, List, [], ◌∷◌, ◌++◌, All, arith, refl, ap, sym, ◌∙◌}
+use Rattle.std.proofs.Common.{append_assoc, append-nil}
 use Rattle.std.specs.Prelude.{AllPairs}
 use Rattle.std.specs.declared.cmp.Ordering.{Ordering}
 use Rattle.std.specs.declared.cmp.Ordering.TheVariants.{Less, Equal}
@@ -30,7 +31,8 @@ order-higher p r s c d less =
 
 -- what two lists of pairs need besides
 pairs_append :
-    {X : Type 0} (R : X → X → Type 0) (xs ys : List X) → AllPairs R xs → AllPairs R ys → All (λ x. All (R x) ys) xs → AllPairs R (xs ++ ys)
+    {X : Type 0} (R : X → X → Type 0) (xs ys : List X) → AllPairs R xs → AllPairs R ys
+    → All (λ x. All (R x) ys) xs → AllPairs R (xs ++ ys)
 pairs_append R [] ys one other between = other
 pairs_append R (x ∷ xs) ys one other between =
     AllPairs-cons R x (xs ++ ys)
@@ -66,23 +68,35 @@ all_above p n low d (Grown c m inner next) grown =
     (record { candidate = c; rest = []; ranking = refl; above = grown.0 })
     (All-append (IsAbove p low) (lines_of q inner) (lines_of p next)
     (All-weaker (IsAbove q 0) (IsAbove p low)
-    (λ line is. (let front = deeper p c line is in record { candidate = c; rest = front.rest; ranking = front.ranking; above = grown.0 }))
+    (λ line is. (let front =
+    deeper p c line is in
+    record { candidate = c; rest = front.rest; ranking = front.ranking; above = grown.0 }))
     (lines_of q inner) under)
     (All-weaker (IsAbove p c) (IsAbove p low)
-    (λ line is. record { candidate = is.candidate; rest = is.rest; ranking = is.ranking; above = omega (arith, is.above, grown.0) })
+    (λ line is. record {
+      candidate = is.candidate;
+      rest = is.rest;
+      ranking = is.ranking;
+      above = omega (arith, is.above, grown.0);
+    })
     (lines_of p next) others))
 
 -- a line stands before those with a higher candidate behind the same front
-before_higher : (p : List ℕ) (c : ℕ) (line other : BallotLine) → HasFront p c line → IsAbove p c other → StandsBefore line other
+before_higher :
+    (p : List ℕ) (c : ℕ) (line other : BallotLine) → HasFront p c line → IsAbove p c other
+    → StandsBefore line other
 before_higher p c line other has is =
     ap (λ (r : List ℕ). order r other.ranking) has.ranking
     ∙ (ap (λ (r : List ℕ). order (p ++ c ∷ has.rest) r) is.ranking ∙ order-higher p has.rest is.rest c is.candidate is.above)
 
 -- and before its extensions
-before_longer : (q : List ℕ) (m : ℕ) (other : BallotLine) → IsAbove q 0 other → StandsBefore (record { count = m; ranking = q }) other
+before_longer :
+    (q : List ℕ) (m : ℕ) (other : BallotLine) → IsAbove q 0 other
+    → StandsBefore (record { count = m; ranking = q }) other
 before_longer q m other is =
     ap (λ (r : List ℕ). order q r) is.ranking
-    ∙ (ap (λ (r : List ℕ). order r (q ++ is.candidate ∷ is.rest)) (sym (append-nil q)) ∙ order-front q [] (is.candidate ∷ is.rest))
+    ∙ (ap (λ (r : List ℕ). order r (q ++ is.candidate ∷ is.rest)) (sym (append-nil q))
+    ∙ order-front q [] (is.candidate ∷ is.rest))
 
 pub rising_lines : (p : List ℕ) (n low d : ℕ) (f : Forest) → IsGrown n low d f → AllPairs StandsBefore (lines_of p f)
 rising_lines p n low d Bare grown = λ i j e rises inside. absurd (omega arith)
@@ -94,15 +108,20 @@ rising_lines p n low d (Grown c m inner next) grown =
     AllPairs-cons StandsBefore first (lines_of q inner ++ lines_of p next)
     (All-append (StandsBefore first) (lines_of q inner) (lines_of p next)
     (All-weaker (IsAbove q 0) (StandsBefore first) (λ line is. before_longer q m line is) (lines_of q inner) under)
-    (All-weaker (IsAbove p c) (StandsBefore first) (λ line is. before_higher p c first line (record { rest = []; ranking = refl }) is) (lines_of p next) others))
+    (All-weaker (IsAbove p c) (StandsBefore first)
+    (λ line is. before_higher p c first line (record { rest = []; ranking = refl }) is) (lines_of p next)
+    others))
     (pairs_append StandsBefore (lines_of q inner) (lines_of p next)
     (rising_lines q n 0 (d + 1) inner grown.4) (rising_lines p n c d next grown.5)
     (All-weaker (IsAbove q 0) (λ line. All (StandsBefore line) (lines_of p next))
-    (λ line is. All-weaker (IsAbove p c) (StandsBefore line) (λ other above. before_higher p c line other (deeper p c line is) above) (lines_of p next) others)
+    (λ line is. All-weaker (IsAbove p c) (StandsBefore line)
+    (λ other above. before_higher p c line other (deeper p c line is) above) (lines_of p next) others)
     (lines_of q inner) under))
 
 -- the empty ranking stands before all
-pub root_first : (m n low d : ℕ) (f : Forest) → IsGrown n low d f → AllPairs StandsBefore (record { count = m; ranking = [] } ∷ lines_of [] f)
+pub root_first :
+    (m n low d : ℕ) (f : Forest) → IsGrown n low d f
+    → AllPairs StandsBefore (record { count = m; ranking = [] } ∷ lines_of [] f)
 root_first m n low d f grown =
     AllPairs-cons StandsBefore (record { count = m; ranking = [] }) (lines_of [] f)
     (All-weaker (IsAbove [] low) (StandsBefore (record { count = m; ranking = [] }))

@@ -1,10 +1,12 @@
 -- A text without words is cut alike whether words may stand in it or not.
-use Rattle.std.proofs.Common.{◌≡◌, ◌⊎◌, ℕ, ◌+◌, ◌-◌, zero, suc, Bool, true, false, cond, List, [], ◌∷◌, refl, ap, subst, ◌∙◌, inl, inr, ◌==◌}
+use Rattle.std.proofs.Common.{◌≡◌, ◌⊎◌, ℕ, ◌+◌, ◌-◌, zero, suc, Bool, true, false, cond, List, [], ◌∷◌, refl}
+use Rattle.std.proofs.Common.{ap, subst, ◌∙◌, inl, inr, ◌==◌}
 use Rattle.std.specs.Char.{is_ascii_digit, is_ascii_lowercase}
 use Rattle.std.specs.List.{take_while, prefix_len}
 use Rattle.std.specs.Prelude.{drop}
 use Rattle.input_text.specs.Token.{Item, Word, AtEnd, Scan, with_front}
-use Rattle.input_text.specs.Scan.{is_separator, may_follow, Piece, Gap, Lexeme, Wrong, Unclosed, word_piece, piece, beginning, cut}
+use Rattle.input_text.specs.Scan.{is_separator, may_follow, Piece, Gap, Lexeme, Wrong, Unclosed, word_piece}
+use Rattle.input_text.specs.Scan.{piece, beginning, cut}
 use Rattle.input_text.specs.Refusal.{items_of}
 
 abbrev NoWord : Item → Type 0
@@ -32,7 +34,8 @@ word_alike false letters n = inr (inr (n, refl))
 letters_alike : (lower : Bool) (bytes : List ℕ) → AlikeBut (Wrong 0) (cond lower (word_piece bytes) (Wrong 0))
 unfolding word_piece
 letters_alike true bytes =
-    word_alike (may_follow (drop (prefix_len is_ascii_lowercase bytes) bytes)) (take_while is_ascii_lowercase bytes) (prefix_len is_ascii_lowercase bytes)
+    word_alike (may_follow (drop (prefix_len is_ascii_lowercase bytes) bytes))
+    (take_while is_ascii_lowercase bytes) (prefix_len is_ascii_lowercase bytes)
 letters_alike false bytes = inl refl
 
 pieces_alike : (b : ℕ) (behind : List ℕ) → AlikeBut (piece false (b ∷ behind)) (piece true (b ∷ behind))
@@ -79,4 +82,5 @@ cut_alike (b ∷ behind) at zero end none ended =
     let same : piece false (b ∷ behind) ≡ piece true (b ∷ behind) =
     same_piece at end (piece false (b ∷ behind)) (piece true (b ∷ behind)) with_words (pieces_alike b behind) none ended in
     ap (λ (p : Piece). beginning at p without) same
-    ∙ same_beginning at end (piece true (b ∷ behind)) without with_words (λ n. cut_alike behind (at + 1) (n - 1) end) none ended
+    ∙ same_beginning at end (piece true (b ∷ behind)) without with_words
+    (λ n. cut_alike behind (at + 1) (n - 1) end) none ended

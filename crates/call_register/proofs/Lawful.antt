@@ -27,14 +27,17 @@ module _ (shards candidates : ℕ) (few : candidates ≤ 250) where
   rest_of [] all = all
   rest_of (e ∷ es) all = All-tail May e es all
 
-  pub lawful_woven : (struck : List ℕ) (marks : List Mark) (lists : Lists) → All (MayMark shards candidates) marks → ((t : ℕ) → All May (lists t)) → All May (weave_from struck marks lists)
+  pub lawful_woven :
+      (struck : List ℕ) (marks : List Mark) (lists : Lists) → All (MayMark shards candidates) marks
+      → ((t : ℕ) → All May (lists t)) → All May (weave_from struck marks lists)
   lawful_woven struck [] lists may all = λ k d lt. absurd (omega arith)
   lawful_woven struck (Shard s ∷ marks) lists may all =
       All-append May (first (lists s)) (weave_from struck marks (without_first lists s)) (first_of (lists s) (all s))
       (lawful_woven struck marks (without_first lists s) (All-tail (MayMark shards candidates) (Shard s) marks may)
       (each_rest (λ t l. All May l) lists s (lists s) refl (rest_of (lists s) (all s)) (λ t ne. all t)))
   lawful_woven struck (Freeze c ∷ marks) lists may all =
-      cons (freeze_entry c) (weave_from struck marks lists) tt (lawful_woven struck marks lists (All-tail (MayMark shards candidates) (Freeze c) marks may) all)
+      cons (freeze_entry c) (weave_from struck marks lists) tt
+      (lawful_woven struck marks lists (All-tail (MayMark shards candidates) (Freeze c) marks may) all)
   lawful_woven struck (Strike c k ∷ marks) lists may all =
       let here = All-head (MayMark shards candidates) (Strike c k) marks may in
       let small = here.1 in

@@ -1,27 +1,34 @@
 -- Which call stands at the place of a mark.
-use Rattle.std.proofs.Common.{◌≡◌, ℕ, zero, suc, ◌+◌, ◌≤◌, ◌<◌, Some, List, [], ◌∷◌, ◌++◌, length, drop, refl, sym, ap, ◌∙◌, subst, arith, length-append}
+use Rattle.std.proofs.Common.{◌≡◌, ℕ, zero, suc, ◌+◌, ◌≤◌, ◌<◌, Some, List, [], ◌∷◌, ◌++◌, length, drop, refl}
+use Rattle.std.proofs.Common.{sym, ap, ◌∙◌, subst, arith, length-append}
 use Rattle.std.specs.Prelude.{filter, slice_get}
 use Rattle.std.proofs.lemmas.List.Elements.{filter-append}
 use Rattle.batch_core.specs.declared.entry.Entry.{Entry}
 use Rattle.batch_core.specs.Book.{strike}
 use Rattle.call_register.specs.Marks.{is_mark_of, marks_of, struck_by}
 use Rattle.call_register.specs.Walk.{left}
-use Rattle.call_register.specs.Weaving.{HaveEntries, Lists, first, without_first, weave_from, weave, freeze_entry, strike_entry}
+use Rattle.call_register.specs.Weaving.{HaveEntries, Lists, first, without_first, weave_from, weave}
+use Rattle.call_register.specs.Weaving.{freeze_entry, strike_entry}
 use Rattle.call_register.specs.declared.mark.Mark.{Mark}
 use Rattle.call_register.specs.declared.mark.Mark.TheVariants.{Shard, Freeze, Strike}
 use Rattle.call_register.proofs.Woven.{enough_rest, marks-here}
 use Rattle.call_register.proofs.Sights.{weave-append, left_is}
 
 -- where each mark has its entry, there are as many entries as marks
-pub length_woven : (struck : List ℕ) (marks : List Mark) (lists : Lists) → HaveEntries marks lists → length (weave_from struck marks lists) ≡ length marks
+pub length_woven :
+    (struck : List ℕ) (marks : List Mark) (lists : Lists) → HaveEntries marks lists
+    → length (weave_from struck marks lists) ≡ length marks
 length_woven struck [] lists enough = refl
 length_woven struck (Freeze c ∷ marks) lists enough = ap suc (length_woven struck marks lists enough)
 length_woven struck (Strike c k ∷ marks) lists enough = ap suc (length_woven (strike struck k) marks lists enough)
 length_woven struck (Shard s ∷ marks) lists enough =
     let more = length_woven struck marks (without_first lists s) (enough_rest s marks lists enough) in
-    by_list (lists s) (subst (λ n. n ≤ length (lists s)) (marks-here s s marks refl) (enough s)) (weave_from struck marks (without_first lists s)) more
+    by_list (lists s) (subst (λ n. n ≤ length (lists s)) (marks-here s s marks refl) (enough s))
+    (weave_from struck marks (without_first lists s)) more
   where
-    by_list : (l : List Entry) → suc (marks_of s marks) ≤ length l → (m : List Entry) → length m ≡ length marks → length (first l ++ m) ≡ suc (length marks)
+    by_list :
+        (l : List Entry) → suc (marks_of s marks) ≤ length l → (m : List Entry) → length m ≡ length marks
+        → length (first l ++ m) ≡ suc (length marks)
     by_list [] le m same = absurd (omega arith)
     by_list (e ∷ es) le m same = ap suc same
 
@@ -48,9 +55,11 @@ pub change_at : (s : ℕ) (before after : List Mark) (lists : Lists) → HaveEnt
     → slice_get (weave (before ++ Shard s ∷ after) lists) (length before) ≡ slice_get (lists s) (marks_of s before)
 change_at s before after lists enough =
     let split : (t : ℕ) → marks_of t (before ++ Shard s ∷ after) ≡ marks_of t before + marks_of t (Shard s ∷ after) = λ t.
-    ap length (filter-append (is_mark_of t) before (Shard s ∷ after)) ∙ length-append (filter (is_mark_of t) before) (filter (is_mark_of t) (Shard s ∷ after)) in
+    ap length (filter-append (is_mark_of t) before (Shard s ∷ after))
+    ∙ length-append (filter (is_mark_of t) before) (filter (is_mark_of t) (Shard s ∷ after)) in
     let front : HaveEntries before lists = λ t. let a = enough t in let b = split t in omega arith in
-    let inside : marks_of s before < length (lists s) = let a = enough s in let b = split s in let c = marks-here s s after refl in omega arith in
+    let inside : marks_of s before < length (lists s) =
+    let a = enough s in let b = split s in let c = marks-here s s after refl in omega arith in
     let there = at_drop (lists s) (marks_of s before) inside in
     let next = weave_from (struck_by before) after (without_first (left before lists) s) in
     let here : first (left before lists s) ≡ there.0 ∷ [] = ap first (left_is s before lists) ∙ there.1 in
@@ -58,9 +67,12 @@ change_at s before after lists enough =
 
 pub freeze_at : (c : ℕ) (before after : List Mark) (lists : Lists) → HaveEntries before lists
     → slice_get (weave (before ++ Freeze c ∷ after) lists) (length before) ≡ Some (freeze_entry c)
-freeze_at c before after lists enough = at_mark before after (Freeze c) lists (freeze_entry c) (weave_from (struck_by before) after (left before lists)) enough refl
+freeze_at c before after lists enough =
+    at_mark before after (Freeze c) lists (freeze_entry c)
+    (weave_from (struck_by before) after (left before lists)) enough refl
 
 pub strike_at : (c k : ℕ) (before after : List Mark) (lists : Lists) → HaveEntries before lists
     → slice_get (weave (before ++ Strike c k ∷ after) lists) (length before) ≡ Some (strike_entry (struck_by before) c k)
 strike_at c k before after lists enough =
-    at_mark before after (Strike c k) lists (strike_entry (struck_by before) c k) (weave_from (strike (struck_by before) k) after (left before lists)) enough refl
+    at_mark before after (Strike c k) lists (strike_entry (struck_by before) c k)
+    (weave_from (strike (struck_by before) k) after (left before lists)) enough refl

@@ -12,7 +12,8 @@ use Rattle.candidate_roll.specs.Roll.{IsRollStop}
 -- a bad byte doesn't stand before another
 bad_byte-first : (most : ℕ) (bytes : List ℕ) (a b : ℕ) → IsBadByteAt most bytes a → IsBadByteAt most bytes b → a < b → ⊥
 bad_byte-first most bytes a b one other less =
-    one.not_printable (subst IsPrintable (get_or-take b bytes a 0 less) (other.printable_before a 0 (omega (arith, one.inside, other.inside, length-take b bytes))))
+    one.not_printable (subst IsPrintable (get_or-take b bytes a 0 less)
+    (other.printable_before a 0 (omega (arith, one.inside, other.inside, length-take b bytes))))
 
 same_bad_byte : (most : ℕ) (bytes : List ℕ) (a b : ℕ) → IsBadByteAt most bytes a → IsBadByteAt most bytes b → a ≡ b
 same_bad_byte most bytes a b one other =
@@ -22,7 +23,9 @@ same_bad_byte most bytes a b one other =
       | inr (inr more) ↦ absurd (bad_byte-first most bytes b a other one more)
     ]
 
-pub one_name_refusal : (most : ℕ) (bytes : List ℕ) (one other : NameStop) → IsNameStop most bytes one → IsNameStop most bytes other → one ≡ other
+pub one_name_refusal :
+    (most : ℕ) (bytes : List ℕ) (one other : NameStop) → IsNameStop most bytes one
+    → IsNameStop most bytes other → one ≡ other
 one_name_refusal most bytes TooLong TooLong a b = refl
 one_name_refusal most bytes TooLong (BadByte at) a b = absurd (omega (arith, a, b.short))
 one_name_refusal most bytes TooLong NoMemory a b = absurd (omega (arith, a, b.short))
@@ -33,7 +36,9 @@ one_name_refusal most bytes NoMemory TooLong a b = absurd (omega (arith, b, a.sh
 one_name_refusal most bytes NoMemory (BadByte at) a b = absurd (b.not_printable (a.printable at 0 b.inside))
 one_name_refusal most bytes NoMemory NoMemory a b = refl
 
-pub one_roll_refusal : (seats candidates : ℕ) (one other : RollStop) → IsRollStop seats candidates one → IsRollStop seats candidates other → one ≡ other
+pub one_roll_refusal :
+    (seats candidates : ℕ) (one other : RollStop) → IsRollStop seats candidates one
+    → IsRollStop seats candidates other → one ≡ other
 one_roll_refusal seats candidates BadCount BadCount a b = refl
 one_roll_refusal seats candidates BadCount BadSeats a b = absurd (a b.0)
 one_roll_refusal seats candidates BadCount NoRoom a b = absurd (a b.0)

@@ -1,6 +1,7 @@
 -- What an iteration leaves over for some candidates is covered by what it leaves over at most.
 use Rattle.std.proofs.Common.{◌≡◌, ◌∙◌, ℕ, ◌+◌, ◌-◌, ◌*◌, ◌≤◌, ◌&&◌, ◌||◌, not, zero, suc, Bool, true}
-use Rattle.std.proofs.Common.{false, cond, List, [], ◌∷◌, length, sum, slice_index, get_or, All, arith, ap, sym, subst, add-one}
+use Rattle.std.proofs.Common.{false, cond, List, [], ◌∷◌, length, sum, slice_index, get_or, All, arith, ap}
+use Rattle.std.proofs.Common.{sym, subst, add-one}
 use Rattle.std.proofs.Math.Nat.{add-mul}
 use Rattle.candidate_roll.specs.State.{state_at}
 use Rattle.candidate_roll.specs.declared.state.State.{State}
@@ -40,7 +41,9 @@ module _ (q : ℕ) (v : ℕ → ℕ) where
   lack_point false false w = omega arith
 
   others_covered :
-      (members holds : ℕ → Bool) (n : ℕ) → quotas_at (λ p. not (members p) && holds p) n ≤ votes_at (λ p. not (members p) && holds p) n + lacks_at holds n
+      (members holds : ℕ → Bool) (n : ℕ)
+      → quotas_at (λ p. not (members p) && holds p) n
+      ≤ votes_at (λ p. not (members p) && holds p) n + lacks_at holds n
   others_covered members holds zero = omega arith
   others_covered members holds (suc n) =
       let theirs : ℕ → Bool = λ p. not (members p) && holds p in
@@ -55,7 +58,8 @@ module _ (q : ℕ) (v : ℕ → ℕ) where
   -- the surplus of elected members is part of the surplus and of what each lacks
   surplus_point :
       (m is won : Bool) (w : ℕ)
-      → cond (m && is) w 0 + cond (is || won) 1 0 * q ≤ cond (is || won) w 0 + cond (is || won) (q - w) 0 + cond (m && is) 1 0 * q
+      → cond (m && is) w 0 + cond (is || won) 1 0 * q
+      ≤ cond (is || won) w 0 + cond (is || won) (q - w) 0 + cond (m && is) 1 0 * q
   surplus_point true true won w = omega arith
   surplus_point true false true w = omega arith
   surplus_point true false false w = omega arith
@@ -71,28 +75,40 @@ module _ (q : ℕ) (v : ℕ → ℕ) where
   members_covered members is won (suc n) =
       let ours : ℕ → Bool = λ p. members p && is p in
       let holds : ℕ → Bool = λ p. is p || won p in
-      let before : votes_at ours n + quotas_at holds n ≤ votes_at holds n + lacks_at holds n + quotas_at ours n = members_covered members is won n in
+      let before :
+      votes_at ours n + quotas_at holds n ≤ votes_at holds n + lacks_at holds n + quotas_at ours n =
+      members_covered members is won n in
       let here = surplus_point (members n) (is n) (won n) (v n) in
       let our_counts = quotas_more ours n in
       let counts = quotas_more holds n in
       let our_votes = sum_more (λ p. cond (ours p) (v p) 0) n in
       let votes = sum_more (λ p. cond (holds p) (v p) 0) n in
       let lacks = sum_more (λ p. cond (holds p) (q - v p) 0) n in
-      let more : votes_at ours (n + 1) + quotas_at holds (n + 1) ≤ votes_at holds (n + 1) + lacks_at holds (n + 1) + quotas_at ours (n + 1) = omega arith in
-      subst (λ (m : ℕ). votes_at ours m + quotas_at holds m ≤ votes_at holds m + lacks_at holds m + quotas_at ours m) (add-one n) more
+      let more :
+      votes_at ours (n + 1) + quotas_at holds (n + 1)
+      ≤ votes_at holds (n + 1) + lacks_at holds (n + 1) + quotas_at ours (n + 1) =
+      omega arith in
+      subst (λ (m : ℕ). votes_at ours m + quotas_at holds m
+      ≤ votes_at holds m + lacks_at holds m + quotas_at ours m) (add-one n) more
 
 -- the surplus of an iteration is what its seat holders have above a quota for each
 abbrev pub HasItsSurplus : Row → Type 0
 HasItsSurplus row = row.surplus ≡ surplus row.states row.elected row.votes row.quota
 
 -- what an iteration leaves over for any members
-left_covered : (members : List Bool) (row : Row) → HasItsSurplus row → (step : Step) → left_over members step row ≤ surplus_at step row + lack_at step row
+left_covered :
+    (members : List Bool) (row : Row) → HasItsSurplus row → (step : Step)
+    → left_over members step row ≤ surplus_at step row + lack_at step row
 left_covered members row is Elected =
-    let le = others_covered row.quota (λ p. slice_index row.votes p) (mark_at members) (holds_seat row.states row.elected) (length row.states) in
+    let le =
+    others_covered row.quota (λ p. slice_index row.votes p) (mark_at members)
+    (holds_seat row.states row.elected) (length row.states) in
     omega arith
 left_covered members row is (Defeat c) =
     subst (λ (u : ℕ). members_surplus members row ≤ u + shortfalls row) (sym is)
-    (let le = members_covered row.quota (λ p. slice_index row.votes p) (mark_at members) (λ p. is_elected (state_at row.states p)) (mark_at
+    (let le =
+    members_covered row.quota (λ p. slice_index row.votes p) (mark_at members)
+    (λ p. is_elected (state_at row.states p)) (mark_at
     row.elected) (length row.states) in
     omega arith)
 left_covered members row is Iterate = omega arith
@@ -110,7 +126,8 @@ surpluses rule s ballots lots now (row ∷ rows) last leads (suc k) d below =
 
 -- no iteration of a count leaves over more than the slack
 pub slack_covers :
-    (rule : Rule) (s : ℕ) (ballots : List (List ℕ)) (lots : List ℕ) (now : Situation) (rows : List Row) (last : List State) (members : List Bool)
+    (rule : Rule) (s : ℕ) (ballots : List (List ℕ)) (lots : List ℕ) (now : Situation) (rows : List Row)
+    (last : List State) (members : List Bool)
     → Rows rule s ballots lots now rows last → All (λ row. left_over members row.step row ≤ slack rows) rows
 slack_covers rule s ballots lots now rows last members leads k d below =
     let row : Row = get_or rows k d in

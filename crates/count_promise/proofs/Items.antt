@@ -1,6 +1,7 @@
 -- Lists item by item: the first that passes, the greatest value, and the texts of all.
 use Rattle.std.proofs.Common.{◌≡◌, ◌∙◌, ℕ, ◌+◌, ◌<◌, ◌≤◌, zero, suc, Bool, true, false, cond, List, []}
-use Rattle.std.proofs.Common.{◌∷◌, ◌++◌, length, take, get_or, All, arith, inl, inr, refl, ap, sym, subst, append-nil, append_assoc}
+use Rattle.std.proofs.Common.{◌∷◌, ◌++◌, length, take, get_or, All, arith, inl, inr, refl, ap, sym, subst}
+use Rattle.std.proofs.Common.{append-nil, append_assoc}
 use Rattle.std.specs.Prelude.{max, find, Option, Some, None}
 use Rattle.std.specs.List.{flat_map}
 use Rattle.std.specs.Option.{option_or}
@@ -17,21 +18,25 @@ module _ {X : Type 0} where
 
   -- the first that passes stands behind others that don't
   pub find_here :
-      (test : X → Bool) (xs : List X) (i : ℕ) (x : X) → i < length xs → find test (take i xs) ≡ None → x ≡ get_or xs i x → test x ≡ true → find test xs ≡ Some x
+      (test : X → Bool) (xs : List X) (i : ℕ) (x : X) → i < length xs → find test (take i xs) ≡ None
+      → x ≡ get_or xs i x → test x ≡ true → find test xs ≡ Some x
   find_here test [] i x below none is passes = absurd (omega arith)
   find_here test (y ∷ ys) zero x below none is passes =
-      subst (λ (z : X). cond (test z) (Some z) (find test ys) ≡ Some x) is (ap (λ (b : Bool). cond b (Some x) (find test ys)) passes)
+      subst (λ (z : X). cond (test z) (Some z) (find test ys) ≡ Some x) is
+      (ap (λ (b : Bool). cond b (Some x) (find test ys)) passes)
   find_here test (y ∷ ys) (suc i) x below none is passes =
       elim (cases_Bool (test y)) [
         | inl first ↦ absurd (some_none y (sym (ap (λ (b : Bool). cond b (Some y) (find test (take i ys))) first) ∙ none))
         | inr past ↦
             ap (λ (b : Bool). cond b (Some y) (find test ys)) past
-            ∙ find_here test ys i x (omega arith) (sym (ap (λ (b : Bool). cond b (Some y) (find test (take i ys))) past) ∙ none) is passes
+            ∙ find_here test ys i x (omega arith)
+            (sym (ap (λ (b : Bool). cond b (Some y) (find test (take i ys))) past) ∙ none) is passes
       ]
 
   -- one more that fails
   pub find_more :
-      (test : X → Bool) (xs : List X) (i : ℕ) (x : X) → i < length xs → find test (take i xs) ≡ None → x ≡ get_or xs i x → test x ≡ false
+      (test : X → Bool) (xs : List X) (i : ℕ) (x : X) → i < length xs → find test (take i xs) ≡ None
+      → x ≡ get_or xs i x → test x ≡ false
       → find test (take (i + 1) xs) ≡ None
   find_more test xs i x below none is fails =
       ap (find test) (take_more xs i x below)
@@ -41,7 +46,8 @@ module _ {X : Type 0} where
 
   -- one more value
   pub greatest_more :
-      (f : X → ℕ) (xs : List X) (i : ℕ) (x : X) → x ≡ get_or xs i x → i < length xs → greatest_by f (take (i + 1) xs) ≡ max (greatest_by f (take i xs)) (f x)
+      (f : X → ℕ) (xs : List X) (i : ℕ) (x : X) → x ≡ get_or xs i x → i < length xs
+      → greatest_by f (take (i + 1) xs) ≡ max (greatest_by f (take i xs)) (f x)
   greatest_more f xs i x is below =
       ap (greatest_by f) (take_more xs i x below)
       ∙ max_push (greatest_by f) f refl (λ y ys. refl) (take i xs) (get_or xs i x)
@@ -57,7 +63,8 @@ module _ {X : Type 0} where
 
   -- one more text
   pub texts_more :
-      (g : X → List ℕ) (xs : List X) (i : ℕ) (x : X) → x ≡ get_or xs i x → i < length xs → flat_map g (take (i + 1) xs) ≡ flat_map g (take i xs) ++ g x
+      (g : X → List ℕ) (xs : List X) (i : ℕ) (x : X) → x ≡ get_or xs i x → i < length xs
+      → flat_map g (take (i + 1) xs) ≡ flat_map g (take i xs) ++ g x
   texts_more g xs i x is below =
       ap (flat_map g) (take_more xs i x below)
       ∙ flat_map-append g (take i xs) (get_or xs i x ∷ [])
@@ -66,8 +73,10 @@ module _ {X : Type 0} where
 
   -- a text with one more of these behind it
   pub texts_step :
-      (g : X → List ℕ) (xs : List X) (i : ℕ) (x : X) (old text new : List ℕ) → text ≡ old ++ flat_map g (take i xs) → x ≡ get_or xs i x → i < length xs
+      (g : X → List ℕ) (xs : List X) (i : ℕ) (x : X) (old text new : List ℕ)
+      → text ≡ old ++ flat_map g (take i xs) → x ≡ get_or xs i x → i < length xs
       → new ≡ text ++ g x → new ≡ old ++ flat_map g (take (i + 1) xs)
   texts_step g xs i x old text new before is below more =
       more ∙ (ap (λ (l : List ℕ). l ++ g x) before
-      ∙ (append_assoc old (flat_map g (take i xs)) (g x) ∙ ap (λ (l : List ℕ). old ++ l) (sym (texts_more g xs i x is below))))
+      ∙ (append_assoc old (flat_map g (take i xs)) (g x)
+      ∙ ap (λ (l : List ℕ). old ++ l) (sym (texts_more g xs i x is below))))

@@ -13,20 +13,23 @@ use Rattle.count_promise.specs.declared.promise_fault.PromiseFault.TheVariants.{
 use Rattle.count_promise.specs.Owed.{IsMalformed, IsPromised, IsRefusedSheet, IsSheetText, malformed_line, promises}
 
 pub promise_owed :
-    (input : List ℕ) (v : SheetList) (end : End PromiseFault) (sink : Writing) → length input ≤ file_limit → HasForm 9 input v
+    (input : List ℕ) (v : SheetList) (end : End PromiseFault) (sink : Writing) → length input ≤ file_limit
+    → HasForm 9 input v
     → FinishesOwed (IsPromised v) end sink → FinishesOwed (IsOwedFor promises (tt {0}) input (tt {0})) end sink
 promise_owed input v end sink short form (inl nothing) = inl nothing
 promise_owed input v end sink short form (inr (due, bytes, promised, finishes)) =
     inr (
       due,
       bytes,
-      subst (λ (d : End PromiseFault). IsOwedFor promises (tt {0}) input (tt {0}) d bytes) (sym promised.0) (short, (v, form, promised.1)),
+      subst (λ (d : End PromiseFault). IsOwedFor promises (tt {0}) input (tt {0}) d bytes) (sym promised.0)
+          (short, (v, form, promised.1)),
       finishes,
     )
 
 pub malformed_owed :
     (input : List ℕ) (end : End PromiseFault) (sink : Writing) → length input ≤ file_limit → IsMalformed input
-    → Finishes (BadInput Malformed) malformed_line end sink → FinishesOwed (IsOwedFor promises (tt {0}) input (tt {0})) end sink
+    → Finishes (BadInput Malformed) malformed_line end sink
+    → FinishesOwed (IsOwedFor promises (tt {0}) input (tt {0})) end sink
 malformed_owed input end sink short none finishes =
     inr (BadInput Malformed, malformed_line, (inr (short, none), refl, refl), finishes)
 
@@ -34,7 +37,9 @@ not_refused : (input : List ℕ) (fault : PromiseFault) → IsSheetText input �
 not_refused input (TooLong most) sheet refused = refused
 not_refused input Malformed sheet refused = refused sheet.0 sheet.1
 
-refused_once : (input : List ℕ) (fault other : PromiseFault) → IsRefusedSheet input fault → IsRefusedSheet input other → fault ≡ other
+refused_once :
+    (input : List ℕ) (fault other : PromiseFault) → IsRefusedSheet input fault → IsRefusedSheet input other
+    → fault ≡ other
 refused_once input (TooLong most) other refused again = absurd refused
 refused_once input Malformed (TooLong most) refused again = absurd again
 refused_once input Malformed Malformed refused again = refl

@@ -15,7 +15,9 @@ use Rattle.blt_reader.specs.Said.{ExpectsLinesRightly}
 use Rattle.input_text.proofs.Judgements.{to_range}
 use Rattle.input_text.proofs.Tables.{place_of, carries}
 use Rattle.day_reader.specs.Call.{IsBatch}
-use Rattle.day_reader.specs.CallTable.{InCall, EnterBatch, CorrectBatch, WithdrawBatch, CorrectRevision, WithdrawRevision, EnterLines, CorrectLines, StrikeCandidate, of_a_batch, entered, corrected, at_call}
+use Rattle.day_reader.specs.CallTable.{InCall, EnterBatch, CorrectBatch, WithdrawBatch, CorrectRevision}
+use Rattle.day_reader.specs.CallTable.{WithdrawRevision, EnterLines, CorrectLines, StrikeCandidate}
+use Rattle.day_reader.specs.CallTable.{of_a_batch, entered, corrected, at_call}
 use Rattle.day_reader.specs.Front.{IsBegunCall}
 use Rattle.day_reader.proofs.SharedParts.{reads_begun, reads_ballots}
 
@@ -37,7 +39,8 @@ module _ (rightly : ExpectsLinesRightly) (candidates : ℕ) where
   in_batch :
       (batch : ℕ) (items : List Item) (start last : Progress Lines (List BallotLine))
       → after (closed (at_line candidates of_a_batch)) start items ≡ Ok last
-      → after Table (place_of (λ lines. GoesOn (EnterLines batch lines)) (λ lines. Ends (entered candidates batch lines)) start)
+      → after Table (place_of (λ lines. GoesOn (EnterLines batch lines))
+      (λ lines. Ends (entered candidates batch lines)) start)
       items ≡ Ok (place_of (λ lines. GoesOn (EnterLines batch lines)) (λ lines. Ends (entered candidates batch lines)) last)
   unfolding at_call
   in_batch batch items =
@@ -56,8 +59,10 @@ module _ (rightly : ExpectsLinesRightly) (candidates : ℕ) where
       → ReadsCall EnterBatch (Number batch ∷ ballots all.lines) (Ends (Change (Enter batch all)))
   reads_enter batch all is are =
       reads_batch batch (ballots all.lines) is
-      ∙ in_batch batch (ballots all.lines) (GoesOn (Between [])) (Ends all.lines) (reads_ballots rightly candidates of_a_batch all.lines are.lines)
-      ∙ ap (λ (n : ℕ). Ok (Ends (Change (Enter batch (record { candidates = n; lines = all.lines }))))) (sym are.candidates_are)
+      ∙ in_batch batch (ballots all.lines) (GoesOn (Between [])) (Ends all.lines)
+      (reads_ballots rightly candidates of_a_batch all.lines are.lines)
+      ∙ ap (λ (n : ℕ). Ok (Ends (Change (Enter batch (record { candidates = n; lines = all.lines })))))
+      (sym are.candidates_are)
 
   -- ---- ballots that are corrected
 
@@ -90,12 +95,15 @@ module _ (rightly : ExpectsLinesRightly) (candidates : ℕ) where
 
   pub reads_correct :
       (batch revision : ℕ) (all : BallotList) → IsIn 9999 batch → IsIn 9999 revision → IsBatch candidates all
-      → ReadsCall CorrectBatch (Number batch ∷ Number revision ∷ ballots all.lines) (Ends (Change (Correct batch revision all)))
+      → ReadsCall CorrectBatch (Number batch ∷ Number revision ∷ ballots all.lines)
+      (Ends (Change (Correct batch revision all)))
   reads_correct batch revision all is of are =
       reads_revision batch revision (ballots all.lines) is of
       ∙ in_correction batch revision (ballots all.lines) (GoesOn (Between [])) (Ends all.lines)
       (reads_ballots rightly candidates of_a_batch all.lines are.lines)
-      ∙ ap (λ (n : ℕ). Ok (Ends (Change (Correct batch revision (record { candidates = n; lines = all.lines }))))) (sym are.candidates_are)
+      ∙ ap (λ (n : ℕ). Ok
+      (Ends (Change (Correct batch revision (record { candidates = n; lines = all.lines })))))
+      (sym are.candidates_are)
 
   -- ---- numbers alone
 
@@ -116,7 +124,8 @@ module _ (rightly : ExpectsLinesRightly) (candidates : ℕ) where
   reads_withdraw batch revision is of = rw (to_range 9999 batch is, to_range 9999 revision of) refl
 
   pub reads_strike :
-      (candidate : ℕ) → IsIn candidates candidate → ReadsCall StrikeCandidate (Number candidate ∷ []) (Ends (Strike candidate))
+      (candidate : ℕ) → IsIn candidates candidate
+      → ReadsCall StrikeCandidate (Number candidate ∷ []) (Ends (Strike candidate))
   unfolding at_call
   reads_strike candidate is = rw (to_range candidates candidate is) refl
 
@@ -137,6 +146,7 @@ module _ (rightly : ExpectsLinesRightly) (candidates : ℕ) where
   call_can_end (WithdrawRevision batch) some = (Number 1 ∷ [], Change (Withdraw batch 1), refl)
   call_can_end (EnterLines batch (Between lines)) some = (Number 0 ∷ [], entered candidates batch lines, refl)
   call_can_end (EnterLines batch (Within lines count ranks)) some = (Number 0 ∷ Number 0 ∷ [], _, refl)
-  call_can_end (CorrectLines batch revision (Between lines)) some = (Number 0 ∷ [], corrected candidates batch revision lines, refl)
+  call_can_end (CorrectLines batch revision (Between lines)) some =
+      (Number 0 ∷ [], corrected candidates batch revision lines, refl)
   call_can_end (CorrectLines batch revision (Within lines count ranks)) some = (Number 0 ∷ Number 0 ∷ [], _, refl)
   call_can_end StrikeCandidate some = (Number 1 ∷ [], Strike 1, reads_strike 1 (record { least = omega arith; most = some }))

@@ -10,7 +10,9 @@ use Rattle.blt_reader.specs.BallotTable.{Lines, Between, at_line}
 use Rattle.input_text.proofs.Judgements.{refused, same_value, in_range}
 use Rattle.blt_reader.specs.Said.{ExpectsLinesRightly}
 use Rattle.day_reader.specs.Call.{call_items, IsCall, is_freeze}
-use Rattle.day_reader.specs.CallTable.{as_tested, is_between, InCall, EnterBatch, CorrectBatch, WithdrawBatch, CorrectRevision, WithdrawRevision, EnterLines, CorrectLines, StrikeCandidate, of_a_batch, entered, corrected, at_call}
+use Rattle.day_reader.specs.CallTable.{as_tested, is_between, InCall, EnterBatch, CorrectBatch, WithdrawBatch}
+use Rattle.day_reader.specs.CallTable.{CorrectRevision, WithdrawRevision, EnterLines, CorrectLines}
+use Rattle.day_reader.specs.CallTable.{StrikeCandidate, of_a_batch, entered, corrected, at_call}
 use Rattle.day_reader.specs.Front.{begun_call, IsBegunCall}
 use Rattle.day_reader.proofs.SharedParts.{no_lines, line_goes_on}
 
@@ -20,7 +22,8 @@ use Rattle.day_reader.proofs.SharedParts.{no_lines, line_goes_on}
 module _ {S V : Type 0} (P : Progress S V → List Item → Type 0) (before : List Item) where
   pub number_goes_on :
       (test : ℕ → Bool) (kind : FaultKind) (x : Item) (next : Progress S V) (f : ℕ → Progress S V)
-      → then_on (as_tested test kind x) (λ n. Ok (f n)) ≡ Ok next → ((n : ℕ) → test n ≡ true → P (f n) (before ++ Number n ∷ []))
+      → then_on (as_tested test kind x) (λ n. Ok (f n)) ≡ Ok next
+      → ((n : ℕ) → test n ≡ true → P (f n) (before ++ Number n ∷ []))
       → P next (before ++ x ∷ [])
   number_goes_on test kind (Number n) next f e goes = tested (test n) refl e
     where
@@ -52,7 +55,8 @@ module _ (rightly : ExpectsLinesRightly) (candidates : ℕ) where
   IsFront = IsCallFront candidates
 
   enter_goes_on :
-      (batch : ℕ) (lines : Lines) (next : Progress InCall Call) (x : Item) (judged : Judged (Progress Lines (List BallotLine)))
+      (batch : ℕ) (lines : Lines) (next : Progress InCall Call) (x : Item)
+      (judged : Judged (Progress Lines (List BallotLine)))
       → IsBegunCall candidates (EnterLines batch lines) → at_line candidates of_a_batch lines x ≡ judged
       → carried_to (λ more. GoesOn (EnterLines batch more)) (λ all. Ends (entered candidates batch all)) judged ≡ Ok next
       → IsFront next (begun_call (EnterLines batch lines) ++ x ∷ [])
@@ -93,12 +97,15 @@ module _ (rightly : ExpectsLinesRightly) (candidates : ℕ) where
   unfolding at_call
   call_goes_on EnterBatch next x is e =
       number_goes_on IsFront (begun_call EnterBatch) (is_between 1 9999) BadBatch x next
-      (λ n. GoesOn (EnterLines n (Between []))) e (λ n ok. ((in_range 9999 n ok, no_lines rightly candidates of_a_batch), refl))
+      (λ n. GoesOn (EnterLines n (Between []))) e
+      (λ n ok. ((in_range 9999 n ok, no_lines rightly candidates of_a_batch), refl))
   call_goes_on CorrectBatch next x is e =
-      number_goes_on IsFront (begun_call CorrectBatch) (is_between 1 9999) BadBatch x next (λ n. GoesOn (CorrectRevision n)) e
+      number_goes_on IsFront (begun_call CorrectBatch) (is_between 1 9999) BadBatch x next
+      (λ n. GoesOn (CorrectRevision n)) e
       (λ n ok. (in_range 9999 n ok, refl))
   call_goes_on WithdrawBatch next x is e =
-      number_goes_on IsFront (begun_call WithdrawBatch) (is_between 1 9999) BadBatch x next (λ n. GoesOn (WithdrawRevision n)) e
+      number_goes_on IsFront (begun_call WithdrawBatch) (is_between 1 9999) BadBatch x next
+      (λ n. GoesOn (WithdrawRevision n)) e
       (λ n ok. (in_range 9999 n ok, refl))
   call_goes_on (CorrectRevision batch) next x is e =
       number_goes_on IsFront (begun_call (CorrectRevision batch)) (is_between 1 9999) BadRevision x next

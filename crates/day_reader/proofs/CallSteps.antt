@@ -11,7 +11,9 @@ use Rattle.input_text.specs.Token.{Scan}
 use Rattle.input_text.specs.Judged.{GoesOn, Ends, reads}
 use Rattle.blt_reader.specs.BallotTable.{Between, at_line}
 use Rattle.input_text.specs.Reads.{Stops, Accepts, Reads}
-use Rattle.day_reader.specs.CallTable.{as_between, as_batch, as_revision, InCall, EnterBatch, CorrectBatch, WithdrawBatch, CorrectRevision, WithdrawRevision, EnterLines, CorrectLines, StrikeCandidate, of_a_batch, entered, corrected, at_call}
+use Rattle.day_reader.specs.CallTable.{as_between, as_batch, as_revision, InCall, EnterBatch, CorrectBatch}
+use Rattle.day_reader.specs.CallTable.{WithdrawBatch, CorrectRevision, WithdrawRevision, EnterLines}
+use Rattle.day_reader.specs.CallTable.{CorrectLines, StrikeCandidate, of_a_batch, entered, corrected, at_call}
 use Rattle.day_reader.proofs.Steps.{judged_read, judged_stops, within_read, within_fails}
 
 module _ (candidates : ℕ) where
@@ -26,7 +28,9 @@ module _ (candidates : ℕ) where
 
     pub enter_stops : (fault : InputFault) → Stops as_batch old fault new → Says EnterBatch old fault new
     unfolding at_call
-    enter_stops fault is = judged_stops (at_call candidates) EnterBatch as_batch (λ n. Ok (GoesOn (EnterLines n (Between [])))) (λ item. refl) old new fault is
+    enter_stops fault is =
+        judged_stops (at_call candidates) EnterBatch as_batch (λ n. Ok (GoesOn (EnterLines n (Between []))))
+        (λ item. refl) old new fault is
 
     pub enter_batch : (n : ℕ) → Accepts as_batch old n new → Leads_on EnterBatch old (EnterLines n (Between [])) new
     unfolding at_call
@@ -36,12 +40,15 @@ module _ (candidates : ℕ) where
 
     pub correct_stops : (fault : InputFault) → Stops as_batch old fault new → Says CorrectBatch old fault new
     unfolding at_call
-    correct_stops fault is = judged_stops (at_call candidates) CorrectBatch as_batch (λ n. Ok (GoesOn (CorrectRevision n))) (λ item. refl) old new fault is
+    correct_stops fault is =
+        judged_stops (at_call candidates) CorrectBatch as_batch (λ n. Ok (GoesOn (CorrectRevision n)))
+        (λ item. refl) old new fault is
 
     pub correct_batch : (n : ℕ) → Accepts as_batch old n new → Leads_on CorrectBatch old (CorrectRevision n) new
     unfolding at_call
     correct_batch n is =
-        judged_read (at_call candidates) CorrectBatch as_batch (λ n. Ok (GoesOn (CorrectRevision n))) (λ item. refl) old new n
+        judged_read (at_call candidates) CorrectBatch as_batch (λ n. Ok (GoesOn (CorrectRevision n)))
+        (λ item. refl) old new n
         (GoesOn (CorrectRevision n)) is refl
 
     pub correct_revision_stops :
@@ -62,12 +69,15 @@ module _ (candidates : ℕ) where
 
     pub withdraw_stops : (fault : InputFault) → Stops as_batch old fault new → Says WithdrawBatch old fault new
     unfolding at_call
-    withdraw_stops fault is = judged_stops (at_call candidates) WithdrawBatch as_batch (λ n. Ok (GoesOn (WithdrawRevision n))) (λ item. refl) old new fault is
+    withdraw_stops fault is =
+        judged_stops (at_call candidates) WithdrawBatch as_batch (λ n. Ok (GoesOn (WithdrawRevision n)))
+        (λ item. refl) old new fault is
 
     pub withdraw_batch : (n : ℕ) → Accepts as_batch old n new → Leads_on WithdrawBatch old (WithdrawRevision n) new
     unfolding at_call
     withdraw_batch n is =
-        judged_read (at_call candidates) WithdrawBatch as_batch (λ n. Ok (GoesOn (WithdrawRevision n))) (λ item. refl) old new n
+        judged_read (at_call candidates) WithdrawBatch as_batch (λ n. Ok (GoesOn (WithdrawRevision n)))
+        (λ item. refl) old new n
         (GoesOn (WithdrawRevision n)) is refl
 
     pub withdraw_revision_stops :
@@ -86,10 +96,12 @@ module _ (candidates : ℕ) where
         (λ item. refl) old new n (Ends (Change (Withdraw batch n))) is refl
 
     pub strike_stops :
-        (fault : InputFault) → Stops (as_between 1 candidates NoSuchCandidate) old fault new → Says StrikeCandidate old fault new
+        (fault : InputFault) → Stops (as_between 1 candidates NoSuchCandidate) old fault new
+        → Says StrikeCandidate old fault new
     unfolding at_call
     strike_stops fault is =
-        judged_stops (at_call candidates) StrikeCandidate (as_between 1 candidates NoSuchCandidate) (λ n. Ok (Ends (Strike n)))
+        judged_stops (at_call candidates) StrikeCandidate (as_between 1 candidates NoSuchCandidate)
+        (λ n. Ok (Ends (Strike n)))
         (λ item. refl) old new fault is
 
     pub strike_read :
@@ -97,7 +109,8 @@ module _ (candidates : ℕ) where
         → reads (at_call candidates) StrikeCandidate old ≡ Ok (Strike n, new)
     unfolding at_call
     strike_read n is =
-        judged_read (at_call candidates) StrikeCandidate (as_between 1 candidates NoSuchCandidate) (λ n. Ok (Ends (Strike n)))
+        judged_read (at_call candidates) StrikeCandidate (as_between 1 candidates NoSuchCandidate)
+        (λ n. Ok (Ends (Strike n)))
         (λ item. refl) old new n (Ends (Strike n)) is refl
 
     -- ---- the ballots

@@ -9,7 +9,8 @@ use Rattle.day_reader.specs.declared.day.Day.{Day}
 use Rattle.day_reader.specs.Day.{IsDay}
 use Rattle.day_reader.specs.DayTable.{Expected, at_file_token}
 use Rattle.day_reader.specs.Front.{IsFileFront}
-use Rattle.day_reader.specs.Said.{start, HasOneDay, FollowsOpenLists, ExpectsRightly, AcceptsDays, RefusesByTheRule, RefusesAllElse}
+use Rattle.day_reader.specs.Said.{start, HasOneDay, FollowsOpenLists, ExpectsRightly, AcceptsDays}
+use Rattle.day_reader.specs.Said.{RefusesByTheRule, RefusesAllElse}
 use Rattle.day_reader.specs.Shared.{Shared}
 use Rattle.day_reader.proofs.DaySoundness.{day_goes_on}
 use Rattle.day_reader.proofs.DayCompleteness.{reads_front, reads_day, can_go_on}
@@ -25,11 +26,13 @@ module _ (shared : Shared) where
       (expected : Progress Expected Day) (items : List Item) → IsFileFront expected items
       → (more : List Item) × (last : Progress Expected Day) × (day : Day) × (after at_file_token expected more ≡ Ok last)
       × (ended last ≡ Some day)
-  day_completes (GoesOn expected) items front = let rest = can_go_on shared expected items front in (rest.0, Ends rest.1, rest.1, rest.2, refl)
+  day_completes (GoesOn expected) items front =
+      let rest = can_go_on shared expected items front in (rest.0, Ends rest.1, rest.1, rest.2, refl)
   day_completes (Ends day) items front = ([], Ends day, day, refl, refl)
 
   day_ends :
-      (expected : Progress Expected Day) (day : Day) (items : List Item) → IsFileFront expected items → ended expected ≡ Some day
+      (expected : Progress Expected Day) (day : Day) (items : List Item) → IsFileFront expected items
+      → ended expected ≡ Some day
       → IsDay items day
   day_ends (GoesOn expected) day items front is = absurd (none_not is)
   day_ends (Ends value) day items front is = subst (IsDay items) (same_some is) front

@@ -21,13 +21,15 @@ use Rattle.day_reader.proofs.DaySteps.{says_day}
 
 answerable : (candidates : ℕ) (call : Call) → IsCall candidates call → IsAnswerable candidates call
 answerable candidates (Change (Enter batch all)) is = ((is.0.least, is.0.most), (is.1.candidates_are, is.1.lines.bounded))
-answerable candidates (Change (Correct batch revision all)) is = ((is.0.least, is.0.most), (is.1.least, is.1.most), (is.2.candidates_are, is.2.lines.bounded))
+answerable candidates (Change (Correct batch revision all)) is =
+    ((is.0.least, is.0.most), (is.1.least, is.1.most), (is.2.candidates_are, is.2.lines.bounded))
 answerable candidates (Change (Withdraw batch revision)) is = ((is.0.least, is.0.most), (is.1.least, is.1.most))
 answerable candidates Freeze is = tt
 answerable candidates (Strike candidate) is = (is.least, is.most)
 
 numbers_in :
-    (teams : List Script) → AreDifferent 16 (map team_of teams) → All (λ script. (1 ≤ script.team) × (script.team ≤ 16)) teams
+    (teams : List Script) → AreDifferent 16 (map team_of teams)
+    → All (λ script. (1 ≤ script.team) × (script.team ≤ 16)) teams
 numbers_in teams are k d inside =
     let is = are.in_range k 0 (omega (arith, inside, length-map teams team_of)) in
     let same = get_or-map team_of teams k d 0 inside in
@@ -40,12 +42,20 @@ scripts_are items day is =
     let moved = is_moved teams are.numbers in
     let candidates = length day.roll.names in
     subst (AreScripts candidates) (sym is.scripts) (record {
-      numbers = All-permutation (λ (s : Script). (1 ≤ s.team) × (s.team ≤ 16)) teams (by_number teams) moved (numbers_in teams are.numbers);
+      numbers =
+          All-permutation (λ (s : Script). (1 ≤ s.team) × (s.team ≤ 16)) teams (by_number teams) moved
+          (numbers_in teams are.numbers);
       rising = is_rising teams are.numbers;
       calls =
           All-permutation (λ (s : Script). All (IsAnswerable candidates) s.calls) teams (by_number teams) moved
           (λ k d inside. λ i e there. answerable candidates _ (are.calls k d inside i e there));
-      few_freezes = omega (arith, are.few_freezes, sum_by-IsPermutation (λ (s : Script). count_by is_freeze s.calls) teams (by_number teams) moved);
+      few_freezes =
+          omega (
+            arith,
+            are.few_freezes,
+            sum_by-IsPermutation (λ (s : Script). count_by is_freeze s.calls) teams (by_number teams)
+                moved,
+          );
     })
 
 scale_in :
@@ -73,7 +83,8 @@ module _ (law : AcceptsDays) (text : Scan) where
   has_lots = of_day (λ day. length day.lots ≡ length day.roll.names) (λ items day is. is.lots.all)
 
   pub has_places :
-      (result : Result Day InputStop) → SaysDay (said_by text) result → IfOk result (λ day. (6 ≤ day.places) × (day.places ≤ 9))
+      (result : Result Day InputStop) → SaysDay (said_by text) result
+      → IfOk result (λ day. (6 ≤ day.places) × (day.places ≤ 9))
   has_places =
       of_day (λ day. (6 ≤ day.places) × (day.places ≤ 9))
       (λ items day is. subst (λ n. (6 ≤ n) × (n ≤ 9)) (sym is.places) (scale_in is.scale is.scale_in).0)

@@ -1,5 +1,6 @@
 -- What the table of day files accepts so far is a front part of a day file.
-use Rattle.std.proofs.Common.{◌≡◌, ℕ, ◌≤◌, true, List, [], ◌∷◌, ◌++◌, length, map, refl, sym, ◌∙◌, ap, subst, arith, inl, inr, append_assoc, nat_le, ◌==◌, Ok, Err}
+use Rattle.std.proofs.Common.{◌≡◌, ℕ, ◌≤◌, true, List, [], ◌∷◌, ◌++◌, length, map, refl, sym, ◌∙◌, ap, subst}
+use Rattle.std.proofs.Common.{arith, inl, inr, append_assoc, nat_le, ◌==◌, Ok, Err}
 use Rattle.std.specs.Prelude.{Some, None}
 use Rattle.std.specs.List.{flat_map, list_any}
 use Rattle.std.proofs.lemmas.Bool.{leb-true, eqb-true, and_parts}
@@ -25,7 +26,10 @@ use Rattle.day_reader.specs.Keyword.{word}
 use Rattle.day_reader.specs.Day.{AreDifferent, AreAllLots, lots_items, scale_items, team_items, AreTeams, IsDay}
 use Rattle.day_reader.specs.CallTable.{is_between}
 use Rattle.day_reader.specs.TeamTable.{InTeams, at_teams}
-use Rattle.day_reader.specs.DayTable.{at_lot_number, at_lot, Head, Expected, InRoll, BehindTitle, Lot, BehindLots, Places, BehindPlaces, Omega, BehindOmega, Teams, day_of, behind_title, behind_head, behind_lots, behind_places, at_token, at_file_token}
+use Rattle.day_reader.specs.DayTable.{at_lot_number, at_lot, Head, Expected, InRoll, BehindTitle, Lot}
+use Rattle.day_reader.specs.DayTable.{BehindLots, Places, BehindPlaces, Omega, BehindOmega, Teams, day_of}
+use Rattle.day_reader.specs.DayTable.{behind_title, behind_head, behind_lots, behind_places, at_token}
+use Rattle.day_reader.specs.DayTable.{at_file_token}
 use Rattle.day_reader.specs.Front.{begun_teams, IsBehind, head_items, IsHead, IsPlaces, IsFront, IsFileFront}
 use Rattle.day_reader.specs.Shared.{Shared}
 use Rattle.day_reader.proofs.SharedParts.{roll_goes_on}
@@ -51,10 +55,12 @@ without_lines items poll is =
 
 roll_goes :
     Shared → (expected : blt.Expected) (next : Progress Expected Day) (x : Item) (items : List Item)
-    (judged : Judged (Progress blt.Expected Poll)) → blt_front.IsFront 0 expected items → blt.at_token of_a_roll expected x ≡ judged
+    (judged : Judged (Progress blt.Expected Poll)) → blt_front.IsFront 0 expected items
+    → blt.at_token of_a_roll expected x ≡ judged
     → carried (λ more. InRoll more) (λ poll. BehindTitle poll.roll) judged ≡ Ok next → IsFileFront next (items ++ x ∷ [])
 roll_goes shared expected next x items (Ok (GoesOn more)) front judged e =
-    subst (λ p. IsFileFront p (items ++ x ∷ [])) (same_value e) (roll_goes_on shared (GoesOn expected) (GoesOn more) x items front judged)
+    subst (λ p. IsFileFront p (items ++ x ∷ [])) (same_value e)
+    (roll_goes_on shared (GoesOn expected) (GoesOn more) x items front judged)
 roll_goes shared expected next x items (Ok (Ends poll)) front judged e =
     subst (λ p. IsFileFront p (items ++ x ∷ [])) (same_value e)
     (without_lines (items ++ x ∷ []) poll (roll_goes_on shared (GoesOn expected) (Ends poll) x items front judged))
@@ -107,7 +113,8 @@ module _ (roll : RollList) (lots : List ℕ) (items : List Item) (are : AreDiffe
       | inl within ↦ elim (went (list_any (λ c. c == n) lots) _ _ (Ok next) within.1) [
         | inl again ↦ absurd (refused again.1)
         | inr new ↦ subst (λ p. LotFront p (items ++ Number n ∷ [])) (same_value new.1) (
-          one_number_more (length roll.names) lots n are (record { least = not_zero n miss.0; most = leb-true n (length roll.names) within.0 }) new.0,
+          one_number_more (length roll.names) lots n are
+              (record { least = not_zero n miss.0; most = leb-true n (length roll.names) within.0 }) new.0,
           behind_more roll _ (word key.Lots ∷ map Number (lots ++ n ∷ [])) items (Number n) is
               (ap (λ (l : List Item). word key.Lots ∷ l) (map-append Number lots (n ∷ []))),
         )
@@ -123,10 +130,13 @@ module _ (roll : RollList) (lots : List ℕ) (items : List Item) (are : AreDiffe
 
   lots_go :
       (next : Progress Expected Day) (x : Item) (judged : Judged (Progress (List ℕ) (List ℕ)))
-      → at_lot (length roll.names) lots x ≡ judged → carried (λ more. Lot roll more) (λ all. BehindLots roll all) judged ≡ Ok next
+      → at_lot (length roll.names) lots x ≡ judged
+      → carried (λ more. Lot roll more) (λ all. BehindLots roll all) judged ≡ Ok next
       → IsFileFront next (items ++ x ∷ [])
-  lots_go next x (Ok (GoesOn more)) judged e = subst (λ p. IsFileFront p (items ++ x ∷ [])) (same_value e) (lot_goes (GoesOn more) x judged)
-  lots_go next x (Ok (Ends all)) judged e = subst (λ p. IsFileFront p (items ++ x ∷ [])) (same_value e) (lot_goes (Ends all) x judged)
+  lots_go next x (Ok (GoesOn more)) judged e =
+      subst (λ p. IsFileFront p (items ++ x ∷ [])) (same_value e) (lot_goes (GoesOn more) x judged)
+  lots_go next x (Ok (Ends all)) judged e =
+      subst (λ p. IsFileFront p (items ++ x ∷ [])) (same_value e) (lot_goes (Ends all) x judged)
   lots_go next x (Err kind) judged e = absurd (refused e)
 
 -- ---- the places and omega
@@ -184,12 +194,13 @@ places_end :
     → AreAllLots (length roll.names) lots → IsPlaces places
     → IsBehind roll (lots_items lots ++ word key.Places ∷ Number places ∷ []) items
     → behind_places roll lots places keyword ≡ Ok next → IsFileFront next (items ++ word keyword ∷ [])
-places_end roll lots places next items key.Omega are in_it is e = subst (λ p. IsFileFront p (items ++ word key.Omega ∷ [])) (same_value e) (
-  are,
-  in_it,
-  behind_more roll _ _ items (word key.Omega) is
-      (sym (append_assoc (lots_items lots) (word key.Places ∷ Number places ∷ []) (word key.Omega ∷ []))),
-)
+places_end roll lots places next items key.Omega are in_it is e =
+    subst (λ p. IsFileFront p (items ++ word key.Omega ∷ [])) (same_value e) (
+      are,
+      in_it,
+      behind_more roll _ _ items (word key.Omega) is
+          (sym (append_assoc (lots_items lots) (word key.Places ∷ Number places ∷ []) (word key.Omega ∷ []))),
+    )
 places_end roll lots places next items keyword are in_it is e = absurd (refused e)
 
 places_in : (n : ℕ) → is_between 6 9 n ≡ true → IsPlaces n
@@ -201,7 +212,8 @@ teams_go :
     Shared → (head : Head) (expected : InTeams) (next : Progress Expected Day) (x : Item) (items : List Item)
     (judged : Judged (Progress InTeams (List Script))) → IsFront (Teams head expected) items
     → at_teams (length head.roll.names) expected x ≡ judged
-    → carried_to (λ more. GoesOn (Teams head more)) (λ teams. Ends (day_of head teams)) judged ≡ Ok next → IsFileFront next (items ++ x ∷ [])
+    → carried_to (λ more. GoesOn (Teams head more)) (λ teams. Ends (day_of head teams)) judged ≡ Ok next
+    → IsFileFront next (items ++ x ∷ [])
 teams_go shared head expected next x items (Ok (GoesOn more)) front judged e =
     let one = teams_go_on shared.lines (length head.roll.names) expected (GoesOn more) x front.1 judged in
     subst (λ p. IsFileFront p (items ++ x ∷ [])) (same_value e) (
@@ -239,8 +251,12 @@ goes_on shared (BehindLots roll lots) next x items front e =
     word_goes_on IsFileFront items x next (behind_lots roll lots) e
     (λ keyword judged. lots_end roll lots next items keyword front.0 front.1 judged)
 goes_on shared (Places roll lots) next x items front e =
-    number_goes_on IsFileFront items (is_between 6 9) BadPlaces x next (λ n. GoesOn (BehindPlaces roll lots n)) e (λ n ok.
-    (front.0, places_in n ok, behind_more roll _ _ items (Number n) front.1 (sym (append_assoc (lots_items lots) (word key.Places ∷ []) (Number n ∷ [])))))
+    number_goes_on IsFileFront items (is_between 6 9) BadPlaces x next (λ n. GoesOn (BehindPlaces roll lots n)) e (λ n ok. (
+      front.0,
+      places_in n ok,
+      behind_more roll _ _ items (Number n) front.1
+          (sym (append_assoc (lots_items lots) (word key.Places ∷ []) (Number n ∷ []))),
+    ))
 goes_on shared (BehindPlaces roll lots places) next x items front e =
     word_goes_on IsFileFront items x next (behind_places roll lots places) e
     (λ keyword judged. places_end roll lots places next items keyword front.0 front.1 front.2 judged)
@@ -255,7 +271,8 @@ goes_on shared (Omega roll lots places) next x items front e =
 goes_on shared (BehindOmega roll lots scale) next x items front e =
     word_goes_on IsFileFront items x next (behind_head (record { roll = roll; lots = lots; scale = Some scale })) e
     (λ keyword judged.
-    head_goes (record { roll = roll; lots = lots; scale = Some scale }) next items keyword (record { lots = front.0; scale = front.1 }) front.2 judged)
+    head_goes (record { roll = roll; lots = lots; scale = Some scale }) next items keyword
+    (record { lots = front.0; scale = front.1 }) front.2 judged)
 goes_on shared (Teams head expected) next x items front e = teams_go shared head expected next x items _ front refl e
 
 pub day_goes_on :

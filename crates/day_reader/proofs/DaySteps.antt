@@ -22,9 +22,11 @@ use Rattle.day_reader.specs.declared.script.Script.{Script}
 use Rattle.day_reader.specs.declared.day.Day.{Day}
 use Rattle.day_reader.specs.Day.{scale_of, by_number, IsDay}
 use Rattle.day_reader.specs.TeamTable.{TeamNumber, at_teams}
-use Rattle.day_reader.specs.DayTable.{at_lot, Head, Expected, InRoll, BehindTitle, Lot, BehindLots, Teams, day_of, at_token, at_file_token}
+use Rattle.day_reader.specs.DayTable.{at_lot, Head, Expected, InRoll, BehindTitle, Lot, BehindLots, Teams}
+use Rattle.day_reader.specs.DayTable.{day_of, at_token, at_file_token}
 use Rattle.day_reader.specs.Said.{said_by, IsDayRefusal, AcceptsDays, RefusesByTheRule}
-use Rattle.day_reader.specs.Reads.{LeadsOrWants, team_or_end, IsScaled, next_team, with_scripts, ReadsScripts, IsAtEnd, SaysDay}
+use Rattle.day_reader.specs.Reads.{LeadsOrWants, team_or_end, IsScaled, next_team, with_scripts, ReadsScripts}
+use Rattle.day_reader.specs.Reads.{IsAtEnd, SaysDay}
 use Rattle.day_reader.proofs.Steps.{within}
 
 -- ---- the teams
@@ -38,7 +40,8 @@ teams_in :
     ≡ as_day head (next_team (length head.roll.names) [] follows text)
 unfolding at_token
 teams_in head true text =
-    within (at_teams (length head.roll.names)) at_token (λ e. Teams head e) (λ teams. Ends (day_of head teams)) (λ e item. refl)
+    within (at_teams (length head.roll.names)) at_token (λ e. Teams head e)
+    (λ teams. Ends (day_of head teams)) (λ e item. refl)
     (TeamNumber []) text
 teams_in head false text = refl
 
@@ -46,7 +49,9 @@ module _ (candidates : ℕ) (follows : Bool) (old new : Scan) where
   pub teams_fail :
       (why : InputStop) → LeadsOrWants (next_team candidates [] follows old) (Err why)
       (λ (teams : List Script). Ok (teams, new)) new → ReadsScripts candidates follows old (Err why) new
-  teams_fail (stop.Fault fault) is head same = teams_in head follows old ∙ ap (λ (n : ℕ). as_day head (next_team n [] follows old)) same ∙ ap (as_day head) is
+  teams_fail (stop.Fault fault) is head same =
+      teams_in head follows old ∙ ap (λ (n : ℕ). as_day head (next_team n [] follows old)) same
+      ∙ ap (as_day head) is
   teams_fail stop.NoMemory is head same = tt
 
   pub teams_read :
@@ -79,7 +84,8 @@ module _ (start : Scan) where
       → GoesTo (BehindTitle election.roll) new
   unfolding at_token
   roll_read election new is =
-      inner_read (blt.at_token of_a_roll) at_token (λ e. InRoll e) (λ p. BehindTitle p.roll) (λ e item. refl) blt.Candidates start
+      inner_read (blt.at_token of_a_roll) at_token (λ e. InRoll e) (λ p. BehindTitle p.roll) (λ e item. refl)
+      blt.Candidates start
       (poll election) new is
 
   -- where what follows is a day, the whole is
@@ -111,7 +117,9 @@ module _ (roll : RollList) (candidates : ℕ) (all : length roll.names ≡ candi
       [] mid lots new
       (subst (λ n. reads (at_lot n) [] mid ≡ Ok (lots, new)) (sym all) is)
   order_read old mid new (Err (stop.Fault fault)) so_far is =
-      so_far ∙ inner_stopped (at_lot (length roll.names)) at_token (λ l. Lot roll l) (λ l. BehindLots roll l) (λ e item. refl)
+      so_far
+      ∙ inner_stopped (at_lot (length roll.names)) at_token (λ l. Lot roll l) (λ l. BehindLots roll l)
+      (λ e item. refl)
       [] mid (record { fault = fault; rest = new })
       (subst (λ n. reads (at_lot n) [] mid ≡ Err (record { fault = fault; rest = new })) (sym all) is)
   order_read old mid new (Err stop.NoMemory) so_far is = tt
@@ -121,15 +129,32 @@ module _ (roll : RollList) (candidates : ℕ) (all : length roll.names ≡ candi
         {A : Type 0} (why : InputStop) (onward : A → Result (Day × Scan) Stopped)
         → ReadsScripts candidates read.team_follows mid (Err why) new
         → LeadsOrWants (reads at_token (BehindLots roll lots) old) (Err why) onward new
-    scripts_fail (stop.Fault fault) onward scripts = is.same roll lots ∙ scripts (record { roll = roll; lots = lots; scale = is.scale }) all
+    scripts_fail (stop.Fault fault) onward scripts =
+        is.same roll lots ∙ scripts (record { roll = roll; lots = lots; scale = is.scale }) all
     scripts_fail stop.NoMemory onward scripts = tt
 
     pub scripts_read : (scripts : List Script) → ReadsScripts candidates read.team_follows mid (Ok scripts) new
-        → reads at_token (BehindLots roll lots) old ≡ Ok (record { roll = roll; lots = lots; places = read.places; omega = read.omega; scripts = scripts }, new)
+        → reads at_token (BehindLots roll lots) old
+        ≡ Ok (
+          record
+              { roll = roll; lots = lots; places = read.places; omega = read.omega; scripts = scripts },
+          new,
+        )
     scripts_read scripts found =
         is.same roll lots ∙ found (record { roll = roll; lots = lots; scale = is.scale }) all
-        ∙ ap (λ (n : ℕ). Ok (record { roll = roll; lots = lots; places = n; omega = (scale_of is.scale).omega; scripts = scripts }, new)) (sym is.places)
-        ∙ ap (λ (n : ℕ). Ok (record { roll = roll; lots = lots; places = read.places; omega = n; scripts = scripts }, new)) (sym is.omega)
+        ∙ ap (λ (n : ℕ). Ok (
+          record {
+            roll = roll;
+            lots = lots;
+            places = n;
+            omega = (scale_of is.scale).omega;
+            scripts = scripts;
+          },
+          new,
+        )) (sym is.places)
+        ∙ ap (λ (n : ℕ). Ok
+        (record { roll = roll; lots = lots; places = read.places; omega = n; scripts = scripts }, new))
+        (sym is.omega)
 
 -- ---- behind the end
 
@@ -137,7 +162,8 @@ abbrev Behind : Day → Scan → Result Day InputFault
 Behind day text = outcome at_file_token ended (Ends day) text.tokens text.ending
 
 pub trailing :
-    (old new : Scan) (token : Placed) → old ≡ with_front token new → IsAtEnd old (Err (record { kind = Trailing; at = token.at }))
+    (old new : Scan) (token : Placed) → old ≡ with_front token new
+    → IsAtEnd old (Err (record { kind = Trailing; at = token.at }))
 trailing old new token given day = ap (Behind day) given
 
 pub well_ended : (old : Scan) (at : ℕ) → old ≡ ends (AtEnd at) → IsAtEnd old (Ok tt)
@@ -161,7 +187,8 @@ says_all text rest day is end = in_two text ∙ ap (λ (r : Result (Day × Scan)
 pub says_trailing :
     (text rest : Scan) (day : Day) (fault : InputFault) → reads at_token (InRoll blt.Candidates) text ≡ Ok (day, rest)
     → IsAtEnd rest (Err fault) → SaysDay (said_by text) (Err (stop.Fault fault))
-says_trailing text rest day fault is end = in_two text ∙ ap (λ (r : Result (Day × Scan) Stopped). behind_front r Behind) is ∙ end day
+says_trailing text rest day fault is end =
+    in_two text ∙ ap (λ (r : Result (Day × Scan) Stopped). behind_front r Behind) is ∙ end day
 
 pub says_front :
     (text rest : Scan) (why : InputStop) → Reads at_token (InRoll blt.Candidates) (λ (day : Day). day) text (Err why) rest

@@ -1,5 +1,7 @@
 -- Different numbers up to a greatest one.
-use Rattle.std.proofs.Common.{◌≡◌, ◌≢◌, ℕ, zero, suc, ◌+◌, ◌-◌, ◌<◌, ◌≤◌, ◌==◌, Bool, true, false, List, [], ◌∷◌, ◌++◌, length, get_or, AllPairs, Contains, refl, sym, ◌∙◌, ap, arith, inl, inr, ◌⊎◌, nat_eq}
+use Rattle.std.proofs.Common.{◌≡◌, ◌≢◌, ℕ, zero, suc, ◌+◌, ◌-◌, ◌<◌, ◌≤◌, ◌==◌, Bool, true, false, List, []}
+use Rattle.std.proofs.Common.{◌∷◌, ◌++◌, length, get_or, AllPairs, Contains, refl, sym, ◌∙◌, ap, arith, inl}
+use Rattle.std.proofs.Common.{inr, ◌⊎◌, nat_eq}
 use Rattle.std.specs.List.{list_any, range_with_len}
 use Rattle.std.specs.Set.{is_member}
 use Rattle.std.specs.Cmp.{nat_eq_equiv}
@@ -30,8 +32,11 @@ one_number_more greatest numbers n are is new = record {
 up_to : (greatest n : ℕ) → IsIn greatest n → Contains (range_with_len 1 greatest) n
 up_to greatest n is =
     let inside : n - 1 < greatest = omega (arith, is.least, is.most) in
-    let number : 1 + (n - 1) ≡ n = omega (arith, is.least) in
-    (n - 1, omega (arith, inside, length-range_with_len 1 greatest), get_or-range_with_len 1 greatest (n - 1) n inside ∙ number)
+    let number : 1 + (n - 1) ≡ n = omega (arith, is.least) in (
+      n - 1,
+      omega (arith, inside, length-range_with_len 1 greatest),
+      get_or-range_with_len 1 greatest (n - 1) n inside ∙ number,
+    )
 
 -- different numbers are at most as many as the greatest says
 pub at_most : (greatest : ℕ) (numbers : List ℕ) → AreDifferent greatest numbers → length numbers ≤ greatest
@@ -64,7 +69,8 @@ or_missing greatest numbers true is (inr all) = inr (λ n in_it. elim (eqb_tells
 
 sought : (greatest : ℕ) (numbers : List ℕ) → Missing greatest numbers ⊎ AllStand greatest numbers
 sought zero numbers = inr (λ n is. absurd (omega (arith, is.least, is.most)))
-sought (suc greatest) numbers = or_missing greatest numbers (list_any (λ c. c == suc greatest) numbers) refl (sought greatest numbers)
+sought (suc greatest) numbers =
+    or_missing greatest numbers (list_any (λ c. c == suc greatest) numbers) refl (sought greatest numbers)
 
 in_range_of : (greatest n : ℕ) → Contains (range_with_len 1 greatest) n → IsIn greatest n
 in_range_of greatest n found =
@@ -92,9 +98,13 @@ pub one_is_missing :
 one_is_missing greatest numbers fewer = elim (sought greatest numbers) [
   | inl found ↦ found
   | inr all ↦ (
-      let distinct = IsDistinct-from_AllPairs {eq = nat_eq} Decides-eqb (range_with_len 1 greatest) (range_different greatest) in
+      let distinct =
+      IsDistinct-from_AllPairs {eq = nat_eq} Decides-eqb (range_with_len 1 greatest)
+      (range_different greatest) in
       let more = length-le_from_is_member nat_eq_equiv (range_with_len 1 greatest) numbers distinct (λ q found.
-      sym (stands_in numbers q) ∙ all q (in_range_of greatest q ((is_member-Decides Decides-eqb (range_with_len 1 greatest) q).0 found))) in
+      sym (stands_in numbers q)
+      ∙ all q
+      (in_range_of greatest q ((is_member-Decides Decides-eqb (range_with_len 1 greatest) q).0 found))) in
       absurd (omega (arith, fewer, more, length-range_with_len 1 greatest))
       )
 ]

@@ -1,5 +1,6 @@
 -- The table of day files accepts all that stands before the teams.
-use Rattle.std.proofs.Common.{◌≡◌, ◌≢◌, ℕ, zero, suc, ◌+◌, ◌==◌, List, [], ◌∷◌, ◌++◌, length, map, false, All, AllPairs, refl, sym, ◌∙◌, ap, subst, arith, append_assoc, Ok}
+use Rattle.std.proofs.Common.{◌≡◌, ◌≢◌, ℕ, zero, suc, ◌+◌, ◌==◌, List, [], ◌∷◌, ◌++◌, length, map, false, All}
+use Rattle.std.proofs.Common.{AllPairs, refl, sym, ◌∙◌, ap, subst, arith, append_assoc, Ok}
 use Rattle.std.specs.Prelude.{Option, Some, None}
 use Rattle.std.specs.List.{list_any}
 use Rattle.std.proofs.lemmas.Bool.{le-leb, eq-eqb}
@@ -22,7 +23,9 @@ use Rattle.day_reader.specs.declared.day.Day.{Day}
 use Rattle.day_reader.specs.Keyword.{word, as_keyword}
 use Rattle.day_reader.specs.Day.{AreDifferent, AreAllLots, lots_items, Scale, IsScale, MayBeScale, scale_items}
 use Rattle.day_reader.specs.TeamTable.{TeamNumber}
-use Rattle.day_reader.specs.DayTable.{at_lot, Head, Expected, InRoll, BehindTitle, Lot, BehindLots, Places, BehindPlaces, Omega, BehindOmega, Teams, day_of, behind_title, behind_head, behind_lots, behind_places, at_token, at_file_token}
+use Rattle.day_reader.specs.DayTable.{at_lot, Head, Expected, InRoll, BehindTitle, Lot, BehindLots, Places}
+use Rattle.day_reader.specs.DayTable.{BehindPlaces, Omega, BehindOmega, Teams, day_of, behind_title}
+use Rattle.day_reader.specs.DayTable.{behind_head, behind_lots, behind_places, at_token, at_file_token}
 use Rattle.day_reader.specs.Front.{head_items, IsHead, IsPlaces}
 use Rattle.day_reader.specs.Shared.{Shared}
 use Rattle.day_reader.proofs.SharedParts.{reads_roll_front}
@@ -48,7 +51,8 @@ abbrev pub roll_place : Progress blt.Expected Poll → Progress Expected Day
 roll_place = place_of (λ e. GoesOn (InRoll e)) (λ poll. GoesOn (BehindTitle poll.roll))
 
 carried_on :
-    (next : Progress blt.Expected Poll) → carried {W = Day} (λ e. InRoll e) (λ (poll : Poll). BehindTitle poll.roll) (Ok next)
+    (next : Progress blt.Expected Poll)
+    → carried {W = Day} (λ e. InRoll e) (λ (poll : Poll). BehindTitle poll.roll) (Ok next)
     ≡ Ok (roll_place next)
 carried_on (GoesOn next) = refl
 carried_on (Ends poll) = refl
@@ -58,7 +62,8 @@ goes_along :
     → at_file_token (roll_place expected) item ≡ Ok (roll_place next)
 unfolding at_token
 goes_along (GoesOn expected) next item e =
-    ap (λ (j : Judged (Progress blt.Expected Poll)). carried {W = Day} (λ e. InRoll e) (λ (poll : Poll). BehindTitle poll.roll) j) e ∙ carried_on next
+    ap (λ (j : Judged (Progress blt.Expected Poll)). carried {W = Day} (λ e. InRoll e)
+    (λ (poll : Poll). BehindTitle poll.roll) j) e ∙ carried_on next
 goes_along (Ends poll) next (Text text) e = ap (λ (p : Progress blt.Expected Poll). Ok (roll_place p)) (same_value e)
 goes_along (Ends poll) next (Number n) e = absurd (refused e)
 goes_along (Ends poll) next (Minus n) e = absurd (refused e)
@@ -88,7 +93,8 @@ module _ (candidates : ℕ) where
       let in_it = All-head (IsIn candidates) n more each in
       let regrouped = append_assoc before (n ∷ []) more in
       rw (nonzero n in_it.least, le-leb n candidates in_it.most, not_before before more n different)
-      (reads_more_lots more (before ++ n ∷ []) (All-tail (IsIn candidates) n more each) (subst (AllPairs (λ a b. a ≢ b)) (sym regrouped) different)
+      (reads_more_lots more (before ++ n ∷ []) (All-tail (IsIn candidates) n more each)
+      (subst (AllPairs (λ a b. a ≢ b)) (sym regrouped) different)
       ∙ ap (λ (l : List ℕ). Ok (GoesOn l)) regrouped)
 
   reads_some_lots :
@@ -115,7 +121,9 @@ module _ (candidates : ℕ) where
   one_lot lots n items is new = rw (nonzero n is.least, le-leb n candidates is.most, new) refl
 
   abbrev LotsCanEnd : List ℕ → Type 0
-  LotsCanEnd lots = (more : List Item) × (all : List ℕ) × (after (closed (at_lot candidates)) (GoesOn lots) more ≡ Ok (Ends all))
+  LotsCanEnd lots =
+      (more : List Item) × (all : List ℕ)
+      × (after (closed (at_lot candidates)) (GoesOn lots) more ≡ Ok (Ends all))
 
   and_one :
       (lots : List ℕ) (n : ℕ) → IsIn candidates n → list_any (λ c. c == n) lots ≡ false → LotsCanEnd (lots ++ n ∷ [])
@@ -127,7 +135,8 @@ module _ (candidates : ℕ) where
   lots_can_end zero lots counts = (Number 0 ∷ [], lots, lots_end lots (omega (arith, counts)))
   lots_can_end (suc missing) lots counts =
       let new = one_is_missing candidates lots (omega (arith, counts)) in
-      and_one lots new.0 new.1 new.2 (lots_can_end missing (lots ++ new.0 ∷ []) (omega (arith, counts, length_push lots new.0)))
+      and_one lots new.0 new.1 new.2
+      (lots_can_end missing (lots ++ new.0 ∷ []) (omega (arith, counts, length_push lots new.0)))
 
 module _ (is : RollList) where
   pub in_lots :
@@ -136,7 +145,9 @@ module _ (is : RollList) where
       → after at_file_token (place_of (λ lots. GoesOn (Lot is lots)) (λ lots. GoesOn (BehindLots is lots)) first) items
       ≡ Ok (place_of (λ lots. GoesOn (Lot is lots)) (λ lots. GoesOn (BehindLots is lots)) last)
   unfolding at_token
-  in_lots items = carries (at_lot (length is.names)) at_file_token (λ lots. GoesOn (Lot is lots)) (λ lots. GoesOn (BehindLots is lots))
+  in_lots items =
+      carries (at_lot (length is.names)) at_file_token (λ lots. GoesOn (Lot is lots))
+      (λ lots. GoesOn (BehindLots is lots))
       (λ lots item. carried_is (λ more. Lot is more) (λ all. BehindLots is all) (at_lot (length is.names) lots item)) items
 
   pub lots_word :
@@ -148,10 +159,13 @@ module _ (is : RollList) where
   pub reads_begun_lots :
       (lots : List ℕ) → AreDifferent (length is.names) lots
       → Reads (BehindTitle is) (word key.Lots ∷ map Number lots) (GoesOn (Lot is lots))
-  reads_begun_lots lots are = lots_word (map Number lots) ∙ in_lots (map Number lots) (GoesOn []) (GoesOn lots) (reads_some_lots (length is.names) lots are)
+  reads_begun_lots lots are =
+      lots_word (map Number lots)
+      ∙ in_lots (map Number lots) (GoesOn []) (GoesOn lots) (reads_some_lots (length is.names) lots are)
 
   pub reads_lots :
-      (lots : List ℕ) → AreAllLots (length is.names) lots → Reads (BehindTitle is) (lots_items lots) (GoesOn (BehindLots is lots))
+      (lots : List ℕ) → AreAllLots (length is.names) lots
+      → Reads (BehindTitle is) (lots_items lots) (GoesOn (BehindLots is lots))
   reads_lots lots are =
       lots_word (map Number lots ++ Number 0 ∷ [])
       ∙ in_lots (map Number lots ++ Number 0 ∷ []) (GoesOn []) (Ends lots) (reads_all_lots (length is.names) lots are)
@@ -160,7 +174,9 @@ module _ (is : RollList) where
       (lots : List ℕ) (items : List Item) → AreAllLots (length is.names) lots
       → after at_file_token (GoesOn (BehindTitle is)) (lots_items lots ++ items)
       ≡ after at_file_token (GoesOn (BehindLots is lots)) items
-  behind_all_lots lots items are = in_parts at_file_token (GoesOn (BehindTitle is)) (GoesOn (BehindLots is lots)) (lots_items lots) items (reads_lots lots are)
+  behind_all_lots lots items are =
+      in_parts at_file_token (GoesOn (BehindTitle is)) (GoesOn (BehindLots is lots)) (lots_items lots) items
+      (reads_lots lots are)
 
   -- ---- the places and omega
 
@@ -169,20 +185,26 @@ module _ (is : RollList) where
         (items : List Item) → after at_file_token (GoesOn (BehindLots is lots)) (word key.Places ∷ items)
         ≡ after at_file_token (GoesOn (Places is lots)) items
     unfolding at_token
-    places_word items = word_read (BehindLots is lots) (behind_lots is lots) key.Places (GoesOn (Places is lots)) items refl refl
+    places_word items =
+        word_read (BehindLots is lots) (behind_lots is lots) key.Places (GoesOn (Places is lots)) items refl
+        refl
 
     pub reads_places :
         (places : ℕ) (items : List Item) → IsPlaces places
         → after at_file_token (GoesOn (BehindLots is lots)) (word key.Places ∷ Number places ∷ items)
         ≡ after at_file_token (GoesOn (BehindPlaces is lots places)) items
     unfolding at_token
-    reads_places places items in_it = places_word (Number places ∷ items) ∙ rw (le-leb 6 places in_it.0, le-leb places 9 in_it.1) refl
+    reads_places places items in_it =
+        places_word (Number places ∷ items) ∙ rw (le-leb 6 places in_it.0, le-leb places 9 in_it.1) refl
 
     pub omega_word :
-        (places : ℕ) (items : List Item) → after at_file_token (GoesOn (BehindPlaces is lots places)) (word key.Omega ∷ items)
+        (places : ℕ) (items : List Item)
+        → after at_file_token (GoesOn (BehindPlaces is lots places)) (word key.Omega ∷ items)
         ≡ after at_file_token (GoesOn (Omega is lots places)) items
     unfolding at_token
-    omega_word places items = word_read (BehindPlaces is lots places) (behind_places is lots places) key.Omega (GoesOn (Omega is lots places)) items refl refl
+    omega_word places items =
+        word_read (BehindPlaces is lots places) (behind_places is lots places) key.Omega
+        (GoesOn (Omega is lots places)) items refl refl
 
     pub reads_omega :
         (scale : Scale) (items : List Item) → IsScale scale
@@ -216,24 +238,30 @@ pub reads_head :
     → after at_file_token (GoesOn (BehindTitle head.roll)) (head_items head ++ items)
     ≡ after at_file_token (GoesOn (behind_it head)) items
 reads_head head items is =
-    ap (λ (l : List Item). after at_file_token (GoesOn (BehindTitle head.roll)) l) (append_assoc (lots_items head.lots) (scale_items head.scale) items)
+    ap (λ (l : List Item). after at_file_token (GoesOn (BehindTitle head.roll)) l)
+    (append_assoc (lots_items head.lots) (scale_items head.scale) items)
     ∙ behind_all_lots head.roll head.lots (scale_items head.scale ++ items) is.lots
     ∙ reads_scale head.roll head.lots head.scale items is.scale
 
-head_word : (is : RollList) (lots : List ℕ) (scale : Option Scale) (keyword : Keyword) (next : Progress Expected Day) (items : List Item)
+head_word :
+    (is : RollList) (lots : List ℕ) (scale : Option Scale) (keyword : Keyword) (next : Progress Expected Day)
+    (items : List Item)
     → behind_lots is lots keyword ≡ behind_head (record { roll = is; lots = lots; scale = None }) keyword
     → behind_head (record { roll = is; lots = lots; scale = scale }) keyword ≡ Ok next
     → after at_file_token (GoesOn (behind_scale is lots scale)) (word keyword ∷ items) ≡ after at_file_token next items
 unfolding at_token
-head_word is lots None keyword next items same e = word_read (BehindLots is lots) (behind_lots is lots) keyword next items refl (same ∙ e)
+head_word is lots None keyword next items same e =
+    word_read (BehindLots is lots) (behind_lots is lots) keyword next items refl (same ∙ e)
 head_word is lots (Some scale) keyword next items same e =
-    word_read (BehindOmega is lots scale) (behind_head (record { roll = is; lots = lots; scale = Some scale })) keyword next items
+    word_read (BehindOmega is lots scale)
+    (behind_head (record { roll = is; lots = lots; scale = Some scale })) keyword next items
     refl e
 
 pub first_team :
     (head : Head) (items : List Item) → after at_file_token (GoesOn (behind_it head)) (word key.Team ∷ items)
     ≡ after at_file_token (GoesOn (Teams head (TeamNumber []))) items
-first_team head items = head_word head.roll head.lots head.scale key.Team (GoesOn (Teams head (TeamNumber []))) items refl refl
+first_team head items =
+    head_word head.roll head.lots head.scale key.Team (GoesOn (Teams head (TeamNumber []))) items refl refl
 
 pub no_team : (head : Head) → Reads (behind_it head) (word key.End ∷ []) (Ends (day_of head []))
 no_team head = head_word head.roll head.lots head.scale key.End (Ends (day_of head [])) [] refl refl

@@ -1,5 +1,6 @@
 -- The strings behind the title, the lots, and the places and omega, one behind another.
-use Rattle.std.proofs.Common.{◌≡◌, ◌≢◌, ℕ, ◌<◌, ◌≤◌, ◌==◌, List, [], ◌∷◌, ◌++◌, length, Bool, true, false, refl, sym, ◌∙◌, ap, subst, arith, Ok, Err}
+use Rattle.std.proofs.Common.{◌≡◌, ◌≢◌, ℕ, ◌<◌, ◌≤◌, ◌==◌, List, [], ◌∷◌, ◌++◌, length, Bool, true, false}
+use Rattle.std.proofs.Common.{refl, sym, ◌∙◌, ap, subst, arith, Ok, Err}
 use Rattle.std.specs.Prelude.{Some, None, Result, ◌||◌, ◌-◌, IfOk, IfErr}
 use Rattle.std.proofs.Common.{set, inl, inr, get_or-set_other}
 use Rattle.std.proofs.lemmas.Bool.Decides.{eqb_tells}
@@ -31,7 +32,9 @@ use Rattle.day_reader.specs.Keyword.{word, as_keyword}
 use Rattle.day_reader.specs.Day.{Scale}
 use Rattle.day_reader.specs.CallTable.{as_between}
 use Rattle.day_reader.specs.TeamTable.{TeamNumber}
-use Rattle.day_reader.specs.DayTable.{at_lot, Head, Expected, BehindTitle, Lot, BehindLots, Places, BehindPlaces, Omega, BehindOmega, Teams, day_of, behind_title, behind_head, behind_lots, behind_places, at_token}
+use Rattle.day_reader.specs.DayTable.{at_lot, Head, Expected, BehindTitle, Lot, BehindLots, Places}
+use Rattle.day_reader.specs.DayTable.{BehindPlaces, Omega, BehindOmega, Teams, day_of, behind_title}
+use Rattle.day_reader.specs.DayTable.{behind_head, behind_lots, behind_places, at_token}
 use Rattle.day_reader.specs.Reads.{Leads, IsLotsWord, team_or_end, BeginsTeam, ReadsPlaces, ReadsScale}
 use Rattle.day_reader.proofs.Keywords.{reads_word}
 use Rattle.day_reader.proofs.Steps.{judged_read, judged_stops, word_leads, word_refused}
@@ -46,7 +49,8 @@ module _ (roll : RollList) (old new : Scan) where
       → reads at_token (BehindTitle roll) old ≡ reads at_token (BehindTitle roll) new
   unfolding at_token
   string_passed bytes at begin stop what given is =
-      goes_on at_token (BehindTitle roll) old new (record { at = at; item = said bytes begin stop code.Text }) (BehindTitle roll)
+      goes_on at_token (BehindTitle roll) old new (record { at = at; item = said bytes begin stop code.Text })
+      (BehindTitle roll)
       (given ∙ ap (λ (w : What). with_front (record { at = at; item = said bytes begin stop w }) new) is) refl
 
   pub title_ends :
@@ -76,7 +80,8 @@ module _ (roll : RollList) (old new : Scan) where
       word_leads at_token (BehindTitle roll) (behind_title roll) old new key.Lots at refl
       (given ∙ ap (λ (i : Item). with_front (record { at = at; item = i }) new) is) (GoesOn (Lot roll [])) refl
   title_word bytes at begin stop what (Err fault) given not is =
-      refused_at at_token (BehindTitle roll) old new (record { at = at; item = said bytes begin stop what }) WordExpected given
+      refused_at at_token (BehindTitle roll) old new (record { at = at; item = said bytes begin stop what })
+      WordExpected given
       (behind_it bytes begin stop what not ∙ is.1 roll)
       ∙ ap (λ (why : InputFault). Err (record { fault = why; rest = new })) (sym is.0)
 
@@ -88,7 +93,8 @@ pub another_word :
     (item : Item) (keyword : Keyword) → item ≡ word keyword → (keyword ≡ key.Lots → ⊥) → (roll : RollList)
     → then_on (as_keyword item) (behind_title roll) ≡ Err WordExpected
 another_word item keyword is not roll =
-    ap (λ (j : Judged Keyword). then_on j (behind_title roll)) (ap as_keyword is ∙ reads_word keyword) ∙ not_lots roll keyword not
+    ap (λ (j : Judged Keyword). then_on j (behind_title roll)) (ap as_keyword is ∙ reads_word keyword)
+    ∙ not_lots roll keyword not
 
 -- ---- the lots
 
@@ -106,27 +112,37 @@ module _ (candidates : ℕ) (lots : List ℕ) where
 
   module _ (old new : Scan) (n at : ℕ) (given : old ≡ with_front (record { at = at; item = Number n }) new) where
     pub lots_end : n ≡ 0 → length lots ≡ candidates → reads (at_lot candidates) lots old ≡ Ok (lots, new)
-    lots_end none all = ends_with (at_lot candidates) lots old new _ lots given (rw (eq-eqb n 0 none, eq-eqb (length lots) candidates all) refl)
+    lots_end none all =
+        ends_with (at_lot candidates) lots old new _ lots given
+        (rw (eq-eqb n 0 none, eq-eqb (length lots) candidates all) refl)
 
     pub lots_missing :
         n ≡ 0 → length lots ≢ candidates → reads (at_lot candidates) lots old
         ≡ Err (record { fault = record { kind = BadLots; at = at }; rest = new })
-    lots_missing none few = refused_at (at_lot candidates) lots old new _ BadLots given (rw (eq-eqb n 0 none, ne_eqb (length lots) candidates few) refl)
+    lots_missing none few =
+        refused_at (at_lot candidates) lots old new _ BadLots given
+        (rw (eq-eqb n 0 none, ne_eqb (length lots) candidates few) refl)
 
     pub above :
         (n ≡ 0 → ⊥) → candidates < n → reads (at_lot candidates) lots old
         ≡ Err (record { fault = record { kind = BadLots; at = at }; rest = new })
-    above some greater = refused_at (at_lot candidates) lots old new _ BadLots given (rw (ne_eqb n 0 some, lt-leb n candidates greater) refl)
+    above some greater =
+        refused_at (at_lot candidates) lots old new _ BadLots given
+        (rw (ne_eqb n 0 some, lt-leb n candidates greater) refl)
 
     pub again :
         (n ≡ 0 → ⊥) → n ≤ candidates → list_any (λ c. c == n) lots ≡ true
         → reads (at_lot candidates) lots old ≡ Err (record { fault = record { kind = BadLots; at = at }; rest = new })
-    again some within twice = refused_at (at_lot candidates) lots old new _ BadLots given (rw (ne_eqb n 0 some, le-leb n candidates within, twice) refl)
+    again some within twice =
+        refused_at (at_lot candidates) lots old new _ BadLots given
+        (rw (ne_eqb n 0 some, le-leb n candidates within, twice) refl)
 
     pub one_more :
         (n ≡ 0 → ⊥) → n ≤ candidates → list_any (λ c. c == n) lots ≡ false
         → reads (at_lot candidates) lots old ≡ reads (at_lot candidates) (lots ++ n ∷ []) new
-    one_more some within once = goes_on (at_lot candidates) lots old new _ (lots ++ n ∷ []) given (rw (ne_eqb n 0 some, le-leb n candidates within, once) refl)
+    one_more some within once =
+        goes_on (at_lot candidates) lots old new _ (lots ++ n ∷ []) given
+        (rw (ne_eqb n 0 some, le-leb n candidates within, once) refl)
 
 -- ---- the places and omega
 
@@ -161,7 +177,8 @@ module _ (roll : RollList) (lots : List ℕ) (old new : Scan) where
     no_omega keyword not = refl
 
     pub omega_missing :
-        (keyword : Keyword) (at : ℕ) → old ≡ with_front (record { at = at; item = word keyword }) new → (keyword ≡ key.Omega → ⊥)
+        (keyword : Keyword) (at : ℕ) → old ≡ with_front (record { at = at; item = word keyword }) new
+        → (keyword ≡ key.Omega → ⊥)
         → reads at_token (BehindPlaces roll lots places) old
         ≡ Err (record { fault = record { kind = WordExpected; at = at }; rest = new })
     unfolding at_token
@@ -205,13 +222,17 @@ module _ (roll : RollList) (lots : List ℕ) (old new : Scan) where
         (fault : InputFault) → Stops as_keyword old fault new
         → reads at_token (BehindOmega roll lots scale) old ≡ Err (record { fault = fault; rest = new })
     unfolding at_token
-    omega_end_stops fault is = judged_stops at_token (BehindOmega roll lots scale) as_keyword (behind_head Scaled) (λ item. refl) old new fault is
+    omega_end_stops fault is =
+        judged_stops at_token (BehindOmega roll lots scale) as_keyword (behind_head Scaled) (λ item. refl) old
+        new fault is
 
   pub lots_end_stops :
       (fault : InputFault) → Stops as_keyword old fault new
       → reads at_token (BehindLots roll lots) old ≡ Err (record { fault = fault; rest = new })
   unfolding at_token
-  lots_end_stops fault is = judged_stops at_token (BehindLots roll lots) as_keyword (behind_lots roll lots) (λ item. refl) old new fault is
+  lots_end_stops fault is =
+      judged_stops at_token (BehindLots roll lots) as_keyword (behind_lots roll lots) (λ item. refl) old new
+      fault is
 
   module _ (at : ℕ) where
     pub places_word :
@@ -278,14 +299,16 @@ behind_the_lots roll lots keyword = refl
 -- the places behind their word
 pub reads_scale_part :
     (old mid new : Scan) (keyword : Keyword) (at : ℕ) → old ≡ with_front (record { at = at; item = word keyword }) mid
-    → keyword ≡ key.Places → (result : Result scaled.Scale InputFault) → ReadsPlaces mid result new → ReadsScale old result new
+    → keyword ≡ key.Places → (result : Result scaled.Scale InputFault) → ReadsPlaces mid result new
+    → ReadsScale old result new
 reads_scale_part old mid new keyword at given is (Ok read) reads = record {
   scale = Some (record { places = read.places; omega = read.omega });
   places = refl;
   omega = refl;
   same = λ roll lots. places_word roll lots old mid at keyword given is ∙ reads.same roll lots;
 }
-reads_scale_part old mid new keyword at given is (Err fault) reads = λ roll lots. places_word roll lots old mid at keyword given is ∙ reads roll lots
+reads_scale_part old mid new keyword at given is (Err fault) reads =
+    λ roll lots. places_word roll lots old mid at keyword given is ∙ reads roll lots
 
 -- ---- marks of the candidates
 

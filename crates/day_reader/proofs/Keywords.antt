@@ -11,7 +11,8 @@ use Rattle.input_text.specs.Token.{Item, Number, Minus, Text, Word}
 use Rattle.input_text.specs.declared.fault_kind.FaultKind.TheVariants.{WordExpected}
 use Rattle.input_text.proofs.Judgements.{refused, same_value}
 use Rattle.day_reader.specs.declared.keyword.Keyword.{Keyword}
-use Rattle.day_reader.specs.declared.keyword.Keyword.TheVariants.{Lots, Places, Omega, Team, Enter, Correct, Withdraw, Strike, Freeze, End}
+use Rattle.day_reader.specs.declared.keyword.Keyword.TheVariants.{Lots, Places, Omega, Team, Enter, Correct}
+use Rattle.day_reader.specs.declared.keyword.Keyword.TheVariants.{Withdraw, Strike, Freeze, End}
 use Rattle.day_reader.specs.Keyword.{letters_of, keywords, word, keyword_of, as_keyword}
 
 abbrev Among : List ℕ → List Keyword → Option Keyword
@@ -70,6 +71,8 @@ pub said_word :
     → IfSome found (λ keyword. said bytes at stop what ≡ word keyword)
 said_word bytes at stop what letters found is same known =
     let spelled : (w : What) → w ≡ code.Word → says (said bytes at stop w) letters → said bytes at stop w ≡ Word letters =
-    λ w is_word. subst (λ (v : What). says (said bytes at stop v) letters → said bytes at stop v ≡ Word letters) (sym is_word)
+    λ w is_word. subst
+    (λ (v : What). says (said bytes at stop v) letters → said bytes at stop v ≡ Word letters) (sym is_word)
     (λ e. ap Word (sym e)) in
-    subst (λ (i : Item). IfSome found (λ keyword. i ≡ word keyword)) (sym (spelled what is same)) (word_known letters found known)
+    subst (λ (i : Item). IfSome found (λ keyword. i ≡ word keyword)) (sym (spelled what is same))
+    (word_known letters found known)

@@ -61,7 +61,8 @@ module _ (rightly : ExpectsLinesRightly) (candidates : ℕ) (limit : Limit) wher
       (lines : Lines) (next : Progress Lines (List BallotLine)) (item : Item) → AreBegun candidates limit.most lines
       → at_line candidates limit lines item ≡ Ok next → IsLineFront candidates limit.most next (begun lines ++ item ∷ [])
   line_goes_on lines next item are e =
-      one_more LineTable Begin (IsLineFront candidates limit.most) (rightly candidates limit) (GoesOn lines) next item (begun lines)
+      one_more LineTable Begin (IsLineFront candidates limit.most) (rightly candidates limit) (GoesOn lines)
+      next item (begun lines)
       (are, refl) e
 
   pub reads_begun :
@@ -69,5 +70,6 @@ module _ (rightly : ExpectsLinesRightly) (candidates : ℕ) (limit : Limit) wher
   reads_begun lines are = (rightly candidates limit (begun lines) (GoesOn lines)).1 (are, refl)
 
   pub reads_ballots :
-      (lines : List BallotLine) → AreLines candidates limit.most lines → after LineTable Begin (ballots lines) ≡ Ok (Ends lines)
+      (lines : List BallotLine) → AreLines candidates limit.most lines
+      → after LineTable Begin (ballots lines) ≡ Ok (Ends lines)
   reads_ballots lines are = (rightly candidates limit (ballots lines) (Ends lines)).1 (are, refl)

@@ -1,5 +1,6 @@
 -- The table of teams accepts all teams, and each front part of teams can go on to their end.
-use Rattle.std.proofs.Common.{◌≡◌, ◌≢◌, ℕ, ◌+◌, ◌<◌, ◌≤◌, Bool, true, false, not, List, [], ◌∷◌, ◌++◌, length, map, All, AllPairs, refl, sym, ◌∙◌, ap, subst, arith, append_assoc, Ok}
+use Rattle.std.proofs.Common.{◌≡◌, ◌≢◌, ℕ, ◌+◌, ◌<◌, ◌≤◌, Bool, true, false, not, List, [], ◌∷◌, ◌++◌, length}
+use Rattle.std.proofs.Common.{map, All, AllPairs, refl, sym, ◌∙◌, ap, subst, arith, append_assoc, Ok}
 use Rattle.std.specs.Prelude.{count_by}
 use Rattle.std.specs.List.{flat_map}
 use Rattle.std.proofs.lemmas.Bool.{lt-ltb}
@@ -24,8 +25,11 @@ use Rattle.day_reader.specs.declared.script.Script.{Script}
 use Rattle.day_reader.specs.Keyword.{word}
 use Rattle.day_reader.specs.Call.{call_items, IsCall, is_freeze, freezes}
 use Rattle.day_reader.specs.Day.{AreDifferent, team_items, AreTeams}
-use Rattle.day_reader.specs.CallTable.{is_between, InCall, EnterBatch, CorrectBatch, WithdrawBatch, CorrectRevision, WithdrawRevision, EnterLines, CorrectLines, StrikeCandidate, at_call}
-use Rattle.day_reader.specs.TeamTable.{InTeams, TeamNumber, InTeam, WithinCall, stands, no_calls, with_call, and_team, in_team, at_teams}
+use Rattle.day_reader.specs.CallTable.{is_between, InCall, EnterBatch, CorrectBatch, WithdrawBatch}
+use Rattle.day_reader.specs.CallTable.{CorrectRevision, WithdrawRevision, EnterLines, CorrectLines}
+use Rattle.day_reader.specs.CallTable.{StrikeCandidate, at_call}
+use Rattle.day_reader.specs.TeamTable.{InTeams, TeamNumber, InTeam, WithinCall, stands, no_calls, with_call}
+use Rattle.day_reader.specs.TeamTable.{and_team, in_team, at_teams}
 use Rattle.day_reader.specs.Front.{begun_call, IsBegunCall, AreBegunTeams}
 use Rattle.day_reader.proofs.Keywords.{reads_word}
 use Rattle.day_reader.proofs.DifferentNumbers.{at_most, one_is_missing}
@@ -37,7 +41,8 @@ number_free :
     (before : List Script) (script : Script) → AreDifferent 16 (map team_of (and_team before script))
     → stands before script.team ≡ false
 number_free before script are = sym (stands_number before script.team)
-    ∙ not_before (map team_of before) [] script.team (subst (AllPairs (λ a b. a ≢ b)) (map-append team_of before (script ∷ [])) are.different)
+    ∙ not_before (map team_of before) [] script.team
+    (subst (AllPairs (λ a b. a ≢ b)) (map-append team_of before (script ∷ [])) are.different)
 
 module _ (rightly : ExpectsLinesRightly) (candidates : ℕ) where
   -- a front part of teams
@@ -54,7 +59,12 @@ module _ (rightly : ExpectsLinesRightly) (candidates : ℕ) where
               ∙ sym (get_or_append_left (map team_of before) (map team_of behind) d j second));
         };
         calls = all_before (λ (s : Script). All (IsCall candidates) s.calls) before behind are.calls;
-        few_freezes = omega (arith, are.few_freezes, sum_by-append (λ (s : Script). count_by is_freeze s.calls) before behind);
+        few_freezes =
+            omega (
+              arith,
+              are.few_freezes,
+              sum_by-append (λ (s : Script). count_by is_freeze s.calls) before behind,
+            );
       }
 
   abbrev Table : Progress InTeams (List Script) → Item → Judged (Progress InTeams (List Script))
@@ -65,11 +75,13 @@ module _ (rightly : ExpectsLinesRightly) (candidates : ℕ) where
 
   module _ (before : List Script) (script : Script) where
     pub word_read :
-        (keyword : Keyword) (next : Progress InTeams (List Script)) (items : List Item) → in_team before script keyword ≡ Ok next
+        (keyword : Keyword) (next : Progress InTeams (List Script)) (items : List Item)
+        → in_team before script keyword ≡ Ok next
         → after Table (GoesOn (InTeam before script)) (word keyword ∷ items) ≡ after Table next items
     unfolding at_teams
     word_read keyword next items e =
-        ap (λ (j : Judged Keyword). then_on (then_on j (in_team before script)) (λ n. after Table n items)) (reads_word keyword)
+        ap (λ (j : Judged Keyword). then_on (then_on j (in_team before script)) (λ n. after Table n items))
+        (reads_word keyword)
         ∙ ap (λ (j : Judged (Progress InTeams (List Script))). then_on j (λ n. after Table n items)) e
 
     -- ---- a call
@@ -80,8 +92,11 @@ module _ (rightly : ExpectsLinesRightly) (candidates : ℕ) where
         (λ c. GoesOn (InTeam before (with_call script c))) start) items
         ≡ Ok (place_of (λ e. GoesOn (WithinCall before script e)) (λ c. GoesOn (InTeam before (with_call script c))) last)
     unfolding at_teams
-    in_call items = carries (at_call candidates) Table (λ e. GoesOn (WithinCall before script e)) (λ c. GoesOn (InTeam before (with_call script c)))
-        (λ e item. carried_is (λ more. WithinCall before script more) (λ c. InTeam before (with_call script c)) (at_call candidates e item)) items
+    in_call items =
+        carries (at_call candidates) Table (λ e. GoesOn (WithinCall before script e))
+        (λ c. GoesOn (InTeam before (with_call script c)))
+        (λ e item. carried_is (λ more. WithinCall before script more)
+        (λ c. InTeam before (with_call script c)) (at_call candidates e item)) items
 
     begins :
         (keyword : Keyword) (first expected : InCall) (items : List Item)
@@ -89,7 +104,8 @@ module _ (rightly : ExpectsLinesRightly) (candidates : ℕ) where
         → call.ReadsCall rightly candidates first items (GoesOn expected)
         → ReadsTeams (InTeam before script) (word keyword ∷ items) (GoesOn (WithinCall before script expected))
     begins keyword first expected items e read =
-        word_read keyword (GoesOn (WithinCall before script first)) items e ∙ in_call items (GoesOn first) (GoesOn expected) read
+        word_read keyword (GoesOn (WithinCall before script first)) items e
+        ∙ in_call items (GoesOn first) (GoesOn expected) read
 
     whole :
         (keyword : Keyword) (first : InCall) (found : Call) (items : List Item)
@@ -115,7 +131,8 @@ module _ (rightly : ExpectsLinesRightly) (candidates : ℕ) where
         begins key.Enter EnterBatch (EnterLines batch lines) (Number batch ∷ begun lines) refl
         (call.reads_enter_lines rightly candidates batch lines is)
     reads_begun_call (CorrectLines batch revision lines) is =
-        begins key.Correct CorrectBatch (CorrectLines batch revision lines) (Number batch ∷ Number revision ∷ begun lines) refl
+        begins key.Correct CorrectBatch (CorrectLines batch revision lines)
+        (Number batch ∷ Number revision ∷ begun lines) refl
         (call.reads_correct_lines rightly candidates batch revision lines is)
     reads_begun_call StrikeCandidate is = begins key.Strike StrikeCandidate StrikeCandidate [] refl refl
 
@@ -137,7 +154,9 @@ module _ (rightly : ExpectsLinesRightly) (candidates : ℕ) where
     reads_call (Change (Withdraw batch revision)) is few =
         whole key.Withdraw WithdrawBatch (Change (Withdraw batch revision)) (Number batch ∷ Number revision ∷ []) refl
         (call.reads_withdraw rightly candidates batch revision is.0 is.1)
-    reads_call Freeze is few = word_read key.Freeze (GoesOn (InTeam before (with_call script Freeze))) [] (reads_freeze (omega (arith, few)))
+    reads_call Freeze is few =
+        word_read key.Freeze (GoesOn (InTeam before (with_call script Freeze))) []
+        (reads_freeze (omega (arith, few)))
     reads_call (Strike candidate) is few =
         whole key.Strike StrikeCandidate (Strike candidate) (Number candidate ∷ []) refl
         (call.reads_strike rightly candidates candidate is)
@@ -152,13 +171,17 @@ module _ (rightly : ExpectsLinesRightly) (candidates : ℕ) where
       → freezes (and_team before script) + count_by is_freeze more ≤ 8
       → ReadsTeams (InTeam before script) (flat_map call_items more) (GoesOn (InTeam before (with_calls script more)))
   reads_calls [] before script each few =
-      ap (λ (calls : List Call). Ok (GoesOn (InTeam before (record script { calls = calls })))) (sym (append-nil script.calls))
+      ap (λ (calls : List Call). Ok (GoesOn (InTeam before (record script { calls = calls }))))
+      (sym (append-nil script.calls))
   reads_calls (one ∷ more) before script each few =
       let all = sum_by-cons (λ (c : Call). one_if (is_freeze c)) one more in
-      in_parts Table (GoesOn (InTeam before script)) (GoesOn (InTeam before (with_call script one))) (call_items one) (flat_map call_items more)
+      in_parts Table (GoesOn (InTeam before script)) (GoesOn (InTeam before (with_call script one)))
+      (call_items one) (flat_map call_items more)
       (reads_call before script one (All-head (IsCall candidates) one more each) (omega (arith, few, all)))
-      ∙ reads_calls more before (with_call script one) (All-tail (IsCall candidates) one more each) (omega (arith, few, all, freezes_call before script one))
-      ∙ ap (λ (calls : List Call). Ok (GoesOn (InTeam before (record script { calls = calls })))) (append_assoc script.calls (one ∷ []) more)
+      ∙ reads_calls more before (with_call script one) (All-tail (IsCall candidates) one more each)
+      (omega (arith, few, all, freezes_call before script one))
+      ∙ ap (λ (calls : List Call). Ok (GoesOn (InTeam before (record script { calls = calls }))))
+      (append_assoc script.calls (one ∷ []) more)
 
   -- a team behind its word
   abbrev pub team_rest : Script → List Item
@@ -174,8 +197,11 @@ module _ (rightly : ExpectsLinesRightly) (candidates : ℕ) where
       (before : List Script) (script : Script) → AreTeams candidates (and_team before script)
       → ReadsTeams (TeamNumber before) (team_rest script) (GoesOn (InTeam before script))
   reads_team before script are =
-      let in_it = at_last (IsIn 16) (map team_of before) script.team (subst (All (IsIn 16)) (map-append team_of before (script ∷ [])) are.numbers.in_range) in
-      reads_number before script.team (flat_map call_items script.calls) (to_range 16 script.team in_it) (number_free before script are.numbers)
+      let in_it =
+      at_last (IsIn 16) (map team_of before) script.team
+      (subst (All (IsIn 16)) (map-append team_of before (script ∷ [])) are.numbers.in_range) in
+      reads_number before script.team (flat_map call_items script.calls) (to_range 16 script.team in_it)
+      (number_free before script are.numbers)
       ∙ reads_calls script.calls before (no_calls script.team)
       (at_last (λ (s : Script). All (IsCall candidates) s.calls) before script are.calls)
       (omega (arith, are.few_freezes, freezes_push before script, freezes_push before (no_calls script.team)))
@@ -206,7 +232,9 @@ module _ (rightly : ExpectsLinesRightly) (candidates : ℕ) where
   pub reads_teams :
       (more before : List Script) (script : Script) → AreTeams candidates (before ++ (more ++ script ∷ []))
       → ReadsTeams (TeamNumber before) (teams_rest more script) (GoesOn (InTeam (before ++ more) script))
-  reads_teams [] before script are = reads_team before script are ∙ ap (λ (teams : List Script). Ok (GoesOn (InTeam teams script))) (sym (append-nil before))
+  reads_teams [] before script are =
+      reads_team before script are
+      ∙ ap (λ (teams : List Script). Ok (GoesOn (InTeam teams script))) (sym (append-nil before))
   reads_teams (first ∷ more) before script are =
       let regrouped = append_assoc before (first ∷ []) (more ++ script ∷ []) in
       let all = subst (AreTeams candidates) (sym regrouped) are in
@@ -220,7 +248,8 @@ module _ (rightly : ExpectsLinesRightly) (candidates : ℕ) where
       in_parts Table (GoesOn (TeamNumber before)) (GoesOn (InTeam before first)) (team_rest first)
       (word key.Team ∷ teams_rest more script)
       (reads_team before first (front_of_teams (and_team before first) (more ++ script ∷ []) all))
-      ∙ word_read before first key.Team (GoesOn (TeamNumber (and_team before first))) (teams_rest more script) (next_team before first few)
+      ∙ word_read before first key.Team (GoesOn (TeamNumber (and_team before first))) (teams_rest more script)
+      (next_team before first few)
       ∙ reads_teams more (and_team before first) script all
       ∙ ap (λ (teams : List Script). Ok (GoesOn (InTeam teams script))) (append_assoc before (first ∷ []) more)
 
@@ -228,7 +257,9 @@ module _ (rightly : ExpectsLinesRightly) (candidates : ℕ) where
   pub reads_next :
       (before : List Script) (script : Script) → length (and_team before script) < 16
       → ReadsTeams (InTeam before script) (word key.Team ∷ []) (GoesOn (TeamNumber (and_team before script)))
-  reads_next before script few = word_read before script key.Team (GoesOn (TeamNumber (and_team before script))) [] (next_team before script few)
+  reads_next before script few =
+      word_read before script key.Team (GoesOn (TeamNumber (and_team before script))) []
+      (next_team before script few)
 
   -- ---- teams that can go on
 
@@ -245,7 +276,8 @@ module _ (rightly : ExpectsLinesRightly) (candidates : ℕ) where
       let free = one_is_missing 16 (map team_of before) (omega (arith, is.1, length-map before team_of)) in (
         Number free.0 ∷ word key.End ∷ [],
         and_team before (no_calls free.0),
-        reads_number before free.0 (word key.End ∷ []) (to_range 16 free.0 free.1) (sym (stands_number before free.0) ∙ free.2)
+        reads_number before free.0 (word key.End ∷ []) (to_range 16 free.0 free.1)
+            (sym (stands_number before free.0) ∙ free.2)
             ∙ team_can_end before (no_calls free.0),
       )
   teams_can_end (InTeam before script) is some = (word key.End ∷ [], and_team before script, team_can_end before script)

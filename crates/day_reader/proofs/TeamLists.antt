@@ -1,5 +1,6 @@
 -- Teams, one more at a time, and one call more of the last.
-use Rattle.std.proofs.Common.{◌≡◌, ℕ, ◌+◌, ◌≤◌, ◌==◌, ◌||◌, Bool, false, cond, List, [], ◌∷◌, ◌++◌, length, map, All, refl, sym, ◌∙◌, ap, subst, arith}
+use Rattle.std.proofs.Common.{◌≡◌, ℕ, ◌+◌, ◌≤◌, ◌==◌, ◌||◌, Bool, false, cond, List, [], ◌∷◌, ◌++◌, length}
+use Rattle.std.proofs.Common.{map, All, refl, sym, ◌∙◌, ap, subst, arith}
 use Rattle.std.specs.Prelude.{count_by}
 use Rattle.std.specs.List.{flat_map, list_any}
 use Rattle.std.proofs.lemmas.List.{append-nil, map-append, length-append, get_or_append_left, get_or_at}
@@ -20,10 +21,13 @@ team_of script = script.team
 
 module _ {X : Type 0} (P : X → Type 0) (xs : List X) where
   pub all_before : (ys : List X) → All P (xs ++ ys) → All P xs
-  all_before ys all k d inside = subst P (get_or_append_left xs ys d k inside) (all k d (omega (arith, inside, length-append xs ys)))
+  all_before ys all k d inside =
+      subst P (get_or_append_left xs ys d k inside) (all k d (omega (arith, inside, length-append xs ys)))
 
   pub at_last : (x : X) → All P (xs ++ x ∷ []) → P x
-  at_last x all = subst P (get_or_at xs x [] x (length xs) refl) (all (length xs) x (omega (arith, length-append xs (x ∷ []))))
+  at_last x all =
+      subst P (get_or_at xs x [] x (length xs) refl)
+      (all (length xs) x (omega (arith, length-append xs (x ∷ []))))
 
 any_mapped : {X Y : Type 0} (p : Y → Bool) (f : X → Y) (xs : List X) → list_any p (map f xs) ≡ list_any (λ x. p (f x)) xs
 any_mapped p f [] = refl
@@ -35,7 +39,8 @@ stands_number teams n = any_mapped (λ c. c == n) team_of teams
 -- ---- freezes
 
 pub freezes_push :
-    (before : List Script) (script : Script) → freezes (and_team before script) ≡ freezes before + count_by is_freeze script.calls
+    (before : List Script) (script : Script)
+    → freezes (and_team before script) ≡ freezes before + count_by is_freeze script.calls
 freezes_push before script = sum_by_push (λ (s : Script). count_by is_freeze s.calls) before script
 
 abbrev pub one_if : Bool → ℕ
@@ -79,7 +84,9 @@ module _ (candidates : ℕ) where
       → IsCall candidates call → freezes (and_team before script) + one_if (is_freeze call) ≤ 8
       → AreTeams candidates (and_team before (with_call script call))
   one_call_more before script call are is few = record {
-    numbers = subst (AreDifferent 16) (map-append team_of before (script ∷ []) ∙ sym (map-append team_of before (with_call script call ∷ []))) are.numbers;
+    numbers =
+        subst (AreDifferent 16) (map-append team_of before (script ∷ [])
+        ∙ sym (map-append team_of before (with_call script call ∷ []))) are.numbers;
     calls =
         All-push AreCalls before (with_call script call) (all_before AreCalls before (script ∷ []) are.calls)
         (All-push (IsCall candidates) script.calls call (at_last AreCalls before script are.calls) is);

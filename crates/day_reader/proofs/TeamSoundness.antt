@@ -1,5 +1,6 @@
 -- What the table of teams accepts so far is a front part of teams.
-use Rattle.std.proofs.Common.{◌≡◌, ℕ, List, [], ◌∷◌, ◌++◌, length, Bool, true, false, not, ◌&&◌, refl, sym, ◌∙◌, ap, subst, arith, append_assoc, nat_lt, Ok, Err}
+use Rattle.std.proofs.Common.{◌≡◌, ℕ, List, [], ◌∷◌, ◌++◌, length, Bool, true, false, not, ◌&&◌, refl, sym}
+use Rattle.std.proofs.Common.{◌∙◌, ap, subst, arith, append_assoc, nat_lt, Ok, Err}
 use Rattle.std.specs.List.{flat_map}
 use Rattle.std.proofs.lemmas.Bool.{ltb-true, and_parts, true≢false}
 use Rattle.batch_core.specs.declared.call.Call.{Call}
@@ -16,7 +17,8 @@ use Rattle.day_reader.specs.Keyword.{word, as_keyword}
 use Rattle.day_reader.specs.Call.{is_freeze, freezes}
 use Rattle.day_reader.specs.Day.{team_items, AreTeams}
 use Rattle.day_reader.specs.CallTable.{is_between, InCall, EnterBatch, CorrectBatch, WithdrawBatch, StrikeCandidate, at_call}
-use Rattle.day_reader.specs.TeamTable.{InTeams, TeamNumber, InTeam, WithinCall, stands, no_calls, with_call, and_team, in_team, at_teams}
+use Rattle.day_reader.specs.TeamTable.{InTeams, TeamNumber, InTeam, WithinCall, stands, no_calls, with_call}
+use Rattle.day_reader.specs.TeamTable.{and_team, in_team, at_teams}
 use Rattle.day_reader.specs.Front.{begun_call, IsBegunCall, begun_teams, AreBegunTeams}
 use Rattle.day_reader.proofs.Keywords.{item_is}
 use Rattle.day_reader.proofs.TeamLists.{one_if, one_team_more, one_call_more, items_push, items_call}
@@ -25,10 +27,12 @@ use Rattle.day_reader.proofs.CallSoundness.{number_goes_on, call_goes_on}
 -- a word that leads somewhere
 module _ {S V : Type 0} (P : Progress S V → List Item → Type 0) (before : List Item) where
   by_word :
-      (x : Item) (next : Progress S V) (f : Keyword → Judged (Progress S V)) (judged : Judged Keyword) → as_keyword x ≡ judged
+      (x : Item) (next : Progress S V) (f : Keyword → Judged (Progress S V)) (judged : Judged Keyword)
+      → as_keyword x ≡ judged
       → then_on judged f ≡ Ok next → ((keyword : Keyword) → f keyword ≡ Ok next → P next (before ++ word keyword ∷ []))
       → P next (before ++ x ∷ [])
-  by_word x next f (Ok keyword) is e goes = subst (λ (i : Item). P next (before ++ i ∷ [])) (sym (item_is x keyword is)) (goes keyword e)
+  by_word x next f (Ok keyword) is e goes =
+      subst (λ (i : Item). P next (before ++ i ∷ [])) (sym (item_is x keyword is)) (goes keyword e)
   by_word x next f (Err kind) is e goes = absurd (refused e)
 
   pub word_goes_on :
@@ -62,14 +66,16 @@ module _ (rightly : ExpectsLinesRightly) (candidates : ℕ) where
 
     call_begins :
         (expected : InCall) (keyword : Keyword) (next : Progress InTeams (List Script))
-        → AreTeams candidates (and_team before script) → IsBegunCall candidates expected → begun_call expected ≡ word keyword ∷ []
+        → AreTeams candidates (and_team before script) → IsBegunCall candidates expected
+        → begun_call expected ≡ word keyword ∷ []
         → ◌≡◌ {A = Judged (Progress InTeams (List Script))} (Ok (GoesOn (WithinCall before script expected))) (Ok next)
         → IsFront next (so_far ++ word keyword ∷ [])
-    call_begins expected keyword next are begun spelled e = subst (λ p. IsFront p (so_far ++ word keyword ∷ [])) (same_value e) (
-      (are, begun),
-      ap (λ (l : List Item). flat_map team_items before ++ (team_items script ++ l)) spelled
-          ∙ sym (append_assoc (flat_map team_items before) (team_items script) (word keyword ∷ [])),
-    )
+    call_begins expected keyword next are begun spelled e =
+        subst (λ p. IsFront p (so_far ++ word keyword ∷ [])) (same_value e) (
+          (are, begun),
+          ap (λ (l : List Item). flat_map team_items before ++ (team_items script ++ l)) spelled
+              ∙ sym (append_assoc (flat_map team_items before) (team_items script) (word keyword ∷ [])),
+        )
 
     team_goes_on :
         (next : Progress InTeams (List Script)) (keyword : Keyword) → AreTeams candidates (and_team before script)
@@ -99,7 +105,8 @@ module _ (rightly : ExpectsLinesRightly) (candidates : ℕ) where
 
     within_goes_on :
         (expected : InCall) (next : Progress InTeams (List Script)) (x : Item) (judged : Judged (Progress InCall Call))
-        → AreTeams candidates (and_team before script) → IsBegunCall candidates expected → at_call candidates expected x ≡ judged
+        → AreTeams candidates (and_team before script) → IsBegunCall candidates expected
+        → at_call candidates expected x ≡ judged
         → carried (λ more. WithinCall before script more) (λ call. InTeam before (with_call script call)) judged ≡ Ok next
         → IsFront next (begun_teams (WithinCall before script expected) ++ x ∷ [])
     within_goes_on expected next x (Ok (GoesOn more)) are is judged e =
@@ -107,7 +114,8 @@ module _ (rightly : ExpectsLinesRightly) (candidates : ℕ) where
         subst (λ p. IsFront p (begun_teams (WithinCall before script expected) ++ x ∷ [])) (same_value e) (
           (are, one.0),
           ap (λ (l : List Item). flat_map team_items before ++ (team_items script ++ l)) one.1
-              ∙ ap (λ (l : List Item). flat_map team_items before ++ l) (sym (append_assoc (team_items script) (begun_call expected) (x ∷ [])))
+              ∙ ap (λ (l : List Item). flat_map team_items before ++ l)
+              (sym (append_assoc (team_items script) (begun_call expected) (x ∷ [])))
               ∙ sym (append_assoc (flat_map team_items before) (team_items script ++ begun_call expected) (x ∷ [])),
         )
     within_goes_on expected next x (Ok (Ends found)) are is judged e =
@@ -127,7 +135,8 @@ module _ (rightly : ExpectsLinesRightly) (candidates : ℕ) where
       → at_teams candidates expected x ≡ Ok next → IsFront next (begun_teams expected ++ x ∷ [])
   unfolding at_teams
   teams_go_on (TeamNumber before) next x is e =
-      number_goes_on IsFront (begun_teams (TeamNumber before)) (λ n. is_between 1 16 n && not (stands before n)) BadTeam x next
+      number_goes_on IsFront (begun_teams (TeamNumber before))
+      (λ n. is_between 1 16 n && not (stands before n)) BadTeam x next
       (λ n. GoesOn (InTeam before (no_calls n))) e (λ n ok.
       let both = and_parts (is_between 1 16 n) (not (stands before n)) ok in (
         one_team_more candidates before n is.0 (in_range 16 n both.0) (not_taken (stands before n) both.1),
@@ -136,4 +145,5 @@ module _ (rightly : ExpectsLinesRightly) (candidates : ℕ) where
   teams_go_on (InTeam before script) next x are e =
       word_goes_on IsFront (begun_teams (InTeam before script)) x next (in_team before script) e
       (λ keyword judged. team_goes_on before script next keyword are judged)
-  teams_go_on (WithinCall before script expected) next x is e = within_goes_on before script expected next x _ is.0 is.1 refl e
+  teams_go_on (WithinCall before script expected) next x is e =
+      within_goes_on before script expected next x _ is.0 is.1 refl e

@@ -18,7 +18,8 @@ use Rattle.day_reader.specs.declared.script.Script.{Script}
 use Rattle.day_reader.specs.Keyword.{word, as_keyword}
 use Rattle.day_reader.specs.Call.{freezes}
 use Rattle.day_reader.specs.CallTable.{InCall, at_call}
-use Rattle.day_reader.specs.TeamTable.{TeamNumber, InTeam, WithinCall, as_team, no_calls, with_call, and_team, in_team, at_teams}
+use Rattle.day_reader.specs.TeamTable.{TeamNumber, InTeam, WithinCall, as_team, no_calls, with_call, and_team}
+use Rattle.day_reader.specs.TeamTable.{in_team, at_teams}
 use Rattle.day_reader.specs.Reads.{LeadsOrWants, EndsTeam, next_team}
 use Rattle.day_reader.proofs.Steps.{judged_read, judged_stops, word_leads, word_refused}
 
@@ -46,9 +47,12 @@ module _ (candidates : ℕ) (before : List Script) where
         (old new : Scan) (fault : InputFault) → Stops as_keyword old fault new
         → reads (at_teams candidates) (InTeam before script) old ≡ Err (record { fault = fault; rest = new })
     unfolding at_teams
-    team_stops old new fault is = judged_stops (at_teams candidates) (InTeam before script) as_keyword (in_team before script) (λ item. refl) old new fault is
+    team_stops old new fault is =
+        judged_stops (at_teams candidates) (InTeam before script) as_keyword (in_team before script)
+        (λ item. refl) old new fault is
 
-    module _ (old new : Scan) (keyword : Keyword) (at : ℕ) (given : old ≡ with_front (record { at = at; item = word keyword }) new) where
+    module _ (old new : Scan) (keyword : Keyword) (at : ℕ)
+        (given : old ≡ with_front (record { at = at; item = word keyword }) new) where
       -- ---- the words
 
       pub next_team_word :
@@ -65,7 +69,9 @@ module _ (candidates : ℕ) (before : List Script) where
           → reads (at_teams candidates) (InTeam before script) old
           ≡ Err (record { fault = record { kind = BadTeam; at = at }; rest = new })
       unfolding at_teams
-      team_too_many is many = word_refused (at_teams candidates) (InTeam before script) (in_team before script) old new keyword at refl given BadTeam
+      team_too_many is many =
+          word_refused (at_teams candidates) (InTeam before script) (in_team before script) old new keyword at
+          refl given BadTeam
           (ap (in_team before script) is ∙ rw (le-ltb (length (and_team before script)) 16 many) refl)
 
       pub end_word :
@@ -139,7 +145,8 @@ module _ (candidates : ℕ) (before : List Script) where
       pub no_word :
           (keyword ≡ key.Enter → ⊥) → (keyword ≡ key.Correct → ⊥) → (keyword ≡ key.Withdraw → ⊥) → (keyword ≡ key.Strike → ⊥)
           → (keyword ≡ key.Freeze → ⊥) → (EndsTeam keyword → ⊥)
-          → reads (at_teams candidates) (InTeam before script) old ≡ Err (record { fault = record { kind = WordExpected; at = at }; rest = new })
+          → reads (at_teams candidates) (InTeam before script) old
+          ≡ Err (record { fault = record { kind = WordExpected; at = at }; rest = new })
       unfolding at_teams
       no_word enter correct withdraw strike freeze ends =
           word_refused (at_teams candidates) (InTeam before script)

@@ -10,15 +10,18 @@ use Rattle.day_reader.specs.DayTable.{at_token}
 use Rattle.day_reader.specs.Worked.{EachCall, TurnedTeams, HeadRefusals, TeamRefusals}
 
 pub each_call : EachCall
-unfolding text.cut text.piece text.number_piece text.string_piece text.word_piece blt.at_token keyword_of by_number at_call at_teams at_token
+unfolding text.cut text.piece text.number_piece text.string_piece text.word_piece blt.at_token keyword_of
+    by_number at_call at_teams at_token
 each_call = refl
 
 pub turned_teams : TurnedTeams
-unfolding text.cut text.piece text.number_piece text.string_piece text.word_piece blt.at_token keyword_of by_number at_call at_teams at_token
+unfolding text.cut text.piece text.number_piece text.string_piece text.word_piece blt.at_token keyword_of
+    by_number at_call at_teams at_token
 turned_teams = refl
 
 pub head_refusals : HeadRefusals
-unfolding text.cut text.piece text.number_piece text.string_piece text.word_piece blt.at_token keyword_of by_number at_call at_teams at_token
+unfolding text.cut text.piece text.number_piece text.string_piece text.word_piece blt.at_token keyword_of
+    by_number at_call at_teams at_token
 head_refusals = record {
   ballots_in_the_roll = refl;
   lot_twice = refl;
@@ -33,7 +36,8 @@ head_refusals = record {
 }
 
 pub team_refusals : TeamRefusals
-unfolding text.cut text.piece text.number_piece text.string_piece text.word_piece blt.at_token keyword_of by_number at_call at_teams at_token
+unfolding text.cut text.piece text.number_piece text.string_piece text.word_piece blt.at_token keyword_of
+    by_number at_call at_teams at_token
 team_refusals = record {
   no_such_team = refl;
   team_twice = refl;

@@ -15,7 +15,9 @@ use Rattle.frozen_plan.proofs.TrieLemmas.{ballots_of-shape}
 
 -- a trie's node: where it lies makes no difference
 abbrev node : (c n : ℕ) (inner next : trie.Forest) → trie.Forest
-node c n inner next = Grow' c n (record { ptr = null_ptr; alloc = record { memory = record { seal = tt } }; value = tt }) inner next
+node c n inner next =
+    Grow' c n (record { ptr = null_ptr; alloc = record { memory = record { seal = tt } }; value = tt }) inner
+    next
 
 -- a trie's nodes of this shape
 abbrev grow : Forest → trie.Forest
@@ -32,8 +34,12 @@ bag-grow f = sym (ballots_of-shape (grow f)) ∙ ap ballots_of (shape-grow f)
 
 rising : (n low d : ℕ) (f : Forest) → IsGrown n low d f → IsRising low (grow f)
 rising n low d Bare is = tt
-rising n low d (Grown c k inner next) is =
-    (is.0, omega (arith, is.3, ap length (bag-grow inner), length-ballots_of inner), rising n 0 (d + 1) inner is.4, rising n c d next is.5)
+rising n low d (Grown c k inner next) is = (
+  is.0,
+  omega (arith, is.3, ap length (bag-grow inner), length-ballots_of inner),
+  rising n 0 (d + 1) inner is.4,
+  rising n c d next is.5,
+)
 
 shape-HaveSameForm : (f g : trie.Forest) → HaveSameForm f g → shape_of f ≡ shape_of g
 shape-HaveSameForm Empty Empty same = refl
@@ -53,14 +59,16 @@ pub record HaveOneForm : Type 0 where
 
 -- roots of the same ballots have the same nodes: below a node of candidate 1 each, they stand for the same ballots
 same_roots : HaveOneForm → (n m ends more : ℕ) (f g : Forest) → IsGrown n 0 1 f → IsGrown m 0 1 g
-    → IsPermutation (replicate ends [] ++ ballots_of f) (replicate more [] ++ ballots_of g) → plan_rows ends f ≡ plan_rows more g
+    → IsPermutation (replicate ends [] ++ ballots_of f) (replicate more [] ++ ballots_of g)
+    → plan_rows ends f ≡ plan_rows more g
 same_roots law n m ends more f g grown_f grown_g same =
     let rising_f = rising n 0 1 f grown_f in
     let rising_g = rising m 0 1 g grown_g in
     let bags : IsPermutation (root_bag ends (grow f)) (root_bag more (grow g)) =
     rw (bag-grow f) (rw (bag-grow g) same) in
     let equal : root_bag ends (grow f) ≡ root_bag more (grow g) =
-    law.unique (root_bag ends (grow f)) (root_bag more (grow g)) (law.order ends (grow f) rising_f) (law.order more (grow g) rising_g) bags in
+    law.unique (root_bag ends (grow f)) (root_bag more (grow g)) (law.order ends (grow f) rising_f)
+    (law.order more (grow g) rising_g) bags in
     let forms = law.form (node 1 (suc ends) (grow f) Empty) (node 1 (suc more) (grow g) Empty)
     (omega arith, omega arith, rising_f, tt) (omega arith, omega arith, rising_g, tt)
     (ap (λ (l : List (List ℕ)). map (λ r. 1 ∷ r) ([] ∷ l) ++ []) equal) in
@@ -72,5 +80,6 @@ same_roots law n m ends more f g grown_f grown_g same =
 pub one_plan : HaveOneForm → OneBagHasOnePlan
 one_plan law one other is_one is_other same =
     is_one.preorder
-    ∙ (same_roots law one.candidates other.candidates (ballot_count one.rows - through (forest_of one.rows)) (ballot_count other.rows - through (forest_of other.rows))
+    ∙ (same_roots law one.candidates other.candidates (ballot_count one.rows - through (forest_of one.rows))
+    (ballot_count other.rows - through (forest_of other.rows))
     (forest_of one.rows) (forest_of other.rows) is_one.grown is_other.grown same ∙ sym is_other.preorder)

@@ -16,7 +16,13 @@ last low (Grown c n inner next) = last c next
 pub rows_of-join : (d : ℕ) (f g : Forest) → rows_of d (join f g) ≡ rows_of d f ++ rows_of d g
 rows_of-join d Bare g = refl
 rows_of-join d (Grown c n inner next) g =
-    let row : PlanRow = record { depth = d; candidate = c; ballots = n + through inner; skip = length (rows_of (d + 1) inner) + 1 } in
+    let row : PlanRow =
+    record {
+      depth = d;
+      candidate = c;
+      ballots = n + through inner;
+      skip = length (rows_of (d + 1) inner) + 1;
+    } in
     ap (λ (l : List PlanRow). row ∷ (rows_of (d + 1) inner ++ l)) (rows_of-join d next g)
     ∙ ap (λ (l : List PlanRow). row ∷ l) (sym (append_assoc (rows_of (d + 1) inner) (rows_of d next) (rows_of d g)))
 

@@ -1,7 +1,10 @@
 -- Equal lines made one.
-use Rattle.std.proofs.Common.{◌≡◌, ℕ, ◌+◌, ◌≤◌, ◌<◌, List, [], ◌∷◌, ◌++◌, All, length, take, drop, get_or, set, replicate, arith, refl, ap, sym, ◌∙◌, subst, append_assoc}
+use Rattle.std.proofs.Common.{◌≡◌, ℕ, ◌+◌, ◌≤◌, ◌<◌, List, [], ◌∷◌, ◌++◌, All, length, take, drop, get_or}
+use Rattle.std.proofs.Common.{set, replicate, arith, refl, ap, sym, ◌∙◌, subst, append_assoc}
 use Rattle.std.proofs.lemmas.Grind.{flat_map-append}
-use Rattle.std.proofs.lemmas.List.{append-nil, length_push, get_or_push, get_or_append_left, get_or-drop, replicate-append-replicate, take_more, take_more_set, drop-drop, drop-set-lt, length-set}
+use Rattle.std.proofs.lemmas.List.{append-nil, length_push, get_or_push, get_or_append_left, get_or-drop}
+use Rattle.std.proofs.lemmas.List.{replicate-append-replicate, take_more, take_more_set, drop-drop}
+use Rattle.std.proofs.lemmas.List.{drop-set-lt, length-set}
 use Rattle.std.proofs.lemmas.List.Elements.{All-push, All-take}
 use Rattle.std.proofs.lemmas.List.Sums.{sum_by-cons, sum_by-append, sum_by-take-le}
 use Rattle.frozen_plan.specs.declared.share.Placed.{Placed}
@@ -11,19 +14,25 @@ use Rattle.frozen_plan.proofs.RunLemmas.{nothing, rest_none, rest_more, length-r
 -- ---- equal rankings
 
 -- and where both end, they are equal
-pub same_end : (bytes : List ℕ) (at : ℕ) (one other : Placed) → rank_of bytes at one ≡ 0 → rank_of bytes at other ≡ 0 → rest_of bytes at one ≡ rest_of bytes at other
+pub same_end :
+    (bytes : List ℕ) (at : ℕ) (one other : Placed) → rank_of bytes at one ≡ 0 → rank_of bytes at other ≡ 0
+    → rest_of bytes at one ≡ rest_of bytes at other
 same_end bytes at one other here there = rest_none bytes at one here ∙ sym (rest_none bytes at other there)
 
 -- ---- ballots
 
-rests_push : (bytes : List ℕ) (lines : List Placed) (line : Placed) → rests bytes 0 (lines ++ line ∷ []) ≡ rests bytes 0 lines ++ replicate line.count (rest_of bytes 0 line)
+rests_push :
+    (bytes : List ℕ) (lines : List Placed) (line : Placed)
+    → rests bytes 0 (lines ++ line ∷ []) ≡ rests bytes 0 lines ++ replicate line.count (rest_of bytes 0 line)
 rests_push bytes lines line =
     let own : Placed → List (List ℕ) = λ l. replicate l.count (rest_of bytes 0 l) in
     flat_map-append own lines (line ∷ []) ∙ ap (λ (l : List (List ℕ)). rests bytes 0 lines ++ l) (append-nil (own line))
 
 -- an equal line has its ballots behind those of the line that it is put to
 rests_both : (bytes : List ℕ) (lines : List Placed) (last line : Placed) → rest_of bytes 0 last ≡ rest_of bytes 0 line
-    → rests bytes 0 (lines ++ record { front = last.front; start = last.start; count = last.count + line.count } ∷ []) ≡ rests bytes 0 (lines ++ last ∷ []) ++ replicate line.count (rest_of bytes 0 line)
+    → rests bytes 0
+    (lines ++ record { front = last.front; start = last.start; count = last.count + line.count } ∷ [])
+    ≡ rests bytes 0 (lines ++ last ∷ []) ++ replicate line.count (rest_of bytes 0 line)
 rests_both bytes lines last line same =
     let r = rest_of bytes 0 last in
     let before = rests bytes 0 lines in
@@ -41,20 +50,28 @@ All-front P lines last all k d inside =
 
 All-last : (P : Placed → Type 0) (lines : List Placed) (last : Placed) → All P (lines ++ last ∷ []) → P last
 All-last P lines last all =
-    subst P (get_or_push lines last last (length lines) refl) (all (length lines) last (omega (arith, length_push lines last)))
+    subst P (get_or_push lines last last (length lines) refl)
+    (all (length lines) last (omega (arith, length_push lines last)))
 
 -- the last of lines that a property has may be another one with it
-All-other_last : (P : Placed → Type 0) (lines : List Placed) (last line : Placed) → (P last → P line) → All P (lines ++ last ∷ []) → All P (lines ++ line ∷ [])
-All-other_last P lines last line more all = All-push P lines line (All-front P lines last all) (more (All-last P lines last all))
+All-other_last :
+    (P : Placed → Type 0) (lines : List Placed) (last line : Placed) → (P last → P line)
+    → All P (lines ++ last ∷ []) → All P (lines ++ line ∷ [])
+All-other_last P lines last line more all =
+    All-push P lines line (All-front P lines last all) (more (All-last P lines last all))
 
 -- the last line may have more ballots
 share_both : (n : ℕ) (bytes : List ℕ) (lines : List Placed) (last : Placed) (more : ℕ)
-    → IsShare n bytes (lines ++ last ∷ []) → IsShare n bytes (lines ++ record { front = last.front; start = last.start; count = last.count + more } ∷ [])
+    → IsShare n bytes (lines ++ last ∷ [])
+    → IsShare n bytes
+    (lines ++ record { front = last.front; start = last.start; count = last.count + more } ∷ [])
 share_both n bytes lines last more is =
     let line : Placed = record { front = last.front; start = last.start; count = last.count + more } in
     record {
       numbers = is.numbers;
-      kept = All-other_last (IsKept bytes) lines last line (λ kept. record { front = kept.front; ended = kept.ended; inside = kept.inside }) is.kept;
+      kept =
+          All-other_last (IsKept bytes) lines last line
+          (λ kept. record { front = kept.front; ended = kept.ended; inside = kept.inside }) is.kept;
       short = All-other_last (λ (l : Placed). length (rest_of bytes 0 l) ≤ 250) lines last line (λ short. short) is.short;
       counted = All-other_last (λ (l : Placed). 1 ≤ l.count) lines last line (λ some. omega (arith, some)) is.counted;
     }
@@ -90,7 +107,14 @@ pub record AreMerged (bytes : List ℕ) (old now : List Placed) (i last : ℕ) :
   pub sound : (n : ℕ) → IsShare n bytes old → IsShare n bytes (take (last + 1) now)
 
 pub first_merged : (bytes : List ℕ) (lines : List Placed) → AreMerged bytes lines lines 1 0
-first_merged bytes lines = record { as_many = refl; before = omega arith; left = refl; ballots = refl; sound = λ n is. share_front n bytes lines 1 is }
+first_merged bytes lines =
+    record {
+      as_many = refl;
+      before = omega arith;
+      left = refl;
+      ballots = refl;
+      sound = λ n is. share_front n bytes lines 1 is;
+    }
 
 -- the next line is as it was
 same_line : (now old : List Placed) (i : ℕ) → drop i now ≡ drop i old → get_or now i nothing ≡ get_or old i nothing
@@ -98,12 +122,14 @@ same_line now old i left =
     let here : i ≡ i + 0 = omega arith in
     ap (λ (k : ℕ). get_or now k nothing) here
     ∙ (sym (get_or-drop i now 0 nothing)
-    ∙ (ap (λ (l : List Placed). get_or l 0 nothing) left ∙ (get_or-drop i old 0 nothing ∙ ap (λ (k : ℕ). get_or old k nothing) (sym here))))
+    ∙ (ap (λ (l : List Placed). get_or l 0 nothing) left
+    ∙ (get_or-drop i old 0 nothing ∙ ap (λ (k : ℕ). get_or old k nothing) (sym here))))
 
 one_less_left : (now old : List Placed) (i : ℕ) → drop i now ≡ drop i old → drop (i + 1) now ≡ drop (i + 1) old
 one_less_left now old i left = sym (drop-drop 1 i now) ∙ (ap (drop 1) left ∙ drop-drop 1 i old)
 
-module _ (bytes : List ℕ) (old now : List Placed) (i last : ℕ) (so_far : AreMerged bytes old now i last) (inside : i < length now) where
+module _ (bytes : List ℕ) (old now : List Placed) (i last : ℕ) (so_far : AreMerged bytes old now i last)
+    (inside : i < length now) where
   abbrev pub one : Placed
   one = get_or now last nothing
 
@@ -127,24 +153,35 @@ module _ (bytes : List ℕ) (old now : List Placed) (i last : ℕ) (so_far : Are
 
   -- the ballots of the line come behind the others
   with_line : rests bytes 0 (take (last + 1) now) ++ own ≡ rests bytes 0 (take (i + 1) old)
-  with_line = ap (λ (l : List (List ℕ)). l ++ own) so_far.ballots ∙ (sym (rests_push bytes (take i old) line) ∙ ap (rests bytes 0) (sym passed))
+  with_line =
+      ap (λ (l : List (List ℕ)). l ++ own) so_far.ballots
+      ∙ (sym (rests_push bytes (take i old) line) ∙ ap (rests bytes 0) (sym passed))
 
   pub merged_same : rest_of bytes 0 one ≡ rest_of bytes 0 line
-      → AreMerged bytes old (set now last (record { front = one.front; start = one.start; count = one.count + line.count })) (i + 1) last
+      → AreMerged bytes old
+      (set now last (record { front = one.front; start = one.start; count = one.count + line.count }))
+      (i + 1) last
   merged_same same =
       let both : Placed = record { front = one.front; start = one.start; count = one.count + line.count } in
-      let is : take (last + 1) (set now last both) ≡ take last now ++ both ∷ [] = take_more_set now last both (omega (arith, within)) in
+      let is : take (last + 1) (set now last both) ≡ take last now ++ both ∷ [] =
+      take_more_set now last both (omega (arith, within)) in
       record {
         as_many = length-set now last both ∙ so_far.as_many;
         before = omega (arith, so_far.before);
         left = drop-set-lt (i + 1) now last both (omega (arith, so_far.before)) ∙ one_less_left now old i so_far.left;
-        ballots = ap (rests bytes 0) is ∙ (rests_both bytes (take last now) one line same ∙ (ap (λ (l : List Placed). rests bytes 0 l ++ own) (sym front) ∙ with_line));
-        sound = λ n all. subst (IsShare n bytes) (sym is) (share_both n bytes (take last now) one line.count (subst (IsShare n bytes) front (so_far.sound n all)));
+        ballots =
+            ap (rests bytes 0) is
+            ∙ (rests_both bytes (take last now) one line same
+            ∙ (ap (λ (l : List Placed). rests bytes 0 l ++ own) (sym front) ∙ with_line));
+        sound =
+            λ n all. subst (IsShare n bytes) (sym is) (share_both n bytes (take last now) one line.count
+            (subst (IsShare n bytes) front (so_far.sound n all)));
       }
 
   pub merged_other : AreMerged bytes old (set now (last + 1) line) (i + 1) (last + 1)
   merged_other =
-      let is : take (last + 1 + 1) (set now (last + 1) line) ≡ take (last + 1) now ++ line ∷ [] = take_more_set now (last + 1) line within in
+      let is : take (last + 1 + 1) (set now (last + 1) line) ≡ take (last + 1) now ++ line ∷ [] =
+      take_more_set now (last + 1) line within in
       record {
         as_many = length-set now (last + 1) line ∙ so_far.as_many;
         before = omega (arith, so_far.before);

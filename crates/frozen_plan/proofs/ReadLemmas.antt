@@ -1,5 +1,6 @@
 -- The nodes that rows say are those that the rows were made of.
-use Rattle.std.proofs.Common.{◌≡◌, ℕ, ◌+◌, ◌-◌, ◌≤◌, List, [], ◌∷◌, ◌++◌, length, map, take, drop, replicate, arith, refl, ap, sym, ◌∙◌, zero, suc, subst}
+use Rattle.std.proofs.Common.{◌≡◌, ℕ, ◌+◌, ◌-◌, ◌≤◌, List, [], ◌∷◌, ◌++◌, length, map, take, drop, replicate}
+use Rattle.std.proofs.Common.{arith, refl, ap, sym, ◌∙◌, zero, suc, subst}
 use Rattle.std.proofs.lemmas.List.{length-append, length-map, length-replicate, take_at, drop_at}
 use Rattle.frozen_plan.specs.declared.plan_row.PlanRow.{PlanRow}
 use Rattle.frozen_plan.specs.Forest.{Forest, Bare, Grown, ballots_of, through, rows_of, IsGrown, read}
@@ -14,14 +15,20 @@ read-rows_of (suc t) d (Grown c n inner next) le =
     let behind = rows_of d next in
     let size = length-append low behind in
     let skip : (length low + 1) - 1 ≡ length low = omega arith in
-    let cut : take ((length low + 1) - 1) (low ++ behind) ≡ low = ap (λ m. take m (low ++ behind)) skip ∙ take_at low behind (length low) refl in
-    let rest : drop ((length low + 1) - 1) (low ++ behind) ≡ behind = ap (λ m. drop m (low ++ behind)) skip ∙ drop_at low behind (length low) refl in
-    let one : read t (take ((length low + 1) - 1) (low ++ behind)) ≡ inner = ap (read t) cut ∙ read-rows_of t (d + 1) inner (omega arith) in
-    let two : read t (drop ((length low + 1) - 1) (low ++ behind)) ≡ next = ap (read t) rest ∙ read-rows_of t d next (omega arith) in
+    let cut : take ((length low + 1) - 1) (low ++ behind) ≡ low =
+    ap (λ m. take m (low ++ behind)) skip ∙ take_at low behind (length low) refl in
+    let rest : drop ((length low + 1) - 1) (low ++ behind) ≡ behind =
+    ap (λ m. drop m (low ++ behind)) skip ∙ drop_at low behind (length low) refl in
+    let one : read t (take ((length low + 1) - 1) (low ++ behind)) ≡ inner =
+    ap (read t) cut ∙ read-rows_of t (d + 1) inner (omega arith) in
+    let two : read t (drop ((length low + 1) - 1) (low ++ behind)) ≡ next =
+    ap (read t) rest ∙ read-rows_of t d next (omega arith) in
     let ends : (n + through inner) - through (read t (take ((length low + 1) - 1) (low ++ behind))) ≡ n =
     ap (λ (g : Forest). (n + through inner) - through g) one ∙ omega arith in
-    ap (λ (m : ℕ). Grown c m (read t (take ((length low + 1) - 1) (low ++ behind))) (read t (drop ((length low + 1) - 1) (low ++ behind)))) ends
-    ∙ (ap (λ (g : Forest). Grown c n g (read t (drop ((length low + 1) - 1) (low ++ behind)))) one ∙ ap (λ (g : Forest). Grown c n inner g) two)
+    ap (λ (m : ℕ). Grown c m (read t (take ((length low + 1) - 1) (low ++ behind)))
+    (read t (drop ((length low + 1) - 1) (low ++ behind)))) ends
+    ∙ (ap (λ (g : Forest). Grown c n g (read t (drop ((length low + 1) - 1) (low ++ behind)))) one
+    ∙ ap (λ (g : Forest). Grown c n inner g) two)
 
 -- the nodes below the root
 pub forest_of-plan_rows : (ends : ℕ) (f : Forest) → forest_of (plan_rows ends f) ≡ f
@@ -32,10 +39,15 @@ ends-plan_rows : (ends : ℕ) (f : Forest) → ballot_count (plan_rows ends f) -
 ends-plan_rows ends f = ap (λ (g : Forest). (ends + through f) - through g) (forest_of-plan_rows ends f) ∙ omega arith
 
 -- these rows are a plan
-pub plan_of_rows : (n ends : ℕ) (f : Forest) → n ≤ 250 → IsGrown n 0 1 f → ends + through f ≤ 999999999 → IsPlan n (plan_rows ends f)
+pub plan_of_rows :
+    (n ends : ℕ) (f : Forest) → n ≤ 250 → IsGrown n 0 1 f → ends + through f ≤ 999999999
+    → IsPlan n (plan_rows ends f)
 plan_of_rows n ends f limit grown few =
-    let same : plan_rows (ballot_count (plan_rows ends f) - through (forest_of (plan_rows ends f))) (forest_of (plan_rows ends f)) ≡ plan_rows ends f =
-    ap (λ (m : ℕ). plan_rows m (forest_of (plan_rows ends f))) (ends-plan_rows ends f) ∙ ap (plan_rows ends) (forest_of-plan_rows ends f) in
+    let same :
+    plan_rows (ballot_count (plan_rows ends f) - through (forest_of (plan_rows ends f)))
+    (forest_of (plan_rows ends f)) ≡ plan_rows ends f =
+    ap (λ (m : ℕ). plan_rows m (forest_of (plan_rows ends f))) (ends-plan_rows ends f)
+    ∙ ap (plan_rows ends) (forest_of-plan_rows ends f) in
     record {
       few_candidates = limit;
       preorder = sym same;

@@ -10,13 +10,17 @@ node_count Bare = 0
 node_count (Grown c n inner next) = 1 + node_count inner + node_count next
 
 -- a row that was put before others is filled
-pub filled_row : (old low now : List PlanRow) (first row : PlanRow) (at : ℕ) → at ≡ length old → now ≡ (old ++ first ∷ []) ++ low → set now at row ≡ old ++ row ∷ (low ++ [])
+pub filled_row :
+    (old low now : List PlanRow) (first row : PlanRow) (at : ℕ) → at ≡ length old
+    → now ≡ (old ++ first ∷ []) ++ low → set now at row ≡ old ++ row ∷ (low ++ [])
 filled_row old low now first row at place is =
     ap (λ (l : List PlanRow). set l at row) (is ∙ append_assoc old (first ∷ []) low)
     ∙ (set_at old first low row at (sym place) ∙ ap (λ (l : List PlanRow). old ++ row ∷ l) (sym (append-nil low)))
 
 -- how many rows stand behind the place
-pub rows_behind : (old low now : List PlanRow) (first : PlanRow) (at : ℕ) → at ≡ length old → now ≡ (old ++ first ∷ []) ++ low → length now - at ≡ length low + 1
+pub rows_behind :
+    (old low now : List PlanRow) (first : PlanRow) (at : ℕ) → at ≡ length old
+    → now ≡ (old ++ first ∷ []) ++ low → length now - at ≡ length low + 1
 rows_behind old low now first at place is =
     let a = ap length is in
     let b = length-append (old ++ first ∷ []) low in

@@ -25,20 +25,35 @@ through-shape f = sym (length-ballots_of (shape_of f)) ∙ ap length (ballots_of
 -- siblings rise, each node has a ballot and none is too deep
 pub grown : (n low d : ℕ) (f : trie.Forest) → IsRising low f → IsWithin n 250 d f → IsGrown n low d (shape_of f)
 grown n low d Empty rising within = tt
-grown n low d (Grow' c k p inner next) rising within =
-    (rising.0, within.1, within.2, omega (arith, rising.1, through-shape inner), grown n 0 (d + 1) inner rising.2 within.3, grown n c d next rising.3 within.4)
+grown n low d (Grow' c k p inner next) rising within = (
+  rising.0,
+  within.1,
+  within.2,
+  omega (arith, rising.1, through-shape inner),
+  grown n 0 (d + 1) inner rising.2 within.3,
+  grown n c d next rising.3 within.4,
+)
 
 -- how many ballots a trie has
-pub all_ballots : (t : BallotBag) (ends : ℕ) (f : trie.Forest) → t.ballots ≡ replicate ends [] ++ bag f → length t.ballots ≡ ends + through (shape_of f)
+pub all_ballots :
+    (t : BallotBag) (ends : ℕ) (f : trie.Forest) → t.ballots ≡ replicate ends [] ++ bag f
+    → length t.ballots ≡ ends + through (shape_of f)
 all_ballots t ends f ballots =
     let none : List (List ℕ) = replicate ends [] in
     omega (arith, ap length ballots, length-append none (bag f), length-replicate {A = List ℕ} ends [], through-shape f)
 
 -- The rows of a trie's root and of its nodes stand for its ballots.
-pub rows_of_trie : (t : BallotBag) (ends : ℕ) (f : trie.Forest) → t.candidates ≤ 250 → length t.ballots ≤ 999999999 → t.ballots ≡ replicate ends [] ++ bag f → IsRising 0 f → IsWithin t.candidates 250 1 f → AreRowsOf t (plan_rows ends (shape_of f))
+pub rows_of_trie :
+    (t : BallotBag) (ends : ℕ) (f : trie.Forest) → t.candidates ≤ 250 → length t.ballots ≤ 999999999
+    → t.ballots ≡ replicate ends [] ++ bag f → IsRising 0 f → IsWithin t.candidates 250 1 f
+    → AreRowsOf t (plan_rows ends (shape_of f))
 rows_of_trie t ends f limit few ballots rising within = record {
-  plan = plan_of_rows t.candidates ends (shape_of f) limit (grown t.candidates 0 1 f rising within) (omega (arith, few, all_ballots t ends f ballots));
-  ballots = ballots_of_rows ends (shape_of f) ∙ (ap (λ (l : List (List ℕ)). replicate ends [] ++ l) (ballots_of-shape f) ∙ sym ballots);
+  plan =
+      plan_of_rows t.candidates ends (shape_of f) limit (grown t.candidates 0 1 f rising within)
+      (omega (arith, few, all_ballots t ends f ballots));
+  ballots =
+      ballots_of_rows ends (shape_of f)
+      ∙ (ap (λ (l : List (List ℕ)). replicate ends [] ++ l) (ballots_of-shape f) ∙ sym ballots);
 }
 
 -- fewer candidates are among more

@@ -1,5 +1,7 @@
 -- The text from a place on, one piece after another.
-use Rattle.std.proofs.Common.{◌≡◌, ℕ, ◌+◌, ◌-◌, ◌<◌, ◌≤◌, zero, suc, List, [], ◌∷◌, length, take, drop, Bool, true, false, ◌==◌, refl, sym, ◌∙◌, ap, subst, arith, add-zero, length-drop, get_or}
+use Rattle.std.proofs.Common.{◌≡◌, ℕ, ◌+◌, ◌-◌, ◌<◌, ◌≤◌, zero, suc, List, [], ◌∷◌, length, take, drop, Bool}
+use Rattle.std.proofs.Common.{true, false, ◌==◌, refl, sym, ◌∙◌, ap, subst, arith, add-zero, length-drop}
+use Rattle.std.proofs.Common.{get_or}
 use Rattle.std.proofs.lemmas.List.{drop-drop, drop_more, drop_all, get_or-drop}
 use Rattle.std.proofs.lemmas.List.Sums.{prefix_len-drop_no}
 use Rattle.input_text.specs.declared.fault_kind.FaultKind.TheVariants.{BadByte, Ended}
@@ -51,7 +53,8 @@ goes_on letters bytes at n some within =
     let place : at + 1 + (n - 1) ≡ at + n = omega arith in
     let start : 0 + (at + n) ≡ at + n = omega arith in
     let front : cut letters (at + 1) (n - 1) (drop (at + 1) bytes) ≡ cut letters (at + n) 0 (drop (at + n) bytes) =
-    skipped letters (at + 1) (n - 1) (drop (at + 1) bytes) (omega (arith, length-drop (at + 1) bytes)) ∙ rw (drop-drop (n - 1) (at + 1) bytes, place) refl in
+    skipped letters (at + 1) (n - 1) (drop (at + 1) bytes) (omega (arith, length-drop (at + 1) bytes))
+    ∙ rw (drop-drop (n - 1) (at + 1) bytes, place) refl in
     let back : cut letters 0 (at + n) bytes ≡ cut letters (at + n) 0 (drop (at + n) bytes) =
     skipped letters 0 (at + n) bytes within ∙ ap (λ (k : ℕ). cut letters k 0 (drop (at + n) bytes)) start in
     front ∙ sym back
@@ -80,11 +83,13 @@ module _ (letters : Bool) (bytes : List ℕ) (at n : ℕ) (inside : at < length 
       ∙ rw is (ap (with_front (record { at = at; item = item })) (goes_on letters bytes at n some within))
 
   pub at_wrong :
-      piece letters (drop at bytes) ≡ Wrong n → cut letters 0 at bytes ≡ ends (AtFault (record { kind = BadByte; at = at + n }))
+      piece letters (drop at bytes) ≡ Wrong n
+      → cut letters 0 at bytes ≡ ends (AtFault (record { kind = BadByte; at = at + n }))
   at_wrong is = begins letters bytes at inside ∙ rw is refl
 
   pub at_unclosed :
-      piece letters (drop at bytes) ≡ Unclosed n → cut letters 0 at bytes ≡ ends (AtFault (record { kind = Ended; at = at + n }))
+      piece letters (drop at bytes) ≡ Unclosed n
+      → cut letters 0 at bytes ≡ ends (AtFault (record { kind = Ended; at = at + n }))
   at_unclosed is = begins letters bytes at inside ∙ rw is refl
 
 -- a token at a place is the token at the front of what is from there on
@@ -129,7 +134,8 @@ digit_piece :
 unfolding piece
 digit_piece letters [] some is_digit is = absurd (omega arith)
 digit_piece letters (b ∷ behind) some true is = let no = digit_is_no_separator b is in rw (no.0, no.1, is) refl
-digit_piece letters (b ∷ behind) some false is = absurd (omega (arith, some, prefix_len-drop_no is_ascii_digit (b ∷ behind) 0 0 (omega arith) is))
+digit_piece letters (b ∷ behind) some false is =
+    absurd (omega (arith, some, prefix_len-drop_no is_ascii_digit (b ∷ behind) 0 0 (omega arith) is))
 
 may_follow_here : (xs : List ℕ) (n : ℕ) → n < length xs → may_end (get_or xs n 0) ≡ true → may_follow (drop n xs) ≡ true
 may_follow_here xs n inside ends = ap may_follow (drop_more xs n 0 inside) ∙ ends
@@ -162,8 +168,10 @@ over_number letters bytes from n len within is =
     let found =
     number_found letters xs n digits (omega (arith, is.inside, is.some)) (omega (arith, is.some))
     (omega (arith, is.run)) is.value (separator_ends (get_or xs digits 0) is.ends) in
-    let behind : is_separator (get_or bytes (from + digits) 0) ≡ true = ap is_separator (sym (get_or-drop from bytes digits 0)) ∙ is.ends in
+    let behind : is_separator (get_or bytes (from + digits) 0) ≡ true =
+    ap is_separator (sym (get_or-drop from bytes digits 0)) ∙ is.ends in
     let place : from + digits + 1 ≡ from + len = omega (arith, is.some) in
-    over_lexeme letters bytes from digits (omega (arith, inside)) (Number n) found (omega (arith, is.some)) (omega (arith, inside))
+    over_lexeme letters bytes from digits (omega (arith, inside)) (Number n) found (omega (arith, is.some))
+    (omega (arith, inside))
     ∙ ap (with_front (record { at = from; item = Number n }))
     (over_separator letters bytes (from + digits) inside behind ∙ ap (λ (k : ℕ). cut letters 0 k bytes) place)

@@ -3,7 +3,8 @@ use Rattle.std.proofs.Common.{◌≡◌, List, [], ◌∷◌, ◌++◌, refl, sy
 use Rattle.std.specs.Prelude.{Result, Some, ◌↔◌}
 use Rattle.input_text.specs.declared.input_fault.InputFault.{InputFault}
 use Rattle.input_text.specs.Token.{Item, Placed, Ending, Scan}
-use Rattle.input_text.specs.Judged.{Judged, then_on, after, outcome, Progress, GoesOn, Ends, ended, Stopped, carried_to, on_progress, front_of, reads, closed}
+use Rattle.input_text.specs.Judged.{Judged, then_on, after, outcome, Progress, GoesOn, Ends, ended, Stopped}
+use Rattle.input_text.specs.Judged.{carried_to, on_progress, front_of, reads, closed}
 use Rattle.input_text.specs.Refusal.{items_of, IsFrontOf, IsRefusal, IsFrontRefusal}
 use Rattle.input_text.proofs.Judgements.{refused, accepted, same_value, same_kind, same_some, none_not}
 use Rattle.input_text.proofs.Tables.{behind_front, reads_front}
@@ -30,7 +31,8 @@ module _ {S V : Type 0} (table : S → Item → Judged (Progress S V)) where
   on_read :
       (expected : S) (token : Placed) (tokens : List Placed) (ending : Ending) (value : V) (rest : Scan)
       (judged : Judged (Progress S V)) → table expected token.item ≡ judged
-      → on_progress token.at judged (record { tokens = tokens; ending = ending }) (λ next. front_of table next tokens ending) ≡ Ok (value, rest)
+      → on_progress token.at judged (record { tokens = tokens; ending = ending })
+      (λ next. front_of table next tokens ending) ≡ Ok (value, rest)
       → ((next : S) → front_of table next tokens ending ≡ Ok (value, rest) → Ends_at next tokens ending value rest)
       → Ends_at expected (token ∷ tokens) ending value rest
   on_read expected token tokens ending value rest (Err kind) is e on = absurd (refused e)
@@ -76,7 +78,8 @@ module _ {S V : Type 0} (table : S → Item → Judged (Progress S V)) where
   on_front token front rest value (Ok (GoesOn next)) e on = on next e
   on_front token front rest value (Ok (Ends found)) e on =
       let last = nothing_behind front found value e in
-      ap (λ (l : List Placed). Ok (found, record { tokens = l ++ rest.tokens; ending = rest.ending })) last.0 ∙ ap (λ (v : V). Ok (v, rest)) last.1
+      ap (λ (l : List Placed). Ok (found, record { tokens = l ++ rest.tokens; ending = rest.ending })) last.0
+      ∙ ap (λ (v : V). Ok (v, rest)) last.1
 
   read_so :
       (front : List Placed) (rest : Scan) (expected : S) (value : V)
@@ -84,7 +87,9 @@ module _ {S V : Type 0} (table : S → Item → Judged (Progress S V)) where
       → front_of table expected (front ++ rest.tokens) rest.ending ≡ Ok (value, rest)
   unfolding front_of
   read_so [] rest expected value e = absurd (not_ended e)
-  read_so (token ∷ front) rest expected value e = on_front token front rest value (table expected token.item) e (λ next on. read_so front rest next value on)
+  read_so (token ∷ front) rest expected value e =
+      on_front token front rest value (table expected token.item) e
+      (λ next on. read_so front rest next value on)
 
   -- ---- a front that is refused
 
@@ -99,10 +104,12 @@ module _ {S V : Type 0} (table : S → Item → Judged (Progress S V)) where
       → outcome (closed table) ended (GoesOn expected) tokens ending ≡ Err stopped.fault
   stopped_so tokens ending expected stopped e =
       reads_front table (closed table) ended GoesOn Ends (λ s item. itself (table s item)) (λ s. refl) tokens ending expected
-      ∙ ap (λ (r : Result (V × Scan) Stopped). behind_front r (λ value rest. outcome (closed table) ended (Ends value) rest.tokens rest.ending)) e
+      ∙ ap (λ (r : Result (V × Scan) Stopped). behind_front r
+      (λ value rest. outcome (closed table) ended (Ends value) rest.tokens rest.ending)) e
 
 module _ {S V : Type 0} (table : S → Item → Judged (Progress S V)) (start : S) (IsFile : List Item → V → Type 0)
-    (IsFront : Progress S V → List Item → Type 0) (follows : Follows (closed table) ended (GoesOn start) IsFile IsFront) where
+    (IsFront : Progress S V → List Item → Type 0)
+    (follows : Follows (closed table) ended (GoesOn start) IsFile IsFront) where
   reads_so :
       (text : Scan) (value : V) (rest : Scan) → IsFrontOf IsFile text value rest → reads table start text ≡ Ok (value, rest)
   reads_so text value rest is =
@@ -121,13 +128,15 @@ module _ {S V : Type 0} (table : S → Item → Judged (Progress S V)) (start : 
         ending = found.2;
         file =
             follows.ends_file (Ends value) value (items_of found.0)
-            (front_expected (closed table) ended (GoesOn start) IsFile IsFront follows (items_of found.0) (Ends value) found.3)
+            (front_expected (closed table) ended (GoesOn start) IsFile IsFront follows (items_of found.0)
+            (Ends value) found.3)
             refl;
       }
 
   -- The front of a text says a value exactly where it is a file.
   pub reads_fronts :
-      (text : Scan) (value : V) (rest : Scan) → (reads table start text ≡ Ok (value, rest)) ↔ IsFrontOf IsFile text value rest
+      (text : Scan) (value : V) (rest : Scan) → (reads table start text ≡ Ok (value, rest))
+      ↔ IsFrontOf IsFile text value rest
   reads_fronts text value rest = (is_front text value rest, reads_so text value rest)
 
   abbrev Rule :
@@ -136,11 +145,14 @@ module _ {S V : Type 0} (table : S → Item → Judged (Progress S V)) (start : 
   Rule = refuses_by_rule (closed table) ended (GoesOn start) IsFile IsFront follows
 
   is_refused :
-      (text : Scan) (fault : InputFault) → (rest : Scan) × (reads table start text ≡ Err (record { fault = fault; rest = rest }))
+      (text : Scan) (fault : InputFault)
+      → (rest : Scan) × (reads table start text ≡ Err (record { fault = fault; rest = rest }))
       → IsFrontRefusal IsFile (closed table) (GoesOn start) text fault
   is_refused text fault e = record {
     no_front = λ value rest is. accepted (sym (reads_so text value rest is) ∙ e.1);
-    refused = (Rule text fault).0 (stopped_so table text.tokens text.ending start (record { fault = fault; rest = e.0 }) e.1);
+    refused =
+        (Rule text fault).0
+        (stopped_so table text.tokens text.ending start (record { fault = fault; rest = e.0 }) e.1);
   }
 
   stops :
@@ -149,7 +161,9 @@ module _ {S V : Type 0} (table : S → Item → Judged (Progress S V)) (start : 
       → (rest : Scan) × (reads table start text ≡ Err (record { fault = fault; rest = rest }))
   stops text fault (Ok (value, rest)) is r = absurd (r.no_front value rest (is_front text value rest is))
   stops text fault (Err stopped) is r =
-      let same : stopped.fault ≡ fault = same_kind (sym (stopped_so table text.tokens text.ending start stopped is) ∙ (Rule text fault).1 r.refused) in
+      let same : stopped.fault ≡ fault =
+      same_kind (sym (stopped_so table text.tokens text.ending start stopped is)
+      ∙ (Rule text fault).1 r.refused) in
       (stopped.rest, is ∙ ap (λ (f : InputFault). Err (record { fault = f; rest = stopped.rest })) same)
 
   -- Otherwise the text is refused exactly by the rule.

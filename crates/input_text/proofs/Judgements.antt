@@ -35,7 +35,8 @@ module _ {A E : Type 0} where
 
 -- a test that can't have passed, whatever would have come of it
 pub failed :
-    {A B E : Type 0} (b : Bool) (v : A) (w : B) (kind other : E) → ◌≡◌ {A = Result A E} (cond b (Ok v) (Err kind)) (Err other)
+    {A B E : Type 0} (b : Bool) (v : A) (w : B) (kind other : E)
+    → ◌≡◌ {A = Result A E} (cond b (Ok v) (Err kind)) (Err other)
     → ◌≡◌ {A = Result B E} (cond b (Ok w) (Err kind)) (Err other)
 failed true v w kind other e = absurd (accepted e)
 failed false v w kind other e = ap Err (same_kind e)

@@ -1,5 +1,6 @@
 -- One token more: what a table makes of it, and where the reader then stands.
-use Rattle.std.proofs.Common.{◌≡◌, ℕ, ◌<◌, List, [], ◌∷◌, ◌++◌, length, refl, sym, ◌∙◌, ap, arith, inl, inr, append_assoc, Ok, Err}
+use Rattle.std.proofs.Common.{◌≡◌, ℕ, ◌<◌, List, [], ◌∷◌, ◌++◌, length, refl, sym, ◌∙◌, ap, arith, inl, inr}
+use Rattle.std.proofs.Common.{append_assoc, Ok, Err}
 use Rattle.std.specs.Prelude.{Result}
 use Rattle.input_text.specs.declared.fault_kind.FaultKind.{FaultKind}
 use Rattle.input_text.specs.declared.input_fault.InputFault.{InputFault}
@@ -47,7 +48,9 @@ pub behind_trans : {a b c : Reader} → IsBehind a b → IsBehind b c → IsBehi
 behind_trans {a} {b} {c} one two = record {
   bytes = two.bytes ∙ one.bytes;
   given = one.given ++ two.given;
-  tokens = one.tokens ∙ ap (λ (l : List Placed). one.given ++ l) two.tokens ∙ sym (append_assoc one.given two.given c.rest.tokens);
+  tokens =
+      one.tokens ∙ ap (λ (l : List Placed). one.given ++ l) two.tokens
+      ∙ sym (append_assoc one.given two.given c.rest.tokens);
   ending = one.ending ∙ two.ending;
 }
 
@@ -88,7 +91,8 @@ module _ {S V : Type 0} (table : S → Item → Judged (Progress S V)) (expected
       (fault : InputFault) → IsEnded old fault new → reads table expected old ≡ Err (record { fault = fault; rest = new })
   unfolding front_of
   ended_so fault is =
-      let whole : old ≡ ends old.ending = ap (λ (l : List Placed). record { tokens = l; ending = old.ending }) is.none_left in
+      let whole : old ≡ ends old.ending =
+      ap (λ (l : List Placed). record { tokens = l; ending = old.ending }) is.none_left in
       ap (λ (s : Scan). reads table expected s) whole
       ∙ ap (λ (f : InputFault). Err (record { fault = f; rest = ends old.ending })) (sym is.fault_is)
       ∙ ap (λ (s : Scan). Err (record { fault = fault; rest = s })) (sym (is.same ∙ whole))
@@ -96,7 +100,8 @@ module _ {S V : Type 0} (table : S → Item → Judged (Progress S V)) (expected
   -- a token that this judgement refuses, as the table does, or none
   pub stops :
       {A : Type 0} (judge : Item → Judged A) (fault : InputFault)
-      → ((item : Item) (kind : FaultKind) → judge item ≡ Err kind → table expected item ≡ Err kind) → Stops judge old fault new
+      → ((item : Item) (kind : FaultKind) → judge item ≡ Err kind → table expected item ≡ Err kind)
+      → Stops judge old fault new
       → reads table expected old ≡ Err (record { fault = fault; rest = new })
   stops judge fault alike (inl is) = ended_so fault is
   stops judge fault alike (inr is) =
@@ -105,23 +110,35 @@ module _ {S V : Type 0} (table : S → Item → Judged (Progress S V)) (expected
 
 -- ---- what a table makes of a front that an inner table reads
 
-module _ {S V T W : Type 0} (inner : S → Item → Judged (Progress S V)) (outer : T → Item → Judged (Progress T W)) (inside : S → T) (behind : V → T)
-    (same : (expected : S) (item : Item) → outer (inside expected) item ≡ carried {W = W} inside behind (inner expected item)) (expected : S) (old : Scan) where
-  in_two : reads outer (inside expected) old ≡ behind_inner (reads inner expected old) (λ value rest. reads outer (behind value) rest)
+module _ {S V T W : Type 0} (inner : S → Item → Judged (Progress S V))
+    (outer : T → Item → Judged (Progress T W)) (inside : S → T) (behind : V → T)
+    (same : (expected : S) (item : Item)
+    → outer (inside expected) item ≡ carried {W = W} inside behind (inner expected item)) (expected : S)
+    (old : Scan) where
+  in_two :
+      reads outer (inside expected) old
+      ≡ behind_inner (reads inner expected old) (λ value rest. reads outer (behind value) rest)
   in_two = reads_inner inner outer inside behind same old.tokens old.ending expected
 
   pub inner_read :
       (value : V) (new : Scan) → reads inner expected old ≡ Ok (value, new)
       → reads outer (inside expected) old ≡ reads outer (behind value) new
-  inner_read value new e = in_two ∙ ap (λ (r : Result (V × Scan) Stopped). behind_inner r (λ value rest. reads outer (behind value) rest)) e
+  inner_read value new e =
+      in_two
+      ∙ ap (λ (r : Result (V × Scan) Stopped). behind_inner r (λ value rest. reads outer (behind value) rest))
+      e
 
   pub inner_stopped :
       (stopped : Stopped) → reads inner expected old ≡ Err stopped → reads outer (inside expected) old ≡ Err stopped
-  inner_stopped stopped e = in_two ∙ ap (λ (r : Result (V × Scan) Stopped). behind_inner r (λ value rest. reads outer (behind value) rest)) e
+  inner_stopped stopped e =
+      in_two
+      ∙ ap (λ (r : Result (V × Scan) Stopped). behind_inner r (λ value rest. reads outer (behind value) rest))
+      e
 
   pub inner_fails :
       {R Q : Type 0} (found : R → V) (value : Q → W) (begun : T) (start new : Scan) (why : InputStop)
       → reads outer begun start ≡ reads outer (inside expected) old → Reads inner expected found old (Err why) new
       → Reads outer begun value start (Err why) new
-  inner_fails found value begun start new (stop.Fault fault) so_far is = so_far ∙ inner_stopped (record { fault = fault; rest = new }) is
+  inner_fails found value begun start new (stop.Fault fault) so_far is =
+      so_far ∙ inner_stopped (record { fault = fault; rest = new }) is
   inner_fails found value begun start new stop.NoMemory so_far is = tt

@@ -21,11 +21,13 @@ module _ {S : Type 0} (table : S → Item → Judged S) (IsFront : S → List It
   then_front :
       (expected last : S) (x : Item) (items front : List Item) (judged : Judged S) → IsFront expected front
       → table expected x ≡ judged → then_on judged (λ next. after table next items) ≡ Ok last
-      → ((next : S) → IsFront next (front ++ x ∷ []) → after table next items ≡ Ok last → IsFront last ((front ++ x ∷ []) ++ items))
+      → ((next : S) → IsFront next (front ++ x ∷ []) → after table next items ≡ Ok last
+      → IsFront last ((front ++ x ∷ []) ++ items))
       → IsFront last (front ++ x ∷ items)
   then_front expected last x items front (Err kind) is judged e rest = absurd (refused e)
   then_front expected last x items front (Ok next) is judged e rest =
-      subst (λ (l : List Item). IsFront last l) (append_assoc front (x ∷ []) items) (rest next (steps expected next x front is judged) e)
+      subst (λ (l : List Item). IsFront last l) (append_assoc front (x ∷ []) items)
+      (rest next (steps expected next x front is judged) e)
 
   pub front_behind :
       (items front : List Item) (expected last : S) → IsFront expected front → after table expected items ≡ Ok last
@@ -62,7 +64,8 @@ pub record Follows {S V : Type 0} (table : S → Item → Judged S) (whole : S �
       (expected : S) (items : List Item) → IsFront expected items
       → (more : List Item) × (last : S) × (value : V) × (after table expected more ≡ Ok last) × (whole last ≡ Some value)
   pub ends_file :
-      (expected : S) (value : V) (items : List Item) → IsFront expected items → whole expected ≡ Some value → IsFile items value
+      (expected : S) (value : V) (items : List Item) → IsFront expected items → whole expected ≡ Some value
+      → IsFile items value
   pub reads_file :
       (items : List Item) (value : V) → IsFile items value
       → (last : S) × (after table start items ≡ Ok last) × (whole last ≡ Some value)
@@ -84,8 +87,12 @@ module _ {S V : Type 0} (table : S → Item → Judged S) (whole : S → Option 
   opens items (Err kind) is ok = absurd (false≢true ok)
   opens items (Ok expected) is ok =
       let more = follows.goes_on expected items (front_expected items expected is) in
-      let all = in_parts table start expected items more.0 is ∙ more.3 in
-      (more.0, more.2, follows.ends_file more.1 more.2 (items ++ more.0) (front_expected (items ++ more.0) more.1 all) more.4)
+      let all = in_parts table start expected items more.0 is ∙ more.3 in (
+        more.0,
+        more.2,
+        follows.ends_file more.1 more.2 (items ++ more.0) (front_expected (items ++ more.0) more.1 all)
+            more.4,
+      )
 
   pub open_read : (items : List Item) → IsOpen IsFile items → IsOk (after table start items)
   open_read items is =
@@ -123,7 +130,8 @@ module _ {S V : Type 0} (table : S → Item → Judged S) (whole : S → Option 
   Refusal = IsRefusal IsFile table start
 
   further :
-      (front : List Placed) (expected next : S) (token : Placed) → Reached front expected → table expected token.item ≡ Ok next
+      (front : List Placed) (expected next : S) (token : Placed) → Reached front expected
+      → table expected token.item ≡ Ok next
       → Reached (front ++ token ∷ []) next
   further front expected next token reached judged =
       ap (λ (l : List Item). after table start l) (map-append (λ (t : Placed). t.item) front (token ∷ []))
@@ -140,7 +148,8 @@ module _ {S V : Type 0} (table : S → Item → Judged S) (whole : S → Option 
 
   at_the_end :
       (front : List Placed) (expected : S) (ending : Ending) (fault : InputFault) (value : Option V) → Reached front expected
-      → whole expected ≡ value → at_ending value ending ≡ Err fault → Refusal (record { tokens = front; ending = ending }) fault
+      → whole expected ≡ value → at_ending value ending ≡ Err fault
+      → Refusal (record { tokens = front; ending = ending }) fault
   at_the_end front expected (AtFault found) fault None reached is e =
       inr (inl (record { open_before = still_open front expected reached; ending = ap AtFault (same_kind e) }))
   at_the_end front expected (AtFault found) fault (Some value) reached is e =
@@ -176,7 +185,8 @@ module _ {S V : Type 0} (table : S → Item → Judged S) (whole : S → Option 
         place = ap (λ (f : InputFault). f.at) (sym is);
       })
   behind_token front expected token tokens ending fault (Ok next) reached judged e rest =
-      subst (λ (l : List Placed). Refusal (record { tokens = l; ending = ending }) fault) (append_assoc front (token ∷ []) tokens)
+      subst (λ (l : List Placed). Refusal (record { tokens = l; ending = ending }) fault)
+      (append_assoc front (token ∷ []) tokens)
       (rest next (further front expected next token reached judged) e)
 
   refuses_behind :
@@ -197,8 +207,10 @@ module _ {S V : Type 0} (table : S → Item → Judged S) (whole : S → Option 
   on_front :
       (token : Placed) (front tokens : List Placed) (ending : Ending) (last : S) (judged : Judged S)
       → then_on judged (λ next. after table next (items_of front)) ≡ Ok last
-      → ((next : S) → after table next (items_of front) ≡ Ok last → outcome table whole next (front ++ tokens) ending ≡ outcome table whole last tokens ending)
-      → at_place token.at judged (λ next. outcome table whole next (front ++ tokens) ending) ≡ outcome table whole last tokens ending
+      → ((next : S) → after table next (items_of front) ≡ Ok last
+      → outcome table whole next (front ++ tokens) ending ≡ outcome table whole last tokens ending)
+      → at_place token.at judged (λ next. outcome table whole next (front ++ tokens) ending)
+      ≡ outcome table whole last tokens ending
   on_front token front tokens ending last (Err kind) e rest = absurd (refused e)
   on_front token front tokens ending last (Ok next) e rest = rest next e
 
@@ -232,7 +244,8 @@ module _ {S V : Type 0} (table : S → Item → Judged S) (whole : S → Option 
       ∙ ap (λ (at : ℕ). Err (record { kind = fault.kind; at = at })) (sym r.place)
 
   by_ending :
-      (text : Scan) (fault : InputFault) (judged : Judged S) → after table start (items_of text.tokens) ≡ judged → IsOk judged
+      (text : Scan) (fault : InputFault) (judged : Judged S)
+      → after table start (items_of text.tokens) ≡ judged → IsOk judged
       → text.ending ≡ AtFault fault → outcome table whole start text.tokens text.ending ≡ Err fault
   by_ending text fault (Err kind) is ok ending = absurd (false≢true ok)
   by_ending text fault (Ok last) is ok ending =
@@ -241,11 +254,13 @@ module _ {S V : Type 0} (table : S → Item → Judged S) (whole : S → Option 
   not_whole :
       (items : List Item) (last : S) (value : Option V) (at : ℕ) → after table start items ≡ Ok last → whole last ≡ value
       → ((v : V) → IsFile items v → ⊥) → at_ending (whole last) (AtEnd at) ≡ Err (record { kind = Ended; at = at })
-  not_whole items last (Some value) at reached is none = absurd (none value (follows.ends_file last value items (front_expected items last reached) is))
+  not_whole items last (Some value) at reached is none =
+      absurd (none value (follows.ends_file last value items (front_expected items last reached) is))
   not_whole items last None at reached is none = ap (λ (v : Option V). at_ending v (AtEnd at)) is
 
   by_length :
-      (text : Scan) (fault : InputFault) (judged : Judged S) → after table start (items_of text.tokens) ≡ judged → IsOk judged
+      (text : Scan) (fault : InputFault) (judged : Judged S)
+      → after table start (items_of text.tokens) ≡ judged → IsOk judged
       → ByLength IsFile table start text fault → outcome table whole start text.tokens text.ending ≡ Err fault
   by_length text fault (Err kind) is ok r = absurd (false≢true ok)
   by_length text fault (Ok last) is ok r =
@@ -260,11 +275,14 @@ module _ {S V : Type 0} (table : S → Item → Judged S) (whole : S → Option 
   refused_so text fault (inr (inl r)) =
       by_ending text fault (after table start (items_of text.tokens)) refl
       (open_read (items_of text.tokens) r.open_before) r.ending
-  refused_so text fault (inr (inr r)) = by_length text fault (after table start (items_of text.tokens)) refl (open_read (items_of text.tokens) r.open_before) r
+  refused_so text fault (inr (inr r)) =
+      by_length text fault (after table start (items_of text.tokens)) refl
+      (open_read (items_of text.tokens) r.open_before) r
 
   -- A text is refused exactly by the rule.
   pub refuses_by_rule :
-      (text : Scan) (fault : InputFault) → (outcome table whole start text.tokens text.ending ≡ Err fault) ↔ Refusal text fault
+      (text : Scan) (fault : InputFault) → (outcome table whole start text.tokens text.ending ≡ Err fault)
+      ↔ Refusal text fault
   refuses_by_rule text fault = (refuses text fault, refused_so text fault)
 
   -- ---- accepted texts
@@ -286,14 +304,17 @@ module _ {S V : Type 0} (table : S → Item → Judged S) (whole : S → Option 
       (token : Placed) (tokens : List Placed) (ending : Ending) (value : V) (judged : Judged S)
       → at_place token.at judged (λ next. outcome table whole next tokens ending) ≡ Ok value
       → ((next : S) → outcome table whole next tokens ending ≡ Ok value → ReadsWhole next tokens ending value)
-      → (last : S) × (then_on judged (λ next. after table next (items_of tokens)) ≡ Ok last) × (whole last ≡ Some value) × ((at : ℕ) × (ending ≡ AtEnd at))
+      → (last : S) × (then_on judged (λ next. after table next (items_of tokens)) ≡ Ok last)
+      × (whole last ≡ Some value) × ((at : ℕ) × (ending ≡ AtEnd at))
   on_token token tokens ending value (Err kind) e rest = absurd (refused e)
   on_token token tokens ending value (Ok next) e rest = rest next e
 
   read_whole :
-      (tokens : List Placed) (expected : S) (ending : Ending) (value : V) → outcome table whole expected tokens ending ≡ Ok value
+      (tokens : List Placed) (expected : S) (ending : Ending) (value : V)
+      → outcome table whole expected tokens ending ≡ Ok value
       → ReadsWhole expected tokens ending value
-  read_whole [] expected ending value e = let end = ends_well (whole expected) ending value e in (expected, refl, end.0, end.1)
+  read_whole [] expected ending value e =
+      let end = ends_well (whole expected) ending value e in (expected, refl, end.0, end.1)
   read_whole (token ∷ tokens) expected ending value e =
       on_token token tokens ending value (table expected token.item) e (λ next on. read_whole tokens next ending value on)
 
@@ -318,7 +339,8 @@ module _ {S V : Type 0} (table : S → Item → Judged S) (whole : S → Option 
 
   -- A text says a value exactly where its tokens are a file of it.
   pub accepts :
-      (text : Scan) (value : V) → (outcome table whole start text.tokens text.ending ≡ Ok value) ↔ IsAccepted IsFile text value
+      (text : Scan) (value : V) → (outcome table whole start text.tokens text.ending ≡ Ok value)
+      ↔ IsAccepted IsFile text value
   accepts text value = (says text value, said text value)
 
   decided :

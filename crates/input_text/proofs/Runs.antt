@@ -1,5 +1,6 @@
 -- Longest runs at the front of a text, and the value of digits.
-use Rattle.std.proofs.Common.{◌≡◌, ℕ, ◌+◌, ◌-◌, ◌*◌, ◌<◌, ◌≤◌, min, List, length, take, get_or, Bool, true, false, sym, ◌∙◌, ap, subst, arith, get_or-take}
+use Rattle.std.proofs.Common.{◌≡◌, ℕ, ◌+◌, ◌-◌, ◌*◌, ◌<◌, ◌≤◌, min, List, length, take, get_or, Bool, true}
+use Rattle.std.proofs.Common.{false, sym, ◌∙◌, ap, subst, arith, get_or-take}
 use Rattle.std.specs.List.{prefix_len, AllPass}
 use Rattle.std.specs.Char.{is_ascii_digit, digit_value}
 use Rattle.std.specs.Str.Parse.{digits_value}
@@ -37,7 +38,8 @@ number_more digits i within digit =
 
 -- the same of so many bytes of the rest of a text
 pub inner_passes :
-    (p : ℕ → Bool) (behind rest : List ℕ) (n m : ℕ) → behind ≡ rest → n ≡ prefix_len p behind → m ≡ n → AllPass p (take m rest)
+    (p : ℕ → Bool) (behind rest : List ℕ) (n m : ℕ) → behind ≡ rest → n ≡ prefix_len p behind → m ≡ n
+    → AllPass p (take m rest)
 inner_passes p behind rest n m same is eq =
     subst (λ (k : ℕ). AllPass p (take k rest)) (sym (eq ∙ is ∙ ap (λ (l : List ℕ). prefix_len p l) same)) (run_passes p rest)
 

@@ -1,5 +1,6 @@
 -- One to three digits before a separator.
-use Rattle.std.proofs.Common.{◌≡◌, ℕ, ◌+◌, ◌-◌, ◌*◌, ◌<◌, ◌≤◌, min, List, length, take, get_or, Bool, true, false, cond, ◌&&◌, zero, suc, refl, sym, ◌∙◌, ap, subst, arith, below_more}
+use Rattle.std.proofs.Common.{◌≡◌, ℕ, ◌+◌, ◌-◌, ◌*◌, ◌<◌, ◌≤◌, min, List, length, take, get_or, Bool, true}
+use Rattle.std.proofs.Common.{false, cond, ◌&&◌, zero, suc, refl, sym, ◌∙◌, ap, subst, arith, below_more}
 use mir.Val.{bool_byte}
 use Rattle.std.specs.List.{prefix_len, take_while}
 use Rattle.std.specs.Char.{is_ascii_digit}
@@ -44,8 +45,10 @@ module _ (xs : List ℕ) (long : 2 < length xs) (first : is_ascii_digit (get_or 
   IsDigitAt k = is_ascii_digit (get_or xs k 0) ≡ true
 
   up_to :
-      (n : ℕ) → n ≤ 3 → ((k : ℕ) → k < n → IsDigitAt k) → is_separator (get_or xs n 0) ≡ true → n ≡ prefix_len is_ascii_digit xs
-  up_to n few digits ends = run_len is_ascii_digit xs n (omega (arith, few, long)) digits (λ inside. no_digit (get_or xs n 0) ends)
+      (n : ℕ) → n ≤ 3 → ((k : ℕ) → k < n → IsDigitAt k) → is_separator (get_or xs n 0) ≡ true
+      → n ≡ prefix_len is_ascii_digit xs
+  up_to n few digits ends =
+      run_len is_ascii_digit xs n (omega (arith, few, long)) digits (λ inside. no_digit (get_or xs n 0) ends)
 
   -- how many digits there are, by which of the second and third byte are digits
   three_run :
@@ -66,9 +69,11 @@ module _ (xs : List ℕ) (long : 2 < length xs) (first : is_ascii_digit (get_or 
       ∙ sym (three_digits xs (omega (arith, long)) first (sym b_is) (sym c_is))
       ∙ ap (λ (n : ℕ). number (take n xs)) (three_run true true b_is c_is ends)
   three_value true false b_is c_is ends two three two_is three_is =
-      three_is ∙ two_is ∙ sym (two_digits xs (omega (arith, long)) first (sym b_is)) ∙ ap (λ (n : ℕ). number (take n xs)) (three_run true false b_is c_is ends)
+      three_is ∙ two_is ∙ sym (two_digits xs (omega (arith, long)) first (sym b_is))
+      ∙ ap (λ (n : ℕ). number (take n xs)) (three_run true false b_is c_is ends)
   three_value false c b_is c_is ends two three two_is three_is =
-      three_is ∙ two_is ∙ sym (one_digit xs (omega (arith, long)) first) ∙ ap (λ (n : ℕ). number (take n xs)) (three_run false c b_is c_is ends)
+      three_is ∙ two_is ∙ sym (one_digit xs (omega (arith, long)) first)
+      ∙ ap (λ (n : ℕ). number (take n xs)) (three_run false c b_is c_is ends)
 
   -- the same where the third byte was not looked at
   two_run :
@@ -78,11 +83,14 @@ module _ (xs : List ℕ) (long : 2 < length xs) (first : is_ascii_digit (get_or 
   two_run false b_is ends = up_to 1 (omega arith) (below_one IsDigitAt first) ends
 
   two_value : (b : Bool) → b ≡ is_ascii_digit (get_or xs 1 0) → is_separator (get_or xs (1 + bool_byte b) 0) ≡ true
-      → (two : ℕ) → two ≡ cond b ((get_or xs 0 0 - 48) * 10 + (get_or xs 1 0 - 48)) (get_or xs 0 0 - 48) → two ≡ number (take_while is_ascii_digit xs)
+      → (two : ℕ) → two ≡ cond b ((get_or xs 0 0 - 48) * 10 + (get_or xs 1 0 - 48)) (get_or xs 0 0 - 48)
+      → two ≡ number (take_while is_ascii_digit xs)
   two_value true b_is ends two two_is =
       two_is ∙ sym (two_digits xs (omega (arith, long)) first (sym b_is))
       ∙ ap (λ (n : ℕ). number (take n xs)) (two_run true b_is ends)
-  two_value false b_is ends two two_is = two_is ∙ sym (one_digit xs (omega (arith, long)) first) ∙ ap (λ (n : ℕ). number (take n xs)) (two_run false b_is ends)
+  two_value false b_is ends two two_is =
+      two_is ∙ sym (one_digit xs (omega (arith, long)) first)
+      ∙ ap (λ (n : ℕ). number (take n xs)) (two_run false b_is ends)
 
 bool_byte_le : (b : Bool) → bool_byte b ≤ 1
 bool_byte_le true = omega arith
@@ -99,7 +107,8 @@ pub three_are :
 three_are bytes b c two three long first b_is c_is ends two_is three_is =
     let digits = 1 + bool_byte b + bool_byte (b && c) in
     let last : 2 + bool_byte b + bool_byte (b && c) - 1 ≡ digits = omega arith in
-    let ends_at : is_separator (get_or bytes digits 0) ≡ true = ap (λ (k : ℕ). is_separator (get_or bytes k 0)) (sym last) ∙ ends in
+    let ends_at : is_separator (get_or bytes digits 0) ≡ true =
+    ap (λ (k : ℕ). is_separator (get_or bytes k 0)) (sym last) ∙ ends in
     record {
       inside = omega (arith, long, bool_byte_le b, bool_byte_le (b && c));
       some = omega arith;
@@ -111,13 +120,15 @@ three_are bytes b c two three long first b_is c_is ends two_is three_is =
 -- the same of what the bytes stand for as digits
 pub three_of :
     (bytes : List ℕ) (one other last : ℕ) (b c : Bool) (two three : ℕ) → 3 < length bytes
-    → is_ascii_digit (get_or bytes 0 0) ≡ true → b ≡ is_ascii_digit (get_or bytes 1 0) → c ≡ is_ascii_digit (get_or bytes 2 0)
+    → is_ascii_digit (get_or bytes 0 0) ≡ true → b ≡ is_ascii_digit (get_or bytes 1 0)
+    → c ≡ is_ascii_digit (get_or bytes 2 0)
     → is_separator (get_or bytes (2 + bool_byte b + bool_byte (b && c) - 1) 0) ≡ true
     → one ≡ get_or bytes 0 0 - 48 → (b ≡ true → other ≡ get_or bytes 1 0 - 48) → (c ≡ true → last ≡ get_or bytes 2 0 - 48)
     → two ≡ cond b (one * 10 + other) one → three ≡ cond (b && c) (two * 10 + last) two
     → IsShortNumber bytes three (2 + bool_byte b + bool_byte (b && c))
 three_of bytes one other last true true two three long first b_is c_is ends one_is other_is last_is two_is three_is =
-    three_are bytes true true two three long first b_is c_is ends (two_is ∙ rw (one_is, other_is refl) refl) (three_is ∙ rw (last_is refl) refl)
+    three_are bytes true true two three long first b_is c_is ends (two_is ∙ rw (one_is, other_is refl) refl)
+    (three_is ∙ rw (last_is refl) refl)
 three_of bytes one other last true false two three long first b_is c_is ends one_is other_is last_is two_is three_is =
     three_are bytes true false two three long first b_is c_is ends (two_is ∙ rw (one_is, other_is refl) refl) three_is
 three_of bytes one other last false c two three long first b_is c_is ends one_is other_is last_is two_is three_is =
@@ -131,7 +142,8 @@ pub two_are :
     → IsShortNumber bytes two (2 + bool_byte b)
 two_are bytes b two long first b_is ends two_is =
     let last : 2 + bool_byte b - 1 ≡ 1 + bool_byte b = omega arith in
-    let ends_at : is_separator (get_or bytes (1 + bool_byte b) 0) ≡ true = ap (λ (k : ℕ). is_separator (get_or bytes k 0)) (sym last) ∙ ends in
+    let ends_at : is_separator (get_or bytes (1 + bool_byte b) 0) ≡ true =
+    ap (λ (k : ℕ). is_separator (get_or bytes k 0)) (sym last) ∙ ends in
     record {
       inside = omega (arith, long, bool_byte_le b);
       some = omega arith;
@@ -143,11 +155,13 @@ two_are bytes b two long first b_is ends two_is =
 pub two_of :
     (bytes : List ℕ) (one other : ℕ) (b : Bool) (two : ℕ) → 3 < length bytes → is_ascii_digit (get_or bytes 0 0) ≡ true
     → b ≡ is_ascii_digit (get_or bytes 1 0)
-    → is_separator (get_or bytes (2 + bool_byte b - 1) 0) ≡ true → one ≡ get_or bytes 0 0 - 48 → (b ≡ true → other ≡ get_or bytes 1 0 - 48)
+    → is_separator (get_or bytes (2 + bool_byte b - 1) 0) ≡ true → one ≡ get_or bytes 0 0 - 48
+    → (b ≡ true → other ≡ get_or bytes 1 0 - 48)
     → two ≡ cond b (one * 10 + other) one → IsShortNumber bytes two (2 + bool_byte b)
 two_of bytes one other true two long first b_is ends one_is other_is two_is =
     two_are bytes true two long first b_is ends (two_is ∙ rw (one_is, other_is refl) refl)
-two_of bytes one other false two long first b_is ends one_is other_is two_is = two_are bytes false two long first b_is ends (two_is ∙ one_is)
+two_of bytes one other false two long first b_is ends one_is other_is two_is =
+    two_are bytes false two long first b_is ends (two_is ∙ one_is)
 
 -- how many digits there are, by which of them the code has looked at
 seen_digits :
@@ -183,11 +197,15 @@ module _ (bytes : List ℕ) (n len : ℕ) (is : IsShortNumber bytes n len) where
       subst (λ (d : ℕ). is_separator (get_or bytes d 0) ≡ true) last is.ends
 
   pub two_ends_behind :
-      len ≤ 3 → (b : Bool) → b ≡ is_ascii_digit (get_or bytes 1 0) → is_separator (get_or bytes (2 + bool_byte b - 1) 0) ≡ true
+      len ≤ 3 → (b : Bool) → b ≡ is_ascii_digit (get_or bytes 1 0)
+      → is_separator (get_or bytes (2 + bool_byte b - 1) 0) ≡ true
   two_ends_behind few b b_is =
       let digits = len - 1 in
       let behind : is_ascii_digit (get_or bytes digits 0) ≡ false = no_digit (get_or bytes digits 0) is.ends in
-      let run = seen_digits b false digits (omega (arith, is.some)) (omega (arith, few)) (λ more. b_is ∙ digit_at 1 (omega (arith, more)))
-      (λ one. b_is ∙ subst (λ (d : ℕ). is_ascii_digit (get_or bytes d 0) ≡ false) one behind) (λ more. absurd (omega (arith, more, few))) (λ two. refl) in
+      let run =
+      seen_digits b false digits (omega (arith, is.some)) (omega (arith, few))
+      (λ more. b_is ∙ digit_at 1 (omega (arith, more)))
+      (λ one. b_is ∙ subst (λ (d : ℕ). is_ascii_digit (get_or bytes d 0) ≡ false) one behind)
+      (λ more. absurd (omega (arith, more, few))) (λ two. refl) in
       let last : digits ≡ 2 + bool_byte b - 1 = omega (arith, run, and_false b) in
       subst (λ (d : ℕ). is_separator (get_or bytes d 0) ≡ true) last is.ends

@@ -1,12 +1,16 @@
 -- What is written from items is cut into these items.
-use Rattle.std.proofs.Common.{◌≡◌, ℕ, suc, ◌+◌, ◌-◌, ◌^◌, ◌<◌, ◌≤◌, min, Bool, true, false, List, [], ◌∷◌, ◌++◌, length, drop, take, map, All, refl, sym, ap, subst, ◌∙◌, arith, append_assoc, append-nil, length-append, ◌==◌, ◌||◌, cond}
+use Rattle.std.proofs.Common.{◌≡◌, ℕ, suc, ◌+◌, ◌-◌, ◌^◌, ◌<◌, ◌≤◌, min, Bool, true, false, List, [], ◌∷◌}
+use Rattle.std.proofs.Common.{◌++◌, length, drop, take, map, All, refl, sym, ap, subst, ◌∙◌, arith}
+use Rattle.std.proofs.Common.{append_assoc, append-nil, length-append, ◌==◌, ◌||◌, cond}
 use Rattle.std.specs.Prelude.{decimal}
 use Rattle.std.specs.List.{take_while, flat_map}
 use Rattle.std.proofs.lemmas.List.Elements.{All-head, All-tail}
 use Rattle.std.specs.Char.{is_ascii_digit, is_ascii_lowercase}
 use Rattle.std.proofs.lemmas.Fmt.{decimal_is_IsNumeral, decimal_nonempty}
 use Rattle.input_text.specs.Token.{Item, Number, Text, Word, AtEnd, Scan, ends, with_front}
-use Rattle.input_text.specs.Scan.{is_separator, is_in_string, number, may_follow, token, Piece, Gap, Lexeme, Wrong, piece, number_piece, string_piece, word_piece, cut, scan, beginning, mark_len}
+use Rattle.input_text.specs.Scan.{is_separator, is_in_string, number, may_follow, token, Piece, Gap, Lexeme}
+use Rattle.input_text.specs.Scan.{Wrong, piece, number_piece, string_piece, word_piece, cut, scan, beginning}
+use Rattle.input_text.specs.Scan.{mark_len}
 use Rattle.input_text.specs.Refusal.{items_of}
 use Rattle.input_text.proofs.Cutting.{skipped}
 use Rattle.input_text.specs.Written.{Spells, Each, IsWhole}
@@ -14,7 +18,8 @@ use Rattle.input_text.proofs.WrittenRuns.{run_len, run_is, drop_front, take_fron
 
 -- a token at the front, and what is behind it
 lexed :
-    (at : ℕ) (b : ℕ) (behind : List ℕ) (item : Item) (n : ℕ) → piece true (b ∷ behind) ≡ Lexeme item (suc n) → n ≤ length behind
+    (at : ℕ) (b : ℕ) (behind : List ℕ) (item : Item) (n : ℕ) → piece true (b ∷ behind) ≡ Lexeme item (suc n)
+    → n ≤ length behind
     → cut true at 0 (b ∷ behind) ≡ with_front (record { at = at; item = item }) (cut true (at + suc n) 0 (drop n behind))
 unfolding cut
 lexed at b behind item n is within =
@@ -22,7 +27,8 @@ lexed at b behind item n is within =
     let place : at + 1 + n ≡ at + suc n = omega arith in
     ap (λ (p : Piece). beginning at p (λ m. cut true (at + 1) (m - 1) behind)) is
     ∙ ap (λ (s : Scan). with_front (record { at = at; item = item }) s)
-    (ap (λ (m : ℕ). cut true (at + 1) m behind) less ∙ (skipped true (at + 1) n behind within ∙ ap (λ (k : ℕ). cut true k 0 (drop n behind)) place))
+    (ap (λ (m : ℕ). cut true (at + 1) m behind) less
+    ∙ (skipped true (at + 1) n behind within ∙ ap (λ (k : ℕ). cut true k 0 (drop n behind)) place))
 
 gap_piece : (s : ℕ) (rest : List ℕ) → is_separator s ≡ true → piece true (s ∷ rest) ≡ Gap 1
 unfolding piece
@@ -47,7 +53,8 @@ both b bytes s item is found at rest =
     ∙ (gapped (at + suc (length bytes)) s rest is ∙ ap (λ (k : ℕ). cut true k 0 rest) place))
 
 spelled : (b : ℕ) (bytes : List ℕ) (s : ℕ) (item : Item) → is_separator s ≡ true
-    → ((rest : List ℕ) → piece true (b ∷ (bytes ++ s ∷ rest)) ≡ Lexeme item (suc (length bytes))) → Spells (b ∷ (bytes ++ s ∷ [])) (item ∷ [])
+    → ((rest : List ℕ) → piece true (b ∷ (bytes ++ s ∷ rest)) ≡ Lexeme item (suc (length bytes)))
+    → Spells (b ∷ (bytes ++ s ∷ [])) (item ∷ [])
 spelled b bytes s item is found =
     let flat : (rest : List ℕ) → (b ∷ (bytes ++ s ∷ [])) ++ rest ≡ b ∷ (bytes ++ s ∷ rest) =
     λ rest. ap (λ (l : List ℕ). b ∷ l) (append_assoc bytes (s ∷ []) rest) in
@@ -55,7 +62,9 @@ spelled b bytes s item is found =
       items_are =
           λ at rest. ap (λ (l : List ℕ). items_of (cut true at 0 l).tokens) (flat rest)
           ∙ ap (λ (t : Scan). items_of t.tokens) (both b bytes s item is found at rest);
-      ending = λ at rest. ap (λ (l : List ℕ). (cut true at 0 l).ending) (flat rest) ∙ ap (λ (t : Scan). t.ending) (both b bytes s item is found at rest);
+      ending =
+          λ at rest. ap (λ (l : List ℕ). (cut true at 0 l).ending) (flat rest)
+          ∙ ap (λ (t : Scan). t.ending) (both b bytes s item is found at rest);
     }
 
 follows : (s : ℕ) (rest : List ℕ) → is_separator s ≡ true → may_follow (s ∷ rest) ≡ true
@@ -77,10 +86,12 @@ number_at bytes s rest each is =
     let no = no_digit s is in
     let len = run_len is_ascii_digit bytes s rest each no in
     let run = run_is is_ascii_digit bytes s rest each no in
-    let ends : may_follow (drop (length bytes) (bytes ++ s ∷ rest)) ≡ true = ap may_follow (drop_front bytes (s ∷ rest)) ∙ follows s rest is in
+    let ends : may_follow (drop (length bytes) (bytes ++ s ∷ rest)) ≡ true =
+    ap may_follow (drop_front bytes (s ∷ rest)) ∙ follows s rest is in
     let xs = bytes ++ s ∷ rest in
     ap (λ (n : ℕ). token (Number (number (take_while is_ascii_digit xs))) n xs) len
-    ∙ (ap (λ (may : Bool). cond may (Lexeme (Number (number (take_while is_ascii_digit xs))) (length bytes)) (Wrong (length bytes))) ends
+    ∙ (ap (λ (may : Bool). cond may (Lexeme (Number (number (take_while is_ascii_digit xs))) (length bytes))
+    (Wrong (length bytes))) ends
     ∙ ap (λ (l : List ℕ). Lexeme (Number (number l)) (length bytes)) run)
 
 pub number_spelled :
@@ -89,7 +100,8 @@ pub number_spelled :
 number_spelled [] s n some each value is = absurd (omega arith)
 number_spelled (b ∷ bytes) s n some each value is =
     spelled b bytes s (Number n) is (λ rest.
-    digit_piece b (bytes ++ s ∷ rest) each.0 ∙ (number_at (b ∷ bytes) s rest each is ∙ ap (λ (k : ℕ). Lexeme (Number k) (suc (length bytes))) value))
+    digit_piece b (bytes ++ s ∷ rest) each.0
+    ∙ (number_at (b ∷ bytes) s rest each is ∙ ap (λ (k : ℕ). Lexeme (Number k) (suc (length bytes))) value))
 
 pub numbers : (n s : ℕ) → n ≤ 4294967295 → is_separator s ≡ true → Spells (decimal n ++ s ∷ []) (Number n ∷ [])
 numbers n s most is =
@@ -116,17 +128,20 @@ word_at bytes s rest each is =
     let no = no_letter s is in
     let len = run_len is_ascii_lowercase bytes s rest each no in
     let run = run_is is_ascii_lowercase bytes s rest each no in
-    let ends : may_follow (drop (length bytes) (bytes ++ s ∷ rest)) ≡ true = ap may_follow (drop_front bytes (s ∷ rest)) ∙ follows s rest is in
+    let ends : may_follow (drop (length bytes) (bytes ++ s ∷ rest)) ≡ true =
+    ap may_follow (drop_front bytes (s ∷ rest)) ∙ follows s rest is in
     let xs = bytes ++ s ∷ rest in
     ap (λ (n : ℕ). token (Word (take_while is_ascii_lowercase xs)) n xs) len
-    ∙ (ap (λ (may : Bool). cond may (Lexeme (Word (take_while is_ascii_lowercase xs)) (length bytes)) (Wrong (length bytes))) ends
+    ∙ (ap (λ (may : Bool). cond may (Lexeme (Word (take_while is_ascii_lowercase xs)) (length bytes))
+    (Wrong (length bytes))) ends
     ∙ ap (λ (l : List ℕ). Lexeme (Word l) (length bytes)) run)
 
 pub words :
     (b : ℕ) (letters : List ℕ) (s : ℕ) → Each is_ascii_lowercase (b ∷ letters) → is_separator s ≡ true
     → Spells ((b ∷ letters) ++ s ∷ []) (Word (b ∷ letters) ∷ [])
 words b letters s each is =
-    spelled b letters s (Word (b ∷ letters)) is (λ rest. letter_piece b (letters ++ s ∷ rest) each.0 ∙ word_at (b ∷ letters) s rest each is)
+    spelled b letters s (Word (b ∷ letters)) is
+    (λ rest. letter_piece b (letters ++ s ∷ rest) each.0 ∙ word_at (b ∷ letters) s rest each is)
 
 -- ---- strings
 
@@ -152,23 +167,28 @@ strings bytes s each is =
     let two : length bytes + 2 ≡ suc (length (bytes ++ 34 ∷ [])) = omega arith in
     subst (λ (l : List ℕ). Spells (34 ∷ l) (Text bytes ∷ [])) (flat (s ∷ []))
     (spelled 34 (bytes ++ 34 ∷ []) s (Text bytes) is (λ rest.
-    quote_piece ((bytes ++ 34 ∷ []) ++ s ∷ rest) ∙ (ap string_piece (flat (s ∷ rest)) ∙ (string_at bytes s rest each is ∙ ap (Lexeme (Text bytes)) two))))
+    quote_piece ((bytes ++ 34 ∷ []) ++ s ∷ rest)
+    ∙ (ap string_piece (flat (s ∷ rest)) ∙ (string_at bytes s rest each is ∙ ap (Lexeme (Text bytes)) two))))
 
 -- ---- parts
 
 pub parts :
-    (one other : List ℕ) (items more : List Item) → Spells one items → Spells other more → Spells (one ++ other) (items ++ more)
+    (one other : List ℕ) (items more : List Item) → Spells one items → Spells other more
+    → Spells (one ++ other) (items ++ more)
 parts one other items more a b =
-    let place : (at : ℕ) → at + length one + length other ≡ at + length (one ++ other) = λ at. (let l = length-append one other in omega arith) in
+    let place : (at : ℕ) → at + length one + length other ≡ at + length (one ++ other) =
+    λ at. (let l = length-append one other in omega arith) in
     record {
       items_are = λ at rest.
           ap (λ (l : List ℕ). items_of (cut true at 0 l).tokens) (append_assoc one other rest)
           ∙ (a.items_are at (other ++ rest)
-          ∙ (ap (λ (l : List Item). items ++ l) (b.items_are (at + length one) rest ∙ ap (λ (k : ℕ). more ++ items_of (cut true k 0 rest).tokens) (place at))
+          ∙ (ap (λ (l : List Item). items ++ l) (b.items_are (at + length one) rest
+          ∙ ap (λ (k : ℕ). more ++ items_of (cut true k 0 rest).tokens) (place at))
           ∙ sym (append_assoc items more (items_of (cut true (at + length (one ++ other)) 0 rest).tokens))));
       ending = λ at rest.
           ap (λ (l : List ℕ). (cut true at 0 l).ending) (append_assoc one other rest)
-          ∙ (a.ending at (other ++ rest) ∙ (b.ending (at + length one) rest ∙ ap (λ (k : ℕ). (cut true k 0 rest).ending) (place at)));
+          ∙ (a.ending at (other ++ rest)
+          ∙ (b.ending (at + length one) rest ∙ ap (λ (k : ℕ). (cut true k 0 rest).ending) (place at)));
     }
 
 pub nothing : Spells [] []
@@ -202,5 +222,7 @@ whole bytes items none spells =
           ∙ (spells.items_are 0 []
           ∙ (ap (λ (t : Scan). items ++ items_of t.tokens) (at_end (0 + length bytes)) ∙ append-nil items));
       at = 0 + length bytes;
-      ending = ap (λ (t : Scan). t.ending) start ∙ (spells.ending 0 [] ∙ ap (λ (t : Scan). t.ending) (at_end (0 + length bytes)));
+      ending =
+          ap (λ (t : Scan). t.ending) start
+          ∙ (spells.ending 0 [] ∙ ap (λ (t : Scan). t.ending) (at_end (0 + length bytes)));
     }

@@ -1,5 +1,7 @@
 -- A text that is cut up to its end is its tokens, with separators and comments between them.
-use Rattle.std.proofs.Common.{◌≡◌, ℕ, ◌+◌, ◌<◌, ◌≤◌, zero, suc, List, [], ◌∷◌, length, take, drop, get_or, Bool, true, false, cond, ◌&&◌, refl, sym, ap, subst, ◌∙◌, arith, length-drop, inl, inr}
+use Rattle.std.proofs.Common.{◌≡◌, ℕ, ◌+◌, ◌<◌, ◌≤◌, zero, suc, List, [], ◌∷◌, length, take, drop, get_or}
+use Rattle.std.proofs.Common.{Bool, true, false, cond, ◌&&◌, refl, sym, ap, subst, ◌∙◌, arith, length-drop}
+use Rattle.std.proofs.Common.{inl, inr}
 use Rattle.std.specs.Prelude.{nat_eq}
 use Rattle.std.specs.List.{starts_with}
 use Rattle.std.proofs.lemmas.Bool.{cases_lt, false≢true}
@@ -44,7 +46,8 @@ module _ (letters : Bool) (bytes : List ℕ) (end : ℕ) where
 
   -- so it is from this place on
   by_piece :
-      (at : ℕ) (tokens : List Placed) → at < length bytes → LaterAre at → cut letters 0 at bytes ≡ whole tokens end → (p : Piece)
+      (at : ℕ) (tokens : List Placed) → at < length bytes → LaterAre at
+      → cut letters 0 at bytes ≡ whole tokens end → (p : Piece)
       → piece letters (drop at bytes) ≡ p → IsPieceOf (drop at bytes) p → IsText (length bytes) tokens (drop at bytes)
   by_piece at tokens inside later is (Gap n) found part =
       let within : at + n ≤ length bytes = omega (arith, part.1, length-drop at bytes) in
@@ -60,7 +63,8 @@ module _ (letters : Bool) (bytes : List ℕ) (end : ℕ) where
       let listed : record { at = at; item = item } ∷ rest.tokens ≡ tokens = ap (λ (s : Scan). s.tokens) split in
       let ended : rest.ending ≡ AtEnd end = ap (λ (s : Scan). s.ending) split in
       let next : IsText (length bytes) rest.tokens (drop (at + n) bytes) =
-      later (at + n) rest.tokens (omega (arith, part.0)) within (ap (λ (e : Ending). let s : Scan = record { tokens = rest.tokens; ending = e } in s) ended) in
+      later (at + n) rest.tokens (omega (arith, part.0)) within
+      (ap (λ (e : Ending). let s : Scan = record { tokens = rest.tokens; ending = e } in s) ended) in
       subst (λ (ts : List Placed). IsText (length bytes) ts text) listed (
         take n text,
         drop n text,
@@ -92,7 +96,8 @@ module _ (letters : Bool) (bytes : List ℕ) (end : ℕ) where
   from_place (suc left) at tokens within fuel is =
       elim (cases_lt at (length bytes)) [
         | inl inside ↦
-            by_piece at tokens inside (λ place ts further reached cuts. from_place left place ts reached (omega arith) cuts) is
+            by_piece at tokens inside
+            (λ place ts further reached cuts. from_place left place ts reached (omega arith) cuts) is
             (piece letters (drop at bytes)) refl
             (subst (λ (xs : List ℕ). IsPieceOf xs (piece letters xs)) (sym (drop_more bytes at 0 inside))
             (piece_is letters (get_or bytes at 0) (drop (at + 1) bytes)))
@@ -117,9 +122,11 @@ mark_within [] = omega arith
 mark_within (a ∷ []) = no_short_mark (nat_eq 0xEF a) 1
 mark_within (a ∷ (b ∷ [])) = no_mark (nat_eq 0xEF a) (nat_eq 0xBB b) 2
 mark_within (a ∷ (b ∷ (c ∷ rest))) =
-    mark_fits (starts_with nat_eq (a ∷ (b ∷ (c ∷ rest))) (0xEF ∷ 0xBB ∷ 0xBF ∷ [])) (length (a ∷ (b ∷ (c ∷ rest)))) (omega arith)
+    mark_fits (starts_with nat_eq (a ∷ (b ∷ (c ∷ rest))) (0xEF ∷ 0xBB ∷ 0xBF ∷ []))
+    (length (a ∷ (b ∷ (c ∷ rest)))) (omega arith)
 
 pub cuts_to_tokens :
     (bytes : List ℕ) (letters : Bool) (tokens : List Placed) (end : ℕ) → scan bytes letters ≡ whole tokens end
     → IsText (length bytes) tokens (drop (mark_len bytes) bytes)
-cuts_to_tokens bytes letters tokens end is = from_place letters bytes end (length bytes) (mark_len bytes) tokens (mark_within bytes) (omega arith) is
+cuts_to_tokens bytes letters tokens end is =
+    from_place letters bytes end (length bytes) (mark_len bytes) tokens (mark_within bytes) (omega arith) is

@@ -1,5 +1,7 @@
 -- What the pieces of a text are made of.
-use Rattle.std.proofs.Common.{◌≡◌, ◌≢◌, ℕ, ◌+◌, ◌<◌, ◌≤◌, List, [], ◌∷◌, ◌++◌, length, take, drop, get_or, Bool, true, false, cond, ◌==◌, ◌&&◌, refl, sym, ap, subst, ◌∙◌, arith, add-one, length-drop}
+use Rattle.std.proofs.Common.{◌≡◌, ◌≢◌, ℕ, ◌+◌, ◌<◌, ◌≤◌, List, [], ◌∷◌, ◌++◌, length, take, drop, get_or}
+use Rattle.std.proofs.Common.{Bool, true, false, cond, ◌==◌, ◌&&◌, refl, sym, ap, subst, ◌∙◌, arith, add-one}
+use Rattle.std.proofs.Common.{length-drop}
 use Rattle.std.specs.List.{prefix_len, take_while}
 use Rattle.std.specs.Char.{is_ascii_digit, is_ascii_lowercase}
 use Rattle.std.proofs.lemmas.Bool.{eqb-true, and_parts, eq-eqb, false≢true}
@@ -7,7 +9,9 @@ use Rattle.std.proofs.lemmas.List.{take-append-drop, take_more, drop_more}
 use Rattle.std.proofs.lemmas.List.Sums.{prefix_len-le-length, prefix_len_stops}
 use Rattle.std.proofs.lemmas.List.Folds.{length-prefix_len}
 use Rattle.input_text.specs.Token.{Item, Number, Minus, Text, Word}
-use Rattle.input_text.specs.Scan.{Piece, Gap, Lexeme, Wrong, Unclosed, is_separator, is_in_line, is_in_string, number, may_follow, number_piece, minus_piece, closed_by, string_piece, word_piece, piece}
+use Rattle.input_text.specs.Scan.{Piece, Gap, Lexeme, Wrong, Unclosed, is_separator, is_in_line, is_in_string}
+use Rattle.input_text.specs.Scan.{number, may_follow, number_piece, minus_piece, closed_by, string_piece}
+use Rattle.input_text.specs.Scan.{word_piece, piece}
 use Rattle.input_text.specs.Spelling.{Spells, IsLineEnd, GoesOver, Nothing, Separator, Comment}
 use Rattle.input_text.proofs.Runs.{run_passes}
 
@@ -55,7 +59,9 @@ word_is b behind letter =
 
 minus_is : (behind : List ℕ) → IsPieceOf (45 ∷ behind) (minus_piece behind)
 unfolding minus_piece
-minus_is behind = go (prefix_len is_ascii_digit behind == 0) (may_follow (drop (prefix_len is_ascii_digit behind) behind)) refl refl
+minus_is behind =
+    go (prefix_len is_ascii_digit behind == 0) (may_follow (drop (prefix_len is_ascii_digit behind) behind))
+    refl refl
   where
     n : ℕ
     n = prefix_len is_ascii_digit behind
@@ -63,7 +69,8 @@ minus_is behind = go (prefix_len is_ascii_digit behind == 0) (may_follow (drop (
     go :
         (none follows : Bool) → (n == 0) ≡ none → may_follow (drop n behind) ≡ follows
         → IsPieceOf (45 ∷ behind)
-        (cond none (Wrong 0) (cond follows (Lexeme (Minus (number (take_while is_ascii_digit behind))) (n + 1)) (Wrong (n + 1))))
+        (cond none (Wrong 0)
+        (cond follows (Lexeme (Minus (number (take_while is_ascii_digit behind))) (n + 1)) (Wrong (n + 1))))
     go true follows is may = tt
     go false false is may = tt
     go false true is may =
@@ -116,9 +123,11 @@ comment_is : (behind : List ℕ) → IsPieceOf (35 ∷ behind) (Gap (1 + prefix_
 comment_is behind =
     let n : ℕ = prefix_len is_in_line behind in
     let one_more : 1 + n ≡ n + 1 = omega arith in
-    let same : drop (1 + n) (35 ∷ behind) ≡ drop n behind = ap (λ (m : ℕ). drop m (35 ∷ behind)) one_more ∙ drop_next 35 behind n in
+    let same : drop (1 + n) (35 ∷ behind) ≡ drop n behind =
+    ap (λ (m : ℕ). drop m (35 ∷ behind)) one_more ∙ drop_next 35 behind n in
     let over : GoesOver (drop n behind) (35 ∷ (take n behind ++ drop n behind)) =
-    Comment (take n behind) (drop n behind) (run_passes is_in_line behind) (line_end behind (drop n behind) refl) Nothing in (
+    Comment (take n behind) (drop n behind) (run_passes is_in_line behind)
+    (line_end behind (drop n behind) refl) Nothing in (
       omega arith,
       omega (arith, prefix_len-le-length is_in_line behind),
       subst (λ (t : List ℕ). GoesOver (drop (1 + n) (35 ∷ behind)) (35 ∷ t)) (take-append-drop n behind)
@@ -129,7 +138,8 @@ comment_is behind =
 pub piece_is : (letters : Bool) (b : ℕ) (behind : List ℕ) → IsPieceOf (b ∷ behind) (piece letters (b ∷ behind))
 unfolding piece
 piece_is letters b behind =
-    go (is_separator b) (b == 35) (is_ascii_digit b) (b == 45) (b == 34) (letters && is_ascii_lowercase b) refl refl refl refl refl refl
+    go (is_separator b) (b == 35) (is_ascii_digit b) (b == 45) (b == 34) (letters && is_ascii_lowercase b)
+    refl refl refl refl refl refl
   where
     go :
         (s h d m q l : Bool) → is_separator b ≡ s → (b == 35) ≡ h → is_ascii_digit b ≡ d → (b == 45) ≡ m → (b == 34) ≡ q
@@ -142,8 +152,11 @@ piece_is letters b behind =
         subst (λ (c : ℕ). IsPieceOf (c ∷ behind) (Gap (1 + prefix_len is_in_line behind))) (sym (eqb-true b 35 is))
         (comment_is behind)
     go false false true m q l e0 e1 is e3 e4 e5 = number_is b behind is
-    go false false false true q l e0 e1 e2 is e4 e5 = subst (λ (c : ℕ). IsPieceOf (c ∷ behind) (minus_piece behind)) (sym (eqb-true b 45 is)) (minus_is behind)
+    go false false false true q l e0 e1 e2 is e4 e5 =
+        subst (λ (c : ℕ). IsPieceOf (c ∷ behind) (minus_piece behind)) (sym (eqb-true b 45 is))
+        (minus_is behind)
     go false false false false true l e0 e1 e2 e3 is e5 =
         subst (λ (c : ℕ). IsPieceOf (c ∷ behind) (string_piece behind)) (sym (eqb-true b 34 is)) (string_is behind)
-    go false false false false false true e0 e1 e2 e3 e4 is = word_is b behind (and_parts letters (is_ascii_lowercase b) is).1
+    go false false false false false true e0 e1 e2 e3 e4 is =
+        word_is b behind (and_parts letters (is_ascii_lowercase b) is).1
     go false false false false false false e0 e1 e2 e3 e4 e5 = tt

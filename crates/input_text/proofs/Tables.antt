@@ -3,7 +3,8 @@ use Rattle.std.proofs.Common.{◌≡◌, List, [], ◌∷◌, ◌++◌, refl, �
 use Rattle.std.specs.Prelude.{Option, None, Result, IsOk}
 use Rattle.input_text.specs.declared.input_fault.InputFault.{InputFault}
 use Rattle.input_text.specs.Token.{Item, Placed, Ending, AtEnd, AtFault, Scan}
-use Rattle.input_text.specs.Judged.{Judged, then_on, after, at_place, outcome, Progress, GoesOn, Ends, Stopped, on_progress, front_of, carried, carried_to, closed}
+use Rattle.input_text.specs.Judged.{Judged, then_on, after, at_place, outcome, Progress, GoesOn, Ends}
+use Rattle.input_text.specs.Judged.{Stopped, on_progress, front_of, carried, carried_to, closed}
 use Rattle.input_text.proofs.Judgements.{refused, same_value}
 
 -- ---- parts
@@ -40,7 +41,8 @@ module _ {S : Type 0} (table : S → Item → Judged S) where
 
 -- Each place of the one table is a place of the other, where what the one accepts leads along.
 module _ {S T : Type 0} (one : S → Item → Judged S) (other : T → Item → Judged T) (place : S → T)
-    (along : (expected next : S) (item : Item) → one expected item ≡ Ok next → other (place expected) item ≡ Ok (place next)) where
+    (along : (expected next : S) (item : Item) → one expected item ≡ Ok next
+    → other (place expected) item ≡ Ok (place next)) where
   and_item :
       (expected last : S) (item : Item) (items : List Item) (judged : Judged S) → one expected item ≡ judged
       → then_on judged (λ next. after one next items) ≡ Ok last
@@ -52,7 +54,8 @@ module _ {S T : Type 0} (one : S → Item → Judged S) (other : T → Item → 
 
   -- what the one table accepts, the other accepts
   pub accepts_along :
-      (items : List Item) (start last : S) → after one start items ≡ Ok last → after other (place start) items ≡ Ok (place last)
+      (items : List Item) (start last : S) → after one start items ≡ Ok last
+      → after other (place start) items ≡ Ok (place last)
   accepts_along [] start last e = ap (λ (s : S). Ok (place s)) (same_value e)
   accepts_along (item ∷ items) start last e =
       and_item start last item items (one start item) refl e (λ next on. accepts_along items next last on)
@@ -70,8 +73,10 @@ abbrev pub place_of : {S V T : Type 0} → (S → T) → (V → T) → Progress 
 place_of inside behind (GoesOn next) = inside next
 place_of inside behind (Ends value) = behind value
 
-module _ {S V T : Type 0} (inner : S → Item → Judged (Progress S V)) (outer : T → Item → Judged T) (inside : S → T) (behind : V → T)
-    (same : (expected : S) (item : Item) → outer (inside expected) item ≡ carried_to inside behind (inner expected item)) where
+module _ {S V T : Type 0} (inner : S → Item → Judged (Progress S V)) (outer : T → Item → Judged T)
+    (inside : S → T) (behind : V → T)
+    (same : (expected : S) (item : Item)
+    → outer (inside expected) item ≡ carried_to inside behind (inner expected item)) where
   abbrev place : Progress S V → T
   place = place_of inside behind
 
@@ -106,19 +111,24 @@ abbrev pub behind_inner :
 behind_inner (Ok read) next = next read.0 read.1
 behind_inner (Err stopped) next = Err stopped
 
-module _ {S V T W : Type 0} (inner : S → Item → Judged (Progress S V)) (outer : T → Item → Judged T) (whole : T → Option W) (inside : S → T) (behind : V → T)
+module _ {S V T W : Type 0} (inner : S → Item → Judged (Progress S V)) (outer : T → Item → Judged T)
+    (whole : T → Option W) (inside : S → T) (behind : V → T)
     (same : (expected : S) (item : Item) → outer (inside expected) item ≡ carried_to inside behind (inner expected item))
     (unfinished : (expected : S) → whole (inside expected) ≡ None) where
   abbrev Onward : V → Scan → Result W InputFault
   Onward value rest = outcome outer whole (behind value) rest.tokens rest.ending
 
   abbrev ReadsOn : List Placed → Ending → Type 0
-  ReadsOn tokens ending = (expected : S) → outcome outer whole (inside expected) tokens ending ≡ behind_front (front_of inner expected tokens ending) Onward
+  ReadsOn tokens ending =
+      (expected : S)
+      → outcome outer whole (inside expected) tokens ending
+      ≡ behind_front (front_of inner expected tokens ending) Onward
 
   on_token :
       (token : Placed) (tokens : List Placed) (ending : Ending) (judged : Judged (Progress S V)) → ReadsOn tokens ending
       → at_place token.at (carried_to inside behind judged) (λ next. outcome outer whole next tokens ending)
-      ≡ behind_front (on_progress token.at judged (record { tokens = tokens; ending = ending }) (λ next. front_of inner next tokens ending)) Onward
+      ≡ behind_front (on_progress token.at judged (record { tokens = tokens; ending = ending })
+      (λ next. front_of inner next tokens ending)) Onward
   on_token token tokens ending (Ok (GoesOn next)) rest = rest next
   on_token token tokens ending (Ok (Ends value)) rest = refl
   on_token token tokens ending (Err kind) rest = refl
@@ -132,18 +142,25 @@ module _ {S V T W : Type 0} (inner : S → Item → Judged (Progress S V)) (oute
       ap (λ (j : Judged T). at_place token.at j (λ next. outcome outer whole next tokens ending)) (same expected token.item)
       ∙ on_token token tokens ending (inner expected token.item) (reads_front tokens ending)
 
-module _ {S V T W : Type 0} (inner : S → Item → Judged (Progress S V)) (outer : T → Item → Judged (Progress T W)) (inside : S → T) (behind : V → T)
-    (same : (expected : S) (item : Item) → outer (inside expected) item ≡ carried {W = W} inside behind (inner expected item)) where
+module _ {S V T W : Type 0} (inner : S → Item → Judged (Progress S V))
+    (outer : T → Item → Judged (Progress T W)) (inside : S → T) (behind : V → T)
+    (same : (expected : S) (item : Item)
+    → outer (inside expected) item ≡ carried {W = W} inside behind (inner expected item)) where
   abbrev OnwardIn : V → Scan → Result (W × Scan) Stopped
   OnwardIn value rest = front_of outer (behind value) rest.tokens rest.ending
 
   abbrev ReadsOnIn : List Placed → Ending → Type 0
-  ReadsOnIn tokens ending = (expected : S) → front_of outer (inside expected) tokens ending ≡ behind_inner (front_of inner expected tokens ending) OnwardIn
+  ReadsOnIn tokens ending =
+      (expected : S)
+      → front_of outer (inside expected) tokens ending
+      ≡ behind_inner (front_of inner expected tokens ending) OnwardIn
 
   on_token_in :
       (token : Placed) (tokens : List Placed) (ending : Ending) (judged : Judged (Progress S V)) → ReadsOnIn tokens ending
-      → on_progress token.at (carried {W = W} inside behind judged) (record { tokens = tokens; ending = ending }) (λ next. front_of outer next tokens ending)
-      ≡ behind_inner (on_progress token.at judged (record { tokens = tokens; ending = ending }) (λ next. front_of inner next tokens ending)) OnwardIn
+      → on_progress token.at (carried {W = W} inside behind judged)
+      (record { tokens = tokens; ending = ending }) (λ next. front_of outer next tokens ending)
+      ≡ behind_inner (on_progress token.at judged (record { tokens = tokens; ending = ending })
+      (λ next. front_of inner next tokens ending)) OnwardIn
   on_token_in token tokens ending (Ok (GoesOn next)) rest = rest next
   on_token_in token tokens ending (Ok (Ends value)) rest = refl
   on_token_in token tokens ending (Err kind) rest = refl

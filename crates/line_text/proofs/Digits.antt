@@ -1,5 +1,6 @@
 -- Digits with leading zeros.
-use Rattle.std.proofs.Common.{◌≡◌, ℕ, ◌+◌, ◌*◌, ◌/◌, ◌%◌, ◌^◌, ◌<◌, ◌≤◌, zero, suc, List, [], ◌∷◌, ◌++◌, length, refl, ◌∙◌, ap, arith, length-append, pow-suc}
+use Rattle.std.proofs.Common.{◌≡◌, ℕ, ◌+◌, ◌*◌, ◌/◌, ◌%◌, ◌^◌, ◌<◌, ◌≤◌, zero, suc, List, [], ◌∷◌, ◌++◌}
+use Rattle.std.proofs.Common.{length, refl, ◌∙◌, ap, arith, length-append, pow-suc}
 use Rattle.std.specs.Prelude.{decimal}
 use Rattle.std.proofs.lemmas.Fmt.{decimal_step, decimal_digit}
 use Rattle.fixed_place.specs.Text.{last_digits}
@@ -35,6 +36,8 @@ decimal-behind_one (suc k) n below fits =
     ∙ ap (λ (l : List ℕ). l ++ (48 + n % 10) ∷ []) next
 
 -- the text of a number that is a one and k digits, where s is the one at its place
-pub one_and_digits : (text : List ℕ) (s k n : ℕ) → text ≡ decimal (s + n) → s ≡ 10 ^ k → s ≤ 1000000000 → n < 10 ^ k → text ≡ 49 ∷ last_digits k n
+pub one_and_digits :
+    (text : List ℕ) (s k n : ℕ) → text ≡ decimal (s + n) → s ≡ 10 ^ k → s ≤ 1000000000 → n < 10 ^ k
+    → text ≡ 49 ∷ last_digits k n
 one_and_digits text s k n is one small below =
     is ∙ ap (λ (p : ℕ). decimal (p + n)) one ∙ decimal-behind_one k n below (omega (arith, one, small, below))

@@ -23,8 +23,14 @@ length-text_of places units few small =
     let p = scale places in
     let votes : most places ≡ p * 1000000000 = pow-add 10 places 9 in
     let whole : units / p ≤ 1000000000 = div-le_of_le-mul p (omega (arith, votes, small)) in
-    let digits : length (decimal (units / p)) ≤ 10 = length-decimal-le 10 (units / p) (omega arith) (omega (arith, whole)) (omega (arith, whole)) in
-    omega (arith, digits, length-last_digits places (units % p), length-append (decimal (units / p)) (46 ∷ last_digits places (units % p)))
+    let digits : length (decimal (units / p)) ≤ 10 =
+    length-decimal-le 10 (units / p) (omega arith) (omega (arith, whole)) (omega (arith, whole)) in
+    omega (
+      arith,
+      digits,
+      length-last_digits places (units % p),
+      length-append (decimal (units / p)) (46 ∷ last_digits places (units % p)),
+    )
 
 -- a keep value is an amount
 pub scale-most : (places : ℕ) → scale places ≤ most places

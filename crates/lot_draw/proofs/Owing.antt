@@ -35,14 +35,16 @@ one_draw words one other takes again =
       | inl first ↦ elim again.options [
         | inl same ↦
             let is = sym first ∙ same in
-            same_values one other takes.number again.number (ap (λ (ws : List Word). get_or ws 1 []) is) (ap (λ (ws : List Word). get_or ws 3 []) is) takes.says again.says
+            same_values one other takes.number again.number (ap (λ (ws : List Word). get_or ws 1 []) is)
+            (ap (λ (ws : List Word). get_or ws 3 []) is) takes.says again.says
         | inr swapped ↦ absurd (omega (arith, ap (λ (ws : List Word). get_or (get_or ws 0 []) 2 0) (sym first ∙ swapped)))
       ]
       | inr first ↦ elim again.options [
         | inl swapped ↦ absurd (omega (arith, ap (λ (ws : List Word). get_or (get_or ws 0 []) 2 0) (sym first ∙ swapped)))
         | inr same ↦
             let is = sym first ∙ same in
-            same_values one other takes.number again.number (ap (λ (ws : List Word). get_or ws 3 []) is) (ap (λ (ws : List Word). get_or ws 1 []) is) takes.says again.says
+            same_values one other takes.number again.number (ap (λ (ws : List Word). get_or ws 3 []) is)
+            (ap (λ (ws : List Word). get_or ws 1 []) is) takes.says again.says
       ]
     ]
 
@@ -63,19 +65,26 @@ nothing_read = (refl, Keeps-refl no_source.left)
 pub drawn : (words : List Word) (asked : Asked) (end : End InputFault) (sink : Writing) → TakesDraw words asked
     → FinishesOwed (IsOwedFor draws asked [] no_history) end sink → IsRun draws words no_source sink end no_history
 drawn words asked end sink takes finishes =
-    worked draws words asked [] end no_history no_source sink sound takes (refl, nothing_read) (works_alone draws asked [] end sink finishes)
+    worked draws words asked [] end no_history no_source sink sound takes (refl, nothing_read)
+    (works_alone draws asked [] end sink finishes)
 
-none_asked : (words : List Word) (stop : WordsStop) → (stop ≡ BadWordsStop → (asked : Asked) → ¬ (TakesDraw words asked)) → IsAsked TakesDraw words (Err stop)
+none_asked :
+    (words : List Word) (stop : WordsStop)
+    → (stop ≡ BadWordsStop → (asked : Asked) → ¬ (TakesDraw words asked)) → IsAsked TakesDraw words (Err stop)
 none_asked words BadWordsStop none = none refl
 none_asked words NoWordsRead none = tt
 
 -- words that ask for none, and theirs
-pub refused : (words : List Word) (stop : WordsStop) (end : End InputFault) (sink : Writing) → (stop ≡ BadWordsStop → (asked : Asked) → ¬ (TakesDraw words asked))
+pub refused :
+    (words : List Word) (stop : WordsStop) (end : End InputFault) (sink : Writing)
+    → (stop ≡ BadWordsStop → (asked : Asked) → ¬ (TakesDraw words asked))
     → RefusesWords stop end sink → IsRun draws words no_source sink end no_history
 refused words stop end sink none refuses =
     refused_words draws words stop end no_source sink sound (none_asked words stop none) nothing_read refuses
 
-pub nothing_written : {K : Type 0} (written : K → Option (List ℕ)) (faults : K → ℕ) (sink : K) → NothingWritten (writing written faults sink sink)
+pub nothing_written :
+    {K : Type 0} (written : K → Option (List ℕ)) (faults : K → ℕ) (sink : K)
+    → NothingWritten (writing written faults sink sink)
 nothing_written written faults sink = (refl, Keeps-refl (written sink))
 
 -- the numbers of an order are those of candidates
@@ -91,4 +100,6 @@ asked-few seed number n says = omega (arith, says.value, says.numeral.most)
 pub owed_alike : (seed other : Word) (n : ℕ) (end : End InputFault) (sink : Writing) → seed ≡ other
     → FinishesOwed (IsOwedFor draws (record { seed = seed; candidates = n }) [] no_history) end sink
     → FinishesOwed (IsOwedFor draws (record { seed = other; candidates = n }) [] no_history) end sink
-owed_alike seed other n end sink same = subst (λ (s : Word). FinishesOwed (IsOwedFor draws (record { seed = s; candidates = n }) [] no_history) end sink) same
+owed_alike seed other n end sink same =
+    subst (λ (s : Word). FinishesOwed (IsOwedFor draws (record { seed = s; candidates = n }) [] no_history)
+    end sink) same

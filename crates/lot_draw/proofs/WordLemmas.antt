@@ -7,7 +7,9 @@ use Rattle.lot_draw.specs.Words.{Asked, AreOptions, Says, TakesDraw}
 use Rattle.lot_draw.proofs.OneNumber.{list-of_one, one-of_list}
 
 -- a list of four elements
-pub four_items : {X : Type 0} (xs : List X) (a b c d : X) → length xs ≡ 4 → a ≡ get_or xs 0 a → b ≡ get_or xs 1 b → c ≡ get_or xs 2 c → d ≡ get_or xs 3 d → xs ≡ a ∷ b ∷ c ∷ d ∷ []
+pub four_items :
+    {X : Type 0} (xs : List X) (a b c d : X) → length xs ≡ 4 → a ≡ get_or xs 0 a → b ≡ get_or xs 1 b
+    → c ≡ get_or xs 2 c → d ≡ get_or xs 3 d → xs ≡ a ∷ b ∷ c ∷ d ∷ []
 four_items [] a b c d four p q r s = absurd (omega arith)
 four_items (v ∷ []) a b c d four p q r s = absurd (omega arith)
 four_items (v ∷ w ∷ []) a b c d four p q r s = absurd (omega arith)
@@ -16,7 +18,10 @@ four_items (v ∷ w ∷ x ∷ y ∷ []) a b c d four p q r s = cc
 four_items (v ∷ w ∷ x ∷ y ∷ z ∷ xs) a b c d four p q r s = absurd (omega arith)
 
 -- the options with what was read of their values
-pub taken : {E : Type 0} (words : List Word) (seed number : Word) (r : Result (Bor Word × ℕ) E) → AreOptions words seed number → IfOk r (λ a. a.0.now ≡ seed) → IfOk r (λ a. Says seed number a.1) → IfOk r (λ a. TakesDraw words (record { seed = a.0.now; candidates = a.1 }))
+pub taken :
+    {E : Type 0} (words : List Word) (seed number : Word) (r : Result (Bor Word × ℕ) E)
+    → AreOptions words seed number → IfOk r (λ a. a.0.now ≡ seed) → IfOk r (λ a. Says seed number a.1)
+    → IfOk r (λ a. TakesDraw words (record { seed = a.0.now; candidates = a.1 }))
 taken words seed number (Ok a) options same says = record {
   number = number;
   options = subst (λ (s : Word). AreOptions words s number) (sym same) options;
@@ -25,14 +30,17 @@ taken words seed number (Ok a) options same says = record {
 taken words seed number (Err stop) options same says = tt
 
 -- the options say their values alone
-pub refused : (words : List Word) (seed number : Word) → AreOptions words seed number → ((n : ℕ) → ¬ (Says seed number n)) → (asked : Asked) → ¬ (TakesDraw words asked)
+pub refused :
+    (words : List Word) (seed number : Word) → AreOptions words seed number
+    → ((n : ℕ) → ¬ (Says seed number n)) → (asked : Asked) → ¬ (TakesDraw words asked)
 refused words seed number (inl one) none asked takes =
     elim takes.options [
       | inl other ↦
           let same = sym one ∙ other in
           let seeds : asked.seed ≡ seed = sym (ap (λ (ws : List Word). get_or ws 1 []) same) in
           let numbers : takes.number ≡ number = sym (ap (λ (ws : List Word). get_or ws 3 []) same) in
-          none asked.candidates (subst (λ (s : Word). Says s number asked.candidates) seeds (subst (λ (n : Word). Says asked.seed n asked.candidates) numbers takes.says))
+          none asked.candidates (subst (λ (s : Word). Says s number asked.candidates) seeds
+          (subst (λ (n : Word). Says asked.seed n asked.candidates) numbers takes.says))
       | inr other ↦ omega (arith, ap (λ (ws : List Word). get_or (get_or ws 0 []) 2 0) (sym one ∙ other))
     ]
 refused words seed number (inr one) none asked takes =
@@ -42,11 +50,15 @@ refused words seed number (inr one) none asked takes =
           let same = sym one ∙ other in
           let seeds : asked.seed ≡ seed = sym (ap (λ (ws : List Word). get_or ws 3 []) same) in
           let numbers : takes.number ≡ number = sym (ap (λ (ws : List Word). get_or ws 1 []) same) in
-          none asked.candidates (subst (λ (s : Word). Says s number asked.candidates) seeds (subst (λ (n : Word). Says asked.seed n asked.candidates) numbers takes.says))
+          none asked.candidates (subst (λ (s : Word). Says s number asked.candidates) seeds
+          (subst (λ (n : Word). Says asked.seed n asked.candidates) numbers takes.says))
     ]
 
 -- other words in the places of the options
-pub neither : (first value second other : Word) → ¬ ((first ≡ codes "--seed") × (second ≡ codes "--candidates")) → ¬ ((first ≡ codes "--candidates") × (second ≡ codes "--seed")) → (asked : Asked) → ¬ (TakesDraw (first ∷ value ∷ second ∷ other ∷ []) asked)
+pub neither :
+    (first value second other : Word) → ¬ ((first ≡ codes "--seed") × (second ≡ codes "--candidates"))
+    → ¬ ((first ≡ codes "--candidates") × (second ≡ codes "--seed")) → (asked : Asked)
+    → ¬ (TakesDraw (first ∷ value ∷ second ∷ other ∷ []) asked)
 neither first value second other not_one not_other asked takes =
     elim takes.options [
       | inl same ↦ not_one (ap (λ (ws : List Word). get_or ws 0 []) same, ap (λ (ws : List Word). get_or ws 2 []) same)
@@ -54,7 +66,10 @@ neither first value second other not_one not_other asked takes =
     ]
 
 -- what one number of a list says
-pub numeral_taken : (bytes word : Word) (lots items : List ℕ) (n : ℕ) → bytes ≡ word → IsLotList bytes lots → items ≡ lots → length items ≡ 1 → get_or items 0 0 ≡ n → 1 ≤ n → n ≤ 250 → IsNumeralUpTo 250 word × (n ≡ number_of word)
+pub numeral_taken :
+    (bytes word : Word) (lots items : List ℕ) (n : ℕ) → bytes ≡ word → IsLotList bytes lots → items ≡ lots
+    → length items ≡ 1 → get_or items 0 0 ≡ n → 1 ≤ n → n ≤ 250
+    → IsNumeralUpTo 250 word × (n ≡ number_of word)
 numeral_taken bytes word lots items n same list are one is some few =
     let read = one-of_list word lots (subst (λ (w : Word). IsLotList w lots) same list) (sym (ap length are) ∙ one) in
     let value : n ≡ number_of word = sym is ∙ ap (λ (l : List ℕ). get_or l 0 0) are ∙ read.1 in
@@ -66,13 +81,17 @@ numeral_listed bytes word same numeral =
     subst (λ (w : Word). IsLotList w (number_of word ∷ [])) (sym same) (list-of_one word numeral.numeral)
 
 -- nor as its only number
-pub numeral_only : (word : Word) (lots items : List ℕ) → lots ≡ number_of word ∷ [] → items ≡ lots → IsNumeralUpTo 250 word → (length items ≡ 1 → 1 ≤ get_or items 0 0 → get_or items 0 0 ≤ 250 → ⊥) → ⊥
+pub numeral_only :
+    (word : Word) (lots items : List ℕ) → lots ≡ number_of word ∷ [] → items ≡ lots → IsNumeralUpTo 250 word
+    → (length items ≡ 1 → 1 ≤ get_or items 0 0 → get_or items 0 0 ≤ 250 → ⊥) → ⊥
 numeral_only word lots items one are numeral none =
     let is : items ≡ number_of word ∷ [] = are ∙ one in
     let value : get_or items 0 0 ≡ number_of word = ap (λ (l : List ℕ). get_or l 0 0) is in
     none (ap length is) (omega (arith, value, numeral.least)) (omega (arith, value, numeral.most))
 
-pub four_alike : (a b c d a' b' c' d' : Word) → a ≡ a' → b ≡ b' → c ≡ c' → d ≡ d' → a ∷ b ∷ c ∷ d ∷ [] ≡ a' ∷ b' ∷ c' ∷ d' ∷ []
+pub four_alike :
+    (a b c d a' b' c' d' : Word) → a ≡ a' → b ≡ b' → c ≡ c' → d ≡ d'
+    → a ∷ b ∷ c ∷ d ∷ [] ≡ a' ∷ b' ∷ c' ∷ d' ∷ []
 four_alike a b c d a' b' c' d' p q r s =
     ap (λ (w : Word). w ∷ b ∷ c ∷ d ∷ []) p ∙ ap (λ (w : Word). a' ∷ w ∷ c ∷ d ∷ []) q
     ∙ ap (λ (w : Word). a' ∷ b' ∷ w ∷ d ∷ []) r ∙ ap (λ (w : Word). a' ∷ b' ∷ c' ∷ w ∷ []) s

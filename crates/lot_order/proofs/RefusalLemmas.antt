@@ -1,5 +1,6 @@
 -- An order of lots is refused for one reason at most.
-use Rattle.std.proofs.Common.{◌≡◌, ℕ, ◌-◌, ◌<◌, ◌≤◌, List, length, get_or, take, Contains, arith, refl, ap, sym, subst, ◌∙◌, inl, inr}
+use Rattle.std.proofs.Common.{◌≡◌, ℕ, ◌-◌, ◌<◌, ◌≤◌, List, length, get_or, take, Contains, arith, refl, ap}
+use Rattle.std.proofs.Common.{sym, subst, ◌∙◌, inl, inr}
 use Rattle.std.proofs.lemmas.List.{get_or-take, get_or_default, length-take, take_all}
 use Rattle.std.proofs.lemmas.Bool.{cases_order}
 use Rattle.lot_order.specs.declared.lots_stop.LotsStop.{LotsStop}
@@ -17,17 +18,23 @@ whole : (n : ℕ) (order : List ℕ) → AreLots n order → AreLots n (take (le
 whole n order sound = subst (AreLots n) (sym (take_all (length order) order (omega arith))) sound
 
 -- who stands at a place of a front of lots is a candidate
-candidate_at : (n : ℕ) (order : List ℕ) (m place : ℕ) → AreLots n (take m order) → 1 ≤ place → place ≤ m → place ≤ length order → (1 ≤ number_at order place) × (number_at order place ≤ n)
+candidate_at :
+    (n : ℕ) (order : List ℕ) (m place : ℕ) → AreLots n (take m order) → 1 ≤ place → place ≤ m
+    → place ≤ length order → (1 ≤ number_at order place) × (number_at order place ≤ n)
 candidate_at n order m place sound some within inside =
-    subst (λ (c : ℕ). (1 ≤ c) × (c ≤ n)) (get_or-take m order (place - 1) 0 (omega arith)) (sound.numbers (place - 1) 0 (omega (arith, length-take m order)))
+    subst (λ (c : ℕ). (1 ≤ c) × (c ≤ n)) (get_or-take m order (place - 1) 0 (omega arith))
+    (sound.numbers (place - 1) 0 (omega (arith, length-take m order)))
 
 -- and doesn't stand before it
-no_repeat : (n : ℕ) (order : List ℕ) (m place : ℕ) → AreLots n (take m order) → 1 ≤ place → place ≤ m → place ≤ length order → ¬ (Contains (before order place) (number_at order place))
+no_repeat :
+    (n : ℕ) (order : List ℕ) (m place : ℕ) → AreLots n (take m order) → 1 ≤ place → place ≤ m
+    → place ≤ length order → ¬ (Contains (before order place) (number_at order place))
 no_repeat n order m place sound some within inside found =
     let k : ℕ = found.0 in
     let earlier : k < place - 1 = omega (arith, found.1, length-take (place - 1) order) in
     let same : get_or order k 0 ≡ number_at order place =
-    sym (get_or-take (place - 1) order k 0 earlier) ∙ (get_or_default (take (place - 1) order) k 0 (number_at order place) found.1 ∙ found.2) in
+    sym (get_or-take (place - 1) order k 0 earlier)
+    ∙ (get_or_default (take (place - 1) order) k 0 (number_at order place) found.1 ∙ found.2) in
     sound.different k (place - 1) 0 earlier (omega (arith, length-take m order))
     (get_or-take m order k 0 (omega arith) ∙ (same ∙ sym (get_or-take m order (place - 1) 0 (omega arith))))
 
@@ -60,7 +67,8 @@ not_both n order a b out twice =
     let same : a ≡ b = same_place n order a b (out_of_range_fault n order a out) (twice_fault n order b twice) in
     let found = twice.stood_before in
     let number = number_at order b in
-    let candidate : (1 ≤ number) × (number ≤ n) = subst (λ (c : ℕ). (1 ≤ c) × (c ≤ n)) found.2 (twice.sound_before.numbers found.0 number found.1) in
+    let candidate : (1 ≤ number) × (number ≤ n) =
+    subst (λ (c : ℕ). (1 ≤ c) × (c ≤ n)) found.2 (twice.sound_before.numbers found.0 number found.1) in
     out.no_candidate (subst (λ (p : ℕ). (1 ≤ number_at order p) × (number_at order p ≤ n)) (sym same) candidate)
 
 -- a whole order of n candidates is one of lots
@@ -95,20 +103,30 @@ none_missing n order c missing is all = missing.missing (is.whole c missing.cand
 no_fault : (n : ℕ) (order : List ℕ) (place : ℕ) → IsFaultAt n order place → place ≤ length order → ¬ (AreLots n order)
 no_fault n order place fault inside sound = fault.breaks (length order) inside (whole n order sound)
 
-pub one_refusal : (n : ℕ) (order : List ℕ) (one other : LotsStop) → IsLotsStop n order one → IsLotsStop n order other → one ≡ other
+pub one_refusal :
+    (n : ℕ) (order : List ℕ) (one other : LotsStop) → IsLotsStop n order one → IsLotsStop n order other
+    → one ≡ other
 one_refusal n order (NotAll c) (NotAll d) a b = ap NotAll (same_missing n order c d a b)
 one_refusal n order (NotAll c) (Twice p) a b = absurd (no_fault n order p (twice_fault n order p b) b.inside a.sound)
-one_refusal n order (NotAll c) (OutOfRange p) a b = absurd (no_fault n order p (out_of_range_fault n order p b) b.inside a.sound)
+one_refusal n order (NotAll c) (OutOfRange p) a b =
+    absurd (no_fault n order p (out_of_range_fault n order p b) b.inside a.sound)
 one_refusal n order (NotAll c) NoMemory a b = absurd (none_missing n order c a b.0 b.1)
 one_refusal n order (Twice p) (NotAll c) a b = absurd (no_fault n order p (twice_fault n order p a) a.inside b.sound)
-one_refusal n order (Twice p) (Twice q) a b = ap Twice (same_place n order p q (twice_fault n order p a) (twice_fault n order q b))
+one_refusal n order (Twice p) (Twice q) a b =
+    ap Twice (same_place n order p q (twice_fault n order p a) (twice_fault n order q b))
 one_refusal n order (Twice p) (OutOfRange q) a b = absurd (not_both n order q p b a)
-one_refusal n order (Twice p) NoMemory a b = absurd (no_fault n order p (twice_fault n order p a) a.inside (lots_of_order n order b.0 b.1))
-one_refusal n order (OutOfRange p) (NotAll c) a b = absurd (no_fault n order p (out_of_range_fault n order p a) a.inside b.sound)
+one_refusal n order (Twice p) NoMemory a b =
+    absurd (no_fault n order p (twice_fault n order p a) a.inside (lots_of_order n order b.0 b.1))
+one_refusal n order (OutOfRange p) (NotAll c) a b =
+    absurd (no_fault n order p (out_of_range_fault n order p a) a.inside b.sound)
 one_refusal n order (OutOfRange p) (Twice q) a b = absurd (not_both n order p q a b)
-one_refusal n order (OutOfRange p) (OutOfRange q) a b = ap OutOfRange (same_place n order p q (out_of_range_fault n order p a) (out_of_range_fault n order q b))
-one_refusal n order (OutOfRange p) NoMemory a b = absurd (no_fault n order p (out_of_range_fault n order p a) a.inside (lots_of_order n order b.0 b.1))
+one_refusal n order (OutOfRange p) (OutOfRange q) a b =
+    ap OutOfRange (same_place n order p q (out_of_range_fault n order p a) (out_of_range_fault n order q b))
+one_refusal n order (OutOfRange p) NoMemory a b =
+    absurd (no_fault n order p (out_of_range_fault n order p a) a.inside (lots_of_order n order b.0 b.1))
 one_refusal n order NoMemory (NotAll c) a b = absurd (none_missing n order c b a.0 a.1)
-one_refusal n order NoMemory (Twice p) a b = absurd (no_fault n order p (twice_fault n order p b) b.inside (lots_of_order n order a.0 a.1))
-one_refusal n order NoMemory (OutOfRange p) a b = absurd (no_fault n order p (out_of_range_fault n order p b) b.inside (lots_of_order n order a.0 a.1))
+one_refusal n order NoMemory (Twice p) a b =
+    absurd (no_fault n order p (twice_fault n order p b) b.inside (lots_of_order n order a.0 a.1))
+one_refusal n order NoMemory (OutOfRange p) a b =
+    absurd (no_fault n order p (out_of_range_fault n order p b) b.inside (lots_of_order n order a.0 a.1))
 one_refusal n order NoMemory NoMemory a b = refl

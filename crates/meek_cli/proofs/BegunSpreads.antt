@@ -24,7 +24,8 @@ spread_ballots s = s.lanes.ballots
 
 -- a distribution that was begun can distribute
 pub can_spread :
-    {P : ℕ} {F : Type 0} (calls : Shared F (MutBor Lanes × Unit {0}) (Unit {0} × (MutBor Lanes × Unit {0}))) (candidates : ℕ) (run : F) (s : PlanSpread P F)
+    {P : ℕ} {F : Type 0} (calls : Shared F (MutBor Lanes × Unit {0}) (Unit {0} × (MutBor Lanes × Unit {0})))
+    (candidates : ℕ) (run : F) (s : PlanSpread P F)
     → RunsLanes calls (10 ^ P) run → IsBegunBy candidates run s → CanSpread calls (10 ^ P) s.candidates s.total s.lanes s.run
 can_spread {P} calls candidates run s runs begun = record {
   scaled = begun.scaled;
@@ -34,14 +35,17 @@ can_spread {P} calls candidates run s runs begun = record {
 }
 
 -- these distributions are begun, and those of these versions are left
-pub record AreBegunBy {P : ℕ} {F : Type 0} (candidates : ℕ) (run : F) (versions : List VersionState) (spreads : List (PlanSpread P F)) (left : List VersionState) : Type 0 where
+pub record AreBegunBy {P : ℕ} {F : Type 0} (candidates : ℕ) (run : F) (versions : List VersionState)
+    (spreads : List (PlanSpread P F)) (left : List VersionState) : Type 0 where
   pub whole : map spread_ballots spreads ++ map ballots_of left ≡ map ballots_of versions
   pub each : All (IsBegunBy candidates run) spreads
   pub left_of_all : All (λ v. v.candidates ≡ candidates) left
 
 pub begun_none :
-    {P : ℕ} {F : Type 0} (candidates : ℕ) (run : F) (versions : List VersionState) (spreads : List (PlanSpread P F)) (left : List VersionState)
-    → spreads ≡ [] → left ≡ versions → All (λ v. v.candidates ≡ candidates) versions → AreBegunBy candidates run versions spreads left
+    {P : ℕ} {F : Type 0} (candidates : ℕ) (run : F) (versions : List VersionState)
+    (spreads : List (PlanSpread P F)) (left : List VersionState)
+    → spreads ≡ [] → left ≡ versions → All (λ v. v.candidates ≡ candidates) versions
+    → AreBegunBy candidates run versions spreads left
 begun_none candidates run versions spreads left none is all = record {
   whole = λ i. map spread_ballots (none i) ++ map ballots_of (is i);
   each = subst (All (IsBegunBy candidates run)) (sym none) (All-nil (IsBegunBy candidates run));
@@ -49,7 +53,8 @@ begun_none candidates run versions spreads left none is all = record {
 }
 
 pub begun_more :
-    {P : ℕ} {F : Type 0} (candidates : ℕ) (run : F) (versions : List VersionState) (spreads spreads' : List (PlanSpread P F)) (left rest : List VersionState)
+    {P : ℕ} {F : Type 0} (candidates : ℕ) (run : F) (versions : List VersionState)
+    (spreads spreads' : List (PlanSpread P F)) (left rest : List VersionState)
     (version : VersionState) (s : PlanSpread P F) → AreBegunBy candidates run versions spreads left → left ≡ version ∷ rest
     → spreads' ≡ spreads ++ s ∷ [] → s.lanes.ballots ≡ ballots_of version → IsBegunBy candidates run s
     → AreBegunBy candidates run versions spreads' rest
@@ -62,17 +67,23 @@ begun_more candidates run versions spreads spreads' left rest version s so_far i
           ∙ (append_assoc (map spread_ballots spreads) (s.lanes.ballots ∷ []) (map ballots_of rest)
           ∙ (ap (λ (b : List (List ℕ)). map spread_ballots spreads ++ b ∷ map ballots_of rest) ballots
           ∙ (ap (λ (l : List VersionState). map spread_ballots spreads ++ map ballots_of l) (sym is) ∙ so_far.whole))));
-      each = subst (All (IsBegunBy candidates run)) (sym put) (All-push (IsBegunBy candidates run) spreads s so_far.each begun);
+      each =
+          subst (All (IsBegunBy candidates run)) (sym put)
+          (All-push (IsBegunBy candidates run) spreads s so_far.each begun);
       left_of_all = All-tail Of version rest (subst (All Of) is so_far.left_of_all);
     }
 
 pub begun_all :
-    {P : ℕ} {F : Type 0} (candidates : ℕ) (run : F) (versions : List VersionState) (spreads : List (PlanSpread P F)) (left : List VersionState)
+    {P : ℕ} {F : Type 0} (candidates : ℕ) (run : F) (versions : List VersionState)
+    (spreads : List (PlanSpread P F)) (left : List VersionState)
     → AreBegunBy candidates run versions spreads left → left ≡ [] → map spread_ballots spreads ≡ map ballots_of versions
 begun_all candidates run versions spreads left begun none =
-    sym (append-nil (map spread_ballots spreads)) ∙ (ap (λ (l : List VersionState). map spread_ballots spreads ++ map ballots_of l) (sym none) ∙ begun.whole)
+    sym (append-nil (map spread_ballots spreads))
+    ∙ (ap (λ (l : List VersionState). map spread_ballots spreads ++ map ballots_of l) (sym none)
+    ∙ begun.whole)
 
 pub as_many :
-    {P : ℕ} {F : Type 0} (versions : List VersionState) (spreads : List (PlanSpread P F)) → map spread_ballots spreads ≡ map ballots_of versions
+    {P : ℕ} {F : Type 0} (versions : List VersionState) (spreads : List (PlanSpread P F))
+    → map spread_ballots spreads ≡ map ballots_of versions
     → length spreads ≡ length versions
 as_many versions spreads same = sym (length-map spreads spread_ballots) ∙ (ap length same ∙ length-map versions ballots_of)

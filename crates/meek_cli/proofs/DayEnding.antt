@@ -28,7 +28,8 @@ pub refused_day :
 refused_day input stop status outcome sink short why is finishes =
     let done = refused meek DayWork input stop status sink refl short
     (λ fault same. subst (λ (s : InputStop). OnFault s (IsDayRefusal (scan input true))) same why) finishes in
-    subst (λ (o : Outcome). FinishesDay input o.status o.history sink) (sym is) (works_alone meek DayWork input status sink done)
+    subst (λ (o : Outcome). FinishesDay input o.status o.history sink) (sym is)
+    (works_alone meek DayWork input status sink done)
 
 -- what playing a day of the file came to is what the work on the file came to
 pub day_of :
@@ -40,7 +41,8 @@ day_of input day status history sink short says (inr (calls, (text, is, finishes
 
 -- what writing the text came to is what playing the day came to
 pub played :
-    (day : Day) (terms : Terms) (history : List Entry) (status : Status) (sink : Writing) → terms ≡ terms_of day → IsHistoryOf day.scripts history
+    (day : Day) (terms : Terms) (history : List Entry) (status : Status) (sink : Writing)
+    → terms ≡ terms_of day → IsHistoryOf day.scripts history
     → ¬ (status ≡ NoMemory) → WritesDay terms history status sink → PlaysDay day status history sink
 played day terms history status sink of calls other (inl (same, nothing)) = absurd (other same)
 played day terms history status sink of calls other (inr (text, is, finishes)) =

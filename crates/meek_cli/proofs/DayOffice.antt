@@ -15,7 +15,9 @@ use Rattle.team_run.proofs.Lists.{got}
 use Rattle.meek_cli.specs.DayHistory.{IsHistoryOf}
 use Rattle.meek_cli.specs.Frozen.{AreFrozen}
 
-pub history_of_day : (scripts : List Script) (versions : List VersionState) (history : List Entry) → HasEnded scripts versions history → IsHistoryOf scripts history
+pub history_of_day :
+    (scripts : List Script) (versions : List VersionState) (history : List Entry)
+    → HasEnded scripts versions history → IsHistoryOf scripts history
 history_of_day scripts versions history ended = record {
   legal = ended.legal;
   ends = record { before = ended.before; last = ended.last; no_other = ended.no_other };
@@ -38,13 +40,17 @@ of_office o now taken versions are is =
     versions are.each
 
 pub frozen_of_day :
-    (o : OfficeState) (now : Sight) (taken : List PassState) (n : ℕ) (scripts : List Script) (versions all : List VersionState) (last : VersionState) (history : List Entry)
-    → HasEnded scripts (versions ++ last ∷ []) history → all ≡ versions ++ last ∷ [] → o.candidates ≡ n → last.candidates ≡ n → AreVersionsOf taken versions
+    (o : OfficeState) (now : Sight) (taken : List PassState) (n : ℕ) (scripts : List Script)
+    (versions all : List VersionState) (last : VersionState) (history : List Entry)
+    → HasEnded scripts (versions ++ last ∷ []) history → all ≡ versions ++ last ∷ [] → o.candidates ≡ n
+    → last.candidates ≡ n → AreVersionsOf taken versions
     → ((k : ℕ) (pass : PassState) → slice_get taken k ≡ Some pass → IsTaken o now pass) → AreFrozen n history all
 frozen_of_day o now taken n scripts versions all last history ended put office of_last are is =
     subst (AreFrozen n history) (sym put)
     (record {
       places = ended.places;
       stand = ended.stand;
-      of_all = All-push (IsOf n) versions last (subst (λ (m : ℕ). All (IsOf m) versions) office (of_office o now taken versions are is)) of_last;
+      of_all =
+          All-push (IsOf n) versions last
+          (subst (λ (m : ℕ). All (IsOf m) versions) office (of_office o now taken versions are is)) of_last;
     })

@@ -30,7 +30,8 @@ ballots_of version = all_ballots version.plans
 -- ---- the text
 
 texts_are_sheets :
-    (terms : Terms) (history : List Entry) (p : ℕ) (versions : List VersionState) (text : List ℕ) → OrderOfBallotsLeavesTheSheet → terms.places ≡ p
+    (terms : Terms) (history : List Entry) (p : ℕ) (versions : List VersionState) (text : List ℕ)
+    → OrderOfBallotsLeavesTheSheet → terms.places ≡ p
     → All (λ v. StandsIn v history) versions
     → AreDueTexts p (dues_of terms.omega terms.lots (map (head_of terms.roll) versions) (map ballots_of versions)) text
     → AreSheets terms history (map (λ version. version.at) versions) text
@@ -40,17 +41,23 @@ texts_are_sheets terms history p (v ∷ versions) text leaves is standing (first
     let stood = plain (standing_after history v.at) in
     let in_order : IsSheet p terms.omega stood (roll_with terms.roll v.struck) terms.lots sheet =
     (leaves Meek p terms.omega (ballots_of v) stood (roll_with terms.roll v.struck) terms.lots sheet here.ballots).0 of in
-    let by_struck = subst (λ (struck : List ℕ). IsSheet p terms.omega stood (roll_with terms.roll struck) terms.lots sheet) here.struck in_order in (
+    let by_struck =
+    subst
+    (λ (struck : List ℕ). IsSheet p terms.omega stood (roll_with terms.roll struck) terms.lots sheet)
+    here.struck in_order in (
       sheet,
       others,
-      subst (λ (k : ℕ). IsSheet k terms.omega stood (roll_with terms.roll (struck_after history v.at)) terms.lots sheet) (sym is) by_struck,
-      texts_are_sheets terms history p versions others leaves is (All-tail (λ (w : VersionState). StandsIn w history) v versions standing) more,
+      subst (λ (k : ℕ). IsSheet k terms.omega stood (roll_with terms.roll (struck_after history v.at))
+          terms.lots sheet) (sym is) by_struck,
+      texts_are_sheets terms history p versions others leaves is
+          (All-tail (λ (w : VersionState). StandsIn w history) v versions standing) more,
       whole ∙ (ap (λ (l : List ℕ). l ++ others) line ∙ append_assoc (ended (sheet_line v.at)) sheet others),
     )
 
 -- The texts of the sheets of the versions of all freezes are the sheets of the history's text.
 pub sheets_of :
-    (terms : Terms) (history : List Entry) (p n : ℕ) (versions : List VersionState) (heads : List SheetHead) (ballots : List (List (List ℕ)))
+    (terms : Terms) (history : List Entry) (p n : ℕ) (versions : List VersionState) (heads : List SheetHead)
+    (ballots : List (List (List ℕ)))
     (text : List ℕ) → OrderOfBallotsLeavesTheSheet → terms.places ≡ p → AreFrozen n history versions
     → heads ≡ map (head_of terms.roll) versions → ballots ≡ map ballots_of versions
     → AreDueTexts p (dues_of terms.omega terms.lots heads ballots) text
@@ -58,7 +65,8 @@ pub sheets_of :
 sheets_of terms history p n versions heads ballots text leaves is frozen of_heads of_ballots texts =
     subst (λ (places : List ℕ). AreSheets terms history places text) frozen.places
     (texts_are_sheets terms history p versions text leaves is frozen.stand
-    (subst (λ (l : List SheetDue). AreDueTexts p l text) (λ i. dues_of terms.omega terms.lots (of_heads i) (of_ballots i)) texts))
+    (subst (λ (l : List SheetDue). AreDueTexts p l text)
+    (λ i. dues_of terms.omega terms.lots (of_heads i) (of_ballots i)) texts))
 
 -- Where the texts of the due sheets are the sheets of a history, its text was written.
 pub writes_day :
@@ -72,6 +80,8 @@ writes_day terms history p dues status sink are (inr (sheets, texts, finishes)) 
 -- ---- candidates
 
 pub heads_of_all :
-    (roll : RollList) (m : ℕ) (versions : List VersionState) (heads : List SheetHead) → heads ≡ map (head_of roll) versions → length roll.names ≡ m
+    (roll : RollList) (m : ℕ) (versions : List VersionState) (heads : List SheetHead)
+    → heads ≡ map (head_of roll) versions → length roll.names ≡ m
     → All (IsHeadOf m) heads
-heads_of_all roll m versions heads of names = subst (All (IsHeadOf m)) (sym of) (All-map (IsHeadOf m) (head_of roll) versions (λ k d below. names))
+heads_of_all roll m versions heads of names =
+    subst (All (IsHeadOf m)) (sym of) (All-map (IsHeadOf m) (head_of roll) versions (λ k d below. names))

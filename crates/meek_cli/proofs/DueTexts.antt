@@ -17,18 +17,34 @@ use Rattle.meek_cli.specs.DayText.{sheet_line}
 use Rattle.meek_cli.specs.DueSheets.{SheetDue, HasSheet, IsDueText, AreDueTexts}
 
 -- a count that was just begun has a sheet
-pub sheet_of : (places : ℕ) (count : Progress) → HasJustBegun (scale places) count → HasRest Meek (scale places) count → (sheet : List ℕ) × IsSheetOf Meek places count sheet
+pub sheet_of :
+    (places : ℕ) (count : Progress) → HasJustBegun (scale places) count → HasRest Meek (scale places) count
+    → (sheet : List ℕ) × IsSheetOf Meek places count sheet
 sheet_of places count begun (rows, last, rest) = (
   text_of_lines (sheet_lines places count.roll (length count.ballots) rows last),
-  (rows, last, subst (λ (now : Situation). Rows Meek (scale places) count.ballots count.lots now rows last) begun rest, refl),
+  (
+    rows,
+    last,
+    subst (λ (now : Situation). Rows Meek (scale places) count.ballots count.lots now rows last) begun rest,
+    refl,
+  ),
 )
 
 -- what a count is seen as where it is due
 abbrev pub due_at : ℕ → Progress → SheetDue
-due_at at count = record { at = at; omega = count.situation.omega; ballots = count.ballots; roll = count.roll; lots = count.lots }
+due_at at count =
+    record {
+      at = at;
+      omega = count.situation.omega;
+      ballots = count.ballots;
+      roll = count.roll;
+      lots = count.lots;
+    }
 
 -- what writing a sheet came to
-abbrev pub WritesDue : {S T E : Type 0} → (S → Option (List ℕ)) → (S → ℕ) → (a b : S) → (places : ℕ) → SheetDue → Result T E → Type 0
+abbrev pub WritesDue :
+    {S T E : Type 0} → (S → Option (List ℕ)) → (S → ℕ) → (a b : S) → (places : ℕ) → SheetDue → Result T E
+    → Type 0
 WritesDue w f a b places due r = (text : List ℕ) × IsDueText places due text × WritesBytes w f a b text r
 
 -- the writing stopped in the line of the freeze
@@ -54,7 +70,8 @@ wrote_sheet c places at count (Err e) did all (sheet, is, front) faults =
 -- ---- one sheet after another
 
 -- what of the sheets was written, and what they are with the text of those that are left
-pub record IsWriting {S : Type 0} (w : S → Option (List ℕ)) (f : S → ℕ) (a b : S) (places : ℕ) (all left : List SheetDue) : Type 0 where
+pub record IsWriting {S : Type 0} (w : S → Option (List ℕ)) (f : S → ℕ) (a b : S) (places : ℕ)
+    (all left : List SheetDue) : Type 0 where
   pub text : List ℕ
   pub wrote : WroteBytes w f a b text
   pub onward : (more : List ℕ) → AreDueTexts places left more → AreDueTexts places all (text ++ more)
@@ -87,7 +104,9 @@ writing_more places all left rest due so_far is (text, of, wrote) =
     }
 
 -- sheets that are left have texts
-pub texts_of : (places : ℕ) (dues : List SheetDue) → All (HasSheet places) dues → (text : List ℕ) × AreDueTexts places dues text
+pub texts_of :
+    (places : ℕ) (dues : List SheetDue) → All (HasSheet places) dues
+    → (text : List ℕ) × AreDueTexts places dues text
 texts_of places [] sheets = ([], refl)
 texts_of places (due ∷ dues) sheets =
     let sheet = All-head (HasSheet places) due dues sheets in
@@ -101,8 +120,13 @@ pub writing_stopped :
     → (text : List ℕ) × IsDueText places due text × StoppedBytes w f b c text
     → (text : List ℕ) × AreDueTexts places all text × WritesBytes w f a c text r
 writing_stopped {w} {f} {a} {c} places all left rest due r failed so_far is (text, of, stopped) =
-    let others = texts_of places rest (All-tail (HasSheet places) due rest (subst (All (HasSheet places)) is so_far.sheets)) in
-    let whole = so_far.onward (text ++ others.0) (subst (λ (l : List SheetDue). AreDueTexts places l (text ++ others.0)) (sym is) (text, others.0, of, others.1, refl)) in (
+    let others =
+    texts_of places rest
+    (All-tail (HasSheet places) due rest (subst (All (HasSheet places)) is so_far.sheets)) in
+    let whole =
+    so_far.onward (text ++ others.0) (subst
+    (λ (l : List SheetDue). AreDueTexts places l (text ++ others.0)) (sym is)
+    (text, others.0, of, others.1, refl)) in (
       so_far.text ++ (text ++ others.0),
       whole,
       subst (λ (bytes : List ℕ). WritesBytes w f a c bytes r) (append_assoc so_far.text text others.0)
@@ -115,6 +139,7 @@ pub writing_all :
     → (text : List ℕ) × AreDueTexts places all text × WroteBytes w f a b text
 writing_all {w} {f} {a} {b} places all left so_far is = (
   so_far.text,
-  subst (AreDueTexts places all) (append-nil so_far.text) (so_far.onward [] (subst (λ (l : List SheetDue). AreDueTexts places l []) (sym is) refl)),
+  subst (AreDueTexts places all) (append-nil so_far.text)
+      (so_far.onward [] (subst (λ (l : List SheetDue). AreDueTexts places l []) (sym is) refl)),
   so_far.wrote,
 )

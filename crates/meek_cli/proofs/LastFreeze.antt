@@ -1,5 +1,6 @@
 -- The last version of a day is that of the clerk's freeze, the last of all calls.
-use Rattle.std.proofs.Common.{◌≡◌, ℕ, ◌+◌, ◌≤◌, Bool, true, false, cond, List, [], ◌∷◌, ◌++◌, length, map, filter, sym, ap, ◌∙◌, subst, arith, length-append}
+use Rattle.std.proofs.Common.{◌≡◌, ℕ, ◌+◌, ◌≤◌, Bool, true, false, cond, List, [], ◌∷◌, ◌++◌, length, map}
+use Rattle.std.proofs.Common.{filter, sym, ap, ◌∙◌, subst, arith, length-append}
 use Rattle.std.specs.Prelude.{All, slice_get, Option, Some, unwrap_or}
 use Rattle.std.specs.List.{enumerate_from}
 use Rattle.std.proofs.lemmas.List.{map-append, length-map}
@@ -23,17 +24,23 @@ first_place true place e rest front n is = (place ∷ front, ap (λ (l : List �
 first_place false place e rest front n is = (front, is)
 
 -- the last freeze is at the end
-ends_at : (place : ℕ) (before : List Entry) → (front : List ℕ) × (places_from place (before ++ clerk_freeze ∷ []) ≡ front ++ (place + length before) ∷ [])
+ends_at :
+    (place : ℕ) (before : List Entry)
+    → (front : List ℕ)
+    × (places_from place (before ++ clerk_freeze ∷ []) ≡ front ++ (place + length before) ∷ [])
 ends_at place [] =
     let here : place ≡ place + 0 = omega arith in
     ([], ap (λ (n : ℕ). n ∷ []) here)
 ends_at place (e ∷ es) =
     let rest = ends_at (place + 1) es in
     let same : place + 1 + length es ≡ place + length (e ∷ es) = omega arith in
-    first_place (is_freeze e.call) place e (filter (λ (x : ℕ × Entry). is_freeze x.1.call) (enumerate_from (place + 1) (es ++ clerk_freeze ∷ [])))
+    first_place (is_freeze e.call) place e
+    (filter (λ (x : ℕ × Entry). is_freeze x.1.call) (enumerate_from (place + 1) (es ++ clerk_freeze ∷ [])))
     rest.0 (place + length (e ∷ es)) (rest.1 ∙ ap (λ (n : ℕ). rest.0 ++ n ∷ []) same)
 
-last_place : (history : List Entry) → EndsWithTheClerk history → (front : List ℕ) × (freeze_places history ≡ front ++ length history ∷ [])
+last_place :
+    (history : List Entry) → EndsWithTheClerk history
+    → (front : List ℕ) × (freeze_places history ≡ front ++ length history ∷ [])
 last_place history ends =
     let at = ends_at 1 ends.before in
     let long : length history ≡ 1 + length ends.before =
@@ -47,11 +54,15 @@ last_alike xs ys x y same =
     let other = length-append ys (y ∷ []) in
     let as_long : length xs ≡ length ys = omega (arith, long, one, other) in
     let here : Some x ≡ Some y =
-    sym (get_last xs x) ∙ (ap (λ (l : List ℕ). slice_get l (length xs)) same ∙ (ap (slice_get (ys ++ y ∷ [])) as_long ∙ get_last ys y)) in
+    sym (get_last xs x)
+    ∙ (ap (λ (l : List ℕ). slice_get l (length xs)) same
+    ∙ (ap (slice_get (ys ++ y ∷ [])) as_long ∙ get_last ys y)) in
     ap (λ (o : Option ℕ). unwrap_or o x) here
 
 -- some call is a freeze
-pub some_version : (n : ℕ) (history : List Entry) (versions : List VersionState) → AreFrozen n history versions → EndsWithTheClerk history → 1 ≤ length versions
+pub some_version :
+    (n : ℕ) (history : List Entry) (versions : List VersionState) → AreFrozen n history versions
+    → EndsWithTheClerk history → 1 ≤ length versions
 some_version n history versions frozen ends =
     let last = last_place history ends in
     let long = ap length (frozen.places ∙ last.1) in
@@ -65,7 +76,9 @@ pub record IsClerks (n : ℕ) (history : List Entry) (version : VersionState) : 
   pub stands : StandsIn version history
   pub candidates : version.candidates ≡ n
 
-pub clerks : (n : ℕ) (history : List Entry) (versions before : List VersionState) (version : VersionState) → AreFrozen n history versions → EndsWithTheClerk history
+pub clerks :
+    (n : ℕ) (history : List Entry) (versions before : List VersionState) (version : VersionState)
+    → AreFrozen n history versions → EndsWithTheClerk history
     → versions ≡ before ++ version ∷ [] → IsClerks n history version
 clerks n history versions before version frozen ends is =
     let last = last_place history ends in
@@ -74,6 +87,10 @@ clerks n history versions before version frozen ends is =
     ∙ (ap (map (λ (v : VersionState). v.at)) (sym is) ∙ (frozen.places ∙ last.1)) in
     record {
       at = last_alike (map (λ (v : VersionState). v.at) before) last.0 version.at (length history) places;
-      stands = (All-split (λ (v : VersionState). StandsIn v history) before version (subst (All (λ (v : VersionState). StandsIn v history)) is frozen.stand)).1;
-      candidates = (All-split (λ (v : VersionState). v.candidates ≡ n) before version (subst (All (λ (v : VersionState). v.candidates ≡ n)) is frozen.of_all)).1;
+      stands =
+          (All-split (λ (v : VersionState). StandsIn v history) before version
+          (subst (All (λ (v : VersionState). StandsIn v history)) is frozen.stand)).1;
+      candidates =
+          (All-split (λ (v : VersionState). v.candidates ≡ n) before version
+          (subst (All (λ (v : VersionState). v.candidates ≡ n)) is frozen.of_all)).1;
     }

@@ -1,5 +1,6 @@
 -- The text of a made day is the file of its day.
-use Rattle.std.proofs.Common.{◌≡◌, ◌≢◌, ℕ, ◌-◌, ◌≤◌, true, List, [], ◌∷◌, ◌++◌, length, map, All, AllPairs, None, refl, ◌∙◌, arith, append_assoc, length-append}
+use Rattle.std.proofs.Common.{◌≡◌, ◌≢◌, ℕ, ◌-◌, ◌≤◌, true, List, [], ◌∷◌, ◌++◌, length, map, All, AllPairs}
+use Rattle.std.proofs.Common.{None, refl, ◌∙◌, arith, append_assoc, length-append}
 use Rattle.std.specs.Prelude.{decimal, codes}
 use Rattle.std.specs.List.{flat_map}
 use Rattle.std.specs.Char.{is_ascii_digit}
@@ -49,17 +50,21 @@ each_in_string (b ∷ bytes) each = (digit_in_string b each.0, each_in_string by
 title_spelled : (number : ℕ) → number ≤ 1000 → Spells (title_line number) (Text (title number) ∷ [])
 title_spelled number small =
     strings (title number) 10
-    (each_append is_in_string (codes "Trial ") (decimal number) (refl, (refl, (refl, (refl, (refl, (refl, tt)))))) (each_in_string (decimal number) (digits_of number (omega arith)))) refl
+    (each_append is_in_string (codes "Trial ") (decimal number)
+    (refl, (refl, (refl, (refl, (refl, (refl, tt))))))
+    (each_in_string (decimal number) (digits_of number (omega arith)))) refl
 
 all_spelled : (number : ℕ) → number ≤ 1000 → Spells (trial_day number) (all_items number)
 unfolding trial_day
 all_spelled number small =
     let roll = roll_items number in
     let scripts = script_items number in
-    parts (((roll_lines ++ title_line number) ++ lots_line) ++ teams number 4) (codes "end\n") ((roll ++ lots_items) ++ scripts) (word key.End ∷ [])
+    parts (((roll_lines ++ title_line number) ++ lots_line) ++ teams number 4) (codes "end\n")
+    ((roll ++ lots_items) ++ scripts) (word key.End ∷ [])
     (parts ((roll_lines ++ title_line number) ++ lots_line) (teams number 4) (roll ++ lots_items) scripts
     (parts (roll_lines ++ title_line number) lots_line roll lots_items
-    (parts roll_lines (title_line number) (Number 12 ∷ Number 4 ∷ Number 0 ∷ map Text trial_names) (Text (title number) ∷ []) roll_spelled (title_spelled number small))
+    (parts roll_lines (title_line number) (Number 12 ∷ Number 4 ∷ Number 0 ∷ map Text trial_names)
+    (Text (title number) ∷ []) roll_spelled (title_spelled number small))
     lots_spelled)
     (all_teams number small))
     end_word
@@ -72,14 +77,38 @@ grouped : (number : ℕ) → all_items number ≡ roll_items number ++ (lots_ite
 grouped number =
     let roll = roll_items number in
     let scripts = script_items number in
-    append_assoc (roll ++ lots_items) scripts (word key.End ∷ []) ∙ append_assoc roll lots_items (scripts ++ word key.End ∷ [])
+    append_assoc (roll ++ lots_items) scripts (word key.End ∷ [])
+    ∙ append_assoc roll lots_items (scripts ++ word key.End ∷ [])
 
 -- ---- the roll and the lots
 
 names_short : All (λ name. length name ≤ 200) trial_names
 names_short =
-    All-from_recursion (λ (name : List ℕ). length name ≤ 200) trial_names
-    (omega arith, (omega arith, (omega arith, (omega arith, (omega arith, (omega arith, (omega arith, (omega arith, (omega arith, (omega arith, (omega arith, (omega arith, tt))))))))))))
+    All-from_recursion (λ (name : List ℕ). length name ≤ 200) trial_names (
+      omega arith,
+      (
+        omega arith,
+        (
+          omega arith,
+          (
+            omega arith,
+            (
+              omega arith,
+              (
+                omega arith,
+                (
+                  omega arith,
+                  (
+                    omega arith,
+                    (omega arith, (omega arith, (omega arith, (omega arith, tt)))),
+                  ),
+                ),
+              ),
+            ),
+          ),
+        ),
+      ),
+    )
 
 is_roll : (number : ℕ) → number ≤ 1000 → IsBlt 0 (roll_items number) (record { roll = (made_day number).roll; lines = [] })
 is_roll number small = record {
@@ -129,7 +158,13 @@ lots_in =
                     in_twelve 5 (omega arith) (omega arith),
                     (
                       in_twelve 4 (omega arith) (omega arith),
-                      (in_twelve 3 (omega arith) (omega arith), (in_twelve 2 (omega arith) (omega arith), (in_twelve 1 (omega arith) (omega arith), tt))),
+                      (
+                        in_twelve 3 (omega arith) (omega arith),
+                        (
+                          in_twelve 2 (omega arith) (omega arith),
+                          (in_twelve 1 (omega arith) (omega arith), tt),
+                        ),
+                      ),
                     ),
                   ),
                 ),
@@ -149,7 +184,9 @@ lots_differ i j d before inside same =
 
 -- ---- the day
 
-pub is_made_day : (number : ℕ) → 1 ≤ number → number ≤ 1000 → IsAccepted IsDay (scan (trial_day number) true) (made_day number)
+pub is_made_day :
+    (number : ℕ) → 1 ≤ number → number ≤ 1000
+    → IsAccepted IsDay (scan (trial_day number) true) (made_day number)
 is_made_day number least small =
     let text = whole (trial_day number) (all_items number) (no_mark number) (all_spelled number small) in
     record {

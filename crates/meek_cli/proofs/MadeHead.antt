@@ -18,7 +18,9 @@ abbrev AreStrings : List (List ℕ) → Type 0
 AreStrings [] = ⊤
 AreStrings (name ∷ names) = Each is_in_string name × AreStrings names
 
-names_spelled : (names : List (List ℕ)) → AreStrings names → Spells (flat_map (λ name. 34 ∷ (name ++ 34 ∷ 10 ∷ [])) names) (map Text names)
+names_spelled :
+    (names : List (List ℕ)) → AreStrings names
+    → Spells (flat_map (λ name. 34 ∷ (name ++ 34 ∷ 10 ∷ [])) names) (map Text names)
 names_spelled [] are = nothing
 names_spelled (name ∷ names) are =
     parts (34 ∷ (name ++ 34 ∷ 10 ∷ [])) (flat_map (λ n. 34 ∷ (n ++ 34 ∷ 10 ∷ [])) names) (Text name ∷ []) (map Text names)
@@ -34,10 +36,13 @@ abbrev AreDigits : List Digits → Type 0
 AreDigits [] = ⊤
 AreDigits (d ∷ ds) = (0 < length d.text) × Each is_ascii_digit d.text × (number d.text ≡ d.value) × AreDigits ds
 
-digits_spelled : (ds : List Digits) → AreDigits ds → Spells (flat_map (λ d. d.text ++ 32 ∷ []) ds) (map Number (map (λ d. d.value) ds))
+digits_spelled :
+    (ds : List Digits) → AreDigits ds
+    → Spells (flat_map (λ d. d.text ++ 32 ∷ []) ds) (map Number (map (λ d. d.value) ds))
 digits_spelled [] are = nothing
 digits_spelled (d ∷ ds) are =
-    parts (d.text ++ 32 ∷ []) (flat_map (λ e. e.text ++ 32 ∷ []) ds) (Number d.value ∷ []) (map Number (map (λ e. e.value) ds))
+    parts (d.text ++ 32 ∷ []) (flat_map (λ e. e.text ++ 32 ∷ []) ds) (Number d.value ∷ [])
+    (map Number (map (λ e. e.value) ds))
     (number_spelled d.text 32 d.value are.0 are.1 are.2 refl) (digits_spelled ds are.3)
 
 abbrev one : (value : ℕ) (text : List ℕ) → Digits
@@ -47,9 +52,11 @@ one value text = record { value = value; text = text }
 
 pub roll_spelled : Spells roll_lines (Number 12 ∷ Number 4 ∷ Number 0 ∷ map Text trial_names)
 roll_spelled =
-    parts (codes "12 ") (codes "4\n0\n" ++ flat_map (λ name. 34 ∷ (name ++ 34 ∷ 10 ∷ [])) trial_names) (Number 12 ∷ []) (Number 4 ∷ Number 0 ∷ map Text trial_names)
+    parts (codes "12 ") (codes "4\n0\n" ++ flat_map (λ name. 34 ∷ (name ++ 34 ∷ 10 ∷ [])) trial_names)
+    (Number 12 ∷ []) (Number 4 ∷ Number 0 ∷ map Text trial_names)
     (number_spelled (codes "12") 32 12 (omega arith) (refl, (refl, tt)) refl refl)
-    (parts (codes "4\n") (codes "0\n" ++ flat_map (λ name. 34 ∷ (name ++ 34 ∷ 10 ∷ [])) trial_names) (Number 4 ∷ []) (Number 0 ∷ map Text trial_names)
+    (parts (codes "4\n") (codes "0\n" ++ flat_map (λ name. 34 ∷ (name ++ 34 ∷ 10 ∷ [])) trial_names)
+    (Number 4 ∷ []) (Number 0 ∷ map Text trial_names)
     (number_spelled (codes "4") 10 4 (omega arith) (refl, tt) refl refl)
     (parts (codes "0\n") (flat_map (λ name. 34 ∷ (name ++ 34 ∷ 10 ∷ [])) trial_names) (Number 0 ∷ []) (map Text trial_names)
     (number_spelled (codes "0") 10 0 (omega arith) (refl, tt) refl refl)
@@ -85,9 +92,12 @@ roll_spelled =
 pub lots_spelled : Spells lots_line (word key.Lots ∷ map Number trial_lots ++ Number 0 ∷ [])
 lots_spelled =
     let lots =
-    one 12 (codes "12") ∷ one 11 (codes "11") ∷ one 10 (codes "10") ∷ one 9 (codes "9") ∷ one 8 (codes "8") ∷ one 7 (codes "7")
-    ∷ one 6 (codes "6") ∷ one 5 (codes "5") ∷ one 4 (codes "4") ∷ one 3 (codes "3") ∷ one 2 (codes "2") ∷ one 1 (codes "1") ∷ [] in
-    parts (codes "lots ") (flat_map (λ d. d.text ++ 32 ∷ []) lots ++ codes "0\n") (word key.Lots ∷ []) (map Number trial_lots ++ Number 0 ∷ [])
+    one 12 (codes "12") ∷ one 11 (codes "11") ∷ one 10 (codes "10") ∷ one 9 (codes "9") ∷ one 8 (codes "8")
+    ∷ one 7 (codes "7")
+    ∷ one 6 (codes "6") ∷ one 5 (codes "5") ∷ one 4 (codes "4") ∷ one 3 (codes "3") ∷ one 2 (codes "2")
+    ∷ one 1 (codes "1") ∷ [] in
+    parts (codes "lots ") (flat_map (λ d. d.text ++ 32 ∷ []) lots ++ codes "0\n") (word key.Lots ∷ [])
+    (map Number trial_lots ++ Number 0 ∷ [])
     (words 108 (codes "ots") 32 (refl, (refl, (refl, (refl, tt)))) refl)
     (parts (flat_map (λ d. d.text ++ 32 ∷ []) lots) (codes "0\n") (map Number trial_lots) (Number 0 ∷ [])
     (digits_spelled lots (

@@ -20,7 +20,9 @@ use Rattle.meek_cli.specs.declared.work.Work.TheVariants.{Count, Day, Trial}
 use Rattle.meek_cli.specs.Owed.{Accepts, Refuses, Owes, meek}
 use Rattle.meek_cli.specs.Work.{AsksFor}
 
-one_work : HaveOneCommand → (words : List (List ℕ)) (work other : Work) → AsksFor words work → AsksFor words other → work ≡ other
+one_work :
+    HaveOneCommand → (words : List (List ℕ)) (work other : Work) → AsksFor words work → AsksFor words other
+    → work ≡ other
 one_work one words (Count lots) (Count others) (s, w, asked) (t, v, again) =
     let same : CountWords lots s w ≡ CountWords others t v = one words _ _ asked again in
     let lots_are : lots ≡ others = cc in
@@ -50,7 +52,9 @@ one_work one words (Trial number) (Trial other) (s, w, asked) (t, v, again) =
     ap Trial numbers_are
 
 either :
-    ContestsAreNotRefused → AcceptsDays → RefusesByTheRule → (work : Work) (input : List ℕ) (fault : InputFault) → Accepts work input → Refuses work input fault → ⊥
+    ContestsAreNotRefused → AcceptsDays → RefusesByTheRule
+    → (work : Work) (input : List ℕ) (fault : InputFault) → Accepts work input → Refuses work input fault
+    → ⊥
 either contests days refusals (Count lots) input fault contest refused = contests lots input fault contest refused
 either contests days refusals Day input fault (day, says) refused =
     let read : said_by (scan input true) ≡ Ok day = (days (scan input true) day).1 says in
@@ -59,7 +63,8 @@ either contests days refusals Day input fault (day, says) refused =
 either contests days refusals (Trial number) input fault accepted refused = refused
 
 once :
-    ContestsAreRefusedOnce → RefusesByTheRule → (work : Work) (input : List ℕ) (fault other : InputFault) → Refuses work input fault
+    ContestsAreRefusedOnce → RefusesByTheRule → (work : Work) (input : List ℕ) (fault other : InputFault)
+    → Refuses work input fault
     → Refuses work input other → fault ≡ other
 once contests refusals (Count lots) input fault other refused again = contests lots input fault other refused again
 once contests refusals Day input fault other refused again =
@@ -68,7 +73,9 @@ once contests refusals Day input fault other refused again =
     cc
 once contests refusals (Trial number) input fault other refused again = absurd refused
 
-owed : (work : Work) (input : List ℕ) (history : List Entry) (bytes : List ℕ) → Owes work input history bytes → Accepts work input
+owed :
+    (work : Work) (input : List ℕ) (history : List Entry) (bytes : List ℕ) → Owes work input history bytes
+    → Accepts work input
 owed (Count lots) input history bytes owes = (owes.1.poll, owes.1.says)
 owed Day input history bytes owes = (owes.day, owes.says)
 owed (Trial number) input history bytes owes = tt
@@ -79,7 +86,9 @@ sound_by contests contests_once days refusals one =
     record { one = one_work one; either = either contests days refusals; once = once contests_once refusals; owed = owed }
 
 -- words of no command ask for nothing
-pub no_work : (words : List (List ℕ)) → ((command : Command) → ¬ HasForm words command) → (work : Work) → ¬ AsksFor words work
+pub no_work :
+    (words : List (List ℕ)) → ((command : Command) → ¬ HasForm words command) → (work : Work)
+    → ¬ AsksFor words work
 no_work words none (Count lots) (s, w, asked) = none (CountWords lots s w) asked
 no_work words none Day (s, w, asked) = none (DayWords s w) asked
 no_work words none (Trial number) (s, w, asked) = none (TrialWords number s w) asked

@@ -1,5 +1,6 @@
 -- How many batches stand, call by call.
-use Rattle.std.proofs.Common.{◌≡◌, ◌≢◌, ◌⊎◌, ℕ, zero, suc, ◌+◌, ◌<◌, ◌≤◌, ◌==◌, Bool, true, false, cond, not, [], ◌∷◌, count_by, refl, sym, ap, ◌∙◌, subst, inl, inr, ⊎_elim, arith, ne_eqb}
+use Rattle.std.proofs.Common.{◌≡◌, ◌≢◌, ◌⊎◌, ℕ, zero, suc, ◌+◌, ◌<◌, ◌≤◌, ◌==◌, Bool, true, false, cond, not}
+use Rattle.std.proofs.Common.{[], ◌∷◌, count_by, refl, sym, ap, ◌∙◌, subst, inl, inr, ⊎_elim, arith, ne_eqb}
 use Rattle.std.specs.Prelude.{Option, Some, None, is_none, unwrap_or}
 use Rattle.std.specs.List.{range_with_len}
 use Rattle.std.proofs.lemmas.Bool.{eq-eqb}
@@ -13,8 +14,10 @@ use Rattle.batch_core.specs.declared.change.Change.TheVariants.{Enter, Correct, 
 use Rattle.batch_core.specs.declared.call.Call.{Call}
 use Rattle.batch_core.specs.declared.call.Call.TheVariants.{Change as Changes, Freeze, Strike}
 use Rattle.batch_core.specs.declared.reply.Reply.{Reply}
-use Rattle.batch_core.specs.declared.reply.Reply.TheVariants.{Entered, Corrected, Withdrawn, Gone, Stale, Spent, Struck, AlreadyStruck}
-use Rattle.batch_core.specs.Book.{BookState, empty, after, batch_of, change_reply, change_after, is_struck, last_batch, reply}
+use Rattle.batch_core.specs.declared.reply.Reply.TheVariants.{Entered, Corrected, Withdrawn, Gone, Stale}
+use Rattle.batch_core.specs.declared.reply.Reply.TheVariants.{Spent, Struck, AlreadyStruck}
+use Rattle.batch_core.specs.Book.{BookState, empty, after, batch_of, change_reply, change_after, is_struck}
+use Rattle.batch_core.specs.Book.{last_batch, reply}
 use Rattle.meek_cli.specs.Standing.{HasNumber, come, gone}
 use Rattle.meek_cli.specs.Summary.{stands, standing_batches}
 
@@ -23,14 +26,18 @@ use Rattle.meek_cli.specs.Summary.{stands, standing_batches}
 abbrev bit : Bool → ℕ
 bit b = cond b 1 0
 
-count_first : (f : ℕ → Bool) (a n : ℕ) → count_by f (range_with_len a (suc n)) ≡ bit (f a) + count_by f (range_with_len (a + 1) n)
+count_first :
+    (f : ℕ → Bool) (a n : ℕ)
+    → count_by f (range_with_len a (suc n)) ≡ bit (f a) + count_by f (range_with_len (a + 1) n)
 count_first f a n =
     let both : count_by f (range_with_len a (suc n)) ≡ 0 + bit (f a) + count_by f (range_with_len (a + 1) n) =
     sum_by-append (λ (b : ℕ). cond (f b) 1 0) (a ∷ []) (range_with_len (a + 1) n) in
     omega (arith, both)
 
 -- tests that differ before a range alone count the same in it
-same_behind : (f g : ℕ → Bool) (k : ℕ) → ((b : ℕ) → b ≢ k → g b ≡ f b) → (n a : ℕ) → k < a → count_by g (range_with_len a n) ≡ count_by f (range_with_len a n)
+same_behind :
+    (f g : ℕ → Bool) (k : ℕ) → ((b : ℕ) → b ≢ k → g b ≡ f b) → (n a : ℕ) → k < a
+    → count_by g (range_with_len a n) ≡ count_by f (range_with_len a n)
 same_behind f g k else zero a above = refl
 same_behind f g k else (suc n) a above =
     let here = ap bit (else a (λ e. omega (arith, e, above))) in
@@ -65,7 +72,9 @@ Keeps kept change r = bit (stands (change_after kept change r)) + gone r ≡ bit
 corrects_if : (batch : Batch) (number revision : ℕ) (ballots : BallotList) (none stale spent : Bool)
     → (none ≡ false → stands (Some batch) ≡ true)
     → Keeps (Some batch) (Correct number revision ballots)
-    (unwrap_or (cond none (Some (Gone batch.revision)) (cond stale (Some (Stale batch.revision)) (cond spent (Some Spent) None))) (Corrected (batch.revision + 1)))
+    (unwrap_or (cond none (Some (Gone batch.revision))
+    (cond stale (Some (Stale batch.revision)) (cond spent (Some Spent) None)))
+    (Corrected (batch.revision + 1)))
 corrects_if batch number revision ballots true stale spent some = refl
 corrects_if batch number revision ballots false true spent some = refl
 corrects_if batch number revision ballots false false true some = refl
@@ -74,13 +83,17 @@ corrects_if batch number revision ballots false false false some = ap (λ (b : B
 withdraws_if : (batch : Batch) (number revision : ℕ) (none stale spent : Bool)
     → (none ≡ false → stands (Some batch) ≡ true)
     → Keeps (Some batch) (Withdraw number revision)
-    (unwrap_or (cond none (Some (Gone batch.revision)) (cond stale (Some (Stale batch.revision)) (cond spent (Some Spent) None))) (Withdrawn (batch.revision + 1)))
+    (unwrap_or (cond none (Some (Gone batch.revision))
+    (cond stale (Some (Stale batch.revision)) (cond spent (Some Spent) None)))
+    (Withdrawn (batch.revision + 1)))
 withdraws_if batch number revision true stale spent some = refl
 withdraws_if batch number revision false true spent some = refl
 withdraws_if batch number revision false false true some = refl
 withdraws_if batch number revision false false false some = ap (λ (b : Bool). bit b + 0) (sym (some refl))
 
-stands_if : (standing : Option BallotList) (revision : ℕ) → is_none standing ≡ false → stands (Some (record { revision = revision; standing = standing })) ≡ true
+stands_if :
+    (standing : Option BallotList) (revision : ℕ) → is_none standing ≡ false
+    → stands (Some (record { revision = revision; standing = standing })) ≡ true
 stands_if None revision some = absurd (cc)
 stands_if (Some ballots) revision some = refl
 
@@ -90,9 +103,11 @@ keeps None (Correct number revision ballots) = refl
 keeps None (Withdraw number revision) = refl
 keeps (Some batch) (Enter number ballots) = refl
 keeps (Some batch) (Correct number revision ballots) =
-    corrects_if batch number revision ballots (is_none batch.standing) (not (revision == batch.revision)) (batch.revision == 9999) (stands_if batch.standing batch.revision)
+    corrects_if batch number revision ballots (is_none batch.standing) (not (revision == batch.revision))
+    (batch.revision == 9999) (stands_if batch.standing batch.revision)
 keeps (Some batch) (Withdraw number revision) =
-    withdraws_if batch number revision (is_none batch.standing) (not (revision == batch.revision)) (batch.revision == 9999) (stands_if batch.standing batch.revision)
+    withdraws_if batch number revision (is_none batch.standing) (not (revision == batch.revision))
+    (batch.revision == 9999) (stands_if batch.standing batch.revision)
 
 last : last_batch ≡ 9999
 unfolding last_batch
@@ -120,7 +135,9 @@ changes book change number =
     let step = keeps kept change in
     omega (arith, differs, is, step)
 
-strikes_none : (already : Bool) → (come (cond already AlreadyStruck Struck) ≡ 0) × (gone (cond already AlreadyStruck Struck) ≡ 0)
+strikes_none :
+    (already : Bool)
+    → (come (cond already AlreadyStruck Struck) ≡ 0) × (gone (cond already AlreadyStruck Struck) ≡ 0)
 strikes_none true = (refl, refl)
 strikes_none false = (refl, refl)
 

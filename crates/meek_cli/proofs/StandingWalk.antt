@@ -18,7 +18,8 @@ pub record HasWalked (history left : List Entry) (standing : ℕ) : Type 0 where
   pub numbers : HaveNumbers left
   pub onward : after_all book left ≡ after_all empty history
 
-module _ {history left rest : List Entry} {standing : ℕ} {e : Entry} (so_far : HasWalked history left standing) (is : left ≡ e ∷ rest) where
+module _ {history left rest : List Entry} {standing : ℕ} {e : Entry}
+    (so_far : HasWalked history left standing) (is : left ≡ e ∷ rest) where
   here : IsAnsweredBy so_far.book (e ∷ rest)
   here = subst (IsAnsweredBy so_far.book) is so_far.answered
 
@@ -34,7 +35,8 @@ module _ {history left rest : List Entry} {standing : ℕ} {e : Entry} (so_far :
   pub walked_on : (then' : ℕ) → then' + gone e.reply ≡ standing + come e.reply → HasWalked history rest then'
   walked_on then' step =
       let counts : standing_batches (after so_far.book e.call) + gone e.reply ≡ standing_batches so_far.book + come e.reply =
-      subst (λ (r : Reply). standing_batches (after so_far.book e.call) + gone r ≡ standing_batches so_far.book + come r) (sym here.0) (stands_then so_far.book e.call number) in
+      subst (λ (r : Reply). standing_batches (after so_far.book e.call) + gone r
+      ≡ standing_batches so_far.book + come r) (sym here.0) (stands_then so_far.book e.call number) in
       let before = so_far.counted in
       record {
         book = after so_far.book e.call;
@@ -53,12 +55,16 @@ walk_begins history legal numbers = record {
   onward = refl;
 }
 
-pub walk_ends : {history left : List Entry} {standing : ℕ} → HasWalked history left standing → left ≡ [] → standing ≡ standing_batches (after_all empty history)
+pub walk_ends :
+    {history left : List Entry} {standing : ℕ} → HasWalked history left standing → left ≡ []
+    → standing ≡ standing_batches (after_all empty history)
 walk_ends so_far none = so_far.counted ∙ ap standing_batches (sym (ap (after_all so_far.book) none) ∙ so_far.onward)
 
 pub few : {history left : List Entry} {standing : ℕ} → HasWalked history left standing → standing ≤ 9999
 few so_far = subst (λ (n : ℕ). n ≤ 9999) (sym so_far.counted) (few_stand so_far.book)
 
 -- the next of the calls that are left
-pub next_call : (history : List Entry) (i : ℕ) (e : Entry) → i < length history → e ≡ get_or history i e → drop i history ≡ e ∷ drop (i + 1) history
+pub next_call :
+    (history : List Entry) (i : ℕ) (e : Entry) → i < length history → e ≡ get_or history i e
+    → drop i history ≡ e ∷ drop (i + 1) history
 next_call history i e inside is = drop_more history i e inside ∙ ap (λ (x : Entry). x ∷ drop (i + 1) history) (sym is)

@@ -13,14 +13,18 @@ text_more lines line =
     flat_map-append ended lines (line ∷ []) ∙ ap (λ (l : List ℕ). text_of_lines lines ++ l) (append-nil (ended line))
 
 -- a line behind the lines so far
-one_more : (lines : List (List ℕ)) (line text more : List ℕ) → text ≡ text_of_lines lines → more ≡ text ++ ended line → more ≡ text_of_lines (lines ++ line ∷ [])
+one_more :
+    (lines : List (List ℕ)) (line text more : List ℕ) → text ≡ text_of_lines lines → more ≡ text ++ ended line
+    → more ≡ text_of_lines (lines ++ line ∷ [])
 one_more lines line text more is put = put ∙ (ap (λ (t : List ℕ). t ++ ended line) is ∙ sym (text_more lines line))
 
 -- six lines, and one that is put together of a word and a list
 pub seven_lines :
     (a b c d e f word list : List ℕ) (t t1 t2 t3 t4 t5 t6 t7 t8 t9 : List ℕ)
-    → t ≡ [] → t1 ≡ t ++ ended a → t2 ≡ t1 ++ ended b → t3 ≡ t2 ++ ended c → t4 ≡ t3 ++ ended d → t5 ≡ t4 ++ ended e → t6 ≡ t5 ++ ended f
-    → t7 ≡ t6 ++ word → t8 ≡ t7 ++ list → t9 ≡ t8 ++ 10 ∷ [] → t9 ≡ text_of_lines (a ∷ b ∷ c ∷ d ∷ e ∷ f ∷ (word ++ list) ∷ [])
+    → t ≡ [] → t1 ≡ t ++ ended a → t2 ≡ t1 ++ ended b → t3 ≡ t2 ++ ended c → t4 ≡ t3 ++ ended d
+    → t5 ≡ t4 ++ ended e → t6 ≡ t5 ++ ended f
+    → t7 ≡ t6 ++ word → t8 ≡ t7 ++ list → t9 ≡ t8 ++ 10 ∷ []
+    → t9 ≡ text_of_lines (a ∷ b ∷ c ∷ d ∷ e ∷ f ∷ (word ++ list) ∷ [])
 seven_lines a b c d e f word list t t1 t2 t3 t4 t5 t6 t7 t8 t9 none one two three four five six begun listed end =
     let l1 = one_more [] a t t1 (none ∙ sym no_lines) one in
     let l2 = one_more (a ∷ []) b t1 t2 l1 two in

@@ -38,12 +38,16 @@ use Rattle.meek_cli.specs.Run.{FinishesTrial, PlaysTrial, WritesSummary, WritesS
 use Rattle.meek_cli.proofs.LastFreeze.{IsClerks}
 
 -- the text of a made day is read as the made day
-pub reads_made_day : (number : ℕ) → MadeDaysAreDays → AcceptsDays → (1 ≤ number) × (number ≤ 1000) → reading (trial_day number) ≡ Ok (made_day number)
-reads_made_day number days accepts small = (accepts (scan (trial_day number) true) (made_day number)).1 (days number small.0 small.1)
+pub reads_made_day :
+    (number : ℕ) → MadeDaysAreDays → AcceptsDays → (1 ≤ number) × (number ≤ 1000)
+    → reading (trial_day number) ≡ Ok (made_day number)
+reads_made_day number days accepts small =
+    (accepts (scan (trial_day number) true) (made_day number)).1 (days number small.0 small.1)
 
 -- What playing the day of the text came to is what the trial came to.
 pub trial_of :
-    (number : ℕ) (day : Day) (status : Status) (history : List Entry) (sink : Writing) → IsAccepted IsDay (scan (trial_day number) true) day
+    (number : ℕ) (day : Day) (status : Status) (history : List Entry) (sink : Writing)
+    → IsAccepted IsDay (scan (trial_day number) true) day
     → PlaysTrial number day status history sink → FinishesTrial number status history sink
 trial_of number day status history sink says (inl nothing) = inl nothing
 trial_of number day status history sink says (inr (calls, (text, is, finishes))) =
@@ -53,19 +57,42 @@ trial_of number day status history sink says (inr (calls, (text, is, finishes)))
 
 -- the summary of a count that was made to its end was written
 pub wrote_summary :
-    (number : ℕ) (terms : Terms) (history : List Entry) (ballots : List (List ℕ)) (roll : RollList) (start : Progress) (turns : Turns) (summary : Summary)
+    (number : ℕ) (terms : Terms) (history : List Entry) (ballots : List (List ℕ)) (roll : RollList)
+    (start : Progress) (turns : Turns) (summary : Summary)
     (last : List State) (bytes : List ℕ) (status : Status) (sink : Writing)
-    → terms.places ≡ 9 → start.situation ≡ opening (scale 9) terms.omega roll.seats roll.withdrawn → start.ballots ≡ ballots → start.lots ≡ terms.lots
+    → terms.places ≡ 9 → start.situation ≡ opening (scale 9) terms.omega roll.seats roll.withdrawn
+    → start.ballots ≡ ballots → start.lots ≡ terms.lots
     → IsCountedOut 9 start turns last
-    → summary ≡ record { number = number; calls = length history; batches = standing_batches (after_all empty history); ballots = length ballots; rounds = turns.rounds; iterations = turns.iterations }
-    → bytes ≡ text_of_lines (summary_lines summary last) → Finishes Done bytes status sink → WritesSummaryOf number terms history ballots roll status sink
-wrote_summary number terms history ballots roll start turns summary last bytes status sink nine opens of_ballots of_lots out says text finishes =
+    → summary
+    ≡ record {
+      number = number;
+      calls = length history;
+      batches = standing_batches (after_all empty history);
+      ballots = length ballots;
+      rounds = turns.rounds;
+      iterations = turns.iterations;
+    }
+    → bytes ≡ text_of_lines (summary_lines summary last) → Finishes Done bytes status sink
+    → WritesSummaryOf number terms history ballots roll status sink
+wrote_summary number terms history ballots roll start turns summary last bytes status sink nine opens
+    of_ballots of_lots out says text finishes =
     let counted : IsCount 9 terms.omega ballots roll terms.lots out.rows last =
     subst (λ (now : Situation). Rows Meek (scale 9) ballots terms.lots now out.rows last) opens
     (subst (λ (l : List ℕ). Rows Meek (scale 9) ballots l start.situation out.rows last) of_lots
-    (subst (λ (b : List (List ℕ)). Rows Meek (scale 9) b start.lots start.situation out.rows last) of_ballots out.to_the_end)) in
+    (subst (λ (b : List (List ℕ)). Rows Meek (scale 9) b start.lots start.situation out.rows last) of_ballots
+    out.to_the_end)) in
     let same : summary ≡ summary_of number history (length ballots) out.rows =
-    says ∙ (λ i. let s : Summary = record { number = number; calls = length history; batches = standing_batches (after_all empty history); ballots = length ballots; rounds = out.rounds i; iterations = out.iterations i } in s) in
+    says
+    ∙ (λ i. let s : Summary =
+    record {
+      number = number;
+      calls = length history;
+      batches = standing_batches (after_all empty history);
+      ballots = length ballots;
+      rounds = out.rounds i;
+      iterations = out.iterations i;
+    } in
+    s) in
     inr (
       bytes,
       (
@@ -78,28 +105,41 @@ wrote_summary number terms history ballots roll start turns summary last bytes s
     )
 
 in_order :
-    (number : ℕ) (terms : Terms) (history : List Entry) (one other : List (List ℕ)) (roll : RollList) (text : List ℕ) → OrderOfBallotsChangesNothing
-    → IsPermutation one other → IsSummaryOf number terms history one roll text → IsSummaryOf number terms history other roll text
+    (number : ℕ) (terms : Terms) (history : List Entry) (one other : List (List ℕ)) (roll : RollList)
+    (text : List ℕ) → OrderOfBallotsChangesNothing
+    → IsPermutation one other → IsSummaryOf number terms history one roll text
+    → IsSummaryOf number terms history other roll text
 in_order number terms history one other roll text leaves same (rows, last, counted, is) = (
   rows,
   last,
   (leaves Meek terms.places terms.omega one other roll terms.lots rows last same).0 counted,
-  is ∙ ap (λ (n : ℕ). text_of_lines (summary_lines (summary_of number history n rows) last)) (sym (length_permutation one other same)),
+  is
+      ∙ ap (λ (n : ℕ). text_of_lines (summary_lines (summary_of number history n rows) last))
+      (sym (length_permutation one other same)),
 )
 
 -- the summary of the clerk's version is that of what stands after all calls
 pub sums_up :
-    (number n : ℕ) (terms : Terms) (history : List Entry) (version : VersionState) (ballots : List (List ℕ)) (roll : RollList) (status : Status) (sink : Writing)
-    → OrderOfBallotsChangesNothing → IsClerks n history version → ballots ≡ all_ballots version.plans → roll ≡ roll_with terms.roll version.struck
+    (number n : ℕ) (terms : Terms) (history : List Entry) (version : VersionState) (ballots : List (List ℕ))
+    (roll : RollList) (status : Status) (sink : Writing)
+    → OrderOfBallotsChangesNothing → IsClerks n history version → ballots ≡ all_ballots version.plans
+    → roll ≡ roll_with terms.roll version.struck
     → WritesSummaryOf number terms history ballots roll status sink → WritesSummary number terms history status sink
 sums_up number n terms history version ballots roll status sink leaves clerks of_ballots of_roll (inl nothing) = inl nothing
 sums_up number n terms history version ballots roll status sink leaves clerks of_ballots of_roll (inr (text, is, finishes)) =
-    let of_version : IsSummaryOf number terms history (all_ballots version.plans) (roll_with terms.roll (struck_after history version.at)) text =
-    subst (λ (r : RollList). IsSummaryOf number terms history (all_ballots version.plans) r text) (of_roll ∙ ap (roll_with terms.roll) clerks.stands.struck)
+    let of_version :
+    IsSummaryOf number terms history (all_ballots version.plans)
+    (roll_with terms.roll (struck_after history version.at)) text =
+    subst (λ (r : RollList). IsSummaryOf number terms history (all_ballots version.plans) r text)
+    (of_roll ∙ ap (roll_with terms.roll) clerks.stands.struck)
     (subst (λ (b : List (List ℕ)). IsSummaryOf number terms history b roll text) of_ballots is) in
-    let stands = in_order number terms history (all_ballots version.plans) (plain (standing_after history version.at)) (roll_with terms.roll (struck_after history version.at)) text leaves clerks.stands.ballots of_version in
+    let stands =
+    in_order number terms history (all_ballots version.plans) (plain (standing_after history version.at))
+    (roll_with terms.roll (struck_after history version.at)) text leaves clerks.stands.ballots
+    of_version in
     inr (
       text,
-      subst (λ (k : ℕ). IsSummaryOf number terms history (plain (standing_after history k)) (roll_with terms.roll (struck_after history k)) text) clerks.at stands,
+      subst (λ (k : ℕ). IsSummaryOf number terms history (plain (standing_after history k))
+          (roll_with terms.roll (struck_after history k)) text) clerks.at stands,
       finishes,
     )

@@ -4,7 +4,8 @@ use Rattle.std.proofs.lemmas.List.FromFn.{fill_by_all, get_or-map-range_with_len
 use Rattle.candidate_roll.specs.State.{state_at}
 use Rattle.candidate_roll.specs.declared.state.State.{State}
 use Rattle.candidate_roll.specs.declared.state.State.TheVariants.{Hopeful, Elected, Defeated, Withdrawn}
-use Rattle.meek_rule.specs.Situation.{Situation, IsOnItsWay, final_state, final_keep, final_states, final_keeps, finished, is_full, hopeful_count}
+use Rattle.meek_rule.specs.Situation.{Situation, IsOnItsWay, final_state, final_keep, final_states}
+use Rattle.meek_rule.specs.Situation.{final_keeps, finished, is_full, hopeful_count}
 use Rattle.meek_rule.proofs.EndLemmas.{final-hopeful}
 
 -- a final state and its keep value stay
@@ -41,11 +42,16 @@ finished-twice now =
     let length_of_ended : length ended ≡ n = length-map-range_with_len _ 0 n in
     let length_of_kept : length kept ≡ length ended = length-map-range_with_len _ 0 n ∙ sym length_of_ended in
     let at : (p : ℕ) → p < length ended → state_at ended p ≡ final_state full (state_at now.states p) = λ p below.
-    get_or-map-range_with_len (λ (q : ℕ). final_state full (state_at now.states q)) 0 n p p Withdrawn (omega arith) (omega arith) in
+    get_or-map-range_with_len (λ (q : ℕ). final_state full (state_at now.states q)) 0 n p p Withdrawn
+    (omega arith) (omega arith) in
     let stays : (p : ℕ) → p < length ended → Stays again (state_at ended p) (get_or kept p 0) = λ p below.
     rw (at p below) (final_stays again full (state_at now.states p) (get_or kept p 0)) in
-    let states : ended ≡ final_states (finished now) = fill_by_all (λ p. final_state again (state_at ended p)) ended (length ended) Withdrawn refl (λ p below. (stays p below).state_stays) in
-    let keeps : kept ≡ final_keeps (finished now) = fill_by_all (λ p. final_keep again (state_at ended p) (get_or kept p 0)) kept (length ended) 0 length_of_kept (λ p below. (stays p below).keep_stays) in
+    let states : ended ≡ final_states (finished now) =
+    fill_by_all (λ p. final_state again (state_at ended p)) ended (length ended) Withdrawn refl
+    (λ p below. (stays p below).state_stays) in
+    let keeps : kept ≡ final_keeps (finished now) =
+    fill_by_all (λ p. final_keep again (state_at ended p) (get_or kept p 0)) kept (length ended) 0
+    length_of_kept (λ p below. (stays p below).keep_stays) in
     λ i. record {
       seats = now.seats;
       states = sym states i;

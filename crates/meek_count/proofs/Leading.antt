@@ -15,7 +15,10 @@ leads_none rule s start = record {
 }
 
 -- one iteration leads to the next situation
-pub leads_one : (rule : Rule) (s : ℕ) (old new : Progress) → is_complete old.situation ≡ false → IteratesTo rule s old.ballots old.lots old.situation new.row new.situation → IsSameElection old new → RowsLead rule s old (new.row ∷ []) new
+pub leads_one :
+    (rule : Rule) (s : ℕ) (old new : Progress) → is_complete old.situation ≡ false
+    → IteratesTo rule s old.ballots old.lots old.situation new.row new.situation → IsSameElection old new
+    → RowsLead rule s old (new.row ∷ []) new
 leads_one rule s old new going iterates same = record {
   same = same;
   onward = λ rows last rest.
@@ -26,7 +29,9 @@ leads_one rule s old new going iterates same = record {
 }
 
 -- and behind rows that led there it leads from where they began
-pub leads_more : (rule : Rule) (s : ℕ) (start mid new : Progress) (done more : List Row) → RowsLead rule s start done mid → RowsLead rule s mid more new → RowsLead rule s start (done ++ more) new
+pub leads_more :
+    (rule : Rule) (s : ℕ) (start mid new : Progress) (done more : List Row) → RowsLead rule s start done mid
+    → RowsLead rule s mid more new → RowsLead rule s start (done ++ more) new
 leads_more rule s start mid new done more before next = record {
   same = record {
     roll = next.same.roll ∙ before.same.roll;
@@ -34,6 +39,7 @@ leads_more rule s start mid new done more before next = record {
     ballots = next.same.ballots ∙ before.same.ballots;
   };
   onward = λ rows last rest.
-      subst (λ (all : List Row). Rows rule s start.ballots start.lots start.situation all last) (sym (append_assoc done more rows))
+      subst (λ (all : List Row). Rows rule s start.ballots start.lots start.situation all last)
+      (sym (append_assoc done more rows))
       (before.onward (more ++ rows) last (next.onward rows last rest));
 }

@@ -11,7 +11,13 @@ use Rattle.meek_rule.proofs.WinnersByTest.{pass_as_winners, winners_by_test}
 use Rattle.meek_count.specs.WorkedLoneBallot.{LoneBallot}
 
 -- a row that the rule writes, part by part
-settled : (s : ℕ) (now : Situation) (votes lots : List ℕ) (row : Row) (next : Situation) → row.round ≡ now.round → row.iteration ≡ now.iteration → row.states ≡ now.states → row.keeps ≡ now.keeps → row.votes ≡ votes → row.total ≡ sum votes → row.quota ≡ quota now.seats votes → pass_as_winners now.states (now.seats - elected_count now.states) votes lots row.quota row.elected ≡ true → row.surplus ≡ surplus now.states row.elected votes row.quota → StepLeaves s now lots row row.step next → Settle s now votes lots row next
+settled :
+    (s : ℕ) (now : Situation) (votes lots : List ℕ) (row : Row) (next : Situation) → row.round ≡ now.round
+    → row.iteration ≡ now.iteration → row.states ≡ now.states → row.keeps ≡ now.keeps → row.votes ≡ votes
+    → row.total ≡ sum votes → row.quota ≡ quota now.seats votes
+    → pass_as_winners now.states (now.seats - elected_count now.states) votes lots row.quota row.elected
+    ≡ true → row.surplus ≡ surplus now.states row.elected votes row.quota
+    → StepLeaves s now lots row row.step next → Settle s now votes lots row next
 settled s now votes lots row next round iteration states keeps same total quota winners surplus leaves = record {
   round = round;
   iteration = iteration;
@@ -80,32 +86,38 @@ LoneBallot-holds = (
                               refl,
                               (
                                 transferred 8 457740 914639,
-                                settled _ _ _ _ _ _ refl refl refl refl refl refl refl refl refl (refl, refl, refl, refl, refl),
+                                settled _ _ _ _ _ _ refl refl refl refl refl refl refl refl refl
+                                    (refl, refl, refl, refl, refl),
                                 (
                                   refl,
                                   (
                                     transferred 9 152926 305159,
-                                    settled _ _ _ _ _ _ refl refl refl refl refl refl refl refl refl (refl, refl, refl, refl, refl),
+                                    settled _ _ _ _ _ _ refl refl refl refl refl refl refl refl refl
+                                        (refl, refl, refl, refl, refl),
                                     (
                                       refl,
                                       (
                                         transferred 10 52313 101950,
-                                        settled _ _ _ _ _ _ refl refl refl refl refl refl refl refl refl (refl, refl, refl, refl, refl),
+                                        settled _ _ _ _ _ _ refl refl refl refl refl refl refl refl refl
+                                            (refl, refl, refl, refl, refl),
                                         (
                                           refl,
                                           (
                                             transferred 11 19116 34875,
-                                            settled _ _ _ _ _ _ refl refl refl refl refl refl refl refl refl (refl, refl, refl, refl, refl),
+                                            settled _ _ _ _ _ _ refl refl refl refl refl refl refl refl refl
+                                                (refl, refl, refl, refl, refl),
                                             (
                                               refl,
                                               (
                                                 transferred 12 52313 12743,
-                                                settled _ _ _ _ _ _ refl refl refl refl refl refl refl refl refl (refl, refl, refl, refl, refl),
+                                                settled _ _ _ _ _ _ refl refl refl refl refl refl refl refl
+                                                    refl (refl, refl, refl, refl, refl),
                                                 (
                                                   refl,
                                                   (
                                                     standing (Elected ∷ Defeated ∷ Hopeful ∷ []) 3 1 52313 0 None,
-                                                    settled _ _ _ _ _ _ refl refl refl refl refl refl refl refl refl (refl, refl, refl, refl, refl, refl),
+                                                    settled _ _ _ _ _ _ refl refl refl refl refl refl refl
+                                                        refl refl (refl, refl, refl, refl, refl, refl),
                                                     (refl, refl),
                                                   ),
                                                 ),

@@ -1,5 +1,6 @@
 -- How many places pass a test.
-use Rattle.std.proofs.Common.{◌≡◌, ℕ, ◌+◌, ◌<◌, ◌≤◌, Bool, true, false, cond, arith, refl, ap, sym, ◌∙◌, inl, inr, zero, suc, ◌⊎◌, subst, add-one}
+use Rattle.std.proofs.Common.{◌≡◌, ℕ, ◌+◌, ◌<◌, ◌≤◌, Bool, true, false, cond, arith, refl, ap, sym, ◌∙◌, inl}
+use Rattle.std.proofs.Common.{inr, zero, suc, ◌⊎◌, subst, add-one}
 use Rattle.std.proofs.lemmas.Bool.{cases_Bool, cases_eq}
 use Rattle.meek_rule.specs.Places.{count_places}
 use Rattle.meek_rule.proofs.PlaceLemmas.{count_more}
@@ -31,7 +32,9 @@ count-le (suc n) p q f =
     omega arith
 
 -- and one passes only the other
-pub count-lt : (n : ℕ) (p q : ℕ → Bool) (b : ℕ) → b < n → p b ≡ false → q b ≡ true → ((c : ℕ) → c < n → p c ≡ true → q c ≡ true) → count n p < count n q
+pub count-lt :
+    (n : ℕ) (p q : ℕ → Bool) (b : ℕ) → b < n → p b ≡ false → q b ≡ true
+    → ((c : ℕ) → c < n → p c ≡ true → q c ≡ true) → count n p < count n q
 count-lt zero p q b below fails is f = absurd (omega arith)
 count-lt (suc n) p q b below fails is f =
     elim (cases_eq b n) [
@@ -47,13 +50,17 @@ count-lt (suc n) p q b below fails is f =
     ]
 
 -- who passes one test passes the other, but for one
-pub count-le_but_one : (n : ℕ) (p q : ℕ → Bool) (m : ℕ) → ((c : ℕ) → c < n → p c ≡ true → (q c ≡ true) ⊎ (c ≡ m)) → count n p ≤ count n q + 1
+pub count-le_but_one :
+    (n : ℕ) (p q : ℕ → Bool) (m : ℕ) → ((c : ℕ) → c < n → p c ≡ true → (q c ≡ true) ⊎ (c ≡ m))
+    → count n p ≤ count n q + 1
 count-le_but_one zero p q m f = omega arith
 count-le_but_one (suc n) p q m f =
     elim (cases_eq n m) [
       | inl same ↦
           let before : count n p ≤ count n q =
-          count-le n p q (λ c less is. elim (f c (omega arith) is) [ inl passes ↦ passes | inr at ↦ absurd (omega arith) ]) in
+          count-le n p q
+          (λ c less is. elim (f c (omega arith) is) [ inl passes ↦ passes | inr at ↦ absurd (omega arith) ])
+          in
           let here : cond (p n) 1 0 ≤ 1 = at_most_one (p n) in
           omega arith
       | inr other ↦
@@ -73,7 +80,9 @@ count_none zero = refl
 count_none (suc n) = let before : count n (λ _. false) ≡ 0 = count_none n in omega arith
 
 -- two counts that together make a third
-pub count-add : (n : ℕ) (p q r : ℕ → Bool) → ((c : ℕ) → cond (p c) 1 0 + cond (q c) 1 0 ≡ cond (r c) 1 0) → count n p + count n q ≡ count n r
+pub count-add :
+    (n : ℕ) (p q r : ℕ → Bool) → ((c : ℕ) → cond (p c) 1 0 + cond (q c) 1 0 ≡ cond (r c) 1 0)
+    → count n p + count n q ≡ count n r
 count-add zero p q r f = refl
 count-add (suc n) p q r f =
     let before : count n p + count n q ≡ count n r = count-add n p q r f in
@@ -100,7 +109,9 @@ count_some (suc n) test some =
     ]
 
 -- all pass, or one doesn't
-pub find_failing : (n : ℕ) (p q : ℕ → Bool) → ((c : ℕ) → c < n → p c ≡ true → q c ≡ true) ⊎ ((m : ℕ) × (m < n) × (p m ≡ true) × (q m ≡ false))
+pub find_failing :
+    (n : ℕ) (p q : ℕ → Bool)
+    → ((c : ℕ) → c < n → p c ≡ true → q c ≡ true) ⊎ ((m : ℕ) × (m < n) × (p m ≡ true) × (q m ≡ false))
 find_failing zero p q = inl (λ c below is. absurd (omega arith))
 find_failing (suc n) p q =
     elim (find_failing n p q) [
@@ -109,9 +120,17 @@ find_failing (suc n) p q =
           elim (cases_Bool (p n)) [
             | inl is ↦
                 elim (cases_Bool (q n)) [
-                  | inl passes ↦ inl (λ c below here. elim (cases_eq c n) [ inl same ↦ ap q same ∙ passes | inr other ↦ all c (omega arith) here ])
+                  | inl passes ↦
+                      inl (λ c below here. elim (cases_eq c n)
+                      [ inl same ↦ ap q same ∙ passes | inr other ↦ all c (omega arith) here ])
                   | inr fails ↦ inr (n, omega arith, is, fails)
                 ]
-            | inr not_so ↦ inl (λ c below here. elim (cases_eq c n) [ inl same ↦ absurd (let off = sym here ∙ (ap p same ∙ not_so) in cc) | inr other ↦ all c (omega arith) here ])
+            | inr not_so ↦
+                inl (λ c below here. elim (cases_eq c n) [
+                  | inl same ↦
+                      absurd (let off = sym here ∙ (ap p same ∙ not_so) in cc)
+                  | inr other ↦
+                      all c (omega arith) here
+                ])
           ]
     ]

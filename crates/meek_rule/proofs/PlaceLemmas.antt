@@ -1,7 +1,9 @@
 -- Lists and sums by places.
-use Rattle.std.proofs.Common.{◌≡◌, ℕ, ◌+◌, ◌<◌, Bool, true, false, cond, List, [], ◌∷◌, ◌&&◌, length, get_or, set, sum, map, arith, refl, ap, sym, ◌∙◌, inl, inr, zero, suc, subst, add-one}
+use Rattle.std.proofs.Common.{◌≡◌, ℕ, ◌+◌, ◌<◌, Bool, true, false, cond, List, [], ◌∷◌, ◌&&◌, length, get_or}
+use Rattle.std.proofs.Common.{set, sum, map, arith, refl, ap, sym, ◌∙◌, inl, inr, zero, suc, subst, add-one}
 use Rattle.std.specs.List.{range_with_len, list_all}
-use Rattle.std.proofs.lemmas.List.FromFn.{sum_by-map-range_with_len_more, get_or-range_with_len, length-range_with_len, map-range_with_len_more}
+use Rattle.std.proofs.lemmas.List.FromFn.{sum_by-map-range_with_len_more, get_or-range_with_len}
+use Rattle.std.proofs.lemmas.List.FromFn.{length-range_with_len, map-range_with_len_more}
 use Rattle.std.proofs.lemmas.List.Folds.{list_all_at, list_all-map, list_all-append}
 use Rattle.std.proofs.lemmas.Bool.{cases_Bool, cases_eq}
 use Rattle.std.proofs.lemmas.List.{get_or-set_other}
@@ -27,9 +29,12 @@ all_places test n p all below =
     ]
 
 -- what holds at all places and at the next holds at all
-pub all_grows : (test : ℕ → Bool) (n : ℕ) → list_all test (range_with_len 0 n) ≡ true → test n ≡ true → list_all test (range_with_len 0 (n + 1)) ≡ true
+pub all_grows :
+    (test : ℕ → Bool) (n : ℕ) → list_all test (range_with_len 0 n) ≡ true → test n ≡ true
+    → list_all test (range_with_len 0 (n + 1)) ≡ true
 all_grows test n before here =
-    let front : list_all test (map (λ (x : ℕ). x) (range_with_len 0 n)) ≡ true = list_all-map test (λ (x : ℕ). x) (range_with_len 0 n) ∙ before in
+    let front : list_all test (map (λ (x : ℕ). x) (range_with_len 0 n)) ≡ true =
+    list_all-map test (λ (x : ℕ). x) (range_with_len 0 n) ∙ before in
     let last : list_all test (n ∷ []) ≡ true = ap (λ b. b && true) here in
     sym (list_all-map test (λ (x : ℕ). x) (range_with_len 0 (n + 1)))
     ∙ (ap (λ xs. list_all test xs) (map-range_with_len_more (λ (x : ℕ). x) 0 n n (omega arith))
@@ -38,15 +43,20 @@ all_grows test n before here =
 
 pub all_from : (test : ℕ → Bool) (n : ℕ) → ((b : ℕ) → b < n → test b ≡ true) → list_all test (range_with_len 0 n) ≡ true
 all_from test zero f = refl
-all_from test (suc n) f = subst (λ (m : ℕ). list_all test (range_with_len 0 m) ≡ true) (add-one n) (all_grows test n (all_from test n (λ b below. f b (omega arith))) (f n (omega arith)))
+all_from test (suc n) f =
+    subst (λ (m : ℕ). list_all test (range_with_len 0 m) ≡ true) (add-one n)
+    (all_grows test n (all_from test n (λ b below. f b (omega arith))) (f n (omega arith)))
 
 -- what fails at a place doesn't hold at all
 pub all_fails : (test : ℕ → Bool) (n p : ℕ) → p < n → test p ≡ false → list_all test (range_with_len 0 n) ≡ false
 all_fails test n p below fails =
-    list_all_at test (range_with_len 0 n) p 0 (rw length-range_with_len below) (ap test (get_or-range_with_len 0 n p 0 below ∙ omega arith) ∙ fails)
+    list_all_at test (range_with_len 0 n) p 0 (rw length-range_with_len below)
+    (ap test (get_or-range_with_len 0 n p 0 below ∙ omega arith) ∙ fails)
 
 -- a write at a place of a list of which all before is done
-pub done_more : {X : Type 0} (f : ℕ → X) (xs : List X) (n : ℕ) (y d : X) → n < length xs → y ≡ f n → ((q : ℕ) → q < n → get_or xs q d ≡ f q) → (q : ℕ) → q < n + 1 → get_or (set xs n y) q d ≡ f q
+pub done_more :
+    {X : Type 0} (f : ℕ → X) (xs : List X) (n : ℕ) (y d : X) → n < length xs → y ≡ f n
+    → ((q : ℕ) → q < n → get_or xs q d ≡ f q) → (q : ℕ) → q < n + 1 → get_or (set xs n y) q d ≡ f q
 done_more f xs n y d inside is before q below =
     elim (cases_eq q n) [
       | inl same ↦ get_or-set_at xs n q y d same inside ∙ (is ∙ ap f (sym same))

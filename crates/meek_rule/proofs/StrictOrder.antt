@@ -1,5 +1,6 @@
 -- Places in an order: who comes last, and those before whom few come.
-use Rattle.std.proofs.Common.{◌≡◌, ℕ, ◌+◌, ◌<◌, ◌≤◌, Bool, true, false, ◌&&◌, arith, ap, sym, ◌∙◌, inl, inr, zero, suc, ◌⊎◌, ◌≢◌, not, nat_lt}
+use Rattle.std.proofs.Common.{◌≡◌, ℕ, ◌+◌, ◌<◌, ◌≤◌, Bool, true, false, ◌&&◌, arith, ap, sym, ◌∙◌, inl, inr}
+use Rattle.std.proofs.Common.{zero, suc, ◌⊎◌, ◌≢◌, not, nat_lt}
 use Rattle.std.proofs.lemmas.Bool.{cases_Bool, cases_eq, cases_lt, and_parts, and_from, and_right, lt-ltb}
 use borrow.Author.Tests.{ltb-true}
 use Rattle.meek_rule.proofs.Counting.{count, count-le, count-lt, count-le_but_one, count_none}
@@ -11,25 +12,45 @@ pub record IsStrictOrder (n : ℕ) (before : ℕ → ℕ → Bool) : Type 0 wher
   pub total : (a b : ℕ) → a < n → b < n → a ≢ b → (before a b ≡ true) ⊎ (before b a ≡ true)
 
 -- of those that pass one comes last
-pub find_last : (n top : ℕ) (p : ℕ → Bool) (before : ℕ → ℕ → Bool) → IsStrictOrder top before → n ≤ top → ((c : ℕ) → c < n → p c ≡ true → ⊥) ⊎ ((m : ℕ) × (m < n) × (p m ≡ true) × ((c : ℕ) → c < n → p c ≡ true → (before c m ≡ true) ⊎ (c ≡ m)))
+pub find_last :
+    (n top : ℕ) (p : ℕ → Bool) (before : ℕ → ℕ → Bool) → IsStrictOrder top before → n ≤ top
+    → ((c : ℕ) → c < n → p c ≡ true → ⊥)
+    ⊎ ((m : ℕ) × (m < n) × (p m ≡ true) × ((c : ℕ) → c < n → p c ≡ true → (before c m ≡ true) ⊎ (c ≡ m)))
 find_last zero top p before order le = inl (λ c below is. omega arith)
 find_last (suc n) top p before order le =
     elim (cases_Bool (p n)) [
       | inr not_so ↦
           elim (find_last n top p before order (omega arith)) [
-            | inl none ↦ inl (λ c below is. elim (cases_eq c n) [ inl same ↦ (let off = sym is ∙ (ap p same ∙ not_so) in cc) | inr other ↦ none c (omega arith) is ])
+            | inl none ↦
+                inl (λ c below is. elim (cases_eq c n) [
+                  | inl same ↦
+                      (let off = sym is ∙ (ap p same ∙ not_so) in cc)
+                  | inr other ↦
+                      none c (omega arith) is
+                ])
             | inr found ↦
                 inr (
                   found.0,
                   omega (arith, found.1),
                   found.2,
-                  λ c below is. elim (cases_eq c n) [ inl same ↦ absurd (let off = sym is ∙ (ap p same ∙ not_so) in cc) | inr other ↦ found.3 c (omega arith) is ],
+                  λ c below is. elim (cases_eq c n) [
+                    | inl same ↦
+                        absurd (let off = sym is ∙ (ap p same ∙ not_so) in cc)
+                    | inr other ↦
+                        found.3 c (omega arith) is
+                  ],
                 )
           ]
       | inl is_one ↦
           elim (find_last n top p before order (omega arith)) [
             | inl none ↦
-                inr (n, omega arith, is_one, λ c below is. elim (cases_eq c n) [ inl same ↦ inr same | inr other ↦ absurd (none c (omega arith) is) ])
+                inr (
+                  n,
+                  omega arith,
+                  is_one,
+                  λ c below is. elim (cases_eq c n)
+                      [ inl same ↦ inr same | inr other ↦ absurd (none c (omega arith) is) ],
+                )
             | inr found ↦
                 let m_below : found.0 < n = found.1 in
                 elim (order.total found.0 n (omega arith) (omega arith) (omega arith)) [
@@ -77,11 +98,15 @@ abbrev pub leads : ℕ → ℕ → (ℕ → Bool) → (ℕ → ℕ → Bool) →
 leads n free reached before p = reached p && nat_lt (rank n reached before p) free
 
 -- not more lead than there are places
-pub leads-le : (n free : ℕ) (reached : ℕ → Bool) (before : ℕ → ℕ → Bool) → IsStrictOrder n before → count n (leads n free reached before) ≤ free
+pub leads-le :
+    (n free : ℕ) (reached : ℕ → Bool) (before : ℕ → ℕ → Bool) → IsStrictOrder n before
+    → count n (leads n free reached before) ≤ free
 leads-le n free reached before order =
     elim (find_last n n (leads n free reached before) before order (omega arith)) [
       | inl none ↦
-          let few : count n (leads n free reached before) ≤ count n (λ _. false) = count-le n (leads n free reached before) (λ _. false) (λ c below is. absurd (none c below is)) in
+          let few : count n (leads n free reached before) ≤ count n (λ _. false) =
+          count-le n (leads n free reached before) (λ _. false)
+          (λ c below is. absurd (none c below is)) in
           let zero_of : count n (λ _. false) ≡ 0 = count_none n in
           omega arith
       | inr found ↦
@@ -97,7 +122,10 @@ leads-le n free reached before order =
     ]
 
 -- all places are taken, or all that have reached it lead
-pub leads-ge : (n free : ℕ) (reached : ℕ → Bool) (before : ℕ → ℕ → Bool) → IsStrictOrder n before → (free ≤ count n (leads n free reached before)) ⊎ (count n reached ≤ count n (leads n free reached before))
+pub leads-ge :
+    (n free : ℕ) (reached : ℕ → Bool) (before : ℕ → ℕ → Bool) → IsStrictOrder n before
+    → (free ≤ count n (leads n free reached before))
+    ⊎ (count n reached ≤ count n (leads n free reached before))
 leads-ge n free reached before order =
     let lead : ℕ → Bool = leads n free reached before in
     let left : ℕ → Bool = λ c. reached c && not (lead c) in
@@ -119,19 +147,28 @@ leads-ge n free reached before order =
             | inr fails ↦
                 elim (found.3 c below (and_from (reached c) (not (lead c)) both.0 (ap not fails))) [
                   | inl later ↦ absurd (order.one_way c m both.1 later)
-                  | inr at ↦ absurd (let self : before m m ≡ true = ap (λ k. before k m) (sym at) ∙ both.1 in order.one_way m m self self)
+                  | inr at ↦
+                      absurd (let self : before m m ≡ true =
+                      ap (λ k. before k m) (sym at) ∙ both.1 in
+                      order.one_way m m self self)
                 ]
           ]) in
           let late : free ≤ rank n reached before m =
           elim (cases_lt (rank n reached before m) free) [
-            | inl less ↦ absurd (let leading : lead m ≡ true = and_from (reached m) _ parts.0 (lt-ltb _ _ less) in let off = sym parts.1 ∙ ap not leading in cc)
+            | inl less ↦
+                absurd (let leading : lead m ≡ true =
+                and_from (reached m) _ parts.0 (lt-ltb _ _ less) in
+                let off = sym parts.1 ∙ ap not leading in cc)
             | inr past ↦ past
           ] in
           inl (omega arith)
     ]
 
 -- who doesn't lead comes before none that leads
-pub leads_first : (n free : ℕ) (reached : ℕ → Bool) (before : ℕ → ℕ → Bool) → IsStrictOrder n before → (a b : ℕ) → a < n → b < n → leads n free reached before a ≡ true → reached b ≡ true → leads n free reached before b ≡ false → before a b ≡ true
+pub leads_first :
+    (n free : ℕ) (reached : ℕ → Bool) (before : ℕ → ℕ → Bool) → IsStrictOrder n before → (a b : ℕ) → a < n
+    → b < n → leads n free reached before a ≡ true → reached b ≡ true → leads n free reached before b ≡ false
+    → before a b ≡ true
 leads_first n free reached before order a b a_below b_below leading is fails =
     let other : a ≢ b = λ same. (let off = sym leading ∙ (ap (leads n free reached before) same ∙ fails) in cc) in
     elim (order.total a b a_below b_below other) [

@@ -1,5 +1,6 @@
 -- The tied are within the surplus of the lowest hopeful vote.
-use Rattle.std.proofs.Common.{◌≡◌, ℕ, ◌+◌, ◌<◌, ◌≤◌, Bool, true, false, List, ◌&&◌, length, get_or, arith, ap, sym, ◌∙◌, inl, inr, ◌-◌, ◌==◌, ◌||◌, not, subst, nat_le}
+use Rattle.std.proofs.Common.{◌≡◌, ℕ, ◌+◌, ◌<◌, ◌≤◌, Bool, true, false, List, ◌&&◌, length, get_or, arith, ap}
+use Rattle.std.proofs.Common.{sym, ◌∙◌, inl, inr, ◌-◌, ◌==◌, ◌||◌, not, subst, nat_le}
 use Rattle.std.specs.List.{range_with_len, list_all}
 use Rattle.std.proofs.lemmas.Bool.{cases_Bool, cases_lt, and_from, le-leb, lt-leb}
 use Rattle.candidate_roll.specs.declared.state.State.{State}
@@ -25,7 +26,10 @@ use Rattle.meek_rule.proofs.WinnersOrder.{before_cases, winners_order}
 use Rattle.meek_rule.proofs.StateCounts.{count_by-states}
 
 -- a hopeful candidate is tied where it is above the lowest hopeful vote by at most the surplus
-pub is_tied-lowest : (states : List State) (votes : List ℕ) (u low p : ℕ) → IsLowestHopeful states votes low → p < length states → is_hopeful (state_at states p) ≡ true → is_tied states votes u p ≡ nat_le (get_or votes p 0 - low) u
+pub is_tied-lowest :
+    (states : List State) (votes : List ℕ) (u low p : ℕ) → IsLowestHopeful states votes low
+    → p < length states → is_hopeful (state_at states p) ≡ true
+    → is_tied states votes u p ≡ nat_le (get_or votes p 0 - low) u
 is_tied-lowest states votes u low p lowest inside hopeful =
     let n : ℕ = length states in
     let within : ℕ → Bool = is_within_surplus states votes u p in
@@ -42,9 +46,11 @@ is_tied-lowest states votes u low p lowest inside hopeful =
           ]) in
           all ∙ sym (le-leb _ _ near)
       | inl far ↦
-          let one : (b : ℕ) × (b < n) × (is_hopeful (state_at states b) ≡ true) × (get_or votes b 0 ≡ low) = lowest.of_one p inside hopeful in
+          let one : (b : ℕ) × (b < n) × (is_hopeful (state_at states b) ≡ true) × (get_or votes b 0 ≡ low) =
+          lowest.of_one p inside hopeful in
           let above : nat_le (get_or votes p 0) (get_or votes one.0 0 + u) ≡ false = lt-leb _ _ (omega (arith, one.3)) in
-          let misses : within one.0 ≡ false = ap (λ h. not h || nat_le (get_or votes p 0) (get_or votes one.0 0 + u)) one.2 ∙ above in
+          let misses : within one.0 ≡ false =
+          ap (λ h. not h || nat_le (get_or votes p 0) (get_or votes one.0 0 + u)) one.2 ∙ above in
           all_fails within n one.0 one.1 misses ∙ sym (lt-leb _ _ far)
     ]
 
@@ -55,18 +61,22 @@ somebody_hopeful s now valid open_ =
       | inl some ↦ omega arith
       | inr none ↦
           absurd
-          (let ended : is_complete now ≡ true = or_right (elected_count now.states == now.seats) _ (le-leb _ _ (omega (arith, valid.seated))) in
+          (let ended : is_complete now ≡ true =
+          or_right (elected_count now.states == now.seats) _ (le-leb _ _ (omega (arith, valid.seated))) in
           let off = sym ended ∙ open_ in cc)
     ]
 
 -- where somebody is hopeful somebody is tied: the last of the hopeful in the order of winners has the lowest vote
-pub somebody_tied : (states : List State) (votes lots : List ℕ) (u : ℕ) → IsOrder lots → length lots ≡ length states → 1 ≤ hopeful_count states → (p : ℕ) × (p < length states) × (is_tied states votes u p ≡ true)
+pub somebody_tied :
+    (states : List State) (votes lots : List ℕ) (u : ℕ) → IsOrder lots → length lots ≡ length states
+    → 1 ≤ hopeful_count states → (p : ℕ) × (p < length states) × (is_tied states votes u p ≡ true)
 somebody_tied states votes lots u order same some =
     let n : ℕ = length states in
     let hopeful : ℕ → Bool = λ p. is_hopeful (state_at states p) in
     let counted : hopeful_count states ≡ count n hopeful = count_by-states is_hopeful states in
     let one : (p : ℕ) × (p < n) × (hopeful p ≡ true) = count_some n hopeful (omega arith) in
-    let strict : IsStrictOrder n (comes_before votes lots) = subst (λ (m : ℕ). IsStrictOrder m (comes_before votes lots)) same (winners_order votes lots order) in
+    let strict : IsStrictOrder n (comes_before votes lots) =
+    subst (λ (m : ℕ). IsStrictOrder m (comes_before votes lots)) same (winners_order votes lots order) in
     elim (find_last n n hopeful (comes_before votes lots) strict (omega arith)) [
       | inl none ↦ absurd (none one.0 one.1 one.2)
       | inr found ↦ (
@@ -77,8 +87,13 @@ somebody_tied states votes lots u order same some =
               | inl is ↦
                   let low : get_or votes found.0 0 ≤ get_or votes b 0 + u =
                   elim (found.3 b below is) [
-                    | inl before ↦ elim (before_cases votes lots b found.0 before) [ inl more ↦ omega arith | inr equal ↦ omega arith ]
-                    | inr at ↦ (let e : get_or votes b 0 ≡ get_or votes found.0 0 = ap (λ k. get_or votes k 0) at in omega arith)
+                    | inl before ↦
+                        elim (before_cases votes lots b found.0 before)
+                        [ inl more ↦ omega arith | inr equal ↦ omega arith ]
+                    | inr at ↦
+                        (let e : get_or votes b 0 ≡ get_or votes found.0 0 =
+                        ap (λ k. get_or votes k 0) at in
+                        omega arith)
                   ] in
                   or_right (not (hopeful b)) _ (le-leb _ _ low)
               | inr fails ↦ or_left (not (hopeful b)) _ (ap not fails)
@@ -87,7 +102,9 @@ somebody_tied states votes lots u order same some =
     ]
 
 -- who is tied is hopeful
-pub tied-hopeful : (states : List State) (votes : List ℕ) (u p : ℕ) → mark_at (tied states votes u) p ≡ true → (p < length states) × (is_hopeful (state_at states p) ≡ true)
+pub tied-hopeful :
+    (states : List State) (votes : List ℕ) (u p : ℕ) → mark_at (tied states votes u) p ≡ true
+    → (p < length states) × (is_hopeful (state_at states p) ≡ true)
 tied-hopeful states votes u p marked =
     let n : ℕ = length states in
     let test : ℕ → Bool = is_tied states votes u in
@@ -98,26 +115,41 @@ tied-hopeful states votes u p marked =
     (inside, (and_parts (is_hopeful (state_at states p)) _ passes).0)
 
 -- where somebody is hopeful somebody is marked as tied
-pub tied-somebody : (states : List State) (votes lots : List ℕ) (u : ℕ) → IsOrder lots → length lots ≡ length states → 1 ≤ hopeful_count states → (p : ℕ) × (mark_at (tied states votes u) p ≡ true)
+pub tied-somebody :
+    (states : List State) (votes lots : List ℕ) (u : ℕ) → IsOrder lots → length lots ≡ length states
+    → 1 ≤ hopeful_count states → (p : ℕ) × (mark_at (tied states votes u) p ≡ true)
 tied-somebody states votes lots u order same some =
-    let one : (p : ℕ) × (p < length states) × (is_tied states votes u p ≡ true) = somebody_tied states votes lots u order same some in
-    (one.0, get_or-map-range_with_len (is_tied states votes u) 0 (length states) one.0 one.0 false one.1 (omega arith) ∙ one.2)
+    let one : (p : ℕ) × (p < length states) × (is_tied states votes u p ≡ true) =
+    somebody_tied states votes lots u order same some in (
+      one.0,
+      get_or-map-range_with_len (is_tied states votes u) 0 (length states) one.0 one.0 false one.1
+          (omega arith) ∙ one.2,
+    )
 
 -- the first of the marked is marked
-pub first_marked-marked : (order : List ℕ) (marks : List Bool) → 1 ≤ first_marked order marks → mark_at marks (first_marked order marks - 1) ≡ true
+pub first_marked-marked :
+    (order : List ℕ) (marks : List Bool) → 1 ≤ first_marked order marks
+    → mark_at marks (first_marked order marks - 1) ≡ true
 first_marked-marked [] marks some = absurd (omega arith)
 first_marked-marked (c ∷ order) marks some =
     elim (cases_Bool (mark_at marks (c - 1))) [
       | inl is ↦ rw is is
       | inr fails ↦
-          let later : first_marked (c ∷ order) marks ≡ first_marked order marks = ap (λ b. cond b c (first_marked order marks)) fails in
+          let later : first_marked (c ∷ order) marks ≡ first_marked order marks =
+          ap (λ b. cond b c (first_marked order marks)) fails in
           rw later (first_marked-marked order marks (omega arith))
     ]
 
 -- the tied candidate that stands first in the lots is hopeful
-pub loser-hopeful : (states : List State) (votes lots : List ℕ) (u : ℕ) → IsOrder lots → length lots ≡ length states → 1 ≤ hopeful_count states → (first_marked lots (tied states votes u) - 1 < length states) × (is_hopeful (state_at states (first_marked lots (tied states votes u) - 1)) ≡ true)
+pub loser-hopeful :
+    (states : List State) (votes lots : List ℕ) (u : ℕ) → IsOrder lots → length lots ≡ length states
+    → 1 ≤ hopeful_count states
+    → (first_marked lots (tied states votes u) - 1 < length states)
+    × (is_hopeful (state_at states (first_marked lots (tied states votes u) - 1)) ≡ true)
 loser-hopeful states votes lots u order same some =
     let marks : List Bool = tied states votes u in
     let one : (p : ℕ) × (mark_at marks p ≡ true) = tied-somebody states votes lots u order same some in
-    let whole : length marks ≡ length lots = length-map-range_with_len (is_tied states votes u) 0 (length states) ∙ sym same in
-    tied-hopeful states votes u (first_marked lots marks - 1) (first_marked-marked lots marks (first_marked-order lots marks one.0 order whole one.1))
+    let whole : length marks ≡ length lots =
+    length-map-range_with_len (is_tied states votes u) 0 (length states) ∙ sym same in
+    tied-hopeful states votes u (first_marked lots marks - 1)
+    (first_marked-marked lots marks (first_marked-order lots marks one.0 order whole one.1))

@@ -1,9 +1,13 @@
 -- What ballots give, step by step and in all.
-use Rattle.std.proofs.Common.{◌≡◌, ℕ, ◌+◌, ◌-◌, ◌*◌, ◌<◌, ◌≤◌, ◌==◌, ◌≢◌, true, false, cond, List, [], ◌∷◌, ◌++◌, length, get_or, slice_index, set, drop, take, min, sum_by, replicate, arith, refl, ap, sym, subst, ◌∙◌, inl, inr}
+use Rattle.std.proofs.Common.{◌≡◌, ℕ, ◌+◌, ◌-◌, ◌*◌, ◌<◌, ◌≤◌, ◌==◌, ◌≢◌, true, false, cond, List, [], ◌∷◌}
+use Rattle.std.proofs.Common.{◌++◌, length, get_or, slice_index, set, drop, take, min, sum_by, replicate}
+use Rattle.std.proofs.Common.{arith, refl, ap, sym, subst, ◌∙◌, inl, inr}
 use Rattle.std.specs.List.{All}
 use Rattle.std.specs.Int.{div_ceil}
-use Rattle.std.proofs.Math.Nat.{min-le_left, min-le_right, div-eq_of_lt, mod-eq_of_lt, mul-le-mul_left, mul-le-mul_right, mul-add, add-mul}
-use Rattle.std.proofs.lemmas.List.{drop_more, get_or_past, get_or-set_same, get_or-set_other, length-append, length-replicate}
+use Rattle.std.proofs.Math.Nat.{min-le_left, min-le_right, div-eq_of_lt, mod-eq_of_lt, mul-le-mul_left}
+use Rattle.std.proofs.Math.Nat.{mul-le-mul_right, mul-add, add-mul}
+use Rattle.std.proofs.lemmas.List.{drop_more, get_or_past, get_or-set_same, get_or-set_other, length-append}
+use Rattle.std.proofs.lemmas.List.{length-replicate}
 use Rattle.std.proofs.lemmas.List.FromFn.{fill_by_all}
 use Rattle.std.proofs.lemmas.Bool.{cases_lt, cases_eq, eq-eqb, ne_eqb}
 use Rattle.std.proofs.lemmas.List.Sums.{sum_by-append, sum_by-cons, sum_by_more_le}
@@ -17,7 +21,9 @@ use Rattle.meek_rule.specs.Rule.{Rule, Meek, Warren}
 use Rattle.meek_rule.specs.Weights.{kept_under, weight_under, given_under, vote_under, votes_under, kept, given}
 
 -- a candidate keeps no more of a ballot than its weight
-pub kept_under-le : (rule : Rule) (s : ℕ) (keeps : List ℕ) (w c : ℕ) → 1 ≤ s → All (λ k. k ≤ s) keeps → kept_under rule s keeps w c ≤ w
+pub kept_under-le :
+    (rule : Rule) (s : ℕ) (keeps : List ℕ) (w c : ℕ) → 1 ≤ s → All (λ k. k ≤ s) keeps
+    → kept_under rule s keeps w c ≤ w
 kept_under-le Meek s keeps w c pos bound =
     let item : get_or keeps (c - 1) 0 ≤ s =
     elim (cases_lt (c - 1) (length keeps)) [
@@ -35,83 +41,137 @@ kept_under-nothing Meek s keeps c pos =
 kept_under-nothing Warren s keeps c pos = omega (arith, min-le_left 0 (get_or keeps (c - 1) 0))
 
 -- and with a keep value, or a price, of 0 it keeps nothing
-pub kept_under-none : (rule : Rule) (s : ℕ) (keeps : List ℕ) (w c : ℕ) → 1 ≤ s → slice_index keeps (c - 1) ≡ 0 → kept_under rule s keeps w c ≡ 0
+pub kept_under-none :
+    (rule : Rule) (s : ℕ) (keeps : List ℕ) (w c : ℕ) → 1 ≤ s → slice_index keeps (c - 1) ≡ 0
+    → kept_under rule s keeps w c ≡ 0
 kept_under-none Meek s keeps w c pos out =
     ap (up s w) out ∙ omega (arith, div-eq_of_lt {n = 0} {m = s} pos, mod-eq_of_lt {n = 0} {m = s} pos)
 kept_under-none Warren s keeps w c pos out = ap (min w) out ∙ omega (arith, min-le_right w 0)
 
 -- the weight behind one more candidate
-weight-push : (rule : Rule) (s : ℕ) (keeps : List ℕ) (w : ℕ) (ranks : List ℕ) (c : ℕ) → weight_under rule s keeps w (ranks ++ c ∷ []) ≡ weight_under rule s keeps w ranks - kept_under rule s keeps (weight_under rule s keeps w ranks) c
+weight-push :
+    (rule : Rule) (s : ℕ) (keeps : List ℕ) (w : ℕ) (ranks : List ℕ) (c : ℕ)
+    → weight_under rule s keeps w (ranks ++ c ∷ [])
+    ≡ weight_under rule s keeps w ranks - kept_under rule s keeps (weight_under rule s keeps w ranks) c
 weight-push rule s keeps w [] c = refl
 weight-push rule s keeps w (r ∷ ranks) c = weight-push rule s keeps (w - kept_under rule s keeps w r) ranks c
 
 -- it and what that candidate keeps are together the weight before it
-pub weight-falls : (rule : Rule) (s : ℕ) (keeps : List ℕ) (w : ℕ) (ranks : List ℕ) (c : ℕ) → 1 ≤ s → All (λ k. k ≤ s) keeps → weight_under rule s keeps w (ranks ++ c ∷ []) + kept_under rule s keeps (weight_under rule s keeps w ranks) c ≡ weight_under rule s keeps w ranks
+pub weight-falls :
+    (rule : Rule) (s : ℕ) (keeps : List ℕ) (w : ℕ) (ranks : List ℕ) (c : ℕ) → 1 ≤ s → All (λ k. k ≤ s) keeps
+    → weight_under rule s keeps w (ranks ++ c ∷ [])
+    + kept_under rule s keeps (weight_under rule s keeps w ranks) c ≡ weight_under rule s keeps w ranks
 weight-falls rule s keeps w ranks c pos bound =
-    omega (arith, weight-push rule s keeps w ranks c, kept_under-le rule s keeps (weight_under rule s keeps w ranks) c pos bound)
+    omega (
+      arith,
+      weight-push rule s keeps w ranks c,
+      kept_under-le rule s keeps (weight_under rule s keeps w ranks) c pos bound,
+    )
 
 -- a ballot gives no more than its weight
-pub given_under-le : (rule : Rule) (s : ℕ) (keeps : List ℕ) (w : ℕ) (ranks : List ℕ) (c : ℕ) → 1 ≤ s → All (λ k. k ≤ s) keeps → given_under rule s keeps w ranks c ≤ w
+pub given_under-le :
+    (rule : Rule) (s : ℕ) (keeps : List ℕ) (w : ℕ) (ranks : List ℕ) (c : ℕ) → 1 ≤ s → All (λ k. k ≤ s) keeps
+    → given_under rule s keeps w ranks c ≤ w
 given_under-le rule s keeps w [] c pos bound = omega arith
 given_under-le rule s keeps w (r ∷ ranks) c pos bound =
     let part : kept_under rule s keeps w r ≤ w = kept_under-le rule s keeps w r pos bound in
-    let rest : given_under rule s keeps (w - kept_under rule s keeps w r) ranks c ≤ w - kept_under rule s keeps w r = given_under-le rule s keeps (w - kept_under rule s keeps w r) ranks c pos bound in
-    elim (r == c) as (λ b. cond b (kept_under rule s keeps w r) 0 + given_under rule s keeps (w - kept_under rule s keeps w r) ranks c ≤ w) [
+    let rest :
+    given_under rule s keeps (w - kept_under rule s keeps w r) ranks c
+    ≤ w - kept_under rule s keeps w r =
+    given_under-le rule s keeps (w - kept_under rule s keeps w r) ranks c pos bound in
+    elim (r == c) as (λ b. cond b (kept_under rule s keeps w r) 0
+    + given_under rule s keeps (w - kept_under rule s keeps w r) ranks c ≤ w) [
       | true ↦ omega arith
       | false ↦ omega arith
     ]
 
 -- what the next candidate takes, and what is given behind it
-pub given-step : (rule : Rule) (s : ℕ) (keeps : List ℕ) (w : ℕ) (ranks : List ℕ) (i c : ℕ) → i < length ranks → given_under rule s keeps w (drop i ranks) c ≡ cond (get_or ranks i 0 == c) (kept_under rule s keeps w (get_or ranks i 0)) 0 + given_under rule s keeps (w - kept_under rule s keeps w (get_or ranks i 0)) (drop (i + 1) ranks) c
+pub given-step :
+    (rule : Rule) (s : ℕ) (keeps : List ℕ) (w : ℕ) (ranks : List ℕ) (i c : ℕ) → i < length ranks
+    → given_under rule s keeps w (drop i ranks) c
+    ≡ cond (get_or ranks i 0 == c) (kept_under rule s keeps w (get_or ranks i 0)) 0
+    + given_under rule s keeps (w - kept_under rule s keeps w (get_or ranks i 0)) (drop (i + 1) ranks) c
 given-step rule s keeps w ranks i c below = ap (λ xs. given_under rule s keeps w xs c) (drop_more ranks i 0 below)
 
 -- the candidate that comes next has what it keeps, and what is given behind it
-pub given_under-here : (rule : Rule) (s : ℕ) (keeps : List ℕ) (w : ℕ) (ranks : List ℕ) (i c : ℕ) → i < length ranks → get_or ranks i 0 ≡ c → given_under rule s keeps w (drop i ranks) c ≡ kept_under rule s keeps w (get_or ranks i 0) + given_under rule s keeps (w - kept_under rule s keeps w (get_or ranks i 0)) (drop (i + 1) ranks) c
+pub given_under-here :
+    (rule : Rule) (s : ℕ) (keeps : List ℕ) (w : ℕ) (ranks : List ℕ) (i c : ℕ) → i < length ranks
+    → get_or ranks i 0 ≡ c
+    → given_under rule s keeps w (drop i ranks) c
+    ≡ kept_under rule s keeps w (get_or ranks i 0)
+    + given_under rule s keeps (w - kept_under rule s keeps w (get_or ranks i 0)) (drop (i + 1) ranks) c
 given_under-here rule s keeps w ranks i c below at =
     given-step rule s keeps w ranks i c below
     ∙ ap
-    (λ b. cond b (kept_under rule s keeps w (get_or ranks i 0)) 0 + given_under rule s keeps (w - kept_under rule s keeps w (get_or ranks i 0)) (drop (i + 1) ranks) c)
+    (λ b. cond b (kept_under rule s keeps w (get_or ranks i 0)) 0
+    + given_under rule s keeps (w - kept_under rule s keeps w (get_or ranks i 0)) (drop (i + 1) ranks) c)
     (eq-eqb _ _ at)
 
 -- the others have what is given behind it
-pub given-past : (rule : Rule) (s : ℕ) (keeps : List ℕ) (w : ℕ) (ranks : List ℕ) (i c : ℕ) → i < length ranks → get_or ranks i 0 ≢ c → given_under rule s keeps w (drop i ranks) c ≡ given_under rule s keeps (w - kept_under rule s keeps w (get_or ranks i 0)) (drop (i + 1) ranks) c
+pub given-past :
+    (rule : Rule) (s : ℕ) (keeps : List ℕ) (w : ℕ) (ranks : List ℕ) (i c : ℕ) → i < length ranks
+    → get_or ranks i 0 ≢ c
+    → given_under rule s keeps w (drop i ranks) c
+    ≡ given_under rule s keeps (w - kept_under rule s keeps w (get_or ranks i 0)) (drop (i + 1) ranks) c
 given-past rule s keeps w ranks i c below other =
     given-step rule s keeps w ranks i c below
     ∙ (ap
-    (λ b. cond b (kept_under rule s keeps w (get_or ranks i 0)) 0 + given_under rule s keeps (w - kept_under rule s keeps w (get_or ranks i 0)) (drop (i + 1) ranks) c)
+    (λ b. cond b (kept_under rule s keeps w (get_or ranks i 0)) 0
+    + given_under rule s keeps (w - kept_under rule s keeps w (get_or ranks i 0)) (drop (i + 1) ranks) c)
     (ne_eqb _ _ other)
     ∙ omega arith)
 
 -- of no weight nothing is given
-pub given_under-nothing : (rule : Rule) (s : ℕ) (keeps : List ℕ) (ranks : List ℕ) (c : ℕ) → 1 ≤ s → given_under rule s keeps 0 ranks c ≡ 0
+pub given_under-nothing :
+    (rule : Rule) (s : ℕ) (keeps : List ℕ) (ranks : List ℕ) (c : ℕ) → 1 ≤ s
+    → given_under rule s keeps 0 ranks c ≡ 0
 given_under-nothing rule s keeps [] c pos = refl
 given_under-nothing rule s keeps (r ∷ ranks) c pos =
     let none : kept_under rule s keeps 0 r ≡ 0 = kept_under-nothing rule s keeps r pos in
-    let rest : given_under rule s keeps (0 - kept_under rule s keeps 0 r) ranks c ≡ 0 = ap (λ w. given_under rule s keeps w ranks c) (ap (λ k. 0 - k) none) ∙ given_under-nothing rule s keeps ranks c pos in
-    elim (r == c) as (λ b. cond b (kept_under rule s keeps 0 r) 0 + given_under rule s keeps (0 - kept_under rule s keeps 0 r) ranks c ≡ 0) [
+    let rest : given_under rule s keeps (0 - kept_under rule s keeps 0 r) ranks c ≡ 0 =
+    ap (λ w. given_under rule s keeps w ranks c) (ap (λ k. 0 - k) none)
+    ∙ given_under-nothing rule s keeps ranks c pos in
+    elim (r == c) as (λ b. cond b (kept_under rule s keeps 0 r) 0
+    + given_under rule s keeps (0 - kept_under rule s keeps 0 r) ranks c ≡ 0) [
       | true ↦ omega arith
       | false ↦ omega arith
     ]
 
 -- where no weight is left all is given
-pub all_given : (rule : Rule) (s : ℕ) (keeps : List ℕ) (w : ℕ) (ranks : List ℕ) (c count now whole : ℕ) → 1 ≤ s → w ≡ 0 → now + count * given_under rule s keeps w ranks c ≡ whole → now ≡ whole
+pub all_given :
+    (rule : Rule) (s : ℕ) (keeps : List ℕ) (w : ℕ) (ranks : List ℕ) (c count now whole : ℕ) → 1 ≤ s → w ≡ 0
+    → now + count * given_under rule s keeps w ranks c ≡ whole → now ≡ whole
 all_given rule s keeps w ranks c count now whole pos none missing =
-    let nothing : given_under rule s keeps w ranks c ≡ 0 = ap (λ k. given_under rule s keeps k ranks c) none ∙ given_under-nothing rule s keeps ranks c pos in
+    let nothing : given_under rule s keeps w ranks c ≡ 0 =
+    ap (λ k. given_under rule s keeps k ranks c) none ∙ given_under-nothing rule s keeps ranks c pos in
     let times : count * given_under rule s keeps w ranks c ≡ 0 = ap (λ k. count * k) nothing ∙ omega arith in
     omega arith
 
 -- a vote that grows by what the candidate keeps of each ballot stays within what there is room for
-pub gain_fits : (rule : Rule) (s : ℕ) (keeps : List ℕ) (w : ℕ) (ranks : List ℕ) (i c count old now room : ℕ) → i < length ranks → get_or ranks i 0 ≡ c → 1 ≤ s → All (λ k. k ≤ s) keeps → now + count * given_under rule s keeps w (drop i ranks) c ≡ old + count * given_under rule s keeps s ranks c → old + count * s ≤ room → now + count * kept_under rule s keeps w (get_or ranks i 0) ≤ room
+pub gain_fits :
+    (rule : Rule) (s : ℕ) (keeps : List ℕ) (w : ℕ) (ranks : List ℕ) (i c count old now room : ℕ)
+    → i < length ranks → get_or ranks i 0 ≡ c → 1 ≤ s → All (λ k. k ≤ s) keeps
+    → now + count * given_under rule s keeps w (drop i ranks) c
+    ≡ old + count * given_under rule s keeps s ranks c → old + count * s ≤ room
+    → now + count * kept_under rule s keeps w (get_or ranks i 0) ≤ room
 gain_fits rule s keeps w ranks i c count old now room below at pos bound missing fits =
     let k = kept_under rule s keeps w (get_or ranks i 0) in
     let behind = given_under rule s keeps (w - k) (drop (i + 1) ranks) c in
     let split : count * given_under rule s keeps w (drop i ranks) c ≡ count * k + count * behind =
     ap (λ n. count * n) (given_under-here rule s keeps w ranks i c below at) ∙ mul-add count k behind in
-    let whole : count * given_under rule s keeps s ranks c ≤ count * s = mul-le-mul_left count (given_under-le rule s keeps s ranks c pos bound) in
+    let whole : count * given_under rule s keeps s ranks c ≤ count * s =
+    mul-le-mul_left count (given_under-le rule s keeps s ranks c pos bound) in
     omega arith
 
 -- the step of a walk down the ranks, at each place
-pub gain_step_under : (rule : Rule) (s : ℕ) (keeps : List ℕ) (w : ℕ) (ranks tally : List ℕ) (i count p whole : ℕ) → i < length ranks → 1 ≤ get_or ranks i 0 → get_or ranks i 0 - 1 < length tally → get_or tally p 0 + count * given_under rule s keeps w (drop i ranks) (p + 1) ≡ whole → get_or (set tally (get_or ranks i 0 - 1) (get_or tally (get_or ranks i 0 - 1) 0 + count * kept_under rule s keeps w (get_or ranks i 0))) p 0 + count * given_under rule s keeps (w - kept_under rule s keeps w (get_or ranks i 0)) (drop (i + 1) ranks) (p + 1) ≡ whole
+pub gain_step_under :
+    (rule : Rule) (s : ℕ) (keeps : List ℕ) (w : ℕ) (ranks tally : List ℕ) (i count p whole : ℕ)
+    → i < length ranks → 1 ≤ get_or ranks i 0 → get_or ranks i 0 - 1 < length tally
+    → get_or tally p 0 + count * given_under rule s keeps w (drop i ranks) (p + 1) ≡ whole
+    → get_or (set tally (get_or ranks i 0 - 1) (get_or tally (get_or ranks i 0 - 1) 0 + count
+    * kept_under rule s keeps w (get_or ranks i 0))) p 0 + count
+    * given_under rule s keeps (w - kept_under rule s keeps w (get_or ranks i 0)) (drop (i + 1) ranks)
+    (p + 1) ≡ whole
 gain_step_under rule s keeps w ranks tally i count p whole below pos inside missing =
     let k = kept_under rule s keeps w (get_or ranks i 0) in
     let behind = given_under rule s keeps (w - k) (drop (i + 1) ranks) (p + 1) in
@@ -120,9 +180,13 @@ gain_step_under rule s keeps w ranks tally i count p whole below pos inside miss
           let at : get_or ranks i 0 ≡ p + 1 = omega arith in
           let split : count * given_under rule s keeps w (drop i ranks) (p + 1) ≡ count * k + count * behind =
           ap (λ n. count * n) (given_under-here rule s keeps w ranks i (p + 1) below at) ∙ mul-add count k behind in
-          let new : get_or (set tally (get_or ranks i 0 - 1) (get_or tally (get_or ranks i 0 - 1) 0 + count * k)) p 0 ≡ get_or tally p 0 + count * k =
+          let new :
+          get_or (set tally (get_or ranks i 0 - 1) (get_or tally (get_or ranks i 0 - 1) 0 + count * k))
+          p 0 ≡ get_or tally p 0 + count * k =
           subst
-          (λ (q : ℕ). get_or (set tally (get_or ranks i 0 - 1) (get_or tally (get_or ranks i 0 - 1) 0 + count * k)) q 0 ≡ get_or tally q 0 + count * k)
+          (λ (q : ℕ). get_or
+          (set tally (get_or ranks i 0 - 1) (get_or tally (get_or ranks i 0 - 1) 0 + count * k)) q 0
+          ≡ get_or tally q 0 + count * k)
           (sym same)
           (get_or-set_same tally (get_or ranks i 0 - 1) (get_or tally (get_or ranks i 0 - 1) 0 + count * k) 0 inside) in
           omega arith
@@ -130,13 +194,18 @@ gain_step_under rule s keeps w ranks tally i count p whole below pos inside miss
           let at : get_or ranks i 0 ≢ p + 1 = omega arith in
           let split : count * given_under rule s keeps w (drop i ranks) (p + 1) ≡ count * behind =
           ap (λ n. count * n) (given-past rule s keeps w ranks i (p + 1) below at) in
-          let old : get_or (set tally (get_or ranks i 0 - 1) (get_or tally (get_or ranks i 0 - 1) 0 + count * k)) p 0 ≡ get_or tally p 0 =
+          let old :
+          get_or (set tally (get_or ranks i 0 - 1) (get_or tally (get_or ranks i 0 - 1) 0 + count * k))
+          p 0 ≡ get_or tally p 0 =
           get_or-set_other tally (get_or ranks i 0 - 1) p _ 0 other in
           omega arith
     ]
 
 -- the vote of a candidate, by lines
-pub vote-plain : (rule : Rule) (s : ℕ) (keeps : List ℕ) (lines : List BallotLine) (c : ℕ) → vote_under rule s keeps (plain lines) c ≡ sum_by (λ line. line.count * given_under rule s keeps s line.ranking c) lines
+pub vote-plain :
+    (rule : Rule) (s : ℕ) (keeps : List ℕ) (lines : List BallotLine) (c : ℕ)
+    → vote_under rule s keeps (plain lines) c
+    ≡ sum_by (λ line. line.count * given_under rule s keeps s line.ranking c) lines
 vote-plain rule s keeps [] c = refl
 vote-plain rule s keeps (line ∷ lines) c =
     let f : List ℕ → ℕ = λ ranking. given_under rule s keeps s ranking c in
@@ -146,27 +215,53 @@ vote-plain rule s keeps (line ∷ lines) c =
     ∙ sym (sum_by-cons (λ (l : BallotLine). l.count * given_under rule s keeps s l.ranking c) line lines)))
 
 -- lines give a candidate no more than one vote for each ballot
-pub given_by_lines-le : (rule : Rule) (s : ℕ) (keeps : List ℕ) (lines : List BallotLine) (c : ℕ) → 1 ≤ s → All (λ k. k ≤ s) keeps → sum_by (λ line. line.count * given_under rule s keeps s line.ranking c) lines ≤ sum_by (λ line. line.count) lines * s
+pub given_by_lines-le :
+    (rule : Rule) (s : ℕ) (keeps : List ℕ) (lines : List BallotLine) (c : ℕ) → 1 ≤ s → All (λ k. k ≤ s) keeps
+    → sum_by (λ line. line.count * given_under rule s keeps s line.ranking c) lines
+    ≤ sum_by (λ line. line.count) lines * s
 given_by_lines-le rule s keeps [] c pos bound = omega arith
 given_by_lines-le rule s keeps (line ∷ lines) c pos bound =
-    let here : line.count * given_under rule s keeps s line.ranking c ≤ line.count * s = mul-le-mul_left line.count (given_under-le rule s keeps s line.ranking c pos bound) in
+    let here : line.count * given_under rule s keeps s line.ranking c ≤ line.count * s =
+    mul-le-mul_left line.count (given_under-le rule s keeps s line.ranking c pos bound) in
     let rest = given_by_lines-le rule s keeps lines c pos bound in
-    rw (sum_by-cons (λ (l : BallotLine). l.count * given_under rule s keeps s l.ranking c) line lines, sum_by-cons (λ (l : BallotLine). l.count) line lines, add-mul line.count (sum_by (λ (l : BallotLine). l.count) lines) s)
+    rw (
+      sum_by-cons (λ (l : BallotLine). l.count * given_under rule s keeps s l.ranking c) line lines,
+      sum_by-cons (λ (l : BallotLine). l.count) line lines,
+      add-mul line.count (sum_by (λ (l : BallotLine). l.count) lines) s,
+    )
     (omega arith)
 
 -- there is room for one more line
-pub room_for_line : (rule : Rule) (s most : ℕ) (keeps : List ℕ) (lines : List BallotLine) (i c now : ℕ) (d : BallotLine) → 1 ≤ s → All (λ k. k ≤ s) keeps → 1000000000 * s ≡ most → i < length lines → sum_by (λ line. line.count) lines ≤ 999999999 → now ≡ sum_by (λ line. line.count * given_under rule s keeps s line.ranking c) (take i lines) → now + (get_or lines i d).count * s ≤ most
+pub room_for_line :
+    (rule : Rule) (s most : ℕ) (keeps : List ℕ) (lines : List BallotLine) (i c now : ℕ) (d : BallotLine)
+    → 1 ≤ s → All (λ k. k ≤ s) keeps → 1000000000 * s ≡ most → i < length lines
+    → sum_by (λ line. line.count) lines ≤ 999999999
+    → now ≡ sum_by (λ line. line.count * given_under rule s keeps s line.ranking c) (take i lines)
+    → now + (get_or lines i d).count * s ≤ most
 room_for_line rule s most keeps lines i c now d pos bound all below few so_far =
     let before = given_by_lines-le rule s keeps (take i lines) c pos bound in
-    let with_this : sum_by (λ (l : BallotLine). l.count) (take i lines) + (get_or lines i d).count ≤ sum_by (λ (l : BallotLine). l.count) lines = sum_by_more_le (λ (l : BallotLine). l.count) lines i d below in
-    let together : (sum_by (λ (l : BallotLine). l.count) (take i lines) + (get_or lines i d).count) * s ≤ 1000000000 * s = mul-le-mul_right s (omega arith) in
+    let with_this :
+    sum_by (λ (l : BallotLine). l.count) (take i lines) + (get_or lines i d).count
+    ≤ sum_by (λ (l : BallotLine). l.count) lines =
+    sum_by_more_le (λ (l : BallotLine). l.count) lines i d below in
+    let together :
+    (sum_by (λ (l : BallotLine). l.count) (take i lines) + (get_or lines i d).count) * s
+    ≤ 1000000000 * s =
+    mul-le-mul_right s (omega arith) in
     let split = add-mul (sum_by (λ (l : BallotLine). l.count) (take i lines)) (get_or lines i d).count s in
     omega arith
 
 -- votes by places are the votes
-pub votes-from_places : (rule : Rule) (s : ℕ) (keeps : List ℕ) (lines : List BallotLine) (tally : List ℕ) (n : ℕ) → length tally ≡ n → ((p : ℕ) → p < n → get_or tally p 0 ≡ sum_by (λ line. line.count * given_under rule s keeps s line.ranking (p + 1)) lines) → tally ≡ votes_under rule s keeps (plain lines) n
+pub votes-from_places :
+    (rule : Rule) (s : ℕ) (keeps : List ℕ) (lines : List BallotLine) (tally : List ℕ) (n : ℕ)
+    → length tally ≡ n
+    → ((p : ℕ) → p < n
+    → get_or tally p 0
+    ≡ sum_by (λ line. line.count * given_under rule s keeps s line.ranking (p + 1)) lines)
+    → tally ≡ votes_under rule s keeps (plain lines) n
 votes-from_places rule s keeps lines tally n same at =
-    fill_by_all (λ p. vote_under rule s keeps (plain lines) (p + 1)) tally n 0 same (λ p below. at p below ∙ sym (vote-plain rule s keeps lines (p + 1)))
+    fill_by_all (λ p. vote_under rule s keeps (plain lines) (p + 1)) tally n 0 same
+    (λ p below. at p below ∙ sym (vote-plain rule s keeps lines (p + 1)))
 
 -- as many single ballots as the lines count
 pub length-plain : (lines : List BallotLine) → length (plain lines) ≡ sum_by (λ line. line.count) lines
@@ -181,14 +276,26 @@ length-plain (line ∷ lines) =
 pub kept-le : (s : ℕ) (keeps : List ℕ) (w c : ℕ) → 1 ≤ s → All (λ k. k ≤ s) keeps → kept s keeps w c ≤ w
 kept-le = kept_under-le Meek
 
-pub given-le : (s : ℕ) (keeps : List ℕ) (w : ℕ) (ranks : List ℕ) (c : ℕ) → 1 ≤ s → All (λ k. k ≤ s) keeps → given s keeps w ranks c ≤ w
+pub given-le :
+    (s : ℕ) (keeps : List ℕ) (w : ℕ) (ranks : List ℕ) (c : ℕ) → 1 ≤ s → All (λ k. k ≤ s) keeps
+    → given s keeps w ranks c ≤ w
 given-le = given_under-le Meek
 
-pub given-here : (s : ℕ) (keeps : List ℕ) (w : ℕ) (ranks : List ℕ) (i c : ℕ) → i < length ranks → get_or ranks i 0 ≡ c → given s keeps w (drop i ranks) c ≡ kept s keeps w (get_or ranks i 0) + given s keeps (w - kept s keeps w (get_or ranks i 0)) (drop (i + 1) ranks) c
+pub given-here :
+    (s : ℕ) (keeps : List ℕ) (w : ℕ) (ranks : List ℕ) (i c : ℕ) → i < length ranks → get_or ranks i 0 ≡ c
+    → given s keeps w (drop i ranks) c
+    ≡ kept s keeps w (get_or ranks i 0)
+    + given s keeps (w - kept s keeps w (get_or ranks i 0)) (drop (i + 1) ranks) c
 given-here = given_under-here Meek
 
 pub given-nothing : (s : ℕ) (keeps : List ℕ) (ranks : List ℕ) (c : ℕ) → 1 ≤ s → given s keeps 0 ranks c ≡ 0
 given-nothing = given_under-nothing Meek
 
-pub gain_step : (s : ℕ) (keeps : List ℕ) (w : ℕ) (ranks tally : List ℕ) (i count p whole : ℕ) → i < length ranks → 1 ≤ get_or ranks i 0 → get_or ranks i 0 - 1 < length tally → get_or tally p 0 + count * given s keeps w (drop i ranks) (p + 1) ≡ whole → get_or (set tally (get_or ranks i 0 - 1) (get_or tally (get_or ranks i 0 - 1) 0 + count * kept s keeps w (get_or ranks i 0))) p 0 + count * given s keeps (w - kept s keeps w (get_or ranks i 0)) (drop (i + 1) ranks) (p + 1) ≡ whole
+pub gain_step :
+    (s : ℕ) (keeps : List ℕ) (w : ℕ) (ranks tally : List ℕ) (i count p whole : ℕ) → i < length ranks
+    → 1 ≤ get_or ranks i 0 → get_or ranks i 0 - 1 < length tally
+    → get_or tally p 0 + count * given s keeps w (drop i ranks) (p + 1) ≡ whole
+    → get_or (set tally (get_or ranks i 0 - 1)
+    (get_or tally (get_or ranks i 0 - 1) 0 + count * kept s keeps w (get_or ranks i 0))) p 0
+    + count * given s keeps (w - kept s keeps w (get_or ranks i 0)) (drop (i + 1) ranks) (p + 1) ≡ whole
 gain_step = gain_step_under Meek

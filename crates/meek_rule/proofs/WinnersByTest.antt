@@ -18,12 +18,15 @@ pass_as_winners states free votes lots q marks =
     && (list_all (λ p. not (mark_at marks p) || has_reached states votes q p) (range_with_len 0 (length states))
     && ((marked_count marks == min free (count_places (length states) (has_reached states votes q)))
     && list_all
-    (λ a. list_all (λ b. not (mark_at marks a && (has_reached states votes q b && not (mark_at marks b))) || comes_before votes lots a b)
+    (λ a. list_all (λ b. not (mark_at marks a && (has_reached states votes q b && not (mark_at marks b)))
+    || comes_before votes lots a b)
     (range_with_len 0 (length states)))
     (range_with_len 0 (length states))))
 
 -- who passes the test are the winners
-pub winners_by_test : (states : List State) (free : ℕ) (votes lots : List ℕ) (q : ℕ) (marks : List Bool) → pass_as_winners states free votes lots q marks ≡ true → AreWinners states free votes lots q marks
+pub winners_by_test :
+    (states : List State) (free : ℕ) (votes lots : List ℕ) (q : ℕ) (marks : List Bool)
+    → pass_as_winners states free votes lots q marks ≡ true → AreWinners states free votes lots q marks
 winners_by_test states free votes lots q marks pass =
     let n = length states in
     let same : length marks ≡ n = eqb-true _ _ (and_first _ _ pass) in
@@ -33,12 +36,21 @@ winners_by_test states free votes lots q marks pass =
       same_length = same;
       reached = λ p marked.
           implied (mark_at marks p) (has_reached states votes q p)
-          (all_places (λ p. not (mark_at marks p) || has_reached states votes q p) n p (and_first _ _ pass1) (let below = marked_place marks p marked in omega arith)) marked;
+          (all_places (λ p. not (mark_at marks p) || has_reached states votes q p) n p (and_first _ _ pass1)
+          (let below = marked_place marks p marked in omega arith)) marked;
       as_many = eqb-true _ _ (and_first _ _ pass2);
       first = λ a b marked reached unmarked.
-          let row : list_all (λ b. not (mark_at marks a && (has_reached states votes q b && not (mark_at marks b))) || comes_before votes lots a b) (range_with_len 0 n) ≡ true =
-          all_places (λ a. list_all (λ b. not (mark_at marks a && (has_reached states votes q b && not (mark_at marks b))) || comes_before votes lots a b) (range_with_len 0 n)) n a (and_second _ _ pass2) (let below = marked_place marks a marked in omega arith) in
+          let row :
+          list_all (λ b. not
+          (mark_at marks a && (has_reached states votes q b && not (mark_at marks b)))
+          || comes_before votes lots a b) (range_with_len 0 n) ≡ true =
+          all_places (λ a. list_all (λ b. not
+          (mark_at marks a && (has_reached states votes q b && not (mark_at marks b)))
+          || comes_before votes lots a b) (range_with_len 0 n)) n a (and_second _ _ pass2)
+          (let below = marked_place marks a marked in omega arith) in
           implied _ (comes_before votes lots a b)
-          (all_places (λ b. not (mark_at marks a && (has_reached states votes q b && not (mark_at marks b))) || comes_before votes lots a b) n b row (reached_place states votes q b reached))
-          (ap (λ t. t && (has_reached states votes q b && not (mark_at marks b))) marked ∙ (ap (λ t. t && not (mark_at marks b)) reached ∙ ap not unmarked));
+          (all_places (λ b. not (mark_at marks a && (has_reached states votes q b && not (mark_at marks b)))
+          || comes_before votes lots a b) n b row (reached_place states votes q b reached))
+          (ap (λ t. t && (has_reached states votes q b && not (mark_at marks b))) marked
+          ∙ (ap (λ t. t && not (mark_at marks b)) reached ∙ ap not unmarked));
     }

@@ -13,19 +13,29 @@ use Rattle.meek_rule.proofs.StrictOrder.{IsStrictOrder}
 use Rattle.meek_rule.proofs.WinnersOrder.{winners_order}
 
 -- each winner of one choice is a winner of the other
-within : (states : List State) (free : ℕ) (votes lots : List ℕ) (q : ℕ) (one other : List Bool) → IsStrictOrder (length states) (comes_before votes lots) → AreWinners states free votes lots q one → AreWinners states free votes lots q other → (p : ℕ) → mark_at one p ≡ true → mark_at other p ≡ true
+within :
+    (states : List State) (free : ℕ) (votes lots : List ℕ) (q : ℕ) (one other : List Bool)
+    → IsStrictOrder (length states) (comes_before votes lots) → AreWinners states free votes lots q one
+    → AreWinners states free votes lots q other → (p : ℕ) → mark_at one p ≡ true → mark_at other p ≡ true
 within states free votes lots q one other order first second p marked =
     let n : ℕ = length states in
     let counted : (marks : List Bool) → length marks ≡ n → marked_count marks ≡ count n (mark_at marks) =
-    λ marks same. ap marked_count (fill_by_all (mark_at marks) marks n false same (λ k below. refl)) ∙ count_places-count n (mark_at marks) in
+    λ marks same. ap marked_count (fill_by_all (mark_at marks) marks n false same (λ k below. refl))
+    ∙ count_places-count n (mark_at marks) in
     let same_count : count n (mark_at one) ≡ count n (mark_at other) =
     sym (counted one first.same_length) ∙ (first.as_many ∙ (sym second.as_many ∙ counted other second.same_length)) in
-    let inside : p < n = (let below = marked_place one p marked in let same : length one ≡ n = first.same_length in omega arith) in
+    let inside : p < n =
+    (let below =
+    marked_place one p marked in
+    let same : length one ≡ n = first.same_length in omega arith) in
     elim (cases_Bool (mark_at other p)) [
       | inl is ↦ is
       | inr misses ↦
           elim (find_failing n (mark_at other) (mark_at one)) [
-            | inl all ↦ absurd (let fewer : count n (mark_at other) < count n (mark_at one) = count-lt n (mark_at other) (mark_at one) p inside misses marked all in omega arith)
+            | inl all ↦
+                absurd (let fewer : count n (mark_at other) < count n (mark_at one) =
+                count-lt n (mark_at other) (mark_at one) p inside misses marked all in
+                omega arith)
             | inr found ↦
                 absurd
                 (order.one_way p found.0
@@ -34,17 +44,26 @@ within states free votes lots q one other order first second p marked =
           ]
     ]
 
-pub winners-unique : (states : List State) (free : ℕ) (votes lots : List ℕ) (q : ℕ) (one other : List Bool) → IsOrder lots → length lots ≡ length states → AreWinners states free votes lots q one → AreWinners states free votes lots q other → one ≡ other
+pub winners-unique :
+    (states : List State) (free : ℕ) (votes lots : List ℕ) (q : ℕ) (one other : List Bool) → IsOrder lots
+    → length lots ≡ length states → AreWinners states free votes lots q one
+    → AreWinners states free votes lots q other → one ≡ other
 winners-unique states free votes lots q one other lots_order same first second =
     let n : ℕ = length states in
-    let order : IsStrictOrder n (comes_before votes lots) = subst (λ (m : ℕ). IsStrictOrder m (comes_before votes lots)) same (winners_order votes lots lots_order) in
+    let order : IsStrictOrder n (comes_before votes lots) =
+    subst (λ (m : ℕ). IsStrictOrder m (comes_before votes lots)) same
+    (winners_order votes lots lots_order) in
     let at : (p : ℕ) → mark_at one p ≡ mark_at other p = λ p.
     elim (cases_Bool (mark_at one p)) [
       | inl is ↦ is ∙ sym (within states free votes lots q one other order first second p is)
       | inr is_not ↦
           elim (cases_Bool (mark_at other p)) [
-            | inl is ↦ absurd (let off = sym (within states free votes lots q other one order second first p is) ∙ is_not in cc)
+            | inl is ↦
+                absurd (let off =
+                sym (within states free votes lots q other one order second first p is) ∙ is_not in
+                cc)
             | inr neither ↦ is_not ∙ sym neither
           ]
     ] in
-    fill_by_all (mark_at other) one n false first.same_length (λ p below. at p) ∙ sym (fill_by_all (mark_at other) other n false second.same_length (λ p below. refl))
+    fill_by_all (mark_at other) one n false first.same_length (λ p below. at p)
+    ∙ sym (fill_by_all (mark_at other) other n false second.same_length (λ p below. refl))

@@ -1,7 +1,8 @@
 -- The worked iterations, by computing.
 use Rattle.std.proofs.Common.{refl, lit≤}
 use Rattle.meek_rule.proofs.WinnersByTest.{winners_by_test}
-use Rattle.meek_rule.specs.Worked.{CappedKeep, Overfill, SurplusOfOmega, SurplusBelowOmega, SurplusNotFalling, SurplusFalling, TieWithinSurplus, ThreeBallots}
+use Rattle.meek_rule.specs.Worked.{CappedKeep, Overfill, SurplusOfOmega, SurplusBelowOmega, SurplusNotFalling}
+use Rattle.meek_rule.specs.Worked.{SurplusFalling, TieWithinSurplus, ThreeBallots}
 
 pub CappedKeep-holds : CappedKeep
 CappedKeep-holds = record {

@@ -1,7 +1,8 @@
 -- The worked iterations of lots, omegas and what a step leaves, by computing.
 use Rattle.std.proofs.Common.{refl, lit≤}
 use Rattle.meek_rule.proofs.WinnersByTest.{winners_by_test}
-use Rattle.meek_rule.specs.WorkedSteps.{OverfillByLots, BelowTheQuotaIsNoCap, OmegaAboveTheSurplus, OmegaOfTheSurplus, ElectedInAThirdIteration, TieByLots, TwoAtOnce}
+use Rattle.meek_rule.specs.WorkedSteps.{OverfillByLots, BelowTheQuotaIsNoCap, OmegaAboveTheSurplus}
+use Rattle.meek_rule.specs.WorkedSteps.{OmegaOfTheSurplus, ElectedInAThirdIteration, TieByLots, TwoAtOnce}
 
 pub OverfillByLots-holds : OverfillByLots
 OverfillByLots-holds = record {

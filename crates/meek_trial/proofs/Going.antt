@@ -1,5 +1,6 @@
 -- A text with one more line, batch or team.
-use Rattle.std.proofs.Common.{◌≡◌, ℕ, zero, suc, ◌+◌, ◌-◌, ◌*◌, ◌/◌, ◌%◌, ◌==◌, ◌<◌, ◌≤◌, List, [], ◌∷◌, ◌++◌, map, refl, sym, ap, ◌∙◌, append_assoc, append-nil, arith}
+use Rattle.std.proofs.Common.{◌≡◌, ℕ, zero, suc, ◌+◌, ◌-◌, ◌*◌, ◌/◌, ◌%◌, ◌==◌, ◌<◌, ◌≤◌, List, [], ◌∷◌, ◌++◌}
+use Rattle.std.proofs.Common.{map, refl, sym, ap, ◌∙◌, append_assoc, append-nil, arith}
 use Rattle.std.specs.List.{flat_map, range_with_len}
 use Rattle.std.proofs.lemmas.List.Concat.{flat_map-append}
 use Rattle.std.proofs.lemmas.List.FromFn.{map-range_with_len_more}
@@ -20,7 +21,9 @@ drawn_more number k =
 
 -- ---- parts of a text, one for each number of a range
 
-parts_more : (part : ℕ → List ℕ) (a n : ℕ) → flat_map part (range_with_len a (suc n)) ≡ flat_map part (range_with_len a n) ++ part (a + n)
+parts_more :
+    (part : ℕ → List ℕ) (a n : ℕ)
+    → flat_map part (range_with_len a (suc n)) ≡ flat_map part (range_with_len a n) ++ part (a + n)
 parts_more part a zero =
     let same : a ≡ a + 0 = omega arith in
     append-nil (part a) ∙ ap part same
@@ -30,7 +33,9 @@ parts_more part a (suc n) =
     ap (λ (t : List ℕ). part a ++ t) (parts_more part (a + 1) n)
     ∙ (sym (append_assoc (part a) rest (part (a + 1 + n))) ∙ ap (λ (k : ℕ). (part a ++ rest) ++ part k) same)
 
-go_on : (part : ℕ → List ℕ) (front text more : List ℕ) (a n : ℕ) → text ≡ front ++ flat_map part (range_with_len a n) → more ≡ text ++ part (a + n)
+go_on :
+    (part : ℕ → List ℕ) (front text more : List ℕ) (a n : ℕ)
+    → text ≡ front ++ flat_map part (range_with_len a n) → more ≡ text ++ part (a + n)
     → more ≡ front ++ flat_map part (range_with_len a (n + 1))
 go_on part front text more a n so_far put =
     let on : suc n ≡ n + 1 = omega arith in
@@ -38,7 +43,8 @@ go_on part front text more a n so_far put =
     put
     ∙ (ap (λ (t : List ℕ). t ++ part (a + n)) so_far
     ∙ (append_assoc front parts (part (a + n))
-    ∙ (ap (λ (t : List ℕ). front ++ t) (sym (parts_more part a n)) ∙ ap (λ (k : ℕ). front ++ flat_map part (range_with_len a k)) on)))
+    ∙ (ap (λ (t : List ℕ). front ++ t) (sym (parts_more part a n))
+    ∙ ap (λ (k : ℕ). front ++ flat_map part (range_with_len a k)) on)))
 
 -- ---- the parts of a day
 
@@ -54,7 +60,8 @@ pub ballots_go_on : (front text more : List ℕ) (number k n : ℕ) → text ≡
 unfolding ballots
 ballots_go_on front text more number k n so_far put =
     let same : n ≡ 0 + n = omega arith in
-    go_on (λ l. ballot l (drawn number (k + l + 1))) front text more 0 n so_far (put ∙ ap (λ (l : ℕ). text ++ ballot l (drawn number (k + l + 1))) same)
+    go_on (λ l. ballot l (drawn number (k + l + 1))) front text more 0 n so_far
+    (put ∙ ap (λ (l : ℕ). text ++ ballot l (drawn number (k + l + 1))) same)
 
 pub batches_none : (number team : ℕ) → batches number team 0 ≡ []
 unfolding batches
@@ -63,13 +70,16 @@ batches_none number team = refl
 pub batches_go_on : (front text more : List ℕ) (number team n : ℕ) → text ≡ front ++ batches number team n
     → more ≡ text ++ batch number (first number team + n) → more ≡ front ++ batches number team (n + 1)
 unfolding batches
-batches_go_on front text more number team n so_far put = go_on (batch number) front text more (first number team) n so_far put
+batches_go_on front text more number team n so_far put =
+    go_on (batch number) front text more (first number team) n so_far put
 
 pub teams_none : (number : ℕ) → teams number 0 ≡ []
 unfolding teams
 teams_none number = refl
 
-pub teams_go_on : (front text more : List ℕ) (number n : ℕ) → text ≡ front ++ teams number n → more ≡ text ++ one_team number (1 + n)
+pub teams_go_on :
+    (front text more : List ℕ) (number n : ℕ) → text ≡ front ++ teams number n
+    → more ≡ text ++ one_team number (1 + n)
     → more ≡ front ++ teams number (n + 1)
 unfolding teams
 teams_go_on front text more number n so_far put = go_on (one_team number) front text more 1 n so_far put

@@ -31,4 +31,5 @@ pass_from_digits (d ∷ ds) h =
 -- eight digits write a number to which one more may be added
 pub front_below : (word : List ℕ) (i : ℕ) → AllDigits 10 (take i word) → i < 9 → digits_value 10 (take i word) < 10 ^ 8
 front_below word i digits few =
-    digits_value_short (numerals_by_value (AllDigits 10) tells_digits) (take i word) 8 digits (simp length-take (omega arith))
+    digits_value_short (numerals_by_value (AllDigits 10) tells_digits) (take i word) 8 digits
+    (simp length-take (omega arith))

@@ -12,12 +12,16 @@ use Rattle.meek_words.specs.declared.option_name.OptionName.TheVariants.{Lots, S
 use Rattle.meek_words.proofs.CutLemmas.{same_parts}
 use Rattle.meek_words.proofs.LotListLemmas.{one_lot_list}
 
-same_setting : (greatest default : ℕ) (words : List Word) (m n : ℕ) → IsSetting greatest default words m → IsSetting greatest default words n → m ≡ n
+same_setting :
+    (greatest default : ℕ) (words : List Word) (m n : ℕ) → IsSetting greatest default words m
+    → IsSetting greatest default words n → m ≡ n
 same_setting greatest default [] m n hm hn = hm ∙ sym hn
 same_setting greatest default (word ∷ []) m n hm hn = hm.1 ∙ sym hn.1
 same_setting greatest default (word ∷ again ∷ words) m n hm hn = absurd hm
 
-same_lots : (words : List Word) (lots others : List ℕ) → IsOnce (λ word. IsLotList word lots) words → IsOnce (λ word. IsLotList word others) words → lots ≡ others
+same_lots :
+    (words : List Word) (lots others : List ℕ) → IsOnce (λ word. IsLotList word lots) words
+    → IsOnce (λ word. IsLotList word others) words → lots ≡ others
 same_lots [] lots others h k = absurd h
 same_lots (word ∷ []) lots others h k = one_lot_list word lots others h k
 same_lots (word ∷ again ∷ words) lots others h k = absurd h
@@ -37,12 +41,17 @@ workers_same : (given : Given) (s w s' w' : ℕ) → HasSettings given s w → H
 workers_same given s w s' w' h k = same_setting 32 4 given.workers w w' h.workers_in k.workers_in
 
 -- commands of the same first word that the same values say are one
-pub one_says : (given : Given) (one other : Command) → first_word one ≡ first_word other → Says one given → Says other given → one ≡ other
+pub one_says :
+    (given : Given) (one other : Command) → first_word one ≡ first_word other → Says one given
+    → Says other given → one ≡ other
 one_says given (Count lots s w) (Count lots' s' w') e h k =
-    λ i. Count (same_lots given.lots lots lots' h.1 k.1 i) (shards_same given s w s' w' h.0 k.0 i) (workers_same given s w s' w' h.0 k.0 i)
-one_says given (Day s w) (Day s' w') e h k = λ i. Day (shards_same given s w s' w' h.0 k.0 i) (workers_same given s w s' w' h.0 k.0 i)
+    λ i. Count (same_lots given.lots lots lots' h.1 k.1 i) (shards_same given s w s' w' h.0 k.0 i)
+    (workers_same given s w s' w' h.0 k.0 i)
+one_says given (Day s w) (Day s' w') e h k =
+    λ i. Day (shards_same given s w s' w' h.0 k.0 i) (workers_same given s w s' w' h.0 k.0 i)
 one_says given (Trial n s w) (Trial n' s' w') e h k =
-    λ i. Trial (same_number given.plain n n' h.2 k.2 i) (shards_same given s w s' w' h.0 k.0 i) (workers_same given s w s' w' h.0 k.0 i)
+    λ i. Trial (same_number given.plain n n' h.2 k.2 i) (shards_same given s w s' w' h.0 k.0 i)
+    (workers_same given s w s' w' h.0 k.0 i)
 one_says given one other e h k = absurd (omega (arith, ap (λ word. get_or word 0 0) e))
 
 pub have_one_command : HaveOneCommand
@@ -75,7 +84,9 @@ workers_once : (given : Given) (s w : ℕ) → HasSettings given s w → length 
 workers_once given s w h = setting_once 32 4 given.workers w h.workers_in
 
 -- a command has each option once at most
-says_once : (command : Command) (parts : List Part) → Says command (given_of parts) → (option : Option OptionName) → length (values_of option parts) ≤ 1
+says_once :
+    (command : Command) (parts : List Part) → Says command (given_of parts) → (option : Option OptionName)
+    → length (values_of option parts) ≤ 1
 says_once (Count lots s w) parts h (Some Lots) = once_at_most (λ word. IsLotList word lots) (values_of (Some Lots) parts) h.1
 says_once (Count lots s w) parts h (Some Shards) = shards_once (given_of parts) s w h.0
 says_once (Count lots s w) parts h (Some Workers) = workers_once (given_of parts) s w h.0
@@ -90,17 +101,23 @@ says_once (Trial n s w) parts h (Some Workers) = workers_once (given_of parts) s
 says_once (Trial n s w) parts h None = once_at_most (IsTrialNumber n) (values_of None parts) h.2
 
 -- behind the first word of a form stand its parts
-pub form_parts : (first : Word) (behind : List Word) (command : Command) (form : HasForm (first ∷ behind) command) → AreParts behind form.parts
+pub form_parts :
+    (first : Word) (behind : List Word) (command : Command) (form : HasForm (first ∷ behind) command)
+    → AreParts behind form.parts
 form_parts first behind command form = record {
   spelled = let e = form.spelled in cc;
   values = form.values;
   once = says_once command form.parts form.says;
 }
 
-pub form_first : (first : Word) (behind : List Word) (command : Command) → HasForm (first ∷ behind) command → first ≡ first_word command
+pub form_first :
+    (first : Word) (behind : List Word) (command : Command) → HasForm (first ∷ behind) command
+    → first ≡ first_word command
 form_first first behind command form = let e = form.spelled in cc
 
-pub form_from_parts : (first : Word) (behind : List Word) (parts : List Part) (command : Command) → AreParts behind parts → first ≡ first_word command → Says command (given_of parts)
+pub form_from_parts :
+    (first : Word) (behind : List Word) (parts : List Part) (command : Command) → AreParts behind parts
+    → first ≡ first_word command → Says command (given_of parts)
     → HasForm (first ∷ behind) command
 form_from_parts first behind parts command are same says = record {
   parts = parts;

@@ -8,7 +8,9 @@ use Rattle.std.proofs.lemmas.List.Splits.{slice_split_none, slice_split_at}
 abbrev pub Lacks : ℕ → List ℕ → Type 0
 Lacks c word = All (λ b. nat_eq b c ≡ false) word
 
-pub slice_split-join : (c : ℕ) → nat_eq c c ≡ true → (parts : List (List ℕ)) → 1 ≤ length parts → All (Lacks c) parts → slice_split (λ b. nat_eq b c) (join_with_byte c parts) ≡ parts
+pub slice_split-join :
+    (c : ℕ) → nat_eq c c ≡ true → (parts : List (List ℕ)) → 1 ≤ length parts → All (Lacks c) parts
+    → slice_split (λ b. nat_eq b c) (join_with_byte c parts) ≡ parts
 slice_split-join c same [] some lacks = absurd (omega arith)
 slice_split-join c same (x ∷ []) some lacks = slice_split_none (λ b. nat_eq b c) x (All-head (Lacks c) x [] lacks)
 slice_split-join c same (x ∷ y ∷ rest) some lacks =

@@ -15,7 +15,9 @@ same_number w u n is beside e = (sym (ap (λ (z : Share). z.number) e) ∙ is, s
 
 module _ {S : Type 0} where
   -- a share with both parts may raise the number
-  pub stores : (slots id by : ℕ) (me : Me S Share) → me.0.parts ≡ 2 → Allows {S = S} Tied slots id me 0 (λ _. 0) (λ _ m'. Raised by me m')
+  pub stores :
+      (slots id by : ℕ) (me : Me S Share) → me.0.parts ≡ 2
+      → Allows {S = S} Tied slots id me 0 (λ _. 0) (λ _ m'. Raised by me m')
   stores slots id by me both s r len at small =
       let n = r.1.0 in
       let v = me.0 in
@@ -33,7 +35,8 @@ module _ {S : Type 0} where
             n + by,
             λ k u e some_part. ⊎_elim
                 (λ (x : (k ≡ id) × (w ≡ u)). same_number w u (n + by) is is x.1)
-                (λ (x : (k ≢ id) × (get_elem? s.views k ≡ some u)). absurd (others_spent s.views id k v u (total ∙ sym both) at x.0 x.1 some_part))
+                (λ (x : (k ≢ id) × (get_elem? s.views k ≡ some u)).
+                absurd (others_spent s.views id k v u (total ∙ sym both) at x.0 x.1 some_part))
                 (at_set s.views id k w u e),
           ),
         ),
@@ -64,7 +67,9 @@ module _ {S : Type 0} where
       )
 
   -- two shares that are not spent may become one
-  pub joins : (id : ℕ) (v : Share) (other : ℕ) (w : Share) → 0 < v.parts → 0 < w.parts → Joins {S = S} Tied id v other w (merged v w) spent
+  pub joins :
+      (id : ℕ) (v : Share) (other : ℕ) (w : Share) → 0 < v.parts → 0 < w.parts
+      → Joins {S = S} Tied id v other w (merged v w) spent
   joins id v other w some_v some_w s r at apart there' =
       let n = r.1.0 in
       let both = merged v w in
@@ -79,7 +84,9 @@ module _ {S : Type 0} where
         (
           n,
           λ k u e some_part. ⊎_elim
-              (λ (x : (k ≡ other) × (spent ≡ u)). let none : 0 ≡ u.parts = ap (λ (z : Share). z.parts) x.1 in absurd (omega arith))
+              (λ (x : (k ≡ other) × (spent ≡ u)). let none : 0 ≡ u.parts =
+              ap (λ (z : Share). z.parts) x.1 in
+              absurd (omega arith))
               (λ (x : (k ≢ other) × (get_elem? views k ≡ some u)). ⊎_elim
               (λ (y : (k ≡ id) × (both ≡ u)). same_number both u n mine.0 theirs.0 y.1)
               (λ (y : (k ≢ id) × (get_elem? s.views k ≡ some u)). r.1.1 k u y.1 some_part)

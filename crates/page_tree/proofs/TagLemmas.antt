@@ -1,5 +1,6 @@
 -- Tags as they are read.
-use Rattle.std.proofs.Common.{◌≡◌, refl, sym, ap, subst, ◌∙◌, ℕ, Bool, true, false, not, cond, eqb, List, [], ◌∷◌, ◌++◌, Option, Some, None, ◌&&◌, inl, inr, arith, append_assoc, append-nil}
+use Rattle.std.proofs.Common.{◌≡◌, refl, sym, ap, subst, ◌∙◌, ℕ, Bool, true, false, not, cond, eqb, List, []}
+use Rattle.std.proofs.Common.{◌∷◌, ◌++◌, Option, Some, None, ◌&&◌, inl, inr, arith, append_assoc, append-nil}
 use Rattle.std.specs.Prelude.{codes}
 use Rattle.std.specs.List.{list_all, flat_map}
 use Rattle.std.specs.Str.{bytes_eq}
@@ -8,7 +9,8 @@ use Rattle.std.proofs.lemmas.Bool.Decides.{eqb_tells}
 use Rattle.std.proofs.lemmas.List.Elements.{All-head, All-tail}
 use Rattle.std.proofs.lemmas.List.Folds.{list_all-append}
 use Rattle.std.proofs.lemmas.Slice.Eq.{bytes_eq-Decides}
-use Rattle.page_tree.specs.Trees.{Attribute, Trees, Nothing, Text, Element, Void, IsName, AreNamed, IsWellNamed, is_name_byte, is_void}
+use Rattle.page_tree.specs.Trees.{Attribute, Trees, Nothing, Text, Element, Void, IsName, AreNamed}
+use Rattle.page_tree.specs.Trees.{IsWellNamed, is_name_byte, is_void}
 use Rattle.page_tree.specs.Print.{shown, attribute_text, opening, closing, printed}
 use Rattle.page_tree.specs.Reading.{nests, behind_tag, ended, tag_name}
 use Rattle.page_tree.specs.Laws.{is_plain}
@@ -36,7 +38,9 @@ name-within : (b : ℕ) → is_name_byte b ≡ true → within_tag b ≡ true
 name-within b is =
     and_from (not (eqb b 60)) (not (eqb b 62)) (ap not (name-other 60 refl b is)) (ap not (name-other 62 refl b is))
 
-all-weaker : (p q : ℕ → Bool) → ((b : ℕ) → p b ≡ true → q b ≡ true) → (xs : List ℕ) → list_all p xs ≡ true → list_all q xs ≡ true
+all-weaker :
+    (p q : ℕ → Bool) → ((b : ℕ) → p b ≡ true → q b ≡ true) → (xs : List ℕ) → list_all p xs ≡ true
+    → list_all q xs ≡ true
 all-weaker p q weaker [] all = refl
 all-weaker p q weaker (x ∷ xs) all =
     let parts = and_parts (p x) (list_all p xs) all in
@@ -46,7 +50,9 @@ all-append : (p : ℕ → Bool) (xs ys : List ℕ) → list_all p xs ≡ true �
 all-append p xs ys first second = list_all-append p xs ys ∙ and_from (list_all p xs) (list_all p ys) first second
 
 -- a text leaves the elements open that were
-nests-text : (begun : List (List ℕ)) (xs rest : List ℕ) → list_all within_tag xs ≡ true → nests (Some begun) None (xs ++ rest) ≡ nests (Some begun) None rest
+nests-text :
+    (begun : List (List ℕ)) (xs rest : List ℕ) → list_all within_tag xs ≡ true
+    → nests (Some begun) None (xs ++ rest) ≡ nests (Some begun) None rest
 nests-text begun [] rest all = refl
 nests-text begun (x ∷ xs) rest all =
     let parts = and_parts (within_tag x) (list_all within_tag xs) all in
@@ -60,7 +66,9 @@ nests-text begun (x ∷ xs) rest all =
     ∙ nests-text begun xs rest (parts.1)
 
 -- a tag is read up to its end
-nests-tag : (begun : List (List ℕ)) (front xs rest : List ℕ) → list_all within_tag xs ≡ true → nests (Some begun) (Some front) (xs ++ 62 ∷ rest) ≡ nests (behind_tag begun (front ++ xs)) None rest
+nests-tag :
+    (begun : List (List ℕ)) (front xs rest : List ℕ) → list_all within_tag xs ≡ true
+    → nests (Some begun) (Some front) (xs ++ 62 ∷ rest) ≡ nests (behind_tag begun (front ++ xs)) None rest
 nests-tag begun front [] rest all = ap (λ (tag : List ℕ). nests (behind_tag begun tag) None rest) (sym (append-nil front))
 nests-tag begun front (x ∷ xs) rest all =
     let parts = and_parts (within_tag x) (list_all within_tag xs) all in
@@ -75,7 +83,9 @@ nests-tag begun front (x ∷ xs) rest all =
     ∙ ap (λ (tag : List ℕ). nests (behind_tag begun tag) None rest) (append_assoc front (x ∷ []) xs)
 
 -- a name that ends where a tag goes on
-tag_name-append : (name behind : List ℕ) → list_all is_name_byte name ≡ true → tag_name behind ≡ [] → tag_name (name ++ behind) ≡ name
+tag_name-append :
+    (name behind : List ℕ) → list_all is_name_byte name ≡ true → tag_name behind ≡ []
+    → tag_name (name ++ behind) ≡ name
 tag_name-append [] behind all none = none
 tag_name-append (x ∷ name) behind all none =
     let parts = and_parts (is_name_byte x) (list_all is_name_byte name) all in
@@ -89,27 +99,37 @@ tag_name-attributes (attribute ∷ attributes) = refl
 attribute-within : (attribute : Attribute) → IsName attribute.name → list_all within_tag (attribute_text attribute) ≡ true
 attribute-within attribute is =
     let value = shown attribute.value in
-    all-append within_tag attribute.name (codes "=\"" ++ (value ++ 34 ∷ [])) (all-weaker is_name_byte within_tag name-within attribute.name is.bytes)
-    (all-append within_tag value (34 ∷ []) (all-weaker is_plain within_tag plain-within value (plain-shown attribute.value)) refl)
+    all-append within_tag attribute.name (codes "=\"" ++ (value ++ 34 ∷ []))
+    (all-weaker is_name_byte within_tag name-within attribute.name is.bytes)
+    (all-append within_tag value (34 ∷ [])
+    (all-weaker is_plain within_tag plain-within value (plain-shown attribute.value)) refl)
 
-attributes-within : (attributes : List Attribute) → AreNamed attributes → list_all within_tag (flat_map attribute_text attributes) ≡ true
+attributes-within :
+    (attributes : List Attribute) → AreNamed attributes
+    → list_all within_tag (flat_map attribute_text attributes) ≡ true
 attributes-within [] are = refl
 attributes-within (attribute ∷ attributes) are =
     let P : Attribute → Type 0 = λ a. IsName a.name in
-    all-append within_tag (attribute_text attribute) (flat_map attribute_text attributes) (attribute-within attribute (All-head P attribute attributes are)) (attributes-within attributes (All-tail P attribute attributes are))
+    all-append within_tag (attribute_text attribute) (flat_map attribute_text attributes)
+    (attribute-within attribute (All-head P attribute attributes are))
+    (attributes-within attributes (All-tail P attribute attributes are))
 
 -- what is open behind the start of an element
 abbrev started : List (List ℕ) → (name : List ℕ) → List (List ℕ)
 started begun name = cond (is_void name) begun (name ∷ begun)
 
-behind_tag-start : (begun : List (List ℕ)) (name behind : List ℕ) → IsName name → tag_name behind ≡ [] → behind_tag begun (name ++ behind) ≡ Some (started begun name)
+behind_tag-start :
+    (begun : List (List ℕ)) (name behind : List ℕ) → IsName name → tag_name behind ≡ []
+    → behind_tag begun (name ++ behind) ≡ Some (started begun name)
 behind_tag-start begun [] behind is none = absurd (omega (arith, is.some))
 behind_tag-start begun (x ∷ name) behind is none =
     let parts = and_parts (is_name_byte x) (list_all is_name_byte name) is.bytes in
     let whole : tag_name (x ∷ (name ++ behind)) ≡ x ∷ name = tag_name-append (x ∷ name) behind is.bytes none in
     let Open : Type 0 = Option (List (List ℕ)) in
     let choice : List ℕ → Open = λ n. cond (is_void n) (Some begun) (Some (n ∷ begun)) in
-    ap (λ b. let o : Open = cond b (ended begun (name ++ behind)) (choice (tag_name (x ∷ (name ++ behind)))) in o) (name-other 47 refl x parts.0)
+    ap (λ b. let o : Open =
+    cond b (ended begun (name ++ behind)) (choice (tag_name (x ∷ (name ++ behind)))) in
+    o) (name-other 47 refl x parts.0)
     ∙ ap choice whole
     ∙ either (is_void (x ∷ name)) (x ∷ name)
   where
@@ -118,21 +138,31 @@ behind_tag-start begun (x ∷ name) behind is none =
     either false n = refl
 
 -- the parts of a start, as they are read one after another
-regroup_start : (name attributes rest : List ℕ) → (name ++ (attributes ++ 62 ∷ [])) ++ rest ≡ (name ++ attributes) ++ 62 ∷ rest
+regroup_start :
+    (name attributes rest : List ℕ)
+    → (name ++ (attributes ++ 62 ∷ [])) ++ rest ≡ (name ++ attributes) ++ 62 ∷ rest
 regroup_start name attributes rest =
     append_assoc name (attributes ++ 62 ∷ []) rest
     ∙ ap (λ (l : List ℕ). name ++ l) (append_assoc attributes (62 ∷ []) rest)
     ∙ sym (append_assoc name attributes (62 ∷ rest))
 
-nests-start : (begun : List (List ℕ)) (name : List ℕ) (attributes : List Attribute) (rest : List ℕ) → IsName name → AreNamed attributes → nests (Some begun) None (opening name attributes ++ rest) ≡ nests (Some (started begun name)) None rest
+nests-start :
+    (begun : List (List ℕ)) (name : List ℕ) (attributes : List Attribute) (rest : List ℕ) → IsName name
+    → AreNamed attributes
+    → nests (Some begun) None (opening name attributes ++ rest) ≡ nests (Some (started begun name)) None rest
 nests-start begun name attributes rest is are =
     let values = flat_map attribute_text attributes in
-    let inner = all-append within_tag name values (all-weaker is_name_byte within_tag name-within name is.bytes) (attributes-within attributes are) in
+    let inner =
+    all-append within_tag name values (all-weaker is_name_byte within_tag name-within name is.bytes)
+    (attributes-within attributes are) in
     ap (λ (l : List ℕ). nests (Some begun) (Some []) l) (regroup_start name values rest)
     ∙ nests-tag begun [] (name ++ values) rest inner
-    ∙ ap (λ (o : Option (List (List ℕ))). nests o None rest) (behind_tag-start begun name values is (tag_name-attributes attributes))
+    ∙ ap (λ (o : Option (List (List ℕ))). nests o None rest)
+    (behind_tag-start begun name values is (tag_name-attributes attributes))
 
-nests-end : (begun : List (List ℕ)) (name rest : List ℕ) → IsName name → nests (Some (name ∷ begun)) None (closing name ++ rest) ≡ nests (Some begun) None rest
+nests-end :
+    (begun : List (List ℕ)) (name rest : List ℕ) → IsName name
+    → nests (Some (name ∷ begun)) None (closing name ++ rest) ≡ nests (Some begun) None rest
 nests-end begun name rest is =
     let same : bytes_eq name name ≡ true = (bytes_eq-Decides name name).1 refl in
     ap (λ (l : List ℕ). nests (Some (name ∷ begun)) (Some (47 ∷ [])) l) (append_assoc name (62 ∷ []) rest)
@@ -140,18 +170,24 @@ nests-end begun name rest is =
     ∙ ap (λ b. nests (cond b (Some begun) None) None rest) same
 
 -- the parts of an element, one after another
-regroup_element : (start within end behind rest : List ℕ) → (start ++ (within ++ (end ++ behind))) ++ rest ≡ start ++ (within ++ (end ++ (behind ++ rest)))
+regroup_element :
+    (start within end behind rest : List ℕ)
+    → (start ++ (within ++ (end ++ behind))) ++ rest ≡ start ++ (within ++ (end ++ (behind ++ rest)))
 regroup_element start within end behind rest = simp append_assoc
 
-pub nests-printed : (trees : Trees) (begun : List (List ℕ)) (rest : List ℕ) → IsWellNamed trees → nests (Some begun) None (printed trees ++ rest) ≡ nests (Some begun) None rest
+pub nests-printed :
+    (trees : Trees) (begun : List (List ℕ)) (rest : List ℕ) → IsWellNamed trees
+    → nests (Some begun) None (printed trees ++ rest) ≡ nests (Some begun) None rest
 nests-printed Nothing begun rest well = refl
 nests-printed (Text text behind) begun rest well =
     ap (nests (Some begun) None) (append_assoc (shown text) (printed behind) rest)
-    ∙ nests-text begun (shown text) (printed behind ++ rest) (all-weaker is_plain within_tag plain-within (shown text) (plain-shown text))
+    ∙ nests-text begun (shown text) (printed behind ++ rest)
+    (all-weaker is_plain within_tag plain-within (shown text) (plain-shown text))
     ∙ nests-printed behind begun rest well
 nests-printed (Element name attributes within behind) begun rest well =
     let end = closing name ++ (printed behind ++ rest) in
-    ap (nests (Some begun) None) (regroup_element (opening name attributes) (printed within) (closing name) (printed behind) rest)
+    ap (nests (Some begun) None)
+    (regroup_element (opening name attributes) (printed within) (closing name) (printed behind) rest)
     ∙ nests-start begun name attributes (printed within ++ end) well.0 well.1
     ∙ ap (λ b. nests (Some (cond b begun (name ∷ begun))) None (printed within ++ end)) well.2
     ∙ nests-printed within (name ∷ begun) end well.3

@@ -9,7 +9,10 @@ use Rattle.page_tree.specs.Reading.{read_text}
 use Rattle.page_tree.specs.Laws.{is_plain}
 
 -- a byte is one of the five, or is printed as it is
-entity-cases : (P : ℕ → Type 0) → P 38 → P 60 → P 62 → P 34 → P 39 → (b : ℕ) → (eqb b 38 ≡ false → eqb b 60 ≡ false → eqb b 62 ≡ false → eqb b 34 ≡ false → eqb b 39 ≡ false → P b) → P b
+entity-cases :
+    (P : ℕ → Type 0) → P 38 → P 60 → P 62 → P 34 → P 39 → (b : ℕ)
+    → (eqb b 38 ≡ false → eqb b 60 ≡ false → eqb b 62 ≡ false → eqb b 34 ≡ false → eqb b 39 ≡ false → P b)
+    → P b
 entity-cases P amp lt gt quot apos b other =
     elim (eqb_tells b 38) [
       | inl is ↦ subst P (sym is.1) amp

@@ -1,5 +1,7 @@
 -- Bytes written one piece after another.
-use Rattle.std.proofs.Common.{◌≡◌, ℕ, ◌+◌, ◌<◌, List, [], ◌∷◌, ◌++◌, length, take, drop, get_or, map, Option, Result, Ok, Err, IsErr, arith, sym, ap, subst, refl, ◌∙◌, append_assoc, append-nil}
+use Rattle.std.proofs.Common.{◌≡◌, ℕ, ◌+◌, ◌<◌, List, [], ◌∷◌, ◌++◌, length, take, drop, get_or, map, Option}
+use Rattle.std.proofs.Common.{Result, Ok, Err, IsErr, arith, sym, ap, subst, refl, ◌∙◌, append_assoc}
+use Rattle.std.proofs.Common.{append-nil}
 use Rattle.std.specs.Prelude.{OnOk, OnErr}
 use Rattle.std.specs.List.{flat_map}
 use Rattle.std.specs.Io.KnownBytes.{Appends}
@@ -13,13 +15,17 @@ use Rattle.piece_text.specs.Writing.{Wrote, Stopped, Writes}
 pub wrote_nothing : {S : Type 0} (w : S → Option (List ℕ)) (f : S → ℕ) (a : S) → Wrote w f a a []
 wrote_nothing w f a = record { whole = Appends-nil (w a); calm = refl }
 
-pub wrote_later : {S : Type 0} {w : S → Option (List ℕ)} {f : S → ℕ} {a b c : S} {first second : List ℕ} → Wrote w f a b first → Wrote w f b c second → Wrote w f a c (first ++ second)
+pub wrote_later :
+    {S : Type 0} {w : S → Option (List ℕ)} {f : S → ℕ} {a b c : S} {first second : List ℕ}
+    → Wrote w f a b first → Wrote w f b c second → Wrote w f a c (first ++ second)
 wrote_later {w} {a} {b} {c} {first} {second} done next = record {
   whole = Appends-trans (w a) (w b) (w c) first second done.whole next.whole;
   calm = next.calm ∙ done.calm;
 }
 
-pub stopped_later : {S : Type 0} {w : S → Option (List ℕ)} {f : S → ℕ} {a b c : S} {first second : List ℕ} → Wrote w f a b first → Stopped w f b c second → Stopped w f a c (first ++ second)
+pub stopped_later :
+    {S : Type 0} {w : S → Option (List ℕ)} {f : S → ℕ} {a b c : S} {first second : List ℕ}
+    → Wrote w f a b first → Stopped w f b c second → Stopped w f a c (first ++ second)
 stopped_later {w} {f} {a} {b} {c} {first} {second} done next =
     let front = next.part.0 in
     let rest = next.part.1 in
@@ -36,7 +42,9 @@ stopped_later {w} {f} {a} {b} {c} {first} {second} done next =
       };
     }
 
-stopped_within : {S : Type 0} {w : S → Option (List ℕ)} {f : S → ℕ} {a b : S} {first : List ℕ} (second : List ℕ) → Stopped w f a b first → Stopped w f a b (first ++ second)
+stopped_within :
+    {S : Type 0} {w : S → Option (List ℕ)} {f : S → ℕ} {a b : S} {first : List ℕ} (second : List ℕ)
+    → Stopped w f a b first → Stopped w f a b (first ++ second)
 stopped_within second stopped =
     let front = stopped.part.0 in
     let rest = stopped.part.1 in
@@ -51,34 +59,50 @@ stopped_within second stopped =
     }
 
 -- behind bytes that were written, further ones
-pub later : {S T E : Type 0} {w : S → Option (List ℕ)} {f : S → ℕ} {a b : S} {first : List ℕ} (c : S) (second : List ℕ) (r : Result T E) → Wrote w f a b first → Writes w f b c second r → Writes w f a c (first ++ second) r
+pub later :
+    {S T E : Type 0} {w : S → Option (List ℕ)} {f : S → ℕ} {a b : S} {first : List ℕ} (c : S)
+    (second : List ℕ) (r : Result T E) → Wrote w f a b first → Writes w f b c second r
+    → Writes w f a c (first ++ second) r
 later c second (Ok x) done next = wrote_later done next
 later c second (Err e) done next = stopped_later done next
 
 -- a failure within the first of some bytes
-pub stops : {S T E : Type 0} {w : S → Option (List ℕ)} {f : S → ℕ} {a b : S} {first : List ℕ} (second : List ℕ) (r : Result T E) → IsErr r → Stopped w f a b first → Writes w f a b (first ++ second) r
+pub stops :
+    {S T E : Type 0} {w : S → Option (List ℕ)} {f : S → ℕ} {a b : S} {first : List ℕ} (second : List ℕ)
+    (r : Result T E) → IsErr r → Stopped w f a b first → Writes w f a b (first ++ second) r
 stops second (Ok x) failed stopped = cc
 stops second (Err e) failed stopped = stopped_within second stopped
 
 -- one call that writes all
-pub writes_all : {S T E : Type 0} (w : S → Option (List ℕ)) (f : S → ℕ) (a b : S) (bytes : List ℕ) (r : Result T E) → OnOk r (Appends (w a) (w b) bytes) → OnErr r (AppendsFront (w a) (w b) bytes) → CountsFault (f a) (f b) r → Writes w f a b bytes r
+pub writes_all :
+    {S T E : Type 0} (w : S → Option (List ℕ)) (f : S → ℕ) (a b : S) (bytes : List ℕ) (r : Result T E)
+    → OnOk r (Appends (w a) (w b) bytes) → OnErr r (AppendsFront (w a) (w b) bytes)
+    → CountsFault (f a) (f b) r → Writes w f a b bytes r
 writes_all w f a b bytes (Ok x) all front faults = record { whole = all; calm = faults }
 writes_all w f a b bytes (Err e) all front faults = record { part = front; rose = faults }
 
 -- ---- what a loop writes of each item
 
 module _ {X : Type 0} (g : X → List ℕ) where
-  flat_map-more : (xs : List X) (i : ℕ) (d : X) → i < length xs → flat_map g (take (i + 1) xs) ≡ flat_map g (take i xs) ++ g (get_or xs i d)
+  flat_map-more :
+      (xs : List X) (i : ℕ) (d : X) → i < length xs
+      → flat_map g (take (i + 1) xs) ≡ flat_map g (take i xs) ++ g (get_or xs i d)
   flat_map-more xs i d below =
       ap (flat_map g) (take_more xs i d below)
       ∙ flat_map-append g (take i xs) (get_or xs i d ∷ [])
       ∙ ap (λ (l : List ℕ). flat_map g (take i xs) ++ l) (append-nil (g (get_or xs i d)))
 
-  pub wrote_more : {S : Type 0} {w : S → Option (List ℕ)} {f : S → ℕ} {a b c : S} (xs : List X) (i : ℕ) (d : X) → i < length xs → Wrote w f a b (flat_map g (take i xs)) → Wrote w f b c (g (get_or xs i d)) → Wrote w f a c (flat_map g (take (i + 1) xs))
+  pub wrote_more :
+      {S : Type 0} {w : S → Option (List ℕ)} {f : S → ℕ} {a b c : S} (xs : List X) (i : ℕ) (d : X)
+      → i < length xs → Wrote w f a b (flat_map g (take i xs)) → Wrote w f b c (g (get_or xs i d))
+      → Wrote w f a c (flat_map g (take (i + 1) xs))
   wrote_more {w} {f} {a} {b} {c} xs i d below done next =
       subst (λ (bytes : List ℕ). Wrote w f a c bytes) (sym (flat_map-more xs i d below)) (wrote_later done next)
 
-  pub stopped_at : {S T E : Type 0} {w : S → Option (List ℕ)} {f : S → ℕ} {a b c : S} (xs : List X) (i : ℕ) (d : X) (r : Result T E) → IsErr r → i < length xs → Wrote w f a b (flat_map g (take i xs)) → Stopped w f b c (g (get_or xs i d)) → Writes w f a c (flat_map g xs) r
+  pub stopped_at :
+      {S T E : Type 0} {w : S → Option (List ℕ)} {f : S → ℕ} {a b c : S} (xs : List X) (i : ℕ) (d : X)
+      (r : Result T E) → IsErr r → i < length xs → Wrote w f a b (flat_map g (take i xs))
+      → Stopped w f b c (g (get_or xs i d)) → Writes w f a c (flat_map g xs) r
   stopped_at {w} {f} {a} {b} {c} xs i d r failed below done next =
       let rest = flat_map g (drop (i + 1) xs) in
       let whole : (flat_map g (take i xs) ++ g (get_or xs i d)) ++ rest ≡ flat_map g xs =
@@ -88,6 +112,8 @@ module _ {X : Type 0} (g : X → List ℕ) where
       subst (λ (bytes : List ℕ). Writes w f a c bytes r) whole (stops rest r failed (stopped_later done next))
 
 -- what is written of items that are views of others
-pub flat_map-map : {X Y : Type 0} (g : Y → List ℕ) (v : X → Y) (xs : List X) → flat_map (λ x. g (v x)) xs ≡ flat_map g (map v xs)
+pub flat_map-map :
+    {X Y : Type 0} (g : Y → List ℕ) (v : X → Y) (xs : List X)
+    → flat_map (λ x. g (v x)) xs ≡ flat_map g (map v xs)
 flat_map-map g v [] = refl
 flat_map-map g v (x ∷ xs) = ap (λ (l : List ℕ). g (v x) ++ l) (flat_map-map g v xs)

@@ -1,5 +1,6 @@
 -- Lines of equal ballots, and the single ballots that they stand for.
-use Rattle.std.proofs.Common.{◌≡◌, ℕ, ◌+◌, ◌*◌, List, [], ◌∷◌, ◌++◌, length, replicate, append_assoc, arith, refl, ap, sym, ◌∙◌}
+use Rattle.std.proofs.Common.{◌≡◌, ℕ, ◌+◌, ◌*◌, List, [], ◌∷◌, ◌++◌, length, replicate, append_assoc, arith}
+use Rattle.std.proofs.Common.{refl, ap, sym, ◌∙◌}
 use Rattle.std.specs.List.{sum_by}
 use Rattle.std.specs.List.Sorted.{IsPermutation}
 use Rattle.std.proofs.lemmas.List.{length-append, length-replicate}
@@ -23,10 +24,13 @@ length-plain (line ∷ lines) =
 pub plain-append : (xs ys : List BallotLine) → plain (xs ++ ys) ≡ plain xs ++ plain ys
 plain-append [] ys = refl
 plain-append (line ∷ xs) ys =
-    ap (λ (rest : List (List ℕ)). ballots_of line ++ rest) (plain-append xs ys) ∙ sym (append_assoc (ballots_of line) (plain xs) (plain ys))
+    ap (λ (rest : List (List ℕ)). ballots_of line ++ rest) (plain-append xs ys)
+    ∙ sym (append_assoc (ballots_of line) (plain xs) (plain ys))
 
 -- a sum over single ballots may be taken line by line
-pub sum_by-plain : (f : List ℕ → ℕ) (lines : List BallotLine) → sum_by f (plain lines) ≡ sum_by (λ line. line.count * f line.ranking) lines
+pub sum_by-plain :
+    (f : List ℕ → ℕ) (lines : List BallotLine)
+    → sum_by f (plain lines) ≡ sum_by (λ line. line.count * f line.ranking) lines
 sum_by-plain f [] = refl
 sum_by-plain f (line ∷ lines) =
     sum_by-append f (ballots_of line) (plain lines)

@@ -11,19 +11,29 @@ use Rattle.std.proofs.lemmas.Map.Steps.{length-le_from_distinct_below}
 use Rattle.plain_ballots.specs.Ranking.{IsRanking}
 
 -- one more candidate, who didn't stand before
-pub ranking_more : (n : ℕ) (ranks : List ℕ) (i : ℕ) → IsRanking n (take i ranks) → i < length ranks → (1 ≤ get_or ranks i 0) × (get_or ranks i 0 ≤ n) → ((k : ℕ) (d : ℕ) → k < length (take i ranks) → get_or (take i ranks) k d ≢ get_or ranks i 0) → IsRanking n (take (i + 1) ranks)
+pub ranking_more :
+    (n : ℕ) (ranks : List ℕ) (i : ℕ) → IsRanking n (take i ranks) → i < length ranks
+    → (1 ≤ get_or ranks i 0) × (get_or ranks i 0 ≤ n)
+    → ((k : ℕ) (d : ℕ) → k < length (take i ranks) → get_or (take i ranks) k d ≢ get_or ranks i 0)
+    → IsRanking n (take (i + 1) ranks)
 ranking_more n ranks i sound below candidate new = record {
   numbers = All-more (λ (r : ℕ). (1 ≤ r) × (r ≤ n)) ranks i 0 below sound.numbers candidate;
-  different = rw (take_more ranks i 0 below) (all_pairs_push (λ (a b : ℕ). a ≢ b) (take i ranks) (get_or ranks i 0) sound.different new);
+  different =
+      rw (take_more ranks i 0 below)
+      (all_pairs_push (λ (a b : ℕ). a ≢ b) (take i ranks) (get_or ranks i 0) sound.different new);
 }
 
 -- a ranking with 0 in front of it
-with_zero : (n : ℕ) (ranks : List ℕ) → IsRanking n ranks → (i j : ℕ) (d : ℕ) → i < j → j < length (0 ∷ ranks) → get_or (0 ∷ ranks) i d ≢ get_or (0 ∷ ranks) j d
+with_zero :
+    (n : ℕ) (ranks : List ℕ) → IsRanking n ranks → (i j : ℕ) (d : ℕ) → i < j → j < length (0 ∷ ranks)
+    → get_or (0 ∷ ranks) i d ≢ get_or (0 ∷ ranks) j d
 with_zero n ranks ranking i zero d less inside = absurd (omega arith)
 with_zero n ranks ranking zero (suc j) d less inside = λ e. absurd (omega (arith, (ranking.numbers j d (omega arith)).0))
 with_zero n ranks ranking (suc i) (suc j) d less inside = ranking.different i j d (omega arith) (omega arith)
 
-zero_below : (n : ℕ) (ranks : List ℕ) → IsRanking n ranks → (k : ℕ) (d : ℕ) → k < length (0 ∷ ranks) → get_or (0 ∷ ranks) k d < n + 1
+zero_below :
+    (n : ℕ) (ranks : List ℕ) → IsRanking n ranks → (k : ℕ) (d : ℕ) → k < length (0 ∷ ranks)
+    → get_or (0 ∷ ranks) k d < n + 1
 zero_below n ranks ranking zero d inside = omega arith
 zero_below n ranks ranking (suc k) d inside = omega (arith, (ranking.numbers k d (omega arith)).1)
 
@@ -31,7 +41,9 @@ zero_below n ranks ranking (suc k) d inside = omega (arith, (ranking.numbers k d
 pub length-IsRanking : (n : ℕ) (ranks : List ℕ) → IsRanking n ranks → length ranks ≤ n
 length-IsRanking n ranks ranking =
     let different : IsDistinct eqb (0 ∷ ranks) =
-    IsDistinct-from_apart eqb (0 ∷ ranks) (λ i j d less inside. ne_eqb (get_or (0 ∷ ranks) i d) (get_or (0 ∷ ranks) j d) (with_zero n ranks ranking i j d less inside)) in
+    IsDistinct-from_apart eqb (0 ∷ ranks) (λ i j d less inside.
+    ne_eqb (get_or (0 ∷ ranks) i d) (get_or (0 ∷ ranks) j d)
+    (with_zero n ranks ranking i j d less inside)) in
     let few : length (0 ∷ ranks) ≤ n + 1 =
     length-le_from_distinct_below (0 ∷ ranks) (n + 1) different
     (λ q among.

@@ -1,5 +1,7 @@
 -- How many ballots have a ranking.
-use Rattle.std.proofs.Common.{◌≡◌, ◌≢◌, ℕ, ◌+◌, ◌-◌, ◌*◌, ◌<◌, ◌≤◌, List, [], ◌∷◌, ◌++◌, map, replicate, nat_eq, cond, Bool, true, false, ◌&&◌, inl, inr, arith, refl, ap, sym, subst, ◌∙◌, length, get_or, drop}
+use Rattle.std.proofs.Common.{◌≡◌, ◌≢◌, ℕ, ◌+◌, ◌-◌, ◌*◌, ◌<◌, ◌≤◌, List, [], ◌∷◌, ◌++◌, map, replicate}
+use Rattle.std.proofs.Common.{nat_eq, cond, Bool, true, false, ◌&&◌, inl, inr, arith, refl, ap, sym, subst}
+use Rattle.std.proofs.Common.{◌∙◌, length, get_or, drop}
 use Rattle.std.specs.Cmp.Lexicographic.{pointwise}
 use Rattle.std.proofs.lemmas.Bool.{cases_eq, eq-eqb, ne_eqb}
 use Rattle.std.proofs.lemmas.List.{drop_more, drop_all}
@@ -27,11 +29,23 @@ count_of-blank_map c (x ∷ xs) = count_of-blank_map c xs
 
 pub count_of-blank_bag : (f : Forest) → count_of [] (bag f) ≡ 0
 count_of-blank_bag Empty = refl
-count_of-blank_bag (Grow' c n p inner next) = omega (arith, count_of-append [] (below c n (bag inner)) (bag next), count_of-blank_map c (replicate n [] ++ bag inner), count_of-blank_bag next)
+count_of-blank_bag (Grow' c n p inner next) =
+    omega (
+      arith,
+      count_of-append [] (below c n (bag inner)) (bag next),
+      count_of-blank_map c (replicate n [] ++ bag inner),
+      count_of-blank_bag next,
+    )
 
 -- the ballots that name nobody stand before those of the forest
 pub count_of_blank : (n : ℕ) (f : Forest) → count_of [] (replicate n [] ++ bag f) ≡ n
-count_of_blank n f = omega (arith, count_of-append [] (replicate n []) (bag f), sum_by-replicate (one_for []) n [], count_of-blank_bag f)
+count_of_blank n f =
+    omega (
+      arith,
+      count_of-append [] (replicate n []) (bag f),
+      sum_by-replicate (one_for []) n [],
+      count_of-blank_bag f,
+    )
 
 -- ballots that begin with another candidate have another ranking
 pub count_of-other : (c d : ℕ) (s : List ℕ) (xs : List (List ℕ)) → d ≢ c → count_of (c ∷ s) (map (λ r. d ∷ r) xs) ≡ 0
@@ -47,7 +61,13 @@ count_of-same c s [] = refl
 count_of-same c s (x ∷ xs) =
     let same : nat_eq c c ≡ true = eq-eqb c c refl in
     let here : one_for (c ∷ s) (c ∷ x) ≡ one_for s x = ap (λ (b : Bool). cond (b && pointwise nat_eq x s) 1 0) same in
-    omega (arith, here, count_of-cons (c ∷ s) (c ∷ x) (map (λ (r : List ℕ). c ∷ r) xs), count_of-cons s x xs, count_of-same c s xs)
+    omega (
+      arith,
+      here,
+      count_of-cons (c ∷ s) (c ∷ x) (map (λ (r : List ℕ). c ∷ r) xs),
+      count_of-cons s x xs,
+      count_of-same c s xs,
+    )
 
 -- no sibling behind a candidate has its ballots
 pub count_of-rising : (c low : ℕ) (s : List ℕ) (f : Forest) → c ≤ low → IsRising low f → count_of (c ∷ s) (bag f) ≡ 0
@@ -55,15 +75,26 @@ count_of-rising c low s Empty less rising = refl
 count_of-rising c low s (Grow' d n p inner next) less rising =
     let above : low < d = rising.0 in
     let here = count_of-other c d s (replicate n [] ++ bag inner) (omega arith) in
-    omega (arith, here, count_of-append (c ∷ s) (below d n (bag inner)) (bag next), count_of-rising c d s next (omega arith) rising.3)
+    omega (
+      arith,
+      here,
+      count_of-append (c ∷ s) (below d n (bag inner)) (bag next),
+      count_of-rising c d s next (omega arith) rising.3,
+    )
 
 -- nor one that was passed
-pub count_of-falling : (c high : ℕ) (s : List ℕ) (f : Forest) → high ≤ c → IsFalling high f → count_of (c ∷ s) (bag_back f) ≡ 0
+pub count_of-falling :
+    (c high : ℕ) (s : List ℕ) (f : Forest) → high ≤ c → IsFalling high f → count_of (c ∷ s) (bag_back f) ≡ 0
 count_of-falling c high s Empty less falling = refl
 count_of-falling c high s (Grow' d n p inner next) less falling =
     let under : d < high = falling.1 in
     let here = count_of-other c d s (replicate n [] ++ bag inner) (omega arith) in
-    omega (arith, here, count_of-append (c ∷ s) (bag_back next) (below d n (bag inner)), count_of-falling c d s next (omega arith) falling.4)
+    omega (
+      arith,
+      here,
+      count_of-append (c ∷ s) (bag_back next) (below d n (bag inner)),
+      count_of-falling c d s next (omega arith) falling.4,
+    )
 
 -- siblings of which none is before a candidate, and that have its ballots, begin with its node
 pub first_has : (c : ℕ) (s : List ℕ) (f : Forest) → 1 ≤ c → IsRising (c - 1) f → 1 ≤ count_of (c ∷ s) (bag f) → IsFirst c f
@@ -78,51 +109,96 @@ first_has c s (Grow' d n p inner next) number rising some =
     ]
 
 -- the ballots with a ranking, among the siblings that were not passed
-pub count_of-passed : (c : ℕ) (s : List ℕ) (passed rest whole : Forest) → IsFalling c passed → bag_back passed ++ bag rest ≡ bag whole → count_of (c ∷ s) (bag rest) ≡ count_of (c ∷ s) (bag whole)
+pub count_of-passed :
+    (c : ℕ) (s : List ℕ) (passed rest whole : Forest) → IsFalling c passed
+    → bag_back passed ++ bag rest ≡ bag whole → count_of (c ∷ s) (bag rest) ≡ count_of (c ∷ s) (bag whole)
 count_of-passed c s passed rest whole falling parts =
-    omega (arith, count_of-append (c ∷ s) (bag_back passed) (bag rest), count_of-falling c c s passed (omega arith) falling, ap (count_of (c ∷ s)) parts)
+    omega (
+      arith,
+      count_of-append (c ∷ s) (bag_back passed) (bag rest),
+      count_of-falling c c s passed (omega arith) falling,
+      ap (count_of (c ∷ s)) parts,
+    )
 
 -- where a candidate's ballots are among siblings: at its node,
-pub node_has : (c d n : ℕ) (s : List ℕ) (inner next : Forest) → c ≡ d → IsRising d next → count_of s (replicate n [] ++ bag inner) ≡ count_of (c ∷ s) (below d n (bag inner) ++ bag next)
+pub node_has :
+    (c d n : ℕ) (s : List ℕ) (inner next : Forest) → c ≡ d → IsRising d next
+    → count_of s (replicate n [] ++ bag inner) ≡ count_of (c ∷ s) (below d n (bag inner) ++ bag next)
 node_has c d n s inner next same rising =
-    subst (λ (e : ℕ). count_of s (replicate n [] ++ bag inner) ≡ count_of (e ∷ s) (below d n (bag inner) ++ bag next)) (sym same)
-    (omega (arith, count_of-append (d ∷ s) (below d n (bag inner)) (bag next), count_of-same d s (replicate n [] ++ bag inner), count_of-rising d d s next (omega arith) rising))
+    subst (λ (e : ℕ). count_of s (replicate n [] ++ bag inner)
+    ≡ count_of (e ∷ s) (below d n (bag inner) ++ bag next)) (sym same)
+    (omega (
+      arith,
+      count_of-append (d ∷ s) (below d n (bag inner)) (bag next),
+      count_of-same d s (replicate n [] ++ bag inner),
+      count_of-rising d d s next (omega arith) rising,
+    ))
 
 -- behind another's,
-pub behind_has : (c d n : ℕ) (s : List ℕ) (inner next : Forest) → d < c → count_of (c ∷ s) (bag next) ≡ count_of (c ∷ s) (below d n (bag inner) ++ bag next)
+pub behind_has :
+    (c d n : ℕ) (s : List ℕ) (inner next : Forest) → d < c
+    → count_of (c ∷ s) (bag next) ≡ count_of (c ∷ s) (below d n (bag inner) ++ bag next)
 behind_has c d n s inner next less =
-    omega (arith, count_of-append (c ∷ s) (below d n (bag inner)) (bag next), count_of-other c d s (replicate n [] ++ bag inner) (omega arith))
+    omega (
+      arith,
+      count_of-append (c ∷ s) (below d n (bag inner)) (bag next),
+      count_of-other c d s (replicate n [] ++ bag inner) (omega arith),
+    )
 
 -- and nowhere where the first is above it
-pub none_has : (c d n : ℕ) (s : List ℕ) (inner next : Forest) → c < d → IsRising d next → count_of (c ∷ s) (below d n (bag inner) ++ bag next) ≡ 0
+pub none_has :
+    (c d n : ℕ) (s : List ℕ) (inner next : Forest) → c < d → IsRising d next
+    → count_of (c ∷ s) (below d n (bag inner) ++ bag next) ≡ 0
 none_has c d n s inner next less rising =
-    omega (arith, count_of-append (c ∷ s) (below d n (bag inner)) (bag next), count_of-other c d s (replicate n [] ++ bag inner) (omega arith), count_of-rising c d s next (omega arith) rising)
+    omega (
+      arith,
+      count_of-append (c ∷ s) (below d n (bag inner)) (bag next),
+      count_of-other c d s (replicate n [] ++ bag inner) (omega arith),
+      count_of-rising c d s next (omega arith) rising,
+    )
 
 -- the first sibling's node
-pub count_of-first : (c n : ℕ) (s : List ℕ) (inner next rest : Forest) → IsRising c next → below c n (bag inner) ++ bag next ≡ bag rest → count_of s (replicate n [] ++ bag inner) ≡ count_of (c ∷ s) (bag rest)
+pub count_of-first :
+    (c n : ℕ) (s : List ℕ) (inner next rest : Forest) → IsRising c next
+    → below c n (bag inner) ++ bag next ≡ bag rest
+    → count_of s (replicate n [] ++ bag inner) ≡ count_of (c ∷ s) (bag rest)
 count_of-first c n s inner next rest rising parts = node_has c c n s inner next refl rising ∙ ap (count_of (c ∷ s)) parts
 
 -- a ranking that goes on has its ballots below
-pub count_of-deeper : (d n : ℕ) (s : List ℕ) (f : Forest) → count_of (d ∷ s) (replicate n [] ++ bag f) ≡ count_of (d ∷ s) (bag f)
-count_of-deeper d n s f = omega (arith, count_of-append (d ∷ s) (replicate n []) (bag f), sum_by-replicate (one_for (d ∷ s)) n [])
+pub count_of-deeper :
+    (d n : ℕ) (s : List ℕ) (f : Forest)
+    → count_of (d ∷ s) (replicate n [] ++ bag f) ≡ count_of (d ∷ s) (bag f)
+count_of-deeper d n s f =
+    omega (arith, count_of-append (d ∷ s) (replicate n []) (bag f), sum_by-replicate (one_for (d ∷ s)) n [])
 
 -- the ballots that have the ranks from a place on: at the rank's node those that have the ranks behind it,
-pub count_of-node : (ranks : List ℕ) (at n : ℕ) (passed rest whole inner next : Forest) → at < length ranks → IsFalling (get_or ranks at 0) passed → bag_back passed ++ bag rest ≡ bag whole → IsRising (get_or ranks at 0) next → below (get_or ranks at 0) n (bag inner) ++ bag next ≡ bag rest → count_of (drop (at + 1) ranks) (replicate n [] ++ bag inner) ≡ count_of (drop at ranks) (bag whole)
+pub count_of-node :
+    (ranks : List ℕ) (at n : ℕ) (passed rest whole inner next : Forest) → at < length ranks
+    → IsFalling (get_or ranks at 0) passed → bag_back passed ++ bag rest ≡ bag whole
+    → IsRising (get_or ranks at 0) next → below (get_or ranks at 0) n (bag inner) ++ bag next ≡ bag rest
+    → count_of (drop (at + 1) ranks) (replicate n [] ++ bag inner) ≡ count_of (drop at ranks) (bag whole)
 count_of-node ranks at n passed rest whole inner next inside falling parts rising here =
     let c = get_or ranks at 0 in
     let s = drop (at + 1) ranks in
     count_of-first c n s inner next rest rising here
-    ∙ (count_of-passed c s passed rest whole falling parts ∙ ap (λ (r : List ℕ). count_of r (bag whole)) (sym (drop_more ranks at 0 inside)))
+    ∙ (count_of-passed c s passed rest whole falling parts
+    ∙ ap (λ (r : List ℕ). count_of r (bag whole)) (sym (drop_more ranks at 0 inside)))
 
 -- which are below the node where there are some,
-pub count_of-inside : (ranks : List ℕ) (at n : ℕ) (f : Forest) → at < length ranks → count_of (drop at ranks) (replicate n [] ++ bag f) ≡ count_of (drop at ranks) (bag f)
+pub count_of-inside :
+    (ranks : List ℕ) (at n : ℕ) (f : Forest) → at < length ranks
+    → count_of (drop at ranks) (replicate n [] ++ bag f) ≡ count_of (drop at ranks) (bag f)
 count_of-inside ranks at n f inside =
     let next : drop at ranks ≡ get_or ranks at 0 ∷ drop (at + 1) ranks = drop_more ranks at 0 inside in
-    subst (λ (r : List ℕ). count_of r (replicate n [] ++ bag f) ≡ count_of r (bag f)) (sym next) (count_of-deeper (get_or ranks at 0) n (drop (at + 1) ranks) f)
+    subst (λ (r : List ℕ). count_of r (replicate n [] ++ bag f) ≡ count_of r (bag f)) (sym next)
+    (count_of-deeper (get_or ranks at 0) n (drop (at + 1) ranks) f)
 
 -- and end at it where there are none
-pub count_of-end : (ranks : List ℕ) (at n : ℕ) (f : Forest) → length ranks ≤ at → count_of (drop at ranks) (replicate n [] ++ bag f) ≡ n
-count_of-end ranks at n f past = ap (λ (r : List ℕ). count_of r (replicate n [] ++ bag f)) (drop_all at ranks past) ∙ count_of_blank n f
+pub count_of-end :
+    (ranks : List ℕ) (at n : ℕ) (f : Forest) → length ranks ≤ at
+    → count_of (drop at ranks) (replicate n [] ++ bag f) ≡ n
+count_of-end ranks at n f past =
+    ap (λ (r : List ℕ). count_of r (replicate n [] ++ bag f)) (drop_all at ranks past) ∙ count_of_blank n f
 
 -- each of equal ballots has their ranking
 pub one_for-own : (r : List ℕ) → one_for r r ≡ 1

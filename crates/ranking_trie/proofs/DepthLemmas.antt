@@ -1,5 +1,6 @@
 -- How deep a trie is.
-use Rattle.std.proofs.Common.{◌≡◌, ℕ, ◌+◌, ◌<◌, ◌≤◌, List, [], ◌∷◌, ◌++◌, length, get_or, replicate, append_assoc, arith, refl, sym, subst}
+use Rattle.std.proofs.Common.{◌≡◌, ℕ, ◌+◌, ◌<◌, ◌≤◌, List, [], ◌∷◌, ◌++◌, length, get_or, replicate}
+use Rattle.std.proofs.Common.{append_assoc, arith, refl, sym, subst}
 use Rattle.std.specs.List.{All}
 use Rattle.std.proofs.lemmas.List.{get_or_at, length-append, length-replicate}
 use Rattle.plain_ballots.specs.Ranking.{IsRanking}
@@ -23,17 +24,27 @@ node_within n p r c ranking =
     (omega (arith, number.0), omega (arith, number.1), omega arith)
 
 -- below a way p down, from rankings
-pub within : (n : ℕ) (p : List ℕ) (low : ℕ) (f : Forest) → n ≤ 250 → IsRising low f → All (λ r. IsRanking n (p ++ r)) (bag f) → IsWithin n 250 (length p + 1) f
+pub within :
+    (n : ℕ) (p : List ℕ) (low : ℕ) (f : Forest) → n ≤ 250 → IsRising low f
+    → All (λ r. IsRanking n (p ++ r)) (bag f) → IsWithin n 250 (length p + 1) f
 within n p low Empty few rising rankings = tt
 within n p low (Grow' c k q inner next) few rising rankings =
     let rest = replicate k [] ++ bag inner in
-    let here = All-unmap (λ r. IsRanking n (p ++ r)) (λ (r : List ℕ). c ∷ r) rest (All-left (λ r. IsRanking n (p ++ r)) (below c k (bag inner)) (bag next) rankings) in
+    let here =
+    All-unmap (λ r. IsRanking n (p ++ r)) (λ (r : List ℕ). c ∷ r) rest
+    (All-left (λ r. IsRanking n (p ++ r)) (below c k (bag inner)) (bag next) rankings) in
     let some : 1 ≤ k + length (bag inner) = rising.1 in
-    let many : 0 < length rest = omega (arith, length-append {A = List ℕ} (replicate k []) (bag inner), length-replicate {A = List ℕ} k []) in
+    let many : 0 < length rest =
+    omega (
+      arith,
+      length-append {A = List ℕ} (replicate k []) (bag inner),
+      length-replicate {A = List ℕ} k [],
+    ) in
     let node = node_within n p (get_or rest 0 []) c (here 0 [] many) in
     let one : length (p ++ c ∷ []) ≡ length p + 1 = length-append p (c ∷ []) in
     let deeper : All (λ r. IsRanking n ((p ++ c ∷ []) ++ r)) (bag inner) =
-    λ d e inside. subst (IsRanking n) (step_down p (get_or (bag inner) d e) c) (All-right (λ r. IsRanking n (p ++ c ∷ r)) (replicate k []) (bag inner) here d e inside) in (
+    λ d e inside. subst (IsRanking n) (step_down p (get_or (bag inner) d e) c)
+    (All-right (λ r. IsRanking n (p ++ c ∷ r)) (replicate k []) (bag inner) here d e inside) in (
       node.0,
       node.1,
       omega (arith, node.2),

@@ -16,7 +16,12 @@ use Rattle.ranking_trie.proofs.ListLemmas.{All-right}
 ranks-map : (c : ℕ) (xs : List (List ℕ)) → sum_by length (map (λ r. c ∷ r) xs) ≡ length xs + sum_by length xs
 ranks-map c [] = refl
 ranks-map c (x ∷ xs) =
-    omega (arith, sum_by-cons {X = List ℕ} length (c ∷ x) (map (λ (r : List ℕ). c ∷ r) xs), sum_by-cons {X = List ℕ} length x xs, ranks-map c xs)
+    omega (
+      arith,
+      sum_by-cons {X = List ℕ} length (c ∷ x) (map (λ (r : List ℕ). c ∷ r) xs),
+      sum_by-cons {X = List ℕ} length x xs,
+      ranks-map c xs,
+    )
 
 pub node_count-le : (low : ℕ) (f : Forest) → IsRising low f → node_count f ≤ sum_by length (bag f)
 node_count-le low Empty rising = omega arith
@@ -35,9 +40,18 @@ node_count-le low (Grow' c n p inner next) rising =
     )
 
 -- the nodes of a trie can be counted
-pub few_nodes : (n total ends : ℕ) (f : Forest) → IsSoundBag n total (replicate ends [] ++ bag f) → IsRising 0 f → node_count f ≤ 249999999750
+pub few_nodes :
+    (n total ends : ℕ) (f : Forest) → IsSoundBag n total (replicate ends [] ++ bag f) → IsRising 0 f
+    → node_count f ≤ 249999999750
 few_nodes n total ends f sound rising =
     let short : All (λ (r : List ℕ). length r ≤ 250) (bag f) =
-    All-weaker (λ r. IsRanking n r) (λ (r : List ℕ). length r ≤ 250) (λ r ranking. omega (arith, length-IsRanking n r ranking, sound.few_candidates)) (bag f)
+    All-weaker (λ r. IsRanking n r) (λ (r : List ℕ). length r ≤ 250)
+    (λ r ranking. omega (arith, length-IsRanking n r ranking, sound.few_candidates)) (bag f)
     (All-right (λ r. IsRanking n r) (replicate ends []) (bag f) sound.rankings) in
-    omega (arith, node_count-le 0 f rising, sum_by-le {X = List ℕ} length 250 (bag f) short, sound.few, length-append {A = List ℕ} (replicate ends []) (bag f))
+    omega (
+      arith,
+      node_count-le 0 f rising,
+      sum_by-le {X = List ℕ} length 250 (bag f) short,
+      sound.few,
+      length-append {A = List ℕ} (replicate ends []) (bag f),
+    )

@@ -1,5 +1,6 @@
 -- Each step keeps as many members elected or hopeful.
-use Rattle.std.proofs.Common.{◌≡◌, ℕ, ◌+◌, ◌-◌, ◌*◌, ◌/◌, ◌<◌, ◌≤◌, ◌&&◌, ◌||◌, not, min, Bool, true, false, cond, List, length, get_or, set, sum, arith}
+use Rattle.std.proofs.Common.{◌≡◌, ℕ, ◌+◌, ◌-◌, ◌*◌, ◌/◌, ◌<◌, ◌≤◌, ◌&&◌, ◌||◌, not, min, Bool, true, false}
+use Rattle.std.proofs.Common.{cond, List, length, get_or, set, sum, arith}
 use Rattle.std.proofs.Common.{ap, sym, subst, ◌∙◌, inl, inr}
 use Rattle.std.proofs.Math.Nat.{mul-le-mul_left}
 use Rattle.std.proofs.lemmas.Bool.{cases_Bool, cases_lt, eqb-true}
@@ -7,13 +8,15 @@ use Rattle.std.proofs.lemmas.List.{length-set}
 use Rattle.std.proofs.lemmas.List.FromFn.{get_or-map-range_with_len, length-map-range_with_len}
 use Rattle.candidate_roll.specs.State.{state_at}
 use Rattle.candidate_roll.specs.declared.state.State.{State}
-use Rattle.candidate_roll.specs.declared.state.State.TheVariants.{Hopeful, Elected as IsNowElected, Defeated as IsNowDefeated, Withdrawn}
+use Rattle.candidate_roll.specs.declared.state.State.TheVariants.{Hopeful, Elected as IsNowElected}
+use Rattle.candidate_roll.specs.declared.state.State.TheVariants.{Defeated as IsNowDefeated, Withdrawn}
 use Rattle.lot_order.specs.Flags.{mark_at}
 use Rattle.lot_order.specs.Lots.{IsOrder}
 use Rattle.meek_rule.specs.declared.step.Step.{Step}
 use Rattle.meek_rule.specs.declared.step.Step.TheVariants.{Elected, Iterate, Defeat}
 use Rattle.meek_rule.specs.Places.{count_places}
-use Rattle.meek_rule.specs.Situation.{Situation, IsValid, is_complete, is_full, is_hopeful, is_elected, elected_count, final_state, final_states}
+use Rattle.meek_rule.specs.Situation.{Situation, IsValid, is_complete, is_full, is_hopeful, is_elected}
+use Rattle.meek_rule.specs.Situation.{elected_count, final_state, final_states}
 use Rattle.meek_rule.specs.Row.{Row}
 use Rattle.meek_rule.specs.Rule.{Rule}
 use Rattle.meek_rule.specs.Quota.{has_reached}
@@ -32,15 +35,18 @@ use Rattle.rule_laws.proofs.Quotas.{quota_bound, quota_whole}
 use Rattle.rule_laws.proofs.Walk.{IsOpen, is_open, loser_is_hopeful}
 use Rattle.rule_laws.proofs.Decided.{all_become-through, settled-become}
 use Rattle.rule_laws.proofs.Kept.{of_members}
-use Rattle.rule_laws.proofs.Members.{IsWithin, Stands, VotesStay, above, below, defeat_bound, elected_of, hopeful_of, none_above, seats_bound, some_hopeful}
+use Rattle.rule_laws.proofs.Members.{IsWithin, Stands, VotesStay, above, below, defeat_bound, elected_of}
+use Rattle.rule_laws.proofs.Members.{hopeful_of, none_above, seats_bound, some_hopeful}
 use Rattle.rule_laws.proofs.Members.{votes-at}
-use Rattle.rule_laws.proofs.MemberSteps.{defeat-elected, defeat-hopeful, elect-at, elect-enough, elect-holds, keep_out, none_reached, seats_taken}
+use Rattle.rule_laws.proofs.MemberSteps.{defeat-elected, defeat-hopeful, elect-at, elect-enough, elect-holds}
+use Rattle.rule_laws.proofs.MemberSteps.{keep_out, none_reached, seats_taken}
 use Rattle.rule_laws.proofs.MemberSteps.{still_hopeful, vote_out}
 
 -- THE STEPS
 
 -- what an iteration of a standing coalition has
-record IsReady (s : ℕ) (lots : List ℕ) (start : List State) (n : ℕ) (members : ℕ → Bool) (seats k over : ℕ) (now : Situation) (votes : List ℕ)
+record IsReady (s : ℕ) (lots : List ℕ) (start : List State) (n : ℕ) (members : ℕ → Bool) (seats k over : ℕ)
+    (now : Situation) (votes : List ℕ)
     (row : Row) (next : Situation) : Type 0 where
   settles : Settle s now votes lots row next
   valid : IsValid s now
@@ -51,22 +57,29 @@ record IsReady (s : ℕ) (lots : List ℕ) (start : List State) (n : ℕ) (membe
   bound : sum votes < (seats + 1) * row.quota
   members_have : (p : ℕ) → p < n → members p ≡ true → is_hopeful (state_at now.states p) ≡ true
       → k * row.quota + over ≤ total n (of_members members (λ c. get_or votes c 0))
-  nothing_out : (p : ℕ) → p < n → (is_hopeful (state_at now.states p) || is_elected (state_at now.states p)) ≡ false → get_or votes p 0 ≡ 0
+  nothing_out :
+      (p : ℕ) → p < n → (is_hopeful (state_at now.states p) || is_elected (state_at now.states p)) ≡ false
+      → get_or votes p 0 ≡ 0
   become : AllBecome start next.states
   stands : Stands start n members seats k now
 
-elected-stands : (s : ℕ) (lots : List ℕ) (start : List State) (n : ℕ) (members : ℕ → Bool) (seats k over : ℕ) (now : Situation) (votes : List ℕ)
+elected-stands :
+    (s : ℕ) (lots : List ℕ) (start : List State) (n : ℕ) (members : ℕ → Bool) (seats k over : ℕ)
+    (now : Situation) (votes : List ℕ)
     (row : Row) (next : Situation)
     → IsReady s lots start n members seats k over now votes row next → StepLeaves s now lots row Elected next
     → IsWithin n members k over now.states votes Elected row
     → Stands start n members seats k next
 elected-stands s lots start n members seats k over now votes row next ready leaves left =
-    let can : AreElectable now row.elected = winners-electable s now votes lots row.quota row.elected ready.valid ready.settles.winners in
+    let can : AreElectable now row.elected =
+    winners-electable s now votes lots row.quota row.elected ready.valid ready.settles.winners in
     let new : List State = elect now.states row.elected in
     let holds = elect-holds n members now.states row.elected ready.stands.as_long in
     let as_before = elect-enough n members now.states row.elected ready.stands.as_long can.hopeful in
     subst (Stands start n members seats k) (sym leaves.1) (record {
-      as_long = length-map-range_with_len (λ c. cond (mark_at row.elected c) IsNowElected (state_at now.states c)) 0 (length now.states) ∙ ready.stands.as_long;
+      as_long =
+          length-map-range_with_len (λ c. cond (mark_at row.elected c) IsNowElected (state_at now.states c)) 0
+          (length now.states) ∙ ready.stands.as_long;
       as_many = ready.stands.as_many;
       from_start = subst (AllBecome start) (ap (λ (x : Situation). x.states) leaves.1) ready.become;
       enough = omega (arith, as_before, ready.stands.enough);
@@ -82,14 +95,18 @@ elected-stands s lots start n members seats k over now votes row next ready leav
                 let has = ready.members_have one.0 one.1 one.2 was in
                 let room = seats_bound n row.quota members (holds_seat now.states row.elected) (λ c. get_or votes c 0) in
                 let taken : elected_count new ≡ seats = eqb-true _ _ full ∙ ready.stands.as_many in
-                seats_taken row.quota (sum votes) seats (total n (λ p. one_if (not (members p) && holds_seat now.states row.elected p)))
+                seats_taken row.quota (sum votes) seats
+                (total n (λ p. one_if (not (members p) && holds_seat now.states row.elected p)))
                 (total n (of_members members (λ c. get_or votes c 0)))
-                (elected_of n members new) k over (below n members (holds_seat now.states row.elected) row.quota (λ c. get_or votes c 0))
+                (elected_of n members new) k over
+                (below n members (holds_seat now.states row.elected) row.quota (λ c. get_or votes c 0))
                 ready.bound (omega (arith, room, list-total votes n ready.long)) left has (holds.1 ∙ taken)
           ];
     })
 
-defeated-stands : (s : ℕ) (lots : List ℕ) (start : List State) (n : ℕ) (members : ℕ → Bool) (seats k over : ℕ) (now : Situation) (votes : List ℕ)
+defeated-stands :
+    (s : ℕ) (lots : List ℕ) (start : List State) (n : ℕ) (members : ℕ → Bool) (seats k over : ℕ)
+    (now : Situation) (votes : List ℕ)
     (row : Row) (next : Situation) (c : ℕ)
     → IsReady s lots start n members seats k over now votes row next → StepLeaves s now lots row (Defeat c) next
     → IsWithin n members k over now.states votes (Defeat c) row
@@ -120,21 +137,34 @@ defeated-stands s lots start n members seats k over now votes row next c ready l
                 elim (cases_lt k (elected_of n members now.states + hopeful_of n members now.states)) [
                   | inl spare ↦ omega (arith, elected, hopeful)
                   | inr just ↦
-                      let exactly : elected_of n members now.states + hopeful_of n members now.states ≡ k = omega (arith, ready.stands.enough) in
+                      let exactly : elected_of n members now.states + hopeful_of n members now.states ≡ k =
+                      omega (arith, ready.stands.enough) in
                       let nobody_won : 0 ≡ min (now.seats - elected_count now.states)
                       (count_places (length now.states) (has_reached now.states votes row.quota)) =
                       sym leaves.0 ∙ ready.settles.winners.as_many in
                       let less : (p : ℕ) → p < n → is_hopeful (state_at now.states p) ≡ true → get_or votes p 0 < row.quota =
-                      λ p within is. none_reached (length now.states) now.states (now.seats - elected_count now.states) votes row.quota
+                      λ p within is. none_reached (length now.states) now.states
+                      (now.seats - elected_count now.states) votes row.quota
                       (omega (arith, open_.free)) nobody_won p (omega (arith, ready.stands.as_long)) is in
-                      let room = defeat_bound n row.quota members now.states (λ p. get_or votes p 0) less ready.nothing_out in
+                      let room =
+                      defeat_bound n row.quota members now.states (λ p. get_or votes p 0) less
+                      ready.nothing_out in
                       let has = ready.members_have (c - 1) inside member loser.1 in
-                      let whole : (elected_of n members now.states + hopeful_of n members now.states) * row.quota ≡ k * row.quota =
+                      let whole :
+                      (elected_of n members now.states + hopeful_of n members now.states) * row.quota
+                      ≡ k * row.quota =
                       ap (λ (m : ℕ). m * row.quota) exactly in
-                      let small : above n members (λ p. is_elected (state_at now.states p)) row.quota (λ p. get_or votes p 0) ≤ over =
+                      let small :
+                      above n members (λ p. is_elected (state_at now.states p)) row.quota
+                      (λ p. get_or votes p 0) ≤ over =
                       elim (cases_lt 0 (elected_of n members now.states)) [
                         | inl one_is ↦ left one_is (omega arith)
-                        | inr none ↦ omega (arith, none_above n members now.states row.quota (λ p. get_or votes p 0) (omega arith))
+                        | inr none ↦
+                            omega (
+                              arith,
+                              none_above n members now.states row.quota (λ p. get_or votes p 0)
+                                  (omega arith),
+                            )
                       ] in
                       absurd (omega arith)
                 ]
@@ -145,7 +175,9 @@ defeated-stands s lots start n members seats k over now votes row next c ready l
           omega (arith, open_.free));
     })
 
-iterated-stands : (s : ℕ) (lots : List ℕ) (start : List State) (n : ℕ) (members : ℕ → Bool) (seats k over : ℕ) (now : Situation) (votes : List ℕ)
+iterated-stands :
+    (s : ℕ) (lots : List ℕ) (start : List State) (n : ℕ) (members : ℕ → Bool) (seats k over : ℕ)
+    (now : Situation) (votes : List ℕ)
     (row : Row) (next : Situation)
     → IsReady s lots start n members seats k over now votes row next → StepLeaves s now lots row Iterate next
     → Stands start n members seats k next
@@ -158,21 +190,27 @@ iterated-stands s lots start n members seats k over now votes row next ready lea
       at_full = ready.stands.at_full;
     })
 
-pub stands-step : (rule : Rule) (s : ℕ) (ballots : List (List ℕ)) (lots : List ℕ) (start : List State) (n : ℕ) (members : ℕ → Bool) (seats k h over : ℕ)
+pub stands-step :
+    (rule : Rule) (s : ℕ) (ballots : List (List ℕ)) (lots : List ℕ) (start : List State) (n : ℕ)
+    (members : ℕ → Bool) (seats k h over : ℕ)
     → 1 ≤ s → IsOrder lots → length start ≡ n → VotesStay rule s ballots start n members h
     → k * whole_quota s seats (length ballots) + over ≤ h * s
-    → (now : Situation) (row : Row) (next : Situation) → IsValid s now → is_complete now ≡ false → length lots ≡ length now.states
+    → (now : Situation) (row : Row) (next : Situation) → IsValid s now → is_complete now ≡ false
+    → length lots ≡ length now.states
     → IteratesTo rule s ballots lots now row next
     → IsWithin n members k over now.states (votes_under rule s now.keeps ballots n) row.step row
     → Stands start n members seats k now → Stands start n members seats k next
-stands-step rule s ballots lots start n members seats k h over pos order start_long stay enough now row next valid going same iterates within stands =
+stands-step rule s ballots lots start n members seats k h over pos order start_long stay enough now row next
+    valid going same iterates within stands =
     let votes : List ℕ = votes_under rule s now.keeps ballots n in
     let settles : Settle s now votes lots row next =
     subst (λ (m : ℕ). Settle s now (votes_under rule s now.keeps ballots m) lots row next) stands.as_long iterates in
     let few : sum votes ≤ length ballots * s =
-    subst (λ (m : ℕ). sum (votes_under rule s now.keeps ballots m) ≤ length ballots * s) stands.as_long (sum-votes-valid rule s ballots now pos valid)
+    subst (λ (m : ℕ). sum (votes_under rule s now.keeps ballots m) ≤ length ballots * s) stands.as_long
+    (sum-votes-valid rule s ballots now pos valid)
     in
-    let quota_is : row.quota ≡ sum votes / (seats + 1) + 1 = settles.quota_is ∙ ap (λ (m : ℕ). sum votes / (m + 1) + 1) stands.as_many in
+    let quota_is : row.quota ≡ sum votes / (seats + 1) + 1 =
+    settles.quota_is ∙ ap (λ (m : ℕ). sum votes / (m + 1) + 1) stands.as_many in
     let most : row.quota ≤ whole_quota s seats (length ballots) =
     omega (arith, quota_is, quota_whole (sum votes) (length ballots * s) (seats + 1) (omega arith) few) in
     let share : k * row.quota + over ≤ h * s = omega (arith, enough, mul-le-mul_left k most) in
@@ -183,7 +221,9 @@ stands-step rule s ballots lots start n members seats k h over pos order start_l
       order = order;
       lots_of_all = same;
       long = length-map-range_with_len (λ c. vote_under rule s now.keeps ballots (c + 1)) 0 n;
-      bound = subst (λ (q : ℕ). sum votes < (seats + 1) * q) (sym quota_is) (quota_bound (sum votes) (seats + 1) (omega arith));
+      bound =
+          subst (λ (q : ℕ). sum votes < (seats + 1) * q) (sym quota_is)
+          (quota_bound (sum votes) (seats + 1) (omega arith));
       members_have = λ p inside member is. omega (
         arith,
         share,
@@ -199,20 +239,28 @@ stands-step rule s ballots lots start n members seats k h over pos order start_l
           ∙ vote_out rule s now.keeps ballots (p + 1) pos (ap (λ (m : ℕ). get_or now.keeps m 0) number ∙ nothing);
       become =
           all_become-through start now.states next.states (stands.as_long ∙ sym start_long) stands.from_start
-          (settled-become s now (votes_under rule s now.keeps ballots (length now.states)) lots row next iterates valid going order same);
+          (settled-become s now (votes_under rule s now.keeps ballots (length now.states)) lots row next
+          iterates valid going order same);
       stands = stands;
     } in
     by_step votes ready row.step settles.leaves within
   where
-    by_step : (votes : List ℕ) → IsReady s lots start n members seats k over now votes row next → (step : Step) → StepLeaves s now lots row step next
+    by_step :
+        (votes : List ℕ) → IsReady s lots start n members seats k over now votes row next → (step : Step)
+        → StepLeaves s now lots row step next
         → IsWithin n members k over now.states votes step row → Stands start n members seats k next
-    by_step votes ready Elected leaves left = elected-stands s lots start n members seats k over now votes row next ready leaves left
-    by_step votes ready (Defeat c) leaves left = defeated-stands s lots start n members seats k over now votes row next c ready leaves left
-    by_step votes ready Iterate leaves left = iterated-stands s lots start n members seats k over now votes row next ready leaves
+    by_step votes ready Elected leaves left =
+        elected-stands s lots start n members seats k over now votes row next ready leaves left
+    by_step votes ready (Defeat c) leaves left =
+        defeated-stands s lots start n members seats k over now votes row next c ready leaves left
+    by_step votes ready Iterate leaves left =
+        iterated-stands s lots start n members seats k over now votes row next ready leaves
 
 -- THE END
 
-end_point : (m full : Bool) (state : State) → one_if (m && is_elected state) ≤ one_if (m && is_elected (final_state full state))
+end_point :
+    (m full : Bool) (state : State)
+    → one_if (m && is_elected state) ≤ one_if (m && is_elected (final_state full state))
 end_point false full state = omega arith
 end_point true true Hopeful = omega arith
 end_point true false Hopeful = omega arith
@@ -233,14 +281,18 @@ open_point true false IsNowDefeated not_full = omega arith
 open_point true false Withdrawn not_full = omega arith
 
 -- so many members are elected at the end
-pub stands-end : (start : List State) (n : ℕ) (members : ℕ → Bool) (seats k : ℕ) (now : Situation) → Stands start n members seats k now
+pub stands-end :
+    (start : List State) (n : ℕ) (members : ℕ → Bool) (seats k : ℕ) (now : Situation)
+    → Stands start n members seats k now
     → is_complete now ≡ true → k ≤ elected_of n members (final_states now)
 stands-end start n members seats k now stands complete =
     let full : Bool = is_full now in
     let at : (p : ℕ) → p < n → state_at (final_states now) p ≡ final_state full (state_at now.states p) =
     λ p inside. get_or-map-range_with_len (λ c. final_state full (state_at now.states c)) 0 (length now.states) p p Withdrawn
     (omega (arith, stands.as_long)) (omega arith) in
-    let after : elected_of n members (final_states now) ≡ total n (λ p. one_if (members p && is_elected (final_state full (state_at now.states p)))) =
+    let after :
+    elected_of n members (final_states now)
+    ≡ total n (λ p. one_if (members p && is_elected (final_state full (state_at now.states p)))) =
     total-same n (λ p. one_if (members p && is_elected (state_at (final_states now) p)))
     (λ p. one_if (members p && is_elected (final_state full (state_at now.states p))))
     (λ p inside. ap (λ (x : State). one_if (members p && is_elected x)) (at p inside)) in
@@ -253,11 +305,13 @@ stands-end start n members seats k now stands complete =
           omega (arith, stands.at_full taken)
       | inr not_full ↦
           let least =
-          total-le n (λ p. one_if (members p && is_elected (state_at now.states p)) + one_if (members p && is_hopeful (state_at now.states p)))
+          total-le n (λ p. one_if (members p && is_elected (state_at now.states p))
+          + one_if (members p && is_hopeful (state_at now.states p)))
           (λ p. one_if (members p && is_elected (final_state full (state_at now.states p))))
           (λ p inside. open_point (members p) full (state_at now.states p) not_full) in
           let both =
-          total-add n (λ p. one_if (members p && is_elected (state_at now.states p))) (λ p. one_if (members p && is_hopeful (state_at now.states p)))
+          total-add n (λ p. one_if (members p && is_elected (state_at now.states p)))
+          (λ p. one_if (members p && is_hopeful (state_at now.states p)))
           in
           omega (arith, stands.enough)
     ]

@@ -1,5 +1,6 @@
 -- Who is first on more than a share of the ballots is elected in the first iteration.
-use Rattle.std.proofs.Common.{◌≡◌, ℕ, ◌+◌, ◌-◌, ◌*◌, ◌/◌, ◌<◌, ◌≤◌, Bool, true, false, cond, List, [], ◌∷◌, length, get_or, sum, arith, refl, ap, sym}
+use Rattle.std.proofs.Common.{◌≡◌, ℕ, ◌+◌, ◌-◌, ◌*◌, ◌/◌, ◌<◌, ◌≤◌, Bool, true, false, cond, List, [], ◌∷◌}
+use Rattle.std.proofs.Common.{length, get_or, sum, arith, refl, ap, sym}
 use Rattle.std.proofs.Common.{subst, ◌∙◌, inl, inr, suc, zero}
 use Rattle.std.proofs.lemmas.Bool.{cases_Bool, and_parts, leb-true, and_from, le-leb, ne_eqb}
 use Rattle.std.proofs.lemmas.List.FromFn.{get_or-map-range_with_len, length-map-range_with_len}
@@ -39,7 +40,9 @@ use Rattle.rule_laws.proofs.FirstVotes.{first-given, first-runs, first-votes, fi
 -- THE FIRST ITERATION
 
 -- No more reach the quota than there are seats.
-reached_few : (n q seats : ℕ) (reached : ℕ → Bool) (v : ℕ → ℕ) → ((p : ℕ) → p < n → reached p ≡ true → q ≤ v p) → total n v < (seats + 1) * q
+reached_few :
+    (n q seats : ℕ) (reached : ℕ → Bool) (v : ℕ → ℕ) → ((p : ℕ) → p < n → reached p ≡ true → q ≤ v p)
+    → total n v < (seats + 1) * q
     → total n (λ p. one_if (reached p)) ≤ seats
 reached_few n q seats reached v enough few =
     let each : total n (λ p. one_if (reached p) * q) ≤ total n v =
@@ -54,7 +57,9 @@ reached_few n q seats reached v enough few =
     point false q v has = omega arith
 
 -- Where there is room for all who have reached the quota all of them are winners.
-room_for_all : (states : List State) (free : ℕ) (votes lots : List ℕ) (q : ℕ) (marks : List Bool) (p : ℕ) → AreWinners states free votes lots q marks
+room_for_all :
+    (states : List State) (free : ℕ) (votes lots : List ℕ) (q : ℕ) (marks : List Bool) (p : ℕ)
+    → AreWinners states free votes lots q marks
     → count_places (length states) (has_reached states votes q) ≤ free
     → p < length states → has_reached states votes q p ≡ true → mark_at marks p ≡ true
 room_for_all states free votes lots q marks p winners room inside is =
@@ -64,11 +69,15 @@ room_for_all states free votes lots q marks p winners room inside is =
           let n : ℕ = length states in
           let won : marked_count marks ≡ total (length states) (λ c. one_if (mark_at marks c)) =
           marked-total marks ∙ ap (λ (k : ℕ). total k (λ c. one_if (mark_at marks c))) winners.same_length in
-          let all : count_places (length states) (has_reached states votes q) ≡ total (length states) (λ c. one_if (has_reached states votes q c)) =
+          let all :
+          count_places (length states) (has_reached states votes q)
+          ≡ total (length states) (λ c. one_if (has_reached states votes q c)) =
           count-total (length states) (has_reached states votes q) in
           let none : one_if (mark_at marks p) ≡ 0 = ap one_if unmarked in
           let one : one_if (has_reached states votes q p) ≡ 1 = ap one_if is in
-          let fewer : total (length states) (λ c. one_if (mark_at marks c)) < total (length states) (λ c. one_if (has_reached states votes q c)) =
+          let fewer :
+          total (length states) (λ c. one_if (mark_at marks c))
+          < total (length states) (λ c. one_if (has_reached states votes q c)) =
           total-less (length states) p (λ c. one_if (mark_at marks c)) (λ c. one_if (has_reached states votes q c))
           (λ c below_. part (mark_at marks c) (has_reached states votes q c) (winners.reached c)) inside (omega arith) in
           absurd (omega (arith, winners.as_many))
@@ -79,7 +88,9 @@ room_for_all states free votes lots q marks p winners room inside is =
     part true b f = let one : one_if b ≡ 1 = ap one_if (f refl) in omega arith
 
 -- who has a quota before anybody is elected is elected
-wins_at_once : (s : ℕ) (now : Situation) (votes lots : List ℕ) (row : Row) (next : Situation) (p : ℕ) → Settle s now votes lots row next
+wins_at_once :
+    (s : ℕ) (now : Situation) (votes lots : List ℕ) (row : Row) (next : Situation) (p : ℕ)
+    → Settle s now votes lots row next
     → IsValid s now → elected_count now.states ≡ 0 → length votes ≡ length now.states
     → p < length now.states → is_hopeful (state_at now.states p) ≡ true → sum votes / (now.seats + 1) + 1 ≤ get_or votes p 0
     → state_at next.states p ≡ IsNowElected
@@ -94,14 +105,19 @@ wins_at_once s now votes lots row next p settle valid nobody long inside is enou
     few : count_places (length now.states) (has_reached now.states votes row.quota) ≤ now.seats - elected_count now.states
     few =
         let bound : sum votes < (now.seats + 1) * row.quota =
-        subst (λ (q : ℕ). sum votes < (now.seats + 1) * q) (sym settle.quota_is) (quota_bound (sum votes) (now.seats + 1) (omega arith)) in
+        subst (λ (q : ℕ). sum votes < (now.seats + 1) * q) (sym settle.quota_is)
+        (quota_bound (sum votes) (now.seats + 1) (omega arith)) in
         let all = list-total votes (length now.states) long in
-        let fits = reached_few (length now.states) row.quota now.seats (has_reached now.states votes row.quota) (λ c. get_or votes c 0)
+        let fits =
+        reached_few (length now.states) row.quota now.seats (has_reached now.states votes row.quota)
+        (λ c. get_or votes c 0)
         (λ c below_ has. leb-true _ _ (and_parts (is_hopeful (state_at now.states c)) _ has).1) (omega arith) in
         omega (arith, count-total (length now.states) (has_reached now.states votes row.quota))
 
     marked : mark_at row.elected p ≡ true
-    marked = room_for_all now.states (now.seats - elected_count now.states) votes lots row.quota row.elected p settle.winners few inside reached
+    marked =
+        room_for_all now.states (now.seats - elected_count now.states) votes lots row.quota row.elected p
+        settle.winners few inside reached
 
     some : 1 ≤ marked_count row.elected
     some =
@@ -119,7 +135,9 @@ wins_at_once s now votes lots row next p settle valid nobody long inside is enou
 
 -- THE COUNT
 
-pub count-first_share : (rule : Rule) (places units : ℕ) (ballots : List (List ℕ)) (roll : RollList) (lots : List ℕ) (rows : List Row)
+pub count-first_share :
+    (rule : Rule) (places units : ℕ) (ballots : List (List ℕ)) (roll : RollList) (lots : List ℕ)
+    (rows : List Row)
     (last : List State) (c : ℕ)
     → IsElection places units ballots roll lots
     → length ballots < first_count roll.withdrawn ballots c * (roll.seats + 1)
@@ -131,14 +149,16 @@ count-first_share rule places units ballots roll lots rows last c is more counte
     let start : Situation = opening s units roll.seats roll.withdrawn in
     let valid : IsValid s start = valid-opening_of_roll s units roll is.some_omega is.small_omega is.sound_roll in
     let long : length start.states ≡ n = length-opening s units roll is.sound_roll in
-    let some : 1 ≤ first_count roll.withdrawn ballots c = some_first (first_count roll.withdrawn ballots c) (length ballots) (roll.seats + 1) more in
+    let some : 1 ≤ first_count roll.withdrawn ballots c =
+    some_first (first_count roll.withdrawn ballots c) (length ballots) (roll.seats + 1) more in
     let somewhere = first_somewhere roll.withdrawn ballots c some in
     let ranking : List ℕ = get_or ballots somewhere.0 [] in
     let stands_ = first-runs roll.withdrawn ranking c somewhere.2 in
     let numbers : (1 ≤ c) × (c ≤ n) = number_of n ranking c (is.rankings somewhere.0 [] somewhere.1) stands_.0 in
     let inside : c - 1 < length start.states = omega arith in
     let at : state_at start.states (c - 1) ≡ Hopeful =
-    opening-at s units roll.seats roll.withdrawn (c - 1) (omega (arith, is.sound_roll.same_length)) ∙ ap (λ (b : Bool). cond b Withdrawn Hopeful) stands_.1 in
+    opening-at s units roll.seats roll.withdrawn (c - 1) (omega (arith, is.sound_roll.same_length))
+    ∙ ap (λ (b : Bool). cond b Withdrawn Hopeful) stands_.1 in
     let hopeful : is_hopeful (state_at start.states (c - 1)) ≡ true = ap is_hopeful at in
     let from : AllBecome start.states start.states = λ p below_. becomes-itself (state_at start.states p) in
     let whole : get_or start.keeps (c - 1) 0 ≡ s =
@@ -151,9 +171,11 @@ count-first_share rule places units ballots roll lots rows last c is more counte
     withdrawn_keep s units roll start (r - 1) is.sound_roll valid long from (omega arith) gone)
     first) in
     let nobody : elected_count start.states ≡ 0 = opening-elected s units roll.seats roll.withdrawn in
-    by_rows rule s ballots lots start rows last (c - 1) (first_count roll.withdrawn ballots c) (scale_pos places) valid is.order_of_lots
+    by_rows rule s ballots lots start rows last (c - 1) (first_count roll.withdrawn ballots c)
+    (scale_pos places) valid is.order_of_lots
     (is.lots_of_all ∙ sym long) nobody at inside
-    (subst (λ (x : ℕ). first_count roll.withdrawn ballots c * s ≤ vote_under rule s start.keeps ballots x) (number numbers.0) votes) more counted
+    (subst (λ (x : ℕ). first_count roll.withdrawn ballots c * s ≤ vote_under rule s start.keeps ballots x)
+    (number numbers.0) votes) more counted
   where
     number : {c : ℕ} → 1 ≤ c → c ≡ c - 1 + 1
     number some = omega arith
@@ -162,41 +184,57 @@ count-first_share rule places units ballots roll lots rows last c is more counte
     some_first zero b d more = absurd (omega arith)
     some_first (suc h) b d more = omega arith
 
-    by_rows : (rule : Rule) (s : ℕ) (ballots : List (List ℕ)) (lots : List ℕ) (now : Situation) (rows : List Row) (last : List State) (p h : ℕ)
-        → 1 ≤ s → IsValid s now → IsOrder lots → length lots ≡ length now.states → elected_count now.states ≡ 0 → state_at now.states p ≡ Hopeful
+    by_rows :
+        (rule : Rule) (s : ℕ) (ballots : List (List ℕ)) (lots : List ℕ) (now : Situation) (rows : List Row)
+        (last : List State) (p h : ℕ)
+        → 1 ≤ s → IsValid s now → IsOrder lots → length lots ≡ length now.states
+        → elected_count now.states ≡ 0 → state_at now.states p ≡ Hopeful
         → p < length now.states
-        → h * s ≤ vote_under rule s now.keeps ballots (p + 1) → length ballots < h * (now.seats + 1) → Rows rule s ballots lots now rows last
+        → h * s ≤ vote_under rule s now.keeps ballots (p + 1) → length ballots < h * (now.seats + 1)
+        → Rows rule s ballots lots now rows last
         → state_at last p ≡ IsNowElected
     by_rows rule s ballots lots now [] last p h pos valid order same nobody at inside votes more leads =
-        let open_ : is_full now ≡ false = ne_eqb (elected_count now.states) now.seats (λ e. omega (arith, valid.some_seat)) in
+        let open_ : is_full now ≡ false =
+        ne_eqb (elected_count now.states) now.seats (λ e. omega (arith, valid.some_seat)) in
         ap (λ (x : List State). state_at x p) leads.1
-        ∙ (get_or-map-range_with_len (λ q. final_state (is_full now) (state_at now.states q)) 0 (length now.states) p p Withdrawn inside (omega arith)
+        ∙ (get_or-map-range_with_len (λ q. final_state (is_full now) (state_at now.states q)) 0
+        (length now.states) p p Withdrawn inside (omega arith)
         ∙ (λ i. final_state (open_ i) (at i)))
     by_rows rule s ballots lots now (row ∷ rows) last p h pos valid order same nobody at inside votes more leads =
         let cast : List ℕ = votes_under rule s now.keeps ballots (length now.states) in
         let next : Situation = leads.1.0 in
         let long : length (votes_under rule s now.keeps ballots (length now.states)) ≡ length now.states =
         length-map-range_with_len (λ q. vote_under rule s now.keeps ballots (q + 1)) 0 (length now.states) in
-        let vote_at : get_or (votes_under rule s now.keeps ballots (length now.states)) p 0 ≡ vote_under rule s now.keeps ballots (p + 1) =
-        get_or-map-range_with_len (λ q. vote_under rule s now.keeps ballots (q + 1)) 0 (length now.states) p p 0 inside (omega arith) in
-        let few : sum (votes_under rule s now.keeps ballots (length now.states)) ≤ length ballots * s = sum-votes-valid rule s ballots now pos valid in
+        let vote_at :
+        get_or (votes_under rule s now.keeps ballots (length now.states)) p 0
+        ≡ vote_under rule s now.keeps ballots (p + 1) =
+        get_or-map-range_with_len (λ q. vote_under rule s now.keeps ballots (q + 1)) 0 (length now.states) p p
+        0 inside (omega arith) in
+        let few : sum (votes_under rule s now.keeps ballots (length now.states)) ≤ length ballots * s =
+        sum-votes-valid rule s ballots now pos valid in
         let quota_ : sum (votes_under rule s now.keeps ballots (length now.states)) / (now.seats + 1) + 1 ≤ h * s =
-        share_enough (sum (votes_under rule s now.keeps ballots (length now.states))) (length ballots) s h now.seats pos few more in
+        share_enough (sum (votes_under rule s now.keeps ballots (length now.states))) (length ballots) s h
+        now.seats pos few more in
         let won : state_at next.states p ≡ IsNowElected =
-        wins_at_once s now (votes_under rule s now.keeps ballots (length now.states)) lots row next p leads.1.1 valid nobody long inside
+        wins_at_once s now (votes_under rule s now.keeps ballots (length now.states)) lots row next p
+        leads.1.1 valid nobody long inside
         (ap is_hopeful at) (omega arith) in
         let as_many : length next.states ≡ length now.states = settled-same s now cast lots row next leads.1.1 in
         let later =
-        rows-become rule s ballots lots next.states next rows last (settled-valid s now cast lots row next leads.1.1 valid leads.0 order same) order
+        rows-become rule s ballots lots next.states next rows last
+        (settled-valid s now cast lots row next leads.1.1 valid leads.0 order same) order
         (same ∙ sym as_many) refl (λ q below_. becomes-itself (state_at next.states q)) leads.1.2 in
         subst (λ (x : State). Becomes x (state_at last p)) won (later.1 p (omega arith))
 
 -- with one seat it is a majority
-pub count-majority : (rule : Rule) (places units : ℕ) (ballots : List (List ℕ)) (roll : RollList) (lots : List ℕ) (rows : List Row) (last : List State) (c : ℕ)
+pub count-majority :
+    (rule : Rule) (places units : ℕ) (ballots : List (List ℕ)) (roll : RollList) (lots : List ℕ)
+    (rows : List Row) (last : List State) (c : ℕ)
     → IsElection places units ballots roll lots → roll.seats ≡ 1
     → length ballots < 2 * first_count roll.withdrawn ballots c
     → IsCountUnder rule places units ballots roll lots rows last
     → state_at last (c - 1) ≡ IsNowElected
 count-majority rule places units ballots roll lots rows last c is one more counted =
     count-first_share rule places units ballots roll lots rows last c is
-    (subst (λ (seats : ℕ). length ballots < first_count roll.withdrawn ballots c * (seats + 1)) (sym one) (omega arith)) counted
+    (subst (λ (seats : ℕ). length ballots < first_count roll.withdrawn ballots c * (seats + 1)) (sym one)
+    (omega arith)) counted

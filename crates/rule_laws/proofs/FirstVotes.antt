@@ -1,5 +1,6 @@
 -- What the ballots give to who comes first on them.
-use Rattle.std.proofs.Common.{◌≡◌, ℕ, ◌+◌, ◌-◌, ◌*◌, ◌<◌, ◌≤◌, ◌==◌, Bool, true, false, cond, List, [], ◌∷◌, length, get_or, All, Contains, arith, refl, ap}
+use Rattle.std.proofs.Common.{◌≡◌, ℕ, ◌+◌, ◌-◌, ◌*◌, ◌<◌, ◌≤◌, ◌==◌, Bool, true, false, cond, List, [], ◌∷◌}
+use Rattle.std.proofs.Common.{length, get_or, All, Contains, arith, refl, ap}
 use Rattle.std.proofs.Common.{sym, subst, ◌∙◌, inl, inr, suc}
 use Rattle.std.proofs.Math.Nat.{add-mul}
 use Rattle.std.proofs.lemmas.Bool.{cases_Bool, eqb-true}
@@ -15,37 +16,46 @@ use Rattle.rule_laws.proofs.Totals.{one_if}
 use Rattle.rule_laws.proofs.Kept.{kept-whole}
 
 -- who comes first of those not withdrawn is given the whole weight
-pub first-given : (rule : Rule) (s : ℕ) (keeps : List ℕ) (withdrawn : List Bool) (w : ℕ) (ranks : List ℕ) (c : ℕ) → 1 ≤ s → w ≤ s → get_or keeps (c - 1) 0 ≡ s
+pub first-given :
+    (rule : Rule) (s : ℕ) (keeps : List ℕ) (withdrawn : List Bool) (w : ℕ) (ranks : List ℕ) (c : ℕ) → 1 ≤ s
+    → w ≤ s → get_or keeps (c - 1) 0 ≡ s
     → ((r : ℕ) → Contains ranks r → is_withdrawn withdrawn r ≡ true → get_or keeps (r - 1) 0 ≡ 0)
     → is_first withdrawn ranks c ≡ true → w ≤ given_under rule s keeps w ranks c
 first-given rule s keeps withdrawn w [] c pos few whole nothing first = absurd (cc)
 first-given rule s keeps withdrawn w (r ∷ ranks) c pos few whole nothing first =
     elim (cases_Bool (is_withdrawn withdrawn r)) [
       | inl gone ↦
-          let none : kept_under rule s keeps w r ≡ 0 = kept_under-none rule s keeps w r pos (nothing r (0, omega arith, refl) gone) in
-          let later : is_first withdrawn ranks c ≡ true = sym (ap (λ (b : Bool). cond b (is_first withdrawn ranks c) (r == c)) gone) ∙ first in
+          let none : kept_under rule s keeps w r ≡ 0 =
+          kept_under-none rule s keeps w r pos (nothing r (0, omega arith, refl) gone) in
+          let later : is_first withdrawn ranks c ≡ true =
+          sym (ap (λ (b : Bool). cond b (is_first withdrawn ranks c) (r == c)) gone) ∙ first in
           let same : w - kept_under rule s keeps w r ≡ w = omega arith in
           let rest : w ≤ given_under rule s keeps w ranks c =
-          first-given rule s keeps withdrawn w ranks c pos few whole (λ x has. nothing x (suc has.0, omega (arith, has.1), has.2)) later in
+          first-given rule s keeps withdrawn w ranks c pos few whole
+          (λ x has. nothing x (suc has.0, omega (arith, has.1), has.2)) later in
           let here : w ≤ given_under rule s keeps (w - kept_under rule s keeps w r) ranks c =
           subst (λ (x : ℕ). w ≤ given_under rule s keeps x ranks c) (sym same) rest in
           omega arith
       | inr stays ↦
           let is : (r == c) ≡ true = sym (ap (λ (b : Bool). cond b (is_first withdrawn ranks c) (r == c)) stays) ∙ first in
           let this : r ≡ c = eqb-true _ _ is in
-          let all : kept_under rule s keeps w r ≡ w = kept-whole rule s keeps w r pos few (ap (λ (k : ℕ). get_or keeps (k - 1) 0) this ∙ whole) in
+          let all : kept_under rule s keeps w r ≡ w =
+          kept-whole rule s keeps w r pos few (ap (λ (k : ℕ). get_or keeps (k - 1) 0) this ∙ whole) in
           let here : cond (r == c) (kept_under rule s keeps w r) 0 ≡ kept_under rule s keeps w r =
           ap (λ (b : Bool). cond b (kept_under rule s keeps w r) 0) is in
           omega arith
     ]
 
 -- and stands on the ballot, and was not withdrawn
-pub first-runs : (withdrawn : List Bool) (ranks : List ℕ) (c : ℕ) → is_first withdrawn ranks c ≡ true → Contains ranks c × (is_withdrawn withdrawn c ≡ false)
+pub first-runs :
+    (withdrawn : List Bool) (ranks : List ℕ) (c : ℕ) → is_first withdrawn ranks c ≡ true
+    → Contains ranks c × (is_withdrawn withdrawn c ≡ false)
 first-runs withdrawn [] c first = absurd (cc)
 first-runs withdrawn (r ∷ ranks) c first =
     elim (cases_Bool (is_withdrawn withdrawn r)) [
       | inl gone ↦
-          let later : is_first withdrawn ranks c ≡ true = sym (ap (λ (b : Bool). cond b (is_first withdrawn ranks c) (r == c)) gone) ∙ first in
+          let later : is_first withdrawn ranks c ≡ true =
+          sym (ap (λ (b : Bool). cond b (is_first withdrawn ranks c) (r == c)) gone) ∙ first in
           let rest = first-runs withdrawn ranks c later in
           ((suc rest.0.0, omega (arith, rest.0.1), rest.0.2), rest.1)
       | inr stays ↦
@@ -65,7 +75,9 @@ first-votes rule s keeps withdrawn (ranking ∷ ballots) c each =
     let votes = sum_by-cons (λ (x : List ℕ). given_under rule s keeps s x c) ranking ballots in
     let firsts = sum_by-cons (λ (x : List ℕ). cond (is_first withdrawn x c) 1 0) ranking ballots in
     let split = add-mul (cond (is_first withdrawn ranking c) 1 0) (first_count withdrawn ballots c) s in
-    let turned : first_count withdrawn (ranking ∷ ballots) c * s ≡ (cond (is_first withdrawn ranking c) 1 0 + first_count withdrawn ballots c) * s =
+    let turned :
+    first_count withdrawn (ranking ∷ ballots) c * s
+    ≡ (cond (is_first withdrawn ranking c) 1 0 + first_count withdrawn ballots c) * s =
     ap (λ (k : ℕ). k * s) firsts in
     elim (cases_Bool (is_first withdrawn ranking c)) [
       | inl first ↦

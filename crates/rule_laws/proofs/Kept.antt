@@ -1,5 +1,6 @@
 -- While one of some candidates is hopeful, all that a ballot for them gives stays with them.
-use Rattle.std.proofs.Common.{◌≡◌, ℕ, ◌+◌, ◌-◌, ◌*◌, ◌<◌, ◌≤◌, ◌==◌, Bool, true, false, cond, List, [], ◌∷◌, ◌++◌, length, get_or, min, All, arith, refl}
+use Rattle.std.proofs.Common.{◌≡◌, ℕ, ◌+◌, ◌-◌, ◌*◌, ◌<◌, ◌≤◌, ◌==◌, Bool, true, false, cond, List, [], ◌∷◌}
+use Rattle.std.proofs.Common.{◌++◌, length, get_or, min, All, arith, refl}
 use Rattle.std.proofs.Common.{ap, sym, ◌∙◌, inl, inr, zero, suc, ◌⊎◌, add-one}
 use Rattle.std.proofs.Math.Nat.{add-mul, lt_of_mul-lt-mul_right}
 use Rattle.std.proofs.lemmas.Bool.{eq-eqb}
@@ -22,7 +23,9 @@ up-whole s w pos =
     omega arith
 
 -- with keep value 1, or the price of a whole vote, a candidate keeps all of a weight of at most one vote
-pub kept-whole : (rule : Rule) (s : ℕ) (keeps : List ℕ) (w c : ℕ) → 1 ≤ s → w ≤ s → get_or keeps (c - 1) 0 ≡ s → kept_under rule s keeps w c ≡ w
+pub kept-whole :
+    (rule : Rule) (s : ℕ) (keeps : List ℕ) (w c : ℕ) → 1 ≤ s → w ≤ s → get_or keeps (c - 1) 0 ≡ s
+    → kept_under rule s keeps w c ≡ w
 kept-whole Meek s keeps w c pos few whole = ap (up s w) whole ∙ up-whole s w pos
 kept-whole Warren s keeps w c pos few whole = ap (min w) whole ∙ omega arith
 
@@ -42,15 +45,19 @@ members-add n members f g h each =
     ∙ total-add n (of_members members f) (of_members members g)
 
 -- what a member keeps at its place is part of what all members have
-member_part : (n : ℕ) (members : ℕ → Bool) (r k : ℕ) → 1 ≤ r → r ≤ n → members (r - 1) ≡ true → k ≤ total n (of_members members (λ p. cond (r == p + 1) k 0))
+member_part :
+    (n : ℕ) (members : ℕ → Bool) (r k : ℕ) → 1 ≤ r → r ≤ n → members (r - 1) ≡ true
+    → k ≤ total n (of_members members (λ p. cond (r == p + 1) k 0))
 member_part n members r k some within member =
     let place : r ≡ r - 1 + 1 = omega arith in
     let at : of_members members (λ p. cond (r == p + 1) k 0) (r - 1) ≡ k =
-    ap (λ (b : Bool). cond b (cond (r == r - 1 + 1) k 0) 0) member ∙ ap (λ (b : Bool). cond b k 0) (eq-eqb r (r - 1 + 1) place) in
+    ap (λ (b : Bool). cond b (cond (r == r - 1 + 1) k 0) 0) member
+    ∙ ap (λ (b : Bool). cond b k 0) (eq-eqb r (r - 1 + 1) place) in
     let part = total-part n (r - 1) (of_members members (λ p. cond (r == p + 1) k 0)) (omega arith) in
     omega arith
 
--- Where a member with keep value 1 stands at place j, and above it only members and candidates that keep nothing, the members
+-- Where a member with keep value 1 stands at place j, and above it only members and candidates that keep
+-- nothing, the members
 -- are given the whole weight.
 pub stays_with_members : (rule : Rule) (s : ℕ) (keeps : List ℕ) (w : ℕ) (ranks : List ℕ) (n : ℕ) (members : ℕ → Bool) (j : ℕ)
     → 1 ≤ s → w ≤ s → All (λ k. k ≤ s) keeps → All (λ r. (1 ≤ r) × (r ≤ n)) ranks
@@ -62,9 +69,11 @@ stays_with_members rule s keeps w (r ∷ ranks) n members zero pos few bound num
     let k : ℕ = kept_under rule s keeps w r in
     let all : k ≡ w = kept-whole rule s keeps w r pos few whole in
     let number : (1 ≤ r) × (r ≤ n) = All-head (λ (c : ℕ). (1 ≤ c) × (c ≤ n)) r ranks numbers in
-    let here : k ≤ total n (of_members members (λ p. cond (r == p + 1) k 0)) = member_part n members r k number.0 number.1 member in
+    let here : k ≤ total n (of_members members (λ p. cond (r == p + 1) k 0)) =
+    member_part n members r k number.0 number.1 member in
     let split : total n (of_members members (λ p. given_under rule s keeps w (r ∷ ranks) (p + 1))) ≡ total n
-    (of_members members (λ p. cond (r == p + 1) k 0)) + total n (of_members members (λ p. given_under rule s keeps (w - k) ranks (p + 1))) =
+    (of_members members (λ p. cond (r == p + 1) k 0))
+    + total n (of_members members (λ p. given_under rule s keeps (w - k) ranks (p + 1))) =
     members-add n members (λ p. cond (r == p + 1) k 0) (λ p. given_under rule s keeps (w - k) ranks (p + 1))
     (λ p. given_under rule s keeps w (r ∷ ranks) (p + 1)) (λ p. refl) in
     omega arith
@@ -74,14 +83,17 @@ stays_with_members rule s keeps w (r ∷ ranks) n members (suc j) pos few bound 
     let number : (1 ≤ r) × (r ≤ n) = All-head (λ (c : ℕ). (1 ≤ c) × (c ≤ n)) r ranks numbers in
     let rest : w - k ≤ total n (of_members members (λ p. given_under rule s keeps (w - k) ranks (p + 1))) =
     stays_with_members rule s keeps (w - kept_under rule s keeps w r) ranks n members j pos (omega arith) bound
-    (All-tail (λ (c : ℕ). (1 ≤ c) × (c ≤ n)) r ranks numbers) (omega arith) whole member (λ i less. above (suc i) (omega arith)) in
+    (All-tail (λ (c : ℕ). (1 ≤ c) × (c ≤ n)) r ranks numbers) (omega arith) whole member
+    (λ i less. above (suc i) (omega arith)) in
     let split : total n (of_members members (λ p. given_under rule s keeps w (r ∷ ranks) (p + 1))) ≡ total n
-    (of_members members (λ p. cond (r == p + 1) k 0)) + total n (of_members members (λ p. given_under rule s keeps (w - k) ranks (p + 1))) =
+    (of_members members (λ p. cond (r == p + 1) k 0))
+    + total n (of_members members (λ p. given_under rule s keeps (w - k) ranks (p + 1))) =
     members-add n members (λ p. cond (r == p + 1) k 0) (λ p. given_under rule s keeps (w - k) ranks (p + 1))
     (λ p. given_under rule s keeps w (r ∷ ranks) (p + 1)) (λ p. refl) in
     elim (above 0 (omega arith)) [
       | inl is ↦
-          let here : k ≤ total n (of_members members (λ p. cond (r == p + 1) k 0)) = member_part n members r k number.0 number.1 is in
+          let here : k ≤ total n (of_members members (λ p. cond (r == p + 1) k 0)) =
+          member_part n members r k number.0 number.1 is in
           omega arith
       | inr nothing ↦
           let none : k ≡ 0 = kept_under-none rule s keeps w r pos nothing in
@@ -95,7 +107,8 @@ pub all_stay : (rule : Rule) (s : ℕ) (keeps : List ℕ) (ballots : List (List 
 all_stay rule s keeps [] n members each = omega arith
 all_stay rule s keeps (ranking ∷ ballots) n members each =
     let gives : List ℕ → Type 0 = λ x. s ≤ total n (of_members members (λ p. given_under rule s keeps s x (p + 1))) in
-    let here : s ≤ total n (of_members members (λ p. given_under rule s keeps s ranking (p + 1))) = All-head gives ranking ballots each in
+    let here : s ≤ total n (of_members members (λ p. given_under rule s keeps s ranking (p + 1))) =
+    All-head gives ranking ballots each in
     let rest : length ballots * s ≤ total n (of_members members (λ p. vote_under rule s keeps ballots (p + 1))) =
     all_stay rule s keeps ballots n members (All-tail gives ranking ballots each) in
     let split : total n (of_members members (λ p. vote_under rule s keeps (ranking ∷ ballots) (p + 1))) ≡ total n
@@ -104,7 +117,8 @@ all_stay rule s keeps (ranking ∷ ballots) n members each =
     members-add n members (λ p. given_under rule s keeps s ranking (p + 1)) (λ p. vote_under rule s keeps ballots (p + 1))
     (λ p. vote_under rule s keeps (ranking ∷ ballots) (p + 1))
     (λ p. sum_by-cons (λ (x : List ℕ). given_under rule s keeps s x (p + 1)) ranking ballots) in
-    let more : suc (length ballots) * s ≡ length ballots * s + 1 * s = ap (λ k. k * s) (sym (add-one (length ballots))) ∙ add-mul (length ballots) 1 s in
+    let more : suc (length ballots) * s ≡ length ballots * s + 1 * s =
+    ap (λ k. k * s) (sym (add-one (length ballots))) ∙ add-mul (length ballots) 1 s in
     omega arith
 
 -- and more ballots give them no less

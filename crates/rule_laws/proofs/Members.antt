@@ -1,10 +1,12 @@
 -- Some candidates as the members of a set, and what they have of the votes and the seats.
-use Rattle.std.proofs.Common.{◌≡◌, ℕ, ◌+◌, ◌-◌, ◌*◌, ◌<◌, ◌≤◌, ◌&&◌, ◌||◌, not, Bool, true, false, cond, List, length, get_or, arith, refl, ap, sym}
+use Rattle.std.proofs.Common.{◌≡◌, ℕ, ◌+◌, ◌-◌, ◌*◌, ◌<◌, ◌≤◌, ◌&&◌, ◌||◌, not, Bool, true, false, cond, List}
+use Rattle.std.proofs.Common.{length, get_or, arith, refl, ap, sym}
 use Rattle.std.proofs.Math.Nat.{add-mul}
 use Rattle.std.proofs.lemmas.List.FromFn.{get_or-map-range_with_len}
 use Rattle.candidate_roll.specs.State.{state_at}
 use Rattle.candidate_roll.specs.declared.state.State.{State}
-use Rattle.candidate_roll.specs.declared.state.State.TheVariants.{Hopeful, Elected as IsNowElected, Defeated as IsNowDefeated, Withdrawn}
+use Rattle.candidate_roll.specs.declared.state.State.TheVariants.{Hopeful, Elected as IsNowElected}
+use Rattle.candidate_roll.specs.declared.state.State.TheVariants.{Defeated as IsNowDefeated, Withdrawn}
 use Rattle.meek_rule.specs.declared.step.Step.{Step}
 use Rattle.meek_rule.specs.declared.step.Step.TheVariants.{Elected, Iterate, Defeat}
 use Rattle.meek_rule.specs.Situation.{Situation, IsValid, is_full, is_hopeful, is_elected}
@@ -13,7 +15,8 @@ use Rattle.meek_rule.specs.Rule.{Rule}
 use Rattle.meek_rule.specs.Surplus.{holds_seat}
 use Rattle.meek_rule.specs.Weights.{vote_under, votes_under}
 use Rattle.rule_laws.specs.Seats.{AllBecome}
-use Rattle.rule_laws.proofs.Totals.{one_if, total, total-add, total-le, total-none, total-part, total-same, total-some, total-times}
+use Rattle.rule_laws.proofs.Totals.{one_if, total, total-add, total-le, total-none, total-part, total-same}
+use Rattle.rule_laws.proofs.Totals.{total-some, total-times}
 use Rattle.rule_laws.proofs.Kept.{of_members}
 
 -- how many members of n candidates are elected, and how many are hopeful
@@ -25,21 +28,27 @@ hopeful_of n members states = total n (λ p. one_if (members p && is_hopeful (st
 
 -- what elected members have together above a quota for each, and what others who hold seats lack of it
 abbrev pub above : (n : ℕ) → (members holds : ℕ → Bool) → (q : ℕ) → (ℕ → ℕ) → ℕ
-above n members holds q v = total n (λ p. cond (members p && holds p) (v p) 0) - total n (λ p. one_if (members p && holds p)) * q
+above n members holds q v =
+    total n (λ p. cond (members p && holds p) (v p) 0) - total n (λ p. one_if (members p && holds p)) * q
 
 abbrev pub below : (n : ℕ) → (members holds : ℕ → Bool) → (q : ℕ) → (ℕ → ℕ) → ℕ
-below n members holds q v = total n (λ p. one_if (not (members p) && holds p)) * q - total n (λ p. cond (not (members p) && holds p) (v p) 0)
+below n members holds q v =
+    total n (λ p. one_if (not (members p) && holds p)) * q
+    - total n (λ p. cond (not (members p) && holds p) (v p) 0)
 
--- What an iteration leaves over is at most so much; at a defeat that matters only while some members are elected, and fewer than k.
+-- What an iteration leaves over is at most so much; at a defeat that matters only while some members are
+-- elected, and fewer than k.
 abbrev pub IsWithin : (n : ℕ) → (members : ℕ → Bool) → (k over : ℕ) → List State → List ℕ → Step → Row → Type 0
-IsWithin n members k over states votes Elected row = below n members (holds_seat states row.elected) row.quota (λ p. get_or votes p 0) ≤ over
+IsWithin n members k over states votes Elected row =
+    below n members (holds_seat states row.elected) row.quota (λ p. get_or votes p 0) ≤ over
 IsWithin n members k over states votes (Defeat c) row =
     1 ≤ elected_of n members states → elected_of n members states < k
     → above n members (λ p. is_elected (state_at states p)) row.quota (λ p. get_or votes p 0) ≤ over
 IsWithin n members k over states votes Iterate row = Unit {0}
 
 -- While a member is hopeful so many votes are the members'.
-abbrev pub VotesStay : Rule → (s : ℕ) → List (List ℕ) → (start : List State) → (n : ℕ) → (members : ℕ → Bool) → (h : ℕ) → Type 0
+abbrev pub VotesStay :
+    Rule → (s : ℕ) → List (List ℕ) → (start : List State) → (n : ℕ) → (members : ℕ → Bool) → (h : ℕ) → Type 0
 VotesStay rule s ballots start n members h =
     (now : Situation) → IsValid s now → length now.states ≡ n → AllBecome start now.states
     → (p : ℕ) → p < n → members p ≡ true → is_hopeful (state_at now.states p) ≡ true
@@ -60,19 +69,23 @@ seat_point false true v = omega arith
 seat_point false false v = omega arith
 
 pub seats_bound : (n q : ℕ) (members holds : ℕ → Bool) (v : ℕ → ℕ)
-    → total n (λ p. one_if (not (members p) && holds p)) * q + total n (of_members members v) ≤ total n v + below n members holds q v
+    → total n (λ p. one_if (not (members p) && holds p)) * q + total n (of_members members v)
+    ≤ total n v + below n members holds q v
 seats_bound n q members holds v =
     let theirs : ℕ → ℕ = λ p. cond (not (members p) && holds p) (v p) 0 in
     let each : total n (λ p. theirs p + of_members members v p) ≤ total n v =
     total-le n (λ p. theirs p + of_members members v p) v (λ p inside. seat_point (members p) (holds p) (v p)) in
     let parts = total-add n theirs (of_members members v) in
-    least (total n (λ p. one_if (not (members p) && holds p)) * q) (total n theirs) (total n (of_members members v)) (total n v) (omega arith)
+    least (total n (λ p. one_if (not (members p) && holds p)) * q) (total n theirs)
+    (total n (of_members members v)) (total n v) (omega arith)
   where
     least : (quotas theirs ours all : ℕ) → theirs + ours ≤ all → quotas + ours ≤ all + (quotas - theirs)
     least quotas theirs ours all le = omega arith
 
 -- where no hopeful member has the quota
-defeat_point : (m : Bool) (state : State) (q v : ℕ) → (is_hopeful state ≡ true → v < q) → ((is_hopeful state || is_elected state) ≡ false → v ≡ 0)
+defeat_point :
+    (m : Bool) (state : State) (q v : ℕ) → (is_hopeful state ≡ true → v < q)
+    → ((is_hopeful state || is_elected state) ≡ false → v ≡ 0)
     → cond m v 0 + one_if (m && is_hopeful state) ≤ one_if (m && is_hopeful state) * q + cond (m && is_elected state) v 0
 defeat_point false state q v less none = omega arith
 defeat_point true Hopeful q v less none = omega (arith, less refl)
@@ -83,7 +96,8 @@ defeat_point true Withdrawn q v less none = omega (arith, none refl)
 pub defeat_bound : (n q : ℕ) (members : ℕ → Bool) (states : List State) (v : ℕ → ℕ)
     → ((p : ℕ) → p < n → is_hopeful (state_at states p) ≡ true → v p < q)
     → ((p : ℕ) → p < n → (is_hopeful (state_at states p) || is_elected (state_at states p)) ≡ false → v p ≡ 0)
-    → total n (of_members members v) + hopeful_of n members states ≤ (elected_of n members states + hopeful_of n members states) * q + above n members
+    → total n (of_members members v) + hopeful_of n members states
+    ≤ (elected_of n members states + hopeful_of n members states) * q + above n members
     (λ p. is_elected (state_at states p)) q v
 defeat_bound n q members states v less none =
     let ho : ℕ → ℕ = λ p. one_if (members p && is_hopeful (state_at states p)) in
@@ -95,10 +109,13 @@ defeat_bound n q members states v less none =
     let right = total-add n (λ p. ho p * q) theirs in
     let times = total-times n q ho in
     let split = add-mul (elected_of n members states) (hopeful_of n members states) q in
-    most (total n (of_members members v) + hopeful_of n members states) (hopeful_of n members states * q) (elected_of n members states * q)
+    most (total n (of_members members v) + hopeful_of n members states) (hopeful_of n members states * q)
+    (elected_of n members states * q)
     (total n theirs) ((elected_of n members states + hopeful_of n members states) * q) (omega arith) split
   where
-    most : (all hopeful quotas theirs both : ℕ) → all ≤ hopeful + theirs → both ≡ quotas + hopeful → all ≤ both + (theirs - quotas)
+    most :
+        (all hopeful quotas theirs both : ℕ) → all ≤ hopeful + theirs → both ≡ quotas + hopeful
+        → all ≤ both + (theirs - quotas)
     most all hopeful quotas theirs both le split = omega arith
 
 -- who are not elected have nothing above a quota
@@ -106,9 +123,11 @@ pub none_above : (n : ℕ) (members : ℕ → Bool) (states : List State) (q : �
     → above n members (λ p. is_elected (state_at states p)) q v ≡ 0
 none_above n members states q v none =
     let nothing = total-none n (λ p. cond (members p && is_elected (state_at states p)) (v p) 0) (λ p inside.
-    point (members p && is_elected (state_at states p)) (v p) (let part = total-part n p (λ c. one_if (members c && is_elected (state_at states c)))
+    point (members p && is_elected (state_at states p)) (v p)
+    (let part = total-part n p (λ c. one_if (members c && is_elected (state_at states c)))
     inside in omega arith)) in
-    less (total n (λ p. cond (members p && is_elected (state_at states p)) (v p) 0)) (elected_of n members states * q) (omega arith)
+    less (total n (λ p. cond (members p && is_elected (state_at states p)) (v p) 0))
+    (elected_of n members states * q) (omega arith)
   where
     point : (t : Bool) (k : ℕ) → one_if t ≡ 0 → cond t k 0 ≡ 0
     point true k none = absurd (omega arith)
@@ -135,6 +154,8 @@ pub votes-at : (rule : Rule) (s : ℕ) (keeps : List ℕ) (ballots : List (List 
     → total n (of_members members (λ c. vote_under rule s keeps ballots (c + 1))) ≡ total n
     (of_members members (λ p. get_or (votes_under rule s keeps ballots n) p 0))
 votes-at rule s keeps ballots n members =
-    total-same n (of_members members (λ c. vote_under rule s keeps ballots (c + 1))) (of_members members (λ p. get_or (votes_under rule s keeps ballots n) p 0))
-    (λ p inside. ap (λ (k : ℕ). cond (members p) k 0) (sym (get_or-map-range_with_len (λ c. vote_under rule s keeps ballots (c + 1)) 0 n p p 0 inside
+    total-same n (of_members members (λ c. vote_under rule s keeps ballots (c + 1)))
+    (of_members members (λ p. get_or (votes_under rule s keeps ballots n) p 0))
+    (λ p inside. ap (λ (k : ℕ). cond (members p) k 0)
+    (sym (get_or-map-range_with_len (λ c. vote_under rule s keeps ballots (c + 1)) 0 n p p 0 inside
     (omega arith))))

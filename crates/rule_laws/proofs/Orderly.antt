@@ -1,7 +1,9 @@
 -- Orderly counts are proportional.
-use Rattle.std.proofs.Common.{◌≡◌, ℕ, ◌+◌, ◌-◌, ◌*◌, ◌<◌, ◌≤◌, ◌&&◌, not, Bool, true, false, cond, List, ◌++◌, length, get_or, sum, All, arith, refl, ap}
+use Rattle.std.proofs.Common.{◌≡◌, ℕ, ◌+◌, ◌-◌, ◌*◌, ◌<◌, ◌≤◌, ◌&&◌, not, Bool, true, false, cond, List, ◌++◌}
+use Rattle.std.proofs.Common.{length, get_or, sum, All, arith, refl, ap}
 use Rattle.std.proofs.Common.{sym, subst, ◌∙◌, ◌||◌, ◌/◌, inl, inr, zero, suc, lit≤}
-use Rattle.std.proofs.Math.Nat.{pow-suc, mul_comm, mul-le-mul_left, mul-le-mul_right, lt_of_mul-lt-mul_right, div-mul-le_self}
+use Rattle.std.proofs.Math.Nat.{pow-suc, mul_comm, mul-le-mul_left, mul-le-mul_right, lt_of_mul-lt-mul_right}
+use Rattle.std.proofs.Math.Nat.{div-mul-le_self}
 use Rattle.std.proofs.lemmas.Bool.{cases_eq}
 use Rattle.std.proofs.lemmas.List.{length-append}
 use Rattle.std.proofs.lemmas.List.Sorted.{length_permutation}
@@ -35,7 +37,9 @@ lack_point true hold q v = omega arith
 lack_point false true q v = omega arith
 lack_point false false q v = omega arith
 
-below-short : (n : ℕ) (members holds : ℕ → Bool) (q : ℕ) (v : ℕ → ℕ) → below n members holds q v ≤ total n (λ p. cond (holds p) (q - v p) 0)
+below-short :
+    (n : ℕ) (members holds : ℕ → Bool) (q : ℕ) (v : ℕ → ℕ)
+    → below n members holds q v ≤ total n (λ p. cond (holds p) (q - v p) 0)
 below-short n members holds q v =
     let held : ℕ → ℕ = λ p. one_if (not (members p) && holds p) in
     let theirs : ℕ → ℕ = λ p. cond (not (members p) && holds p) (v p) 0 in
@@ -60,7 +64,8 @@ surplus_point false false true q v = omega arith
 surplus_point false false false q v = omega arith
 
 above-short : (n : ℕ) (members is won : ℕ → Bool) (q : ℕ) (v : ℕ → ℕ)
-    → above n members is q v ≤ (total n (λ p. cond (is p || won p) (v p) 0) - total n (λ p. one_if (is p || won p)) * q) + total n
+    → above n members is q v
+    ≤ (total n (λ p. cond (is p || won p) (v p) 0) - total n (λ p. one_if (is p || won p)) * q) + total n
     (λ p. cond (is p || won p) (q - v p) 0)
 above-short n members is won q v =
     let ours : ℕ → ℕ = λ p. cond (members p && is p) (v p) 0 in
@@ -69,7 +74,8 @@ above-short n members is won q v =
     let all : ℕ → ℕ = λ p. cond (is p || won p) (v p) 0 in
     let short : ℕ → ℕ = λ p. cond (is p || won p) (q - v p) 0 in
     let each : total n (λ p. ours p + seats p * q) ≤ total n (λ p. all p + short p + our_seats p * q) =
-    total-le n (λ p. ours p + seats p * q) (λ p. all p + short p + our_seats p * q) (λ p inside. surplus_point (members p) (is p) (won p) q (v p)) in
+    total-le n (λ p. ours p + seats p * q) (λ p. all p + short p + our_seats p * q)
+    (λ p inside. surplus_point (members p) (is p) (won p) q (v p)) in
     let left = total-add n ours (λ p. seats p * q) in
     let left_times = total-times n q seats in
     let right = total-add n (λ p. all p + short p) (λ p. our_seats p * q) in
@@ -80,7 +86,9 @@ above-short n members is won q v =
     most : (a b c e f : ℕ) → a + e ≤ c + f + b → a - b ≤ (c - e) + f
     most a b c e f le = omega arith
 
-orderly_within : (n : ℕ) (members : ℕ → Bool) (k u d s : ℕ) (now : Situation) (votes lots : List ℕ) (row : Row) (next : Situation)
+orderly_within :
+    (n : ℕ) (members : ℕ → Bool) (k u d s : ℕ) (now : Situation) (votes lots : List ℕ) (row : Row)
+    (next : Situation)
     → Settle s now votes lots row next → length now.states ≡ n → shortfalls row ≤ d
     → (step : Step) → ((c : ℕ) → step ≡ Defeat c → row.surplus ≤ u) → IsWithin n members k (u + d) now.states votes step row
 orderly_within n members k u d s now votes lots row next settle long few step small =
@@ -89,34 +97,50 @@ orderly_within n members k u d s now votes lots row next settle long few step sm
     ap (λ (x : List State). sum (each_place (length x) (short x row.votes))) settle.states
     ∙ (ap (λ (v : List ℕ). sum (each_place (length now.states) (short now.states v))) settle.votes_are
     ∙ (sum-total (length now.states) (short now.states votes) ∙ ap (λ (m : ℕ). total m (short now.states votes)) long)) in
-    let few_here : total n (λ p. cond (holds_seat now.states row.elected p) (row.quota - get_or votes p 0) 0) ≤ d = subst (λ (m : ℕ). m ≤ d) same few in
+    let few_here :
+    total n (λ p. cond (holds_seat now.states row.elected p) (row.quota - get_or votes p 0) 0) ≤ d =
+    subst (λ (m : ℕ). m ≤ d) same few in
     by_step step small few_here
   where
     by_step : (step : Step) → ((c : ℕ) → step ≡ Defeat c → row.surplus ≤ u)
         → total n (λ p. cond (holds_seat now.states row.elected p) (row.quota - get_or votes p 0) 0) ≤ d
         → IsWithin n members k (u + d) now.states votes step row
-    by_step Elected small few_here = omega (arith, below-short n members (holds_seat now.states row.elected) row.quota (λ p. get_or votes p 0), few_here)
+    by_step Elected small few_here =
+        omega (
+          arith,
+          below-short n members (holds_seat now.states row.elected) row.quota (λ p. get_or votes p 0),
+          few_here,
+        )
     by_step (Defeat c) small few_here =
         λ some fewer.
-        let surplus_is : row.surplus ≡ total n (λ p. cond (holds_seat now.states row.elected p) (get_or votes p 0) 0) - total n
+        let surplus_is : row.surplus ≡ total n
+        (λ p. cond (holds_seat now.states row.elected p) (get_or votes p 0) 0) - total n
         (λ p. one_if (holds_seat now.states row.elected p)) * row.quota =
         settle.surplus_is
-        ∙ ((λ i. sum-total (length now.states) (λ p. cond (holds_seat now.states row.elected p) (get_or votes p 0) 0) i - count-total
+        ∙
+        ((λ i. sum-total (length now.states)
+        (λ p. cond (holds_seat now.states row.elected p) (get_or votes p 0) 0) i - count-total
         (length now.states) (holds_seat now.states row.elected) i * row.quota)
         ∙ ap (λ (m : ℕ). total m (λ p. cond (holds_seat now.states row.elected p) (get_or votes p 0) 0) - total m
         (λ p. one_if (holds_seat now.states row.elected p)) * row.quota) long) in
-        let part = above-short n members (λ p. is_elected (state_at now.states p)) (mark_at row.elected) row.quota (λ p. get_or votes p 0) in
+        let part =
+        above-short n members (λ p. is_elected (state_at now.states p)) (mark_at row.elected) row.quota
+        (λ p. get_or votes p 0) in
         let little : row.surplus ≤ u = small c refl in
         together (above n members (λ p. is_elected (state_at now.states p)) row.quota (λ p. get_or votes p 0)) row.surplus
         (total n (λ p. cond (holds_seat now.states row.elected p) (row.quota - get_or votes p 0) 0)) u d
-        (subst (λ (m : ℕ). above n members (λ p. is_elected (state_at now.states p)) row.quota (λ p. get_or votes p 0) ≤ m + total n
-        (λ p. cond (holds_seat now.states row.elected p) (row.quota - get_or votes p 0) 0)) (sym surplus_is) part) little few_here
+        (subst (λ (m : ℕ). above n members (λ p. is_elected (state_at now.states p)) row.quota
+        (λ p. get_or votes p 0) ≤ m + total n
+        (λ p. cond (holds_seat now.states row.elected p) (row.quota - get_or votes p 0) 0)) (sym surplus_is)
+        part) little few_here
       where
         together : (a b c u d : ℕ) → a ≤ b + c → b ≤ u → c ≤ d → a ≤ u + d
         together a b c u d le first second = omega arith
     by_step Iterate small few_here = tt
 
-pub count-orderly : (rule : Rule) (places units : ℕ) (ballots coalition others : List (List ℕ)) (roll : RollList) (lots : List ℕ) (rows : List Row)
+pub count-orderly :
+    (rule : Rule) (places units : ℕ) (ballots coalition others : List (List ℕ)) (roll : RollList)
+    (lots : List ℕ) (rows : List Row)
     (last : List State)
     (members : List Bool) (k u d : ℕ)
     → IsElection places units ballots roll lots → IsPermutation ballots (coalition ++ others)
@@ -127,13 +151,16 @@ pub count-orderly : (rule : Rule) (places units : ℕ) (ballots coalition others
     → (k + (u + d)) * (roll.seats + 1) ≤ scale places
     → k * length ballots < length coalition * (roll.seats + 1)
     → k ≤ elected_members (length roll.names) members last
-count-orderly rule places units ballots coalition others roll lots rows last members k u d is moved counted solid running orderly small more =
+count-orderly rule places units ballots coalition others roll lots rows last members k u d is moved counted
+    solid running orderly small more =
     let s : ℕ = scale places in
     let n : ℕ = length roll.names in
     let some : k ≤ elected_of n (mark_at members) last =
-    seated rule places units ballots roll lots rows last (mark_at members) k (length coalition) (u + d) (IsOrderly u d) is counted orderly
+    seated rule places units ballots roll lots rows last (mark_at members) k (length coalition) (u + d)
+    (IsOrderly u d) is counted orderly
     (coalition-stays rule places units ballots coalition others roll lots members is moved solid)
-    (λ now row next valid going long seats settles good. orderly_within n (mark_at members) k u d s now (votes_under rule s now.keeps ballots n) lots
+    (λ now row next valid going long seats settles good. orderly_within n (mark_at members) k u d s now
+    (votes_under rule s now.keeps ballots n) lots
     row next settles long good.short row.step good.surplus)
     (omega (arith, running, count-total n (λ p. mark_at members p && not (mark_at roll.withdrawn p))))
     (shares_enough (scale places) (length ballots) (length coalition) k (u + d) (roll.seats + 1) (omega arith) small more) in
@@ -164,10 +191,13 @@ hundredths : (s k seats : ℕ) → 1000000 ≤ s → seats ≤ 49 → k ≤ seat
 hundredths s k seats big few within =
     let share : (k + (s / 100 + s * 9 / 1000)) * (seats + 1) ≤ (k + (s / 100 + s * 9 / 1000)) * 50 =
     mul-le-mul_left (k + (s / 100 + s * 9 / 1000)) (omega arith) in
-    let parts : (k + (s / 100 + s * 9 / 1000)) * 50 ≤ s = omega (arith, div-mul-le_self s 100, div-mul-le_self (s * 9) 1000) in
+    let parts : (k + (s / 100 + s * 9 / 1000)) * 50 ≤ s =
+    omega (arith, div-mul-le_self s 100, div-mul-le_self (s * 9) 1000) in
     omega arith
 
-pub count-quiet : (rule : Rule) (places units : ℕ) (ballots coalition others : List (List ℕ)) (roll : RollList) (lots : List ℕ) (rows : List Row)
+pub count-quiet :
+    (rule : Rule) (places units : ℕ) (ballots coalition others : List (List ℕ)) (roll : RollList)
+    (lots : List ℕ) (rows : List Row)
     (last : List State) (members : List Bool) (k : ℕ)
     → IsElection places units ballots roll lots → IsPermutation ballots (coalition ++ others)
     → IsCountUnder rule places units ballots roll lots rows last
@@ -177,9 +207,12 @@ pub count-quiet : (rule : Rule) (places units : ℕ) (ballots coalition others :
     → All (IsOrderly (scale places / 100) (scale places * 9 / 1000)) rows
     → k * length ballots < length coalition * (roll.seats + 1)
     → k ≤ elected_members (length roll.names) members last
-count-quiet rule places units ballots coalition others roll lots rows last members k is moved counted few solid running orderly more =
+count-quiet rule places units ballots coalition others roll lots rows last members k is moved counted few
+    solid running orderly more =
     let part : length coalition ≤ length ballots =
     omega (arith, length_permutation ballots (coalition ++ others) moved, length-append coalition others) in
-    count-orderly rule places units ballots coalition others roll lots rows last members k (scale places / 100) (scale places * 9 / 1000)
+    count-orderly rule places units ballots coalition others roll lots rows last members k
+    (scale places / 100) (scale places * 9 / 1000)
     is moved counted solid running orderly
-    (hundredths (scale places) k roll.seats (million places is.places_from) few (k_within k (length ballots) (length coalition) roll.seats part more)) more
+    (hundredths (scale places) k roll.seats (million places is.places_from) few
+    (k_within k (length ballots) (length coalition) roll.seats part more)) more

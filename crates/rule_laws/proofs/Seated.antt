@@ -1,5 +1,6 @@
 -- Members with whom enough votes stay are elected, from the opening of a count to its end.
-use Rattle.std.proofs.Common.{◌≡◌, ℕ, ◌+◌, ◌*◌, ◌<◌, ◌≤◌, ◌&&◌, not, Bool, true, false, cond, List, length, get_or, All, arith, refl, ap, sym, subst, ◌∙◌}
+use Rattle.std.proofs.Common.{◌≡◌, ℕ, ◌+◌, ◌*◌, ◌<◌, ◌≤◌, ◌&&◌, not, Bool, true, false, cond, List, length}
+use Rattle.std.proofs.Common.{get_or, All, arith, refl, ap, sym, subst, ◌∙◌}
 use Rattle.std.proofs.lemmas.Bool.{eqb-true}
 use Rattle.std.proofs.lemmas.List.FromFn.{get_or-map-range_with_len}
 use Rattle.fixed_place.specs.Rounding.{scale}
@@ -7,9 +8,11 @@ use Rattle.fixed_place.proofs.RoundingLemmas.{scale_pos}
 use Rattle.candidate_roll.specs.Roll.{RollList, IsRoll}
 use Rattle.candidate_roll.specs.State.{state_at}
 use Rattle.candidate_roll.specs.declared.state.State.{State}
-use Rattle.candidate_roll.specs.declared.state.State.TheVariants.{Hopeful, Elected as IsNowElected, Defeated as IsNowDefeated, Withdrawn}
+use Rattle.candidate_roll.specs.declared.state.State.TheVariants.{Hopeful, Elected as IsNowElected}
+use Rattle.candidate_roll.specs.declared.state.State.TheVariants.{Defeated as IsNowDefeated, Withdrawn}
 use Rattle.lot_order.specs.Flags.{mark_at}
-use Rattle.meek_rule.specs.Situation.{Situation, IsValid, FitsState, is_complete, is_hopeful, is_elected, elected_count, opening}
+use Rattle.meek_rule.specs.Situation.{Situation, IsValid, FitsState, is_complete, is_hopeful, is_elected}
+use Rattle.meek_rule.specs.Situation.{elected_count, opening}
 use Rattle.meek_rule.specs.Row.{Row}
 use Rattle.meek_rule.specs.Rule.{Rule}
 use Rattle.meek_rule.specs.Weights.{votes_under}
@@ -30,10 +33,12 @@ use Rattle.rule_laws.proofs.CoalitionSteps.{stands-end, stands-step}
 pub opening-at : (s units seats : ℕ) (withdrawn : List Bool) (p : ℕ) → p < length withdrawn
     → state_at (opening s units seats withdrawn).states p ≡ cond (mark_at withdrawn p) Withdrawn Hopeful
 opening-at s units seats withdrawn p inside =
-    get_or-map-range_with_len (λ q. cond (mark_at withdrawn q) Withdrawn Hopeful) 0 (length withdrawn) p p Withdrawn inside (omega arith)
+    get_or-map-range_with_len (λ q. cond (mark_at withdrawn q) Withdrawn Hopeful) 0 (length withdrawn) p p
+    Withdrawn inside (omega arith)
 
 opening_point : (m gone : Bool)
-    → one_if (m && is_elected (cond gone Withdrawn Hopeful)) + one_if (m && is_hopeful (cond gone Withdrawn Hopeful)) ≡ one_if (m && not gone)
+    → one_if (m && is_elected (cond gone Withdrawn Hopeful))
+    + one_if (m && is_hopeful (cond gone Withdrawn Hopeful)) ≡ one_if (m && not gone)
 opening_point false gone = refl
 opening_point true true = refl
 opening_point true false = refl
@@ -42,7 +47,8 @@ none_elected : (gone : Bool) → one_if (is_elected (cond gone Withdrawn Hopeful
 none_elected true = refl
 none_elected false = refl
 
-pub opening-elected : (s units seats : ℕ) (withdrawn : List Bool) → elected_count (opening s units seats withdrawn).states ≡ 0
+pub opening-elected :
+    (s units seats : ℕ) (withdrawn : List Bool) → elected_count (opening s units seats withdrawn).states ≡ 0
 opening-elected s units seats withdrawn =
     let state : ℕ → State = λ p. cond (mark_at withdrawn p) Withdrawn Hopeful in
     count_by-total is_elected state (length withdrawn) ∙ total-none (length withdrawn) (λ p. one_if (is_elected (state p)))
@@ -50,7 +56,8 @@ opening-elected s units seats withdrawn =
 
 opening-stands : (s units : ℕ) (roll : RollList) (members : ℕ → Bool) (k : ℕ) → IsRoll roll
     → k ≤ total (length roll.names) (λ p. one_if (members p && not (mark_at roll.withdrawn p)))
-    → Stands (opening s units roll.seats roll.withdrawn).states (length roll.names) members roll.seats k (opening s units roll.seats roll.withdrawn)
+    → Stands (opening s units roll.seats roll.withdrawn).states (length roll.names) members roll.seats k
+    (opening s units roll.seats roll.withdrawn)
 opening-stands s units roll members k sound running =
     let n : ℕ = length roll.names in
     let start : Situation = opening s units roll.seats roll.withdrawn in
@@ -58,12 +65,16 @@ opening-stands s units roll members k sound running =
     let at : (p : ℕ) → p < n → state_at start.states p ≡ state p =
     λ p inside. opening-at s units roll.seats roll.withdrawn p (omega (arith, sound.same_length)) in
     let both =
-    total-add n (λ p. one_if (members p && is_elected (state_at start.states p))) (λ p. one_if (members p && is_hopeful (state_at start.states p))) in
+    total-add n (λ p. one_if (members p && is_elected (state_at start.states p)))
+    (λ p. one_if (members p && is_hopeful (state_at start.states p))) in
     let each : total n (λ p. one_if (members p && is_elected (state_at start.states p)) + one_if
-    (members p && is_hopeful (state_at start.states p))) ≡ total n (λ p. one_if (members p && not (mark_at roll.withdrawn p))) =
-    total-same n (λ p. one_if (members p && is_elected (state_at start.states p)) + one_if (members p && is_hopeful (state_at start.states p)))
+    (members p && is_hopeful (state_at start.states p)))
+    ≡ total n (λ p. one_if (members p && not (mark_at roll.withdrawn p))) =
+    total-same n (λ p. one_if (members p && is_elected (state_at start.states p))
+    + one_if (members p && is_hopeful (state_at start.states p)))
     (λ p. one_if (members p && not (mark_at roll.withdrawn p)))
-    (λ p inside. ap (λ (x : State). one_if (members p && is_elected x) + one_if (members p && is_hopeful x)) (at p inside) ∙ opening_point (members p)
+    (λ p inside. ap (λ (x : State). one_if (members p && is_elected x) + one_if (members p && is_hopeful x))
+    (at p inside) ∙ opening_point (members p)
     (mark_at roll.withdrawn p)) in
     record {
       as_long = length-opening s units roll sound;
@@ -79,14 +90,20 @@ opening-stands s units roll members k sound running =
 -- THE WHOLE COUNT
 
 -- Members with whom enough votes stay are elected, so many of them.
-pub seated : (rule : Rule) (places units : ℕ) (ballots : List (List ℕ)) (roll : RollList) (lots : List ℕ) (rows : List Row) (last : List State)
+pub seated :
+    (rule : Rule) (places units : ℕ) (ballots : List (List ℕ)) (roll : RollList) (lots : List ℕ)
+    (rows : List Row) (last : List State)
     (members : ℕ → Bool) (k h over : ℕ) (fine : Row → Type 0)
     → IsElection places units ballots roll lots → IsCountUnder rule places units ballots roll lots rows last → All fine rows
-    → VotesStay rule (scale places) ballots (opening (scale places) units roll.seats roll.withdrawn).states (length roll.names) members h
-    → ((now : Situation) (row : Row) (next : Situation) → IsValid (scale places) now → is_complete now ≡ false → length now.states ≡ length
+    → VotesStay rule (scale places) ballots (opening (scale places) units roll.seats roll.withdrawn).states
+    (length roll.names) members h
+    → ((now : Situation) (row : Row) (next : Situation) → IsValid (scale places) now → is_complete now ≡ false
+    → length now.states ≡ length
     roll.names → now.seats ≡ roll.seats
-    → Settle (scale places) now (votes_under rule (scale places) now.keeps ballots (length roll.names)) lots row next → fine row
-    → IsWithin (length roll.names) members k over now.states (votes_under rule (scale places) now.keeps ballots (length roll.names)) row.step row)
+    → Settle (scale places) now (votes_under rule (scale places) now.keeps ballots (length roll.names)) lots
+    row next → fine row
+    → IsWithin (length roll.names) members k over now.states
+    (votes_under rule (scale places) now.keeps ballots (length roll.names)) row.step row)
     → k ≤ total (length roll.names) (λ p. one_if (members p && not (mark_at roll.withdrawn p)))
     → k * whole_quota (scale places) roll.seats (length ballots) + over ≤ h * scale places
     → k ≤ elected_of (length roll.names) members last
@@ -101,7 +118,8 @@ seated rule places units ballots roll lots rows last members k h over fine is co
     (λ now row next valid going same iterates good stands.
     let settles : Settle s now (votes_under rule s now.keeps ballots n) lots row next =
     subst (λ (m : ℕ). Settle s now (votes_under rule s now.keeps ballots m) lots row next) stands.as_long iterates in
-    stands-step rule s ballots lots start.states n members roll.seats k h over (scale_pos places) is.order_of_lots long stay enough now row next valid
+    stands-step rule s ballots lots start.states n members roll.seats k h over (scale_pos places)
+    is.order_of_lots long stay enough now row next valid
     going same iterates
     (within now row next valid going stands.as_long stands.as_many settles good) stands)
     start rows last
@@ -120,7 +138,9 @@ hopeful_keep s IsNowElected keep is fits = absurd (cc)
 hopeful_keep s IsNowDefeated keep is fits = absurd (cc)
 hopeful_keep s Withdrawn keep is fits = absurd (cc)
 
-gone_keep : (s : ℕ) (gone : Bool) (state : State) (keep : ℕ) → gone ≡ true → Becomes (cond gone Withdrawn Hopeful) state → FitsState s state keep → keep ≡ 0
+gone_keep :
+    (s : ℕ) (gone : Bool) (state : State) (keep : ℕ) → gone ≡ true
+    → Becomes (cond gone Withdrawn Hopeful) state → FitsState s state keep → keep ≡ 0
 gone_keep s false state keep gone becomes fits = absurd (cc)
 gone_keep s true state keep gone becomes fits = subst (λ (x : State). FitsState s x keep) becomes fits
 
@@ -129,19 +149,25 @@ runs false state is becomes = refl
 runs true state is becomes = absurd (let off = sym is ∙ ap is_hopeful becomes in cc)
 
 -- who was withdrawn keeps nothing, and who is hopeful was not withdrawn
-pub withdrawn_keep : (s units : ℕ) (roll : RollList) (now : Situation) (p : ℕ) → IsRoll roll → IsValid s now → length now.states ≡ length roll.names
-    → AllBecome (opening s units roll.seats roll.withdrawn).states now.states → p < length roll.names → mark_at roll.withdrawn p ≡ true
+pub withdrawn_keep :
+    (s units : ℕ) (roll : RollList) (now : Situation) (p : ℕ) → IsRoll roll → IsValid s now
+    → length now.states ≡ length roll.names
+    → AllBecome (opening s units roll.seats roll.withdrawn).states now.states → p < length roll.names
+    → mark_at roll.withdrawn p ≡ true
     → get_or now.keeps p 0 ≡ 0
 withdrawn_keep s units roll now p sound valid long from inside gone =
     gone_keep s (mark_at roll.withdrawn p) (state_at now.states p) (get_or now.keeps p 0) gone
-    (subst (λ (x : State). Becomes x (state_at now.states p)) (opening-at s units roll.seats roll.withdrawn p (omega (arith, sound.same_length)))
+    (subst (λ (x : State). Becomes x (state_at now.states p))
+    (opening-at s units roll.seats roll.withdrawn p (omega (arith, sound.same_length)))
     (from p (omega (arith, length-opening s units roll sound))))
     (valid.fitting p (omega arith))
 
 pub hopeful_runs : (s units : ℕ) (roll : RollList) (now : Situation) (p : ℕ) → IsRoll roll
-    → AllBecome (opening s units roll.seats roll.withdrawn).states now.states → p < length roll.names → is_hopeful (state_at now.states p) ≡ true
+    → AllBecome (opening s units roll.seats roll.withdrawn).states now.states → p < length roll.names
+    → is_hopeful (state_at now.states p) ≡ true
     → mark_at roll.withdrawn p ≡ false
 hopeful_runs s units roll now p sound from inside is =
     runs (mark_at roll.withdrawn p) (state_at now.states p) is
-    (subst (λ (x : State). Becomes x (state_at now.states p)) (opening-at s units roll.seats roll.withdrawn p (omega (arith, sound.same_length)))
+    (subst (λ (x : State). Becomes x (state_at now.states p))
+    (opening-at s units roll.seats roll.withdrawn p (omega (arith, sound.same_length)))
     (from p (omega (arith, length-opening s units roll sound))))

@@ -1,5 +1,6 @@
 -- Where there is no tie another order of lots makes no difference.
-use Rattle.std.proofs.Common.{◌≡◌, ℕ, ◌-◌, ◌<◌, ◌≤◌, Bool, true, false, List, [], ◌∷◌, length, get_or, All, arith, refl, ap, sym, subst, ◌∙◌, inl, inr}
+use Rattle.std.proofs.Common.{◌≡◌, ℕ, ◌-◌, ◌<◌, ◌≤◌, Bool, true, false, List, [], ◌∷◌, length, get_or, All}
+use Rattle.std.proofs.Common.{arith, refl, ap, sym, subst, ◌∙◌, inl, inr}
 use Rattle.std.proofs.lemmas.Bool.{cases_eq, lt-ltb}
 use Rattle.std.proofs.lemmas.List.Elements.{All-head, All-tail}
 use Rattle.std.proofs.lemmas.List.FromFn.{length-map-range_with_len}
@@ -38,7 +39,9 @@ only_mark marks p q few first second =
     elim (cases_eq p q) [
       | inl same ↦ same
       | inr other ↦
-          let two = total-two (length marks) p q (λ r. one_if (mark_at marks r)) (marked-below marks p first) (marked-below marks q second) other in
+          let two =
+          total-two (length marks) p q (λ r. one_if (mark_at marks r)) (marked-below marks p first)
+          (marked-below marks q second) other in
           let one : one_if (mark_at marks p) ≡ 1 = ap one_if first in
           let another : one_if (mark_at marks q) ≡ 1 = ap one_if second in
           absurd (omega (arith, marked-total marks))
@@ -46,7 +49,8 @@ only_mark marks p q few first second =
 
 -- the first of the marked is the same in each order, where there is one
 same_first : (lots other : List ℕ) (marks : List Bool) (p : ℕ) → IsOrder lots → IsOrder other → length marks ≡ length lots
-    → length marks ≡ length other → marked_count marks ≤ 1 → mark_at marks p ≡ true → first_marked lots marks ≡ first_marked other marks
+    → length marks ≡ length other → marked_count marks ≤ 1 → mark_at marks p ≡ true
+    → first_marked lots marks ≡ first_marked other marks
 same_first lots other marks p order order_too long long_too few marked =
     let some : 1 ≤ first_marked lots marks = first_marked-order lots marks p order long marked in
     let some_too : 1 ≤ first_marked other marks = first_marked-order other marks p order_too long_too marked in
@@ -56,8 +60,11 @@ same_first lots other marks p order order_too long long_too few marked =
     omega arith
 
 -- an iteration
-settle-other : (s : ℕ) (now : Situation) (votes lots other : List ℕ) (row : Row) (next : Situation) → Settle s now votes lots row next → HasNoTie row
-    → IsValid s now → is_complete now ≡ false → IsOrder lots → length lots ≡ length now.states → IsOrder other → length other ≡ length now.states
+settle-other :
+    (s : ℕ) (now : Situation) (votes lots other : List ℕ) (row : Row) (next : Situation)
+    → Settle s now votes lots row next → HasNoTie row
+    → IsValid s now → is_complete now ≡ false → IsOrder lots → length lots ≡ length now.states → IsOrder other
+    → length other ≡ length now.states
     → Settle s now votes other row next
 settle-other s now votes lots other row next settle none valid going order same order_too same_too = record {
   round = settle.round;
@@ -76,7 +83,8 @@ settle-other s now votes lots other row next settle none valid going order same 
         subst (λ (x : List State). has_reached x row.votes row.quota b ≡ true) (sym settle.states)
         (subst (λ (v : List ℕ). has_reached now.states v row.quota b ≡ true) (sym settle.votes_are) is) in
         let less : get_or row.votes b 0 < get_or row.votes a 0 = none.for_election a b marked reached unmarked in
-        let fewer : get_or votes b 0 < get_or votes a 0 = subst (λ (v : List ℕ). get_or v b 0 < get_or v a 0) settle.votes_are less in
+        let fewer : get_or votes b 0 < get_or votes a 0 =
+        subst (λ (v : List ℕ). get_or v b 0 < get_or v a 0) settle.votes_are less in
         or_left _ _ (lt-ltb _ _ fewer);
   };
   surplus_is = settle.surplus_is;
@@ -93,10 +101,14 @@ settle-other s now votes lots other row next settle none valid going order same 
         let long : length row.tied ≡ length now.states =
         ap length leaves.2 ∙ length-map-range_with_len (is_tied now.states row.votes row.surplus) 0 (length now.states) in
         let first : c ≡ first_marked other row.tied =
-        leaves.3 ∙ same_first lots other row.tied one.0 order order_too (long ∙ sym same) (long ∙ sym same_too) none.for_defeat marked in
+        leaves.3
+        ∙ same_first lots other row.tied one.0 order order_too (long ∙ sym same) (long ∙ sym same_too)
+        none.for_defeat marked in
         (leaves.0, leaves.1, leaves.2, first, leaves.4, leaves.5)
 
-rows-other : (rule : Rule) (s : ℕ) (ballots : List (List ℕ)) (lots other : List ℕ) (now : Situation) (rows : List Row) (last : List State)
+rows-other :
+    (rule : Rule) (s : ℕ) (ballots : List (List ℕ)) (lots other : List ℕ) (now : Situation) (rows : List Row)
+    (last : List State)
     → IsValid s now → IsOrder lots → length lots ≡ length now.states → IsOrder other → length other ≡ length now.states
     → Rows rule s ballots lots now rows last → All HasNoTie rows → Rows rule s ballots other now rows last
 rows-other rule s ballots lots other now [] last valid order same order_too same_too leads all = leads
@@ -107,19 +119,24 @@ rows-other rule s ballots lots other now (row ∷ rows) last valid order same or
       leads.0,
       (
         next,
-        settle-other s now votes lots other row next leads.1.1 (All-head HasNoTie row rows all) valid leads.0 order same order_too same_too,
-        rows-other rule s ballots lots other next rows last (settled-valid s now votes lots row next leads.1.1 valid leads.0 order same) order
+        settle-other s now votes lots other row next leads.1.1 (All-head HasNoTie row rows all) valid leads.0
+            order same order_too same_too,
+        rows-other rule s ballots lots other next rows last
+            (settled-valid s now votes lots row next leads.1.1 valid leads.0 order same) order
             (same ∙ sym as_many) order_too (same_too ∙ sym as_many) leads.1.2 (All-tail HasNoTie row rows all),
       ),
     )
 
-pub count-other : (rule : Rule) (places units : ℕ) (ballots : List (List ℕ)) (roll : RollList) (lots other : List ℕ) (rows : List Row) (last : List State)
+pub count-other :
+    (rule : Rule) (places units : ℕ) (ballots : List (List ℕ)) (roll : RollList) (lots other : List ℕ)
+    (rows : List Row) (last : List State)
     → IsElection places units ballots roll lots → IsOrder other → length other ≡ length lots
     → IsCountUnder rule places units ballots roll lots rows last → All HasNoTie rows
     → IsCountUnder rule places units ballots roll other rows last
 count-other rule places units ballots roll lots other rows last is order_too same counted all =
     let s : ℕ = scale places in
-    let long : length lots ≡ length (opening s units roll.seats roll.withdrawn).states = is.lots_of_all ∙ sym (length-opening s units roll is.sound_roll) in
+    let long : length lots ≡ length (opening s units roll.seats roll.withdrawn).states =
+    is.lots_of_all ∙ sym (length-opening s units roll is.sound_roll) in
     rows-other rule s ballots lots other (opening s units roll.seats roll.withdrawn) rows last
     (valid-opening_of_roll s units roll is.some_omega is.small_omega is.sound_roll)
     is.order_of_lots long order_too (same ∙ long) counted all

@@ -1,5 +1,6 @@
 -- Sums over places, place by place.
-use Rattle.std.proofs.Common.{◌≡◌, ◌≢◌, ℕ, ◌+◌, ◌*◌, ◌<◌, ◌≤◌, Bool, cond, List, length, sum, count_by, get_or, arith, refl, ap, sym, ◌∙◌, zero, suc, subst}
+use Rattle.std.proofs.Common.{◌≡◌, ◌≢◌, ℕ, ◌+◌, ◌*◌, ◌<◌, ◌≤◌, Bool, cond, List, length, sum, count_by}
+use Rattle.std.proofs.Common.{get_or, arith, refl, ap, sym, ◌∙◌, zero, suc, subst}
 use Rattle.std.proofs.Common.{add-one, inl, inr}
 use Rattle.std.proofs.Math.Nat.{add-mul}
 use Rattle.std.proofs.lemmas.Bool.{cases_eq, cases_lt}
@@ -30,20 +31,27 @@ count-total (suc n) test =
     (count_more test n ∙ ap (λ (k : ℕ). k + one_if (test n)) (count-total n test))
 
 -- how many states of a list by places pass
-pub count_by-total : (test : State → Bool) (f : ℕ → State) (n : ℕ) → count_by test (each_place n f) ≡ total n (λ p. one_if (test (f p)))
+pub count_by-total :
+    (test : State → Bool) (f : ℕ → State) (n : ℕ)
+    → count_by test (each_place n f) ≡ total n (λ p. one_if (test (f p)))
 count_by-total test f zero = refl
 count_by-total test f (suc n) =
     subst (λ (m : ℕ). count_by test (each_place m f) ≡ total n (λ p. one_if (test (f p))) + one_if (test (f n))) (add-one n)
-    (sum_by-map-range_with_len_more (λ (x : State). cond (test x) 1 0) f 0 n n (omega arith) ∙ ap (λ (k : ℕ). k + one_if (test (f n)))
+    (sum_by-map-range_with_len_more (λ (x : State). cond (test x) 1 0) f 0 n n (omega arith)
+    ∙ ap (λ (k : ℕ). k + one_if (test (f n)))
     (count_by-total test f n))
 
 -- how many states of a list pass
-pub states-total : (test : State → Bool) (states : List State) → count_by test states ≡ total (length states) (λ p. one_if (test (state_at states p)))
-states-total test states = ap (count_by test) (states_by_place states) ∙ count_by-total test (state_at states) (length states)
+pub states-total :
+    (test : State → Bool) (states : List State)
+    → count_by test states ≡ total (length states) (λ p. one_if (test (state_at states p)))
+states-total test states =
+    ap (count_by test) (states_by_place states) ∙ count_by-total test (state_at states) (length states)
 
 -- the numbers of a list together
 pub list-total : (xs : List ℕ) (n : ℕ) → length xs ≡ n → sum xs ≡ total n (λ p. get_or xs p 0)
-list-total xs n same = ap sum (fill_by_all (λ p. get_or xs p 0) xs n 0 same (λ p below. refl)) ∙ sum-total n (λ p. get_or xs p 0)
+list-total xs n same =
+    ap sum (fill_by_all (λ p. get_or xs p 0) xs n 0 same (λ p below. refl)) ∙ sum-total n (λ p. get_or xs p 0)
 
 pub total-le : (n : ℕ) (f g : ℕ → ℕ) → ((p : ℕ) → p < n → f p ≤ g p) → total n f ≤ total n g
 total-le zero f g each = omega arith
@@ -92,7 +100,10 @@ total-two (suc n) p q f first second apart =
                 let here : f q ≡ f n = ap f same in
                 let before : f p ≤ total n f = total-part n p f (omega arith) in
                 omega arith
-            | inr neither ↦ let before : f p + f q ≤ total n f = total-two n p q f (omega arith) (omega arith) apart in omega arith
+            | inr neither ↦
+                let before : f p + f q ≤ total n f =
+                total-two n p q f (omega arith) (omega arith) apart in
+                omega arith
           ]
     ]
 

@@ -1,5 +1,6 @@
 -- The worked count at six places: its ballots are too many to be gone through one by one, so equal ones are taken together.
-use Rattle.std.proofs.Common.{◌≡◌, ℕ, ◌+◌, ◌*◌, refl, sym, subst, ◌∙◌, lit≤, List, [], ◌∷◌, ◌++◌, replicate, Some, None, Option}
+use Rattle.std.proofs.Common.{◌≡◌, ℕ, ◌+◌, ◌*◌, refl, sym, subst, ◌∙◌, lit≤, List, [], ◌∷◌, ◌++◌, replicate}
+use Rattle.std.proofs.Common.{Some, None, Option}
 use Rattle.std.proofs.lemmas.List.Sums.{sum_by-append}
 use Rattle.std.proofs.lemmas.List.Folds.{sum_by-replicate}
 use Rattle.candidate_roll.specs.declared.state.State.{State}
@@ -11,7 +12,8 @@ use Rattle.meek_rule.specs.Weights.{given_under, vote_under, votes_under}
 use Rattle.meek_rule.specs.Iteration.{Settle}
 use Rattle.meek_rule.proofs.WinnersByTest.{winners_by_test}
 use Rattle.meek_count.specs.Rows.{IsCount}
-use Rattle.rule_laws.specs.Unheard.{four_for_three, two_are_elected, all_of_million, two_of_million, passed_of_million, AllRankDeeLastAtSixPlaces}
+use Rattle.rule_laws.specs.Unheard.{four_for_three, two_are_elected, all_of_million, two_of_million}
+use Rattle.rule_laws.specs.Unheard.{passed_of_million, AllRankDeeLastAtSixPlaces}
 
 -- ballots of two kinds
 abbrev kinds : (a b : ℕ) → List (List ℕ)
@@ -19,7 +21,8 @@ kinds a b = replicate a (1 ∷ 2 ∷ 3 ∷ 4 ∷ []) ++ replicate b (2 ∷ 1 ∷
 
 -- what they give
 kinds-vote : (a b : ℕ) (keeps : List ℕ) (p : ℕ)
-    → a * given_under Meek 1000000 keeps 1000000 (1 ∷ 2 ∷ 3 ∷ 4 ∷ []) (p + 1) + b * given_under Meek 1000000 keeps 1000000 (2 ∷ 1 ∷ 3 ∷ 4 ∷ []) (p + 1)
+    → a * given_under Meek 1000000 keeps 1000000 (1 ∷ 2 ∷ 3 ∷ 4 ∷ []) (p + 1) + b
+    * given_under Meek 1000000 keeps 1000000 (2 ∷ 1 ∷ 3 ∷ 4 ∷ []) (p + 1)
     ≡ vote_under Meek 1000000 keeps (kinds a b) (p + 1)
 kinds-vote a b keeps p =
     let f : List ℕ → ℕ = λ ranking. given_under Meek 1000000 keeps 1000000 ranking (p + 1) in
@@ -52,14 +55,17 @@ before_it = between (Hopeful ∷ Hopeful ∷ Hopeful ∷ Hopeful ∷ []) (100000
 
 -- so the count of ballots of these two kinds, so many of each, is this one
 many-of_kinds : (a b : ℕ) → 899999 ≡ a → 300000 ≡ b
-    → IsCount 6 1000 (kinds a b) four_for_three (3 ∷ 1 ∷ 2 ∷ 4 ∷ []) (all_of_million ∷ two_of_million ∷ passed_of_million ∷ [])
+    → IsCount 6 1000 (kinds a b) four_for_three (3 ∷ 1 ∷ 2 ∷ 4 ∷ [])
+    (all_of_million ∷ two_of_million ∷ passed_of_million ∷ [])
     (IsElected ∷ IsElected ∷ Defeated ∷ IsElected ∷ [])
 many-of_kinds a b a_is b_is =
     let lots : List ℕ = 3 ∷ 1 ∷ 2 ∷ 4 ∷ [] in
     let whole : List ℕ = 1000000 ∷ 1000000 ∷ 1000000 ∷ 1000000 ∷ [] in
     let second : Situation = between two_are_elected whole 2 1 None in
     let third : Situation = between two_are_elected (333334 ∷ 1000000 ∷ 1000000 ∷ 1000000 ∷ []) 2 2 (Some 599999499998) in
-    let end : Situation = between (IsElected ∷ IsElected ∷ Defeated ∷ Hopeful ∷ []) (333334 ∷ 1000000 ∷ 0 ∷ 1000000 ∷ []) 3 1 None in
+    let end : Situation =
+    between (IsElected ∷ IsElected ∷ Defeated ∷ Hopeful ∷ []) (333334 ∷ 1000000 ∷ 0 ∷ 1000000 ∷ []) 3 1
+    None in
     let one : Settle 1000000 before_it all_of_million.votes lots all_of_million second = record {
       round = refl;
       iteration = refl;
@@ -109,7 +115,8 @@ many-of_kinds a b a_is b_is =
               refl,
               (
                 end,
-                subst (λ (v : List ℕ). Settle 1000000 third v lots passed_of_million end) (kinds-votes a b third.keeps a_is b_is) three,
+                subst (λ (v : List ℕ). Settle 1000000 third v lots passed_of_million end)
+                    (kinds-votes a b third.keeps a_is b_is) three,
                 (refl, refl),
               ),
             ),

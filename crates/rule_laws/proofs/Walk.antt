@@ -1,5 +1,6 @@
 -- From one iteration of a count to the next, and so to the end.
-use Rattle.std.proofs.Common.{◌≡◌, ℕ, ◌+◌, ◌-◌, ◌<◌, ◌≤◌, true, false, List, [], ◌∷◌, length, All, arith, ap, sym, ◌∙◌, inl, inr}
+use Rattle.std.proofs.Common.{◌≡◌, ℕ, ◌+◌, ◌-◌, ◌<◌, ◌≤◌, true, false, List, [], ◌∷◌, length, All, arith, ap}
+use Rattle.std.proofs.Common.{sym, ◌∙◌, inl, inr}
 use Rattle.std.proofs.lemmas.Bool.{cases_lt, le-leb, eq-eqb}
 use Rattle.std.proofs.lemmas.List.Elements.{All-head, All-tail}
 use Rattle.candidate_roll.specs.State.{state_at}
@@ -7,7 +8,8 @@ use Rattle.candidate_roll.specs.declared.state.State.{State}
 use Rattle.lot_order.specs.Lots.{IsOrder, first_marked}
 use Rattle.meek_rule.specs.declared.step.Step.{Step}
 use Rattle.meek_rule.specs.declared.step.Step.TheVariants.{Elected, Iterate, Defeat}
-use Rattle.meek_rule.specs.Situation.{Situation, IsValid, is_complete, is_full, is_hopeful, elected_count, hopeful_count, final_states}
+use Rattle.meek_rule.specs.Situation.{Situation, IsValid, is_complete, is_full, is_hopeful, elected_count}
+use Rattle.meek_rule.specs.Situation.{hopeful_count, final_states}
 use Rattle.meek_rule.specs.Row.{Row}
 use Rattle.meek_rule.specs.Rule.{Rule}
 use Rattle.meek_rule.specs.Ties.{tied}
@@ -44,7 +46,9 @@ is_open s now valid going = record {
 }
 
 -- who is defeated was hopeful
-pub loser_is_hopeful : (s : ℕ) (now : Situation) (lots : List ℕ) (row : Row) (next : Situation) (c : ℕ) → StepLeaves s now lots row (Defeat c) next
+pub loser_is_hopeful :
+    (s : ℕ) (now : Situation) (lots : List ℕ) (row : Row) (next : Situation) (c : ℕ)
+    → StepLeaves s now lots row (Defeat c) next
     → IsValid s now → is_complete now ≡ false → IsOrder lots → length lots ≡ length now.states
     → (c - 1 < length now.states) × (is_hopeful (state_at now.states (c - 1)) ≡ true)
 loser_is_hopeful s now lots row next c leaves valid going order same =
@@ -53,7 +57,9 @@ loser_is_hopeful s now lots row next c leaves valid going order same =
     rw is (loser-hopeful now.states row.votes lots row.surplus order same some)
 
 -- an iteration leaves as many seats
-pub settled-seats : (s : ℕ) (now : Situation) (votes lots : List ℕ) (row : Row) (next : Situation) → Settle s now votes lots row next → next.seats ≡ now.seats
+pub settled-seats :
+    (s : ℕ) (now : Situation) (votes lots : List ℕ) (row : Row) (next : Situation)
+    → Settle s now votes lots row next → next.seats ≡ now.seats
 settled-seats s now votes lots row next settle = by_step row.step settle.leaves
   where
     by_step : (step : Step) → StepLeaves s now lots row step next → next.seats ≡ now.seats
@@ -69,8 +75,11 @@ pub record IsEnd (s : ℕ) (holds : Situation → Type 0) (last : List State) (e
   pub last_is : last ≡ final_states end
 
 -- What each iteration whose row is fine keeps holds at the end.
-pub walk : (rule : Rule) (s : ℕ) (ballots : List (List ℕ)) (lots : List ℕ) (holds : Situation → Type 0) (fine : Row → Type 0) → IsOrder lots
-    → ((now : Situation) (row : Row) (next : Situation) → IsValid s now → is_complete now ≡ false → length lots ≡ length now.states
+pub walk :
+    (rule : Rule) (s : ℕ) (ballots : List (List ℕ)) (lots : List ℕ) (holds : Situation → Type 0)
+    (fine : Row → Type 0) → IsOrder lots
+    → ((now : Situation) (row : Row) (next : Situation) → IsValid s now → is_complete now ≡ false
+    → length lots ≡ length now.states
     → IteratesTo rule s ballots lots now row next → fine row → holds now → holds next)
     → (now : Situation) (rows : List Row) (last : List State) → IsValid s now → length lots ≡ length now.states → holds now
     → Rows rule s ballots lots now rows last → All fine rows → (end : Situation) × IsEnd s holds last end

@@ -19,14 +19,20 @@ use Rattle.shard_office.proofs.Mine.{looked-mine, changed-mine}
 use Rattle.shard_office.proofs.Called.{looked-at, looked-own, looked-on, changed-at, changed-own, changed-on, changed-is}
 
 -- which lock and name the seat at a shard has
-pub seat_fits : (o : OfficeState) (p i s : ℕ) (x : ShardSeat) (lock tie : TableId) → i + 1 ≡ s → IsAtShard o p i x → slice_get o.identity.locks i ≡ Some lock → slice_get o.identity.ties i ≡ Some tie
+pub seat_fits :
+    (o : OfficeState) (p i s : ℕ) (x : ShardSeat) (lock tie : TableId) → i + 1 ≡ s → IsAtShard o p i x
+    → slice_get o.identity.locks i ≡ Some lock → slice_get o.identity.ties i ≡ Some tie
     → (x.lock ≡ lock) × (x.name ≡ Some (record { shard = s; shards = o.shards; candidates = o.candidates; tie = tie }))
 seat_fits o p i s x lock tie is at here there =
-    let l : Some x.lock ≡ Some lock = sym at.lock ∙ here in
-    (cc l, at.name tie there ∙ ap (λ n. Some (record { shard = n; shards = o.shards; candidates = o.candidates; tie = tie })) is)
+    let l : Some x.lock ≡ Some lock = sym at.lock ∙ here in (
+      cc l,
+      at.name tie there
+          ∙ ap (λ n. Some (record { shard = n; shards = o.shards; candidates = o.candidates; tie = tie })) is,
+    )
 
 -- what became of the seat at the shard, and of that at the register
-pub record Did (p s : ℕ) (asked : Change) (x y : ShardSeat) (r r' : RegisterSeat) (answer : Result Reply CallBack) : Type 0 where
+pub record Did (p s : ℕ) (asked : Change) (x y : ShardSeat) (r r' : RegisterSeat)
+    (answer : Result Reply CallBack) : Type 0 where
   pub knows : KnowsOwn owner_of_entry y
   pub knows' : KnowsOwn owner_of_mark r'
   pub entry : IfOk answer (λ a. Gave x y (change_entry p asked a))
@@ -35,7 +41,8 @@ pub record Did (p s : ℕ) (asked : Change) (x y : ShardSeat) (r r' : RegisterSe
   pub legal : OnOk answer (IsLegal y.seen)
   pub refused : OnErr answer (Looked x y × Looked r r')
 
-module _ (o : OfficeState) (p : ℕ) (seats : List ShardSeat) (r r' : RegisterSeat) (i s : ℕ) (is : i + 1 ≡ s) (x y : ShardSeat) (at : slice_get seats i ≡ Some x) (are : AreAt o p seats r) (asked : Change) where
+module _ (o : OfficeState) (p : ℕ) (seats : List ShardSeat) (r r' : RegisterSeat) (i s : ℕ) (is : i + 1 ≡ s)
+    (x y : ShardSeat) (at : slice_get seats i ≡ Some x) (are : AreAt o p seats r) (asked : Change) where
   mark_at : Gave r r' (Shard s) → Gave r r' (Shard (i + 1))
   mark_at m = subst (λ n. Gave r r' (Shard n)) (sym is) m
 
@@ -43,30 +50,55 @@ module _ (o : OfficeState) (p : ℕ) (seats : List ShardSeat) (r r' : RegisterSe
   whole_at w = subst (λ n. marks_of n r'.seen ≡ length y.seen) (sym is) w
 
   pub did-at : (answer : Result Reply CallBack) → Did p s asked x y r r' answer → AreAt o p (set seats i y) r'
-  did-at (Ok a) d = changed-at o p seats r r' i x y at are d.knows d.knows' (change_entry p asked a) refl d.entry (mark_at d.mark) (whole_at d.whole)
+  did-at (Ok a) d =
+      changed-at o p seats r r' i x y at are d.knows d.knows' (change_entry p asked a) refl d.entry
+      (mark_at d.mark) (whole_at d.whole)
   did-at (Err b) d = looked-at o p seats r r' i x y at are d.knows d.knows' d.refused.0 d.refused.1
 
-  pub did-on : (answer : Result Reply CallBack) → Did p s asked x y r r' answer → GoesOn (sight_of seats r) (sight_of (set seats i y) r')
-  did-on (Ok a) d = changed-on o p seats r r' i x y at are d.knows d.knows' (change_entry p asked a) refl d.entry (mark_at d.mark) (whole_at d.whole)
+  pub did-on :
+      (answer : Result Reply CallBack) → Did p s asked x y r r' answer
+      → GoesOn (sight_of seats r) (sight_of (set seats i y) r')
+  did-on (Ok a) d =
+      changed-on o p seats r r' i x y at are d.knows d.knows' (change_entry p asked a) refl d.entry
+      (mark_at d.mark) (whole_at d.whole)
   did-on (Err b) d = looked-on o p seats r r' i x y at are d.knows d.knows' d.refused.0 d.refused.1
 
-  pub did-is : (n : ℕ) → s ≡ n → (answer : Result Reply CallBack) → Did p s asked x y r r' answer → IfOk answer (λ a. IsChange n (change_entry p asked a) (sight_of seats r) (sight_of (set seats i y) r'))
-  did-is n same (Ok a) d = subst (λ k. IsChange k (change_entry p asked a) (sight_of seats r) (sight_of (set seats i y) r')) (is ∙ same)
-      (changed-is o p seats r r' i x y at are d.knows d.knows' (change_entry p asked a) refl d.entry (mark_at d.mark) (whole_at d.whole) d.legal)
+  pub did-is :
+      (n : ℕ) → s ≡ n → (answer : Result Reply CallBack) → Did p s asked x y r r' answer
+      → IfOk answer
+      (λ a. IsChange n (change_entry p asked a) (sight_of seats r) (sight_of (set seats i y) r'))
+  did-is n same (Ok a) d =
+      subst (λ k. IsChange k (change_entry p asked a) (sight_of seats r) (sight_of (set seats i y) r'))
+      (is ∙ same)
+      (changed-is o p seats r r' i x y at are d.knows d.knows' (change_entry p asked a) refl d.entry
+      (mark_at d.mark) (whole_at d.whole) d.legal)
   did-is n same (Err b) d = tt
 
-  pub did-own : (answer : Result Reply CallBack) → Did p s asked x y r r' answer → IfOk answer (λ a. calls_in p (sight_of (set seats i y) r') ≡ calls_in p (sight_of seats r) ++ change_entry p asked a ∷ [])
-  did-own (Ok a) d = changed-own o p seats r r' i x y at are d.knows d.knows' (change_entry p asked a) refl d.entry (mark_at d.mark) (whole_at d.whole)
+  pub did-own :
+      (answer : Result Reply CallBack) → Did p s asked x y r r' answer
+      → IfOk answer (λ a. calls_in p (sight_of (set seats i y) r')
+      ≡ calls_in p (sight_of seats r) ++ change_entry p asked a ∷ [])
+  did-own (Ok a) d =
+      changed-own o p seats r r' i x y at are d.knows d.knows' (change_entry p asked a) refl d.entry
+      (mark_at d.mark) (whole_at d.whole)
   did-own (Err b) d = tt
 
-  pub did-kept : (answer : Result Reply CallBack) → Did p s asked x y r r' answer → OnErr answer (calls_in p (sight_of (set seats i y) r') ≡ calls_in p (sight_of seats r))
+  pub did-kept :
+      (answer : Result Reply CallBack) → Did p s asked x y r r' answer
+      → OnErr answer (calls_in p (sight_of (set seats i y) r') ≡ calls_in p (sight_of seats r))
   did-kept (Ok a) d = tt
   did-kept (Err b) d = looked-own o p seats r r' i x y at are d.knows d.knows' d.refused.0 d.refused.1
 
-  pub did-mine : (n : ℕ) → s ≡ n → (answer : Result Reply CallBack) → Did p s asked x y r r' answer → IfOk answer (λ a. AddsEntry n (change_entry p asked a) (mine_of seats r) (mine_of (set seats i y) r'))
-  did-mine n same (Ok a) d = subst (λ k. AddsEntry k (change_entry p asked a) (mine_of seats r) (mine_of (set seats i y) r')) (is ∙ same) (changed-mine seats r r' i x y at (change_entry p asked a) d.entry (mark_at d.mark))
+  pub did-mine :
+      (n : ℕ) → s ≡ n → (answer : Result Reply CallBack) → Did p s asked x y r r' answer
+      → IfOk answer (λ a. AddsEntry n (change_entry p asked a) (mine_of seats r) (mine_of (set seats i y) r'))
+  did-mine n same (Ok a) d =
+      subst (λ k. AddsEntry k (change_entry p asked a) (mine_of seats r) (mine_of (set seats i y) r'))
+      (is ∙ same) (changed-mine seats r r' i x y at (change_entry p asked a) d.entry (mark_at d.mark))
   did-mine n same (Err b) d = tt
 
-  pub did-nothing : (answer : Result Reply CallBack) → Did p s asked x y r r' answer → OnErr answer (mine_of (set seats i y) r' ≡ mine_of seats r)
+  pub did-nothing :
+      (answer : Result Reply CallBack) → Did p s asked x y r r' answer
+      → OnErr answer (mine_of (set seats i y) r' ≡ mine_of seats r)
   did-nothing (Ok a) d = tt
   did-nothing (Err b) d = looked-mine seats r r' i x y at d.refused.0 d.refused.1

@@ -1,5 +1,7 @@
 -- An office that was closed: its history, and what each caller has in it.
-use Rattle.std.proofs.Common.{◌≡◌, ◌≢◌, ◌⊎◌, ℕ, zero, suc, ◌+◌, ◌-◌, ◌<◌, ◌≤◌, true, false, cond, List, [], ◌∷◌, ◌++◌, length, map, refl, sym, ap, ◌∙◌, subst, inl, inr, ⊎_elim, arith, eq-eqb, ne_eqb}
+use Rattle.std.proofs.Common.{◌≡◌, ◌≢◌, ◌⊎◌, ℕ, zero, suc, ◌+◌, ◌-◌, ◌<◌, ◌≤◌, true, false, cond, List, []}
+use Rattle.std.proofs.Common.{◌∷◌, ◌++◌, length, map, refl, sym, ap, ◌∙◌, subst, inl, inr, ⊎_elim, arith}
+use Rattle.std.proofs.Common.{eq-eqb, ne_eqb}
 use Rattle.std.specs.Prelude.{slice_get, Some, All, reverse}
 use Rattle.std.specs.List.{range_with_len}
 use Rattle.std.proofs.lemmas.Bool.{cases_lt}
@@ -34,14 +36,19 @@ use Rattle.shard_office.proofs.Owned.{owned_are_calls, owned_are_marks, looked_f
 use Rattle.shard_office.proofs.FreezeLemmas.{none_outside}
 use Rattle.shard_office.proofs.SightLemmas.{goes_further}
 
-pub ended_more : (shards candidates all i : ℕ) (marks : List Mark) (seats : List ShardSeat) (lists : List EntryList) (s : ShardSeat) (l : EntryList) → AreEnded shards candidates all marks seats lists → all - 1 - length lists ≡ i
-    → slice_get seats i ≡ Some s → IsEnded shards candidates marks i s l.items → AreEnded shards candidates all marks seats (lists ++ l ∷ [])
+pub ended_more :
+    (shards candidates all i : ℕ) (marks : List Mark) (seats : List ShardSeat) (lists : List EntryList)
+    (s : ShardSeat) (l : EntryList) → AreEnded shards candidates all marks seats lists
+    → all - 1 - length lists ≡ i
+    → slice_get seats i ≡ Some s → IsEnded shards candidates marks i s l.items
+    → AreEnded shards candidates all marks seats (lists ++ l ∷ [])
 ended_more shards candidates all i marks seats lists s l are is at ended j k t el et = ⊎_elim
     (λ (h : (j ≡ length lists) × (l ≡ k)).
     let place : i ≡ all - 1 - j = sym is ∙ ap (λ n. all - 1 - n) (sym h.0) in
     let same : s ≡ t = same_place seats i (all - 1 - j) s t place at et in
     subst (λ (z : EntryList). IsEnded shards candidates marks (all - 1 - j) t z.items) h.1
-    (subst (λ (z : ShardSeat). IsEnded shards candidates marks (all - 1 - j) z l.items) same (subst (λ n. IsEnded shards candidates marks n s l.items) place ended)))
+    (subst (λ (z : ShardSeat). IsEnded shards candidates marks (all - 1 - j) z l.items) same
+    (subst (λ n. IsEnded shards candidates marks n s l.items) place ended)))
     (λ (h : (j < length lists) × (slice_get lists j ≡ Some k)). are j k t h.1 et)
     (get_push lists l j k el)
 
@@ -50,15 +57,24 @@ tail_nil [] ys e = e
 tail_nil (x ∷ xs) ys e = absurd (cc e)
 
 -- a caller's calls in a history that goes on from what it had seen, and in which it gave no more
-pub fits_by : (p : ℕ) (seen : Sight) (marks : List Mark) (lists : Lists) → (begins : Begins seen.marks marks) → (entries : (t : ℕ) → Begins (entries_of seen t) (lists t))
-    → ((t : ℕ) → NoneBy p (left seen.marks (by_shard seen.lists) t)) → NoMarkBy p begins.0 → ((t : ℕ) → NoneBy p (entries t).0) → own_calls p (weave marks lists) ≡ calls_seen p seen.marks (by_shard seen.lists)
+pub fits_by :
+    (p : ℕ) (seen : Sight) (marks : List Mark) (lists : Lists) → (begins : Begins seen.marks marks)
+    → (entries : (t : ℕ) → Begins (entries_of seen t) (lists t))
+    → ((t : ℕ) → NoneBy p (left seen.marks (by_shard seen.lists) t)) → NoMarkBy p begins.0
+    → ((t : ℕ) → NoneBy p (entries t).0)
+    → own_calls p (weave marks lists) ≡ calls_seen p seen.marks (by_shard seen.lists)
 fits_by p seen marks lists begins entries marked none others =
-    (λ k. calls_seen p (begins.1 k) (λ t. (entries t).1 k)) ∙ calls_stay p seen.marks begins.0 (by_shard seen.lists) (λ t. (entries t).0) none marked others
+    (λ k. calls_seen p (begins.1 k) (λ t. (entries t).1 k))
+    ∙ calls_stay p seen.marks begins.0 (by_shard seen.lists) (λ t. (entries t).0) none marked others
 
-module _ (o : OfficeState) (last : ℕ) (taken : List PassState) (seats : List ShardSeat) (r : RegisterSeat) (are : AreFirst o last 0 taken seats r) (marks : List Mark) (lists : Lists)
+module _ (o : OfficeState) (last : ℕ) (taken : List PassState) (seats : List ShardSeat) (r : RegisterSeat)
+    (are : AreFirst o last 0 taken seats r) (marks : List Mark) (lists : Lists)
     (begins : Begins r.seen marks) (given : (p : ℕ) → owned_by owner_of_mark p marks ≡ owned owner_of_mark (given_by r p))
-    (seen : (i : ℕ) (s : ShardSeat) → slice_get seats i ≡ Some s → Begins s.seen (lists (i + 1))) (gave : (i : ℕ) (s : ShardSeat) → slice_get seats i ≡ Some s → (p : ℕ) → owned_by owner_of_entry p (lists (i + 1)) ≡ owned owner_of_entry (given_by s p))
-    (outside : (t : ℕ) → (t ≡ 0) ⊎ (o.shards < t) → lists t ≡ []) (some : 1 ≤ o.shards) (of_shards : AreOfShards o.shards lists) (fit : MatchEntries marks lists) where
+    (seen : (i : ℕ) (s : ShardSeat) → slice_get seats i ≡ Some s → Begins s.seen (lists (i + 1)))
+    (gave : (i : ℕ) (s : ShardSeat) → slice_get seats i ≡ Some s → (p : ℕ)
+    → owned_by owner_of_entry p (lists (i + 1)) ≡ owned owner_of_entry (given_by s p))
+    (outside : (t : ℕ) → (t ≡ 0) ⊎ (o.shards < t) → lists t ≡ []) (some : 1 ≤ o.shards)
+    (of_shards : AreOfShards o.shards lists) (fit : MatchEntries marks lists) where
   abbrev H : List Entry
   H = weave marks lists
 
@@ -71,8 +87,13 @@ module _ (o : OfficeState) (last : ℕ) (taken : List PassState) (seats : List S
   entries_on (suc i) = ⊎_elim
       (λ (lt : i < length seats).
       let s = get_some seats i lt in
-      let b = seen i s.0 s.1 in
-      (b.0, ap lists (let e : suc i ≡ i + 1 = omega arith in e) ∙ (b.1 ∙ ap (λ l. l ++ b.0) (sym (read_at (lists_of seats) i s.0.seen [] (get_map (λ (z : ShardSeat). z.seen) seats i s.0 s.1))))))
+      let b = seen i s.0 s.1 in (
+        b.0,
+        ap lists (let e : suc i ≡ i + 1 = omega arith in e)
+            ∙ (b.1
+            ∙ ap (λ l. l ++ b.0) (sym (read_at (lists_of seats) i s.0.seen []
+            (get_map (λ (z : ShardSeat). z.seen) seats i s.0 s.1)))),
+      ))
       (λ (le : length seats ≤ i).
       let count = are.at.count in
       let n = length_map (λ (z : ShardSeat). z.seen) seats in
@@ -83,15 +104,20 @@ module _ (o : OfficeState) (last : ℕ) (taken : List PassState) (seats : List S
   part_at : (t : ℕ) → entries_of (sight_in o.shards H) t ≡ lists t
   part_at zero = sym (outside zero (inl refl))
   part_at (suc i) = ⊎_elim
-      (λ (lt : i < o.shards). get_or-map-range_with_len (λ s. part o.shards s H) 1 o.shards i (suc i) [] lt (omega arith) ∙ woven.parts (suc i))
-      (λ (le : o.shards ≤ i). get_or_past (map (λ s. part o.shards s H) (range_with_len 1 o.shards)) i [] (let n = length-map-range_with_len (λ s. part o.shards s H) 1 o.shards in omega arith) ∙ sym (outside (suc i) (inr (omega arith))))
+      (λ (lt : i < o.shards). get_or-map-range_with_len (λ s. part o.shards s H) 1 o.shards i (suc i) [] lt
+      (omega arith) ∙ woven.parts (suc i))
+      (λ (le : o.shards ≤ i). get_or_past (map (λ s. part o.shards s H) (range_with_len 1 o.shards)) i []
+      (let n = length-map-range_with_len (λ s. part o.shards s H) 1 o.shards in omega arith)
+      ∙ sym (outside (suc i) (inr (omega arith))))
       (cases_lt i o.shards)
 
   clerk_on : GoesOn (sight_of seats r) (sight_in o.shards H)
   clerk_on = record {
     marks = (begins.0, woven.order ∙ begins.1);
     entries = λ t. ((entries_on t).0, part_at t ∙ (entries_on t).1);
-    shards = length-map-range_with_len (λ s. part o.shards s H) 1 o.shards ∙ (sym are.at.count ∙ sym (length_map (λ (z : ShardSeat). z.seen) seats));
+    shards =
+        length-map-range_with_len (λ s. part o.shards s H) 1 o.shards
+        ∙ (sym are.at.count ∙ sym (length_map (λ (z : ShardSeat). z.seen) seats));
   }
 
   -- what a caller gave at each lock
@@ -106,7 +132,10 @@ module _ (o : OfficeState) (last : ℕ) (taken : List PassState) (seats : List S
   clerk_own = fits_by 0 (sight_of seats r) marks lists begins entries_on are.at.marked
       (sym (owned_are_marks 0 begins.0) ∙ looked_further owner_of_mark 0 r.seen begins.0 r.mine
       (ap (λ q. owned_by owner_of_mark q r.seen) (sym are.at.registered.numbered) ∙ are.at.registered.knows)
-      (ap (owned_by owner_of_mark 0) (sym begins.1) ∙ (given 0 ∙ ap (λ b. owned owner_of_mark (cond b r.mine (taken_in 0 r.joined))) (eq-eqb 0 r.caller (sym are.at.registered.numbered)))))
+      (ap (owned_by owner_of_mark 0) (sym begins.1)
+      ∙ (given 0
+      ∙ ap (λ b. owned owner_of_mark (cond b r.mine (taken_in 0 r.joined)))
+      (eq-eqb 0 r.caller (sym are.at.registered.numbered)))))
       none_of
     where
       none_of : (t : ℕ) → NoneBy 0 (entries_on t).0
@@ -116,16 +145,31 @@ module _ (o : OfficeState) (last : ℕ) (taken : List PassState) (seats : List S
           (mine_at 0 t)
         where
           nothing : (t : ℕ) → lists t ≡ [] → NoneBy 0 (entries_on t).0
-          nothing t none = subst (NoneBy 0) (sym (tail_nil (by_shard (lists_of seats) t) (entries_on t).0 (sym (entries_on t).1 ∙ none))) refl
+          nothing t none =
+              subst (NoneBy 0)
+              (sym (tail_nil (by_shard (lists_of seats) t) (entries_on t).0 (sym (entries_on t).1 ∙ none)))
+              refl
 
           at_seat : (t i : ℕ) (s : ShardSeat) → slice_get seats i ≡ Some s → t ≡ i + 1 → NoneBy 0 (entries_on t).0
           at_seat t i s es is =
               let first = are.at.shards i s es in
-              let here : by_shard (lists_of seats) t ≡ s.seen = ap (by_shard (lists_of seats)) (is ∙ (let e : i + 1 ≡ suc i = omega arith in e)) ∙ read_at (lists_of seats) i s.seen [] (get_map (λ (z : ShardSeat). z.seen) seats i s es) in
-              let knew : owned_by owner_of_entry 0 (by_shard (lists_of seats) t) ≡ owned owner_of_entry s.mine = ap (owned_by owner_of_entry 0) here ∙ (ap (λ q. owned_by owner_of_entry q s.seen) (sym first.numbered) ∙ first.knows) in
-              let knows : owned_by owner_of_entry 0 (by_shard (lists_of seats) t ++ (entries_on t).0) ≡ owned owner_of_entry s.mine =
-              ap (owned_by owner_of_entry 0) (sym (entries_on t).1 ∙ ap lists is) ∙ (gave i s es 0 ∙ ap (λ b. owned owner_of_entry (cond b s.mine (taken_in 0 s.joined))) (eq-eqb 0 s.caller (sym first.numbered))) in
-              sym (owned_are_calls 0 (entries_on t).0) ∙ looked_further owner_of_entry 0 (by_shard (lists_of seats) t) (entries_on t).0 s.mine knew knows
+              let here : by_shard (lists_of seats) t ≡ s.seen =
+              ap (by_shard (lists_of seats)) (is ∙ (let e : i + 1 ≡ suc i = omega arith in e))
+              ∙ read_at (lists_of seats) i s.seen [] (get_map (λ (z : ShardSeat). z.seen) seats i s es) in
+              let knew :
+              owned_by owner_of_entry 0 (by_shard (lists_of seats) t) ≡ owned owner_of_entry s.mine =
+              ap (owned_by owner_of_entry 0) here
+              ∙ (ap (λ q. owned_by owner_of_entry q s.seen) (sym first.numbered) ∙ first.knows) in
+              let knows :
+              owned_by owner_of_entry 0 (by_shard (lists_of seats) t ++ (entries_on t).0)
+              ≡ owned owner_of_entry s.mine =
+              ap (owned_by owner_of_entry 0) (sym (entries_on t).1 ∙ ap lists is)
+              ∙ (gave i s es 0
+              ∙ ap (λ b. owned owner_of_entry (cond b s.mine (taken_in 0 s.joined)))
+              (eq-eqb 0 s.caller (sym first.numbered))) in
+              sym (owned_are_calls 0 (entries_on t).0)
+              ∙ looked_further owner_of_entry 0 (by_shard (lists_of seats) t) (entries_on t).0 s.mine knew
+              knows
 
   -- another number than the clerk's gave what the seats gave that were taken in
   given_mark : (p : ℕ) → 1 ≤ p → owned_by owner_of_mark p marks ≡ owned owner_of_mark (taken_in p r.joined)
@@ -134,7 +178,9 @@ module _ (o : OfficeState) (last : ℕ) (taken : List PassState) (seats : List S
       let ne : p ≢ r.caller = λ e. omega arith in
       given p ∙ ap (λ b. owned owner_of_mark (cond b r.mine (taken_in p r.joined))) (ne_eqb p r.caller ne)
 
-  given_entry : (i : ℕ) (s : ShardSeat) → slice_get seats i ≡ Some s → (p : ℕ) → 1 ≤ p → owned_by owner_of_entry p (lists (i + 1)) ≡ owned owner_of_entry (taken_in p s.joined)
+  given_entry :
+      (i : ℕ) (s : ShardSeat) → slice_get seats i ≡ Some s → (p : ℕ) → 1 ≤ p
+      → owned_by owner_of_entry p (lists (i + 1)) ≡ owned owner_of_entry (taken_in p s.joined)
   given_entry i s es p one =
       let zero_is = (are.at.shards i s es).numbered in
       let ne : p ≢ s.caller = λ e. omega arith in
@@ -146,27 +192,42 @@ module _ (o : OfficeState) (last : ℕ) (taken : List PassState) (seats : List S
       let is = are.passes k q ek in
       let on = goes_further q.sight (sight_of seats r) (sight_in o.shards H) is.begins clerk_on in
       let on_marks : Begins q.sight.marks marks = (on.marks.0, sym woven.order ∙ on.marks.1) in
-      let on_lists : (t : ℕ) → Begins (entries_of q.sight t) (lists t) = λ t. ((on.entries t).0, sym (part_at t) ∙ (on.entries t).1) in
+      let on_lists : (t : ℕ) → Begins (entries_of q.sight t) (lists t) =
+      λ t. ((on.entries t).0, sym (part_at t) ∙ (on.entries t).1) in
       let first = are.registered.gave k q ek in
       record {
         begins = subst (λ (z : OfficeState). GoesOn q.sight (sight_in z.shards H)) (sym is.office) on;
         own_are = fits_by q.caller q.sight marks lists on_marks on_lists is.marked
-            (sym (owned_are_marks q.caller on_marks.0) ∙ looked_further owner_of_mark q.caller q.sight.marks on_marks.0 (taken_in q.caller r.joined) first (ap (owned_by owner_of_mark q.caller) (sym on_marks.1) ∙ given_mark q.caller is.some))
+            (sym (owned_are_marks q.caller on_marks.0)
+            ∙ looked_further owner_of_mark q.caller q.sight.marks on_marks.0 (taken_in q.caller r.joined)
+            first (ap (owned_by owner_of_mark q.caller) (sym on_marks.1) ∙ given_mark q.caller is.some))
             (λ t. none_more t (on_lists t));
       }
     where
       none_more : (t : ℕ) → (b : Begins (entries_of q.sight t) (lists t)) → NoneBy q.caller b.0
       none_more t b = ⊎_elim
-          (λ (none : lists t ≡ []). subst (NoneBy q.caller) (sym (tail_nil (entries_of q.sight t) b.0 (sym b.1 ∙ none))) refl)
+          (λ (none : lists t ≡ []). subst (NoneBy q.caller)
+          (sym (tail_nil (entries_of q.sight t) b.0 (sym b.1 ∙ none))) refl)
           (λ (h : (i : ℕ) × (s : ShardSeat) × (slice_get seats i ≡ Some s) × (t ≡ i + 1)). at_seat t b h.0 h.1 h.2 h.3)
           (mine_at q.caller t)
         where
-          at_seat : (t : ℕ) → (b : Begins (entries_of q.sight t) (lists t)) → (i : ℕ) (s : ShardSeat) → slice_get seats i ≡ Some s → t ≡ i + 1 → NoneBy q.caller b.0
+          at_seat :
+              (t : ℕ) → (b : Begins (entries_of q.sight t) (lists t)) → (i : ℕ) (s : ShardSeat)
+              → slice_get seats i ≡ Some s → t ≡ i + 1 → NoneBy q.caller b.0
           at_seat t b i s es is =
-              let knew : owned_by owner_of_entry q.caller (entries_of q.sight t) ≡ owned owner_of_entry (taken_in q.caller s.joined) = ap (λ n. owned_by owner_of_entry q.caller (entries_of q.sight n)) is ∙ (are.shards i s es).gave k q ek in
-              let knows : owned_by owner_of_entry q.caller (entries_of q.sight t ++ b.0) ≡ owned owner_of_entry (taken_in q.caller s.joined) =
-              ap (owned_by owner_of_entry q.caller) (sym b.1 ∙ ap lists is) ∙ given_entry i s es q.caller (are.passes k q ek).some in
-              sym (owned_are_calls q.caller b.0) ∙ looked_further owner_of_entry q.caller (entries_of q.sight t) b.0 (taken_in q.caller s.joined) knew knows
+              let knew :
+              owned_by owner_of_entry q.caller (entries_of q.sight t)
+              ≡ owned owner_of_entry (taken_in q.caller s.joined) =
+              ap (λ n. owned_by owner_of_entry q.caller (entries_of q.sight n)) is
+              ∙ (are.shards i s es).gave k q ek in
+              let knows :
+              owned_by owner_of_entry q.caller (entries_of q.sight t ++ b.0)
+              ≡ owned owner_of_entry (taken_in q.caller s.joined) =
+              ap (owned_by owner_of_entry q.caller) (sym b.1 ∙ ap lists is)
+              ∙ given_entry i s es q.caller (are.passes k q ek).some in
+              sym (owned_are_calls q.caller b.0)
+              ∙ looked_further owner_of_entry q.caller (entries_of q.sight t) b.0 (taken_in q.caller s.joined)
+              knew knows
 
   -- and no other caller stands in it
   nobody_else : (p : ℕ) → 1 ≤ p → has p (callers_of taken) ≡ false → NoneBy p H
@@ -176,10 +237,19 @@ module _ (o : OfficeState) (last : ℕ) (taken : List PassState) (seats : List S
       (λ t. ⊎_elim
       (λ (nothing : lists t ≡ []). subst (NoneBy p) (sym nothing) refl)
       (λ (h : (i : ℕ) × (s : ShardSeat) × (slice_get seats i ≡ Some s) × (t ≡ i + 1)).
-      subst (λ n. NoneBy p (lists n)) (sym h.3) (sym (owned_are_calls p (lists (h.0 + 1))) ∙ (given_entry h.0 h.1 h.2 p one ∙ ap (owned owner_of_entry) ((are.shards h.0 h.1 h.2).nobody p none))))
+      subst (λ n. NoneBy p (lists n)) (sym h.3) (sym (owned_are_calls p (lists (h.0 + 1)))
+      ∙ (given_entry h.0 h.1 h.2 p one
+      ∙ ap (owned owner_of_entry) ((are.shards h.0 h.1 h.2).nobody p none))))
       (mine_at p t))
 
-  pub closed_is : IsClosed (record { desk = record { office = o; caller = 0; sight = sight_of seats r; mine = mine_of seats r }; taken = taken; last_caller = last; open_teams = 0 }) H
+  pub closed_is :
+      IsClosed (record {
+        desk =
+            record { office = o; caller = 0; sight = sight_of seats r; mine = mine_of seats r };
+        taken = taken;
+        last_caller = last;
+        open_teams = 0;
+      }) H
   closed_is = record {
     legal = woven.legal;
     desk = record { begins = clerk_on; own_are = clerk_own };
@@ -188,29 +258,46 @@ module _ (o : OfficeState) (last : ℕ) (taken : List PassState) (seats : List S
   }
 
 -- an office all of whose locks ended, the last one first
-module _ (o : OfficeState) (last : ℕ) (taken : List PassState) (seats : List ShardSeat) (r : RegisterSeat) (are : AreFirst o last 0 taken seats r) (marks : List Mark) (lists : List EntryList) (len : length lists ≡ o.shards) (some : 1 ≤ o.shards)
-    (ended : AreEnded o.shards o.candidates o.shards marks seats lists) (may : All (MayMark o.shards o.candidates) marks) (begins : Begins r.seen marks) (given : (p : ℕ) → owned_by owner_of_mark p marks ≡ owned owner_of_mark (given_by r p)) where
+module _ (o : OfficeState) (last : ℕ) (taken : List PassState) (seats : List ShardSeat) (r : RegisterSeat)
+    (are : AreFirst o last 0 taken seats r) (marks : List Mark) (lists : List EntryList)
+    (len : length lists ≡ o.shards) (some : 1 ≤ o.shards)
+    (ended : AreEnded o.shards o.candidates o.shards marks seats lists)
+    (may : All (MayMark o.shards o.candidates) marks) (begins : Begins r.seen marks)
+    (given : (p : ℕ) → owned_by owner_of_mark p marks ≡ owned owner_of_mark (given_by r p)) where
   abbrev K : Lists
   K = list_of (reverse lists)
 
   -- the list of the shard at index i, with the seat that closed it
-  ended_at : (i : ℕ) → i < o.shards → (l : EntryList) × (s : ShardSeat) × (slice_get seats i ≡ Some s) × (K (suc i) ≡ l.items) × IsEnded o.shards o.candidates marks i s l.items
+  ended_at :
+      (i : ℕ) → i < o.shards
+      → (l : EntryList) × (s : ShardSeat) × (slice_get seats i ≡ Some s) × (K (suc i) ≡ l.items)
+      × IsEnded o.shards o.candidates marks i s l.items
   ended_at i lt =
       let count = are.at.count in
       let s = get_some seats i (omega arith) in
       let l = get_some lists (length lists - 1 - i) (omega arith) in
       let place : o.shards - 1 - (length lists - 1 - i) ≡ i = omega arith in
-      let it = ended (length lists - 1 - i) l.0 s.0 l.1 (ap (slice_get seats) place ∙ s.1) in
-      (l.0, s.0, s.1, ap (λ (z : EntryList). z.items) (get_or-reverse lists i no_entries (omega arith) ∙ read_at lists (length lists - 1 - i) l.0 no_entries l.1), subst (λ k. IsEnded o.shards o.candidates marks k s.0 l.0.items) place it)
+      let it = ended (length lists - 1 - i) l.0 s.0 l.1 (ap (slice_get seats) place ∙ s.1) in (
+        l.0,
+        s.0,
+        s.1,
+        ap (λ (z : EntryList). z.items) (get_or-reverse lists i no_entries (omega arith)
+            ∙ read_at lists (length lists - 1 - i) l.0 no_entries l.1),
+        subst (λ k. IsEnded o.shards o.candidates marks k s.0 l.0.items) place it,
+      )
 
   outside_none : (t : ℕ) → (t ≡ 0) ⊎ (o.shards < t) → K t ≡ []
   outside_none zero out = refl
   outside_none (suc i) out = ⊎_elim
       (λ (z : suc i ≡ 0). absurd (omega arith))
-      (λ (lt : o.shards < suc i). ap (λ (z : EntryList). z.items) (get_or_past (reverse lists) i no_entries (let n = length-reverse lists in omega arith)))
+      (λ (lt : o.shards < suc i). ap (λ (z : EntryList). z.items)
+      (get_or_past (reverse lists) i no_entries (let n = length-reverse lists in omega arith)))
       out
 
-  each_shard : (P : ℕ → List Entry → Type 0) → ((t : ℕ) → P t []) → ((i : ℕ) (l : EntryList) → AreOfShard o.candidates o.shards (i + 1) l.items → P (suc i) l.items) → (t : ℕ) → P t (K t)
+  each_shard :
+      (P : ℕ → List Entry → Type 0) → ((t : ℕ) → P t [])
+      → ((i : ℕ) (l : EntryList) → AreOfShard o.candidates o.shards (i + 1) l.items → P (suc i) l.items)
+      → (t : ℕ) → P t (K t)
   each_shard P none one zero = none zero
   each_shard P none one (suc i) = ⊎_elim
       (λ (lt : i < o.shards). let e = ended_at i lt in subst (P (suc i)) (sym e.3) (one i e.0 e.4.of_shard))
@@ -220,27 +307,46 @@ module _ (o : OfficeState) (last : ℕ) (taken : List PassState) (seats : List S
   all_of_shards : AreOfShards o.shards K
   all_of_shards = record {
     some = some;
-    changes = each_shard (λ s l. All (λ e. is_of_shard o.shards s e.call ≡ true) l) (λ t. All-nil (λ (e : Entry). is_of_shard o.shards t e.call ≡ true))
-        (λ i l a. subst (λ k. All (λ (e : Entry). is_of_shard o.shards k e.call ≡ true) l.items) (let e : i + 1 ≡ suc i = omega arith in e) a.changes);
+    changes =
+        each_shard (λ s l. All (λ e. is_of_shard o.shards s e.call ≡ true) l)
+        (λ t. All-nil (λ (e : Entry). is_of_shard o.shards t e.call ≡ true))
+        (λ i l a. subst (λ k. All (λ (e : Entry). is_of_shard o.shards k e.call ≡ true) l.items)
+        (let e : i + 1 ≡ suc i = omega arith in e) a.changes);
     legal = each_shard (λ s l. IsLegal l) (λ t. tt) (λ i l a. a.legal);
   }
 
   all_fit : MatchEntries marks K
   all_fit zero = none_outside o.shards o.candidates zero marks may (inl refl)
   all_fit (suc i) = ⊎_elim
-      (λ (lt : i < o.shards). let e = ended_at i lt in ap (λ k. marks_of k marks) (let h : suc i ≡ i + 1 = omega arith in h) ∙ (e.4.whole ∙ ap length (sym e.3)))
-      (λ (le : o.shards ≤ i). none_outside o.shards o.candidates (suc i) marks may (inr (omega arith)) ∙ ap length (sym (outside_none (suc i) (inr (omega arith)))))
+      (λ (lt : i < o.shards). let e =
+      ended_at i lt in
+      ap (λ k. marks_of k marks) (let h : suc i ≡ i + 1 = omega arith in h)
+      ∙ (e.4.whole ∙ ap length (sym e.3)))
+      (λ (le : o.shards ≤ i). none_outside o.shards o.candidates (suc i) marks may (inr (omega arith))
+      ∙ ap length (sym (outside_none (suc i) (inr (omega arith)))))
       (cases_lt i o.shards)
 
-  at_seat : (i : ℕ) (s : ShardSeat) → slice_get seats i ≡ Some s → (l : List Entry) × (K (i + 1) ≡ l) × IsEnded o.shards o.candidates marks i s l
+  at_seat :
+      (i : ℕ) (s : ShardSeat) → slice_get seats i ≡ Some s
+      → (l : List Entry) × (K (i + 1) ≡ l) × IsEnded o.shards o.candidates marks i s l
   at_seat i s es =
       let lt = get_lt seats i s es in
       let count = are.at.count in
       let e = ended_at i (omega arith) in
-      let same : e.1 ≡ s = same_place seats i i e.1 s refl e.2 es in
-      (e.0.items, ap K (let h : i + 1 ≡ suc i = omega arith in h) ∙ e.3, subst (λ (z : ShardSeat). IsEnded o.shards o.candidates marks i z e.0.items) same e.4)
+      let same : e.1 ≡ s = same_place seats i i e.1 s refl e.2 es in (
+        e.0.items,
+        ap K (let h : i + 1 ≡ suc i = omega arith in h) ∙ e.3,
+        subst (λ (z : ShardSeat). IsEnded o.shards o.candidates marks i z e.0.items) same e.4,
+      )
 
-  pub all_held : HoldsAll (record { desk = record { office = o; caller = 0; sight = sight_of seats r; mine = mine_of seats r }; taken = taken; last_caller = last; open_teams = 0 }) marks K
+  pub all_held :
+      HoldsAll (record {
+        desk =
+            record { office = o; caller = 0; sight = sight_of seats r; mine = mine_of seats r };
+        taken = taken;
+        last_caller = last;
+        open_teams = 0;
+      }) marks K
   all_held = record {
     of_shards = all_of_shards;
     fit = all_fit;

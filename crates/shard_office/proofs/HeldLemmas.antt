@@ -14,7 +14,9 @@ use Rattle.shard_office.specs.Moves.{Looked, Gave, Looks}
 use Rattle.shard_office.specs.Turned.{AreOf, Took, GaveBack, AreHeld, TookTurns, GaveTurns, AreNamed, entries_held}
 use Rattle.shard_office.proofs.Places.{get_lt, get_some, map_each}
 
-pub seats_of : (o : OfficeState) (p : ℕ) (seats : List ShardSeat) (r : RegisterSeat) → AreAt o p seats r → AreOf o.identity.locks seats
+pub seats_of :
+    (o : OfficeState) (p : ℕ) (seats : List ShardSeat) (r : RegisterSeat) → AreAt o p seats r
+    → AreOf o.identity.locks seats
 seats_of o p seats r are i s e = (are.shards i s e).lock
 
 -- a turn that was taken and given back
@@ -24,7 +26,9 @@ looked_by x m y took gave = (
   gave.same ∙ ((λ k. record (took.same k) { holds = false }) ∙ (λ k. record x { holds = false; seen = took.begins.1 k })),
 )
 
-pub looks_by : (n : ℕ) (olds mids news : List ShardSeat) → length olds ≤ n → TookTurns n olds mids → GaveTurns 0 mids news → Looks olds news
+pub looks_by :
+    (n : ℕ) (olds mids news : List ShardSeat) → length olds ≤ n → TookTurns n olds mids
+    → GaveTurns 0 mids news → Looks olds news
 looks_by n olds mids news few taken given = record {
   len = given.len ∙ taken.len;
   each = λ i x y ex ey.
@@ -36,9 +40,14 @@ looks_by n olds mids news few taken given = record {
       (looked_by x m.0 y took gave, gave.knows);
 }
 
-module _ (o : OfficeState) (p : ℕ) (olds mids : List ShardSeat) (r : RegisterSeat) (held : List SeenShard) (are : AreAt o p olds r) (ties : length o.identity.ties ≡ o.shards) (taken : TookTurns o.shards olds mids) (len : length held ≡ o.shards) (by : AreHeld held mids) where
+module _ (o : OfficeState) (p : ℕ) (olds mids : List ShardSeat) (r : RegisterSeat) (held : List SeenShard)
+    (are : AreAt o p olds r) (ties : length o.identity.ties ≡ o.shards) (taken : TookTurns o.shards olds mids)
+    (len : length held ≡ o.shards) (by : AreHeld held mids) where
   -- the name of a value that is held
-  name_is : (i : ℕ) (v : SeenShard) → slice_get held i ≡ Some v → (t : TableId) × (slice_get o.identity.ties i ≡ Some t) × (shard_name v ≡ record { shard = i + 1; shards = o.shards; candidates = o.candidates; tie = t })
+  name_is :
+      (i : ℕ) (v : SeenShard) → slice_get held i ≡ Some v
+      → (t : TableId) × (slice_get o.identity.ties i ≡ Some t)
+      × (shard_name v ≡ record { shard = i + 1; shards = o.shards; candidates = o.candidates; tie = t })
   name_is i v e =
       let lt = get_lt held i v e in
       let count = are.count in
@@ -47,14 +56,20 @@ module _ (o : OfficeState) (p : ℕ) (olds mids : List ShardSeat) (r : RegisterS
       let m = get_some mids i (omega arith) in
       let t = get_some o.identity.ties i (omega arith) in
       let took = taken.taken i x.0 m.0 (omega arith) x.1 m.1 in
-      let same : Some (shard_name v) ≡ Some (record { shard = i + 1; shards = o.shards; candidates = o.candidates; tie = t.0 }) =
+      let same :
+      Some (shard_name v)
+      ≡ Some (record { shard = i + 1; shards = o.shards; candidates = o.candidates; tie = t.0 }) =
       sym (by i v m.0 e m.1).name ∙ (ap (λ z. z.name) took.same ∙ (are.shards i x.0 x.1).name t.0 t.1) in
       (t.0, t.1, cc same)
 
   pub held_named : AreNamed o.shards o.candidates held
   held_named i v e =
       let n = (name_is i v e).2 in
-      record { shard = ap (λ (k : ShardName). k.shard) n; of_shards = ap (λ (k : ShardName). k.shards) n; of_candidates = ap (λ (k : ShardName). k.candidates) n }
+      record {
+        shard = ap (λ (k : ShardName). k.shard) n;
+        of_shards = ap (λ (k : ShardName). k.shards) n;
+        of_candidates = ap (λ (k : ShardName). k.candidates) n;
+      }
 
   pub held_ties : (i : ℕ) (v : SeenShard) → slice_get held i ≡ Some v → slice_get o.identity.ties i ≡ Some v.tie
   held_ties i v e = let n = name_is i v e in n.1 ∙ ap Some (sym (ap (λ (k : ShardName). k.tie) n.2))
@@ -70,12 +85,26 @@ module _ (o : OfficeState) (p : ℕ) (olds mids : List ShardSeat) (r : RegisterS
       ap (λ z. z.seen) (given.given i m.0 y (omega arith) m.1 ey).same ∙ sym (by i v m.0 ev m.1).entries))
 
 -- the register's turn, taken and given back with a mark
-pub register_gave : (r m r' : RegisterSeat) (log new : List Mark) (e : Mark) → m ≡ record r { holds = true; seen = log } → Begins r.seen log → r' ≡ record m { holds = false; seen = new; mine = r'.mine } → new ≡ log ++ e ∷ []
+pub register_gave :
+    (r m r' : RegisterSeat) (log new : List Mark) (e : Mark) → m ≡ record r { holds = true; seen = log }
+    → Begins r.seen log → r' ≡ record m { holds = false; seen = new; mine = r'.mine } → new ≡ log ++ e ∷ []
     → r'.mine ≡ m.mine ++ e ∷ [] → Gave r r' e
 register_gave r m r' log new e taken begins given more mine = (
   begins.0,
-  given ∙ ((λ k. record (taken k) { holds = false; seen = new; mine = r'.mine }) ∙ (λ k. record r { holds = false; seen = (more ∙ ap (λ l. l ++ e ∷ []) begins.1) k; mine = (mine ∙ ap (λ z. z.mine ++ e ∷ []) taken) k })),
+  given
+      ∙ ((λ k. record (taken k) { holds = false; seen = new; mine = r'.mine })
+      ∙ (λ k. record r {
+        holds = false;
+        seen = (more ∙ ap (λ l. l ++ e ∷ []) begins.1) k;
+        mine = (mine ∙ ap (λ z. z.mine ++ e ∷ []) taken) k;
+      })),
 )
 
-pub register_looked : (r m r' : RegisterSeat) (log : List Mark) → m ≡ record r { holds = true; seen = log } → Begins r.seen log → r' ≡ record m { holds = false } → Looked r r'
-register_looked r m r' log taken begins given = (begins.0, given ∙ ((λ k. record (taken k) { holds = false }) ∙ (λ k. record r { holds = false; seen = begins.1 k })))
+pub register_looked :
+    (r m r' : RegisterSeat) (log : List Mark) → m ≡ record r { holds = true; seen = log } → Begins r.seen log
+    → r' ≡ record m { holds = false } → Looked r r'
+register_looked r m r' log taken begins given = (
+  begins.0,
+  given
+      ∙ ((λ k. record (taken k) { holds = false }) ∙ (λ k. record r { holds = false; seen = begins.1 k })),
+)

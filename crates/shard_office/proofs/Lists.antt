@@ -1,5 +1,7 @@
 -- What the seats at the shards have seen, by the shards' numbers.
-use Rattle.std.proofs.Common.{◌≡◌, ◌≢◌, ℕ, zero, suc, ◌+◌, true, false, cond, ◌==◌, List, [], ◌∷◌, ◌++◌, length, set, map, get_or, refl, sym, ap, ◌∙◌, subst, ⊎_elim, arith, append-nil, eq-eqb}
+use Rattle.std.proofs.Common.{◌≡◌, ◌≢◌, ℕ, zero, suc, ◌+◌, true, false, cond, ◌==◌, List, [], ◌∷◌, ◌++◌}
+use Rattle.std.proofs.Common.{length, set, map, get_or, refl, sym, ap, ◌∙◌, subst, ⊎_elim, arith, append-nil}
+use Rattle.std.proofs.Common.{eq-eqb}
 use Rattle.std.specs.Prelude.{slice_get, Some}
 use Rattle.std.proofs.lemmas.Bool.Decides.{eqb_tells}
 use Rattle.batch_core.specs.declared.entry.Entry.{Entry}
@@ -43,24 +45,40 @@ module _ {A : Type 0} where
   map_set f (z ∷ zs) (suc i) y = ap (λ t. f z ∷ t) (map_set f zs i y)
 
 -- the list that is read of the seat at index i
-pub list_at : (f : ShardSeat → List Entry) (seats : List ShardSeat) (i : ℕ) (x : ShardSeat) → slice_get seats i ≡ Some x → by_shard (map f seats) (i + 1) ≡ f x
-list_at f seats i x at = ap (by_shard (map f seats)) (let e : i + 1 ≡ suc i = omega arith in e) ∙ read_at (map f seats) i (f x) [] (get_map f seats i x at)
+pub list_at :
+    (f : ShardSeat → List Entry) (seats : List ShardSeat) (i : ℕ) (x : ShardSeat) → slice_get seats i ≡ Some x
+    → by_shard (map f seats) (i + 1) ≡ f x
+list_at f seats i x at =
+    ap (by_shard (map f seats)) (let e : i + 1 ≡ suc i = omega arith in e)
+    ∙ read_at (map f seats) i (f x) [] (get_map f seats i x at)
 
-pub list_set : (f : ShardSeat → List Entry) (seats : List ShardSeat) (i : ℕ) (x y : ShardSeat) → slice_get seats i ≡ Some x → by_shard (map f (set seats i y)) (i + 1) ≡ f y
+pub list_set :
+    (f : ShardSeat → List Entry) (seats : List ShardSeat) (i : ℕ) (x y : ShardSeat)
+    → slice_get seats i ≡ Some x → by_shard (map f (set seats i y)) (i + 1) ≡ f y
 list_set f seats i x y at = list_at f (set seats i y) i y (get_set_here seats i x y at)
 
-pub list_beside : (f : ShardSeat → List Entry) (seats : List ShardSeat) (i : ℕ) (y : ShardSeat) (t : ℕ) → t ≢ i + 1 → by_shard (map f (set seats i y)) t ≡ by_shard (map f seats) t
+pub list_beside :
+    (f : ShardSeat → List Entry) (seats : List ShardSeat) (i : ℕ) (y : ShardSeat) (t : ℕ) → t ≢ i + 1
+    → by_shard (map f (set seats i y)) t ≡ by_shard (map f seats) t
 list_beside f seats i y zero ne = refl
-list_beside f seats i y (suc j) ne = ap (λ l. get_or l j []) (map_set f seats i y) ∙ set_beside (map f seats) i j (f y) [] (λ e. ne (omega arith))
+list_beside f seats i y (suc j) ne =
+    ap (λ l. get_or l j []) (map_set f seats i y)
+    ∙ set_beside (map f seats) i j (f y) [] (λ e. ne (omega arith))
 
 -- the entries that it has seen
-pub seen_at : (seats : List ShardSeat) (i : ℕ) (x : ShardSeat) → slice_get seats i ≡ Some x → by_shard (lists_of seats) (i + 1) ≡ x.seen
+pub seen_at :
+    (seats : List ShardSeat) (i : ℕ) (x : ShardSeat) → slice_get seats i ≡ Some x
+    → by_shard (lists_of seats) (i + 1) ≡ x.seen
 seen_at = list_at (λ s. s.seen)
 
-pub seen_set : (seats : List ShardSeat) (i : ℕ) (x y : ShardSeat) → slice_get seats i ≡ Some x → by_shard (lists_of (set seats i y)) (i + 1) ≡ y.seen
+pub seen_set :
+    (seats : List ShardSeat) (i : ℕ) (x y : ShardSeat) → slice_get seats i ≡ Some x
+    → by_shard (lists_of (set seats i y)) (i + 1) ≡ y.seen
 seen_set = list_set (λ s. s.seen)
 
-pub seen_beside : (seats : List ShardSeat) (i : ℕ) (y : ShardSeat) (t : ℕ) → t ≢ i + 1 → by_shard (lists_of (set seats i y)) t ≡ by_shard (lists_of seats) t
+pub seen_beside :
+    (seats : List ShardSeat) (i : ℕ) (y : ShardSeat) (t : ℕ) → t ≢ i + 1
+    → by_shard (lists_of (set seats i y)) t ≡ by_shard (lists_of seats) t
 seen_beside = list_beside (λ s. s.seen)
 
 -- entries of shard s alone
@@ -71,23 +89,33 @@ pub only_here : (s : ℕ) (es : List Entry) → only s es s ≡ es
 only_here s es = ap (λ b. cond b es []) (eq-eqb s s refl)
 
 -- the seat at index i has seen more, and nobody else
-pub seen_more : (seats : List ShardSeat) (i : ℕ) (x y : ShardSeat) (between : List Entry) → slice_get seats i ≡ Some x → y.seen ≡ x.seen ++ between
+pub seen_more :
+    (seats : List ShardSeat) (i : ℕ) (x y : ShardSeat) (between : List Entry) → slice_get seats i ≡ Some x
+    → y.seen ≡ x.seen ++ between
     → by_shard (lists_of (set seats i y)) ≡ followed (by_shard (lists_of seats)) (only (i + 1) between)
 seen_more seats i x y between at grew j t = (⊎_elim
     (λ (h : ((t == (i + 1)) ≡ true) × (t ≡ i + 1)).
     subst (λ u. by_shard (lists_of (set seats i y)) u ≡ by_shard (lists_of seats) u ++ only (i + 1) between u) (sym h.1)
     (seen_set seats i x y at ∙ (grew ∙ (λ k. sym (seen_at seats i x at) k ++ sym (only_here (i + 1) between) k))))
     (λ (h : ((t == (i + 1)) ≡ false) × (t ≢ i + 1)).
-    seen_beside seats i y t h.1 ∙ (sym (append-nil (by_shard (lists_of seats) t)) ∙ ap (λ b. by_shard (lists_of seats) t ++ cond b between []) (sym h.0)))
+    seen_beside seats i y t h.1
+    ∙ (sym (append-nil (by_shard (lists_of seats) t))
+    ∙ ap (λ b. by_shard (lists_of seats) t ++ cond b between []) (sym h.0)))
     (eqb_tells t (i + 1))) j
 
 -- and one entry behind it
-pub seen_one : (seats : List ShardSeat) (i : ℕ) (x y : ShardSeat) (between : List Entry) (e : Entry) → slice_get seats i ≡ Some x → y.seen ≡ (x.seen ++ between) ++ e ∷ []
+pub seen_one :
+    (seats : List ShardSeat) (i : ℕ) (x y : ShardSeat) (between : List Entry) (e : Entry)
+    → slice_get seats i ≡ Some x → y.seen ≡ (x.seen ++ between) ++ e ∷ []
     → by_shard (lists_of (set seats i y)) ≡ with_one (followed (by_shard (lists_of seats)) (only (i + 1) between)) (i + 1) e
 seen_one seats i x y between e at grew j t = (⊎_elim
     (λ (h : ((t == (i + 1)) ≡ true) × (t ≡ i + 1)).
-    subst (λ u. by_shard (lists_of (set seats i y)) u ≡ (by_shard (lists_of seats) u ++ only (i + 1) between u) ++ only (i + 1) (e ∷ []) u) (sym h.1)
-    (seen_set seats i x y at ∙ (grew ∙ (λ k. (sym (seen_at seats i x at) k ++ sym (only_here (i + 1) between) k) ++ sym (only_here (i + 1) (e ∷ [])) k))))
+    subst (λ u. by_shard (lists_of (set seats i y)) u
+    ≡ (by_shard (lists_of seats) u ++ only (i + 1) between u) ++ only (i + 1) (e ∷ []) u) (sym h.1)
+    (seen_set seats i x y at
+    ∙ (grew
+    ∙ (λ k. (sym (seen_at seats i x at) k ++ sym (only_here (i + 1) between) k)
+    ++ sym (only_here (i + 1) (e ∷ [])) k))))
     (λ (h : ((t == (i + 1)) ≡ false) × (t ≢ i + 1)).
     seen_beside seats i y t h.1
     ∙ (sym (append-nil (by_shard (lists_of seats) t)) ∙ (sym (append-nil (by_shard (lists_of seats) t ++ []))

@@ -1,5 +1,6 @@
 -- A caller's seats after it looked at all shards, and after a freeze or a strike.
-use Rattle.std.proofs.Common.{◌≡◌, ℕ, zero, suc, ◌<◌, ◌≤◌, List, [], ◌∷◌, ◌++◌, length, get_or, refl, sym, ap, ◌∙◌, subst, ⊎_elim, arith, append-nil, Option}
+use Rattle.std.proofs.Common.{◌≡◌, ℕ, zero, suc, ◌<◌, ◌≤◌, List, [], ◌∷◌, ◌++◌, length, get_or, refl, sym, ap}
+use Rattle.std.proofs.Common.{◌∙◌, subst, ⊎_elim, arith, append-nil, Option}
 use Rattle.std.specs.Prelude.{slice_get, Some, Result, Ok, Err, IfOk, OnOk, OnErr, false}
 use Rattle.std.proofs.lemmas.Bool.{cases_lt}
 use Rattle.std.proofs.lemmas.List.{get_or_past}
@@ -22,7 +23,8 @@ use Rattle.shard_office.specs.Moves.{Looked, Gave, WentOn, Looks, GoOn}
 use Rattle.shard_office.specs.Passes.{ShardSeat, RegisterSeat, lists_of, sight_of, mine_of, IsAtShard, IsAtRegister, AreAt}
 use Rattle.shard_office.proofs.Places.{get_lt, get_some, get_map, length_map}
 use Rattle.shard_office.proofs.Lists.{read_at}
-use Rattle.shard_office.proofs.Owned.{owned_are_calls, owned_are_marks, looked_further, gave_further, own_freeze_mark, own_strike_mark}
+use Rattle.shard_office.proofs.Owned.{owned_are_calls, owned_are_marks, looked_further, gave_further}
+use Rattle.shard_office.proofs.Owned.{own_freeze_mark, own_strike_mark}
 use Rattle.shard_office.proofs.Growing.{looks-own, looks-marked, freeze-own, freeze-marked, strike-own, strike-marked}
 use Rattle.shard_office.proofs.Called.{still_at_shard, still_at_register, begins_all}
 
@@ -45,15 +47,23 @@ go_on seats seats' looks = record {
 }
 
 -- what a seat saw beyond what it had seen is of others
-pub none_further : {E N : Type 0} (owner : E → Option ℕ) (p : ℕ) (x y : SeatSight E N) → x.caller ≡ p → KnowsOwn owner x → (on : WentOn x y) → KnowsOwn owner y → owned_by owner p on.between ≡ []
+pub none_further :
+    {E N : Type 0} (owner : E → Option ℕ) (p : ℕ) (x y : SeatSight E N) → x.caller ≡ p → KnowsOwn owner x
+    → (on : WentOn x y) → KnowsOwn owner y → owned_by owner p on.between ≡ []
 none_further owner p x y is knew on knows =
-    let now : owned_by owner p (x.seen ++ on.between) ≡ owned owner x.mine = (λ k. owned_by owner (sym (on.numbered ∙ is) k) (sym on.seen k)) ∙ (knows ∙ ap (owned owner) on.mine) in
+    let now : owned_by owner p (x.seen ++ on.between) ≡ owned owner x.mine =
+    (λ k. owned_by owner (sym (on.numbered ∙ is) k) (sym on.seen k))
+    ∙ (knows ∙ ap (owned owner) on.mine) in
     looked_further owner p x.seen on.between x.mine (ap (λ q. owned_by owner q x.seen) (sym is) ∙ knew) now
 
-pub none_of_look : (o : OfficeState) (p i : ℕ) (x y : ShardSeat) → IsAtShard o p i x → (on : WentOn x y) → KnowsOwn owner_of_entry y → NoneBy p on.between
-none_of_look o p i x y was on knows = sym (owned_are_calls p on.between) ∙ none_further owner_of_entry p x y was.numbered was.knows on knows
+pub none_of_look :
+    (o : OfficeState) (p i : ℕ) (x y : ShardSeat) → IsAtShard o p i x → (on : WentOn x y)
+    → KnowsOwn owner_of_entry y → NoneBy p on.between
+none_of_look o p i x y was on knows =
+    sym (owned_are_calls p on.between) ∙ none_further owner_of_entry p x y was.numbered was.knows on knows
 
-module _ (o : OfficeState) (p : ℕ) (seats seats' : List ShardSeat) (r r' : RegisterSeat) (are : AreAt o p seats r) (looks : GoOn seats seats') (knows' : KnowsOwn owner_of_mark r') where
+module _ (o : OfficeState) (p : ℕ) (seats seats' : List ShardSeat) (r r' : RegisterSeat)
+    (are : AreAt o p seats r) (looks : GoOn seats seats') (knows' : KnowsOwn owner_of_mark r') where
   abbrev L : Lists
   L = by_shard (lists_of seats)
 
@@ -69,7 +79,9 @@ module _ (o : OfficeState) (p : ℕ) (seats seats' : List ShardSeat) (r r' : Reg
   count' = looks.len ∙ are.count
 
   lists_length : length (lists_of seats') ≡ length (lists_of seats)
-  lists_length = length_map (λ (s : ShardSeat). s.seen) seats' ∙ (looks.len ∙ sym (length_map (λ (s : ShardSeat). s.seen) seats))
+  lists_length =
+      length_map (λ (s : ShardSeat). s.seen) seats'
+      ∙ (looks.len ∙ sym (length_map (λ (s : ShardSeat). s.seen) seats))
 
   -- what was seen of each shard goes on with entries of others
   abbrev More : ℕ → Type 0
@@ -82,14 +94,28 @@ module _ (o : OfficeState) (p : ℕ) (seats seats' : List ShardSeat) (r r' : Reg
       let x = get_some seats i lt in
       let y = get_some seats' i (omega arith) in
       let did = looks.each i x.0 y.0 x.1 y.1 in
-      let old : get_or (lists_of seats) i [] ≡ x.0.seen = read_at (lists_of seats) i x.0.seen [] (get_map (λ (s : ShardSeat). s.seen) seats i x.0 x.1) in
-      let new : get_or (lists_of seats') i [] ≡ y.0.seen = read_at (lists_of seats') i y.0.seen [] (get_map (λ (s : ShardSeat). s.seen) seats' i y.0 y.1) in
-      let it : More (suc i) = (did.0.between, new ∙ (did.0.seen ∙ ap (λ l. l ++ did.0.between) (sym old)), none_of_look o p i x.0 y.0 (are.shards i x.0 x.1) did.0 did.1) in it)
+      let old : get_or (lists_of seats) i [] ≡ x.0.seen =
+      read_at (lists_of seats) i x.0.seen [] (get_map (λ (s : ShardSeat). s.seen) seats i x.0 x.1) in
+      let new : get_or (lists_of seats') i [] ≡ y.0.seen =
+      read_at (lists_of seats') i y.0.seen [] (get_map (λ (s : ShardSeat). s.seen) seats' i y.0 y.1) in
+      let it : More (suc i) = (
+        did.0.between,
+        new ∙ (did.0.seen ∙ ap (λ l. l ++ did.0.between) (sym old)),
+        none_of_look o p i x.0 y.0 (are.shards i x.0 x.1) did.0 did.1,
+      ) in
+      it)
       (λ (le : length seats ≤ i).
       let len = looks.len in
       let a = length_map (λ (s : ShardSeat). s.seen) seats in
       let b = length_map (λ (s : ShardSeat). s.seen) seats' in
-      let it : More (suc i) = ([], get_or_past (lists_of seats') i [] (omega arith) ∙ (sym (get_or_past (lists_of seats) i [] (omega arith)) ∙ sym (append-nil (get_or (lists_of seats) i []))), refl) in it)
+      let it : More (suc i) = (
+        [],
+        get_or_past (lists_of seats') i [] (omega arith)
+            ∙ (sym (get_or_past (lists_of seats) i [] (omega arith))
+            ∙ sym (append-nil (get_or (lists_of seats) i []))),
+        refl,
+      ) in
+      it)
       (cases_lt i (length seats))
 
   more_of : (t : ℕ) → More t
@@ -111,7 +137,9 @@ module _ (o : OfficeState) (p : ℕ) (seats seats' : List ShardSeat) (r r' : Reg
     B = looked.between
 
     none_B : NoMarkBy p B
-    none_B = sym (owned_are_marks p B) ∙ none_further owner_of_mark p r r' are.registered.numbered are.registered.knows looked knows'
+    none_B =
+        sym (owned_are_marks p B)
+        ∙ none_further owner_of_mark p r r' are.registered.numbered are.registered.knows looked knows'
 
     seen' : r'.seen ≡ r.seen ++ B
     seen' = looked.seen
@@ -121,7 +149,9 @@ module _ (o : OfficeState) (p : ℕ) (seats seats' : List ShardSeat) (r r' : Reg
       count = count';
       shards = shards';
       registered = still_at_register o p r r' are.registered (looked.lock, looked.name, looked.numbered, looked.free) knows';
-      marked = λ t. subst (λ (z : List Mark × Lists). NoneBy p (left z.0 z.1 t)) (λ k. (sym seen' k, sym lists' k)) (looks-marked p r.seen B L M none_B are.marked none_M t);
+      marked =
+          λ t. subst (λ (z : List Mark × Lists). NoneBy p (left z.0 z.1 t)) (λ k. (sym seen' k, sym lists' k))
+          (looks-marked p r.seen B L M none_B are.marked none_M t);
     }
 
     pub all_looked-own : calls_in p (sight_of seats' r') ≡ calls_in p (sight_of seats r)
@@ -142,15 +172,28 @@ module _ (o : OfficeState) (p : ℕ) (seats seats' : List ShardSeat) (r r' : Reg
     none_C : owned_by owner_of_mark p (m ∷ []) ≡ owned owner_of_mark (m ∷ []) → NoMarkBy p C
     none_C is =
         let was = are.registered in
-        let now : owned_by owner_of_mark p ((r.seen ++ C) ++ m ∷ []) ≡ owned owner_of_mark (r.mine ++ m ∷ []) = subst (λ (z : RegisterSeat). owned_by owner_of_mark z.caller z.seen ≡ owned owner_of_mark z.mine → owned_by owner_of_mark p ((r.seen ++ C) ++ m ∷ []) ≡ owned owner_of_mark (r.mine ++ m ∷ [])) (sym gave.1) (λ k. ap (λ q. owned_by owner_of_mark q ((r.seen ++ C) ++ m ∷ [])) (sym was.numbered) ∙ k) knows' in
-        let knew : owned_by owner_of_mark p r.seen ≡ owned owner_of_mark r.mine = ap (λ q. owned_by owner_of_mark q r.seen) (sym was.numbered) ∙ was.knows in
+        let now :
+        owned_by owner_of_mark p ((r.seen ++ C) ++ m ∷ []) ≡ owned owner_of_mark (r.mine ++ m ∷ []) =
+        subst (λ (z : RegisterSeat). owned_by owner_of_mark z.caller z.seen ≡ owned owner_of_mark z.mine
+        → owned_by owner_of_mark p ((r.seen ++ C) ++ m ∷ [])
+        ≡ owned owner_of_mark (r.mine ++ m ∷ [])) (sym gave.1)
+        (λ k. ap (λ q. owned_by owner_of_mark q ((r.seen ++ C) ++ m ∷ [])) (sym was.numbered) ∙ k)
+        knows' in
+        let knew : owned_by owner_of_mark p r.seen ≡ owned owner_of_mark r.mine =
+        ap (λ q. owned_by owner_of_mark q r.seen) (sym was.numbered) ∙ was.knows in
         sym (owned_are_marks p C) ∙ gave_further owner_of_mark p r.seen C r.mine m is knew now
 
     pub marks_now : r'.seen ≡ (r.seen ++ C) ++ m ∷ []
     marks_now = ap (λ z. z.seen) gave.1
 
     register_now : IsAtRegister o p r'
-    register_now = still_at_register o p r r' are.registered (ap (λ z. z.lock) gave.1, ap (λ z. z.name) gave.1, ap (λ z. z.caller) gave.1, ap (λ z. z.holds) gave.1) knows'
+    register_now =
+        still_at_register o p r r' are.registered (
+          ap (λ z. z.lock) gave.1,
+          ap (λ z. z.name) gave.1,
+          ap (λ z. z.caller) gave.1,
+          ap (λ z. z.holds) gave.1,
+        ) knows'
 
     pub marked-on : GoesOn (sight_of seats r) (sight_of seats' r')
     marked-on = record {
@@ -165,12 +208,16 @@ module _ (o : OfficeState) (p : ℕ) (seats seats' : List ShardSeat) (r r' : Reg
       count = count';
       shards = shards';
       registered = register_now (Freeze p) gave;
-      marked = λ t. subst (λ (z : List Mark × Lists). NoneBy p (left z.0 z.1 t)) (λ k. (sym (marks_now (Freeze p) gave) k, sym lists' k))
+      marked =
+          λ t. subst (λ (z : List Mark × Lists). NoneBy p (left z.0 z.1 t))
+          (λ k. (sym (marks_now (Freeze p) gave) k, sym lists' k))
           (freeze-marked p r.seen gave.0 L M (none_C (Freeze p) gave (own_freeze_mark p)) are.marked none_M t);
     }
 
     pub frozen-own : calls_in p (sight_of seats' r') ≡ calls_in p (sight_of seats r) ++ freeze_entry p ∷ []
-    frozen-own = (λ k. calls_seen p (marks_now (Freeze p) gave k) (lists' k)) ∙ freeze-own p r.seen gave.0 L M (none_C (Freeze p) gave (own_freeze_mark p)) are.marked none_M
+    frozen-own =
+        (λ k. calls_seen p (marks_now (Freeze p) gave k) (lists' k))
+        ∙ freeze-own p r.seen gave.0 L M (none_C (Freeze p) gave (own_freeze_mark p)) are.marked none_M
 
   module _ (k : ℕ) (gave : Gave r r' (Strike p k)) where
     pub struck-at : AreAt o p seats' r'
@@ -178,25 +225,32 @@ module _ (o : OfficeState) (p : ℕ) (seats seats' : List ShardSeat) (r r' : Reg
       count = count';
       shards = shards';
       registered = register_now (Strike p k) gave;
-      marked = λ t. subst (λ (z : List Mark × Lists). NoneBy p (left z.0 z.1 t)) (λ j. (sym (marks_now (Strike p k) gave) j, sym lists' j))
+      marked =
+          λ t. subst (λ (z : List Mark × Lists). NoneBy p (left z.0 z.1 t))
+          (λ j. (sym (marks_now (Strike p k) gave) j, sym lists' j))
           (strike-marked p r.seen gave.0 L M (none_C (Strike p k) gave (own_strike_mark p k)) are.marked none_M k t);
     }
 
-    pub struck-own : (answer : Reply) → answer ≡ strike_reply (struck_by (r.seen ++ gave.0)) k → calls_in p (sight_of seats' r') ≡ calls_in p (sight_of seats r) ++ strike_answer p k answer ∷ []
+    pub struck-own :
+        (answer : Reply) → answer ≡ strike_reply (struck_by (r.seen ++ gave.0)) k
+        → calls_in p (sight_of seats' r') ≡ calls_in p (sight_of seats r) ++ strike_answer p k answer ∷ []
     struck-own answer is =
         (λ j. calls_seen p (marks_now (Strike p k) gave j) (lists' j))
         ∙ (strike-own p r.seen gave.0 L M (none_C (Strike p k) gave (own_strike_mark p k)) are.marked none_M k
         ∙ ap (λ a. calls_in p (sight_of seats r) ++ strike_answer p k a ∷ []) (sym is))
 
 -- seats that did nothing
-pub none_looked : (o : OfficeState) (p : ℕ) (seats : List ShardSeat) (r : RegisterSeat) → AreAt o p seats r → Looks seats seats
+pub none_looked :
+    (o : OfficeState) (p : ℕ) (seats : List ShardSeat) (r : RegisterSeat) → AreAt o p seats r
+    → Looks seats seats
 none_looked o p seats r are = record {
   len = refl;
   each = λ i x y ex ey.
       let same : x ≡ y = cc in
       let is = are.shards i x ex in
       let free : x.holds ≡ false = is.free in
-      let it : Looked x x × KnowsOwn owner_of_entry x = (([], λ k. record x { holds = free k; seen = sym (append-nil x.seen) k }), is.knows) in
+      let it : Looked x x × KnowsOwn owner_of_entry x =
+      (([], λ k. record x { holds = free k; seen = sym (append-nil x.seen) k }), is.knows) in
       subst (λ (z : ShardSeat). Looked x z × KnowsOwn owner_of_entry z) same it;
 }
 
@@ -204,26 +258,44 @@ none_looked o p seats r are = record {
 pub record DidStrike (p k : ℕ) (r r' : RegisterSeat) (answer : Result Reply NoMemory) : Type 0 where
   pub knows : KnowsOwn owner_of_mark r'
   pub mark : OnOk answer (Gave r r' (Strike p k))
-  pub answered : IfOk answer (λ a. (front : List Mark) → r'.seen ≡ front ++ Strike p k ∷ [] → a ≡ strike_reply (struck_by front) k)
+  pub answered :
+      IfOk answer
+      (λ a. (front : List Mark) → r'.seen ≡ front ++ Strike p k ∷ [] → a ≡ strike_reply (struck_by front) k)
   pub refused : OnErr answer (Looked r r')
 
 module _ (o : OfficeState) (p k : ℕ) (seats : List ShardSeat) (r r' : RegisterSeat) (are : AreAt o p seats r) where
   pub did_strike-at : (answer : Result Reply NoMemory) → DidStrike p k r r' answer → AreAt o p seats r'
-  did_strike-at (Ok a) d = struck-at o p seats seats r r' are (go_on seats seats (none_looked o p seats r are)) d.knows k d.mark
-  did_strike-at (Err b) d = all_looked-at o p seats seats r r' are (go_on seats seats (none_looked o p seats r are)) d.knows (went r r' d.refused)
+  did_strike-at (Ok a) d =
+      struck-at o p seats seats r r' are (go_on seats seats (none_looked o p seats r are)) d.knows k d.mark
+  did_strike-at (Err b) d =
+      all_looked-at o p seats seats r r' are (go_on seats seats (none_looked o p seats r are)) d.knows
+      (went r r' d.refused)
 
-  pub did_strike-own : (answer : Result Reply NoMemory) → DidStrike p k r r' answer → IfOk answer (λ a. calls_in p (sight_of seats r') ≡ calls_in p (sight_of seats r) ++ strike_answer p k a ∷ [])
-  did_strike-own (Ok a) d = struck-own o p seats seats r r' are (go_on seats seats (none_looked o p seats r are)) d.knows k d.mark a (d.answered (r.seen ++ d.mark.0) (ap (λ z. z.seen) d.mark.1))
+  pub did_strike-own :
+      (answer : Result Reply NoMemory) → DidStrike p k r r' answer
+      → IfOk answer
+      (λ a. calls_in p (sight_of seats r') ≡ calls_in p (sight_of seats r) ++ strike_answer p k a ∷ [])
+  did_strike-own (Ok a) d =
+      struck-own o p seats seats r r' are (go_on seats seats (none_looked o p seats r are)) d.knows k d.mark a
+      (d.answered (r.seen ++ d.mark.0) (ap (λ z. z.seen) d.mark.1))
   did_strike-own (Err b) d = tt
 
-  pub did_strike-kept : (answer : Result Reply NoMemory) → DidStrike p k r r' answer → OnErr answer (calls_in p (sight_of seats r') ≡ calls_in p (sight_of seats r))
+  pub did_strike-kept :
+      (answer : Result Reply NoMemory) → DidStrike p k r r' answer
+      → OnErr answer (calls_in p (sight_of seats r') ≡ calls_in p (sight_of seats r))
   did_strike-kept (Ok a) d = tt
-  did_strike-kept (Err b) d = all_looked-own o p seats seats r r' are (go_on seats seats (none_looked o p seats r are)) d.knows (went r r' d.refused)
+  did_strike-kept (Err b) d =
+      all_looked-own o p seats seats r r' are (go_on seats seats (none_looked o p seats r are)) d.knows
+      (went r r' d.refused)
 
-  pub did_strike-mine : (answer : Result Reply NoMemory) → DidStrike p k r r' answer → OnOk answer (AddsMark (Strike p k) (mine_of seats r) (mine_of seats r'))
+  pub did_strike-mine :
+      (answer : Result Reply NoMemory) → DidStrike p k r r' answer
+      → OnOk answer (AddsMark (Strike p k) (mine_of seats r) (mine_of seats r'))
   did_strike-mine (Ok a) d = λ j. record { marks = ap (λ z. z.mine) d.mark.1 j; lists = (mine_of seats r).lists }
   did_strike-mine (Err b) d = tt
 
-  pub did_strike-nothing : (answer : Result Reply NoMemory) → DidStrike p k r r' answer → OnErr answer (mine_of seats r' ≡ mine_of seats r)
+  pub did_strike-nothing :
+      (answer : Result Reply NoMemory) → DidStrike p k r r' answer
+      → OnErr answer (mine_of seats r' ≡ mine_of seats r)
   did_strike-nothing (Ok a) d = tt
   did_strike-nothing (Err b) d = λ j. record { marks = ap (λ z. z.mine) d.refused.1 j; lists = (mine_of seats r).lists }

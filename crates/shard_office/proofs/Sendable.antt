@@ -36,22 +36,70 @@ forest_send : IsSend forest.the_field.row
 forest_send = knot.send-Forest (search sendable) (search sendable) Box-send
 
 pair_send : IsSend pair.the_row
-pair_send = recorded_send pair.the_field.row _ _ pair.the_type.to_one (knot.send-Pair (search sendable) (search sendable) Box-send)
+pair_send =
+    recorded_send pair.the_field.row _ _ pair.the_type.to_one
+    (knot.send-Pair (search sendable) (search sendable) Box-send)
 
 pub trie_send : IsSend trie.the_row
-trie_send = view_send trie_fields.the_row _ _ _ _ (recorded_send trie_fields.the_field.row _ _ trie_fields.the_type.to_one (struct_send (shape trie_fields.the_type)
-    (heap.the_field_send, (search sendable, (search sendable, (search sendable, (forest_send, (search sendable, (Vec-send _ (Box-send pair.the_row pair_send), tt)))))))))
+trie_send =
+    view_send trie_fields.the_row _ _ _ _ (recorded_send trie_fields.the_field.row _ _
+    trie_fields.the_type.to_one (struct_send (shape trie_fields.the_type) (
+      heap.the_field_send,
+      (
+        search sendable,
+        (
+          search sendable,
+          (
+            search sendable,
+            (forest_send, (search sendable, (Vec-send _ (Box-send pair.the_row pair_send), tt))),
+          ),
+        ),
+      ),
+    )))
 
 pub book_send : IsSend book.the_row
-book_send = view_send book_fields.the_row _ _ _ _ (recorded_send book_fields.the_field.row _ _ book_fields.the_type.to_one (struct_send (shape book_fields.the_type)
-    (search sendable, (search sendable, (search sendable, (search (index_map.the_send, row.the_send, build.the_send, fold.the_send, heap.the_send, frees, sendable) depth 12, (entries.the_send, (trie_send, tt))))))))
+book_send =
+    view_send book_fields.the_row _ _ _ _ (recorded_send book_fields.the_field.row _ _
+    book_fields.the_type.to_one (struct_send (shape book_fields.the_type) (
+      search sendable,
+      (
+        search sendable,
+        (
+          search sendable,
+          (
+            search (
+              index_map.the_send,
+              row.the_send,
+              build.the_send,
+              fold.the_send,
+              heap.the_send,
+              frees,
+              sendable,
+            ) depth 12,
+            (entries.the_send, (trie_send, tt)),
+          ),
+        ),
+      ),
+    )))
 
 pub value_send : IsSend shard_value.the_row
-value_send = view_send shard_fields.the_row _ _ _ _ (recorded_send shard_fields.the_field.row _ _ shard_fields.the_type.to_one (struct_send (shape shard_fields.the_type) (book_send, (half.the_send, tt))))
+value_send =
+    view_send shard_fields.the_row _ _ _ _ (recorded_send shard_fields.the_field.row _ _
+    shard_fields.the_type.to_one
+    (struct_send (shape shard_fields.the_type) (book_send, (half.the_send, tt))))
 
 pub seats_send : IsSend seats.the_field.row
-seats_send = struct_send (shape seats.the_type)
-    (Vec-send _ (seat.the_send shard_value.the_row entry.the_row shard_name.the_row shard_kept.ghosts value_send), (seat.the_send register_row.the_row mark.the_row register_name.the_row register_kept.ghosts register_value.the_send, tt))
+seats_send = struct_send (shape seats.the_type) (
+  Vec-send _
+      (seat.the_send shard_value.the_row entry.the_row shard_name.the_row shard_kept.ghosts value_send),
+  (
+    seat.the_send register_row.the_row mark.the_row register_name.the_row register_kept.ghosts
+        register_value.the_send,
+    tt,
+  ),
+)
 
 pub pass_send : IsSend pass.the_row
-pass_send = view_send inside.the_row _ _ _ _ (recorded_send inside.the_field.row _ _ inside.the_type.to_one (struct_send (shape inside.the_type) (search sendable, (search sendable, (seats_send, tt)))))
+pass_send =
+    view_send inside.the_row _ _ _ _ (recorded_send inside.the_field.row _ _ inside.the_type.to_one
+    (struct_send (shape inside.the_type) (search sendable, (search sendable, (seats_send, tt)))))

@@ -13,6 +13,15 @@ pub office_sync : IsSync office.the_row
 office_sync =
     let a = value_send in
     let b = register_value.the_send in
-    view_sync fields.the_row _ _ _ _ (recorded_sync fields.the_field.row _ _ fields.the_type.to_one (struct_sync (shape fields.the_type)
-    (search sendable, (search sendable, (Vec-sync _ (search (lock.the_sync, sendable, crosses) depth 20), (Vec-sync _ tie.the_sync, (search (lock.the_sync, sendable, crosses) depth 20, tt))))))
+    view_sync fields.the_row _ _ _ _
+    (recorded_sync fields.the_field.row _ _ fields.the_type.to_one (struct_sync (shape fields.the_type) (
+      search sendable,
+      (
+        search sendable,
+        (
+          Vec-sync _ (search (lock.the_sync, sendable, crosses) depth 20),
+          (Vec-sync _ tie.the_sync, (search (lock.the_sync, sendable, crosses) depth 20, tt)),
+        ),
+      ),
+    ))
     )

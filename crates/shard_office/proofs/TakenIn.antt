@@ -1,5 +1,6 @@
 -- The clerk's seats once they took in those of a pass.
-use Rattle.std.proofs.Common.{◌≡◌, ℕ, zero, suc, ◌+◌, ◌<◌, ◌≤◌, get_or, false, List, [], ◌∷◌, ◌++◌, length, refl, sym, ap, ◌∙◌, subst, ⊎_elim, arith, Option}
+use Rattle.std.proofs.Common.{◌≡◌, ℕ, zero, suc, ◌+◌, ◌<◌, ◌≤◌, get_or, false, List, [], ◌∷◌, ◌++◌, length}
+use Rattle.std.proofs.Common.{refl, sym, ap, ◌∙◌, subst, ⊎_elim, arith, Option}
 use Rattle.std.specs.Prelude.{slice_get, Some}
 use Rattle.turn_lock.specs.Entries.{Begins}
 use Rattle.turn_lock.specs.Sights.{Sight as SeatSight, KnowsOwn}
@@ -32,20 +33,28 @@ went_join owner x t y took free = record {
 }
 
 -- what holds of the clerk's seats, which took in those of a pass of this caller
-pub record Joined (o : OfficeState) (last fewer : ℕ) (taken : List PassState) (seats others news : List ShardSeat) (r ro r' : RegisterSeat) (p : ℕ) : Type 0 where
-  pub first : AreFirst o last fewer (taken ++ record { office = o; caller = p; sight = sight_of others ro; mine = mine_of others ro } ∷ []) news r'
+pub record Joined (o : OfficeState) (last fewer : ℕ) (taken : List PassState)
+    (seats others news : List ShardSeat) (r ro r' : RegisterSeat) (p : ℕ) : Type 0 where
+  pub first :
+      AreFirst o last fewer (taken
+      ++ record { office = o; caller = p; sight = sight_of others ro; mine = mine_of others ro } ∷ [])
+      news r'
   pub on : GoesOn (sight_of seats r) (sight_of news r')
   pub other : GoesOn (sight_of others ro) (sight_of news r')
   pub own : calls_in 0 (sight_of news r') ≡ calls_in 0 (sight_of seats r)
   pub mine : mine_of news r' ≡ mine_of seats r
 
 -- the clerk took in the pass of caller p whose seats are others and ro
-module _ (o : OfficeState) (last teams fewer : ℕ) (taken : List PassState) (seats others news : List ShardSeat) (r ro r' : RegisterSeat) (p : ℕ) (are : AreFirst o last teams taken seats r) (at : AreAt o p others ro)
+module _ (o : OfficeState) (last teams fewer : ℕ) (taken : List PassState)
+    (seats others news : List ShardSeat) (r ro r' : RegisterSeat) (p : ℕ)
+    (are : AreFirst o last teams taken seats r) (at : AreAt o p others ro)
     (each : HaveJoined 0 seats others news) (took : TookIn owner_of_mark r ro r') (less : fewer + 1 ≡ teams) where
   abbrev Q : PassState
   Q = record { office = o; caller = p; sight = sight_of others ro; mine = mine_of others ro }
 
-  seat_took : (i : ℕ) (x y : ShardSeat) → slice_get seats i ≡ Some x → slice_get news i ≡ Some y → (t : ShardSeat) × (slice_get others i ≡ Some t) × TookIn owner_of_entry x t y
+  seat_took :
+      (i : ℕ) (x y : ShardSeat) → slice_get seats i ≡ Some x → slice_get news i ≡ Some y
+      → (t : ShardSeat) × (slice_get others i ≡ Some t) × TookIn owner_of_entry x t y
   seat_took i x y ex ey =
       let lt = get_lt seats i x ex in
       let a = are.at.count in
@@ -56,7 +65,10 @@ module _ (o : OfficeState) (last teams fewer : ℕ) (taken : List PassState) (se
   goes : GoOn seats news
   goes = record {
     len = each.len;
-    each = λ i x y ex ey. let t = seat_took i x y ex ey in (went_join owner_of_entry x t.0 y t.2 (are.at.shards i x ex).free, t.2.knows);
+    each =
+        λ i x y ex ey. let t =
+        seat_took i x y ex ey in
+        (went_join owner_of_entry x t.0 y t.2 (are.at.shards i x ex).free, t.2.knows);
   }
 
   went_r : WentOn r r'
@@ -72,7 +84,10 @@ module _ (o : OfficeState) (last teams fewer : ℕ) (taken : List PassState) (se
   joined-mine = nothing-mine seats news r r' goes went_r.mine
 
   below : (1 ≤ p) × (p < last + 1)
-  below = let h = has_below ro.caller (last + 1) r.out are.registered.falling took.was_out in let e = at.registered.numbered in (omega arith, omega arith)
+  below =
+      let h =
+      has_below ro.caller (last + 1) r.out are.registered.falling took.was_out in
+      let e = at.registered.numbered in (omega arith, omega arith)
 
   -- the other had seen nothing that the clerk has not seen now
   other_at : (i : ℕ) → Begins (get_or (lists_of others) i []) (get_or (lists_of news) i [])
@@ -83,22 +98,39 @@ module _ (o : OfficeState) (last teams fewer : ℕ) (taken : List PassState) (se
       let c = each.len in
       let x = get_some seats i lt in
       let y = get_some news i (omega arith) in
-      let t = seat_took i x.0 y.0 x.1 y.1 in
-      (t.2.others.0, read_at (lists_of news) i y.0.seen [] (get_map (λ (s : ShardSeat). s.seen) news i y.0 y.1) ∙ (t.2.others.1 ∙ ap (λ l. l ++ t.2.others.0) (sym (read_at (lists_of others) i t.0.seen [] (get_map (λ (s : ShardSeat). s.seen) others i t.0 t.1))))))
+      let t = seat_took i x.0 y.0 x.1 y.1 in (
+        t.2.others.0,
+        read_at (lists_of news) i y.0.seen [] (get_map (λ (s : ShardSeat). s.seen) news i y.0 y.1)
+            ∙ (t.2.others.1
+            ∙ ap (λ l. l ++ t.2.others.0) (sym (read_at (lists_of others) i t.0.seen []
+            (get_map (λ (s : ShardSeat). s.seen) others i t.0 t.1)))),
+      ))
       (λ (le : length seats ≤ i).
       let a = are.at.count in
       let b = at.count in
       let c = each.len in
       let m = length_map (λ (s : ShardSeat). s.seen) others in
-      let n = length_map (λ (s : ShardSeat). s.seen) news in
-      ([], get_or_past (lists_of news) i [] (omega arith) ∙ ap (λ l. l ++ []) (sym (get_or_past (lists_of others) i [] (omega arith)))))
+      let n = length_map (λ (s : ShardSeat). s.seen) news in (
+        [],
+        get_or_past (lists_of news) i [] (omega arith)
+            ∙ ap (λ l. l ++ []) (sym (get_or_past (lists_of others) i [] (omega arith))),
+      ))
       (cases_lt i (length seats))
 
   pub other-on : GoesOn (sight_of others ro) (sight_of news r')
   other-on = record {
     marks = took.others;
     entries = entries;
-    shards = (let a = are.at.count in let b = at.count in let c = each.len in let m = length_map (λ (s : ShardSeat). s.seen) others in let n = length_map (λ (s : ShardSeat). s.seen) news in omega arith);
+    shards =
+        (let a =
+        are.at.count in
+        let b =
+        at.count in
+        let c =
+        each.len in
+        let m =
+        length_map (λ (s : ShardSeat). s.seen) others in
+        let n = length_map (λ (s : ShardSeat). s.seen) news in omega arith);
   }
     where
       entries : (s : ℕ) → Begins (entries_of (sight_of others ro) s) (entries_of (sight_of news r') s)
@@ -115,15 +147,21 @@ module _ (o : OfficeState) (last teams fewer : ℕ) (taken : List PassState) (se
         let t = seat_took i x.0 y x.1 ey in
         let knows : KnowsOwn owner_of_entry t.0 = (at.shards i t.0 t.1).knows in
         subst (IsFirst owner_of_entry (λ q. entries_of q.sight (i + 1)) last fewer (taken ++ Q ∷ [])) (sym t.2.same)
-        (first_after_join owner_of_entry (λ q. entries_of q.sight (i + 1)) last teams taken x.0 t.0 Q (are.shards i x.0 x.1) (at.shards i t.0 t.1).numbered (sym (seen_at others i t.0 t.1)) knows t.2.was_out fewer less);
+        (first_after_join owner_of_entry (λ q. entries_of q.sight (i + 1)) last teams taken x.0 t.0 Q
+        (are.shards i x.0 x.1) (at.shards i t.0 t.1).numbered (sym (seen_at others i t.0 t.1)) knows
+        t.2.was_out fewer less);
     registered = subst (IsFirst owner_of_mark (λ q. q.sight.marks) last fewer (taken ++ Q ∷ [])) (sym took.same)
-        (first_after_join owner_of_mark (λ q. q.sight.marks) last teams taken r ro Q are.registered at.registered.numbered refl at.registered.knows took.was_out fewer less);
+        (first_after_join owner_of_mark (λ q. q.sight.marks) last teams taken r ro Q are.registered
+        at.registered.numbered refl at.registered.knows took.was_out fewer less);
     passes = λ k q e. ⊎_elim
-        (λ (h : (k ≡ length taken) × (Q ≡ q)). subst (IsTaken o (sight_of news r')) h.1 (record { office = refl; some = below.0; begins = other-on; marked = at.marked }))
-        (λ (h : (k < length taken) × (slice_get taken k ≡ Some q)). still_taken o (sight_of seats r) (sight_of news r') q (are.passes k q h.1) joined-on)
+        (λ (h : (k ≡ length taken) × (Q ≡ q)). subst (IsTaken o (sight_of news r')) h.1
+        (record { office = refl; some = below.0; begins = other-on; marked = at.marked }))
+        (λ (h : (k < length taken) × (slice_get taken k ≡ Some q)).
+        still_taken o (sight_of seats r) (sight_of news r') q (are.passes k q h.1) joined-on)
         (get_push taken Q k q e);
     given = λ k q e. ⊎_elim
-        (λ (h : (k ≡ length taken) × (Q ≡ q)). subst (λ (z : PassState). z.caller ≤ last) h.1 (let b = below.1 in omega arith))
+        (λ (h : (k ≡ length taken) × (Q ≡ q)). subst (λ (z : PassState). z.caller ≤ last) h.1
+        (let b = below.1 in omega arith))
         (λ (h : (k < length taken) × (slice_get taken k ≡ Some q)). are.given k q h.1)
         (get_push taken Q k q e);
   }

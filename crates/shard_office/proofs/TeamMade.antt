@@ -24,12 +24,18 @@ use Rattle.shard_office.proofs.Called.{still_at_shard, still_at_register}
 use Rattle.shard_office.proofs.FirstSeats.{first_after_split}
 
 -- the clerk made seats for the pass of this caller
-module _ (o : OfficeState) (last teams caller : ℕ) (taken : List PassState) (seats news made : List ShardSeat) (r r' rm : RegisterSeat) (are : AreFirst o last teams taken seats r) (above : last < caller)
-    (split : HaveSplit o.shards caller seats news made) (same : r' ≡ sight_after_split r caller) (new : rm ≡ new_sight r caller) (knows : KnowsOwn owner_of_mark rm) where
-  split_at : (i : ℕ) (x y : ShardSeat) → slice_get seats i ≡ Some x → slice_get news i ≡ Some y → y ≡ sight_after_split x caller
+module _ (o : OfficeState) (last teams caller : ℕ) (taken : List PassState) (seats news made : List ShardSeat)
+    (r r' rm : RegisterSeat) (are : AreFirst o last teams taken seats r) (above : last < caller)
+    (split : HaveSplit o.shards caller seats news made) (same : r' ≡ sight_after_split r caller)
+    (new : rm ≡ new_sight r caller) (knows : KnowsOwn owner_of_mark rm) where
+  split_at :
+      (i : ℕ) (x y : ShardSeat) → slice_get seats i ≡ Some x → slice_get news i ≡ Some y
+      → y ≡ sight_after_split x caller
   split_at i x y ex ey = let lt = get_lt seats i x ex in let a = are.at.count in split.split i x y (omega arith) ex ey
 
-  seat_split : (i : ℕ) (y : ShardSeat) → slice_get news i ≡ Some y → (x : ShardSeat) × (slice_get seats i ≡ Some x) × (y ≡ sight_after_split x caller)
+  seat_split :
+      (i : ℕ) (y : ShardSeat) → slice_get news i ≡ Some y
+      → (x : ShardSeat) × (slice_get seats i ≡ Some x) × (y ≡ sight_after_split x caller)
   seat_split i y ey =
       let lt = get_lt news i y ey in
       let c = split.len in
@@ -41,13 +47,17 @@ module _ (o : OfficeState) (last teams caller : ℕ) (taken : List PassState) (s
   pub split-sight : sight_of news r' ≡ sight_of seats r
   split-sight = λ k. record {
     marks = ap (λ z. z.seen) same k;
-    lists = map_each (λ (s : ShardSeat). s.seen) (λ (s : ShardSeat). s.seen) news seats split.len (λ i y x ey ex. ap (λ z. z.seen) (split_at i x y ex ey)) k;
+    lists =
+        map_each (λ (s : ShardSeat). s.seen) (λ (s : ShardSeat). s.seen) news seats split.len
+        (λ i y x ey ex. ap (λ z. z.seen) (split_at i x y ex ey)) k;
   }
 
   pub split-mine : mine_of news r' ≡ mine_of seats r
   split-mine = λ k. record {
     marks = ap (λ z. z.mine) same k;
-    lists = map_each (λ (s : ShardSeat). s.mine) (λ (s : ShardSeat). s.mine) news seats split.len (λ i y x ey ex. ap (λ z. z.mine) (split_at i x y ex ey)) k;
+    lists =
+        map_each (λ (s : ShardSeat). s.mine) (λ (s : ShardSeat). s.mine) news seats split.len
+        (λ i y x ey ex. ap (λ z. z.mine) (split_at i x y ex ey)) k;
   }
 
   pub split-first : AreFirst o caller (teams + 1) taken news r'
@@ -57,16 +67,32 @@ module _ (o : OfficeState) (last teams caller : ℕ) (taken : List PassState) (s
       shards = λ i y ey.
           let x = seat_split i y ey in
           let knew : KnowsOwn owner_of_entry x.0 = (are.at.shards i x.0 x.1).knows in
-          still_at_shard o 0 i x.0 y (are.at.shards i x.0 x.1) (ap (λ z. z.lock) x.2, ap (λ z. z.name) x.2, ap (λ z. z.caller) x.2, ap (λ z. z.holds) x.2 ∙ (are.at.shards i x.0 x.1).free)
+          still_at_shard o 0 i x.0 y (are.at.shards i x.0 x.1) (
+            ap (λ z. z.lock) x.2,
+            ap (λ z. z.name) x.2,
+            ap (λ z. z.caller) x.2,
+            ap (λ z. z.holds) x.2 ∙ (are.at.shards i x.0 x.1).free,
+          )
           (subst (KnowsOwn owner_of_entry) (sym x.2) knew);
-      registered = still_at_register o 0 r r' are.at.registered (ap (λ z. z.lock) same, ap (λ z. z.name) same, ap (λ z. z.caller) same, ap (λ z. z.holds) same ∙ are.at.registered.free) (subst (KnowsOwn owner_of_mark) (sym same) are.at.registered.knows);
+      registered =
+          still_at_register o 0 r r' are.at.registered (
+            ap (λ z. z.lock) same,
+            ap (λ z. z.name) same,
+            ap (λ z. z.caller) same,
+            ap (λ z. z.holds) same ∙ are.at.registered.free,
+          )
+          (subst (KnowsOwn owner_of_mark) (sym same) are.at.registered.knows);
       marked = λ t. subst (λ (z : Sight). NoneBy 0 (left z.marks (by_shard z.lists) t)) (sym split-sight) (are.at.marked t);
     };
     shards = λ i y ey.
         let x = seat_split i y ey in
         subst (IsFirst owner_of_entry (λ q. entries_of q.sight (i + 1)) caller (teams + 1) taken) (sym x.2)
-        (first_after_split owner_of_entry (λ q. entries_of q.sight (i + 1)) last teams taken x.0 caller (are.shards i x.0 x.1) above are.given);
-    registered = subst (IsFirst owner_of_mark (λ q. q.sight.marks) caller (teams + 1) taken) (sym same) (first_after_split owner_of_mark (λ q. q.sight.marks) last teams taken r caller are.registered above are.given);
+        (first_after_split owner_of_entry (λ q. entries_of q.sight (i + 1)) last teams taken x.0 caller
+        (are.shards i x.0 x.1) above are.given);
+    registered =
+        subst (IsFirst owner_of_mark (λ q. q.sight.marks) caller (teams + 1) taken) (sym same)
+        (first_after_split owner_of_mark (λ q. q.sight.marks) last teams taken r caller are.registered above
+        are.given);
     passes = λ k q e. subst (λ (z : Sight). IsTaken o z q) (sym split-sight) (are.passes k q e);
     given = λ k q e. let le = are.given k q e in omega arith;
   }
@@ -74,7 +100,9 @@ module _ (o : OfficeState) (last teams caller : ℕ) (taken : List PassState) (s
   made_len : length made ≡ length seats
   made_len = split.count ∙ sym are.at.count
 
-  made_by : (i : ℕ) (m : ShardSeat) → slice_get made i ≡ Some m → (x : ShardSeat) × (slice_get seats i ≡ Some x) × (m ≡ new_sight x caller) × KnowsOwn owner_of_entry m
+  made_by :
+      (i : ℕ) (m : ShardSeat) → slice_get made i ≡ Some m
+      → (x : ShardSeat) × (slice_get seats i ≡ Some x) × (m ≡ new_sight x caller) × KnowsOwn owner_of_entry m
   made_by i m em =
       let lt = get_lt made i m em in
       let n = made_len in
@@ -86,7 +114,9 @@ module _ (o : OfficeState) (last teams caller : ℕ) (taken : List PassState) (s
   pub made-sight : sight_of made rm ≡ sight_of seats r
   made-sight = λ k. record {
     marks = ap (λ z. z.seen) new k;
-    lists = map_each (λ (s : ShardSeat). s.seen) (λ (s : ShardSeat). s.seen) made seats made_len (λ i m x em ex. ap (λ z. z.seen) (split.made_by i x m ex em).0) k;
+    lists =
+        map_each (λ (s : ShardSeat). s.seen) (λ (s : ShardSeat). s.seen) made seats made_len
+        (λ i m x em ex. ap (λ z. z.seen) (split.made_by i x m ex em).0) k;
   }
 
   -- and made nothing
@@ -94,7 +124,10 @@ module _ (o : OfficeState) (last teams caller : ℕ) (taken : List PassState) (s
   made-mine = new-mine seats made r rm made_len (λ i m em. ap (λ z. z.mine) (made_by i m em).2) (ap (λ z. z.mine) new)
 
   none_marked : NoMarkBy caller rm.seen
-  none_marked = sym (owned_are_marks caller rm.seen) ∙ (ap (λ n. owned_by owner_of_mark n rm.seen) (sym (ap (λ z. z.caller) new)) ∙ (knows ∙ ap (λ z. owned owner_of_mark z.mine) new))
+  none_marked =
+      sym (owned_are_marks caller rm.seen)
+      ∙ (ap (λ n. owned_by owner_of_mark n rm.seen) (sym (ap (λ z. z.caller) new))
+      ∙ (knows ∙ ap (λ z. owned owner_of_mark z.mine) new))
 
   none_entered : (t : ℕ) → NoneBy caller (by_shard (lists_of made) t)
   none_entered zero = refl
@@ -103,9 +136,14 @@ module _ (o : OfficeState) (last teams caller : ℕ) (taken : List PassState) (s
       let m = get_some made i lt in
       let is = made_by i m.0 m.1 in
       let own : owned_by owner_of_entry m.0.caller m.0.seen ≡ owned owner_of_entry m.0.mine = is.3 in
-      let none : owned_by owner_of_entry caller m.0.seen ≡ [] = ap (λ n. owned_by owner_of_entry n m.0.seen) (sym (ap (λ z. z.caller) is.2)) ∙ (own ∙ ap (λ z. owned owner_of_entry z.mine) is.2) in
-      subst (NoneBy caller) (sym (read_at (lists_of made) i m.0.seen [] (get_map (λ (s : ShardSeat). s.seen) made i m.0 m.1))) (sym (owned_are_calls caller m.0.seen) ∙ none))
-      (λ (le : length made ≤ i). subst (NoneBy caller) (sym (get_or_past (lists_of made) i [] (let n = length_map (λ (s : ShardSeat). s.seen) made in omega arith))) refl)
+      let none : owned_by owner_of_entry caller m.0.seen ≡ [] =
+      ap (λ n. owned_by owner_of_entry n m.0.seen) (sym (ap (λ z. z.caller) is.2))
+      ∙ (own ∙ ap (λ z. owned owner_of_entry z.mine) is.2) in
+      subst (NoneBy caller)
+      (sym (read_at (lists_of made) i m.0.seen [] (get_map (λ (s : ShardSeat). s.seen) made i m.0 m.1)))
+      (sym (owned_are_calls caller m.0.seen) ∙ none))
+      (λ (le : length made ≤ i). subst (NoneBy caller) (sym (get_or_past (lists_of made) i []
+      (let n = length_map (λ (s : ShardSeat). s.seen) made in omega arith))) refl)
       (cases_lt i (length made))
 
   pub made-own : calls_in caller (sight_of made rm) ≡ []
@@ -131,5 +169,7 @@ module _ (o : OfficeState) (last teams caller : ℕ) (taken : List PassState) (s
       free = ap (λ z. z.holds) new;
       knows = knows;
     };
-    marked = λ t. subst (NoneBy caller) (sym (left_is t rm.seen (by_shard (lists_of made)))) (none_drop caller (marks_of t rm.seen) (by_shard (lists_of made) t) (none_entered t));
+    marked =
+        λ t. subst (NoneBy caller) (sym (left_is t rm.seen (by_shard (lists_of made))))
+        (none_drop caller (marks_of t rm.seen) (by_shard (lists_of made) t) (none_entered t));
   }

@@ -12,10 +12,12 @@ use Rattle.tool_edge.specs.Refusals.{fault_line}
 use Rattle.tool_edge.specs.Contest.{IsContest}
 use Rattle.tool_edge.specs.Finishing.{Finishes, FinishesOwed, RefusesInput}
 use Rattle.tool_edge.specs.Tool.{IsOwedFor, IsSound, no_history}
-use Rattle.tool_edge.specs.Tools.{file_limit, IsContestFile, HaveOneOrder, FilesAreNotRefused, ContestsAreNotRefused, ContestsAreRefusedOnce}
+use Rattle.tool_edge.specs.Tools.{file_limit, IsContestFile, HaveOneOrder, FilesAreNotRefused}
+use Rattle.tool_edge.specs.Tools.{ContestsAreNotRefused, ContestsAreRefusedOnce}
 use Rattle.blt_reader.specs.Election.{poll}
 use Rattle.sheet_check.specs.Input.{IsSplit}
-use Rattle.sheet_check.specs.Audit.{IsAudit, behind, IsRefusedBehind, EndsInSheet, IsRefusedAudit, ReadsBehind, OwesVerdict, IsOwedVerdict, audits}
+use Rattle.sheet_check.specs.Audit.{IsAudit, behind, IsRefusedBehind, EndsInSheet, IsRefusedAudit}
+use Rattle.sheet_check.specs.Audit.{ReadsBehind, OwesVerdict, IsOwedVerdict, audits}
 use Rattle.sheet_check.proofs.Splits.{file_once, sheet_once, front_is_sheet}
 
 -- ---- soundness
@@ -23,20 +25,25 @@ use Rattle.sheet_check.proofs.Splits.{file_once, sheet_once, front_is_sheet}
 not_behind :
     ContestsAreNotRefused → (before : ℕ) (lots file : List ℕ) (fault : InputFault) → IsContestFile lots file
     → IsRefusedBehind before lots file fault → ⊥
-not_behind either before lots file fault contest (inl (of_file, refused, place)) = either lots file of_file contest (inl refused)
+not_behind either before lots file fault contest (inl (of_file, refused, place)) =
+    either lots file of_file contest (inl refused)
 not_behind either before lots file fault contest (inr bad) = either lots file fault contest (inr bad)
 
-not_refused : ContestsAreNotRefused → (lots input : List ℕ) (fault : InputFault) → IsAudit lots input → IsRefusedAudit lots input fault → ⊥
+not_refused :
+    ContestsAreNotRefused → (lots input : List ℕ) (fault : InputFault) → IsAudit lots input
+    → IsRefusedAudit lots input fault → ⊥
 not_refused either lots input fault (sheet, file, split, contest) (inl ends) = ends.no_end split.at split.first.stands
 not_refused either lots input fault (sheet, file, split, contest) (inr (other_sheet, other, other_split, refused)) =
     not_behind either (length other_sheet) lots file fault contest
-    (subst (λ (f : List ℕ). IsRefusedBehind (length other_sheet) lots f fault) (file_once input sheet file other_sheet other split other_split) refused)
+    (subst (λ (f : List ℕ). IsRefusedBehind (length other_sheet) lots f fault)
+    (file_once input sheet file other_sheet other split other_split) refused)
 
 -- what stands behind the sheet is refused with one fault
 behind_once :
     FilesAreNotRefused → ContestsAreRefusedOnce → (before : ℕ) (lots file : List ℕ) (fault other : InputFault)
     → IsRefusedBehind before lots file fault → IsRefusedBehind before lots file other → fault ≡ other
-behind_once files once before lots file fault other (inl (of_file, refused, place)) (inl (again, refused_again, place_again)) =
+behind_once files once before lots file fault other (inl (of_file, refused, place))
+    (inl (again, refused_again, place_again)) =
     place ∙ (ap (behind before) (once lots file of_file again (inl refused) (inl refused_again)) ∙ sym place_again)
 behind_once files once before lots file fault other (inl (of_file, refused, place)) (inr bad) =
     absurd (files file of_file (bad.poll, bad.file) refused)
@@ -52,10 +59,14 @@ refused_once files once lots input fault other (inl ends) (inr (sheet, file, spl
     absurd (ends.no_end split.at split.first.stands)
 refused_once files once lots input fault other (inr (sheet, file, split, refused)) (inl ends) =
     absurd (ends.no_end split.at split.first.stands)
-refused_once files once lots input fault other (inr (sheet, file, split, refused)) (inr (sheet_again, file_again, split_again, refused_again)) =
-    let here = subst (λ (s : List ℕ). IsRefusedBehind (length s) lots file_again other) (sheet_once input sheet file sheet_again file_again split split_again) refused_again in
+refused_once files once lots input fault other (inr (sheet, file, split, refused))
+    (inr (sheet_again, file_again, split_again, refused_again)) =
+    let here =
+    subst (λ (s : List ℕ). IsRefusedBehind (length s) lots file_again other)
+    (sheet_once input sheet file sheet_again file_again split split_again) refused_again in
     behind_once files once (length sheet) lots file fault other refused
-    (subst (λ (f : List ℕ). IsRefusedBehind (length sheet) lots f other) (file_once input sheet file sheet_again file_again split split_again) here)
+    (subst (λ (f : List ℕ). IsRefusedBehind (length sheet) lots f other)
+    (file_once input sheet file sheet_again file_again split split_again) here)
 
 pub sound : HaveOneOrder → FilesAreNotRefused → ContestsAreNotRefused → ContestsAreRefusedOnce → IsSound audits
 sound one files either once = record {
@@ -77,7 +88,8 @@ ended_early lots input fault end sink short ends finishes =
 
 -- What stands behind the sheet is refused.
 pub refused_behind :
-    (lots input sheet file : List ℕ) (before : ℕ) (stop : InputStop) (end : End InputFault) (sink : Writing) → length input ≤ file_limit
+    (lots input sheet file : List ℕ) (before : ℕ) (stop : InputStop) (end : End InputFault) (sink : Writing)
+    → length input ≤ file_limit
     → IsSplit input sheet file → before ≡ length sheet → ReadsBehind before lots file (Err stop)
     → RefusesInput stop end sink → FinishesOwed (IsOwedFor audits lots input no_history) end sink
 refused_behind lots input sheet file before (Fault fault) end sink short split same why finishes =
@@ -106,7 +118,8 @@ judged lots input sheet file contest end sink short split is (inr (due, bytes, o
 
 -- The same where the verdict is on what is left of the input without its file.
 pub judged_front :
-    (lots input sheet file front : List ℕ) (contest : Contest) (end : End InputFault) (sink : Writing) → length input ≤ file_limit
+    (lots input sheet file front : List ℕ) (contest : Contest) (end : End InputFault) (sink : Writing)
+    → length input ≤ file_limit
     → IsSplit input sheet file → front ≡ take (length sheet) input → IsContest lots file contest
     → FinishesOwed (IsOwedVerdict (poll contest.election) contest.lots front) end sink
     → FinishesOwed (IsOwedFor audits lots input no_history) end sink

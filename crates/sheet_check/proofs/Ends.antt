@@ -1,5 +1,6 @@
 -- Where a line `end` stands.
-use Rattle.std.proofs.Common.{◌≡◌, ◌≢◌, ℕ, ◌+◌, ◌-◌, ◌<◌, ◌≤◌, List, [], ◌∷◌, ◌++◌, length, take, drop, refl, ap, arith, inl, inr, length-take, length-drop}
+use Rattle.std.proofs.Common.{◌≡◌, ◌≢◌, ℕ, ◌+◌, ◌-◌, ◌<◌, ◌≤◌, List, [], ◌∷◌, ◌++◌, length, take, drop, refl}
+use Rattle.std.proofs.Common.{ap, arith, inl, inr, length-take, length-drop}
 use Rattle.std.specs.Prelude.{codes, slice_index}
 use Rattle.sheet_check.specs.Input.{HasEndAt, HasNoEnd, IsSplit}
 
@@ -14,6 +15,8 @@ pub nowhere : (input : List ℕ) → ((k : ℕ) → k < length input → ¬ HasE
 nowhere input none at stands = none at (omega (arith, end_fits input at stands)) stands
 
 -- the split at the first such line
-pub split_at_end : (input : List ℕ) (at : ℕ) → HasEndAt input at → ((k : ℕ) → k < at → ¬ HasEndAt input k) → IsSplit input (take (at + 4) input) (drop (at + 4) input)
+pub split_at_end :
+    (input : List ℕ) (at : ℕ) → HasEndAt input at → ((k : ℕ) → k < at → ¬ HasEndAt input k)
+    → IsSplit input (take (at + 4) input) (drop (at + 4) input)
 split_at_end input at stands none =
     record { at = at; first = record { stands = stands; none_before = none }; sheet_is = refl; file_is = refl }

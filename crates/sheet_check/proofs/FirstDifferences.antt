@@ -3,7 +3,9 @@ use Rattle.std.proofs.Common.{◌≡◌, ℕ, ◌<◌, List, arith, inl, inr}
 use Rattle.std.proofs.lemmas.Bool.{cases_lt}
 use Rattle.sheet_check.specs.Difference.{IsFirstDifference}
 
-not_before : (a b : List ℕ) (m n : ℕ) (one : IsFirstDifference a b m) (other : IsFirstDifference a b n) → one.line < other.line → ⊥
+not_before :
+    (a b : List ℕ) (m n : ℕ) (one : IsFirstDifference a b m) (other : IsFirstDifference a b n)
+    → one.line < other.line → ⊥
 not_before a b m n one other before = one.differs (other.same_before one.line before)
 
 pub difference_once : (a b : List ℕ) (m n : ℕ) → IsFirstDifference a b m → IsFirstDifference a b n → m ≡ n

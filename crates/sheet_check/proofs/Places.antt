@@ -1,6 +1,7 @@
 -- A fault of a ballot file stands in it, or at most two bytes behind it. So a place in what stands behind a sheet is
 -- one in the whole, too.
-use Rattle.std.proofs.Common.{ℕ, ◌+◌, ◌-◌, ◌≤◌, ◌==◌, ◌&&◌, zero, suc, List, [], ◌∷◌, ◌++◌, length, drop, Bool, true, false, cond, ap, subst, arith, inl, inr}
+use Rattle.std.proofs.Common.{ℕ, ◌+◌, ◌-◌, ◌≤◌, ◌==◌, ◌&&◌, zero, suc, List, [], ◌∷◌, ◌++◌, length, drop}
+use Rattle.std.proofs.Common.{Bool, true, false, cond, ap, subst, arith, inl, inr}
 use Rattle.std.specs.List.{prefix_len, take_while}
 use Rattle.std.specs.Char.{is_ascii_digit, is_ascii_lowercase}
 use Rattle.std.proofs.lemmas.List.Sums.{prefix_len-le-length}
@@ -8,7 +9,9 @@ use Rattle.input_text.specs.declared.input_fault.InputFault.{InputFault}
 use Rattle.input_text.specs.declared.input_stop.InputStop.{InputStop}
 use Rattle.input_text.specs.declared.input_stop.InputStop.TheVariants.{Fault, NoMemory}
 use Rattle.input_text.specs.Token.{Number, Minus, Word, Placed, Ending, AtEnd, AtFault, Scan}
-use Rattle.input_text.specs.Scan.{is_separator, is_in_line, is_in_string, number, may_follow, Piece, Gap, Lexeme, Wrong, Unclosed, number_piece, minus_piece, closed_by, string_piece, word_piece, piece, beginning, cut, mark_len, scan}
+use Rattle.input_text.specs.Scan.{is_separator, is_in_line, is_in_string, number, may_follow, Piece, Gap}
+use Rattle.input_text.specs.Scan.{Lexeme, Wrong, Unclosed, number_piece, minus_piece, closed_by, string_piece}
+use Rattle.input_text.specs.Scan.{word_piece, piece, beginning, cut, mark_len, scan}
 use Rattle.blt_reader.specs.Said.{of_a_file, IsFileRefusal}
 use Rattle.input_text.specs.Reads.{OnFault}
 use Rattle.tool_edge.specs.Contest.{IsRefusedFile}
@@ -70,11 +73,14 @@ piece_near letters b behind =
     let fits : length rest ≤ len = omega arith in
     let same : length behind + 2 ≤ len = omega arith in
     let none : 0 ≤ len = omega arith in
-    let word = either_near (letters && is_ascii_lowercase b) (word_piece rest) (Wrong 0) len (word_near rest len fits) none in
+    let word =
+    either_near (letters && is_ascii_lowercase b) (word_piece rest) (Wrong 0) len
+    (word_near rest len fits) none in
     let string = either_near (b == 34) (string_piece behind) _ len (string_near behind len same) word in
     let minus = either_near (b == 45) (minus_piece behind) _ len (minus_near behind len same) string in
     let digits = either_near (is_ascii_digit b) (number_piece rest) _ len (number_near rest len fits) minus in
-    either_near (is_separator b) (Gap 1) _ len tt (either_near (b == 35) (Gap (1 + prefix_len is_in_line behind)) _ len tt digits)
+    either_near (is_separator b) (Gap 1) _ len tt
+    (either_near (b == 35) (Gap (1 + prefix_len is_in_line behind)) _ len tt digits)
 
 -- ---- a text
 
@@ -106,7 +112,8 @@ cut_before :
 unfolding cut
 cut_before letters at zero [] place fits = record { tokens = tt; ending = omega (arith, fits) }
 cut_before letters at (suc skip) [] place fits = record { tokens = tt; ending = omega (arith, fits) }
-cut_before letters at (suc skip) (b ∷ behind) place fits = cut_before letters (at + 1) skip behind place (omega (arith, fits))
+cut_before letters at (suc skip) (b ∷ behind) place fits =
+    cut_before letters (at + 1) skip behind place (omega (arith, fits))
 cut_before letters at zero (b ∷ behind) place fits =
     begins_before at (piece letters (b ∷ behind)) (λ n. cut letters (at + 1) (n - 1) behind) (length behind + 2) place
     (piece_near letters b behind) (omega (arith, fits))
@@ -120,9 +127,13 @@ before_there :
 before_there place [] token behind are = are.0
 before_there place (first ∷ front) token behind are = before_there place front token behind are.1
 
-refusal_before : (text : Scan) (fault : InputFault) (place : ℕ) → IsBefore place text → IsFileRefusal of_a_file text fault → fault.at ≤ place
+refusal_before :
+    (text : Scan) (fault : InputFault) (place : ℕ) → IsBefore place text → IsFileRefusal of_a_file text fault
+    → fault.at ≤ place
 refusal_before text fault place is (inl token) =
-    let at : token.token.at ≤ place = before_there place token.front token.token token.behind (subst (λ (ts : List Placed). AreBefore place ts) token.split is.tokens) in
+    let at : token.token.at ≤ place =
+    before_there place token.front token.token token.behind
+    (subst (λ (ts : List Placed). AreBefore place ts) token.split is.tokens) in
     omega (arith, at, token.place)
 refusal_before text fault place is (inr (inl ends)) = subst (λ (e : Ending). EndsBefore place e) ends.ending is.ending
 refusal_before text fault place is (inr (inr short)) =
@@ -131,7 +142,8 @@ refusal_before text fault place is (inr (inr short)) =
 
 file_refusal_near : (file : List ℕ) (fault : InputFault) → IsRefusedFile file fault → fault.at ≤ length file + 2
 file_refusal_near file fault refused =
-    refusal_before (scan file false) fault (length file + 2) (cut_before false 0 (mark_len file) file (length file + 2) (omega arith)) refused
+    refusal_before (scan file false) fault (length file + 2)
+    (cut_before false 0 (mark_len file) file (length file + 2) (omega arith)) refused
 
 -- so there is room for its place in the whole
 pub room_for_place :

@@ -1,5 +1,6 @@
 -- An input is split at one place.
-use Rattle.std.proofs.Common.{◌≡◌, ℕ, ◌+◌, ◌≤◌, List, length, take, drop, sym, ap, ◌∙◌, arith, inl, inr, length-take, length-drop}
+use Rattle.std.proofs.Common.{◌≡◌, ℕ, ◌+◌, ◌≤◌, List, length, take, drop, sym, ap, ◌∙◌, arith, inl, inr}
+use Rattle.std.proofs.Common.{length-take, length-drop}
 use Rattle.std.proofs.lemmas.Bool.{cases_lt}
 use Rattle.std.proofs.lemmas.List.{take_min}
 use Rattle.sheet_check.specs.Input.{IsFirstEnd, IsSplit}
@@ -15,14 +16,22 @@ first_end_once input a b one other =
     ]
 
 -- so the file behind the sheet is one
-pub file_once : (input sheet file other_sheet other : List ℕ) → IsSplit input sheet file → IsSplit input other_sheet other → other ≡ file
+pub file_once :
+    (input sheet file other_sheet other : List ℕ) → IsSplit input sheet file → IsSplit input other_sheet other
+    → other ≡ file
 file_once input sheet file other_sheet other one again =
-    again.file_is ∙ ap (λ (at : ℕ). drop (at + 4) input) (first_end_once input again.at one.at again.first one.first) ∙ sym one.file_is
+    again.file_is
+    ∙ ap (λ (at : ℕ). drop (at + 4) input) (first_end_once input again.at one.at again.first one.first)
+    ∙ sym one.file_is
 
 -- and the sheet before it
-pub sheet_once : (input sheet file other_sheet other : List ℕ) → IsSplit input sheet file → IsSplit input other_sheet other → other_sheet ≡ sheet
+pub sheet_once :
+    (input sheet file other_sheet other : List ℕ) → IsSplit input sheet file → IsSplit input other_sheet other
+    → other_sheet ≡ sheet
 sheet_once input sheet file other_sheet other one again =
-    again.sheet_is ∙ ap (λ (at : ℕ). take (at + 4) input) (first_end_once input again.at one.at again.first one.first) ∙ sym one.sheet_is
+    again.sheet_is
+    ∙ ap (λ (at : ℕ). take (at + 4) input) (first_end_once input again.at one.at again.first one.first)
+    ∙ sym one.sheet_is
 
 -- the sheet is what is left where the file is cut off
 pub front_is_sheet : (input sheet file : List ℕ) → IsSplit input sheet file → take (length sheet) input ≡ sheet

@@ -1,5 +1,6 @@
 -- The text of an amount says it.
-use Rattle.std.proofs.Common.{◌≡◌, ◌∙◌, refl, sym, ap, ℕ, ◌+◌, ◌*◌, ◌/◌, ◌%◌, ◌^◌, ◌<◌, ◌≤◌, zero, suc, List, [], ◌∷◌, ◌++◌, length, arith, length-append, pow-suc}
+use Rattle.std.proofs.Common.{◌≡◌, ◌∙◌, refl, sym, ap, ℕ, ◌+◌, ◌*◌, ◌/◌, ◌%◌, ◌^◌, ◌<◌, ◌≤◌, zero, suc, List}
+use Rattle.std.proofs.Common.{[], ◌∷◌, ◌++◌, length, arith, length-append, pow-suc}
 use Rattle.std.specs.Prelude.{decimal}
 use Rattle.std.proofs.lemmas.Fmt.{decimal_injective}
 use Rattle.std.proofs.lemmas.Nat.{pow-add, div-add-mod'}
@@ -30,9 +31,13 @@ digits_say : (k n m : ℕ) → n < 10 ^ k → m < 10 ^ k → last_digits k n ≡
 unfolding last_digits
 digits_say zero n m below small e = omega (arith, below, small)
 digits_say (suc k) n m below small e =
-    let parts = fronts (last_digits k (n / 10)) (last_digits k (m / 10)) ((48 + n % 10) ∷ []) ((48 + m % 10) ∷ []) (length-digits k (n / 10) ∙ sym (length-digits k (m / 10))) e in
+    let parts =
+    fronts (last_digits k (n / 10)) (last_digits k (m / 10)) ((48 + n % 10) ∷ []) ((48 + m % 10) ∷ [])
+    (length-digits k (n / 10) ∙ sym (length-digits k (m / 10))) e in
     let last = heads (48 + n % 10) (48 + m % 10) [] [] parts.1 in
-    let others = digits_say k (n / 10) (m / 10) (omega (arith, pow-suc 10 k, below)) (omega (arith, pow-suc 10 k, small)) parts.0 in
+    let others =
+    digits_say k (n / 10) (m / 10) (omega (arith, pow-suc 10 k, below))
+    (omega (arith, pow-suc 10 k, small)) parts.0 in
     omega (arith, last.0, others)
 
 votes_small : (u : ℕ) → u ≤ most 9 → u / scale 9 ≤ 1000000000
@@ -46,8 +51,19 @@ amounts_say u w small few e =
     let digits = last_digits 9 (u % s) in
     let others = last_digits 9 (w % s) in
     let long : length (decimal (u / s)) ≡ length (decimal (w / s)) =
-    omega (arith, ap (λ (t : List ℕ). length t) e, length-append (decimal (u / s)) (46 ∷ digits), length-append (decimal (w / s)) (46 ∷ others), length-digits 9 (u % s), length-digits 9 (w % s)) in
+    omega (
+      arith,
+      ap (λ (t : List ℕ). length t) e,
+      length-append (decimal (u / s)) (46 ∷ digits),
+      length-append (decimal (w / s)) (46 ∷ others),
+      length-digits 9 (u % s),
+      length-digits 9 (w % s),
+    ) in
     let parts = fronts (decimal (u / s)) (decimal (w / s)) (46 ∷ digits) (46 ∷ others) long e in
-    let whole = decimal_injective (u / s) (w / s) (omega (arith, votes_small u small)) (omega (arith, votes_small w few)) parts.0 in
-    let rest = digits_say 9 (u % s) (w % s) (mod-lt u (omega arith)) (mod-lt w (omega arith)) (heads 46 46 digits others parts.1).1 in
+    let whole =
+    decimal_injective (u / s) (w / s) (omega (arith, votes_small u small))
+    (omega (arith, votes_small w few)) parts.0 in
+    let rest =
+    digits_say 9 (u % s) (w % s) (mod-lt u (omega arith)) (mod-lt w (omega arith))
+    (heads 46 46 digits others parts.1).1 in
     sym (div-add-mod' u s) ∙ (λ i. whole i * s + rest i) ∙ div-add-mod' w s

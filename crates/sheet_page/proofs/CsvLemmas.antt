@@ -11,12 +11,19 @@ use Rattle.sheet_page.specs.Cells.{cell_text}
 use Rattle.sheet_page.specs.Csv.{csv_head, csv_record, row_records, csv_of}
 use Rattle.sheet_page.specs.Values.{places}
 
-fields-joined : (field : List ℕ) (others : List Cell) → field_text field ++ flat_map (λ c. behind_comma (cell_text c)) others ≡ join_with_byte 44 (map field_text (field ∷ map cell_text others))
+fields-joined :
+    (field : List ℕ) (others : List Cell)
+    → field_text field ++ flat_map (λ c. behind_comma (cell_text c)) others
+    ≡ join_with_byte 44 (map field_text (field ∷ map cell_text others))
 fields-joined field [] = append-nil (field_text field)
-fields-joined field (other ∷ others) = ap (λ (l : List ℕ). field_text field ++ 44 ∷ l) (fields-joined (cell_text other) others)
+fields-joined field (other ∷ others) =
+    ap (λ (l : List ℕ). field_text field ++ 44 ∷ l) (fields-joined (cell_text other) others)
 
 -- the first field, the others and the end of the line
-pub record-parts : (field : List ℕ) (others : List Cell) → field_text field ++ (flat_map (λ c. behind_comma (cell_text c)) others ++ 13 ∷ 10 ∷ []) ≡ record_text (field ∷ map cell_text others)
+pub record-parts :
+    (field : List ℕ) (others : List Cell)
+    → field_text field ++ (flat_map (λ c. behind_comma (cell_text c)) others ++ 13 ∷ 10 ∷ [])
+    ≡ record_text (field ∷ map cell_text others)
 record-parts field others =
     sym (append_assoc (field_text field) (flat_map (λ c. behind_comma (cell_text c)) others) (13 ∷ 10 ∷ []))
     ∙ ap (λ (l : List ℕ). l ++ 13 ∷ 10 ∷ []) (fields-joined field others)
@@ -29,7 +36,8 @@ rows-joined : (v : SheetList) (rows : List Row) → flat_map (row_text v) rows �
 rows-joined v [] = refl
 rows-joined v (row ∷ rows) =
     ap (λ (l : List ℕ). row_text v row ++ l) (rows-joined v rows)
-    ∙ ap (λ (l : List ℕ). l ++ csv_text (flat_map (row_records v) rows)) (sym (flat_map-map record_text (csv_record v row) (places (length v.names))))
+    ∙ ap (λ (l : List ℕ). l ++ csv_text (flat_map (row_records v) rows))
+    (sym (flat_map-map record_text (csv_record v row) (places (length v.names))))
     ∙ sym (flat_map-append record_text (row_records v row) (flat_map (row_records v) rows))
 
 -- the head and the iterations

@@ -1,5 +1,6 @@
 -- Words of a table say what they stand for.
-use Rattle.std.proofs.Common.{◌≡◌, ◌∙◌, refl, sym, ap, ℕ, ◌+◌, ◌-◌, ◌<◌, Bool, true, false, List, length, get_or, inl, inr, arith}
+use Rattle.std.proofs.Common.{◌≡◌, ◌∙◌, refl, sym, ap, ℕ, ◌+◌, ◌-◌, ◌<◌, Bool, true, false, List, length}
+use Rattle.std.proofs.Common.{get_or, inl, inr, arith}
 use Rattle.std.specs.Prelude.{nat_lt}
 use Rattle.std.proofs.lemmas.Bool.{cases_Bool, eq-eqb, eqb-true, ltb-true, ltb-false}
 use Rattle.candidate_roll.specs.declared.state.State.{State}
@@ -52,7 +53,9 @@ defeated_place n c tied long is =
     unlike e = cc
 
 -- the word of a step, and of whom it defeats, say the step
-pub steps_say : (n : ℕ) (step other : Step) (tied marks : List Bool) → length tied ≡ n → length marks ≡ n → HasTiedFor n step tied → HasTiedFor n other marks
+pub steps_say :
+    (n : ℕ) (step other : Step) (tied marks : List Bool) → length tied ≡ n → length marks ≡ n
+    → HasTiedFor n step tied → HasTiedFor n other marks
     → step_word step ≡ step_word other → ((p : ℕ) → p < n → defeats step (p + 1) ≡ defeats other (p + 1)) → step ≡ other
 steps_say n Elected Elected tied marks lt lm has also e whom = refl
 steps_say n Elected Iterate tied marks lt lm has also e whom = absurd (omega (arith, ap letter e))

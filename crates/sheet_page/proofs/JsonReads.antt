@@ -1,5 +1,7 @@
 -- Strings as they are read back.
-use Rattle.std.proofs.Common.{◌≡◌, ◌∙◌, refl, sym, ap, subst, ℕ, ◌+◌, ◌-◌, ◌*◌, ◌/◌, ◌%◌, ◌<◌, ◌≤◌, Bool, true, false, cond, not, ◌&&◌, ◌||◌, List, [], ◌∷◌, ◌++◌, inl, inr, arith, append_assoc, append-nil}
+use Rattle.std.proofs.Common.{◌≡◌, ◌∙◌, refl, sym, ap, subst, ℕ, ◌+◌, ◌-◌, ◌*◌, ◌/◌, ◌%◌, ◌<◌, ◌≤◌, Bool}
+use Rattle.std.proofs.Common.{true, false, cond, not, ◌&&◌, ◌||◌, List, [], ◌∷◌, ◌++◌, inl, inr, arith}
+use Rattle.std.proofs.Common.{append_assoc, append-nil}
 use Rattle.std.specs.Prelude.{nat_lt, Option, Some, None}
 use Rattle.std.proofs.lemmas.Bool.{cases_Bool, ltb-true, ltb-false, lt-ltb, le-ltb}
 use Rattle.std.proofs.lemmas.Bool.Decides.{eqb_tells}
@@ -11,7 +13,8 @@ use Rattle.sheet_page.specs.JsonReading.{Between, InNumber, is_within, is_hex, h
 
 within : (first last b : ℕ) → first ≤ b → b ≤ last → is_within first last b ≡ true
 within first last b low high =
-    ap (λ (x : Bool). not x && not (nat_lt last b)) (le-ltb b first low) ∙ ap (λ (x : Bool). true && not x) (le-ltb last b high)
+    ap (λ (x : Bool). not x && not (nat_lt last b)) (le-ltb b first low)
+    ∙ ap (λ (x : Bool). true && not x) (le-ltb last b high)
 
 any_last : (x y : Bool) → (x || y || true) ≡ true
 any_last true true = refl
@@ -21,15 +24,19 @@ any_last false false = refl
 
 digit_hex : (d : ℕ) → d < 10 → (is_hex (48 + d) ≡ true) × (hex_value (48 + d) ≡ d)
 digit_hex d small = (
-  ap (λ (x : Bool). x || is_within 65 70 (48 + d) || is_within 97 102 (48 + d)) (within 48 57 (48 + d) (omega arith) (omega (arith, small))),
-  ap (λ (x : Bool). cond x (48 + d - 48) (cond (nat_lt (48 + d) 71) (48 + d - 55) (48 + d - 87))) (lt-ltb (48 + d) 58 (omega (arith, small))) ∙ omega arith,
+  ap (λ (x : Bool). x || is_within 65 70 (48 + d) || is_within 97 102 (48 + d))
+      (within 48 57 (48 + d) (omega arith) (omega (arith, small))),
+  ap (λ (x : Bool). cond x (48 + d - 48) (cond (nat_lt (48 + d) 71) (48 + d - 55) (48 + d - 87)))
+      (lt-ltb (48 + d) 58 (omega (arith, small))) ∙ omega arith,
 )
 
 letter_hex : (d : ℕ) → 10 ≤ d → d < 16 → (is_hex (87 + d) ≡ true) × (hex_value (87 + d) ≡ d)
 letter_hex d some small = (
-  ap (λ (x : Bool). is_within 48 57 (87 + d) || is_within 65 70 (87 + d) || x) (within 97 102 (87 + d) (omega (arith, some)) (omega (arith, small)))
+  ap (λ (x : Bool). is_within 48 57 (87 + d) || is_within 65 70 (87 + d) || x)
+      (within 97 102 (87 + d) (omega (arith, some)) (omega (arith, small)))
       ∙ any_last (is_within 48 57 (87 + d)) (is_within 65 70 (87 + d)),
-  ap (λ (x : Bool). cond x (87 + d - 48) (cond (nat_lt (87 + d) 71) (87 + d - 55) (87 + d - 87))) (le-ltb (87 + d) 58 (omega arith))
+  ap (λ (x : Bool). cond x (87 + d - 48) (cond (nat_lt (87 + d) 71) (87 + d - 55) (87 + d - 87)))
+      (le-ltb (87 + d) 58 (omega arith))
       ∙ ap (λ (x : Bool). cond x (87 + d - 55) (87 + d - 87)) (le-ltb (87 + d) 71 (omega arith)) ∙ omega arith,
 )
 
@@ -37,9 +44,12 @@ hex_is : (d : ℕ) → d < 16 → (is_hex (hex_digit d) ≡ true) × (hex_value 
 hex_is d small =
     elim (cases_Bool (nat_lt d 10)) [
       | inl digit ↦
-          subst (λ (c : ℕ). (is_hex c ≡ true) × (hex_value c ≡ d)) (sym (ap (λ (x : Bool). cond x (48 + d) (87 + d)) digit)) (digit_hex d (ltb-true d 10 digit))
+          subst (λ (c : ℕ). (is_hex c ≡ true) × (hex_value c ≡ d))
+          (sym (ap (λ (x : Bool). cond x (48 + d) (87 + d)) digit)) (digit_hex d (ltb-true d 10 digit))
       | inr letter ↦
-          subst (λ (c : ℕ). (is_hex c ≡ true) × (hex_value c ≡ d)) (sym (ap (λ (x : Bool). cond x (48 + d) (87 + d)) letter)) (letter_hex d (ltb-false d 10 letter) small)
+          subst (λ (c : ℕ). (is_hex c ≡ true) × (hex_value c ≡ d))
+          (sym (ap (λ (x : Bool). cond x (48 + d) (87 + d)) letter))
+          (letter_hex d (ltb-false d 10 letter) small)
     ]
 
 -- ---- a byte
@@ -48,7 +58,9 @@ hex_is d small =
 abbrev number : (first second : ℕ) → ℕ
 number first second = (0 * 16 + hex_value first) * 16 + hex_value second
 
-read_number : (done more : List ℕ) (first second b : ℕ) → is_hex first ≡ true → is_hex second ≡ true → number first second ≡ b → b < 128
+read_number :
+    (done more : List ℕ) (first second b : ℕ) → is_hex first ≡ true → is_hex second ≡ true
+    → number first second ≡ b → b < 128
     → read_on done Between (92 ∷ 117 ∷ 48 ∷ 48 ∷ first ∷ second ∷ more) ≡ read_on (done ++ b ∷ []) Between more
 read_number done more first second b one other is small =
     let n = number first second in
@@ -61,9 +73,13 @@ read_number done more first second b one other is small =
 read_byte : (done more : List ℕ) (b : ℕ) → read_on done Between (escape b ++ more) ≡ read_on (done ++ b ∷ []) Between more
 read_byte done more b =
     elim (eqb_tells b 34) [
-      | inl is ↦ subst (λ (q : ℕ). read_on done Between (escape q ++ more) ≡ read_on (done ++ q ∷ []) Between more) (sym is.1) refl
+      | inl is ↦
+          subst (λ (q : ℕ). read_on done Between (escape q ++ more) ≡ read_on (done ++ q ∷ []) Between more)
+          (sym is.1) refl
       | inr not_quote ↦ elim (eqb_tells b 92) [
-        | inl is ↦ subst (λ (q : ℕ). read_on done Between (escape q ++ more) ≡ read_on (done ++ q ∷ []) Between more) (sym is.1) refl
+        | inl is ↦
+            subst (λ (q : ℕ). read_on done Between (escape q ++ more) ≡ read_on (done ++ q ∷ []) Between more)
+            (sym is.1) refl
         | inr not_backslash ↦ elim (cases_Bool (nat_lt b 32)) [
           | inl control ↦ rw (not_quote.0, not_backslash.0, control) (by (ltb-true b 32 control))
           | inr other ↦ rw (not_quote.0, not_backslash.0, other) (rw (not_quote.0, not_backslash.0, other) refl)
@@ -71,11 +87,15 @@ read_byte done more b =
       ]
     ]
   where
-    by : b < 32 → read_on done Between (92 ∷ 117 ∷ 48 ∷ 48 ∷ hex_digit (b / 16) ∷ hex_digit (b % 16) ∷ more) ≡ read_on (done ++ b ∷ []) Between more
+    by :
+        b < 32
+        → read_on done Between (92 ∷ 117 ∷ 48 ∷ 48 ∷ hex_digit (b / 16) ∷ hex_digit (b % 16) ∷ more)
+        ≡ read_on (done ++ b ∷ []) Between more
     by small =
         let high = hex_is (b / 16) (omega (arith, small)) in
         let low = hex_is (b % 16) (omega arith) in
-        read_number done more (hex_digit (b / 16)) (hex_digit (b % 16)) b high.0 low.0 (omega (arith, high.1, low.1)) (omega (arith, small))
+        read_number done more (hex_digit (b / 16)) (hex_digit (b % 16)) b high.0 low.0
+        (omega (arith, high.1, low.1)) (omega (arith, small))
 
 read_escaped : (done bytes rest : List ℕ) → read_on done Between (escaped bytes ++ 34 ∷ rest) ≡ Some (done ++ bytes, rest)
 unfolding escaped

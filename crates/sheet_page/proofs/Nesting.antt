@@ -6,14 +6,21 @@ use Rattle.std.proofs.lemmas.Bool.{and_parts}
 use Rattle.std.proofs.lemmas.List.Elements.{All-nil, All-cons}
 use Rattle.lot_order.specs.Flags.{mark_at}
 use Rattle.meek_rule.specs.Row.{Row}
-use Rattle.page_tree.specs.Trees.{Attribute, Trees, Nothing, Text, Element, Void, followed, is_void, is_name_byte, IsName, AreNamed, IsWellNamed}
+use Rattle.page_tree.specs.Trees.{Attribute, Trees, Nothing, Text, Element, Void, followed, is_void}
+use Rattle.page_tree.specs.Trees.{is_name_byte, IsName, AreNamed, IsWellNamed}
 use Rattle.sheet_reader.specs.Values.{SheetList}
 use Rattle.sheet_page.specs.Trees.{all, at, each, el}
 use Rattle.sheet_page.specs.Values.{places, name_at, row_at}
 use Rattle.sheet_page.specs.RoundEnds.{ends_round}
-use Rattle.sheet_page.specs.Picture.{scaled, bar, quota_line, picture_title, picture_attributes, picture, amounts_of, round_picture, full_of}
-use Rattle.sheet_page.specs.Iterations.{standing_at, iteration_head, iteration, iteration_at, columns, iterations, summary, folded}
-use Rattle.sheet_page.specs.Html.{in_round, at_end, elected_item, elected_in, is_seated, seated_item, elected_list, elected_title, elected_part, name_cell, head_cells, head_row, vote_cell, round_cells, round_row, round_at, rounds_table, rounds_title, rounds_part, round_title, round_part, part_at, round_parts, heading, body, head, page}
+use Rattle.sheet_page.specs.Picture.{scaled, bar, quota_line, picture_title, picture_attributes, picture}
+use Rattle.sheet_page.specs.Picture.{amounts_of, round_picture, full_of}
+use Rattle.sheet_page.specs.Iterations.{standing_at, iteration_head, iteration, iteration_at, columns}
+use Rattle.sheet_page.specs.Iterations.{iterations, summary, folded}
+use Rattle.sheet_page.specs.Html.{in_round, at_end, elected_item, elected_in, is_seated, seated_item}
+use Rattle.sheet_page.specs.Html.{elected_list, elected_title, elected_part, name_cell, head_cells, head_row}
+use Rattle.sheet_page.specs.Html.{vote_cell, round_cells, round_row, round_at, rounds_table, rounds_title}
+use Rattle.sheet_page.specs.Html.{rounds_part, round_title, round_part, part_at, round_parts, heading, body}
+use Rattle.sheet_page.specs.Html.{head, page}
 
 -- ---- names, tested
 
@@ -40,7 +47,8 @@ attributes_named : (attributes : List Attribute) → all_named attributes ≡ tr
 attributes_named [] are = All-nil (λ (a : Attribute). IsName a.name)
 attributes_named (attribute ∷ attributes) are =
     let both = and_parts (is_named attribute.name) (all_named attributes) are in
-    All-cons (λ (a : Attribute). IsName a.name) attribute attributes (named attribute.name both.0) (attributes_named attributes both.1)
+    All-cons (λ (a : Attribute). IsName a.name) attribute attributes (named attribute.name both.0)
+    (attributes_named attributes both.1)
 
 not_void : (b : Bool) → not b ≡ true → b ≡ false
 not_void true is = cc
@@ -50,7 +58,9 @@ sound : (trees : Trees) → tested trees ≡ true → IsWellNamed trees
 sound Nothing is = tt
 sound (Text text behind) is = sound behind is
 sound (Element name attributes within behind) is =
-    let a = and_parts (is_named name) (all_named attributes && (not (is_void name) && (tested within && tested behind))) is in
+    let a =
+    and_parts (is_named name)
+    (all_named attributes && (not (is_void name) && (tested within && tested behind))) is in
     let b = and_parts (all_named attributes) (not (is_void name) && (tested within && tested behind)) a.1 in
     let c = and_parts (not (is_void name)) (tested within && tested behind) b.1 in
     let d = and_parts (tested within) (tested behind) c.1 in
@@ -72,7 +82,9 @@ tested_followed : (trees others : Trees) → tested trees ≡ true → tested ot
 tested_followed Nothing others one other = other
 tested_followed (Text text behind) others one other = tested_followed behind others one other
 tested_followed (Element name attributes within behind) others one other =
-    let a = and_parts (is_named name) (all_named attributes && (not (is_void name) && (tested within && tested behind))) one in
+    let a =
+    and_parts (is_named name)
+    (all_named attributes && (not (is_void name) && (tested within && tested behind))) one in
     let b = and_parts (all_named attributes) (not (is_void name) && (tested within && tested behind)) a.1 in
     let c = and_parts (not (is_void name)) (tested within && tested behind) b.1 in
     let d = and_parts (tested within) (tested behind) c.1 in
@@ -91,11 +103,16 @@ tested_all : (trees : List Trees) → Tested trees → tested (all trees) ≡ tr
 tested_all [] are = refl
 tested_all (tree ∷ trees) are = tested_followed tree (all trees) are.0 (tested_all trees are.1)
 
-tested_each : {X : Type 0} (tree : X → Trees) (items : List X) → ((x : X) → tested (tree x) ≡ true) → tested (each tree items) ≡ true
+tested_each :
+    {X : Type 0} (tree : X → Trees) (items : List X) → ((x : X) → tested (tree x) ≡ true)
+    → tested (each tree items) ≡ true
 tested_each tree [] are = refl
 tested_each tree (x ∷ items) are = tested_followed (tree x) (each tree items) (are x) (tested_each tree items are)
 
-tested_el : (name : List ℕ) (attributes : List Attribute) (trees : List Trees) → is_named name ≡ true → all_named attributes ≡ true → not (is_void name) ≡ true → Tested trees → tested (el name attributes trees) ≡ true
+tested_el :
+    (name : List ℕ) (attributes : List Attribute) (trees : List Trees) → is_named name ≡ true
+    → all_named attributes ≡ true → not (is_void name) ≡ true → Tested trees
+    → tested (el name attributes trees) ≡ true
 tested_el name attributes trees is are not_one within =
     both_true _ _ is (both_true _ _ are (both_true _ _ not_one (both_true _ _ (tested_all trees within) refl)))
 
@@ -116,7 +133,8 @@ elected_tested v = tested_el (codes "section") [] (elected_title ∷ elected_lis
 
     list : tested (elected_list v) ≡ true
     list =
-        tested_el (codes "ol") [] (each (elected_in v) v.rows ∷ each (seated_item v) (places (length v.names)) ∷ []) refl refl refl (
+        tested_el (codes "ol") []
+        (each (elected_in v) v.rows ∷ each (seated_item v) (places (length v.names)) ∷ []) refl refl refl (
           tested_each (elected_in v) v.rows (λ row. tested_each (elected_item v row) (places (length v.names)) (item row)),
           (tested_each (seated_item v) (places (length v.names)) seated, tt),
         )
@@ -126,7 +144,8 @@ rounds_tested v = tested_el (codes "section") [] (rounds_title ∷ rounds_table 
   where
     row_tested : (row : Row) → tested (round_row v row) ≡ true
     row_tested row =
-        tested_el (codes "tr") [] (round_cells v.ballots row ∷ each (vote_cell row) (places (length v.names)) ∷ []) refl refl refl
+        tested_el (codes "tr") []
+        (round_cells v.ballots row ∷ each (vote_cell row) (places (length v.names)) ∷ []) refl refl refl
         (refl, (tested_each (vote_cell row) (places (length v.names)) (λ p. refl), tt))
 
     first : tested (head_row v) ≡ true
@@ -136,44 +155,68 @@ rounds_tested v = tested_el (codes "section") [] (rounds_title ∷ rounds_table 
 
     table : tested (rounds_table v) ≡ true
     table =
-        tested_el (codes "table") [] (head_row v ∷ each (round_at v) (places (length v.rows)) ∷ []) refl refl refl
-        (first, (tested_each (round_at v) (places (length v.rows)) (λ i. tested_if (ends_round v.rows i) (round_row v (row_at v.rows i)) (row_tested (row_at v.rows i))), tt))
+        tested_el (codes "table") [] (head_row v ∷ each (round_at v) (places (length v.rows)) ∷ []) refl refl refl (
+          first,
+          (
+            tested_each (round_at v) (places (length v.rows)) (λ i.
+                tested_if (ends_round v.rows i) (round_row v (row_at v.rows i))
+                (row_tested (row_at v.rows i))),
+            tt,
+          ),
+        )
 
 picture_tested : (v : SheetList) (full : ℕ) (row : Row) → tested (round_picture v full row) ≡ true
 picture_tested v full row = tested_all (amounts_of v.ballots row ∷ picture v full row ∷ []) (refl, (drawn, tt))
   where
     drawn : tested (picture v full row) ≡ true
     drawn =
-        tested_el (codes "svg") (picture_attributes (length v.names)) (picture_title row.round ∷ each (bar v full row) (places (length v.names)) ∷ quota_line (scaled full row.quota) (length v.names) ∷ []) refl refl refl
+        tested_el (codes "svg") (picture_attributes (length v.names)) (picture_title row.round
+        ∷ each (bar v full row) (places (length v.names))
+        ∷ quota_line (scaled full row.quota) (length v.names) ∷ []) refl refl refl
         (refl, (tested_each (bar v full row) (places (length v.names)) (λ p. refl), (refl, tt)))
 
 folded_tested : (v : SheetList) (round : ℕ) → tested (folded v round) ≡ true
-folded_tested v round = tested_el (codes "details") [] (summary round ∷ iterations v round ∷ []) refl refl refl (refl, (table, tt))
+folded_tested v round =
+    tested_el (codes "details") [] (summary round ∷ iterations v round ∷ []) refl refl refl
+    (refl, (table, tt))
   where
     one : (row : Row) → tested (iteration v row) ≡ true
     one row =
-        tested_el (codes "tbody") [] (iteration_head row ∷ each (standing_at v row) (places (length v.names)) ∷ []) refl refl refl
+        tested_el (codes "tbody") []
+        (iteration_head row ∷ each (standing_at v row) (places (length v.names)) ∷ []) refl refl refl
         (refl, (tested_each (standing_at v row) (places (length v.names)) (λ p. refl), tt))
 
     table : tested (iterations v round) ≡ true
     table =
-        tested_el (codes "table") [] (columns ∷ each (iteration_at v round) (places (length v.rows)) ∷ []) refl refl refl
-        (refl, (tested_each (iteration_at v round) (places (length v.rows)) (λ i. tested_if (nat_eq (row_at v.rows i).round round) (iteration v (row_at v.rows i)) (one (row_at v.rows i))), tt))
+        tested_el (codes "table") [] (columns ∷ each (iteration_at v round) (places (length v.rows)) ∷ []) refl refl refl (
+          refl,
+          (
+            tested_each (iteration_at v round) (places (length v.rows))
+                (λ i. tested_if (nat_eq (row_at v.rows i).round round) (iteration v (row_at v.rows i))
+                (one (row_at v.rows i))),
+            tt,
+          ),
+        )
 
 parts_tested : (v : SheetList) (full : ℕ) → tested (round_parts v full) ≡ true
 parts_tested v full =
-    tested_each (part_at v full) (places (length v.rows)) (λ i. tested_if (ends_round v.rows i) (round_part v full (row_at v.rows i)) (part (row_at v.rows i)))
+    tested_each (part_at v full) (places (length v.rows))
+    (λ i. tested_if (ends_round v.rows i) (round_part v full (row_at v.rows i)) (part (row_at v.rows i)))
   where
     part : (row : Row) → tested (round_part v full row) ≡ true
     part row =
-        tested_el (codes "section") [] (round_title row.round ∷ round_picture v full row ∷ folded v row.round ∷ []) refl refl refl
+        tested_el (codes "section") []
+        (round_title row.round ∷ round_picture v full row ∷ folded v row.round ∷ []) refl refl refl
         (refl, (picture_tested v full row, (folded_tested v row.round, tt)))
 
 -- every page
 pub well_named : (v : SheetList) → IsWellNamed (page v)
-well_named v = sound (page v) (tested_el (codes "html") (at (codes "lang") (codes "en") ∷ []) (head v ∷ body v ∷ []) refl refl refl (refl, (whole, tt)))
+well_named v =
+    sound (page v) (tested_el (codes "html") (at (codes "lang") (codes "en") ∷ []) (head v ∷ body v ∷ []) refl
+    refl refl (refl, (whole, tt)))
   where
     whole : tested (body v) ≡ true
     whole =
-        tested_el (codes "body") [] (heading v ∷ elected_part v ∷ rounds_part v ∷ round_parts v (full_of v.rows) ∷ []) refl refl refl
+        tested_el (codes "body") []
+        (heading v ∷ elected_part v ∷ rounds_part v ∷ round_parts v (full_of v.rows) ∷ []) refl refl refl
         (refl, (elected_tested v, (rounds_tested v, (parts_tested v (full_of v.rows), tt))))

@@ -29,7 +29,8 @@ wrote_text w f a b text (Err stop) wrote = (wrote.rose, wrote.part)
 
 pub values_owed :
     (format : Format) (input : List ℕ) (v : SheetList) (end : End PageFault) (sink : Writing) → length input ≤ file_limit
-    → HasForm 9 input v → Finishes Done (shown_as format v) end sink → FinishesOwed (IsOwedFor shows format input no_history) end sink
+    → HasForm 9 input v → Finishes Done (shown_as format v) end sink
+    → FinishesOwed (IsOwedFor shows format input no_history) end sink
 values_owed format input v end sink short form finishes =
     inr (Done, shown_as format v, (short, (v, form, refl)), finishes)
 
@@ -76,7 +77,9 @@ not_refused : (input : List ℕ) (fault : PageFault) → IsSheetText input → I
 not_refused input (TooLong most) sheet refused = refused
 not_refused input Malformed sheet refused = refused sheet.0 sheet.1
 
-refused_once : (input : List ℕ) (fault other : PageFault) → IsRefusedSheet input fault → IsRefusedSheet input other → fault ≡ other
+refused_once :
+    (input : List ℕ) (fault other : PageFault) → IsRefusedSheet input fault → IsRefusedSheet input other
+    → fault ≡ other
 refused_once input (TooLong most) other refused again = absurd refused
 refused_once input Malformed (TooLong most) refused again = absurd again
 refused_once input Malformed Malformed refused again = refl

@@ -9,12 +9,14 @@ use Rattle.sheet_page.specs.Trees.{all, each, el}
 pub printed-followed : (trees others : Trees) → printed (followed trees others) ≡ printed trees ++ printed others
 printed-followed Nothing others = refl
 printed-followed (Text text behind) others =
-    ap (λ (l : List ℕ). shown text ++ l) (printed-followed behind others) ∙ sym (append_assoc (shown text) (printed behind) (printed others))
+    ap (λ (l : List ℕ). shown text ++ l) (printed-followed behind others)
+    ∙ sym (append_assoc (shown text) (printed behind) (printed others))
 printed-followed (Element name attributes within behind) others =
     let front = opening name attributes in
     let rest = closing name ++ printed behind in
     ap (λ (l : List ℕ). front ++ (printed within ++ (closing name ++ l))) (printed-followed behind others)
-    ∙ ap (λ (l : List ℕ). front ++ (printed within ++ l)) (sym (append_assoc (closing name) (printed behind) (printed others)))
+    ∙ ap (λ (l : List ℕ). front ++ (printed within ++ l))
+    (sym (append_assoc (closing name) (printed behind) (printed others)))
     ∙ ap (λ (l : List ℕ). front ++ l) (sym (append_assoc (printed within) rest (printed others)))
     ∙ sym (append_assoc front (printed within ++ rest) (printed others))
 printed-followed (Void name attributes behind) others =
@@ -35,19 +37,24 @@ started name (attribute ∷ attributes) rest = (60 ∷ name) ∷ attribute_parts
 abbrev pub parts : Trees → List (List ℕ) → List (List ℕ)
 parts Nothing rest = rest
 parts (Text text behind) rest = shown text ∷ parts behind rest
-parts (Element name attributes within behind) rest = started name attributes (parts within (closing name ∷ parts behind rest))
+parts (Element name attributes within behind) rest =
+    started name attributes (parts within (closing name ∷ parts behind rest))
 parts (Void name attributes behind) rest = started name attributes (parts behind rest)
 
 abbrev pub joined : List (List ℕ) → List ℕ
 joined pieces = flat_map (λ piece. piece) pieces
 
-joined-attributes : (attributes : List Attribute) (rest : List (List ℕ)) → joined (attribute_parts attributes rest) ≡ flat_map attribute_text attributes ++ joined rest
+joined-attributes :
+    (attributes : List Attribute) (rest : List (List ℕ))
+    → joined (attribute_parts attributes rest) ≡ flat_map attribute_text attributes ++ joined rest
 joined-attributes [] rest = refl
 joined-attributes (attribute ∷ attributes) rest =
     ap (λ (l : List ℕ). attribute_text attribute ++ l) (joined-attributes attributes rest)
     ∙ sym (append_assoc (attribute_text attribute) (flat_map attribute_text attributes) (joined rest))
 
-pub joined-started : (name : List ℕ) (attributes : List Attribute) (rest : List (List ℕ)) → joined (started name attributes rest) ≡ opening name attributes ++ joined rest
+pub joined-started :
+    (name : List ℕ) (attributes : List Attribute) (rest : List (List ℕ))
+    → joined (started name attributes rest) ≡ opening name attributes ++ joined rest
 joined-started name [] rest = refl
 joined-started name (attribute ∷ attributes) rest =
     let all = attribute ∷ attributes in
@@ -59,7 +66,8 @@ joined-started name (attribute ∷ attributes) rest =
 joined-parts : (trees : Trees) (rest : List (List ℕ)) → joined (parts trees rest) ≡ printed trees ++ joined rest
 joined-parts Nothing rest = refl
 joined-parts (Text text behind) rest =
-    ap (λ (l : List ℕ). shown text ++ l) (joined-parts behind rest) ∙ sym (append_assoc (shown text) (printed behind) (joined rest))
+    ap (λ (l : List ℕ). shown text ++ l) (joined-parts behind rest)
+    ∙ sym (append_assoc (shown text) (printed behind) (joined rest))
 joined-parts (Element name attributes within behind) rest =
     let front = opening name attributes in
     joined-started name attributes (parts within (closing name ∷ parts behind rest))
@@ -90,7 +98,9 @@ onto-all (tree ∷ trees) rest =
     ∙ ap (λ (l : List ℕ). l ++ rest) (sym (printed-followed tree (all trees)))
 
 -- an element, tree by tree
-pub wrapped : (name : List ℕ) (attributes : List Attribute) (trees : List Trees) → opening name attributes ++ onto trees (closing name) ≡ printed (el name attributes trees)
+pub wrapped :
+    (name : List ℕ) (attributes : List Attribute) (trees : List Trees)
+    → opening name attributes ++ onto trees (closing name) ≡ printed (el name attributes trees)
 wrapped name attributes trees =
     ap (λ (l : List ℕ). opening name attributes ++ l)
     (ap (onto trees) (sym (append-nil (closing name))) ∙ onto-all trees (closing name ++ []))
@@ -102,7 +112,9 @@ printed-two tree other =
     ∙ ap (λ (l : List ℕ). printed tree ++ l) (printed-followed other Nothing ∙ append-nil (printed other)))
 
 -- a tree for each item
-pub printed-each : {X : Type 0} (tree : X → Trees) (items : List X) → flat_map (λ x. printed (tree x)) items ≡ printed (each tree items)
+pub printed-each :
+    {X : Type 0} (tree : X → Trees) (items : List X)
+    → flat_map (λ x. printed (tree x)) items ≡ printed (each tree items)
 printed-each tree [] = refl
 printed-each tree (x ∷ items) =
     ap (λ (l : List ℕ). printed (tree x) ++ l) (printed-each tree items) ∙ sym (printed-followed (tree x) (each tree items))

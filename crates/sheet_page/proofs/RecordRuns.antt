@@ -1,5 +1,6 @@
 -- Where an iteration ends in the records of a table.
-use Rattle.std.proofs.Common.{◌≡◌, ◌∙◌, refl, sym, ap, subst, ℕ, ◌+◌, ◌≤◌, zero, suc, List, [], ◌∷◌, ◌++◌, get_or, map, arith}
+use Rattle.std.proofs.Common.{◌≡◌, ◌∙◌, refl, sym, ap, subst, ℕ, ◌+◌, ◌≤◌, zero, suc, List, [], ◌∷◌, ◌++◌}
+use Rattle.std.proofs.Common.{get_or, map, arith}
 use Rattle.std.specs.Prelude.{decimal}
 use Rattle.std.specs.List.{range_with_len}
 use Rattle.std.proofs.lemmas.Fmt.{decimal_injective}
@@ -35,8 +36,12 @@ same_runs f g k zero (suc m) rest others nf ng some few small fresh also e =
 same_runs f g k (suc n) zero rest others nf ng some few small fresh also e =
     absurd (not_first f k nf some (omega (arith, few)) (subst IsFresh (sym e) also))
 same_runs f g k (suc n) (suc m) rest others nf ng some few small fresh also e =
-    let first = heads (f k) (g k) (map f (range_with_len (k + 1) n) ++ rest) (map g (range_with_len (k + 1) m) ++ others) e in
-    let more = same_runs f g (k + 1) n m rest others nf ng (omega arith) (omega (arith, few)) (omega (arith, small)) fresh also first.1 in
+    let first =
+    heads (f k) (g k) (map f (range_with_len (k + 1) n) ++ rest)
+    (map g (range_with_len (k + 1) m) ++ others) e in
+    let more =
+    same_runs f g (k + 1) n m rest others nf ng (omega arith) (omega (arith, few)) (omega (arith, small))
+    fresh also first.1 in
     (ap suc more.0, (λ i. first.0 i ∷ more.1 i), more.2)
 
 -- two iterations with what stands behind them
@@ -48,5 +53,7 @@ same_iterations f g zero m rest others nf ng some few any small fresh also e = a
 same_iterations f g (suc n) zero rest others nf ng some few any small fresh also e = absurd (omega (arith, any))
 same_iterations f g (suc n) (suc m) rest others nf ng some few any small fresh also e =
     let first = heads (f 0) (g 0) (map f (range_with_len 1 n) ++ rest) (map g (range_with_len 1 m) ++ others) e in
-    let more = same_runs f g 1 n m rest others nf ng (omega arith) (omega (arith, few)) (omega (arith, small)) fresh also first.1 in
+    let more =
+    same_runs f g 1 n m rest others nf ng (omega arith) (omega (arith, few)) (omega (arith, small)) fresh
+    also first.1 in
     (ap suc more.0, (λ i. first.0 i ∷ more.1 i), more.2)

@@ -29,20 +29,31 @@ keep_small keep small = omega (arith, pow-add 10 9 9, small)
 marked : (n : ℕ) (marks others : List Bool) → length marks ≡ n → length others ≡ n
     → ((p : ℕ) → p < n → yes_or_no (mark_at marks p) ≡ yes_or_no (mark_at others p)) → marks ≡ others
 marked n marks others long also same =
-    ext_get_or false marks others (long ∙ sym also) (λ p below. marks_say (mark_at marks p) (mark_at others p) (same p (omega (arith, below, long))))
+    ext_get_or false marks others (long ∙ sym also)
+    (λ p below. marks_say (mark_at marks p) (mark_at others p) (same p (omega (arith, below, long))))
 
-pub row_says : (v w : SheetList) (n : ℕ) (row other : Row) → 1 ≤ n → IsPrintableRow 9 n row → IsPrintableRow 9 n other → HaveOneText v w n row other → row ≡ other
+pub row_says :
+    (v w : SheetList) (n : ℕ) (row other : Row) → 1 ≤ n → IsPrintableRow 9 n row → IsPrintableRow 9 n other
+    → HaveOneText v w n row other → row ≡ other
 row_says v w n row other some is also same =
     let first = same 0 (omega (arith, some)) in
-    let round = decimal_injective row.round other.round (omega (arith, is.round)) (omega (arith, also.round)) (ap (field 0) first) in
+    let round =
+    decimal_injective row.round other.round (omega (arith, is.round)) (omega (arith, also.round))
+    (ap (field 0) first) in
     let iteration = decimal_injective row.iteration other.iteration is.iteration also.iteration (ap (field 1) first) in
     let total = amounts_say row.total other.total is.total also.total (ap (field 12) first) in
     let quota = amounts_say row.quota other.quota is.quota also.quota (ap (field 13) first) in
     let surplus = amounts_say row.surplus other.surplus is.surplus also.surplus (ap (field 14) first) in
-    let elected = marked n row.elected other.elected is.of_all.elected also.of_all.elected (λ p below. ap (field 8) (same p below)) in
-    let capped = marked n row.capped other.capped is.of_all.capped also.of_all.capped (λ p below. ap (field 9) (same p below)) in
+    let elected =
+    marked n row.elected other.elected is.of_all.elected also.of_all.elected
+    (λ p below. ap (field 8) (same p below)) in
+    let capped =
+    marked n row.capped other.capped is.of_all.capped also.of_all.capped
+    (λ p below. ap (field 9) (same p below)) in
     let tied = marked n row.tied other.tied is.of_all.tied also.of_all.tied (λ p below. ap (field 10) (same p below)) in
-    let step = steps_say n row.step other.step row.tied other.tied is.of_all.tied also.of_all.tied is.tied also.tied (ap (field 15) first)
+    let step =
+    steps_say n row.step other.step row.tied other.tied is.of_all.tied also.of_all.tied is.tied also.tied
+    (ap (field 15) first)
     (λ p below. marks_say (defeats row.step (p + 1)) (defeats other.step (p + 1)) (ap (field 11) (same p below))) in
     λ i. record {
       round = round i;
@@ -62,17 +73,20 @@ row_says v w n row other some is also same =
     states : row.states ≡ other.states
     states =
         ext_get_or Withdrawn row.states other.states (is.of_all.states ∙ sym also.of_all.states)
-        (λ p below. states_say (state_at row.states p) (state_at other.states p) (ap (field 5) (same p (omega (arith, below, is.of_all.states)))))
+        (λ p below. states_say (state_at row.states p) (state_at other.states p)
+        (ap (field 5) (same p (omega (arith, below, is.of_all.states)))))
 
     keep : (r : Row) → IsPrintableRow 9 n r → (p : ℕ) → p < n → slice_index r.keeps p ≤ most 9
     keep r is p below =
-        keep_small (slice_index r.keeps p) (All-get_or (λ keep. keep ≤ scale 9) r.keeps p 0 (omega (arith, below, is.of_all.keeps)) is.keeps)
+        keep_small (slice_index r.keeps p)
+        (All-get_or (λ keep. keep ≤ scale 9) r.keeps p 0 (omega (arith, below, is.of_all.keeps)) is.keeps)
 
     keeps : row.keeps ≡ other.keeps
     keeps =
         ext_get_or 0 row.keeps other.keeps (is.of_all.keeps ∙ sym also.of_all.keeps)
         (λ p below. let here : p < n = omega (arith, below, is.of_all.keeps) in
-        amounts_say (slice_index row.keeps p) (slice_index other.keeps p) (keep row is p here) (keep other also p here) (ap (field 6) (same p here)))
+        amounts_say (slice_index row.keeps p) (slice_index other.keeps p) (keep row is p here)
+        (keep other also p here) (ap (field 6) (same p here)))
 
     vote : (r : Row) → IsPrintableRow 9 n r → (p : ℕ) → p < n → slice_index r.votes p ≤ most 9
     vote r is p below = All-get_or (λ vote. vote ≤ most 9) r.votes p 0 (omega (arith, below, is.of_all.votes)) is.votes
@@ -81,4 +95,5 @@ row_says v w n row other some is also same =
     votes =
         ext_get_or 0 row.votes other.votes (is.of_all.votes ∙ sym also.of_all.votes)
         (λ p below. let here : p < n = omega (arith, below, is.of_all.votes) in
-        amounts_say (slice_index row.votes p) (slice_index other.votes p) (vote row is p here) (vote other also p here) (ap (field 7) (same p here)))
+        amounts_say (slice_index row.votes p) (slice_index other.votes p) (vote row is p here)
+        (vote other also p here) (ap (field 7) (same p here)))

@@ -1,5 +1,6 @@
 -- What a table says of a sheet.
-use Rattle.std.proofs.Common.{◌≡◌, ◌∙◌, refl, sym, ap, subst, ℕ, ◌<◌, ◌≤◌, zero, suc, List, [], ◌∷◌, length, get_or, map, arith, inl, inr, length-append}
+use Rattle.std.proofs.Common.{◌≡◌, ◌∙◌, refl, sym, ap, subst, ℕ, ◌<◌, ◌≤◌, zero, suc, List, [], ◌∷◌, length}
+use Rattle.std.proofs.Common.{get_or, map, arith, inl, inr, length-append}
 use Rattle.std.specs.Prelude.{◌⊎◌, All}
 use Rattle.std.specs.List.{flat_map}
 use Rattle.std.proofs.lemmas.List.{ext_get_or}
@@ -28,15 +29,19 @@ HasFields fields = 1 ≤ length fields
 
 all_in_row : (v : SheetList) (row : Row) (ps : List ℕ) → All HasFields (map (csv_record v row) ps)
 all_in_row v row [] = All-nil HasFields
-all_in_row v row (p ∷ ps) = All-cons HasFields (csv_record v row p) (map (csv_record v row) ps) (omega arith) (all_in_row v row ps)
+all_in_row v row (p ∷ ps) =
+    All-cons HasFields (csv_record v row p) (map (csv_record v row) ps) (omega arith) (all_in_row v row ps)
 
 all_in_rows : (v : SheetList) (rows : List Row) → All HasFields (flat_map (row_records v) rows)
 all_in_rows v [] = All-nil HasFields
 all_in_rows v (row ∷ rows) =
-    All-append HasFields (row_records v row) (flat_map (row_records v) rows) (all_in_row v row (places (length v.names))) (all_in_rows v rows)
+    All-append HasFields (row_records v row) (flat_map (row_records v) rows)
+    (all_in_row v row (places (length v.names))) (all_in_rows v rows)
 
 pub tables_read : RecordsReadBack → TablesAreReadBack
-tables_read back v = back (csv_records v) (All-cons HasFields csv_head (flat_map (row_records v) v.rows) (omega arith) (all_in_rows v v.rows))
+tables_read back v =
+    back (csv_records v)
+    (All-cons HasFields csv_head (flat_map (row_records v) v.rows) (omega arith) (all_in_rows v v.rows))
 
 -- ---- the same records
 
@@ -51,7 +56,13 @@ fresh v (suc n) (row ∷ rows) some = refl
 
 no_run : (v : SheetList) (n : ℕ) (row : Row) (rows : List Row) → 1 ≤ n → [] ≡ runs v n (row ∷ rows) → ⊥
 no_run v n row rows some e =
-    omega (arith, some, ap (λ (l : List (List (List ℕ))). length l) e, length-append (map (csv_record v row) (places n)) (runs v n rows), length-map-range_with_len (csv_record v row) 0 n)
+    omega (
+      arith,
+      some,
+      ap (λ (l : List (List (List ℕ))). length l) e,
+      length-append (map (csv_record v row) (places n)) (runs v n rows),
+      length-map-range_with_len (csv_record v row) 0 n,
+    )
 
 -- so many candidates have one name and one last state in two sheets
 abbrev AreOnes : (v w : SheetList) → (n : ℕ) → Type 0
@@ -69,25 +80,42 @@ runs_say v w n m [] [] some few any small is also e = (refl, inl refl)
 runs_say v w n m [] (other ∷ others) some few any small is also e = absurd (no_run w m other others any e)
 runs_say v w n m (row ∷ rows) [] some few any small is also e = absurd (no_run v n row rows some (sym e))
 runs_say v w n m (row ∷ rows) (other ∷ others) some few any small is also e =
-    let parts = same_iterations (csv_record v row) (csv_record w other) n m (runs v n rows) (runs w m others) (λ p. refl) (λ p. refl) some few any small (fresh v n rows some) (fresh w m others any) e in
-    let same : HaveOneText v w n row other = λ p below. at_place (csv_record v row) (csv_record w other) n m p parts.0 below parts.1 in
-    let printable = subst (λ (k : ℕ). IsPrintableRow 9 k other) (sym parts.0) (All-head (IsPrintableRow 9 m) other others also) in
+    let parts =
+    same_iterations (csv_record v row) (csv_record w other) n m (runs v n rows) (runs w m others)
+    (λ p. refl) (λ p. refl) some few any small (fresh v n rows some) (fresh w m others any) e in
+    let same : HaveOneText v w n row other =
+    λ p below. at_place (csv_record v row) (csv_record w other) n m p parts.0 below parts.1 in
+    let printable =
+    subst (λ (k : ℕ). IsPrintableRow 9 k other) (sym parts.0)
+    (All-head (IsPrintableRow 9 m) other others also) in
     let here = row_says v w n row other some (All-head (IsPrintableRow 9 n) row rows is) printable same in
-    let more = runs_say v w n m rows others some few any small (All-tail (IsPrintableRow 9 n) row rows is) (All-tail (IsPrintableRow 9 m) other others also) parts.2 in (
+    let more =
+    runs_say v w n m rows others some few any small (All-tail (IsPrintableRow 9 n) row rows is)
+    (All-tail (IsPrintableRow 9 m) other others also) parts.2 in (
       (λ i. here i ∷ more.0 i),
-      inr (parts.0, λ p below. (ap (field 3) (same p below), states_say (state_at v.last p) (state_at w.last p) (ap (field 4) (same p below)))),
+      inr (
+        parts.0,
+        λ p below. (
+          ap (field 3) (same p below),
+          states_say (state_at v.last p) (state_at w.last p) (ap (field 4) (same p below)),
+        ),
+      ),
     )
 
 -- ---- the same tables
 
-ones : (v w : SheetList) → IsPrintable 9 v → IsPrintable 9 w → length v.names ≡ length w.names → AreOnes v w (length v.names) → (v.names ≡ w.names) × (v.last ≡ w.last)
+ones :
+    (v w : SheetList) → IsPrintable 9 v → IsPrintable 9 w → length v.names ≡ length w.names
+    → AreOnes v w (length v.names) → (v.names ≡ w.names) × (v.last ≡ w.last)
 ones v w is also long same = (
   ext_get_or [] v.names w.names long (λ p below. (same p below).0),
-  ext_get_or Withdrawn v.last w.last (is.last ∙ long ∙ sym also.last) (λ p below. (same p (omega (arith, below, is.last))).1),
+  ext_get_or Withdrawn v.last w.last (is.last ∙ long ∙ sym also.last)
+      (λ p below. (same p (omega (arith, below, is.last))).1),
 )
 
 said : (v w : SheetList) → IsPrintable 9 v → IsPrintable 9 w
-    → (v.rows ≡ w.rows) × ((v.rows ≡ []) ⊎ ((length v.names ≡ length w.names) × AreOnes v w (length v.names))) → HaveOneTable v w
+    → (v.rows ≡ w.rows) × ((v.rows ≡ []) ⊎ ((length v.names ≡ length w.names) × AreOnes v w (length v.names)))
+    → HaveOneTable v w
 said v w is also (rows, inl none) = record { iterations = rows; candidates = inl none }
 said v w is also (rows, inr same) = record { iterations = rows; candidates = inr (ones v w is also same.0 same.1) }
 
@@ -107,6 +135,7 @@ tables_say back v w is also = (
   λ e.
       let records = sym (tables_read back v) ∙ ap (read [] (Outside [])) e ∙ tables_read back w in
       let rows = (heads csv_head csv_head (flat_map (row_records v) v.rows) (flat_map (row_records w) w.rows) records).1 in
-      said v w is also (runs_say v w (length v.names) (length w.names) v.rows w.rows is.candidates.0 is.candidates.1 also.candidates.0 also.candidates.1 is.rows also.rows rows),
+      said v w is also (runs_say v w (length v.names) (length w.names) v.rows w.rows is.candidates.0
+      is.candidates.1 also.candidates.0 also.candidates.1 is.rows also.rows rows),
   one_table v w,
 )

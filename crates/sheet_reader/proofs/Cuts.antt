@@ -1,5 +1,6 @@
 -- A text is cut at the first of a byte in one way.
-use Rattle.std.proofs.Common.{take, length, ◌≡◌, ℕ, ◌+◌, ◌*◌, ◌/◌, ◌%◌, ◌^◌, ◌<◌, ◌≤◌, Bool, true, false, cond, eqb, List, [], ◌∷◌, ◌++◌, get_or, refl, sym, ◌∙◌, ap, subst, arith}
+use Rattle.std.proofs.Common.{take, length, ◌≡◌, ℕ, ◌+◌, ◌*◌, ◌/◌, ◌%◌, ◌^◌, ◌<◌, ◌≤◌, Bool, true, false}
+use Rattle.std.proofs.Common.{cond, eqb, List, [], ◌∷◌, ◌++◌, get_or, refl, sym, ◌∙◌, ap, subst, arith}
 use Rattle.std.specs.Prelude.{decimal, ◌≢◌, Option, Some, None}
 use Rattle.std.proofs.lemmas.Bool.{ne_eqb}
 use Rattle.std.proofs.lemmas.Grind.{take_at_read}
@@ -25,7 +26,9 @@ first_other b d bs h = by (eqb b d) h
 heads : (a b : ℕ) (xs ys : List ℕ) → a ∷ xs ≡ b ∷ ys → (a ≡ b) × (xs ≡ ys)
 heads a b xs ys e = (cc, cc)
 
-pub cut_once : (d : ℕ) (xs ys back other : List ℕ) → IsWithout d xs → IsWithout d ys → xs ++ d ∷ back ≡ ys ++ d ∷ other → (xs ≡ ys) × (back ≡ other)
+pub cut_once :
+    (d : ℕ) (xs ys back other : List ℕ) → IsWithout d xs → IsWithout d ys → xs ++ d ∷ back ≡ ys ++ d ∷ other
+    → (xs ≡ ys) × (back ≡ other)
 cut_once d [] [] back other p q e = (refl, (heads d d back other e).1)
 cut_once d [] (y ∷ ys) back other p q e =
     let h = heads d y back (ys ++ d ∷ other) e in absurd (itself d y (sym h.0) (first_other y d ys q).0)
@@ -54,7 +57,8 @@ differs c d l = grind arith
 digits_without : (d : ℕ) (ds : List ℕ) → d < 48 → AllDigits 10 ds → IsWithout d ds
 digits_without d [] low all = refl
 digits_without d (c ∷ cs) low all =
-    ap (λ (t : Bool). cond t false (is_without d cs)) (differs c d (omega (arith, digit_from_value c all.0))) ∙ digits_without d cs low all.1
+    ap (λ (t : Bool). cond t false (is_without d cs)) (differs c d (omega (arith, digit_from_value c all.0)))
+    ∙ digits_without d cs low all.1
 
 pub decimal_without : (d n : ℕ) → d < 48 → n < 2 ^ 64 → IsWithout d (decimal n)
 decimal_without d n low small = digits_without d (decimal n) low (decimal_is_IsNumeral n small).0.1
@@ -97,10 +101,13 @@ amount_without d places units low few small =
     without-append d (decimal (units / scale places)) (46 ∷ last_digits places (units % scale places))
     (decimal_without d (units / scale places) (omega (arith, low)) (omega (arith, whole_small places units few small)))
     (ap (λ (t : Bool). cond t false (is_without d (last_digits places (units % scale places)))) (differs 46 d low)
-    ∙ digits_without d (last_digits places (units % scale places)) (omega (arith, low)) (digits-last_digits places (units % scale places)))
+    ∙ digits_without d (last_digits places (units % scale places)) (omega (arith, low))
+    (digits-last_digits places (units % scale places)))
 
 -- an amount has one text
-pub amount_injective : (places u w : ℕ) → 6 ≤ places → places ≤ 9 → u ≤ most places → w ≤ most places → text_of places u ≡ text_of places w → u ≡ w
+pub amount_injective :
+    (places u w : ℕ) → 6 ≤ places → places ≤ 9 → u ≤ most places → w ≤ most places
+    → text_of places u ≡ text_of places w → u ≡ w
 amount_injective places u w some few small other e =
     let p = parts_of_text places u (text_of places u) some few small refl in
     let q = parts_of_text places w (text_of places u) some few other e in
@@ -110,9 +117,12 @@ amount_injective places u w some few small other e =
 pub without-push : (d : ℕ) (xs : List ℕ) (b : ℕ) → IsWithout d xs → b ≢ d → IsWithout d (xs ++ b ∷ [])
 without-push d xs b p n = without-append d xs (b ∷ []) p (ap (λ (t : Bool). cond t false true) (ne_eqb b d n))
 
-pub without-next : (d : ℕ) (xs : List ℕ) (i : ℕ) → i < length xs → IsWithout d (take i xs) → get_or xs i 0 ≢ d → IsWithout d (take (i + 1) xs)
+pub without-next :
+    (d : ℕ) (xs : List ℕ) (i : ℕ) → i < length xs → IsWithout d (take i xs) → get_or xs i 0 ≢ d
+    → IsWithout d (take (i + 1) xs)
 without-next d xs i in_range p n =
-    subst (λ (l : List ℕ). IsWithout d l) (sym (take_at_read xs i 0 in_range).1) (without-push d (take i xs) (get_or xs i 0) p n)
+    subst (λ (l : List ℕ). IsWithout d l) (sym (take_at_read xs i 0 in_range).1)
+    (without-push d (take i xs) (get_or xs i 0) p n)
 
 -- a text with the byte is not without it
 pub without_none : (d : ℕ) (xs ys text : List ℕ) → IsWithout d text → text ≡ xs ++ d ∷ ys → ⊥
@@ -137,7 +147,9 @@ four_parts a b c e a' b' c' e' text is other p p' q q' r r' =
     (one.0, two.0, three.0, three.1)
 
 -- the second part is what stands behind the first space
-pub behind : (d : ℕ) (xs ys back other text : List ℕ) → text ≡ xs ++ d ∷ back → IsWithout d xs → IsWithout d ys → text ≡ ys ++ d ∷ other → back ≡ other
+pub behind :
+    (d : ℕ) (xs ys back other text : List ℕ) → text ≡ xs ++ d ∷ back → IsWithout d xs → IsWithout d ys
+    → text ≡ ys ++ d ∷ other → back ≡ other
 behind d xs ys back other text is p q e = (cut_once d xs ys back other p q (sym is ∙ e)).1
 
 pub none_some : {A : Type 0} (r : Option A) (x : A) → r ≡ None → r ≡ Some x → ⊥

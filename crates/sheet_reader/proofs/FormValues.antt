@@ -18,12 +18,15 @@ use Rattle.sheet_reader.proofs.RowValues.{each_place-at, rows_say}
 use Rattle.sheet_reader.proofs.SheetLines.{form_lines}
 
 number_once : (word : List ℕ) (m n : ℕ) → m ≤ 999999999 → n ≤ 999999999 → word ++ decimal m ≡ word ++ decimal n → m ≡ n
-number_once word m n small few e = decimal_injective m n (omega (arith, small)) (omega (arith, few)) (behind_front word (decimal m) (decimal n) e)
+number_once word m n small few e =
+    decimal_injective m n (omega (arith, small)) (omega (arith, few))
+    (behind_front word (decimal m) (decimal n) e)
 
 -- the lines of the result say all last states and all names
 outcomes_say : (n : ℕ) (states others : List State) (names called : List (List ℕ)) → n ≤ 250
     → length states ≡ n → length others ≡ n → length names ≡ n → length called ≡ n
-    → each_place n (outcome_line states names) ≡ each_place n (outcome_line others called) → (states ≡ others) × (names ≡ called)
+    → each_place n (outcome_line states names) ≡ each_place n (outcome_line others called)
+    → (states ≡ others) × (names ≡ called)
 outcomes_say n states others names called few ls lo ln lc e = (
   ext_get_or Withdrawn states others (ls ∙ sym lo) (λ p below. (at p (omega (arith, below, ls))).0),
   ext_get_or [] names called (ln ∙ sym lc) (λ p below. (at p (omega (arith, below, ln))).1),
@@ -31,27 +34,46 @@ outcomes_say n states others names called few ls lo ln lc e = (
   where
     at : (p : ℕ) → p < n → (state_at states p ≡ state_at others p) × (slice_index_or names p [] ≡ slice_index_or called p [])
     at p below =
-        outcome_once p (state_at states p) (state_at others p) (slice_index_or names p []) (slice_index_or called p []) (omega (arith, below, few))
-        (sym (outcome_line_is states names p) ∙ each_place-at (outcome_line states names) (outcome_line others called) n p [] below e ∙ outcome_line_is others called p)
+        outcome_once p (state_at states p) (state_at others p) (slice_index_or names p [])
+        (slice_index_or called p []) (omega (arith, below, few))
+        (sym (outcome_line_is states names p)
+        ∙ each_place-at (outcome_line states names) (outcome_line others called) n p [] below e
+        ∙ outcome_line_is others called p)
 
 -- two lists of values of which a text is the sheet are one
 pub form_says : FormSaysItsValues
 form_says bytes v w is also =
     let n = length v.names in
-    let title = heads (codes "title " ++ v.title) (codes "title " ++ w.title) (behind_title v) (behind_title w) (sym (form_lines bytes v is) ∙ form_lines bytes w also) in
+    let title =
+    heads (codes "title " ++ v.title) (codes "title " ++ w.title) (behind_title v) (behind_title w)
+    (sym (form_lines bytes v is) ∙ form_lines bytes w also) in
     let seats = heads (codes "seats " ++ decimal v.seats) (codes "seats " ++ decimal w.seats) _ _ title.1 in
-    let candidates = heads (codes "candidates " ++ decimal (length v.names)) (codes "candidates " ++ decimal (length w.names)) _ _ seats.1 in
-    let ballots = heads (codes "ballots " ++ decimal v.ballots) (codes "ballots " ++ decimal w.ballots) (behind_counts v) (behind_counts w) candidates.1 in
+    let candidates =
+    heads (codes "candidates " ++ decimal (length v.names))
+    (codes "candidates " ++ decimal (length w.names)) _ _ seats.1 in
+    let ballots =
+    heads (codes "ballots " ++ decimal v.ballots) (codes "ballots " ++ decimal w.ballots)
+    (behind_counts v) (behind_counts w) candidates.1 in
     let same : n ≡ length w.names =
-    number_once (codes "candidates ") n (length w.names) (omega (arith, is.in_range.candidates.1)) (omega (arith, also.in_range.candidates.1)) candidates.0 in
-    let rows = rows_say n v.rows w.rows (outcomes_of v) (outcomes_of w) is.in_range.candidates.1 is.in_range.rows (rows_of n bytes w same also) ballots.1 in
+    number_once (codes "candidates ") n (length w.names) (omega (arith, is.in_range.candidates.1))
+    (omega (arith, also.in_range.candidates.1)) candidates.0 in
+    let rows =
+    rows_say n v.rows w.rows (outcomes_of v) (outcomes_of w) is.in_range.candidates.1 is.in_range.rows
+    (rows_of n bytes w same also) ballots.1 in
     let lw : length w.last ≡ n = also.in_range.last ∙ sym same in
-    let outcomes = behind_as_long (each_place n (outcome_line v.last v.names)) (each_place n (outcome_line w.last w.names)) (codes "end" ∷ []) (codes "end" ∷ [])
+    let outcomes =
+    behind_as_long (each_place n (outcome_line v.last v.names))
+    (each_place n (outcome_line w.last w.names)) (codes "end" ∷ []) (codes "end" ∷ [])
     (length-each_place (outcome_line v.last v.names) n ∙ sym (length-each_place (outcome_line w.last w.names) n))
-    (ap (λ (k : ℕ). each_place k (outcome_line v.last v.names) ++ codes "end" ∷ []) (sym is.in_range.last) ∙ rows.1 ∙ ap (λ (k : ℕ). each_place k (outcome_line w.last w.names) ++ codes "end" ∷ []) lw) in
-    let result = outcomes_say n v.last w.last v.names w.names is.in_range.candidates.1 is.in_range.last lw refl (sym same) outcomes.0 in
+    (ap (λ (k : ℕ). each_place k (outcome_line v.last v.names) ++ codes "end" ∷ []) (sym is.in_range.last)
+    ∙ rows.1 ∙ ap (λ (k : ℕ). each_place k (outcome_line w.last w.names) ++ codes "end" ∷ []) lw) in
+    let result =
+    outcomes_say n v.last w.last v.names w.names is.in_range.candidates.1 is.in_range.last lw refl
+    (sym same) outcomes.0 in
     let titles = behind_front (codes "title ") v.title w.title title.0 in
-    let chairs = number_once (codes "seats ") v.seats w.seats (omega (arith, is.in_range.seats.1)) (omega (arith, also.in_range.seats.1)) seats.0 in
+    let chairs =
+    number_once (codes "seats ") v.seats w.seats (omega (arith, is.in_range.seats.1))
+    (omega (arith, also.in_range.seats.1)) seats.0 in
     let counted = number_once (codes "ballots ") v.ballots w.ballots is.in_range.ballots also.in_range.ballots ballots.0 in
     λ i. record {
       title = titles i;

@@ -1,5 +1,7 @@
 -- The lines of a sheet are read part by part in one way.
-use Rattle.std.proofs.Common.{◌≡◌, ℕ, zero, suc, ◌+◌, ◌-◌, ◌<◌, Bool, true, false, cond, List, [], ◌∷◌, ◌++◌, length, replicate, refl, sym, ◌∙◌, ap, arith, append_assoc, append-nil, length-append, add-zero}
+use Rattle.std.proofs.Common.{◌≡◌, ℕ, zero, suc, ◌+◌, ◌-◌, ◌<◌, Bool, true, false, cond, List, [], ◌∷◌, ◌++◌}
+use Rattle.std.proofs.Common.{length, replicate, refl, sym, ◌∙◌, ap, arith, append_assoc, append-nil}
+use Rattle.std.proofs.Common.{length-append, add-zero}
 use Rattle.std.specs.Prelude.{◌≢◌}
 use Rattle.std.specs.List.{list_any}
 use Rattle.std.proofs.lemmas.List.FromFn.{map-range_with_len_more}
@@ -31,7 +33,8 @@ each_place-more f n = map-range_with_len_more f 0 n n (omega arith)
 pub length-each_place : {X : Type 0} (f : ℕ → X) (n : ℕ) → length (each_place n f) ≡ n
 length-each_place f zero = refl
 length-each_place f (suc n) =
-    let more : each_place (suc n) f ≡ each_place n f ++ f n ∷ [] = ap (λ (k : ℕ). each_place k f) {x = suc n} {y = n + 1} (omega arith) ∙ each_place-more f n in
+    let more : each_place (suc n) f ≡ each_place n f ++ f n ∷ [] =
+    ap (λ (k : ℕ). each_place k f) {x = suc n} {y = n + 1} (omega arith) ∙ each_place-more f n in
     ap (λ xs. length xs) more ∙ length-append (each_place n f) (f n ∷ []) ∙ omega (arith, length-each_place f n)
 
 -- equal at each place
@@ -49,7 +52,8 @@ each_place-front f n zero = ([], rw add-zero (sym (append-nil (each_place n f)))
 each_place-front {X = X} f n (suc k) =
     let before = each_place-front f n k in
     let more : each_place (n + k + 1) f ≡ each_place n f ++ (before.0 ++ f (n + k) ∷ []) =
-    each_place-more f (n + k) ∙ ap (λ (xs : List X). xs ++ f (n + k) ∷ []) before.1 ∙ append_assoc (each_place n f) before.0 (f (n + k) ∷ []) in
+    each_place-more f (n + k) ∙ ap (λ (xs : List X). xs ++ f (n + k) ∷ []) before.1
+    ∙ append_assoc (each_place n f) before.0 (f (n + k) ∷ []) in
     (before.0 ++ f (n + k) ∷ [], ap (λ (m : ℕ). each_place m f) (omega arith) ∙ more)
 
 -- The place p comes next, where the places before it were read.
@@ -58,15 +62,21 @@ pub next_place : {X : Type 0} (f g : ℕ → X) (p n : ℕ) (all left rest : Lis
 next_place {X} f g p n all left rest below read other =
     let front = each_place-front g (p + 1) (n - (p + 1)) in
     let split : each_place n g ≡ (each_place p g ++ g p ∷ []) ++ front.0 =
-    ap (λ (k : ℕ). each_place k g) {x = n} {y = p + 1 + (n - (p + 1))} (omega arith) ∙ front.1 ∙ ap (λ (xs : List X). xs ++ front.0) (each_place-more g p) in
+    ap (λ (k : ℕ). each_place k g) {x = n} {y = p + 1 + (n - (p + 1))} (omega arith) ∙ front.1
+    ∙ ap (λ (xs : List X). xs ++ front.0) (each_place-more g p) in
     let whole : each_place p f ++ left ≡ each_place p g ++ (g p ∷ (front.0 ++ rest)) =
     sym read ∙ other ∙ ap (λ (xs : List X). xs ++ rest) split
     ∙ append_assoc (each_place p g ++ g p ∷ []) front.0 rest
-    ∙ append_assoc (each_place p g) (g p ∷ []) (front.0 ++ rest) in
-    (front.0 ++ rest, (behind_as_long (each_place p f) (each_place p g) left (g p ∷ (front.0 ++ rest)) (length-each_place f p ∙ sym (length-each_place g p)) whole).1)
+    ∙ append_assoc (each_place p g) (g p ∷ []) (front.0 ++ rest) in (
+      front.0 ++ rest,
+      (behind_as_long (each_place p f) (each_place p g) left (g p ∷ (front.0 ++ rest))
+          (length-each_place f p ∙ sym (length-each_place g p)) whole).1,
+    )
 
 -- behind all places
-pub behind_places : {X : Type 0} (f g : ℕ → X) (n : ℕ) (left rest : List X) → each_place n f ++ left ≡ each_place n g ++ rest → left ≡ rest
+pub behind_places :
+    {X : Type 0} (f g : ℕ → X) (n : ℕ) (left rest : List X) → each_place n f ++ left ≡ each_place n g ++ rest
+    → left ≡ rest
 behind_places f g n left rest e =
     (behind_as_long (each_place n f) (each_place n g) left rest (length-each_place f n ∙ sym (length-each_place g n)) e).1
 
@@ -96,11 +106,15 @@ none_marked (suc n) = none_marked n
 pub no_line : (word : List ℕ) (n : ℕ) → marked_lines word (replicate n false) ≡ []
 no_line word n = ap (λ (t : Bool). cond t ((word ++ listed 1 (replicate n false)) ∷ []) []) (none_marked n)
 
-pub marked_or_not : (word : List ℕ) (marks : List Bool) (t : Bool) → list_any (λ mark. mark) marks ≡ t → marked_lines word marks ≡ cond t ((word ++ listed 1 marks) ∷ []) []
+pub marked_or_not :
+    (word : List ℕ) (marks : List Bool) (t : Bool) → list_any (λ mark. mark) marks ≡ t
+    → marked_lines word marks ≡ cond t ((word ++ listed 1 marks) ∷ []) []
 marked_or_not word marks t e = ap (λ (t : Bool). cond t ((word ++ listed 1 marks) ∷ []) []) e
 
 -- a line with a list that is not empty
-pub line_of_list : (word list : List ℕ) (marks : List Bool) → 0 < length list → list ≡ listed 1 marks → marked_lines word marks ≡ (word ++ list) ∷ []
+pub line_of_list :
+    (word list : List ℕ) (marks : List Bool) → 0 < length list → list ≡ listed 1 marks
+    → marked_lines word marks ≡ (word ++ list) ∷ []
 line_of_list word list marks some is = by (list_any (λ mark. mark) marks) refl
   where
     by : (t : Bool) → list_any (λ mark. mark) marks ≡ t → marked_lines word marks ≡ (word ++ list) ∷ []
@@ -114,7 +128,9 @@ pub without_line : (word : List ℕ) (marks : List Bool) (lines rest : List (Lis
 without_line word marks lines rest other is = by (list_any (λ mark. mark) marks) refl
   where
     by : (t : Bool) → list_any (λ mark. mark) marks ≡ t → lines ≡ rest
-    by true e = absurd (other (listed 1 marks) rest (is ∙ ap (λ (ls : List (List ℕ)). ls ++ rest) (marked_or_not word marks true e)))
+    by true e =
+        absurd (other (listed 1 marks) rest
+        (is ∙ ap (λ (ls : List (List ℕ)). ls ++ rest) (marked_or_not word marks true e)))
     by false e = is ∙ ap (λ (ls : List (List ℕ)). ls ++ rest) (marked_or_not word marks false e)
 
 -- Where a line begins with the word, and the rest does not, it is the line of the marks.
@@ -126,9 +142,13 @@ with_line word list marks lines new rest other first is = by (list_any (λ mark.
   where
     by : (t : Bool) → list_any (λ mark. mark) marks ≡ t → (list ≡ listed 1 marks) × (listed 1 marks ≢ []) × (new ≡ rest)
     by true e =
-        let h = heads (word ++ list) (word ++ listed 1 marks) new rest (sym first ∙ is ∙ ap (λ (ls : List (List ℕ)). ls ++ rest) (marked_or_not word marks true e)) in
+        let h =
+        heads (word ++ list) (word ++ listed 1 marks) new rest
+        (sym first ∙ is ∙ ap (λ (ls : List (List ℕ)). ls ++ rest) (marked_or_not word marks true e)) in
         (behind_front word list (listed 1 marks) h.0, any_some marks e 1, h.1)
-    by false e = absurd (other list new (sym (sym first ∙ is ∙ ap (λ (ls : List (List ℕ)). ls ++ rest) (marked_or_not word marks false e))))
+    by false e =
+        absurd (other list new (sym (sym first ∙ is
+        ∙ ap (λ (ls : List (List ℕ)). ls ++ rest) (marked_or_not word marks false e))))
 
 -- who stands among the tied is a candidate
 pub inside : (marks : List Bool) (p : ℕ) → mark_at marks p ≡ true → p < length marks

@@ -25,34 +25,54 @@ behind_counts v = rows_lines 9 v.rows ++ codes "result" ∷ outcomes_of v
 abbrev pub behind_title : SheetList → List (List ℕ)
 behind_title v = count_lines v.seats (length v.names) v.ballots ++ behind_counts v
 
-pub at_title : (bytes : List ℕ) (v : SheetList) (lines : List (List ℕ)) → lines ≡ lines_in bytes → HasForm 9 bytes v → lines ≡ (codes "title " ++ v.title) ∷ behind_title v
+pub at_title :
+    (bytes : List ℕ) (v : SheetList) (lines : List (List ℕ)) → lines ≡ lines_in bytes → HasForm 9 bytes v
+    → lines ≡ (codes "title " ++ v.title) ∷ behind_title v
 at_title bytes v lines e is = e ∙ form_lines bytes v is
 
 -- what stands behind the head that was read
-pub at_rows : (bytes title : List ℕ) (v : SheetList) (seats n ballots : ℕ) (lines new : List (List ℕ)) → lines ≡ lines_in bytes → HasForm 9 bytes v
+pub at_rows :
+    (bytes title : List ℕ) (v : SheetList) (seats n ballots : ℕ) (lines new : List (List ℕ))
+    → lines ≡ lines_in bytes → HasForm 9 bytes v
     → IsFew n → lines ≡ head_lines title seats n ballots ++ new → (n ≡ length v.names) × (new ≡ behind_counts v)
 at_rows bytes title v seats n ballots lines new e is few read =
-    let zero = heads (codes "title " ++ title) (codes "title " ++ v.title) (count_lines seats n ballots ++ new) (behind_title v) (sym read ∙ at_title bytes v lines e is) in
+    let zero =
+    heads (codes "title " ++ title) (codes "title " ++ v.title) (count_lines seats n ballots ++ new)
+    (behind_title v) (sym read ∙ at_title bytes v lines e is) in
     let one = heads (codes "seats " ++ decimal seats) (codes "seats " ++ decimal v.seats) _ _ zero.1 in
     let two = heads (codes "candidates " ++ decimal n) (codes "candidates " ++ decimal (length v.names)) _ _ one.1 in
-    let three = heads (codes "ballots " ++ decimal ballots) (codes "ballots " ++ decimal v.ballots) new (behind_counts v) two.1 in
-    (decimal_injective n (length v.names) (omega (arith, few.1)) (omega (arith, is.in_range.candidates.1)) (behind_front (codes "candidates ") (decimal n) (decimal (length v.names)) two.0), three.1)
+    let three =
+    heads (codes "ballots " ++ decimal ballots) (codes "ballots " ++ decimal v.ballots) new
+    (behind_counts v) two.1 in (
+      decimal_injective n (length v.names) (omega (arith, few.1)) (omega (arith, is.in_range.candidates.1))
+          (behind_front (codes "candidates ") (decimal n) (decimal (length v.names)) two.0),
+      three.1,
+    )
 
 -- the rows of these values have as many candidates as were read
-pub rows_of : (n : ℕ) (bytes : List ℕ) (v : SheetList) → n ≡ length v.names → HasForm 9 bytes v → All (IsPrintableRow 9 n) v.rows
+pub rows_of :
+    (n : ℕ) (bytes : List ℕ) (v : SheetList) → n ≡ length v.names → HasForm 9 bytes v
+    → All (IsPrintableRow 9 n) v.rows
 rows_of n bytes v same is = subst (λ (m : ℕ). All (IsPrintableRow 9 m) v.rows) (sym same) is.in_range.rows
 
-pub at_outcomes : (n : ℕ) (bytes : List ℕ) (v : SheetList) (rows : List Row) (l2 l3 : List (List ℕ)) → HasForm 9 bytes v → (n ≡ length v.names) × (l2 ≡ behind_counts v)
-    → All (IsPrintableRow 9 n) rows → l2 ≡ rows_lines 9 rows ++ codes "result" ∷ l3 → l3 ≡ each_place n (outcome_line v.last v.names) ++ codes "end" ∷ []
+pub at_outcomes :
+    (n : ℕ) (bytes : List ℕ) (v : SheetList) (rows : List Row) (l2 l3 : List (List ℕ)) → HasForm 9 bytes v
+    → (n ≡ length v.names) × (l2 ≡ behind_counts v)
+    → All (IsPrintableRow 9 n) rows → l2 ≡ rows_lines 9 rows ++ codes "result" ∷ l3
+    → l3 ≡ each_place n (outcome_line v.last v.names) ++ codes "end" ∷ []
 at_outcomes n bytes v rows l2 l3 is at all read =
     behind_rows n rows v.rows l3 (outcomes_of v) all (rows_of n bytes v at.0 is) (sym read ∙ at.1)
     ∙ ap (λ (k : ℕ). each_place k (outcome_line v.last v.names) ++ codes "end" ∷ []) (is.in_range.last ∙ sym at.0)
 
 -- the whole sheet was read
-pub sheet_read : {values : SheetList} (bytes : List ℕ) (n : ℕ) (lines l1 l2 : List (List ℕ)) → IsOfLines bytes → lines ≡ lines_in bytes
-    → IsName 1000 values.title × IsFew values.seats × IsFew n × (values.ballots ≤ 999999999) × (lines ≡ head_lines values.title values.seats n values.ballots ++ l1)
+pub sheet_read :
+    {values : SheetList} (bytes : List ℕ) (n : ℕ) (lines l1 l2 : List (List ℕ)) → IsOfLines bytes
+    → lines ≡ lines_in bytes
+    → IsName 1000 values.title × IsFew values.seats × IsFew n × (values.ballots ≤ 999999999)
+    × (lines ≡ head_lines values.title values.seats n values.ballots ++ l1)
     → All (IsPrintableRow 9 n) values.rows × (l1 ≡ rows_lines 9 values.rows ++ codes "result" ∷ l2)
-    → (length values.last ≡ n) × (length values.names ≡ n) × All (IsName 200) values.names × (l2 ≡ end_lines n values.last values.names)
+    → (length values.last ≡ n) × (length values.names ≡ n) × All (IsName 200) values.names
+    × (l2 ≡ end_lines n values.last values.names)
     → HasForm 9 bytes values
 sheet_read {values} bytes n lines l1 l2 ended e head rows outcomes = record {
   in_range = record {
@@ -65,7 +85,9 @@ sheet_read {values} bytes n lines l1 l2 ended e head rows outcomes = record {
     last = outcomes.0 ∙ sym outcomes.1;
   };
   text = ended ∙ ap (λ (ls : List (List ℕ)). text_of_lines ls) (sym e ∙ head.4
-      ∙ ap (λ (k : ℕ). head_lines values.title values.seats k values.ballots ++ l1) (sym outcomes.1) ∙ ap (λ (ls : List (List ℕ)). head_lines values.title values.seats (length values.names) values.ballots ++ ls)
+      ∙ ap (λ (k : ℕ). head_lines values.title values.seats k values.ballots ++ l1) (sym outcomes.1)
+      ∙ ap (λ (ls : List (List ℕ)). head_lines values.title values.seats (length values.names) values.ballots
+      ++ ls)
       (rows.1 ∙ ap (λ (ls : List (List ℕ)). rows_lines 9 values.rows ++ codes "result" ∷ ls)
       (outcomes.3 ∙ ap (λ (k : ℕ). end_lines k values.last values.names) (sym outcomes.0))));
 }
@@ -74,16 +96,20 @@ module _ (bytes : List ℕ) (lines : List (List ℕ)) (whole : lines ≡ lines_i
   -- where a part is missing, the text has no form
   pub head_stops : NoHead lines → (v : SheetList) → ¬ (HasForm 9 bytes v)
   head_stops none v is =
-      none v.title v.seats (length v.names) v.ballots (behind_counts v) is.in_range.title is.in_range.seats is.in_range.candidates is.in_range.ballots
+      none v.title v.seats (length v.names) v.ballots (behind_counts v) is.in_range.title is.in_range.seats
+      is.in_range.candidates is.in_range.ballots
       (at_title bytes v lines whole is)
 
-  module _ (title : List ℕ) (seats n ballots : ℕ) (l1 : List (List ℕ)) (few : IsFew n) (head : lines ≡ head_lines title seats n ballots ++ l1) where
+  module _ (title : List ℕ) (seats n ballots : ℕ) (l1 : List (List ℕ)) (few : IsFew n)
+      (head : lines ≡ head_lines title seats n ballots ++ l1) where
     pub rows_stop : NoRows n l1 → (v : SheetList) → ¬ (HasForm 9 bytes v)
     rows_stop none v is =
         let at = at_rows bytes title v seats n ballots lines l1 whole is few head in
         none v.rows (outcomes_of v) (rows_of n bytes v at.0 is) at.1
 
-    pub end_stops : (rows : List Row) (l2 : List (List ℕ)) → All (IsPrintableRow 9 n) rows → l1 ≡ rows_lines 9 rows ++ codes "result" ∷ l2
+    pub end_stops :
+        (rows : List Row) (l2 : List (List ℕ)) → All (IsPrintableRow 9 n) rows
+        → l1 ≡ rows_lines 9 rows ++ codes "result" ∷ l2
         → NoEnd n l2 → (v : SheetList) → ¬ (HasForm 9 bytes v)
     end_stops rows l2 all next none v is =
         let at = at_rows bytes title v seats n ballots lines l1 whole is few head in
@@ -91,9 +117,15 @@ module _ (bytes : List ℕ) (lines : List (List ℕ)) (whole : lines ≡ lines_i
 
 -- ---- where a first part is missing
 
-pub no_head : (lines : List (List ℕ)) → ((title : List ℕ) (rest : List (List ℕ)) → IsName 1000 title → lines ≢ (codes "title " ++ title) ∷ rest) → NoHead lines
-no_head lines none title seats candidates ballots rest named fs fc small = none title (count_lines seats candidates ballots ++ rest) named
+pub no_head :
+    (lines : List (List ℕ))
+    → ((title : List ℕ) (rest : List (List ℕ)) → IsName 1000 title → lines ≢ (codes "title " ++ title) ∷ rest)
+    → NoHead lines
+no_head lines none title seats candidates ballots rest named fs fc small =
+    none title (count_lines seats candidates ballots ++ rest) named
 
 pub no_end : (n : ℕ) (lines : List (List ℕ))
-    → ((states : List State) (names : List (List ℕ)) (rest : List (List ℕ)) → length names ≡ n → All (IsName 200) names → lines ≢ each_place n (outcome_line states names) ++ rest) → NoEnd n lines
+    → ((states : List State) (names : List (List ℕ)) (rest : List (List ℕ)) → length names ≡ n
+    → All (IsName 200) names → lines ≢ each_place n (outcome_line states names) ++ rest)
+    → NoEnd n lines
 no_end n lines none states names = none states names (codes "end" ∷ [])

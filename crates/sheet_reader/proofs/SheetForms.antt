@@ -13,7 +13,10 @@ use Rattle.sheet_reader.specs.Laws.{HasNames, values_of, SheetsHaveTheForm, Shee
 use Rattle.sheet_reader.proofs.FormValues.{values_are_read}
 
 -- what a count makes of an election has the form
-count_has_form : RowsStayInRange → (rule : Rule) (units : ℕ) (ballots : List (List ℕ)) (roll : RollList) (lots : List ℕ) (rows : List Row) (last : List State)
+count_has_form :
+    RowsStayInRange
+    → (rule : Rule) (units : ℕ) (ballots : List (List ℕ)) (roll : RollList) (lots : List ℕ) (rows : List Row)
+    (last : List State)
     → IsElection 9 units ballots roll lots → HasNames roll → IsCountUnder rule 9 units ballots roll lots rows last
     → HasForm 9 (text_of_lines (sheet_lines 9 roll (length ballots) rows last)) (values_of roll (length ballots) rows last)
 count_has_form in_range rule units ballots roll lots rows last is named counted =
@@ -37,10 +40,14 @@ sheets_have_form in_range one_count rule units ballots roll lots text rows last 
     let here = only.2.only rows last counted in
     let there = only.2.only sheet.0 sheet.1 sheet.2 in
     let same : text ≡ text_of_lines (sheet_lines 9 roll (length ballots) rows last) =
-    sheet.3 ∙ (λ i. text_of_lines (sheet_lines 9 roll (length ballots) ((there.0 ∙ sym here.0) i) ((there.1 ∙ sym here.1) i))) in
+    sheet.3
+    ∙ (λ i. text_of_lines
+    (sheet_lines 9 roll (length ballots) ((there.0 ∙ sym here.0) i) ((there.1 ∙ sym here.1) i))) in
     subst (λ (t : List ℕ). HasForm 9 t (values_of roll (length ballots) rows last)) (sym same)
     (count_has_form in_range rule units ballots roll lots rows last is named counted)
 
 pub sheets_are_read : RowsStayInRange → EachElectionHasOneCount → SheetsAreReadBack
 sheets_are_read in_range one_count rule units ballots roll lots text rows last result is named sheet counted read =
-    values_are_read text (values_of roll (length ballots) rows last) result (sheets_have_form in_range one_count rule units ballots roll lots text rows last is named sheet counted) read
+    values_are_read text (values_of roll (length ballots) rows last) result
+    (sheets_have_form in_range one_count rule units ballots roll lots text rows last is named sheet counted)
+    read

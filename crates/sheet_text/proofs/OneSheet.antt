@@ -14,22 +14,31 @@ use Rattle.sheet_text.specs.Laws.{EachElectionHasOneSheet, OrderOfBallotsLeavesT
 pub one_sheet : EachElectionHasOneSheet
 one_sheet rule places units ballots roll lots election =
     let count = one_count rule places units ballots roll lots election in
-    let text_with : List Row → List State → List ℕ = λ rows last. text_of_lines (sheet_lines places roll (length ballots) rows last) in (
+    let text_with : List Row → List State → List ℕ =
+    λ rows last. text_of_lines (sheet_lines places roll (length ballots) rows last) in (
       text_with count.0 count.1,
       (count.0, count.1, count.2.are, refl),
       λ other sheet.
           let same = count.2.only sheet.0 sheet.1 sheet.2 in
-          sheet.3 ∙ ap (λ (rows : List Row). text_with rows sheet.1) same.0 ∙ ap (λ (last : List State). text_with count.0 last) same.1,
+          sheet.3 ∙ ap (λ (rows : List Row). text_with rows sheet.1) same.0
+          ∙ ap (λ (last : List State). text_with count.0 last) same.1,
     )
 
-moved_sheet : (rule : Rule) (places units : ℕ) (ballots other : List (List ℕ)) (roll : RollList) (lots : List ℕ) (text : List ℕ) → IsPermutation ballots other → IsSheetUnder rule places units ballots roll lots text → IsSheetUnder rule places units other roll lots text
+moved_sheet :
+    (rule : Rule) (places units : ℕ) (ballots other : List (List ℕ)) (roll : RollList) (lots : List ℕ)
+    (text : List ℕ) → IsPermutation ballots other → IsSheetUnder rule places units ballots roll lots text
+    → IsSheetUnder rule places units other roll lots text
 moved_sheet rule places units ballots other roll lots text moved sheet = (
   sheet.0,
   sheet.1,
   (count-IsPermutation rule places units ballots other roll lots sheet.0 sheet.1 moved).0 sheet.2,
-  sheet.3 ∙ ap (λ (n : ℕ). text_of_lines (sheet_lines places roll n sheet.0 sheet.1)) (sym (length_permutation ballots other moved)),
+  sheet.3
+      ∙ ap (λ (n : ℕ). text_of_lines (sheet_lines places roll n sheet.0 sheet.1))
+      (sym (length_permutation ballots other moved)),
 )
 
 pub sheet-IsPermutation : OrderOfBallotsLeavesTheSheet
-sheet-IsPermutation rule places units ballots other roll lots text moved =
-    (moved_sheet rule places units ballots other roll lots text moved, moved_sheet rule places units other ballots roll lots text (IsPermutation-sym ballots other moved))
+sheet-IsPermutation rule places units ballots other roll lots text moved = (
+  moved_sheet rule places units ballots other roll lots text moved,
+  moved_sheet rule places units other ballots roll lots text (IsPermutation-sym ballots other moved),
+)

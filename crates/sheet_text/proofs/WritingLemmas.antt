@@ -1,5 +1,6 @@
 -- Lines written one after another.
-use Rattle.std.proofs.Common.{◌≡◌, ℕ, List, [], ◌∷◌, ◌++◌, Option, Result, Ok, Err, IsErr, arith, sym, ap, subst, refl, ◌∙◌, append_assoc, append-nil}
+use Rattle.std.proofs.Common.{◌≡◌, ℕ, List, [], ◌∷◌, ◌++◌, Option, Result, Ok, Err, IsErr, arith, sym, ap}
+use Rattle.std.proofs.Common.{subst, refl, ◌∙◌, append_assoc, append-nil}
 use Rattle.std.specs.Prelude.{OnOk, OnErr}
 use Rattle.std.specs.Io.KnownBytes.{Appends}
 use Rattle.std.proofs.KnownBytes.{Appends-nil, Appends-trans}
@@ -9,7 +10,9 @@ use Rattle.byte_edge.specs.Faults.{CountsFault}
 use Rattle.sheet_text.specs.Lines.{ended, text_of_lines}
 use Rattle.sheet_text.specs.Writing.{Wrote, Stopped, Writes}
 
-pub text_of_lines-append : (first second : List (List ℕ)) → text_of_lines (first ++ second) ≡ text_of_lines first ++ text_of_lines second
+pub text_of_lines-append :
+    (first second : List (List ℕ))
+    → text_of_lines (first ++ second) ≡ text_of_lines first ++ text_of_lines second
 unfolding text_of_lines
 text_of_lines-append first second = flat_map-append ended first second
 
@@ -21,13 +24,19 @@ pub wrote_nothing : {S : Type 0} (w : S → Option (List ℕ)) (f : S → ℕ) (
 unfolding text_of_lines
 wrote_nothing w f a = record { whole = Appends-nil (w a); calm = refl }
 
-pub wrote_later : {S : Type 0} {w : S → Option (List ℕ)} {f : S → ℕ} {a b c : S} {first second : List (List ℕ)} → Wrote w f a b first → Wrote w f b c second → Wrote w f a c (first ++ second)
+pub wrote_later :
+    {S : Type 0} {w : S → Option (List ℕ)} {f : S → ℕ} {a b c : S} {first second : List (List ℕ)}
+    → Wrote w f a b first → Wrote w f b c second → Wrote w f a c (first ++ second)
 wrote_later {w} {a} {b} {c} {first} {second} done next = record {
-  whole = rw text_of_lines-append (Appends-trans (w a) (w b) (w c) (text_of_lines first) (text_of_lines second) done.whole next.whole);
+  whole =
+      rw text_of_lines-append
+      (Appends-trans (w a) (w b) (w c) (text_of_lines first) (text_of_lines second) done.whole next.whole);
   calm = next.calm ∙ done.calm;
 }
 
-pub stopped_later : {S : Type 0} {w : S → Option (List ℕ)} {f : S → ℕ} {a b c : S} {first second : List (List ℕ)} → Wrote w f a b first → Stopped w f b c second → Stopped w f a c (first ++ second)
+pub stopped_later :
+    {S : Type 0} {w : S → Option (List ℕ)} {f : S → ℕ} {a b c : S} {first second : List (List ℕ)}
+    → Wrote w f a b first → Stopped w f b c second → Stopped w f a c (first ++ second)
 stopped_later {w} {f} {a} {b} {c} {first} {second} done next =
     let head = text_of_lines first in
     let front = next.part.0 in
@@ -46,12 +55,18 @@ stopped_later {w} {f} {a} {b} {c} {first} {second} done next =
     }
 
 -- behind lines that were written, further ones
-pub later : {S T E : Type 0} {w : S → Option (List ℕ)} {f : S → ℕ} {a b : S} {first : List (List ℕ)} (c : S) (second : List (List ℕ)) (r : Result T E) → Wrote w f a b first → Writes w f b c second r → Writes w f a c (first ++ second) r
+pub later :
+    {S T E : Type 0} {w : S → Option (List ℕ)} {f : S → ℕ} {a b : S} {first : List (List ℕ)} (c : S)
+    (second : List (List ℕ)) (r : Result T E) → Wrote w f a b first → Writes w f b c second r
+    → Writes w f a c (first ++ second) r
 later c second (Ok x) done next = wrote_later done next
 later c second (Err e) done next = stopped_later done next
 
 -- a failure within the first of some lines
-pub stops : {S T E : Type 0} {w : S → Option (List ℕ)} {f : S → ℕ} {a b : S} {first : List (List ℕ)} (second : List (List ℕ)) (r : Result T E) → IsErr r → Stopped w f a b first → Writes w f a b (first ++ second) r
+pub stops :
+    {S T E : Type 0} {w : S → Option (List ℕ)} {f : S → ℕ} {a b : S} {first : List (List ℕ)}
+    (second : List (List ℕ)) (r : Result T E) → IsErr r → Stopped w f a b first
+    → Writes w f a b (first ++ second) r
 stops second (Ok x) failed stopped = cc
 stops {first} second (Err e) failed stopped =
     let front = stopped.part.0 in
@@ -60,28 +75,42 @@ stops {first} second (Err e) failed stopped =
       part = (
         front,
         rest ++ text_of_lines second,
-        text_of_lines-append first second ∙ ap (λ (l : List ℕ). l ++ text_of_lines second) stopped.part.2 ∙ append_assoc front rest (text_of_lines second),
+        text_of_lines-append first second ∙ ap (λ (l : List ℕ). l ++ text_of_lines second) stopped.part.2
+            ∙ append_assoc front rest (text_of_lines second),
         stopped.part.3,
       );
       rose = stopped.rose;
     }
 
 -- what is written to a sink as one piece is a line
-pub writes_line : {S T E : Type 0} (w : S → Option (List ℕ)) (f : S → ℕ) (a b : S) (line text : List ℕ) (r : Result T E) → text ≡ line ++ 10 ∷ [] → OnOk r (Appends (w a) (w b) text) → OnErr r (AppendsFront (w a) (w b) text) → CountsFault (f a) (f b) r → Writes w f a b (line ∷ []) r
+pub writes_line :
+    {S T E : Type 0} (w : S → Option (List ℕ)) (f : S → ℕ) (a b : S) (line text : List ℕ) (r : Result T E)
+    → text ≡ line ++ 10 ∷ [] → OnOk r (Appends (w a) (w b) text) → OnErr r (AppendsFront (w a) (w b) text)
+    → CountsFault (f a) (f b) r → Writes w f a b (line ∷ []) r
 writes_line w f a b line text (Ok x) is all front faults =
     record { whole = subst (λ (t : List ℕ). Appends (w a) (w b) t) (is ∙ sym (text_of_lines-one line)) all; calm = faults }
 writes_line w f a b line text (Err e) is all front faults =
-    record { part = subst (λ (t : List ℕ). AppendsFront (w a) (w b) t) (is ∙ sym (text_of_lines-one line)) front; rose = faults }
+    record {
+      part =
+          subst (λ (t : List ℕ). AppendsFront (w a) (w b) t) (is ∙ sym (text_of_lines-one line)) front;
+      rose = faults;
+    }
 
 -- the same in the words of a public call
-pub all-Writes : {S T E : Type 0} (w : S → Option (List ℕ)) (f : S → ℕ) (a b : S) (lines : List (List ℕ)) (r : Result T E) → Writes w f a b lines r → OnOk r (Appends (w a) (w b) (text_of_lines lines))
+pub all-Writes :
+    {S T E : Type 0} (w : S → Option (List ℕ)) (f : S → ℕ) (a b : S) (lines : List (List ℕ)) (r : Result T E)
+    → Writes w f a b lines r → OnOk r (Appends (w a) (w b) (text_of_lines lines))
 all-Writes w f a b lines (Ok x) did = did.whole
 all-Writes w f a b lines (Err e) did = tt
 
-pub front-Writes : {S T E : Type 0} (w : S → Option (List ℕ)) (f : S → ℕ) (a b : S) (lines : List (List ℕ)) (r : Result T E) → Writes w f a b lines r → OnErr r (AppendsFront (w a) (w b) (text_of_lines lines))
+pub front-Writes :
+    {S T E : Type 0} (w : S → Option (List ℕ)) (f : S → ℕ) (a b : S) (lines : List (List ℕ)) (r : Result T E)
+    → Writes w f a b lines r → OnErr r (AppendsFront (w a) (w b) (text_of_lines lines))
 front-Writes w f a b lines (Ok x) did = tt
 front-Writes w f a b lines (Err e) did = did.part
 
-pub faults-Writes : {S T E : Type 0} (w : S → Option (List ℕ)) (f : S → ℕ) (a b : S) (lines : List (List ℕ)) (r : Result T E) → Writes w f a b lines r → CountsFault (f a) (f b) r
+pub faults-Writes :
+    {S T E : Type 0} (w : S → Option (List ℕ)) (f : S → ℕ) (a b : S) (lines : List (List ℕ)) (r : Result T E)
+    → Writes w f a b lines r → CountsFault (f a) (f b) r
 faults-Writes w f a b lines (Ok x) did = did.calm
 faults-Writes w f a b lines (Err e) did = did.rose

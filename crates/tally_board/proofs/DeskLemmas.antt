@@ -14,18 +14,28 @@ use Rattle.tally_board.proofs.MoveLemmas.{story_more}
 use Rattle.tally_board.proofs.RuleLemmas.{absorbed, looks, newest, newest_noted, noted_more, steps_push}
 
 -- one move more, with a note of all before it
-pub scribe_more : (v : View) (b : Board) (es es' : List Entry) (e : Entry) (all all' : Told) → IsScribe v b es all → es' ≡ es ++ e ∷ [] → e.before ≡ all
-    → CanMove (totals_after (candidates_of b) (shown b ++ steps es)) e.step → all' ≡ record { board = all.board; moves = all.moves ++ e.step ∷ [] } → IsScribe v b es' all'
+pub scribe_more :
+    (v : View) (b : Board) (es es' : List Entry) (e : Entry) (all all' : Told) → IsScribe v b es all
+    → es' ≡ es ++ e ∷ [] → e.before ≡ all
+    → CanMove (totals_after (candidates_of b) (shown b ++ steps es)) e.step
+    → all' ≡ record { board = all.board; moves = all.moves ++ e.step ∷ [] } → IsScribe v b es' all'
 scribe_more v b es es' e all all' is longer noted can more =
     let same : all'.board ≡ all.board = ap (λ t. t.board) more in
-    let before : e.before ≡ record { board = all.board; moves = shown b ++ steps es } = noted ∙ (λ i. record { board = all.board; moves = is.moves i }) in
+    let before : e.before ≡ record { board = all.board; moves = shown b ++ steps es } =
+    noted ∙ (λ i. record { board = all.board; moves = is.moves i }) in
     let pushed : steps es' ≡ steps es ++ e.step ∷ [] = ap steps longer ∙ steps_push es e in record {
       candidates = is.candidates;
       home = is.home;
       board = is.board ∙ sym same;
       noted = is.noted;
-      entries_noted = subst (λ z. AreNoted z (shown b) es') (sym same) (subst (AreNoted all.board (shown b)) (sym longer) (noted_more all.board (shown b) es e is.entries_noted before));
-      moves = ap (λ t. t.moves) more ∙ (ap (λ ms. ms ++ e.step ∷ []) is.moves ∙ (append_assoc (shown b) (steps es) (e.step ∷ []) ∙ ap (λ ms. shown b ++ ms) (sym pushed)));
+      entries_noted =
+          subst (λ z. AreNoted z (shown b) es') (sym same) (subst (AreNoted all.board (shown b)) (sym longer)
+          (noted_more all.board (shown b) es e is.entries_noted before));
+      moves =
+          ap (λ t. t.moves) more
+          ∙ (ap (λ ms. ms ++ e.step ∷ []) is.moves
+          ∙ (append_assoc (shown b) (steps es) (e.step ∷ [])
+          ∙ ap (λ ms. shown b ++ ms) (sym pushed)));
       story = story_more (candidates_of b) (shown b) (steps es) (steps es') e.step is.story can pushed;
     }
 
@@ -35,15 +45,23 @@ taken b = (candidates_of b, (shown b, b.before))
 
 -- the board went on by these entries
 abbrev pub Took : Board → Board → List Entry → Type 0
-Took b next es = taken next ≡ fold (λ (s : ℕ × (List Move × Told)) (e : Entry). (s.0, (s.1.0 ++ e.step ∷ [], e.before))) (taken b) es
+Took b next es =
+    taken next
+    ≡ fold (λ (s : ℕ × (List Move × Told)) (e : Entry). (s.0, (s.1.0 ++ e.step ∷ [], e.before))) (taken b) es
 
 -- a board without moves stays so
-pub begins_on : (seat : ℕ) (v : View) (b next : Board) (es : List Entry) → es ≡ [] → shown b ≡ [] → b.before.moves ≡ [] → Took b next es → TurnsAt Keeps seat v b next Looks
+pub begins_on :
+    (seat : ℕ) (v : View) (b next : Board) (es : List Entry) → es ≡ [] → shown b ≡ [] → b.before.moves ≡ []
+    → Took b next es → TurnsAt Keeps seat v b next Looks
 begins_on seat v b next es none bare unnoted took =
-    let same : taken next ≡ taken b = took ∙ ap (λ xs. fold (λ (s : ℕ × (List Move × Told)) (e : Entry). (s.0, (s.1.0 ++ e.step ∷ [], e.before))) (taken b) xs) none in
+    let same : taken next ≡ taken b =
+    took
+    ∙ ap (λ xs. fold (λ (s : ℕ × (List Move × Told)) (e : Entry). (s.0, (s.1.0 ++ e.step ∷ [], e.before)))
+    (taken b) xs) none in
     let moves : shown next ≡ shown b = ap (λ (t : ℕ × (List Move × Told)). t.1.0) same in
     let note : next.before ≡ b.before = ap (λ (t : ℕ × (List Move × Told)). t.1.1) same in
-    looks seat v b next (ap (λ t. t.board) (sym note)) (ap (λ (t : ℕ × (List Move × Told)). t.0) (sym same)) ([], moves ∙ sym (append-nil (shown b)))
+    looks seat v b next (ap (λ t. t.board) (sym note)) (ap (λ (t : ℕ × (List Move × Told)). t.0) (sym same))
+    ([], moves ∙ sym (append-nil (shown b)))
     (subst (λ (ms : List Move). ∥ IsStory (candidates_of next) ms ∥₁) (sym (moves ∙ bare)) ∣ tt ∣₁)
     (ap (λ t. t.moves) note ∙ (unnoted ∙ ap front (sym (moves ∙ bare))))
 

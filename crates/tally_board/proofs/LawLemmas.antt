@@ -1,5 +1,6 @@
 -- The steps of a chronicle keep the rule of its book.
-use Rattle.std.proofs.Common.{◌≡◌, ℕ, zero, suc, ◌<◌, ◌==◌, true, false, List, [], ◌∷◌, ◌++◌, length, refl, ap, sym, ◌∙◌, subst, arith, inl, None, set, true≢false}
+use Rattle.std.proofs.Common.{◌≡◌, ℕ, zero, suc, ◌<◌, ◌==◌, true, false, List, [], ◌∷◌, ◌++◌, length, refl}
+use Rattle.std.proofs.Common.{ap, sym, ◌∙◌, subst, arith, inl, None, set, true≢false}
 use Rattle.std.proofs.lemmas.List.{append-nil, get_or-set_same}
 use prog.Atomic.{either}
 use Rattle.logbook.specs.Pages.{Cell, Nib, cell, adds, gives, no_nib, may_write, step, Moves}
@@ -41,7 +42,9 @@ set_long [] k c = refl
 set_long (d ∷ cs) zero c = refl
 set_long (d ∷ cs) (suc k) c = ap suc (set_long cs k c)
 
-spent_still : (cs ds : List Cell) (log : List Line) → ((j : ℕ) → IsHome cs j → IsHome ds j) → AreSpent cs log → AreSpent ds log
+spent_still :
+    (cs ds : List Cell) (log : List Line) → ((j : ℕ) → IsHome cs j → IsHome ds j) → AreSpent cs log
+    → AreSpent ds log
 spent_still cs ds [] more h = tt
 spent_still cs ds (l ∷ ls) more h = (more l.key h.0, spent_still cs ds ls more h.1)
 
@@ -51,13 +54,18 @@ and_one cs (x ∷ xs) l h one = (h.0, and_one cs xs l h.1 one)
 
 unspent : (cs : List Cell) (log : List Line) (k : ℕ) → AreSpent cs log → (cell cs k).1 ≡ false → IsUnspent k log
 unspent cs [] k h away = tt
-unspent cs (l ∷ ls) k h away = (λ e. true≢false (sym h.0 ∙ (ap (λ (j : ℕ). (cell cs j).1) e ∙ away)), unspent cs ls k h.1 away)
+unspent cs (l ∷ ls) k h away =
+    (λ e. true≢false (sym h.0 ∙ (ap (λ (j : ℕ). (cell cs j).1) e ∙ away)), unspent cs ls k h.1 away)
 
 -- a key may be opened at any time
-pub opens : (v : List Line) (e : Line) → Moves IsKept shown moved 0 (v, (no_nib, None)) (λ n. either (n == 0) 0 n) (Opened (step 0 0 0 e) (v, (no_nib, None)))
+pub opens :
+    (v : List Line) (e : Line)
+    → Moves IsKept shown moved 0 (v, (no_nib, None)) (λ n. either (n == 0) 0 n)
+    (Opened (step 0 0 0 e) (v, (no_nib, None)))
 opens v e cs log kept pre away =
     let n = either ((cell cs 0).0 == 0) 0 (cell cs 0).0 in let ds = set cs 0 (n, true) in
-    let still : (j : ℕ) → IsHome cs j → IsHome (ds ++ (0, false) ∷ []) j = λ j h. home_push ds (0, false) j (home_set cs 0 n j h) in (
+    let still : (j : ℕ) → IsHome cs j → IsHome (ds ++ (0, false) ∷ []) j =
+    λ j h. home_push ds (0, false) j (home_set cs 0 n j h) in (
       home_in cs 0 kept.head,
       kept.head,
       (
@@ -65,20 +73,31 @@ opens v e cs log kept pre away =
         [],
         None,
         tt,
-        record { head = still 0 kept.head; spent = subst (AreSpent (ds ++ (0, false) ∷ [])) (sym (append-nil log)) (spent_still cs (ds ++ (0, false) ∷ []) log still kept.spent) },
+        record {
+          head = still 0 kept.head;
+          spent =
+              subst (AreSpent (ds ++ (0, false) ∷ [])) (sym (append-nil log))
+              (spent_still cs (ds ++ (0, false) ∷ []) log still kept.spent);
+        },
         inl (refl, refl),
         (length cs, refl),
       ),
     )
 
 -- who holds the pen of a key may spend it
-pub spends : (v : List Line) (p : Nib) (e : Line) → p.right ≡ may_write → Moves IsKept shown moved 0 (v, (p, None)) (λ n. either (n == 0) 0 n) (Added (step 0 0 0 e) (v, (p, None)))
+pub spends :
+    (v : List Line) (p : Nib) (e : Line) → p.right ≡ may_write
+    → Moves IsKept shown moved 0 (v, (p, None)) (λ n. either (n == 0) 0 n)
+    (Added (step 0 0 0 e) (v, (p, None)))
 spends v p e may cs log kept pre away =
     let l : Line = record { key = p.key; step = e.step; next = e.next } in
-    let n = either ((cell cs 0).0 == 0) 0 (cell cs 0).0 in let ds = set cs 0 (n, true) in let after = set ds p.key (p.value, true) in
+    let n =
+    either ((cell cs 0).0 == 0) 0 (cell cs 0).0 in
+    let ds = set cs 0 (n, true) in let after = set ds p.key (p.value, true) in
     let here = away may in
     let still : (j : ℕ) → IsHome cs j → IsHome after j = λ j h. home_set ds p.key p.value j (home_set cs 0 n j h) in
-    let one : IsHome after p.key = set_home ds p.key p.value (subst (λ (m : ℕ). p.key < m) (sym (set_long cs 0 (n, true))) here.0) in (
+    let one : IsHome after p.key =
+    set_home ds p.key p.value (subst (λ (m : ℕ). p.key < m) (sym (set_long cs 0 (n, true))) here.0) in (
       home_in cs 0 kept.head,
       kept.head,
       (

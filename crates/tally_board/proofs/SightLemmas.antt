@@ -10,7 +10,9 @@ use Rattle.tally_board.specs.There.{IsThere}
 use Rattle.tally_board.specs.Told.{Name, Told}
 use Rattle.tally_board.proofs.RuleLemmas.{begins_more}
 
-one_board : (y z : Name) (o : Option Told) → IsThere (λ (t : Told). t.board ≡ z) o → ((t : Told) → o ≡ Some t → t.board ≡ y) → y ≡ z
+one_board :
+    (y z : Name) (o : Option Told) → IsThere (λ (t : Told). t.board ≡ z) o
+    → ((t : Told) → o ≡ Some t → t.board ≡ y) → y ≡ z
 one_board y z None h k = absurd h
 one_board y z (Some t) h k = sym (k t refl) ∙ h
 

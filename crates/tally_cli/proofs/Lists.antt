@@ -7,4 +7,5 @@ use Rattle.std.proofs.lemmas.List.{take_more, flat_map_more}
 pub flat_more : {X A : Type 0} (f : X → List A) (before : List A) (xs : List X) (i : ℕ) (d : X) → i < length xs
     → (before ++ flat_map f (take i xs)) ++ f (get_or xs i d) ≡ before ++ flat_map f (take (i + 1) xs)
 flat_more {X} f before xs i d below =
-    flat_map_more f before (take i xs) (get_or xs i d) ∙ ap (λ (l : List X). before ++ flat_map f l) (sym (take_more xs i d below))
+    flat_map_more f before (take i xs) (get_or xs i d)
+    ∙ ap (λ (l : List X). before ++ flat_map f l) (sym (take_more xs i d below))

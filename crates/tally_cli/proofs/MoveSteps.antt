@@ -1,5 +1,6 @@
 -- Moves that can be made one after the other.
-use Rattle.std.proofs.Common.{◌≡◌, ℕ, zero, suc, ◌<◌, Bool, List, [], ◌∷◌, ◌++◌, length, take, get_or, replicate, fold, refl, sym, ap, ◌∙◌, subst, arith, append_assoc}
+use Rattle.std.proofs.Common.{◌≡◌, ℕ, zero, suc, ◌<◌, Bool, List, [], ◌∷◌, ◌++◌, length, take, get_or}
+use Rattle.std.proofs.Common.{replicate, fold, refl, sym, ap, ◌∙◌, subst, arith, append_assoc}
 use Rattle.plain_ballots.specs.declared.ballot_line.BallotLine.{BallotLine}
 use Rattle.tally_board.specs.declared.ballot_move.Move.{Move}
 use Rattle.tally_board.specs.Moves.{AllCan, after_move, totals_after}
@@ -19,22 +20,32 @@ both_may z [] ys front back = back
 both_may z (x ∷ xs) ys front back = (front.0, both_may (after_move z x) xs ys front.1 back)
 
 -- the moves of the next line can be made once those of the lines before it are
-line_may : (z : List ℕ) (comes : Bool) (lines : List BallotLine) (i : ℕ) (d : BallotLine) → i < length lines → AllCan z (moves_of comes lines)
+line_may :
+    (z : List ℕ) (comes : Bool) (lines : List BallotLine) (i : ℕ) (d : BallotLine) → i < length lines
+    → AllCan z (moves_of comes lines)
     → AllCan (fold after_move z (moves_of comes (take i lines))) (line_moves comes (get_or lines i d))
 line_may z comes [] i d below can = absurd (omega arith)
 line_may z comes (line ∷ lines) zero d below can = front_may z (line_moves comes line) (moves_of comes lines) can
 line_may z comes (line ∷ lines) (suc i) d below can =
-    subst (λ (t : List ℕ). AllCan t (line_moves comes (get_or lines i d))) (sym (fold_both z (line_moves comes line) (moves_of comes (take i lines))))
-    (line_may (fold after_move z (line_moves comes line)) comes lines i d (omega arith) (back_may z (line_moves comes line) (moves_of comes lines) can))
+    subst (λ (t : List ℕ). AllCan t (line_moves comes (get_or lines i d)))
+    (sym (fold_both z (line_moves comes line) (moves_of comes (take i lines))))
+    (line_may (fold after_move z (line_moves comes line)) comes lines i d (omega arith)
+    (back_may z (line_moves comes line) (moves_of comes lines) can))
 
 -- the totals once further moves are pending
-pub totals_then : (n : ℕ) (published pending more : List Move) → totals_after n (published ++ (pending ++ more)) ≡ fold after_move (totals_after n (published ++ pending)) more
+pub totals_then :
+    (n : ℕ) (published pending more : List Move)
+    → totals_after n (published ++ (pending ++ more))
+    ≡ fold after_move (totals_after n (published ++ pending)) more
 totals_then n published pending more =
     ap (totals_after n) (sym (append_assoc published pending more)) ∙ fold_both (replicate n 0) (published ++ pending) more
 
-pub next_may : (n : ℕ) (published pending : List Move) (comes : Bool) (lines : List BallotLine) (i : ℕ) (d : BallotLine) → i < length lines
+pub next_may :
+    (n : ℕ) (published pending : List Move) (comes : Bool) (lines : List BallotLine) (i : ℕ) (d : BallotLine)
+    → i < length lines
     → AllCan (totals_after n (published ++ pending)) (moves_of comes lines)
     → AllCan (totals_after n (published ++ (pending ++ moves_of comes (take i lines)))) (line_moves comes (get_or lines i d))
 next_may n published pending comes lines i d below can =
-    subst (λ (t : List ℕ). AllCan t (line_moves comes (get_or lines i d))) (sym (totals_then n published pending (moves_of comes (take i lines))))
+    subst (λ (t : List ℕ). AllCan t (line_moves comes (get_or lines i d)))
+    (sym (totals_then n published pending (moves_of comes (take i lines))))
     (line_may (totals_after n (published ++ pending)) comes lines i d below can)

@@ -14,13 +14,19 @@ on_ok (Ok x) P Q R S f p q t = f p q t
 on_ok (Err e) P Q R S f p q t = tt
 
 -- a text is owed for the history whose lines it has
-pub text_owed : {T E : Type 0} (text made : Result T E) (items : T → List ℕ) (scripts : List Script) (n : ℕ) (lines : List ℕ) (history : List Entry) → text ≡ made → IfOk made (λ t. items t ≡ lines)
+pub text_owed :
+    {T E : Type 0} (text made : Result T E) (items : T → List ℕ) (scripts : List Script) (n : ℕ)
+    (lines : List ℕ) (history : List Entry) → text ≡ made → IfOk made (λ t. items t ≡ lines)
     → IsHistoryOf scripts history → lines ≡ total_lines n (first (plain (standing_after history (length history))))
-    → IfOk text (λ t. (h : List Entry) × IsHistoryOf scripts h × (items t ≡ total_lines n (first (plain (standing_after h (length h))))))
+    → IfOk text (λ t. (h : List Entry) × IsHistoryOf scripts h
+    × (items t ≡ total_lines n (first (plain (standing_after h (length h))))))
 text_owed text (Ok t) items scripts n lines history same is changes owed =
-    subst (λ r. IfOk r (λ t. (h : List Entry) × IsHistoryOf scripts h × (items t ≡ total_lines n (first (plain (standing_after h (length h))))))) (sym same) (history, changes, is ∙ owed)
+    subst (λ r. IfOk r (λ t. (h : List Entry) × IsHistoryOf scripts h
+    × (items t ≡ total_lines n (first (plain (standing_after h (length h))))))) (sym same)
+    (history, changes, is ∙ owed)
 text_owed text (Err e) items scripts n lines history same is changes owed =
-    subst (λ r. IfOk r (λ t. (h : List Entry) × IsHistoryOf scripts h × (items t ≡ total_lines n (first (plain (standing_after h (length h))))))) (sym same) tt
+    subst (λ r. IfOk r (λ t. (h : List Entry) × IsHistoryOf scripts h
+    × (items t ≡ total_lines n (first (plain (standing_after h (length h))))))) (sym same) tt
 
 -- nothing is to show of an error
 pub if_err : {T E : Type 0} (r : Result T E) (e : E) (P : T → Type 0) → r ≡ Err e → IfOk r P

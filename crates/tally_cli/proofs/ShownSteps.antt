@@ -1,5 +1,6 @@
 -- A hall goes on to show its book after one change more.
-use Rattle.std.proofs.Common.{◌≡◌, ℕ, ◌+◌, ◌-◌, ◌≤◌, true, false, List, [], ◌∷◌, ◌++◌, length, replicate, set, fold, map, refl, sym, ap, ◌∙◌, subst, arith, Option, Some, None}
+use Rattle.std.proofs.Common.{◌≡◌, ℕ, ◌+◌, ◌-◌, ◌≤◌, true, false, List, [], ◌∷◌, ◌++◌, length, replicate, set}
+use Rattle.std.proofs.Common.{fold, map, refl, sym, ap, ◌∙◌, subst, arith, Option, Some, None}
 use Rattle.std.specs.List.{All}
 use Rattle.std.proofs.lemmas.List.{length-set, length-replicate, map-append}
 use Rattle.std.proofs.lemmas.List.Elements.{All-push}
@@ -47,13 +48,16 @@ pub record Exchanges (n : ℕ) (z : List ℕ) (old new : List BallotLine) : Type
   pub can : AllCan z (exchange old new)
   pub totals : AreExchanged n z old new (fold after_move z (exchange old new))
 
-pub exchanges : (n : ℕ) (z : List ℕ) (old new : List BallotLine) → length z ≡ n → All (λ line. IsRanking n line.ranking) old → All (λ line. IsRanking n line.ranking) new
+pub exchanges :
+    (n : ℕ) (z : List ℕ) (old new : List BallotLine) → length z ≡ n
+    → All (λ line. IsRanking n line.ranking) old → All (λ line. IsRanking n line.ranking) new
     → CanExchange n z old new → Exchanges n z old new
 exchanges n z old new long old_ranks new_ranks may =
     let gone = shifts false n z old long old_ranks may.going in
     let left = fold after_move z (moves_of false old) in
     let come = shifts true n left new gone.long new_ranks
-    (λ c some most. subst (λ (t : ℕ). t + first (plain new) c ≤ 999999999) (sym (gone.totals c some most)) (may.coming c some most)) in
+    (λ c some most. subst (λ (t : ℕ). t + first (plain new) c ≤ 999999999) (sym (gone.totals c some most))
+    (may.coming c some most)) in
     record {
       can = both_may z (moves_of false old) (moves_of true new) gone.can come.can;
       totals = λ c some most.
@@ -75,10 +79,14 @@ pub record IsEntered (hall new : Hall) (team : ℕ) (change : Change) (answer : 
   pub entries : new.book.entries ≡ hall.book.entries ++ entry_of team change answer ∷ []
 
 -- what the book of a hall has after one change more, and the board still to be told of
-shown_then : (hall new : Hall) (all : List Entry) → IsShown hall → new.book.candidates ≡ hall.book.candidates → new.book.shard ≡ hall.book.shard → new.book.shards ≡ hall.book.shards
+shown_then :
+    (hall new : Hall) (all : List Entry) → IsShown hall → new.book.candidates ≡ hall.book.candidates
+    → new.book.shard ≡ hall.book.shard → new.book.shards ≡ hall.book.shards
     → new.book.entries ≡ all → IsLegal all → AreLawful hall.book.candidates all → (b : BookState) → after_all empty all ≡ b
-    → new.scribe.candidates ≡ hall.scribe.candidates → new.scribe.pending ≡ [] → AreKept hall.book.candidates b new.kept.items
-    → ((c : ℕ) → 1 ≤ c → c ≤ hall.book.candidates → total (totals_after hall.book.candidates new.scribe.published) c ≡ first (plain (standing b)) c)
+    → new.scribe.candidates ≡ hall.scribe.candidates → new.scribe.pending ≡ []
+    → AreKept hall.book.candidates b new.kept.items
+    → ((c : ℕ) → 1 ≤ c → c ≤ hall.book.candidates
+    → total (totals_after hall.book.candidates new.scribe.published) c ≡ first (plain (standing b)) c)
     → IsShown new
 shown_then hall new all shown same shard shards entries legal lawful b book_is board pending kept totals = record {
   few = subst (λ (k : ℕ). k ≤ 250) (sym same) shown.few;
@@ -91,18 +99,25 @@ shown_then hall new all shown same shard shards entries legal lawful b book_is b
   kept = subst (λ (z : ℕ × BookState). AreKept z.0 z.1 new.kept.items) (λ i. (sym same i, sym of_book i)) kept;
   totals = λ c some most.
       (λ i. total (totals_after (same i) new.scribe.published) c)
-      ∙ (totals c some (subst (λ (k : ℕ). c ≤ k) same most) ∙ ap (λ (z : BookState). first (plain (standing z)) c) (sym of_book));
+      ∙ (totals c some (subst (λ (k : ℕ). c ≤ k) same most)
+      ∙ ap (λ (z : BookState). first (plain (standing z)) c) (sym of_book));
 }
   where
     of_book : after_all empty new.book.entries ≡ b
     of_book = ap (after_all empty) entries ∙ book_is
 
-then_lawful : (hall new : Hall) (team : ℕ) (change : Change) (answer : Reply) → IsShown hall → IsEntered hall new team change answer → AreLawful hall.book.candidates (hall.book.entries ++ entry_of team change answer ∷ [])
+then_lawful :
+    (hall new : Hall) (team : ℕ) (change : Change) (answer : Reply) → IsShown hall
+    → IsEntered hall new team change answer
+    → AreLawful hall.book.candidates (hall.book.entries ++ entry_of team change answer ∷ [])
 then_lawful hall new team change answer shown entered =
-    All-push (λ (e : Entry). MayStep hall.book.candidates e.call) hall.book.entries (entry_of team change answer) shown.lawful entered.lawful
+    All-push (λ (e : Entry). MayStep hall.book.candidates e.call) hall.book.entries
+    (entry_of team change answer) shown.lawful entered.lawful
 
 -- the lines that a change leaves in its batch
-left_lines : Laws → (hall new : Hall) (team : ℕ) (change : Change) (answer : Reply) (ballots : BallotList) → IsEntered hall new team change answer → IsLeft change answer (Some ballots)
+left_lines :
+    Laws → (hall new : Hall) (team : ℕ) (change : Change) (answer : Reply) (ballots : BallotList)
+    → IsEntered hall new team change answer → IsLeft change answer (Some ballots)
     → lines_of ((after (after_all empty hall.book.entries) (Changes change)).batches (batch_of change)) ≡ ballots.lines
 left_lines laws hall new team change answer ballots entered left =
     let book = after_all empty hall.book.entries in
@@ -110,32 +125,54 @@ left_lines laws hall new team change answer ballots entered left =
     ap lines_of (own_after book change ∙ ap (change_after kept change) (sym entered.answered)) ∙ left kept
 
 -- the old ballots of a batch may go, and those that its change leaves may come
-pub may_exchange : Laws → (hall new : Hall) (team : ℕ) (change : Change) (answer : Reply) (ballots : BallotList) → IsShown hall → IsEntered hall new team change answer
+pub may_exchange :
+    Laws → (hall new : Hall) (team : ℕ) (change : Change) (answer : Reply) (ballots : BallotList)
+    → IsShown hall → IsEntered hall new team change answer
     → IsLeft change answer (Some ballots)
-    → CanExchange hall.book.candidates (totals_after hall.book.candidates hall.scribe.published) (kept_for hall.book.candidates hall.kept.items (batch_of change)).lines ballots.lines
+    → CanExchange hall.book.candidates (totals_after hall.book.candidates hall.scribe.published)
+    (kept_for hall.book.candidates hall.kept.items (batch_of change)).lines ballots.lines
 may_exchange laws hall new team change answer ballots shown entered left =
     let n = hall.book.candidates in
     let book = after_all empty hall.book.entries in
     let k = batch_of change in
     let range = in_range n change entered.lawful in
     let old = (kept_for n hall.kept.items k).lines in
-    let olds : (c : ℕ) → first (plain old) c ≡ first (plain (lines_of (book.batches k))) c = λ c. ap (λ (l : List BallotLine). first (plain l) c) (shown.kept.lines k range) in
-    let news : (c : ℕ) → first (plain (lines_of ((after book (Changes change)).batches k))) c ≡ first (plain ballots.lines) c =
-    λ c. ap (λ (l : List BallotLine). first (plain l) c) (left_lines laws hall new team change answer ballots entered left) in
+    let olds : (c : ℕ) → first (plain old) c ≡ first (plain (lines_of (book.batches k))) c =
+    λ c. ap (λ (l : List BallotLine). first (plain l) c) (shown.kept.lines k range) in
+    let news :
+    (c : ℕ)
+    → first (plain (lines_of ((after book (Changes change)).batches k))) c
+    ≡ first (plain ballots.lines) c =
+    λ c. ap (λ (l : List BallotLine). first (plain l) c)
+    (left_lines laws hall new team change answer ballots entered left) in
     let few : (c : ℕ) → first (plain (standing (after book (Changes change)))) c ≤ 999999999 =
-    λ c. subst (λ (b : BookState). first (plain (standing b)) c ≤ 999999999) (laws.leads hall.book.entries (entry_of team change answer))
-    (few_stand laws.few laws.stands n c (hall.book.entries ++ entry_of team change answer ∷ []) (then_lawful hall new team change answer shown entered)) in
+    λ c. subst (λ (b : BookState). first (plain (standing b)) c ≤ 999999999)
+    (laws.leads hall.book.entries (entry_of team change answer))
+    (few_stand laws.few laws.stands n c (hall.book.entries ++ entry_of team change answer ∷ [])
+    (then_lawful hall new team change answer shown entered)) in
     record {
       going = λ c some most. omega (arith, shown.totals c some most, held book k c range, olds c);
-      coming = λ c some most. omega (arith, shown.totals c some most, held book k c range, olds c, news c, moved laws.replaced book change c range, few c);
+      coming =
+          λ c some most. omega (
+            arith,
+            shown.totals c some most,
+            held book k c range,
+            olds c,
+            news c,
+            moved laws.replaced book change c range,
+            few c,
+          );
     }
 
 -- An accepted change, with its moves published.
-pub accepted : Laws → (hall new : Hall) (team : ℕ) (change : Change) (answer : Reply) (ballots : BallotList) → IsShown hall → IsEntered hall new team change answer
+pub accepted :
+    Laws → (hall new : Hall) (team : ℕ) (change : Change) (answer : Reply) (ballots : BallotList)
+    → IsShown hall → IsEntered hall new team change answer
     → IsLeft change answer (Some ballots) → ballots.candidates ≡ hall.book.candidates
     → new.kept.items ≡ set hall.kept.items (batch_of change - 1) ballots
     → new.scribe.candidates ≡ hall.scribe.candidates → new.scribe.pending ≡ []
-    → AreExchanged hall.book.candidates (totals_after hall.book.candidates hall.scribe.published) (kept_for hall.book.candidates hall.kept.items (batch_of change)).lines ballots.lines
+    → AreExchanged hall.book.candidates (totals_after hall.book.candidates hall.scribe.published)
+    (kept_for hall.book.candidates hall.kept.items (batch_of change)).lines ballots.lines
     (totals_after hall.book.candidates new.scribe.published)
     → IsShown new
 accepted laws hall new team change answer ballots shown entered left candidates kept board pending totals =
@@ -145,16 +182,27 @@ accepted laws hall new team change answer ballots shown entered left candidates 
     let k = batch_of change in
     let range = in_range n change entered.lawful in
     let lines = left_lines laws hall new team change answer ballots entered left in
-    shown_then hall new (hall.book.entries ++ entry ∷ []) shown entered.candidates entered.shard entered.shards entered.entries
+    shown_then hall new (hall.book.entries ++ entry ∷ []) shown entered.candidates entered.shard
+    entered.shards entered.entries
     (laws.grows hall.book.entries entry shown.legal entered.answered) (then_lawful hall new team change answer shown entered)
     (after book (Changes change)) (laws.leads hall.book.entries entry)
     board pending
-    (subst (AreKept n (after book (Changes change))) (sym kept) (kept_more n book change hall.kept.items ballots range shown.kept candidates lines))
+    (subst (AreKept n (after book (Changes change))) (sym kept)
+    (kept_more n book change hall.kept.items ballots range shown.kept candidates lines))
     (λ c some most. totals c some most
-    ∙ omega (arith, shown.totals c some most, held book k c range, ap (λ (l : List BallotLine). first (plain l) c) (shown.kept.lines k range), ap (λ (l : List BallotLine). first (plain l) c) lines, moved laws.replaced book change c range))
+    ∙ omega (
+      arith,
+      shown.totals c some most,
+      held book k c range,
+      ap (λ (l : List BallotLine). first (plain l) c) (shown.kept.lines k range),
+      ap (λ (l : List BallotLine). first (plain l) c) lines,
+      moved laws.replaced book change c range,
+    ))
 
 -- A change that was refused.
-pub refused : Laws → (hall new : Hall) (team : ℕ) (change : Change) (answer : Reply) → IsShown hall → IsEntered hall new team change answer
+pub refused :
+    Laws → (hall new : Hall) (team : ℕ) (change : Change) (answer : Reply) → IsShown hall
+    → IsEntered hall new team change answer
     → IsLeft change answer None → new.kept.items ≡ hall.kept.items → new.scribe ≡ hall.scribe → IsShown new
 refused laws hall new team change answer shown entered left kept board =
     let n = hall.book.candidates in
@@ -162,8 +210,11 @@ refused laws hall new team change answer shown entered left kept board =
     let entry = entry_of team change answer in
     let k = batch_of change in
     let range = in_range n change entered.lawful in
-    let same : (after book (Changes change)).batches k ≡ book.batches k = own_after book change ∙ (ap (change_after (book.batches k) change) (sym entered.answered) ∙ left (book.batches k)) in
-    shown_then hall new (hall.book.entries ++ entry ∷ []) shown entered.candidates entered.shard entered.shards entered.entries
+    let same : (after book (Changes change)).batches k ≡ book.batches k =
+    own_after book change
+    ∙ (ap (change_after (book.batches k) change) (sym entered.answered) ∙ left (book.batches k)) in
+    shown_then hall new (hall.book.entries ++ entry ∷ []) shown entered.candidates entered.shard
+    entered.shards entered.entries
     (laws.grows hall.book.entries entry shown.legal entered.answered) (then_lawful hall new team change answer shown entered)
     (after book (Changes change)) (laws.leads hall.book.entries entry)
     (ap (λ (d : Desk). d.candidates) board) (ap (λ (d : Desk). d.pending) board ∙ shown.pending)
@@ -174,5 +225,8 @@ refused laws hall new team change answer shown entered left kept board =
     ∙ omega (arith, moved laws.replaced book change c range, ap (λ (b : Option Batch). first (plain (lines_of b)) c) same)))
 
 -- who asked what, with one entry more
-pub asked_more : (es all : List Entry) (team : ℕ) (change : Change) (answer : Reply) → all ≡ es ++ entry_of team change answer ∷ [] → map asked all ≡ map asked es ++ (team, Changes change) ∷ []
+pub asked_more :
+    (es all : List Entry) (team : ℕ) (change : Change) (answer : Reply)
+    → all ≡ es ++ entry_of team change answer ∷ []
+    → map asked all ≡ map asked es ++ (team, Changes change) ∷ []
 asked_more es all team change answer is = ap (map asked) is ∙ map-append asked es (entry_of team change answer ∷ [])

@@ -25,7 +25,8 @@ same_from : (f g : ℕ → ℕ) (a n : ℕ) → ((c : ℕ) → a ≤ c → c < a
     → flat_map (λ c. total_line c (f c)) (range_with_len a n) ≡ flat_map (λ c. total_line c (g c)) (range_with_len a n)
 same_from f g a zero same = refl
 same_from f g a (suc n) same = λ i.
-    total_line a (same a (omega arith) (omega arith) i) ++ same_from f g (a + 1) n (λ c from below. same c (omega (arith, from)) (omega (arith, below))) i
+    total_line a (same a (omega arith) (omega arith) i)
+    ++ same_from f g (a + 1) n (λ c from below. same c (omega (arith, from)) (omega (arith, below))) i
 
 -- the same totals have the same lines
 pub lines_same : (n : ℕ) (f g : ℕ → ℕ) → ((c : ℕ) → 1 ≤ c → c ≤ n → f c ≡ g c) → total_lines n f ≡ total_lines n g

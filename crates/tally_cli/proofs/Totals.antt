@@ -1,5 +1,7 @@
 -- What the moves of lines do to the total of each candidate.
-use Rattle.std.proofs.Common.{◌≡◌, ◌≢◌, ℕ, ◌+◌, ◌-◌, ◌*◌, ◌<◌, ◌≤◌, ◌==◌, Bool, true, false, cond, List, [], ◌∷◌, ◌++◌, length, get_or, set, fold, refl, sym, ap, ◌∙◌, subst, arith, ⊎_elim, eq-eqb}
+use Rattle.std.proofs.Common.{◌≡◌, ◌≢◌, ℕ, ◌+◌, ◌-◌, ◌*◌, ◌<◌, ◌≤◌, ◌==◌, Bool, true, false, cond, List, []}
+use Rattle.std.proofs.Common.{◌∷◌, ◌++◌, length, get_or, set, fold, refl, sym, ap, ◌∙◌, subst, arith, ⊎_elim}
+use Rattle.std.proofs.Common.{eq-eqb}
 use Rattle.std.specs.List.{All}
 use Rattle.std.proofs.lemmas.Bool.Decides.{eqb_tells}
 use Rattle.std.proofs.lemmas.List.{get_or-set_same, get_or-set_other, length-set}
@@ -55,7 +57,9 @@ part c count ranking = count * cond (begins_with c ranking) 1 0
 abbrev line_part : ℕ → BallotLine → ℕ
 line_part c line = part c line.count line.ranking
 
-first_cons : (line : BallotLine) (lines : List BallotLine) (c : ℕ) → first (plain (line ∷ lines)) c ≡ line_part c line + first (plain lines) c
+first_cons :
+    (line : BallotLine) (lines : List BallotLine) (c : ℕ)
+    → first (plain (line ∷ lines)) c ≡ line_part c line + first (plain lines) c
 first_cons line lines c =
     let one : List ℕ → ℕ = λ ranking. cond (begins_with c ranking) 1 0 in
     sum_by-plain one (line ∷ lines)
@@ -71,10 +75,17 @@ abbrev MayAll : Bool → ℕ → List ℕ → (ℕ → ℕ) → Type 0
 MayAll comes n z by = (c : ℕ) → 1 ≤ c → c ≤ n → May comes (total z c) (by c)
 
 -- the first lines, and then the others
-chained : (comes : Bool) (n : ℕ) (z : List ℕ) (xs ys : List Move) (one rest both : ℕ → ℕ) → ((c : ℕ) → both c ≡ one c + rest c) → MayAll comes n z both
-    → Shifts comes n z xs one → (MayAll comes n (fold after_move z xs) rest → Shifts comes n (fold after_move z xs) ys rest) → Shifts comes n z (xs ++ ys) both
+chained :
+    (comes : Bool) (n : ℕ) (z : List ℕ) (xs ys : List Move) (one rest both : ℕ → ℕ)
+    → ((c : ℕ) → both c ≡ one c + rest c) → MayAll comes n z both
+    → Shifts comes n z xs one
+    → (MayAll comes n (fold after_move z xs) rest → Shifts comes n (fold after_move z xs) ys rest)
+    → Shifts comes n z (xs ++ ys) both
 chained comes n z xs ys one rest both sum may front behind =
-    let back = behind (λ c some few. subst (λ (t : ℕ). May comes t (rest c)) (sym (front.totals c some few)) (may_back comes (total z c) (one c) (rest c) (subst (May comes (total z c)) (sum c) (may c some few)))) in
+    let back =
+    behind (λ c some few. subst (λ (t : ℕ). May comes t (rest c)) (sym (front.totals c some few))
+    (may_back comes (total z c) (one c) (rest c)
+    (subst (May comes (total z c)) (sum c) (may c some few)))) in
     let whole = fold_both z xs ys in
     record {
       can = both_may z xs ys front.can back.can;
@@ -90,8 +101,11 @@ part_none : (count c : ℕ) → part c count [] ≡ 0
 part_none count c = omega arith
 
 -- the move of one line
-one_line : (comes : Bool) (n : ℕ) (z : List ℕ) (count : ℕ) (ranking : List ℕ) → length z ≡ n → All (λ r. (1 ≤ r) × (r ≤ n)) ranking
-    → MayAll comes n z (λ c. part c count ranking) → Shifts comes n z (first_moves comes count ranking) (λ c. part c count ranking)
+one_line :
+    (comes : Bool) (n : ℕ) (z : List ℕ) (count : ℕ) (ranking : List ℕ) → length z ≡ n
+    → All (λ r. (1 ≤ r) × (r ≤ n)) ranking
+    → MayAll comes n z (λ c. part c count ranking)
+    → Shifts comes n z (first_moves comes count ranking) (λ c. part c count ranking)
 one_line comes n z count [] long numbers may = record {
   can = tt;
   long = long;
@@ -128,11 +142,18 @@ one_line comes n z count (d ∷ ranks) long numbers may =
     }
 
 -- The moves of lines shift the total of each candidate by as many ballots as have it first.
-pub shifts : (comes : Bool) (n : ℕ) (z : List ℕ) (lines : List BallotLine) → length z ≡ n → All (λ line. IsRanking n line.ranking) lines
+pub shifts :
+    (comes : Bool) (n : ℕ) (z : List ℕ) (lines : List BallotLine) → length z ≡ n
+    → All (λ line. IsRanking n line.ranking) lines
     → MayAll comes n z (first (plain lines)) → Shifts comes n z (moves_of comes lines) (first (plain lines))
 shifts comes n z [] long rankings may = record { can = tt; long = long; totals = λ c some few. shift_none comes (total z c) }
 shifts comes n z (line ∷ lines) long rankings may =
-    let front = one_line comes n z line.count line.ranking long (All-head (λ (l : BallotLine). IsRanking n l.ranking) line lines rankings).numbers
-    (λ c some few. may_front comes (total z c) (line_part c line) (first (plain lines) c) (subst (May comes (total z c)) (first_cons line lines c) (may c some few))) in
-    chained comes n z (line_moves comes line) (moves_of comes lines) (λ c. line_part c line) (first (plain lines)) (first (plain (line ∷ lines))) (first_cons line lines) may front
-    (shifts comes n (fold after_move z (line_moves comes line)) lines front.long (All-tail (λ (l : BallotLine). IsRanking n l.ranking) line lines rankings))
+    let front =
+    one_line comes n z line.count line.ranking long
+    (All-head (λ (l : BallotLine). IsRanking n l.ranking) line lines rankings).numbers
+    (λ c some few. may_front comes (total z c) (line_part c line) (first (plain lines) c)
+    (subst (May comes (total z c)) (first_cons line lines c) (may c some few))) in
+    chained comes n z (line_moves comes line) (moves_of comes lines) (λ c. line_part c line)
+    (first (plain lines)) (first (plain (line ∷ lines))) (first_cons line lines) may front
+    (shifts comes n (fold after_move z (line_moves comes line)) lines front.long
+    (All-tail (λ (l : BallotLine). IsRanking n l.ranking) line lines rankings))

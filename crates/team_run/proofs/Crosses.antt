@@ -13,7 +13,8 @@ use Rattle.team_run.specs.contracts.team.Team as team
 
 pub team_send : IsSend team.the_row
 team_send =
-    recorded_send team.the_field.row _ _ team.the_type.to_one (struct_send (shape team.the_type) (pass_send, (calls.the_send, (Vec-send _ version.the_send, (search sendable, tt)))))
+    recorded_send team.the_field.row _ _ team.the_type.to_one (struct_send (shape team.the_type)
+    (pass_send, (calls.the_send, (Vec-send _ version.the_send, (search sendable, tt)))))
 
 -- what a closure refers to, if it refers to four values
 pub four_sync : (A B C D : RattleType) → IsSync A → IsSync B → IsSync C → IsSync D → IsSync (TupleAt [] (A ∷ B ∷ C ∷ D ∷ []))

@@ -1,5 +1,6 @@
 -- A day that has ended.
-use Rattle.std.proofs.Common.{◌≡◌, ◌≢◌, ℕ, ◌+◌, ◌-◌, ◌<◌, ◌≤◌, List, [], ◌∷◌, ◌++◌, length, map, All, AllPairs, Any, sym, ap, subst, ◌∙◌, arith, length-append}
+use Rattle.std.proofs.Common.{◌≡◌, ◌≢◌, ℕ, ◌+◌, ◌-◌, ◌<◌, ◌≤◌, List, [], ◌∷◌, ◌++◌, length, map, All}
+use Rattle.std.proofs.Common.{AllPairs, Any, sym, ap, subst, ◌∙◌, arith, length-append}
 use Rattle.std.specs.Prelude.{slice_get, Some}
 use Rattle.std.proofs.lemmas.List.{length-map}
 use Rattle.std.proofs.lemmas.List.Elements.{All-nil, All-cons, All-head, All-tail, All-push, All-weaker}
@@ -28,23 +29,31 @@ rises_up : (n : ℕ) (vs : List VersionState) → All (λ v. n ≤ v.at) vs → 
 rises_up n [] least rising = tt
 rises_up n (v ∷ vs) least rising = (
   All-head (λ (x : VersionState). n ≤ x.at) v vs least,
-  rises_up (v.at + 1) vs (All-weaker (IsBefore v) (λ (x : VersionState). v.at + 1 ≤ x.at) (λ x h. omega (arith, h)) vs (pairs_head IsBefore v vs rising)) (pairs_tail IsBefore v vs rising),
+  rises_up (v.at + 1) vs (All-weaker (IsBefore v) (λ (x : VersionState). v.at + 1 ≤ x.at)
+      (λ x h. omega (arith, h)) vs (pairs_head IsBefore v vs rising)) (pairs_tail IsBefore v vs rising),
 )
 
-among : (history : List Entry) (vs : List VersionState) → All (λ v. StandsIn v history) vs → StandAmong (freezes_from 1 history) (map place_of vs)
+among :
+    (history : List Entry) (vs : List VersionState) → All (λ v. StandsIn v history) vs
+    → StandAmong (freezes_from 1 history) (map place_of vs)
 among history [] stand = tt
 among history (v ∷ vs) stand =
     let here = All-head (λ (x : VersionState). StandsIn x history) v vs stand in
     let place : 1 + (v.at - 1) ≡ v.at = (let some = here.some in omega arith) in (
-      subst (λ (p : ℕ). StandsAmong (freezes_from 1 history) p) place (stands_there 1 (v.at - 1) history here.freeze.0 here.freeze.1),
+      subst (λ (p : ℕ). StandsAmong (freezes_from 1 history) p) place
+          (stands_there 1 (v.at - 1) history here.freeze.0 here.freeze.1),
       among history vs (All-tail (λ (x : VersionState). StandsIn x history) v vs stand),
     )
 
 abbrev AreTaken : ClerkState → Type 0
-AreTaken clerk = (k : ℕ) (pass : PassState) → slice_get clerk.taken k ≡ Some pass → IsTaken clerk.desk.office clerk.desk.sight pass
+AreTaken clerk =
+    (k : ℕ) (pass : PassState) → slice_get clerk.taken k ≡ Some pass
+    → IsTaken clerk.desk.office clerk.desk.sight pass
 
 -- a version of a pass that was taken in stands before the clerk's
-before_last : (clerk : ClerkState) (before : Sight) (last v : VersionState) → AreTaken clerk → IsFreeze clerk.desk.office.shards 0 last before clerk.desk.sight
+before_last :
+    (clerk : ClerkState) (before : Sight) (last v : VersionState) → AreTaken clerk
+    → IsFreeze clerk.desk.office.shards 0 last before clerk.desk.sight
     → Any (λ pass. IsFreezeOf pass v) clerk.taken → IsBefore v last
 before_last clerk before last v taken frozen any =
     let pass = any.1 in
@@ -53,12 +62,17 @@ before_last clerk before last v taken frozen any =
     let here = froze_stays pass.sight clerk.desk.sight pass.caller v any.4.froze was.begins in
     let there = froze_last clerk.desk.office.shards 0 last before clerk.desk.sight frozen in
     let end = at_the_end clerk.desk.office.shards 0 last before clerk.desk.sight frozen in
-    let differ : v.at ≢ last.at = λ same. (let nobody = one_caller clerk.desk.sight pass.caller 0 v last here there same in let some = was.some in absurd (omega (arith, nobody, some))) in
+    let differ : v.at ≢ last.at =
+    λ same. (let nobody =
+    one_caller clerk.desk.sight pass.caller 0 v last here there same in
+    let some = was.some in absurd (omega (arith, nobody, some))) in
     let seen = any.4.seen.seen in
     let long = ap length was.begins.marks.1 ∙ length-append pass.sight.marks was.begins.marks.0 in
     omega (arith, differ, seen, long, end)
 
-stands_of_one : VersionsAreOfHistories → VersionsStandInHistories → (clerk : ClerkState) (history : List Entry) (v : VersionState) → 1 ≤ clerk.desk.office.shards
+stands_of_one :
+    VersionsAreOfHistories → VersionsStandInHistories
+    → (clerk : ClerkState) (history : List Entry) (v : VersionState) → 1 ≤ clerk.desk.office.shards
     → IsClosed clerk history → Any (λ pass. IsFreezeOf pass v) clerk.taken → AreTaken clerk → StandsIn v history
 stands_of_one histories stand clerk history v some closed any taken =
     let pass = any.1 in
@@ -70,17 +84,23 @@ pub days_end : VersionsAreOfHistories → VersionsStandInHistories → TheClerkH
 days_end histories stand all scripts versions last clerk before history some zero rises are vs taken frozen own_is closed =
     let seen_all : history ≡ history_of clerk.desk.sight = all clerk history some zero closed taken frozen.whole in
     let ends : history ≡ frozen.last.0 ++ freeze_entry 0 ∷ [] = seen_all ∙ frozen.last.1 in
-    let clerks : own_calls 0 history ≡ freeze_entry 0 ∷ [] = ap (λ (p : ℕ). own_calls p history) (sym zero) ∙ (closed.desk.own_are ∙ own_is) in
+    let clerks : own_calls 0 history ≡ freeze_entry 0 ∷ [] =
+    ap (λ (p : ℕ). own_calls p history) (sym zero) ∙ (closed.desk.own_are ∙ own_is) in
     let Of : VersionState → Type 0 = λ v. Any (λ pass. IsFreezeOf pass v) clerk.taken in
     let stands : All (λ v. StandsIn v history) (versions ++ last ∷ []) =
     All-push (λ (v : VersionState). StandsIn v history) versions last
-    (All-weaker Of (λ (v : VersionState). StandsIn v history) (λ v any. stands_of_one histories stand clerk history v some closed any taken) versions vs.each)
-    (stand clerk.desk.office.shards last history some closed.legal (histories last clerk.desk history frozen.version_of closed.desk)) in
+    (All-weaker Of (λ (v : VersionState). StandsIn v history)
+    (λ v any. stands_of_one histories stand clerk history v some closed any taken) versions vs.each)
+    (stand clerk.desk.office.shards last history some closed.legal
+    (histories last clerk.desk history frozen.version_of closed.desk)) in
     let rising : AllPairs IsBefore (versions ++ last ∷ []) =
     pairs_append IsBefore versions (last ∷ []) vs.rising (one_pair IsBefore last)
     (All-weaker Of (λ v. All (IsBefore v) (last ∷ []))
-    (λ v any. All-cons (IsBefore v) last [] (before_last clerk before last v taken frozen any) (All-nil (IsBefore v))) versions vs.each) in
-    let rise = rises_up 1 (versions ++ last ∷ []) (All-weaker (λ (v : VersionState). StandsIn v history) (λ (v : VersionState). 1 ≤ v.at) (λ v s. s.some) (versions ++ last ∷ []) stands) rising in
+    (λ v any. All-cons (IsBefore v) last [] (before_last clerk before last v taken frozen any)
+    (All-nil (IsBefore v))) versions vs.each) in
+    let rise =
+    rises_up 1 (versions ++ last ∷ []) (All-weaker (λ (v : VersionState). StandsIn v history)
+    (λ (v : VersionState). 1 ≤ v.at) (λ v s. s.some) (versions ++ last ∷ []) stands) rising in
     let many : length (map place_of (versions ++ last ∷ [])) ≡ freezes scripts + 1 =
     (let long = length-map (versions ++ last ∷ []) place_of in
     let parts = length-append versions (last ∷ []) in
@@ -92,6 +112,8 @@ days_end histories stand all scripts versions last clerk before history some zer
       last = ends;
       no_other = no_other_of_clerk frozen.last.0 (ap (own_calls 0) (sym ends) ∙ clerks);
       whole = teams_have_their_scripts clerk history scripts are rises closed;
-      places = all_placed clerk history scripts (map place_of (versions ++ last ∷ [])) are rises closed zero own_is many rise (among history (versions ++ last ∷ []) stands);
+      places =
+          all_placed clerk history scripts (map place_of (versions ++ last ∷ [])) are rises closed zero own_is
+          many rise (among history (versions ++ last ∷ []) stands);
       stand = stands;
     }

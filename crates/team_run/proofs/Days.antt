@@ -19,6 +19,8 @@ rises n (script ∷ scripts) above rising = (
 
 pub may_run : (candidates : ℕ) (scripts : List Script) → AreScripts candidates scripts → MayRun candidates scripts
 may_run candidates scripts are = record {
-  numbers = rises 0 scripts (All-weaker (λ (s : Script). (1 ≤ s.team) × (s.team ≤ 16)) (λ (s : Script). 0 < s.team) (λ s h. (let one = h.0 in omega arith)) scripts are.numbers) are.rising;
+  numbers =
+      rises 0 scripts (All-weaker (λ (s : Script). (1 ≤ s.team) × (s.team ≤ 16)) (λ (s : Script). 0 < s.team)
+      (λ s h. (let one = h.0 in omega arith)) scripts are.numbers) are.rising;
   calls = are.calls;
 }

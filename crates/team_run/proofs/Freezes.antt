@@ -1,5 +1,7 @@
 -- The places of the freezes in the history of a day.
-use Rattle.std.proofs.Common.{◌≡◌, ◌≢◌, ◌⊎◌, ℕ, zero, suc, ◌+◌, ◌<◌, ◌≤◌, ◌==◌, Bool, true, false, cond, List, [], ◌∷◌, map, filter, length, count_by, All, inl, inr, ⊎_elim, refl, sym, ap, subst, ◌∙◌, arith}
+use Rattle.std.proofs.Common.{◌≡◌, ◌≢◌, ◌⊎◌, ℕ, zero, suc, ◌+◌, ◌<◌, ◌≤◌, ◌==◌, Bool, true, false, cond, List}
+use Rattle.std.proofs.Common.{[], ◌∷◌, map, filter, length, count_by, All, inl, inr, ⊎_elim, refl, sym, ap}
+use Rattle.std.proofs.Common.{subst, ◌∙◌, arith}
 use Rattle.std.specs.Prelude.{⊤, slice_get, Some}
 use Rattle.std.specs.List.{enumerate_from, sum_by}
 use Rattle.std.proofs.lemmas.Bool.{ne_eqb, eq-eqb, cases_eq}
@@ -34,7 +36,8 @@ StandAmong ys (x ∷ xs) = StandsAmong ys x × StandAmong ys xs
 above : (n : ℕ) (ys : List ℕ) (x : ℕ) → Rise n ys → StandsAmong ys x → n ≤ x
 above n [] x rise in' = absurd in'
 above n (y ∷ ys) x rise in' =
-    ⊎_elim (λ (e : x ≡ y). (let a = rise.0 in omega (arith, a, e))) (λ (later : StandsAmong ys x). (let a = rise.0 in let b = above (y + 1) ys x rise.1 later in omega (arith, a, b))) in'
+    ⊎_elim (λ (e : x ≡ y). (let a = rise.0 in omega (arith, a, e))) (λ (later : StandsAmong ys x).
+    (let a = rise.0 in let b = above (y + 1) ys x rise.1 later in omega (arith, a, b))) in'
 
 lower : (n m : ℕ) (xs : List ℕ) → n ≤ m → Rise m xs → Rise n xs
 lower n m [] less rise = tt
@@ -49,7 +52,9 @@ behind y ys (x ∷ xs) rise in' = (
 )
 
 -- a rising list within a rising list of the same length is that list
-within : (n : ℕ) (ys xs : List ℕ) → Rise n xs → Rise n ys → StandAmong ys xs → (length xs ≤ length ys) × (length xs ≡ length ys → xs ≡ ys)
+within :
+    (n : ℕ) (ys xs : List ℕ) → Rise n xs → Rise n ys → StandAmong ys xs
+    → (length xs ≤ length ys) × (length xs ≡ length ys → xs ≡ ys)
 within n [] [] one other in' = (omega arith, λ same. refl)
 within n [] (x ∷ xs) one other in' = absurd in'.0
 within n (y ∷ ys) [] one other in' = (omega arith, λ same. absurd (omega (arith, same)))
@@ -66,7 +71,10 @@ within n (y ∷ ys) (x ∷ xs) one other in' =
     ((let le = rest.0 in omega (arith, le)), λ same. absurd (let le = rest.0 in omega (arith, le, same))))
     in'.0
 
-places_if : (b : Bool) (place : ℕ) (e : Entry) (rest : List (ℕ × Entry)) → map (λ (x : ℕ × Entry). x.0) (cond b ((place, e) ∷ rest) rest) ≡ cond b (place ∷ map (λ (x : ℕ × Entry). x.0) rest) (map (λ (x : ℕ × Entry). x.0) rest)
+places_if :
+    (b : Bool) (place : ℕ) (e : Entry) (rest : List (ℕ × Entry))
+    → map (λ (x : ℕ × Entry). x.0) (cond b ((place, e) ∷ rest) rest)
+    ≡ cond b (place ∷ map (λ (x : ℕ × Entry). x.0) rest) (map (λ (x : ℕ × Entry). x.0) rest)
 places_if true place e rest = refl
 places_if false place e rest = refl
 
@@ -74,14 +82,23 @@ rise_if : (b : Bool) (n : ℕ) (rest : List ℕ) → Rise (n + 1) rest → Rise 
 rise_if true n rest rise = (omega arith, rise)
 rise_if false n rest rise = lower n (n + 1) rest (omega arith) rise
 
-places_cons : (n : ℕ) (e : Entry) (es : List Entry) → freezes_from n (e ∷ es) ≡ cond (is_freeze e.call) (n ∷ freezes_from (n + 1) es) (freezes_from (n + 1) es)
-places_cons n e es = places_if (is_freeze e.call) n e (filter (λ (x : ℕ × Entry). is_freeze x.1.call) (enumerate_from (n + 1) es))
+places_cons :
+    (n : ℕ) (e : Entry) (es : List Entry)
+    → freezes_from n (e ∷ es)
+    ≡ cond (is_freeze e.call) (n ∷ freezes_from (n + 1) es) (freezes_from (n + 1) es)
+places_cons n e es =
+    places_if (is_freeze e.call) n e
+    (filter (λ (x : ℕ × Entry). is_freeze x.1.call) (enumerate_from (n + 1) es))
 
 places_rise : (n : ℕ) (history : List Entry) → Rise n (freezes_from n history)
 places_rise n [] = tt
-places_rise n (e ∷ es) = subst (Rise n) (sym (places_cons n e es)) (rise_if (is_freeze e.call) n (freezes_from (n + 1) es) (places_rise (n + 1) es))
+places_rise n (e ∷ es) =
+    subst (Rise n) (sym (places_cons n e es))
+    (rise_if (is_freeze e.call) n (freezes_from (n + 1) es) (places_rise (n + 1) es))
 
-count_cons : (call : Call) (calls : List Call) → count_by is_freeze (call ∷ calls) ≡ 0 + cond (is_freeze call) 1 0 + count_by is_freeze calls
+count_cons :
+    (call : Call) (calls : List Call)
+    → count_by is_freeze (call ∷ calls) ≡ 0 + cond (is_freeze call) 1 0 + count_by is_freeze calls
 count_cons call calls = sum_by-append (λ (c : Call). cond (is_freeze c) 1 0) (call ∷ []) calls
 
 length_if : (b : Bool) (n : ℕ) (rest : List ℕ) → length (cond b (n ∷ rest) rest) ≡ cond b 1 0 + length rest
@@ -105,18 +122,25 @@ frozen_by history p = count_by is_freeze (calls_of (own_calls p history))
 abbrev frozen : List Entry → List ℕ → ℕ
 frozen history callers = sum_by (frozen_by history) callers
 
-frozen_cons : (history : List Entry) (p : ℕ) (callers : List ℕ) → frozen history (p ∷ callers) ≡ 0 + frozen_by history p + frozen history callers
+frozen_cons :
+    (history : List Entry) (p : ℕ) (callers : List ℕ)
+    → frozen history (p ∷ callers) ≡ 0 + frozen_by history p + frozen history callers
 frozen_cons history p callers = sum_by-append (frozen_by history) (p ∷ []) callers
 
 abbrev one_if : Bool → Call → ℕ
 one_if b call = cond b (cond (is_freeze call) 1 0) 0
 
-own_if : (b : Bool) (e : Entry) (rest : List Entry) → count_by is_freeze (calls_of (cond b (e ∷ rest) rest)) ≡ one_if b e.call + count_by is_freeze (calls_of rest)
+own_if :
+    (b : Bool) (e : Entry) (rest : List Entry)
+    → count_by is_freeze (calls_of (cond b (e ∷ rest) rest))
+    ≡ one_if b e.call + count_by is_freeze (calls_of rest)
 own_if true e rest = let c = count_cons e.call (calls_of rest) in omega (arith, c)
 own_if false e rest = omega arith
 
 -- an entry of nobody among these callers adds nothing
-not_theirs : (e : Entry) (es : List Entry) (n : ℕ) (callers : List ℕ) → Rise n callers → e.caller < n → frozen (e ∷ es) callers ≡ frozen es callers
+not_theirs :
+    (e : Entry) (es : List Entry) (n : ℕ) (callers : List ℕ) → Rise n callers → e.caller < n
+    → frozen (e ∷ es) callers ≡ frozen es callers
 not_theirs e es n [] rise low = refl
 not_theirs e es n (p ∷ ps) rise low =
     let r = rise.0 in
@@ -137,7 +161,8 @@ theirs e es n (p ∷ ps) rise in' =
     let other = frozen_cons es p ps in
     ⊎_elim
     (λ (same : e.caller ≡ p).
-    let yes : one_if (e.caller == p) e.call ≡ one_if true e.call = ap (λ (b : Bool). one_if b e.call) (eq-eqb e.caller p same) in
+    let yes : one_if (e.caller == p) e.call ≡ one_if true e.call =
+    ap (λ (b : Bool). one_if b e.call) (eq-eqb e.caller p same) in
     let rest = not_theirs e es (p + 1) ps rise.1 (omega (arith, same)) in
     omega (arith, mine, yes, rest, one, other))
     (λ (later : StandsAmong ps e.caller).
@@ -152,7 +177,9 @@ none_frozen : (callers : List ℕ) → frozen [] callers ≡ 0
 none_frozen [] = refl
 none_frozen (p ∷ ps) = let one = frozen_cons [] p ps in let rest = none_frozen ps in omega (arith, one, rest)
 
-all_frozen : (history : List Entry) (n : ℕ) (callers : List ℕ) → Rise n callers → All (λ e. StandsAmong callers e.caller) history
+all_frozen :
+    (history : List Entry) (n : ℕ) (callers : List ℕ) → Rise n callers
+    → All (λ e. StandsAmong callers e.caller) history
     → count_by is_freeze (calls_of history) ≡ frozen history callers
 all_frozen [] n callers rise of = sym (none_frozen callers)
 all_frozen (e ∷ es) n callers rise of =
@@ -179,7 +206,8 @@ scripts_frozen history (pass ∷ passes) fit =
     let F : PassState → Type 0 = λ q. FitsHistory q history in
     let head = sum_by-append (λ (s : Script). count_by is_freeze s.calls) (script_of pass ∷ []) (map script_of passes) in
     let other = frozen_cons history pass.caller (numbers_of passes) in
-    let mine : count_by is_freeze (calls_of (own pass)) ≡ frozen_by history pass.caller = ap (λ (l : List Entry). count_by is_freeze (calls_of l)) (sym (All-head F pass passes fit).own_are) in
+    let mine : count_by is_freeze (calls_of (own pass)) ≡ frozen_by history pass.caller =
+    ap (λ (l : List Entry). count_by is_freeze (calls_of l)) (sym (All-head F pass passes fit).own_are) in
     let rest = scripts_frozen history passes (All-tail F pass passes fit) in
     omega (arith, head, other, mine, rest)
 
@@ -190,13 +218,16 @@ stands_or_not x (pass ∷ passes) =
     (λ (e : x ≡ pass.caller). inl (inl e))
     (λ (n : x ≡ pass.caller → ⊥). ⊎_elim
     (λ (later : StandsAmong (numbers_of passes) x). inl (inr later))
-    (λ (others : All (λ p. p.caller ≢ x) passes). inr (All-cons (λ (p : PassState). p.caller ≢ x) pass passes (λ same. n (sym same)) others))
+    (λ (others : All (λ p. p.caller ≢ x) passes). inr
+    (All-cons (λ (p : PassState). p.caller ≢ x) pass passes (λ same. n (sym same)) others))
     (stands_or_not x passes))
     (cases_eq x pass.caller)
 
 has_own : (e : Entry) (es : List Entry) → own_calls e.caller (e ∷ es) ≡ [] → ⊥
 has_own e es none =
-    let kept : own_calls e.caller (e ∷ es) ≡ e ∷ own_calls e.caller es = ap (λ (b : Bool). cond b (e ∷ own_calls e.caller es) (own_calls e.caller es)) (eq-eqb e.caller e.caller refl) in
+    let kept : own_calls e.caller (e ∷ es) ≡ e ∷ own_calls e.caller es =
+    ap (λ (b : Bool). cond b (e ∷ own_calls e.caller es) (own_calls e.caller es))
+    (eq-eqb e.caller e.caller refl) in
     let long : length (e ∷ own_calls e.caller es) ≡ 0 = ap length (sym kept ∙ none) in
     absurd (omega (arith, long))
 
@@ -204,7 +235,9 @@ own_less : (b : Bool) (e : Entry) (rest : List Entry) → cond b (e ∷ rest) re
 own_less true e rest none = let long : length (e ∷ rest) ≡ 0 = ap length none in absurd (omega (arith, long))
 own_less false e rest none = none
 
-all_theirs : (taken : List PassState) (history : List Entry) → ((p : ℕ) → 1 ≤ p → All (λ pass. pass.caller ≢ p) taken → own_calls p history ≡ [])
+all_theirs :
+    (taken : List PassState) (history : List Entry)
+    → ((p : ℕ) → 1 ≤ p → All (λ pass. pass.caller ≢ p) taken → own_calls p history ≡ [])
     → All (λ e. StandsAmong (0 ∷ numbers_of taken) e.caller) history
 all_theirs taken [] others = All-nil (λ (e : Entry). StandsAmong (0 ∷ numbers_of taken) e.caller)
 all_theirs taken (e ∷ es) others =
@@ -218,19 +251,28 @@ all_theirs taken (e ∷ es) others =
     (cases_eq e.caller 0))
     (all_theirs taken es (λ p least no. own_less (e.caller == p) e (own_calls p es) (others p least no)))
 
-pub all_placed : (clerk : ClerkState) (history : List Entry) (scripts : List Script) (places : List ℕ) → map script_of clerk.taken ≡ scripts → RisesFrom 0 scripts
-    → IsClosed clerk history → clerk.desk.caller ≡ 0 → own clerk.desk ≡ freeze_entry 0 ∷ [] → length places ≡ freezes scripts + 1
+pub all_placed :
+    (clerk : ClerkState) (history : List Entry) (scripts : List Script) (places : List ℕ)
+    → map script_of clerk.taken ≡ scripts → RisesFrom 0 scripts
+    → IsClosed clerk history → clerk.desk.caller ≡ 0 → own clerk.desk ≡ freeze_entry 0 ∷ []
+    → length places ≡ freezes scripts + 1
     → Rise 1 places → StandAmong (freezes_from 1 history) places → places ≡ freezes_from 1 history
 all_placed clerk history scripts places are rises closed nobody_else own_is many rise in' =
     let teams = numbers_of clerk.taken in
-    let rise_all : Rise 0 (0 ∷ teams) = (omega arith, callers_rise 0 1 clerk.taken (omega arith) (subst (RisesFrom 0) (sym are) rises)) in
-    let all = all_frozen history 0 (0 ∷ teams) rise_all (all_theirs clerk.taken history (λ p least no. closed.others p least (none_has p clerk.taken no))) in
+    let rise_all : Rise 0 (0 ∷ teams) =
+    (omega arith, callers_rise 0 1 clerk.taken (omega arith) (subst (RisesFrom 0) (sym are) rises)) in
+    let all =
+    all_frozen history 0 (0 ∷ teams) rise_all (all_theirs clerk.taken history
+    (λ p least no. closed.others p least (none_has p clerk.taken no))) in
     let first = frozen_cons history 0 teams in
     let of_clerk : frozen_by history 0 ≡ 1 =
-    ap (λ (l : List Entry). count_by is_freeze (calls_of l)) (ap (λ (p : ℕ). own_calls p history) (sym nobody_else) ∙ (closed.desk.own_are ∙ own_is)) in
-    let of_teams : freezes scripts ≡ frozen history teams = ap freezes (sym are) ∙ scripts_frozen history clerk.taken (all_fit clerk history closed) in
+    ap (λ (l : List Entry). count_by is_freeze (calls_of l))
+    (ap (λ (p : ℕ). own_calls p history) (sym nobody_else) ∙ (closed.desk.own_are ∙ own_is)) in
+    let of_teams : freezes scripts ≡ frozen history teams =
+    ap freezes (sym are) ∙ scripts_frozen history clerk.taken (all_fit clerk history closed) in
     let there = places_are 1 history in
-    (within 1 (freezes_from 1 history) places rise (places_rise 1 history) in').1 (omega (arith, all, first, of_clerk, of_teams, there, many))
+    (within 1 (freezes_from 1 history) places rise (places_rise 1 history) in').1
+    (omega (arith, all, first, of_clerk, of_teams, there, many))
 
 -- ---- where a freeze stands is one of their places
 
@@ -241,15 +283,19 @@ kept_if false n x rest in' = in'
 first_if : (b : Bool) (n : ℕ) (rest : List ℕ) → b ≡ true → StandsAmong (cond b (n ∷ rest) rest) n
 first_if b n rest is = subst (λ (c : Bool). StandsAmong (cond c (n ∷ rest) rest) n) (sym is) (inl refl)
 
-pub stands_there : (n i : ℕ) (history : List Entry) (caller : ℕ) → slice_get history i ≡ Some (freeze_entry caller) → StandsAmong (freezes_from n history) (n + i)
+pub stands_there :
+    (n i : ℕ) (history : List Entry) (caller : ℕ) → slice_get history i ≡ Some (freeze_entry caller)
+    → StandsAmong (freezes_from n history) (n + i)
 stands_there n i [] caller is = absurd (cc)
 stands_there n zero (e ∷ es) caller is =
     let freezes_here : is_freeze e.call ≡ true = cc in
     let place : n + 0 ≡ n = omega arith in
     subst (λ (p : ℕ). StandsAmong (freezes_from n (e ∷ es)) p) (sym place)
-    (subst (λ (l : List ℕ). StandsAmong l n) (sym (places_cons n e es)) (first_if (is_freeze e.call) n (freezes_from (n + 1) es) freezes_here))
+    (subst (λ (l : List ℕ). StandsAmong l n) (sym (places_cons n e es))
+    (first_if (is_freeze e.call) n (freezes_from (n + 1) es) freezes_here))
 stands_there n (suc i) (e ∷ es) caller is =
     let rest = stands_there (n + 1) i es caller is in
     let place : n + 1 + i ≡ n + suc i = omega arith in
     subst (λ (p : ℕ). StandsAmong (freezes_from n (e ∷ es)) p) place
-    (subst (λ (l : List ℕ). StandsAmong l (n + 1 + i)) (sym (places_cons n e es)) (kept_if (is_freeze e.call) n (n + 1 + i) (freezes_from (n + 1) es) rest))
+    (subst (λ (l : List ℕ). StandsAmong l (n + 1 + i)) (sym (places_cons n e es))
+    (kept_if (is_freeze e.call) n (n + 1 + i) (freezes_from (n + 1) es) rest))

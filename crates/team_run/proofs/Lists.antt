@@ -1,12 +1,15 @@
 -- Lists: what is next, all items of a list that is turned round, and pairs of items.
-use Rattle.std.proofs.Common.{◌≡◌, ℕ, zero, suc, ◌<◌, List, [], ◌∷◌, ◌++◌, length, reverse, All, AllPairs, refl, sym, ap, subst, ◌∙◌, append_assoc, arith}
+use Rattle.std.proofs.Common.{◌≡◌, ℕ, zero, suc, ◌<◌, List, [], ◌∷◌, ◌++◌, length, reverse, All, AllPairs}
+use Rattle.std.proofs.Common.{refl, sym, ap, subst, ◌∙◌, append_assoc, arith}
 use Rattle.std.specs.Prelude.{slice_get, slice_index_or, Some}
 use Rattle.std.proofs.lemmas.List.{reverse-append}
 use Rattle.std.proofs.lemmas.List.Elements.{All-nil, All-cons, All-append, All-head, All-tail}
 use Rattle.std.proofs.lemmas.List.Kept.{AllPairs-cons}
 
 -- the last of what is left, which is turned round, is the next
-pub next_of : {X : Type 0} (before rest : List X) (x : X) (left : List X) → left ≡ rest ++ x ∷ [] → before ++ reverse left ≡ (before ++ x ∷ []) ++ reverse rest
+pub next_of :
+    {X : Type 0} (before rest : List X) (x : X) (left : List X) → left ≡ rest ++ x ∷ []
+    → before ++ reverse left ≡ (before ++ x ∷ []) ++ reverse rest
 next_of {X = X} before rest x left is =
     ap (λ (l : List X). before ++ l) (ap reverse is ∙ reverse-append rest (x ∷ []))
     ∙ sym (append_assoc before (x ∷ []) (reverse rest))

@@ -1,5 +1,6 @@
 -- One call of a team after another.
-use Rattle.std.proofs.Common.{◌≡◌, ℕ, ◌<◌, List, [], ◌∷◌, ◌++◌, reverse, count_by, All, refl, sym, ap, subst, ◌∙◌, append-nil}
+use Rattle.std.proofs.Common.{◌≡◌, ℕ, ◌<◌, List, [], ◌∷◌, ◌++◌, reverse, count_by, All, refl, sym, ap, subst}
+use Rattle.std.proofs.Common.{◌∙◌, append-nil}
 use Rattle.std.proofs.lemmas.List.{reverse-reverse}
 use Rattle.std.proofs.lemmas.List.Elements.{All-nil}
 use Rattle.batch_core.specs.declared.call.Call.{Call}
@@ -21,8 +22,11 @@ no_work pass versions none is =
       each = All-nil (IsFreezeOf pass);
     })
 
-pub making_none : (office : OfficeState) (calls left : List Call) (pass : PassState) (versions : List VersionState) → pass.office ≡ office → own pass ≡ [] → versions ≡ []
-    → All (IsAnswerable office.candidates) calls → left ≡ reverse calls → IsMaking office pass.caller calls left pass versions
+pub making_none :
+    (office : OfficeState) (calls left : List Call) (pass : PassState) (versions : List VersionState)
+    → pass.office ≡ office → own pass ≡ [] → versions ≡ []
+    → All (IsAnswerable office.candidates) calls → left ≡ reverse calls
+    → IsMaking office pass.caller calls left pass versions
 making_none office calls left pass versions of none nothing answerable is = record {
   office_is = of;
   caller_is = refl;
@@ -30,15 +34,21 @@ making_none office calls left pass versions of none nothing answerable is = reco
   whole =
       let turned : reverse left ≡ calls = ap reverse is ∙ reverse-reverse calls in
       sym (ap (λ (o : List Entry). calls_of o ++ reverse left) none ∙ turned);
-  answerable = subst (All (IsAnswerable office.candidates)) (sym is) (All-reverse (IsAnswerable office.candidates) calls answerable);
+  answerable =
+      subst (All (IsAnswerable office.candidates)) (sym is)
+      (All-reverse (IsAnswerable office.candidates) calls answerable);
 }
 
-pub next_answerable : (office : OfficeState) (caller : ℕ) (calls left rest : List Call) (call : Call) (pass : PassState) (versions : List VersionState)
+pub next_answerable :
+    (office : OfficeState) (caller : ℕ) (calls left rest : List Call) (call : Call) (pass : PassState)
+    (versions : List VersionState)
     → IsMaking office caller calls left pass versions → left ≡ rest ++ call ∷ [] → IsAnswerable office.candidates call
 next_answerable office caller calls left rest call pass versions m is =
     (All-split (IsAnswerable office.candidates) rest call (subst (All (IsAnswerable office.candidates)) is m.answerable)).1
 
-pub making_more : (office : OfficeState) (caller : ℕ) (calls left rest : List Call) (call : Call) (pass next : PassState) (versions then : List VersionState)
+pub making_more :
+    (office : OfficeState) (caller : ℕ) (calls left rest : List Call) (call : Call) (pass next : PassState)
+    (versions then : List VersionState)
     → IsMaking office caller calls left pass versions → left ≡ rest ++ call ∷ [] → IsSamePass pass next → IsAtWork next then
     → calls_of (own next) ≡ calls_of (own pass) ++ call ∷ [] → IsMaking office caller calls rest next then
 making_more office caller calls left rest call pass next versions then m is same work made = record {
@@ -46,19 +56,26 @@ making_more office caller calls left rest call pass next versions then m is same
   caller_is = same.caller ∙ m.caller_is;
   work = work;
   whole = m.whole ∙ (next_of (calls_of (own pass)) rest call left is ∙ ap (λ (l : List Call). l ++ reverse rest) (sym made));
-  answerable = (All-split (IsAnswerable office.candidates) rest call (subst (All (IsAnswerable office.candidates)) is m.answerable)).0;
+  answerable =
+      (All-split (IsAnswerable office.candidates) rest call
+      (subst (All (IsAnswerable office.candidates)) is m.answerable)).0;
 }
 
 -- the last call was refused: all before it were made
-pub made_first : (office : OfficeState) (caller : ℕ) (calls left : List Call) (pass next : PassState) (versions : List VersionState)
-    → IsMaking office caller calls left pass versions → IsSamePass pass next → own next ≡ own pass → HasBegun next (record { team = caller; calls = calls })
+pub made_first :
+    (office : OfficeState) (caller : ℕ) (calls left : List Call) (pass next : PassState)
+    (versions : List VersionState)
+    → IsMaking office caller calls left pass versions → IsSamePass pass next → own next ≡ own pass
+    → HasBegun next (record { team = caller; calls = calls })
 made_first office caller calls left pass next versions m same none = record {
   number = same.caller ∙ m.caller_is;
   left = reverse left;
   calls = m.whole ∙ ap (λ (o : List Entry). calls_of o ++ reverse left) (sym none);
 }
 
-pub begun_all : (office : OfficeState) (caller : ℕ) (calls left : List Call) (pass : PassState) (versions : List VersionState)
+pub begun_all :
+    (office : OfficeState) (caller : ℕ) (calls left : List Call) (pass : PassState)
+    (versions : List VersionState)
     → IsMaking office caller calls left pass versions → left ≡ [] → HasBegun pass (record { team = caller; calls = calls })
 begun_all office caller calls left pass versions m is = record {
   number = m.caller_is;

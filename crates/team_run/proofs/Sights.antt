@@ -1,5 +1,6 @@
 -- What stays in longer sights.
-use Rattle.std.proofs.Common.{◌≡◌, ℕ, ◌+◌, ◌-◌, ◌<◌, List, [], ◌∷◌, ◌++◌, length, refl, sym, ap, subst, ◌∙◌, append_assoc, append-nil, length-append, arith}
+use Rattle.std.proofs.Common.{◌≡◌, ℕ, ◌+◌, ◌-◌, ◌<◌, List, [], ◌∷◌, ◌++◌, length, refl, sym, ap, subst, ◌∙◌}
+use Rattle.std.proofs.Common.{append_assoc, append-nil, length-append, arith}
 use Rattle.std.specs.Prelude.{slice_get, Option, Some}
 use Rattle.std.proofs.lemmas.List.{length-map}
 use Rattle.turn_lock.specs.Entries.{Begins}
@@ -35,9 +36,12 @@ goes_on_same s = record {
 
 -- ---- freezes
 
-pub froze_stays : (before now : Sight) (caller : ℕ) (v : VersionState) → FrozeAt before caller v → GoesOn before now → FrozeAt now caller v
+pub froze_stays :
+    (before now : Sight) (caller : ℕ) (v : VersionState) → FrozeAt before caller v → GoesOn before now
+    → FrozeAt now caller v
 froze_stays before now caller v froze on =
-    ap (λ (l : List Mark). slice_get l (v.at - 1)) on.marks.1 ∙ get_ahead before.marks on.marks.0 (v.at - 1) (Freeze caller) froze
+    ap (λ (l : List Mark). slice_get l (v.at - 1)) on.marks.1
+    ∙ get_ahead before.marks on.marks.0 (v.at - 1) (Freeze caller) froze
 
 abbrev frozen_by : Option Mark → ℕ
 frozen_by (Some (Freeze caller)) = caller
@@ -48,22 +52,32 @@ pub one_caller : (sight : Sight) (p q : ℕ) (v w : VersionState) → FrozeAt si
 one_caller sight p q v w one other same =
     ap frozen_by (sym one ∙ (ap (λ (n : ℕ). slice_get sight.marks (n - 1)) same ∙ other))
 
-pub freeze_stays : VersionsStay → (old new : PassState) (v : VersionState) → IsSamePass old new → IsFreezeOf old v → IsFreezeOf new v
+pub freeze_stays :
+    VersionsStay → (old new : PassState) (v : VersionState) → IsSamePass old new → IsFreezeOf old v
+    → IsFreezeOf new v
 freeze_stays stay old new v same f = record {
   seen = stay v old.sight new.sight f.seen same.goes_on;
-  froze = subst (λ (p : ℕ). FrozeAt new.sight p v) (sym same.caller) (froze_stays old.sight new.sight old.caller v f.froze same.goes_on);
+  froze =
+      subst (λ (p : ℕ). FrozeAt new.sight p v) (sym same.caller)
+      (froze_stays old.sight new.sight old.caller v f.froze same.goes_on);
   candidates = f.candidates ∙ sym (ap (λ o. o.candidates) same.office);
 }
 
 module _ (shards caller : ℕ) (v : VersionState) (before now : Sight) (f : IsFreeze shards caller v before now) where
   pub at_the_end : v.at ≡ length now.marks
-  at_the_end = f.at ∙ (sym (length-map (history_of now) (λ (e : Entry). mark_of shards e.caller e.call)) ∙ ap length f.woven.order)
+  at_the_end =
+      f.at
+      ∙ (sym (length-map (history_of now) (λ (e : Entry). mark_of shards e.caller e.call))
+      ∙ ap length f.woven.order)
 
   abbrev ahead : List Mark
   ahead = before.marks ++ f.marks.0
 
   one_more : v.at ≡ length ahead + 1
-  one_more = let more = ap length f.marks.1 in let one = length-append ahead (Freeze caller ∷ []) in let last = at_the_end in omega arith
+  one_more =
+      let more =
+      ap length f.marks.1 in
+      let one = length-append ahead (Freeze caller ∷ []) in let last = at_the_end in omega arith
 
   -- a freeze stands behind all that was seen before
   pub later : length before.marks < v.at

@@ -1,5 +1,6 @@
 -- One team taken in after another.
-use Rattle.std.proofs.Common.{◌≡◌, ◌+◌, Bool, false, true, List, [], ◌∷◌, ◌++◌, length, reverse, All, refl, sym, ap, subst, ◌∙◌, append_assoc, append-nil, length-append, arith}
+use Rattle.std.proofs.Common.{◌≡◌, ◌+◌, Bool, false, true, List, [], ◌∷◌, ◌++◌, length, reverse, All, refl}
+use Rattle.std.proofs.Common.{sym, ap, subst, ◌∙◌, append_assoc, append-nil, length-append, arith}
 use Rattle.std.specs.List.{flat_map}
 use Rattle.std.proofs.lemmas.List.{map-append, reverse-reverse, length-reverse}
 use Rattle.std.proofs.lemmas.List.Concat.{flat_map-append}
@@ -37,7 +38,9 @@ same_further old now new one other = record {
   goes_on = goes_on_further old.desk.sight now.desk.sight new.desk.sight one.goes_on other.goes_on;
 }
 
-pub taking_none : (office : OfficeState) (old : ClerkState) (teams left : List Team) (versions : List VersionState) → All (IsOfOffice office) teams
+pub taking_none :
+    (office : OfficeState) (old : ClerkState) (teams left : List Team) (versions : List VersionState)
+    → All (IsOfOffice office) teams
     → old.open_teams ≡ length teams → versions ≡ [] → left ≡ reverse teams → IsTaking office old teams left old versions true
 taking_none office old teams left versions of many none is = record {
   done = [];
@@ -49,8 +52,11 @@ taking_none office old teams left versions of many none is = record {
   versions_are = λ whole. (none, All-nil IsWhole);
 }
 
-pub taking_more : (office : OfficeState) (old now new : ClerkState) (teams left rest : List Team) (team : Team) (versions more : List VersionState) (whole then : Bool)
-    → IsTaking office old teams left now versions whole → left ≡ rest ++ team ∷ [] → IsSameClerk now new → new.taken ≡ now.taken ++ team.pass ∷ []
+pub taking_more :
+    (office : OfficeState) (old now new : ClerkState) (teams left rest : List Team) (team : Team)
+    (versions more : List VersionState) (whole then : Bool)
+    → IsTaking office old teams left now versions whole → left ≡ rest ++ team ∷ [] → IsSameClerk now new
+    → new.taken ≡ now.taken ++ team.pass ∷ []
     → new.open_teams + 1 ≡ now.open_teams
     → (then ≡ true → (whole ≡ true) × (team.refused ≡ false) × (more ≡ versions ++ versions_of team))
     → IsTaking office old teams rest new more then

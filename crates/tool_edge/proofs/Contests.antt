@@ -1,5 +1,6 @@
 -- Ballot files and lots that are accepted are not refused.
-use Rattle.std.proofs.Common.{◌≡◌, ℕ, ◌+◌, ◌-◌, ◌<◌, List, ◌∷◌, [], length, take, slice_index, refl, sym, ◌∙◌, ap, subst, arith, inl, inr, false, length-take}
+use Rattle.std.proofs.Common.{◌≡◌, ℕ, ◌+◌, ◌-◌, ◌<◌, List, ◌∷◌, [], length, take, slice_index, refl, sym, ◌∙◌}
+use Rattle.std.proofs.Common.{ap, subst, arith, inl, inr, false, length-take}
 use Rattle.std.specs.Prelude.{codes, Ok, Err}
 use Rattle.std.proofs.lemmas.List.{get_or-take, get_or_default}
 use Rattle.lot_order.specs.Lots.{IsOrder, IsLotsStop}
@@ -15,7 +16,8 @@ use Rattle.blt_reader.specs.Poll.{Poll}
 use Rattle.blt_reader.specs.Said.{of_a_file, said_by, AcceptsFiles, RefusesByTheRule}
 use Rattle.meek_words.specs.Numerals.{Word, IsLotList, HaveOneLotList}
 use Rattle.tool_edge.specs.Contest.{SaysPoll, IsBadPlace, HasBadLots, ReadsContest, lots_stop}
-use Rattle.tool_edge.specs.Tools.{HaveOneOrder, FilesAreNotRefused, FilesAreRefusedOnce, ContestsAreNotRefused, ContestsAreRefusedOnce}
+use Rattle.tool_edge.specs.Tools.{HaveOneOrder, FilesAreNotRefused, FilesAreRefusedOnce}
+use Rattle.tool_edge.specs.Tools.{ContestsAreNotRefused, ContestsAreRefusedOnce}
 
 -- an order of all candidates has no place at fault
 no_bad_place : (lots : List ℕ) (place : ℕ) → IsOrder lots → IsBadPlace (length lots) lots place → ⊥
@@ -24,8 +26,11 @@ no_bad_place lots place order (inl twice) =
     let earlier : k < place - 1 = omega (arith, twice.stood_before.1, length-take (place - 1) lots) in
     let same : slice_index lots k ≡ slice_index lots (place - 1) =
     sym (get_or-take (place - 1) lots k 0 earlier)
-    ∙ (get_or_default (take (place - 1) lots) k 0 (slice_index lots (place - 1)) twice.stood_before.1 ∙ twice.stood_before.2) in
-    let one : k ≡ place - 1 = order.different k (place - 1) (omega (arith, twice.inside, twice.from_one)) (omega (arith, twice.inside, twice.from_one)) same in
+    ∙ (get_or_default (take (place - 1) lots) k 0 (slice_index lots (place - 1)) twice.stood_before.1
+    ∙ twice.stood_before.2) in
+    let one : k ≡ place - 1 =
+    order.different k (place - 1) (omega (arith, twice.inside, twice.from_one))
+    (omega (arith, twice.inside, twice.from_one)) same in
     omega arith
 no_bad_place lots place order (inr (inl outside)) =
     outside.no_candidate (order.candidates (place - 1) (omega (arith, outside.inside, outside.from_one)))
@@ -35,7 +40,8 @@ no_bad_place lots place order (inr (inr (c, first, is))) =
 pub files_are_not_refused : AcceptsFiles → RefusesByTheRule → FilesAreNotRefused
 files_are_not_refused accepts refuses input fault (poll, file) refused =
     let read : said_by of_a_file (scan input false) ≡ Ok poll = (accepts of_a_file (scan input false) poll).1 file in
-    let stopped : said_by of_a_file (scan input false) ≡ Err fault = (refuses of_a_file (scan input false) fault).1 refused in
+    let stopped : said_by of_a_file (scan input false) ≡ Err fault =
+    (refuses of_a_file (scan input false) fault).1 refused in
     cc
 
 -- an input is the file of one poll
@@ -57,14 +63,17 @@ contests_are_not_refused accepts refuses lots input fault (poll, says) (inr bad)
 
 pub files_are_refused_once : RefusesByTheRule → FilesAreRefusedOnce
 files_are_refused_once refuses input fault other refused again =
-    let stopped : said_by of_a_file (scan input false) ≡ Err fault = (refuses of_a_file (scan input false) fault).1 refused in
-    let restopped : said_by of_a_file (scan input false) ≡ Err other = (refuses of_a_file (scan input false) other).1 again in
+    let stopped : said_by of_a_file (scan input false) ≡ Err fault =
+    (refuses of_a_file (scan input false) fault).1 refused in
+    let restopped : said_by of_a_file (scan input false) ≡ Err other =
+    (refuses of_a_file (scan input false) other).1 again in
     cc
 
 -- lots with a place at fault are stopped there
 stop_at :
     (n : ℕ) (lots : List ℕ) (place : ℕ) → IsBadPlace n lots place
-    → (stop : LotsStop) × IsLotsStop n lots stop × (lots_stop (length lots) stop ≡ Fault (record { kind = BadLots; at = place }))
+    → (stop : LotsStop) × IsLotsStop n lots stop
+    × (lots_stop (length lots) stop ≡ Fault (record { kind = BadLots; at = place }))
 stop_at n lots place (inl twice) = (Twice place, twice, refl)
 stop_at n lots place (inr (inl outside)) = (OutOfRange place, outside, refl)
 stop_at n lots place (inr (inr (c, first, is))) =
@@ -76,7 +85,8 @@ place_of (Fault fault) = fault.at
 place_of NoInput = 0
 
 one_bad_place :
-    HasOneRefusal → (n : ℕ) (lots : List ℕ) (place other : ℕ) → IsBadPlace n lots place → IsBadPlace n lots other → place ≡ other
+    HasOneRefusal → (n : ℕ) (lots : List ℕ) (place other : ℕ) → IsBadPlace n lots place
+    → IsBadPlace n lots other → place ≡ other
 one_bad_place one n lots place other bad again =
     let stop = stop_at n lots place bad in
     let stop_again = stop_at n lots other again in

@@ -1,5 +1,6 @@
 -- Whole runs of a tool, from its parts.
-use Rattle.std.proofs.Common.{◌≡◌, ◌⊎◌, ℕ, ◌+◌, ◌<◌, List, ◌++◌, length, replicate, refl, sym, ◌∙◌, ap, subst, arith, inl, inr}
+use Rattle.std.proofs.Common.{◌≡◌, ◌⊎◌, ℕ, ◌+◌, ◌<◌, List, ◌++◌, length, replicate, refl, sym, ◌∙◌, ap, subst}
+use Rattle.std.proofs.Common.{arith, inl, inr}
 use Rattle.std.specs.Prelude.{Option, Some, None, Result, Ok, Err}
 use Rattle.std.proofs.lemmas.List.{append-nil, length-replicate}
 use Rattle.std.specs.Io.KnownBytes.{Consumes, IsAtEnd}
@@ -18,13 +19,16 @@ use Rattle.tool_edge.specs.Refusals.{Refusals, words_line, file_refusals}
 use Rattle.tool_edge.specs.Finishing.{Finishes, FinishesOwed, RefusesWords, RefusesInput}
 use Rattle.tool_edge.specs.Words.{IsAsked}
 use Rattle.tool_edge.specs.Opening.{MayBeInput, IsInput, IsWithin, IsTooLong, ReadsAll, StopsReading, StopsOpening}
-use Rattle.tool_edge.specs.Tool.{Tool, AsksForInput, IsRefused, IsOwedFor, IsOwedAt, IsOwed, IsAnswered, IsReadFor, IsAcceptedRun, IsRefusedInput, IsRefusedRun, IsOnlyRefusal, IsRun, Works, IsSound}
+use Rattle.tool_edge.specs.Tool.{Tool, AsksForInput, IsRefused, IsOwedFor, IsOwedAt, IsOwed, IsAnswered}
+use Rattle.tool_edge.specs.Tool.{IsReadFor, IsAcceptedRun, IsRefusedInput, IsRefusedRun, IsOnlyRefusal, IsRun}
+use Rattle.tool_edge.specs.Tool.{Works, IsSound}
 
 -- ---- the input of a run
 
 -- the input that the source told is the only one
 same_input :
-    (limit : Option ℕ) (left : Option (List ℕ)) (input other : List ℕ) → IsInput limit left input → MayBeInput limit left other
+    (limit : Option ℕ) (left : Option (List ℕ)) (input other : List ℕ) → IsInput limit left input
+    → MayBeInput limit left other
     → other ≡ input
 same_input None left input other told is = is ∙ sym told
 same_input (Some most) left input other told is = subst (λ (l : Option (List ℕ)). MayBeLeft l other) told is
@@ -37,7 +41,9 @@ all_left (Some input) None items took ended = absurd took
 all_left (Some input) (Some rest) items took ended =
     sym (took ∙ (ap (λ (r : List ℕ). items ++ r) ended ∙ append-nil items))
 
-is_input : (limit : Option ℕ) (items : List ℕ) (source : Reading) → ReadsAll limit items source → MayBeInput limit source.left items
+is_input :
+    (limit : Option ℕ) (items : List ℕ) (source : Reading) → ReadsAll limit items source
+    → MayBeInput limit source.left items
 is_input None items source reads = reads.0
 is_input (Some most) items source reads = all_left source.left source.left_then items reads.all reads.ended
 
@@ -97,7 +103,8 @@ module _ {A H F : Type 0} (tool : Tool A H F) where
       → tool.Accepts asked input → IsRefused tool asked input fault → ⊥
   not_refused asked input fault sound short accepted (inl long) =
       not_within tool.refusals (tool.limit asked) input fault short long
-  not_refused asked input fault sound short accepted (inr (within, refused)) = sound.either asked input fault accepted refused
+  not_refused asked input fault sound short accepted (inr (within, refused)) =
+      sound.either asked input fault accepted refused
 
   -- What is owed for words is owed for what they ask, and for the input that was told.
   owed_known :
@@ -142,7 +149,8 @@ module _ {A H F : Type 0} (tool : Tool A H F) where
   -- An accepted run in which nothing failed is done, or wants memory.
   complete :
       (words : List Word) (source : Reading) (sink : Writing) (end : End F) (history : H) → IsSound tool
-      → IsAnswered tool words source sink end history → IsAcceptedRun tool words source sink → (end ≡ Done) ⊎ (end ≡ NoMemory)
+      → IsAnswered tool words source sink end history → IsAcceptedRun tool words source sink
+      → (end ≡ Done) ⊎ (end ≡ NoMemory)
   complete words source sink Done history sound is run = inl refl
   complete words source sink NoMemory history sound is run = inr refl
   complete words source sink SourceFault history sound is run =
@@ -151,7 +159,9 @@ module _ {A H F : Type 0} (tool : Tool A H F) where
   complete words source sink SinkFault history sound is run = absurd (run.no_write_failed is.1.0)
   complete words source sink BadWords history sound is run = absurd (is.1.1.1.0 run.asked run.taken)
   complete words source sink (BadInput fault) history sound is run =
-      let known = owed_known words run.asked source.left run.input history (BadInput fault) is.1.1.0 sound run.taken run.told is.1.1.1 in
+      let known =
+      owed_known words run.asked source.left run.input history (BadInput fault) is.1.1.0 sound run.taken
+      run.told is.1.1.1 in
       absurd (not_refused run.asked run.input fault sound run.short run.accepted known.0)
 
   -- Words that are not taken are refused, where nothing failed.
@@ -182,12 +192,15 @@ module _ {A H F : Type 0} (tool : Tool A H F) where
   refuses_input words source sink SinkFault history fault sound is run calm = absurd (calm is.1.0)
   refuses_input words source sink BadWords history fault sound is run calm = absurd (is.1.1.1.0 run.asked run.taken)
   refuses_input words source sink (BadInput other) history fault sound is run calm =
-      let known = owed_known words run.asked source.left run.input history (BadInput other) is.1.1.0 sound run.taken run.told is.1.1.1 in
+      let known =
+      owed_known words run.asked source.left run.input history (BadInput other) is.1.1.0 sound run.taken
+      run.told is.1.1.1 in
       inl (ap BadInput (refused_once run.asked run.input other fault sound known.0 run.refused))
 
   refuses :
       (words : List Word) (source : Reading) (sink : Writing) (end : End F) (history : H) (due : End F) → IsSound tool
-      → IsAnswered tool words source sink end history → IsRefusedRun tool words source sink due → (end ≡ due) ⊎ (end ≡ NoMemory)
+      → IsAnswered tool words source sink end history → IsRefusedRun tool words source sink due
+      → (end ≡ due) ⊎ (end ≡ NoMemory)
   refuses words source sink end history BadWords sound is run = refuses_words words source sink end history is run.0 run.1
   refuses words source sink end history (BadInput fault) sound is run =
       refuses_input words source sink end history fault sound is run.0 run.1
@@ -200,16 +213,21 @@ module _ {A H F : Type 0} (tool : Tool A H F) where
   only words source sink history fault sound is =
       record {
         no_other = λ asked input other taken told refused.
-            let known = owed_known words asked source.left input history (BadInput fault) is.1.1.0 sound taken told is.1.1.1 in
+            let known =
+            owed_known words asked source.left input history (BadInput fault) is.1.1.0 sound taken told
+            is.1.1.1 in
             refused_once asked input other fault sound refused known.0;
         not_accepted = λ asked input taken told short accepted.
-            let known = owed_known words asked source.left input history (BadInput fault) is.1.1.0 sound taken told is.1.1.1 in
+            let known =
+            owed_known words asked source.left input history (BadInput fault) is.1.1.0 sound taken told
+            is.1.1.1 in
             not_refused asked input fault sound short accepted known.0;
       }
 
   run_of :
       (words : List Word) (source : Reading) (sink : Writing) (end : End F) (history : H) → IsSound tool
-      → IsAnswered tool words source sink end history → IsReadFor tool words end source → IsRun tool words source sink end history
+      → IsAnswered tool words source sink end history → IsReadFor tool words end source
+      → IsRun tool words source sink end history
   run_of words source sink end history sound answer read =
       record {
         answer = answer;
@@ -238,9 +256,11 @@ module _ {A H F : Type 0} (tool : Tool A H F) where
 
   -- an input of which more is left than may be read
   long_owed :
-      (words : List Word) (asked : A) (most : ℕ) (left : Option (List ℕ)) → tool.Takes words asked → tool.limit asked ≡ Some most
+      (words : List Word) (asked : A) (most : ℕ) (left : Option (List ℕ)) → tool.Takes words asked
+      → tool.limit asked ≡ Some most
       → IsLongerThan most left
-      → IsOwed tool words left tool.no_calls (BadInput (tool.refusals.too_long most)) (tool.refusals.line (tool.refusals.too_long most))
+      → IsOwed tool words left tool.no_calls (BadInput (tool.refusals.too_long most))
+      (tool.refusals.line (tool.refusals.too_long most))
   long_owed words asked most left taken same long =
       let some = some_longer most left long in
       let is = subst (λ (l : Option ℕ). MayBeInput l left some.0) (sym same) some.1 in
@@ -275,11 +295,13 @@ module _ {A H F : Type 0} (tool : Tool A H F) where
       run_of words source sink end tool.no_calls sound
       (answered words source sink (BadInput fault) tool.no_calls (tool.refusals.line fault) end calm
       (long_owed words asked most source.left taken is long) finishes)
-      (read_in_part words asked most end source taken is (refusal_is_not_done fault (tool.refusals.line fault) end sink finishes))
+      (read_in_part words asked most end source taken is
+      (refusal_is_not_done fault (tool.refusals.line fault) end sink finishes))
 
   -- A source that is not read to its end ends the run.
   pub stopped_at_source :
-      (words : List Word) (asked : A) (end : End F) (source : Reading) (sink : Writing) → IsSound tool → tool.Takes words asked
+      (words : List Word) (asked : A) (end : End F) (source : Reading) (sink : Writing) → IsSound tool
+      → tool.Takes words asked
       → StopsReading tool.refusals (tool.limit asked) end source sink → IsRun tool words source sink end tool.no_calls
   stopped_at_source words asked end source sink sound taken stops =
       stopped_reading words asked (tool.limit asked) end source sink sound taken refl stops
@@ -340,15 +362,19 @@ module _ {A H F : Type 0} (tool : Tool A H F) where
       → ReadsAll (tool.limit asked) items source → mid ≡ old → input ≡ items
       → Works tool asked input end history (writing written faults mid new)
       → IsRun tool words source (writing written faults old new) end history
-  worked_with {K} written faults old mid new words asked items input end history source sound taken reads untouched same works =
+  worked_with {K} written faults old mid new words asked items input end history source sound taken reads
+      untouched same works =
       let of_items = subst (λ (i : List ℕ). Works tool asked i end history (writing written faults mid new)) same works in
-      let from_old = subst (λ (k : K). Works tool asked items end history (writing written faults k new)) untouched of_items in
+      let from_old =
+      subst (λ (k : K). Works tool asked items end history (writing written faults k new)) untouched
+      of_items in
       worked words asked items end history source (writing written faults old new) sound taken reads from_old
 
   -- ---- work that calls nothing
 
   pub works_alone :
-      (asked : A) (input : List ℕ) (end : End F) (sink : Writing) → FinishesOwed (IsOwedFor tool asked input tool.no_calls) end sink
+      (asked : A) (input : List ℕ) (end : End F) (sink : Writing)
+      → FinishesOwed (IsOwedFor tool asked input tool.no_calls) end sink
       → Works tool asked input end tool.no_calls sink
   works_alone asked input end sink (inl (same, nothing)) = inl (same, refl, nothing)
   works_alone asked input end sink (inr finishes) = inr finishes
@@ -358,14 +384,19 @@ module _ {A H F : Type 0} (tool : Tool A H F) where
   pub worked_on :
       {K : Type 0} (written : K → Option (List ℕ)) (faults : K → ℕ) (old mid new : K) (words : List Word)
       (read : Result A WordsStop) (asked given : A) (items input : List ℕ) (end : End F) (source : Reading) → IsSound tool
-      → IsAsked tool.Takes words read → read ≡ Ok asked → ReadsAll (tool.limit asked) items source → mid ≡ old → given ≡ asked
+      → IsAsked tool.Takes words read → read ≡ Ok asked → ReadsAll (tool.limit asked) items source → mid ≡ old
+      → given ≡ asked
       → input ≡ items → FinishesOwed (IsOwedFor tool given input tool.no_calls) end (writing written faults mid new)
       → IsRun tool words source (writing written faults old new) end tool.no_calls
-  worked_on {K} written faults old mid new words read asked given items input end source sound is same_read reads untouched same_asked same_bytes finishes =
+  worked_on {K} written faults old mid new words read asked given items input end source sound is same_read
+      reads untouched same_asked same_bytes finishes =
       let taken : tool.Takes words asked = subst (λ (r : Result A WordsStop). IsAsked tool.Takes words r) same_read is in
       let works = works_alone given input end (writing written faults mid new) finishes in
-      let of_asked = subst (λ (a : A). Works tool a input end tool.no_calls (writing written faults mid new)) same_asked works in
-      worked_with written faults old mid new words asked items input end tool.no_calls source sound taken reads untouched same_bytes of_asked
+      let of_asked =
+      subst (λ (a : A). Works tool a input end tool.no_calls (writing written faults mid new)) same_asked
+      works in
+      worked_with written faults old mid new words asked items input end tool.no_calls source sound taken
+      reads untouched same_bytes of_asked
 
 -- A file that is no input of this tool was answered by its line, or memory was wanted.
 pub refused :

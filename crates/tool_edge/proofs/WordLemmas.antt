@@ -9,7 +9,9 @@ use Rattle.meek_words.specs.declared.words_stop.WordsStop.TheVariants.{BadWords,
 use Rattle.tool_edge.specs.Words.{TakesLots, IsAsked}
 
 -- a list of two elements
-pub two_items : {X : Type 0} (xs : List X) (x y : X) → length xs ≡ 2 → x ≡ get_or xs 0 x → y ≡ get_or xs 1 y → xs ≡ x ∷ y ∷ []
+pub two_items :
+    {X : Type 0} (xs : List X) (x y : X) → length xs ≡ 2 → x ≡ get_or xs 0 x → y ≡ get_or xs 1 y
+    → xs ≡ x ∷ y ∷ []
 two_items [] x y two first second = absurd (omega arith)
 two_items (a ∷ []) x y two first second = absurd (omega arith)
 two_items (a ∷ b ∷ []) x y two first second = cc

@@ -1,5 +1,6 @@
 -- Which numbers a list of caller numbers has.
-use Rattle.std.proofs.Common.{◌≡◌, ◌≢◌, ◌⊎◌, ℕ, true, false, eqb, cond, ◌||◌, List, [], ◌∷◌, refl, sym, ap, ◌∙◌, subst, inl, inr, ⊎_elim, arith, eq-eqb, ne_eqb}
+use Rattle.std.proofs.Common.{◌≡◌, ◌≢◌, ◌⊎◌, ℕ, true, false, eqb, cond, ◌||◌, List, [], ◌∷◌, refl, sym, ap}
+use Rattle.std.proofs.Common.{◌∙◌, subst, inl, inr, ⊎_elim, arith, eq-eqb, ne_eqb}
 use mathlib.Core.Logic.{dite}
 use native.Mathlib.Decide.{ℕ_discrete}
 use Rattle.std.proofs.lemmas.Bool.Decides.{nat_tests}
@@ -18,7 +19,9 @@ pub has-fewer : (p q : ℕ) (qs : List ℕ) → has p (q ∷ qs) ≡ false → h
 has-fewer p q qs h = grind (arith, nat_tests)
 
 -- what `without` makes of the first number that it meets
-without-cases : (P : List ℕ → Type 0) (c q : ℕ) (qs : List ℕ) → (c ≡ q → P (without c qs)) → (c ≢ q → P (q ∷ without c qs)) → P (without c (q ∷ qs))
+without-cases :
+    (P : List ℕ → Type 0) (c q : ℕ) (qs : List ℕ) → (c ≡ q → P (without c qs))
+    → (c ≢ q → P (q ∷ without c qs)) → P (without c (q ∷ qs))
 without-cases P c q qs hit miss = dite (ℕ_discrete c q)
     (λ e. subst (λ b. P (cond b (without c qs) (q ∷ without c qs))) (sym (eq-eqb c q e)) (hit e))
     (λ n. subst (λ b. P (cond b (without c qs) (q ∷ without c qs))) (sym (ne_eqb c q n)) (miss n))

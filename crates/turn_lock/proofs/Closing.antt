@@ -1,5 +1,6 @@
 -- What the first seat knows of the value at the end.
-use Rattle.std.proofs.Common.{◌≡◌, ℕ, true, false, eqb, cond, List, [], sym, ap, ◌∙◌, subst, ⊎_elim, arith, eq-eqb, ne_eqb, Option, Some, None}
+use Rattle.std.proofs.Common.{◌≡◌, ℕ, true, false, eqb, cond, List, [], sym, ap, ◌∙◌, subst, ⊎_elim, arith}
+use Rattle.std.proofs.Common.{eq-eqb, ne_eqb, Option, Some, None}
 use mathlib.Core.Logic.{dite}
 use native.Mathlib.Decide.{ℕ_discrete}
 use mathlib.Core.Option.{some}
@@ -26,7 +27,8 @@ module _ {T E N : Type 0} (entries : T → List E) (owner : E → Option ℕ) (n
     pub named : seat.name ≡ Some (name_of value)
     pub given : (p : ℕ) → owned_by owner p (entries value) ≡ owned owner (given_by seat p)
 
-  module _ (name : N) (s : St T E N) (r : Kept name s) (id : ℕ) (v : View E N) (at : At s.views id v) (lives : v.lives ≡ true)
+  module _ (name : N) (s : St T E N) (r : Kept name s) (id : ℕ) (v : View E N) (at : At s.views id v)
+      (lives : v.lives ≡ true)
       (first : v.is_first ≡ true) (none_out : v.out ≡ []) where
     counts_now : Counts s.views r.gave v
     counts_now = counts entries owner name_of name s r id v at first
@@ -34,7 +36,8 @@ module _ {T E N : Type 0} (entries : T → List E) (owner : E → Option ℕ) (n
     -- every number but the first seat's own is back
     all_back : (p : ℕ) → r.gave p ≡ cond (eqb p v.caller) v.mine (taken_in p v.joined)
     all_back p = dite (ℕ_discrete p v.caller)
-        (λ e. subst (λ b. r.gave p ≡ cond b v.mine (taken_in p v.joined)) (sym (eq-eqb p v.caller e)) (ap r.gave e ∙ sym (r.fits id v at lives).mine))
+        (λ e. subst (λ b. r.gave p ≡ cond b v.mine (taken_in p v.joined)) (sym (eq-eqb p v.caller e))
+        (ap r.gave e ∙ sym (r.fits id v at lives).mine))
         (λ ne. subst (λ b. r.gave p ≡ cond b v.mine (taken_in p v.joined)) (sym (ne_eqb p v.caller ne))
         (let zero = counts_now.zero_is_first in counts_now.back p (omega arith) (ap (has p) none_out)))
 
@@ -65,7 +68,9 @@ module _ {T E N : Type 0} (entries : T → List E) (owner : E → Option ℕ) (n
         let s = final.0 in
         let r = final.1.0 in
         let at = final.1.1 in
-        let P : Sight E N → Type 0 = λ z. (z.is_first ≡ true) × (z.holds ≡ false) × (z.out ≡ []) → (value : T) × (last ≡ Some value) × Ends z value in
+        let P : Sight E N → Type 0 =
+        λ z. (z.is_first ≡ true) × (z.holds ≡ false) × (z.out ≡ [])
+        → (value : T) × (last ≡ Some value) × Ends z value in
         subst P seen
         (λ a. ⊎_elim
         (λ (t : IsFree entries owner name_of r.log name s). (

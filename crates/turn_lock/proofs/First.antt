@@ -32,4 +32,5 @@ module _ {T E N : Type 0} (entries : T → List E) (owner : E → Option ℕ) (n
     new_owns_nothing c lives above =
         let seen = (r.fits id v at lives).seen in
         nothing_left (owned_by owner c v.seen) (owned_by owner c seen.0)
-        (sym (filter-append _ v.seen seen.0) ∙ (ap (owned_by owner c) (sym seen.1) ∙ (r.owners c ∙ ap (owned owner) (new_gave_nothing c above))))
+        (sym (filter-append _ v.seen seen.0)
+        ∙ (ap (owned_by owner c) (sym seen.1) ∙ (r.owners c ∙ ap (owned owner) (new_gave_nothing c above))))

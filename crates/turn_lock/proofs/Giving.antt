@@ -1,5 +1,7 @@
 -- The turn is given back, with one entry more or with none, and the rule stays.
-use Rattle.std.proofs.Common.{◌≡◌, ◌≢◌, ℕ, ◌<◌, true, false, eqb, cond, List, [], ◌∷◌, ◌++◌, length, set, refl, sym, ap, ◌∙◌, subst, inl, ⊎_elim, arith, append-nil, length-set, get_or-set_same, eq-eqb, ne_eqb, Option, Some}
+use Rattle.std.proofs.Common.{◌≡◌, ◌≢◌, ℕ, ◌<◌, true, false, eqb, cond, List, [], ◌∷◌, ◌++◌, length, set}
+use Rattle.std.proofs.Common.{refl, sym, ap, ◌∙◌, subst, inl, ⊎_elim, arith, append-nil, length-set}
+use Rattle.std.proofs.Common.{get_or-set_same, eq-eqb, ne_eqb, Option, Some}
 use mathlib.Core.Logic.{dite}
 use native.Mathlib.Decide.{ℕ_discrete}
 use mathlib.Core.Option.{some, none}
@@ -36,7 +38,8 @@ module _ {T E N : Type 0} (entries : T → List E) (owner : E → Option ℕ) (n
   abbrev Kept : N → St T E N → Type 0
   Kept = IsKept entries owner name_of
 
-  module _ (name : N) (s : St T E N) (r : Kept name s) (id : ℕ) (v : View E N) (at : At s.views id v) (lives : v.lives ≡ true)
+  module _ (name : N) (s : St T E N) (r : Kept name s) (id : ℕ) (v : View E N) (at : At s.views id v)
+      (lives : v.lives ≡ true)
       (new : List E) where
     abbrev grown : List E
     grown = r.log ++ new
@@ -54,7 +57,9 @@ module _ {T E N : Type 0} (entries : T → List E) (owner : E → Option ℕ) (n
           seen = begins_self seen grown (more_seen ∙ ap (λ l. l ++ new) all);
           told = begins_more v.told r.log new fit.told;
           mine = more_mine ∙ (ap (λ l. l ++ new) fit.mine ∙ sym (more_here r.gave v.caller new v.caller refl));
-          own = ap (owned_by owner v.caller) more_seen ∙ (more_own owner v.caller v.seen v.mine new fit.own own ∙ ap (owned owner) (sym more_mine));
+          own =
+              ap (owned_by owner v.caller) more_seen
+              ∙ (more_own owner v.caller v.seen v.mine new fit.own own ∙ ap (owned owner) (sym more_mine));
           named = fit.named;
         }
 
@@ -72,7 +77,9 @@ module _ {T E N : Type 0} (entries : T → List E) (owner : E → Option ℕ) (n
         }
 
     -- an owner's entries are those that this number gave
-    owners_fit : owned_by owner v.caller new ≡ owned owner new → ((p : ℕ) → p ≢ v.caller → owned_by owner p new ≡ []) → (p : ℕ)
+    owners_fit :
+        owned_by owner v.caller new ≡ owned owner new → ((p : ℕ) → p ≢ v.caller → owned_by owner p new ≡ [])
+        → (p : ℕ)
         → owned_by owner p grown ≡ owned owner (gave_more p)
     owners_fit own other p =
         let c = v.caller in
@@ -98,10 +105,14 @@ module _ {T E N : Type 0} (entries : T → List E) (owner : E → Option ℕ) (n
         (cases_Bool v.is_first))
 
     -- the turn is given back with these entries more
-    releases : (value : T) (seen mine : List E) → v.holds ≡ true → entries value ≡ seen → seen ≡ v.seen ++ new → mine ≡ v.mine ++ new
+    releases :
+        (value : T) (seen mine : List E) → v.holds ≡ true → entries value ≡ seen → seen ≡ v.seen ++ new
+        → mine ≡ v.mine ++ new
         → v.name ≡ Some (name_of value)
-        → owned_by owner v.caller new ≡ owned owner new → ((p : ℕ) → p ≢ v.caller → owned_by owner p new ≡ []) → length s.homes ≡ 1
-        → Kept name (table (set s.words 0 0) (set s.homes 0 (some (Some value))) (set s.views id (record v { holds = false; seen = seen; mine = mine })))
+        → owned_by owner v.caller new ≡ owned owner new → ((p : ℕ) → p ≢ v.caller → owned_by owner p new ≡ [])
+        → length s.homes ≡ 1
+        → Kept name (table (set s.words 0 0) (set s.homes 0 (some (Some value)))
+        (set s.views id (record v { holds = false; seen = seen; mine = mine })))
     releases value seen mine holds is_seen more_seen more_mine named own other len =
         let w = record v { holds = false; seen = seen; mine = mine } in
         ⊎_elim
@@ -124,7 +135,9 @@ module _ {T E N : Type 0} (entries : T → List E) (owner : E → Option ℕ) (n
           home = set_here s.homes 0 (some (Some value)) (omega arith);
           list = is_seen ∙ (more_seen ∙ ap (λ l. l ++ new) all);
           named = let fit = (r.fits id v at lives).named in cc (fit, named);
-          none_holds = at_changed (λ k u. u.holds ≡ false) s.views id w refl (λ k u apart e. is_false u.holds (λ t. apart (b.alone k u e t ∙ sym here)));
+          none_holds =
+              at_changed (λ k u. u.holds ≡ false) s.views id w refl
+              (λ k u apart e. is_false u.holds (λ t. apart (b.alone k u e t ∙ sym here)));
         })))
         r.turn
 
@@ -134,12 +147,14 @@ module _ {T E N : Type 0} (entries : T → List E) (owner : E → Option ℕ) (n
 
   gives_back : (name : N) (id : ℕ) (v : View E N) (value : T) → v.lives ≡ true → v.holds ≡ true → entries value ≡ v.seen
       → v.name ≡ Some (name_of value)
-      → Allows (Kept name) 1 id (with_value v value) 0 (λ _. 0) (λ _. GivesBack entries owner name_of (step 1 0 0 0 none) (with_value v value) 0)
+      → Allows (Kept name) 1 id (with_value v value) 0 (λ _. 0)
+      (λ _. GivesBack entries owner name_of (step 1 0 0 0 none) (with_value v value) 0)
   gives_back name id v value lives holds same named s r len at small = (
     without_turn v,
     gives,
     tt,
-    releases name s r id v at lives [] value v.seen v.mine holds same (sym (append-nil v.seen)) (sym (append-nil v.mine)) named refl (λ _ _. refl) len,
+    releases name s r id v at lives [] value v.seen v.mine holds same (sym (append-nil v.seen))
+        (sym (append-nil v.mine)) named refl (λ _ _. refl) len,
     (refl, (r.fits id v at lives).own),
   )
 
@@ -150,25 +165,32 @@ module _ {T E N : Type 0} (entries : T → List E) (owner : E → Option ℕ) (n
       let both : Some x ≡ Some y = ap (λ (z : ℕ × Option T). z.1) pair in
       cc both
 
-  gives_with : (name : N) (id : ℕ) (v : View E N) (value : T) (e : E) → v.lives ≡ true → v.holds ≡ true → entries value ≡ v.seen ++ e ∷ []
+  gives_with :
+      (name : N) (id : ℕ) (v : View E N) (value : T) (e : E) → v.lives ≡ true → v.holds ≡ true
+      → entries value ≡ v.seen ++ e ∷ []
       → MayGive owner v.caller e → v.name ≡ Some (name_of value)
-      → Allows (Kept name) 1 id (with_value v value) 0 (λ _. 0) (λ _. GivesWith entries owner name_of (step 1 0 0 0 none) (with_value v value) 0)
+      → Allows (Kept name) 1 id (with_value v value) 0 (λ _. 0)
+      (λ _. GivesWith entries owner name_of (step 1 0 0 0 none) (with_value v value) 0)
   gives_with name id v value e lives holds same may named s r len at small =
       let own = one_owned owner v.caller e may in (
         after_gift (e ∷ []) v,
         gives,
         tt,
-        releases name s r id v at lives (e ∷ []) value (v.seen ++ e ∷ []) (v.mine ++ e ∷ []) holds same refl refl named own (λ p. one_other owner v.caller p e may) len,
+        releases name s r id v at lives (e ∷ []) value (v.seen ++ e ∷ []) (v.mine ++ e ∷ []) holds same refl
+            refl named own (λ p. one_other owner v.caller p e may) len,
         (λ other d is list.
-            let both : v.seen ++ d ∷ [] ≡ v.seen ++ e ∷ [] = sym list ∙ (ap entries (sym (same_value v value other is)) ∙ same) in
+            let both : v.seen ++ d ∷ [] ≡ v.seen ++ e ∷ [] =
+            sym list ∙ (ap entries (sym (same_value v value other is)) ∙ same) in
             let entry = sym (append_cancel_left v.seen (d ∷ []) (e ∷ []) both) in (
               ap (λ l. (after_gift l v, [])) entry,
-              subst (λ l. owned_by owner v.caller (v.seen ++ l) ≡ owned owner (v.mine ++ l)) entry (more_own owner v.caller v.seen v.mine (e ∷ []) (r.fits id v at lives).own own),
+              subst (λ l. owned_by owner v.caller (v.seen ++ l) ≡ owned owner (v.mine ++ l)) entry
+                  (more_own owner v.caller v.seen v.mine (e ∷ []) (r.fits id v at lives).own own),
             )),
       )
 
   -- the same as contracts see it: the seat by its sight, and the value as it was held
-  module _ (name : N) (slots id : ℕ) (me : Sat T E N) (lock : TableId) (v : View E N) (value : T) (seat : Sight E N) (held : T)
+  module _ (name : N) (slots id : ℕ) (me : Sat T E N) (lock : TableId) (v : View E N) (value : T)
+      (seat : Sight E N) (held : T)
       (one : slots ≡ 1) (is : me ≡ with_value v value)
       (lives : v.lives ≡ true) (seen : sight_of lock v ≡ seat) (same : value ≡ held) (holds : seat.holds ≡ true)
       (named : seat.name ≡ Some (name_of held)) where
@@ -176,15 +198,26 @@ module _ {T E N : Type 0} (entries : T → List E) (owner : E → Option ℕ) (n
         → Allows (Kept name) slots id me 0 (λ _. 0) (λ _. GivesBack entries owner name_of (step slots 0 0 0 none) me 0)
     gives_back_seen list =
         let P : Sight E N → T → Type 0 = λ s x.
-        s.holds ≡ true → s.name ≡ Some (name_of x) → entries x ≡ s.seen → Allows (Kept name) 1 id (with_value v value) 0 (λ _. 0) (λ _. GivesBack entries owner name_of (step 1 0 0 0 none) (with_value v value) 0) in
-        let known = subst (λ (z : Sight E N × T). P z.0 z.1) (λ i. (seen i, same i)) (λ h n l. gives_back name id v value lives h l n) holds named list in
-        subst (λ (z : ℕ × Sat T E N). Allows (Kept name) z.0 id z.1 0 (λ _. 0) (λ _. GivesBack entries owner name_of (step z.0 0 0 0 none) z.1 0)) (λ i. (sym one i, sym is i)) known
+        s.holds ≡ true → s.name ≡ Some (name_of x) → entries x ≡ s.seen
+        → Allows (Kept name) 1 id (with_value v value) 0 (λ _. 0)
+        (λ _. GivesBack entries owner name_of (step 1 0 0 0 none) (with_value v value) 0) in
+        let known =
+        subst (λ (z : Sight E N × T). P z.0 z.1) (λ i. (seen i, same i))
+        (λ h n l. gives_back name id v value lives h l n) holds named list in
+        subst (λ (z : ℕ × Sat T E N). Allows (Kept name) z.0 id z.1 0 (λ _. 0)
+        (λ _. GivesBack entries owner name_of (step z.0 0 0 0 none) z.1 0)) (λ i. (sym one i, sym is i))
+        known
 
     pub gives_with_seen : (e : E) → entries held ≡ seat.seen ++ e ∷ [] → MayGive owner seat.caller e
         → Allows (Kept name) slots id me 0 (λ _. 0) (λ _. GivesWith entries owner name_of (step slots 0 0 0 none) me 0)
     gives_with_seen e list may =
         let P : Sight E N → T → Type 0 = λ s x.
         s.holds ≡ true → s.name ≡ Some (name_of x) → entries x ≡ s.seen ++ e ∷ [] → MayGive owner s.caller e
-        → Allows (Kept name) 1 id (with_value v value) 0 (λ _. 0) (λ _. GivesWith entries owner name_of (step 1 0 0 0 none) (with_value v value) 0) in
-        let known = subst (λ (z : Sight E N × T). P z.0 z.1) (λ i. (seen i, same i)) (λ h n l m. gives_with name id v value e lives h l m n) holds named list may in
-        subst (λ (z : ℕ × Sat T E N). Allows (Kept name) z.0 id z.1 0 (λ _. 0) (λ _. GivesWith entries owner name_of (step z.0 0 0 0 none) z.1 0)) (λ i. (sym one i, sym is i)) known
+        → Allows (Kept name) 1 id (with_value v value) 0 (λ _. 0)
+        (λ _. GivesWith entries owner name_of (step 1 0 0 0 none) (with_value v value) 0) in
+        let known =
+        subst (λ (z : Sight E N × T). P z.0 z.1) (λ i. (seen i, same i))
+        (λ h n l m. gives_with name id v value e lives h l m n) holds named list may in
+        subst (λ (z : ℕ × Sat T E N). Allows (Kept name) z.0 id z.1 0 (λ _. 0)
+        (λ _. GivesWith entries owner name_of (step z.0 0 0 0 none) z.1 0)) (λ i. (sym one i, sym is i))
+        known

@@ -1,5 +1,6 @@
 -- One seat moves, and the rule of the lock stays.
-use Rattle.std.proofs.Common.{◌≡◌, ◌≢◌, ◌⊎◌, ℕ, ◌<◌, Bool, true, false, List, length, set, get_or, refl, sym, ap, ◌∙◌, subst, inl, inr, ⊎_elim, Option}
+use Rattle.std.proofs.Common.{◌≡◌, ◌≢◌, ◌⊎◌, ℕ, ◌<◌, Bool, true, false, List, length, set, get_or, refl, sym}
+use Rattle.std.proofs.Common.{ap, ◌∙◌, subst, inl, inr, ⊎_elim, Option}
 use mathlib.Core.Option.{Option as Maybe}
 use Rattle.std.proofs.lemmas.List.{set-get_or}
 use Rattle.atomic_table.proofs.Lists.{set_else, set_again}
@@ -23,7 +24,9 @@ module _ {T E N : Type 0} (entries : T → List E) (owner : E → Option ℕ) (n
   Turn log name s = IsFree entries owner name_of log name s ⊎ IsHeld entries owner name_of log s
 
   -- a seat that does not have the turn changes its view and no word
-  pub aside : (name : N) (s : St T E N) (log : List E) (words' : List ℕ) (id : ℕ) (v w : View E N) → At s.views id v → v.holds ≡ false
+  pub aside :
+      (name : N) (s : St T E N) (log : List E) (words' : List ℕ) (id : ℕ) (v w : View E N) → At s.views id v
+      → v.holds ≡ false
       → w.holds ≡ false
       → get_or words' 0 0 ≡ get_or s.words 0 0 → Turn log name s → Turn log name (table words' s.homes (set s.views id w))
   aside name s log words' id v w at out out' same turn = ⊎_elim
@@ -36,7 +39,9 @@ module _ {T E N : Type 0} (entries : T → List E) (owner : E → Option ℕ) (n
         none_holds = at_changed (λ k u. u.holds ≡ false) s.views id w out' (λ k u _ e. f.none_holds k u e);
       }))
       (λ (b : IsHeld entries owner name_of log s).
-      let away : b.holder ≢ id = λ e. off b.holds (holds_of (at_same s.views id b.view v (at_place s.views b.holder id b.view e b.there) at) ∙ out) in
+      let away : b.holder ≢ id =
+      λ e. off b.holds (holds_of
+      (at_same s.views id b.view v (at_place s.views b.holder id b.view e b.there) at) ∙ out) in
       inr (record {
         word = same ∙ b.word;
         holder = b.holder;
@@ -45,7 +50,9 @@ module _ {T E N : Type 0} (entries : T → List E) (owner : E → Option ℕ) (n
         lives = b.lives;
         holds = b.holds;
         list = b.list;
-        alone = at_changed (λ k u. u.holds ≡ true → k ≡ b.holder) s.views id w (λ h. absurd (off h out')) (λ k u _ e. b.alone k u e);
+        alone =
+            at_changed (λ k u. u.holds ≡ true → k ≡ b.holder) s.views id w (λ h. absurd (off h out'))
+            (λ k u _ e. b.alone k u e);
       }))
       turn
 
@@ -63,8 +70,18 @@ module _ {T E N : Type 0} (entries : T → List E) (owner : E → Option ℕ) (n
         (λ z.
         let there = at_place s.views id 0 v z at in
         let known = r.first v there in
-        let c = counts_stay s.views views' r.gave gave' v was (same v there) known.2 in
-        (known.0, known.1, record { zero_is_first = c.zero_is_first; bound = c.bound; outside = c.outside; back = c.back; above = c.above; came = c.came }))
+        let c = counts_stay s.views views' r.gave gave' v was (same v there) known.2 in (
+          known.0,
+          known.1,
+          record {
+            zero_is_first = c.zero_is_first;
+            bound = c.bound;
+            outside = c.outside;
+            back = c.back;
+            above = c.above;
+            came = c.came;
+          },
+        ))
         (λ k f _ e z.
         let there = at_place s.views k 0 f z e in
         let known = r.first f there in
@@ -101,7 +118,9 @@ module _ {T E N : Type 0} (entries : T → List E) (owner : E → Option ℕ) (n
 
     -- nothing moves at all
     pub unmoved : Kept name (table (set s.words 0 (get_or s.words 0 0)) s.homes (set s.views id v))
-    unmoved = subst (λ (z : List ℕ × List (View E N)). Kept name (table z.0 s.homes z.1)) (λ i. (sym (set-get_or s.words 0 0) i, sym (set_again s.views id v at) i)) r
+    unmoved =
+        subst (λ (z : List ℕ × List (View E N)). Kept name (table z.0 s.homes z.1))
+        (λ i. (sym (set-get_or s.words 0 0) i, sym (set_again s.views id v at) i)) r
 
     -- a seat without the turn looks, or changes what says nothing of others
     pub looks : (seen told : List E) (next : ℕ) → v.lives ≡ true → v.holds ≡ false → Begins seen r.log → Begins told r.log
@@ -118,4 +137,5 @@ module _ {T E N : Type 0} (entries : T → List E) (owner : E → Option ℕ) (n
         words'
         s.homes
         (ap length same ∙ r.wide)
-        (aside name s r.log words' id v (record v { seen = seen; told = told; next = next }) at out out (ap (λ (l : List ℕ). get_or l 0 0) same) r.turn)
+        (aside name s r.log words' id v (record v { seen = seen; told = told; next = next }) at out out
+        (ap (λ (l : List ℕ). get_or l 0 0) same) r.turn)

@@ -45,7 +45,9 @@ module _ {T E N : Type 0} (entries : T → List E) (owner : E → Option ℕ) (n
           record {
             zero_is_first = refl;
             bound = λ p h. absurd (off h refl);
-            outside = only (λ _ u. u.lives ≡ true → u.is_first ≡ false → has u.caller [] ≡ true) f (λ _ other. absurd (off refl other));
+            outside =
+                only (λ _ u. u.lives ≡ true → u.is_first ≡ false → has u.caller [] ≡ true) f
+                (λ _ other. absurd (off refl other));
             back = λ p _ _. refl;
             above = λ p _. refl;
             came = λ g gs e. absurd (cc e);
@@ -54,6 +56,8 @@ module _ {T E N : Type 0} (entries : T → List E) (owner : E → Option ℕ) (n
         one_first = λ k u e _. place k u e;
       }
 
-  pub opens_at : (name : N) (value : T) (slots : List (Option T)) → slots ≡ Some value ∷ [] → entries value ≡ [] → name_of value ≡ name
+  pub opens_at :
+      (name : N) (value : T) (slots : List (Option T)) → slots ≡ Some value ∷ [] → entries value ≡ []
+      → name_of value ≡ name
       → Kept name slots
   opens_at name value slots is none_yet named = subst (Kept name) (sym is) (opens name value none_yet named)

@@ -1,5 +1,7 @@
 -- What begins a list of entries, and which of them belong to whom.
-use Rattle.std.proofs.Common.{◌≡◌, ◌≢◌, ℕ, ◌<◌, ◌≤◌, true, false, ltb, cond, List, [], ◌∷◌, ◌++◌, length, refl, sym, ap, ◌∙◌, subst, ⊎_elim, arith, append_assoc, append-nil, eq-eqb, ne_eqb, Option, Some, None}
+use Rattle.std.proofs.Common.{◌≡◌, ◌≢◌, ℕ, ◌<◌, ◌≤◌, true, false, ltb, cond, List, [], ◌∷◌, ◌++◌, length}
+use Rattle.std.proofs.Common.{refl, sym, ap, ◌∙◌, subst, ⊎_elim, arith, append_assoc, append-nil, eq-eqb}
+use Rattle.std.proofs.Common.{ne_eqb, Option, Some, None}
 use Rattle.std.proofs.lemmas.List.{append_cancel_left}
 use Rattle.std.proofs.lemmas.List.Elements.{filter-append}
 use Rattle.std.proofs.lemmas.Bool.Decides.{nat_tests}
@@ -57,7 +59,9 @@ module _ {E : Type 0} where
     one_other c p e may ne = ap (λ b. cond b (e ∷ []) []) (by_no_other (owner e) c p may ne)
 
     -- between two lists with the same entries of one owner each list has them
-    pub wider : (c : ℕ) (xs ys log mine : List E) → Begins xs ys → Begins ys log → owned_by owner c xs ≡ mine → owned_by owner c log ≡ mine
+    pub wider :
+        (c : ℕ) (xs ys log mine : List E) → Begins xs ys → Begins ys log → owned_by owner c xs ≡ mine
+        → owned_by owner c log ≡ mine
         → owned_by owner c ys ≡ mine
     wider c xs ys log mine b d own all =
         let of_xs = owned_by owner c xs in
@@ -70,6 +74,8 @@ module _ {E : Type 0} where
         let none : rest ≡ [] = nothing_left rest more (append_cancel_left of_xs (rest ++ more) [] same) in
         of_ys ∙ (ap (λ l. of_xs ++ l) none ∙ (append-nil of_xs ∙ own))
 
-    pub more_own : (c : ℕ) (seen mine new : List E) → owned_by owner c seen ≡ owned owner mine → owned_by owner c new ≡ owned owner new
+    pub more_own :
+        (c : ℕ) (seen mine new : List E) → owned_by owner c seen ≡ owned owner mine
+        → owned_by owner c new ≡ owned owner new
         → owned_by owner c (seen ++ new) ≡ owned owner (mine ++ new)
     more_own c seen mine new own own' = filter-append _ seen new ∙ ((λ i. own i ++ own' i) ∙ sym (filter-append _ mine new))

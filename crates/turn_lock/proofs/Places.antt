@@ -1,5 +1,6 @@
 -- Which element stands at a place of a list.
-use Rattle.std.proofs.Common.{◌≡◌, ◌≢◌, ◌⊎◌, ℕ, zero, suc, ◌<◌, List, [], ◌∷◌, ◌++◌, length, set, refl, sym, ap, ◌∙◌, subst, inl, inr, ⊎_elim, arith}
+use Rattle.std.proofs.Common.{◌≡◌, ◌≢◌, ◌⊎◌, ℕ, zero, suc, ◌<◌, List, [], ◌∷◌, ◌++◌, length, set, refl, sym}
+use Rattle.std.proofs.Common.{ap, ◌∙◌, subst, inl, inr, ⊎_elim, arith}
 use mathlib.Core.Option.{some, some-injective, some-ne-none}
 use lib.ListN.{get_elem?}
 use Rattle.atomic_table.proofs.Lists.{at_set}
@@ -17,14 +18,18 @@ module _ {A : Type 0} where
   at_place l i j a e h = subst (λ k. get_elem? l k ≡ some a) e h
 
   -- where an element of a list with one more at its end is
-  at_end : (l : List A) (a b : A) (j : ℕ) → get_elem? (l ++ a ∷ []) j ≡ some b → (get_elem? l j ≡ some b) ⊎ ((j ≡ length l) × (a ≡ b))
+  at_end :
+      (l : List A) (a b : A) (j : ℕ) → get_elem? (l ++ a ∷ []) j ≡ some b
+      → (get_elem? l j ≡ some b) ⊎ ((j ≡ length l) × (a ≡ b))
   at_end [] a b zero e = inr (refl, some-injective a b e)
   at_end [] a b (suc j) e = absurd (some-ne-none b (sym e))
   at_end (x ∷ xs) a b zero e = inl e
   at_end (x ∷ xs) a b (suc j) e = ⊎_elim (λ t. inl t) (λ t. inr (ap suc t.0, t.1)) (at_end xs a b j e)
 
   -- what holds at the place that was set and at each other one holds at all
-  pub at_changed : (P : ℕ → A → Type 0) (l : List A) (i : ℕ) (a : A) → P i a → ((k : ℕ) (b : A) → k ≢ i → get_elem? l k ≡ some b → P k b)
+  pub at_changed :
+      (P : ℕ → A → Type 0) (l : List A) (i : ℕ) (a : A) → P i a
+      → ((k : ℕ) (b : A) → k ≢ i → get_elem? l k ≡ some b → P k b)
       → (k : ℕ) (b : A) → get_elem? (set l i a) k ≡ some b → P k b
   at_changed P l i a here there k b e = ⊎_elim
       (λ (x : (k ≡ i) × (a ≡ b)). subst (λ j. P j b) (sym x.0) (subst (P i) x.1 here))
@@ -32,7 +37,9 @@ module _ {A : Type 0} where
       (at_set l i k a b e)
 
   -- what holds of each element and of one more at the end holds of all
-  pub at_added : (P : ℕ → A → Type 0) (l : List A) (a : A) → P (length l) a → ((k : ℕ) (b : A) → get_elem? l k ≡ some b → P k b)
+  pub at_added :
+      (P : ℕ → A → Type 0) (l : List A) (a : A) → P (length l) a
+      → ((k : ℕ) (b : A) → get_elem? l k ≡ some b → P k b)
       → (k : ℕ) (b : A) → get_elem? (l ++ a ∷ []) k ≡ some b → P k b
   at_added P l a here there k b e = ⊎_elim
       (λ (x : get_elem? l k ≡ some b). there k b x)

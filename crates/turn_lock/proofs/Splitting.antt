@@ -1,5 +1,7 @@
 -- The first seat makes a new one, and the rule stays.
-use Rattle.std.proofs.Common.{◌≡◌, ◌⊎◌, ℕ, ◌<◌, true, false, eqb, List, [], ◌∷◌, ◌++◌, length, set, get_or, refl, sym, ap, ◌∙◌, subst, inl, inr, ⊎_elim, arith, length-set, eq-eqb, ne_eqb, Option}
+use Rattle.std.proofs.Common.{◌≡◌, ◌⊎◌, ℕ, ◌<◌, true, false, eqb, List, [], ◌∷◌, ◌++◌, length, set, get_or}
+use Rattle.std.proofs.Common.{refl, sym, ap, ◌∙◌, subst, inl, inr, ⊎_elim, arith, length-set, eq-eqb, ne_eqb}
+use Rattle.std.proofs.Common.{Option}
 use mathlib.Core.Logic.{dite}
 use native.Mathlib.Decide.{ℕ_discrete}
 use mathlib.Core.Option.{none}
@@ -33,7 +35,8 @@ module _ {T E N : Type 0} (entries : T → List E) (owner : E → Option ℕ) (n
   Kept = IsKept entries owner name_of
 
   pub numbers : (name : N) (slots id : ℕ) (me : Sat T E N) (c : ℕ) → me.0.lives ≡ true → me.0.holds ≡ false
-      → Allows (Kept name) slots id me 0 (λ n. either (eqb n c) c n) (TakesNumber entries owner name_of (step slots 0 c c none) me)
+      → Allows (Kept name) slots id me 0 (λ n. either (eqb n c) c n)
+      (TakesNumber entries owner name_of (step slots 0 c c none) me)
   numbers name slots id me c lives out s r len at small =
       let v = me.0 in
       let f = r.fits id v at lives in
@@ -78,7 +81,9 @@ module _ {T E N : Type 0} (entries : T → List E) (owner : E → Option ℕ) (n
         let a = was k u e in
         ⊎_elim
         (λ (t : a.view.is_first ≡ true).
-        let zero : a.view.caller ≡ 0 = (r.first a.view (at_place s.views k 0 a.view (r.one_first k a.view a.there t) a.there)).2.zero_is_first in
+        let zero : a.view.caller ≡ 0 =
+        (r.first a.view
+        (at_place s.views k 0 a.view (r.one_first k a.view a.there t) a.there)).2.zero_is_first in
         let new : a.view.caller ≡ v.next = a.caller ∙ is in
         omega arith)
         (λ (t : a.view.is_first ≡ false).
@@ -87,7 +92,9 @@ module _ {T E N : Type 0} (entries : T → List E) (owner : E → Option ℕ) (n
         (cases_Bool a.view.is_first)
 
     -- the new seat has no turn, and who had it has it
-    split_turn : IsFree entries owner name_of r.log name (table s.words s.homes all) ⊎ IsHeld entries owner name_of r.log (table s.words s.homes all)
+    split_turn :
+        IsFree entries owner name_of r.log name (table s.words s.homes all)
+        ⊎ IsHeld entries owner name_of r.log (table s.words s.homes all)
     split_turn = ⊎_elim
         (λ (t : IsFree entries owner name_of r.log name (table s.words s.homes olds)). inl (record {
           word = t.word;
@@ -113,14 +120,23 @@ module _ {T E N : Type 0} (entries : T → List E) (owner : E → Option ℕ) (n
     split_fits =
         let fit = r.fits id v at lives in
         at_added (λ _ u. u.lives ≡ true → FitsLock owner r.log r.gave name u) olds (newcomer_of v)
-        (λ _. record { seen = fit.seen; told = (r.log, refl); mine = next_gave_nothing; own = next_owns_nothing; named = fit.named })
+        (λ _. record {
+          seen = fit.seen;
+          told = (r.log, refl);
+          mine = next_gave_nothing;
+          own = next_owns_nothing;
+          named = fit.named;
+        })
         (at_changed (λ _ u. u.lives ≡ true → FitsLock owner r.log r.gave name u) s.views id (after_split v)
         (λ _. record { seen = fit.seen; told = fit.told; mine = fit.mine; own = fit.own; named = fit.named })
         (λ k u _ e l. r.fits k u e l))
 
-    split_apart : (j k : ℕ) (u y : View E N) → At all j u → At all k y → u.lives ≡ true → y.lives ≡ true → u.caller ≡ y.caller → j ≡ k
+    split_apart :
+        (j k : ℕ) (u y : View E N) → At all j u → At all k y → u.lives ≡ true → y.lives ≡ true
+        → u.caller ≡ y.caller → j ≡ k
     split_apart j k u y eu ey =
-        let Far : ℕ → View E N → ℕ → View E N → Type 0 = λ i x i' x'. x.lives ≡ true → x'.lives ≡ true → x.caller ≡ x'.caller → i ≡ i' in
+        let Far : ℕ → View E N → ℕ → View E N → Type 0 =
+        λ i x i' x'. x.lives ≡ true → x'.lives ≡ true → x.caller ≡ x'.caller → i ≡ i' in
         at_added (λ i x. Far i x k y) olds (newcomer_of v)
         (at_added (λ i' x'. Far (length olds) (newcomer_of v) i' x') olds (newcomer_of v) (λ _ _ _. refl)
         (λ i' x' e _ l h. absurd (no_clash i' x' e l (sym h)))
@@ -144,11 +160,14 @@ module _ {T E N : Type 0} (entries : T → List E) (owner : E → Option ℕ) (n
               (λ (q : p ≡ c). (omega arith, omega arith))
               (λ (q : has p v.out ≡ true). let k = counts_now.bound p q in (k.0, omega arith))
               (has-cases p c v.out h);
-          outside = at_added (λ _ u. u.lives ≡ true → u.is_first ≡ false → has u.caller (c ∷ v.out) ≡ true) olds (newcomer_of v)
+          outside =
+              at_added (λ _ u. u.lives ≡ true → u.is_first ≡ false → has u.caller (c ∷ v.out) ≡ true) olds
+              (newcomer_of v)
               (λ _ _. has-here c v.out)
               (λ k u e l other.
               let a = was k u e in
-              has-more u.caller c v.out (subst (λ z. has z v.out ≡ true) a.caller (counts_now.outside k a.view a.there (a.lives ∙ l) (a.is_first ∙ other))));
+              has-more u.caller c v.out (subst (λ z. has z v.out ≡ true) a.caller
+              (counts_now.outside k a.view a.there (a.lives ∙ l) (a.is_first ∙ other))));
           back = λ p some_p gone. counts_now.back p some_p (has-fewer p c v.out gone);
           above = λ p up. counts_now.above p (omega arith);
           came = counts_now.came;
@@ -156,7 +175,9 @@ module _ {T E N : Type 0} (entries : T → List E) (owner : E → Option ℕ) (n
 
     split_first : (k : ℕ) (f : View E N) → At all k f → k ≡ 0 → (f.lives ≡ true) × (f.is_first ≡ true) × Counts all r.gave f
     split_first = at_added (λ k f. k ≡ 0 → (f.lives ≡ true) × (f.is_first ≡ true) × Counts all r.gave f) olds (newcomer_of v)
-        (λ none_left. let lt = at_lt s.views id v at in let len = length-set s.views id (after_split v) in absurd (omega arith))
+        (λ none_left. let lt =
+        at_lt s.views id v at in
+        let len = length-set s.views id (after_split v) in absurd (omega arith))
         (at_changed (λ k f. k ≡ 0 → (f.lives ≡ true) × (f.is_first ≡ true) × Counts all r.gave f) s.views id (after_split v)
         (λ _. (lives, first, split_counts))
         (λ k _ apart _ z. absurd (apart (z ∙ sym (is_zero entries owner name_of name s r id v at first)))))
@@ -181,8 +202,11 @@ module _ {T E N : Type 0} (entries : T → List E) (owner : E → Option ℕ) (n
   splits name id v lives first out above s r at = split_keeps name s r id v at lives first out above
 
   -- the same as contracts see it: the first seat by its sight, once it knows the next number
-  pub splits_seen : (name : N) (id : ℕ) (lock : TableId) (v now : View E N) (seat : Sight E N) (next : ℕ) → now ≡ with_next next v → v.lives ≡ true
-      → sight_of lock v ≡ seat → (seat.is_first ≡ true) × (seat.holds ≡ false) → seat.given < next → Splits (Kept name) id now (after_split now) (newcomer_of now)
+  pub splits_seen :
+      (name : N) (id : ℕ) (lock : TableId) (v now : View E N) (seat : Sight E N) (next : ℕ)
+      → now ≡ with_next next v → v.lives ≡ true
+      → sight_of lock v ≡ seat → (seat.is_first ≡ true) × (seat.holds ≡ false) → seat.given < next
+      → Splits (Kept name) id now (after_split now) (newcomer_of now)
   splits_seen name id lock v now seat next is lives seen first above =
       let Cut : View E N → Type 0 = λ z. Splits (Kept name) id z (after_split z) (newcomer_of z) in
       let P : Sight E N → Type 0 = λ z. (z.is_first ≡ true) × (z.holds ≡ false) → z.given < next → Cut (with_next next v) in

@@ -1,5 +1,6 @@
 -- A try to gain the turn keeps the rule.
-use Rattle.std.proofs.Common.{◌≡◌, ℕ, true, eqb, List, ◌∷◌, set, get_or, refl, sym, ap, ◌∙◌, subst, inr, ⊎_elim, arith, length-set, get_or-set_same, eq-eqb, ne_eqb, Option, Some}
+use Rattle.std.proofs.Common.{◌≡◌, ℕ, true, eqb, List, ◌∷◌, set, get_or, refl, sym, ap, ◌∙◌, subst, inr}
+use Rattle.std.proofs.Common.{⊎_elim, arith, length-set, get_or-set_same, eq-eqb, ne_eqb, Option, Some}
 use mathlib.Core.Logic.{dite}
 use native.Mathlib.Decide.{ℕ_discrete}
 use mathlib.Core.Option.{none}
@@ -26,7 +27,8 @@ module _ {T E N : Type 0} (entries : T → List E) (owner : E → Option ℕ) (n
   abbrev Busy : List E → St T E N → Type 0
   Busy = IsHeld entries owner name_of
 
-  module _ (name : N) (s : St T E N) (r : Kept name s) (id : ℕ) (v : View E N) (at : At s.views id v) (lives : v.lives ≡ true) where
+  module _ (name : N) (s : St T E N) (r : Kept name s) (id : ℕ) (v : View E N) (at : At s.views id v)
+      (lives : v.lives ≡ true) where
     -- of the whole list a seat's own entries are those that it gave
     own_of_all : owned_by owner v.caller r.log ≡ owned owner v.mine
     own_of_all = r.owners v.caller ∙ ap (owned owner) (sym (r.fits id v at lives).mine)
@@ -38,7 +40,13 @@ module _ {T E N : Type 0} (entries : T → List E) (owner : E → Option ℕ) (n
         let w = with_turn (entries f.value) v in
         let fit = r.fits id v at lives in
         moves entries owner name_of name s r id v at true (entries f.value) v.mine v.told v.next r.log r.gave
-        (record { seen = begins_self (entries f.value) r.log f.list; told = fit.told; mine = fit.mine; own = ap (owned_by owner v.caller) f.list ∙ own_of_all; named = fit.named })
+        (record {
+          seen = begins_self (entries f.value) r.log f.list;
+          told = fit.told;
+          mine = fit.mine;
+          own = ap (owned_by owner v.caller) f.list ∙ own_of_all;
+          named = fit.named;
+        })
         (λ k u _ e l. r.fits k u e l)
         r.owners
         (λ _ _ _ _ _. refl)
@@ -53,7 +61,9 @@ module _ {T E N : Type 0} (entries : T → List E) (owner : E → Option ℕ) (n
           lives = lives;
           holds = refl;
           list = f.list;
-          alone = at_changed (λ k u. u.holds ≡ true → k ≡ id) s.views id w (λ _. refl) (λ k u _ e h. absurd (off h (f.none_holds k u e)));
+          alone =
+              at_changed (λ k u. u.holds ≡ true → k ≡ id) s.views id w (λ _. refl)
+              (λ k u _ e h. absurd (off h (f.none_holds k u e)));
         }))
 
     -- what the seat that gained the turn learns
@@ -83,7 +93,8 @@ module _ {T E N : Type 0} (entries : T → List E) (owner : E → Option ℕ) (n
         w,
         takes 0 (Some f.value),
         f.home,
-        subst (λ b. Kept name (table (set s.words 0 (either b 1 x)) (set s.homes 0 none) (set s.views id w))) (sym (eq-eqb x 0 hit)) (gains name s r id v at lives f),
+        subst (λ b. Kept name (table (set s.words 0 (either b 1 x)) (set s.homes 0 none) (set s.views id w)))
+            (sym (eq-eqb x 0 hit)) (gains name s r id v at lives f),
         ((λ _. gained name s r id v at lives f me.1), (λ not. absurd (not hit))),
       ))
       (λ (b : Busy r.log s). let is = b.word in absurd (omega arith))
@@ -92,6 +103,7 @@ module _ {T E N : Type 0} (entries : T → List E) (owner : E → Option ℕ) (n
         v,
         keeps,
         tt,
-        subst (λ b. Kept name (table (set s.words 0 (either b 1 x)) s.homes (set s.views id v))) (sym (ne_eqb x 0 miss)) (unmoved entries owner name_of name s r id v at),
+        subst (λ b. Kept name (table (set s.words 0 (either b 1 x)) s.homes (set s.views id v)))
+            (sym (ne_eqb x 0 miss)) (unmoved entries owner name_of name s r id v at),
         ((λ e. absurd (miss e)), (λ _. refl)),
       ))

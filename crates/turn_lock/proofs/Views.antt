@@ -36,7 +36,9 @@ module _ {E N : Type 0} where
     pub caller : view.caller ≡ u.caller
 
   -- after a change of one view that leaves which seat it is of, each place had a view of its seat before
-  pub before_changed : (views : List (View E N)) (id : ℕ) (v w : View E N) → At views id v → v.lives ≡ w.lives → v.is_first ≡ w.is_first
+  pub before_changed :
+      (views : List (View E N)) (id : ℕ) (v w : View E N) → At views id v → v.lives ≡ w.lives
+      → v.is_first ≡ w.is_first
       → v.caller ≡ w.caller
       → (k : ℕ) (u : View E N) → At (set views id w) k u → Before views k u
   before_changed views id v w at lives is_first caller = at_changed (Before views) views id w

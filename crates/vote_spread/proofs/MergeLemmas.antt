@@ -1,5 +1,6 @@
 -- The steps of merging.
-use Rattle.std.proofs.Common.{◌≡◌, ℕ, ◌+◌, ◌-◌, ◌≤◌, List, [], ◌∷◌, ◌++◌, length, map, drop, get_or, set, sum_by, replicate, arith, refl, ap, sym, subst, ◌∙◌, append_assoc}
+use Rattle.std.proofs.Common.{◌≡◌, ℕ, ◌+◌, ◌-◌, ◌≤◌, List, [], ◌∷◌, ◌++◌, length, map, drop, get_or, set}
+use Rattle.std.proofs.Common.{sum_by, replicate, arith, refl, ap, sym, subst, ◌∙◌, append_assoc}
 use Rattle.std.specs.List.{All, flat_map}
 use Rattle.std.proofs.lemmas.List.{append-nil, length-append, get_or_at, set_at}
 use Rattle.std.proofs.lemmas.List.Elements.{All-head, All-tail}
@@ -15,17 +16,24 @@ use Rattle.vote_spread.proofs.OpenedLemmas.{opened}
 use Rattle.vote_spread.proofs.TakenLemmas.{all_taken}
 
 -- one part alone
-pub merged_one : (d : ℕ) (rows : List PlanRow) (old new : List Stem) → HasAdded d rows old new → HasMerged d (rows ∷ []) old new
+pub merged_one :
+    (d : ℕ) (rows : List PlanRow) (old new : List Stem) → HasAdded d rows old new
+    → HasMerged d (rows ∷ []) old new
 merged_one d rows old new has = record {
   added = has.added;
   is = has.is;
-  stand = λ n all. subst (StandFor n d has.added) (sym (append-nil (ballots_of (nodes_of rows)))) (has.stand n (all 0 rows (omega arith)).low (all 0 rows (omega arith)).grown);
+  stand =
+      λ n all. subst (StandFor n d has.added) (sym (append-nil (ballots_of (nodes_of rows))))
+      (has.stand n (all 0 rows (omega arith)).low (all 0 rows (omega arith)).grown);
 }
 
 -- nodes of one candidate as one branch
-pub merged_many : (d c ballots : ℕ) (nodes : List (List PlanRow)) (e : PlanRow) (f : Stem) (old now : List Stem) (at : ℕ) → 1 ≤ d → 1 ≤ length nodes → All (AreRows 250 d) nodes → All (IsAlone c) nodes
+pub merged_many :
+    (d c ballots : ℕ) (nodes : List (List PlanRow)) (e : PlanRow) (f : Stem) (old now : List Stem) (at : ℕ)
+    → 1 ≤ d → 1 ≤ length nodes → All (AreRows 250 d) nodes → All (IsAlone c) nodes
     → ballots ≡ sum_by first_ballots nodes → at ≡ length old
-    → HasMerged (d + 1) (map (λ rows. drop 1 rows) nodes) (old ++ record { depth = d; candidate = c; ballots = ballots; skip = 1; tail = [] } ∷ []) now
+    → HasMerged (d + 1) (map (λ rows. drop 1 rows) nodes)
+    (old ++ record { depth = d; candidate = c; ballots = ballots; skip = 1; tail = [] } ∷ []) now
     → HasMerged d nodes old (set now at (closed_stem (get_or now at f) (length now - at)))
 merged_many d c ballots nodes e f old now at pos some are alone total place below =
     let first : Stem = record { depth = d; candidate = c; ballots = ballots; skip = 1; tail = [] } in
@@ -39,15 +47,22 @@ merged_many d c ballots nodes e f old now at pos some are alone total place belo
       added = closed ∷ added;
       is =
           ap (λ x. set now at (closed_stem x (length now - at))) here
-          ∙ (ap (λ q. set now at (closed_stem first q)) skip ∙ (ap (λ l. set l at closed) is ∙ set_at old first added closed at (sym place)));
+          ∙ (ap (λ q. set now at (closed_stem first q)) skip
+          ∙ (ap (λ l. set l at closed) is ∙ set_at old first added closed at (sym place)));
       stand =
           λ n all.
           let o = opened n d c nodes e (rows_of_all n d nodes are all) alone in
           let k = o.known some in
-          let node = stand-node n d c o.ends added (part_ballots low) pos k.1.1 k.0 k.1.0 (below.stand n (of_all_rows n (d + 1) low o.below)) in
+          let node =
+          stand-node n d c o.ends added (part_ballots low) pos k.1.1 k.0 k.1.0
+          (below.stand n (of_all_rows n (d + 1) low o.below)) in
           let counted : StandFor n d (closed ∷ added) (map (λ r. c ∷ r) (replicate o.ends [] ++ part_ballots low)) =
-          subst (λ q. StandFor n d (record { depth = d; candidate = c; ballots = q; skip = length added + 1; tail = [] } ∷ added) (map (λ r. c ∷ r) (replicate o.ends [] ++ part_ballots low))) (sym (total ∙ o.counted)) node in
-          stand_same n d (closed ∷ added) (map (λ r. c ∷ r) (replicate o.ends [] ++ part_ballots low)) (part_ballots nodes) (λ g. sym (o.both g)) counted;
+          subst (λ q. StandFor n d
+          (record { depth = d; candidate = c; ballots = q; skip = length added + 1; tail = [] } ∷ added)
+          (map (λ r. c ∷ r) (replicate o.ends [] ++ part_ballots low))) (sym (total ∙ o.counted)) node
+          in
+          stand_same n d (closed ∷ added) (map (λ r. c ∷ r) (replicate o.ends [] ++ part_ballots low))
+          (part_ballots nodes) (λ g. sym (o.both g)) counted;
     }
 
 -- Of parts those before `rest` are packed.
@@ -63,7 +78,9 @@ pub record IsMerging (d : ℕ) (parts rest : List (List PlanRow)) (old now : Lis
   pub is : now ≡ old ++ added
   pub packed : (n : ℕ) → All (AreOfAll n d) parts → IsMerged n d parts rest added
 
-pub merging-begin : (d : ℕ) (parts : List (List PlanRow)) (old : List Stem) → AreParts d parts → IsMerging d parts parts old old
+pub merging-begin :
+    (d : ℕ) (parts : List (List PlanRow)) (old : List Stem) → AreParts d parts
+    → IsMerging d parts parts old old
 merging-begin d parts old are = record {
   are = are;
   added = [];
@@ -71,14 +88,27 @@ merging-begin d parts old are = record {
   packed = λ n all. record { done = []; stand = stand-nothing n d; both = λ f. omega arith; of_all = all };
 }
 
-pub merging-next : (d c : ℕ) (parts rest : List (List PlanRow)) (old now next : List Stem) → IsMerging d parts rest old now → HasMerged d (flat_map (front c) rest) now next
+pub merging-next :
+    (d c : ℕ) (parts rest : List (List PlanRow)) (old now next : List Stem) → IsMerging d parts rest old now
+    → HasMerged d (flat_map (front c) rest) now next
     → IsMerging d parts (map (behind c) rest) old next
 merging-next d c parts rest old now next so_far has =
     let nodes = flat_map (front c) rest in
     let left = map (behind c) rest in
     let t = all_taken 250 d c rest so_far.are.each in
     record {
-      are = record { each = t.rest_are; few = omega (arith, so_far.are.few, t.both (λ (x : List ℕ). 1), counted_by (part_ballots rest), counted_by (part_ballots left)) };
+      are =
+          record {
+            each = t.rest_are;
+            few =
+                omega (
+                  arith,
+                  so_far.are.few,
+                  t.both (λ (x : List ℕ). 1),
+                  counted_by (part_ballots rest),
+                  counted_by (part_ballots left),
+                );
+          };
       added = so_far.added ++ has.added;
       is = has.is ∙ (ap (λ l. l ++ has.added) so_far.is ∙ append_assoc old so_far.added has.added);
       packed =
@@ -87,7 +117,9 @@ merging-next d c parts rest old now next so_far has =
           let u = all_taken n d c rest (rows_of_all n d rest so_far.are.each p.of_all) in
           record {
             done = p.done ++ part_ballots nodes;
-            stand = stand-append n d so_far.added has.added p.done (part_ballots nodes) p.stand (has.stand n (of_all_rows n d nodes u.nodes_are));
+            stand =
+                stand-append n d so_far.added has.added p.done (part_ballots nodes) p.stand
+                (has.stand n (of_all_rows n d nodes u.nodes_are));
             both = λ f. omega (arith, p.both f, u.both f, sum_by-append f p.done (part_ballots nodes));
             of_all = of_all_rows n d left u.rest_are;
           };
@@ -96,15 +128,19 @@ merging-next d c parts rest old now next so_far has =
 nothing_left : (rest : List (List PlanRow)) → All (λ rows. rows ≡ []) rest → part_ballots rest ≡ []
 nothing_left [] none = refl
 nothing_left (rows ∷ rest) none =
-    ap (λ (l : List PlanRow). ballots_of (nodes_of l) ++ part_ballots rest) (All-head (λ (r : List PlanRow). r ≡ []) rows rest none)
+    ap (λ (l : List PlanRow). ballots_of (nodes_of l) ++ part_ballots rest)
+    (All-head (λ (r : List PlanRow). r ≡ []) rows rest none)
     ∙ nothing_left rest (All-tail (λ (r : List PlanRow). r ≡ []) rows rest none)
 
-pub merging-end : (d : ℕ) (parts rest : List (List PlanRow)) (old now : List Stem) → IsMerging d parts rest old now → All (λ rows. rows ≡ []) rest → HasMerged d parts old now
+pub merging-end :
+    (d : ℕ) (parts rest : List (List PlanRow)) (old now : List Stem) → IsMerging d parts rest old now
+    → All (λ rows. rows ≡ []) rest → HasMerged d parts old now
 merging-end d parts rest old now so_far none = record {
   added = so_far.added;
   is = so_far.is;
   stand =
       λ n all.
       let p = so_far.packed n all in
-      stand_same n d so_far.added p.done (part_ballots parts) (λ f. omega (arith, p.both f, ap (sum_by f) (nothing_left rest none))) p.stand;
+      stand_same n d so_far.added p.done (part_ballots parts)
+      (λ f. omega (arith, p.both f, ap (sum_by f) (nothing_left rest none))) p.stand;
 }

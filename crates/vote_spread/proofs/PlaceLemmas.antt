@@ -1,5 +1,6 @@
 -- Places in a walk over stems.
-use Rattle.std.proofs.Common.{◌≡◌, ℕ, ◌+◌, ◌-◌, ◌<◌, ◌≤◌, List, ◌∷◌, ◌++◌, length, get_or, drop, take, arith, refl, ap, sym, subst, ◌∙◌}
+use Rattle.std.proofs.Common.{◌≡◌, ℕ, ◌+◌, ◌-◌, ◌<◌, ◌≤◌, List, ◌∷◌, ◌++◌, length, get_or, drop, take, arith}
+use Rattle.std.proofs.Common.{refl, ap, sym, subst, ◌∙◌}
 use Rattle.std.specs.List.{All}
 use Rattle.std.proofs.lemmas.List.{drop_more, drop-drop, get_or-drop, length-drop, length-take-le, take-append-drop}
 use Rattle.std.proofs.lemmas.List.Elements.{All-cons}
@@ -33,7 +34,9 @@ pub record IsParted (n : ℕ) (stems : List Stem) (i depth : ℕ) (stem : Stem) 
   pub inside : i + stem.skip ≤ length stems
   pub some : 1 ≤ stem.skip
 
-pub parted : (n : ℕ) (stems : List Stem) (i depth : ℕ) (d : Stem) → i < length stems → IsAt n stems i depth → IsParted n stems i depth (get_or stems i d)
+pub parted :
+    (n : ℕ) (stems : List Stem) (i depth : ℕ) (d : Stem) → i < length stems → IsAt n stems i depth
+    → IsParted n stems i depth (get_or stems i d)
 parted n stems i depth d below at =
     let stem = get_or stems i d in
     let e : drop i stems ≡ stem ∷ drop (i + 1) stems = drop_more stems i d below in
@@ -43,7 +46,8 @@ parted n stems i depth d below at =
     let room : stem.skip ≤ length (drop (i + 1) stems) + 1 = placed.inside in
     let size = length-drop (i + 1) stems in
     let same : (i + 1) + (stem.skip - 1) ≡ i + stem.skip = omega arith in
-    let rest : drop (stem.skip - 1) (drop (i + 1) stems) ≡ drop (i + stem.skip) stems = drop-drop (stem.skip - 1) (i + 1) stems ∙ ap (λ n. drop n stems) same in
+    let rest : drop (stem.skip - 1) (drop (i + 1) stems) ≡ drop (i + stem.skip) stems =
+    drop-drop (stem.skip - 1) (i + 1) stems ∙ ap (λ n. drop n stems) same in
     let cut : drop (i + 1) stems ≡ subtree stems i stem ++ drop (i + stem.skip) stems =
     sym (take-append-drop (stem.skip - 1) (drop (i + 1) stems)) ∙ ap (λ l. subtree stems i stem ++ l) rest in
     record {
@@ -58,26 +62,34 @@ parted n stems i depth d below at =
     }
 
 -- behind the subtree
-pub at_past : (n : ℕ) (stems : List Stem) (i depth : ℕ) (stem : Stem) → IsParted n stems i depth stem → IsAt n stems (i + stem.skip) stem.depth
+pub at_past :
+    (n : ℕ) (stems : List Stem) (i depth : ℕ) (stem : Stem) → IsParted n stems i depth stem
+    → IsAt n stems (i + stem.skip) stem.depth
 at_past n stems i depth stem p =
     let rest = drop (i + stem.skip) stems in
     let next = walk_behind n depth (stem ∷ subtree stems i stem) rest p.walk in
     record { inside = p.inside; walk = walk_from n next.0 stem.depth rest next.1 p.behind }
 
 -- behind the stem
-pub at_next : (n : ℕ) (stems : List Stem) (i depth : ℕ) (stem : Stem) → i < length stems → IsParted n stems i depth stem → IsAt n stems (i + 1) (stem.depth + 1)
+pub at_next :
+    (n : ℕ) (stems : List Stem) (i depth : ℕ) (stem : Stem) → i < length stems → IsParted n stems i depth stem
+    → IsAt n stems (i + 1) (stem.depth + 1)
 at_next n stems i depth stem below p =
-    let e : (stem ∷ subtree stems i stem) ++ drop (i + stem.skip) stems ≡ stem ∷ drop (i + 1) stems = ap (λ l. stem ∷ l) (sym p.cut) in
+    let e : (stem ∷ subtree stems i stem) ++ drop (i + stem.skip) stems ≡ stem ∷ drop (i + 1) stems =
+    ap (λ l. stem ∷ l) (sym p.cut) in
     let walk : IsWalk n depth (stem ∷ drop (i + 1) stems) = subst (λ (l : List Stem). IsWalk n depth l) e p.walk in
     record { inside = omega arith; walk = walk.1 }
 
 -- a subtree before the part is passed over
-pub ahead_before : (n s : ℕ) (keeps : List ℕ) (stems : List Stem) (i depth : ℕ) (ws : List ℕ) (stem : Stem) → 250 < length ws → IsParted n stems i depth stem → Ahead s keeps stems i ws → Ahead s keeps stems (i + stem.skip) ws
+pub ahead_before :
+    (n s : ℕ) (keeps : List ℕ) (stems : List Stem) (i depth : ℕ) (ws : List ℕ) (stem : Stem) → 250 < length ws
+    → IsParted n stems i depth stem → Ahead s keeps stems i ws → Ahead s keeps stems (i + stem.skip) ws
 ahead_before n s keeps stems i depth ws stem deep p ahead c =
     let sub = subtree stems i stem in
     let rest = drop (i + stem.skip) stems in
     let low : All (λ r. stem.depth ≤ r.depth) (stem ∷ sub) =
-    All-cons (λ (r : Stem). stem.depth ≤ r.depth) stem sub (omega arith) (λ k e lt. let more = p.placed.deeper k e lt in omega arith) in
+    All-cons (λ (r : Stem). stem.depth ≤ r.depth) stem sub (omega arith)
+    (λ k e lt. let more = p.placed.deeper k e lt in omega arith) in
     let many : stem.skip ≡ length (stem ∷ sub) = omega (arith, p.long, p.some) in
     sym (drop-drop stem.skip i (gains s keeps c (opening s) stems))
     ∙ (ap (drop stem.skip) (ahead c ∙ ap (gains s keeps c ws) (p.at ∙ ap (λ l. stem ∷ l) p.cut))
@@ -85,13 +97,19 @@ ahead_before n s keeps stems i depth ws stem deep p ahead c =
     ∙ gains_behind n depth stem.depth s keeps c ws ws (stem ∷ sub) rest p.walk low p.behind deep refl (λ j lt. refl)))
 
 -- a stem is visited
-pub ahead_next : (n s : ℕ) (keeps : List ℕ) (stems : List Stem) (i depth : ℕ) (ws : List ℕ) (stem : Stem) → IsParted n stems i depth stem → Ahead s keeps stems i ws → Ahead s keeps stems (i + 1) (past s keeps ws stem)
+pub ahead_next :
+    (n s : ℕ) (keeps : List ℕ) (stems : List Stem) (i depth : ℕ) (ws : List ℕ) (stem : Stem)
+    → IsParted n stems i depth stem → Ahead s keeps stems i ws
+    → Ahead s keeps stems (i + 1) (past s keeps ws stem)
 ahead_next n s keeps stems i depth ws stem p ahead c =
     sym (drop-drop 1 i (gains s keeps c (opening s) stems))
     ∙ ap (drop 1) (ahead c ∙ ap (gains s keeps c ws) p.at)
 
 -- what a stem gives to a candidate stands at its place
-pub gain_at : (n s : ℕ) (keeps : List ℕ) (stems : List Stem) (i depth : ℕ) (ws : List ℕ) (stem : Stem) (c : ℕ) → IsParted n stems i depth stem → Ahead s keeps stems i ws → get_or (gains s keeps c (opening s) stems) i 0 ≡ gain s keeps c ws stem
+pub gain_at :
+    (n s : ℕ) (keeps : List ℕ) (stems : List Stem) (i depth : ℕ) (ws : List ℕ) (stem : Stem) (c : ℕ)
+    → IsParted n stems i depth stem → Ahead s keeps stems i ws
+    → get_or (gains s keeps c (opening s) stems) i 0 ≡ gain s keeps c ws stem
 gain_at n s keeps stems i depth ws stem c p ahead =
     let e : i + 0 ≡ i = omega arith in
     ap (λ n. get_or (gains s keeps c (opening s) stems) n 0) (sym e)
@@ -99,28 +117,40 @@ gain_at n s keeps stems i depth ws stem c p ahead =
     ∙ ap (λ l. get_or l 0 0) (ahead c ∙ ap (gains s keeps c ws) p.at))
 
 -- where a stem leaves nothing its subtree is passed over
-pub ahead_jump : (n s : ℕ) (keeps : List ℕ) (stems : List Stem) (i depth : ℕ) (ws : List ℕ) (stem : Stem) → i < length stems → 250 < length ws → IsParted n stems i depth stem → Ahead s keeps stems i ws → Ahead s keeps stems (i + stem.skip) (past s keeps ws stem)
+pub ahead_jump :
+    (n s : ℕ) (keeps : List ℕ) (stems : List Stem) (i depth : ℕ) (ws : List ℕ) (stem : Stem)
+    → i < length stems → 250 < length ws → IsParted n stems i depth stem → Ahead s keeps stems i ws
+    → Ahead s keeps stems (i + stem.skip) (past s keeps ws stem)
 ahead_jump n s keeps stems i depth ws stem below deep p ahead c =
     let sub = subtree stems i stem in
     let rest = drop (i + stem.skip) stems in
     let vs = past s keeps ws stem in
     let deep' : 250 < length vs = rw length-past deep in
-    let walk : IsWalk n (stem.depth + 1) (sub ++ rest) = subst (λ (l : List Stem). IsWalk n (stem.depth + 1) l) p.cut (at_next n stems i depth stem below p).walk in
+    let walk : IsWalk n (stem.depth + 1) (sub ++ rest) =
+    subst (λ (l : List Stem). IsWalk n (stem.depth + 1) l) p.cut
+    (at_next n stems i depth stem below p).walk in
     let same : (i + 1) + length sub ≡ i + stem.skip = omega (arith, p.long, p.some) in
     ap (λ n. drop n (gains s keeps c (opening s) stems)) (sym same)
     ∙ (sym (drop-drop (length sub) (i + 1) (gains s keeps c (opening s) stems))
     ∙ (ap (drop (length sub)) (ahead_next n s keeps stems i depth ws stem p ahead c ∙ ap (gains s keeps c vs) p.cut)
-    ∙ gains_behind n (stem.depth + 1) (stem.depth + 1) s keeps c vs vs sub rest walk p.placed.deeper (from_more stem.depth rest p.behind) deep' refl (λ j lt. refl)))
+    ∙ gains_behind n (stem.depth + 1) (stem.depth + 1) s keeps c vs vs sub rest walk p.placed.deeper
+    (from_more stem.depth rest p.behind) deep' refl (λ j lt. refl)))
 
 -- and no stem of it gives anything
-pub gains_jump : (n s : ℕ) (keeps : List ℕ) (stems : List Stem) (i depth : ℕ) (ws : List ℕ) (stem : Stem) (c : ℕ) → i < length stems → 1 ≤ s → 250 < length ws → left s keeps ws stem ≡ 0 → IsParted n stems i depth stem → Ahead s keeps stems i ws → (k : ℕ) → i + 1 ≤ k → k < i + stem.skip → get_or (gains s keeps c (opening s) stems) k 0 ≡ 0
+pub gains_jump :
+    (n s : ℕ) (keeps : List ℕ) (stems : List Stem) (i depth : ℕ) (ws : List ℕ) (stem : Stem) (c : ℕ)
+    → i < length stems → 1 ≤ s → 250 < length ws → left s keeps ws stem ≡ 0 → IsParted n stems i depth stem
+    → Ahead s keeps stems i ws → (k : ℕ) → i + 1 ≤ k → k < i + stem.skip
+    → get_or (gains s keeps c (opening s) stems) k 0 ≡ 0
 gains_jump n s keeps stems i depth ws stem c below pos deep none p ahead k over under =
     let sub = subtree stems i stem in
     let rest = drop (i + stem.skip) stems in
     let vs = past s keeps ws stem in
     let deep' : 250 < length vs = rw length-past deep in
     let shallow : stem.depth ≤ 250 = omega (arith, p.placed.shallow) in
-    let walk : IsWalk n (stem.depth + 1) (sub ++ rest) = subst (λ (l : List Stem). IsWalk n (stem.depth + 1) l) p.cut (at_next n stems i depth stem below p).walk in
+    let walk : IsWalk n (stem.depth + 1) (sub ++ rest) =
+    subst (λ (l : List Stem). IsWalk n (stem.depth + 1) l) p.cut
+    (at_next n stems i depth stem below p).walk in
     let zeros : (j : ℕ) → stem.depth + 1 ≤ j + 1 → j < stem.depth + 1 → get_or vs j 0 ≡ 0 =
     λ j a b. let e : j ≡ stem.depth = omega arith in
     subst (λ (q : ℕ). get_or vs q 0 ≡ 0) (sym e) (past-here s keeps ws stem (omega arith) ∙ none) in
@@ -129,4 +159,5 @@ gains_jump n s keeps stems i depth ws stem c below pos deep none p ahead k over 
     ap (λ n. get_or (gains s keeps c (opening s) stems) n 0) (sym e)
     ∙ (sym (get_or-drop (i + 1) (gains s keeps c (opening s) stems) t 0)
     ∙ (ap (λ l. get_or l t 0) (ahead_next n s keeps stems i depth ws stem p ahead c ∙ ap (gains s keeps c vs) p.cut)
-    ∙ gains_zero n (stem.depth + 1) (stem.depth + 1) s keeps c vs sub rest walk p.placed.deeper pos deep' zeros t (omega (arith, p.long))))
+    ∙ gains_zero n (stem.depth + 1) (stem.depth + 1) s keeps c vs sub rest walk p.placed.deeper pos deep'
+    zeros t (omega (arith, p.long))))

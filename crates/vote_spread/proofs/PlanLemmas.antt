@@ -21,7 +21,14 @@ rows_of_plan n rows plan =
     (rows_of_forest 250 1 0 f (grown_more n 250 0 1 f plan.few_candidates plan.grown) (omega (arith, plan.few)))
 
 -- how many ballots plans have
-pub length-all_ballots : (plans : List PlanRows) → length (all_ballots plans) ≡ sum_by (λ (plan : PlanRows). length (plan_ballots plan.rows)) plans
+pub length-all_ballots :
+    (plans : List PlanRows)
+    → length (all_ballots plans) ≡ sum_by (λ (plan : PlanRows). length (plan_ballots plan.rows)) plans
 length-all_ballots [] = refl
 length-all_ballots (plan ∷ plans) =
-    omega (arith, length-append (plan_ballots plan.rows) (all_ballots plans), length-all_ballots plans, sum_by-cons (λ (p : PlanRows). length (plan_ballots p.rows)) plan plans)
+    omega (
+      arith,
+      length-append (plan_ballots plan.rows) (all_ballots plans),
+      length-all_ballots plans,
+      sum_by-cons (λ (p : PlanRows). length (plan_ballots p.rows)) plan plans,
+    )

@@ -1,5 +1,6 @@
 -- Room for the rows of a part of some stems.
-use Rattle.std.proofs.Common.{◌≡◌, ℕ, ◌+◌, ◌-◌, ◌<◌, ◌≤◌, cond, leb, List, length, get_or, drop, take, sum_by, arith, ap, sym, ◌∙◌, inl, inr}
+use Rattle.std.proofs.Common.{◌≡◌, ℕ, ◌+◌, ◌-◌, ◌<◌, ◌≤◌, cond, leb, List, length, get_or, drop, take, sum_by}
+use Rattle.std.proofs.Common.{arith, ap, sym, ◌∙◌, inl, inr}
 use Rattle.std.proofs.lemmas.Bool.{cases_lt, le-leb, lt-leb}
 use Rattle.std.proofs.lemmas.List.{length-drop, length-take-le, drop-drop, get_or-drop, get_or-take}
 use Rattle.std.proofs.lemmas.List.Sums.{sum_by-drop_more, sum_by-take-drop}
@@ -8,16 +9,21 @@ use Rattle.vote_spread.specs.Rows.{room_for}
 
 -- room for the rows of the stems from i on
 abbrev pub room_left : List Stem → (from to i : ℕ) → ℕ
-room_left stems from to i = (from - i) + sum_by (λ (stem : Stem). length stem.tail + 1) (drop (i - from) (drop from (take to stems)))
+room_left stems from to i =
+    (from - i) + sum_by (λ (stem : Stem). length stem.tail + 1) (drop (i - from) (drop from (take to stems)))
 
 pub room-begin : (stems : List Stem) (from to : ℕ) → room_left stems from to 0 ≡ room_for stems from to
 room-begin stems from to =
     let one : 0 - from ≡ 0 = omega arith in
     let two : from - 0 ≡ from = omega arith in
     let f : Stem → ℕ = λ stem. length stem.tail + 1 in
-    ap (λ n. (from - 0) + sum_by f (drop n (drop from (take to stems)))) one ∙ ap (λ n. n + sum_by f (drop from (take to stems))) two
+    ap (λ n. (from - 0) + sum_by f (drop n (drop from (take to stems)))) one
+    ∙ ap (λ n. n + sum_by f (drop from (take to stems))) two
 
-pub room-next : (stems : List Stem) (from to i : ℕ) (d : Stem) → i < to → to ≤ length stems → room_left stems from to i ≡ 1 + cond (leb from i) (length (get_or stems i d).tail) 0 + room_left stems from to (i + 1)
+pub room-next :
+    (stems : List Stem) (from to i : ℕ) (d : Stem) → i < to → to ≤ length stems
+    → room_left stems from to i
+    ≡ 1 + cond (leb from i) (length (get_or stems i d).tail) 0 + room_left stems from to (i + 1)
 room-next stems from to i d lt inside =
     let f : Stem → ℕ = λ stem. length stem.tail + 1 in
     let part = drop from (take to stems) in
@@ -27,7 +33,8 @@ room-next stems from to i d lt inside =
           let no : cond (leb from i) size 0 ≡ 0 = ap (λ b. cond b size 0) (lt-leb from i before) in
           let a : i - from ≡ 0 = omega arith in
           let b : (i + 1) - from ≡ 0 = omega arith in
-          let same : sum_by f (drop (i - from) part) ≡ sum_by f (drop ((i + 1) - from) part) = ap (λ n. sum_by f (drop n part)) (a ∙ sym b) in
+          let same : sum_by f (drop (i - from) part) ≡ sum_by f (drop ((i + 1) - from) part) =
+          ap (λ n. sum_by f (drop n part)) (a ∙ sym b) in
           omega arith
       | inr after ↦
           let yes : cond (leb from i) size 0 ≡ size = ap (λ b. cond b size 0) (le-leb from i after) in
@@ -40,7 +47,8 @@ room-next stems from to i d lt inside =
           let more : sum_by f (drop (i - from) part) ≡ f (get_or part (i - from) d) + sum_by f (drop ((i - from) + 1) part) =
           sum_by-drop_more f part (i - from) d (omega (arith, length-drop from (take to stems))) in
           let here : f (get_or part (i - from) d) ≡ size + 1 = ap f item in
-          let rest : sum_by f (drop ((i - from) + 1) part) ≡ sum_by f (drop ((i + 1) - from) part) = ap (λ n. sum_by f (drop n part)) e2 in
+          let rest : sum_by f (drop ((i - from) + 1) part) ≡ sum_by f (drop ((i + 1) - from) part) =
+          ap (λ n. sum_by f (drop n part)) e2 in
           omega arith
     ]
 
@@ -51,5 +59,6 @@ room-falls stems from to i j le =
     let t = (j - from) - (i - from) in
     let e : (i - from) + t ≡ j - from = omega arith in
     let split = sum_by-take-drop f (drop (i - from) part) t in
-    let rest : sum_by f (drop t (drop (i - from) part)) ≡ sum_by f (drop (j - from) part) = ap (sum_by f) (drop-drop t (i - from) part ∙ ap (λ n. drop n part) e) in
+    let rest : sum_by f (drop t (drop (i - from) part)) ≡ sum_by f (drop (j - from) part) =
+    ap (sum_by f) (drop-drop t (i - from) part ∙ ap (λ n. drop n part) e) in
     omega arith

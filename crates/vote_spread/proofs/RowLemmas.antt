@@ -1,5 +1,6 @@
 -- The rows of a plan, node by node.
-use Rattle.std.proofs.Common.{◌≡◌, ℕ, ◌+◌, ◌≤◌, List, [], ◌∷◌, ◌++◌, length, get_or, drop, take, map, replicate, arith, refl, ap, sym, subst, ◌∙◌, zero, suc}
+use Rattle.std.proofs.Common.{◌≡◌, ℕ, ◌+◌, ◌≤◌, List, [], ◌∷◌, ◌++◌, length, get_or, drop, take, map}
+use Rattle.std.proofs.Common.{replicate, arith, refl, ap, sym, subst, ◌∙◌, zero, suc}
 use Rattle.std.specs.List.{All}
 use Rattle.std.proofs.lemmas.List.{append-nil, length-append, take_at, drop_at}
 use Rattle.std.proofs.lemmas.List.Elements.{All-cons}
@@ -32,7 +33,9 @@ pub record IsParted (n d skip : ℕ) (rows : List PlanRow) : Type 0 where
   pub behind : AreRows n d (drop skip rows)
   pub ballots : ballots_of (nodes_of rows) ≡ ballots_of (nodes_of (take skip rows)) ++ ballots_of (nodes_of (drop skip rows))
 
-parted_forest : (n d low : ℕ) (f : Forest) (e : PlanRow) → IsGrown n low d f → through f ≤ 999999999 → 1 ≤ length (rows_of d f) → IsParted n d (get_or (rows_of d f) 0 e).skip (rows_of d f)
+parted_forest :
+    (n d low : ℕ) (f : Forest) (e : PlanRow) → IsGrown n low d f → through f ≤ 999999999
+    → 1 ≤ length (rows_of d f) → IsParted n d (get_or (rows_of d f) 0 e).skip (rows_of d f)
 parted_forest n d low Bare e grown few some = absurd (omega arith)
 parted_forest n d low (Grown c k inner next) e grown few some =
     let below = rows_of (d + 1) inner in
@@ -40,12 +43,17 @@ parted_forest n d low (Grown c k inner next) e grown few some =
     let skip = length below + 1 in
     let row : PlanRow = record { depth = d; candidate = c; ballots = k + through inner; skip = skip } in
     let front = rows_of d (Grown c k inner Bare) in
-    let whole : front ++ rest ≡ rows_of d (Grown c k inner next) = ap (λ (l : List PlanRow). row ∷ (l ++ rest)) (append-nil below) in
+    let whole : front ++ rest ≡ rows_of d (Grown c k inner next) =
+    ap (λ (l : List PlanRow). row ∷ (l ++ rest)) (append-nil below) in
     let long : length front ≡ skip = omega (arith, length-append below []) in
-    let cut : take skip (rows_of d (Grown c k inner next)) ≡ front = ap (take skip) (sym whole) ∙ take_at front rest skip long in
-    let left : drop skip (rows_of d (Grown c k inner next)) ≡ rest = ap (drop skip) (sym whole) ∙ drop_at front rest skip long in
+    let cut : take skip (rows_of d (Grown c k inner next)) ≡ front =
+    ap (take skip) (sym whole) ∙ take_at front rest skip long in
+    let left : drop skip (rows_of d (Grown c k inner next)) ≡ rest =
+    ap (drop skip) (sym whole) ∙ drop_at front rest skip long in
     let alone : IsGrown n low d (Grown c k inner Bare) = (grown.0, grown.1, grown.2, grown.3, grown.4, tt) in
-    let node_ballots : ballots_of (nodes_of (take skip (rows_of d (Grown c k inner next)))) ≡ ballots_of (Grown c k inner Bare) =
+    let node_ballots :
+    ballots_of (nodes_of (take skip (rows_of d (Grown c k inner next))))
+    ≡ ballots_of (Grown c k inner Bare) =
     ap (λ l. ballots_of (nodes_of l)) cut ∙ ap ballots_of (nodes_of-rows_of d (Grown c k inner Bare)) in
     let rest_ballots : ballots_of (nodes_of (drop skip (rows_of d (Grown c k inner next)))) ≡ ballots_of next =
     ap (λ l. ballots_of (nodes_of l)) left ∙ ap ballots_of (nodes_of-rows_of d next) in
@@ -66,7 +74,9 @@ parted_forest n d low (Grown c k inner next) e grown few some =
           ∙ ap (λ l. ballots_of (nodes_of (take skip (rows_of d (Grown c k inner next)))) ++ l) (sym rest_ballots)));
     }
 
-pub parted_rows : (n d : ℕ) (rows : List PlanRow) (e : PlanRow) → AreRows n d rows → 1 ≤ length rows → IsParted n d (get_or rows 0 e).skip rows
+pub parted_rows :
+    (n d : ℕ) (rows : List PlanRow) (e : PlanRow) → AreRows n d rows → 1 ≤ length rows
+    → IsParted n d (get_or rows 0 e).skip rows
 parted_rows n d rows e are some =
     let f = nodes_of rows in
     subst (λ (l : List PlanRow). IsParted n d (get_or l 0 e).skip l) (sym are.preorder)
@@ -87,15 +97,19 @@ last-le before most d Bare le all = le
 last-le before most d (Grown c k inner next) le all =
     let below = rows_of (d + 1) inner in
     subst (λ m. m ≤ most) (sym (last-append (k + through inner) below (rows_of d next)))
-    (last-le (last_ballots (k + through inner) below) most d next (last-le (k + through inner) most (d + 1) inner (omega arith) (omega arith)) (omega arith))
+    (last-le (last_ballots (k + through inner) below) most d next
+    (last-le (k + through inner) most (d + 1) inner (omega arith) (omega arith)) (omega arith))
 
 -- and the last of siblings no more than go through them
-last-below : (before d c k : ℕ) (inner next : Forest) → last_ballots before (rows_of d (Grown c k inner next)) ≤ through (Grown c k inner next)
+last-below :
+    (before d c k : ℕ) (inner next : Forest)
+    → last_ballots before (rows_of d (Grown c k inner next)) ≤ through (Grown c k inner next)
 last-below before d c k inner next =
     let most = through (Grown c k inner next) in
     let below = rows_of (d + 1) inner in
     subst (λ m. m ≤ most) (sym (last-append (k + through inner) below (rows_of d next)))
-    (last-le (last_ballots (k + through inner) below) most d next (last-le (k + through inner) most (d + 1) inner (omega arith) (omega arith)) (omega arith))
+    (last-le (last_ballots (k + through inner) below) most d next
+    (last-le (k + through inner) most (d + 1) inner (omega arith) (omega arith)) (omega arith))
 
 -- a map of equal elements
 pub map-same : {X Y : Type 0} (n : ℕ) (f : X → Y) (x : X) → map f (replicate n x) ≡ replicate n (f x)
@@ -113,7 +127,9 @@ pub record IsRun (n d ends m : ℕ) (f : Forest) : Type 0 where
   pub known : All (λ r. (1 ≤ r) × (r ≤ n)) (candidates (rows_of d f))
   pub short : length (rows_of d f) + d ≤ 251
 
-pub run : (n low d ends m : ℕ) (f : Forest) → d ≤ 251 → IsGrown n low d f → m ≡ ends + through f → last_ballots m (rows_of d f) ≡ m → IsRun n d ends m f
+pub run :
+    (n low d ends m : ℕ) (f : Forest) → d ≤ 251 → IsGrown n low d f → m ≡ ends + through f
+    → last_ballots m (rows_of d f) ≡ m → IsRun n d ends m f
 run n low d ends m Bare shallow grown all last = record {
   alike = append-nil (replicate {A = List ℕ} ends []) ∙ ap (λ k. replicate {A = List ℕ} k []) (omega arith);
   known = λ k e lt. absurd (omega arith);
@@ -132,7 +148,9 @@ run n low d ends m (Grown c k inner Bare) shallow grown all last =
     let le = last-le (k + through inner) (k + through inner) (d + 1) inner (omega arith) (omega arith) in
     let none : ends ≡ 0 = omega arith in
     let same : k + through inner ≡ m = omega arith in
-    let rest = run n 0 (d + 1) k m inner (omega (arith, grown.2)) grown.4 (sym same) (subst (λ q. last_ballots q below ≡ m) same last') in
+    let rest =
+    run n 0 (d + 1) k m inner (omega (arith, grown.2)) grown.4 (sym same)
+    (subst (λ q. last_ballots q below ≡ m) same last') in
     let ranks = candidates below in
     let ranks_nil : candidates (below ++ []) ≡ ranks = ap candidates nil in
     let step : map (λ r. c ∷ r) (replicate k [] ++ ballots_of inner) ≡ replicate m (c ∷ ranks) =

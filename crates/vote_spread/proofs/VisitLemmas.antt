@@ -22,10 +22,16 @@ seen_at rows i d e lt = get_or-map (λ (r : Row). row_stem r.depth r.candidate r
 pub length-seen : (rows : List Row) → length (seen rows) ≡ length rows
 length-seen rows = length-map rows (λ (r : Row). row_stem r.depth r.candidate r.ballots)
 
-pub row_sound : (n : ℕ) (rows : List Row) (i : ℕ) (d : Row) → i < length rows → All (IsRow n) (seen rows) → IsRow n (row_at rows i d)
+pub row_sound :
+    (n : ℕ) (rows : List Row) (i : ℕ) (d : Row) → i < length rows → All (IsRow n) (seen rows)
+    → IsRow n (row_at rows i d)
 row_sound n rows i d lt all = rw (← seen_at rows i d none lt) (all i none (rw length-seen lt))
 
-pub rows_more : (s : ℕ) (keeps : List ℕ) (c : ℕ) (ws : List ℕ) (rows : List Row) (i : ℕ) (d : Row) → i < length rows → sum (gains s keeps c ws (drop i (seen rows))) ≡ gain s keeps c ws (row_at rows i d) + sum (gains s keeps c (past s keeps ws (row_at rows i d)) (drop (i + 1) (seen rows)))
+pub rows_more :
+    (s : ℕ) (keeps : List ℕ) (c : ℕ) (ws : List ℕ) (rows : List Row) (i : ℕ) (d : Row) → i < length rows
+    → sum (gains s keeps c ws (drop i (seen rows)))
+    ≡ gain s keeps c ws (row_at rows i d)
+    + sum (gains s keeps c (past s keeps ws (row_at rows i d)) (drop (i + 1) (seen rows)))
 rows_more s keeps c ws rows i d lt =
     let row = row_at rows i d in
     at_drop_more (λ (l : List Stem). sum (gains s keeps c ws l)) (seen rows) i none (rw length-seen lt)

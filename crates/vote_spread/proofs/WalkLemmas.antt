@@ -1,5 +1,6 @@
 -- What a part of some stems is still to give.
-use Rattle.std.proofs.Common.{◌≡◌, ℕ, ◌+◌, ◌-◌, ◌<◌, ◌≤◌, true, false, cond, List, [], ◌∷◌, length, get_or, drop, take, sum, arith, ap, sym, ◌∙◌, inl, inr, leb, zero-add}
+use Rattle.std.proofs.Common.{◌≡◌, ℕ, ◌+◌, ◌-◌, ◌<◌, ◌≤◌, true, false, cond, List, [], ◌∷◌, length, get_or}
+use Rattle.std.proofs.Common.{drop, take, sum, arith, ap, sym, ◌∙◌, inl, inr, leb, zero-add}
 use Rattle.std.proofs.lemmas.List.{get_or-drop, get_or-take, get_or_past, length-take, length-drop, length-take-le}
 use Rattle.std.proofs.lemmas.Bool.{cases_lt, le-leb, lt-leb}
 use Rattle.std.proofs.lemmas.List.Sums.{sum_by-drop_more, sum_by-take-le, sum_by-take-drop}
@@ -18,13 +19,19 @@ from_more d [] from = tt
 from_more d (stem ∷ stems) from = omega arith
 
 -- before the part nothing is to be given yet
-pub still_before : (s : ℕ) (keeps : List ℕ) (c : ℕ) (stems : List Stem) (from to i j : ℕ) → i ≤ from → j ≤ from → still s keeps c stems from to i ≡ still s keeps c stems from to j
+pub still_before :
+    (s : ℕ) (keeps : List ℕ) (c : ℕ) (stems : List Stem) (from to i j : ℕ) → i ≤ from → j ≤ from
+    → still s keeps c stems from to i ≡ still s keeps c stems from to j
 still_before s keeps c stems from to i j one other =
     let e : i - from ≡ j - from = omega arith in
     ap (λ n. sum (drop n (drop from (take to (gains s keeps c (opening s) stems))))) e
 
 -- the stem at i of the part
-pub still_here : (s : ℕ) (keeps : List ℕ) (c : ℕ) (stems : List Stem) (from to i : ℕ) → from ≤ i → i < to → to ≤ length stems → still s keeps c stems from to i ≡ get_or (gains s keeps c (opening s) stems) i 0 + still s keeps c stems from to (i + 1)
+pub still_here :
+    (s : ℕ) (keeps : List ℕ) (c : ℕ) (stems : List Stem) (from to i : ℕ) → from ≤ i → i < to
+    → to ≤ length stems
+    → still s keeps c stems from to i
+    ≡ get_or (gains s keeps c (opening s) stems) i 0 + still s keeps c stems from to (i + 1)
 still_here s keeps c stems from to i after below inside =
     let all = gains s keeps c (opening s) stems in
     let part = drop from (take to all) in
@@ -40,7 +47,10 @@ still_here s keeps c stems from to i after below inside =
     ∙ (ap (λ n. n + sum (drop ((i - from) + 1) part)) item ∙ ap (λ n. get_or all i 0 + sum (drop n part)) e2)
 
 -- stems that give nothing
-pub still_jump : (s : ℕ) (keeps : List ℕ) (c : ℕ) (stems : List Stem) (from to i j : ℕ) → i ≤ j → ((k : ℕ) → i ≤ k → k < j → get_or (gains s keeps c (opening s) stems) k 0 ≡ 0) → still s keeps c stems from to i ≡ still s keeps c stems from to j
+pub still_jump :
+    (s : ℕ) (keeps : List ℕ) (c : ℕ) (stems : List Stem) (from to i j : ℕ) → i ≤ j
+    → ((k : ℕ) → i ≤ k → k < j → get_or (gains s keeps c (opening s) stems) k 0 ≡ 0)
+    → still s keeps c stems from to i ≡ still s keeps c stems from to j
 still_jump s keeps c stems from to i j le none =
     let all = gains s keeps c (opening s) stems in
     let part = drop from (take to all) in
@@ -56,7 +66,9 @@ still_jump s keeps c stems from to i j le none =
     sum-drop_zeros part (i - from) t item ∙ ap (λ n. sum (drop n part)) e
 
 -- all that a part gives is within what all stems give
-pub part-le : (s : ℕ) (keeps : List ℕ) (c : ℕ) (stems : List Stem) (from to : ℕ) → part s keeps c stems from to ≤ sum (gains s keeps c (opening s) stems)
+pub part-le :
+    (s : ℕ) (keeps : List ℕ) (c : ℕ) (stems : List Stem) (from to : ℕ)
+    → part s keeps c stems from to ≤ sum (gains s keeps c (opening s) stems)
 part-le s keeps c stems from to =
     let all = gains s keeps c (opening s) stems in
     let one = sum_by-take-le (λ x. x) all to in
@@ -64,7 +76,11 @@ part-le s keeps c stems from to =
     omega arith
 
 -- a stem counts where it stands in the part
-pub still_visit : (s : ℕ) (keeps : List ℕ) (c : ℕ) (stems : List Stem) (from to i : ℕ) → i < to → to ≤ length stems → still s keeps c stems from to i ≡ cond (leb from i) (get_or (gains s keeps c (opening s) stems) i 0) 0 + still s keeps c stems from to (i + 1)
+pub still_visit :
+    (s : ℕ) (keeps : List ℕ) (c : ℕ) (stems : List Stem) (from to i : ℕ) → i < to → to ≤ length stems
+    → still s keeps c stems from to i
+    ≡ cond (leb from i) (get_or (gains s keeps c (opening s) stems) i 0) 0
+    + still s keeps c stems from to (i + 1)
 still_visit s keeps c stems from to i below inside =
     let g = get_or (gains s keeps c (opening s) stems) i 0 in
     let next = still s keeps c stems from to (i + 1) in

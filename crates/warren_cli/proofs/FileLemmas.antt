@@ -49,7 +49,8 @@ wrote_sheet written faults old new roll lots ballots count (Err stop) of whole (
 
 -- The sheet of the plan's ballots is what is owed for the file.
 owed_for_file :
-    (lots input : List ℕ) (poll : Poll) (ballots : List (List ℕ)) (due : End InputFault) (bytes : List ℕ) → length input ≤ file_limit
+    (lots input : List ℕ) (poll : Poll) (ballots : List (List ℕ)) (due : End InputFault) (bytes : List ℕ)
+    → length input ≤ file_limit
     → SaysContest lots input poll → OrderOfBallotsLeavesTheSheet → IsPermutation ballots (plain poll.lines)
     → IsSheetOwed ballots poll.roll lots due bytes → IsOwedFor (over_contests OwesWarren) lots input no_history due bytes
 owed_for_file lots input poll ballots Done bytes short says leaves same owed =
@@ -57,7 +58,8 @@ owed_for_file lots input poll ballots Done bytes short says leaves same owed =
 owed_for_file lots input poll ballots due bytes short says leaves same owed = absurd owed
 
 pub counted :
-    (lots input : List ℕ) (poll : Poll) (ballots : List (List ℕ)) (end : End InputFault) (sink : Writing) → length input ≤ file_limit
+    (lots input : List ℕ) (poll : Poll) (ballots : List (List ℕ)) (end : End InputFault) (sink : Writing)
+    → length input ≤ file_limit
     → SaysContest lots input poll → OrderOfBallotsLeavesTheSheet → IsPermutation ballots (plain poll.lines)
     → FinishesOwed (IsSheetOwed ballots poll.roll lots) end sink
     → FinishesOwed (IsOwedFor (over_contests OwesWarren) lots input no_history) end sink

@@ -1,5 +1,6 @@
 -- Rows of siblings, node by node.
-use Rattle.std.proofs.Common.{◌≡◌, ℕ, ◌+◌, ◌-◌, ◌*◌, ◌≤◌, ◌==◌, cond, List, [], ◌∷◌, ◌++◌, length, get_or, drop, take, arith, refl, ap, sym, subst, ◌∙◌}
+use Rattle.std.proofs.Common.{◌≡◌, ℕ, ◌+◌, ◌-◌, ◌*◌, ◌≤◌, ◌==◌, cond, List, [], ◌∷◌, ◌++◌, length, get_or}
+use Rattle.std.proofs.Common.{drop, take, arith, refl, ap, sym, subst, ◌∙◌}
 use Rattle.std.proofs.lemmas.List.{length-append, take_at, drop_at}
 use Rattle.frozen_plan.specs.declared.plan_row.PlanRow.{PlanRow}
 use Rattle.frozen_plan.specs.Forest.{Forest, Bare, Grown, ballots_of, through, rows_of, IsGrown}
@@ -24,9 +25,13 @@ siblings_of n d low f grown = record {
 
 -- the rows below the first node, and those behind them
 abbrev pub IsCut : ℕ → List PlanRow → PlanRow → Type 0
-IsCut n rows node = (node.skip ≤ length rows) × AreParted n rows node (take (node.skip - 1) (drop 1 rows)) (drop (node.skip - 1) (drop 1 rows))
+IsCut n rows node =
+    (node.skip ≤ length rows)
+    × AreParted n rows node (take (node.skip - 1) (drop 1 rows)) (drop (node.skip - 1) (drop 1 rows))
 
-parted_forest : (n d low : ℕ) (f : Forest) (e : PlanRow) → IsGrown n low d f → 1 ≤ length (rows_of d f) → IsCut n (rows_of d f) (get_or (rows_of d f) 0 e)
+parted_forest :
+    (n d low : ℕ) (f : Forest) (e : PlanRow) → IsGrown n low d f → 1 ≤ length (rows_of d f)
+    → IsCut n (rows_of d f) (get_or (rows_of d f) 0 e)
 parted_forest n d low Bare e grown some = absurd (omega arith)
 parted_forest n d low (Grown k m inner next) e grown some =
     let low_rows = rows_of (d + 1) inner in
@@ -36,9 +41,12 @@ parted_forest n d low (Grown k m inner next) e grown some =
     ap (λ j. take j (low_rows ++ rest_rows)) skip ∙ take_at low_rows rest_rows (length low_rows) refl in
     let left : drop ((length low_rows + 1) - 1) (low_rows ++ rest_rows) ≡ rest_rows =
     ap (λ j. drop j (low_rows ++ rest_rows)) skip ∙ drop_at low_rows rest_rows (length low_rows) refl in
-    let below : row_ballots (take ((length low_rows + 1) - 1) (low_rows ++ rest_rows)) ≡ ballots_of inner = ap row_ballots front ∙ ap ballots_of (nodes_are (d + 1) inner) in
-    let behind : row_ballots (drop ((length low_rows + 1) - 1) (low_rows ++ rest_rows)) ≡ ballots_of next = ap row_ballots left ∙ ap ballots_of (nodes_are d next) in
-    let all : row_ballots (rows_of d (Grown k m inner next)) ≡ ballots_of (Grown k m inner next) = ap ballots_of (nodes_are d (Grown k m inner next)) in (
+    let below : row_ballots (take ((length low_rows + 1) - 1) (low_rows ++ rest_rows)) ≡ ballots_of inner =
+    ap row_ballots front ∙ ap ballots_of (nodes_are (d + 1) inner) in
+    let behind : row_ballots (drop ((length low_rows + 1) - 1) (low_rows ++ rest_rows)) ≡ ballots_of next =
+    ap row_ballots left ∙ ap ballots_of (nodes_are d next) in
+    let all : row_ballots (rows_of d (Grown k m inner next)) ≡ ballots_of (Grown k m inner next) =
+    ap ballots_of (nodes_are d (Grown k m inner next)) in (
       omega (arith, length-append low_rows rest_rows),
       record {
         some = omega arith;
@@ -50,9 +58,19 @@ parted_forest n d low (Grown k m inner next) e grown some =
         pays =
             λ prices rest c.
             let part = kept_under Warren 1 prices rest k in
-            let one : paid prices (rest - part) (row_ballots (take ((length low_rows + 1) - 1) (low_rows ++ rest_rows))) c ≡ paid prices (rest - part) (ballots_of inner) c = ap (λ l. paid prices (rest - part) l c) below in
-            let two : paid prices rest (row_ballots (drop ((length low_rows + 1) - 1) (low_rows ++ rest_rows))) c ≡ paid prices rest (ballots_of next) c = ap (λ l. paid prices rest l c) behind in
-            let whole : paid prices rest (row_ballots (rows_of d (Grown k m inner next))) c ≡ paid prices rest (ballots_of (Grown k m inner next)) c = ap (λ l. paid prices rest l c) all in
+            let one :
+            paid prices (rest - part)
+            (row_ballots (take ((length low_rows + 1) - 1) (low_rows ++ rest_rows))) c
+            ≡ paid prices (rest - part) (ballots_of inner) c =
+            ap (λ l. paid prices (rest - part) l c) below in
+            let two :
+            paid prices rest (row_ballots (drop ((length low_rows + 1) - 1) (low_rows ++ rest_rows))) c
+            ≡ paid prices rest (ballots_of next) c =
+            ap (λ l. paid prices rest l c) behind in
+            let whole :
+            paid prices rest (row_ballots (rows_of d (Grown k m inner next))) c
+            ≡ paid prices rest (ballots_of (Grown k m inner next)) c =
+            ap (λ l. paid prices rest l c) all in
             omega (arith, paid-grown prices rest c k m inner next);
       },
     )
@@ -67,11 +85,15 @@ behind_root : (n : ℕ) (rows : List PlanRow) → IsPlan n rows → drop 1 rows 
 behind_root n rows plan = ap (drop 1) plan.preorder
 
 pub siblings_of_plan : (n : ℕ) (rows : List PlanRow) → IsPlan n rows → AreSiblings n (drop 1 rows)
-siblings_of_plan n rows plan = subst (AreSiblings n) (sym (behind_root n rows plan)) (siblings_of n 1 0 (forest_of rows) plan.grown)
+siblings_of_plan n rows plan =
+    subst (AreSiblings n) (sym (behind_root n rows plan)) (siblings_of n 1 0 (forest_of rows) plan.grown)
 
 -- pay what the plan's ballots pay
-pub paid-plan : (n : ℕ) (rows : List PlanRow) → IsPlan n rows → (rest c : ℕ) (prices : List ℕ) → paid prices rest (row_ballots (drop 1 rows)) c ≡ paid prices rest (plan_ballots rows) c
+pub paid-plan :
+    (n : ℕ) (rows : List PlanRow) → IsPlan n rows → (rest c : ℕ) (prices : List ℕ)
+    → paid prices rest (row_ballots (drop 1 rows)) c ≡ paid prices rest (plan_ballots rows) c
 paid-plan n rows plan rest c prices =
     let f = forest_of rows in
-    let same : row_ballots (drop 1 rows) ≡ ballots_of f = ap row_ballots (behind_root n rows plan) ∙ ap ballots_of (nodes_are 1 f) in
+    let same : row_ballots (drop 1 rows) ≡ ballots_of f =
+    ap row_ballots (behind_root n rows plan) ∙ ap ballots_of (nodes_are 1 f) in
     ap (λ l. paid prices rest l c) same ∙ sym (paid-ends prices rest c (ballot_count rows - through f) (ballots_of f))

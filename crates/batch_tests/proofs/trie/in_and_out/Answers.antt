@@ -10,4 +10,5 @@ returns-clause-same g c =
     let mid = c.add.new.self.ballots in
     let new = c.remove.new.self.ballots in
     c.one_bag_has_one_form.ensures.undone new old both c.remove.ensures.order c.forest-order.ensures.order
-    (IsPermutation-trans (both ++ new) mid (both ++ old) (IsPermutation-sym mid (both ++ new) c.remove.ensures.bag) c.add.ensures.bag)
+    (IsPermutation-trans (both ++ new) mid (both ++ old)
+    (IsPermutation-sym mid (both ++ new) c.remove.ensures.bag) c.add.ensures.bag)

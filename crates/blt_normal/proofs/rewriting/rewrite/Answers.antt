@@ -18,7 +18,8 @@ pub returns-in-Err : goal.returns-in-Err
 returns-in-Err g c =
     refused normal_tool (tt {0}) c.args.input.now c.in-Err.stop c.refuse_input.result
     (writing g.K.Sink.written g.K.Sink.faults c.args.sink.now c.refuse_input.new.sink) refl c.requires
-    (λ fault is. subst (λ (stop : InputStop). IfFault {R = Election} (Err stop) (λ f. IsFileRefusal of_a_file (scan c.args.input.now false) f)) is c.in-Err.ensures.refused)
+    (λ fault is. subst (λ (stop : InputStop). IfFault {R = Election} (Err stop)
+    (λ f. IsFileRefusal of_a_file (scan c.args.input.now false) f)) is c.in-Err.ensures.refused)
     c.refuse_input.ensures
 
 -- the ballots of the plans are those of the file
@@ -31,7 +32,10 @@ returns g c =
     inr (
       Done,
       text.text,
-      owed_for_file c.args.input.now file _ _ text.text c.requires c.in-Ok.ensures.accepted c.in-Ok-begin.ensures.ballots c.in-Ok-begin.ensures.roll text.is,
-      closed w f c.args.sink.now c.write_listing-wrote.new.sink c.close.new.sink text.text c.write_listing-wrote.result c.close.result
-          (wrote_text w f c.args.sink.now c.write_listing-wrote.new.sink text.text c.write_listing-wrote.result text.writes) c.close.ensures,
+      owed_for_file c.args.input.now file _ _ text.text c.requires c.in-Ok.ensures.accepted
+          c.in-Ok-begin.ensures.ballots c.in-Ok-begin.ensures.roll text.is,
+      closed w f c.args.sink.now c.write_listing-wrote.new.sink c.close.new.sink text.text
+          c.write_listing-wrote.result c.close.result
+          (wrote_text w f c.args.sink.now c.write_listing-wrote.new.sink text.text
+          c.write_listing-wrote.result text.writes) c.close.ensures,
     )

@@ -17,15 +17,19 @@ sound either once = record {
 
 pub returns-in-Err : goal.returns-in-Err
 returns-in-Err g c =
-    stopped normal_tool (Some file_limit) (λ asked. refl) (map string_bytes c.args.words.now) c.takes_nothing-asked.result c.in-Err.end
+    stopped normal_tool (Some file_limit) (λ asked. refl) (map string_bytes c.args.words.now)
+    c.takes_nothing-asked.result c.in-Err.end
     (reading g.S.Source.left g.S.Source.faults c.args.source.now c.open.new.source)
     (writing g.K.Sink.written g.K.Sink.faults c.args.sink.now c.open.new.sink)
-    (sound c.files_are_not_refused.ensures c.files_are_refused_once.ensures) c.takes_nothing-asked.ensures c.in-Err.ensures.stopped
+    (sound c.files_are_not_refused.ensures c.files_are_refused_once.ensures) c.takes_nothing-asked.ensures
+    c.in-Err.ensures.stopped
 
 pub returns : goal.returns
 returns g c =
     worked_on normal_tool g.K.Sink.written g.K.Sink.faults c.args.sink.now c.open.new.sink c.rewrite.new.sink
-    (map string_bytes c.args.words.now) c.takes_nothing-asked.result (tt {0}) (tt {0}) c.in-Ok.opened.input.items _ c.rewrite.result
+    (map string_bytes c.args.words.now) c.takes_nothing-asked.result (tt {0}) (tt {0})
+    c.in-Ok.opened.input.items _ c.rewrite.result
     (reading g.S.Source.left g.S.Source.faults c.args.source.now c.open.new.source)
-    (sound c.files_are_not_refused.ensures c.files_are_refused_once.ensures) c.takes_nothing-asked.ensures c.in-Ok.ensures.asked
+    (sound c.files_are_not_refused.ensures c.files_are_refused_once.ensures) c.takes_nothing-asked.ensures
+    c.in-Ok.ensures.asked
     c.in-Ok.ensures.input c.in-Ok.ensures.untouched refl c.as_slice.ensures.value c.rewrite.ensures

@@ -19,7 +19,8 @@ pub returns-in_err-read_further-clause-says : goal.returns-in_err-read_further-c
 returns-in_err-read_further-clause-says c =
     let p = err_from_is_err_and c.from_residual-in_err-read_further.result c.from_residual-in_err-read_further.ensures.1 in
     let text : c.new-tokens.result.rest ≡ scan c.args.bytes.now false = ap (λ (r : Reader). r.rest) c.new-tokens.ensures in
-    rw (p.1, p.2, ← text) (says_trailing of_a_file _ _ c.in_ok-election.election _ c.in_ok-election.ensures.reads c.in_err-read_further.ensures)
+    rw (p.1, p.2, ← text) (says_trailing of_a_file _ _ c.in_ok-election.election _
+    c.in_ok-election.ensures.reads c.in_err-read_further.ensures)
 
 pub returns-clause-says : goal.returns-clause-says
 returns-clause-says c =

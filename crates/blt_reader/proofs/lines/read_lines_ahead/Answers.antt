@@ -65,12 +65,16 @@ loop-count-preserved c =
     let all : c.add_line.new.ballots.lines ≡ with_line lines count ranking =
     ap (λ (b : BallotList). b.lines) c.in_ok-add_line.ensures.added ∙ ap (with_line lines count) c.in-Ok.ensures in
     let some : 1 ≤ count = omega (arith, c.loop-count-test.true) in
-    let room : ballot_count lines + count ≤ c.args.most = omega (arith, c.if-count-most.false, c.total.ensures, before.lines.bounded) in
+    let room : ballot_count lines + count ≤ c.args.most =
+    omega (arith, c.if-count-most.false, c.total.ensures, before.lines.bounded) in
     record {
       same = before.same
-          ∙ one_line c.args.candidates limit lines c.add_line.new.ballots.lines count c.loop-count.at c.loop-count.tokens.rest
+          ∙ one_line c.args.candidates limit lines c.add_line.new.ballots.lines count c.loop-count.at
+          c.loop-count.tokens.rest
           c.read_ranks.new.tokens.rest ranking (omega (arith, some)) room c.in_ok-len.ensures.reads all
-          ∙ ap (λ (s : Scan). reads (at_line c.args.candidates limit) (Between c.add_line.new.ballots.lines) s) c.in_ok-next.ensures.number;
+          ∙ ap
+          (λ (s : Scan). reads (at_line c.args.candidates limit) (Between c.add_line.new.ballots.lines) s)
+          c.in_ok-next.ensures.number;
       candidates = ap (λ (b : BallotList). b.candidates) c.in_ok-add_line.ensures.added ∙ before.candidates;
       lines =
           subst (AreLines c.args.candidates c.args.most) (sym all)
@@ -90,7 +94,9 @@ pub returns-in_err-add_line-clause-behind : goal.returns-in_err-add_line-clause-
 returns-in_err-add_line-clause-behind c = behind_trans c.loop-count.invariant.behind c.in_ok-len.ensures.behind
 
 pub returns-in_err-next-clause-behind : goal.returns-in_err-next-clause-behind
-returns-in_err-next-clause-behind c = behind_trans c.loop-count.invariant.behind (behind_trans c.in_ok-len.ensures.behind c.in_err-next.ensures.behind)
+returns-in_err-next-clause-behind c =
+    behind_trans c.loop-count.invariant.behind
+    (behind_trans c.in_ok-len.ensures.behind c.in_err-next.ensures.behind)
 
 pub returns-in_err-named-clause-behind : goal.returns-in_err-named-clause-behind
 returns-in_err-named-clause-behind c = behind_itself c.args.tokens.now
@@ -105,10 +111,12 @@ pub add_line-requires-clause-ranking : goal.add_line-requires-clause-ranking
 add_line-requires-clause-ranking c =
     let candidates = c.loop-count.ballots.candidates in
     subst (λ (r : List ℕ). IsRanking candidates r) (sym c.in-Ok.ensures)
-    (subst (λ (n : ℕ). IsRanking n (take c.in_ok-len.len c.read_ranks.new.ranks)) (sym c.loop-count.invariant.candidates) c.in_ok-len.ensures.ranking)
+    (subst (λ (n : ℕ). IsRanking n (take c.in_ok-len.len c.read_ranks.new.ranks))
+    (sym c.loop-count.invariant.candidates) c.in_ok-len.ensures.ranking)
 
 pub add_line-requires-clause-room : goal.add_line-requires-clause-room
-add_line-requires-clause-room c = omega (arith, c.if-count-most.false, c.total.ensures, c.loop-count.invariant.lines.bounded, c.requires)
+add_line-requires-clause-room c =
+    omega (arith, c.if-count-most.false, c.total.ensures, c.loop-count.invariant.lines.bounded, c.requires)
 
 pub loop-count-smaller : goal.loop-count-smaller
 loop-count-smaller c =

@@ -10,8 +10,11 @@ abbrev pub invariant-loop-count : goal.invariant-loop-count
 invariant-loop-count l =
     let limit : Limit = record { most = l.most; refusal = l.refusal } in
     record {
-      same : reads (at_line l.candidates limit) (Between []) (with_front (record { at = l.fn.first.1; item = Number l.fn.first.0 }) l.fn.tokens.rest)
-          ≡ reads (at_line l.candidates limit) (Between l.ballots.lines) (with_front (record { at = l.at; item = Number l.count }) l.tokens.rest);
+      same :
+          reads (at_line l.candidates limit) (Between [])
+          (with_front (record { at = l.fn.first.1; item = Number l.fn.first.0 }) l.fn.tokens.rest)
+          ≡ reads (at_line l.candidates limit) (Between l.ballots.lines)
+          (with_front (record { at = l.at; item = Number l.count }) l.tokens.rest);
       candidates : l.ballots.candidates ≡ l.candidates;
       lines : AreLines l.candidates l.most l.ballots.lines;
       numbers : length l.named ≡ l.candidates + 1;

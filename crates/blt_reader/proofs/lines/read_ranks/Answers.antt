@@ -1,4 +1,5 @@
-use Rattle.std.proofs.Common.{◌≡◌, ℕ, ◌+◌, ◌==◌, List, length, take, slice_set, Bool, true, false, sym, ◌∙◌, ap, subst, arith, length-set}
+use Rattle.std.proofs.Common.{◌≡◌, ℕ, ◌+◌, ◌==◌, List, length, take, slice_set, Bool, true, false, sym, ◌∙◌}
+use Rattle.std.proofs.Common.{ap, subst, arith, length-set}
 use Rattle.std.specs.List.{list_any}
 use Rattle.std.proofs.lemmas.Result.{err_from_is_err_and}
 use Rattle.input_text.specs.Judged.{reads}
@@ -12,7 +13,8 @@ use Rattle.blt_reader.proofs.lines.read_ranks.Goals as goal
 pub returns-in_err-n-clause-reads : goal.returns-in_err-n-clause-reads
 returns-in_err-n-clause-reads c =
     let p = err_from_is_err_and c.from_residual.result c.from_residual.ensures.1 in
-    rw (p.1, p.2) (c.loop-n.invariant.same ∙ rank_stops c.args.candidates (take c.loop-n.len c.loop-n.ranks) _ _ _ c.in_err-n.ensures.fault)
+    rw (p.1, p.2) (c.loop-n.invariant.same
+    ∙ rank_stops c.args.candidates (take c.loop-n.len c.loop-n.ranks) _ _ _ c.in_err-n.ensures.fault)
 
 pub returns-then-n-eq0-clause-reads : goal.returns-then-n-eq0-clause-reads
 returns-then-n-eq0-clause-reads c =
@@ -28,7 +30,8 @@ returns-then-n-candidates-clause-reads c =
 
 pub returns-then-mark-clause-reads : goal.returns-then-mark-clause-reads
 returns-then-mark-clause-reads c = rw c.refused-then-mark.ensures (c.loop-n.invariant.same
-    ∙ again c.args.candidates (take c.loop-n.len c.loop-n.ranks) _ _ c.in_ok-n.n c.in_ok-n.at c.in_ok-n.ensures.number c.if-n-eq0.false c.if-n-candidates.false
+    ∙ again c.args.candidates (take c.loop-n.len c.loop-n.ranks) _ _ c.in_ok-n.n c.in_ok-n.at
+    c.in_ok-n.ensures.number c.if-n-eq0.false c.if-n-candidates.false
     (sym (c.loop-n.invariant.marks c.in_ok-n.n c.if-n-candidates.false) ∙ sym c.mark.ensures.was ∙ c.if-mark.true))
 
 pub bounds-ranks-len : goal.bounds-ranks-len
@@ -47,13 +50,19 @@ loop-n-preserved c =
     let len = c.loop-n.len in
     let all = c.loop-n.ranks in
     let given = c.in_ok-n.ensures.number in
-    let once : list_any (λ r. r == n) (take len all) ≡ false = sym (before.marks n c.if-n-candidates.false) ∙ sym c.mark.ensures.was ∙ c.if-mark.false in
+    let once : list_any (λ r. r == n) (take len all) ≡ false =
+    sym (before.marks n c.if-n-candidates.false) ∙ sym c.mark.ensures.was ∙ c.if-mark.false in
     record {
-      same = before.same ∙ one_more candidates (take len all) _ _ n c.in_ok-n.at given c.if-n-eq0.false c.if-n-candidates.false once
+      same =
+          before.same
+          ∙ one_more candidates (take len all) _ _ n c.in_ok-n.at given c.if-n-eq0.false
+          c.if-n-candidates.false once
           ∙ ap (λ (l : List ℕ). reads (at_rank candidates) l c.next_number.new.self.rest)
           (sym (one_put_in candidates len n all before.room before.within before.ranking
           (omega (arith, c.if-n-eq0.false)) c.if-n-candidates.false once));
-      ranking = one_put_in_ranked candidates len n all before.room before.within before.ranking (omega (arith, c.if-n-eq0.false)) c.if-n-candidates.false once;
+      ranking =
+          one_put_in_ranked candidates len n all before.room before.within before.ranking
+          (omega (arith, c.if-n-eq0.false)) c.if-n-candidates.false once;
       within =
           omega (
             arith,
@@ -63,7 +72,9 @@ loop-n-preserved c =
           );
       room = length-set all len n ∙ before.room;
       numbers = ap length c.mark.ensures.after ∙ length-set c.loop-n.named n true ∙ before.numbers;
-      marks = subst (λ (named : List Bool). Marks candidates named (take (len + 1) (slice_set all len n))) (sym c.mark.ensures.after)
+      marks =
+          subst (λ (named : List Bool). Marks candidates named (take (len + 1) (slice_set all len n)))
+          (sym c.mark.ensures.after)
           (one_put_in_marked candidates len n all before.room before.within before.ranking
           (omega (arith, c.if-n-eq0.false)) c.if-n-candidates.false once c.loop-n.named before.numbers before.marks);
       not_more = omega (arith, before.not_more, fewer_left c.loop-n.tokens.rest c.next_number.new.self.rest _ given);

@@ -1,4 +1,5 @@
-use Rattle.std.proofs.Common.{◌≡◌, ℕ, ◌+◌, ◌≤◌, ◌==◌, List, length, take, slice_set, Bool, true, false, refl, sym, ◌∙◌, ap, subst, arith, length-set}
+use Rattle.std.proofs.Common.{◌≡◌, ℕ, ◌+◌, ◌≤◌, ◌==◌, List, length, take, slice_set, Bool, true, false, refl}
+use Rattle.std.proofs.Common.{sym, ◌∙◌, ap, subst, arith, length-set}
 use Rattle.std.specs.List.{list_any}
 use Rattle.input_text.specs.Judged.{reads}
 use Rattle.blt_reader.specs.BallotTable.{at_rank}
@@ -21,7 +22,8 @@ bounds-ranks-len c =
     let found = c.in-Some.ensures.candidate in
     let once : list_any (λ r. r == c.in-Some.n) (take c.loop-n.len c.loop-n.ranks) ≡ false =
     sym (before.marks c.in-Some.n found.1) ∙ c.in-Some.ensures.unnamed in
-    room_for_one c.args.candidates c.loop-n.len c.in-Some.n c.loop-n.ranks before.room before.within before.ranking found.0 found.1 once
+    room_for_one c.args.candidates c.loop-n.len c.in-Some.n c.loop-n.ranks before.room before.within
+    before.ranking found.0 found.1 once
 
 pub loop-n-preserved : goal.loop-n-preserved
 loop-n-preserved c =
@@ -35,24 +37,38 @@ loop-n-preserved c =
     let inside : n ≤ candidates = c.in-Some.ensures.candidate.1 in
     let once : list_any (λ r. r == n) (take len all) ≡ false = sym (before.marks n inside) ∙ c.in-Some.ensures.unnamed in
     record {
-      same = before.same ∙ one_more candidates (take len all) _ _ n c.in-Some.field-0-1 given (omega (arith, some)) inside once
+      same =
+          before.same
+          ∙ one_more candidates (take len all) _ _ n c.in-Some.field-0-1 given (omega (arith, some)) inside
+          once
           ∙ ap (λ (l : List ℕ). reads (at_rank candidates) l c.next_unnamed.new.tokens.rest)
           (sym (one_put_in candidates len n all before.room before.within before.ranking some inside once));
       ranking = one_put_in_ranked candidates len n all before.room before.within before.ranking some inside once;
-      within = omega (arith, before.room, room_for_one candidates len n all before.room before.within before.ranking some inside once);
+      within =
+          omega (
+            arith,
+            before.room,
+            room_for_one candidates len n all before.room before.within before.ranking some inside once,
+          );
       room = length-set all len n ∙ before.room;
       numbers = ap length c.mark.ensures.after ∙ length-set c.loop-n.named n true ∙ before.numbers;
-      marks = subst (λ (named : List Bool). Marks candidates named (take (len + 1) (slice_set all len n))) (sym c.mark.ensures.after)
-          (one_put_in_marked candidates len n all before.room before.within before.ranking some inside once c.loop-n.named before.numbers before.marks);
+      marks =
+          subst (λ (named : List Bool). Marks candidates named (take (len + 1) (slice_set all len n)))
+          (sym c.mark.ensures.after)
+          (one_put_in_marked candidates len n all before.room before.within before.ranking some inside once
+          c.loop-n.named before.numbers before.marks);
       not_more = omega (arith, before.not_more, fewer_left c.loop-n.ahead.rest c.next_unnamed.new.tokens.rest _ given);
       behind = behind_trans before.behind c.in-Some.ensures.behind;
     }
 
 pub returns-in-Some-ending-clause-behind : goal.returns-in-Some-ending-clause-behind
-returns-in-Some-ending-clause-behind c = behind_trans c.loop-n.invariant.behind (behind_trans c.in_default.ensures.behind c.in-Some-ending.ensures.behind)
+returns-in-Some-ending-clause-behind c =
+    behind_trans c.loop-n.invariant.behind
+    (behind_trans c.in_default.ensures.behind c.in-Some-ending.ensures.behind)
 
 pub returns-in-None-clause-behind : goal.returns-in-None-clause-behind
-returns-in-None-clause-behind c = behind_trans c.loop-n.invariant.behind (behind_trans c.in_default.ensures.behind c.in-None.ensures.behind)
+returns-in-None-clause-behind c =
+    behind_trans c.loop-n.invariant.behind (behind_trans c.in_default.ensures.behind c.in-None.ensures.behind)
 
 pub loop-n-smaller : goal.loop-n-smaller
 loop-n-smaller c = omega (arith, fewer_left c.loop-n.ahead.rest c.next_unnamed.new.tokens.rest _ c.in-Some.ensures.number)

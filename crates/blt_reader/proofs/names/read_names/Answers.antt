@@ -19,8 +19,10 @@ loop-preserved c =
     let pushed = c.in-Ok.ensures.ok in
     record {
       same = λ limit heading lines same. c.loop.invariant.same limit heading lines same
-          ∙ name_read limit heading lines c.loop.names _ _ c.in_ok-name.name (omega (arith, fewer, same)) c.in_ok-name.ensures.name
-          ∙ ap (λ (n : List (List ℕ)). reads (at_token limit) (behind_name heading lines n) c.read_name.new.tokens.rest) (sym pushed);
+          ∙ name_read limit heading lines c.loop.names _ _ c.in_ok-name.name (omega (arith, fewer, same))
+          c.in_ok-name.ensures.name
+          ∙ ap (λ (n : List (List ℕ)). reads (at_token limit) (behind_name heading lines n)
+          c.read_name.new.tokens.rest) (sym pushed);
       counted = ap length pushed ∙ length_push c.loop.names c.in_ok-name.name ∙ omega (arith, c.loop.invariant.counted);
       behind = behind_trans c.loop.invariant.behind c.in_ok-name.ensures.behind;
     }

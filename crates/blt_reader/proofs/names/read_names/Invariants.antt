@@ -9,7 +9,8 @@ use Rattle.blt_reader.proofs.names.read_names.Given as goal
 abbrev pub invariant-loop : goal.invariant-loop
 invariant-loop l = record {
   same : (limit : Limit) (heading : Heading) (lines : List BallotLine) → heading.candidates ≡ l.candidates
-      → reads (at_token limit) (behind_name heading lines []) l.fn.tokens.rest ≡ reads (at_token limit) (behind_name heading lines l.names) l.tokens.rest;
+      → reads (at_token limit) (behind_name heading lines []) l.fn.tokens.rest
+      ≡ reads (at_token limit) (behind_name heading lines l.names) l.tokens.rest;
   counted : length l.names ≡ l.counter;
   behind : IsBehind l.fn.tokens l.tokens;
 }

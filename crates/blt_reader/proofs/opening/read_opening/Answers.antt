@@ -1,6 +1,7 @@
 use Rattle.std.proofs.Common.{◌∙◌}
 use Rattle.std.proofs.lemmas.Result.{err_from_is_err_and}
-use Rattle.blt_reader.proofs.OpeningSteps.{candidates_stop, candidates_read, seats_stop, seats_read, Opens, opened, opening_fails}
+use Rattle.blt_reader.proofs.OpeningSteps.{candidates_stop, candidates_read, seats_stop, seats_read, Opens}
+use Rattle.blt_reader.proofs.OpeningSteps.{opened, opening_fails}
 use Rattle.input_text.proofs.Reading.{behind_trans}
 use Rattle.blt_reader.proofs.opening.read_opening.Goals as goal
 
@@ -22,7 +23,8 @@ returns-in_err-first-clause-reads c =
     λ limit. candidates_read limit _ _ candidates c.in_ok-candidates.ensures.size
     ∙ seats_read limit _ _ candidates c.in_ok-seats.seats c.in_ok-seats.ensures.size in
     let p = err_from_is_err_and c.from_residual-in_err-first.result c.from_residual-in_err-first.ensures.1 in
-    rw (p.1, p.2) (opening_fails candidates c.in_ok-seats.seats _ _ _ c.read_withdrawn.new.withdrawn.items _ opens c.in_err-first.ensures.reads)
+    rw (p.1, p.2) (opening_fails candidates c.in_ok-seats.seats _ _ _ c.read_withdrawn.new.withdrawn.items _
+    opens c.in_err-first.ensures.reads)
 
 pub returns-clause-reads : goal.returns-clause-reads
 returns-clause-reads c =
@@ -36,7 +38,11 @@ pub returns-in_err-seats-clause-behind : goal.returns-in_err-seats-clause-behind
 returns-in_err-seats-clause-behind c = behind_trans c.in_ok-candidates.ensures.behind c.in_err-seats.ensures.behind
 
 pub returns-in_err-first-clause-behind : goal.returns-in_err-first-clause-behind
-returns-in_err-first-clause-behind c = behind_trans c.in_ok-candidates.ensures.behind (behind_trans c.in_ok-seats.ensures.behind c.in_err-first.ensures.behind)
+returns-in_err-first-clause-behind c =
+    behind_trans c.in_ok-candidates.ensures.behind
+    (behind_trans c.in_ok-seats.ensures.behind c.in_err-first.ensures.behind)
 
 pub returns-clause-behind : goal.returns-clause-behind
-returns-clause-behind c = behind_trans c.in_ok-candidates.ensures.behind (behind_trans c.in_ok-seats.ensures.behind c.in_ok-first.ensures.behind)
+returns-clause-behind c =
+    behind_trans c.in_ok-candidates.ensures.behind
+    (behind_trans c.in_ok-seats.ensures.behind c.in_ok-first.ensures.behind)

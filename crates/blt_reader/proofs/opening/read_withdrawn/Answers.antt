@@ -6,7 +6,8 @@ use Rattle.input_text.specs.Token.{with_front}
 use Rattle.input_text.specs.Reader.{said}
 use Rattle.input_text.specs.Range.{IsIn}
 use Rattle.input_text.proofs.Reading.{behind_trans, behind_itself, fewer_left}
-use Rattle.blt_reader.proofs.OpeningSteps.{one_withdrawn, listed_each, withdrawn_refused, withdrawn_ended, NotWithdrawn, bad_withdrawn, no_count}
+use Rattle.blt_reader.proofs.OpeningSteps.{one_withdrawn, listed_each, withdrawn_refused, withdrawn_ended}
+use Rattle.blt_reader.proofs.OpeningSteps.{NotWithdrawn, bad_withdrawn, no_count}
 use Rattle.blt_reader.proofs.opening.read_withdrawn.Goals as goal
 use Rattle.blt_reader.proofs.opening.read_withdrawn.Goals.{then-n-ge1+else-n-candidates, else-n-ge1}
 
@@ -25,13 +26,16 @@ returns-in-Minus-2-clause-reads c =
     let refused : NotWithdrawn c.args.candidates (said bytes token.at token.stop token.what) BadWithdrawn =
     subst (λ (w : What). NotWithdrawn c.args.candidates (said bytes token.at token.stop w) BadWithdrawn) (sym c.in-Minus.is)
     (bad_withdrawn c.args.candidates c.in-Minus.n outside) in
-    rw c.refused.ensures (withdrawn_refused c.args.candidates _ _ _ _ _ BadWithdrawn c.loop-named.invariant.so_far c.in_ok-token.ensures.token refused)
+    rw c.refused.ensures (withdrawn_refused c.args.candidates _ _ _ _ _ BadWithdrawn
+    c.loop-named.invariant.so_far c.in_ok-token.ensures.token refused)
 
 pub returns-in_default-clause-reads : goal.returns-in_default-clause-reads
 returns-in_default-clause-reads c =
     let token = c.in_ok-token.token in
-    rw c.refused-in_default.ensures (withdrawn_refused c.args.candidates _ _ _ _ _ BadNumber c.loop-named.invariant.so_far c.in_ok-token.ensures.token
-    (no_count c.args.candidates c.loop-named.tokens.bytes token.at token.stop token.what c.in_default.not-Number c.in_default.not-Minus))
+    rw c.refused-in_default.ensures (withdrawn_refused c.args.candidates _ _ _ _ _ BadNumber
+    c.loop-named.invariant.so_far c.in_ok-token.ensures.token
+    (no_count c.args.candidates c.loop-named.tokens.bytes token.at token.stop token.what
+    c.in_default.not-Number c.in_default.not-Minus))
 
 pub loop-named-preserved : goal.loop-named-preserved
 loop-named-preserved c =
@@ -68,7 +72,9 @@ pub returns-in_default-clause-behind : goal.returns-in_default-clause-behind
 returns-in_default-clause-behind c = behind_trans c.loop-named.invariant.behind c.in_ok-token.ensures.behind
 
 pub loop-named-smaller : goal.loop-named-smaller
-loop-named-smaller c = omega (arith, fewer_left c.loop-named.tokens.rest c.next_token.new.self.rest _ c.in_ok-token.ensures.token)
+loop-named-smaller c =
+    omega
+    (arith, fewer_left c.loop-named.tokens.rest c.next_token.new.self.rest _ c.in_ok-token.ensures.token)
 
 pub returns-in_err-named-clause-behind : goal.returns-in_err-named-clause-behind
 returns-in_err-named-clause-behind c = behind_itself c.args.tokens.now

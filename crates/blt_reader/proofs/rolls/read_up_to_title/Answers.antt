@@ -33,7 +33,8 @@ returns-in_err-title-clause-reads c =
     let lines = c.in_ok-ballots.ballots.lines in
     let some : 0 < c.in_ok-opening.opening.candidates = omega (arith, c.in_ok-opening.ensures.sound.candidates.least) in
     let p = err_from_is_err_and c.from_residual-in_err-title.result c.from_residual-in_err-title.ensures.1 in
-    rw (p.1, p.2) (title_stop limit c.args.tokens.now.rest c.in_ok-opening.opening c.read_opening.new.tokens.rest opened lines
+    rw (p.1, p.2) (title_stop limit c.args.tokens.now.rest c.in_ok-opening.opening
+    c.read_opening.new.tokens.rest opened lines
     c.in_ok-names.names c.in_ok-names.ensures.all poll _ _ _
     (ballots_read limit c.args.tokens.now.rest c.in_ok-opening.opening c.read_opening.new.tokens.rest opened lines _ some
     c.in_ok-ballots.ensures.reads ∙ c.in_ok-names.ensures.reads limit heading lines refl) c.in_err-title.ensures.fault)
@@ -69,7 +70,9 @@ pub returns-in_err-ballots-clause-behind : goal.returns-in_err-ballots-clause-be
 returns-in_err-ballots-clause-behind c = behind_trans c.in_ok-opening.ensures.behind c.in_err-ballots.ensures.behind
 
 pub returns-in_err-names-clause-behind : goal.returns-in_err-names-clause-behind
-returns-in_err-names-clause-behind c = behind_trans c.in_ok-opening.ensures.behind (behind_trans c.in_ok-ballots.ensures.behind c.in_err-names.ensures.behind)
+returns-in_err-names-clause-behind c =
+    behind_trans c.in_ok-opening.ensures.behind
+    (behind_trans c.in_ok-ballots.ensures.behind c.in_err-names.ensures.behind)
 
 pub returns-in_err-title-clause-behind : goal.returns-in_err-title-clause-behind
 returns-in_err-title-clause-behind c =

@@ -7,8 +7,10 @@ returns-in_err-write_bytes g c = stops _ _ c.from_residual.ensures.0 c.in_err-wr
 
 pub returns-in_err-write_names : goal.returns-in_err-write_names
 returns-in_err-write_names g c =
-    later _ _ _ c.in_ok-write_bytes.ensures (stops _ _ c.from_residual-in_err-write_names.ensures.0 c.in_err-write_names.ensures)
+    later _ _ _ c.in_ok-write_bytes.ensures
+    (stops _ _ c.from_residual-in_err-write_names.ensures.0 c.in_err-write_names.ensures)
 
 pub returns : goal.returns
 returns g c =
-    rw (sym c.title.ensures, sym c.bytes.ensures.value) (later _ _ _ c.in_ok-write_bytes.ensures (later _ _ _ c.in_ok-write_names.ensures c.write_quoted.ensures))
+    rw (sym c.title.ensures, sym c.bytes.ensures.value) (later _ _ _ c.in_ok-write_bytes.ensures
+    (later _ _ _ c.in_ok-write_names.ensures c.write_quoted.ensures))

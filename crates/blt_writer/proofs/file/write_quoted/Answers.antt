@@ -6,7 +6,8 @@ returns-in_err-write_bytes g c = stops _ _ c.from_residual.ensures.0 c.in_err-wr
 
 pub returns-in_err-write_bytes-2 : goal.returns-in_err-write_bytes-2
 returns-in_err-write_bytes-2 g c =
-    later _ _ _ c.in_ok-write_bytes.ensures (stops _ _ c.from_residual-in_err-write_bytes-2.ensures.0 c.in_err-write_bytes-2.ensures)
+    later _ _ _ c.in_ok-write_bytes.ensures
+    (stops _ _ c.from_residual-in_err-write_bytes-2.ensures.0 c.in_err-write_bytes-2.ensures)
 
 pub returns : goal.returns
 returns g c = later _ _ _ c.in_ok-write_bytes.ensures (later _ _ _ c.in_ok-write_bytes-2.ensures c.write_bytes-3.ensures)

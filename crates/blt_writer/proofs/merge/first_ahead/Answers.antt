@@ -18,12 +18,14 @@ loop-at-preserved c =
         inside = omega (arith, w.first-is);
         first =
             subst (NoneAhead lists (at + 1)) (sym w.first-is)
-            (none_takes lists at c.loop-at.first x y (omega arith) inv.inside c.index-cursors-at.is c.index-cursors-first.is (sym c.is_ahead.ensures ∙ w.if-is_ahead.true) inv.first);
+            (none_takes lists at c.loop-at.first x y (omega arith) inv.inside c.index-cursors-at.is
+            c.index-cursors-first.is (sym c.is_ahead.ensures ∙ w.if-is_ahead.true) inv.first);
       }
       | else-is_ahead w ↦ record {
         inside = omega (arith, w.first-is, inv.inside);
         first =
             subst (NoneAhead lists (at + 1)) (sym w.first-is)
-            (none_keeps lists at c.loop-at.first x y (omega arith) inv.inside c.index-cursors-at.is c.index-cursors-first.is (sym c.is_ahead.ensures ∙ w.if-is_ahead.false) inv.first);
+            (none_keeps lists at c.loop-at.first x y (omega arith) inv.inside c.index-cursors-at.is
+            c.index-cursors-first.is (sym c.is_ahead.ensures ∙ w.if-is_ahead.false) inv.first);
       }
     ]

@@ -17,7 +17,14 @@ overflow_add-count c =
     let inside : i < length lists = omega arith in
     let is = item_is (left r) lists c.loop-cursor.cursors i x inside c.loop-cursor.invariant.taken c.cursor-item.is in
     let count = c.take-count.ensures.count ∙ ap (had r) (sym c.cursor-item.is ∙ is) in
-    omega (arith, count, sum_by_more_le (had r) lists i x inside, all_had_le r lists, c.loop-cursor.invariant.counted, c.requires.few)
+    omega (
+      arith,
+      count,
+      sum_by_more_le (had r) lists i x inside,
+      all_had_le r lists,
+      c.loop-cursor.invariant.counted,
+      c.requires.few,
+    )
 
 pub loop-cursor-preserved : goal.loop-cursor-preserved
 loop-cursor-preserved c =
@@ -31,8 +38,16 @@ loop-cursor-preserved c =
     let count = c.take-count.ensures.count ∙ ap (had r) (sym c.cursor-item.is ∙ is) in
     record {
       taken =
-          ap (λ (l : List BallotLine). set c.loop-cursor.cursors i l) (c.take-count.ensures.left ∙ ap (left r) (sym c.cursor-item.is))
+          ap (λ (l : List BallotLine). set c.loop-cursor.cursors i l)
+          (c.take-count.ensures.left ∙ ap (left r) (sym c.cursor-item.is))
           ∙ map_over_more (left r) lists c.loop-cursor.cursors i x inside inv.taken c.cursor-item.is;
       counted =
-          omega (arith, inv.counted, count, ap (sum_by (had r)) (take_more lists i x inside), sum_by-append (had r) (take i lists) (get_or lists i x ∷ []), sum_by-cons (had r) (get_or lists i x) []);
+          omega (
+            arith,
+            inv.counted,
+            count,
+            ap (sum_by (had r)) (take_more lists i x inside),
+            sum_by-append (had r) (take i lists) (get_or lists i x ∷ []),
+            sum_by-cons (had r) (get_or lists i x) [],
+          );
     }

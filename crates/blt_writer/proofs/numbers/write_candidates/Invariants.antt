@@ -6,4 +6,5 @@ use Rattle.blt_writer.proofs.numbers.write_candidates.Given as goal
 
 abbrev pub invariant-loop-candidate : goal.invariant-loop-candidate
 invariant-loop-candidate g l =
-    Wrote g.K.Sink.written g.K.Sink.faults l.initial.sink l.sink (flat_map (number_then 32) (take l.candidate-index l.ranking))
+    Wrote g.K.Sink.written g.K.Sink.faults l.initial.sink l.sink
+    (flat_map (number_then 32) (take l.candidate-index l.ranking))

@@ -6,7 +6,8 @@ returns-in_err-write_number g c = stops _ _ c.from_residual.ensures.0 c.in_err-w
 
 pub returns-in_err-write_candidates : goal.returns-in_err-write_candidates
 returns-in_err-write_candidates g c =
-    later _ _ _ c.in_ok-write_number.ensures (stops _ _ c.from_residual-in_err-write_candidates.ensures.0 c.in_err-write_candidates.ensures)
+    later _ _ _ c.in_ok-write_number.ensures
+    (stops _ _ c.from_residual-in_err-write_candidates.ensures.0 c.in_err-write_candidates.ensures)
 
 pub returns : goal.returns
 returns g c = later _ _ _ c.in_ok-write_number.ensures (later _ _ _ c.in_ok-write_candidates.ensures c.write_bytes.ensures)

@@ -1,4 +1,5 @@
-use Rattle.std.proofs.Common.{◌≡◌, ℕ, List, [], take, length, get_or, ◌∷◌, ◌++◌, append_assoc, arith, ap, sym, ◌∙◌, Vec, Global}
+use Rattle.std.proofs.Common.{◌≡◌, ℕ, List, [], take, length, get_or, ◌∷◌, ◌++◌, append_assoc, arith, ap, sym}
+use Rattle.std.proofs.Common.{◌∙◌, Vec, Global}
 use Rattle.std.proofs.lemmas.List.{take_more, take_all}
 use Rattle.blt_writer.proofs.packed.push_ranking.Goals as goal
 
@@ -25,7 +26,8 @@ pub returns-clause-ranks : goal.returns-clause-ranks
 returns-clause-ranks c =
     let candidates = c.args.candidates.now in
     let len = length candidates in
-    let all : take c.loop-candidate.candidate-index candidates ≡ candidates = take_all c.loop-candidate.candidate-index candidates (omega (arith, c.loop-candidate-test.false)) in
+    let all : take c.loop-candidate.candidate-index candidates ≡ candidates =
+    take_all c.loop-candidate.candidate-index candidates (omega (arith, c.loop-candidate-test.false)) in
     let begun : c.push_reserved.new.self.items ≡ c.args.ranks.now.items ++ len ∷ [] = c.push_reserved.ensures.items
     ∙ ap (λ (v : Vec ℕ Global). v.items ++ len ∷ []) c.replace-longer.ensures.value
     ∙ ap (λ (l : List ℕ). l ++ len ∷ []) c.reserve.ensures.items in

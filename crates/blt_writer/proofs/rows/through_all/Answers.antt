@@ -15,5 +15,11 @@ loop-siblings-preserved c =
     let step = siblings_step are.0 c.loop-siblings.siblings.now none are.1 (omega arith) in
     record {
       are = (are.0, subst (λ (l : List PlanRow). l ≡ rows_of are.0 (nodes_of l)) (sym c.split_at.ensures.back) step.behind);
-      missing = omega (arith, c.loop-siblings.invariant.missing, step.goes_through, ap (λ (l : List PlanRow). through (nodes_of l)) c.split_at.ensures.back);
+      missing =
+          omega (
+            arith,
+            c.loop-siblings.invariant.missing,
+            step.goes_through,
+            ap (λ (l : List PlanRow). through (nodes_of l)) c.split_at.ensures.back,
+          );
     }

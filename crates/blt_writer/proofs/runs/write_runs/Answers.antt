@@ -6,14 +6,18 @@ use Rattle.plain_ballots.specs.Ballots.{ballot_count}
 use Rattle.blt_writer.specs.declared.entry.Entry.{Entry}
 use Rattle.blt_writer.specs.Packed.{ranking_at, line_of, entry_lines, IsEntry}
 use Rattle.blt_writer.specs.Text.{ballot_text}
-use Rattle.blt_writer.proofs.ListingLemmas.{IsListing, listing_begun, listing_handed, listing_more, listing_stopped, listing_done, few_of_run, parted, count_of_run, counted_lines}
+use Rattle.blt_writer.proofs.ListingLemmas.{IsListing, listing_begun, listing_handed, listing_more}
+use Rattle.blt_writer.proofs.ListingLemmas.{listing_stopped, listing_done, few_of_run, parted, count_of_run}
+use Rattle.blt_writer.proofs.ListingLemmas.{counted_lines}
 use Rattle.blt_writer.proofs.MergingLemmas.{line}
 use Rattle.blt_writer.proofs.runs.write_runs.Goals as goal
 
 pub loop-rest-init : goal.loop-rest-init
 loop-rest-init g c = record {
   sound = c.requires.sound;
-  so_far = listing_begun _ _ _ _ (entry_lines c.args.ranks.now c.args.entries.now) c.requires.empty c.requires.few (counted_lines c.args.ranks.now c.args.entries.now c.requires.sound) c.requires.listed;
+  so_far =
+      listing_begun _ _ _ _ (entry_lines c.args.ranks.now c.args.entries.now) c.requires.empty c.requires.few
+      (counted_lines c.args.ranks.now c.args.entries.now c.requires.sound) c.requires.listed;
 }
 
 pub count-requires : goal.count-requires
@@ -23,7 +27,10 @@ count-requires g c =
     let first = c.entry_at-first.result in
     let n = c.run_of.result in
     let parts = parted ranks rest n first c.loop-rest-test.true c.entry_at-first.ensures c.run_of.ensures in
-    let few = few_of_run (ranking_at ranks first.start) (line_of ranks first) (entry_lines ranks (drop 1 (take n rest))) (entry_lines ranks (drop n rest)) c.loop-rest.invariant.so_far parts in
+    let few =
+    few_of_run (ranking_at ranks first.start) (line_of ranks first)
+    (entry_lines ranks (drop 1 (take n rest))) (entry_lines ranks (drop n rest))
+    c.loop-rest.invariant.so_far parts in
     let same = count_of_run ranks rest n first c.loop-rest-test.true c.entry_at-first.ensures c.run_of.ensures in
     let front = ap (λ (es : List Entry). sum_by (λ (e : Entry). e.count) es) c.split_at.ensures.front in
     omega (arith, few, same, front)
@@ -47,14 +54,23 @@ loop-rest-preserved g c =
     let counted : c.count.result ≡ ballot_count (line_of ranks first ∷ same) =
     c.count.ensures ∙ (ap (λ (es : List Entry). sum_by (λ (e : Entry). e.count) es) c.split_at.ensures.front
     ∙ count_of_run ranks rest n first c.loop-rest-test.true c.entry_at-first.ensures c.run_of.ensures) in
-    let text = c.add.ensures ∙ ap (λ (l : List ℕ). c.make_room.new.self ++ l) (ap (λ (k : ℕ). ballot_text (line k c.ranking_at.result.now)) counted ∙ ap (λ (q : List ℕ). ballot_text (line (ballot_count (line_of ranks first ∷ same)) q)) c.ranking_at.ensures) in
+    let text =
+    c.add.ensures
+    ∙ ap (λ (l : List ℕ). c.make_room.new.self ++ l) (ap
+    (λ (k : ℕ). ballot_text (line k c.ranking_at.result.now)) counted
+    ∙ ap (λ (q : List ℕ). ballot_text (line (ballot_count (line_of ranks first ∷ same)) q))
+    c.ranking_at.ensures) in
     let more = listing_more r (line_of ranks first) same (entry_lines ranks (drop n rest)) handed parts in
     record {
-      sound = subst (All (IsEntry ranks)) (sym c.split_at.ensures.back) (All-drop (IsEntry ranks) n rest c.loop-rest.invariant.sound);
+      sound =
+          subst (All (IsEntry ranks)) (sym c.split_at.ensures.back)
+          (All-drop (IsEntry ranks) n rest c.loop-rest.invariant.sound);
       so_far =
-          subst (λ (es : List Entry). IsListing w f c.args.sink.now c.make_room.new.sink c.add.new.self (entry_lines ranks c.args.entries.now) (entry_lines ranks es))
+          subst (λ (es : List Entry). IsListing w f c.args.sink.now c.make_room.new.sink c.add.new.self
+          (entry_lines ranks c.args.entries.now) (entry_lines ranks es))
           (sym c.split_at.ensures.back)
-          (subst (λ (p : List ℕ). IsListing w f c.args.sink.now c.make_room.new.sink p (entry_lines ranks c.args.entries.now) (entry_lines ranks (drop n rest))) (sym text) more);
+          (subst (λ (p : List ℕ). IsListing w f c.args.sink.now c.make_room.new.sink p
+          (entry_lines ranks c.args.entries.now) (entry_lines ranks (drop n rest))) (sym text) more);
     }
 
 pub returns-clause-written : goal.returns-clause-written
@@ -70,7 +86,12 @@ add-requires-clause-short g c =
     let ranks = c.args.ranks.now in
     let start = c.entry_at-first.result.start in
     let behind = drop (start + 1) ranks in
-    omega (arith, ap (λ (r : List ℕ). length r) c.ranking_at.ensures, length-take (get_or ranks start 0) behind, c.type_inv.ranks start)
+    omega (
+      arith,
+      ap (λ (r : List ℕ). length r) c.ranking_at.ensures,
+      length-take (get_or ranks start 0) behind,
+      c.type_inv.ranks start,
+    )
 
 pub add-requires-clause-room : goal.add-requires-clause-room
 add-requires-clause-room g c = c.in_ok-make_room.ensures.room
@@ -78,4 +99,10 @@ add-requires-clause-room g c = c.in_ok-make_room.ensures.room
 pub loop-rest-smaller : goal.loop-rest-smaller
 loop-rest-smaller g c =
     let rest = c.loop-rest.rest.now in
-    omega (arith, ap (λ (es : List Entry). length es) c.split_at.ensures.back, length-drop c.run_of.result rest, c.run_of.ensures.some, c.loop-rest-test.true)
+    omega (
+      arith,
+      ap (λ (es : List Entry). length es) c.split_at.ensures.back,
+      length-drop c.run_of.result rest,
+      c.run_of.ensures.some,
+      c.loop-rest-test.true,
+    )

@@ -7,5 +7,11 @@ returns c =
     let is = c.as_bytes.ensures.value ∙ c.format.ensures.text in
     record {
       text = is;
-      short = omega (arith, ap length is, length-decimal-le 3 c.args.n (omega arith) (omega (arith, c.requires)) (omega (arith, c.requires)));
+      short =
+          omega (
+            arith,
+            ap length is,
+            length-decimal-le 3 c.args.n (omega arith) (omega (arith, c.requires))
+                (omega (arith, c.requires)),
+          );
     }

@@ -11,20 +11,27 @@ use Rattle.count_promise.proofs.lines.push_further.Goals as goal
 -- four texts behind one
 behind : (old a b c d : List ℕ) → old ++ a ++ b ++ c ++ d ≡ old ++ (a ++ b ++ c ++ d)
 behind old a b c d =
-    ap (λ (l : List ℕ). l ++ d) (ap (λ (l : List ℕ). l ++ c) (append_assoc old a b) ∙ append_assoc old (a ++ b) c) ∙ append_assoc old (a ++ b ++ c) d
+    ap (λ (l : List ℕ). l ++ d)
+    (ap (λ (l : List ℕ). l ++ c) (append_assoc old a b) ∙ append_assoc old (a ++ b) c)
+    ∙ append_assoc old (a ++ b ++ c) d
 
 pub returns : goal.returns
 returns c =
     let v : SheetList = c.args.values.now in
     let rows : c.items-rows.result.now ≡ v.rows = c.items-rows.ensures ∙ ap (λ (w : SheetList). w.rows) c.values.view_is in
-    let greatest : c.peaks_of-peaks.result.surplus ≡ greatest_surplus v.rows = c.peaks_of-peaks.ensures.surplus ∙ ap greatest_surplus rows in
+    let greatest : c.peaks_of-peaks.result.surplus ≡ greatest_surplus v.rows =
+    c.peaks_of-peaks.ensures.surplus ∙ ap greatest_surplus rows in
     let lack : c.peaks_of-peaks.result.lack ≡ greatest_lack v.rows = c.peaks_of-peaks.ensures.lack ∙ ap greatest_lack rows in
     let left : c.peaks_of-peaks.result.left ≡ slack v.rows = c.peaks_of-peaks.ensures.left ∙ ap slack rows in
     let quota : c.whole_quota-quota.result ≡ whole_quota (scale 9) v.seats v.ballots =
     c.whole_quota-quota.ensures.value ∙ ap (λ (w : SheetList). whole_quota (scale 9) w.seats w.ballots) c.values.view_is in
-    let one = c.in_ok-push_greatest.ensures ∙ (λ i. c.args.text.now ++ ended (greatest_line (first_defeat (greatest i) (rows i)))) in
+    let one =
+    c.in_ok-push_greatest.ensures
+    ∙ (λ i. c.args.text.now ++ ended (greatest_line (first_defeat (greatest i) (rows i)))) in
     let two = c.in_ok-push_amount.ensures ∙ (λ i. one i ++ ended (amount_line (codes "seats lack at most ") (lack i))) in
-    let three = c.in_ok-push_amount-2.ensures ∙ (λ i. two i ++ ended (amount_line (codes "quota of all votes ") (quota i))) in
+    let three =
+    c.in_ok-push_amount-2.ensures
+    ∙ (λ i. two i ++ ended (amount_line (codes "quota of all votes ") (quota i))) in
     let all =
     (λ i. three i ++ ended (promise_line (first_defeat (scale 9) (rows i)) (left i)))
     ∙ behind c.args.text.now (ended (greatest_line (first_defeat (greatest_surplus v.rows) v.rows)))

@@ -17,7 +17,9 @@ returns c =
     let four : List ℕ = three ++ number_line row in
     let five : List ℕ = four ++ codes " candidate " in
     let units = ap (λ (u : ℕ). c.push_bytes.new.self ++ text_of 9 u) c.surplus_of.ensures.value in
-    let loser = ap (λ (k : ℕ). c.push_bytes-3.new.self ++ decimal k) (c.defeated.ensures ∙ ap (λ (r : Row). defeated r.step) c.row.view_is) in
+    let loser =
+    ap (λ (k : ℕ). c.push_bytes-3.new.self ++ decimal k)
+    (c.defeated.ensures ∙ ap (λ (r : Row). defeated r.step) c.row.view_is) in
     let first = c.in_ok-push_bytes.ensures in
     let second = pushed old one (text_of 9 row.surplus) _ _ first (c.in_ok-push_units.ensures ∙ units) in
     let third = pushed old two (codes " ") _ _ second c.in_ok-push_bytes-2.ensures in

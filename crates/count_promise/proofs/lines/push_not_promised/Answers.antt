@@ -17,7 +17,9 @@ returns c =
     let four : List ℕ = three ++ decimal (defeated row.step) in
     let five : List ℕ = four ++ codes " while " in
     let six : List ℕ = five ++ text_of 9 row.surplus in
-    let loser = ap (λ (k : ℕ). c.push_bytes-2.new.self ++ decimal k) (c.defeated.ensures ∙ ap (λ (r : Row). defeated r.step) c.row.view_is) in
+    let loser =
+    ap (λ (k : ℕ). c.push_bytes-2.new.self ++ decimal k)
+    (c.defeated.ensures ∙ ap (λ (r : Row). defeated r.step) c.row.view_is) in
     let units = ap (λ (u : ℕ). c.push_bytes-3.new.self ++ text_of 9 u) c.surplus_of.ensures.value in
     let first = c.in_ok-push_bytes.ensures in
     let second = pushed old one (number_line row) _ _ first c.in_ok-push_number.ensures in
@@ -26,4 +28,5 @@ returns c =
     let fifth = pushed old four (codes " while ") _ _ fourth c.in_ok-push_bytes-3.ensures in
     let sixth = pushed old five (text_of 9 row.surplus) _ _ fifth (c.in_ok-push_units.ensures ∙ units) in
     let seventh = pushed old six (codes " votes of surplus are not passed on") _ _ sixth c.in_ok-push_bytes-4.ensures in
-    pushed_last old (six ++ codes " votes of surplus are not passed on") (10 ∷ []) _ _ c.push_bytes-5.result seventh c.push_bytes-5.ensures
+    pushed_last old (six ++ codes " votes of surplus are not passed on") (10 ∷ []) _ _ c.push_bytes-5.result
+    seventh c.push_bytes-5.ensures

@@ -6,7 +6,8 @@ use Rattle.count_promise.proofs.lots.election_is_by_lot.Goals as goal
 
 pub loop-p-preserved : goal.loop-p-preserved
 loop-p-preserved c =
-    none_more (is_seated_by_lot c.args.row.now) c.loop-p.p c.loop-p.invariant (sym c.is_seated_by_lot.ensures ∙ c.if-is_seated_by_lot.false)
+    none_more (is_seated_by_lot c.args.row.now) c.loop-p.p c.loop-p.invariant
+    (sym c.is_seated_by_lot.ensures ∙ c.if-is_seated_by_lot.false)
 
 pub returns-then-is_seated_by_lot : goal.returns-then-is_seated_by_lot
 returns-then-is_seated_by_lot c =
@@ -17,4 +18,5 @@ returns-then-is_seated_by_lot c =
 pub returns : goal.returns
 returns c =
     let size = ap (λ (row : Row). length row.states) c.row.view_is in
-    sym (any_nowhere (is_seated_by_lot c.args.row.now) (length c.args.row.now.states) (λ q below. c.loop-p.invariant q (omega (arith, size))))
+    sym (any_nowhere (is_seated_by_lot c.args.row.now) (length c.args.row.now.states)
+    (λ q below. c.loop-p.invariant q (omega (arith, size))))

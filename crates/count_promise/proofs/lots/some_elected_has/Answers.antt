@@ -17,4 +17,5 @@ returns-then-elects c =
 pub returns : goal.returns
 returns c =
     let size = ap (λ (row : Row). length row.states) c.row.view_is in
-    sym (any_nowhere (elects c.args.row.now c.args.vote) (length c.args.row.now.states) (λ q below. c.loop-p.invariant q (omega (arith, size))))
+    sym (any_nowhere (elects c.args.row.now c.args.vote) (length c.args.row.now.states)
+    (λ q below. c.loop-p.invariant q (omega (arith, size))))

@@ -5,10 +5,12 @@ use Rattle.count_promise.proofs.measures.first_defeat.Goals as goal
 
 pub returns-then-is_defeat_of : goal.returns-then-is_defeat_of
 returns-then-is_defeat_of c =
-    sym (find_here (is_defeat_of c.args.least) c.args.rows.now c.loop-row.row-index c.row-item.result c.loop-row-test.true c.loop-row.invariant
+    sym (find_here (is_defeat_of c.args.least) c.args.rows.now c.loop-row.row-index c.row-item.result
+    c.loop-row-test.true c.loop-row.invariant
     c.row-item.is (sym c.is_defeat_of.ensures ∙ c.if-is_defeat_of.true))
 
 pub loop-row-preserved : goal.loop-row-preserved
 loop-row-preserved c =
-    find_more (is_defeat_of c.args.least) c.args.rows.now c.loop-row.row-index c.row-item.result c.loop-row-test.true c.loop-row.invariant
+    find_more (is_defeat_of c.args.least) c.args.rows.now c.loop-row.row-index c.row-item.result
+    c.loop-row-test.true c.loop-row.invariant
     c.row-item.is (sym c.is_defeat_of.ensures ∙ c.if-is_defeat_of.false)

@@ -18,7 +18,8 @@ loop-p-preserved c =
     elim c.if-holds_seat.branch [
       | then-holds_seat w ↦
           let yes : holds p ≡ true = sym c.holds_seat.ensures ∙ w.if-holds_seat.true in
-          let value : short p ≡ row.quota - slice_index row.votes p = ap (λ (b : Bool). cond b (row.quota - slice_index row.votes p) 0) yes in
+          let value : short p ≡ row.quota - slice_index row.votes p =
+          ap (λ (b : Bool). cond b (row.quota - slice_index row.votes p) 0) yes in
           let vote : w.units.result ≡ slice_index row.votes p =
           w.units.ensures.value ∙ (w.get.ensures ∙ ap (λ (r : Row). slice_index r.votes p) c.row.view_is) in
           record { lack = omega arith; few = omega arith }

@@ -10,7 +10,8 @@ use Rattle.count_promise.proofs.tool.promise.Goals as goal
 
 pub returns-in-Err : goal.returns-in-Err
 returns-in-Err g c =
-    stopped promises (Some file_limit) (λ asked. refl) (map string_bytes c.args.words.now) c.takes_nothing-asked.result c.in-Err.end
+    stopped promises (Some file_limit) (λ asked. refl) (map string_bytes c.args.words.now)
+    c.takes_nothing-asked.result c.in-Err.end
     (reading g.S.Source.left g.S.Source.faults c.args.source.now c.open.new.source)
     (writing g.K.Sink.written g.K.Sink.faults c.args.sink.now c.open.new.sink)
     sound c.takes_nothing-asked.ensures c.in-Err.ensures.stopped
@@ -18,7 +19,8 @@ returns-in-Err g c =
 pub returns : goal.returns
 returns g c =
     worked_on promises g.K.Sink.written g.K.Sink.faults c.args.sink.now c.open.new.sink c.tell.new.sink
-    (map string_bytes c.args.words.now) c.takes_nothing-asked.result (tt {0}) (tt {0}) c.in-Ok.opened.input.items _ c.tell.result
+    (map string_bytes c.args.words.now) c.takes_nothing-asked.result (tt {0}) (tt {0})
+    c.in-Ok.opened.input.items _ c.tell.result
     (reading g.S.Source.left g.S.Source.faults c.args.source.now c.open.new.source)
     sound c.takes_nothing-asked.ensures c.in-Ok.ensures.asked
     c.in-Ok.ensures.input c.in-Ok.ensures.untouched refl c.as_slice.ensures.value c.tell.ensures

@@ -6,7 +6,10 @@ returns-in_err-write_bytes g c = stops _ _ c.from_residual.ensures.0 c.in_err-wr
 
 pub returns-in_err-write_within_quotes : goal.returns-in_err-write_within_quotes
 returns-in_err-write_within_quotes g c =
-    later _ _ _ c.in_ok-write_bytes.ensures (stops _ _ c.from_residual-in_err-write_within_quotes.ensures.0 c.in_err-write_within_quotes.ensures)
+    later _ _ _ c.in_ok-write_bytes.ensures
+    (stops _ _ c.from_residual-in_err-write_within_quotes.ensures.0 c.in_err-write_within_quotes.ensures)
 
 pub returns : goal.returns
-returns g c = later _ _ _ c.in_ok-write_bytes.ensures (later _ _ _ c.in_ok-write_within_quotes.ensures c.write_bytes-2.ensures)
+returns g c =
+    later _ _ _ c.in_ok-write_bytes.ensures
+    (later _ _ _ c.in_ok-write_within_quotes.ensures c.write_bytes-2.ensures)

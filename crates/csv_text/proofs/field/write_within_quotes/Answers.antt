@@ -11,13 +11,16 @@ loop-byte-init g c = wrote_nothing _ _ _
 
 pub loop-byte-preserved : goal.loop-byte-preserved
 loop-byte-preserved g c =
-    wrote_more within_quotes c.args.field.now c.loop-byte.byte-index 0 c.loop-byte-test.true c.loop-byte.invariant c.in_ok-write_byte.ensures
+    wrote_more within_quotes c.args.field.now c.loop-byte.byte-index 0 c.loop-byte-test.true
+    c.loop-byte.invariant c.in_ok-write_byte.ensures
 
 pub returns-in_err-write_byte : goal.returns-in_err-write_byte
 returns-in_err-write_byte g c =
-    stopped_at within_quotes c.args.field.now c.loop-byte.byte-index 0 _ c.from_residual.ensures.0 c.loop-byte-test.true c.loop-byte.invariant c.in_err-write_byte.ensures
+    stopped_at within_quotes c.args.field.now c.loop-byte.byte-index 0 _ c.from_residual.ensures.0
+    c.loop-byte-test.true c.loop-byte.invariant c.in_err-write_byte.ensures
 
 pub returns : goal.returns
 returns g c =
-    subst (λ (front : List ℕ). Wrote g.K.Sink.written g.K.Sink.faults c.args.sink.now c.loop-byte.sink (flat_map within_quotes front))
+    subst (λ (front : List ℕ). Wrote g.K.Sink.written g.K.Sink.faults c.args.sink.now c.loop-byte.sink
+    (flat_map within_quotes front))
     (take_all c.loop-byte.byte-index c.args.field.now c.loop-byte-test.false) c.loop-byte.invariant

@@ -12,13 +12,16 @@ loop-field-init g c = wrote_nothing _ _ _
 
 pub loop-field-preserved : goal.loop-field-preserved
 loop-field-preserved g c =
-    wrote_more (λ f. behind_comma f.now) c.args.fields.now c.loop-field.field-index _ c.loop-field-test.true c.loop-field.invariant c.in_ok-write_other.ensures
+    wrote_more (λ f. behind_comma f.now) c.args.fields.now c.loop-field.field-index _ c.loop-field-test.true
+    c.loop-field.invariant c.in_ok-write_other.ensures
 
 pub returns-in_err-write_other : goal.returns-in_err-write_other
 returns-in_err-write_other g c =
-    stopped_at (λ f. behind_comma f.now) c.args.fields.now c.loop-field.field-index _ c.from_residual.result c.from_residual.ensures.0 c.loop-field-test.true c.loop-field.invariant c.in_err-write_other.ensures
+    stopped_at (λ f. behind_comma f.now) c.args.fields.now c.loop-field.field-index _ c.from_residual.result
+    c.from_residual.ensures.0 c.loop-field-test.true c.loop-field.invariant c.in_err-write_other.ensures
 
 pub returns : goal.returns
 returns g c =
-    subst (λ (front : List (Bor (List ℕ))). Wrote g.K.Sink.written g.K.Sink.faults c.args.sink.now c.loop-field.sink (flat_map (λ f. behind_comma f.now) front))
+    subst (λ (front : List (Bor (List ℕ))). Wrote g.K.Sink.written g.K.Sink.faults c.args.sink.now
+    c.loop-field.sink (flat_map (λ f. behind_comma f.now) front))
     (take_all c.loop-field.field-index c.args.fields.now c.loop-field-test.false) c.loop-field.invariant

@@ -6,4 +6,5 @@ use Rattle.csv_text.proofs.record.write_others.Given as goal
 
 abbrev pub invariant-loop-field : goal.invariant-loop-field
 invariant-loop-field g l =
-    Wrote g.K.Sink.written g.K.Sink.faults l.initial.sink l.sink (flat_map (λ field. behind_comma field.now) (take l.field-index l.fields))
+    Wrote g.K.Sink.written g.K.Sink.faults l.initial.sink l.sink
+    (flat_map (λ field. behind_comma field.now) (take l.field-index l.fields))

@@ -32,5 +32,6 @@ returns-in-Freeze-clause-reads c =
 pub returns-in_default-clause-reads : goal.returns-in_default-clause-reads
 returns-in_default-clause-reads c =
     λ before script counts. rw c.refused.ensures
-    (no_word c.args.candidates before script _ _ c.args.keyword c.args.at refl c.in_default.not-Enter c.in_default.not-Correct
+    (no_word c.args.candidates before script _ _ c.args.keyword c.args.at refl c.in_default.not-Enter
+    c.in_default.not-Correct
     c.in_default.not-Withdraw c.in_default.not-Strike c.in_default.not-Freeze c.requires)

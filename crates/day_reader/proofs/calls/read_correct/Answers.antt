@@ -1,7 +1,8 @@
 use Rattle.std.proofs.Common.{◌∙◌}
 use Rattle.std.proofs.lemmas.Result.{err_from_is_err_and}
 use Rattle.input_text.proofs.Reading.{behind_trans}
-use Rattle.day_reader.proofs.CallSteps.{correct_stops, correct_batch, correct_revision_stops, correct_revision, correcting_fails, correcting_read}
+use Rattle.day_reader.proofs.CallSteps.{correct_stops, correct_batch, correct_revision_stops}
+use Rattle.day_reader.proofs.CallSteps.{correct_revision, correcting_fails, correcting_read}
 use Rattle.day_reader.proofs.calls.read_correct.Goals as goal
 
 pub returns-in_err-batch-clause-reads : goal.returns-in_err-batch-clause-reads
@@ -21,7 +22,8 @@ returns-in_err-ballots-clause-reads c =
     let so_far =
     correct_batch c.args.candidates _ _ c.in_ok-batch.batch c.in_ok-batch.ensures.number
     ∙ correct_revision c.args.candidates _ _ c.in_ok-batch.batch c.in_ok-revision.revision c.in_ok-revision.ensures.number in
-    rw (p.1, p.2) (correcting_fails c.args.candidates _ _ c.in_ok-batch.batch c.in_ok-revision.revision _ _ so_far c.in_err-ballots.ensures.reads)
+    rw (p.1, p.2) (correcting_fails c.args.candidates _ _ c.in_ok-batch.batch c.in_ok-revision.revision _ _
+    so_far c.in_err-ballots.ensures.reads)
 
 pub returns-clause-reads : goal.returns-clause-reads
 returns-clause-reads c =
@@ -42,4 +44,6 @@ returns-in_err-ballots-clause-behind c =
     behind_trans c.in_ok-batch.ensures.behind (behind_trans c.in_ok-revision.ensures.behind c.in_err-ballots.ensures.behind)
 
 pub returns-clause-behind : goal.returns-clause-behind
-returns-clause-behind c = behind_trans c.in_ok-batch.ensures.behind (behind_trans c.in_ok-revision.ensures.behind c.in_ok-ballots.ensures.behind)
+returns-clause-behind c =
+    behind_trans c.in_ok-batch.ensures.behind
+    (behind_trans c.in_ok-revision.ensures.behind c.in_ok-ballots.ensures.behind)

@@ -24,4 +24,5 @@ returns-in_err-read_nothing c =
 pub returns : goal.returns
 returns c =
     let text : c.new-tokens.result.rest ≡ scan c.args.bytes.now true = ap (λ (r : Reader). r.rest) c.new-tokens.ensures in
-    subst (λ (s : Scan). SaysDay (said_by s) (Ok c.in_ok-day.day)) text (says_all _ _ c.in_ok-day.day c.in_ok-day.ensures.reads c.in_ok-read_nothing.ensures)
+    subst (λ (s : Scan). SaysDay (said_by s) (Ok c.in_ok-day.day)) text
+    (says_all _ _ c.in_ok-day.day c.in_ok-day.ensures.reads c.in_ok-read_nothing.ensures)

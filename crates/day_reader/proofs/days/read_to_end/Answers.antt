@@ -16,7 +16,8 @@ returns-in_err-lots-clause-reads c =
     let roll = c.in_ok-roll.field-0.roll in
     rw (p.1, p.2) (goes_on_to _ (BehindTitle roll) _ c.read_order.new.tokens.rest (Err c.in_err-lots.field-0.0)
     (roll_read _ c.in_ok-roll.field-0 _ c.in_ok-roll.ensures.reads)
-    (leads_to_none (BehindTitle roll) _ _ c.in_err-lots.field-0.0 _ (c.in_err-lots.ensures.reads roll (sym c.candidates.ensures.value))))
+    (leads_to_none (BehindTitle roll) _ _ c.in_err-lots.field-0.0 _
+    (c.in_err-lots.ensures.reads roll (sym c.candidates.ensures.value))))
 
 pub returns-in_err-lots-clause-behind : goal.returns-in_err-lots-clause-behind
 returns-in_err-lots-clause-behind c = behind_trans c.in_ok-roll.ensures.behind c.in_err-lots.ensures.behind
@@ -30,4 +31,6 @@ returns-clause-reads c =
     ∙ c.in_ok-lots.ensures.reads roll (sym c.candidates.ensures.value)) c.read_behind_lots.ensures.reads
 
 pub returns-clause-behind : goal.returns-clause-behind
-returns-clause-behind c = behind_trans c.in_ok-roll.ensures.behind (behind_trans c.in_ok-lots.ensures.behind c.read_behind_lots.ensures.behind)
+returns-clause-behind c =
+    behind_trans c.in_ok-roll.ensures.behind
+    (behind_trans c.in_ok-lots.ensures.behind c.read_behind_lots.ensures.behind)

@@ -17,7 +17,8 @@ loop-token-preserved c =
     let token = c.in_ok-token.token in
     record {
       same =
-          λ roll. c.loop-token.invariant.same roll ∙ string_passed roll _ _ c.loop-token.tokens.bytes token.at token.at token.stop
+          λ roll. c.loop-token.invariant.same roll
+          ∙ string_passed roll _ _ c.loop-token.tokens.bytes token.at token.at token.stop
           token.what c.in_ok-token.ensures.token c.in-Text.is;
       behind = behind_trans c.loop-token.invariant.behind c.in_ok-token.ensures.behind;
     }

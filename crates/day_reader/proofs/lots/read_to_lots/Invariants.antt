@@ -8,7 +8,9 @@ use Rattle.day_reader.proofs.lots.read_to_lots.Given as goal
 abbrev pub invariant-loop-token : goal.invariant-loop-token
 invariant-loop-token l = record {
   same :
-      (roll : RollList) → reads at_token (BehindTitle roll) l.fn.tokens.rest ≡ reads at_token (BehindTitle roll) l.tokens.rest;
+      (roll : RollList)
+      → reads at_token (BehindTitle roll) l.fn.tokens.rest
+      ≡ reads at_token (BehindTitle roll) l.tokens.rest;
   behind : IsBehind l.fn.tokens l.tokens;
 }
 

@@ -2,7 +2,8 @@ use Rattle.std.proofs.Common.{refl}
 use Rattle.std.specs.Prelude.{None}
 use Rattle.std.proofs.lemmas.Result.{err_from_is_err_and}
 use Rattle.day_reader.specs.DayTable.{BehindLots, behind_lots}
-use Rattle.day_reader.proofs.HeadSteps.{lots_end_stops, not_places, head_leads, head_fails, behind_the_lots, reads_scale_part}
+use Rattle.day_reader.proofs.HeadSteps.{lots_end_stops, not_places, head_leads, head_fails, behind_the_lots}
+use Rattle.day_reader.proofs.HeadSteps.{reads_scale_part}
 use Rattle.day_reader.proofs.scale.read_scale.Goals as goal
 
 pub returns-in_err-keyword-clause-reads : goal.returns-in_err-keyword-clause-reads
@@ -17,7 +18,9 @@ returns-in-Places-clause-reads c =
 
 pub returns-in_err-begins_team-in_default-clause-reads : goal.returns-in_err-begins_team-in_default-clause-reads
 returns-in_err-begins_team-in_default-clause-reads c =
-    let p = err_from_is_err_and c.from_residual-in_err-begins_team-in_default.result c.from_residual-in_err-begins_team-in_default.ensures.1 in
+    let p =
+    err_from_is_err_and c.from_residual-in_err-begins_team-in_default.result
+    c.from_residual-in_err-begins_team-in_default.ensures.1 in
     rw (p.1, p.2) (λ roll lots. head_fails (BehindLots roll lots) (record { roll = roll; lots = lots; scale = None })
     (behind_lots roll lots) _ _ c.in_ok-keyword.at c.in_ok-keyword.keyword _ (
       behind_the_lots roll lots c.in_ok-keyword.keyword,

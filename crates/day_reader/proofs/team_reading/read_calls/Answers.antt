@@ -15,7 +15,9 @@ use Rattle.day_reader.proofs.team_reading.read_calls.Goals as goal
 pub returns-in_err-keyword-clause-reads : goal.returns-in_err-keyword-clause-reads
 returns-in_err-keyword-clause-reads c =
     let p = err_from_is_err_and c.from_residual.result c.from_residual.ensures.1 in
-    rw (p.1, p.2) (c.loop-keyword.invariant.same ∙ team_stops c.args.candidates c.args.before.now c.loop-keyword.script _ _ _ c.in_err-keyword.ensures.fault)
+    rw (p.1, p.2) (c.loop-keyword.invariant.same
+    ∙ team_stops c.args.candidates c.args.before.now c.loop-keyword.script _ _ _
+    c.in_err-keyword.ensures.fault)
 
 pub returns-then-len-clause-reads : goal.returns-then-len-clause-reads
 returns-then-len-clause-reads c =
@@ -34,7 +36,8 @@ returns-in-Team-clause-reads c =
 
 pub returns-in-End-clause-reads : goal.returns-in-End-clause-reads
 returns-in-End-clause-reads c =
-    c.loop-keyword.invariant.same ∙ end_word c.args.candidates c.args.before.now c.loop-keyword.script _ _ c.in_ok-keyword.keyword
+    c.loop-keyword.invariant.same
+    ∙ end_word c.args.candidates c.args.before.now c.loop-keyword.script _ _ c.in_ok-keyword.keyword
     c.in_ok-keyword.at c.in_ok-keyword.ensures.keyword c.in-End.is
 
 pub returns-in_err-add_call-clause-reads : goal.returns-in_err-add_call-clause-reads
@@ -53,7 +56,8 @@ loop-keyword-preserved c =
       same = before.same
           ∙ ap (λ (s : Scan). reads table (InTeam teams script) s) c.in_ok-keyword.ensures.keyword
           ∙ c.in_ok-call.ensures.reads teams script (sym before.counted)
-          ∙ ap (λ (s : Script). reads table (InTeam teams s) c.read_call.new.tokens.rest) (sym c.in_ok-add_call.ensures.added);
+          ∙ ap (λ (s : Script). reads table (InTeam teams s) c.read_call.new.tokens.rest)
+          (sym c.in_ok-add_call.ensures.added);
       counted =
           c.in_ok-call.ensures.counted ∙ ap (λ (n : ℕ). n + one_if (is_freeze call)) before.counted
           ∙ sym (freezes_call teams script call) ∙ ap (λ (s : Script). freezes (and_team teams s))
@@ -75,10 +79,14 @@ pub returns-in-End-clause-behind : goal.returns-in-End-clause-behind
 returns-in-End-clause-behind c = behind_trans c.loop-keyword.invariant.behind c.in_ok-keyword.ensures.behind
 
 pub returns-in_err-call-clause-behind : goal.returns-in_err-call-clause-behind
-returns-in_err-call-clause-behind c = behind_trans c.loop-keyword.invariant.behind (behind_trans c.in_ok-keyword.ensures.behind c.in_err-call.ensures.behind)
+returns-in_err-call-clause-behind c =
+    behind_trans c.loop-keyword.invariant.behind
+    (behind_trans c.in_ok-keyword.ensures.behind c.in_err-call.ensures.behind)
 
 pub returns-in_err-add_call-clause-behind : goal.returns-in_err-add_call-clause-behind
-returns-in_err-add_call-clause-behind c = behind_trans c.loop-keyword.invariant.behind (behind_trans c.in_ok-keyword.ensures.behind c.in_ok-call.ensures.behind)
+returns-in_err-add_call-clause-behind c =
+    behind_trans c.loop-keyword.invariant.behind
+    (behind_trans c.in_ok-keyword.ensures.behind c.in_ok-call.ensures.behind)
 
 pub loop-keyword-smaller : goal.loop-keyword-smaller
 loop-keyword-smaller c =
@@ -92,4 +100,5 @@ returns-in_err-call-clause-reads c =
     let begun =
     before.same ∙ ap (λ (s : Scan). reads (at_teams c.args.candidates) (InTeam c.args.before.now c.loop-keyword.script) s)
     c.in_ok-keyword.ensures.keyword in
-    rw (p.1, p.2) (leads_fail _ _ begun _ _ _ _ (c.in_err-call.ensures.reads c.args.before.now c.loop-keyword.script (sym before.counted)))
+    rw (p.1, p.2) (leads_fail _ _ begun _ _ _ _
+    (c.in_err-call.ensures.reads c.args.before.now c.loop-keyword.script (sym before.counted)))

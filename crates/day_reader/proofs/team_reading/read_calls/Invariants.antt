@@ -7,7 +7,8 @@ use Rattle.day_reader.proofs.team_reading.read_calls.Given as goal
 
 abbrev pub invariant-loop-keyword : goal.invariant-loop-keyword
 invariant-loop-keyword l = record {
-  same : reads (at_teams l.candidates) (InTeam l.before l.fn.script) l.fn.tokens.rest ≡ reads (at_teams l.candidates) (InTeam l.before l.script) l.tokens.rest;
+  same : reads (at_teams l.candidates) (InTeam l.before l.fn.script) l.fn.tokens.rest
+      ≡ reads (at_teams l.candidates) (InTeam l.before l.script) l.tokens.rest;
   counted : l.frozen ≡ freezes (and_team l.before l.script);
   team : l.script.team ≡ l.fn.script.team;
   behind : IsBehind l.fn.tokens l.tokens;

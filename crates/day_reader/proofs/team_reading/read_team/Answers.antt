@@ -31,7 +31,8 @@ returns-clause-reads c =
     (InTeam c.args.teams.now (record { team = c.in_ok-team.team; calls = l })) c.read_number.new.tokens.rest)
     (sym c.new.ensures)
     ∙ c.in_ok-more.ensures.reads
-    ∙ ap (λ (l : List Script). next_team c.args.candidates l c.in_ok-more.more c.read_calls.new.tokens.rest) (sym c.in_ok-push.ensures.ok)
+    ∙ ap (λ (l : List Script). next_team c.args.candidates l c.in_ok-more.more c.read_calls.new.tokens.rest)
+    (sym c.in_ok-push.ensures.ok)
 
 pub returns-in_err-team-clause-behind : goal.returns-in_err-team-clause-behind
 returns-in_err-team-clause-behind c = c.in_err-team.ensures.behind

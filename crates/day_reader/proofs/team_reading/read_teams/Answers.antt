@@ -8,7 +8,10 @@ use Rattle.day_reader.proofs.team_reading.read_teams.Goals as goal
 pub returns-in_err-more-clause-reads : goal.returns-in_err-more-clause-reads
 returns-in_err-more-clause-reads c =
     let p = err_from_is_err_and c.from_residual.result c.from_residual.ensures.1 in
-    let begun = c.loop-more.invariant.same ∙ ap (λ (b : Bool). next_team c.args.candidates c.loop-more.teams b c.loop-more.tokens.rest) c.loop-more-test.true in
+    let begun =
+    c.loop-more.invariant.same
+    ∙ ap (λ (b : Bool). next_team c.args.candidates c.loop-more.teams b c.loop-more.tokens.rest)
+    c.loop-more-test.true in
     rw (p.1, p.2) (leads_fail _ _ begun _ _ _ _ c.in_err-more.ensures.reads)
 
 pub loop-more-preserved : goal.loop-more-preserved

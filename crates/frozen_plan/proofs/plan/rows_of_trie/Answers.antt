@@ -17,7 +17,12 @@ push_forest-requires-clause-grown c =
 pub push_forest-requires-clause-few : goal.push_forest-requires-clause-few
 push_forest-requires-clause-few c =
     let t = c.args.trie.now in
-    omega (arith, all_ballots t (count_of [] t.ballots) c.forest.result.now c.forest.ensures.ballots, c.total.ensures.total, c.total.ensures.few)
+    omega (
+      arith,
+      all_ballots t (count_of [] t.ballots) c.forest.result.now c.forest.ensures.ballots,
+      c.total.ensures.total,
+      c.total.ensures.few,
+    )
 
 pub returns : goal.returns
 returns c =
@@ -30,11 +35,16 @@ returns c =
     let root : (n k : ℕ) → PlanRow = λ n k. record { depth = 0; candidate = 0; ballots = n; skip = k } in
     let items : now ≡ first ∷ below =
     c.in_ok-push_forest.ensures.rows
-    ∙ ap (λ (l : List PlanRow). l ++ below) (c.in_ok-append.ensures ∙ ap (λ (l : List PlanRow). l ++ first ∷ []) c.in-Ok.ensures.items) in
-    let size : c.len.result ≡ length below + 1 = omega (arith, c.push_forest.new.rows.ok.0, c.len.ensures, ap length items) in
-    let count : c.total.result ≡ ends + through (shape_of f) = c.total.ensures.total ∙ all_ballots t ends f c.forest.ensures.ballots in
+    ∙ ap (λ (l : List PlanRow). l ++ below)
+    (c.in_ok-append.ensures ∙ ap (λ (l : List PlanRow). l ++ first ∷ []) c.in-Ok.ensures.items) in
+    let size : c.len.result ≡ length below + 1 =
+    omega (arith, c.push_forest.new.rows.ok.0, c.len.ensures, ap length items) in
+    let count : c.total.result ≡ ends + through (shape_of f) =
+    c.total.ensures.total ∙ all_ballots t ends f c.forest.ensures.ballots in
     let few : length t.ballots ≤ 999999999 = omega (arith, c.total.ensures.total, c.total.ensures.few) in
     let same : set now 0 (root c.total.result c.len.result) ≡ plan_rows ends (shape_of f) =
     ap (λ (l : List PlanRow). set l 0 (root c.total.result c.len.result)) items
-    ∙ (ap (λ (n : ℕ). root n c.len.result ∷ below) count ∙ ap (λ (k : ℕ). root (ends + through (shape_of f)) k ∷ below) size) in
-    subst (AreRowsOf t) (sym same) (rows_of_trie t ends f c.requires few c.forest.ensures.ballots c.forest.ensures.rising c.forest.ensures.within)
+    ∙ (ap (λ (n : ℕ). root n c.len.result ∷ below) count
+    ∙ ap (λ (k : ℕ). root (ends + through (shape_of f)) k ∷ below) size) in
+    subst (AreRowsOf t) (sym same) (rows_of_trie t ends f c.requires few c.forest.ensures.ballots
+    c.forest.ensures.rising c.forest.ensures.within)

@@ -33,7 +33,8 @@ pub loop-n-preserved : goal.loop-n-preserved
 loop-n-preserved c =
     let n = c.loop-n.n in
     let d = get_or c.args.bytes.now n 0 - 48 in
-    let digit : is_ascii_digit (get_or c.args.bytes.now n 0) ≡ true = sym c.is_ascii_digit.ensures.value ∙ c.if-not-is_ascii_digit.false in
+    let digit : is_ascii_digit (get_or c.args.bytes.now n 0) ≡ true =
+    sym c.is_ascii_digit.ensures.value ∙ c.if-not-is_ascii_digit.false in
     record {
       so_far =
           c.saturating_add-value.ensures ∙ ap (λ (m : ℕ). min (m + d) 4294967295) c.saturating_mul.ensures

@@ -5,7 +5,8 @@ use Rattle.input_text.specs.Scan.{is_separator}
 use Rattle.input_text.specs.ShortNumber.{IsShortNumber}
 use Rattle.input_text.proofs.ShortNumbers.{three_of, digit_at, ends_behind}
 use Rattle.input_text.proofs.short_number.number_of_three.Goals as goal
-use Rattle.input_text.proofs.short_number.number_of_three.Goals.{else-first-lt10-via-then-first-lt10+else-is_separator, else-first-lt10-via-else-first-lt10}
+use Rattle.input_text.proofs.short_number.number_of_three.Goals.{else-first-lt10-via-then-first-lt10+else-is_separator}
+use Rattle.input_text.proofs.short_number.number_of_three.Goals.{else-first-lt10-via-else-first-lt10}
 
 pub returns-then-is_separator-clause-found : goal.returns-then-is_separator-clause-found
 returns-then-is_separator-clause-found c =

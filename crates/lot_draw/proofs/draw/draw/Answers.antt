@@ -26,13 +26,15 @@ loop-drawn-preserved c =
     let so_far = c.loop-drawn.invariant.so_far in
     let count = c.loop-drawn.invariant.count in
     let below : p < length left = omega (arith, c.place_among-place.ensures.below, so_far.as_many, count) in
-    let is : p ≡ drawn_place seed (n - length order) = c.place_among-place.ensures.place ∙ ap (λ (k : ℕ). drawn_place seed (n - k)) (sym count) in
+    let is : p ≡ drawn_place seed (n - length order) =
+    c.place_among-place.ensures.place ∙ ap (λ (k : ℕ). drawn_place seed (n - k)) (sym count) in
     let candidate = c.remove-candidate.ensures.value ∙ sym (get_or_default left p 0 c.remove-candidate.result below) in
     record {
       so_far =
           subst (λ (o : List ℕ). IsDrawnSoFar seed n o c.remove-candidate.new.self.items)
           (sym (c.in_ok-push.ensures.items ∙ ap (λ (x : ℕ). order ++ x ∷ []) candidate))
-          (subst (λ (l : List ℕ). IsDrawnSoFar seed n (order ++ get_or left p 0 ∷ []) l) (sym c.remove-candidate.ensures.items)
+          (subst (λ (l : List ℕ). IsDrawnSoFar seed n (order ++ get_or left p 0 ∷ []) l)
+          (sym c.remove-candidate.ensures.items)
           (so_far-more seed n order left p so_far is below));
       count = omega (arith, c.in_ok-push.ensures.len, count);
     }

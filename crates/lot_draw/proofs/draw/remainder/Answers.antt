@@ -9,6 +9,9 @@ loop-byte-preserved c =
     let m : ℕ = c.args.modulus in
     let byte : c.from.result ≡ get_or bytes i 0 = c.from.ensures in
     record {
-      value = ap (λ (b : ℕ). (c.loop-byte.rest * 256 + b) % m) byte ∙ remainder-more bytes i m c.loop-byte.rest c.loop-byte-test.true c.requires.some c.loop-byte.invariant.value;
+      value =
+          ap (λ (b : ℕ). (c.loop-byte.rest * 256 + b) % m) byte
+          ∙ remainder-more bytes i m c.loop-byte.rest c.loop-byte-test.true c.requires.some
+          c.loop-byte.invariant.value;
       below = omega (arith, c.requires.some);
     }

@@ -9,7 +9,8 @@ pub push_drawn-requires-clause-numbers : goal.push_drawn-requires-clause-numbers
 push_drawn-requires-clause-numbers g c = order-numbers _ (subst IsOrder (sym c.as_slice.ensures.value) c.in-Ok.ensures.order)
 
 pub push_drawn-requires-clause-few : goal.push_drawn-requires-clause-few
-push_drawn-requires-clause-few g c = subst (λ (order : List ℕ). length order ≤ 250) (sym c.as_slice.ensures.value) c.in-Ok.ensures.order.few
+push_drawn-requires-clause-few g c =
+    subst (λ (order : List ℕ). length order ≤ 250) (sym c.as_slice.ensures.value) c.in-Ok.ensures.order.few
 
 pub returns-in-Ok : goal.returns-in-Ok
 returns-in-Ok g c =

@@ -14,8 +14,11 @@ loop-i-preserved c =
     let number : here - 1 + 1 ≡ here = omega arith in
     let inside : here - 1 < length c.loop-i.seen = omega arith in
     let new : ¬ (Contains before here) =
-    λ found. c.loop-i.invariant.marks.unmarked (here - 1) inside c.if-seen-c.false (subst (Contains before) (sym number) found) in
+    λ found. c.loop-i.invariant.marks.unmarked (here - 1) inside c.if-seen-c.false
+    (subst (Contains before) (sym number) found) in
     record {
       sound = AreLots-more _ _ _ c.loop-i.invariant.sound c.loop-i-test.true some c.if-c-candidates.false new;
-      marks = rw (take_more order c.loop-i.i 0 c.loop-i-test.true) (Sees-more _ before here c.loop-i.invariant.marks some few c.if-seen-c.false);
+      marks =
+          rw (take_more order c.loop-i.i 0 c.loop-i-test.true)
+          (Sees-more _ before here c.loop-i.invariant.marks some few c.if-seen-c.false);
     }

@@ -14,7 +14,9 @@ use Rattle.meek_cli.proofs.counting.count.Goals as goal
 
 pub returns-in-Err : goal.returns-in-Err
 returns-in-Err g c =
-    let read = subst (λ (i : List ℕ). ReadsContest c.args.lots.now i (Err c.in-Err.stop)) c.as_slice.ensures.value c.in-Err.ensures in
+    let read =
+    subst (λ (i : List ℕ). ReadsContest c.args.lots.now i (Err c.in-Err.stop)) c.as_slice.ensures.value
+    c.in-Err.ensures in
     refused meek (Count c.args.lots.now) c.args.input.items c.in-Err.stop c.refuse_input.result
     (writing g.K.Sink.written g.K.Sink.faults c.args.sink.now c.refuse_input.new.sink) refl c.requires
     (λ fault is. subst (λ (stop : InputStop). ReadsContest c.args.lots.now c.args.input.items (Err stop)) is read)
@@ -28,4 +30,5 @@ returns g c =
     let sink = writing g.K.Sink.written g.K.Sink.faults c.args.sink.now c.count_in_lanes.new.sink in
     counted c.args.lots.now c.args.input.items file c.count_in_lanes.result sink c.requires
     (subst (λ (i : List ℕ). SaysContest c.args.lots.now i file) c.as_slice.ensures.value of.says)
-    (subst (λ (l : List ℕ). WritesCount file.roll l (plain file.lines) c.count_in_lanes.result sink) of.lots_are c.count_in_lanes.ensures)
+    (subst (λ (l : List ℕ). WritesCount file.roll l (plain file.lines) c.count_in_lanes.result sink)
+    of.lots_are c.count_in_lanes.ensures)

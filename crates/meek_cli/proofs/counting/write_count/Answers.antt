@@ -14,5 +14,14 @@ returns g c =
     } in
     let w = g.K.Sink.written in
     let f = g.K.Sink.faults in
-    let wrote = wrote_sheet w f c.args.sink.now c.write_sheet-wrote.new.sink c.args.roll.now c.args.lots.now (g.D.Spread.ballots c.args.spread.now) c.in-Ok.count c.write_sheet-wrote.result of c.write_sheet-wrote.ensures.all c.write_sheet-wrote.ensures.front c.write_sheet-wrote.ensures.faults in
-    inr (wrote.0, wrote.1, closed w f c.args.sink.now c.write_sheet-wrote.new.sink c.close.new.sink wrote.0 c.write_sheet-wrote.result c.close.result wrote.2 c.close.ensures)
+    let wrote =
+    wrote_sheet w f c.args.sink.now c.write_sheet-wrote.new.sink c.args.roll.now c.args.lots.now
+    (g.D.Spread.ballots c.args.spread.now) c.in-Ok.count c.write_sheet-wrote.result of
+    c.write_sheet-wrote.ensures.all c.write_sheet-wrote.ensures.front
+    c.write_sheet-wrote.ensures.faults in
+    inr (
+      wrote.0,
+      wrote.1,
+      closed w f c.args.sink.now c.write_sheet-wrote.new.sink c.close.new.sink wrote.0
+          c.write_sheet-wrote.result c.close.result wrote.2 c.close.ensures,
+    )

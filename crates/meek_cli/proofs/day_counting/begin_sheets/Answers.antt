@@ -9,12 +9,21 @@ use Rattle.meek_cli.proofs.day_counting.begin_sheets.Goals as goal
 pub loop-head-preserved : goal.loop-head-preserved
 loop-head-preserved g c =
     let items : c.push.new.self.items ≡ c.loop-head.dues.items ++ c.in_ok-due.due ∷ [] =
-    c.push.ensures.items ∙ ap (λ (ok : Bool). cond ok (c.loop-head.dues.items ++ c.in_ok-due.due ∷ []) c.loop-head.dues.items) (c.is_err-in-loop-head-2.ensures.negation ∙ ap not c.if-is_err.false) in
+    c.push.ensures.items
+    ∙ ap (λ (ok : Bool). cond ok (c.loop-head.dues.items ++ c.in_ok-due.due ∷ []) c.loop-head.dues.items)
+    (c.is_err-in-loop-head-2.ensures.negation ∙ ap not c.if-is_err.false) in
     let all = dues_of c.args.omega c.args.lots.now c.args.heads.now (map g.D.Spread.ballots c.args.spreads.now) in
-    let more = begun_more g.D.Spread.ballots g.D.Spread.candidates g.D.Spread.can_spread g.row.P c.args.omega c.args.lots.now c.loop-head.invariant.2 c.in-Some.head.now _ c.in-Some.spread.now _ c.in_ok-due.due c.in-Some.ensures.steps.0 c.in-Some.ensures.steps.1 c.in_ok-due.ensures.due c.in_ok-due.ensures.sheet in (
+    let more =
+    begun_more g.D.Spread.ballots g.D.Spread.candidates g.D.Spread.can_spread g.row.P c.args.omega
+    c.args.lots.now c.loop-head.invariant.2 c.in-Some.head.now _ c.in-Some.spread.now _ c.in_ok-due.due
+    c.in-Some.ensures.steps.0 c.in-Some.ensures.steps.1 c.in_ok-due.ensures.due
+    c.in_ok-due.ensures.sheet in (
       (tt, tt),
       tt,
-      subst (λ (begun : List SheetDue). IsBeginning g.D.Spread.ballots g.D.Spread.candidates g.D.Spread.can_spread g.row.P c.args.omega c.args.lots.now all begun (iter_rest (zip_first c.next.new.self)) (iter_mut_rest (zip_second c.next.new.self))) (sym items) more,
+      subst (λ (begun : List SheetDue). IsBeginning g.D.Spread.ballots g.D.Spread.candidates
+          g.D.Spread.can_spread g.row.P c.args.omega c.args.lots.now all begun
+          (iter_rest (zip_first c.next.new.self)) (iter_mut_rest (zip_second c.next.new.self))) (sym items)
+          more,
     )
 
 pub returns-clause-due : goal.returns-clause-due
@@ -26,4 +35,5 @@ returns-clause-due g c =
     (λ first. inl (nil_from_length heads first.1.0))
     (λ second. inr (nil_from_length spreads second.1.0))
     c.in-None.ensures.steps in
-    begun_all g.D.Spread.ballots g.D.Spread.candidates g.D.Spread.can_spread g.row.P c.args.omega c.args.lots.now c.loop-head.invariant.2 left
+    begun_all g.D.Spread.ballots g.D.Spread.candidates g.D.Spread.can_spread g.row.P c.args.omega
+    c.args.lots.now c.loop-head.invariant.2 left

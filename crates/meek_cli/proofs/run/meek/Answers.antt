@@ -27,7 +27,8 @@ pub returns-in-Ok-read : goal.returns-in-Ok-read
 returns-in-Ok-read g c =
     let sound = sound_by c.contests_are_not_refused.ensures c.contests_are_refused_once.ensures c.accepts_days.ensures
     c.refuses_by_the_rule.ensures c.words_have_one_command.ensures in
-    worked_with meek g.K.Sink.written g.K.Sink.faults c.args.sink.now c.read.new.sink c.finish.new.sink (map string_bytes c.args.words.now)
+    worked_with meek g.K.Sink.written g.K.Sink.faults c.args.sink.now c.read.new.sink c.finish.new.sink
+    (map string_bytes c.args.words.now)
     c.in-Ok.asked.0 c.in-Ok-read.input.items _ c.finish.result.status c.finish.result.history
     (reading g.S.Source.left g.S.Source.faults c.args.source.now c.read.new.source) sound c.in-Ok.ensures.asked
     c.in-Ok-read.ensures.input c.in-Ok-read.ensures.untouched refl c.finish.ensures
@@ -41,4 +42,5 @@ returns g c =
     let source = reading g.S.Source.left g.S.Source.faults c.args.source.now c.read.new.source in
     let sink = writing g.K.Sink.written g.K.Sink.faults c.args.sink.now c.read.new.sink in
     subst (λ (o : Outcome). IsRun meek words source sink o.status o.history) (sym c.without_calls-in-Err-read.ensures)
-    (stopped_at_source meek words c.in-Ok.asked.0 c.in-Err-read.status source sink sound c.in-Ok.ensures.asked c.in-Err-read.ensures.stopped)
+    (stopped_at_source meek words c.in-Ok.asked.0 c.in-Err-read.status source sink sound c.in-Ok.ensures.asked
+    c.in-Err-read.ensures.stopped)

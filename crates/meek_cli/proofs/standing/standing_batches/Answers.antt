@@ -9,7 +9,8 @@ standing_then-standing-requires-clause-few c = few c.loop-entry.invariant
 
 pub standing_then-standing-requires-clause-some : goal.standing_then-standing-requires-clause-some
 standing_then-standing-requires-clause-some c =
-    may_go c.loop-entry.invariant (next_call c.args.entries.now c.loop-entry.entry-index c.entry-item.result c.loop-entry-test.true c.entry-item.is)
+    may_go c.loop-entry.invariant (next_call c.args.entries.now c.loop-entry.entry-index c.entry-item.result
+    c.loop-entry-test.true c.entry-item.is)
 
 pub loop-entry-preserved : goal.loop-entry-preserved
 loop-entry-preserved c =

@@ -5,5 +5,6 @@ use Rattle.meek_cli.proofs.summary.push_elected.Given as goal
 
 abbrev pub invariant-loop-p : goal.invariant-loop-p
 invariant-loop-p l =
-    (l.line ++ listed (l.p + 1) (map is_elected (drop l.p l.state-items)) ≡ l.initial.line ++ listed 1 (map is_elected l.state-items))
+    (l.line ++ listed (l.p + 1) (map is_elected (drop l.p l.state-items))
+    ≡ l.initial.line ++ listed 1 (map is_elected l.state-items))
     × (length l.line ≤ length l.initial.line + 4 * l.p)

@@ -21,9 +21,21 @@ returns g c =
     let batches = c.standing_batches.ensures ∙ ap (λ (h : List Entry). standing_batches (after_all empty h)) entries in
     let ballots = c.ballots-ballots.ensures.value ∙ ap length c.in-Ok.ensures.ballots in
     let out = subst (IsCountedOut 9 count turns) (sym c.states.ensures.value) c.count_out-turns.ensures in
-    wrote_summary c.args.number terms c.args.history.now (g.D.Spread.ballots c.args.spread.now) roll count turns _ c.states.result.now c.bytes.result.now
+    wrote_summary c.args.number terms c.args.history.now (g.D.Spread.ballots c.args.spread.now) roll count
+    turns _ c.states.result.now c.bytes.result.now
     c.finish.result (writing g.K.Sink.written g.K.Sink.faults c.args.sink.now c.finish.new.sink)
-    c.requires.places (c.in-Ok.ensures.opens ∙ ap (λ (omega : ℕ). opening (scale 9) omega roll.seats roll.withdrawn) c.units-omega.ensures) c.in-Ok.ensures.ballots
+    c.requires.places (c.in-Ok.ensures.opens
+    ∙ ap (λ (omega : ℕ). opening (scale 9) omega roll.seats roll.withdrawn) c.units-omega.ensures)
+    c.in-Ok.ensures.ballots
     c.in-Ok.ensures.lots out
-    (λ i. let s : Summary = record { number = c.args.number; calls = length (entries i); batches = batches i; ballots = ballots i; rounds = turns.rounds; iterations = turns.iterations } in s)
+    (λ i. let s : Summary =
+    record {
+      number = c.args.number;
+      calls = length (entries i);
+      batches = batches i;
+      ballots = ballots i;
+      rounds = turns.rounds;
+      iterations = turns.iterations;
+    } in
+    s)
     (c.bytes.ensures.value ∙ c.text-text.ensures) c.finish.ensures

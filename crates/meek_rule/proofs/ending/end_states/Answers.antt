@@ -7,4 +7,6 @@ use Rattle.meek_rule.proofs.ending.end_states.Goals as goal
 
 pub returns : goal.returns
 returns c =
-    fill_by_all (λ p. final_state c.args.full (state_at c.args.states.now p)) c.loop-p.states (length c.args.states.now) Withdrawn c.loop-p.invariant.same_length (λ q below. c.loop-p.invariant.done q (omega arith))
+    fill_by_all (λ p. final_state c.args.full (state_at c.args.states.now p)) c.loop-p.states
+    (length c.args.states.now) Withdrawn c.loop-p.invariant.same_length
+    (λ q below. c.loop-p.invariant.done q (omega arith))

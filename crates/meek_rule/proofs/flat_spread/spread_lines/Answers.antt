@@ -20,16 +20,37 @@ give_line-requires g c =
     let same : n ≡ length c.loop-line.tally = sym c.loop-line.invariant.same_length in
     let line = c.line-item.result in
     let ranking : IsRanking n line.ranking =
-    subst (λ (l : BallotLine). IsRanking n l.ranking) (sym c.line-item.is) (All-get_or (λ (l : BallotLine). IsRanking n l.ranking) c.args.lines.now i line c.loop-line-test.true c.requires.sound.rankings) in
+    subst (λ (l : BallotLine). IsRanking n l.ranking) (sym c.line-item.is)
+    (All-get_or (λ (l : BallotLine). IsRanking n l.ranking) c.args.lines.now i line c.loop-line-test.true
+    c.requires.sound.rankings) in
     let read : c.ranks.result.now ≡ line.ranking = cc in
-    let numbers : All (λ (r : ℕ). (1 ≤ r) × (r ≤ length c.loop-line.tally)) c.ranks.result.now = rw read (subst (λ (m : ℕ). All (λ (r : ℕ). (1 ≤ r) × (r ≤ m)) line.ranking) same ranking.numbers) in
-    let keeps : length c.items.result.now ≡ length c.loop-line.tally = ap length c.items.ensures ∙ (c.requires.keeps_of_all ∙ same) in
-    let room : (p : ℕ) → p < length c.loop-line.tally → get_or c.loop-line.tally p 0 + line.count * s ≤ most g.row.P = λ p below.
+    let numbers : All (λ (r : ℕ). (1 ≤ r) × (r ≤ length c.loop-line.tally)) c.ranks.result.now =
+    rw read (subst (λ (m : ℕ). All (λ (r : ℕ). (1 ≤ r) × (r ≤ m)) line.ranking) same ranking.numbers) in
+    let keeps : length c.items.result.now ≡ length c.loop-line.tally =
+    ap length c.items.ensures ∙ (c.requires.keeps_of_all ∙ same) in
+    let room :
+    (p : ℕ) → p < length c.loop-line.tally
+    → get_or c.loop-line.tally p 0 + line.count * s ≤ most g.row.P =
+    λ p below.
     rw c.line-item.is
-    (room_for_line Meek s (most g.row.P) c.args.keeps.now c.args.lines.now i (p + 1) _ line (scale_pos g.row.P) c.len-bound.ensures.bound (most_votes g.row.P) c.loop-line-test.true c.requires.sound.bounded (c.loop-line.invariant.so_far p (omega arith))) in
-    (omega arith, (omega arith, (c.len-bound.ensures.places, (numbers, (keeps, (rw c.items.ensures c.len-bound.ensures.bound, room))))))
+    (room_for_line Meek s (most g.row.P) c.args.keeps.now c.args.lines.now i (p + 1) _ line
+    (scale_pos g.row.P) c.len-bound.ensures.bound (most_votes g.row.P) c.loop-line-test.true
+    c.requires.sound.bounded (c.loop-line.invariant.so_far p (omega arith))) in (
+      omega arith,
+      (
+        omega arith,
+        (
+          c.len-bound.ensures.places,
+          (numbers, (keeps, (rw c.items.ensures c.len-bound.ensures.bound, room))),
+        ),
+      ),
+    )
 
 pub returns : goal.returns
 returns g c =
-    votes-from_places Meek (scale g.row.P) c.args.keeps.now c.args.lines.now c.loop-line.tally (length c.args.tally.now) c.loop-line.invariant.same_length
-    (λ p below. c.loop-line.invariant.so_far p below ∙ ap (λ (ls : List BallotLine). sum_by (λ (line : BallotLine). line.count * given (scale g.row.P) c.args.keeps.now (scale g.row.P) line.ranking (p + 1)) ls) (take_all c.loop-line.line-index c.args.lines.now (omega arith)))
+    votes-from_places Meek (scale g.row.P) c.args.keeps.now c.args.lines.now c.loop-line.tally
+    (length c.args.tally.now) c.loop-line.invariant.same_length
+    (λ p below. c.loop-line.invariant.so_far p below
+    ∙ ap (λ (ls : List BallotLine). sum_by (λ (line : BallotLine).
+    line.count * given (scale g.row.P) c.args.keeps.now (scale g.row.P) line.ranking (p + 1))
+    ls) (take_all c.loop-line.line-index c.args.lines.now (omega arith)))

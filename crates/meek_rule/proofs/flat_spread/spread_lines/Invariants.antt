@@ -18,5 +18,7 @@ invariant-loop-line g l =
       same_length : length l.tally ≡ length l.fn.tally;
       so_far :
           (p : ℕ) → p < length l.fn.tally
-          → slice_index l.tally p ≡ sum_by (λ (line : BallotLine). line.count * given s l.keeps s line.ranking (p + 1)) (take l.line-index l.lines);
+          → slice_index l.tally p
+          ≡ sum_by (λ (line : BallotLine). line.count * given s l.keeps s line.ranking (p + 1))
+          (take l.line-index l.lines);
     }

@@ -10,7 +10,10 @@ use Rattle.meek_rule.proofs.surplus.surplus_of.Goals as goal
 -- the votes so far and the next are not more than all
 pub overflow_add-held : goal.overflow_add-held
 overflow_add-held g c =
-    let le : sum (take c.loop-p.p c.args.votes.now) + get_or c.args.votes.now c.loop-p.p 0 ≤ sum c.args.votes.now = sum_by_more_le (λ (x : ℕ). x) c.args.votes.now c.loop-p.p 0 (omega arith) in
+    let le :
+    sum (take c.loop-p.p c.args.votes.now) + get_or c.args.votes.now c.loop-p.p 0
+    ≤ sum c.args.votes.now =
+    sum_by_more_le (λ (x : ℕ). x) c.args.votes.now c.loop-p.p 0 (omega arith) in
     omega (arith, most_bound g.row.P c.units-share.ensures.places.1, c.units-held.ensures.value)
 
 pub loop-p-preserved : goal.loop-p-preserved
@@ -22,7 +25,8 @@ loop-p-preserved g c =
     let seat : ℕ → ℕ = λ q. cond (holds q) 1 0 in
     let more : sum (each_place (p + 1) share) ≡ sum (each_place p share) + share p = sum_more share p in
     let counted : count_places (p + 1) holds ≡ count_places p holds + seat p = count_more holds p in
-    let part : sum (take (p + 1) votes) ≡ sum (take p votes) + get_or votes p 0 = sum_by_more (λ (x : ℕ). x) votes p 0 (omega arith) in
+    let part : sum (take (p + 1) votes) ≡ sum (take p votes) + get_or votes p 0 =
+    sum_by_more (λ (x : ℕ). x) votes p 0 (omega arith) in
     elim c.if-holds_seat.branch [
       | then-holds_seat w ↦
           let yes : holds p ≡ true = cc in

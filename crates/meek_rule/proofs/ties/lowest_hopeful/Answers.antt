@@ -15,7 +15,8 @@ loop-p-preserved g c =
       | then-is_hopeful w ↦
           let is : hopeful p ≡ true = sym c.is_hopeful.ensures ∙ w.if-is_hopeful.true in
           let here : w.units.result ≡ vote p = w.units.ensures.value ∙ w.get.ensures in
-          let least : c.if-is_hopeful.lowest ≡ min c.loop-p.lowest (vote p) = w.lowest-is ∙ (w.min-lowest.ensures ∙ ap (min c.loop-p.lowest) here) in
+          let least : c.if-is_hopeful.lowest ≡ min c.loop-p.lowest (vote p) =
+          w.lowest-is ∙ (w.min-lowest.ensures ∙ ap (min c.loop-p.lowest) here) in
           record {
             none_lower = λ q below passes. elim (cases_eq q p) [
               | inl same ↦ (let at : vote q ≡ vote p = ap vote same in omega arith)

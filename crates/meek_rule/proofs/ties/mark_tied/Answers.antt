@@ -5,5 +5,6 @@ use Rattle.meek_rule.proofs.ties.mark_tied.Goals as goal
 
 pub returns : goal.returns
 returns g c =
-    fill_by_all (is_tied c.args.states.now c.args.votes.now c.args.surplus) c.loop-p.marks (length c.args.states.now) false (c.loop-p.invariant.same_length ∙ c.requires.marks_of_all)
+    fill_by_all (is_tied c.args.states.now c.args.votes.now c.args.surplus) c.loop-p.marks
+    (length c.args.states.now) false (c.loop-p.invariant.same_length ∙ c.requires.marks_of_all)
     (λ q below. c.loop-p.invariant.marked q (omega arith))

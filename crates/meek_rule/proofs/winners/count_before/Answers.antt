@@ -9,7 +9,9 @@ use Rattle.meek_rule.proofs.winners.count_before.Goals as goal
 pub loop-b-preserved : goal.loop-b-preserved
 loop-b-preserved g c =
     let b = c.loop-b.b in
-    let ahead : ℕ → Bool = λ q. has_reached c.args.states.now c.args.votes.now c.args.quota q && comes_before c.args.votes.now c.args.lots.now q c.args.p in
+    let ahead : ℕ → Bool =
+    λ q. has_reached c.args.states.now c.args.votes.now c.args.quota q
+    && comes_before c.args.votes.now c.args.lots.now q c.args.p in
     let one : ℕ → ℕ = λ q. cond (ahead q) 1 0 in
     let counted : count_places (b + 1) ahead ≡ count_places b ahead + one b = count_more ahead b in
     elim c.if-is_ahead.branch [

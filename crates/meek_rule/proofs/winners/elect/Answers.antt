@@ -9,4 +9,5 @@ use Rattle.meek_rule.proofs.winners.elect.Goals as goal
 pub returns : goal.returns
 returns c =
     let after : ℕ → State = λ q. cond (mark_at c.args.winners.now q) Elected (state_at c.args.states.now q) in
-    fill_by_all after c.loop-p.states (length c.args.states.now) Withdrawn c.loop-p.invariant.same_length (λ q below. c.loop-p.invariant.done q (omega arith))
+    fill_by_all after c.loop-p.states (length c.args.states.now) Withdrawn c.loop-p.invariant.same_length
+    (λ q below. c.loop-p.invariant.done q (omega arith))

@@ -1,6 +1,13 @@
-use Rattle.meek_rule.proofs.WorkedHolds.{CappedKeep-holds, Overfill-holds, SurplusOfOmega-holds, SurplusBelowOmega-holds, SurplusNotFalling-holds, SurplusFalling-holds, TieWithinSurplus-holds, ThreeBallots-holds}
-use Rattle.meek_rule.proofs.WorkedEdgesHold.{RoundedUpTwice-holds, NoVotesSameKeep-holds, OneWholeVoteIsNoCap-holds, CappedFromBelowOne-holds, OverfillByVotes-holds, KeepsStayAtElection-holds, TieAtTheSurplus-holds, ElectedAreNotTied-holds}
-use Rattle.meek_rule.proofs.WorkedStepsHold.{OverfillByLots-holds, BelowTheQuotaIsNoCap-holds, OmegaAboveTheSurplus-holds, OmegaOfTheSurplus-holds, ElectedInAThirdIteration-holds, TieByLots-holds, TwoAtOnce-holds}
+use Rattle.meek_rule.proofs.WorkedHolds.{CappedKeep-holds, Overfill-holds, SurplusOfOmega-holds}
+use Rattle.meek_rule.proofs.WorkedHolds.{SurplusBelowOmega-holds, SurplusNotFalling-holds}
+use Rattle.meek_rule.proofs.WorkedHolds.{SurplusFalling-holds, TieWithinSurplus-holds, ThreeBallots-holds}
+use Rattle.meek_rule.proofs.WorkedEdgesHold.{RoundedUpTwice-holds, NoVotesSameKeep-holds}
+use Rattle.meek_rule.proofs.WorkedEdgesHold.{OneWholeVoteIsNoCap-holds, CappedFromBelowOne-holds}
+use Rattle.meek_rule.proofs.WorkedEdgesHold.{OverfillByVotes-holds, KeepsStayAtElection-holds}
+use Rattle.meek_rule.proofs.WorkedEdgesHold.{TieAtTheSurplus-holds, ElectedAreNotTied-holds}
+use Rattle.meek_rule.proofs.WorkedStepsHold.{OverfillByLots-holds, BelowTheQuotaIsNoCap-holds}
+use Rattle.meek_rule.proofs.WorkedStepsHold.{OmegaAboveTheSurplus-holds, OmegaOfTheSurplus-holds}
+use Rattle.meek_rule.proofs.WorkedStepsHold.{ElectedInAThirdIteration-holds, TieByLots-holds, TwoAtOnce-holds}
 use Rattle.meek_rule.proofs.worked.worked_iterations.Goals as goal
 
 pub returns-clause-capped_keep : goal.returns-clause-capped_keep

@@ -9,7 +9,9 @@ none_drawn number = omega arith
 
 pub loop-team-init : goal.loop-team-init
 loop-team-init c = record {
-  text = sym (append-nil c.args.text.now.items) ∙ ap (λ (t : List ℕ). c.args.text.now.items ++ t) (sym (teams_none c.args.number));
+  text =
+      sym (append-nil c.args.text.now.items)
+      ∙ ap (λ (t : List ℕ). c.args.text.now.items ++ t) (sym (teams_none c.args.number));
   draws = c.new-draws.ensures ∙ ap (drawing c.args.number) (none_drawn c.args.number);
 }
 
@@ -21,6 +23,8 @@ loop-team-preserved c =
     let put : c.put_team.new.text.items ≡ c.loop-team.text.items ++ one_team number (1 + team) =
     c.in_ok-put_team.ensures.text ∙ ap (λ (t : ℕ). c.loop-team.text.items ++ one_team number t) same in
     record {
-      text = teams_go_on c.args.text.now.items c.loop-team.text.items c.put_team.new.text.items number team c.loop-team.invariant.text put;
+      text =
+          teams_go_on c.args.text.now.items c.loop-team.text.items c.put_team.new.text.items number team
+          c.loop-team.invariant.text put;
       draws = c.in_ok-put_team.ensures.draws;
     }

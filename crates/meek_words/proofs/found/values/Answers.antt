@@ -20,9 +20,19 @@ pub returns-in-Ok-clause-found : goal.returns-in-Ok-clause-found
 returns-in-Ok-clause-found c parts are =
     let words : List Word = map string_bytes c.args.words.now in
     let app = c.in_ok-command.ensures in
-    let rows = (c.in-Ok.ensures.matches (ap is_simple app ∙ command_line_simple)).0 ∙ ap (λ (a : App). matches_of a words) app in
-    let lots = ap option_to_list c.get_str.ensures ∙ values_found (found_of c.in-Ok.matches) words parts (Some Lots) are rows in
-    let shards = ap option_to_list c.get_str-in-Ok.ensures ∙ values_found (found_of c.in-Ok.matches) words parts (Some Shards) are rows in
-    let workers = ap option_to_list c.get_str-in-Ok-2.ensures ∙ values_found (found_of c.in-Ok.matches) words parts (Some Workers) are rows in
-    let plain = ap option_to_list c.get_str-in-Ok-3.ensures ∙ values_found (found_of c.in-Ok.matches) words parts None are rows in
+    let rows =
+    (c.in-Ok.ensures.matches (ap is_simple app ∙ command_line_simple)).0
+    ∙ ap (λ (a : App). matches_of a words) app in
+    let lots =
+    ap option_to_list c.get_str.ensures
+    ∙ values_found (found_of c.in-Ok.matches) words parts (Some Lots) are rows in
+    let shards =
+    ap option_to_list c.get_str-in-Ok.ensures
+    ∙ values_found (found_of c.in-Ok.matches) words parts (Some Shards) are rows in
+    let workers =
+    ap option_to_list c.get_str-in-Ok-2.ensures
+    ∙ values_found (found_of c.in-Ok.matches) words parts (Some Workers) are rows in
+    let plain =
+    ap option_to_list c.get_str-in-Ok-3.ensures
+    ∙ values_found (found_of c.in-Ok.matches) words parts None are rows in
     λ i. record { lots = lots i; shards = shards i; workers = workers i; plain = plain i }

@@ -13,29 +13,37 @@ piece_here : (c : In-Some) → (length c.loop-part.yielded < length (pieces_of c
     × (c.in-Some.part.now ≡ get_or (pieces_of c.args.word.now) (length c.loop-part.yielded) c.in-Some.part.now)
 piece_here c =
     let is = c.into_iter-part-iterator.ensures.into_iter_gives in
-    YieldsList-turn (YieldsList-from_slice_split _ (λ b. nat_eq b 44) c.args.word.now (ap (λ s. slice.split_rest s) is ∙ c.split-part-items.ensures.rest)
+    YieldsList-turn (YieldsList-from_slice_split _ (λ b. nat_eq b 44) c.args.word.now
+    (ap (λ s. slice.split_rest s) is ∙ c.split-part-items.ensures.rest)
     (ap (λ s. slice.split_done s) is ∙ c.split-part-items.ensures.done) refl (λ x r q k. search (rules, tests)))
     c.loop-part.yielded _ c.loop-part.yielded_by _ _ c.in-Some.part c.in-Some.is c.next.ensures.steps
 
 pub returns-in_default-clause-refused : goal.returns-in_default-clause-refused
 returns-in_default-clause-refused c _ lots list =
     let here = piece_here (goal.at.returns-in_default-clause-refused c).In-Some in
-    c.in_default.ensures (piece_is_numeral c.args.word.now lots list (length c.loop-part.yielded) c.in-Some.part.now here.0 here.1)
+    c.in_default.ensures (piece_is_numeral c.args.word.now lots list (length c.loop-part.yielded)
+    c.in-Some.part.now here.0 here.1)
 
 pub returns-then-len-eq-MOST_LOTS-clause-refused : goal.returns-then-len-eq-MOST_LOTS-clause-refused
 returns-then-len-eq-MOST_LOTS-clause-refused c _ lots list =
     let here = piece_here (goal.at.returns-then-len-eq-MOST_LOTS-clause-refused c).In-Some in
-    let so_far = ap length c.loop-part.invariant.numbers ∙ length-map (map (λ piece. piece.now) c.loop-part.yielded) number_of ∙ length-map c.loop-part.yielded (λ piece. piece.now) in
+    let so_far =
+    ap length c.loop-part.invariant.numbers
+    ∙ length-map (map (λ piece. piece.now) c.loop-part.yielded) number_of
+    ∙ length-map c.loop-part.yielded (λ piece. piece.now) in
     omega (arith, so_far, here.0, pieces_at_most c.args.word.now lots list)
 
 -- at the end the lots are the numbers of all pieces
 lots_read : (c : In-None) → IsLotList c.args.word.now c.loop-part.lots
 lots_read c =
     let is = c.into_iter-part-iterator.ensures.into_iter_gives in
-    let end = YieldsList-end (YieldsList-from_slice_split _ (λ b. nat_eq b 44) c.args.word.now (ap (λ s. slice.split_rest s) is ∙ c.split-part-items.ensures.rest)
+    let end =
+    YieldsList-end (YieldsList-from_slice_split _ (λ b. nat_eq b 44) c.args.word.now
+    (ap (λ s. slice.split_rest s) is ∙ c.split-part-items.ensures.rest)
     (ap (λ s. slice.split_done s) is ∙ c.split-part-items.ensures.done) refl (λ x r q k. search (rules, tests)))
     c.loop-part.yielded _ c.loop-part.yielded_by _ _ c.in-None.is c.next.ensures.steps in
-    lot_list_from_pieces c.args.word.now c.loop-part.lots (map (λ piece. piece.now) c.loop-part.yielded) end.0 c.loop-part.invariant.numbers c.loop-part.invariant.numerals
+    lot_list_from_pieces c.args.word.now c.loop-part.lots (map (λ piece. piece.now) c.loop-part.yielded) end.0
+    c.loop-part.invariant.numbers c.loop-part.invariant.numerals
     (simp length-map c.loop-part.invariant.few)
 
 pub returns-clause-accepted : goal.returns-clause-accepted

@@ -19,7 +19,9 @@ returns-then-is_value-clause-cut c =
         subst (λ t. IsValue t.1.now) w.name-is value,
         refl,
         words ∙ ap₂ (λ word rest. word ∷ rest) (sym c.deref.ensures ∙ w.in-FirstOfTwo.ensures)
-            (ap (map string_bytes) w.in_ok-value-in-FirstOfTwo.ensures.cases.0 ∙ ap (λ word. word ∷ map string_bytes w.in_ok-value-in-FirstOfTwo.rest.now) (sym w.as_str.ensures.value)),
+            (ap (map string_bytes) w.in_ok-value-in-FirstOfTwo.ensures.cases.0
+            ∙ ap (λ word. word ∷ map string_bytes w.in_ok-value-in-FirstOfTwo.rest.now)
+            (sym w.as_str.ensures.value)),
       )
       | in-Plain w ↦ rw w.name-is (
         Plain w.as_str-in-Plain.result.now,

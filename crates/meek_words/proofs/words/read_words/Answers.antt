@@ -19,7 +19,8 @@ returns-clause-refused c refused command form =
     let behind = map string_bytes c.in-Some.behind.now in
     let form' = subst (λ words. HasForm (map string_bytes words) command) c.in-Some.ensures.cases.0 form in
     let given = c.in_ok-values.ensures.found form'.parts (form_parts first behind command form') in
-    c.from_values.ensures.refused refused command (c.deref.ensures ∙ form_first first behind command form') (subst (Says command) (sym given) form'.says)
+    c.from_values.ensures.refused refused command (c.deref.ensures ∙ form_first first behind command form')
+    (subst (Says command) (sym given) form'.says)
 
 pub returns-clause-one : goal.returns-clause-one
 returns-clause-one c command form =
@@ -28,6 +29,9 @@ returns-clause-one c command form =
     let form' = subst (λ words. HasForm (map string_bytes words) command) c.in-Some.ensures.cases.0 form in
     let are = form_parts first behind command form' in
     let given = c.in_ok-values.ensures.found form'.parts are in
-    IfOk-weaker c.from_values.result (λ read. (c.deref.result.now ≡ first_word read) × Says read (given_by c.in_ok-values.values)) (λ read. read ≡ command)
-    (λ read says. have_one_command (first ∷ behind) read command (form_from_parts first behind form'.parts read are (sym c.deref.ensures ∙ says.0) (subst (Says read) given says.1)) form')
+    IfOk-weaker c.from_values.result
+    (λ read. (c.deref.result.now ≡ first_word read) × Says read (given_by c.in_ok-values.values))
+    (λ read. read ≡ command)
+    (λ read says. have_one_command (first ∷ behind) read command (form_from_parts first behind form'.parts
+    read are (sym c.deref.ensures ∙ says.0) (subst (Says read) given says.1)) form')
     c.from_values.ensures.accepted

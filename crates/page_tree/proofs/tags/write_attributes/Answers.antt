@@ -13,16 +13,23 @@ loop-attribute-init g c = wrote_nothing _ _ _
 
 pub loop-attribute-preserved : goal.loop-attribute-preserved
 loop-attribute-preserved g c =
-    wrote_more (λ a. attribute_text (as_given a)) c.args.attributes.now c.loop-attribute.attribute-index _ c.loop-attribute-test.true c.loop-attribute.invariant c.in_ok-write_attribute.ensures
+    wrote_more (λ a. attribute_text (as_given a)) c.args.attributes.now c.loop-attribute.attribute-index _
+    c.loop-attribute-test.true c.loop-attribute.invariant c.in_ok-write_attribute.ensures
 
 pub returns-in_err-write_attribute : goal.returns-in_err-write_attribute
 returns-in_err-write_attribute g c =
-    subst (λ (l : List ℕ). Writes g.K.Sink.written g.K.Sink.faults c.args.sink.now c.write_attribute.new.sink l c.from_residual.result)
+    subst (λ (l : List ℕ). Writes g.K.Sink.written g.K.Sink.faults c.args.sink.now c.write_attribute.new.sink
+    l c.from_residual.result)
     (flat_map-map attribute_text as_given c.args.attributes.now)
-    (stopped_at (λ a. attribute_text (as_given a)) c.args.attributes.now c.loop-attribute.attribute-index _ c.from_residual.result c.from_residual.ensures.0 c.loop-attribute-test.true c.loop-attribute.invariant c.in_err-write_attribute.ensures)
+    (stopped_at (λ a. attribute_text (as_given a)) c.args.attributes.now c.loop-attribute.attribute-index _
+    c.from_residual.result c.from_residual.ensures.0 c.loop-attribute-test.true c.loop-attribute.invariant
+    c.in_err-write_attribute.ensures)
 
 pub returns : goal.returns
 returns g c =
-    let whole = ap (flat_map (λ (a : Given). attribute_text (as_given a))) (take_all c.loop-attribute.attribute-index c.args.attributes.now c.loop-attribute-test.false)
+    let whole =
+    ap (flat_map (λ (a : Given). attribute_text (as_given a)))
+    (take_all c.loop-attribute.attribute-index c.args.attributes.now c.loop-attribute-test.false)
     ∙ flat_map-map attribute_text as_given c.args.attributes.now in
-    subst (λ (l : List ℕ). Wrote g.K.Sink.written g.K.Sink.faults c.args.sink.now c.loop-attribute.sink l) whole c.loop-attribute.invariant
+    subst (λ (l : List ℕ). Wrote g.K.Sink.written g.K.Sink.faults c.args.sink.now c.loop-attribute.sink l)
+    whole c.loop-attribute.invariant

@@ -1,4 +1,5 @@
-use Rattle.std.proofs.Common.{◌≡◌, ◌∙◌, ℕ, List, [], ◌++◌, sym, ap, subst, append_assoc, append-nil, encode_utf8, encode_utf8_all}
+use Rattle.std.proofs.Common.{◌≡◌, ◌∙◌, ℕ, List, [], ◌++◌, sym, ap, subst, append_assoc, append-nil}
+use Rattle.std.proofs.Common.{encode_utf8, encode_utf8_all}
 use Rattle.page_tree.specs.Print.{escaped, readable}
 use Rattle.piece_text.specs.Writing.{Wrote, Stopped, Writes}
 use Rattle.piece_text.proofs.Written.{wrote_nothing, wrote_later, stopped_later, stops}
@@ -9,7 +10,8 @@ pub loop-c-init : goal.loop-c-init
 loop-c-init g c = (
   [],
   ap encode_utf8_all c.chars-rest.ensures.value,
-  subst (λ (l : List ℕ). Wrote g.K.Sink.written g.K.Sink.faults c.args.sink.now c.args.sink.now l) (sym escaped-nil) (wrote_nothing _ _ _),
+  subst (λ (l : List ℕ). Wrote g.K.Sink.written g.K.Sink.faults c.args.sink.now c.args.sink.now l)
+      (sym escaped-nil) (wrote_nothing _ _ _),
 )
 
 pub loop-c-preserved : goal.loop-c-preserved
@@ -19,10 +21,13 @@ loop-c-preserved g c =
     let w = g.K.Sink.written in
     let f = g.K.Sink.faults in
     let is = c.as_bytes.ensures.value ∙ c.encode_utf8.ensures.value in
-    let next = subst (λ (l : List ℕ). Wrote w f c.loop-c.sink c.write_escaped.new.sink (escaped l)) is c.in_ok-write_escaped.ensures in (
+    let next =
+    subst (λ (l : List ℕ). Wrote w f c.loop-c.sink c.write_escaped.new.sink (escaped l)) is
+    c.in_ok-write_escaped.ensures in (
       now.0 ++ bytes,
       append_assoc now.0 bytes _ ∙ ap (λ (l : List ℕ). now.0 ++ encode_utf8_all l) (sym c.in-Some.ensures.steps) ∙ now.1,
-      subst (λ (l : List ℕ). Wrote w f c.args.sink.now c.write_escaped.new.sink l) (sym (escaped-append now.0 bytes)) (wrote_later now.2 next),
+      subst (λ (l : List ℕ). Wrote w f c.args.sink.now c.write_escaped.new.sink l)
+          (sym (escaped-append now.0 bytes)) (wrote_later now.2 next),
     )
 
 pub returns-in_err-write_escaped : goal.returns-in_err-write_escaped
@@ -32,17 +37,22 @@ returns-in_err-write_escaped g c =
     let w = g.K.Sink.written in
     let f = g.K.Sink.faults in
     let is = c.as_bytes.ensures.value ∙ c.encode_utf8.ensures.value in
-    let next = subst (λ (l : List ℕ). Stopped w f c.loop-c.sink c.write_escaped.new.sink (escaped l)) is c.in_err-write_escaped.ensures in
+    let next =
+    subst (λ (l : List ℕ). Stopped w f c.loop-c.sink c.write_escaped.new.sink (escaped l)) is
+    c.in_err-write_escaped.ensures in
     let others = encode_utf8_all c.next.new.self in
     let whole : (escaped now.0 ++ escaped bytes) ++ escaped others ≡ escaped (readable c.args.text.now) =
     ap (λ (l : List ℕ). l ++ escaped others) (sym (escaped-append now.0 bytes))
     ∙ sym (escaped-append (now.0 ++ bytes) others)
-    ∙ ap escaped (append_assoc now.0 bytes others ∙ ap (λ (l : List ℕ). now.0 ++ encode_utf8_all l) (sym c.in-Some.ensures.steps) ∙ now.1) in
+    ∙ ap escaped (append_assoc now.0 bytes others
+    ∙ ap (λ (l : List ℕ). now.0 ++ encode_utf8_all l) (sym c.in-Some.ensures.steps) ∙ now.1) in
     subst (λ (l : List ℕ). Writes w f c.args.sink.now c.write_escaped.new.sink l c.from_residual.result) whole
     (stops (escaped others) c.from_residual.result c.from_residual.ensures.0 (stopped_later now.2 next))
 
 pub returns : goal.returns
 returns g c =
     let now = c.loop-c.invariant in
-    let all = sym (append-nil now.0) ∙ ap (λ (l : List ℕ). now.0 ++ encode_utf8_all l) (sym c.in_default.ensures.steps.0) ∙ now.1 in
+    let all =
+    sym (append-nil now.0)
+    ∙ ap (λ (l : List ℕ). now.0 ++ encode_utf8_all l) (sym c.in_default.ensures.steps.0) ∙ now.1 in
     subst (λ (l : List ℕ). Wrote g.K.Sink.written g.K.Sink.faults c.args.sink.now c.loop-c.sink (escaped l)) all now.2

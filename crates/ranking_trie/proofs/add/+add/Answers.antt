@@ -22,17 +22,25 @@ returns-clause-bag g t c =
       | then-at-ranks w ↦
           let last : drop (c.args.at + 1) ranks ≡ [] = drop_all (c.args.at + 1) ranks (omega arith) in
           let is : bag c.put_back.result ≡ before ++ (below r (n + k) inner ++ after) =
-          c.put_back.ensures.bag ∙ ap (λ b. before ++ b) (c.plant.ensures.bag ∙ ap (λ (p : ℕ × Forest). below r p.0 (bag p.1) ++ after) w.ends-is) in
+          c.put_back.ensures.bag
+          ∙ ap (λ b. before ++ b)
+          (c.plant.ensures.bag ∙ ap (λ (p : ℕ × Forest). below r p.0 (bag p.1) ++ after) w.ends-is) in
           let more : drop c.args.at ranks ≡ r ∷ [] = next ∙ ap (λ l. r ∷ l) last in
           rw more
-          (placed before (below r n inner) (below r (n + k) inner) after rest (bag c.args.forest) (bag c.put_back.result) (replicate k (r ∷ [])) is c.pass_smaller-passed.ensures.bag c.find_or_make-ends.ensures.bag
+          (placed before (below r n inner) (below r (n + k) inner) after rest (bag c.args.forest)
+          (bag c.put_back.result) (replicate k (r ∷ [])) is c.pass_smaller-passed.ensures.bag
+          c.find_or_make-ends.ensures.bag
           (rw below_more_ends (IsPermutation-refl _)))
       | else-at-ranks w ↦
           let new = bag w.add.result in
           let is : bag c.put_back.result ≡ before ++ (below r n new ++ after) =
-          c.put_back.ensures.bag ∙ ap (λ b. before ++ b) (c.plant.ensures.bag ∙ ap (λ (p : ℕ × Forest). below r p.0 (bag p.1) ++ after) w.ends-is) in
+          c.put_back.ensures.bag
+          ∙ ap (λ b. before ++ b)
+          (c.plant.ensures.bag ∙ ap (λ (p : ℕ × Forest). below r p.0 (bag p.1) ++ after) w.ends-is) in
           rw next
-          (placed before (below r n inner) (below r n new) after rest (bag c.args.forest) (bag c.put_back.result) (replicate k (r ∷ drop (c.args.at + 1) ranks)) is c.pass_smaller-passed.ensures.bag c.find_or_make-ends.ensures.bag
+          (placed before (below r n inner) (below r n new) after rest (bag c.args.forest)
+          (bag c.put_back.result) (replicate k (r ∷ drop (c.args.at + 1) ranks)) is
+          c.pass_smaller-passed.ensures.bag c.find_or_make-ends.ensures.bag
           (below_more_inner r n k (drop (c.args.at + 1) ranks) inner new w.add.ensures.bag))
     ]
 

@@ -8,8 +8,12 @@ use Rattle.ranking_trie.proofs.add.put.Goals as goal
 pub returns-then-ranks-eq0-clause-bag : goal.returns-then-ranks-eq0-clause-bag
 returns-then-ranks-eq0-clause-bag g c =
     let e : c.args.ranks.now ≡ [] = nil_from_length c.args.ranks.now c.if-ranks-eq0.true in
-    subst (λ (r : List ℕ). IsPermutation (replicate {A = List ℕ} (c.args.ends + c.args.count) [] ++ bag c.args.forest) (replicate c.args.count r ++ (replicate c.args.ends [] ++ bag c.args.forest))) (sym e)
+    subst (λ (r : List ℕ). IsPermutation
+    (replicate {A = List ℕ} (c.args.ends + c.args.count) [] ++ bag c.args.forest)
+    (replicate c.args.count r ++ (replicate c.args.ends [] ++ bag c.args.forest))) (sym e)
     (put_empty c.args.ends c.args.count (bag c.args.forest))
 
 pub returns-clause-bag : goal.returns-clause-bag
-returns-clause-bag g c = put_behind (replicate c.args.ends []) (bag c.args.forest) (bag c.add.result) (replicate c.args.count c.args.ranks.now) c.add.ensures.bag
+returns-clause-bag g c =
+    put_behind (replicate c.args.ends []) (bag c.args.forest) (bag c.add.result)
+    (replicate c.args.count c.args.ranks.now) c.add.ensures.bag

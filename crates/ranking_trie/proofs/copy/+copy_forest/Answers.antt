@@ -10,7 +10,10 @@ copy_forest-requires t c =
     let f = subst (λ (x : Forest). IsRising p.between x) c.in-Grow.is p.rising in
     let lent : c.deref.result.now.inner ≡ c.in-Grow.pair.value.inner = ap (λ q. q.inner) c.deref.ensures in
     let fewer : node_count c.deref.result.now.inner ≡ node_count c.in-Grow.pair.value.inner = ap node_count lent in
-    let nodes : node_count c.loop-rest.rest.now ≡ 1 + node_count c.in-Grow.pair.value.inner + node_count c.in-Grow.pair.value.next = ap node_count c.in-Grow.is in
+    let nodes :
+    node_count c.loop-rest.rest.now
+    ≡ 1 + node_count c.in-Grow.pair.value.inner + node_count c.in-Grow.pair.value.next =
+    ap node_count c.in-Grow.is in
     (omega arith, subst (λ (x : Forest). IsRising 0 x) (sym lent) f.2)
 
 pub stack-requires-clause-falling : goal.stack-requires-clause-falling

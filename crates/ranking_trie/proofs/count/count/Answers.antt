@@ -10,7 +10,8 @@ returns-in-None c =
     let ranks = c.args.ranks.now in
     let i = c.loop-rank.rank-index in
     let f = c.loop-rank.forest.now in
-    let none : count_of (get_or ranks i 0 ∷ drop (i + 1) ranks) (bag f) ≡ 0 = c.in-None.ensures.missing (drop (i + 1) ranks) in
+    let none : count_of (get_or ranks i 0 ∷ drop (i + 1) ranks) (bag f) ≡ 0 =
+    c.in-None.ensures.missing (drop (i + 1) ranks) in
     sym none
     ∙ (ap (λ (r : List ℕ). count_of r (bag f)) (sym (drop_more ranks i 0 c.loop-rank-test.true))
     ∙ (sym (count_of-inside ranks i c.loop-rank.ends f c.loop-rank-test.true) ∙ c.loop-rank.invariant.same))
@@ -29,4 +30,6 @@ loop-rank-preserved c =
     }
 
 pub returns : goal.returns
-returns c = sym (count_of-end c.args.ranks.now c.loop-rank.rank-index c.loop-rank.ends c.loop-rank.forest.now (omega arith)) ∙ c.loop-rank.invariant.same
+returns c =
+    sym (count_of-end c.args.ranks.now c.loop-rank.rank-index c.loop-rank.ends c.loop-rank.forest.now
+    (omega arith)) ∙ c.loop-rank.invariant.same

@@ -6,5 +6,6 @@ use Rattle.ranking_trie.proofs.count.count.Given as goal
 abbrev pub invariant-loop-rank : goal.invariant-loop-rank
 invariant-loop-rank l = record {
   rising : IsRising 0 l.forest;
-  same : count_of (drop l.rank-index l.ranks) (replicate l.ends [] ++ bag l.forest) ≡ count_of l.ranks (replicate l.fn.ends [] ++ bag l.fn.forest);
+  same : count_of (drop l.rank-index l.ranks) (replicate l.ends [] ++ bag l.forest)
+      ≡ count_of l.ranks (replicate l.fn.ends [] ++ bag l.fn.forest);
 }

@@ -23,16 +23,22 @@ push_lines-push_node-requires t c =
     let all : All (λ r. IsRanking n (front ++ r)) (below k ends (bag inner) ++ bag next) =
     subst (λ (x : Forest). All (λ r. IsRanking n (front ++ r)) (bag x)) c.in-Grow.is now.rankings in
     let here : All (λ r. IsRanking n (front ++ r)) (below k ends (bag c.deref.result.now.inner)) =
-    subst (λ (x : Forest). All (λ r. IsRanking n (front ++ r)) (below k ends (bag x))) (sym lent) (All-left (λ r. IsRanking n (front ++ r)) (below k ends (bag inner)) (bag next) all) in
+    subst (λ (x : Forest). All (λ r. IsRanking n (front ++ r)) (below k ends (bag x))) (sym lent)
+    (All-left (λ r. IsRanking n (front ++ r)) (below k ends (bag inner)) (bag next) all) in
     let nodes : node_count c.loop-rest.rest.now ≡ 1 + node_count inner + node_count next = ap node_count c.in-Grow.is in
     let fewer : node_count c.deref.result.now.inner ≡ node_count inner = ap node_count lent in
-    let size : length (bag c.loop-rest.rest.now) ≡ length (below k ends (bag inner) ++ bag next) = ap (λ (x : Forest). length (bag x)) c.in-Grow.is in
-    let part : length (below k ends (bag c.deref.result.now.inner)) ≡ length (below k ends (bag inner)) = ap (λ (x : Forest). length (below k ends (bag x))) lent in
+    let size : length (bag c.loop-rest.rest.now) ≡ length (below k ends (bag inner) ++ bag next) =
+    ap (λ (x : Forest). length (bag x)) c.in-Grow.is in
+    let part : length (below k ends (bag c.deref.result.now.inner)) ≡ length (below k ends (bag inner)) =
+    ap (λ (x : Forest). length (below k ends (bag x))) lent in
     let both = length-append (below k ends (bag inner)) (bag next) in (
       omega arith,
       (
-        subst (λ (m : ℕ). All (λ r. IsRanking m (c.loop-rest.ranks.items ++ r)) (below k ends (bag c.deref.result.now.inner))) (sym now.candidates)
-            (subst (λ (f : List ℕ). All (λ r. IsRanking n (f ++ r)) (below k ends (bag c.deref.result.now.inner))) (sym now.ranks) here),
+        subst (λ (m : ℕ). All (λ r. IsRanking m (c.loop-rest.ranks.items ++ r))
+            (below k ends (bag c.deref.result.now.inner))) (sym now.candidates)
+            (subst
+            (λ (f : List ℕ). All (λ r. IsRanking n (f ++ r)) (below k ends (bag c.deref.result.now.inner)))
+            (sym now.ranks) here),
         omega arith,
       ),
     )
@@ -51,23 +57,27 @@ push_lines-loop-rest-preserved t c =
     let lent_next : c.deref-in-Grow.result.now.next ≡ next = ap (λ q. q.next) c.deref-in-Grow.ensures in
     let is : new ≡ c.loop-rest.ballots.lines ++ map (behind front) (node_lines k ends (lines_of inner)) =
     ap (λ (b : BallotList). b.lines) c.in_ok-push_node.ensures.lines
-    ∙ (ap (λ (f : List ℕ). c.loop-rest.ballots.lines ++ map (behind f) (node_lines k ends (lines_of c.deref.result.now.inner))) now.ranks
+    ∙ (ap (λ (f : List ℕ). c.loop-rest.ballots.lines
+    ++ map (behind f) (node_lines k ends (lines_of c.deref.result.now.inner))) now.ranks
     ∙ ap (λ (x : Forest). c.loop-rest.ballots.lines ++ map (behind front) (node_lines k ends (lines_of x))) lent) in
     let all : All (λ r. IsRanking n (front ++ r)) (below k ends (bag inner) ++ bag next) =
     subst (λ (x : Forest). All (λ r. IsRanking n (front ++ r)) (bag x)) c.in-Grow.is now.rankings in
     let more = count_step c.loop-rest.ballots.lines new front k ends inner is in
-    let size : length (bag c.loop-rest.rest.now) ≡ length (below k ends (bag inner) ++ bag next) = ap (λ (x : Forest). length (bag x)) c.in-Grow.is in
+    let size : length (bag c.loop-rest.rest.now) ≡ length (below k ends (bag inner) ++ bag next) =
+    ap (λ (x : Forest). length (bag x)) c.in-Grow.is in
     let both = length-append (below k ends (bag inner)) (bag next) in
     let nodes : node_count c.loop-rest.rest.now ≡ 1 + node_count inner + node_count next = ap node_count c.in-Grow.is in
     let fewer : node_count c.deref-in-Grow.result.now.next ≡ node_count next = ap node_count lent_next in
-    let rest : length (bag c.deref-in-Grow.result.now.next) ≡ length (bag next) = ap (λ (x : Forest). length (bag x)) lent_next in
+    let rest : length (bag c.deref-in-Grow.result.now.next) ≡ length (bag next) =
+    ap (λ (x : Forest). length (bag x)) lent_next in
     record {
       ranks = c.in_ok-push_node.ensures.ranks ∙ now.ranks;
       candidates = ap (λ (b : BallotList). b.candidates) c.in_ok-push_node.ensures.lines ∙ now.candidates;
       lines =
           ap (λ (x : Forest). new ++ map (behind front) (lines_of x)) lent_next
           ∙ (lines_step c.loop-rest.ballots.lines new front k ends inner next is
-          ∙ (ap (λ (x : Forest). c.loop-rest.ballots.lines ++ map (behind front) (lines_of x)) (sym c.in-Grow.is) ∙ now.lines));
+          ∙ (ap (λ (x : Forest). c.loop-rest.ballots.lines ++ map (behind front) (lines_of x))
+          (sym c.in-Grow.is) ∙ now.lines));
       rankings =
           subst (λ (x : Forest). All (λ r. IsRanking n (front ++ r)) (bag x)) (sym lent_next)
           (All-right (λ r. IsRanking n (front ++ r)) (below k ends (bag inner)) (bag next) all);
@@ -82,7 +92,10 @@ push_node-push_lines-requires t c =
     let inner = c.args.inner.now in
     let added = c.in_ok-push_line.ensures in
     let same : c.push_line.new.ballots.candidates ≡ n = ap (λ (b : BallotList). b.candidates) added in
-    let lines : c.push_line.new.ballots.lines ≡ c.args.ballots.now.lines ++ line_of c.args.ends c.as_slice.result.now = ap (λ (b : BallotList). b.lines) added in
+    let lines :
+    c.push_line.new.ballots.lines
+    ≡ c.args.ballots.now.lines ++ line_of c.args.ends c.as_slice.result.now =
+    ap (λ (b : BallotList). b.lines) added in
     let count : ballot_count c.push_line.new.ballots.lines ≡ ballot_count c.args.ballots.now.lines + c.args.ends =
     ap ballot_count lines ∙ count-push c.args.ballots.now.lines c.args.ends c.as_slice.result.now in
     let size = length-below c.args.c c.args.ends (bag inner) in (
@@ -97,5 +110,7 @@ push_node-push_lines-requires t c =
 
 pub push_node-returns-clause-lines : goal.push_node-returns-clause-lines
 push_node-returns-clause-lines t c =
-    node_listed c.args.ballots.now c.push_line.new.ballots c.push_lines.new.ballots c.args.ranks.now.items c.as_slice.result.now c.push.new.self.items c.args.c c.args.ends c.args.inner.now
-    (c.as_slice.ensures.value ∙ c.in-Ok.ensures.items) c.in-Ok.ensures.items c.in_ok-push_line.ensures c.in_ok-push_lines.ensures.lines
+    node_listed c.args.ballots.now c.push_line.new.ballots c.push_lines.new.ballots c.args.ranks.now.items
+    c.as_slice.result.now c.push.new.self.items c.args.c c.args.ends c.args.inner.now
+    (c.as_slice.ensures.value ∙ c.in-Ok.ensures.items) c.in-Ok.ensures.items c.in_ok-push_line.ensures
+    c.in_ok-push_lines.ensures.lines

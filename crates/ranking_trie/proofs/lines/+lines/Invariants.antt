@@ -10,7 +10,8 @@ abbrev pub invariant-push_lines-loop-rest : goal.invariant-push_lines-loop-rest
 invariant-push_lines-loop-rest l = record {
   ranks : l.ranks.items ≡ l.fn.ranks.items;
   candidates : l.ballots.candidates ≡ l.fn.ballots.candidates;
-  lines : l.ballots.lines ++ map (behind l.fn.ranks.items) (lines_of l.rest) ≡ l.fn.ballots.lines ++ map (behind l.fn.ranks.items) (lines_of l.fn.forest);
+  lines : l.ballots.lines ++ map (behind l.fn.ranks.items) (lines_of l.rest)
+      ≡ l.fn.ballots.lines ++ map (behind l.fn.ranks.items) (lines_of l.fn.forest);
   rankings : All (λ r. IsRanking l.fn.ballots.candidates (l.fn.ranks.items ++ r)) (bag l.rest);
   few : ballot_count l.ballots.lines + length (bag l.rest) ≤ 999999999;
   nodes : node_count l.rest ≤ node_count l.fn.forest;

@@ -7,20 +7,29 @@ use Rattle.ranking_trie.proofs.BagLemmas.{take_empty, put_behind}
 use Rattle.ranking_trie.proofs.CountLemmas.{count_of_blank}
 use Rattle.ranking_trie.proofs.remove.take_out.Goals as goal
 
-some_end : (ranks : List ℕ) (ends count : ℕ) (others : List (List ℕ)) → ranks ≡ [] → count ≤ count_of ranks others → count_of [] others ≡ ends → count ≤ ends
+some_end :
+    (ranks : List ℕ) (ends count : ℕ) (others : List (List ℕ)) → ranks ≡ [] → count ≤ count_of ranks others
+    → count_of [] others ≡ ends → count ≤ ends
 some_end ranks ends count others none held are = omega (arith, ap (λ (r : List ℕ). count_of r others) none)
 
 pub overflow_sub-result : goal.overflow_sub-result
 overflow_sub-result g c =
-    some_end c.args.ranks.now c.args.ends c.args.count (replicate c.args.ends [] ++ bag c.args.forest) (nil_from_length c.args.ranks.now c.if-ranks-eq0.true) c.requires.held (count_of_blank c.args.ends c.args.forest)
+    some_end c.args.ranks.now c.args.ends c.args.count (replicate c.args.ends [] ++ bag c.args.forest)
+    (nil_from_length c.args.ranks.now c.if-ranks-eq0.true) c.requires.held
+    (count_of_blank c.args.ends c.args.forest)
 
 pub returns-then-ranks-eq0-clause-bag : goal.returns-then-ranks-eq0-clause-bag
 returns-then-ranks-eq0-clause-bag g c =
     let none : c.args.ranks.now ≡ [] = nil_from_length c.args.ranks.now c.if-ranks-eq0.true in
     let others = bag c.args.forest in
-    let some = some_end c.args.ranks.now c.args.ends c.args.count (replicate c.args.ends [] ++ others) none c.requires.held (count_of_blank c.args.ends c.args.forest) in
-    subst (λ (r : List ℕ). IsPermutation (replicate {A = List ℕ} c.args.ends [] ++ others) (replicate c.args.count r ++ (replicate (c.args.ends - c.args.count) [] ++ others))) (sym none)
+    let some =
+    some_end c.args.ranks.now c.args.ends c.args.count (replicate c.args.ends [] ++ others) none
+    c.requires.held (count_of_blank c.args.ends c.args.forest) in
+    subst (λ (r : List ℕ). IsPermutation (replicate {A = List ℕ} c.args.ends [] ++ others)
+    (replicate c.args.count r ++ (replicate (c.args.ends - c.args.count) [] ++ others))) (sym none)
     (take_empty c.args.ends c.args.count others some)
 
 pub returns-clause-bag : goal.returns-clause-bag
-returns-clause-bag g c = put_behind (replicate c.args.ends []) (bag c.remove.result) (bag c.args.forest) (replicate c.args.count c.args.ranks.now) c.remove.ensures.bag
+returns-clause-bag g c =
+    put_behind (replicate c.args.ends []) (bag c.remove.result) (bag c.args.forest)
+    (replicate c.args.count c.args.ranks.now) c.remove.ensures.bag

@@ -12,18 +12,33 @@ use Rattle.shard_office.proofs.ClosingLemmas.{ended_more}
 use Rattle.shard_office.proofs.ending.end_all.Goals as goal
 
 -- the last seat that is left may end the last lock
-may : (c : goal.After-end-arg-1) → MayEnd c.args.shards c.args.candidates c.args.locks.items c.args.ties.now.items c.len-i.result c.in-Some-pop.seat
+may :
+    (c : goal.After-end-arg-1)
+    → MayEnd c.args.shards c.args.candidates c.args.locks.items c.args.ties.now.items c.len-i.result
+    c.in-Some-pop.seat
 may c =
-    let seats = front_less c.pop-in-Some.new.self.items c.args.seats.items c.in-Some-pop.seat (vec_len c.loop-lock.seats) (sym c.in-Some-pop.ensures.items ∙ c.loop-lock.invariant.seats) in
+    let seats =
+    front_less c.pop-in-Some.new.self.items c.args.seats.items c.in-Some-pop.seat
+    (vec_len c.loop-lock.seats) (sym c.in-Some-pop.ensures.items ∙ c.loop-lock.invariant.seats) in
     let count = c.loop-lock.invariant.count in
-    let m : length c.pop-in-Some.new.self.items ≡ c.len-i.result = omega (arith, c.len-i.ensures, c.pop-in-Some.new.self.ok.0, c.in-Some.ensures.cases, c.in-Some-pop.ensures.cases) in
+    let m : length c.pop-in-Some.new.self.items ≡ c.len-i.result =
+    omega (
+      arith,
+      c.len-i.ensures,
+      c.pop-in-Some.new.self.ok.0,
+      c.in-Some.ensures.cases,
+      c.in-Some-pop.ensures.cases,
+    ) in
     c.requires.may c.len-i.result c.in-Some-pop.seat (ap (slice_get c.args.seats.items) (sym m) ∙ seats.1)
 
 pub end-requires-clause-own : goal.end-requires-clause-own
 end-requires-clause-own c =
-    let locks = front_less c.pop.new.self.items c.args.locks.items c.in-Some.lock (vec_len c.loop-lock.locks) (sym c.in-Some.ensures.items ∙ c.loop-lock.invariant.locks) in
+    let locks =
+    front_less c.pop.new.self.items c.args.locks.items c.in-Some.lock (vec_len c.loop-lock.locks)
+    (sym c.in-Some.ensures.items ∙ c.loop-lock.invariant.locks) in
     let n : length c.pop.new.self.items ≡ c.len-i.result = omega (arith, c.len-i.ensures, c.pop.new.self.ok.0) in
-    same_place c.args.locks.items c.len-i.result (length c.pop.new.self.items) c.in-Some-pop.seat.lock c.in-Some.lock (sym n) (may c).lock locks.1
+    same_place c.args.locks.items c.len-i.result (length c.pop.new.self.items) c.in-Some-pop.seat.lock
+    c.in-Some.lock (sym n) (may c).lock locks.1
 
 pub end-requires-clause-alone : goal.end-requires-clause-alone
 end-requires-clause-alone c =
@@ -33,14 +48,24 @@ end-requires-clause-alone c =
 -- the tie at the place of the last lock that is left
 tie : (c : goal.After-end-arg-1) → slice_get c.args.ties.now.items c.len-i.result ≡ Some c.index.result.now
 tie c =
-    let lt : c.len-i.result < length c.args.ties.now.items = omega (arith, c.args.ties.now.ok.0, c.requires.len, c.loop-lock.invariant.done, c.len-i.ensures, c.in-Some.ensures.cases) in
+    let lt : c.len-i.result < length c.args.ties.now.items =
+    omega (
+      arith,
+      c.args.ties.now.ok.0,
+      c.requires.len,
+      c.loop-lock.invariant.done,
+      c.len-i.ensures,
+      c.in-Some.ensures.cases,
+    ) in
     get_in c.args.ties.now.items c.len-i.result c.index.result.now lt c.index.ensures
 
 pub end-requires-clause-name : goal.end-requires-clause-name
 end-requires-clause-name c = (may c).name c.index.result.now (tie c)
 
 pub end-requires-clause-tie : goal.end-requires-clause-tie
-end-requires-clause-tie c = ap (λ (l : List TableId). slice_get l c.len-i.result) (ap (λ (r : SeenRegister). r.ties) c.loop-lock.invariant.kept ∙ c.requires.ties) ∙ tie c
+end-requires-clause-tie c =
+    ap (λ (l : List TableId). slice_get l c.len-i.result)
+    (ap (λ (r : SeenRegister). r.ties) c.loop-lock.invariant.kept ∙ c.requires.ties) ∙ tie c
 
 pub index-requires : goal.index-requires
 index-requires c = omega (arith, c.requires.len, c.loop-lock.invariant.done, c.len-i.ensures, c.in-Some.ensures.cases)
@@ -75,18 +100,28 @@ returns-clause-len c = omega (arith, c.loop-lock.invariant.done, c.in_default.en
 
 pub loop-lock-preserved : goal.loop-lock-preserved
 loop-lock-preserved c =
-    let locks = front_less c.pop.new.self.items c.args.locks.items c.in-Some.lock (vec_len c.loop-lock.locks) (sym c.in-Some.ensures.items ∙ c.loop-lock.invariant.locks) in
-    let seats = front_less c.pop-in-Some.new.self.items c.args.seats.items c.in-Some-pop.seat (vec_len c.loop-lock.seats) (sym c.in-Some-pop.ensures.items ∙ c.loop-lock.invariant.seats) in
+    let locks =
+    front_less c.pop.new.self.items c.args.locks.items c.in-Some.lock (vec_len c.loop-lock.locks)
+    (sym c.in-Some.ensures.items ∙ c.loop-lock.invariant.locks) in
+    let seats =
+    front_less c.pop-in-Some.new.self.items c.args.seats.items c.in-Some-pop.seat
+    (vec_len c.loop-lock.seats) (sym c.in-Some-pop.ensures.items ∙ c.loop-lock.invariant.seats) in
     let n : length c.pop.new.self.items ≡ vec_len c.pop.new.self = omega (arith, c.pop.new.self.ok.0) in
-    let m : length c.pop-in-Some.new.self.items ≡ vec_len c.pop-in-Some.new.self = omega (arith, c.pop-in-Some.new.self.ok.0) in
+    let m : length c.pop-in-Some.new.self.items ≡ vec_len c.pop-in-Some.new.self =
+    omega (arith, c.pop-in-Some.new.self.ok.0) in
     let one = c.in-Some.ensures.cases in
     let two = c.in-Some-pop.ensures.cases in
     let count = c.loop-lock.invariant.count in
     let done = c.loop-lock.invariant.done in
     let same : length c.pop-in-Some.new.self.items ≡ c.len-i.result = omega (arith, c.len-i.ensures) in
-    let marks : c.loop-lock.kept.register.marks ≡ c.end.new.kept.register.marks = sym (ap (λ (r : SeenRegister). r.register.marks) c.end.ensures.kept) in
-    let more = ended_more c.args.shards c.args.candidates (vec_len c.args.locks) c.len-i.result c.loop-lock.kept.register.marks c.args.seats.items c.loop-lock.lists.items c.in-Some-pop.seat c.end.result
-    c.loop-lock.invariant.ended (omega (arith, c.len-i.ensures, c.loop-lock.lists.ok.0)) (ap (slice_get c.args.seats.items) (sym same) ∙ seats.1) c.end.ensures.ended in
+    let marks : c.loop-lock.kept.register.marks ≡ c.end.new.kept.register.marks =
+    sym (ap (λ (r : SeenRegister). r.register.marks) c.end.ensures.kept) in
+    let more =
+    ended_more c.args.shards c.args.candidates (vec_len c.args.locks) c.len-i.result
+    c.loop-lock.kept.register.marks c.args.seats.items c.loop-lock.lists.items c.in-Some-pop.seat
+    c.end.result
+    c.loop-lock.invariant.ended (omega (arith, c.len-i.ensures, c.loop-lock.lists.ok.0))
+    (ap (slice_get c.args.seats.items) (sym same) ∙ seats.1) c.end.ensures.ended in
     record {
       count = omega arith;
       done = omega (arith, c.push_reserved.ensures.len);
@@ -94,9 +129,14 @@ loop-lock-preserved c =
       locks = locks.0 ∙ ap (λ k. take k c.args.locks.items) n;
       seats = seats.0 ∙ ap (λ k. take k c.args.seats.items) m;
       kept = c.end.ensures.kept ∙ c.loop-lock.invariant.kept;
-      ended = subst (λ (z : List Mark × List EntryList). AreEnded c.args.shards c.args.candidates (vec_len c.args.locks) z.0 c.args.seats.items z.1) (λ i. (marks i, sym c.push_reserved.ensures.items i)) more;
+      ended =
+          subst (λ (z : List Mark × List EntryList). AreEnded c.args.shards c.args.candidates
+          (vec_len c.args.locks) z.0 c.args.seats.items z.1)
+          (λ i. (marks i, sym c.push_reserved.ensures.items i)) more;
     }
 
 pub returns-clause-ended : goal.returns-clause-ended
 returns-clause-ended c =
-    subst (λ (r : SeenRegister). AreEnded c.args.shards c.args.candidates (vec_len c.args.locks) r.register.marks c.args.seats.items c.loop-lock.lists.items) c.loop-lock.invariant.kept c.loop-lock.invariant.ended
+    subst (λ (r : SeenRegister). AreEnded c.args.shards c.args.candidates (vec_len c.args.locks)
+    r.register.marks c.args.seats.items c.loop-lock.lists.items) c.loop-lock.invariant.kept
+    c.loop-lock.invariant.ended

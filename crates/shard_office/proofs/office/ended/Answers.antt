@@ -16,7 +16,8 @@ use Rattle.shard_office.proofs.office.ended.Goals as goal
 
 pub end_all-requires-clause-may : goal.end_all-requires-clause-may
 end_all-requires-clause-may c i s es =
-    let same : c.clerk.inside.office.value ≡ c.args.office = ap (λ (z : ClerkState). z.desk.office) c.clerk.view_is ∙ c.requires.office in
+    let same : c.clerk.inside.office.value ≡ c.args.office =
+    ap (λ (z : ClerkState). z.desk.office) c.clerk.view_is ∙ c.requires.office in
     let teams : c.clerk.inside.teams ≡ 0 = ap (λ (z : ClerkState). z.open_teams) c.clerk.view_is ∙ c.requires.alone in
     let to : c.clerk.inside.office.value ≡ _ = same ∙ sym c.office.view_is in
     let first = c.clerk.invariant.0.shards i s es in
@@ -27,12 +28,16 @@ end_all-requires-clause-may c i s es =
       first = first.first;
       free = mine.free;
       alone = no_length s.out (omega arith);
-      name = λ t et. mine.name t (ap (λ (k : OfficeState). slice_get k.identity.ties i) to ∙ et) ∙ (λ j. Some (record { shard = i + 1; shards = (to j).shards; candidates = (to j).candidates; tie = t }));
+      name =
+          λ t et. mine.name t (ap (λ (k : OfficeState). slice_get k.identity.ties i) to ∙ et)
+          ∙ (λ j. Some (record
+          { shard = i + 1; shards = (to j).shards; candidates = (to j).candidates; tie = t }));
     }
 
 pub invariant_of-result : goal.invariant_of-result
 invariant_of-result c =
-    let same : c.clerk.inside.office.value ≡ c.args.office = ap (λ (z : ClerkState). z.desk.office) c.clerk.view_is ∙ c.requires.office in
+    let same : c.clerk.inside.office.value ≡ c.args.office =
+    ap (λ (z : ClerkState). z.desk.office) c.clerk.view_is ∙ c.requires.office in
     let teams : c.clerk.inside.teams ≡ 0 = ap (λ (z : ClerkState). z.open_teams) c.clerk.view_is ∙ c.requires.alone in
     let taken : List PassState = map (λ t. t.value) c.clerk.inside.taken.items in
     let seats = c.clerk.inside.seats.shards.items in
@@ -40,21 +45,66 @@ invariant_of-result c =
     let lists = c.end_all.new.lists.items in
     let marks = c.close-kept.result.register.marks in
     let are : AreFirst c.args.office c.clerk.inside.last 0 taken seats register =
-    subst (λ (z : OfficeState × ℕ). AreFirst z.0 c.clerk.inside.last z.1 taken seats register) (λ i. (same i, teams i)) c.clerk.invariant.0 in
+    subst (λ (z : OfficeState × ℕ). AreFirst z.0 c.clerk.inside.last z.1 taken seats register)
+    (λ i. (same i, teams i)) c.clerk.invariant.0 in
     let shards = ap (λ (o : OfficeState). o.shards) c.office.view_is in
     let candidates = ap (λ (o : OfficeState). o.candidates) c.office.view_is in
-    let n : vec_len c.office.inside.locks ≡ c.args.office.shards = omega (arith, c.office.inside.locks.ok.0, c.office.invariant.0) in
+    let n : vec_len c.office.inside.locks ≡ c.args.office.shards =
+    omega (arith, c.office.inside.locks.ok.0, c.office.invariant.0) in
     let len : length lists ≡ c.args.office.shards = omega (arith, c.end_all.ensures.len, c.end_all.new.lists.ok.0) in
     let some : 1 ≤ c.args.office.shards = omega (arith, c.office.invariant.2) in
     let ended : AreEnded c.args.office.shards c.args.office.candidates c.args.office.shards marks seats lists =
-    subst (λ (z : ℕ × ℕ × ℕ). AreEnded z.0 z.1 z.2 marks seats lists) (λ i. (shards i, candidates i, n i)) c.end_all.ensures.ended in
-    let name : Some (register_name c.close-kept.result) ≡ Some (record { shards = c.args.office.shards; candidates = c.args.office.candidates; ties = c.args.office.identity.ties }) = sym c.close-kept.ensures.name ∙ are.at.registered.name in
-    let named : register_name c.close-kept.result ≡ record { shards = c.args.office.shards; candidates = c.args.office.candidates; ties = c.args.office.identity.ties } = cc name in
+    subst (λ (z : ℕ × ℕ × ℕ). AreEnded z.0 z.1 z.2 marks seats lists) (λ i. (shards i, candidates i, n i))
+    c.end_all.ensures.ended in
+    let name :
+    Some (register_name c.close-kept.result)
+    ≡ Some (record {
+      shards = c.args.office.shards;
+      candidates = c.args.office.candidates;
+      ties = c.args.office.identity.ties;
+    }) =
+    sym c.close-kept.ensures.name ∙ are.at.registered.name in
+    let named :
+    register_name c.close-kept.result
+    ≡ record {
+      shards = c.args.office.shards;
+      candidates = c.args.office.candidates;
+      ties = c.args.office.identity.ties;
+    } =
+    cc name in
     let may : All (MayMark c.args.office.shards c.args.office.candidates) marks =
     subst (λ (k : RegisterName). All (MayMark k.shards k.candidates) marks) named c.vouch.ensures in
-    let clerk : record { desk = record { office = c.args.office; caller = 0; sight = sight_of seats register; mine = mine_of seats register }; taken = taken; last_caller = c.clerk.inside.last; open_teams = 0 } ≡ c.of-about.result.value =
-    (λ i. record { desk = record { office = sym same i; caller = 0; sight = sight_of seats register; mine = mine_of seats register }; taken = taken; last_caller = c.clerk.inside.last; open_teams = sym teams i }) ∙ (c.clerk.view_is ∙ sym c.of-about.ensures) in
-    let all = all_held c.args.office c.clerk.inside.last taken seats register are marks lists len some ended may c.close-kept.ensures.begins c.close-kept.ensures.given in
-    let now : marks ≡ c.end_all.new.kept.register.marks = sym (ap (λ (r : SeenRegister). r.register.marks) c.end_all.ensures.kept) in
-    let list : reverse lists ≡ c.new.result ++ reverse lists = ap (λ (l : List EntryList). l ++ reverse lists) (sym c.new.ensures) in
-    subst (λ (z : List Mark × List EntryList × ClerkState). HoldsAll z.2 z.0 (list_of z.1)) (λ i. (now i, list i, clerk i)) all
+    let clerk :
+    record {
+      desk =
+          record {
+            office = c.args.office;
+            caller = 0;
+            sight = sight_of seats register;
+            mine = mine_of seats register;
+          };
+      taken = taken;
+      last_caller = c.clerk.inside.last;
+      open_teams = 0;
+    } ≡ c.of-about.result.value =
+    (λ i. record {
+      desk =
+          record {
+            office = sym same i;
+            caller = 0;
+            sight = sight_of seats register;
+            mine = mine_of seats register;
+          };
+      taken = taken;
+      last_caller = c.clerk.inside.last;
+      open_teams = sym teams i;
+    }) ∙ (c.clerk.view_is ∙ sym c.of-about.ensures) in
+    let all =
+    all_held c.args.office c.clerk.inside.last taken seats register are marks lists len some ended may
+    c.close-kept.ensures.begins c.close-kept.ensures.given in
+    let now : marks ≡ c.end_all.new.kept.register.marks =
+    sym (ap (λ (r : SeenRegister). r.register.marks) c.end_all.ensures.kept) in
+    let list : reverse lists ≡ c.new.result ++ reverse lists =
+    ap (λ (l : List EntryList). l ++ reverse lists) (sym c.new.ensures) in
+    subst (λ (z : List Mark × List EntryList × ClerkState). HoldsAll z.2 z.0 (list_of z.1))
+    (λ i. (now i, list i, clerk i)) all

@@ -8,7 +8,9 @@ use Rattle.shard_office.proofs.turns.give_all.Goals as goal
 pub give-requires-clause-held : goal.give-requires-clause-held
 give-requires-clause-held c s e =
     let was : c.loop-value.held.items ≡ c.pop.new.self.items ++ c.in-Some.value ∷ [] = c.in-Some.ensures.items in
-    held_last c.pop.new.self.items c.in-Some.value c.loop-value.seats.items c.len.result s (subst (λ (l : List SeenShard). AreHeld l c.loop-value.seats.items) was c.loop-value.invariant.held) (omega (arith, c.len.ensures, c.pop.new.self.ok.0)) e
+    held_last c.pop.new.self.items c.in-Some.value c.loop-value.seats.items c.len.result s
+    (subst (λ (l : List SeenShard). AreHeld l c.loop-value.seats.items) was c.loop-value.invariant.held)
+    (omega (arith, c.len.ensures, c.pop.new.self.ok.0)) e
 
 pub loop-value-preserved : goal.loop-value-preserved
 loop-value-preserved c =
@@ -20,9 +22,15 @@ loop-value-preserved c =
       count = omega (arith, c.loop-value.invariant.count);
       len = c.give.ensures.len ∙ c.loop-value.invariant.len;
       own = c.give.ensures.own;
-      held = held_fewer c.pop.new.self.items c.in-Some.value c.loop-value.seats.items c.give.new.seats.items held (λ i ne. c.give.ensures.others i (λ e. ne (e ∙ sym n)));
-      given = given_more (vec_len c.pop.new.self) c.args.seats.now.items c.loop-value.seats.items c.give.new.seats.items (subst (λ k. GaveTurns k c.args.seats.now.items c.loop-value.seats.items) m c.loop-value.invariant.given)
+      held =
+          held_fewer c.pop.new.self.items c.in-Some.value c.loop-value.seats.items c.give.new.seats.items held
+          (λ i ne. c.give.ensures.others i (λ e. ne (e ∙ sym n)));
+      given =
+          given_more (vec_len c.pop.new.self) c.args.seats.now.items c.loop-value.seats.items
+          c.give.new.seats.items (subst (λ k. GaveTurns k c.args.seats.now.items c.loop-value.seats.items) m
+          c.loop-value.invariant.given)
           (omega (arith, c.give.ensures.len, c.loop-value.seats.ok.0, c.give.new.seats.ok.0))
-          (λ x y ex ey. c.give.ensures.given x y (ap (slice_get c.loop-value.seats.items) c.len.ensures ∙ ex) (ap (slice_get c.give.new.seats.items) c.len.ensures ∙ ey))
+          (λ x y ex ey. c.give.ensures.given x y (ap (slice_get c.loop-value.seats.items) c.len.ensures ∙ ex)
+          (ap (slice_get c.give.new.seats.items) c.len.ensures ∙ ey))
           (λ i ne. c.give.ensures.others i (λ e. ne (e ∙ c.len.ensures)));
     }

@@ -13,14 +13,22 @@ loop-row-init g c = nothing _ _ _ _
 pub loop-row-preserved : goal.loop-row-preserved
 loop-row-preserved g c =
     item_more (row_text c.args.values.now) c.args.values.now.rows c.loop-row.row-index c.row-item.result
-    (subst (λ (l : List Row). c.row-item.result ≡ get_or l c.loop-row.row-index c.row-item.result) (c.items-row-items.ensures ∙ ap (λ (v : SheetList). v.rows) c.values.view_is) c.row-item.is)
-    (subst (λ (l : List Row). c.loop-row.row-index < length l) (c.items-row-items.ensures ∙ ap (λ (v : SheetList). v.rows) c.values.view_is) c.loop-row-test.true)
+    (subst (λ (l : List Row). c.row-item.result ≡ get_or l c.loop-row.row-index c.row-item.result)
+    (c.items-row-items.ensures ∙ ap (λ (v : SheetList). v.rows) c.values.view_is) c.row-item.is)
+    (subst (λ (l : List Row). c.loop-row.row-index < length l)
+    (c.items-row-items.ensures ∙ ap (λ (v : SheetList). v.rows) c.values.view_is) c.loop-row-test.true)
     c.loop-row.invariant c.write_row.ensures
 
 pub returns : goal.returns
 returns g c =
-    let past = subst (λ (l : List Row). length l ≤ c.loop-row.row-index) (c.items-row-items.ensures ∙ ap (λ (v : SheetList). v.rows) c.values.view_is) c.loop-row-test.false in
-    let rows = items_all (row_text c.args.values.now) c.args.values.now.rows c.loop-row.row-index past c.loop-row.invariant in
+    let past =
+    subst (λ (l : List Row). length l ≤ c.loop-row.row-index)
+    (c.items-row-items.ensures ∙ ap (λ (v : SheetList). v.rows) c.values.view_is)
+    c.loop-row-test.false in
+    let rows =
+    items_all (row_text c.args.values.now) c.args.values.now.rows c.loop-row.row-index past
+    c.loop-row.invariant in
     let all = renamed (csv-parts c.args.values.now) (later c.write_head.ensures rows) in
-    subst (λ r. Writes g.K.Sink.written g.K.Sink.faults c.args.sink.now c.loop-row.sink (csv_of c.args.values.now) r) (sym c.end.ensures)
+    subst (λ r. Writes g.K.Sink.written g.K.Sink.faults c.args.sink.now c.loop-row.sink
+    (csv_of c.args.values.now) r) (sym c.end.ensures)
     (all.well (tt {0}) c.new-pen.ensures)

@@ -18,19 +18,44 @@ record_is :
     (v : SheetList) (row : Row) (p : ℕ) (name outcome state elected capped tied defeated step : List ℕ) (keep vote : ℕ)
     → name ≡ name_at v p → outcome ≡ state_word (state_at v.last p) → state ≡ state_word (state_at row.states p)
     → keep ≡ slice_index row.keeps p → vote ≡ slice_index row.votes p
-    → elected ≡ yes_or_no (mark_at row.elected p) → capped ≡ yes_or_no (mark_at row.capped p) → tied ≡ yes_or_no (mark_at row.tied p)
+    → elected ≡ yes_or_no (mark_at row.elected p) → capped ≡ yes_or_no (mark_at row.capped p)
+    → tied ≡ yes_or_no (mark_at row.tied p)
     → defeated ≡ yes_or_no (defeats row.step (p + 1)) → step ≡ step_word row.step
-    → decimal row.round ∷ decimal row.iteration ∷ decimal (p + 1) ∷ name ∷ outcome ∷ state ∷ text_of 9 keep ∷ text_of 9 vote ∷ elected ∷ capped ∷ tied ∷ defeated
+    → decimal row.round ∷ decimal row.iteration ∷ decimal (p + 1) ∷ name ∷ outcome ∷ state ∷ text_of 9 keep
+    ∷ text_of 9 vote ∷ elected ∷ capped ∷ tied ∷ defeated
     ∷ text_of 9 row.total ∷ text_of 9 row.quota ∷ text_of 9 row.surplus ∷ step ∷ [] ≡ csv_record v row p
-record_is v row p name outcome state elected capped tied defeated step keep vote is_name is_outcome is_state is_keep is_vote is_elected is_capped is_tied is_defeated is_step =
+record_is v row p name outcome state elected capped tied defeated step keep vote is_name is_outcome is_state
+    is_keep is_vote is_elected is_capped is_tied is_defeated is_step =
     rw (is_name, is_outcome, is_state, is_keep, is_vote, is_elected, is_capped, is_tied, is_defeated, is_step) refl
 
 pub returns : goal.returns
 returns g c =
     let u = c.values.inside in
-    let v : SheetList = record { title = u.title; seats = u.seats; ballots = u.ballots; names = u.names; rows = u.rows; last = u.last } in
+    let v : SheetList =
+    record {
+      title = u.title;
+      seats = u.seats;
+      ballots = u.ballots;
+      names = u.names;
+      rows = u.rows;
+      last = u.last;
+    } in
     let r = c.row.inside in
-    let row : Row = record { round = r.round; iteration = r.iteration; states = r.states; keeps = r.keeps; votes = r.votes; total = r.total; quota = r.quota; surplus = r.surplus; elected = r.elected; capped = r.capped; tied = r.tied; step = r.step } in
+    let row : Row =
+    record {
+      round = r.round;
+      iteration = r.iteration;
+      states = r.states;
+      keeps = r.keeps;
+      votes = r.votes;
+      total = r.total;
+      quota = r.quota;
+      surplus = r.surplus;
+      elected = r.elected;
+      capped = r.capped;
+      tied = r.tied;
+      step = r.step;
+    } in
     let p = c.args.p in
     let same = record_is v row p _ _ _ _ _ _ _ _ _ _
     (c.bytes-name.ensures.value ∙ sym (get_or_from_slice_get v.names p c.get.result.now [] c.get.ensures))
@@ -43,4 +68,5 @@ returns g c =
     (c.yes_or_no-tied.ensures ∙ ap yes_or_no c.get-7.ensures.mark)
     (c.yes_or_no-defeated.ensures ∙ ap yes_or_no c.defeats.ensures)
     c.step_word.ensures in
-    renamed (ap record_text (same ∙ ap (λ (w : SheetList). csv_record w row p) c.values.view_is ∙ ap (λ (r : Row). csv_record c.args.values.now r p) c.row.view_is)) c.record.ensures
+    renamed (ap record_text (same ∙ ap (λ (w : SheetList). csv_record w row p) c.values.view_is
+    ∙ ap (λ (r : Row). csv_record c.args.values.now r p) c.row.view_is)) c.record.ensures

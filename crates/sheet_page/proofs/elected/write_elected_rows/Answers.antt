@@ -13,12 +13,20 @@ loop-row-init g c = nothing _ _ _ _
 
 pub loop-row-preserved : goal.loop-row-preserved
 loop-row-preserved g c =
-    item_more (λ row. printed (elected_in c.args.values.now row)) c.args.values.now.rows c.loop-row.row-index c.row-item.result
-    (subst (λ (l : List Row). c.row-item.result ≡ get_or l c.loop-row.row-index c.row-item.result) (c.items-row-items.ensures ∙ ap (λ (v : SheetList). v.rows) c.values.view_is) c.row-item.is)
-    (subst (λ (l : List Row). c.loop-row.row-index < length l) (c.items-row-items.ensures ∙ ap (λ (v : SheetList). v.rows) c.values.view_is) c.loop-row-test.true)
-    c.loop-row.invariant (renamed (printed-each (elected_item c.args.values.now c.row-item.result) (places (length c.args.values.now.names))) c.write_elected_in.ensures)
+    item_more (λ row. printed (elected_in c.args.values.now row)) c.args.values.now.rows c.loop-row.row-index
+    c.row-item.result
+    (subst (λ (l : List Row). c.row-item.result ≡ get_or l c.loop-row.row-index c.row-item.result)
+    (c.items-row-items.ensures ∙ ap (λ (v : SheetList). v.rows) c.values.view_is) c.row-item.is)
+    (subst (λ (l : List Row). c.loop-row.row-index < length l)
+    (c.items-row-items.ensures ∙ ap (λ (v : SheetList). v.rows) c.values.view_is) c.loop-row-test.true)
+    c.loop-row.invariant (renamed (printed-each (elected_item c.args.values.now c.row-item.result)
+    (places (length c.args.values.now.names))) c.write_elected_in.ensures)
 
 pub returns : goal.returns
 returns g c =
-    let past = subst (λ (l : List Row). length l ≤ c.loop-row.row-index) (c.items-row-items.ensures ∙ ap (λ (v : SheetList). v.rows) c.values.view_is) c.loop-row-test.false in
-    items_all (λ row. printed (elected_in c.args.values.now row)) c.args.values.now.rows c.loop-row.row-index past c.loop-row.invariant
+    let past =
+    subst (λ (l : List Row). length l ≤ c.loop-row.row-index)
+    (c.items-row-items.ensures ∙ ap (λ (v : SheetList). v.rows) c.values.view_is)
+    c.loop-row-test.false in
+    items_all (λ row. printed (elected_in c.args.values.now row)) c.args.values.now.rows c.loop-row.row-index
+    past c.loop-row.invariant

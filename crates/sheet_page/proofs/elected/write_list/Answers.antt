@@ -9,5 +9,9 @@ use Rattle.sheet_page.proofs.elected.write_list.Goals as goal
 
 pub returns : goal.returns
 returns g c =
-    renamed (wrapped (codes "ol") ([]) (each (elected_in c.args.values.now) c.args.values.now.rows ∷ each (seated_item c.args.values.now) (places (length c.args.values.now.names)) ∷ []))
-    (later c.open.ensures (later (renamed (printed-each (elected_in c.args.values.now) c.args.values.now.rows) c.write_elected_rows.ensures) (later (renamed (printed-each (seated_item c.args.values.now) (places (length c.args.values.now.names))) c.write_seated.ensures) c.close.ensures)))
+    renamed (wrapped (codes "ol") ([]) (each (elected_in c.args.values.now) c.args.values.now.rows
+    ∷ each (seated_item c.args.values.now) (places (length c.args.values.now.names)) ∷ []))
+    (later c.open.ensures (later (renamed (printed-each (elected_in c.args.values.now) c.args.values.now.rows)
+    c.write_elected_rows.ensures) (later (renamed
+    (printed-each (seated_item c.args.values.now) (places (length c.args.values.now.names)))
+    c.write_seated.ensures) c.close.ensures)))

@@ -7,4 +7,6 @@ pub loop-p-init : goal.loop-p-init
 loop-p-init g c = nothing _ _ _ _
 
 pub loop-p-preserved : goal.loop-p-preserved
-loop-p-preserved g c = place_more (λ p. printed ((seated_item c.args.values.now) p)) c.loop-p.p c.loop-p.invariant c.write_seated_item.ensures
+loop-p-preserved g c =
+    place_more (λ p. printed ((seated_item c.args.values.now) p)) c.loop-p.p c.loop-p.invariant
+    c.write_seated_item.ensures

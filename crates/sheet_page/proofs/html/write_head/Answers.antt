@@ -13,6 +13,9 @@ returns g c =
     let charset = at (codes "charset") (codes "utf-8") ∷ [] in
     let viewport = at (codes "name") (codes "viewport") ∷ at (codes "content") (codes "width=device-width") ∷ [] in
     let title = c.bytes.ensures.value ∙ ap (λ (v : SheetList). v.title) c.values.view_is in
-    renamed (wrapped (codes "head") [] (void (codes "meta") charset ∷ void (codes "meta") viewport ∷ window_title c.args.values.now.title ∷ style_part ∷ []))
-    (later c.open.ensures (later (renamed (sym (append-nil _)) c.start.ensures) (later (renamed (sym (append-nil _)) c.start-2.ensures)
-    (later (renamed (ap (λ l. printed (window_title l)) title) c.write_window_title.ensures) (later c.write_style.ensures c.close.ensures)))))
+    renamed (wrapped (codes "head") [] (void (codes "meta") charset ∷ void (codes "meta") viewport
+    ∷ window_title c.args.values.now.title ∷ style_part ∷ []))
+    (later c.open.ensures (later (renamed (sym (append-nil _)) c.start.ensures)
+    (later (renamed (sym (append-nil _)) c.start-2.ensures)
+    (later (renamed (ap (λ l. printed (window_title l)) title) c.write_window_title.ensures)
+    (later c.write_style.ensures c.close.ensures)))))

@@ -7,5 +7,6 @@ use Rattle.sheet_page.proofs.html.write_html.Goals as goal
 pub returns : goal.returns
 returns g c =
     let all = later c.piece.ensures c.write_page.ensures in
-    subst (λ r. Writes g.K.Sink.written g.K.Sink.faults c.args.sink.now c.write_page.new.sink (html_of c.args.values.now) r) (sym c.end.ensures)
+    subst (λ r. Writes g.K.Sink.written g.K.Sink.faults c.args.sink.now c.write_page.new.sink
+    (html_of c.args.values.now) r) (sym c.end.ensures)
     (all.well (tt {0}) c.new-pen.ensures)

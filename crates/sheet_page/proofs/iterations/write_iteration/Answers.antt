@@ -12,4 +12,5 @@ returns g c =
     let at = standing_at c.args.values.now c.args.row.now in
     let all = places (length c.args.values.now.names) in
     renamed (wrapped (codes "tbody") [] (iteration_head c.args.row.now ∷ each at all ∷ []))
-    (later c.open.ensures (later c.write_iteration_head.ensures (later (renamed (printed-each at all) c.write_standings.ensures) c.close.ensures)))
+    (later c.open.ensures (later c.write_iteration_head.ensures
+    (later (renamed (printed-each at all) c.write_standings.ensures) c.close.ensures)))

@@ -8,5 +8,7 @@ use Rattle.sheet_page.proofs.iterations.write_iteration_head.Goals as goal
 pub returns : goal.returns
 returns g c =
     let row = c.row.inside in
-    renamed (ap (λ (step : List ℕ). printed (iteration_line row.iteration row.total row.quota row.surplus step)) c.step_word-step.ensures
+    renamed (ap
+    (λ (step : List ℕ). printed (iteration_line row.iteration row.total row.quota row.surplus step))
+    c.step_word-step.ensures
     ∙ ap (λ (r : Row). printed (iteration_head r)) c.row.view_is) c.write_iteration_line.ensures

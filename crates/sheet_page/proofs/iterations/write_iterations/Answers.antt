@@ -12,4 +12,5 @@ returns g c =
     let at = iteration_at c.args.values.now c.args.round in
     let all = places (length c.args.values.now.rows) in
     renamed (wrapped (codes "table") [] (columns ∷ each at all ∷ []))
-    (later c.open.ensures (later c.write_columns.ensures (later (renamed (printed-each at all) c.write_iterations_of.ensures) c.close.ensures)))
+    (later c.open.ensures (later c.write_columns.ensures
+    (later (renamed (printed-each at all) c.write_iterations_of.ensures) c.close.ensures)))

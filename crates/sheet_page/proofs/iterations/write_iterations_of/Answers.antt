@@ -8,4 +8,5 @@ loop-i-init g c = nothing _ _ _ _
 
 pub loop-i-preserved : goal.loop-i-preserved
 loop-i-preserved g c =
-    place_more (λ i. printed (iteration_at c.args.values.now c.args.round i)) c.loop-i.i c.loop-i.invariant c.write_iteration_at.ensures
+    place_more (λ i. printed (iteration_at c.args.values.now c.args.round i)) c.loop-i.i c.loop-i.invariant
+    c.write_iteration_at.ensures

@@ -6,7 +6,8 @@ returns-in_err-write_bytes g c = stops _ _ c.from_residual.ensures.0 c.in_err-wr
 
 pub returns-in_err-write_readable : goal.returns-in_err-write_readable
 returns-in_err-write_readable g c =
-    later _ _ _ c.in_ok-write_bytes.ensures (stops _ _ c.from_residual-in_err-write_readable.ensures.0 c.in_err-write_readable.ensures)
+    later _ _ _ c.in_ok-write_bytes.ensures
+    (stops _ _ c.from_residual-in_err-write_readable.ensures.0 c.in_err-write_readable.ensures)
 
 pub returns : goal.returns
 returns g c = later _ _ _ c.in_ok-write_bytes.ensures (later _ _ _ c.in_ok-write_readable.ensures c.write_bytes-2.ensures)

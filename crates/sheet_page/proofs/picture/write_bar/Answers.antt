@@ -5,5 +5,6 @@ use Rattle.sheet_page.proofs.picture.write_bar.Goals as goal
 
 pub returns : goal.returns
 returns g c =
-    renamed (printed-two (label_at c.args.values.now c.args.row.now c.args.p) (rectangle_at c.args.full c.args.row.now c.args.p))
+    renamed (printed-two (label_at c.args.values.now c.args.row.now c.args.p)
+    (rectangle_at c.args.full c.args.row.now c.args.p))
     (later c.write_label_at.ensures c.write_rectangle_at.ensures)

@@ -8,4 +8,5 @@ loop-p-init g c = nothing _ _ _ _
 
 pub loop-p-preserved : goal.loop-p-preserved
 loop-p-preserved g c =
-    place_more (λ p. printed (bar c.args.values.now c.args.full c.args.row.now p)) c.loop-p.p c.loop-p.invariant c.write_bar.ensures
+    place_more (λ p. printed (bar c.args.values.now c.args.full c.args.row.now p)) c.loop-p.p
+    c.loop-p.invariant c.write_bar.ensures

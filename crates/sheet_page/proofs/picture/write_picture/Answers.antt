@@ -15,6 +15,9 @@ returns g c =
     let full = c.args.full in
     let bars = length c.args.values.now.names in
     let bar_of = bar c.args.values.now full row in
-    renamed (wrapped (codes "svg") (picture_attributes bars) (picture_title row.round ∷ each bar_of (places bars) ∷ quota_line (scaled full row.quota) bars ∷ []))
-    (later c.write_start.ensures (later (renamed (ap (λ (r : Row). printed (picture_title r.round)) c.row.view_is) c.write_title.ensures) (later (renamed (printed-each bar_of (places bars)) c.write_bars.ensures)
+    renamed (wrapped (codes "svg") (picture_attributes bars) (picture_title row.round
+    ∷ each bar_of (places bars) ∷ quota_line (scaled full row.quota) bars ∷ []))
+    (later c.write_start.ensures (later
+    (renamed (ap (λ (r : Row). printed (picture_title r.round)) c.row.view_is) c.write_title.ensures)
+    (later (renamed (printed-each bar_of (places bars)) c.write_bars.ensures)
     (later c.write_quota.ensures c.close.ensures))))

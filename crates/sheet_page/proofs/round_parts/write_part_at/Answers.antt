@@ -20,4 +20,6 @@ returns-then-ends_round g c =
     let at = subst (λ (w : SheetList). slice_get w.rows i ≡ Some c.get.result.now) c.values.view_is c.get.ensures in
     let row = get_or_from_slice_get v.rows i c.get.result.now (blank 0) at in
     renamed (ap (λ (r : Row). printed (round_part v c.args.full r)) (sym row)
-    ∙ sym (ap (λ (b : Bool). printed (if b then round_part v c.args.full (row_at v.rows i) else Nothing)) ends)) c.write_round_part.ensures
+    ∙ sym
+    (ap (λ (b : Bool). printed (if b then round_part v c.args.full (row_at v.rows i) else Nothing)) ends))
+    c.write_round_part.ensures

@@ -9,5 +9,8 @@ use Rattle.sheet_page.proofs.rounds.write_head_row.Goals as goal
 
 pub returns : goal.returns
 returns g c =
-    renamed (wrapped (codes "tr") ([]) (head_cells ∷ each (name_cell c.args.values.now) (places (length c.args.values.now.names)) ∷ []))
-    (later c.open.ensures (later c.write_head_cells.ensures (later (renamed (printed-each (name_cell c.args.values.now) (places (length c.args.values.now.names))) c.write_name_cells.ensures) c.close.ensures)))
+    renamed (wrapped (codes "tr") ([])
+    (head_cells ∷ each (name_cell c.args.values.now) (places (length c.args.values.now.names)) ∷ []))
+    (later c.open.ensures (later c.write_head_cells.ensures (later (renamed
+    (printed-each (name_cell c.args.values.now) (places (length c.args.values.now.names)))
+    c.write_name_cells.ensures) c.close.ensures)))

@@ -9,5 +9,8 @@ use Rattle.sheet_page.proofs.rounds.write_round_row.Goals as goal
 
 pub returns : goal.returns
 returns g c =
-    renamed (wrapped (codes "tr") ([]) (round_cells c.args.values.now.ballots c.args.row.now ∷ each (vote_cell c.args.row.now) (places (length c.args.values.now.names)) ∷ []))
-    (later c.open.ensures (later c.write_round_cells.ensures (later (renamed (printed-each (vote_cell c.args.row.now) (places (length c.args.values.now.names))) c.write_vote_cells.ensures) c.close.ensures)))
+    renamed (wrapped (codes "tr") ([]) (round_cells c.args.values.now.ballots c.args.row.now
+    ∷ each (vote_cell c.args.row.now) (places (length c.args.values.now.names)) ∷ []))
+    (later c.open.ensures (later c.write_round_cells.ensures (later (renamed
+    (printed-each (vote_cell c.args.row.now) (places (length c.args.values.now.names)))
+    c.write_vote_cells.ensures) c.close.ensures)))

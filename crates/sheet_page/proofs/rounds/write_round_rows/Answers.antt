@@ -7,4 +7,6 @@ pub loop-i-init : goal.loop-i-init
 loop-i-init g c = nothing _ _ _ _
 
 pub loop-i-preserved : goal.loop-i-preserved
-loop-i-preserved g c = place_more (λ p. printed ((round_at c.args.values.now) p)) c.loop-i.i c.loop-i.invariant c.write_round_at.ensures
+loop-i-preserved g c =
+    place_more (λ p. printed ((round_at c.args.values.now) p)) c.loop-i.i c.loop-i.invariant
+    c.write_round_at.ensures

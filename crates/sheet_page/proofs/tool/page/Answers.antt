@@ -10,7 +10,8 @@ use Rattle.sheet_page.proofs.tool.page.Goals as goal
 
 pub returns-in-Err : goal.returns-in-Err
 returns-in-Err g c =
-    stopped shows (Some file_limit) (λ format. refl) (map string_bytes c.args.words.now) c.takes_format-asked.result c.in-Err.end
+    stopped shows (Some file_limit) (λ format. refl) (map string_bytes c.args.words.now)
+    c.takes_format-asked.result c.in-Err.end
     (reading g.S.Source.left g.S.Source.faults c.args.source.now c.open.new.source)
     (writing g.K.Sink.written g.K.Sink.faults c.args.sink.now c.open.new.sink)
     sound c.takes_format-asked.ensures c.in-Err.ensures.stopped
@@ -18,7 +19,8 @@ returns-in-Err g c =
 pub returns : goal.returns
 returns g c =
     worked_on shows g.K.Sink.written g.K.Sink.faults c.args.sink.now c.open.new.sink c.show.new.sink
-    (map string_bytes c.args.words.now) c.takes_format-asked.result c.in-Ok.opened.asked _ c.in-Ok.opened.input.items _ c.show.result
+    (map string_bytes c.args.words.now) c.takes_format-asked.result c.in-Ok.opened.asked _
+    c.in-Ok.opened.input.items _ c.show.result
     (reading g.S.Source.left g.S.Source.faults c.args.source.now c.open.new.source)
     sound c.takes_format-asked.ensures c.in-Ok.ensures.asked
     c.in-Ok.ensures.input c.in-Ok.ensures.untouched refl c.as_slice.ensures.value c.show.ensures

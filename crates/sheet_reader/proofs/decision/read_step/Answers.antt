@@ -15,4 +15,5 @@ returns-in-Some-clause-read c = (c.in-Some.ensures.read.0, c.in-Some.ensures.rea
 
 pub returns-in-None-clause-read : goal.returns-in-None-clause-read
 returns-in-None-clause-read c =
-    no_step c.args.text.now (length c.args.tied.now) (λ is. false-ne_true (c.if-is_same.ensures.1 is)) (λ is. false-ne_true (c.if-is_same-2.ensures.1 is)) c.in-None.ensures.read
+    no_step c.args.text.now (length c.args.tied.now) (λ is. false-ne_true (c.if-is_same.ensures.1 is))
+    (λ is. false-ne_true (c.if-is_same-2.ensures.1 is)) c.in-None.ensures.read

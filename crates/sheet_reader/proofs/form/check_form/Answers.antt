@@ -12,7 +12,9 @@ returns-in-Err c = stop_later _ (head_stops c.args.bytes.now _ c.new-lines.ensur
 
 pub returns-in-Err-skip_rows : goal.returns-in-Err-skip_rows
 returns-in-Err-skip_rows c =
-    stop_later _ (rows_stop c.args.bytes.now _ c.new-lines.ensures _ _ _ _ _ c.in-Ok.ensures.2 c.in-Ok.ensures.4) c.in-Err-skip_rows.ensures
+    stop_later _
+    (rows_stop c.args.bytes.now _ c.new-lines.ensures _ _ _ _ _ c.in-Ok.ensures.2 c.in-Ok.ensures.4)
+    c.in-Err-skip_rows.ensures
 
 pub returns-in-Err-read_end : goal.returns-in-Err-read_end
 returns-in-Err-read_end c =
@@ -26,5 +28,16 @@ returns c =
     let head = c.in-Ok.head in
     let rows = c.in-Ok-skip_rows.ensures in
     let ends = c.in-Ok-read_end.outcomes in
-    let values : SheetList = record { title = head.title; seats = head.seats; ballots = head.ballots; names = ends.1; rows = rows.0; last = ends.0 } in
-    (values, sheet_read {values = values} c.args.bytes.now head.candidates _ _ _ c.if-not-is_ended.ensures c.new-lines.ensures c.in-Ok.ensures (rows.1, rows.2) c.in-Ok-read_end.ensures)
+    let values : SheetList =
+    record {
+      title = head.title;
+      seats = head.seats;
+      ballots = head.ballots;
+      names = ends.1;
+      rows = rows.0;
+      last = ends.0;
+    } in (
+      values,
+      sheet_read {values = values} c.args.bytes.now head.candidates _ _ _ c.if-not-is_ended.ensures
+          c.new-lines.ensures c.in-Ok.ensures (rows.1, rows.2) c.in-Ok-read_end.ensures,
+    )

@@ -13,10 +13,17 @@ returns-in-Err c = stop_later _ (no_end c.args.n c.args.lines.now) c.in-Err.ensu
 pub returns-then-is_at_end : goal.returns-then-is_at_end
 returns-then-is_at_end c =
     let read = c.in-Ok.ensures in
-    let outcomes = c.in-Ok.outcomes in
-    (read.0, read.1, read.2, read.3 ∙ ap (λ (ls : List (List ℕ)). each_place c.args.n (outcome_line outcomes.0 outcomes.1) ++ ls) c.if-is_at_end.ensures)
+    let outcomes = c.in-Ok.outcomes in (
+      read.0,
+      read.1,
+      read.2,
+      read.3
+          ∙ ap (λ (ls : List (List ℕ)). each_place c.args.n (outcome_line outcomes.0 outcomes.1) ++ ls)
+          c.if-is_at_end.ensures,
+    )
 
 pub returns-else-is_at_end : goal.returns-else-is_at_end
 returns-else-is_at_end c states names long named is =
     let outcomes = c.in-Ok.outcomes in
-    c.if-is_at_end.ensures (behind_places (outcome_line outcomes.0 outcomes.1) (outcome_line states names) c.args.n _ (codes "end" ∷ []) (sym c.in-Ok.ensures.3 ∙ is))
+    c.if-is_at_end.ensures (behind_places (outcome_line outcomes.0 outcomes.1) (outcome_line states names)
+    c.args.n _ (codes "end" ∷ []) (sym c.in-Ok.ensures.3 ∙ is))

@@ -4,7 +4,8 @@ use Rattle.sheet_reader.proofs.row_reader.read_standings.Goals as goal
 
 pub returns-then-not-read_standing_into-clause-read : goal.returns-then-not-read_standing_into-clause-read
 returns-then-not-read_standing_into-clause-read c s k v rest lk lv ks vs is =
-    no_standings _ c.loop-p.p _ _ _ s k v _ _ rest (omega (arith, c.loop-p-test.true, c.len-p-end.ensures)) lk lv ks vs c.loop-p.invariant.read
+    no_standings _ c.loop-p.p _ _ _ s k v _ _ rest (omega (arith, c.loop-p-test.true, c.len-p-end.ensures)) lk
+    lv ks vs c.loop-p.invariant.read
     c.if-not-read_standing_into.ensures.read is
 
 pub loop-p-preserved : goal.loop-p-preserved

@@ -4,4 +4,6 @@ use Rattle.sheet_text.specs.Writing.{Wrote}
 use Rattle.sheet_text.proofs.outcome.write_outcomes.Given as goal
 
 abbrev pub invariant-loop-p : goal.invariant-loop-p
-invariant-loop-p g l = Wrote g.K.Sink.written g.K.Sink.faults l.initial.sink l.sink (each_place l.p (outcome_line l.states l.roll.names))
+invariant-loop-p g l =
+    Wrote g.K.Sink.written g.K.Sink.faults l.initial.sink l.sink
+    (each_place l.p (outcome_line l.states l.roll.names))

@@ -6,7 +6,8 @@ returns-in_err-write_bytes_line g c = stops _ _ c.from_residual.ensures.0 c.in_e
 
 pub returns-in_err-write_outcomes : goal.returns-in_err-write_outcomes
 returns-in_err-write_outcomes g c =
-    later _ _ _ c.in_ok-write_bytes_line.ensures (stops _ _ c.from_residual-in_err-write_outcomes.ensures.0 c.in_err-write_outcomes.ensures)
+    later _ _ _ c.in_ok-write_bytes_line.ensures
+    (stops _ _ c.from_residual-in_err-write_outcomes.ensures.0 c.in_err-write_outcomes.ensures)
 
 pub returns : goal.returns
 returns g c =

@@ -8,9 +8,11 @@ returns-in_err-write_amount_line g c =
 pub returns-in_err-write_amount_line-2 : goal.returns-in_err-write_amount_line-2
 returns-in_err-write_amount_line-2 g c =
     rw (← c.row.view_is)
-    (later _ _ _ c.in_ok-write_amount_line.ensures (stops _ _ c.from_residual-in_err-write_amount_line-2.ensures.0 c.in_err-write_amount_line-2.ensures))
+    (later _ _ _ c.in_ok-write_amount_line.ensures
+    (stops _ _ c.from_residual-in_err-write_amount_line-2.ensures.0 c.in_err-write_amount_line-2.ensures))
 
 pub returns : goal.returns
 returns g c =
     rw (← c.row.view_is)
-    (later _ _ _ c.in_ok-write_amount_line.ensures (later _ _ _ c.in_ok-write_amount_line-2.ensures c.write_amount_line-3.ensures))
+    (later _ _ _ c.in_ok-write_amount_line.ensures
+    (later _ _ _ c.in_ok-write_amount_line-2.ensures c.write_amount_line-3.ensures))

@@ -7,7 +7,8 @@ returns-in_err-write_marked g c = rw (← c.row.view_is) (stops _ _ c.from_resid
 pub returns-in_err-write_marked-2 : goal.returns-in_err-write_marked-2
 returns-in_err-write_marked-2 g c =
     rw (← c.row.view_is)
-    (later _ _ _ c.in_ok-write_marked.ensures (stops _ _ c.from_residual-in_err-write_marked-2.ensures.0 c.in_err-write_marked-2.ensures))
+    (later _ _ _ c.in_ok-write_marked.ensures
+    (stops _ _ c.from_residual-in_err-write_marked-2.ensures.0 c.in_err-write_marked-2.ensures))
 
 pub returns : goal.returns
 returns g c =

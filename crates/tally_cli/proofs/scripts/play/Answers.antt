@@ -17,5 +17,6 @@ loop-script-preserved g c =
           ∙ (ap (λ (calls : List Call). so_far ++ changes_by c.script-item.result.team calls) c.items.ensures
           ∙ (ap (λ (s : Script). so_far ++ changes_by s.team s.calls) c.script-item.is
           ∙ (ap (λ es. es ++ changes_by item.team item.calls) c.loop-script.invariant.entries
-          ∙ flat_more (λ (s : Script). changes_by s.team s.calls) (map asked c.args.hall.now.book.entries) c.args.scripts.now c.loop-script.script-index c.script-item.result c.loop-script-test.true)));
+          ∙ flat_more (λ (s : Script). changes_by s.team s.calls) (map asked c.args.hall.now.book.entries)
+          c.args.scripts.now c.loop-script.script-index c.script-item.result c.loop-script-test.true)));
     }

@@ -7,5 +7,6 @@ abbrev pub invariant-loop-call : goal.invariant-loop-call
 invariant-loop-call g l = record {
   candidates : l.hall.book.candidates ≡ l.fn.hall.book.candidates;
   shown : IsShown l.hall;
-  entries : map asked l.hall.book.entries ≡ map asked l.fn.hall.book.entries ++ changes_by l.team (take l.call-index l.calls);
+  entries : map asked l.hall.book.entries
+      ≡ map asked l.fn.hall.book.entries ++ changes_by l.team (take l.call-index l.calls);
 }

@@ -12,5 +12,6 @@ loop-i-preserved c =
     more
     ∙ (ap (λ (l : List ℕ). l ++ c.bytes.result.now) c.loop-i.invariant
     ∙ (ap (λ (l : List ℕ). total_lines c.loop-i.i (total c.args.totals.now) ++ l) line
-    ∙ (ap (λ (k : ℕ). total_lines c.loop-i.i (total c.args.totals.now) ++ total_line (c.loop-i.i + 1) (get_or c.args.totals.now k 0)) here
+    ∙ (ap (λ (k : ℕ). total_lines c.loop-i.i (total c.args.totals.now)
+    ++ total_line (c.loop-i.i + 1) (get_or c.args.totals.now k 0)) here
     ∙ sym (lines_more c.loop-i.i (total c.args.totals.now)))))

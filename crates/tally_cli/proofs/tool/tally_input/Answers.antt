@@ -10,5 +10,8 @@ use Rattle.tally_cli.proofs.tool.tally_input.Goals as goal
 
 pub returns-in-Err : goal.returns-in-Err
 returns-in-Err g c =
-    refused over_days c.args.asked c.args.input.now c.in-Err.stop c.refuse_input.result (writing g.K.Sink.written g.K.Sink.faults c.args.sink.now c.refuse_input.new.sink)
-    refl c.requires (λ fault is. subst (λ (s : InputStop). OnFault s (IsDayRefusal (scan c.args.input.now true))) is c.in-Err.ensures.refused) c.refuse_input.ensures
+    refused over_days c.args.asked c.args.input.now c.in-Err.stop c.refuse_input.result
+    (writing g.K.Sink.written g.K.Sink.faults c.args.sink.now c.refuse_input.new.sink)
+    refl c.requires (λ fault is. subst
+    (λ (s : InputStop). OnFault s (IsDayRefusal (scan c.args.input.now true))) is
+    c.in-Err.ensures.refused) c.refuse_input.ensures

@@ -17,12 +17,18 @@ pub returns : goal.returns
 returns g c =
     let hall = c.play.new.hall in
     elim c.match-play.branch [
-      | in-Ok w ↦ text_owed c.match-play.text w.text_of-text.result (λ text. text.items) c.args.scripts.now c.args.candidates _ hall.book.entries w.text-is w.text_of-text.ensures
+      | in-Ok w ↦
+          text_owed c.match-play.text w.text_of-text.result (λ text. text.items) c.args.scripts.now
+          c.args.candidates _ hall.book.entries w.text-is w.text_of-text.ensures
           (record {
             legal = w.in-Ok.ensures.shown.legal;
-            calls = w.in-Ok.ensures.entries ∙ ap (λ (es : List Entry). map asked es ++ changes_of c.args.scripts.now) c.in_ok-hall.ensures.entries;
+            calls =
+                w.in-Ok.ensures.entries
+                ∙ ap (λ (es : List Entry). map asked es ++ changes_of c.args.scripts.now)
+                c.in_ok-hall.ensures.entries;
           })
-          (shown_lines c.a_book_answers_a_history.ensures.standing hall w.in-Ok.ensures.shown c.args.candidates (w.in-Ok.ensures.candidates ∙ c.in_ok-hall.ensures.candidates)
+          (shown_lines c.a_book_answers_a_history.ensures.standing hall w.in-Ok.ensures.shown
+          c.args.candidates (w.in-Ok.ensures.candidates ∙ c.in_ok-hall.ensures.candidates)
           w.items.result.now (w.items.ensures ∙ w.totals.ensures))
       | in-Err w ↦ if_err c.match-play.text _ _ w.text-is
     ]

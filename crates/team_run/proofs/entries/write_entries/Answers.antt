@@ -11,7 +11,8 @@ loop-place-init g c = (Appends-nil _, refl)
 
 pub loop-place-preserved : goal.loop-place-preserved
 loop-place-preserved g c = (
-  appends_more _ _ _ _ c.loop-place.place _ c.loop-place-test.true c.entry-item.is c.loop-place.invariant.0 c.in_ok-write_entry.ensures.all,
+  appends_more _ _ _ _ c.loop-place.place _ c.loop-place-test.true c.entry-item.is c.loop-place.invariant.0
+      c.in_ok-write_entry.ensures.all,
   c.in_ok-write_entry.ensures.faults ∙ c.loop-place.invariant.1,
 )
 
@@ -21,6 +22,8 @@ returns-in_err-write_entry-clause-front g c =
     let old = g.K.Sink.written c.args.sink.now in
     let new = g.K.Sink.written c.write_entry.new.sink in
     let stopped : AppendsFront old new (entries_text c.items-entry-items.result.now) =
-    stopped_at old (g.K.Sink.written c.loop-place.sink) new c.items-entry-items.result.now c.loop-place.place c.entry-item.result c.loop-place-test.true c.entry-item.is c.loop-place.invariant.0 c.in_err-write_entry.ensures.front in
+    stopped_at old (g.K.Sink.written c.loop-place.sink) new c.items-entry-items.result.now c.loop-place.place
+    c.entry-item.result c.loop-place-test.true c.entry-item.is c.loop-place.invariant.0
+    c.in_err-write_entry.ensures.front in
     on_err c.from_residual.result (AppendsFront old new (entries_text c.args.history.now))
     (subst (λ (l : List Entry). AppendsFront old new (entries_text l)) all stopped)

@@ -5,4 +5,6 @@ use Rattle.team_run.proofs.entries.write_entries.Given as goal
 
 abbrev pub invariant-loop-place : goal.invariant-loop-place
 invariant-loop-place g l =
-    Appends (g.K.Sink.written l.initial.sink) (g.K.Sink.written l.sink) (entries_text (take l.place l.entry-items)) × (g.K.Sink.faults l.sink ≡ g.K.Sink.faults l.initial.sink)
+    Appends (g.K.Sink.written l.initial.sink) (g.K.Sink.written l.sink)
+    (entries_text (take l.place l.entry-items))
+    × (g.K.Sink.faults l.sink ≡ g.K.Sink.faults l.initial.sink)

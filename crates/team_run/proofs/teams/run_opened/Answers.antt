@@ -10,22 +10,28 @@ use Rattle.team_run.proofs.Places.{are_versions}
 use Rattle.team_run.proofs.teams.run_opened.Goals as goal
 
 pub take_all_in-requires-clause-open_teams : goal.take_all_in-requires-clause-open_teams
-take_all_in-requires-clause-open_teams g c = c.requires.open_teams ∙ sym (as_many c.args.office.now c.args.teams.items c.run_all.new.teams.items c.run_all.ensures)
+take_all_in-requires-clause-open_teams g c =
+    c.requires.open_teams
+    ∙ sym (as_many c.args.office.now c.args.teams.items c.run_all.new.teams.items c.run_all.ensures)
 
 pub take_all_in-requires-clause-teams : goal.take_all_in-requires-clause-teams
-take_all_in-requires-clause-teams g c = still_of c.args.office.now c.args.teams.items c.run_all.new.teams.items c.run_all.ensures
+take_all_in-requires-clause-teams g c =
+    still_of c.args.office.now c.args.teams.items c.run_all.new.teams.items c.run_all.ensures
 
 pub returns-in-Err-clause-refused : goal.returns-in-Err-clause-refused
 returns-in-Err-clause-refused g c =
     let taken : c.take_all_in.new.clerk.taken ≡ passes_of c.run_all.new.teams.items =
     c.take_all_in.ensures.taken ∙ ap (λ (l : List PassState). l ++ passes_of c.run_all.new.teams.items) c.requires.taken in
-    subst (λ (l : List PassState). HaveBegun l (map asked c.args.teams.items)) (sym taken) (all_begun c.args.office.now c.args.teams.items c.run_all.new.teams.items c.run_all.ensures)
+    subst (λ (l : List PassState). HaveBegun l (map asked c.args.teams.items)) (sym taken)
+    (all_begun c.args.office.now c.args.teams.items c.run_all.new.teams.items c.run_all.ensures)
 
 pub returns-in-Ok-clause-teams : goal.returns-in-Ok-clause-teams
 returns-in-Ok-clause-teams g c =
     let taken : c.take_all_in.new.clerk.taken ≡ passes_of c.run_all.new.teams.items =
     c.take_all_in.ensures.taken ∙ ap (λ (l : List PassState). l ++ passes_of c.run_all.new.teams.items) c.requires.taken in
-    ap (map script_of) taken ∙ all_whole c.args.office.now c.args.teams.items c.run_all.new.teams.items c.run_all.ensures c.in-Ok.ensures.whole
+    ap (map script_of) taken
+    ∙ all_whole c.args.office.now c.args.teams.items c.run_all.new.teams.items c.run_all.ensures
+    c.in-Ok.ensures.whole
 
 pub returns-in-Ok-clause-versions : goal.returns-in-Ok-clause-versions
 returns-in-Ok-clause-versions g c =
@@ -38,7 +44,9 @@ returns-in-Ok-clause-versions g c =
     let rises : RisesFrom 0 (map script_of (passes_of new)) = subst (RisesFrom 0) (sym whole) c.requires.numbers in
     let begins : All (λ pass. GoesOn pass.sight sight) (passes_of new) =
     subst (All (λ (pass : PassState). GoesOn pass.sight sight)) taken
-    (all_got (λ (pass : PassState). GoesOn pass.sight sight) c.take_all_in.new.clerk.taken (λ k q e. (c.open_teams.ensures.taken k q e).begins)) in
+    (all_got (λ (pass : PassState). GoesOn pass.sight sight) c.take_all_in.new.clerk.taken
+    (λ k q e. (c.open_teams.ensures.taken k q e).begins)) in
     subst (λ (l : List PassState). AreVersionsOf l c.by_place.result) (sym taken)
     (are_versions sight new c.by_place.result (all_work office c.args.teams.items new c.run_all.ensures) rises begins
-    (subst (λ (l : List VersionState). IsPermutation l c.by_place.result) c.in-Ok.ensures.versions c.by_place.ensures.same) c.by_place.ensures.rising)
+    (subst (λ (l : List VersionState). IsPermutation l c.by_place.result) c.in-Ok.ensures.versions
+    c.by_place.ensures.same) c.by_place.ensures.rising)

@@ -10,6 +10,7 @@ returns-in-Err-clause-refused g c =
     let teams = c.open_all.new.teams.items in
     let opened = c.open_all.ensures.opened in
     let taken : c.take_all_in.new.clerk.taken ≡ passes_of teams =
-    c.take_all_in.ensures.taken ∙ ap (λ (l : List PassState). l ++ passes_of teams) (opened.taken ∙ c.requires.fresh.taken) in
+    c.take_all_in.ensures.taken
+    ∙ ap (λ (l : List PassState). l ++ passes_of teams) (opened.taken ∙ c.requires.fresh.taken) in
     subst (λ (l : List PassState). HaveBegun l c.args.scripts) (sym taken)
     (subst (HaveBegun (passes_of teams)) (sym opened.first) (opened_begun c.args.office.now teams opened.left opened.ready))

@@ -13,6 +13,8 @@ pub for_each_mut-requires-sync-F : goal.for_each_mut-requires-sync-F
 for_each_mut-requires-sync-F g c κs within =
     let r : IsSync (param 0 g.row.R) = c.type_bounds.sync-R in
     let s : IsSync (param 1 g.row.G) = c.type_bounds.sync-G in
-    let closure = four_sync _ _ _ _ (shr_sync (named 6) κs.1.1.1.1.1.1.0 _ r) (shr_sync (named 7) κs.1.1.1.1.1.1.1.0 _ heap.sync)
+    let closure =
+    four_sync _ _ _ _ (shr_sync (named 6) κs.1.1.1.1.1.1.0 _ r)
+    (shr_sync (named 7) κs.1.1.1.1.1.1.1.0 _ heap.sync)
     (shr_sync (named 8) κs.1.1.1.1.1.1.1.1.0 _ office_sync) (shr_sync (named 9) κs.1.1.1.1.1.1.1.1.1.0 _ s) in
     record { shared = closure.shared }

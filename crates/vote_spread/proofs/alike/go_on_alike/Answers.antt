@@ -11,11 +11,15 @@ loop-node-preserved c =
     let nodes = c.args.nodes.now in
     let i : ℕ = c.loop-node.node-index in
     let inside : i < length nodes = omega arith in
-    let first : c.rows-first.result.now ≡ get_or nodes 0 d = c.rows-first.ensures ∙ get_or_read nodes 0 c.index-nodes-0.result (omega arith) c.index-nodes-0.is d in
-    let here : c.rows.result.now ≡ get_or nodes i e = c.rows.ensures ∙ get_or_read nodes i c.node-item.result inside c.node-item.is e in
+    let first : c.rows-first.result.now ≡ get_or nodes 0 d =
+    c.rows-first.ensures
+    ∙ get_or_read nodes 0 c.index-nodes-0.result (omega arith) c.index-nodes-0.is d in
+    let here : c.rows.result.now ≡ get_or nodes i e =
+    c.rows.ensures ∙ get_or_read nodes i c.node-item.result inside c.node-item.is e in
     let like : GoesOnLike c.rows-first.result.now c.rows.result.now = c.if-not-goes_on_like.ensures refl in
     let has : GoesOnLike (get_or nodes 0 d) (get_or nodes i e) =
-    subst (λ (l : List PlanRow). GoesOnLike l (get_or nodes i e)) first (subst (GoesOnLike c.rows-first.result.now) here like) in
+    subst (λ (l : List PlanRow). GoesOnLike l (get_or nodes i e)) first
+    (subst (GoesOnLike c.rows-first.result.now) here like) in
     elim (cases_lt k i) [
       | inl before ↦ c.loop-node.invariant d e k before
       | inr after ↦

@@ -4,4 +4,6 @@ use Rattle.vote_spread.specs.Merged.{GoesOnLike}
 use Rattle.vote_spread.proofs.alike.go_on_alike.Given as goal
 
 abbrev pub invariant-loop-node : goal.invariant-loop-node
-invariant-loop-node l = (d e : List PlanRow) (k : ℕ) → k < l.node-index → GoesOnLike (slice_index_or l.nodes 0 d) (slice_index_or l.nodes k e)
+invariant-loop-node l =
+    (d e : List PlanRow) (k : ℕ) → k < l.node-index
+    → GoesOnLike (slice_index_or l.nodes 0 d) (slice_index_or l.nodes k e)

@@ -8,4 +8,6 @@ abbrev none : PlanRow
 none = record { depth = 0; candidate = 0; ballots = 0; skip = 0 }
 
 pub returns : goal.returns
-returns c = λ is. same_candidates c.args.rows.now c.args.other.now none (omega arith) (λ k lt. c.loop-i.invariant k none (omega arith))
+returns c =
+    λ is. same_candidates c.args.rows.now c.args.other.now none (omega arith)
+    (λ k lt. c.loop-i.invariant k none (omega arith))

@@ -5,11 +5,16 @@ use Rattle.vote_spread.proofs.condense.enter.Goals as goal
 
 pub returns-in_err-below-clause-continues : goal.returns-in_err-below-clause-continues
 returns-in_err-below-clause-continues c =
-    continues_end c.args.classes.now c.args.branch.ballots c.args.at c.args.branch.candidate c.args.tail.now (seen c.args.rows.now.items) (seen c.put.new.rows.items) c.put.ensures.continues c.in_err-below.ensures.leaves
+    continues_end c.args.classes.now c.args.branch.ballots c.args.at c.args.branch.candidate c.args.tail.now
+    (seen c.args.rows.now.items) (seen c.put.new.rows.items) c.put.ensures.continues
+    c.in_err-below.ensures.leaves
 
 pub returns-clause-continues : goal.returns-clause-continues
 returns-clause-continues c =
-    continues_then c.args.classes.now c.args.branch.ballots c.args.at c.in_ok-below.below c.args.branch.candidate c.args.tail.now (seen c.args.rows.now.items) (seen c.put.new.rows.items) (seen c.follow.new.rows.items) c.put.ensures.continues c.in_ok-below.ensures.leaves c.follow.ensures.continues
+    continues_then c.args.classes.now c.args.branch.ballots c.args.at c.in_ok-below.below
+    c.args.branch.candidate c.args.tail.now (seen c.args.rows.now.items) (seen c.put.new.rows.items)
+    (seen c.follow.new.rows.items) c.put.ensures.continues c.in_ok-below.ensures.leaves
+    c.follow.ensures.continues
 
 pub returns-clause-leaves : goal.returns-clause-leaves
 returns-clause-leaves c =

@@ -9,5 +9,6 @@ invariant-loop-rank l = record {
   capacity : vec_capacity l.rows ≡ vec_capacity l.fn.rows;
   few : vec_len l.rows ≤ vec_len l.fn.rows + l.rank-index;
   shallow : l.depth ≤ l.at + l.rank-index;
-  missing : Missing l.classes l.ballots l.at l.depth l.tail (drop l.rank-index l.tail) (seen l.fn.rows.items) (seen l.rows.items);
+  missing : Missing l.classes l.ballots l.at l.depth l.tail (drop l.rank-index l.tail) (seen l.fn.rows.items)
+      (seen l.rows.items);
 }

@@ -9,7 +9,8 @@ sum_at-requires-clause-room g c =
     let same = c.loop-p.invariant.same_length in
     let below = c.loop-p-test.true in
     let end = c.len-p-end.ensures.value in
-    let room : sum_by (λ (lane : LaneSeen). get_or lane.tally c.loop-p.p 0) c.args.lanes.now ≤ most g.row.P = c.requires.room c.loop-p.p (omega arith) in
+    let room : sum_by (λ (lane : LaneSeen). get_or lane.tally c.loop-p.p 0) c.args.lanes.now ≤ most g.row.P =
+    c.requires.room c.loop-p.p (omega arith) in
     let bound = most_bound g.row.P c.len-p-end.ensures.places.1 in
     omega arith
 
@@ -18,6 +19,7 @@ from_units-requires g c =
     let same = c.loop-p.invariant.same_length in
     let below = c.loop-p-test.true in
     let end = c.len-p-end.ensures.value in
-    let room : sum_by (λ (lane : LaneSeen). get_or lane.tally c.loop-p.p 0) c.args.lanes.now ≤ most g.row.P = c.requires.room c.loop-p.p (omega arith) in
+    let room : sum_by (λ (lane : LaneSeen). get_or lane.tally c.loop-p.p 0) c.args.lanes.now ≤ most g.row.P =
+    c.requires.room c.loop-p.p (omega arith) in
     let sum = c.sum_at.ensures in
     (omega arith, (c.len-p-end.ensures.places, omega arith))

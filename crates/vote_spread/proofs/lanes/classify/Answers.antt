@@ -17,7 +17,8 @@ loop-i-preserved c =
           λ k d lt. elim (cases_eq k i) [
             | inl e ↦
                 ap (λ m. get_or (set old i class) m d) e
-                ∙ (get_or-set_same old i class d inside ∙ (c.of-class.ensures ∙ ap (λ m. class_of one (get_or keeps m 0)) (sym e)))
+                ∙ (get_or-set_same old i class d inside
+                ∙ (c.of-class.ensures ∙ ap (λ m. class_of one (get_or keeps m 0)) (sym e)))
             | inr other ↦ get_or-set_other old i k class d other ∙ c.loop-i.invariant.so_far k d (omega arith)
           ];
       unchanged =
@@ -31,4 +32,5 @@ pub returns-clause-classes : goal.returns-clause-classes
 returns-clause-classes c =
     let keeps = c.args.keeps.now in
     same_lists c.loop-i.classes (map (class_of c.args.one) keeps) (omega (arith, length-map keeps (class_of c.args.one)))
-    (λ k d lt. c.loop-i.invariant.so_far k d (omega arith) ∙ sym (get_or-map (class_of c.args.one) keeps k 0 d (omega arith)))
+    (λ k d lt. c.loop-i.invariant.so_far k d (omega arith)
+    ∙ sym (get_or-map (class_of c.args.one) keeps k 0 d (omega arith)))

@@ -10,5 +10,7 @@ invariant-loop-k l = record {
   as_many : vec_len l.lanes ≡ l.k;
   capacity : l.workers ≤ vec_capacity l.lanes;
   of_all : All (λ (lane : LaneSeen). length lane.tally ≡ l.candidates) l.lanes.items;
-  rooms : (k : ℕ) (d : LaneSeen) → k < l.k → room_for l.branches (share (length l.branches) k l.workers) (share (length l.branches) (k + 1) l.workers) ≤ (slice_index_or l.lanes.items k d).room;
+  rooms : (k : ℕ) (d : LaneSeen) → k < l.k
+      → room_for l.branches (share (length l.branches) k l.workers)
+      (share (length l.branches) (k + 1) l.workers) ≤ (slice_index_or l.lanes.items k d).room;
 }

@@ -13,6 +13,10 @@ loop-part-preserved c =
     let i : ℕ = c.loop-part.part-index in
     let rows = c.part-item.result in
     let inside : i < length parts = omega arith in
-    let more : take (i + 1) parts ≡ take i parts ++ rows ∷ [] = take_more parts i rows inside ∙ ap (λ (r : List PlanRow). take i parts ++ r ∷ []) (sym c.part-item.is) in
+    let more : take (i + 1) parts ≡ take i parts ++ rows ∷ [] =
+    take_more parts i rows inside
+    ∙ ap (λ (r : List PlanRow). take i parts ++ r ∷ []) (sym c.part-item.is) in
     subst (IsFirst c.lesser-least.result) (sym more)
-    (first-more c.lesser-least.result c.loop-part.least c.head.result (take i parts) rows c.loop-part.invariant c.head.ensures.some c.head.ensures.none c.lesser-least.ensures.either c.lesser-least.ensures.none)
+    (first-more c.lesser-least.result c.loop-part.least c.head.result (take i parts) rows
+    c.loop-part.invariant c.head.ensures.some c.head.ensures.none c.lesser-least.ensures.either
+    c.lesser-least.ensures.none)

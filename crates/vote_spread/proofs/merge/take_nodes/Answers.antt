@@ -17,10 +17,12 @@ loop-part-preserved c =
     let inv = c.loop-part.invariant in
     let inside : i < length parts = omega arith in
     let is = item_is (behind k) parts c.loop-part.parts i x inside inv.taken c.part-item.is in
-    let more : take (i + 1) parts ≡ take i parts ++ x ∷ [] = take_more parts i x inside ∙ ap (λ (r : List PlanRow). take i parts ++ r ∷ []) (sym is) in
+    let more : take (i + 1) parts ≡ take i parts ++ x ∷ [] =
+    take_more parts i x inside ∙ ap (λ (r : List PlanRow). take i parts ++ r ∷ []) (sym is) in
     record {
       taken =
-          ap (λ (l : List PlanRow). set c.loop-part.parts i l) (c.take_node-many.ensures.behind ∙ ap (behind k) (sym c.part-item.is))
+          ap (λ (l : List PlanRow). set c.loop-part.parts i l)
+          (c.take_node-many.ensures.behind ∙ ap (behind k) (sym c.part-item.is))
           ∙ map_over_more (behind k) parts c.loop-part.parts i x inside inv.taken c.part-item.is;
       nodes =
           c.take_node-many.ensures.node

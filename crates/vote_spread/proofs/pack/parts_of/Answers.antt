@@ -14,7 +14,8 @@ loop-plan-preserved c =
     let i : ℕ = c.loop-plan.plan-index in
     let x = c.plan-item.result in
     let inside : i < length plans = c.loop-plan-test.true in
-    let more : take (i + 1) plans ≡ take i plans ++ x ∷ [] = take_more plans i x inside ∙ ap (λ (p : PlanRows). take i plans ++ p ∷ []) (sym c.plan-item.is) in
+    let more : take (i + 1) plans ≡ take i plans ++ x ∷ [] =
+    take_more plans i x inside ∙ ap (λ (p : PlanRows). take i plans ++ p ∷ []) (sym c.plan-item.is) in
     let part : c.new-part.result ≡ low x = c.new-part.ensures ∙ (c.behind_first.ensures ∙ ap (drop 1) c.rows.ensures.rows) in
     record {
       parts =
@@ -22,5 +23,7 @@ loop-plan-preserved c =
           ∙ (ap (λ (l : List (List PlanRow)). l ++ c.new-part.result ∷ []) c.loop-plan.invariant.parts
           ∙ (ap (λ (r : List PlanRow). map low (take i plans) ++ r ∷ []) part
           ∙ (sym (map-append low (take i plans) (x ∷ [])) ∙ ap (map low) (sym more))));
-      plans = subst (All P) (sym more) (All-append P (take i plans) (x ∷ []) c.loop-plan.invariant.plans (All-cons P x [] c.rows.ensures.plan (All-nil P)));
+      plans =
+          subst (All P) (sym more) (All-append P (take i plans) (x ∷ []) c.loop-plan.invariant.plans
+          (All-cons P x [] c.rows.ensures.plan (All-nil P)));
     }

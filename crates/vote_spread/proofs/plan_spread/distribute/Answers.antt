@@ -15,7 +15,8 @@ gather-requires g c =
       (
         many ∙ same,
         λ p lt.
-            loaded_votes-le s (most g.row.P) c.args.keeps.now c.args.lanes.now c.load.new.self c.run.new.arg2 (scale_pos g.row.P) (most_votes g.row.P) c.requires.scale load ran p (omega arith),
+            loaded_votes-le s (most g.row.P) c.args.keeps.now c.args.lanes.now c.load.new.self c.run.new.arg2
+            (scale_pos g.row.P) (most_votes g.row.P) c.requires.scale load ran p (omega arith),
       ),
     )
 
@@ -27,7 +28,8 @@ returns-clause-votes g c =
     let ran = c.requires.runs.gives _ _ c.run.ensures in
     let many : length c.args.tally.now ≡ length keeps = c.requires.votes_of_all ∙ sym c.requires.keeps_of_all in
     votes_of_places s keeps c.args.lanes.now.ballots c.gather.new.tally (length keeps) (c.gather.ensures.same_length ∙ many)
-    (λ p lt. c.gather.ensures.sums p (omega arith) ∙ loaded_votes s keeps c.args.lanes.now c.load.new.self c.run.new.arg2 c.requires.scale load ran p lt)
+    (λ p lt. c.gather.ensures.sums p (omega arith)
+    ∙ loaded_votes s keeps c.args.lanes.now c.load.new.self c.run.new.arg2 c.requires.scale load ran p lt)
 
 pub returns-clause-same_scale : goal.returns-clause-same_scale
 returns-clause-same_scale g c =

@@ -10,7 +10,8 @@ overflow_add-total c =
     let f : PlanRows → _ = λ plan. length (plan_ballots plan.rows) in
     let plans = c.items-plan-items.result.now in
     let i = c.loop-plan.plan-index in
-    let all : length (all_ballots c.args.plans.now) ≡ sum_by f plans = length-all_ballots c.args.plans.now ∙ ap (sum_by f) (sym c.items-plan-items.ensures) in
+    let all : length (all_ballots c.args.plans.now) ≡ sum_by f plans =
+    length-all_ballots c.args.plans.now ∙ ap (sum_by f) (sym c.items-plan-items.ensures) in
     let more = sum_by_more_le f plans i c.plan-item.result c.loop-plan-test.true in
     let this : c.total-total.result ≡ f (get_or plans i c.plan-item.result) = c.total-total.ensures ∙ ap f c.plan-item.is in
     let so_far : c.loop-plan.total ≡ sum_by f (take i plans) = c.loop-plan.invariant in
@@ -22,4 +23,6 @@ returns c =
     let f : PlanRows → _ = λ plan. length (plan_ballots plan.rows) in
     let plans = c.items-plan-items.result.now in
     c.loop-plan.invariant
-    ∙ (ap (sum_by f) (take_all c.loop-plan.plan-index plans c.loop-plan-test.false ∙ c.items-plan-items.ensures) ∙ sym (length-all_ballots c.args.plans.now))
+    ∙ (ap (sum_by f)
+    (take_all c.loop-plan.plan-index plans c.loop-plan-test.false ∙ c.items-plan-items.ensures)
+    ∙ sym (length-all_ballots c.args.plans.now))

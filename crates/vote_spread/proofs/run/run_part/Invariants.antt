@@ -9,7 +9,10 @@ abbrev pub invariant-loop-k : goal.invariant-loop-k
 invariant-loop-k g l = record {
   as_many : length l.lanes ≡ length l.fn.lanes;
   of_all : All (λ (lane : LaneSeen). length lane.tally ≡ length l.keeps) l.lanes;
-  counted : (k : ℕ) (d : LaneSeen) → k < l.k → HasCounted (scale g.row.P) l.keeps l.branches (l.first + k) l.count (slice_index_or l.lanes k d).tally;
-  renewed : (k : ℕ) (d : LaneSeen) → k < l.k → IsFit false l.classes l.branches (l.first + k) l.count (slice_index_or l.lanes k d);
-  fit : (k : ℕ) (d : LaneSeen) → l.k ≤ k → k < length l.lanes → IsFit l.stale l.classes l.branches (l.first + k) l.count (slice_index_or l.lanes k d);
+  counted : (k : ℕ) (d : LaneSeen) → k < l.k
+      → HasCounted (scale g.row.P) l.keeps l.branches (l.first + k) l.count (slice_index_or l.lanes k d).tally;
+  renewed : (k : ℕ) (d : LaneSeen) → k < l.k
+      → IsFit false l.classes l.branches (l.first + k) l.count (slice_index_or l.lanes k d);
+  fit : (k : ℕ) (d : LaneSeen) → l.k ≤ k → k < length l.lanes
+      → IsFit l.stale l.classes l.branches (l.first + k) l.count (slice_index_or l.lanes k d);
 }

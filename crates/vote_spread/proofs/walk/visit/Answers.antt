@@ -12,7 +12,9 @@ left_of-left-requires-clause-factor g c =
     let s = scale g.row.P in
     let keeps = c.args.keeps.now in
     let place = c.args.row.candidate - 1 in
-    ap (λ (l : List ℕ). get_or l place 0) c.requires.factors ∙ get_or-map (factor_of s) keeps place 0 0 (omega (arith, c.requires.candidate.0, c.requires.candidate.1, c.requires.keeps_of_all))
+    ap (λ (l : List ℕ). get_or l place 0) c.requires.factors
+    ∙ get_or-map (factor_of s) keeps place 0 0
+    (omega (arith, c.requires.candidate.0, c.requires.candidate.1, c.requires.keeps_of_all))
 
 pub returns-clause-gives : goal.returns-clause-gives
 returns-clause-gives g c =
@@ -27,7 +29,9 @@ returns-clause-gives g c =
     let part : w - c.left_of-left.result ≡ kept s keeps w r = ap (λ m. w - m) left ∙ omega arith in
     λ p lt.
     let whole = get_or old p 0 + n * given s keeps w (r ∷ []) (p + 1) in
-    let step : get_or (set old (r - 1) (get_or old (r - 1) 0 + n * kept s keeps w r)) p 0 + n * 0 ≡ whole = gain_step s keeps w (r ∷ []) old 0 n p whole (omega arith) c.requires.candidate.0 (omega (arith, c.requires.candidate.0, c.requires.candidate.1)) refl in
+    let step : get_or (set old (r - 1) (get_or old (r - 1) 0 + n * kept s keeps w r)) p 0 + n * 0 ≡ whole =
+    gain_step s keeps w (r ∷ []) old 0 n p whole (omega arith) c.requires.candidate.0
+    (omega (arith, c.requires.candidate.0, c.requires.candidate.1)) refl in
     let none : n * 0 ≡ 0 = omega arith in
     ap (λ t. get_or t p 0) c.give.ensures
     ∙ (ap (λ k. get_or (set old (r - 1) (get_or old (r - 1) 0 + n * k)) p 0) part ∙ omega arith)

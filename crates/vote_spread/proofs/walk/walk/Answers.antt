@@ -13,12 +13,16 @@ none = record { ballots = 0; candidate = 0; depth = 0 }
 
 pub visit-requires-clause-depth : goal.visit-requires-clause-depth
 visit-requires-clause-depth g c =
-    let is = row_sound (length c.args.tally.now) c.args.rows.now c.loop-row.row-index none c.loop-row-test.true c.requires.rows in
+    let is =
+    row_sound (length c.args.tally.now) c.args.rows.now c.loop-row.row-index none c.loop-row-test.true
+    c.requires.rows in
     (is.below_root, omega (arith, is.shallow, c.loop-row.invariant.depths))
 
 pub visit-requires-clause-candidate : goal.visit-requires-clause-candidate
 visit-requires-clause-candidate g c =
-    let is = row_sound (length c.args.tally.now) c.args.rows.now c.loop-row.row-index none c.loop-row-test.true c.requires.rows in
+    let is =
+    row_sound (length c.args.tally.now) c.args.rows.now c.loop-row.row-index none c.loop-row-test.true
+    c.requires.rows in
     (is.candidate, omega (arith, is.known, c.loop-row.invariant.same_length))
 
 pub visit-requires-clause-room : goal.visit-requires-clause-room
@@ -27,7 +31,13 @@ visit-requires-clause-room g c =
     let inv = c.loop-row.invariant in
     λ p lt.
     let below : p < length c.args.tally.now = omega (arith, inv.same_length) in
-    omega (arith, rows_more s c.args.keeps.now (p + 1) c.loop-row.weights c.args.rows.now c.loop-row.row-index none c.loop-row-test.true, inv.missing p below, c.requires.room p below)
+    omega (
+      arith,
+      rows_more s c.args.keeps.now (p + 1) c.loop-row.weights c.args.rows.now c.loop-row.row-index none
+          c.loop-row-test.true,
+      inv.missing p below,
+      c.requires.room p below,
+    )
 
 pub loop-row-preserved : goal.loop-row-preserved
 loop-row-preserved g c =

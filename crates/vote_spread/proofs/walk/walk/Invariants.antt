@@ -15,5 +15,6 @@ invariant-loop-row g l =
       light : All (λ (w : ℕ). w ≤ s) l.weights;
       missing :
           (p : ℕ) → p < length l.fn.tally
-          → slice_index l.tally p + sum (gains s l.keeps (p + 1) l.weights (drop l.row-index (seen l.rows))) ≡ total s l.keeps (p + 1) (seen l.rows);
+          → slice_index l.tally p + sum (gains s l.keeps (p + 1) l.weights (drop l.row-index (seen l.rows)))
+          ≡ total s l.keeps (p + 1) (seen l.rows);
     }

@@ -27,6 +27,9 @@ returns g c =
     let sink = writing g.K.Sink.written g.K.Sink.faults c.args.sink.now c.write_count.new.sink in
     let ballots = c.in-Ok-begin.spread.ballots in
     let moved : IsPermutation ballots (plain file.lines) =
-    subst (λ (b : List (List ℕ)). IsPermutation b (plain file.lines)) (sym c.in-Ok-begin.ensures.ballots) c.in-Ok-plans_of.ensures.ballots in
-    counted c.args.lots.now c.args.input.now file ballots c.write_count.result sink c.requires of.says c.sheets_are_unique.ensures.orders moved
-    (subst (λ (l : List ℕ). FinishesOwed (IsSheetOwed ballots file.roll l) c.write_count.result sink) of.lots_are c.write_count.ensures)
+    subst (λ (b : List (List ℕ)). IsPermutation b (plain file.lines)) (sym c.in-Ok-begin.ensures.ballots)
+    c.in-Ok-plans_of.ensures.ballots in
+    counted c.args.lots.now c.args.input.now file ballots c.write_count.result sink c.requires of.says
+    c.sheets_are_unique.ensures.orders moved
+    (subst (λ (l : List ℕ). FinishesOwed (IsSheetOwed ballots file.roll l) c.write_count.result sink)
+    of.lots_are c.write_count.ensures)

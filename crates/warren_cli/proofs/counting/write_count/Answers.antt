@@ -13,10 +13,15 @@ returns g c =
       roll_is = c.in-Ok.ensures.roll;
       lots_are = c.in-Ok.ensures.lots;
     } in
-    let wrote = wrote_sheet g.K.Sink.written g.K.Sink.faults c.args.sink.now c.write_warren-wrote.new.sink c.args.roll.now c.args.lots.now c.args.spread.ballots c.in-Ok.count c.write_warren-wrote.result of c.write_warren-wrote.ensures.all c.write_warren-wrote.ensures.front c.write_warren-wrote.ensures.faults in
+    let wrote =
+    wrote_sheet g.K.Sink.written g.K.Sink.faults c.args.sink.now c.write_warren-wrote.new.sink
+    c.args.roll.now c.args.lots.now c.args.spread.ballots c.in-Ok.count c.write_warren-wrote.result of
+    c.write_warren-wrote.ensures.all c.write_warren-wrote.ensures.front
+    c.write_warren-wrote.ensures.faults in
     inr (
       Done,
       wrote.0,
       wrote.1,
-      closed g.K.Sink.written g.K.Sink.faults c.args.sink.now c.write_warren-wrote.new.sink c.close.new.sink wrote.0 c.write_warren-wrote.result c.close.result wrote.2 c.close.ensures,
+      closed g.K.Sink.written g.K.Sink.faults c.args.sink.now c.write_warren-wrote.new.sink c.close.new.sink
+          wrote.0 c.write_warren-wrote.result c.close.result wrote.2 c.close.ensures,
     )

@@ -37,7 +37,11 @@ overflow_mul-sums t c =
     c.min-part.ensures
     ∙ refl in
     let inside : node.candidate - 1 < length c.args.sums.now = omega (arith, are.candidate, are.known) in
-    let fits = part_fits prices c.args.rest (length c.args.sums.now) c.loop-siblings.siblings.now node c.parted.result.1.now c.parted.result.2.now c.loop-siblings.sums c.min-part.result _ 1000000000000000000 are (sym inv.same_length) part (inv.missing (node.candidate - 1) inside) (c.requires.room (node.candidate - 1) inside) in
+    let fits =
+    part_fits prices c.args.rest (length c.args.sums.now) c.loop-siblings.siblings.now node
+    c.parted.result.1.now c.parted.result.2.now c.loop-siblings.sums c.min-part.result _
+    1000000000000000000 are (sym inv.same_length) part (inv.missing (node.candidate - 1) inside)
+    (c.requires.room (node.candidate - 1) inside) in
     omega (arith, fits)
 
 pub bounds-sums-place : goal.bounds-sums-place
@@ -55,7 +59,11 @@ overflow_add-sums t c =
     c.min-part.ensures
     ∙ refl in
     let inside : node.candidate - 1 < length c.args.sums.now = omega (arith, are.candidate, are.known) in
-    let fits = part_fits prices c.args.rest (length c.args.sums.now) c.loop-siblings.siblings.now node c.parted.result.1.now c.parted.result.2.now c.loop-siblings.sums c.min-part.result _ 1000000000000000000 are (sym inv.same_length) part (inv.missing (node.candidate - 1) inside) (c.requires.room (node.candidate - 1) inside) in
+    let fits =
+    part_fits prices c.args.rest (length c.args.sums.now) c.loop-siblings.siblings.now node
+    c.parted.result.1.now c.parted.result.2.now c.loop-siblings.sums c.min-part.result _
+    1000000000000000000 are (sym inv.same_length) part (inv.missing (node.candidate - 1) inside)
+    (c.requires.room (node.candidate - 1) inside) in
     omega (arith, fits)
 
 pub bounds-sums-place-in-loop-siblings : goal.bounds-sums-place-in-loop-siblings
@@ -72,11 +80,15 @@ pay-requires t c =
     let part : c.min-part.result ≡ kept_under Warren 1 prices c.args.rest node.candidate =
     c.min-part.ensures
     ∙ refl in
-    let same : length c.args.sums.now ≡ length (with_part c.loop-siblings.sums node.candidate node.ballots c.min-part.result) =
+    let same :
+    length c.args.sums.now
+    ≡ length (with_part c.loop-siblings.sums node.candidate node.ballots c.min-part.result) =
     sym (length-set c.loop-siblings.sums (node.candidate - 1) _ ∙ inv.same_length) in
     let step =
     λ (p : ℕ) (inside : p < length c.args.sums.now).
-    part_paid prices c.args.rest (length c.args.sums.now) c.loop-siblings.siblings.now node c.parted.result.1.now c.parted.result.2.now c.loop-siblings.sums c.min-part.result p _ are (sym inv.same_length) part (inv.missing p inside) in (
+    part_paid prices c.args.rest (length c.args.sums.now) c.loop-siblings.siblings.now node
+    c.parted.result.1.now c.parted.result.2.now c.loop-siblings.sums c.min-part.result p _ are
+    (sym inv.same_length) part (inv.missing p inside) in (
       omega (arith, c.decreases, are.shorter, inv.shorter),
       (
         subst (λ (n : ℕ). AreSiblings n c.parted.result.1.now) same are.below_are,
@@ -103,11 +115,15 @@ loop-siblings-preserved t c =
     let part : c.min-part.result ≡ kept_under Warren 1 prices c.args.rest node.candidate =
     c.min-part.ensures
     ∙ refl in
-    let same : length c.args.sums.now ≡ length (with_part c.loop-siblings.sums node.candidate node.ballots c.min-part.result) =
+    let same :
+    length c.args.sums.now
+    ≡ length (with_part c.loop-siblings.sums node.candidate node.ballots c.min-part.result) =
     sym (length-set c.loop-siblings.sums (node.candidate - 1) _ ∙ inv.same_length) in
     let step =
     λ (p : ℕ) (inside : p < length c.args.sums.now).
-    part_paid prices c.args.rest (length c.args.sums.now) c.loop-siblings.siblings.now node c.parted.result.1.now c.parted.result.2.now c.loop-siblings.sums c.min-part.result p _ are (sym inv.same_length) part (inv.missing p inside) in
+    part_paid prices c.args.rest (length c.args.sums.now) c.loop-siblings.siblings.now node
+    c.parted.result.1.now c.parted.result.2.now c.loop-siblings.sums c.min-part.result p _ are
+    (sym inv.same_length) part (inv.missing p inside) in
     record {
       shorter = omega (arith, are.shorter, inv.shorter);
       are = are.behind_are;

@@ -15,4 +15,5 @@ returns-clause-ballots c =
     λ rest q prices.
     let plan = c.args.plan.now in
     let nodes : c.behind_first.result.now ≡ drop 1 plan.rows = c.behind_first.ensures ∙ ap (drop 1) c.rows.ensures.rows in
-    ap (λ (l : List PlanRow). paid prices rest (row_ballots l) q) nodes ∙ paid-plan plan.candidates plan.rows c.rows.ensures.plan rest q prices
+    ap (λ (l : List PlanRow). paid prices rest (row_ballots l) q) nodes
+    ∙ paid-plan plan.candidates plan.rows c.rows.ensures.plan rest q prices

@@ -15,6 +15,8 @@ returns c =
     let rows = c.args.rows.now in
     let skip = (get_or rows 0 none).skip in
     let whole = cut n rows none are c.requires.some in
-    let front : c.split_at.result.0.now ≡ take (skip - 1) (drop 1 rows) = c.split_at.ensures.front ∙ ap (take (skip - 1)) c.behind_first.ensures in
-    let back : c.split_at.result.1.now ≡ drop (skip - 1) (drop 1 rows) = c.split_at.ensures.back ∙ ap (drop (skip - 1)) c.behind_first.ensures in
+    let front : c.split_at.result.0.now ≡ take (skip - 1) (drop 1 rows) =
+    c.split_at.ensures.front ∙ ap (take (skip - 1)) c.behind_first.ensures in
+    let back : c.split_at.result.1.now ≡ drop (skip - 1) (drop 1 rows) =
+    c.split_at.ensures.back ∙ ap (drop (skip - 1)) c.behind_first.ensures in
     rw (front, back) whole.1

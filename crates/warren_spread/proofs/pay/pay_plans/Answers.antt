@@ -14,17 +14,28 @@ pay-requires c =
     let inv = c.loop-plan.invariant in
     let of : plan.candidates ≡ length c.args.sums.now =
     ap (λ (p : PlanRows). p.candidates) c.plan-item.is
-    ∙ All-get_or (λ (p : PlanRows). p.candidates ≡ length c.args.sums.now) c.args.plans.now c.loop-plan.plan-index plan c.loop-plan-test.true c.requires.plans in
+    ∙ All-get_or (λ (p : PlanRows). p.candidates ≡ length c.args.sums.now) c.args.plans.now
+    c.loop-plan.plan-index plan c.loop-plan-test.true c.requires.plans in
     record {
-      rows = subst (λ (n : ℕ). AreSiblings n c.behind_root.result.now) (of ∙ sym inv.same_length) c.behind_root.ensures.siblings;
+      rows =
+          subst (λ (n : ℕ). AreSiblings n c.behind_root.result.now) (of ∙ sym inv.same_length)
+          c.behind_root.ensures.siblings;
       price_of_each = c.requires.price_of_each ∙ sym inv.same_length;
       room =
           λ p lt.
           let inside : p < length c.args.sums.now = omega (arith, inv.same_length) in
-          let whole : paid prices s (row_ballots c.behind_root.result.now) (p + 1) ≡ paid prices s (plan_ballots (get_or c.args.plans.now c.loop-plan.plan-index plan).rows) (p + 1) =
+          let whole :
+          paid prices s (row_ballots c.behind_root.result.now) (p + 1)
+          ≡ paid prices s (plan_ballots (get_or c.args.plans.now c.loop-plan.plan-index plan).rows)
+          (p + 1) =
           c.behind_root.ensures.ballots s (p + 1) prices
           ∙ ap (λ (pl : PlanRows). paid prices s (plan_ballots pl.rows) (p + 1)) c.plan-item.is in
-          omega (arith, paid-next prices s (p + 1) c.args.plans.now c.loop-plan.plan-index plan c.loop-plan-test.true, inv.missing p inside, c.requires.room p inside);
+          omega (
+            arith,
+            paid-next prices s (p + 1) c.args.plans.now c.loop-plan.plan-index plan c.loop-plan-test.true,
+            inv.missing p inside,
+            c.requires.room p inside,
+          );
     }
 
 pub loop-plan-preserved : goal.loop-plan-preserved
@@ -37,11 +48,18 @@ loop-plan-preserved c =
       same_length = c.pay.ensures.same_length ∙ inv.same_length;
       missing =
           λ p inside.
-          let whole : paid prices s (row_ballots c.behind_root.result.now) (p + 1) ≡ paid prices s (plan_ballots (get_or c.args.plans.now c.loop-plan.plan-index plan).rows) (p + 1) =
+          let whole :
+          paid prices s (row_ballots c.behind_root.result.now) (p + 1)
+          ≡ paid prices s (plan_ballots (get_or c.args.plans.now c.loop-plan.plan-index plan).rows)
+          (p + 1) =
           (c.behind_root.ensures.ballots s (p + 1) prices
           ∙ ap (λ (pl : PlanRows). paid prices s (plan_ballots pl.rows) (p + 1)) c.plan-item.is) in
           let gave = c.pay.ensures.paid p (omega (arith, inv.same_length)) in
-          omega (arith, paid-next prices s (p + 1) c.args.plans.now c.loop-plan.plan-index plan c.loop-plan-test.true, inv.missing p inside);
+          omega (
+            arith,
+            paid-next prices s (p + 1) c.args.plans.now c.loop-plan.plan-index plan c.loop-plan-test.true,
+            inv.missing p inside,
+          );
     }
 
 pub returns-clause-paid : goal.returns-clause-paid
@@ -50,5 +68,6 @@ returns-clause-paid c =
     let s = c.args.vote in
     let prices = c.args.prices.now in
     let none : paid prices s (all_ballots (drop c.loop-plan.plan-index c.args.plans.now)) (p + 1) ≡ 0 =
-    ap (λ (l : List (List ℕ)). paid prices s l (p + 1)) (no-ballots-left c.args.plans.now c.loop-plan.plan-index c.loop-plan-test.false) in
+    ap (λ (l : List (List ℕ)). paid prices s l (p + 1))
+    (no-ballots-left c.args.plans.now c.loop-plan.plan-index c.loop-plan-test.false) in
     omega (arith, c.loop-plan.invariant.missing p inside)

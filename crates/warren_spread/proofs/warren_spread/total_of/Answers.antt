@@ -9,7 +9,8 @@ overflow_add-total c =
     let i = c.loop-plan.plan-index in
     let this : c.total-total.result ≡ length (plan_ballots (get_or plans i c.plan-item.result).rows) =
     c.total-total.ensures ∙ ap (λ (plan : PlanRows). length (plan_ballots plan.rows)) c.plan-item.is in
-    let all : length (all_ballots plans) ≡ length (all_ballots c.args.plans.now) = ap (λ (l : List PlanRows). length (all_ballots l)) c.items-plan-items.ensures in
+    let all : length (all_ballots plans) ≡ length (all_ballots c.args.plans.now) =
+    ap (λ (l : List PlanRows). length (all_ballots l)) c.items-plan-items.ensures in
     omega (arith, ballots-next plans i c.plan-item.result c.loop-plan-test.true, c.loop-plan.invariant, c.requires)
 
 pub loop-plan-preserved : goal.loop-plan-preserved
@@ -23,6 +24,7 @@ loop-plan-preserved c =
 pub returns : goal.returns
 returns c =
     let plans = c.items-plan-items.result.now in
-    let all : length (all_ballots plans) ≡ length (all_ballots c.args.plans.now) = ap (λ (l : List PlanRows). length (all_ballots l)) c.items-plan-items.ensures in
+    let all : length (all_ballots plans) ≡ length (all_ballots c.args.plans.now) =
+    ap (λ (l : List PlanRows). length (all_ballots l)) c.items-plan-items.ensures in
     let none = ap length (no-ballots-left plans c.loop-plan.plan-index (omega (arith, c.loop-plan-test.false))) in
     omega (arith, c.loop-plan.invariant)

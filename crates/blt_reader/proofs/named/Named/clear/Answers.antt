@@ -17,5 +17,6 @@ returns c =
           (ap (λ (l : List ℕ). map (λ s. s == 1) l) (w.fill.ensures.items (λ y e. e))
           ∙ none_marked_first (vec_len c.self.inside.stamps) 0 ∙ ap (λ (n : ℕ). replicate n false) (counts ∙ same))
       | else-self w ↦ subst Cleared (sym w.self-inside-is)
-          (none_marked c.self.inside.stamps.items c.self.inside.round c.self.invariant ∙ ap (λ (n : ℕ). replicate n false) same)
+          (none_marked c.self.inside.stamps.items c.self.inside.round c.self.invariant
+          ∙ ap (λ (n : ℕ). replicate n false) same)
     ]

@@ -16,7 +16,9 @@ invariant_of-result g c =
     let shelves = c.in_ok-shelves.shelves in
     let now = c.sort_each.new.shelves in
     let back = written_back now shelves.items shelves.len (omega (arith, c.sort_each.ensures.as_many)) in
-    let are : AreSorted shelves.items now = subst (λ (s : List (List BallotLine)). AreSorted s now) c.as_mut_slice.ensures.value c.sort_each.ensures in
+    let are : AreSorted shelves.items now =
+    subst (λ (s : List (List BallotLine)). AreSorted s now) c.as_mut_slice.ensures.value
+    c.sort_each.ensures in
     let ballots = IsPermutation-trans _ _ _ (sorted_ballots shelves.items now are) c.in_ok-shelves.ensures.ballots in
     let same = length_permutation (all_plain now) (plain lines) ballots in (
       subst AreShelved (sym back) (sorted_shelved shelves.items now are c.in_ok-shelves.ensures.shelved),
@@ -31,6 +33,8 @@ returns-clause-ballots g c =
     let shelves = c.in_ok-shelves.shelves in
     let now = c.sort_each.new.shelves in
     let back = written_back now shelves.items shelves.len (omega (arith, c.sort_each.ensures.as_many)) in
-    let are : AreSorted shelves.items now = subst (λ (s : List (List BallotLine)). AreSorted s now) c.as_mut_slice.ensures.value c.sort_each.ensures in
+    let are : AreSorted shelves.items now =
+    subst (λ (s : List (List BallotLine)). AreSorted s now) c.as_mut_slice.ensures.value
+    c.sort_each.ensures in
     subst (λ (l : List (List BallotLine)). IsPermutation (all_plain l) (plain lines)) (sym back)
     (IsPermutation-trans _ _ _ (sorted_ballots shelves.items now are) c.in_ok-shelves.ensures.ballots)

@@ -13,7 +13,9 @@ rows_of_lines-requires-clause-sound c =
     let n = c.args.candidates in
     let bytes = c.args.share.now.ranks.items in
     let sorted = c.sort_unstable_by_key.new.self.items in
-    let is = sorted_share n bytes c.args.share.now.lines.items sorted c.sort_unstable_by_key.ensures.permutation c.requires.sound in
+    let is =
+    sorted_share n bytes c.args.share.now.lines.items sorted c.sort_unstable_by_key.ensures.permutation
+    c.requires.sound in
     c.merge-kept.ensures.sound n
     (subst (λ (b : List ℕ). IsShare n b c.as_mut_slice-lines.result.now) (sym c.as_slice-ranks.ensures.value)
     (subst (IsShare n bytes) (sym c.as_mut_slice-lines.ensures.value) is))
@@ -29,7 +31,8 @@ rows_of_lines-requires-clause-few c =
       ap length c.merge-kept.ensures.ballots,
       length-rests bytes 0 lines,
       ap line_count c.as_mut_slice-lines.ensures.value,
-      sum_by-IsPermutation counts c.args.share.now.lines.items c.sort_unstable_by_key.new.self.items c.sort_unstable_by_key.ensures.permutation,
+      sum_by-IsPermutation counts c.args.share.now.lines.items c.sort_unstable_by_key.new.self.items
+          c.sort_unstable_by_key.ensures.permutation,
       c.requires.few,
     )
 
@@ -42,5 +45,7 @@ returns-clause-ballots c =
     let made : IsPermutation rows (rests c.as_slice-ranks.result.now 0 c.as_mut_slice-lines.result.now) =
     subst (λ (l : List (List ℕ)). IsPermutation rows l) c.merge-kept.ensures.ballots c.in_ok-rows.ensures.ballots in
     let whole = subst (λ (b : List ℕ). IsPermutation rows (rests b 0 sorted)) c.as_slice-ranks.ensures.value
-    (subst (λ (l : List Placed). IsPermutation rows (rests c.as_slice-ranks.result.now 0 l)) c.as_mut_slice-lines.ensures.value made) in
-    IsPermutation-trans rows (rests bytes 0 sorted) (rests bytes 0 lines) whole (sorted_rests bytes lines sorted c.sort_unstable_by_key.ensures.permutation)
+    (subst (λ (l : List Placed). IsPermutation rows (rests c.as_slice-ranks.result.now 0 l))
+    c.as_mut_slice-lines.ensures.value made) in
+    IsPermutation-trans rows (rests bytes 0 sorted) (rests bytes 0 lines) whole
+    (sorted_rests bytes lines sorted c.sort_unstable_by_key.ensures.permutation)

@@ -11,10 +11,14 @@ returns-clause-plan c =
     let lines = c.args.lines.now in
     let first : PlanRow = record { depth = 0; candidate = 0; ballots = 0; skip = 0 } in
     let now = c.push_group.new.rows.items in
-    let root : c.append.new.rows.items ≡ first ∷ [] = c.in_ok-append.ensures ∙ ap (λ (l : List PlanRow). l ++ first ∷ []) c.new-rows.ensures.items in
-    let nodes = subst (λ (old : List PlanRow). AreNodesOf bytes 1 (rests bytes 0 lines) old now) root c.in_ok-ballots.ensures.nodes in
+    let root : c.append.new.rows.items ≡ first ∷ [] =
+    c.in_ok-append.ensures ∙ ap (λ (l : List PlanRow). l ++ first ∷ []) c.new-rows.ensures.items in
+    let nodes =
+    subst (λ (old : List PlanRow). AreNodesOf bytes 1 (rests bytes 0 lines) old now) root
+    c.in_ok-ballots.ensures.nodes in
     let size : c.len.result ≡ length now = omega (arith, c.push_group.new.rows.ok.0, c.len.ensures) in
-    plan_of_lines c.args.candidates bytes lines now first c.in_ok-ballots.ballots c.len.result nodes c.requires.candidates c.requires.sound.numbers c.requires.few c.in_ok-ballots.ensures.total size
+    plan_of_lines c.args.candidates bytes lines now first c.in_ok-ballots.ballots c.len.result nodes
+    c.requires.candidates c.requires.sound.numbers c.requires.few c.in_ok-ballots.ensures.total size
 
 pub returns-clause-ballots : goal.returns-clause-ballots
 returns-clause-ballots c =
@@ -22,7 +26,11 @@ returns-clause-ballots c =
     let lines = c.args.lines.now in
     let first : PlanRow = record { depth = 0; candidate = 0; ballots = 0; skip = 0 } in
     let now = c.push_group.new.rows.items in
-    let root : c.append.new.rows.items ≡ first ∷ [] = c.in_ok-append.ensures ∙ ap (λ (l : List PlanRow). l ++ first ∷ []) c.new-rows.ensures.items in
-    let nodes = subst (λ (old : List PlanRow). AreNodesOf bytes 1 (rests bytes 0 lines) old now) root c.in_ok-ballots.ensures.nodes in
+    let root : c.append.new.rows.items ≡ first ∷ [] =
+    c.in_ok-append.ensures ∙ ap (λ (l : List PlanRow). l ++ first ∷ []) c.new-rows.ensures.items in
+    let nodes =
+    subst (λ (old : List PlanRow). AreNodesOf bytes 1 (rests bytes 0 lines) old now) root
+    c.in_ok-ballots.ensures.nodes in
     let size : c.len.result ≡ length now = omega (arith, c.push_group.new.rows.ok.0, c.len.ensures) in
-    ballots_of_lines c.args.candidates bytes lines now first c.in_ok-ballots.ballots c.len.result nodes c.requires.candidates c.requires.sound.numbers c.requires.few c.in_ok-ballots.ensures.total size
+    ballots_of_lines c.args.candidates bytes lines now first c.in_ok-ballots.ballots c.len.result nodes
+    c.requires.candidates c.requires.sound.numbers c.requires.few c.in_ok-ballots.ensures.total size

@@ -10,5 +10,6 @@ invariant-loop-shard l = record {
   candidates : All (λ plan. plan.candidates ≡ l.fn.ballots.candidates) l.plans;
   shares : AreOfShares l.fn.shards 1 l.fn.ballots.lines l.plans;
   room : length l.shares.items ≡ l.fn.shards;
-  left : (s : ℕ) (d : Share) → l.shard ≤ s → s < l.fn.shards → IsDealt l.fn.ballots.candidates l.fn.shards (s + 1) 0 l.fn.ballots.lines (get_or l.shares.items s d);
+  left : (s : ℕ) (d : Share) → l.shard ≤ s → s < l.fn.shards
+      → IsDealt l.fn.ballots.candidates l.fn.shards (s + 1) 0 l.fn.ballots.lines (get_or l.shares.items s d);
 }

@@ -8,5 +8,7 @@ use Rattle.lent_spread.proofs.lent.LentSpread.spread.Goals as goal
 pub returns-clause-votes : goal.returns-clause-votes
 returns-clause-votes g c =
     subst
-    (λ (rule : Rule). c.spread.new.tally ≡ votes_under rule (scale g.row.P) c.args.keeps.now (g.D.Spread.ballots c.args.self.now.spread.now) (g.D.Spread.candidates c.args.self.now.spread.now))
+    (λ (rule : Rule). c.spread.new.tally
+    ≡ votes_under rule (scale g.row.P) c.args.keeps.now (g.D.Spread.ballots c.args.self.now.spread.now)
+    (g.D.Spread.candidates c.args.self.now.spread.now))
     c.requires.can.0 c.spread.ensures.votes

@@ -10,8 +10,16 @@ unfolding text_of
 push_last_digits-requires-clause-room g c =
     let whole = decimal (c.args.units / scale g.row.P) in
     let digits = last_digits g.row.P (c.args.units % scale g.row.P) in
-    let counted = c.push_count.ensures ∙ ap (λ (one : ℕ). c.args.self.now ++ decimal (c.args.units / one)) c.scale_of-one.ensures.value in
+    let counted =
+    c.push_count.ensures
+    ∙ ap (λ (one : ℕ). c.args.self.now ++ decimal (c.args.units / one)) c.scale_of-one.ensures.value in
     let so_far : length c.push_bytes.new.self ≡ length c.args.self.now + length whole + 1 =
     ap length (c.push_bytes.ensures ∙ ap (λ (l : List ℕ). l ++ 46 ∷ []) counted)
     ∙ omega (arith, length-append (c.args.self.now ++ whole) (46 ∷ []), length-append c.args.self.now whole) in
-    omega (arith, so_far, c.requires.room, length-append whole (46 ∷ digits), length-last_digits g.row.P (c.args.units % scale g.row.P))
+    omega (
+      arith,
+      so_far,
+      c.requires.room,
+      length-append whole (46 ∷ digits),
+      length-last_digits g.row.P (c.args.units % scale g.row.P),
+    )

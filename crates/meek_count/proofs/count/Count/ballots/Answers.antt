@@ -6,4 +6,5 @@ use Rattle.meek_count.proofs.count.Count.ballots.Goals as goal
 
 pub returns-clause-rest : goal.returns-clause-rest
 returns-clause-rest g c =
-    subst (λ (count : Progress). HasRest g.D.Spread.rule (scale g.row.P) count) c.self.view_is (rest_exists g.D.Spread.rule g.row.P _ _ c.self.invariant.6)
+    subst (λ (count : Progress). HasRest g.D.Spread.rule (scale g.row.P) count) c.self.view_is
+    (rest_exists g.D.Spread.rule g.row.P _ _ c.self.invariant.6)

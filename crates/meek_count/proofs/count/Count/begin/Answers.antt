@@ -11,8 +11,10 @@ use Rattle.meek_count.proofs.count.Count.begin.Goals as goal
 pub invariant_of-result : goal.invariant_of-result
 invariant_of-result g c =
     let states : length c.in_ok-situation.situation.states ≡ length c.args.roll.now.names =
-    ap (λ (now : Situation). length now.states) c.in_ok-situation.ensures.opening ∙ length-opening (scale g.row.P) c.args.omega c.args.roll.now c.candidates-n.ensures.sound in
-    let all : c.candidates-n.result ≡ length c.in_ok-situation.situation.states = c.candidates-n.ensures.value ∙ sym states in (
+    ap (λ (now : Situation). length now.states) c.in_ok-situation.ensures.opening
+    ∙ length-opening (scale g.row.P) c.args.omega c.args.roll.now c.candidates-n.ensures.sound in
+    let all : c.candidates-n.result ≡ length c.in_ok-situation.situation.states =
+    c.candidates-n.ensures.value ∙ sym states in (
       c.units-places.ensures.places.0,
       c.units-places.ensures.places.1,
       c.requires.can_spread,
@@ -33,6 +35,8 @@ invariant_of-result g c =
 pub returns-clause-rest : goal.returns-clause-rest
 returns-clause-rest g c =
     let states : length c.in_ok-situation.situation.states ≡ length c.args.roll.now.names =
-    ap (λ (now : Situation). length now.states) c.in_ok-situation.ensures.opening ∙ length-opening (scale g.row.P) c.args.omega c.args.roll.now c.candidates-n.ensures.sound in
-    rows_exist g.D.Spread.rule (scale g.row.P) (g.D.Spread.ballots c.args.spread) c.args.lots.now c.in_ok-situation.situation (scale_pos g.row.P)
+    ap (λ (now : Situation). length now.states) c.in_ok-situation.ensures.opening
+    ∙ length-opening (scale g.row.P) c.args.omega c.args.roll.now c.candidates-n.ensures.sound in
+    rows_exist g.D.Spread.rule (scale g.row.P) (g.D.Spread.ballots c.args.spread) c.args.lots.now
+    c.in_ok-situation.situation (scale_pos g.row.P)
     c.in_ok-situation.ensures.valid c.candidates-order.ensures.order (c.requires.lots_of_all ∙ sym states)

@@ -16,7 +16,8 @@ use Rattle.meek_count.proofs.count.Count.next.Goals as goal
 -- the end keeps what a count keeps
 pub invariant_of-self : goal.invariant_of-self
 invariant_of-self g c =
-    let same : length c.finish.new.self.states ≡ length c.self.inside.situation.states = c.finish.ensures.same_candidates in (
+    let same : length c.finish.new.self.states ≡ length c.self.inside.situation.states =
+    c.finish.ensures.same_candidates in (
       c.self.invariant.0,
       c.self.invariant.1,
       c.self.invariant.2,
@@ -25,7 +26,9 @@ invariant_of-self g c =
       λ stand. absurd (cc),
       record {
         valid = c.finish.ensures.valid;
-        on_its_way = rw c.finish.ensures.finished (on_its_way-finished _ c.self.inside.situation c.self.invariant.6.on_its_way);
+        on_its_way =
+            rw c.finish.ensures.finished
+            (on_its_way-finished _ c.self.inside.situation c.self.invariant.6.on_its_way);
         order_of_lots = c.self.invariant.6.order_of_lots;
         lots_of_all = c.self.invariant.6.lots_of_all ∙ sym same;
         names_of_all = c.self.invariant.6.names_of_all ∙ sym same;
@@ -42,14 +45,23 @@ pub settle-requires : goal.settle-requires
 settle-requires g c =
     let now : Situation = c.self.inside.situation in
     let going : is_complete now ≡ false = sym c.is_complete.ensures ∙ c.if-is_complete.false in
-    let cast : List ℕ = votes_under g.D.Spread.rule (scale g.row.P) now.keeps (g.D.Spread.ballots c.self.inside.spread) (length now.states) in
-    let tally : c.distribute.new.tally ≡ cast = c.distribute.ensures.votes ∙ votes-same g.D.Spread.rule (scale g.row.P) c.keeps.result.now now.keeps (g.D.Spread.ballots c.self.inside.spread) (g.D.Spread.candidates c.self.inside.spread) (length now.states) c.keeps.ensures c.self.invariant.3 in
+    let cast : List ℕ =
+    votes_under g.D.Spread.rule (scale g.row.P) now.keeps (g.D.Spread.ballots c.self.inside.spread)
+    (length now.states) in
+    let tally : c.distribute.new.tally ≡ cast =
+    c.distribute.ensures.votes
+    ∙ votes-same g.D.Spread.rule (scale g.row.P) c.keeps.result.now now.keeps
+    (g.D.Spread.ballots c.self.inside.spread) (g.D.Spread.candidates c.self.inside.spread)
+    (length now.states) c.keeps.ensures c.self.invariant.3 in
     let running : HasOnlyRunningVotes now.states c.distribute.new.tally =
     subst (λ (v : List ℕ). HasOnlyRunningVotes now.states v) (sym tally)
-    (only_running g.D.Spread.rule (scale g.row.P) (g.D.Spread.ballots c.self.inside.spread) now (scale_pos g.row.P) c.self.invariant.6.valid) in
+    (only_running g.D.Spread.rule (scale g.row.P) (g.D.Spread.ballots c.self.inside.spread) now
+    (scale_pos g.row.P) c.self.invariant.6.valid) in
     let within : sum c.distribute.new.tally ≤ most g.row.P =
-    rw tally (votes_fit g.D.Spread.rule g.row.P (g.D.Spread.ballots c.self.inside.spread) now c.self.invariant.6.valid c.self.invariant.6.few_ballots) in
-    let of_all : length c.distribute.new.tally ≡ length now.states = ap (λ (v : List ℕ). length v) tally ∙ length-map-range_with_len _ 0 (length now.states) in (
+    rw tally (votes_fit g.D.Spread.rule g.row.P (g.D.Spread.ballots c.self.inside.spread) now
+    c.self.invariant.6.valid c.self.invariant.6.few_ballots) in
+    let of_all : length c.distribute.new.tally ≡ length now.states =
+    ap (λ (v : List ℕ). length v) tally ∙ length-map-range_with_len _ 0 (length now.states) in (
       omega arith,
       (
         omega arith,
@@ -71,7 +83,9 @@ settle-requires g c =
 
 pub returns-clause-rest : goal.returns-clause-rest
 returns-clause-rest g c =
-    rows_exist g.D.Spread.rule (scale g.row.P) (g.D.Spread.ballots c.distribute.new.spread) c.self.inside.lots.now c.settle.new.self (scale_pos g.row.P) c.settle.ensures.valid c.self.invariant.6.order_of_lots
+    rows_exist g.D.Spread.rule (scale g.row.P) (g.D.Spread.ballots c.distribute.new.spread)
+    c.self.inside.lots.now c.settle.new.self (scale_pos g.row.P) c.settle.ensures.valid
+    c.self.invariant.6.order_of_lots
     (c.self.invariant.6.lots_of_all ∙ sym c.settle.ensures.same_candidates)
 
 -- the row leads on
@@ -79,14 +93,36 @@ pub returns-clause-leads : goal.returns-clause-leads
 returns-clause-leads g c = λ is.
     let now : Situation = c.self.inside.situation in
     let going : is_complete now ≡ false = sym c.is_complete.ensures ∙ c.if-is_complete.false in
-    let old : Progress = record { roll = c.self.inside.roll.now; lots = c.self.inside.lots.now; ballots = g.D.Spread.ballots c.self.inside.spread; situation = now; has_row = c.self.inside.has_row; row = c.self.inside.row } in
-    let new : Progress = record { roll = c.self.inside.roll.now; lots = c.self.inside.lots.now; ballots = g.D.Spread.ballots c.distribute.new.spread; situation = c.settle.new.self; has_row = true; row = c.settle.new.row } in
-    let tally : c.distribute.new.tally ≡ votes_under g.D.Spread.rule (scale g.row.P) now.keeps old.ballots (length now.states) =
-    c.distribute.ensures.votes ∙ votes-same g.D.Spread.rule (scale g.row.P) c.keeps.result.now now.keeps (g.D.Spread.ballots c.self.inside.spread) (g.D.Spread.candidates c.self.inside.spread) (length now.states) c.keeps.ensures c.self.invariant.3 in
+    let old : Progress =
+    record {
+      roll = c.self.inside.roll.now;
+      lots = c.self.inside.lots.now;
+      ballots = g.D.Spread.ballots c.self.inside.spread;
+      situation = now;
+      has_row = c.self.inside.has_row;
+      row = c.self.inside.row;
+    } in
+    let new : Progress =
+    record {
+      roll = c.self.inside.roll.now;
+      lots = c.self.inside.lots.now;
+      ballots = g.D.Spread.ballots c.distribute.new.spread;
+      situation = c.settle.new.self;
+      has_row = true;
+      row = c.settle.new.row;
+    } in
+    let tally :
+    c.distribute.new.tally
+    ≡ votes_under g.D.Spread.rule (scale g.row.P) now.keeps old.ballots (length now.states) =
+    c.distribute.ensures.votes
+    ∙ votes-same g.D.Spread.rule (scale g.row.P) c.keeps.result.now now.keeps
+    (g.D.Spread.ballots c.self.inside.spread) (g.D.Spread.candidates c.self.inside.spread)
+    (length now.states) c.keeps.ensures c.self.invariant.3 in
     let iterates : IteratesTo g.D.Spread.rule (scale g.row.P) old.ballots old.lots now new.row new.situation =
     subst (λ (v : List ℕ). Settle (scale g.row.P) now v old.lots new.row new.situation) tally c.settle.ensures.settle in
     subst (λ (p : Progress). RowsLead g.D.Spread.rule (scale g.row.P) p (new.row ∷ []) new) c.self.view_is
-    (leads_one g.D.Spread.rule (scale g.row.P) old new going iterates (record { roll = refl; lots = refl; ballots = c.distribute.ensures.same }))
+    (leads_one g.D.Spread.rule (scale g.row.P) old new going iterates
+    (record { roll = refl; lots = refl; ballots = c.distribute.ensures.same }))
 
 -- an iteration keeps what a count keeps, and after an election the votes stand
 pub invariant_of-self-2 : goal.invariant_of-self-2
@@ -97,7 +133,10 @@ invariant_of-self-2 g c =
     let candidates : ℕ = g.D.Spread.candidates c.self.inside.spread in
     let same : length next.states ≡ length now.states = c.settle.ensures.same_candidates in
     let of_all : candidates ≡ length next.states = c.self.invariant.3 ∙ sym same in
-    let tally : c.distribute.new.tally ≡ votes_under g.D.Spread.rule (scale g.row.P) c.keeps.result.now ballots candidates = c.distribute.ensures.votes in (
+    let tally :
+    c.distribute.new.tally
+    ≡ votes_under g.D.Spread.rule (scale g.row.P) c.keeps.result.now ballots candidates =
+    c.distribute.ensures.votes in (
       c.self.invariant.0,
       c.self.invariant.1,
       c.distribute.ensures.still_can,
@@ -105,7 +144,8 @@ invariant_of-self-2 g c =
       ap (λ (v : List ℕ). length v) tally ∙ (length-map-range_with_len _ 0 candidates ∙ of_all),
       λ stands.
           let kept : next.keeps ≡ c.keeps.result.now =
-          keeps-elected (scale g.row.P) now c.distribute.new.tally c.self.inside.lots.now c.settle.new.row next c.settle.ensures.settle (c.is_election-self-inside.ensures.0 stands)
+          keeps-elected (scale g.row.P) now c.distribute.new.tally c.self.inside.lots.now c.settle.new.row
+          next c.settle.ensures.settle (c.is_election-self-inside.ensures.0 stands)
           ∙ sym c.keeps.ensures in
           rw (kept, c.distribute.ensures.same, c.distribute.ensures.same_candidates) tally,
       record {

@@ -19,10 +19,18 @@ invariant_of-result g c =
     let state : ℕ → State = λ p. cond (mark_at gone p) Withdrawn Hopeful in
     let keep : ℕ → ℕ = λ p. cond (mark_at gone p) 0 (scale g.row.P) in
     let states : c.loop-c.states ≡ each_place (length gone) state =
-    fill_by_all state c.loop-c.states (length gone) Withdrawn (c.loop-c.invariant.states ∙ (count ∙ sym same)) (λ q below. c.loop-c.invariant.done q (omega arith)) in
+    fill_by_all state c.loop-c.states (length gone) Withdrawn (c.loop-c.invariant.states ∙ (count ∙ sym same))
+    (λ q below. c.loop-c.invariant.done q (omega arith)) in
     let keeps : c.loop-c.keeps ≡ each_place (length gone) keep =
-    fill_by_all keep c.loop-c.keeps (length gone) 0 (c.loop-c.invariant.keeps ∙ (count ∙ sym same)) (λ q below. c.loop-c.invariant.kept q (omega arith)) in
-    rw (c.seats.ensures.value, states, keeps) (c.requires.places.0, c.requires.places.1, valid-opening (10 ^ g.row.P) c.args.omega c.args.roll.now.seats gone c.requires.omega.0 c.requires.omega.1 roll.some_seat roll.few_seats (omega (arith, roll.some_candidate)) (omega (arith, roll.few_candidates)))
+    fill_by_all keep c.loop-c.keeps (length gone) 0 (c.loop-c.invariant.keeps ∙ (count ∙ sym same))
+    (λ q below. c.loop-c.invariant.kept q (omega arith)) in
+    rw (c.seats.ensures.value, states, keeps) (
+      c.requires.places.0,
+      c.requires.places.1,
+      valid-opening (10 ^ g.row.P) c.args.omega c.args.roll.now.seats gone c.requires.omega.0
+          c.requires.omega.1 roll.some_seat roll.few_seats (omega (arith, roll.some_candidate))
+          (omega (arith, roll.few_candidates)),
+    )
 
 pub returns-clause-opening : goal.returns-clause-opening
 returns-clause-opening g c =
@@ -33,9 +41,11 @@ returns-clause-opening g c =
     let state : ℕ → State = λ p. cond (mark_at gone p) Withdrawn Hopeful in
     let keep : ℕ → ℕ = λ p. cond (mark_at gone p) 0 (scale g.row.P) in
     let states : c.loop-c.states ≡ each_place (length gone) state =
-    fill_by_all state c.loop-c.states (length gone) Withdrawn (c.loop-c.invariant.states ∙ (count ∙ sym same)) (λ q below. c.loop-c.invariant.done q (omega arith)) in
+    fill_by_all state c.loop-c.states (length gone) Withdrawn (c.loop-c.invariant.states ∙ (count ∙ sym same))
+    (λ q below. c.loop-c.invariant.done q (omega arith)) in
     let keeps : c.loop-c.keeps ≡ each_place (length gone) keep =
-    fill_by_all keep c.loop-c.keeps (length gone) 0 (c.loop-c.invariant.keeps ∙ (count ∙ sym same)) (λ q below. c.loop-c.invariant.kept q (omega arith)) in
+    fill_by_all keep c.loop-c.keeps (length gone) 0 (c.loop-c.invariant.keeps ∙ (count ∙ sym same))
+    (λ q below. c.loop-c.invariant.kept q (omega arith)) in
     rw (c.seats.ensures.value, states, keeps) refl
 
 pub returns-clause-valid : goal.returns-clause-valid
@@ -47,10 +57,14 @@ returns-clause-valid g c =
     let state : ℕ → State = λ p. cond (mark_at gone p) Withdrawn Hopeful in
     let keep : ℕ → ℕ = λ p. cond (mark_at gone p) 0 (scale g.row.P) in
     let states : c.loop-c.states ≡ each_place (length gone) state =
-    fill_by_all state c.loop-c.states (length gone) Withdrawn (c.loop-c.invariant.states ∙ (count ∙ sym same)) (λ q below. c.loop-c.invariant.done q (omega arith)) in
+    fill_by_all state c.loop-c.states (length gone) Withdrawn (c.loop-c.invariant.states ∙ (count ∙ sym same))
+    (λ q below. c.loop-c.invariant.done q (omega arith)) in
     let keeps : c.loop-c.keeps ≡ each_place (length gone) keep =
-    fill_by_all keep c.loop-c.keeps (length gone) 0 (c.loop-c.invariant.keeps ∙ (count ∙ sym same)) (λ q below. c.loop-c.invariant.kept q (omega arith)) in
-    rw (c.seats.ensures.value, states, keeps) (valid-opening (10 ^ g.row.P) c.args.omega c.args.roll.now.seats gone c.requires.omega.0 c.requires.omega.1 roll.some_seat roll.few_seats (omega (arith, roll.some_candidate)) (omega (arith, roll.few_candidates)))
+    fill_by_all keep c.loop-c.keeps (length gone) 0 (c.loop-c.invariant.keeps ∙ (count ∙ sym same))
+    (λ q below. c.loop-c.invariant.kept q (omega arith)) in
+    rw (c.seats.ensures.value, states, keeps) (valid-opening (10 ^ g.row.P) c.args.omega c.args.roll.now.seats
+    gone c.requires.omega.0 c.requires.omega.1 roll.some_seat roll.few_seats
+    (omega (arith, roll.some_candidate)) (omega (arith, roll.few_candidates)))
 
 pub returns-clause-on_its_way : goal.returns-clause-on_its_way
 returns-clause-on_its_way g c =
@@ -61,7 +75,10 @@ returns-clause-on_its_way g c =
     let state : ℕ → State = λ p. cond (mark_at gone p) Withdrawn Hopeful in
     let keep : ℕ → ℕ = λ p. cond (mark_at gone p) 0 (scale g.row.P) in
     let states : c.loop-c.states ≡ each_place (length gone) state =
-    fill_by_all state c.loop-c.states (length gone) Withdrawn (c.loop-c.invariant.states ∙ (count ∙ sym same)) (λ q below. c.loop-c.invariant.done q (omega arith)) in
+    fill_by_all state c.loop-c.states (length gone) Withdrawn (c.loop-c.invariant.states ∙ (count ∙ sym same))
+    (λ q below. c.loop-c.invariant.done q (omega arith)) in
     let keeps : c.loop-c.keeps ≡ each_place (length gone) keep =
-    fill_by_all keep c.loop-c.keeps (length gone) 0 (c.loop-c.invariant.keeps ∙ (count ∙ sym same)) (λ q below. c.loop-c.invariant.kept q (omega arith)) in
-    rw (c.seats.ensures.value, states, keeps) (on_its_way-opening (most g.row.P) (10 ^ g.row.P) c.args.omega c.args.roll.now.seats gone)
+    fill_by_all keep c.loop-c.keeps (length gone) 0 (c.loop-c.invariant.keeps ∙ (count ∙ sym same))
+    (λ q below. c.loop-c.invariant.kept q (omega arith)) in
+    rw (c.seats.ensures.value, states, keeps)
+    (on_its_way-opening (most g.row.P) (10 ^ g.row.P) c.args.omega c.args.roll.now.seats gone)

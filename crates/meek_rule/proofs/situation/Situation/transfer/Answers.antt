@@ -4,4 +4,8 @@ use Rattle.meek_rule.proofs.situation.Situation.transfer.Goals as goal
 
 pub invariant_of-self : goal.invariant_of-self
 invariant_of-self g c =
-    rw c.update_keeps.ensures.keeps (c.self.invariant.0, c.self.invariant.1, valid-with_keeps (10 ^ g.row.P) _ c.args.votes.now c.args.quota c.args.surplus c.self.invariant.2)
+    rw c.update_keeps.ensures.keeps (
+      c.self.invariant.0,
+      c.self.invariant.1,
+      valid-with_keeps (10 ^ g.row.P) _ c.args.votes.now c.args.quota c.args.surplus c.self.invariant.2,
+    )

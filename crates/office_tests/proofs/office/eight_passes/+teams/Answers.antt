@@ -19,7 +19,8 @@ team_send = recorded_send team.the_field.row _ _ team.the_type.to_one team_field
 
 pub join-team-requires-send-F : goal.join-team-requires-send-F
 join-team-requires-send-F g t c κs within =
-    param_send 1 _ (arg_send _ yes _ (closure_of_four (codes "office_tests::office::eight_passes::fn::play_teams::join+Self") _ _ _ _
+    param_send 1 _ (arg_send _ yes _
+    (closure_of_four (codes "office_tests::office::eight_passes::fn::play_teams::join+Self") _ _ _ _
     (shr_send _ _ _ c.requires.sync) (shr_send _ _ _ heap.sync) (shr_send _ _ _ office_sync) pass_send))
 
 pub join-team-requires-send-A : goal.join-team-requires-send-A

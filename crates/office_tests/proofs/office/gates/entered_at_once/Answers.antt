@@ -9,8 +9,10 @@ use Rattle.office_tests.proofs.office.gates.entered_at_once.Goals as goal
 
 pub join-requires-send-F : goal.join-requires-send-F
 join-requires-send-F g c κs within =
-    param_send 1 _ (arg_send _ yes _ (closure_of_five (codes "office_tests::office::gates::fn::entered_at_once::join+arg2+Self") _ _ _ _
-    (shr_send _ _ _ c.type_bounds.sync-R) (shr_send _ _ _ heap.sync) (shr_send _ _ _ office_sync) pass_send _ (shr_send _ _ _ c.type_bounds.sync-G)))
+    param_send 1 _ (arg_send _ yes _
+    (closure_of_five (codes "office_tests::office::gates::fn::entered_at_once::join+arg2+Self") _ _ _ _
+    (shr_send _ _ _ c.type_bounds.sync-R) (shr_send _ _ _ heap.sync) (shr_send _ _ _ office_sync) pass_send _
+    (shr_send _ _ _ c.type_bounds.sync-G)))
 
 pub join-requires-send-A : goal.join-requires-send-A
 join-requires-send-A g c κs within = let a = pass_send in search sendable

@@ -4,4 +4,6 @@ use Rattle.ranking_trie.proofs.CountLemmas.{count_of_blank}
 use Rattle.ranking_trie.proofs.trie.Trie.ends.Goals as goal
 
 pub returns : goal.returns
-returns c = sym (count_of_blank c.self.inside.ends c.self.inside.forest) ∙ ap (λ (t : BallotBag). count_of [] t.ballots) c.self.view_is
+returns c =
+    sym (count_of_blank c.self.inside.ends c.self.inside.forest)
+    ∙ ap (λ (t : BallotBag). count_of [] t.ballots) c.self.view_is

@@ -20,8 +20,10 @@ returns-clause-within c =
     let sound = c.self.invariant.0 in
     subst (λ (n : ℕ). IsWithin n 250 1 c.self.inside.forest) (ap (λ (t : BallotBag). t.candidates) c.self.view_is)
     (within c.self.inside.candidates [] 0 c.self.inside.forest sound.few_candidates c.self.invariant.1
-    (All-right (λ r. IsRanking c.self.inside.candidates r) (replicate c.self.inside.ends []) (bag c.self.inside.forest) sound.rankings))
+    (All-right (λ r. IsRanking c.self.inside.candidates r) (replicate c.self.inside.ends [])
+    (bag c.self.inside.forest) sound.rankings))
 
 pub returns-clause-order : goal.returns-clause-order
 returns-clause-order c =
-    subst AreInOrder (ap (λ (t : BallotBag). t.ballots) c.self.view_is) (in_order c.self.inside.ends c.self.inside.forest c.self.invariant.1)
+    subst AreInOrder (ap (λ (t : BallotBag). t.ballots) c.self.view_is)
+    (in_order c.self.inside.ends c.self.inside.forest c.self.invariant.1)

@@ -5,4 +5,5 @@ use Rattle.ranking_trie.proofs.trie.Trie.keep_order.Goals as goal
 
 pub returns : goal.returns
 returns c =
-    subst AreInOrder (ap (λ (t : BallotBag). t.ballots) c.self.view_is) (in_order c.self.inside.ends c.self.inside.forest c.self.invariant.1)
+    subst AreInOrder (ap (λ (t : BallotBag). t.ballots) c.self.view_is)
+    (in_order c.self.inside.ends c.self.inside.forest c.self.invariant.1)

@@ -6,4 +6,6 @@ use Rattle.ranking_trie.proofs.trie.Trie.nodes.Goals as goal
 pub returns : goal.returns
 returns c = λ f rising are.
     let t = c.self.inside in
-    nodes_of_form c.args.self.now.ballots t.ends t.nodes t.forest f (sym (ap (λ (s : BallotBag). s.ballots) c.self.view_is)) c.self.invariant.1 c.self.invariant.2 rising are
+    nodes_of_form c.args.self.now.ballots t.ends t.nodes t.forest f
+    (sym (ap (λ (s : BallotBag). s.ballots) c.self.view_is)) c.self.invariant.1 c.self.invariant.2 rising
+    are

@@ -15,18 +15,26 @@ invariant_of-self g c =
     let line = c.args.line.now in
     let same : IsPermutation old (replicate line.count line.ranking ++ new) =
     subst (λ (r : List ℕ). IsPermutation old (replicate line.count r ++ new)) c.ranks.ensures.value
-    (subst (λ f. IsPermutation (replicate t.ends [] ++ bag f) (replicate line.count c.ranks.result.now ++ new)) c.replace-forest.ensures.value c.take_out-ends.ensures.bag) in
-    (trie_fewer t.candidates t.total line.count line.ranking old new c.self.invariant.0 same, c.take_out-ends.ensures.rising, c.take_out-ends.ensures.counted)
+    (subst
+    (λ f. IsPermutation (replicate t.ends [] ++ bag f) (replicate line.count c.ranks.result.now ++ new))
+    c.replace-forest.ensures.value c.take_out-ends.ensures.bag) in (
+      trie_fewer t.candidates t.total line.count line.ranking old new c.self.invariant.0 same,
+      c.take_out-ends.ensures.rising,
+      c.take_out-ends.ensures.counted,
+    )
 
 pub take_out-ends-requires-clause-numbers : goal.take_out-ends-requires-clause-numbers
 take_out-ends-requires-clause-numbers g c =
     let t = c.self.inside in
     let line = c.args.line.now in
-    let bag_is : replicate t.ends [] ++ bag t.forest ≡ c.args.self.now.ballots = ap (λ (s : BallotBag). s.ballots) c.self.view_is in
+    let bag_is : replicate t.ends [] ++ bag t.forest ≡ c.args.self.now.ballots =
+    ap (λ (s : BallotBag). s.ballots) c.self.view_is in
     let held : line.count ≤ count_of line.ranking (replicate t.ends [] ++ bag t.forest) =
     subst (λ (l : List (List ℕ)). line.count ≤ count_of line.ranking l) (sym bag_is) c.requires.held in
     let sound = c.self.invariant.0 in
-    let ranking = held_ranking t.candidates t.total line.count line.ranking (replicate t.ends [] ++ bag t.forest) sound c.requires.some held in
+    let ranking =
+    held_ranking t.candidates t.total line.count line.ranking (replicate t.ends [] ++ bag t.forest) sound
+    c.requires.some held in
     let few = sound.few_candidates in
     subst (All (λ r. (1 ≤ r) × (r ≤ 250))) (sym c.ranks.ensures.value)
     (λ k d inside. let number = ranking.numbers k d inside in (number.0, omega (arith, number.1)))

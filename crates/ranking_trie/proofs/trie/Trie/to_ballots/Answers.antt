@@ -14,7 +14,8 @@ pub push_lines-requires-clause-rankings : goal.push_lines-requires-clause-rankin
 push_lines-requires-clause-rankings c =
     let t = c.self.inside in
     let same : c.push_line.new.ballots.candidates ≡ t.candidates =
-    ap (λ (b : BallotList). b.candidates) c.in_ok-push_line.ensures ∙ ap (λ (b : BallotList). b.candidates) c.new-listed.ensures in
+    ap (λ (b : BallotList). b.candidates) c.in_ok-push_line.ensures
+    ∙ ap (λ (b : BallotList). b.candidates) c.new-listed.ensures in
     subst (λ (m : ℕ). All (λ r. IsRanking m (c.new-ranks.result.items ++ r)) (bag t.forest)) (sym same)
     (subst (λ (f : List ℕ). All (λ r. IsRanking t.candidates (f ++ r)) (bag t.forest)) (sym c.new-ranks.ensures.items)
     (All-right (λ r. IsRanking t.candidates r) (replicate t.ends []) (bag t.forest) c.self.invariant.0.rankings))
@@ -22,11 +23,18 @@ push_lines-requires-clause-rankings c =
 pub returns-clause-ballots : goal.returns-clause-ballots
 returns-clause-ballots c =
     let t = c.self.inside in
-    let is = all_listed t.candidates t.ends c.new-listed.result c.push_line.new.ballots c.push_lines.new.ballots c.new-ranks.result.items t.forest c.new-listed.ensures c.new-ranks.ensures.items c.in_ok-push_line.ensures c.in_ok-push_lines.ensures.lines in
-    ap (λ (b : BallotList). plain b.lines) is ∙ (plain-listed t.ends t.forest ∙ ap (λ (s : BallotBag). s.ballots) c.self.view_is)
+    let is =
+    all_listed t.candidates t.ends c.new-listed.result c.push_line.new.ballots c.push_lines.new.ballots
+    c.new-ranks.result.items t.forest c.new-listed.ensures c.new-ranks.ensures.items
+    c.in_ok-push_line.ensures c.in_ok-push_lines.ensures.lines in
+    ap (λ (b : BallotList). plain b.lines) is
+    ∙ (plain-listed t.ends t.forest ∙ ap (λ (s : BallotBag). s.ballots) c.self.view_is)
 
 pub returns-clause-different : goal.returns-clause-different
 returns-clause-different c =
     let t = c.self.inside in
-    let is = all_listed t.candidates t.ends c.new-listed.result c.push_line.new.ballots c.push_lines.new.ballots c.new-ranks.result.items t.forest c.new-listed.ensures c.new-ranks.ensures.items c.in_ok-push_line.ensures c.in_ok-push_lines.ensures.lines in
+    let is =
+    all_listed t.candidates t.ends c.new-listed.result c.push_line.new.ballots c.push_lines.new.ballots
+    c.new-ranks.result.items t.forest c.new-listed.ensures c.new-ranks.ensures.items
+    c.in_ok-push_line.ensures c.in_ok-push_lines.ensures.lines in
     subst (λ (b : BallotList). HaveRisingRankings b.lines) (sym is) (listed_rise t.ends t.forest c.self.invariant.1)

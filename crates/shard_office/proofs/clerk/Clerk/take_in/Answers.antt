@@ -13,13 +13,17 @@ use Rattle.shard_office.proofs.clerk.Clerk.take_in.Goals as goal
 
 pub join_all-requires-clause-may : goal.join_all-requires-clause-may
 join_all-requires-clause-may c i x o ex eo =
-    let same : c.self.inside.office.value ≡ c.args.office.now = ap (λ (s : ClerkState). s.desk.office) c.self.view_is ∙ c.requires.office.0 in
-    let theirs : c.pass.inside.office.value ≡ c.args.office.now = ap (λ (p : PassState). p.office) c.pass.view_is ∙ c.requires.office.1 in
+    let same : c.self.inside.office.value ≡ c.args.office.now =
+    ap (λ (s : ClerkState). s.desk.office) c.self.view_is ∙ c.requires.office.0 in
+    let theirs : c.pass.inside.office.value ≡ c.args.office.now =
+    ap (λ (p : PassState). p.office) c.pass.view_is ∙ c.requires.office.1 in
     let first = c.self.invariant.0.shards i x ex in
     let mine = c.self.invariant.0.at.shards i x ex in
     let other = c.pass.invariant.shards i o eo in
-    let one : slice_get c.args.office.now.identity.locks i ≡ Some x.lock = ap (λ (k : OfficeState). slice_get k.identity.locks i) (sym same) ∙ mine.lock in
-    let two : slice_get c.args.office.now.identity.locks i ≡ Some o.lock = ap (λ (k : OfficeState). slice_get k.identity.locks i) (sym theirs) ∙ other.lock in
+    let one : slice_get c.args.office.now.identity.locks i ≡ Some x.lock =
+    ap (λ (k : OfficeState). slice_get k.identity.locks i) (sym same) ∙ mine.lock in
+    let two : slice_get c.args.office.now.identity.locks i ≡ Some o.lock =
+    ap (λ (k : OfficeState). slice_get k.identity.locks i) (sym theirs) ∙ other.lock in
     let both : Some o.lock ≡ Some x.lock = sym two ∙ one in
     record {
       lock = ap (λ (k : OfficeState). slice_get k.identity.locks i) c.office.view_is ∙ one;
@@ -37,36 +41,83 @@ theirs : (c : goal.After-drop-pass-inside) → c.pass.inside.office.value ≡ c.
 theirs c = ap (λ (p : PassState). p.office) c.pass.view_is ∙ c.requires.office.1
 
 -- what became of the clerk's seats
-did : (c : goal.After-drop-pass-inside) → Joined c.args.office.now c.self.inside.last (c.self.inside.teams - 1) (map (λ t. t.value) c.self.inside.taken.items) c.self.inside.seats.shards.items c.pass.inside.seats.shards.items c.join_all.new.firsts.items c.self.inside.seats.register c.pass.inside.seats.register c.join.new.seat c.pass.inside.caller
+did :
+    (c : goal.After-drop-pass-inside)
+    → Joined c.args.office.now c.self.inside.last (c.self.inside.teams - 1)
+    (map (λ t. t.value) c.self.inside.taken.items) c.self.inside.seats.shards.items
+    c.pass.inside.seats.shards.items c.join_all.new.firsts.items c.self.inside.seats.register
+    c.pass.inside.seats.register c.join.new.seat c.pass.inside.caller
 did c =
     let taken : List PassState = map (λ t. t.value) c.self.inside.taken.items in
-    let are : AreFirst c.args.office.now c.self.inside.last c.self.inside.teams taken c.self.inside.seats.shards.items c.self.inside.seats.register =
-    subst (λ (o : OfficeState). AreFirst o c.self.inside.last c.self.inside.teams taken c.self.inside.seats.shards.items c.self.inside.seats.register) (same c) c.self.invariant.0 in
+    let are :
+    AreFirst c.args.office.now c.self.inside.last c.self.inside.teams taken
+    c.self.inside.seats.shards.items c.self.inside.seats.register =
+    subst (λ (o : OfficeState). AreFirst o c.self.inside.last c.self.inside.teams taken
+    c.self.inside.seats.shards.items c.self.inside.seats.register) (same c) c.self.invariant.0 in
     let at : AreAt c.args.office.now c.pass.inside.caller c.pass.inside.seats.shards.items c.pass.inside.seats.register =
-    subst (λ (o : OfficeState). AreAt o c.pass.inside.caller c.pass.inside.seats.shards.items c.pass.inside.seats.register) (theirs c) c.pass.invariant in
+    subst (λ (o : OfficeState). AreAt o c.pass.inside.caller c.pass.inside.seats.shards.items
+    c.pass.inside.seats.register) (theirs c) c.pass.invariant in
     let took : TookIn owner_of_mark c.self.inside.seats.register c.pass.inside.seats.register c.join.new.seat =
-    record { same = c.join.ensures.sight; begins = c.join.ensures.begins.0; others = c.join.ensures.begins.1; was_out = c.join.ensures.out; knows = c.join.ensures.own } in
-    let less : c.self.inside.teams - 1 + 1 ≡ c.self.inside.teams = let n = are.registered.out in let one = some_out c.pass.inside.seats.register.caller c.self.inside.seats.register.out c.join.ensures.out in omega arith in
-    joined c.args.office.now c.self.inside.last c.self.inside.teams (c.self.inside.teams - 1) taken c.self.inside.seats.shards.items c.pass.inside.seats.shards.items c.join_all.new.firsts.items c.self.inside.seats.register c.pass.inside.seats.register c.join.new.seat c.pass.inside.caller are at c.join_all.ensures.joined took less
+    record {
+      same = c.join.ensures.sight;
+      begins = c.join.ensures.begins.0;
+      others = c.join.ensures.begins.1;
+      was_out = c.join.ensures.out;
+      knows = c.join.ensures.own;
+    } in
+    let less : c.self.inside.teams - 1 + 1 ≡ c.self.inside.teams =
+    let n =
+    are.registered.out in
+    let one =
+    some_out c.pass.inside.seats.register.caller c.self.inside.seats.register.out
+    c.join.ensures.out in
+    omega arith in
+    joined c.args.office.now c.self.inside.last c.self.inside.teams (c.self.inside.teams - 1) taken
+    c.self.inside.seats.shards.items c.pass.inside.seats.shards.items c.join_all.new.firsts.items
+    c.self.inside.seats.register c.pass.inside.seats.register c.join.new.seat c.pass.inside.caller are at
+    c.join_all.ensures.joined took less
 
 pub invariant_of-self : goal.invariant_of-self
 invariant_of-self c =
     let taken : List PassState = map (λ t. t.value) c.self.inside.taken.items in
-    let pass : record { office = c.args.office.now; caller = c.pass.inside.caller; sight = sight_of c.pass.inside.seats.shards.items c.pass.inside.seats.register; mine = mine_of c.pass.inside.seats.shards.items c.pass.inside.seats.register } ≡ c.of-about.result.value =
-    (λ i. record { office = sym (theirs c) i; caller = c.pass.inside.caller; sight = sight_of c.pass.inside.seats.shards.items c.pass.inside.seats.register; mine = mine_of c.pass.inside.seats.shards.items c.pass.inside.seats.register }) ∙ (c.pass.view_is ∙ sym c.of-about.ensures) in
-    let list : map (λ t. t.value) c.push_reserved.new.self.items ≡ taken ++ c.of-about.result.value ∷ [] = ap (map (λ t. t.value)) c.push_reserved.ensures.items ∙ map-push (λ t. t.value) c.self.inside.taken.items c.of-about.result in (
-      subst (λ (o : OfficeState). AreFirst o c.self.inside.last (c.self.inside.teams - 1) (map (λ t. t.value) c.push_reserved.new.self.items) c.join_all.new.firsts.items c.join.new.seat) (sym (same c))
-          (subst (λ (l : List PassState). AreFirst c.args.office.now c.self.inside.last (c.self.inside.teams - 1) l c.join_all.new.firsts.items c.join.new.seat) (ap (λ (q : PassState). taken ++ q ∷ []) pass ∙ sym list) (did c).first),
+    let pass :
+    record {
+      office = c.args.office.now;
+      caller = c.pass.inside.caller;
+      sight = sight_of c.pass.inside.seats.shards.items c.pass.inside.seats.register;
+      mine = mine_of c.pass.inside.seats.shards.items c.pass.inside.seats.register;
+    }
+    ≡ c.of-about.result.value =
+    (λ i. record {
+      office = sym (theirs c) i;
+      caller = c.pass.inside.caller;
+      sight = sight_of c.pass.inside.seats.shards.items c.pass.inside.seats.register;
+      mine = mine_of c.pass.inside.seats.shards.items c.pass.inside.seats.register;
+    })
+    ∙ (c.pass.view_is ∙ sym c.of-about.ensures) in
+    let list : map (λ t. t.value) c.push_reserved.new.self.items ≡ taken ++ c.of-about.result.value ∷ [] =
+    ap (map (λ t. t.value)) c.push_reserved.ensures.items
+    ∙ map-push (λ t. t.value) c.self.inside.taken.items c.of-about.result in (
+      subst (λ (o : OfficeState). AreFirst o c.self.inside.last (c.self.inside.teams - 1)
+          (map (λ t. t.value) c.push_reserved.new.self.items) c.join_all.new.firsts.items c.join.new.seat)
+          (sym (same c))
+          (subst (λ (l : List PassState). AreFirst c.args.office.now c.self.inside.last
+          (c.self.inside.teams - 1) l c.join_all.new.firsts.items c.join.new.seat)
+          (ap (λ (q : PassState). taken ++ q ∷ []) pass ∙ sym list) (did c).first),
       omega (arith, c.self.invariant.1, c.push_reserved.ensures.len, c.push_reserved.ensures.capacity),
       c.self.invariant.2,
       c.self.invariant.3,
     )
 
 pub returns-clause-goes_on : goal.returns-clause-goes_on
-returns-clause-goes_on c = subst (λ (s : Sight). GoesOn s (sight_of c.join_all.new.firsts.items c.join.new.seat)) (ap (λ (s : ClerkState). s.desk.sight) c.self.view_is) (did c).on
+returns-clause-goes_on c =
+    subst (λ (s : Sight). GoesOn s (sight_of c.join_all.new.firsts.items c.join.new.seat))
+    (ap (λ (s : ClerkState). s.desk.sight) c.self.view_is) (did c).on
 
 pub returns-clause-begins : goal.returns-clause-begins
-returns-clause-begins c = subst (λ (s : Sight). GoesOn s (sight_of c.join_all.new.firsts.items c.join.new.seat)) (ap (λ (p : PassState). p.sight) c.pass.view_is) (did c).other
+returns-clause-begins c =
+    subst (λ (s : Sight). GoesOn s (sight_of c.join_all.new.firsts.items c.join.new.seat))
+    (ap (λ (p : PassState). p.sight) c.pass.view_is) (did c).other
 
 pub returns-clause-own : goal.returns-clause-own
 returns-clause-own c = (did c).own ∙ ap (λ (s : ClerkState). own s.desk) c.self.view_is

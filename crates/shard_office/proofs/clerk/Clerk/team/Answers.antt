@@ -11,8 +11,10 @@ use Rattle.shard_office.proofs.clerk.Clerk.team.Goals as goal
 
 pub split_all-requires-clause-may : goal.split_all-requires-clause-may
 split_all-requires-clause-may c i x ex =
-    let same : c.self.inside.office.value ≡ c.args.office.now = ap (λ (s : ClerkState). s.desk.office) c.self.view_is ∙ c.requires.office in
-    let above : c.self.inside.last < c.args.caller = subst (λ (s : ClerkState). s.last_caller < c.args.caller) (sym c.self.view_is) c.requires.caller in
+    let same : c.self.inside.office.value ≡ c.args.office.now =
+    ap (λ (s : ClerkState). s.desk.office) c.self.view_is ∙ c.requires.office in
+    let above : c.self.inside.last < c.args.caller =
+    subst (λ (s : ClerkState). s.last_caller < c.args.caller) (sym c.self.view_is) c.requires.caller in
     let first = c.self.invariant.0.shards i x ex in
     let mine = c.self.invariant.0.at.shards i x ex in
     record {
@@ -24,36 +26,77 @@ split_all-requires-clause-may c i x ex =
 
 pub overflow_add-self : goal.overflow_add-self
 overflow_add-self c =
-    let above : c.self.inside.last < c.args.caller = subst (λ (s : ClerkState). s.last_caller < c.args.caller) (sym c.self.view_is) c.requires.caller in
+    let above : c.self.inside.last < c.args.caller =
+    subst (λ (s : ClerkState). s.last_caller < c.args.caller) (sym c.self.view_is) c.requires.caller in
     let out = c.self.invariant.0.registered.out in
     let few = falling_length c.self.inside.last c.self.inside.seats.register.out c.self.invariant.0.registered.falling in
     omega (arith, c.ranges.caller.fits)
 
 pub invariant_of-result : goal.invariant_of-result
 invariant_of-result c =
-    let same : c.self.inside.office.value ≡ c.args.office.now = ap (λ (s : ClerkState). s.desk.office) c.self.view_is ∙ c.requires.office in
+    let same : c.self.inside.office.value ≡ c.args.office.now =
+    ap (λ (s : ClerkState). s.desk.office) c.self.view_is ∙ c.requires.office in
     let taken : List PassState = map (λ t. t.value) c.self.inside.taken.items in
-    let are : AreFirst c.args.office.now c.self.inside.last c.self.inside.teams taken c.self.inside.seats.shards.items c.self.inside.seats.register =
-    subst (λ (o : OfficeState). AreFirst o c.self.inside.last c.self.inside.teams taken c.self.inside.seats.shards.items c.self.inside.seats.register) same c.self.invariant.0 in
-    let above : c.self.inside.last < c.args.caller = subst (λ (s : ClerkState). s.last_caller < c.args.caller) (sym c.self.view_is) c.requires.caller in
-    let count : vec_len c.office.inside.locks ≡ c.args.office.now.shards = omega (arith, c.office.inside.locks.ok.0, c.office.invariant.0, ap (λ (o : OfficeState). o.shards) c.office.view_is) in
-    let split : HaveSplit c.args.office.now.shards c.args.caller c.self.inside.seats.shards.items c.split_all.new.firsts.items c.split_all.new.made.items =
-    subst (λ n. HaveSplit n c.args.caller c.self.inside.seats.shards.items c.split_all.new.firsts.items c.split_all.new.made.items) count c.split_all.ensures.split in
-    subst (λ (o : OfficeState). AreAt o c.args.caller c.split_all.new.made.items c.split-register.result) (sym c.of.ensures) (made-at c.args.office.now c.self.inside.last c.self.inside.teams c.args.caller taken c.self.inside.seats.shards.items c.split_all.new.firsts.items c.split_all.new.made.items c.self.inside.seats.register c.split-register.new.seat c.split-register.result are above split c.split-register.ensures.first c.split-register.ensures.new c.split-register.ensures.own)
+    let are :
+    AreFirst c.args.office.now c.self.inside.last c.self.inside.teams taken
+    c.self.inside.seats.shards.items c.self.inside.seats.register =
+    subst (λ (o : OfficeState). AreFirst o c.self.inside.last c.self.inside.teams taken
+    c.self.inside.seats.shards.items c.self.inside.seats.register) same c.self.invariant.0 in
+    let above : c.self.inside.last < c.args.caller =
+    subst (λ (s : ClerkState). s.last_caller < c.args.caller) (sym c.self.view_is) c.requires.caller in
+    let count : vec_len c.office.inside.locks ≡ c.args.office.now.shards =
+    omega (
+      arith,
+      c.office.inside.locks.ok.0,
+      c.office.invariant.0,
+      ap (λ (o : OfficeState). o.shards) c.office.view_is,
+    ) in
+    let split :
+    HaveSplit c.args.office.now.shards c.args.caller c.self.inside.seats.shards.items
+    c.split_all.new.firsts.items c.split_all.new.made.items =
+    subst (λ n. HaveSplit n c.args.caller c.self.inside.seats.shards.items c.split_all.new.firsts.items
+    c.split_all.new.made.items) count c.split_all.ensures.split in
+    subst (λ (o : OfficeState). AreAt o c.args.caller c.split_all.new.made.items c.split-register.result)
+    (sym c.of.ensures) (made-at c.args.office.now c.self.inside.last c.self.inside.teams c.args.caller taken
+    c.self.inside.seats.shards.items c.split_all.new.firsts.items c.split_all.new.made.items
+    c.self.inside.seats.register c.split-register.new.seat c.split-register.result are above split
+    c.split-register.ensures.first c.split-register.ensures.new c.split-register.ensures.own)
 
 pub invariant_of-self-2 : goal.invariant_of-self-2
 invariant_of-self-2 c =
-    let same : c.self.inside.office.value ≡ c.args.office.now = ap (λ (s : ClerkState). s.desk.office) c.self.view_is ∙ c.requires.office in
+    let same : c.self.inside.office.value ≡ c.args.office.now =
+    ap (λ (s : ClerkState). s.desk.office) c.self.view_is ∙ c.requires.office in
     let taken : List PassState = map (λ t. t.value) c.self.inside.taken.items in
-    let are : AreFirst c.args.office.now c.self.inside.last c.self.inside.teams taken c.self.inside.seats.shards.items c.self.inside.seats.register =
-    subst (λ (o : OfficeState). AreFirst o c.self.inside.last c.self.inside.teams taken c.self.inside.seats.shards.items c.self.inside.seats.register) same c.self.invariant.0 in
-    let above : c.self.inside.last < c.args.caller = subst (λ (s : ClerkState). s.last_caller < c.args.caller) (sym c.self.view_is) c.requires.caller in
-    let count : vec_len c.office.inside.locks ≡ c.args.office.now.shards = omega (arith, c.office.inside.locks.ok.0, c.office.invariant.0, ap (λ (o : OfficeState). o.shards) c.office.view_is) in
-    let split : HaveSplit c.args.office.now.shards c.args.caller c.self.inside.seats.shards.items c.split_all.new.firsts.items c.split_all.new.made.items =
-    subst (λ n. HaveSplit n c.args.caller c.self.inside.seats.shards.items c.split_all.new.firsts.items c.split_all.new.made.items) count c.split_all.ensures.split in
-    let list : taken ≡ map (λ t. t.value) c.reserve.new.self.items = ap (map (λ t. t.value)) (sym c.reserve.ensures.items) in (
-      subst (λ (o : OfficeState). AreFirst o c.args.caller (c.self.inside.teams + 1) (map (λ t. t.value) c.reserve.new.self.items) c.split_all.new.firsts.items c.split-register.new.seat) (sym same)
-          (subst (λ (l : List PassState). AreFirst c.args.office.now c.args.caller (c.self.inside.teams + 1) l c.split_all.new.firsts.items c.split-register.new.seat) list (split-first c.args.office.now c.self.inside.last c.self.inside.teams c.args.caller taken c.self.inside.seats.shards.items c.split_all.new.firsts.items c.split_all.new.made.items c.self.inside.seats.register c.split-register.new.seat c.split-register.result are above split c.split-register.ensures.first c.split-register.ensures.new c.split-register.ensures.own)),
+    let are :
+    AreFirst c.args.office.now c.self.inside.last c.self.inside.teams taken
+    c.self.inside.seats.shards.items c.self.inside.seats.register =
+    subst (λ (o : OfficeState). AreFirst o c.self.inside.last c.self.inside.teams taken
+    c.self.inside.seats.shards.items c.self.inside.seats.register) same c.self.invariant.0 in
+    let above : c.self.inside.last < c.args.caller =
+    subst (λ (s : ClerkState). s.last_caller < c.args.caller) (sym c.self.view_is) c.requires.caller in
+    let count : vec_len c.office.inside.locks ≡ c.args.office.now.shards =
+    omega (
+      arith,
+      c.office.inside.locks.ok.0,
+      c.office.invariant.0,
+      ap (λ (o : OfficeState). o.shards) c.office.view_is,
+    ) in
+    let split :
+    HaveSplit c.args.office.now.shards c.args.caller c.self.inside.seats.shards.items
+    c.split_all.new.firsts.items c.split_all.new.made.items =
+    subst (λ n. HaveSplit n c.args.caller c.self.inside.seats.shards.items c.split_all.new.firsts.items
+    c.split_all.new.made.items) count c.split_all.ensures.split in
+    let list : taken ≡ map (λ t. t.value) c.reserve.new.self.items =
+    ap (map (λ t. t.value)) (sym c.reserve.ensures.items) in (
+      subst (λ (o : OfficeState). AreFirst o c.args.caller (c.self.inside.teams + 1)
+          (map (λ t. t.value) c.reserve.new.self.items) c.split_all.new.firsts.items
+          c.split-register.new.seat) (sym same)
+          (subst (λ (l : List PassState). AreFirst c.args.office.now c.args.caller (c.self.inside.teams + 1) l
+          c.split_all.new.firsts.items c.split-register.new.seat) list
+          (split-first c.args.office.now c.self.inside.last c.self.inside.teams c.args.caller taken
+          c.self.inside.seats.shards.items c.split_all.new.firsts.items c.split_all.new.made.items
+          c.self.inside.seats.register c.split-register.new.seat c.split-register.result are above split
+          c.split-register.ensures.first c.split-register.ensures.new c.split-register.ensures.own)),
       omega (arith, c.in-Ok.ensures.ok),
       c.self.invariant.2,
       c.self.invariant.3,
@@ -61,38 +104,108 @@ invariant_of-self-2 c =
 
 pub returns-clause-desk : goal.returns-clause-desk
 returns-clause-desk c =
-    let same : c.self.inside.office.value ≡ c.args.office.now = ap (λ (s : ClerkState). s.desk.office) c.self.view_is ∙ c.requires.office in
+    let same : c.self.inside.office.value ≡ c.args.office.now =
+    ap (λ (s : ClerkState). s.desk.office) c.self.view_is ∙ c.requires.office in
     let taken : List PassState = map (λ t. t.value) c.self.inside.taken.items in
-    let are : AreFirst c.args.office.now c.self.inside.last c.self.inside.teams taken c.self.inside.seats.shards.items c.self.inside.seats.register =
-    subst (λ (o : OfficeState). AreFirst o c.self.inside.last c.self.inside.teams taken c.self.inside.seats.shards.items c.self.inside.seats.register) same c.self.invariant.0 in
-    let above : c.self.inside.last < c.args.caller = subst (λ (s : ClerkState). s.last_caller < c.args.caller) (sym c.self.view_is) c.requires.caller in
-    let count : vec_len c.office.inside.locks ≡ c.args.office.now.shards = omega (arith, c.office.inside.locks.ok.0, c.office.invariant.0, ap (λ (o : OfficeState). o.shards) c.office.view_is) in
-    let split : HaveSplit c.args.office.now.shards c.args.caller c.self.inside.seats.shards.items c.split_all.new.firsts.items c.split_all.new.made.items =
-    subst (λ n. HaveSplit n c.args.caller c.self.inside.seats.shards.items c.split_all.new.firsts.items c.split_all.new.made.items) count c.split_all.ensures.split in
-    (λ i. record { office = c.self.inside.office.value; caller = 0; sight = split-sight c.args.office.now c.self.inside.last c.self.inside.teams c.args.caller taken c.self.inside.seats.shards.items c.split_all.new.firsts.items c.split_all.new.made.items c.self.inside.seats.register c.split-register.new.seat c.split-register.result are above split c.split-register.ensures.first c.split-register.ensures.new c.split-register.ensures.own i; mine = split-mine c.args.office.now c.self.inside.last c.self.inside.teams c.args.caller taken c.self.inside.seats.shards.items c.split_all.new.firsts.items c.split_all.new.made.items c.self.inside.seats.register c.split-register.new.seat c.split-register.result are above split c.split-register.ensures.first c.split-register.ensures.new c.split-register.ensures.own i }) ∙ ap (λ (s : ClerkState). s.desk) c.self.view_is
+    let are :
+    AreFirst c.args.office.now c.self.inside.last c.self.inside.teams taken
+    c.self.inside.seats.shards.items c.self.inside.seats.register =
+    subst (λ (o : OfficeState). AreFirst o c.self.inside.last c.self.inside.teams taken
+    c.self.inside.seats.shards.items c.self.inside.seats.register) same c.self.invariant.0 in
+    let above : c.self.inside.last < c.args.caller =
+    subst (λ (s : ClerkState). s.last_caller < c.args.caller) (sym c.self.view_is) c.requires.caller in
+    let count : vec_len c.office.inside.locks ≡ c.args.office.now.shards =
+    omega (
+      arith,
+      c.office.inside.locks.ok.0,
+      c.office.invariant.0,
+      ap (λ (o : OfficeState). o.shards) c.office.view_is,
+    ) in
+    let split :
+    HaveSplit c.args.office.now.shards c.args.caller c.self.inside.seats.shards.items
+    c.split_all.new.firsts.items c.split_all.new.made.items =
+    subst (λ n. HaveSplit n c.args.caller c.self.inside.seats.shards.items c.split_all.new.firsts.items
+    c.split_all.new.made.items) count c.split_all.ensures.split in
+    (λ i. record {
+      office = c.self.inside.office.value;
+      caller = 0;
+      sight =
+          split-sight c.args.office.now c.self.inside.last c.self.inside.teams c.args.caller taken
+          c.self.inside.seats.shards.items c.split_all.new.firsts.items c.split_all.new.made.items
+          c.self.inside.seats.register c.split-register.new.seat c.split-register.result are above
+          split c.split-register.ensures.first c.split-register.ensures.new
+          c.split-register.ensures.own i;
+      mine =
+          split-mine c.args.office.now c.self.inside.last c.self.inside.teams c.args.caller taken
+          c.self.inside.seats.shards.items c.split_all.new.firsts.items c.split_all.new.made.items
+          c.self.inside.seats.register c.split-register.new.seat c.split-register.result are above
+          split c.split-register.ensures.first c.split-register.ensures.new
+          c.split-register.ensures.own i;
+    }) ∙ ap (λ (s : ClerkState). s.desk) c.self.view_is
 
 pub returns-clause-made : goal.returns-clause-made
 returns-clause-made c =
-    let same : c.self.inside.office.value ≡ c.args.office.now = ap (λ (s : ClerkState). s.desk.office) c.self.view_is ∙ c.requires.office in
+    let same : c.self.inside.office.value ≡ c.args.office.now =
+    ap (λ (s : ClerkState). s.desk.office) c.self.view_is ∙ c.requires.office in
     let taken : List PassState = map (λ t. t.value) c.self.inside.taken.items in
-    let are : AreFirst c.args.office.now c.self.inside.last c.self.inside.teams taken c.self.inside.seats.shards.items c.self.inside.seats.register =
-    subst (λ (o : OfficeState). AreFirst o c.self.inside.last c.self.inside.teams taken c.self.inside.seats.shards.items c.self.inside.seats.register) same c.self.invariant.0 in
-    let above : c.self.inside.last < c.args.caller = subst (λ (s : ClerkState). s.last_caller < c.args.caller) (sym c.self.view_is) c.requires.caller in
-    let count : vec_len c.office.inside.locks ≡ c.args.office.now.shards = omega (arith, c.office.inside.locks.ok.0, c.office.invariant.0, ap (λ (o : OfficeState). o.shards) c.office.view_is) in
-    let split : HaveSplit c.args.office.now.shards c.args.caller c.self.inside.seats.shards.items c.split_all.new.firsts.items c.split_all.new.made.items =
-    subst (λ n. HaveSplit n c.args.caller c.self.inside.seats.shards.items c.split_all.new.firsts.items c.split_all.new.made.items) count c.split_all.ensures.split in
-    let seen = made-sight c.args.office.now c.self.inside.last c.self.inside.teams c.args.caller taken c.self.inside.seats.shards.items c.split_all.new.firsts.items c.split_all.new.made.items c.self.inside.seats.register c.split-register.new.seat c.split-register.result are above split c.split-register.ensures.first c.split-register.ensures.new c.split-register.ensures.own ∙ ap (λ (s : ClerkState). s.desk.sight) c.self.view_is in
-    let nothing = made-mine c.args.office.now c.self.inside.last c.self.inside.teams c.args.caller taken c.self.inside.seats.shards.items c.split_all.new.firsts.items c.split_all.new.made.items c.self.inside.seats.register c.split-register.new.seat c.split-register.result are above split c.split-register.ensures.first c.split-register.ensures.new c.split-register.ensures.own ∙ ap (λ (s : ClerkState). nothing_of s.desk.sight) c.self.view_is in
+    let are :
+    AreFirst c.args.office.now c.self.inside.last c.self.inside.teams taken
+    c.self.inside.seats.shards.items c.self.inside.seats.register =
+    subst (λ (o : OfficeState). AreFirst o c.self.inside.last c.self.inside.teams taken
+    c.self.inside.seats.shards.items c.self.inside.seats.register) same c.self.invariant.0 in
+    let above : c.self.inside.last < c.args.caller =
+    subst (λ (s : ClerkState). s.last_caller < c.args.caller) (sym c.self.view_is) c.requires.caller in
+    let count : vec_len c.office.inside.locks ≡ c.args.office.now.shards =
+    omega (
+      arith,
+      c.office.inside.locks.ok.0,
+      c.office.invariant.0,
+      ap (λ (o : OfficeState). o.shards) c.office.view_is,
+    ) in
+    let split :
+    HaveSplit c.args.office.now.shards c.args.caller c.self.inside.seats.shards.items
+    c.split_all.new.firsts.items c.split_all.new.made.items =
+    subst (λ n. HaveSplit n c.args.caller c.self.inside.seats.shards.items c.split_all.new.firsts.items
+    c.split_all.new.made.items) count c.split_all.ensures.split in
+    let seen =
+    made-sight c.args.office.now c.self.inside.last c.self.inside.teams c.args.caller taken
+    c.self.inside.seats.shards.items c.split_all.new.firsts.items c.split_all.new.made.items
+    c.self.inside.seats.register c.split-register.new.seat c.split-register.result are above split
+    c.split-register.ensures.first c.split-register.ensures.new c.split-register.ensures.own
+    ∙ ap (λ (s : ClerkState). s.desk.sight) c.self.view_is in
+    let nothing =
+    made-mine c.args.office.now c.self.inside.last c.self.inside.teams c.args.caller taken
+    c.self.inside.seats.shards.items c.split_all.new.firsts.items c.split_all.new.made.items
+    c.self.inside.seats.register c.split-register.new.seat c.split-register.result are above split
+    c.split-register.ensures.first c.split-register.ensures.new c.split-register.ensures.own
+    ∙ ap (λ (s : ClerkState). nothing_of s.desk.sight) c.self.view_is in
     λ i. record { office = c.of.ensures i; caller = c.args.caller; sight = seen i; mine = nothing i }
 
 pub returns-clause-own : goal.returns-clause-own
 returns-clause-own c =
-    let same : c.self.inside.office.value ≡ c.args.office.now = ap (λ (s : ClerkState). s.desk.office) c.self.view_is ∙ c.requires.office in
+    let same : c.self.inside.office.value ≡ c.args.office.now =
+    ap (λ (s : ClerkState). s.desk.office) c.self.view_is ∙ c.requires.office in
     let taken : List PassState = map (λ t. t.value) c.self.inside.taken.items in
-    let are : AreFirst c.args.office.now c.self.inside.last c.self.inside.teams taken c.self.inside.seats.shards.items c.self.inside.seats.register =
-    subst (λ (o : OfficeState). AreFirst o c.self.inside.last c.self.inside.teams taken c.self.inside.seats.shards.items c.self.inside.seats.register) same c.self.invariant.0 in
-    let above : c.self.inside.last < c.args.caller = subst (λ (s : ClerkState). s.last_caller < c.args.caller) (sym c.self.view_is) c.requires.caller in
-    let count : vec_len c.office.inside.locks ≡ c.args.office.now.shards = omega (arith, c.office.inside.locks.ok.0, c.office.invariant.0, ap (λ (o : OfficeState). o.shards) c.office.view_is) in
-    let split : HaveSplit c.args.office.now.shards c.args.caller c.self.inside.seats.shards.items c.split_all.new.firsts.items c.split_all.new.made.items =
-    subst (λ n. HaveSplit n c.args.caller c.self.inside.seats.shards.items c.split_all.new.firsts.items c.split_all.new.made.items) count c.split_all.ensures.split in
-    made-own c.args.office.now c.self.inside.last c.self.inside.teams c.args.caller taken c.self.inside.seats.shards.items c.split_all.new.firsts.items c.split_all.new.made.items c.self.inside.seats.register c.split-register.new.seat c.split-register.result are above split c.split-register.ensures.first c.split-register.ensures.new c.split-register.ensures.own
+    let are :
+    AreFirst c.args.office.now c.self.inside.last c.self.inside.teams taken
+    c.self.inside.seats.shards.items c.self.inside.seats.register =
+    subst (λ (o : OfficeState). AreFirst o c.self.inside.last c.self.inside.teams taken
+    c.self.inside.seats.shards.items c.self.inside.seats.register) same c.self.invariant.0 in
+    let above : c.self.inside.last < c.args.caller =
+    subst (λ (s : ClerkState). s.last_caller < c.args.caller) (sym c.self.view_is) c.requires.caller in
+    let count : vec_len c.office.inside.locks ≡ c.args.office.now.shards =
+    omega (
+      arith,
+      c.office.inside.locks.ok.0,
+      c.office.invariant.0,
+      ap (λ (o : OfficeState). o.shards) c.office.view_is,
+    ) in
+    let split :
+    HaveSplit c.args.office.now.shards c.args.caller c.self.inside.seats.shards.items
+    c.split_all.new.firsts.items c.split_all.new.made.items =
+    subst (λ n. HaveSplit n c.args.caller c.self.inside.seats.shards.items c.split_all.new.firsts.items
+    c.split_all.new.made.items) count c.split_all.ensures.split in
+    made-own c.args.office.now c.self.inside.last c.self.inside.teams c.args.caller taken
+    c.self.inside.seats.shards.items c.split_all.new.firsts.items c.split_all.new.made.items
+    c.self.inside.seats.register c.split-register.new.seat c.split-register.result are above split
+    c.split-register.ensures.first c.split-register.ensures.new c.split-register.ensures.own

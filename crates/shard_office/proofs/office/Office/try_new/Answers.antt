@@ -8,13 +8,32 @@ use Rattle.shard_office.proofs.office.Office.try_new.Goals as goal
 
 pub invariant_of-clerk : goal.invariant_of-clerk
 invariant_of-clerk c =
-    let o : OfficeState = record { shards = c.args.shards; candidates = c.args.candidates; identity = record { locks = c.open_all.new.locks.items; ties = c.open_all.new.ties.items; register = c.in-Ok-try_new.lock } } in
+    let o : OfficeState =
+    record {
+      shards = c.args.shards;
+      candidates = c.args.candidates;
+      identity =
+          record {
+            locks = c.open_all.new.locks.items;
+            ties = c.open_all.new.ties.items;
+            register = c.in-Ok-try_new.lock;
+          };
+    } in
     let opened = c.in_ok-open_all.ensures.opened in
-    let seat : c.in-Ok-try_new.seat ≡ first_sight o.identity.register (Some (record { shards = o.shards; candidates = o.candidates; ties = o.identity.ties })) =
-    c.in-Ok-try_new.ensures.first ∙ (λ i. first_sight o.identity.register (Some (record { shards = c.in-Ok-new.ensures.shards i; candidates = c.in-Ok-new.ensures.candidates i; ties = opened.halves_are i }))) in
+    let seat :
+    c.in-Ok-try_new.seat
+    ≡ first_sight o.identity.register
+    (Some (record { shards = o.shards; candidates = o.candidates; ties = o.identity.ties })) =
+    c.in-Ok-try_new.ensures.first
+    ∙ (λ i. first_sight o.identity.register (Some (record {
+      shards = c.in-Ok-new.ensures.shards i;
+      candidates = c.in-Ok-new.ensures.candidates i;
+      ties = opened.halves_are i;
+    }))) in
     let none : map (λ t. t.value) c.new-2.result.items ≡ [] = ap (map (λ t. t.value)) c.new-2.ensures.items in
     let is : c.of.result.value ≡ o = c.of.ensures in (
-      subst (λ (z : OfficeState × List PassState). AreFirst z.0 0 0 z.1 c.open_all.new.seats.items c.in-Ok-try_new.seat) (λ i. (sym is i, sym none i))
+      subst (λ (z : OfficeState × List PassState). AreFirst z.0 0 0 z.1 c.open_all.new.seats.items
+          c.in-Ok-try_new.seat) (λ i. (sym is i, sym none i))
           (opened_first o c.open_all.new.seats.items c.in-Ok-try_new.seat c.open_all.new.halves.items opened seat),
       omega (arith, c.new-2.ensures.len),
       c.in-Ok-with_capacity-4.ensures.items,
@@ -23,8 +42,28 @@ invariant_of-clerk c =
 
 pub returns-clause-nothing_seen : goal.returns-clause-nothing_seen
 returns-clause-nothing_seen c =
-    let o : OfficeState = record { shards = c.args.shards; candidates = c.args.candidates; identity = record { locks = c.open_all.new.locks.items; ties = c.open_all.new.ties.items; register = c.in-Ok-try_new.lock } } in
+    let o : OfficeState =
+    record {
+      shards = c.args.shards;
+      candidates = c.args.candidates;
+      identity =
+          record {
+            locks = c.open_all.new.locks.items;
+            ties = c.open_all.new.ties.items;
+            register = c.in-Ok-try_new.lock;
+          };
+    } in
     let opened = c.in_ok-open_all.ensures.opened in
-    let seat : c.in-Ok-try_new.seat ≡ first_sight o.identity.register (Some (record { shards = o.shards; candidates = o.candidates; ties = o.identity.ties })) =
-    c.in-Ok-try_new.ensures.first ∙ (λ i. first_sight o.identity.register (Some (record { shards = c.in-Ok-new.ensures.shards i; candidates = c.in-Ok-new.ensures.candidates i; ties = opened.halves_are i }))) in
-    (ap (λ z. z.seen) seat, none_seen o c.open_all.new.seats.items c.in-Ok-try_new.seat c.open_all.new.halves.items opened seat)
+    let seat :
+    c.in-Ok-try_new.seat
+    ≡ first_sight o.identity.register
+    (Some (record { shards = o.shards; candidates = o.candidates; ties = o.identity.ties })) =
+    c.in-Ok-try_new.ensures.first
+    ∙ (λ i. first_sight o.identity.register (Some (record {
+      shards = c.in-Ok-new.ensures.shards i;
+      candidates = c.in-Ok-new.ensures.candidates i;
+      ties = opened.halves_are i;
+    }))) in (
+      ap (λ z. z.seen) seat,
+      none_seen o c.open_all.new.seats.items c.in-Ok-try_new.seat c.open_all.new.halves.items opened seat,
+    )

@@ -29,7 +29,9 @@ invariant_of-self c =
       c.fresh.ensures.book ∙ sym said.0,
       c.fresh.ensures.right,
       sym (more.1 ∙ ap (λ l. l.next) ask),
-      counts c.self.inside.count _ c.self.inside.last _ _ c.args.step was.4 c.saturating_add-self-inside.ensures (more.0 ∙ ap (λ l. moves_from first c.self.inside.seen.log ++ l.step ∷ []) ask),
+      counts c.self.inside.count _ c.self.inside.last _ _ c.args.step was.4
+          c.saturating_add-self-inside.ensures
+          (more.0 ∙ ap (λ l. moves_from first c.self.inside.seen.log ++ l.step ∷ []) ask),
     )
 
 pub returns : goal.returns
@@ -40,4 +42,5 @@ returns c =
     let ask = c.plain-offer.ensures.1 in
     let more = pushed first _ c.self.inside.seen.log c.compare_exchange-self-inside.new.seen.log _ _ was.3 said.7 in
     let all = more.0 ∙ ap (λ l. moves_from first c.self.inside.seen.log ++ l.step ∷ []) ask in
-    (λ i. record { board = record { book = said.0 i; first = first }; moves = all i }) ∙ ap (λ t. record { board = t.board; moves = t.moves ++ c.args.step ∷ [] }) c.self.view_is
+    (λ i. record { board = record { book = said.0 i; first = first }; moves = all i })
+    ∙ ap (λ t. record { board = t.board; moves = t.moves ++ c.args.step ∷ [] }) c.self.view_is

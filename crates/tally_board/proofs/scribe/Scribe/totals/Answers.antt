@@ -13,4 +13,6 @@ returns c =
     let got : c.published.result.now.totals ≡ b.totals = search rules in
     let n : candidates_of b ≡ c.args.self.now.candidates = search rules in
     let moves : shown b ≡ c.args.self.now.published = search rules in
-    got ∙ (are_right b.totals (shown b) b.right (front_story (candidates_of b) (shown b) (steps es) is.story) ∙ (λ i. totals_after (n i) (moves i)))
+    got
+    ∙ (are_right b.totals (shown b) b.right (front_story (candidates_of b) (shown b) (steps es) is.story)
+    ∙ (λ i. totals_after (n i) (moves i)))

@@ -15,7 +15,11 @@ enter_as-requires c x = looks_on _ _ x
 
 pub invariant_of-self : goal.invariant_of-self
 invariant_of-self c =
-    let v = view c.in-Some.reader.place in let b = c.in-Ok.reading.part.value in let w = view c.in-Ok.reading.place in let moves = moves_of c.self.inside.seen.value in
+    let v =
+    view c.in-Some.reader.place in
+    let b =
+    c.in-Ok.reading.part.value in
+    let w = view c.in-Ok.reading.place in let moves = moves_of c.self.inside.seen.value in
     let z = c.self.inside.told.board in
     let is : IsWatcher v z moves = search rules in
     let saw : Looks v b b w = search rules in
@@ -24,17 +28,26 @@ invariant_of-self c =
 
 pub returns-else-not-shows-clause-seen : goal.returns-else-not-shows-clause-seen
 returns-else-not-shows-clause-seen c =
-    let v = view c.in-Some.reader.place in let b = c.in-Ok.reading.part.value in let w = view c.in-Ok.reading.place in let moves = moves_of c.self.inside.seen.value in
+    let v =
+    view c.in-Some.reader.place in
+    let b =
+    c.in-Ok.reading.part.value in
+    let w = view c.in-Ok.reading.place in let moves = moves_of c.self.inside.seen.value in
     let z = c.self.inside.told.board in
     let is : IsWatcher v z moves = search rules in
     let saw : Looks v b b w = search rules in
     let was : c.args.self.now.seen ≡ moves = search rules in
     let now : moves_of c.of.result.value ≡ shown b = search rules in
-    subst (λ ms. Begins ms (moves_of c.of.result.value)) (sym was) (subst (Begins moves) (sym now) (it_goes_on v w b z moves is saw))
+    subst (λ ms. Begins ms (moves_of c.of.result.value)) (sym was)
+    (subst (Begins moves) (sym now) (it_goes_on v w b z moves is saw))
 
 pub returns-else-not-shows-clause-totals : goal.returns-else-not-shows-clause-totals
 returns-else-not-shows-clause-totals c =
-    let v = view c.in-Some.reader.place in let b = c.in-Ok.reading.part.value in let w = view c.in-Ok.reading.place in let moves = moves_of c.self.inside.seen.value in
+    let v =
+    view c.in-Some.reader.place in
+    let b =
+    c.in-Ok.reading.part.value in
+    let w = view c.in-Ok.reading.place in let moves = moves_of c.self.inside.seen.value in
     let z = c.self.inside.told.board in
     let is : IsWatcher v z moves = search rules in
     let saw : Looks v b b w = search rules in

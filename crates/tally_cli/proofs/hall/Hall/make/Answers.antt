@@ -27,10 +27,13 @@ show-requires-clause-exchange g c =
       answered = c.in_ok-reply.ensures.answered;
       entries = c.in_ok-reply.ensures.entries;
     } in
-    let left : IsLeft c.args.change.now c.in_ok-reply.reply (Some c.in-Some.ballots) = subst (IsLeft c.args.change.now c.in_ok-reply.reply) c.in-Some.is c.in_ok-ballots.ensures.left in
-    subst (λ (z : ℕ × ℕ). CanExchange z.0 (totals_after z.0 hall.scribe.published) (kept_for z.0 hall.kept.items z.1).lines c.in-Some.ballots.lines)
+    let left : IsLeft c.args.change.now c.in_ok-reply.reply (Some c.in-Some.ballots) =
+    subst (IsLeft c.args.change.now c.in_ok-reply.reply) c.in-Some.is c.in_ok-ballots.ensures.left in
+    subst (λ (z : ℕ × ℕ). CanExchange z.0 (totals_after z.0 hall.scribe.published)
+    (kept_for z.0 hall.kept.items z.1).lines c.in-Some.ballots.lines)
     (λ i. (sym c.requires.shown.candidates i, sym c.batch.ensures i))
-    (may_exchange laws hall new c.args.team c.args.change.now c.in_ok-reply.reply c.in-Some.ballots c.requires.shown entered left)
+    (may_exchange laws hall new c.args.team c.args.change.now c.in_ok-reply.reply c.in-Some.ballots
+    c.requires.shown entered left)
 
 pub returns-in-Some-clause-shown : goal.returns-in-Some-clause-shown
 returns-in-Some-clause-shown g c =
@@ -51,14 +54,18 @@ returns-in-Some-clause-shown g c =
       answered = c.in_ok-reply.ensures.answered;
       entries = ap (λ (b : ShardState). b.entries) book ∙ c.in_ok-reply.ensures.entries;
     } in
-    let left : IsLeft c.args.change.now c.in_ok-reply.reply (Some c.in-Some.ballots) = subst (IsLeft c.args.change.now c.in_ok-reply.reply) c.in-Some.is c.in_ok-ballots.ensures.left in
+    let left : IsLeft c.args.change.now c.in_ok-reply.reply (Some c.in-Some.ballots) =
+    subst (IsLeft c.args.change.now c.in_ok-reply.reply) c.in-Some.is c.in_ok-ballots.ensures.left in
     let candidates : c.in-Some.ballots.candidates ≡ hall.book.candidates = search rules in
     on_ok c.show.result _ _ _ _
     (λ kept board totals.
-    accepted laws hall c.show.new.self c.args.team c.args.change.now c.in_ok-reply.reply c.in-Some.ballots c.requires.shown entered left candidates
+    accepted laws hall c.show.new.self c.args.team c.args.change.now c.in_ok-reply.reply c.in-Some.ballots
+    c.requires.shown entered left candidates
     (kept ∙ ap (λ (k : ℕ). set hall.kept.items (k - 1) c.in-Some.ballots) c.batch.ensures)
     (ap (λ (d : Desk). d.candidates) board) (ap (λ (d : Desk). d.pending) board ∙ c.requires.shown.pending)
-    (subst (λ (z : ℕ × ℕ). AreExchanged z.0 (totals_after z.0 hall.scribe.published) (kept_for z.0 hall.kept.items z.1).lines c.in-Some.ballots.lines (totals_after z.0 c.show.new.self.scribe.published))
+    (subst (λ (z : ℕ × ℕ). AreExchanged z.0 (totals_after z.0 hall.scribe.published)
+    (kept_for z.0 hall.kept.items z.1).lines c.in-Some.ballots.lines
+    (totals_after z.0 c.show.new.self.scribe.published))
     (λ i. (c.requires.shown.candidates i, c.batch.ensures i)) totals))
     c.show.ensures.kept c.show.ensures.scribe c.show.ensures.totals
 

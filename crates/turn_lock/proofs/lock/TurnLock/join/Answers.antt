@@ -9,7 +9,8 @@ join_seat-requires g c = (
   search rules,
   search rules,
   search rules,
-  joins_seen g.T.Kept.entries g.T.Kept.owner g.T.Kept.name _ _ _ _ _ _ _ c.seat.invariant.0 c.seat.view_is c.requires.free.0 _ _
+  joins_seen g.T.Kept.entries g.T.Kept.owner g.T.Kept.name _ _ _ _ _ _ _ c.seat.invariant.0 c.seat.view_is
+      c.requires.free.0 _ _
       c.other.invariant.0
       c.other.view_is
       c.requires.first
@@ -39,7 +40,11 @@ returns-clause-out g c =
     let v = c.seat.inside.inner.me.0 in
     let w = c.other.inside.inner.me.0 in
     let is = c.join_seat.ensures.2 in
-    let first : c.join_seat.new.seat.me.0.is_first ≡ true = ap (λ m. m.0.is_first) is ∙ (ap (λ z. z.is_first) c.seat.view_is ∙ c.requires.first) in
+    let first : c.join_seat.new.seat.me.0.is_first ≡ true =
+    ap (λ m. m.0.is_first) is ∙ (ap (λ z. z.is_first) c.seat.view_is ∙ c.requires.first) in
     let caller : c.args.other.caller ≡ w.caller = sym (ap (λ z. z.caller) c.other.view_is) in
-    let prior : c.args.seat.now.out ≡ c.join_seat.new.seat.me.0.prior = sym (ap (λ z. z.out) c.seat.view_is) ∙ sym (ap (λ m. m.0.prior) is) in
-    (λ i. has (caller i) (prior i)) ∙ c.load.ensures.2.4 (record { caller = w.caller; mine = w.mine }) v.joined first (ap (λ m. m.0.joined) is)
+    let prior : c.args.seat.now.out ≡ c.join_seat.new.seat.me.0.prior =
+    sym (ap (λ z. z.out) c.seat.view_is) ∙ sym (ap (λ m. m.0.prior) is) in
+    (λ i. has (caller i) (prior i))
+    ∙ c.load.ensures.2.4 (record { caller = w.caller; mine = w.mine }) v.joined first
+    (ap (λ m. m.0.joined) is)

@@ -3,5 +3,9 @@ use Rattle.turn_lock.proofs.Taking.{tries}
 use Rattle.turn_lock.proofs.lock.TurnLock.take.Goals as goal
 
 pub compare_exchange-requires : goal.compare_exchange-requires
-compare_exchange-requires g c =
-    (search rules, search rules, tries g.T.Kept.entries g.T.Kept.owner g.T.Kept.name _ _ _ _ (ap (λ m. m.0.lives) c.loop.invariant.1 ∙ c.seat.invariant.0))
+compare_exchange-requires g c = (
+  search rules,
+  search rules,
+  tries g.T.Kept.entries g.T.Kept.owner g.T.Kept.name _ _ _ _
+      (ap (λ m. m.0.lives) c.loop.invariant.1 ∙ c.seat.invariant.0),
+)

@@ -14,7 +14,14 @@ returns c =
     let b = c.index-branch.result.now in
     let k = c.len.result - at in
     let closed : Branch → Branch =
-    λ x. record { ballots = x.ballots; skip = k; tail = x.tail; depth = x.depth; candidate = x.candidate; length = x.length } in
+    λ x. record {
+      ballots = x.ballots;
+      skip = k;
+      tail = x.tail;
+      depth = x.depth;
+      candidate = x.candidate;
+      length = x.length;
+    } in
     let now : stems_of tails list ≡ c.args.self.now = c.self.view_is in
     let size : length list ≡ length c.args.self.now = sym (length-stems tails list) ∙ ap length now in
     let skip : k ≡ length c.args.self.now - at = omega (arith, c.len.ensures, c.self.inside.list.ok.0) in

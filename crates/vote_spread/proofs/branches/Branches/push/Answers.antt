@@ -13,8 +13,18 @@ returns c =
     let tails = c.self.inside.tails.items in
     let list = c.self.inside.list.items in
     let ranks = map (λ (r : PlanRow). r.candidate) rows in
-    let b : Branch = record { ballots = row.ballots; skip = 1; tail = c.len-2.result; depth = c.args.depth; candidate = row.candidate; length = length rows } in
+    let b : Branch =
+    record {
+      ballots = row.ballots;
+      skip = 1;
+      tail = c.len-2.result;
+      depth = c.args.depth;
+      candidate = row.candidate;
+      length = length rows;
+    } in
     ap (λ (l : List Branch). stems_of c.push_tail.new.tails.items l) c.in_ok-push_branch.ensures.ok
     ∙ (ap (λ (t : List ℕ). stems_of t (list ++ b ∷ [])) c.in_ok-push_tail.ensures.ok
-    ∙ (stems_of-push tails ranks list b c.self.invariant.tails (omega (arith, c.len-2.ensures, c.self.inside.tails.ok.0)) (sym (length-map rows (λ (r : PlanRow). r.candidate)))
+    ∙ (stems_of-push tails ranks list b c.self.invariant.tails
+    (omega (arith, c.len-2.ensures, c.self.inside.tails.ok.0))
+    (sym (length-map rows (λ (r : PlanRow). r.candidate)))
     ∙ ap (λ (l : List Stem). l ++ stem_of_row c.args.depth row rows ∷ []) c.self.view_is))

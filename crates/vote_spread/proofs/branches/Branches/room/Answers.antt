@@ -1,4 +1,5 @@
-use Rattle.std.proofs.Common.{◌≡◌, ℕ, ◌+◌, ◌-◌, ◌≤◌, List, [], ◌∷◌, length, drop, take, sum_by, arith, refl, ap, sym, ◌∙◌, suc}
+use Rattle.std.proofs.Common.{◌≡◌, ℕ, ◌+◌, ◌-◌, ◌≤◌, List, [], ◌∷◌, length, drop, take, sum_by, arith, refl}
+use Rattle.std.proofs.Common.{ap, sym, ◌∙◌, suc}
 use Rattle.std.proofs.lemmas.List.{length-drop, length-take-le, take-map, drop-map, drop-take}
 use Rattle.std.proofs.lemmas.List.Elements.{All-take, All-drop}
 use Rattle.std.proofs.lemmas.List.Sums.{sum_by-cons}
@@ -8,13 +9,21 @@ use Rattle.vote_spread.specs.Walk.{HaveTails}
 use Rattle.vote_spread.proofs.branches.Branches.room.Goals as goal
 
 -- the tails of branches and of their stems
-tails_of : (tails : List ℕ) (branches : List Branch) → HaveTails (length tails) branches → sum_by (λ (b : Branch). b.length + 1) branches ≡ sum_by (λ (stem : Stem). length stem.tail + 1) (stems_of tails branches)
+tails_of :
+    (tails : List ℕ) (branches : List Branch) → HaveTails (length tails) branches
+    → sum_by (λ (b : Branch). b.length + 1) branches
+    ≡ sum_by (λ (stem : Stem). length stem.tail + 1) (stems_of tails branches)
 tails_of tails [] have = refl
 tails_of tails (b ∷ branches) have =
     let inside : b.tail + b.length ≤ length tails = have 0 b (omega arith) in
-    let long : length (stem_of tails b).tail ≡ b.length = length-take-le b.length (drop b.tail tails) (omega (arith, length-drop b.tail tails)) in
+    let long : length (stem_of tails b).tail ≡ b.length =
+    length-take-le b.length (drop b.tail tails) (omega (arith, length-drop b.tail tails)) in
     let rest = tails_of tails branches (λ k d lt. have (suc k) d (omega arith)) in
-    omega (arith, sum_by-cons (λ (x : Branch). x.length + 1) b branches, sum_by-cons (λ (stem : Stem). length stem.tail + 1) (stem_of tails b) (stems_of tails branches))
+    omega (
+      arith,
+      sum_by-cons (λ (x : Branch). x.length + 1) b branches,
+      sum_by-cons (λ (stem : Stem). length stem.tail + 1) (stem_of tails b) (stems_of tails branches),
+    )
 
 pub returns : goal.returns
 returns c =
@@ -27,8 +36,11 @@ returns c =
     let g : Stem → ℕ = λ stem. length stem.tail + 1 in
     let part = take m (drop from list) in
     let have : HaveTails (length tails) part =
-    All-take (λ (b : Branch). b.tail + b.length ≤ length tails) m (drop from list) (All-drop (λ (b : Branch). b.tail + b.length ≤ length tails) from list c.self.invariant.tails) in
-    let value : c.tail_room.result ≡ sum_by f part = c.tail_room.ensures.value ∙ ap (λ (l : List Branch). sum_by f (take m (drop from l))) c.deref.ensures.value in
+    All-take (λ (b : Branch). b.tail + b.length ≤ length tails) m (drop from list)
+    (All-drop (λ (b : Branch). b.tail + b.length ≤ length tails) from list c.self.invariant.tails) in
+    let value : c.tail_room.result ≡ sum_by f part =
+    c.tail_room.ensures.value
+    ∙ ap (λ (l : List Branch). sum_by f (take m (drop from l))) c.deref.ensures.value in
     let up_to : from + m ≡ to = omega (arith, c.requires.0) in
     let cut : stems_of tails part ≡ drop from (take to (stems_of tails list)) =
     sym (take-map (stem_of tails) m (drop from list))

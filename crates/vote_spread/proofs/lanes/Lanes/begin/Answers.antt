@@ -33,12 +33,16 @@ invariant_of-result g c =
       few = omega (arith, c.requires.workers.1);
       of_all = subst (λ m. All (λ (lane : LaneSeen). length lane.tally ≡ m) lanes.items) size c.in_ok-lanes.ensures.of_all;
       factors_are =
-          take_at c.find_factors.new.factors (drop (length c.find_factors.new.factors) c.in_ok-factors.factors.items) c.in_ok-factors.factors.len
+          take_at c.find_factors.new.factors
+          (drop (length c.find_factors.new.factors) c.in_ok-factors.factors.items)
+          c.in_ok-factors.factors.len
           (omega (arith, c.find_factors.auto.factors, ap length c.as_mut_slice.ensures.value, c.in_ok-factors.factors.ok.0))
           ∙ (c.find_factors.ensures ∙ ap (factors_of c.scale_of-one.result) c.as_slice.ensures.value);
       classes_are = record {
         whole = omega arith;
         same = rw (zeros, passes) (map-same n (class_of c.scale_of-one.result) 0);
       };
-      fit = subst (λ m. AreFit true c.in_ok-classes.classes.items c.in_ok-branches.branches 0 m lanes.items) (sym many) (c.in_ok-lanes.ensures.fit c.in_ok-classes.classes.items);
+      fit =
+          subst (λ m. AreFit true c.in_ok-classes.classes.items c.in_ok-branches.branches 0 m lanes.items)
+          (sym many) (c.in_ok-lanes.ensures.fit c.in_ok-classes.classes.items);
     }
