@@ -1,4 +1,4 @@
-//! Tests of the public calls of batch_core, call_register, ranking_trie and shard_book.
+//! Tests of the public calls of batch_core and call_register.
 #![tactic(auto)]
 
 #[cfg(test)]
@@ -16,12 +16,8 @@ mod history;
 #[cfg(test)]
 mod marks;
 #[cfg(test)]
-mod one_shard;
-#[cfg(test)]
 mod register;
 #[cfg(test)]
 mod shard;
-#[cfg(test)]
-mod trie;
 #[cfg(test)]
 mod weaving;

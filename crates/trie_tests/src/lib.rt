@@ -1,0 +1,5 @@
+//! Tests of the public calls of ranking_trie.
+#![tactic(auto)]
+
+#[cfg(test)]
+mod trie;
