@@ -12,14 +12,12 @@ mod lines;
 mod lots;
 mod measures;
 mod peaks;
-mod promise_fault;
 mod text;
 mod tool;
 mod worked;
 
 pub use laws::promises_hold;
 pub use lines::promise_of;
-pub use promise_fault::PromiseFault;
 pub use text::Text;
 pub use tool::promise;
 pub use worked::worked_promises;

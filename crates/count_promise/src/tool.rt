@@ -3,12 +3,13 @@ ghost use Rattle.std.specs.Prelude.{◌≤◌, map, length};
 ghost use Rattle.std.specs.String.{string_bytes};
 ghost use Rattle.tool_edge.specs.Finishing.{FinishesOwed};
 ghost use Rattle.tool_edge.specs.Streams.{reading, writing};
-ghost use Rattle.tool_edge.specs.Tool.{IsOwedFor, IsRun};
+ghost use Rattle.tool_edge.specs.Tool.{IsOwedFor, IsRun, no_history};
 ghost use Rattle.sheet_reader.specs.Form.{IsPrintable};
 ghost use Rattle.count_promise.specs.Owed.{IsPromised, promises};
 
-use crate::{PromiseFault, promise_of};
+use crate::promise_of;
 use byte_edge::{Sink, Source};
+use sheet_input::SheetFault;
 use sheet_reader::{SheetStop, SheetValues, read_sheet};
 use std::alloc::Global;
 use tool_edge::{End, FILE_LIMIT, finish, open, refuse, takes_nothing};
@@ -20,10 +21,10 @@ pub fn promise<S: Source, K: Sink>(
     words: &[String],
     source: &mut S,
     sink: &mut K,
-) -> End<PromiseFault>
+) -> End<SheetFault>
     ensures { IsRun promises (map string_bytes words.now)
         (reading S.left S.faults source.old source.new) (writing K.written K.faults sink.old sink.new)
-        result (tt {0}) }
+        result no_history }
 {
     let asked = takes_nothing(words);
     let opened = match open(alloc, asked, FILE_LIMIT, source, sink) {
@@ -35,20 +36,20 @@ pub fn promise<S: Source, K: Sink>(
 
 /// Judges the whole input, and says what it promises.
 #[tactic(auto, using(crate::proofs::Owing::promise_owed, crate::proofs::Owing::malformed_owed))]
-fn tell<K: Sink>(alloc: Global, input: &[u8], sink: &mut K) -> End<PromiseFault>
+fn tell<K: Sink>(alloc: Global, input: &[u8], sink: &mut K) -> End<SheetFault>
     requires { length input.now ≤ 67108864 }
-    ensures { FinishesOwed (IsOwedFor promises (tt {0}) input.now (tt {0})) result
+    ensures { FinishesOwed (IsOwedFor promises (tt {0}) input.now no_history) result
         (writing K.written K.faults sink.old sink.new) }
 {
     match read_sheet(alloc, input) {
         Ok(values) => tell_values(alloc, &values, sink),
-        Err(SheetStop::Malformed) => refuse(sink, PromiseFault::Malformed),
+        Err(SheetStop::Malformed) => refuse(sink, SheetFault::Malformed),
         Err(SheetStop::NoMemory) => End::NoMemory,
     }
 }
 
 /// Says what a sheet of these values promises.
-fn tell_values<K: Sink>(alloc: Global, values: &SheetValues, sink: &mut K) -> End<PromiseFault>
+fn tell_values<K: Sink>(alloc: Global, values: &SheetValues, sink: &mut K) -> End<SheetFault>
     requires { IsPrintable 9 values.now }
     ensures { FinishesOwed (IsPromised values.now) result
         (writing K.written K.faults sink.old sink.new) }

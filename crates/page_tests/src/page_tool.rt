@@ -4,7 +4,8 @@ mod transfer;
 
 use byte_edge::MemorySink;
 use sample_runs::{SHEET, sink_of, source_of, words_of};
-use sheet_page::{PageFault, page};
+use sheet_input::SheetFault;
+use sheet_page::page;
 use std::alloc::Global;
 use std::process::{Abort, ExitCode};
 use std::test::Fail;
@@ -47,7 +48,7 @@ fn end_of(
     words: &str,
     input: &[u8],
     sink: &mut MemorySink,
-) -> Result<End<PageFault>, Fail> {
+) -> Result<End<SheetFault>, Fail> {
     let words = words_of(alloc, words)?;
     let mut source = source_of(alloc, input, 16, &[])?;
     Ok(page(alloc, words.as_slice(), &mut source, sink))
@@ -60,7 +61,7 @@ fn ends(
     alloc: Global,
     (words, sheet): (&str, &[u8]),
     failing: &[u64],
-    (end, text): (End<PageFault>, &[u8]),
+    (end, text): (End<SheetFault>, &[u8]),
 ) -> Result<(), Fail> {
     let mut sink = sink_of(alloc, 20_000, 20_000, failing)?;
     let found = end_of(alloc, words, sheet, &mut sink)?;
@@ -117,7 +118,7 @@ fn a_write_that_fails_ends_the_writing(rt: HostRuntime) -> Result<(), Fail> {
 
 #[test]
 fn what_is_no_sheet_is_malformed(rt: HostRuntime) -> Result<(), Fail> {
-    let malformed = End::BadInput(PageFault::Malformed);
+    let malformed = End::BadInput(SheetFault::Malformed);
     assert_eq!(rt; malformed.exit_code(), ExitCode::from(3));
     let run = ("--as csv", b"title\n".as_slice());
     let line = b"sheet malformed\n";

@@ -13,10 +13,12 @@ use Rattle.tool_edge.specs.Tool.{IsOwedFor, IsSound, no_history}
 use Rattle.tool_edge.specs.Tools.{file_limit}
 use Rattle.sheet_page.specs.declared.format.Format.{Format}
 use Rattle.sheet_page.specs.declared.format.Format.TheVariants.{Html, Csv, Json}
-use Rattle.sheet_page.specs.declared.page_fault.PageFault.{PageFault}
-use Rattle.sheet_page.specs.declared.page_fault.PageFault.TheVariants.{TooLong, Malformed}
+use Rattle.sheet_input.specs.declared.sheet_fault.SheetFault.{SheetFault}
+use Rattle.sheet_input.specs.declared.sheet_fault.SheetFault.TheVariants.{Malformed}
+use Rattle.sheet_input.specs.Sheets.{IsMalformed, malformed_line}
+use Rattle.sheet_input.proofs.Refused.{not_refused, refused_once}
 use Rattle.sheet_page.specs.Words.{TakesFormat, name_of}
-use Rattle.sheet_page.specs.Owed.{shown_as, IsSheetText, IsMalformed, IsRefusedSheet, malformed_line, shows}
+use Rattle.sheet_page.specs.Owed.{shown_as, shows}
 
 -- what was written, as a tool's end takes it
 pub wrote_text :
@@ -28,14 +30,14 @@ wrote_text w f a b text (Err stop) wrote = (wrote.rose, wrote.part)
 -- ---- the whole input
 
 pub values_owed :
-    (format : Format) (input : List ℕ) (v : SheetList) (end : End PageFault) (sink : Writing) → length input ≤ file_limit
+    (format : Format) (input : List ℕ) (v : SheetList) (end : End SheetFault) (sink : Writing) → length input ≤ file_limit
     → HasForm 9 input v → Finishes Done (shown_as format v) end sink
     → FinishesOwed (IsOwedFor shows format input no_history) end sink
 values_owed format input v end sink short form finishes =
     inr (Done, shown_as format v, (short, (v, form, refl)), finishes)
 
 pub malformed_owed :
-    (format : Format) (input : List ℕ) (end : End PageFault) (sink : Writing) → length input ≤ file_limit → IsMalformed input
+    (format : Format) (input : List ℕ) (end : End SheetFault) (sink : Writing) → length input ≤ file_limit → IsMalformed input
     → Finishes (BadInput Malformed) malformed_line end sink → FinishesOwed (IsOwedFor shows format input no_history) end sink
 malformed_owed format input end sink short none finishes =
     inr (BadInput Malformed, malformed_line, (inr (short, none), refl, refl), finishes)
@@ -72,17 +74,6 @@ one_format words one other (inl none) (inl nothing) = none.1 ∙ sym nothing.1
 one_format words one other (inl none) (inr taken) = absurd (no_words words _ _ none.0 taken)
 one_format words one other (inr taken) (inl none) = absurd (no_words words _ _ none.0 taken)
 one_format words one other (inr taken) (inr again) = same_format one other (second_word _ _ _ _ (sym taken ∙ again))
-
-not_refused : (input : List ℕ) (fault : PageFault) → IsSheetText input → IsRefusedSheet input fault → ⊥
-not_refused input (TooLong most) sheet refused = refused
-not_refused input Malformed sheet refused = refused sheet.0 sheet.1
-
-refused_once :
-    (input : List ℕ) (fault other : PageFault) → IsRefusedSheet input fault → IsRefusedSheet input other
-    → fault ≡ other
-refused_once input (TooLong most) other refused again = absurd refused
-refused_once input Malformed (TooLong most) refused again = absurd again
-refused_once input Malformed Malformed refused again = refl
 
 pub sound : IsSound shows
 sound = record {

@@ -2,7 +2,7 @@
 //! JSON.
 //!
 //! [`page`] is the whole tool: [`takes_format`] reads the words, `read_sheet` the values, and what is
-//! written is a function of these values. What is no sheet is refused with a [`PageFault`].
+//! written is a function of these values. What is no sheet is refused with a `SheetFault` of sheet_input.
 #![tactic(auto)]
 
 mod cell;
@@ -14,7 +14,6 @@ mod iterations;
 mod json;
 mod json_text;
 mod laws;
-mod page_fault;
 mod pen;
 mod picture;
 mod piece;
@@ -26,6 +25,5 @@ mod words;
 
 pub use format::Format;
 pub use laws::{pages_nest, strings_are_read_back, tables_are_read_back};
-pub use page_fault::PageFault;
 pub use tool::page;
 pub use words::takes_format;

@@ -11,8 +11,9 @@ ghost use Rattle.sheet_page.specs.Owed.{shown_as, shows};
 use crate::csv::write_csv;
 use crate::html::write_html;
 use crate::json::write_json;
-use crate::{Format, PageFault, takes_format};
+use crate::{Format, takes_format};
 use byte_edge::{Failed, Sink, Source};
+use sheet_input::SheetFault;
 use sheet_reader::{SheetStop, SheetValues, read_sheet};
 use std::alloc::Global;
 use tool_edge::{End, FILE_LIMIT, close, open, refuse};
@@ -24,7 +25,7 @@ pub fn page<S: Source, K: Sink>(
     words: &[String],
     source: &mut S,
     sink: &mut K,
-) -> End<PageFault>
+) -> End<SheetFault>
     ensures { IsRun shows (map string_bytes words.now)
         (reading S.left S.faults source.old source.new) (writing K.written K.faults sink.old sink.new)
         result no_history }
@@ -39,20 +40,20 @@ pub fn page<S: Source, K: Sink>(
 
 /// Shows the whole input.
 #[tactic(auto, using(crate::proofs::Owing::values_owed, crate::proofs::Owing::malformed_owed))]
-fn show<K: Sink>(alloc: Global, format: Format, input: &[u8], sink: &mut K) -> End<PageFault>
+fn show<K: Sink>(alloc: Global, format: Format, input: &[u8], sink: &mut K) -> End<SheetFault>
     requires { length input.now ≤ 67108864 }
     ensures { FinishesOwed (IsOwedFor shows format input.now no_history) result
         (writing K.written K.faults sink.old sink.new) }
 {
     match read_sheet(alloc, input) {
         Ok(values) => show_values(format, &values, sink),
-        Err(SheetStop::Malformed) => refuse(sink, PageFault::Malformed),
+        Err(SheetStop::Malformed) => refuse(sink, SheetFault::Malformed),
         Err(SheetStop::NoMemory) => End::NoMemory,
     }
 }
 
 /// Shows the values of a sheet.
-fn show_values<K: Sink>(format: Format, values: &SheetValues, sink: &mut K) -> End<PageFault>
+fn show_values<K: Sink>(format: Format, values: &SheetValues, sink: &mut K) -> End<SheetFault>
     requires { IsPrintable 9 values.now }
     ensures { Finishes End.Done (shown_as format values.now) result
         (writing K.written K.faults sink.old sink.new) }

@@ -1,32 +1,32 @@
-// Why an input is refused.
+// Why a tool refuses the sheet that it reads.
 ghost use Rattle.std.specs.Prelude.{◌≡◌};
-ghost use Rattle.count_promise.specs.Owed.{malformed_line, promise_refusals};
+ghost use Rattle.sheet_input.specs.Sheets.{malformed_line, sheet_refusals};
 
-use blt_reader::InputFault;
+use input_text::InputFault;
 use line_text::Line;
 use tool_edge::Fault;
 
-/// Why an input is refused.
+/// Why an input that should be a sheet is refused.
 #[derive(Clone, Copy, Debug, PartialEq, Eq)]
-pub enum PromiseFault {
+pub enum SheetFault {
     /// It has more bytes than so many, the most that are read.
     TooLong(usize),
     /// It is no sheet.
     Malformed,
 }
 
-impl Fault for PromiseFault {
-    ghost refusals = { promise_refusals };
+impl Fault for SheetFault {
+    ghost refusals = { sheet_refusals };
 
     fn line(&self) -> Line {
         match self {
-            PromiseFault::TooLong(most) => InputFault::too_long(*most).line(),
-            PromiseFault::Malformed => malformed_line(),
+            SheetFault::TooLong(most) => InputFault::too_long(*most).line(),
+            SheetFault::Malformed => malformed_line(),
         }
     }
 
-    fn too_long(most: usize) -> PromiseFault {
-        PromiseFault::TooLong(most)
+    fn too_long(most: usize) -> SheetFault {
+        SheetFault::TooLong(most)
     }
 }
 
