@@ -16,6 +16,7 @@ mod FirstQuota
 mod Struck
 mod Moved
 mod Renamed
+mod RenamedWinners
 mod RenamedIteration
 mod RenamedCount
 mod UnheardHolds

@@ -1,198 +1,215 @@
--- Ballots, lots and marks under other numbers.
-use Rattle.std.proofs.Common.{◌≡◌, ◌≢◌, ℕ, ◌+◌, ◌-◌, ◌<◌, ◌≤◌, ◌==◌, not, Bool, false, cond, List, [], ◌∷◌}
-use Rattle.std.proofs.Common.{map, length, get_or, set, min, All, replicate}
+-- Ballots and lots of the candidates who run, under other numbers.
+use Rattle.std.proofs.Common.{◌≡◌, ℕ, ◌+◌, ◌-◌, ◌≤◌, ◌==◌, nat_lt, not, Bool, true, false, cond, List}
+use Rattle.std.proofs.Common.{[], ◌∷◌, map, get_or, min, All}
 use Rattle.std.proofs.Common.{arith, refl, ap, sym, subst, ◌∙◌, inl, inr}
-use Rattle.std.proofs.lemmas.Bool.{cases_Bool, cases_eq, eq-eqb, ne_eqb}
-use Rattle.std.proofs.lemmas.List.{get_or-set_other, get_or-replicate, length-set, length-replicate}
-use Rattle.std.proofs.lemmas.Grind.{get_or-set_at}
+use Rattle.std.specs.List.{filter}
+use Rattle.std.proofs.lemmas.Bool.{cases_Bool, cases_eq, cases_lt, eq-eqb, ne_eqb, false≢true, lt-ltb, le-ltb}
 use Rattle.std.proofs.lemmas.List.Elements.{All-head, All-tail}
 use Rattle.std.proofs.lemmas.List.Sums.{sum_by-cons}
 use Rattle.fixed_place.specs.Rounding.{up}
 use Rattle.candidate_roll.specs.declared.state.State.TheVariants.{Withdrawn}
 use Rattle.lot_order.specs.Flags.{mark_at}
 use Rattle.lot_order.specs.Lots.{first_marked, place_in}
-use Rattle.meek_rule.specs.Places.{marked_count}
 use Rattle.meek_rule.specs.Situation.{Situation}
 use Rattle.meek_rule.specs.Rule.{Rule, Meek, Warren}
 use Rattle.meek_rule.specs.Weights.{kept_under, given_under, vote_under, votes_under}
-use Rattle.meek_rule.proofs.StateCounts.{marks_by_place}
-use Rattle.rule_laws.specs.Renaming.{IsRenaming, renamed}
-use Rattle.rule_laws.proofs.Moved.{count-renamed, place_by, place_inside, renamed-at, renamed-length}
-use Rattle.rule_laws.proofs.Moved.{renamed-places, same_items}
+use Rattle.rule_laws.proofs.Moved.{AreOut, Numbering, moved, moved-at}
+use Rattle.rule_laws.proofs.Moved.{moved-places, new_place, place_inside}
 
 -- candidates' numbers
 abbrev pub AreNumbers : ℕ → List ℕ → Type 0
 AreNumbers n cs = All (λ c. (1 ≤ c) × (c ≤ n)) cs
 
-abbrev pub renamed_situation : (n : ℕ) → (from : ℕ → ℕ) → Situation → Situation
-renamed_situation n from now =
-    record now { states = renamed n from Withdrawn now.states; keeps = renamed n from 0 now.keeps }
+-- numbers of candidates who run
+abbrev pub AreRunners : Numbering → List ℕ → Type 0
+AreRunners by cs = All (λ c. (1 ≤ c) × (c ≤ by.old) × (by.runs c ≡ true)) cs
 
--- the place of a new number
-home :
-    (n : ℕ) (to from : ℕ → ℕ) (c : ℕ) → IsRenaming n to from → 1 ≤ c → c ≤ n
-    → (to c - 1 < n) × (place_by from (to c - 1) ≡ c - 1)
-home n to from c is some within =
-    let number = is.to_candidate c some within in
-    let place : to c - 1 + 1 ≡ to c = omega arith in
-    let at : from (to c - 1 + 1) ≡ c = ap from place ∙ is.back c some within in
-    (omega arith, omega arith)
+-- those in the lots who run, in the same order, by their new numbers
+abbrev pub lots_moved : Numbering → List ℕ → List ℕ
+lots_moved by lots = map by.to (filter by.runs lots)
 
--- new numbers are the same where the old ones are
-same_number :
-    (n : ℕ) (to from : ℕ → ℕ) (r c : ℕ) → IsRenaming n to from → 1 ≤ r → r ≤ n → 1 ≤ c → c ≤ n
-    → (to r == c) ≡ (r == from c)
-same_number n to from r c is r_some r_within c_some c_within =
-    elim (cases_eq r (from c)) [
-      | inl same ↦ eq-eqb (to r) c (ap to same ∙ is.there c c_some c_within) ∙ sym (eq-eqb r (from c) same)
-      | inr other ↦
-          ne_eqb (to r) c (λ e. other (sym (is.back r r_some r_within) ∙ ap from e))
-          ∙ sym (ne_eqb r (from c) other)
+abbrev pub situation_moved : Numbering → Situation → Situation
+situation_moved by now = record now { states = moved by Withdrawn now.states; keeps = moved by 0 now.keeps }
+
+-- one more before both
+both_later : (a b : ℕ) → nat_lt (1 + a) (1 + b) ≡ nat_lt a b
+both_later a b =
+    elim (cases_lt a b) [
+      | inl less ↦ lt-ltb (1 + a) (1 + b) (omega arith) ∙ sym (lt-ltb a b less)
+      | inr most ↦ le-ltb (1 + a) (1 + b) (omega arith) ∙ sym (le-ltb a b most)
     ]
 
--- BALLOTS
+-- two that stand in the same order behind what may be themselves
+step_later :
+    (x y : Bool) (a b c d : ℕ) → nat_lt a b ≡ nat_lt c d
+    → nat_lt (cond (not x) (1 + a) 0) (cond (not y) (1 + b) 0)
+    ≡ nat_lt (cond (not x) (1 + c) 0) (cond (not y) (1 + d) 0)
+step_later true true a b c d same = refl
+step_later true false a b c d same = lt-ltb 0 (1 + b) (omega arith) ∙ sym (lt-ltb 0 (1 + d) (omega arith))
+step_later false true a b c d same = le-ltb (1 + a) 0 (omega arith) ∙ sym (le-ltb (1 + c) 0 (omega arith))
+step_later false false a b c d same = both_later a b ∙ (same ∙ sym (both_later c d))
 
-kept-renamed : (rule : Rule) (s n : ℕ) (to from : ℕ → ℕ) (keeps : List ℕ) (w r : ℕ) → IsRenaming n to from → 1 ≤ r → r ≤ n
-    → kept_under rule s (renamed n from 0 keeps) w (to r) ≡ kept_under rule s keeps w r
-kept-renamed rule s n to from keeps w r is some within =
-    let place = home n to from r is some within in
-    by_rule rule (renamed-at n from 0 keeps (to r - 1) place.0 ∙ ap (λ (p : ℕ). get_or keeps p 0) place.1)
-  where
-    by_rule : (rule : Rule) → get_or (renamed n from 0 keeps) (to r - 1) 0 ≡ get_or keeps (r - 1) 0
-        → kept_under rule s (renamed n from 0 keeps) w (to r) ≡ kept_under rule s keeps w r
-    by_rule Meek at = ap (up s w) at
-    by_rule Warren at = ap (min w) at
+module _ (by : Numbering) where
+  -- new numbers are the same where the old ones are
+  same_number :
+      (r c : ℕ) → 1 ≤ r → r ≤ by.old → by.runs r ≡ true → 1 ≤ c → c ≤ by.new
+      → (by.to r == c) ≡ (r == by.from c)
+  same_number r c r_some r_within runs c_some c_within =
+      elim (cases_eq r (by.from c)) [
+        | inl same ↦
+            eq-eqb (by.to r) c (ap by.to same ∙ by.there c c_some c_within)
+            ∙ sym (eq-eqb r (by.from c) same)
+        | inr other ↦
+            ne_eqb (by.to r) c (λ e. other (sym (by.back r r_some r_within runs) ∙ ap by.from e))
+            ∙ sym (ne_eqb r (by.from c) other)
+      ]
 
-given-renamed :
-    (rule : Rule) (s n : ℕ) (to from : ℕ → ℕ) (keeps : List ℕ) (w : ℕ) (ranks : List ℕ) (c : ℕ)
-    → IsRenaming n to from
-    → AreNumbers n ranks → 1 ≤ c → c ≤ n
-    → given_under rule s (renamed n from 0 keeps) w (map to ranks) c ≡ given_under rule s keeps w ranks (from c)
-given-renamed rule s n to from keeps w [] c is numbers some within = refl
-given-renamed rule s n to from keeps w (r ∷ ranks) c is numbers some within =
-    let number = All-head (λ (x : ℕ). (1 ≤ x) × (x ≤ n)) r ranks numbers in
-    let kept_is : kept_under rule s (renamed n from 0 keeps) w (to r) ≡ kept_under rule s keeps w r =
-    kept-renamed rule s n to from keeps w r is number.0 number.1 in
-    let here : (to r == c) ≡ (r == from c) = same_number n to from r c is number.0 number.1 some within in
-    let rest : given_under rule s (renamed n from 0 keeps) (w - kept_under rule s keeps w r) (map to ranks) c
-    ≡ given_under rule s keeps
-    (w - kept_under rule s keeps w r) ranks (from c) =
-    given-renamed rule s n to from keeps (w - kept_under rule s keeps w r) ranks c is
-    (All-tail (λ (x : ℕ). (1 ≤ x) × (x ≤ n)) r ranks numbers) some within in
-    ap (λ (k : ℕ). cond (to r == c) k 0 + given_under rule s (renamed n from 0 keeps) (w - k) (map to ranks) c) kept_is
-    ∙ (ap (λ (b : Bool). cond b (kept_under rule s keeps w r) 0
-    + given_under rule s (renamed n from 0 keeps) (w - kept_under rule s keeps w r)
-    (map to ranks) c) here
-    ∙ ap (λ (k : ℕ). cond (r == from c) (kept_under rule s keeps w r) 0 + k) rest)
+  -- BALLOTS
 
-vote-renamed :
-    (rule : Rule) (s n : ℕ) (to from : ℕ → ℕ) (keeps : List ℕ) (ballots : List (List ℕ)) (c : ℕ)
-    → IsRenaming n to from
-    → All (AreNumbers n) ballots → 1 ≤ c → c ≤ n
-    → vote_under rule s (renamed n from 0 keeps) (map (map to) ballots) c ≡ vote_under rule s keeps ballots (from c)
-vote-renamed rule s n to from keeps [] c is numbers some within = refl
-vote-renamed rule s n to from keeps (ranking ∷ ballots) c is numbers some within =
-    let here =
-    given-renamed rule s n to from keeps s ranking c is (All-head (AreNumbers n) ranking ballots numbers)
-    some within in
-    let rest =
-    vote-renamed rule s n to from keeps ballots c is (All-tail (AreNumbers n) ranking ballots numbers)
-    some within in
-    let one =
-    sum_by-cons (λ (x : List ℕ). given_under rule s (renamed n from 0 keeps) s x c) (map to ranking)
-    (map (map to) ballots) in
-    let other = sum_by-cons (λ (x : List ℕ). given_under rule s keeps s x (from c)) ranking ballots in
-    omega arith
+  kept-renamed :
+      (rule : Rule) (s : ℕ) (keeps : List ℕ) (w r : ℕ) → 1 ≤ r → r ≤ by.old → by.runs r ≡ true
+      → kept_under rule s (moved by 0 keeps) w (by.to r) ≡ kept_under rule s keeps w r
+  kept-renamed rule s keeps w r some within runs =
+      let place = new_place by r some within runs in
+      by_rule rule (moved-at by 0 keeps (by.to r - 1) place.0 ∙ ap (λ (p : ℕ). get_or keeps p 0) place.1)
+    where
+      by_rule : (rule : Rule) → get_or (moved by 0 keeps) (by.to r - 1) 0 ≡ get_or keeps (r - 1) 0
+          → kept_under rule s (moved by 0 keeps) w (by.to r) ≡ kept_under rule s keeps w r
+      by_rule Meek at = ap (up s w) at
+      by_rule Warren at = ap (min w) at
 
-pub votes-renamed :
-    (rule : Rule) (s n : ℕ) (to from : ℕ → ℕ) (keeps : List ℕ) (ballots : List (List ℕ))
-    → IsRenaming n to from → All (AreNumbers n) ballots
-    → votes_under rule s (renamed n from 0 keeps) (map (map to) ballots) n
-    ≡ renamed n from 0 (votes_under rule s keeps ballots n)
-votes-renamed rule s n to from keeps ballots is numbers =
-    sym (renamed-places n to from 0 (λ p. vote_under rule s keeps ballots (p + 1))
-    (λ p. vote_under rule s (renamed n from 0 keeps) (map (map to) ballots) (p + 1)) is (λ p below.
-    let number = (place_inside n to from is p below).1 in
-    ap (vote_under rule s keeps ballots) number
-    ∙ sym (vote-renamed rule s n to from keeps ballots (p + 1) is numbers (omega arith) (omega arith))))
+  given-renamed :
+      (rule : Rule) (s : ℕ) (keeps : List ℕ) (w : ℕ) (ranks : List ℕ) (c : ℕ)
+      → AreRunners by ranks → 1 ≤ c → c ≤ by.new
+      → given_under rule s (moved by 0 keeps) w (map by.to ranks) c
+      ≡ given_under rule s keeps w ranks (by.from c)
+  given-renamed rule s keeps w [] c numbers some within = refl
+  given-renamed rule s keeps w (r ∷ ranks) c numbers some within =
+      let of_runner : ℕ → Type 0 = λ x. (1 ≤ x) × (x ≤ by.old) × (by.runs x ≡ true) in
+      let number = All-head of_runner r ranks numbers in
+      let kept_is : kept_under rule s (moved by 0 keeps) w (by.to r) ≡ kept_under rule s keeps w r =
+      kept-renamed rule s keeps w r number.0 number.1 number.2 in
+      let here : (by.to r == c) ≡ (r == by.from c) = same_number r c number.0 number.1 number.2 some within in
+      let rest :
+      given_under rule s (moved by 0 keeps) (w - kept_under rule s keeps w r) (map by.to ranks) c
+      ≡ given_under rule s keeps (w - kept_under rule s keeps w r) ranks (by.from c) =
+      given-renamed rule s keeps (w - kept_under rule s keeps w r) ranks c
+      (All-tail of_runner r ranks numbers) some within in
+      ap (λ (k : ℕ). cond (by.to r == c) k 0
+      + given_under rule s (moved by 0 keeps) (w - k) (map by.to ranks) c) kept_is
+      ∙ (ap (λ (b : Bool). cond b (kept_under rule s keeps w r) 0
+      + given_under rule s (moved by 0 keeps) (w - kept_under rule s keeps w r) (map by.to ranks) c) here
+      ∙ ap (λ (k : ℕ). cond (r == by.from c) (kept_under rule s keeps w r) 0 + k) rest)
 
--- LOTS
+  vote-renamed :
+      (rule : Rule) (s : ℕ) (keeps : List ℕ) (ballots : List (List ℕ)) (c : ℕ)
+      → All (AreRunners by) ballots → 1 ≤ c → c ≤ by.new
+      → vote_under rule s (moved by 0 keeps) (map (map by.to) ballots) c
+      ≡ vote_under rule s keeps ballots (by.from c)
+  vote-renamed rule s keeps [] c numbers some within = refl
+  vote-renamed rule s keeps (ranking ∷ ballots) c numbers some within =
+      let here = given-renamed rule s keeps s ranking c
+      (All-head (AreRunners by) ranking ballots numbers) some within in
+      let rest = vote-renamed rule s keeps ballots c
+      (All-tail (AreRunners by) ranking ballots numbers) some within in
+      let one =
+      sum_by-cons (λ (x : List ℕ). given_under rule s (moved by 0 keeps) s x c) (map by.to ranking)
+      (map (map by.to) ballots) in
+      let other = sum_by-cons (λ (x : List ℕ). given_under rule s keeps s x (by.from c)) ranking ballots in
+      omega arith
 
-pub place_in-renamed :
-    (n : ℕ) (to from : ℕ → ℕ) (lots : List ℕ) (c : ℕ) → IsRenaming n to from → AreNumbers n lots → 1 ≤ c
-    → c ≤ n
-    → place_in (map to lots) c ≡ place_in lots (from c)
-place_in-renamed n to from [] c is numbers some within = refl
-place_in-renamed n to from (x ∷ lots) c is numbers some within =
-    let number = All-head (λ (d : ℕ). (1 ≤ d) × (d ≤ n)) x lots numbers in
-    let here : (to x == c) ≡ (x == from c) = same_number n to from x c is number.0 number.1 some within in
-    let rest : place_in (map to lots) c ≡ place_in lots (from c) =
-    place_in-renamed n to from lots c is (All-tail (λ (d : ℕ). (1 ≤ d) × (d ≤ n)) x lots numbers) some within in
-    λ i. cond (not (here i)) (1 + rest i) 0
+  pub votes-renamed :
+      (rule : Rule) (s : ℕ) (keeps : List ℕ) (ballots : List (List ℕ)) (n k : ℕ)
+      → All (AreRunners by) ballots → n ≡ by.old → k ≡ by.new
+      → moved by 0 (votes_under rule s keeps ballots n)
+      ≡ votes_under rule s (moved by 0 keeps) (map (map by.to) ballots) k
+  votes-renamed rule s keeps ballots n k numbers all as_many =
+      moved-places by 0 (λ p. vote_under rule s keeps ballots (p + 1))
+      (λ p. vote_under rule s (moved by 0 keeps) (map (map by.to) ballots) (p + 1)) n k all as_many
+      (λ p below.
+      let number = (place_inside by p below).1 in
+      ap (vote_under rule s keeps ballots) number
+      ∙ sym (vote-renamed rule s keeps ballots (p + 1) numbers (omega arith) (omega arith)))
 
-pub first_marked-renamed :
-    (n : ℕ) (to from : ℕ → ℕ) (lots : List ℕ) (marks : List Bool) → IsRenaming n to from → AreNumbers n lots
-    → 1 ≤ first_marked lots marks → first_marked (map to lots) (renamed n from false marks) ≡ to (first_marked lots marks)
-first_marked-renamed n to from [] marks is numbers some = absurd (omega arith)
-first_marked-renamed n to from (x ∷ lots) marks is numbers some =
-    let number = All-head (λ (d : ℕ). (1 ≤ d) × (d ≤ n)) x lots numbers in
-    let place = home n to from x is number.0 number.1 in
-    let same : mark_at (renamed n from false marks) (to x - 1) ≡ mark_at marks (x - 1) =
-    renamed-at n from false marks (to x - 1) place.0 ∙ ap (mark_at marks) place.1 in
-    elim (cases_Bool (mark_at marks (x - 1))) [
-      | inl set_ ↦
-          ap (λ (b : Bool). cond b (to x) (first_marked (map to lots) (renamed n from false marks))) (same ∙ set_)
-          ∙ ap to (sym (ap (λ (b : Bool). cond b x (first_marked lots marks)) set_))
-      | inr unset ↦
-          let later : first_marked (x ∷ lots) marks ≡ first_marked lots marks =
-          ap (λ (b : Bool). cond b x (first_marked lots marks)) unset in
-          ap (λ (b : Bool). cond b (to x) (first_marked (map to lots) (renamed n from false marks))) (same ∙ unset)
-          ∙ (first_marked-renamed n to from lots marks is (All-tail (λ (d : ℕ). (1 ≤ d) × (d ≤ n)) x lots numbers)
-          (subst (λ (k : ℕ). 1 ≤ k) later some) ∙ ap to (sym later))
-    ]
+  -- LOTS
 
--- MARKS AND STATES
+  kept_first : (x : ℕ) (lots : List ℕ) → by.runs x ≡ true
+      → lots_moved by (x ∷ lots) ≡ by.to x ∷ lots_moved by lots
+  kept_first x lots runs =
+      ap (λ (b : Bool). map by.to (cond b (x ∷ filter by.runs lots) (filter by.runs lots))) runs
 
-pub marked-renamed : (n : ℕ) (to from : ℕ → ℕ) (marks : List Bool) → IsRenaming n to from → length marks ≡ n
-    → marked_count (renamed n from false marks) ≡ marked_count marks
-marked-renamed n to from marks is long =
-    count-renamed n to from (mark_at marks) (λ p. mark_at marks (place_by from p)) is (λ p below. refl)
-    ∙ ap marked_count (sym (marks_by_place marks n long))
+  dropped_first : (x : ℕ) (lots : List ℕ) → by.runs x ≡ false → lots_moved by (x ∷ lots) ≡ lots_moved by lots
+  dropped_first x lots out =
+      ap (λ (b : Bool). map by.to (cond b (x ∷ filter by.runs lots) (filter by.runs lots))) out
 
-pub nobody-renamed :
-    (n m : ℕ) (to from : ℕ → ℕ) → IsRenaming n to from → m ≡ n → (k : ℕ) → k ≡ n
-    → renamed n from false (replicate m false) ≡ replicate k false
-nobody-renamed n m to from is same k as_many =
-    same_items n false (renamed n from false (replicate m false)) (replicate k false)
-    (renamed-length n from false (replicate m false))
-    (length-replicate k false ∙ as_many) (λ p below.
-    renamed-at n from false (replicate m false) p below
-    ∙ (get_or-replicate m (place_by from p) false false (let inside = (place_inside n to from is p below).0 in omega arith)
-    ∙ sym (get_or-replicate k p false false (omega arith))))
+  -- those who run keep their order
+  pub order-renamed :
+      (lots : List ℕ) (a b : ℕ) → AreNumbers by.old lots → 1 ≤ a → a ≤ by.new → 1 ≤ b → b ≤ by.new
+      → nat_lt (place_in (lots_moved by lots) a) (place_in (lots_moved by lots) b)
+      ≡ nat_lt (place_in lots (by.from a)) (place_in lots (by.from b))
+  order-renamed [] a b numbers a_some a_within b_some b_within = refl
+  order-renamed (x ∷ lots) a b numbers a_some a_within b_some b_within =
+      let number = All-head (λ (d : ℕ). (1 ≤ d) × (d ≤ by.old)) x lots numbers in
+      let rest :
+      nat_lt (place_in (lots_moved by lots) a) (place_in (lots_moved by lots) b)
+      ≡ nat_lt (place_in lots (by.from a)) (place_in lots (by.from b)) =
+      order-renamed lots a b (All-tail (λ (d : ℕ). (1 ≤ d) × (d ≤ by.old)) x lots numbers)
+      a_some a_within b_some b_within in
+      elim (cases_Bool (by.runs x)) [
+        | inl runs ↦
+            let at_a : (by.to x == a) ≡ (x == by.from a) =
+            same_number x a number.0 number.1 runs a_some a_within in
+            let at_b : (by.to x == b) ≡ (x == by.from b) =
+            same_number x b number.0 number.1 runs b_some b_within in
+            ap (λ (xs : List ℕ). nat_lt (place_in xs a) (place_in xs b)) (kept_first x lots runs)
+            ∙ ((λ i. nat_lt (cond (not (at_a i)) (1 + place_in (lots_moved by lots) a) 0)
+            (cond (not (at_b i)) (1 + place_in (lots_moved by lots) b) 0))
+            ∙ step_later (x == by.from a) (x == by.from b) (place_in (lots_moved by lots) a)
+            (place_in (lots_moved by lots) b) (place_in lots (by.from a)) (place_in lots (by.from b)) rest)
+        | inr out ↦
+            let past_a : (x == by.from a) ≡ false =
+            ne_eqb x (by.from a)
+            (λ e. false≢true (sym out ∙ (ap by.runs e ∙ by.from_runs a a_some a_within))) in
+            let past_b : (x == by.from b) ≡ false =
+            ne_eqb x (by.from b)
+            (λ e. false≢true (sym out ∙ (ap by.runs e ∙ by.from_runs b b_some b_within))) in
+            ap (λ (xs : List ℕ). nat_lt (place_in xs a) (place_in xs b)) (dropped_first x lots out)
+            ∙ (rest ∙ (sym (both_later (place_in lots (by.from a)) (place_in lots (by.from b)))
+            ∙ sym (λ i. nat_lt (cond (not (past_a i)) (1 + place_in lots (by.from a)) 0)
+            (cond (not (past_b i)) (1 + place_in lots (by.from b)) 0))))
+      ]
 
-pub set-renamed :
-    {X : Type 0} (n : ℕ) (to from : ℕ → ℕ) (d y : X) (xs : List X) (c : ℕ) → IsRenaming n to from
-    → length xs ≡ n → 1 ≤ c → c ≤ n
-    → renamed n from d (set xs (c - 1) y) ≡ set (renamed n from d xs) (to c - 1) y
-set-renamed n to from d y xs c is long some within =
-    let place = home n to from c is some within in
-    let as_long : length (renamed n from d xs) ≡ n = renamed-length n from d xs in
-    same_items n d (renamed n from d (set xs (c - 1) y)) (set (renamed n from d xs) (to c - 1) y)
-    (renamed-length n from d (set xs (c - 1) y))
-    (length-set (renamed n from d xs) (to c - 1) y ∙ as_long) (λ p below.
-    let left : get_or (renamed n from d (set xs (c - 1) y)) p d ≡ get_or (set xs (c - 1) y) (place_by from p) d =
-    renamed-at n from d (set xs (c - 1) y) p below in
-    elim (cases_eq p (to c - 1)) [
-      | inl same ↦
-          left ∙ (get_or-set_at xs (c - 1) (place_by from p) y d (ap (place_by from) same ∙ place.1) (omega arith)
-          ∙ sym (get_or-set_at (renamed n from d xs) (to c - 1) p y d same (omega arith)))
-      | inr other ↦
-          let apart : place_by from p ≢ c - 1 = λ e.
-          other
-          (let old = place_inside n to from is p below in
-          let number : from (p + 1) ≡ c = omega arith in
-          let new : p + 1 ≡ to c = sym (is.there (p + 1) (omega arith) (omega arith)) ∙ ap to number in
-          omega arith) in
-          left ∙ (get_or-set_other xs (c - 1) (place_by from p) y d apart
-          ∙ (sym (renamed-at n from d xs p below) ∙ sym (get_or-set_other (renamed n from d xs) (to c - 1) p y d other)))
-    ])
+  pub first_marked-renamed :
+      (lots : List ℕ) (marks : List Bool) → AreNumbers by.old lots → AreOut by false marks
+      → 1 ≤ first_marked lots marks
+      → first_marked (lots_moved by lots) (moved by false marks) ≡ by.to (first_marked lots marks)
+  first_marked-renamed [] marks numbers out some = absurd (omega arith)
+  first_marked-renamed (x ∷ lots) marks numbers out some =
+      let number = All-head (λ (d : ℕ). (1 ≤ d) × (d ≤ by.old)) x lots numbers in
+      let new : List Bool = moved by false marks in
+      let behind :
+      mark_at marks (x - 1) ≡ false
+      → first_marked (lots_moved by lots) (moved by false marks) ≡ by.to (first_marked (x ∷ lots) marks) =
+      λ unset. (let later : first_marked (x ∷ lots) marks ≡ first_marked lots marks =
+      ap (λ (b : Bool). cond b x (first_marked lots marks)) unset in
+      first_marked-renamed lots marks (All-tail (λ (d : ℕ). (1 ≤ d) × (d ≤ by.old)) x lots numbers) out
+      (subst (λ (k : ℕ). 1 ≤ k) later some) ∙ ap by.to (sym later)) in
+      elim (cases_Bool (by.runs x)) [
+        | inl runs ↦
+            let place = new_place by x number.0 number.1 runs in
+            let same : mark_at (moved by false marks) (by.to x - 1) ≡ mark_at marks (x - 1) =
+            moved-at by false marks (by.to x - 1) place.0 ∙ ap (mark_at marks) place.1 in
+            let here : Bool → ℕ =
+            λ b. cond b (by.to x) (first_marked (lots_moved by lots) (moved by false marks)) in
+            ap (λ (xs : List ℕ). first_marked xs (moved by false marks)) (kept_first x lots runs)
+            ∙ elim (cases_Bool (mark_at marks (x - 1))) [
+              | inl set_ ↦
+                  ap here (same ∙ set_)
+                  ∙ ap by.to (sym (ap (λ (b : Bool). cond b x (first_marked lots marks)) set_))
+              | inr unset ↦ ap here (same ∙ unset) ∙ behind unset
+            ]
+        | inr apart ↦
+            let place : x - 1 + 1 ≡ x = omega arith in
+            ap (λ (xs : List ℕ). first_marked xs (moved by false marks)) (dropped_first x lots apart)
+            ∙ behind (out (x - 1) (omega arith) (ap by.runs place ∙ apart))
+      ]
