@@ -19,5 +19,7 @@ mod Renamed
 mod RenamedWinners
 mod RenamedIteration
 mod RenamedCount
+mod Absent
+mod AbsentElection
 mod UnheardHolds
 mod UnheardAtSixPlaces

@@ -14,8 +14,7 @@ use Rattle.meek_rule.specs.Places.{each_place, count_places, marked_count}
 use Rattle.meek_rule.proofs.StateCounts.{marks_by_place}
 use Rattle.rule_laws.specs.Renaming.{renamed}
 use Rattle.rule_laws.proofs.Totals.{count-total, count_by-total, list-total, one_if, states-total, sum-total}
-use Rattle.rule_laws.proofs.Totals.{total, total-add, total-but_one, total-none}
-use Rattle.rule_laws.proofs.Totals.{total-part, total-same}
+use Rattle.rule_laws.proofs.Totals.{total, total-add, total-but_one, total-none, total-part, total-same}
 
 -- Those of candidates 1 to `old` who run get the numbers 1 to `new` by `to`, and their own back by `from`.
 pub record Numbering : Type 0 where

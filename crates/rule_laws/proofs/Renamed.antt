@@ -1,7 +1,6 @@
 -- Ballots and lots of the candidates who run, under other numbers.
-use Rattle.std.proofs.Common.{◌≡◌, ℕ, ◌+◌, ◌-◌, ◌≤◌, ◌==◌, nat_lt, not, Bool, true, false, cond, List}
-use Rattle.std.proofs.Common.{[], ◌∷◌, map, get_or, min, All}
-use Rattle.std.proofs.Common.{arith, refl, ap, sym, subst, ◌∙◌, inl, inr}
+use Rattle.std.proofs.Common.{◌≡◌, ℕ, ◌+◌, ◌-◌, ◌≤◌, ◌==◌, nat_lt, not, Bool, true, false, cond, List, []}
+use Rattle.std.proofs.Common.{◌∷◌, map, get_or, min, All, arith, refl, ap, sym, subst, ◌∙◌, inl, inr}
 use Rattle.std.specs.List.{filter}
 use Rattle.std.proofs.lemmas.Bool.{cases_Bool, cases_eq, cases_lt, eq-eqb, ne_eqb, false≢true, lt-ltb, le-ltb}
 use Rattle.std.proofs.lemmas.List.Elements.{All-head, All-tail}
@@ -13,8 +12,7 @@ use Rattle.lot_order.specs.Lots.{first_marked, place_in}
 use Rattle.meek_rule.specs.Situation.{Situation}
 use Rattle.meek_rule.specs.Rule.{Rule, Meek, Warren}
 use Rattle.meek_rule.specs.Weights.{kept_under, given_under, vote_under, votes_under}
-use Rattle.rule_laws.proofs.Moved.{AreOut, Numbering, moved, moved-at}
-use Rattle.rule_laws.proofs.Moved.{moved-places, new_place, place_inside}
+use Rattle.rule_laws.proofs.Moved.{AreOut, Numbering, moved, moved-at, moved-places, new_place, place_inside}
 
 -- candidates' numbers
 abbrev pub AreNumbers : ℕ → List ℕ → Type 0
@@ -186,7 +184,6 @@ module _ (by : Numbering) where
   first_marked-renamed [] marks numbers out some = absurd (omega arith)
   first_marked-renamed (x ∷ lots) marks numbers out some =
       let number = All-head (λ (d : ℕ). (1 ≤ d) × (d ≤ by.old)) x lots numbers in
-      let new : List Bool = moved by false marks in
       let behind :
       mark_at marks (x - 1) ≡ false
       → first_marked (lots_moved by lots) (moved by false marks) ≡ by.to (first_marked (x ∷ lots) marks) =

@@ -118,7 +118,6 @@ module _ (by : Numbering) where
       → situation_moved by (opening s units seats withdrawn)
       ≡ opening s units seats (moved by false withdrawn)
   opening-renamed s units seats withdrawn long =
-      let new : List Bool = moved by false withdrawn in
       let new_long : length (moved by false withdrawn) ≡ by.new = moved-length by false withdrawn in
       let states_are =
       moved-places by Withdrawn (λ p. cond (mark_at withdrawn p) Withdrawn Hopeful)
@@ -167,7 +166,7 @@ module _ (by : Numbering) where
 -- WHERE ALL RUN
 
 -- other numbers for all candidates
-abbrev of_renaming : (n : ℕ) (to from : ℕ → ℕ) → IsRenaming n to from → Numbering
+abbrev pub of_renaming : (n : ℕ) (to from : ℕ → ℕ) → IsRenaming n to from → Numbering
 of_renaming n to from is = record {
   old = n;
   new = n;
@@ -195,8 +194,6 @@ pub count-renamed_candidates :
     (map to lots)
     (map (renamed_row (length roll.names) to from) rows) (renamed (length roll.names) from Withdrawn last)
 count-renamed_candidates rule places units ballots roll lots rows last to from is renaming counted =
-    let n : ℕ = length roll.names in
-    let by : Numbering = of_renaming (length roll.names) to from renaming in
     subst (λ (xs : List ℕ). IsCountUnder rule places units (map (map to) ballots)
     (renamed_roll (length roll.names) from roll) (map to xs)
     (map (renamed_row (length roll.names) to from) rows) (renamed (length roll.names) from Withdrawn last))

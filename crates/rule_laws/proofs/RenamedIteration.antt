@@ -1,7 +1,7 @@
 -- An iteration without those who do not run, under other numbers.
 use Rattle.std.proofs.Common.{◌≡◌, ℕ, ◌+◌, ◌-◌, ◌/◌, ◌<◌, ◌≤◌, ◌==◌, ◌&&◌, ◌||◌, nat_lt, nat_le, not, Bool}
-use Rattle.std.proofs.Common.{true, false, cond, List, length}
-use Rattle.std.proofs.Common.{get_or, sum, arith, refl, ap, sym, subst, ◌∙◌, inl, inr}
+use Rattle.std.proofs.Common.{true, false, cond, List, length, get_or, sum, arith, refl, ap, sym, subst, ◌∙◌}
+use Rattle.std.proofs.Common.{inl, inr}
 use Rattle.std.specs.List.{range_with_len, list_all}
 use Rattle.std.proofs.lemmas.Bool.{cases_Bool, false≢true}
 use Rattle.std.proofs.lemmas.List.Elements.{All-from_get_or}

@@ -1,7 +1,6 @@
 -- Winners and surplus without those who do not run, under other numbers.
 use Rattle.std.proofs.Common.{◌≡◌, ℕ, ◌+◌, ◌-◌, ◌*◌, ◌<◌, ◌==◌, ◌&&◌, ◌||◌, nat_lt, nat_le, Bool, true, false}
-use Rattle.std.proofs.Common.{cond, List, length}
-use Rattle.std.proofs.Common.{get_or, sum, min, arith, ap, sym, ◌∙◌, inl, inr}
+use Rattle.std.proofs.Common.{cond, List, length, get_or, sum, min, arith, ap, sym, ◌∙◌, inl, inr}
 use Rattle.std.proofs.lemmas.Bool.{cases_Bool, false≢true}
 use Rattle.candidate_roll.specs.declared.state.State.{State}
 use Rattle.candidate_roll.specs.declared.state.State.TheVariants.{Withdrawn}

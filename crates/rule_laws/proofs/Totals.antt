@@ -30,14 +30,14 @@ count-total (suc n) test =
     subst (λ (m : ℕ). count_places m test ≡ total n (λ p. one_if (test p)) + one_if (test n)) (add-one n)
     (count_more test n ∙ ap (λ (k : ℕ). k + one_if (test n)) (count-total n test))
 
--- how many states of a list by places pass
+-- how many items of a list by places pass
 pub count_by-total :
-    (test : State → Bool) (f : ℕ → State) (n : ℕ)
+    {X : Type 0} (test : X → Bool) (f : ℕ → X) (n : ℕ)
     → count_by test (each_place n f) ≡ total n (λ p. one_if (test (f p)))
 count_by-total test f zero = refl
 count_by-total test f (suc n) =
     subst (λ (m : ℕ). count_by test (each_place m f) ≡ total n (λ p. one_if (test (f p))) + one_if (test (f n))) (add-one n)
-    (sum_by-map-range_with_len_more (λ (x : State). cond (test x) 1 0) f 0 n n (omega arith)
+    (sum_by-map-range_with_len_more (λ x. cond (test x) 1 0) f 0 n n (omega arith)
     ∙ ap (λ (k : ℕ). k + one_if (test (f n)))
     (count_by-total test f n))
 

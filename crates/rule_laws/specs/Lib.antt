@@ -5,4 +5,6 @@ pub mod Coalition
 pub mod Orderly
 pub mod Strikes
 pub mod Renaming
+pub mod Absence
+pub mod WorkedAbsence
 pub mod Unheard

@@ -3,14 +3,16 @@ ghost use Rattle.rule_laws.specs.Seats.{SeatsAreFilled, NobodyHopesAtTheEnd, Dec
 ghost use Rattle.rule_laws.specs.NoTies.{LotsBreakTiesAlone};
 ghost use Rattle.rule_laws.specs.Renaming.{NumbersMeanNothing};
 ghost use Rattle.rule_laws.specs.Strikes.{StrikingChangesNothing};
+ghost use Rattle.rule_laws.specs.Absence.{WithdrawnMayBeLeftOut, WhatIsLeftIsAnElection};
+ghost use Rattle.rule_laws.specs.WorkedAbsence.{BenIsLeftOut};
 ghost use Rattle.rule_laws.specs.Majority.{FirstShareWins, MajorityWins};
 ghost use Rattle.rule_laws.specs.Coalition.{SolidMajorityWins, CoalitionsAreSeated, SharesAreSeated, ShareGetsASeat};
 ghost use Rattle.rule_laws.specs.Orderly.{OrderlyCountsAreProportional, QuietCountsAreProportional};
 ghost use Rattle.rule_laws.specs.Unheard.{AllRankDeeLast, AllRankDeeLastAtSixPlaces};
 
-/// A count fills its seats, or elects all who were not withdrawn where those are fewer. Whoever was elected or
-/// defeated in an iteration is so in each later one and at the end, where nobody is hopeful. Who was withdrawn ends
-/// so, and nobody else does.
+/// A count fills its seats, or elects all who were not withdrawn where those are fewer. Whoever stands as elected or
+/// defeated in an iteration stands so in each later one and at the end, where nobody is hopeful. Who was withdrawn
+/// ends so, and nobody else does.
 pub fn seats_are_filled()
     ensures filled { SeatsAreFilled }
     ensures none_hopeful { NobodyHopesAtTheEnd }
@@ -32,6 +34,15 @@ pub fn numbers_mean_nothing()
 /// A candidate who was withdrawn may as well be struck from all ballots: the count is the same, row for row.
 pub fn strikes_change_nothing()
     ensures { StrikingChangesNothing }
+{}
+
+/// The withdrawn may be left out of ballots, roll and lots, and the others numbered anew in their order: the count has
+/// the same rows and the same last states but for the places of the withdrawn. Where somebody runs, an election is
+/// left. One is worked by hand.
+pub fn withdrawn_may_be_left_out()
+    ensures same { WithdrawnMayBeLeftOut }
+    ensures election { WhatIsLeftIsAnElection }
+    ensures by_hand { BenIsLeftOut }
 {}
 
 /// Who is first, of those not withdrawn, on more than a share of the ballots is elected, where there is a share for

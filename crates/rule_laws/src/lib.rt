@@ -1,4 +1,4 @@
-//! What voters expect of a count, as laws over the definitions of the rule, and one count that shows what
+//! What voters expect of a count, as laws over the definitions of the rule, and two counts that show what
 //! the rule does not promise. Nothing here runs. docs/LAWS.md says each law in plain words.
 #![tactic(auto)]
 
@@ -6,5 +6,5 @@ mod laws;
 
 pub use laws::{
     coalitions_are_seated, lots_break_ties_alone, majorities_win, numbers_mean_nothing,
-    seats_are_filled, strikes_change_nothing, unanimity_fails,
+    seats_are_filled, strikes_change_nothing, unanimity_fails, withdrawn_may_be_left_out,
 };
