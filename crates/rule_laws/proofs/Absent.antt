@@ -26,6 +26,10 @@ use Rattle.rule_laws.proofs.Renamed.{AreNumbers, AreRunners}
 use Rattle.rule_laws.proofs.RenamedCount.{count-moved_candidates}
 use Rattle.rule_laws.proofs.Struck.{count-struck}
 
+-- candidate c was not withdrawn
+abbrev pub is_running : (withdrawn : List Bool) → ℕ → Bool
+is_running withdrawn c = not (is_withdrawn withdrawn c)
+
 -- what passes in a list stands in what is filtered of it
 pub filtered_at :
     (test : ℕ → Bool) (xs : List ℕ) (k : ℕ) → k < length xs → test (get_or xs k 0) ≡ true
@@ -65,9 +69,10 @@ map-after f g [] = refl
 map-after f g (x ∷ xs) = ap (λ ys. f (g x) ∷ ys) (map-after f g xs)
 
 module _ (withdrawn : List Bool) where
+  -- they are candidates
   pub of_runners : All (λ c. (1 ≤ c) × (c ≤ length withdrawn)) (runners withdrawn)
   of_runners =
-      All-filter (λ c. not (is_withdrawn withdrawn c)) (λ c. (1 ≤ c) × (c ≤ length withdrawn))
+      All-filter (is_running withdrawn) (λ c. (1 ≤ c) × (c ≤ length withdrawn))
       (range_with_len 1 (length withdrawn))
       (All-from_get_or (λ c. (1 ≤ c) × (c ≤ length withdrawn)) (range_with_len 1 (length withdrawn)) 0
       (λ k below.
@@ -76,9 +81,10 @@ module _ (withdrawn : List Bool) where
       get_or-range_with_len 1 (length withdrawn) k 0 inside in
       (omega arith, omega arith)))
 
+  -- each has a greater number than those before
   pub rising : AllPairs (λ a b. a < b) (runners withdrawn)
   rising =
-      AllPairs-filter (λ a b. a < b) (λ c. not (is_withdrawn withdrawn c))
+      AllPairs-filter (λ a b. a < b) (is_running withdrawn)
       (range_with_len 1 (length withdrawn))
       (λ i j d less below.
       let inside : j < length withdrawn = omega (arith, length-range_with_len 1 (length withdrawn)) in
@@ -88,7 +94,7 @@ module _ (withdrawn : List Bool) where
       get_or-range_with_len 1 (length withdrawn) j d inside in
       omega arith)
 
-  -- the k-th of those who run is the k-th
+  -- their new numbers are 1, 2 and so on in their order
   pub number_there : (k : ℕ) → 1 ≤ k → k ≤ length (runners withdrawn)
       → new_number withdrawn (old_number withdrawn k) ≡ k
   number_there k some within =
@@ -100,15 +106,15 @@ module _ (withdrawn : List Bool) where
 
   -- each who runs is one of them
   pub number_of :
-      (c : ℕ) → 1 ≤ c → c ≤ length withdrawn → not (is_withdrawn withdrawn c) ≡ true
+      (c : ℕ) → 1 ≤ c → c ≤ length withdrawn → is_running withdrawn c ≡ true
       → (k : ℕ) × (1 ≤ k) × (k ≤ length (runners withdrawn)) × (old_number withdrawn k ≡ c)
   number_of c some within runs =
       let at : get_or (range_with_len 1 (length withdrawn)) (c - 1) 0 ≡ c =
       get_or-range_with_len 1 (length withdrawn) (c - 1) 0 (omega arith) ∙ (omega arith) in
       let found =
-      filtered_at (λ d. not (is_withdrawn withdrawn d)) (range_with_len 1 (length withdrawn)) (c - 1)
+      filtered_at (is_running withdrawn) (range_with_len 1 (length withdrawn)) (c - 1)
       (omega (arith, length-range_with_len 1 (length withdrawn)))
-      (ap (λ d. not (is_withdrawn withdrawn d)) at ∙ runs) in
+      (ap (is_running withdrawn) at ∙ runs) in
       let place : found.0 + 1 - 1 ≡ found.0 = omega arith in (
         found.0 + 1,
         omega arith,
@@ -116,31 +122,34 @@ module _ (withdrawn : List Bool) where
         ap (λ (q : ℕ). get_or (runners withdrawn) q 0) place ∙ (found.2 ∙ at),
       )
 
-  -- the new numbers of those who run
+  pub number_is :
+      (c : ℕ) (some : 1 ≤ c) (within : c ≤ length withdrawn) (runs : is_running withdrawn c ≡ true)
+      → new_number withdrawn c ≡ (number_of c some within runs).0
+  number_is c some within runs =
+      let one = number_of c some within runs in
+      ap (new_number withdrawn) (sym one.3) ∙ number_there one.0 one.1 one.2
+
+  -- those who run, by their new numbers
   abbrev pub anew : Numbering
   anew = record {
     old = length withdrawn;
     new = length (runners withdrawn);
-    runs = λ c. not (is_withdrawn withdrawn c);
+    runs = is_running withdrawn;
     to = new_number withdrawn;
     from = old_number withdrawn;
     to_candidate = λ c some within runs.
         let one = number_of c some within runs in
-        let same : new_number withdrawn c ≡ one.0 =
-        ap (new_number withdrawn) (sym one.3) ∙ number_there one.0 one.1 one.2 in
+        let same = number_is c some within runs in
         (omega (arith, one.1), omega (arith, one.2));
     from_candidate = λ k some within.
         All-get_or (λ c. (1 ≤ c) × (c ≤ length withdrawn)) (runners withdrawn) (k - 1) 0
         (omega arith) of_runners;
     from_runs = λ k some within.
-        All-get_or (λ c. not (is_withdrawn withdrawn c) ≡ true) (runners withdrawn) (k - 1) 0 (omega arith)
-        (filter_passes (λ c. not (is_withdrawn withdrawn c)) (range_with_len 1 (length withdrawn)));
+        All-get_or (λ c. is_running withdrawn c ≡ true) (runners withdrawn) (k - 1) 0 (omega arith)
+        (filter_passes (is_running withdrawn) (range_with_len 1 (length withdrawn)));
     there = number_there;
     back = λ c some within runs.
-        let one = number_of c some within runs in
-        let same : new_number withdrawn c ≡ one.0 =
-        ap (new_number withdrawn) (sym one.3) ∙ number_there one.0 one.1 one.2 in
-        ap (old_number withdrawn) same ∙ one.3;
+        ap (old_number withdrawn) (number_is c some within runs) ∙ (number_of c some within runs).3;
   }
 
 -- a ballot with the withdrawn struck ranks those who run
@@ -149,14 +158,13 @@ pub runners_ranked :
     → AreRunners (anew withdrawn) (struck withdrawn ranking)
 runners_ranked withdrawn ranking numbers k d below =
     let number =
-    All-filter (λ c. not (is_withdrawn withdrawn c)) (λ c. (1 ≤ c) × (c ≤ length withdrawn)) ranking numbers
+    All-filter (is_running withdrawn) (λ c. (1 ≤ c) × (c ≤ length withdrawn)) ranking numbers
     k d below in
-    (number.0, number.1, filter_passes (λ c. not (is_withdrawn withdrawn c)) ranking k d below)
+    (number.0, number.1, filter_passes (is_running withdrawn) ranking k d below)
 
 pub count-left_out :
     (rule : Rule) (places units : ℕ) (ballots : List (List ℕ)) (roll : RollList) (lots : List ℕ)
-    (rows : List Row)
-    (last : List State)
+    (rows : List Row) (last : List State)
     → IsElection places units ballots roll lots
     → IsCountUnder rule places units ballots roll lots rows last
     → IsCountUnder rule places units
@@ -168,8 +176,7 @@ count-left_out rule places units ballots roll lots rows last is counted =
     (closed_up roll.withdrawn lots) (map (row_left roll.withdrawn) rows) (states_left roll.withdrawn last))
     (map-after (map (new_number roll.withdrawn)) (struck roll.withdrawn) ballots)
     (count-moved_candidates (anew roll.withdrawn) rule places units (map (struck roll.withdrawn) ballots) roll
-    lots rows
-    last same (λ p below out.
+    lots rows last same (λ p below out.
     let place : p + 1 - 1 ≡ p = omega arith in
     gone (mark_at roll.withdrawn p) (ap (λ (q : ℕ). not (mark_at roll.withdrawn q)) (sym place) ∙ out))
     (All-map (AreRunners (anew roll.withdrawn)) (struck roll.withdrawn) ballots (λ k d below.

@@ -1,7 +1,6 @@
 -- What is left without the withdrawn is an election.
-use Rattle.std.proofs.Common.{◌≡◌, ◌≢◌, ℕ, ◌+◌, ◌-◌, ◌<◌, ◌≤◌, not, Bool, false, List, [], map, length}
-use Rattle.std.proofs.Common.{get_or, count_by, AllPairs, Contains, arith, refl, ap, sym, subst, ◌∙◌, inl}
-use Rattle.std.proofs.Common.{inr}
+use Rattle.std.proofs.Common.{◌≡◌, ◌≢◌, ℕ, ◌+◌, ◌-◌, ◌<◌, ◌≤◌, Bool, false, List, [], map, length, get_or}
+use Rattle.std.proofs.Common.{count_by, AllPairs, Contains, arith, refl, ap, sym, subst, ◌∙◌, inl, inr}
 use Rattle.std.specs.List.{filter, range_with_len}
 use Rattle.std.proofs.lemmas.Bool.{cases_order, false≢true}
 use Rattle.std.proofs.lemmas.List.{get_or-map, get_or_default, length-map}
@@ -9,7 +8,7 @@ use Rattle.std.proofs.lemmas.List.Elements.{All-map}
 use Rattle.std.proofs.lemmas.List.FromFn.{fill_by_all, get_or-range_with_len, length-range_with_len}
 use Rattle.std.proofs.lemmas.List.Kept.{AllPairs-filter}
 use Rattle.std.proofs.lemmas.List.Sums.{length-filter, count_by-le-length}
-use Rattle.candidate_roll.specs.Roll.{RollList, is_withdrawn}
+use Rattle.candidate_roll.specs.Roll.{RollList}
 use Rattle.plain_ballots.specs.Ranking.{IsRanking}
 use Rattle.lot_order.specs.Lots.{IsOrder, place_in}
 use Rattle.meek_count.specs.Laws.{IsElection}
@@ -20,7 +19,7 @@ use Rattle.rule_laws.proofs.Totals.{count_by-total, one_if, total, total-same}
 use Rattle.rule_laws.proofs.Moved.{moved-length, place_by, total-moved}
 use Rattle.rule_laws.proofs.Renamed.{AreNumbers}
 use Rattle.rule_laws.proofs.RenamedCount.{of_renaming}
-use Rattle.rule_laws.proofs.Absent.{anew, filtered_at, place_in-own, runners_ranked}
+use Rattle.rule_laws.proofs.Absent.{anew, filtered_at, is_running, place_in-own, runners_ranked}
 
 -- how many pass, place by place
 filter-total :
@@ -115,7 +114,7 @@ module _ (withdrawn : List Bool) where
       let at_j = get_or-map (new_number withdrawn) (struck withdrawn xs) j 0 d (omega arith) in
       let back_i = (anew withdrawn).back (get_or (struck withdrawn xs) i 0) one.0 one.1 one.2 in
       let back_j = (anew withdrawn).back (get_or (struck withdrawn xs) j 0) other.0 other.1 other.2 in
-      AllPairs-filter (λ a b. a ≢ b) (λ c. not (is_withdrawn withdrawn c)) xs different i j 0 less
+      AllPairs-filter (λ a b. a ≢ b) (is_running withdrawn) xs different i j 0 less
       (omega arith)
       (sym back_i ∙ (ap (old_number withdrawn) (sym at_i ∙ (same ∙ at_j)) ∙ back_j))
 
@@ -130,8 +129,8 @@ module _ (withdrawn : List Bool) where
   few-runners =
       omega (
         arith,
-        length-filter (λ c. not (is_withdrawn withdrawn c)) (range_with_len 1 (length withdrawn)),
-        count_by-le-length (λ c. not (is_withdrawn withdrawn c)) (range_with_len 1 (length withdrawn)),
+        length-filter (is_running withdrawn) (range_with_len 1 (length withdrawn)),
+        count_by-le-length (is_running withdrawn) (range_with_len 1 (length withdrawn)),
         length-range_with_len 1 (length withdrawn),
       )
 
@@ -139,7 +138,7 @@ module _ (withdrawn : List Bool) where
     closed-length : length (closed_up withdrawn lots) ≡ length (runners withdrawn)
     closed-length =
         length-map (struck withdrawn lots) (new_number withdrawn)
-        ∙ (lots-pass lots order (λ c. not (is_withdrawn withdrawn c))
+        ∙ (lots-pass lots order (is_running withdrawn)
         ∙ ap (λ (k : ℕ). length (struck withdrawn (range_with_len 1 k))) all)
 
     numbers : AreNumbers (length withdrawn) lots
@@ -161,8 +160,8 @@ module _ (withdrawn : List Bool) where
         let number = (anew withdrawn).from_candidate c some within in
         let stands = stands_at lots order (old_number withdrawn c) number.0 (omega (arith, number.1)) in
         let found =
-        filtered_at (λ d. not (is_withdrawn withdrawn d)) lots stands.0 stands.1
-        (ap (λ d. not (is_withdrawn withdrawn d)) stands.2
+        filtered_at (is_running withdrawn) lots stands.0 stands.1
+        (ap (is_running withdrawn) stands.2
         ∙ (anew withdrawn).from_runs c some within) in
         let long : length (closed_up withdrawn lots) ≡ length (struck withdrawn lots) =
         length-map (struck withdrawn lots) (new_number withdrawn) in (

@@ -134,8 +134,7 @@ module _ (by : Numbering) where
   -- a count of ballots that rank those who run, where all others were withdrawn
   pub count-moved_candidates :
       (rule : Rule) (places units : ℕ) (ballots : List (List ℕ)) (roll : RollList) (lots : List ℕ)
-      (rows : List Row)
-      (last : List State)
+      (rows : List Row) (last : List State)
       → length roll.names ≡ by.old
       → ((p : ℕ) → p < by.old → by.runs (p + 1) ≡ false → mark_at roll.withdrawn p ≡ true)
       → All (AreRunners by) ballots → IsOrder lots → length lots ≡ length roll.names
@@ -186,8 +185,7 @@ all_pass (x ∷ xs) = ap (λ (ys : List ℕ). x ∷ ys) (all_pass xs)
 
 pub count-renamed_candidates :
     (rule : Rule) (places units : ℕ) (ballots : List (List ℕ)) (roll : RollList) (lots : List ℕ)
-    (rows : List Row)
-    (last : List State) (to from : ℕ → ℕ)
+    (rows : List Row) (last : List State) (to from : ℕ → ℕ)
     → IsElection places units ballots roll lots → IsRenaming (length roll.names) to from
     → IsCountUnder rule places units ballots roll lots rows last
     → IsCountUnder rule places units (map (map to) ballots) (renamed_roll (length roll.names) from roll)
@@ -199,8 +197,7 @@ count-renamed_candidates rule places units ballots roll lots rows last to from i
     (map (renamed_row (length roll.names) to from) rows) (renamed (length roll.names) from Withdrawn last))
     (all_pass lots)
     (count-moved_candidates (of_renaming (length roll.names) to from renaming) rule places units ballots roll
-    lots rows
-    last refl (λ p below apart. absurd (false≢true (sym apart)))
+    lots rows last refl (λ p below apart. absurd (false≢true (sym apart)))
     (λ k d below j e inside.
     let number = (is.rankings k d below).numbers j e inside in (number.0, number.1, refl))
     is.order_of_lots is.lots_of_all
