@@ -1,5 +1,5 @@
 -- What sheets promise, worked by hand.
-use Rattle.std.specs.Prelude.{◌≡◌, ℕ, Bool, true, false, List, [], ◌∷◌, codes}
+use Rattle.std.specs.Prelude.{◌≡◌, ℕ, ◌+◌, Bool, true, false, List, [], ◌∷◌, codes}
 use Rattle.candidate_roll.specs.declared.state.State.{State}
 use Rattle.candidate_roll.specs.declared.state.State.TheVariants.{Hopeful, Elected as IsElected}
 use Rattle.meek_rule.specs.Row.{Row}
@@ -127,5 +127,25 @@ LittleSurplus =
     ∷ codes "seats lack at most 0.500000000"
     ∷ codes "quota of all votes 4.333333334"
     ∷ codes "proportional within 1.499999999"
+    ∷ []
+    )
+
+-- a defeat of the third while the first has so many units more than the quota
+abbrev pub third_defeated : (round surplus : ℕ) → Row
+third_defeated round surplus =
+    row_of round two_elected ((4000000000 + surplus) ∷ 4000000000 ∷ 1000000000 ∷ []) 4000000000 surplus nobody
+    (false ∷ false ∷ true ∷ []) (Defeat 3)
+
+-- Of three defeats the second has the greatest surplus: just one vote, which is a great one.
+abbrev pub SecondIsGreatest : Type 0
+SecondIsGreatest =
+    Promises
+    (third_defeated 2 300000000 ∷ third_defeated 3 1000000000 ∷ third_defeated 4 200000000 ∷ [])
+    (
+    codes "no lot decided anything"
+    ∷ codes "greatest surplus at a defeat 1.000000000 round 3 iteration 1 candidate 3"
+    ∷ codes "seats lack at most 0.000000000"
+    ∷ codes "quota of all votes 4.333333334"
+    ∷ codes "not promised: round 3 iteration 1 defeats 3 while 1.000000000 votes of surplus are not passed on"
     ∷ []
     )

@@ -1,5 +1,5 @@
 // Promises worked by hand.
-ghost use Rattle.count_promise.specs.Worked.{GreatSurplus, LastSeatByLot, LastSeatByVotes, LittleSurplus, NoIterations, TwoAreTied};
+ghost use Rattle.count_promise.specs.Worked.{GreatSurplus, LastSeatByLot, LastSeatByVotes, LittleSurplus, NoIterations, SecondIsGreatest, TwoAreTied};
 
 /// What these sheets promise, to the byte. The call does nothing.
 pub fn worked_promises()
@@ -9,4 +9,5 @@ pub fn worked_promises()
     ensures votes { LastSeatByVotes }
     ensures great { GreatSurplus }
     ensures little { LittleSurplus }
+    ensures second { SecondIsGreatest }
 {}

@@ -27,3 +27,7 @@ returns-clause-great c = refl
 pub returns-clause-little : goal.returns-clause-little
 unfolding text_of_lines text_of last_digits digits
 returns-clause-little c = refl
+
+pub returns-clause-second : goal.returns-clause-second
+unfolding text_of_lines text_of last_digits digits
+returns-clause-second c = refl
