@@ -1,0 +1,7 @@
+use Rattle.ballot_marks.proofs.DifferentLemmas.{ranked_different}
+use Rattle.ballot_marks.proofs.CutLemmas.{cut_leaves_a_front}
+use Rattle.ballot_marks.proofs.PlainLemmas.{whole}
+use Rattle.ballot_marks.proofs.laws.rankings_of_marks.Goals as goal
+
+pub returns : goal.returns
+returns c = record { different = ranked_different; front = cut_leaves_a_front; whole = whole }

@@ -1,0 +1,65 @@
+-- What becomes of a mark, by the marks before it alone: this office's own choice.
+use Rattle.std.specs.Prelude.{ℕ, nat_lt, if◌then◌else◌, Bool, true, false, List, Option, Some, None}
+use Rattle.ballot_marks.specs.declared.mark.Mark.{Mark}
+use Rattle.ballot_marks.specs.declared.says.Says.{Says}
+use Rattle.ballot_marks.specs.declared.says.Says.TheVariants.{One, Over}
+use Rattle.ballot_marks.specs.declared.choice.Treat.{Treat}
+use Rattle.ballot_marks.specs.declared.choice.Treat.TheVariants as treat
+use Rattle.ballot_marks.specs.declared.treatment.Treatment.{Treatment}
+use Rattle.ballot_marks.specs.declared.why.Why.{Why}
+use Rattle.ballot_marks.specs.declared.why.Why.TheVariants.{SkippedRank, EqualRank, Repeated}
+use Rattle.ballot_marks.specs.declared.way.Way.{Way}
+use Rattle.ballot_marks.specs.declared.way.Way.TheVariants.{Ranked, Passed, Cut, Refused}
+use Rattle.ballot_marks.specs.Marks.{said, is_among}
+
+-- the way that is chosen for a mark that is not plain
+abbrev pub chosen : Treat → Why → Way
+chosen treat.Refuse why = Refused why
+chosen treat.Cut why = Cut
+chosen treat.Pass why = Passed
+
+-- the way of what is said behind these candidates
+abbrev pub said_way : Treatment → List ℕ → Says → Way
+said_way treatment before Over = chosen treatment.equal EqualRank
+said_way treatment before (One c) = if is_among before c then chosen treatment.repeated Repeated else Ranked
+
+-- the way of a mark with some ranks skipped before it, which is another where so many are closed
+abbrev pub skipped_way : Option ℕ → ℕ → Way → Way
+skipped_way None skipped other = Refused SkippedRank
+skipped_way (Some most) skipped other = if nat_lt most skipped then Cut else other
+
+-- the way of a mark behind marks that say these candidates: a skipped rank is judged first
+abbrev pub way_behind : Treatment → List ℕ → Mark → Way
+way_behind treatment before mark =
+    let other = said_way treatment before mark.says in
+    if nat_lt 0 mark.skipped then skipped_way treatment.skipped mark.skipped other else other
+
+-- The way of a mark behind these marks.
+abbrev pub way : Treatment → List Mark → Mark → Way
+way treatment before mark = way_behind treatment (said before) mark
+
+-- the ballot goes on behind a mark with this way
+abbrev pub goes_on : Way → Bool
+goes_on Ranked = true
+goes_on Passed = true
+goes_on Cut = false
+goes_on (Refused why) = false
+
+-- the ballot ends at it, or is refused
+abbrev pub ends : Way → Bool
+ends Ranked = false
+ends Passed = false
+ends Cut = true
+ends (Refused why) = true
+
+abbrev pub is_ranked : Way → Bool
+is_ranked Ranked = true
+is_ranked Passed = false
+is_ranked Cut = false
+is_ranked (Refused why) = false
+
+abbrev pub is_passed : Way → Bool
+is_passed Ranked = false
+is_passed Passed = true
+is_passed Cut = false
+is_passed (Refused why) = false
