@@ -8,7 +8,7 @@ use Rattle.ballot_marks.specs.declared.way.Way.{Way}
 use Rattle.ballot_marks.specs.declared.way.Way.TheVariants.{Ranked, Cut}
 use Rattle.ballot_marks.specs.Marks.{said, said_by, is_among}
 use Rattle.ballot_marks.specs.Ways.{way, said_way}
-use Rattle.ballot_marks.specs.Ballot.{Judged, judged, effective, last_way, ranks_of, unless_refused}
+use Rattle.ballot_marks.specs.Ballot.{Judged, judged, effective, end_way, ranks_of, unless_refused}
 use Rattle.ballot_marks.specs.Laws.{cutting, CutLeavesAFront}
 use Rattle.ballot_marks.proofs.JudgedLemmas.{with_way, judged-behind, judged_behind, effective-on}
 use Rattle.ballot_marks.proofs.JudgedLemmas.{effective-end}
@@ -41,7 +41,7 @@ cutting_either closed before m =
 record IsFront (ms : List Mark) (js : List Judged) : Type 0 where
   left : List ℕ
   whole : said ms ≡ ranks_of (effective js) ++ left
-  accepted : (ranks : List ℕ) → unless_refused (last_way js) ranks ≡ Some ranks
+  accepted : (ranks : List ℕ) → unless_refused (end_way js) ranks ≡ Some ranks
 
 one_more :
     (m : Mark) (ms : List Mark) (js : List Judged) (w : Way) → IsEither w → IsFront ms js

@@ -13,7 +13,7 @@ use Rattle.ballot_marks.specs.declared.way.Way.{Way}
 use Rattle.ballot_marks.specs.declared.way.Way.TheVariants.{Ranked, Passed, Cut, Refused}
 use Rattle.ballot_marks.specs.Marks.{said, said_by, is_among}
 use Rattle.ballot_marks.specs.Ways.{way}
-use Rattle.ballot_marks.specs.Ballot.{Judged, judged, effective, last_way, ranks_of, unless_refused, ranked}
+use Rattle.ballot_marks.specs.Ballot.{Judged, judged, effective, end_way, ranks_of, unless_refused, ranked}
 use Rattle.ballot_marks.specs.SoFar.{SaysNew}
 use Rattle.ballot_marks.proofs.WayLemmas.{said_way_on, ranked_is_new}
 use Rattle.ballot_marks.proofs.MarkLemmas.{said-push, among_neither}
@@ -102,5 +102,5 @@ ranked_different t marks ranks is =
     let js = judged t marks in
     let same : ranks_of (effective (judged_behind t [] marks)) ≡ ranks =
     ap (λ (l : List Judged). ranks_of (effective l)) (sym (judged-behind t marks))
-    ∙ ranked_is (last_way js) (ranks_of (effective js)) ranks is in
+    ∙ ranked_is (end_way js) (ranks_of (effective js)) ranks is in
     subst (AllPairs (λ a b. a ≢ b)) same (all_new t [] marks).different

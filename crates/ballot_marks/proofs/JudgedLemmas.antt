@@ -9,7 +9,7 @@ use Rattle.ballot_marks.specs.declared.mark.Mark.{Mark}
 use Rattle.ballot_marks.specs.declared.treatment.Treatment.{Treatment}
 use Rattle.ballot_marks.specs.declared.way.Way.{Way}
 use Rattle.ballot_marks.specs.Ways.{goes_on, ends}
-use Rattle.ballot_marks.specs.Ballot.{Judged, judge, judged, effective, last_way}
+use Rattle.ballot_marks.specs.Ballot.{Judged, judge, judged, effective, end_way}
 
 abbrev pub with_way : Mark → Way → Judged
 with_way m w = record { mark = m; way = w }
@@ -61,8 +61,8 @@ pub effective-end : (j : Judged) (js : List Judged) → goes_on j.way ≡ false 
 effective-end j js on =
     take_while-cons (λ (i : Judged). goes_on i.way) j js ∙ ap (λ (b : Bool). cond b (j ∷ effective js) []) on
 
-pub last_way-on : (j : Judged) (js : List Judged) → ends j.way ≡ false → last_way (j ∷ js) ≡ last_way js
-last_way-on j js on = ap (λ (b : Bool). cond b (Some j.way) (last_way js)) on
+pub end_way-on : (j : Judged) (js : List Judged) → ends j.way ≡ false → end_way (j ∷ js) ≡ end_way js
+end_way-on j js on = ap (λ (b : Bool). cond b (Some j.way) (end_way js)) on
 
-pub last_way-end : (j : Judged) (js : List Judged) → ends j.way ≡ true → last_way (j ∷ js) ≡ Some j.way
-last_way-end j js on = ap (λ (b : Bool). cond b (Some j.way) (last_way js)) on
+pub end_way-end : (j : Judged) (js : List Judged) → ends j.way ≡ true → end_way (j ∷ js) ≡ Some j.way
+end_way-end j js on = ap (λ (b : Bool). cond b (Some j.way) (end_way js)) on

@@ -13,7 +13,7 @@ use Rattle.ballot_marks.specs.declared.way.Way.{Way}
 use Rattle.ballot_marks.specs.declared.way.Way.TheVariants.{Ranked, Refused}
 use Rattle.ballot_marks.specs.Marks.{said, said_by, is_among}
 use Rattle.ballot_marks.specs.Ways.{way_behind, said_way, skipped_way, chosen}
-use Rattle.ballot_marks.specs.Ballot.{Judged, judged, effective, last_way, ranks_of, some_closed, some_passed}
+use Rattle.ballot_marks.specs.Ballot.{Judged, judged, effective, end_way, ranks_of, some_closed, some_passed}
 use Rattle.ballot_marks.specs.Ballot.{unless_refused, ranked, ends_in_cut}
 use Rattle.ballot_marks.specs.Laws.{strict, IsWhole, IsPlain}
 use Rattle.ballot_marks.proofs.DifferentLemmas.{ranked_is}
@@ -42,7 +42,7 @@ ArePlain before (m ∷ ms) = IsPlainMark (said before) m × ArePlain (before ++ 
 
 -- Judged marks that are all ranked.
 record AreRanked (ms : List Mark) (js : List Judged) : Type 0 where
-  last : last_way js ≡ None
+  last : end_way js ≡ None
   ranks : ranks_of (effective js) ≡ said ms
   closed : some_closed (effective js) ≡ false
   passed : some_passed (effective js) ≡ false
@@ -121,11 +121,11 @@ strictly before m =
 -- what is accepted there is plain
 accepted_are_plain :
     (before ms : List Mark) (rs ranks : List ℕ)
-    → unless_refused (last_way (judged_behind strict before ms)) rs ≡ Some ranks → ArePlain before ms
+    → unless_refused (end_way (judged_behind strict before ms)) rs ≡ Some ranks → ArePlain before ms
 accepted_are_plain before [] rs ranks is = tt
 accepted_are_plain before (m ∷ ms) rs ranks is =
     let js = judged_behind strict (before ++ m ∷ []) ms in
-    let with = λ (w : Way). unless_refused (last_way (with_way m w ∷ js)) rs in
+    let with = λ (w : Way). unless_refused (end_way (with_way m w ∷ js)) rs in
     elim (strictly (said before) m) [
       | inl plain ↦ (
         plain,
@@ -139,7 +139,7 @@ module _ (marks : List Mark) (ranks : List ℕ) (is : ranked strict marks ≡ So
   all_plain : ArePlain [] marks
   all_plain =
       accepted_are_plain [] marks (ranks_of (effective (judged strict marks))) ranks
-      (ap (λ (js : List Judged). unless_refused (last_way js) (ranks_of (effective (judged strict marks))))
+      (ap (λ (js : List Judged). unless_refused (end_way js) (ranks_of (effective (judged strict marks))))
       (sym (judged-behind strict marks)) ∙ is)
 
   under : (t : Treatment) → AreRanked marks (judged t marks)
@@ -147,7 +147,7 @@ module _ (marks : List Mark) (ranks : List ℕ) (is : ranked strict marks ≡ So
 
   all_said : ranks ≡ said marks
   all_said =
-      sym (ranked_is (last_way (judged strict marks)) (ranks_of (effective (judged strict marks))) ranks is)
+      sym (ranked_is (end_way (judged strict marks)) (ranks_of (effective (judged strict marks))) ranks is)
       ∙ (under strict).ranks
 
   pub whole : IsWhole marks ranks

@@ -17,20 +17,20 @@ use Rattle.ballot_marks.specs.declared.way.Way.{Way}
 use Rattle.ballot_marks.specs.declared.way.Way.TheVariants.{Ranked, Passed, Cut, Refused}
 use Rattle.ballot_marks.specs.Marks.{said, said_by, is_among}
 use Rattle.ballot_marks.specs.Ways.{way, way_behind, goes_on, ends, said_way}
-use Rattle.ballot_marks.specs.Ballot.{Judged, judged, effective, last_way, ranks_of, some_closed, some_passed}
+use Rattle.ballot_marks.specs.Ballot.{Judged, judged, effective, end_way, ranks_of, some_closed, some_passed}
 use Rattle.ballot_marks.specs.Ballot.{unless_refused, ranked, IsRefusedAt, IsTreatStop}
 use Rattle.ballot_marks.specs.SoFar.{Standing, behind}
 use Rattle.ballot_marks.proofs.WayLemmas.{said_way_on, passed_is_again, way_behind-same}
 use Rattle.ballot_marks.proofs.MarkLemmas.{said-push, is_among-append}
 use Rattle.ballot_marks.proofs.JudgedLemmas.{with_way, judged-behind, judged_behind, rest, rest-more}
-use Rattle.ballot_marks.proofs.JudgedLemmas.{effective-on, effective-end, last_way-end}
+use Rattle.ballot_marks.proofs.JudgedLemmas.{effective-on, effective-end, end_way-end}
 
 -- What stands before a place, with what judged marks from there on come to, is what all come to.
 pub record Makes (s : Standing) (p : ℕ) (left all : List Judged) : Type 0 where
   pub ranks : s.ranks ++ ranks_of (effective left) ≡ ranks_of (effective all)
   pub closed : (s.closed || some_closed (effective left)) ≡ some_closed (effective all)
   pub passed : (s.passed || some_passed (effective left)) ≡ some_passed (effective all)
-  pub last : last_way left ≡ last_way all
+  pub last : end_way left ≡ end_way all
   pub place : p + length (effective left) ≡ length (effective all)
 
 pub Makes-ranked :
@@ -74,12 +74,12 @@ pub record IsEnd (s : Standing) (p : ℕ) (last : Option Way) (all : List Judged
   pub ranks : ranks_of (effective all) ≡ s.ranks
   pub closed : s.closed ≡ some_closed (effective all)
   pub passed : s.passed ≡ some_passed (effective all)
-  pub last_is : last_way all ≡ last
+  pub last_is : end_way all ≡ last
   pub place : p ≡ length (effective all)
 
 ended :
     (s : Standing) (p : ℕ) (left all : List Judged) → Makes s p left all → effective left ≡ []
-    → IsEnd s p (last_way left) all
+    → IsEnd s p (end_way left) all
 ended s p left all makes none = record {
   ranks = sym makes.ranks ∙ (ap (λ (js : List Judged). s.ranks ++ ranks_of js) none ∙ append-nil s.ranks);
   closed =
@@ -108,7 +108,7 @@ so_far_begun t marks n =
         ranks = ap (λ (js : List Judged). ranks_of (effective js)) all;
         closed = ap (λ (js : List Judged). some_closed (effective js)) all;
         passed = ap (λ (js : List Judged). some_passed (effective js)) all;
-        last = ap last_way all;
+        last = ap end_way all;
         place = omega (arith, ap (λ (js : List Judged). length (effective js)) all);
       };
     }
@@ -202,7 +202,7 @@ module _ (t : Treatment) (marks : List Mark) (p : ℕ) (d : Mark) (s : Standing)
       let m = get_or marks p d in
       let left = with_way m w ∷ rest t marks (p + 1) in
       subst (λ (l : Option Way). IsEnd s p l (judged t marks))
-      (last_way-end (with_way m w) (rest t marks (p + 1)) ending)
+      (end_way-end (with_way m w) (rest t marks (p + 1)) ending)
       (ended s p left (judged t marks) (next w below so_far is)
       (effective-end (with_way m w) (rest t marks (p + 1)) stops))
 

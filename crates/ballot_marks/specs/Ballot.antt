@@ -8,7 +8,7 @@ use Rattle.ballot_marks.specs.declared.treat_stop.TreatStop.{TreatStop}
 use Rattle.ballot_marks.specs.declared.treat_stop.TreatStop.TheVariants as stop
 use Rattle.ballot_marks.specs.declared.why.Why.{Why}
 use Rattle.ballot_marks.specs.declared.way.Way.{Way}
-use Rattle.ballot_marks.specs.declared.way.Way.TheVariants.{Ranked, Passed, Cut, Refused}
+use Rattle.ballot_marks.specs.declared.way.Way.TheVariants.{Cut, Refused}
 use Rattle.ballot_marks.specs.Marks.{said_by}
 use Rattle.ballot_marks.specs.Ways.{way, goes_on, ends, is_ranked as has_rank, is_passed as was_passed}
 
@@ -29,9 +29,9 @@ judged treatment marks = map (λ m. judge treatment (take m.0 marks) m.1) (enume
 abbrev pub effective : List Judged → List Judged
 effective js = take_while (λ j. goes_on j.way) js
 
--- the way of the first that is refused or cut, if there is one
-abbrev pub last_way : List Judged → Option Way
-last_way js = find ends (map (λ j. j.way) js)
+-- the way of that first one, if there is one
+abbrev pub end_way : List Judged → Option Way
+end_way js = find ends (map (λ j. j.way) js)
 
 -- the candidates of those that are ranked, by rising rank
 abbrev pub ranks_of : List Judged → List ℕ
@@ -39,18 +39,15 @@ ranks_of js = flat_map (λ j. said_by j.mark.says) (filter (λ j. has_rank j.way
 
 -- the ranks that a ballot has unless it is refused
 abbrev pub unless_refused : Option Way → List ℕ → Option (List ℕ)
-unless_refused None ranks = Some ranks
-unless_refused (Some Ranked) ranks = Some ranks
-unless_refused (Some Passed) ranks = Some ranks
-unless_refused (Some Cut) ranks = Some ranks
 unless_refused (Some (Refused why)) ranks = None
+unless_refused other ranks = Some ranks
 
 -- The candidates that a ballot of these marks ranks: those of the ranked marks before the first that is
 -- refused or cut. None where that mark is refused.
 abbrev pub ranked : Treatment → List Mark → Option (List ℕ)
 ranked treatment marks =
     let js = judged treatment marks in
-    unless_refused (last_way js) (ranks_of (effective js))
+    unless_refused (end_way js) (ranks_of (effective js))
 
 -- whether some of these marks have skipped ranks before them
 abbrev pub some_closed : List Judged → Bool
@@ -62,11 +59,8 @@ some_passed js = list_any (λ j. was_passed j.way) js
 
 -- whether the ballot ends before a mark that is cut
 abbrev pub ends_in_cut : Option Way → Bool
-ends_in_cut None = false
-ends_in_cut (Some Ranked) = false
-ends_in_cut (Some Passed) = false
 ends_in_cut (Some Cut) = true
-ends_in_cut (Some (Refused why)) = false
+ends_in_cut other = false
 
 -- skipped ranks of the ballot are closed
 abbrev pub is_closed : Treatment → List Mark → Bool
@@ -78,12 +72,12 @@ is_passed treatment marks = some_passed (effective (judged treatment marks))
 
 -- the ballot is cut
 abbrev pub is_cut : Treatment → List Mark → Bool
-is_cut treatment marks = ends_in_cut (last_way (judged treatment marks))
+is_cut treatment marks = ends_in_cut (end_way (judged treatment marks))
 
 -- The first mark that is refused or cut stands at this place, from 0, and is refused for this reason.
 pub record IsRefusedAt (treatment : Treatment) (marks : List Mark) (place : ℕ) (why : Why) : Type 0 where
   pub first : place ≡ length (effective (judged treatment marks))
-  pub refused : last_way (judged treatment marks) ≡ Some (Refused why)
+  pub refused : end_way (judged treatment marks) ≡ Some (Refused why)
 
 -- why marks have no ranking; memory is wanted for a ranking alone
 abbrev pub IsTreatStop : Treatment → List Mark → TreatStop → Type 0

@@ -1,5 +1,5 @@
 -- What becomes of a mark, by the marks before it alone: this office's own choice.
-use Rattle.std.specs.Prelude.{ℕ, nat_lt, if◌then◌else◌, Bool, true, false, List, Option, Some, None}
+use Rattle.std.specs.Prelude.{ℕ, nat_lt, ◌||◌, if◌then◌else◌, Bool, true, false, List, Option, Some, None}
 use Rattle.ballot_marks.specs.declared.mark.Mark.{Mark}
 use Rattle.ballot_marks.specs.declared.says.Says.{Says}
 use Rattle.ballot_marks.specs.declared.says.Says.TheVariants.{One, Over}
@@ -38,28 +38,18 @@ way_behind treatment before mark =
 abbrev pub way : Treatment → List Mark → Mark → Way
 way treatment before mark = way_behind treatment (said before) mark
 
--- the ballot goes on behind a mark with this way
-abbrev pub goes_on : Way → Bool
-goes_on Ranked = true
-goes_on Passed = true
-goes_on Cut = false
-goes_on (Refused why) = false
-
--- the ballot ends at it, or is refused
-abbrev pub ends : Way → Bool
-ends Ranked = false
-ends Passed = false
-ends Cut = true
-ends (Refused why) = true
-
 abbrev pub is_ranked : Way → Bool
 is_ranked Ranked = true
-is_ranked Passed = false
-is_ranked Cut = false
-is_ranked (Refused why) = false
+is_ranked other = false
 
 abbrev pub is_passed : Way → Bool
-is_passed Ranked = false
 is_passed Passed = true
-is_passed Cut = false
-is_passed (Refused why) = false
+is_passed other = false
+
+-- behind a mark with this way the ballot goes on
+abbrev pub goes_on : Way → Bool
+goes_on w = is_ranked w || is_passed w
+
+-- at a mark with this way it ends or is refused
+abbrev pub ends : Way → Bool
+ends w = if goes_on w then false else true

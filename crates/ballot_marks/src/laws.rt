@@ -1,5 +1,6 @@
 // What a treatment leaves of marks. Each law is the contract of a function with nothing to do.
-ghost use Rattle.ballot_marks.specs.Laws.{RankedAreDifferent, CutLeavesAFront, RefusalLeavesTheWhole, TreatmentsOnlyMend};
+ghost use Rattle.ballot_marks.specs.Laws.{RankedAreDifferent, CutLeavesAFront};
+ghost use Rattle.ballot_marks.specs.Laws.{RefusalLeavesTheWhole, TreatmentsOnlyMend};
 
 /// A ranking of marks has no candidate twice. Where whatever is not plain is cut, it is a front of the
 /// candidates that the marks say. Where it is refused, it is all of them, and no rank is skipped.

@@ -34,9 +34,17 @@ impl Model for SoFar {
 
     ghost Value = { Standing };
 
-    ghost view = { λ s. record { candidates = s.candidates; ranks = take s.len s.ranks; closed = s.closed; passed = s.passed } };
+    ghost view = { λ s. record {
+      candidates = s.candidates;
+      ranks = take s.len s.ranks;
+      closed = s.closed;
+      passed = s.passed;
+    } };
 
-    ghost invariant = { λ s. (s.candidates ≤ MOST_CANDIDATES) × (s.len ≤ MOST_CANDIDATES) × IsRanking s.candidates (take s.len s.ranks) };
+    ghost invariant = { λ s.
+        (s.candidates ≤ MOST_CANDIDATES)
+        × (s.len ≤ MOST_CANDIDATES)
+        × IsRanking s.candidates (take s.len s.ranks) };
 }
 
 impl SoFar {
