@@ -65,15 +65,12 @@ fn comes_to(
     cells: &[(u32, u32)],
     treatment: Treatment,
     ranks: &[u32],
-    closed_passed_cut: (bool, bool, bool),
+    told: (bool, bool, bool),
 ) -> Result<(), Fail> {
     let marks = marks_of(alloc, cells)?;
     let treated = treat(alloc, marks.items(), &treatment, 9)?;
     assert_eq!(rt; treated.ranking.ranks(), ranks);
-    assert_eq!(rt;
-        (treated.closed, treated.passed, treated.cut),
-        closed_passed_cut
-    );
+    assert_eq!(rt; (treated.closed, treated.passed, treated.cut), told);
     Ok(())
 }
 
@@ -95,99 +92,49 @@ fn is_refused(
 #[test]
 fn equal_ranks_are_refused_cut_or_passed(rt: HostRuntime) -> Result<(), Fail> {
     let alloc = rt.alloc();
-    let cells = [(0, 1), (0, 0), (0, 4)];
-    is_refused(&rt, alloc, &cells, refusing(), 1, Why::EqualRank)?;
-    comes_to(
-        &rt,
-        alloc,
-        &cells,
-        with_equal(Treat::Cut),
-        &[1],
-        (false, false, true),
-    )?;
-    comes_to(
-        &rt,
-        alloc,
-        &cells,
-        with_equal(Treat::Pass),
-        &[1, 4],
-        (false, true, false),
-    )
-}
-
-/// A rank that is passed is no skipped rank, and the one behind it is.
-#[test]
-fn passed_ranks_are_not_skipped(rt: HostRuntime) -> Result<(), Fail> {
-    let cells = [(0, 1), (0, 0), (1, 4)];
-    is_refused(
-        &rt,
-        rt.alloc(),
-        &cells,
-        with_equal(Treat::Pass),
-        2,
-        Why::SkippedRank,
-    )
+    let both = [(0, 1), (0, 0), (0, 4)];
+    is_refused(&rt, alloc, &both, refusing(), 1, Why::EqualRank)?;
+    for (equal, ranks, told) in [
+        (Treat::Cut, [1].as_slice(), (false, false, true)),
+        (Treat::Pass, &[1, 4], (false, true, false)),
+    ] {
+        comes_to(&rt, alloc, &both, with_equal(equal), ranks, told)?;
+    }
+    // A rank that is passed is no skipped rank, and the one behind it is.
+    let apart = [(0, 1), (0, 0), (1, 4)];
+    let pass = with_equal(Treat::Pass);
+    is_refused(&rt, alloc, &apart, pass, 2, Why::SkippedRank)
 }
 
 #[test]
 fn skipped_ranks_are_refused_closed_or_cut(rt: HostRuntime) -> Result<(), Fail> {
     let alloc = rt.alloc();
-    is_refused(
-        &rt,
-        alloc,
-        &[(0, 1), (1, 2)],
-        refusing(),
-        1,
-        Why::SkippedRank,
-    )?;
-    let all = with_skipped(Treatment::CLOSE);
-    comes_to(
-        &rt,
-        alloc,
-        &[(2, 2), (u32::MAX, 1)],
-        all,
-        &[2, 1],
-        (true, false, false),
-    )?;
-    comes_to(
-        &rt,
-        alloc,
-        &[(1, 2), (2, 1)],
-        with_skipped(1),
-        &[2],
-        (true, false, true),
-    )?;
-    comes_to(
-        &rt,
-        alloc,
-        &[(1, 2), (2, 1)],
-        with_skipped(0),
-        &[],
-        (false, false, true),
-    )
+    let next = [(0, 1), (1, 2)];
+    is_refused(&rt, alloc, &next, refusing(), 1, Why::SkippedRank)?;
+    let both = [(1, 2), (2, 1)];
+    for (closed, ranks, told) in [
+        (Treatment::CLOSE, [2, 1].as_slice(), (true, false, false)),
+        (2, &[2, 1], (true, false, false)),
+        (1, &[2], (true, false, true)),
+        (0, &[], (false, false, true)),
+    ] {
+        comes_to(&rt, alloc, &both, with_skipped(closed), ranks, told)?;
+    }
+    Ok(())
 }
 
 #[test]
 fn repeated_candidates_are_refused_cut_or_passed(rt: HostRuntime) -> Result<(), Fail> {
     let alloc = rt.alloc();
-    let cells = [(0, 2), (0, 2), (0, 1)];
-    is_refused(&rt, alloc, &cells, refusing(), 1, Why::Repeated)?;
-    comes_to(
-        &rt,
-        alloc,
-        &cells,
-        with_repeated(Treat::Cut),
-        &[2],
-        (false, false, true),
-    )?;
-    comes_to(
-        &rt,
-        alloc,
-        &cells,
-        with_repeated(Treat::Pass),
-        &[2, 1],
-        (false, true, false),
-    )
+    let twice = [(0, 2), (0, 2), (0, 1)];
+    is_refused(&rt, alloc, &twice, refusing(), 1, Why::Repeated)?;
+    for (repeated, ranks, told) in [
+        (Treat::Cut, [2].as_slice(), (false, false, true)),
+        (Treat::Pass, &[2, 1], (false, true, false)),
+    ] {
+        comes_to(&rt, alloc, &twice, with_repeated(repeated), ranks, told)?;
+    }
+    Ok(())
 }
 
 /// Eight ranks take memory. The first is said again behind them all, where it is passed.
@@ -213,6 +160,11 @@ fn many_ranks_are_kept(rt: HostRuntime) -> Result<(), Fail> {
         &ranks,
         (false, true, false),
     )
+}
+
+#[test]
+fn no_marks_rank_nobody(rt: HostRuntime) -> Result<(), Fail> {
+    comes_to(&rt, rt.alloc(), &[], refusing(), &[], (false, false, false))
 }
 
 #[test]
