@@ -29,7 +29,7 @@ judged treatment marks = map (λ m. judge treatment (take m.0 marks) m.1) (enume
 abbrev pub effective : List Judged → List Judged
 effective js = take_while (λ j. goes_on j.way) js
 
--- the way of that first one, if there is one
+-- the way of the first that is refused or cut, if there is one
 abbrev pub end_way : List Judged → Option Way
 end_way js = find ends (map (λ j. j.way) js)
 

@@ -23,7 +23,7 @@ abbrev pub said_way : Treatment → List ℕ → Says → Way
 said_way treatment before Over = chosen treatment.equal EqualRank
 said_way treatment before (One c) = if is_among before c then chosen treatment.repeated Repeated else Ranked
 
--- the way of a mark with some ranks skipped before it, which is another where so many are closed
+-- the way of a mark with some ranks skipped before it: where so many are closed, its way without them
 abbrev pub skipped_way : Option ℕ → ℕ → Way → Way
 skipped_way None skipped other = Refused SkippedRank
 skipped_way (Some most) skipped other = if nat_lt most skipped then Cut else other
@@ -38,10 +38,12 @@ way_behind treatment before mark =
 abbrev pub way : Treatment → List Mark → Mark → Way
 way treatment before mark = way_behind treatment (said before) mark
 
+-- its candidate has the next rank
 abbrev pub is_ranked : Way → Bool
 is_ranked Ranked = true
 is_ranked other = false
 
+-- it has no effect
 abbrev pub is_passed : Way → Bool
 is_passed Passed = true
 is_passed other = false
