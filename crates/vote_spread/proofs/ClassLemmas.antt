@@ -1,11 +1,10 @@
 -- What candidates of each class keep.
-use Rattle.std.proofs.Common.{◌≡◌, ℕ, ◌-◌, ◌*◌, ◌/◌, ◌<◌, ◌==◌, cond, List, length, get_or, arith, ap, sym, ◌∙◌, inl, inr}
+use Rattle.std.proofs.Common.{◌≡◌, ℕ, ◌-◌, ◌*◌, ◌<◌, ◌==◌, cond, List, length, get_or, arith, ap, sym, ◌∙◌, inl, inr}
 use Rattle.std.specs.Int.{div_ceil}
 use Rattle.std.proofs.lemmas.Bool.{cases_eq, eq-eqb, ne_eqb}
 use Rattle.std.proofs.lemmas.List.{length-map, get_or-map}
-use Rattle.std.proofs.Math.Nat.{zero-div, div-eq_of_lt, mod-eq_of_lt}
+use Rattle.std.proofs.Math.Nat.{div-eq_of_lt, mod-eq_of_lt}
 use Rattle.fixed_place.specs.Rounding.{up}
-use Rattle.fixed_place.proofs.RoundingLemmas.{left-share}
 use Rattle.meek_rule.specs.Weights.{kept}
 use Rattle.vote_spread.specs.declared.class.Class.{Class}
 use Rattle.vote_spread.specs.declared.class.Class.TheVariants.{Passes, Shares, Keeps}

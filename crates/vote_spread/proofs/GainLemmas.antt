@@ -5,9 +5,8 @@ use Rattle.std.specs.List.{All}
 use Rattle.std.proofs.lemmas.List.{drop_all, get_or-set_same, get_or-set_other, length-set}
 use Rattle.std.proofs.lemmas.Bool.{cases_lt, cases_eq}
 use Rattle.std.proofs.lemmas.List.Sums.{sum_by-drop_more}
-use Rattle.std.proofs.Math.Nat.{mul-add}
 use Rattle.meek_rule.specs.Weights.{kept, given}
-use Rattle.meek_rule.proofs.WeightLemmas.{given-nothing, given-here}
+use Rattle.meek_rule.proofs.WeightLemmas.{given-nothing}
 use Rattle.vote_spread.specs.Stem.{Stem}
 use Rattle.vote_spread.specs.Walk.{IsFrom, IsWalk}
 use Rattle.vote_spread.specs.Gain.{reached, left, gain, past, gains}

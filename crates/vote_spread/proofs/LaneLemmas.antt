@@ -1,5 +1,5 @@
 -- What lanes count together.
-use Rattle.std.proofs.Common.{◌≡◌, ℕ, Bool, ◌+◌, ◌-◌, ◌*◌, ◌/◌, ◌<◌, ◌≤◌, List, [], ◌∷◌, length, get_or, drop}
+use Rattle.std.proofs.Common.{◌≡◌, ℕ, ◌+◌, ◌-◌, ◌*◌, ◌/◌, ◌<◌, ◌≤◌, List, [], ◌∷◌, length, get_or, drop}
 use Rattle.std.proofs.Common.{take, sum, sum_by, replicate, arith, refl, ap, sym, subst, ◌∙◌, zero, suc}
 use Rattle.std.specs.List.{All}
 use Rattle.std.proofs.lemmas.List.{append-nil, length-replicate, get_or-set_same, get_or-map, length-map}
@@ -15,6 +15,8 @@ use Rattle.vote_spread.specs.Walk.{IsWalk}
 use Rattle.vote_spread.specs.Gain.{gains, opening}
 use Rattle.vote_spread.specs.Packed.{StandFor}
 use Rattle.vote_spread.specs.declared.class.Class.{Class}
+use Rattle.vote_spread.specs.KeepingSeen.{KeepingSeen, TakesOver}
+use Rattle.vote_spread.specs.Rows.{StandForPart}
 use Rattle.vote_spread.specs.Shares.{share, share_of, CanCount, HasCounted}
 use Rattle.vote_spread.specs.LaneSeen.{LaneSeen, tallies_of, HaveRun}
 use Rattle.vote_spread.specs.Lanes.{LanesSeen, AreLoaded, AreReady, HaveCounted}
@@ -60,17 +62,53 @@ vote-le s most keeps ballots c pos whole bound few =
 
 -- lanes that are ready can count
 pub can_count :
-    (s most : ℕ) (ballots : List (List ℕ)) (stems : List Stem) (keeps factors : List ℕ) (classes : List Class)
-    (stale : Bool) (lanes : List LaneSeen) → 1 ≤ s → 1000000000 * s ≡ most
-    → AreReady s ballots stems keeps factors classes stale lanes → CanCount s most keeps stems
-can_count s most ballots stems keeps factors classes stale lanes pos whole ready = record {
-  walk = stems_walk (length keeps) stems ballots ready.stand;
-  at_most_one = ready.at_most_one;
-  room =
-      λ p lt.
-      subst (λ m. m ≤ most) (sym (stems_give (length keeps) s stems ballots keeps (p + 1) ready.stand))
-      (vote-le s most keeps ballots (p + 1) pos whole ready.at_most_one ready.few_ballots);
-}
+    (ballots : List (List ℕ)) (stems : List Stem) (keeping : KeepingSeen) (lanes : List LaneSeen)
+    → 1 ≤ keeping.one → keeping.one ≤ 1000000000 → AreReady ballots stems keeping lanes
+    → CanCount keeping stems
+can_count ballots stems keeping lanes pos small ready =
+    let s = keeping.one in
+    let keeps = keeping.keeps in
+    let word : 1000000000 * s ≤ 1000000000 * 1000000000 = mul-le-mul_left 1000000000 small in
+    record {
+      whole = pos;
+      walk = stems_walk (length keeps) stems ballots ready.stand;
+      room =
+          λ p lt.
+          let le =
+          vote-le s (1000000000 * s) keeps ballots (p + 1) pos refl ready.at_most_one
+          ready.few_ballots in
+          omega (arith, stems_give (length keeps) s stems ballots keeps (p + 1) ready.stand);
+    }
+
+-- and so they are once they took over other keep values
+pub ready_again :
+    (ballots : List (List ℕ)) (stems : List Stem) (old new : KeepingSeen) (lanes : List LaneSeen)
+    → (given : List ℕ) → length given ≡ length old.keeps → TakesOver given old new
+    → AreReady ballots stems old lanes → AreReady ballots stems new lanes
+ready_again ballots stems old new lanes given as_many over ready =
+    let same : length old.keeps ≡ length new.keeps = sym (ap length over.taken ∙ as_many) in
+    record {
+      stand = subst (λ n. StandFor n 1 stems ballots) same ready.stand;
+      few_ballots = ready.few_ballots;
+      at_most_one = over.at_most_one;
+      some = ready.some;
+      few = ready.few;
+      of_all = subst (λ (n : ℕ). All (λ (lane : LaneSeen). length lane.tally ≡ n) lanes) same ready.of_all;
+      fit =
+          record {
+            each =
+                λ k d lt. record {
+                  room = (ready.fit.each k d lt).room;
+                  rows =
+                      λ e.
+                      subst
+                      (λ (classes : List Class). StandForPart classes stems
+                      (share (length stems) (0 + k) (length lanes))
+                      (share (length stems) (0 + k + 1) (length lanes)) (get_or lanes k d).rows)
+                      (sym (over.fresh e).1) ((ready.fit.each k d lt).rows (over.fresh e).0);
+                };
+          };
+    }
 
 -- no share begins before the one before it
 near : (a b n : ℕ) → 1 ≤ n → a ≤ b → a / n * n < (b / n + 1) * n
@@ -123,11 +161,13 @@ none = record { tally = []; rows = []; room = 0 }
 
 -- all lanes together count the votes
 pub lanes_vote :
-    (s : ℕ) (ballots : List (List ℕ)) (stems : List Stem) (keeps : List ℕ) (lanes : List LaneSeen) (p : ℕ)
-    → 1 ≤ length lanes → p < length keeps → StandFor (length keeps) 1 stems ballots
-    → HaveRun s keeps stems 0 (length lanes) lanes
-    → sum_by (λ tally. get_or tally p 0) (tallies_of lanes) ≡ vote s keeps ballots (p + 1)
-lanes_vote s ballots stems keeps lanes p some below stand run =
+    (ballots : List (List ℕ)) (stems : List Stem) (keeping : KeepingSeen) (lanes : List LaneSeen) (p : ℕ)
+    → 1 ≤ length lanes → p < length keeping.keeps → StandFor (length keeping.keeps) 1 stems ballots
+    → HaveRun keeping stems 0 (length lanes) lanes
+    → sum_by (λ tally. get_or tally p 0) (tallies_of lanes) ≡ vote keeping.one keeping.keeps ballots (p + 1)
+lanes_vote ballots stems keeping lanes p some below stand run =
+    let s = keeping.one in
+    let keeps = keeping.keeps in
     let n = length lanes in
     let tallies = tallies_of lanes in
     let many : length tallies ≡ n = length-map lanes (λ (l : LaneSeen). l.tally) in
@@ -138,7 +178,7 @@ lanes_vote s ballots stems keeps lanes p some below stand run =
     let inside : k < n = omega arith in
     let same : 0 + k ≡ k = omega arith in
     ap f (get_or-map (λ (l : LaneSeen). l.tally) lanes k none [] inside)
-    ∙ (subst (λ (q : ℕ). HasCounted s keeps stems q n (get_or lanes k none).tally) same
+    ∙ (subst (λ (q : ℕ). HasCounted keeping stems q n (get_or lanes k none).tally) same
     (run.each k none inside)).share p below in
     let whole : share (length stems) n n ≡ length stems = mul-div_cancel (length stems) some in
     let long = length-gains s keeps (p + 1) (opening s) stems in
@@ -147,28 +187,26 @@ lanes_vote s ballots stems keeps lanes p some below stand run =
     ∙ (ap (λ m. sum (take m xs)) whole
     ∙ (ap sum (take_all (length stems) xs (omega arith)) ∙ stems_give (length keeps) s stems ballots keeps (p + 1) stand)))
 
+-- what lanes over these ballots are seen as
+abbrev pub seen_of : (ballots : List (List ℕ)) → KeepingSeen → List LaneSeen → LanesSeen
+seen_of ballots keeping lanes =
+    record { scale = keeping.one; ballots = ballots; keeps = keeping.keeps; tallies = tallies_of lanes }
+
 -- lanes that have run have counted
 pub have_counted :
-    (s : ℕ) (stems : List Stem) (factors : List ℕ) (classes : List Class) (stale : Bool)
-    (before new : List LaneSeen) (old now : LanesSeen) → now ≡ old → old.scale ≡ s
-    → AreReady now.scale now.ballots stems now.keeps factors classes stale before → length new ≡ length before
-    → HaveRun s now.keeps stems 0 (length before) new
-    → HaveCounted old
-    (record { scale = now.scale; ballots = now.ballots; keeps = now.keeps; tallies = tallies_of new })
-have_counted s stems factors classes stale before new old now is at ready many run =
-    let scaled : now.scale ≡ s = ap (λ (l : LanesSeen). l.scale) is ∙ at in
-    let ran : HaveRun now.scale now.keeps stems 0 (length new) new =
-    subst (λ q. HaveRun q now.keeps stems 0 (length new) new) (sym scaled)
-    (subst (λ q. HaveRun s now.keeps stems 0 q new) (sym many) run) in
-    subst (λ (l : LanesSeen). HaveCounted l
-    (record { scale = now.scale; ballots = now.ballots; keeps = now.keeps; tallies = tallies_of new }))
-    is
-    (record {
-      same_scale = refl;
-      same_ballots = refl;
-      same_keeps = refl;
-      votes = λ p lt. lanes_vote now.scale now.ballots stems now.keeps new p (omega (arith, ready.some)) lt ready.stand ran;
-    })
+    (ballots : List (List ℕ)) (stems : List Stem) (keeping : KeepingSeen) (before new : List LaneSeen)
+    → AreReady ballots stems keeping before → length new ≡ length before
+    → HaveRun keeping stems 0 (length before) new
+    → HaveCounted (seen_of ballots keeping before) (seen_of ballots keeping new)
+have_counted ballots stems keeping before new ready many run = record {
+  same_scale = refl;
+  same_ballots = refl;
+  same_keeps = refl;
+  votes =
+      λ p lt.
+      lanes_vote ballots stems keeping new p (omega (arith, ready.some)) lt ready.stand
+      (subst (λ q. HaveRun keeping stems 0 q new) (sym many) run);
+}
 
 -- the sum over the lanes' tallies
 pub sum_tallies :

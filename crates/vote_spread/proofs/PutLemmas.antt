@@ -1,6 +1,6 @@
 -- The row of a candidate.
 use Rattle.std.proofs.Common.{◌≡◌, ℕ, ◌+◌, ◌-◌, ◌<◌, ◌≤◌, Bool, true, false, List, [], ◌∷◌, ◌++◌, length}
-use Rattle.std.proofs.Common.{get_or, arith, refl, ap, sym, subst, ◌∙◌, Some, None}
+use Rattle.std.proofs.Common.{get_or, arith, refl, ap, sym, subst, ◌∙◌, Some}
 use Rattle.std.proofs.lemmas.Bool.{false≢true}
 use Rattle.std.proofs.lemmas.List.{get_or_default, map_push}
 use mir.Val.{bool_byte}

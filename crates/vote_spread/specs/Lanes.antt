@@ -1,11 +1,9 @@
 -- Workers' lanes, and what they count.
-use Rattle.std.specs.Prelude.{◌≡◌, ℕ, ◌+◌, ◌<◌, ◌≤◌, Bool, List, length, slice_index, sum_by, All}
+use Rattle.std.specs.Prelude.{◌≡◌, ℕ, ◌+◌, ◌<◌, ◌≤◌, List, length, slice_index, sum_by, All}
 use Rattle.meek_rule.specs.Weights.{vote}
 use Rattle.vote_spread.specs.Stem.{Stem}
 use Rattle.vote_spread.specs.Packed.{StandFor}
-use Rattle.vote_spread.specs.declared.class.Class.{Class}
-use Rattle.vote_spread.specs.Class.{AreOf}
-use Rattle.vote_spread.specs.Factor.{factors_of}
+use Rattle.vote_spread.specs.KeepingSeen.{KeepingSeen}
 use Rattle.vote_spread.specs.LaneSeen.{LaneSeen, AreFit}
 
 -- lanes that count single ballots at these keep values, where `scale` units are one vote, and each lane's tally
@@ -16,17 +14,16 @@ pub record LanesSeen : Type 0 where
   pub tallies : List (List ℕ)
 
 -- From 1 to 32 lanes, each with a tally for all candidates and fit for its share, over stems that stand for these
--- ballots. The candidates have these factors and classes.
-pub record AreReady (s : ℕ) (ballots : List (List ℕ)) (stems : List Stem) (keeps factors : List ℕ) (classes : List Class) (stale : Bool) (lanes : List LaneSeen) : Type 0 where
-  pub stand : StandFor (length keeps) 1 stems ballots
+-- ballots.
+pub record AreReady (ballots : List (List ℕ)) (stems : List Stem) (keeping : KeepingSeen)
+    (lanes : List LaneSeen) : Type 0 where
+  pub stand : StandFor (length keeping.keeps) 1 stems ballots
   pub few_ballots : length ballots ≤ 999999999
-  pub at_most_one : All (λ k. k ≤ s) keeps
+  pub at_most_one : All (λ k. k ≤ keeping.one) keeping.keeps
   pub some : 1 ≤ length lanes
   pub few : length lanes ≤ 32
-  pub of_all : All (λ lane. length lane.tally ≡ length keeps) lanes
-  pub factors_are : factors ≡ factors_of s keeps
-  pub classes_are : AreOf s keeps classes
-  pub fit : AreFit stale classes stems 0 (length lanes) lanes
+  pub of_all : All (λ lane. length lane.tally ≡ length keeping.keeps) lanes
+  pub fit : AreFit keeping stems 0 (length lanes) lanes
 
 -- The tallies of all lanes together are the votes at the keep values. All else is as before.
 pub record HaveCounted (old new : LanesSeen) : Type 0 where

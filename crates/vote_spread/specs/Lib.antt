@@ -3,6 +3,7 @@ pub mod Gain
 pub mod Walk
 pub mod Class
 pub mod Factor
+pub mod KeepingSeen
 pub mod Rows
 pub mod Packed
 pub mod Merged

@@ -1,17 +1,14 @@
 // A worker's lane.
-ghost use Rattle.std.specs.Prelude.{◌≡◌, ◌+◌, ◌^◌, ◌<◌, ◌≤◌, IfOk, false, length, replicate};
-ghost use Rattle.fixed_place.specs.Rounding.{scale, most};
-ghost use Rattle.vote_spread.specs.Class.{AreOf};
-ghost use Rattle.vote_spread.specs.Factor.{factors_of};
+ghost use Rattle.std.specs.Prelude.{◌≡◌, ◌+◌, ◌^◌, ◌<◌, ◌≤◌, IfOk, length, replicate};
+ghost use Rattle.vote_spread.specs.KeepingSeen.{settled};
 ghost use Rattle.vote_spread.specs.Shares.{share, CanCount, HasCounted};
 ghost use Rattle.vote_spread.specs.LaneSeen.{IsFit};
 ghost use Rattle.vote_spread.specs.Walk.{IsWalk};
 
 use crate::NoMemory;
 use crate::admission::Admission;
-use crate::branches::Branches;
-use crate::class::Class;
 use crate::row::Row;
+use crate::task::Task;
 use crate::walk::walk;
 use std::alloc::Global;
 use std::marker::Model;
@@ -69,32 +66,19 @@ impl Lane {
 
     /// Counts what the share of the branches gives to each candidate that belongs to the lane
     /// admitted, of so many lanes. Where the lane's rows are stale they are made anew.
-    pub(crate) fn count<const P: usize>(
-        &mut self,
-        branches: &Branches,
-        keeps: &[u64],
-        factors: &[u64],
-        classes: &[Class],
-        stale: bool,
-        admission: Admission,
-        count: usize,
-    )
-        requires places { P ≤ 9 }
+    pub(crate) fn count(&mut self, task: &Task, admission: Admission, count: usize)
         requires number { admission.number < count }
         requires few { count ≤ 32 }
-        requires of_all { length self.old.tally ≡ length keeps.now }
-        requires factors { factors.now ≡ factors_of (scale P) keeps.now }
-        requires classes { AreOf (scale P) keeps.now classes.now }
-        requires can { CanCount (scale P) (most P) keeps.now branches.now }
-        requires fit { IsFit stale classes.now branches.now admission.number count self.old }
-        ensures counted { HasCounted (scale P) keeps.now branches.now admission.number count self.new.tally }
-        ensures fit { IsFit false classes.now branches.now admission.number count self.new }
+        requires of_all { length self.old.tally ≡ length task.now.keeping.keeps }
+        requires can { CanCount task.now.keeping task.now.branches }
+        requires fit { IsFit task.now.keeping task.now.branches admission.number count self.old }
+        ensures counted { HasCounted task.now.keeping task.now.branches admission.number count self.new.tally }
+        ensures fit { IsFit (settled task.now.keeping) task.now.branches admission.number count self.new }
     {
-        self.renew(branches, classes, stale, admission.number(), count);
-        walk::<P>(
+        self.renew(task, admission.number(), count);
+        walk(
             self.rows.as_slice(),
-            keeps,
-            factors,
+            &task.keeping,
             self.weights.as_mut_slice(),
             self.tally.as_mut_slice(),
         );
@@ -102,25 +86,19 @@ impl Lane {
 
     /// Makes the rows of share `number` of so many of the branches in place of those before, where
     /// those are stale.
-    fn renew(
-        &mut self,
-        branches: &Branches,
-        classes: &[Class],
-        stale: bool,
-        number: usize,
-        count: usize,
-    )
+    fn renew(&mut self, task: &Task, number: usize, count: usize)
         requires number { number < count }
         requires few { count ≤ 32 }
-        requires walk { IsWalk (length classes.now) 1 branches.now }
-        requires fit { IsFit stale classes.now branches.now number count self.old }
-        ensures fit { IsFit false classes.now branches.now number count self.new }
+        requires walk { IsWalk (length task.now.keeping.keeps) 1 task.now.branches }
+        requires fit { IsFit task.now.keeping task.now.branches number count self.old }
+        ensures fit { IsFit (settled task.now.keeping) task.now.branches number count self.new }
         ensures same_tally { self.new.tally ≡ self.old.tally }
     {
-        if stale {
+        if task.keeping.is_stale() {
+            let branches = &task.branches;
             let from = share(branches.len(), number, count);
             let to = share(branches.len(), number + 1, count);
-            branches.condense(from, to, classes, &mut self.rows);
+            branches.condense(from, to, task.keeping.classes(), &mut self.rows);
         }
     }
 }

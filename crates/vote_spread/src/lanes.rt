@@ -1,10 +1,8 @@
 // Workers' lanes over the ballots of plans.
-ghost use Rattle.std.specs.Prelude.{◌≡◌, ℕ, ◌+◌, ◌<◌, ◌≤◌, All, IfOk, List, false, length, map, replicate, slice_index, sum_by, true, vec_len};
+ghost use Rattle.std.specs.Prelude.{◌≡◌, ℕ, ◌+◌, ◌<◌, ◌≤◌, All, IfOk, length, slice_index, sum_by, true, vec_len};
 ghost use Rattle.fixed_place.specs.Rounding.{scale, most};
 ghost use Rattle.frozen_plan.specs.Plan.{all_ballots};
-ghost use Rattle.vote_spread.specs.declared.class.Class.{Class};
-ghost use Rattle.vote_spread.specs.Class.{class_of};
-ghost use Rattle.vote_spread.specs.Factor.{factors_of};
+ghost use Rattle.vote_spread.specs.KeepingSeen.{KeepingSeen};
 ghost use Rattle.vote_spread.specs.LaneSeen.{AreFit};
 ghost use Rattle.vote_spread.specs.Lanes.{HaveCounted, AreLoaded};
 ghost use Rattle.vote_spread.specs.Rows.{room_for};
@@ -12,12 +10,12 @@ ghost use Rattle.vote_spread.specs.Shares.{share};
 
 use crate::NoMemory;
 use crate::branches::Branches;
-use crate::class::Class;
-use crate::factor::factor_of;
 use crate::gather::gather;
-use crate::lane::{Lane, share, zeros};
+use crate::keeping::Keeping;
+use crate::lane::{Lane, share};
 use crate::pack::pack_plans;
 use crate::run::run_lanes;
+use crate::task::Task;
 use byte_edge::Gate;
 use fixed_place::{Amounts, Keeps, scale_of};
 use frozen_plan::Plans;
@@ -30,16 +28,10 @@ use std::thread::Threads;
 /// own.
 #[derive(Drop)]
 pub struct Lanes {
-    scale: u64,
     plans: Snapshot<Plans>,
-    branches: Branches,
-    keeps: Vec<u64>,
-    factors: Vec<u64>,
-    classes: Vec<Class>,
+    task: Task,
     lanes: Vec<Lane>,
     has_run: bool,
-    /// Whether a class changed since the lanes made their rows.
-    stale: bool,
 }
 
 /// From so many rows on, lanes run in threads at each distribution: to start threads and to join them
@@ -57,9 +49,9 @@ impl Model for Lanes {
 
     ghost Value = { LanesSeen };
 
-    ghost view = { λ l. record { scale = l.scale; ballots = all_ballots l.plans.value; keeps = l.keeps.items; tallies = tallies_of l.lanes.items } };
+    ghost view = { λ l. record { scale = l.task.keeping.one; ballots = all_ballots l.plans.value; keeps = l.task.keeping.keeps; tallies = tallies_of l.lanes.items } };
 
-    ghost invariant = { λ l. AreReady l.scale (all_ballots l.plans.value) l.branches l.keeps.items l.factors.items l.classes.items l.stale l.lanes.items };
+    ghost invariant = { λ l. AreReady (all_ballots l.plans.value) l.task.branches l.task.keeping l.lanes.items };
 }
 
 impl Lanes {
@@ -80,22 +72,13 @@ impl Lanes {
     {
         let ballots = Snapshot::of(&plans);
         let branches = pack_plans(alloc, plans)?;
-        let keeps = zeros(alloc, candidates as usize)?;
-        let one = scale_of::<P>();
-        let mut factors = zeros(alloc, candidates as usize)?;
-        find_factors(one, keeps.as_slice(), factors.as_mut_slice());
-        let classes = all_pass(alloc, candidates as usize)?;
+        let keeping = Keeping::nothing(alloc, scale_of::<P>(), candidates as usize)?;
         let lanes = lanes_of(alloc, candidates, workers, &branches)?;
         Ok(Lanes {
-            scale: one,
             plans: ballots,
-            branches,
-            keeps,
-            factors,
-            classes,
+            task: Task { branches, keeping },
             lanes,
             has_run: false,
-            stale: true,
         })
     }
 
@@ -107,20 +90,10 @@ impl Lanes {
         requires scale { self.old.scale ≡ scale P }
         ensures { HaveCounted self.old self.new }
     {
-        let in_threads = !self.has_run || pays(&self.lanes, self.stale);
+        let in_threads = !self.has_run || pays(&self.lanes, self.task.keeping.is_stale());
         self.has_run = true;
-        run_lanes::<P, R, G>(
-            rt,
-            gate,
-            in_threads,
-            &self.branches,
-            self.keeps.as_slice(),
-            self.factors.as_slice(),
-            self.classes.as_slice(),
-            self.stale,
-            self.lanes.as_mut_slice(),
-        );
-        self.stale = false;
+        run_lanes(rt, gate, in_threads, &self.task, self.lanes.as_mut_slice());
+        self.task.keeping.settle();
     }
 
     /// Takes over the keep values at which the ballots are to be distributed.
@@ -129,19 +102,7 @@ impl Lanes {
         requires keeps_of_all { length keeps.now ≡ length self.old.keeps }
         ensures { AreLoaded keeps.now self.old self.new }
     {
-        copy_units(keeps, self.keeps.as_mut_slice());
-        find_factors(
-            scale_of::<P>(),
-            self.keeps.as_slice(),
-            self.factors.as_mut_slice(),
-        );
-        if classify(
-            self.scale,
-            self.keeps.as_slice(),
-            self.classes.as_mut_slice(),
-        ) {
-            self.stale = true;
-        }
+        self.task.keeping.load(keeps);
     }
 
     /// Fills a tally with what all lanes have counted.
@@ -165,57 +126,6 @@ fn pays(lanes: &[Lane], stale: bool) -> bool {
     rows >= if stale { MANY_TO_MAKE } else { MANY }
 }
 
-/// Takes over the units of keep values.
-fn copy_units<const P: usize>(keeps: &Keeps<P>, units: &mut [u64])
-    requires { length keeps.now ≡ length units.old }
-    ensures places { P ≤ 9 }
-    ensures units { units.new ≡ keeps.now }
-    ensures at_most_one { All (λ k. k ≤ scale P) units.new }
-{
-    for i in 0..keeps.len() {
-        units[i] = keeps.get(i).units();
-    }
-}
-
-/// Finds the factors of keep values, of which `one` is the whole.
-fn find_factors(one: u64, keeps: &[u64], factors: &mut [u64])
-    requires some { 1 ≤ one }
-    requires small { one ≤ 1000000000 }
-    requires at_most_one { All (λ k. k ≤ one) keeps.now }
-    requires of_all { length factors.old ≡ length keeps.now }
-    ensures { factors.new ≡ factors_of one keeps.now }
-{
-    for i in 0..keeps.len() {
-        factors[i] = factor_of(keeps[i], one);
-    }
-}
-
-/// Takes over the classes of keep values, of which `one` is the whole, and says whether one changed.
-fn classify(one: u64, keeps: &[u64], classes: &mut [Class]) -> bool
-    requires { length classes.old ≡ length keeps.now }
-    ensures classes { classes.new ≡ map (class_of one) keeps.now }
-    ensures changed { result ≡ false → classes.new ≡ classes.old }
-{
-    let mut changed = false;
-    for i in 0..keeps.len() {
-        let class = Class::of(keeps[i], one);
-        let same = class.is(classes[i]);
-        classes[i] = class;
-        changed |= !same;
-    }
-    changed
-}
-
-/// So many candidates with keep value 0.
-fn all_pass(alloc: Global, len: usize) -> Result<Vec<Class>, NoMemory>
-    ensures { IfOk result (λ list. list.items ≡ replicate len Class.Passes) }
-{
-    match vec![in alloc; Class::Passes; len] {
-        Ok(list) => Ok(list),
-        Err(_) => Err(NoMemory),
-    }
-}
-
 /// So many lanes with buffers for the candidates, and with room for the rows of their shares.
 fn lanes_of(
     alloc: Global,
@@ -226,7 +136,7 @@ fn lanes_of(
     requires { (1 ≤ workers) × (workers ≤ 32) }
     ensures as_many { IfOk result (λ lanes. vec_len lanes ≡ workers) }
     ensures of_all { IfOk result (λ lanes. All (λ lane. length lane.tally ≡ candidates) lanes.items) }
-    ensures fit { IfOk result (λ lanes. (classes : List Class) → AreFit true classes branches.now 0 workers lanes.items) }
+    ensures fit { IfOk result (λ lanes. (keeping : KeepingSeen) → keeping.stale ≡ true → AreFit keeping branches.now 0 workers lanes.items) }
 {
     let Ok(mut lanes) = Vec::with_capacity(alloc, workers as usize) else {
         return Err(NoMemory);

@@ -9,6 +9,7 @@ mod class;
 mod condense;
 mod factor;
 mod gather;
+mod keeping;
 mod lane;
 mod lanes;
 mod merge;
@@ -18,6 +19,7 @@ mod part;
 mod plan_spread;
 mod row;
 mod run;
+mod task;
 mod walk;
 
 pub use lanes::Lanes;

@@ -64,7 +64,7 @@ pub returns-clause-of_all : goal.returns-clause-of_all
 returns-clause-of_all c = c.loop-k.invariant.of_all
 
 pub returns-clause-fit : goal.returns-clause-fit
-returns-clause-fit c = λ classes. record {
+returns-clause-fit c = λ keeping stale. record {
   each = λ k d lt.
       let stems = c.args.branches.now in
       let from_first : k ≡ 0 + k = omega arith in
@@ -74,6 +74,6 @@ returns-clause-fit c = λ classes. record {
             (share (length stems) (n + 1) c.args.workers) ≤ (get_or c.loop-k.lanes.items k d).room)
             from_first
             (c.loop-k.invariant.rooms k d (omega (arith, lt, c.loop-k.lanes.ok.0, c.loop-k.invariant.as_many)));
-        rows = λ e. absurd (cc e);
+        rows = λ e. absurd (cc (stale, e));
       };
 }

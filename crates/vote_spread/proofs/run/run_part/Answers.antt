@@ -1,8 +1,8 @@
-use Rattle.std.proofs.Common.{◌≡◌, ◌≢◌, ℕ, ◌+◌, ◌<◌, false, List, length, get_or, set, refl, sym, subst, inl, inr, arith}
+use Rattle.std.proofs.Common.{◌≡◌, ◌≢◌, ℕ, ◌+◌, ◌<◌, List, length, get_or, set, refl, sym, subst, inl, inr, arith}
 use Rattle.std.proofs.lemmas.Bool.{cases_eq}
 use Rattle.std.proofs.lemmas.List.{get_or-set_same, get_or-set_other}
 use Rattle.std.proofs.Math.ListN.{length-set}
-use Rattle.fixed_place.specs.Rounding.{scale}
+use Rattle.vote_spread.specs.KeepingSeen.{settled}
 use Rattle.vote_spread.specs.Shares.{HasCounted}
 use Rattle.vote_spread.specs.LaneSeen.{LaneSeen, IsFit}
 use Rattle.vote_spread.proofs.run.run_part.Goals as goal
@@ -33,17 +33,15 @@ count-requires-clause-of_all g c =
 pub count-requires-clause-fit : goal.count-requires-clause-fit
 count-requires-clause-fit g c =
     let lane = get_or c.loop-k.lanes c.loop-k.k c.index-lanes-k.result in
-    subst (λ (n : ℕ). IsFit c.args.stale c.args.classes.now c.args.branches.now n c.args.count lane)
+    subst (λ (n : ℕ). IsFit c.args.task.now.keeping c.args.task.now.branches n c.args.count lane)
     (sym c.pass-admission.ensures)
     (c.loop-k.invariant.fit c.loop-k.k c.index-lanes-k.result (omega arith)
     (omega (arith, c.loop-k-test.true, c.loop-k.invariant.as_many)))
 
 pub loop-k-preserved : goal.loop-k-preserved
 loop-k-preserved g c =
-    let s = scale g.row.P in
-    let keeps = c.args.keeps.now in
-    let stems = c.args.branches.now in
-    let classes = c.args.classes.now in
+    let keeping = c.args.task.now.keeping in
+    let stems = c.args.task.now.branches in
     let first = c.args.first in
     let count = c.args.count in
     let i = c.loop-k.k in
@@ -52,24 +50,26 @@ loop-k-preserved g c =
     let inv = c.loop-k.invariant in
     let lt : i < length l = omega (arith, c.loop-k-test.true, inv.as_many) in
     let long : length (set l i x) ≡ length l = length-set l i x in
-    let counted : HasCounted s keeps stems (first + i) count x.tally =
-    subst (λ (n : ℕ). HasCounted s keeps stems n count x.tally) c.pass-admission.ensures
+    let counted : HasCounted keeping stems (first + i) count x.tally =
+    subst (λ (n : ℕ). HasCounted keeping stems n count x.tally) c.pass-admission.ensures
     c.count.ensures.counted in
-    let fit : IsFit false classes stems (first + i) count x =
-    subst (λ (n : ℕ). IsFit false classes stems n count x) c.pass-admission.ensures c.count.ensures.fit in
+    let fit : IsFit (settled keeping) stems (first + i) count x =
+    subst (λ (n : ℕ). IsFit (settled keeping) stems n count x) c.pass-admission.ensures c.count.ensures.fit in
     record {
       as_many = omega (arith, long, inv.as_many);
       of_all =
-          λ k d h. at_set (λ n (lane : LaneSeen). length lane.tally ≡ length keeps) l i x lt counted.of_all k
+          λ k d h. at_set (λ n (lane : LaneSeen). length lane.tally ≡ length keeping.keeps) l i x lt
+          counted.of_all k
           d (λ _. inv.of_all k d (omega (arith, h, long)));
       counted =
-          λ k d h. at_set (λ n (lane : LaneSeen). HasCounted s keeps stems (first + n) count lane.tally) l i x
+          λ k d h. at_set (λ n (lane : LaneSeen). HasCounted keeping stems (first + n) count lane.tally) l i x
           lt counted k d (λ other. inv.counted k d (omega (arith, h, other)));
       renewed =
-          λ k d h. at_set (λ n (lane : LaneSeen). IsFit false classes stems (first + n) count lane) l i x lt
+          λ k d h. at_set (λ n (lane : LaneSeen). IsFit (settled keeping) stems (first + n) count lane) l i x
+          lt
           fit k d (λ other. inv.renewed k d (omega (arith, h, other)));
       fit =
-          λ k d from h. subst (IsFit c.args.stale classes stems (first + k) count)
+          λ k d from h. subst (IsFit keeping stems (first + k) count)
           (sym (get_or-set_other l i k x d (λ e. omega (arith, e, from))))
           (inv.fit k d (omega (arith, from)) (omega (arith, h, long)));
     }

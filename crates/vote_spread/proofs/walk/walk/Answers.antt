@@ -1,5 +1,4 @@
 use Rattle.std.proofs.Common.{◌≡◌, ◌+◌, ◌<◌, length, drop, sum, arith, ap, ◌∙◌}
-use Rattle.fixed_place.specs.Rounding.{scale}
 use Rattle.vote_spread.specs.declared.row.Row.{Row}
 use Rattle.vote_spread.specs.Gain.{past, gains}
 use Rattle.vote_spread.specs.Rows.{seen}
@@ -12,37 +11,38 @@ abbrev none : Row
 none = record { ballots = 0; candidate = 0; depth = 0 }
 
 pub visit-requires-clause-depth : goal.visit-requires-clause-depth
-visit-requires-clause-depth g c =
+visit-requires-clause-depth c =
     let is =
     row_sound (length c.args.tally.now) c.args.rows.now c.loop-row.row-index none c.loop-row-test.true
     c.requires.rows in
     (is.below_root, omega (arith, is.shallow, c.loop-row.invariant.depths))
 
 pub visit-requires-clause-candidate : goal.visit-requires-clause-candidate
-visit-requires-clause-candidate g c =
+visit-requires-clause-candidate c =
     let is =
     row_sound (length c.args.tally.now) c.args.rows.now c.loop-row.row-index none c.loop-row-test.true
     c.requires.rows in
     (is.candidate, omega (arith, is.known, c.loop-row.invariant.same_length))
 
 pub visit-requires-clause-room : goal.visit-requires-clause-room
-visit-requires-clause-room g c =
-    let s = scale g.row.P in
+visit-requires-clause-room c =
+    let s = c.args.keeping.now.one in
     let inv = c.loop-row.invariant in
     λ p lt.
     let below : p < length c.args.tally.now = omega (arith, inv.same_length) in
     omega (
       arith,
-      rows_more s c.args.keeps.now (p + 1) c.loop-row.weights c.args.rows.now c.loop-row.row-index none
+      rows_more s c.args.keeping.now.keeps (p + 1) c.loop-row.weights c.args.rows.now
+          c.loop-row.row-index none
           c.loop-row-test.true,
       inv.missing p below,
       c.requires.room p below,
     )
 
 pub loop-row-preserved : goal.loop-row-preserved
-loop-row-preserved g c =
-    let s = scale g.row.P in
-    let keeps = c.args.keeps.now in
+loop-row-preserved c =
+    let s = c.args.keeping.now.one in
+    let keeps = c.args.keeping.now.keeps in
     let rows = c.args.rows.now in
     let i = c.loop-row.row-index in
     let ws = c.loop-row.weights in

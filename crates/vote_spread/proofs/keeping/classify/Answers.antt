@@ -2,7 +2,7 @@ use Rattle.std.proofs.Common.{◌<◌, not, length, map, get_or, set, arith, ap,
 use Rattle.std.proofs.lemmas.Bool.{cases_eq, not-false, or_parts}
 use Rattle.std.proofs.lemmas.List.{get_or-map, get_or-set_same, get_or-set_other, set-get_or, length-map, same_lists}
 use Rattle.vote_spread.specs.Class.{class_of}
-use Rattle.vote_spread.proofs.lanes.classify.Goals as goal
+use Rattle.vote_spread.proofs.keeping.classify.Goals as goal
 
 pub loop-i-preserved : goal.loop-i-preserved
 loop-i-preserved c =

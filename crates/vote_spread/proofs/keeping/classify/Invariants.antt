@@ -1,7 +1,7 @@
 use Rattle.std.proofs.Common.{◌≡◌, ℕ, ◌<◌, false, slice_index, slice_index_or}
 use Rattle.vote_spread.specs.declared.class.Class.{Class}
 use Rattle.vote_spread.specs.Class.{class_of}
-use Rattle.vote_spread.proofs.lanes.classify.Given as goal
+use Rattle.vote_spread.proofs.keeping.classify.Given as goal
 
 abbrev pub invariant-loop-i : goal.invariant-loop-i
 invariant-loop-i l = record {

@@ -1,7 +1,7 @@
 use Rattle.std.proofs.Common.{map, arith, sym, ◌∙◌}
 use Rattle.std.proofs.lemmas.List.{get_or-map, get_or_default, length-map, same_lists}
 use Rattle.vote_spread.specs.Factor.{factor_of}
-use Rattle.vote_spread.proofs.lanes.find_factors.Goals as goal
+use Rattle.vote_spread.proofs.keeping.find_factors.Goals as goal
 
 pub returns : goal.returns
 returns c =
