@@ -19,13 +19,16 @@ classes_of keeping = map (class_of keeping.one) keeping.keeps
 abbrev pub settled : KeepingSeen → KeepingSeen
 settled keeping = record { one = keeping.one; keeps = keeping.keeps; stale = false }
 
--- At most a billion units are the whole, and no keep value is more. These factors and classes follow from the
--- keep values.
-pub record AreKept (one : ℕ) (keeps factors : List ℕ) (classes : List Class) : Type 0 where
+-- At most a billion units are the whole, no keep value is more, and these are their factors.
+pub record HaveFactors (one : ℕ) (keeps factors : List ℕ) : Type 0 where
   pub whole : 1 ≤ one
   pub small : one ≤ 1000000000
   pub at_most_one : All (λ k. k ≤ one) keeps
   pub factors_are : factors ≡ factors_of one keeps
+
+-- what follows from keep values: their factors, and the classes of the candidates
+pub record AreKept (one : ℕ) (keeps factors : List ℕ) (classes : List Class) : Type 0 where
+  pub have_factors : HaveFactors one keeps factors
   pub classes_are : classes ≡ map (class_of one) keeps
 
 -- These keep values are taken over. Where no rows are stale then, none were before, and each class is

@@ -1,7 +1,6 @@
 // Keep values, and what follows from them.
-ghost use Rattle.std.specs.Prelude.{◌≡◌, ℕ, ◌+◌, ◌^◌, ◌<◌, ◌≤◌, All, IfOk, false, length, map, replicate, true};
+ghost use Rattle.std.specs.Prelude.{◌≡◌, ◌^◌, ◌<◌, ◌≤◌, All, IfOk, false, length, map, replicate, true};
 ghost use Rattle.fixed_place.specs.Rounding.{scale};
-ghost use Rattle.meek_rule.specs.Weights.{kept};
 ghost use Rattle.vote_spread.specs.declared.class.Class.{Class};
 ghost use Rattle.vote_spread.specs.Class.{class_of};
 ghost use Rattle.vote_spread.specs.Factor.{factors_of};
@@ -9,8 +8,9 @@ ghost use Rattle.vote_spread.specs.KeepingSeen.{classes_of, settled, TakesOver};
 
 use crate::NoMemory;
 use crate::class::Class;
-use crate::factor::{factor_of, left_by};
+use crate::factor::factor_of;
 use crate::lane::zeros;
+use crate::leaving::Leaving;
 use fixed_place::Keeps;
 use std::alloc::Global;
 use std::marker::Model;
@@ -97,13 +97,14 @@ impl Keeping {
         }
     }
 
-    /// The weight that a candidate leaves of `weight`. It keeps the rest.
-    pub(crate) fn left(&self, weight: u64, candidate: u8) -> u64
-        requires candidate { (1 ≤ candidate) × (candidate ≤ length self.now.keeps) }
-        requires light { weight ≤ self.now.one }
-        ensures { result + kept self.now.one self.now.keeps weight candidate ≡ weight }
+    /// What each candidate leaves of a weight by these keep values.
+    pub(crate) fn leaving(&self) -> Leaving<'_>
+        ensures { result ≡ self.now }
     {
-        left_by(weight, self.factors[candidate as usize - 1])
+        Leaving {
+            keeping: self,
+            factors: self.factors.as_slice(),
+        }
     }
 }
 

@@ -78,7 +78,7 @@ impl Lane {
         self.renew(task, admission.number(), count);
         walk(
             self.rows.as_slice(),
-            &task.keeping,
+            &task.keeping.leaving(),
             self.weights.as_mut_slice(),
             self.tally.as_mut_slice(),
         );

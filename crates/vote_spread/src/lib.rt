@@ -12,6 +12,7 @@ mod gather;
 mod keeping;
 mod lane;
 mod lanes;
+mod leaving;
 mod merge;
 mod no_memory;
 mod pack;

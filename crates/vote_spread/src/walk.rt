@@ -3,41 +3,41 @@ ghost use Rattle.std.specs.Prelude.{◌≡◌, ℕ, ◌+◌, ◌*◌, ◌^◌, �
 ghost use Rattle.vote_spread.specs.Gain.{gain, past};
 ghost use Rattle.vote_spread.specs.Rows.{row_stem, seen, IsRow, total};
 
-use crate::keeping::Keeping;
+use crate::leaving::Leaving;
 use crate::row::Row;
 
 /// Fills the tally with what the ballots of rows give to each candidate.
-pub(crate) fn walk(rows: &[Row], keeping: &Keeping, weights: &mut [u64], tally: &mut [u64])
+pub(crate) fn walk(rows: &[Row], leaving: &Leaving, weights: &mut [u64], tally: &mut [u64])
     requires rows { All (IsRow (length tally.old)) (seen rows.now) }
-    requires keeps_of_all { length keeping.now.keeps ≡ length tally.old }
+    requires keeps_of_all { length leaving.now.keeps ≡ length tally.old }
     requires depths { length weights.old ≡ 251 }
-    requires room { (p : ℕ) → p < length tally.old → total keeping.now.one keeping.now.keeps (p + 1) (seen rows.now) < 2 ^ 64 }
+    requires room { (p : ℕ) → p < length tally.old → total leaving.now.one leaving.now.keeps (p + 1) (seen rows.now) < 2 ^ 64 }
     ensures depths { length weights.new ≡ 251 }
     ensures same_length { length tally.new ≡ length tally.old }
-    ensures total { (p : ℕ) → p < length tally.old → slice_index tally.new p ≡ total keeping.now.one keeping.now.keeps (p + 1) (seen rows.now) }
+    ensures total { (p : ℕ) → p < length tally.old → slice_index tally.new p ≡ total leaving.now.one leaving.now.keeps (p + 1) (seen rows.now) }
 {
     tally.fill(0);
     weights.fill(0);
-    weights[0] = keeping.one();
+    weights[0] = leaving.one();
     for row in rows {
-        visit(*row, keeping, weights, tally);
+        visit(*row, leaving, weights, tally);
     }
 }
 
 /// Sets the weight behind a row, and adds to the tally what its ballots give to its candidate.
-fn visit(row: Row, keeping: &Keeping, weights: &mut [u64], tally: &mut [u64])
+fn visit(row: Row, leaving: &Leaving, weights: &mut [u64], tally: &mut [u64])
     requires depth { (1 ≤ row.depth) × (row.depth < length weights.old) }
     requires candidate { (1 ≤ row.candidate) × (row.candidate ≤ length tally.old) }
-    requires keeps_of_all { length keeping.now.keeps ≡ length tally.old }
-    requires light { All (λ w. w ≤ keeping.now.one) weights.old }
-    requires room { (p : ℕ) → p < length tally.old → slice_index tally.old p + gain keeping.now.one keeping.now.keeps (p + 1) weights.old (row_stem row.depth row.candidate row.ballots) < 2 ^ 64 }
-    ensures weights { weights.new ≡ past keeping.now.one keeping.now.keeps weights.old (row_stem row.depth row.candidate row.ballots) }
-    ensures still_light { All (λ w. w ≤ keeping.now.one) weights.new }
+    requires keeps_of_all { length leaving.now.keeps ≡ length tally.old }
+    requires light { All (λ w. w ≤ leaving.now.one) weights.old }
+    requires room { (p : ℕ) → p < length tally.old → slice_index tally.old p + gain leaving.now.one leaving.now.keeps (p + 1) weights.old (row_stem row.depth row.candidate row.ballots) < 2 ^ 64 }
+    ensures weights { weights.new ≡ past leaving.now.one leaving.now.keeps weights.old (row_stem row.depth row.candidate row.ballots) }
+    ensures still_light { All (λ w. w ≤ leaving.now.one) weights.new }
     ensures same_length { length tally.new ≡ length tally.old }
-    ensures gives { (p : ℕ) → p < length tally.old → slice_index tally.new p ≡ slice_index tally.old p + gain keeping.now.one keeping.now.keeps (p + 1) weights.old (row_stem row.depth row.candidate row.ballots) }
+    ensures gives { (p : ℕ) → p < length tally.old → slice_index tally.new p ≡ slice_index tally.old p + gain leaving.now.one leaving.now.keeps (p + 1) weights.old (row_stem row.depth row.candidate row.ballots) }
 {
     let weight = weights[row.depth as usize - 1];
-    let left = keeping.left(weight, row.candidate);
+    let left = leaving.left(weight, row.candidate);
     weights[row.depth as usize] = left;
     let place = row.candidate as usize - 1;
     give(row.ballots as u64, place, weight - left, tally);

@@ -5,8 +5,8 @@ use Rattle.vote_spread.proofs.walk.visit.Goals as goal
 
 pub returns-clause-gives : goal.returns-clause-gives
 returns-clause-gives c =
-    let s = c.args.keeping.now.one in
-    let keeps = c.args.keeping.now.keeps in
+    let s = c.args.leaving.now.one in
+    let keeps = c.args.leaving.now.keeps in
     let old = c.args.tally.now in
     let w = get_or c.args.weights.now (c.args.row.depth - 1) 0 in
     let r = c.args.row.candidate in

@@ -26,13 +26,13 @@ visit-requires-clause-candidate c =
 
 pub visit-requires-clause-room : goal.visit-requires-clause-room
 visit-requires-clause-room c =
-    let s = c.args.keeping.now.one in
+    let s = c.args.leaving.now.one in
     let inv = c.loop-row.invariant in
     λ p lt.
     let below : p < length c.args.tally.now = omega (arith, inv.same_length) in
     omega (
       arith,
-      rows_more s c.args.keeping.now.keeps (p + 1) c.loop-row.weights c.args.rows.now
+      rows_more s c.args.leaving.now.keeps (p + 1) c.loop-row.weights c.args.rows.now
           c.loop-row.row-index none
           c.loop-row-test.true,
       inv.missing p below,
@@ -41,8 +41,8 @@ visit-requires-clause-room c =
 
 pub loop-row-preserved : goal.loop-row-preserved
 loop-row-preserved c =
-    let s = c.args.keeping.now.one in
-    let keeps = c.args.keeping.now.keeps in
+    let s = c.args.leaving.now.one in
+    let keeps = c.args.leaving.now.keeps in
     let rows = c.args.rows.now in
     let i = c.loop-row.row-index in
     let ws = c.loop-row.weights in

@@ -7,7 +7,7 @@ use Rattle.vote_spread.proofs.walk.walk.Given as goal
 -- what the rows behind are still to give is what is missing
 abbrev pub invariant-loop-row : goal.invariant-loop-row
 invariant-loop-row l =
-    let s = l.keeping.one in
+    let s = l.leaving.one in
     record {
       same_length : length l.tally ≡ length l.fn.tally;
       depths : length l.weights ≡ 251;
@@ -15,6 +15,6 @@ invariant-loop-row l =
       missing :
           (p : ℕ) → p < length l.fn.tally
           → slice_index l.tally p
-          + sum (gains s l.keeping.keeps (p + 1) l.weights (drop l.row-index (seen l.rows)))
-          ≡ total s l.keeping.keeps (p + 1) (seen l.rows);
+          + sum (gains s l.leaving.keeps (p + 1) l.weights (drop l.row-index (seen l.rows)))
+          ≡ total s l.leaving.keeps (p + 1) (seen l.rows);
     }

@@ -16,12 +16,14 @@ invariant_of-result c =
     let zeros : c.in_ok-keeps.keeps.items ≡ replicate n 0 = c.in_ok-keeps.ensures in
     let passes : c.in_ok-classes.classes.items ≡ replicate n Passes = c.in_ok-classes.ensures in
     record {
-      whole = c.requires.whole;
-      small = c.requires.small;
-      at_most_one = rw zeros (All-replicate (λ k. k ≤ one) n 0 (omega arith));
-      factors_are =
-          take_at found (drop (length found) factors.items) factors.len
-          (omega (arith, c.find_factors.auto.factors, ap length c.as_mut_slice.ensures.value, factors.ok.0))
-          ∙ (c.find_factors.ensures ∙ ap (factors_of one) c.as_slice.ensures.value);
+      have_factors = record {
+        whole = c.requires.whole;
+        small = c.requires.small;
+        at_most_one = rw zeros (All-replicate (λ k. k ≤ one) n 0 (omega arith));
+        factors_are =
+            take_at found (drop (length found) factors.items) factors.len
+            (omega (arith, c.find_factors.auto.factors, ap length c.as_mut_slice.ensures.value, factors.ok.0))
+            ∙ (c.find_factors.ensures ∙ ap (factors_of one) c.as_slice.ensures.value);
+      };
       classes_are = rw (zeros, passes) (sym (map-same n (class_of one) 0));
     }

@@ -1,6 +1,7 @@
 use Rattle.std.proofs.Common.{◌≡◌, ℕ, ◌+◌, ◌++◌, List, length, take, drop, arith, refl, ap, sym, subst, ◌∙◌}
 use Rattle.std.proofs.lemmas.List.{take_at}
-use Rattle.vote_spread.specs.KeepingSeen.{KeepingSeen, settled}
+use Rattle.vote_spread.specs.Class.{AreOf}
+use Rattle.vote_spread.specs.KeepingSeen.{KeepingSeen, settled, classes_of}
 use Rattle.vote_spread.specs.Stem.{Stem}
 use Rattle.vote_spread.specs.Rows.{seen, total}
 use Rattle.vote_spread.specs.Shares.{share, share_of, CanCount, HasCounted}
@@ -10,12 +11,13 @@ use Rattle.vote_spread.proofs.lane.Lane.count.Goals as goal
 
 -- what the rows of a lane that is fit give in all
 fit_total :
-    (keeping : KeepingSeen) (stems rows : List Stem) (k lanes p : ℕ) (lane : LaneSeen)
-    → CanCount keeping stems → IsFit (settled keeping) stems k lanes lane → rows ≡ lane.rows
-    → total keeping.one keeping.keeps (p + 1) rows ≡ share_of keeping.one keeping.keeps (p + 1) stems k lanes
-fit_total keeping stems rows k lanes p lane can fit is =
-    ap (total keeping.one keeping.keeps (p + 1)) is
-    ∙ (fit.rows refl).gives keeping.one keeping.keeps (p + 1) (record { whole = can.whole; same = refl })
+    (keeping own : KeepingSeen) (stems rows : List Stem) (k lanes p : ℕ) (lane : LaneSeen)
+    → CanCount keeping stems → IsFit (settled keeping) stems k lanes lane → rows ≡ lane.rows → own ≡ keeping
+    → total own.one own.keeps (p + 1) rows ≡ share_of keeping.one keeping.keeps (p + 1) stems k lanes
+fit_total keeping own stems rows k lanes p lane can fit is same =
+    let are : AreOf keeping.one keeping.keeps (classes_of keeping) = record { whole = can.whole; same = refl } in
+    ap (λ (v : KeepingSeen). total v.one v.keeps (p + 1) rows) same
+    ∙ (ap (total keeping.one keeping.keeps (p + 1)) is ∙ (fit.rows refl).gives keeping.one keeping.keeps (p + 1) are)
 
 pub walk-requires-clause-room : goal.walk-requires-clause-room
 walk-requires-clause-room c =
@@ -33,7 +35,8 @@ walk-requires-clause-room c =
     subst (λ m. IsFit (settled keeping) stems m n c.renew.new.self) c.number.ensures c.renew.ensures.fit in
     λ p lt.
     let whole =
-    fit_total keeping stems (seen c.as_slice.result.now) k n p c.renew.new.self c.requires.can fit rows in
+    fit_total keeping c.leaving.result stems (seen c.as_slice.result.now) k n p c.renew.new.self
+    c.requires.can fit rows c.leaving.ensures in
     let room = c.requires.can.room p (omega arith) in
     omega (
       arith,
@@ -67,6 +70,6 @@ returns-clause-counted c =
       share =
           λ p lt.
           c.walk.ensures.total p (omega (arith, ap length c.as_mut_slice-2.ensures.value))
-          ∙ fit_total keeping stems (seen c.as_slice.result.now) k n p c.renew.new.self c.requires.can fit
-          rows;
+          ∙ fit_total keeping c.leaving.result stems (seen c.as_slice.result.now) k n p c.renew.new.self
+          c.requires.can fit rows c.leaving.ensures;
     })
