@@ -15,9 +15,11 @@ fit_total :
     → CanCount keeping stems → IsFit (settled keeping) stems k lanes lane → rows ≡ lane.rows → own ≡ keeping
     → total own.one own.keeps (p + 1) rows ≡ share_of keeping.one keeping.keeps (p + 1) stems k lanes
 fit_total keeping own stems rows k lanes p lane can fit is same =
-    let are : AreOf keeping.one keeping.keeps (classes_of keeping) = record { whole = can.whole; same = refl } in
+    let are : AreOf keeping.one keeping.keeps (classes_of keeping) =
+    record { whole = can.whole; same = refl } in
     ap (λ (v : KeepingSeen). total v.one v.keeps (p + 1) rows) same
-    ∙ (ap (total keeping.one keeping.keeps (p + 1)) is ∙ (fit.rows refl).gives keeping.one keeping.keeps (p + 1) are)
+    ∙ (ap (total keeping.one keeping.keeps (p + 1)) is
+    ∙ (fit.rows refl).gives keeping.one keeping.keeps (p + 1) are)
 
 pub walk-requires-clause-room : goal.walk-requires-clause-room
 walk-requires-clause-room c =
