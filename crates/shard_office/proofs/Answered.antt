@@ -1,7 +1,7 @@
 -- A caller's seats after a change was asked at one shard, whether it was answered or not.
 use Rattle.std.proofs.Common.{◌≡◌, ℕ, ◌+◌, List, [], ◌∷◌, ◌++◌, length, set, refl, sym, ap, ◌∙◌, subst}
 use Rattle.std.specs.Prelude.{slice_get, Some, Result, Ok, Err, IfOk, OnOk, OnErr}
-use Rattle.atomic_table.specs.Seated.{TableId}
+use Rattle.shard_office.specs.declared.window.Window.{Window}
 use Rattle.turn_lock.specs.Sights.{KnowsOwn}
 use Rattle.batch_core.specs.declared.change.Change.{Change}
 use Rattle.batch_core.specs.declared.reply.Reply.{Reply}
@@ -20,14 +20,15 @@ use Rattle.shard_office.proofs.Called.{looked-at, looked-own, looked-on, changed
 
 -- which lock and name the seat at a shard has
 pub seat_fits :
-    (o : OfficeState) (p i s : ℕ) (x : ShardSeat) (lock tie : TableId) → i + 1 ≡ s → IsAtShard o p i x
-    → slice_get o.identity.locks i ≡ Some lock → slice_get o.identity.ties i ≡ Some tie
-    → (x.lock ≡ lock) × (x.name ≡ Some (record { shard = s; shards = o.shards; candidates = o.candidates; tie = tie }))
-seat_fits o p i s x lock tie is at here there =
-    let l : Some x.lock ≡ Some lock = sym at.lock ∙ here in (
-      cc l,
-      at.name tie there
-          ∙ ap (λ n. Some (record { shard = n; shards = o.shards; candidates = o.candidates; tie = tie })) is,
+    (o : OfficeState) (p i s : ℕ) (x : ShardSeat) (w : Window) → i + 1 ≡ s → IsAtShard o p i x
+    → slice_get o.identity.windows i ≡ Some w
+    → (x.lock ≡ w.lock)
+    × (x.name ≡ Some (record { shard = s; shards = o.shards; candidates = o.candidates; tie = w.tie }))
+seat_fits o p i s x w is at here =
+    let of = at.window w here in (
+      of.lock,
+      of.name
+          ∙ ap (λ n. Some (record { shard = n; shards = o.shards; candidates = o.candidates; tie = w.tie })) is,
     )
 
 -- what became of the seat at the shard, and of that at the register

@@ -1,7 +1,7 @@
 -- A caller's seats while it holds all turns, and after it gave them back.
 use Rattle.std.proofs.Common.{◌≡◌, ℕ, ◌+◌, ◌≤◌, true, false, List, [], ◌∷◌, ◌++◌, length, sym, ap, ◌∙◌, arith}
 use Rattle.std.specs.Prelude.{slice_get, Some}
-use Rattle.atomic_table.specs.Seated.{TableId}
+use Rattle.shard_office.specs.declared.window.Window.{Window}
 use Rattle.turn_lock.specs.Entries.{Begins}
 use Rattle.call_register.specs.declared.mark.Mark.{Mark}
 use Rattle.shard_office.specs.declared.shard_value.ShardName.{ShardName}
@@ -11,13 +11,13 @@ use Rattle.shard_office.specs.Names.{shard_name}
 use Rattle.shard_office.specs.Sight.{by_shard}
 use Rattle.shard_office.specs.Passes.{ShardSeat, RegisterSeat, lists_of, AreAt}
 use Rattle.shard_office.specs.Moves.{Looked, Gave, Looks}
-use Rattle.shard_office.specs.Turned.{AreOf, Took, GaveBack, AreHeld, TookTurns, GaveTurns, AreNamed, entries_held}
+use Rattle.shard_office.specs.Turned.{AreOf, AreTied, Took, GaveBack, AreHeld, TookTurns, GaveTurns, AreNamed, entries_held}
 use Rattle.shard_office.proofs.Places.{get_lt, get_some, map_each}
 
 pub seats_of :
     (o : OfficeState) (p : ℕ) (seats : List ShardSeat) (r : RegisterSeat) → AreAt o p seats r
-    → AreOf o.identity.locks seats
-seats_of o p seats r are i s e = (are.shards i s e).lock
+    → AreOf o.identity.windows seats
+seats_of o p seats r are i w s ew e = ((are.shards i s e).window w ew).lock
 
 -- a turn that was taken and given back
 looked_by : (x m y : ShardSeat) → Took x m → GaveBack m y → Looked x y
@@ -41,38 +41,39 @@ looks_by n olds mids news few taken given = record {
 }
 
 module _ (o : OfficeState) (p : ℕ) (olds mids : List ShardSeat) (r : RegisterSeat) (held : List SeenShard)
-    (are : AreAt o p olds r) (ties : length o.identity.ties ≡ o.shards) (taken : TookTurns o.shards olds mids)
+    (are : AreAt o p olds r) (all : length o.identity.windows ≡ o.shards) (taken : TookTurns o.shards olds mids)
     (len : length held ≡ o.shards) (by : AreHeld held mids) where
   -- the name of a value that is held
   name_is :
-      (i : ℕ) (v : SeenShard) → slice_get held i ≡ Some v
-      → (t : TableId) × (slice_get o.identity.ties i ≡ Some t)
-      × (shard_name v ≡ record { shard = i + 1; shards = o.shards; candidates = o.candidates; tie = t })
-  name_is i v e =
+      (i : ℕ) (w : Window) (v : SeenShard) → slice_get o.identity.windows i ≡ Some w → slice_get held i ≡ Some v
+      → shard_name v ≡ record { shard = i + 1; shards = o.shards; candidates = o.candidates; tie = w.tie }
+  name_is i w v ew e =
       let lt = get_lt held i v e in
       let count = are.count in
       let mid = taken.len in
       let x = get_some olds i (omega arith) in
       let m = get_some mids i (omega arith) in
-      let t = get_some o.identity.ties i (omega arith) in
       let took = taken.taken i x.0 m.0 (omega arith) x.1 m.1 in
       let same :
       Some (shard_name v)
-      ≡ Some (record { shard = i + 1; shards = o.shards; candidates = o.candidates; tie = t.0 }) =
-      sym (by i v m.0 e m.1).name ∙ (ap (λ z. z.name) took.same ∙ (are.shards i x.0 x.1).name t.0 t.1) in
-      (t.0, t.1, cc same)
+      ≡ Some (record { shard = i + 1; shards = o.shards; candidates = o.candidates; tie = w.tie }) =
+      sym (by i v m.0 e m.1).name
+      ∙ (ap (λ z. z.name) took.same ∙ ((are.shards i x.0 x.1).window w ew).name) in
+      cc same
 
   pub held_named : AreNamed o.shards o.candidates held
   held_named i v e =
-      let n = (name_is i v e).2 in
+      let lt = get_lt held i v e in
+      let w = get_some o.identity.windows i (omega arith) in
+      let n = name_is i w.0 v w.1 e in
       record {
         shard = ap (λ (k : ShardName). k.shard) n;
         of_shards = ap (λ (k : ShardName). k.shards) n;
         of_candidates = ap (λ (k : ShardName). k.candidates) n;
       }
 
-  pub held_ties : (i : ℕ) (v : SeenShard) → slice_get held i ≡ Some v → slice_get o.identity.ties i ≡ Some v.tie
-  held_ties i v e = let n = name_is i v e in n.1 ∙ ap Some (sym (ap (λ (k : ShardName). k.tie) n.2))
+  pub held_ties : AreTied o.identity.windows held
+  held_ties i w v ew e = ap (λ (k : ShardName). k.tie) (name_is i w v ew e)
 
   -- what was seen in the end is what was held
   pub held_seen : (news : List ShardSeat) → GaveTurns 0 mids news → by_shard (lists_of news) ≡ by_shard (entries_held held)

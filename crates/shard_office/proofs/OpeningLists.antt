@@ -1,73 +1,62 @@
 -- Locks that are opened one by one, and the clerk's first seats there.
 use Rattle.std.proofs.Common.{◌≡◌, ℕ, zero, suc, ◌+◌, ◌<◌, ◌≤◌, List, [], ◌∷◌, ◌++◌, length, get_or, refl}
-use Rattle.std.proofs.Common.{sym, ap, ◌∙◌, subst, ⊎_elim, arith, length-append, Option}
+use Rattle.std.proofs.Common.{◌⊎◌, sym, ap, ◌∙◌, subst, inl, inr, ⊎_elim, arith, length-append, Option}
 use Rattle.std.specs.Prelude.{slice_get, Some}
 use Rattle.std.proofs.lemmas.Bool.{cases_lt}
 use Rattle.std.proofs.lemmas.List.{get_or_past}
 use Rattle.atomic_table.specs.Seated.{TableId}
+use Rattle.shard_office.specs.declared.window.Window.{Window}
 use Rattle.turn_lock.specs.Entries.{owned_by, owned}
 use Rattle.turn_lock.specs.Sights.{first_sight}
 use Rattle.number_tie.specs.Half.{SeenHalf}
 use Rattle.call_register.specs.Walk.{left, NoneBy}
 use Rattle.shard_office.specs.Owners.{owner_of_entry, owner_of_mark}
-use Rattle.shard_office.specs.Office.{OfficeState}
+use Rattle.shard_office.specs.Office.{OfficeState, ties_at}
 use Rattle.shard_office.specs.Sight.{by_shard, entries_of}
 use Rattle.shard_office.specs.Values.{ties_of}
 use Rattle.shard_office.specs.Passes.{PassState, ShardSeat, RegisterSeat, lists_of}
 use Rattle.shard_office.specs.Clerk.{IsFirst, AreFirst}
-use Rattle.shard_office.specs.Opening.{AreOpened}
+use Rattle.shard_office.specs.Opening.{AreOpened, opened_seat}
 use Rattle.shard_office.proofs.Places.{get_lt, get_some, get_map, length_map}
 use Rattle.shard_office.proofs.Lists.{read_at}
 use Rattle.shard_office.proofs.TurnLists.{get_push, get_front, get_last, same_place}
 use Rattle.shard_office.proofs.Places.{map-push}
 
 pub opened_more :
-    (shards candidates n : ℕ) (locks ties : List TableId) (seats : List ShardSeat) (halves : List SeenHalf)
-    (lock tie : TableId) → AreOpened shards candidates n locks ties seats halves
-    → AreOpened shards candidates (n + 1) (locks ++ lock ∷ []) (ties ++ tie ∷ [])
-    (seats
-    ++ first_sight lock
-    (Some (record { shard = n + 1; shards = shards; candidates = candidates; tie = tie })) ∷ [])
-    (halves ++ record { tie = tie; number = 0 } ∷ [])
-opened_more shards candidates n locks ties seats halves lock tie are =
-    let seat : ShardSeat =
-    first_sight lock
-    (Some (record { shard = n + 1; shards = shards; candidates = candidates; tie = tie })) in
+    (shards candidates n : ℕ) (windows : List Window) (seats : List ShardSeat) (halves : List SeenHalf) (w : Window)
+    (m : ℕ) → m ≡ n → AreOpened shards candidates n windows seats halves
+    → AreOpened shards candidates (n + 1) (windows ++ w ∷ []) (seats ++ opened_seat shards candidates m w ∷ [])
+    (halves ++ record { tie = w.tie; number = 0 } ∷ [])
+opened_more shards candidates n windows seats halves w m is are =
+    let seat : ShardSeat = opened_seat shards candidates m w in
+    let half : SeenHalf = record { tie = w.tie; number = 0 } in
     record {
-      locks_are = length-append locks (lock ∷ []) ∙ ap (λ k. k + 1) are.locks_are;
-      ties_are = length-append ties (tie ∷ []) ∙ ap (λ k. k + 1) are.ties_are;
+      windows_are = length-append windows (w ∷ []) ∙ ap (λ k. k + 1) are.windows_are;
       seats_are = length-append seats (seat ∷ []) ∙ ap (λ k. k + 1) are.seats_are;
-      opened = λ i s e. ⊎_elim
+      opened = λ i x s ex es. ⊎_elim
           (λ (h : (i ≡ length seats) × (seat ≡ s)).
-          let is : i ≡ n = h.0 ∙ are.seats_are in
-          record {
-            lock = lock;
-            tie = tie;
-            lock_at = ap (slice_get (locks ++ lock ∷ [])) (is ∙ sym are.locks_are) ∙ get_last locks lock;
-            tie_at = ap (slice_get (ties ++ tie ∷ [])) (is ∙ sym are.ties_are) ∙ get_last ties tie;
-            seat =
-                sym h.1
-                ∙ ap (λ k. first_sight lock (Some
-                (record { shard = k + 1; shards = shards; candidates = candidates; tie = tie })))
-                (sym is);
-          })
+          let here : m ≡ i = is ∙ (sym are.seats_are ∙ sym h.0) in
+          let same : w ≡ x =
+          same_place (windows ++ w ∷ []) (length windows) i w x
+          (are.windows_are ∙ (sym are.seats_are ∙ sym h.0)) (get_last windows w) ex in
+          sym h.1 ∙ (λ k. opened_seat shards candidates (here k) (same k)))
           (λ (h : (i < length seats) × (slice_get seats i ≡ Some s)).
-          let o = are.opened i s h.1 in
-          record {
-            lock = o.lock;
-            tie = o.tie;
-            lock_at = get_front locks lock i o.lock o.lock_at;
-            tie_at = get_front ties tie i o.tie o.tie_at;
-            seat = o.seat;
-          })
-          (get_push seats seat i s e);
+          let old : (i ≡ length windows) ⊎ (slice_get windows i ≡ Some x) = ⊎_elim
+          (λ (t : (i ≡ length windows) × (w ≡ x)). inl t.0)
+          (λ (t : (i < length windows) × (slice_get windows i ≡ Some x)). inr t.1)
+          (get_push windows w i x ex) in
+          ⊎_elim
+          (λ (end : i ≡ length windows). absurd (let lt = h.0 in let a = are.windows_are in let b = are.seats_are in omega arith))
+          (λ (at : slice_get windows i ≡ Some x). are.opened i x s at h.1)
+          old)
+          (get_push seats seat i s es);
       halves_are =
-          map-push (λ (h : SeenHalf). h.tie) halves (record { tie = tie; number = 0 })
-          ∙ ap (λ l. l ++ tie ∷ []) are.halves_are;
+          map-push (λ (h : SeenHalf). h.tie) halves half
+          ∙ (ap (λ l. l ++ w.tie ∷ []) are.halves_are ∙ sym (map-push (λ (x : Window). x.tie) windows w));
       unnumbered = λ i h e. ⊎_elim
-          (λ (k : (i ≡ length halves) × (record { tie = tie; number = 0 } ≡ h)). sym (ap (λ (z : SeenHalf). z.number) k.1))
+          (λ (k : (i ≡ length halves) × (half ≡ h)). sym (ap (λ (z : SeenHalf). z.number) k.1))
           (λ (k : (i < length halves) × (slice_get halves i ≡ Some h)). are.unnumbered i h k.1)
-          (get_push halves (record { tie = tie; number = 0 }) i h e);
+          (get_push halves half i h e);
     }
 
 -- a first seat that did nothing yet
@@ -85,17 +74,28 @@ new_first owner seen_by lock name = record {
 }
 
 module _ (o : OfficeState) (seats : List ShardSeat) (register : RegisterSeat) (halves : List SeenHalf)
-    (opened : AreOpened o.shards o.candidates o.shards o.identity.locks o.identity.ties seats halves)
+    (opened : AreOpened o.shards o.candidates o.shards o.identity.windows seats halves)
     (is : register
     ≡ first_sight o.identity.register
-    (Some (record { shards = o.shards; candidates = o.candidates; ties = o.identity.ties }))) where
+    (Some (record { shards = o.shards; candidates = o.candidates; ties = ties_at o.identity.windows }))) where
+  -- the window of a seat, which is as it was opened
+  seat_is :
+      (i : ℕ) (s : ShardSeat) → slice_get seats i ≡ Some s
+      → (w : Window) × (slice_get o.identity.windows i ≡ Some w) × (s ≡ opened_seat o.shards o.candidates i w)
+  seat_is i s e =
+      let lt = get_lt seats i s e in
+      let a = opened.windows_are in
+      let b = opened.seats_are in
+      let w = get_some o.identity.windows i (omega arith) in
+      (w.0, w.1, opened.opened i w.0 s w.1 e)
+
   -- nothing was seen
   list_none : (i : ℕ) → get_or (lists_of seats) i [] ≡ []
   list_none i = ⊎_elim
       (λ (lt : i < length seats).
       let s = get_some seats i lt in
       read_at (lists_of seats) i s.0.seen [] (get_map (λ (z : ShardSeat). z.seen) seats i s.0 s.1)
-      ∙ ap (λ z. z.seen) (opened.opened i s.0 s.1).seat)
+      ∙ ap (λ z. z.seen) (seat_is i s.0 s.1).2)
       (λ (le : length seats ≤ i). get_or_past (lists_of seats) i []
       (let n = length_map (λ (z : ShardSeat). z.seen) seats in omega arith))
       (cases_lt i (length seats))
@@ -109,20 +109,18 @@ module _ (o : OfficeState) (seats : List ShardSeat) (register : RegisterSeat) (h
     at = record {
       count = opened.seats_are;
       shards = λ i s e.
-          let p = opened.opened i s e in
+          let p = (seat_is i s e).2 in
           record {
-            lock = p.lock_at ∙ ap Some (sym (ap (λ z. z.lock) p.seat));
-            name =
-                λ t et. ap (λ z. z.name) p.seat
-                ∙ ap (λ k. Some
-                (record { shard = i + 1; shards = o.shards; candidates = o.candidates; tie = k }))
-                (same_place o.identity.ties i i p.tie t refl p.tie_at et);
-            numbered = ap (λ z. z.caller) p.seat;
-            free = ap (λ z. z.holds) p.seat;
+            window = λ w ew. (let q = opened.opened i w s ew e in record {
+              lock = ap (λ z. z.lock) q;
+              name = ap (λ z. z.name) q;
+            });
+            numbered = ap (λ z. z.caller) p;
+            free = ap (λ z. z.holds) p;
             knows =
                 subst
                 (λ (z : ShardSeat). owned_by owner_of_entry z.caller z.seen ≡ owned owner_of_entry z.mine)
-                (sym p.seat) refl;
+                (sym p) refl;
           };
       registered = record {
         lock = ap (λ z. z.lock) is;
@@ -138,14 +136,14 @@ module _ (o : OfficeState) (seats : List ShardSeat) (register : RegisterSeat) (h
           (sym (ap (λ m. left m (by_shard (lists_of seats)) t) (ap (λ z. z.seen) is) ∙ none_seen t)) refl;
     };
     shards = λ i s e.
-        let p = opened.opened i s e in
-        subst (IsFirst owner_of_entry (λ q. entries_of q.sight (i + 1)) 0 0 []) (sym p.seat)
-        (new_first owner_of_entry (λ q. entries_of q.sight (i + 1)) p.lock
-        (Some (record { shard = i + 1; shards = o.shards; candidates = o.candidates; tie = p.tie })));
+        let p = seat_is i s e in
+        subst (IsFirst owner_of_entry (λ q. entries_of q.sight (i + 1)) 0 0 []) (sym p.2)
+        (new_first owner_of_entry (λ q. entries_of q.sight (i + 1)) p.0.lock
+        (Some (record { shard = i + 1; shards = o.shards; candidates = o.candidates; tie = p.0.tie })));
     registered =
         subst (IsFirst owner_of_mark (λ q. q.sight.marks) 0 0 []) (sym is)
         (new_first owner_of_mark (λ q. q.sight.marks) o.identity.register
-        (Some (record { shards = o.shards; candidates = o.candidates; ties = o.identity.ties })));
+        (Some (record { shards = o.shards; candidates = o.candidates; ties = ties_at o.identity.windows })));
     passes = λ k q e. absurd (let lt = get_lt [] k q e in omega arith);
     given = λ k q e. absurd (let lt = get_lt [] k q e in omega arith);
   }

@@ -156,8 +156,10 @@ module _ (o : OfficeState) (last teams caller : ℕ) (taken : List PassState) (s
         let is = made_by i m em in
         let was = are.at.shards i is.0 is.1 in
         record {
-          lock = was.lock ∙ ap Some (sym (ap (λ z. z.lock) is.2));
-          name = λ t e. ap (λ z. z.name) is.2 ∙ was.name t e;
+          window = λ w e. (let at = was.window w e in record {
+            lock = ap (λ z. z.lock) is.2 ∙ at.lock;
+            name = ap (λ z. z.name) is.2 ∙ at.name;
+          });
           numbered = ap (λ z. z.caller) is.2;
           free = ap (λ z. z.holds) is.2;
           knows = is.3;

@@ -3,7 +3,7 @@ use Rattle.std.proofs.Common.{◌≡◌, ◌≢◌, ◌⊎◌, ℕ, zero, suc, �
 use Rattle.std.proofs.Common.{set, refl, sym, ap, ◌∙◌, subst, inl, inr, ⊎_elim, arith}
 use Rattle.std.specs.Prelude.{slice_get, Some}
 use Rattle.std.proofs.lemmas.Bool.{cases_lt}
-use Rattle.atomic_table.specs.Seated.{TableId}
+use Rattle.shard_office.specs.declared.window.Window.{Window}
 use Rattle.turn_lock.specs.Entries.{Begins}
 use Rattle.turn_lock.specs.Sights.{KnowsOwn}
 use Rattle.batch_core.specs.declared.entry.Entry.{Entry}
@@ -48,12 +48,13 @@ module _ {A : Type 0} where
   get_last (z ∷ zs) x = get_last zs x
 
 pub of_set :
-    (locks : List TableId) (seats : List ShardSeat) (i : ℕ) (x y : ShardSeat) → AreOf locks seats
-    → slice_get seats i ≡ Some x → y.lock ≡ x.lock → AreOf locks (set seats i y)
-of_set locks seats i x y own at same j s e = ⊎_elim
-    (λ (t : (j ≡ i) × (y ≡ s)). ap (slice_get locks) t.0 ∙ (own i x at ∙ ap Some (sym same ∙ ap (λ z. z.lock) t.1)))
-    (λ (t : (j ≢ i) × (slice_get seats j ≡ Some s)). own j s t.1)
-    (get_set seats i j y s e)
+    (windows : List Window) (seats : List ShardSeat) (i : ℕ) (x y : ShardSeat) → AreOf windows seats
+    → slice_get seats i ≡ Some x → y.lock ≡ x.lock → AreOf windows (set seats i y)
+of_set windows seats i x y own at same j w s ew es = ⊎_elim
+    (λ (t : (j ≡ i) × (y ≡ s)).
+    sym (ap (λ z. z.lock) t.1) ∙ (same ∙ own i w x (ap (slice_get windows) (sym t.0) ∙ ew) at))
+    (λ (t : (j ≢ i) × (slice_get seats j ≡ Some s)). own j w s ew t.1)
+    (get_set seats i j y s es)
 
 pub took :
     (x y : ShardSeat) (list : List Entry) → y ≡ record x { holds = true; seen = list } → Begins x.seen list

@@ -1,11 +1,11 @@
 -- Closed offices.
 use Rattle.std.specs.Prelude.{◌≡◌, ℕ, ◌+◌, ◌-◌, ◌≤◌, true, false, List, [], length, map, Some, slice_get}
 use Rattle.std.specs.List.{range_with_len}
-use Rattle.atomic_table.specs.Seated.{TableId}
 use Rattle.turn_lock.specs.Entries.{Begins, owned_by, owned}
 use Rattle.turn_lock.specs.Numbers.{has}
 use Rattle.turn_lock.specs.Sights.{given_by}
 use Rattle.batch_core.specs.declared.entry.Entry.{Entry}
+use Rattle.shard_office.specs.declared.window.Window.{Window}
 use Rattle.batch_core.specs.Entries.{EntryList}
 use Rattle.batch_core.specs.Histories.{IsLegal, own_calls}
 use Rattle.call_register.specs.declared.mark.Mark.{Mark}
@@ -16,7 +16,7 @@ use Rattle.call_register.specs.Walk.{NoneBy}
 use Rattle.shard_book.specs.Shard.{AreOfShard}
 use Rattle.shard_office.specs.Owners.{owner_of_entry}
 use Rattle.shard_office.specs.Sight.{Sight, GoesOn}
-use Rattle.shard_office.specs.Passes.{PassState, ShardSeat, own}
+use Rattle.shard_office.specs.Passes.{PassState, ShardSeat, IsOfWindow, own}
 use Rattle.shard_office.specs.Clerk.{ClerkState, callers_of}
 
 -- what an office of so many shards held in the end, and what its clerk stood for
@@ -50,12 +50,11 @@ pub record HoldsAll (clerk : ClerkState) (marks : List Mark) (lists : Lists) : T
   pub closed : IsClosed clerk (weave marks lists)
 
 -- the first seat of a shard's lock may close it
-pub record MayEnd (shards candidates : ℕ) (locks ties : List TableId) (i : ℕ) (s : ShardSeat) : Type 0 where
-  pub lock : slice_get locks i ≡ Some s.lock
+pub record MayEnd (shards candidates : ℕ) (windows : List Window) (i : ℕ) (s : ShardSeat) : Type 0 where
+  pub window : (w : Window) → slice_get windows i ≡ Some w → IsOfWindow shards candidates i w s
   pub first : s.is_first ≡ true
   pub free : s.holds ≡ false
   pub alone : s.out ≡ []
-  pub name : (t : TableId) → slice_get ties i ≡ Some t → s.name ≡ Some (record { shard = i + 1; shards = shards; candidates = candidates; tie = t })
 
 -- the entries of the lock at place i, which this seat closed
 pub record IsEnded (shards candidates : ℕ) (marks : List Mark) (i : ℕ) (s : ShardSeat) (entries : List Entry) : Type 0 where

@@ -1,6 +1,5 @@
 -- What a pass is seen as, and what its seats keep.
 use Rattle.std.specs.Prelude.{◌≡◌, ℕ, ◌+◌, false, List, map, length, Some, slice_get}
-use Rattle.atomic_table.specs.Seated.{TableId}
 use Rattle.turn_lock.specs.Sights.{Sight as SeatSight, KnowsOwn}
 use Rattle.turn_lock.specs.Entries.{owned_by, owned}
 use Rattle.batch_core.specs.declared.entry.Entry.{Entry}
@@ -9,8 +8,9 @@ use Rattle.call_register.specs.declared.mark.Mark.{Mark}
 use Rattle.call_register.specs.Walk.{left, NoneBy}
 use Rattle.shard_office.specs.declared.shard_value.ShardName.{ShardName}
 use Rattle.shard_office.specs.declared.register_value.RegisterName.{RegisterName}
+use Rattle.shard_office.specs.declared.window.Window.{Window}
 use Rattle.shard_office.specs.Owners.{owner_of_entry, owner_of_mark}
-use Rattle.shard_office.specs.Office.{OfficeState}
+use Rattle.shard_office.specs.Office.{OfficeState, ties_at}
 use Rattle.shard_office.specs.Sight.{Sight, by_shard, entries_of, calls_in}
 
 -- a caller at an office: what it has seen of it, and of that the marks and entries that it made itself
@@ -47,18 +47,21 @@ sight_of seats register = record { marks = register.seen; lists = lists_of seats
 abbrev pub mine_of : List ShardSeat → RegisterSeat → Sight
 mine_of seats register = record { marks = register.mine; lists = map (λ s. s.mine) seats }
 
--- the seat is at the lock of the shard at index i, between two calls
+-- the seat is one of this window, that of the shard at index i among so many shards and candidates
+pub record IsOfWindow (shards candidates i : ℕ) (w : Window) (s : ShardSeat) : Type 0 where
+  pub lock : s.lock ≡ w.lock
+  pub name : s.name ≡ Some (record { shard = i + 1; shards = shards; candidates = candidates; tie = w.tie })
+
+-- the seat is at the window of the shard at index i, between two calls
 pub record IsAtShard (o : OfficeState) (caller i : ℕ) (s : ShardSeat) : Type 0 where
-  pub lock : slice_get o.identity.locks i ≡ Some s.lock
-  pub name : (t : TableId) → slice_get o.identity.ties i ≡ Some t
-      → s.name ≡ Some (record { shard = i + 1; shards = o.shards; candidates = o.candidates; tie = t })
+  pub window : (w : Window) → slice_get o.identity.windows i ≡ Some w → IsOfWindow o.shards o.candidates i w s
   pub numbered : s.caller ≡ caller
   pub free : s.holds ≡ false
   pub knows : KnowsOwn owner_of_entry s
 
 pub record IsAtRegister (o : OfficeState) (caller : ℕ) (s : RegisterSeat) : Type 0 where
   pub lock : s.lock ≡ o.identity.register
-  pub name : s.name ≡ Some (record { shards = o.shards; candidates = o.candidates; ties = o.identity.ties })
+  pub name : s.name ≡ Some (record { shards = o.shards; candidates = o.candidates; ties = ties_at o.identity.windows })
   pub numbered : s.caller ≡ caller
   pub free : s.holds ≡ false
   pub knows : KnowsOwn owner_of_mark s

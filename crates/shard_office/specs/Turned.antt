@@ -1,6 +1,6 @@
 -- Turns of shards that one caller holds together.
 use Rattle.std.specs.Prelude.{◌≡◌, ℕ, ◌+◌, ◌<◌, ◌≤◌, true, false, List, length, map, Some, slice_get, IsPermutation}
-use Rattle.atomic_table.specs.Seated.{TableId}
+use Rattle.shard_office.specs.declared.window.Window.{Window}
 use Rattle.turn_lock.specs.Entries.{Begins}
 use Rattle.turn_lock.specs.Sights.{KnowsOwn}
 use Rattle.plain_ballots.specs.Ballots.{plain}
@@ -17,8 +17,12 @@ use Rattle.shard_office.specs.Names.{shard_name}
 use Rattle.shard_office.specs.Passes.{ShardSeat}
 
 -- the seat at each place is of the lock there
-abbrev pub AreOf : List TableId → List ShardSeat → Type 0
-AreOf locks seats = (i : ℕ) (s : ShardSeat) → slice_get seats i ≡ Some s → slice_get locks i ≡ Some s.lock
+abbrev pub AreOf : List Window → List ShardSeat → Type 0
+AreOf windows seats = (i : ℕ) (w : Window) (s : ShardSeat) → slice_get windows i ≡ Some w → slice_get seats i ≡ Some s → s.lock ≡ w.lock
+
+-- the value at each place has the tie there
+abbrev pub AreTied : List Window → List SeenShard → Type 0
+AreTied windows held = (i : ℕ) (w : Window) (v : SeenShard) → slice_get windows i ≡ Some w → slice_get held i ≡ Some v → v.tie ≡ w.tie
 
 -- the seat took the turn
 pub record Took (old new : ShardSeat) : Type 0 where

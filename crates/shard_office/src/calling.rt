@@ -44,9 +44,8 @@ pub(crate) fn change_by<R: Wait, G: Gate>(
     change(
         rt,
         gate,
-        &office.locks[i],
+        &office.windows[i],
         &office.register,
-        &office.ties[i],
         number,
         office.shards,
         office.candidates,

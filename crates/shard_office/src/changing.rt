@@ -15,9 +15,9 @@ use crate::call_back::CallBack;
 use crate::entering::enter;
 use crate::register_value::RegisterValue;
 use crate::shard_value::ShardValue;
+use crate::window::Window;
 use batch_core::{Change, Reply};
 use byte_edge::{Gate, Place};
-use number_tie::Tie;
 use std::sync::Wait;
 use turn_lock::{Seat, TurnLock};
 
@@ -28,9 +28,8 @@ use turn_lock::{Seat, TurnLock};
 pub(crate) fn change<R: Wait, G: Gate>(
     rt: &R,
     gate: &G,
-    shard: &TurnLock<ShardValue>,
+    window: &Window,
     register: &TurnLock<RegisterValue>,
-    tie: &Tie,
     number: u32,
     shards: u32,
     candidates: u32,
@@ -40,8 +39,8 @@ pub(crate) fn change<R: Wait, G: Gate>(
     change: Change,
 ) -> Result<Reply, CallBack>
     requires number { (1 ≤ number) × (number ≤ shards) }
-    requires shard { (mine.old.lock ≡ shard.now) × (mine.old.name ≡ Some (record { shard = number; shards = shards; candidates = candidates; tie = tie.now })) }
-    requires register { (marks.old.lock ≡ register.now) × ((ties : _) × (marks.old.name ≡ Some (record { shards = shards; candidates = candidates; ties = ties })) × (slice_get ties (number - 1) ≡ Some tie.now)) }
+    requires shard { (mine.old.lock ≡ window.now.lock) × (mine.old.name ≡ Some (record { shard = number; shards = shards; candidates = candidates; tie = window.now.tie })) }
+    requires register { (marks.old.lock ≡ register.now) × ((ties : _) × (marks.old.name ≡ Some (record { shards = shards; candidates = candidates; ties = ties })) × (slice_get ties (number - 1) ≡ Some window.now.tie)) }
     requires caller { mine.old.caller ≡ caller }
     requires free { (mine.old.holds ≡ false) × (marks.old.holds ≡ false) }
     requires own { KnowsOwn owner_of_mark marks.old }
@@ -55,16 +54,16 @@ pub(crate) fn change<R: Wait, G: Gate>(
     ensures handed_back { IfErr result (λ back. back.change ≡ change) }
     ensures refused { OnErr result (Looked mine.old mine.new × Looked marks.old marks.new) }
 {
-    let mut held = shard.take(rt, mine);
+    let mut held = window.lock.take(rt, mine);
     if held.value_mut().ready(&change).is_err() {
-        shard.give_back(mine, held);
+        window.lock.give_back(mine, held);
         return Err(CallBack { change });
     }
     gate.pass(Place::InTurn(number));
     let mut kept = register.take(rt, marks);
     if kept.value_mut().reserve().is_err() {
         register.give_back(marks, kept);
-        shard.give_back(mine, held);
+        window.lock.give_back(mine, held);
         return Err(CallBack { change });
     }
     let reply = enter(
@@ -72,12 +71,12 @@ pub(crate) fn change<R: Wait, G: Gate>(
         register,
         marks,
         kept,
-        tie,
+        &window.tie,
         caller,
         change,
         number,
     );
     held.value().vouch();
-    shard.give_with(mine, held);
+    window.lock.give_with(mine, held);
     Ok(reply)
 }

@@ -82,10 +82,10 @@ impl Clerk {
         let Ok(()) = self.taken.reserve(self.teams as usize + 1) else {
             return Err(NoMemory);
         };
-        let Ok(mut shards) = Vec::with_capacity(alloc, office.locks.len()) else {
+        let Ok(mut shards) = Vec::with_capacity(alloc, office.windows.len()) else {
             return Err(NoMemory);
         };
-        split_all(&office.locks, &mut self.seats.shards, caller, &mut shards);
+        split_all(&office.windows, &mut self.seats.shards, caller, &mut shards);
         let register = office.register.split(&mut self.seats.register, caller);
         self.last = caller;
         self.teams += 1;
@@ -113,7 +113,7 @@ impl Clerk {
         let about = Snapshot::of(&pass);
         let Pass { seats, .. } = pass;
         let Seats { shards, register } = seats;
-        join_all(&office.locks, &mut self.seats.shards, shards);
+        join_all(&office.windows, &mut self.seats.shards, shards);
         office.register.join(&mut self.seats.register, register);
         self.teams -= 1;
         self.taken.push_reserved(about);

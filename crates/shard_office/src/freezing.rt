@@ -76,22 +76,22 @@ pub(crate) fn freeze_by<R: Wait>(
     ensures refused { OnErr result (calls_in caller (sight_of seats.new.shards.items seats.new.register) ≡ calls_in caller (sight_of seats.old.shards.items seats.old.register)) }
     ensures nothing_made { OnErr result (mine_of seats.new.shards.items seats.new.register ≡ mine_of seats.old.shards.items seats.old.register) }
 {
-    let Ok(mut held) = Vec::with_capacity(alloc, office.locks.len()) else {
+    let Ok(mut held) = Vec::with_capacity(alloc, office.windows.len()) else {
         return Err(NoMemory);
     };
-    take_all(rt, &office.locks, &mut seats.shards, &mut held);
+    take_all(rt, &office.windows, &mut seats.shards, &mut held);
     let mut kept = office.register.take(rt, &mut seats.register);
-    agree_all(&office.ties, &mut held, &mut kept);
+    agree_all(&office.windows, &mut held, &mut kept);
     match copied(alloc, office.candidates, &held, &mut kept) {
         Ok(version) => {
             kept.value_mut().freeze(caller);
             office.register.give_with(&mut seats.register, kept);
-            give_all(&office.locks, &mut seats.shards, held);
+            give_all(&office.windows, &mut seats.shards, held);
             Ok(version)
         }
         Err(_) => {
             office.register.give_back(&mut seats.register, kept);
-            give_all(&office.locks, &mut seats.shards, held);
+            give_all(&office.windows, &mut seats.shards, held);
             Err(NoMemory)
         }
     }

@@ -41,6 +41,7 @@ mod shard_value;
 mod striking;
 mod turns;
 mod version;
+mod window;
 
 pub use call_back::CallBack;
 pub use clerk::Clerk;

@@ -23,12 +23,11 @@ use crate::opening::open_all;
 use crate::pass::Pass;
 use crate::register_value::RegisterValue;
 use crate::seats::Seats;
-use crate::shard_value::ShardValue;
 use crate::version::Version;
+use crate::window::Window;
 use batch_core::{Change, Reply};
 use byte_edge::Gate;
 use call_register::{EntryLists, History, Register};
-use number_tie::Tie;
 use std::alloc::Global;
 use std::marker::Model;
 use std::snapshot::Snapshot;
@@ -36,13 +35,12 @@ use std::sync::Wait;
 use turn_lock::TurnLock;
 
 /// An office of so many shards and candidates. Contracts see these numbers, and which office it is by
-/// its locks and ties.
+/// its windows and its register's lock.
 #[derive(Drop)]
 pub struct Office {
     pub(crate) shards: u32,
     pub(crate) candidates: u32,
-    pub(crate) locks: Vec<TurnLock<ShardValue>>,
-    pub(crate) ties: Vec<Tie>,
+    pub(crate) windows: Vec<Window>,
     pub(crate) register: TurnLock<RegisterValue>,
 }
 
@@ -52,9 +50,9 @@ impl Model for Office {
 
     ghost Value = { OfficeState };
 
-    ghost view = { λ o. record { shards = o.shards; candidates = o.candidates; identity = record { locks = o.locks.items; ties = o.ties.items; register = o.register } } };
+    ghost view = { λ o. record { shards = o.shards; candidates = o.candidates; identity = record { windows = o.windows.items; register = o.register } } };
 
-    ghost invariant = { λ o. (length o.locks.items ≡ o.shards) × (length o.ties.items ≡ o.shards) × (1 ≤ o.shards) × (o.shards ≤ 64) × (o.candidates ≤ 250) };
+    ghost invariant = { λ o. (length o.windows.items ≡ o.shards) × (1 ≤ o.shards) × (o.shards ≤ 64) × (o.candidates ≤ 250) };
 }
 
 impl Office {
@@ -68,10 +66,7 @@ impl Office {
         ensures nobody_taken { IfOk result (λ made. (made.1.taken ≡ []) × (made.1.last_caller ≡ 0) × (made.1.open_teams ≡ 0)) }
     {
         let room = shards as usize;
-        let Ok(mut locks) = Vec::with_capacity(alloc, room) else {
-            return Err(NoMemory);
-        };
-        let Ok(mut ties) = Vec::with_capacity(alloc, room) else {
+        let Ok(mut windows) = Vec::with_capacity(alloc, room) else {
             return Err(NoMemory);
         };
         let Ok(mut seats) = Vec::with_capacity(alloc, room) else {
@@ -87,8 +82,7 @@ impl Office {
             alloc,
             shards,
             candidates,
-            &mut locks,
-            &mut ties,
+            &mut windows,
             &mut seats,
             &mut halves,
         )?;
@@ -102,8 +96,7 @@ impl Office {
         let office = Office {
             shards,
             candidates,
-            locks,
-            ties,
+            windows,
             register: lock,
         };
         let clerk = Clerk {
@@ -252,15 +245,12 @@ fn ended(office: Office, alloc: Global, clerk: Clerk) -> Closing
     let Office {
         shards: number,
         candidates,
-        locks,
-        ties,
+        windows,
         register: lock,
     } = office;
     let mut kept = lock.close(register);
     kept.vouch();
-    end_all(
-        locks, shards, &ties, &mut kept, &mut lists, number, candidates,
-    );
+    end_all(windows, shards, &mut kept, &mut lists, number, candidates);
     Closing {
         clerk: about,
         kept,

@@ -1,9 +1,10 @@
 use Rattle.std.proofs.Common.{◌≡◌, ◌+◌, ◌-◌, ◌<◌, sym, ap, ◌∙◌, subst, arith, Some}
 use Rattle.std.specs.Prelude.{slice_get}
 use Rattle.batch_core.specs.Shards.{shard_of}
-use Rattle.shard_office.specs.Office.{OfficeState}
+use Rattle.shard_office.specs.declared.window.Window.{Window}
+use Rattle.shard_office.specs.Office.{OfficeState, ties_at}
 use Rattle.shard_office.specs.Passes.{AreAt}
-use Rattle.shard_office.proofs.Places.{get_in}
+use Rattle.shard_office.proofs.Places.{get_in, get_map}
 use Rattle.shard_office.proofs.Answered.{seat_fits, Did, did-at, did-on, did-is, did-own, did-kept, did-mine, did-nothing}
 use Rattle.shard_office.proofs.calling.change_by.Given.{Over}
 use Rattle.shard_office.proofs.calling.change_by.Goals as goal
@@ -21,10 +22,9 @@ change-requires-clause-shard g c =
     let at =
     get_in c.args.seats.now.shards.items (s - 1) c.index_mut-seat.result.now (omega arith)
     c.index_mut-seat.ensures.value in
-    seat_fits _ c.args.caller (s - 1) s c.index_mut-seat.result.now c.index.result.now c.index-2.result.now
+    seat_fits _ c.args.caller (s - 1) s c.index_mut-seat.result.now c.index.result.now
     (omega (arith, c.shard_of-number.ensures.bounds.0)) (are.shards (s - 1) c.index_mut-seat.result.now at)
-    (get_in c.office.inside.locks.items (s - 1) c.index.result.now (omega (arith, c.office.invariant.0)) c.index.ensures)
-    (get_in c.office.inside.ties.items (s - 1) c.index-2.result.now (omega (arith, c.office.invariant.1)) c.index-2.ensures)
+    (get_in c.office.inside.windows.items (s - 1) c.index.result.now (omega (arith, c.office.invariant.0)) c.index.ensures)
 
 pub change-requires-clause-register : goal.change-requires-clause-register
 change-requires-clause-register g c =
@@ -37,10 +37,11 @@ change-requires-clause-register g c =
     omega (arith, c.shard_of-number.ensures.bounds.0, c.shard_of-number.ensures.bounds.1) in (
       are.registered.lock,
       (
-        c.office.inside.ties.items,
+        ties_at c.office.inside.windows.items,
         are.registered.name,
-        get_in c.office.inside.ties.items (s - 1) c.index-2.result.now (omega (arith, c.office.invariant.1))
-            c.index-2.ensures,
+        get_map (λ (w : Window). w.tie) c.office.inside.windows.items (s - 1) c.index.result.now
+            (get_in c.office.inside.windows.items (s - 1) c.index.result.now (omega (arith, c.office.invariant.0))
+            c.index.ensures),
       ),
     )
 

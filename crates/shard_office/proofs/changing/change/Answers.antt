@@ -158,7 +158,7 @@ enter-reply-requires-clause-number g c =
       shard = c.args.number;
       shards = c.args.shards;
       candidates = c.args.candidates;
-      tie = c.args.tie.now;
+      tie = c.args.window.now.tie;
     } =
     ap shard_name c.value_mut-3.ensures.value
     ∙ (c.ready.ensures.name ∙ ap shard_name c.value_mut.ensures.value
@@ -166,7 +166,7 @@ enter-reply-requires-clause-number g c =
       shard = c.args.number;
       shards = c.args.shards;
       candidates = c.args.candidates;
-      tie = c.args.tie.now;
+      tie = c.args.window.now.tie;
     })
     (sym c.take-held.ensures.name ∙ c.requires.shard.1)) in (
       c.requires.number.0,
@@ -200,7 +200,7 @@ enter-reply-requires-clause-shard_tie g c =
       shard = c.args.number;
       shards = c.args.shards;
       candidates = c.args.candidates;
-      tie = c.args.tie.now;
+      tie = c.args.window.now.tie;
     } =
     ap shard_name c.value_mut-3.ensures.value
     ∙ (c.ready.ensures.name ∙ ap shard_name c.value_mut.ensures.value
@@ -208,7 +208,7 @@ enter-reply-requires-clause-shard_tie g c =
       shard = c.args.number;
       shards = c.args.shards;
       candidates = c.args.candidates;
-      tie = c.args.tie.now;
+      tie = c.args.window.now.tie;
     })
     (sym c.take-held.ensures.name ∙ c.requires.shard.1)) in
     ap (λ (n : ShardName). n.tie) is
@@ -233,7 +233,7 @@ enter-reply-requires-clause-lawful g c =
       shard = c.args.number;
       shards = c.args.shards;
       candidates = c.args.candidates;
-      tie = c.args.tie.now;
+      tie = c.args.window.now.tie;
     } =
     ap shard_name c.value_mut-3.ensures.value
     ∙ (c.ready.ensures.name ∙ ap shard_name c.value_mut.ensures.value
@@ -241,7 +241,7 @@ enter-reply-requires-clause-lawful g c =
       shard = c.args.number;
       shards = c.args.shards;
       candidates = c.args.candidates;
-      tie = c.args.tie.now;
+      tie = c.args.window.now.tie;
     })
     (sym c.take-held.ensures.name ∙ c.requires.shard.1)) in
     subst (λ (n : ShardName). IsLawful n.candidates c.args.change) (sym is) c.requires.lawful
@@ -254,7 +254,7 @@ enter-reply-requires-clause-shard g c =
       shard = c.args.number;
       shards = c.args.shards;
       candidates = c.args.candidates;
-      tie = c.args.tie.now;
+      tie = c.args.window.now.tie;
     } =
     ap shard_name c.value_mut-3.ensures.value
     ∙ (c.ready.ensures.name ∙ ap shard_name c.value_mut.ensures.value
@@ -262,7 +262,7 @@ enter-reply-requires-clause-shard g c =
       shard = c.args.number;
       shards = c.args.shards;
       candidates = c.args.candidates;
-      tie = c.args.tie.now;
+      tie = c.args.window.now.tie;
     })
     (sym c.take-held.ensures.name ∙ c.requires.shard.1)) in
     ap (λ (n : ShardName). shard_of (batch_of c.args.change) n.shards) is ∙ c.requires.of_shard

@@ -35,10 +35,10 @@ agree_all-requires-clause-ties g c =
     subst
     (λ (o : OfficeState). AreAt o c.args.caller c.args.seats.now.shards.items c.args.seats.now.register)
     (sym c.office.view_is) c.requires.at in
-    let n : vec_len c.office.inside.locks ≡ c.office.inside.shards =
-    omega (arith, c.office.inside.locks.ok.0, c.office.invariant.0) in
+    let n : vec_len c.office.inside.windows ≡ c.office.inside.shards =
+    omega (arith, c.office.inside.windows.ok.0, c.office.invariant.0) in
     held_ties _ c.args.caller c.args.seats.now.shards.items c.take_all.new.seats.items
-    c.args.seats.now.register c.take_all.new.held.items are c.office.invariant.1
+    c.args.seats.now.register c.take_all.new.held.items are c.office.invariant.0
     (subst (λ k. TookTurns k c.args.seats.now.shards.items c.take_all.new.seats.items) n c.take_all.ensures.taken)
     (omega (arith, c.take_all.ensures.len.0, c.take_all.new.held.ok.0)) c.take_all.ensures.held
 
@@ -48,13 +48,13 @@ copied-requires-clause-named g c =
     subst
     (λ (o : OfficeState). AreAt o c.args.caller c.args.seats.now.shards.items c.args.seats.now.register)
     (sym c.office.view_is) c.requires.at in
-    let n : vec_len c.office.inside.locks ≡ c.office.inside.shards =
-    omega (arith, c.office.inside.locks.ok.0, c.office.invariant.0) in
+    let n : vec_len c.office.inside.windows ≡ c.office.inside.shards =
+    omega (arith, c.office.inside.windows.ok.0, c.office.invariant.0) in
     let m : c.office.inside.shards ≡ vec_len c.agree_all.new.held =
     omega (arith, c.take_all.ensures.len.0, c.agree_all.ensures.held.0) in
     let named =
     held_named _ c.args.caller c.args.seats.now.shards.items c.take_all.new.seats.items
-    c.args.seats.now.register c.take_all.new.held.items are c.office.invariant.1
+    c.args.seats.now.register c.take_all.new.held.items are c.office.invariant.0
     (subst (λ k. TookTurns k c.args.seats.now.shards.items c.take_all.new.seats.items) n c.take_all.ensures.taken)
     (omega (arith, c.take_all.ensures.len.0, c.take_all.new.held.ok.0)) c.take_all.ensures.held in
     subst (λ (z : ℕ × List SeenShard). AreNamed z.0 c.office.inside.candidates z.1)
@@ -73,8 +73,8 @@ taken :
     (g : Over) (c : goal.After-give_all g)
     → TookTurns c.office.inside.shards c.args.seats.now.shards.items c.take_all.new.seats.items
 taken g c =
-    let n : vec_len c.office.inside.locks ≡ c.office.inside.shards =
-    omega (arith, c.office.inside.locks.ok.0, c.office.invariant.0) in
+    let n : vec_len c.office.inside.windows ≡ c.office.inside.shards =
+    omega (arith, c.office.inside.windows.ok.0, c.office.invariant.0) in
     subst (λ k. TookTurns k c.args.seats.now.shards.items c.take_all.new.seats.items) n c.take_all.ensures.taken
 
 looks : (g : Over) (c : goal.After-give_all g) → Looks c.args.seats.now.shards.items c.give_all.new.seats.items
@@ -134,8 +134,8 @@ returns-in-Ok-copied-clause-frozen g c =
     subst
     (λ (o : OfficeState). AreAt o c.args.caller c.args.seats.now.shards.items c.args.seats.now.register)
     (sym c.office.view_is) c.requires.at in
-    let n : vec_len c.office.inside.locks ≡ c.office.inside.shards =
-    omega (arith, c.office.inside.locks.ok.0, c.office.invariant.0) in
+    let n : vec_len c.office.inside.windows ≡ c.office.inside.shards =
+    omega (arith, c.office.inside.windows.ok.0, c.office.invariant.0) in
     let m : c.office.inside.shards ≡ vec_len c.agree_all.new.held =
     omega (arith, c.take_all.ensures.len.0, c.agree_all.ensures.held.0) in
     let len : length c.take_all.new.held.items ≡ c.office.inside.shards =
@@ -144,7 +144,7 @@ returns-in-Ok-copied-clause-frozen g c =
     subst (λ (z : ℕ × List SeenShard). AreNamed z.0 c.office.inside.candidates z.1)
     (λ i. (m i, sym c.agree_all.ensures.held.1 i))
     (held_named _ c.args.caller c.args.seats.now.shards.items c.take_all.new.seats.items
-    c.args.seats.now.register c.take_all.new.held.items are c.office.invariant.1 (taken g c) len
+    c.args.seats.now.register c.take_all.new.held.items are c.office.invariant.0 (taken g c) len
     c.take_all.ensures.held) in
     let marks : c.take-kept.result.register.marks ≡ c.agree_all.new.kept.register.marks =
     sym (ap (λ (r : SeenRegister). r.register.marks) c.agree_all.ensures.kept) in
@@ -154,13 +154,13 @@ returns-in-Ok-copied-clause-frozen g c =
     c.agree_all.ensures.agreed in
     let lists =
     held_seen _ c.args.caller c.args.seats.now.shards.items c.take_all.new.seats.items
-    c.args.seats.now.register c.take_all.new.held.items are c.office.invariant.1 (taken g c) len
+    c.args.seats.now.register c.take_all.new.held.items are c.office.invariant.0 (taken g c) len
     c.take_all.ensures.held c.give_all.new.seats.items c.give_all.ensures.given in
     let it =
     freeze_is (vec_len c.agree_all.new.held) c.office.inside.candidates
     c.agree_all.new.kept.register.marks c.agree_all.new.held.items
     (omega (arith, c.agree_all.new.held.ok.0))
-    (omega (arith, c.office.invariant.2)) c.in-Ok-copied.ensures.may named agreed c.in-Ok-copied.version.plans
+    (omega (arith, c.office.invariant.1)) c.in-Ok-copied.ensures.may named agreed c.in-Ok-copied.version.plans
     c.in-Ok-copied.ensures.count c.in-Ok-copied.ensures.plans
     c.args.caller (sight_of c.args.seats.now.shards.items c.args.seats.now.register)
     (sight_of c.give_all.new.seats.items c.give_with.new.seat) c.take-kept.ensures.begins.0
@@ -181,8 +181,8 @@ looks_err :
 looks_err g c =
     let count = c.requires.at.count in
     let same = ap (λ (o : OfficeState). o.shards) c.office.view_is in
-    let n : vec_len c.office.inside.locks ≡ c.office.inside.shards =
-    omega (arith, c.office.inside.locks.ok.0, c.office.invariant.0) in
+    let n : vec_len c.office.inside.windows ≡ c.office.inside.shards =
+    omega (arith, c.office.inside.windows.ok.0, c.office.invariant.0) in
     looks_by c.office.inside.shards c.args.seats.now.shards.items c.take_all.new.seats.items
     c.give_all-in-Err.new.seats.items (omega arith)
     (subst (λ k. TookTurns k c.args.seats.now.shards.items c.take_all.new.seats.items) n

@@ -5,10 +5,10 @@ use Rattle.call_register.specs.declared.mark.Mark.{Mark}
 use Rattle.call_register.specs.Marks.{MayMark}
 use Rattle.call_register.specs.Weaving.{list_of}
 use Rattle.shard_office.specs.declared.register_value.RegisterName.{RegisterName}
-use Rattle.shard_office.specs.Office.{OfficeState}
+use Rattle.shard_office.specs.Office.{OfficeState, ties_at}
 use Rattle.shard_office.specs.Values.{SeenRegister}
 use Rattle.shard_office.specs.Names.{register_name}
-use Rattle.shard_office.specs.Passes.{PassState, sight_of, mine_of}
+use Rattle.shard_office.specs.Passes.{PassState, IsOfWindow, sight_of, mine_of}
 use Rattle.shard_office.specs.Clerk.{ClerkState, AreFirst}
 use Rattle.shard_office.specs.Closing.{AreEnded, HoldsAll}
 use Rattle.shard_office.proofs.ClosingLemmas.{all_held, no_length}
@@ -24,14 +24,11 @@ end_all-requires-clause-may c i s es =
     let mine = c.clerk.invariant.0.at.shards i s es in
     let out = first.out in
     record {
-      lock = ap (λ (k : OfficeState). slice_get k.identity.locks i) (sym to) ∙ mine.lock;
+      window = λ w ew. subst (λ (k : OfficeState). IsOfWindow k.shards k.candidates i w s) to
+          (mine.window w (ap (λ (k : OfficeState). slice_get k.identity.windows i) to ∙ ew));
       first = first.first;
       free = mine.free;
       alone = no_length s.out (omega arith);
-      name =
-          λ t et. mine.name t (ap (λ (k : OfficeState). slice_get k.identity.ties i) to ∙ et)
-          ∙ (λ j. Some (record
-          { shard = i + 1; shards = (to j).shards; candidates = (to j).candidates; tie = t }));
     }
 
 pub invariant_of-result : goal.invariant_of-result
@@ -49,10 +46,10 @@ invariant_of-result c =
     (λ i. (same i, teams i)) c.clerk.invariant.0 in
     let shards = ap (λ (o : OfficeState). o.shards) c.office.view_is in
     let candidates = ap (λ (o : OfficeState). o.candidates) c.office.view_is in
-    let n : vec_len c.office.inside.locks ≡ c.args.office.shards =
-    omega (arith, c.office.inside.locks.ok.0, c.office.invariant.0) in
+    let n : vec_len c.office.inside.windows ≡ c.args.office.shards =
+    omega (arith, c.office.inside.windows.ok.0, c.office.invariant.0) in
     let len : length lists ≡ c.args.office.shards = omega (arith, c.end_all.ensures.len, c.end_all.new.lists.ok.0) in
-    let some : 1 ≤ c.args.office.shards = omega (arith, c.office.invariant.2) in
+    let some : 1 ≤ c.args.office.shards = omega (arith, c.office.invariant.1) in
     let ended : AreEnded c.args.office.shards c.args.office.candidates c.args.office.shards marks seats lists =
     subst (λ (z : ℕ × ℕ × ℕ). AreEnded z.0 z.1 z.2 marks seats lists) (λ i. (shards i, candidates i, n i))
     c.end_all.ensures.ended in
@@ -61,7 +58,7 @@ invariant_of-result c =
     ≡ Some (record {
       shards = c.args.office.shards;
       candidates = c.args.office.candidates;
-      ties = c.args.office.identity.ties;
+      ties = ties_at c.args.office.identity.windows;
     }) =
     sym c.close-kept.ensures.name ∙ are.at.registered.name in
     let named :
@@ -69,7 +66,7 @@ invariant_of-result c =
     ≡ record {
       shards = c.args.office.shards;
       candidates = c.args.office.candidates;
-      ties = c.args.office.identity.ties;
+      ties = ties_at c.args.office.identity.windows;
     } =
     cc name in
     let may : All (MayMark c.args.office.shards c.args.office.candidates) marks =

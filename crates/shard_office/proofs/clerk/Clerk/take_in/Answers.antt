@@ -20,14 +20,12 @@ join_all-requires-clause-may c i x o ex eo =
     let first = c.self.invariant.0.shards i x ex in
     let mine = c.self.invariant.0.at.shards i x ex in
     let other = c.pass.invariant.shards i o eo in
-    let one : slice_get c.args.office.now.identity.locks i ≡ Some x.lock =
-    ap (λ (k : OfficeState). slice_get k.identity.locks i) (sym same) ∙ mine.lock in
-    let two : slice_get c.args.office.now.identity.locks i ≡ Some o.lock =
-    ap (λ (k : OfficeState). slice_get k.identity.locks i) (sym theirs) ∙ other.lock in
-    let both : Some o.lock ≡ Some x.lock = sym two ∙ one in
     record {
-      lock = ap (λ (k : OfficeState). slice_get k.identity.locks i) c.office.view_is ∙ one;
-      same = cc both;
+      lock =
+          λ w ew. (
+            (mine.window w (ap (λ (k : OfficeState). slice_get k.identity.windows i) (same ∙ sym c.office.view_is) ∙ ew)).lock,
+            (other.window w (ap (λ (k : OfficeState). slice_get k.identity.windows i) (theirs ∙ sym c.office.view_is) ∙ ew)).lock,
+          );
       is_first = first.first;
       free = mine.free;
       others = other.free;

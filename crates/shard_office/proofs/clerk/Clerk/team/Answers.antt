@@ -18,7 +18,9 @@ split_all-requires-clause-may c i x ex =
     let first = c.self.invariant.0.shards i x ex in
     let mine = c.self.invariant.0.at.shards i x ex in
     record {
-      lock = ap (λ (k : OfficeState). slice_get k.identity.locks i) (c.office.view_is ∙ sym same) ∙ mine.lock;
+      lock =
+          λ w ew. (mine.window w
+          (ap (λ (k : OfficeState). slice_get k.identity.windows i) (same ∙ sym c.office.view_is) ∙ ew)).lock;
       first = first.first;
       free = mine.free;
       above = (let e = first.given in omega arith);
@@ -44,10 +46,10 @@ invariant_of-result c =
     c.self.inside.seats.shards.items c.self.inside.seats.register) same c.self.invariant.0 in
     let above : c.self.inside.last < c.args.caller =
     subst (λ (s : ClerkState). s.last_caller < c.args.caller) (sym c.self.view_is) c.requires.caller in
-    let count : vec_len c.office.inside.locks ≡ c.args.office.now.shards =
+    let count : vec_len c.office.inside.windows ≡ c.args.office.now.shards =
     omega (
       arith,
-      c.office.inside.locks.ok.0,
+      c.office.inside.windows.ok.0,
       c.office.invariant.0,
       ap (λ (o : OfficeState). o.shards) c.office.view_is,
     ) in
@@ -74,10 +76,10 @@ invariant_of-self-2 c =
     c.self.inside.seats.shards.items c.self.inside.seats.register) same c.self.invariant.0 in
     let above : c.self.inside.last < c.args.caller =
     subst (λ (s : ClerkState). s.last_caller < c.args.caller) (sym c.self.view_is) c.requires.caller in
-    let count : vec_len c.office.inside.locks ≡ c.args.office.now.shards =
+    let count : vec_len c.office.inside.windows ≡ c.args.office.now.shards =
     omega (
       arith,
-      c.office.inside.locks.ok.0,
+      c.office.inside.windows.ok.0,
       c.office.invariant.0,
       ap (λ (o : OfficeState). o.shards) c.office.view_is,
     ) in
@@ -114,10 +116,10 @@ returns-clause-desk c =
     c.self.inside.seats.shards.items c.self.inside.seats.register) same c.self.invariant.0 in
     let above : c.self.inside.last < c.args.caller =
     subst (λ (s : ClerkState). s.last_caller < c.args.caller) (sym c.self.view_is) c.requires.caller in
-    let count : vec_len c.office.inside.locks ≡ c.args.office.now.shards =
+    let count : vec_len c.office.inside.windows ≡ c.args.office.now.shards =
     omega (
       arith,
-      c.office.inside.locks.ok.0,
+      c.office.inside.windows.ok.0,
       c.office.invariant.0,
       ap (λ (o : OfficeState). o.shards) c.office.view_is,
     ) in
@@ -155,10 +157,10 @@ returns-clause-made c =
     c.self.inside.seats.shards.items c.self.inside.seats.register) same c.self.invariant.0 in
     let above : c.self.inside.last < c.args.caller =
     subst (λ (s : ClerkState). s.last_caller < c.args.caller) (sym c.self.view_is) c.requires.caller in
-    let count : vec_len c.office.inside.locks ≡ c.args.office.now.shards =
+    let count : vec_len c.office.inside.windows ≡ c.args.office.now.shards =
     omega (
       arith,
-      c.office.inside.locks.ok.0,
+      c.office.inside.windows.ok.0,
       c.office.invariant.0,
       ap (λ (o : OfficeState). o.shards) c.office.view_is,
     ) in
@@ -193,10 +195,10 @@ returns-clause-own c =
     c.self.inside.seats.shards.items c.self.inside.seats.register) same c.self.invariant.0 in
     let above : c.self.inside.last < c.args.caller =
     subst (λ (s : ClerkState). s.last_caller < c.args.caller) (sym c.self.view_is) c.requires.caller in
-    let count : vec_len c.office.inside.locks ≡ c.args.office.now.shards =
+    let count : vec_len c.office.inside.windows ≡ c.args.office.now.shards =
     omega (
       arith,
-      c.office.inside.locks.ok.0,
+      c.office.inside.windows.ok.0,
       c.office.invariant.0,
       ap (λ (o : OfficeState). o.shards) c.office.view_is,
     ) in

@@ -1,6 +1,6 @@
 use Rattle.std.proofs.Common.{◌≡◌, List, [], map, sym, ap, ◌∙◌, subst, arith, Some}
 use Rattle.turn_lock.specs.Sights.{first_sight}
-use Rattle.shard_office.specs.Office.{OfficeState}
+use Rattle.shard_office.specs.Office.{OfficeState, ties_at}
 use Rattle.shard_office.specs.Passes.{PassState}
 use Rattle.shard_office.specs.Clerk.{AreFirst}
 use Rattle.shard_office.proofs.OpeningLists.{opened_first, none_seen}
@@ -14,8 +14,7 @@ invariant_of-clerk c =
       candidates = c.args.candidates;
       identity =
           record {
-            locks = c.open_all.new.locks.items;
-            ties = c.open_all.new.ties.items;
+            windows = c.open_all.new.windows.items;
             register = c.in-Ok-try_new.lock;
           };
     } in
@@ -23,7 +22,7 @@ invariant_of-clerk c =
     let seat :
     c.in-Ok-try_new.seat
     ≡ first_sight o.identity.register
-    (Some (record { shards = o.shards; candidates = o.candidates; ties = o.identity.ties })) =
+    (Some (record { shards = o.shards; candidates = o.candidates; ties = ties_at o.identity.windows })) =
     c.in-Ok-try_new.ensures.first
     ∙ (λ i. first_sight o.identity.register (Some (record {
       shards = c.in-Ok-new.ensures.shards i;
@@ -36,8 +35,8 @@ invariant_of-clerk c =
           c.in-Ok-try_new.seat) (λ i. (sym is i, sym none i))
           (opened_first o c.open_all.new.seats.items c.in-Ok-try_new.seat c.open_all.new.halves.items opened seat),
       omega (arith, c.new-2.ensures.len),
-      c.in-Ok-with_capacity-4.ensures.items,
-      omega (arith, ap (λ (z : OfficeState). z.shards) is, c.in-Ok-with_capacity-4.ensures.capacity),
+      c.in-Ok-with_capacity-3.ensures.items,
+      omega (arith, ap (λ (z : OfficeState). z.shards) is, c.in-Ok-with_capacity-3.ensures.capacity),
     )
 
 pub returns-clause-nothing_seen : goal.returns-clause-nothing_seen
@@ -48,8 +47,7 @@ returns-clause-nothing_seen c =
       candidates = c.args.candidates;
       identity =
           record {
-            locks = c.open_all.new.locks.items;
-            ties = c.open_all.new.ties.items;
+            windows = c.open_all.new.windows.items;
             register = c.in-Ok-try_new.lock;
           };
     } in
@@ -57,7 +55,7 @@ returns-clause-nothing_seen c =
     let seat :
     c.in-Ok-try_new.seat
     ≡ first_sight o.identity.register
-    (Some (record { shards = o.shards; candidates = o.candidates; ties = o.identity.ties })) =
+    (Some (record { shards = o.shards; candidates = o.candidates; ties = ties_at o.identity.windows })) =
     c.in-Ok-try_new.ensures.first
     ∙ (λ i. first_sight o.identity.register (Some (record {
       shards = c.in-Ok-new.ensures.shards i;
