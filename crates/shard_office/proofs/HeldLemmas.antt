@@ -40,6 +40,12 @@ looks_by n olds mids news few taken given = record {
       (looked_by x m.0 y took gave, gave.knows);
 }
 
+-- what holds of the values that these seats hold, one for each shard
+pub record AllHeld (o : OfficeState) (mids : List ShardSeat) (held : List SeenShard) : Type 0 where
+  pub named : AreNamed o.shards o.candidates held
+  pub ties : AreTied o.identity.windows held
+  pub seen : (news : List ShardSeat) → GaveTurns 0 mids news → by_shard (lists_of news) ≡ by_shard (entries_held held)
+
 module _ (o : OfficeState) (p : ℕ) (olds mids : List ShardSeat) (r : RegisterSeat) (held : List SeenShard)
     (are : AreAt o p olds r) (all : length o.identity.windows ≡ o.shards) (taken : TookTurns o.shards olds mids)
     (len : length held ≡ o.shards) (by : AreHeld held mids) where
@@ -61,7 +67,7 @@ module _ (o : OfficeState) (p : ℕ) (olds mids : List ShardSeat) (r : RegisterS
       ∙ (ap (λ z. z.name) took.same ∙ ((are.shards i x.0 x.1).window w ew).name) in
       cc same
 
-  pub held_named : AreNamed o.shards o.candidates held
+  held_named : AreNamed o.shards o.candidates held
   held_named i v e =
       let lt = get_lt held i v e in
       let w = get_some o.identity.windows i (omega arith) in
@@ -72,11 +78,11 @@ module _ (o : OfficeState) (p : ℕ) (olds mids : List ShardSeat) (r : RegisterS
         of_candidates = ap (λ (k : ShardName). k.candidates) n;
       }
 
-  pub held_ties : AreTied o.identity.windows held
+  held_ties : AreTied o.identity.windows held
   held_ties i w v ew e = ap (λ (k : ShardName). k.tie) (name_is i w v ew e)
 
   -- what was seen in the end is what was held
-  pub held_seen : (news : List ShardSeat) → GaveTurns 0 mids news → by_shard (lists_of news) ≡ by_shard (entries_held held)
+  held_seen : (news : List ShardSeat) → GaveTurns 0 mids news → by_shard (lists_of news) ≡ by_shard (entries_held held)
   held_seen news given = ap by_shard (map_each (λ (s : ShardSeat). s.seen) (λ (w : SeenShard). w.book.entries) news held
       (let a = are.count in let b = taken.len in let c = given.len in omega arith)
       (λ i y v ey ev.
@@ -84,6 +90,9 @@ module _ (o : OfficeState) (p : ℕ) (olds mids : List ShardSeat) (r : RegisterS
       let n = given.len in
       let m = get_some mids i (omega arith) in
       ap (λ z. z.seen) (given.given i m.0 y (omega arith) m.1 ey).same ∙ sym (by i v m.0 ev m.1).entries))
+
+  pub all_held : AllHeld o mids held
+  all_held = record { named = held_named; ties = held_ties; seen = held_seen }
 
 -- the register's turn, taken and given back with a mark
 pub register_gave :

@@ -6,6 +6,7 @@ mod Lists
 mod Called
 mod Answered
 mod Marked
+mod AfterMarks
 mod TurnLists
 mod FreezeLemmas
 mod HeldLemmas

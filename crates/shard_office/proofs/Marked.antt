@@ -1,7 +1,7 @@
 -- A caller's seats after it looked at all shards, and after a freeze or a strike.
 use Rattle.std.proofs.Common.{◌≡◌, ℕ, zero, suc, ◌<◌, ◌≤◌, List, [], ◌∷◌, ◌++◌, length, get_or, refl, sym, ap}
 use Rattle.std.proofs.Common.{◌∙◌, subst, ⊎_elim, arith, append-nil, Option}
-use Rattle.std.specs.Prelude.{slice_get, Some, Result, Ok, Err, IfOk, OnOk, OnErr, false}
+use Rattle.std.specs.Prelude.{slice_get, Some, false}
 use Rattle.std.proofs.lemmas.Bool.{cases_lt}
 use Rattle.std.proofs.lemmas.List.{get_or_past}
 use Rattle.turn_lock.specs.Entries.{owned_by, owned}
@@ -14,13 +14,12 @@ use Rattle.call_register.specs.declared.mark.Mark.TheVariants.{Freeze, Strike}
 use Rattle.call_register.specs.Marks.{struck_by}
 use Rattle.call_register.specs.Weaving.{Lists, freeze_entry}
 use Rattle.call_register.specs.Walk.{calls_seen, left, NoneBy, NoMarkBy, followed}
-use Rattle.shard_office.specs.declared.no_memory.NoMemory.{NoMemory}
 use Rattle.shard_office.specs.Names.{strike_answer}
 use Rattle.shard_office.specs.Owners.{owner_of_entry, owner_of_mark}
 use Rattle.shard_office.specs.Office.{OfficeState}
-use Rattle.shard_office.specs.Sight.{by_shard, calls_in, GoesOn, AddsMark}
+use Rattle.shard_office.specs.Sight.{by_shard, calls_in, GoesOn}
 use Rattle.shard_office.specs.Moves.{Looked, Gave, WentOn, Looks, GoOn}
-use Rattle.shard_office.specs.Passes.{ShardSeat, RegisterSeat, lists_of, sight_of, mine_of, IsAtShard, IsAtRegister, AreAt}
+use Rattle.shard_office.specs.Passes.{ShardSeat, RegisterSeat, lists_of, sight_of, IsAtShard, IsAtRegister, AreAt}
 use Rattle.shard_office.proofs.Places.{get_lt, get_some, get_map, length_map}
 use Rattle.shard_office.proofs.Lists.{read_at}
 use Rattle.shard_office.proofs.Owned.{owned_are_calls, owned_are_marks, looked_further, gave_further}
@@ -253,49 +252,3 @@ none_looked o p seats r are = record {
       (([], λ k. record x { holds = free k; seen = sym (append-nil x.seen) k }), is.knows) in
       subst (λ (z : ShardSeat). Looked x z × KnowsOwn owner_of_entry z) same it;
 }
-
--- what became of the register's seat at a strike
-pub record DidStrike (p k : ℕ) (r r' : RegisterSeat) (answer : Result Reply NoMemory) : Type 0 where
-  pub knows : KnowsOwn owner_of_mark r'
-  pub mark : OnOk answer (Gave r r' (Strike p k))
-  pub answered :
-      IfOk answer
-      (λ a. (front : List Mark) → r'.seen ≡ front ++ Strike p k ∷ [] → a ≡ strike_reply (struck_by front) k)
-  pub refused : OnErr answer (Looked r r')
-
-module _ (o : OfficeState) (p k : ℕ) (seats : List ShardSeat) (r r' : RegisterSeat) (are : AreAt o p seats r) where
-  pub did_strike-at : (answer : Result Reply NoMemory) → DidStrike p k r r' answer → AreAt o p seats r'
-  did_strike-at (Ok a) d =
-      struck-at o p seats seats r r' are (go_on seats seats (none_looked o p seats r are)) d.knows k d.mark
-  did_strike-at (Err b) d =
-      all_looked-at o p seats seats r r' are (go_on seats seats (none_looked o p seats r are)) d.knows
-      (went r r' d.refused)
-
-  pub did_strike-own :
-      (answer : Result Reply NoMemory) → DidStrike p k r r' answer
-      → IfOk answer
-      (λ a. calls_in p (sight_of seats r') ≡ calls_in p (sight_of seats r) ++ strike_answer p k a ∷ [])
-  did_strike-own (Ok a) d =
-      struck-own o p seats seats r r' are (go_on seats seats (none_looked o p seats r are)) d.knows k d.mark a
-      (d.answered (r.seen ++ d.mark.0) (ap (λ z. z.seen) d.mark.1))
-  did_strike-own (Err b) d = tt
-
-  pub did_strike-kept :
-      (answer : Result Reply NoMemory) → DidStrike p k r r' answer
-      → OnErr answer (calls_in p (sight_of seats r') ≡ calls_in p (sight_of seats r))
-  did_strike-kept (Ok a) d = tt
-  did_strike-kept (Err b) d =
-      all_looked-own o p seats seats r r' are (go_on seats seats (none_looked o p seats r are)) d.knows
-      (went r r' d.refused)
-
-  pub did_strike-mine :
-      (answer : Result Reply NoMemory) → DidStrike p k r r' answer
-      → OnOk answer (AddsMark (Strike p k) (mine_of seats r) (mine_of seats r'))
-  did_strike-mine (Ok a) d = λ j. record { marks = ap (λ z. z.mine) d.mark.1 j; lists = (mine_of seats r).lists }
-  did_strike-mine (Err b) d = tt
-
-  pub did_strike-nothing :
-      (answer : Result Reply NoMemory) → DidStrike p k r r' answer
-      → OnErr answer (mine_of seats r' ≡ mine_of seats r)
-  did_strike-nothing (Ok a) d = tt
-  did_strike-nothing (Err b) d = λ j. record { marks = ap (λ z. z.mine) d.refused.1 j; lists = (mine_of seats r).lists }

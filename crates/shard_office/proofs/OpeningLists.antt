@@ -13,13 +13,12 @@ use Rattle.call_register.specs.Walk.{left, NoneBy}
 use Rattle.shard_office.specs.Owners.{owner_of_entry, owner_of_mark}
 use Rattle.shard_office.specs.Office.{OfficeState, ties_at}
 use Rattle.shard_office.specs.Sight.{by_shard, entries_of}
-use Rattle.shard_office.specs.Values.{ties_of}
 use Rattle.shard_office.specs.Passes.{PassState, ShardSeat, RegisterSeat, lists_of}
 use Rattle.shard_office.specs.Clerk.{IsFirst, AreFirst}
 use Rattle.shard_office.specs.Opening.{AreOpened, opened_seat}
 use Rattle.shard_office.proofs.Places.{get_lt, get_some, get_map, length_map}
 use Rattle.shard_office.proofs.Lists.{read_at}
-use Rattle.shard_office.proofs.TurnLists.{get_push, get_front, get_last, same_place}
+use Rattle.shard_office.proofs.TurnLists.{get_push, get_last, same_place}
 use Rattle.shard_office.proofs.Places.{map-push}
 
 pub opened_more :

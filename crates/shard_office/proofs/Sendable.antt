@@ -27,7 +27,7 @@ use Rattle.shard_office.specs.contracts.shard_value.ShardName as shard_name
 use Rattle.shard_office.specs.contracts.shard_value.ShardValueKept.TheImpl as shard_kept
 use Rattle.shard_office.specs.contracts.shard_value.ShardValue as shard_value
 use Rattle.shard_office.specs.contracts.shard_value.ShardValue.TheInside as shard_fields
-use Rattle.shard_office.specs.contracts.seats.Seats as seats
+use Rattle.shard_office.specs.contracts.desk.Desk as desk
 use Rattle.shard_office.specs.contracts.pass.Pass as pass
 use Rattle.shard_office.specs.contracts.pass.Pass.TheInside as inside
 
@@ -88,18 +88,25 @@ value_send =
     shard_fields.the_type.to_one
     (struct_send (shape shard_fields.the_type) (book_send, (half.the_send, tt))))
 
-pub seats_send : IsSend seats.the_field.row
-seats_send = struct_send (shape seats.the_type) (
-  Vec-send _
-      (seat.the_send shard_value.the_row entry.the_row shard_name.the_row shard_kept.ghosts value_send),
-  (
-    seat.the_send register_row.the_row mark.the_row register_name.the_row register_kept.ghosts
-        register_value.the_send,
-    tt,
-  ),
-)
+desk_send : IsSend desk.the_field.row
+desk_send =
+    struct_send (shape desk.the_type) (
+      search sendable,
+      (
+        search sendable,
+        (
+          Vec-send _
+              (seat.the_send shard_value.the_row entry.the_row shard_name.the_row shard_kept.ghosts value_send),
+          (
+            seat.the_send register_row.the_row mark.the_row register_name.the_row register_kept.ghosts
+                register_value.the_send,
+            tt,
+          ),
+        ),
+      ),
+    )
 
 pub pass_send : IsSend pass.the_row
 pass_send =
     view_send inside.the_row _ _ _ _ (recorded_send inside.the_field.row _ _ inside.the_type.to_one
-    (struct_send (shape inside.the_type) (search sendable, (search sendable, (seats_send, tt)))))
+    (struct_send (shape inside.the_type) (desk_send, tt)))

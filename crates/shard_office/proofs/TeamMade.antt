@@ -23,6 +23,17 @@ use Rattle.shard_office.proofs.Mine.{new-mine}
 use Rattle.shard_office.proofs.Called.{still_at_shard, still_at_register}
 use Rattle.shard_office.proofs.FirstSeats.{first_after_split}
 
+-- what holds of the clerk's seats, and of those that they made for the pass of this caller
+pub record IsMade (o : OfficeState) (last teams caller : ℕ) (taken : List PassState)
+    (seats news made : List ShardSeat) (r r' rm : RegisterSeat) : Type 0 where
+  pub first : AreFirst o caller (teams + 1) taken news r'
+  pub sight : sight_of news r' ≡ sight_of seats r
+  pub mine : mine_of news r' ≡ mine_of seats r
+  pub at : AreAt o caller made rm
+  pub seen : sight_of made rm ≡ sight_of seats r
+  pub nothing : mine_of made rm ≡ nothing_of (sight_of seats r)
+  pub own : calls_in caller (sight_of made rm) ≡ []
+
 -- the clerk made seats for the pass of this caller
 module _ (o : OfficeState) (last teams caller : ℕ) (taken : List PassState) (seats news made : List ShardSeat)
     (r r' rm : RegisterSeat) (are : AreFirst o last teams taken seats r) (above : last < caller)
@@ -44,7 +55,7 @@ module _ (o : OfficeState) (last teams caller : ℕ) (taken : List PassState) (s
       (x.0, x.1, split.split i x.0 y (omega arith) x.1 ey)
 
   -- nothing was seen that had not been seen before
-  pub split-sight : sight_of news r' ≡ sight_of seats r
+  split-sight : sight_of news r' ≡ sight_of seats r
   split-sight = λ k. record {
     marks = ap (λ z. z.seen) same k;
     lists =
@@ -52,7 +63,7 @@ module _ (o : OfficeState) (last teams caller : ℕ) (taken : List PassState) (s
         (λ i y x ey ex. ap (λ z. z.seen) (split_at i x y ex ey)) k;
   }
 
-  pub split-mine : mine_of news r' ≡ mine_of seats r
+  split-mine : mine_of news r' ≡ mine_of seats r
   split-mine = λ k. record {
     marks = ap (λ z. z.mine) same k;
     lists =
@@ -60,7 +71,7 @@ module _ (o : OfficeState) (last teams caller : ℕ) (taken : List PassState) (s
         (λ i y x ey ex. ap (λ z. z.mine) (split_at i x y ex ey)) k;
   }
 
-  pub split-first : AreFirst o caller (teams + 1) taken news r'
+  split-first : AreFirst o caller (teams + 1) taken news r'
   split-first = record {
     at = record {
       count = split.len ∙ are.at.count;
@@ -111,7 +122,7 @@ module _ (o : OfficeState) (last teams caller : ℕ) (taken : List PassState) (s
       (x.0, x.1, is.0, is.1)
 
   -- the new pass has seen what the clerk has seen
-  pub made-sight : sight_of made rm ≡ sight_of seats r
+  made-sight : sight_of made rm ≡ sight_of seats r
   made-sight = λ k. record {
     marks = ap (λ z. z.seen) new k;
     lists =
@@ -120,7 +131,7 @@ module _ (o : OfficeState) (last teams caller : ℕ) (taken : List PassState) (s
   }
 
   -- and made nothing
-  pub made-mine : mine_of made rm ≡ nothing_of (sight_of seats r)
+  made-mine : mine_of made rm ≡ nothing_of (sight_of seats r)
   made-mine = new-mine seats made r rm made_len (λ i m em. ap (λ z. z.mine) (made_by i m em).2) (ap (λ z. z.mine) new)
 
   none_marked : NoMarkBy caller rm.seen
@@ -146,10 +157,10 @@ module _ (o : OfficeState) (last teams caller : ℕ) (taken : List PassState) (s
       (let n = length_map (λ (s : ShardSeat). s.seen) made in omega arith))) refl)
       (cases_lt i (length made))
 
-  pub made-own : calls_in caller (sight_of made rm) ≡ []
+  made-own : calls_in caller (sight_of made rm) ≡ []
   made-own = calls_stay caller [] rm.seen (λ t. []) (by_shard (lists_of made)) none_marked (λ t. refl) none_entered
 
-  pub made-at : AreAt o caller made rm
+  made-at : AreAt o caller made rm
   made-at = record {
     count = split.count;
     shards = λ i m em.
@@ -174,4 +185,15 @@ module _ (o : OfficeState) (last teams caller : ℕ) (taken : List PassState) (s
     marked =
         λ t. subst (NoneBy caller) (sym (left_is t rm.seen (by_shard (lists_of made))))
         (none_drop caller (marks_of t rm.seen) (by_shard (lists_of made) t) (none_entered t));
+  }
+
+  pub team_made : IsMade o last teams caller taken seats news made r r' rm
+  team_made = record {
+    first = split-first;
+    sight = split-sight;
+    mine = split-mine;
+    at = made-at;
+    seen = made-sight;
+    nothing = made-mine;
+    own = made-own;
   }

@@ -4,11 +4,11 @@ ghost use Rattle.shard_office.specs.Passes.{own, PassState};
 ghost use Rattle.shard_office.specs.Sight.{GoesOn, nothing_of};
 ghost use Rattle.shard_office.specs.Clerk.{IsTaken};
 
+use crate::desk::Desk;
 use crate::meeting::{join_all, split_all};
 use crate::no_memory::NoMemory;
 use crate::office::Office;
 use crate::pass::Pass;
-use crate::seats::Seats;
 use batch_core::Entries;
 use std::alloc::Global;
 use std::marker::Model;
@@ -19,8 +19,7 @@ use std::snapshot::Snapshot;
 /// and the number of passes that are out.
 #[derive(Drop)]
 pub struct Clerk {
-    pub(crate) office: Snapshot<Office>,
-    pub(crate) seats: Seats,
+    pub(crate) desk: Desk,
     pub(crate) last: u32,
     pub(crate) teams: u32,
     pub(crate) taken: Vec<Snapshot<Pass>>,
@@ -29,23 +28,24 @@ pub struct Clerk {
 
 impl Model for Clerk {
     ghost use Rattle.std.specs.Prelude.{◌≡◌, ◌+◌, ◌≤◌, [], map, vec_len, vec_capacity};
-    ghost use Rattle.shard_office.specs.Passes.{sight_of, mine_of};
+    ghost use Rattle.shard_office.specs.Desks.{pass_at};
     ghost use Rattle.shard_office.specs.Clerk.{ClerkState, AreFirst};
 
     ghost Value = { ClerkState };
 
     ghost view = { λ c. record {
-      desk = record { office = c.office.value; caller = 0; sight = sight_of c.seats.shards.items c.seats.register; mine = mine_of c.seats.shards.items c.seats.register };
+      desk = pass_at c.desk;
       taken = map (λ t. t.value) c.taken.items;
       last_caller = c.last;
       open_teams = c.teams;
     } };
 
     ghost invariant = { λ c.
-        AreFirst c.office.value c.last c.teams (map (λ t. t.value) c.taken.items) c.seats.shards.items c.seats.register
+        AreFirst c.desk.office.value c.last c.teams (map (λ t. t.value) c.taken.items) c.desk.shards.items c.desk.register
+        × (c.desk.caller ≡ 0)
         × (c.teams + vec_len c.taken ≤ vec_capacity c.taken)
         × (c.lists.items ≡ [])
-        × (c.office.value.shards ≤ vec_capacity c.lists) };
+        × (c.desk.office.value.shards ≤ vec_capacity c.lists) };
 }
 
 impl Clerk {
@@ -85,15 +85,17 @@ impl Clerk {
         let Ok(mut shards) = Vec::with_capacity(alloc, office.windows.len()) else {
             return Err(NoMemory);
         };
-        split_all(&office.windows, &mut self.seats.shards, caller, &mut shards);
-        let register = office.register.split(&mut self.seats.register, caller);
+        split_all(&office.windows, &mut self.desk.shards, caller, &mut shards);
+        let register = office.register.split(&mut self.desk.register, caller);
         self.last = caller;
         self.teams += 1;
-        Ok(Pass {
+        let desk = Desk {
             office: Snapshot::of(office),
             caller,
-            seats: Seats { shards, register },
-        })
+            shards,
+            register,
+        };
+        Ok(Pass { desk })
     }
 
     /// Takes a pass in. The clerk has then seen all that either had seen; its own calls stay, and so do
@@ -111,10 +113,14 @@ impl Clerk {
         ensures open_teams { self.new.open_teams + 1 ≡ self.old.open_teams }
     {
         let about = Snapshot::of(&pass);
-        let Pass { seats, .. } = pass;
-        let Seats { shards, register } = seats;
-        join_all(&office.windows, &mut self.seats.shards, shards);
-        office.register.join(&mut self.seats.register, register);
+        let Pass { desk } = pass;
+        let Desk {
+            shards,
+            register,
+            ..
+        } = desk;
+        join_all(&office.windows, &mut self.desk.shards, shards);
+        office.register.join(&mut self.desk.register, register);
         self.teams -= 1;
         self.taken.push_reserved(about);
     }

@@ -1,19 +1,19 @@
-// A freeze, by a caller's seats.
+// A freeze, at a caller's desk.
 ghost use Rattle.std.specs.Prelude.{◌≡◌, ◌+◌, ◌≤◌, ◌++◌, ◌∷◌, [], All, false, length, vec_len, IfOk, OnOk, OnErr};
 ghost use Rattle.call_register.specs.Marks.{MayMark, struck_by};
 ghost use Rattle.call_register.specs.declared.mark.Mark.TheVariants.{Freeze};
 ghost use Rattle.call_register.specs.Weaving.{freeze_entry};
 ghost use Rattle.shard_office.specs.Names.{register_name};
-ghost use Rattle.shard_office.specs.Sight.{GoesOn, AddsMark, calls_in};
-ghost use Rattle.shard_office.specs.Passes.{AreAt, sight_of, mine_of};
-ghost use Rattle.shard_office.specs.Moves.{Looks};
+ghost use Rattle.shard_office.specs.Sight.{GoesOn, AddsMark};
+ghost use Rattle.shard_office.specs.Passes.{own};
+ghost use Rattle.shard_office.specs.Desks.{pass_at, seen, made, IsSeated, Stays};
 ghost use Rattle.shard_office.specs.Turned.{AreAgreed, AreNamed, ArePlansOf};
 ghost use Rattle.shard_office.specs.Versions.{IsFreeze};
 
+use crate::desk::Desk;
 use crate::no_memory::NoMemory;
 use crate::office::Office;
 use crate::register_value::RegisterValue;
-use crate::seats::Seats;
 use crate::shard_value::ShardValue;
 use crate::turns::{agree_all, give_all, plans_of, take_all};
 use crate::version::Version;
@@ -56,42 +56,41 @@ fn copied(
     })
 }
 
-/// A freeze by these seats: it takes the turns of all shards in rising order, and then the register's.
-pub(crate) fn freeze_by<R: Wait>(
+/// A freeze at this desk: it takes the turns of all shards in rising order, and then the register's.
+pub(crate) fn freeze<R: Wait>(
     rt: &R,
     alloc: Global,
     office: &Office,
-    seats: &mut Seats,
-    caller: u32,
+    desk: &mut Desk,
 ) -> Result<Version, NoMemory>
-    requires at { AreAt office.now caller seats.old.shards.items seats.old.register }
-    ensures at { AreAt office.now caller seats.new.shards.items seats.new.register }
-    ensures looks { Looks seats.old.shards.items seats.new.shards.items }
-    ensures register { seats.new.register ≡ record seats.old.register { holds = false; seen = seats.new.register.seen; mine = seats.new.register.mine } }
-    ensures goes_on { GoesOn (sight_of seats.old.shards.items seats.old.register) (sight_of seats.new.shards.items seats.new.register) }
-    ensures frozen { IfOk result (λ version. IsFreeze office.now.shards caller version (sight_of seats.old.shards.items seats.old.register) (sight_of seats.new.shards.items seats.new.register)) }
+    requires office { desk.old.office.value ≡ office.now }
+    requires seated { IsSeated desk.old }
+    ensures seated { IsSeated desk.new }
+    ensures stays { Stays desk.old desk.new }
+    ensures goes_on { GoesOn (seen desk.old) (seen desk.new) }
+    ensures frozen { IfOk result (λ version. IsFreeze office.now.shards desk.old.caller version (seen desk.old) (seen desk.new)) }
     ensures candidates { IfOk result (λ version. version.candidates ≡ office.now.candidates) }
-    ensures own { OnOk result (calls_in caller (sight_of seats.new.shards.items seats.new.register) ≡ calls_in caller (sight_of seats.old.shards.items seats.old.register) ++ freeze_entry caller ∷ []) }
-    ensures mine { OnOk result (AddsMark (Freeze caller) (mine_of seats.old.shards.items seats.old.register) (mine_of seats.new.shards.items seats.new.register)) }
-    ensures refused { OnErr result (calls_in caller (sight_of seats.new.shards.items seats.new.register) ≡ calls_in caller (sight_of seats.old.shards.items seats.old.register)) }
-    ensures nothing_made { OnErr result (mine_of seats.new.shards.items seats.new.register ≡ mine_of seats.old.shards.items seats.old.register) }
+    ensures own { OnOk result (own (pass_at desk.new) ≡ own (pass_at desk.old) ++ freeze_entry desk.old.caller ∷ []) }
+    ensures mine { OnOk result (AddsMark (Freeze desk.old.caller) (made desk.old) (made desk.new)) }
+    ensures refused { OnErr result (own (pass_at desk.new) ≡ own (pass_at desk.old)) }
+    ensures nothing_made { OnErr result (made desk.new ≡ made desk.old) }
 {
     let Ok(mut held) = Vec::with_capacity(alloc, office.windows.len()) else {
         return Err(NoMemory);
     };
-    take_all(rt, &office.windows, &mut seats.shards, &mut held);
-    let mut kept = office.register.take(rt, &mut seats.register);
+    take_all(rt, &office.windows, &mut desk.shards, &mut held);
+    let mut kept = office.register.take(rt, &mut desk.register);
     agree_all(&office.windows, &mut held, &mut kept);
     match copied(alloc, office.candidates, &held, &mut kept) {
         Ok(version) => {
-            kept.value_mut().freeze(caller);
-            office.register.give_with(&mut seats.register, kept);
-            give_all(&office.windows, &mut seats.shards, held);
+            kept.value_mut().freeze(desk.caller);
+            office.register.give_with(&mut desk.register, kept);
+            give_all(&office.windows, &mut desk.shards, held);
             Ok(version)
         }
         Err(_) => {
-            office.register.give_back(&mut seats.register, kept);
-            give_all(&office.windows, &mut seats.shards, held);
+            office.register.give_back(&mut desk.register, kept);
+            give_all(&office.windows, &mut desk.shards, held);
             Err(NoMemory)
         }
     }

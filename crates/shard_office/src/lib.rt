@@ -20,12 +20,13 @@
 //! a history counts from 1, so that it is the number of calls up to it.
 #![tactic(auto)]
 
+mod asked;
 mod call_back;
-mod calling;
 mod changing;
 mod clerk;
 mod close_back;
 mod closing;
+mod desk;
 mod ending;
 mod entering;
 mod freezing;
@@ -36,7 +37,6 @@ mod office;
 mod opening;
 mod pass;
 mod register_value;
-mod seats;
 mod shard_value;
 mod striking;
 mod turns;

@@ -11,21 +11,23 @@ ghost use Rattle.shard_office.specs.Passes.{own};
 ghost use Rattle.shard_office.specs.Versions.{IsFreeze};
 ghost use Rattle.shard_office.specs.Closing.{IsClosed, HoldsAll};
 
+use crate::asked::Asked;
 use crate::call_back::CallBack;
-use crate::calling::{change_by, strike_by};
+use crate::changing::answer;
 use crate::clerk::Clerk;
 use crate::close_back::CloseBack;
 use crate::closing::Closing;
+use crate::desk::Desk;
 use crate::ending::end_all;
-use crate::freezing::freeze_by;
+use crate::freezing::freeze;
 use crate::no_memory::NoMemory;
 use crate::opening::open_all;
 use crate::pass::Pass;
 use crate::register_value::RegisterValue;
-use crate::seats::Seats;
+use crate::striking::strike;
 use crate::version::Version;
 use crate::window::Window;
-use batch_core::{Change, Reply};
+use batch_core::{Change, Reply, shard_of};
 use byte_edge::Gate;
 use call_register::{EntryLists, History, Register};
 use std::alloc::Global;
@@ -99,12 +101,14 @@ impl Office {
             windows,
             register: lock,
         };
-        let clerk = Clerk {
+        let desk = Desk {
             office: Snapshot::of(&office),
-            seats: Seats {
-                shards: seats,
-                register: seat,
-            },
+            caller: 0,
+            shards: seats,
+            register: seat,
+        };
+        let clerk = Clerk {
+            desk,
             last: 0,
             teams: 0,
             taken: Vec::new(alloc),
@@ -139,7 +143,14 @@ impl Office {
         ensures refused { OnErr result (own pass.new ≡ own pass.old) }
         ensures nothing_made { OnErr result (pass.new.mine ≡ pass.old.mine) }
     {
-        change_by(rt, self, &mut pass.seats, pass.caller, change, gate)
+        let shard = shard_of(change.batch(), self.shards);
+        let asked = Asked {
+            caller: pass.desk.caller,
+            shard,
+            change,
+        };
+        let seat = &mut pass.desk.shards[shard as usize - 1];
+        answer(rt, gate, self, seat, &mut pass.desk.register, asked)
     }
 
     /// Strikes a candidate by a pass: the reply says whether an earlier mark does so already. It waits
@@ -163,7 +174,15 @@ impl Office {
         ensures refused { OnErr result (own pass.new ≡ own pass.old) }
         ensures nothing_made { OnErr result (pass.new.mine ≡ pass.old.mine) }
     {
-        strike_by(rt, self, &mut pass.seats, pass.caller, candidate)
+        let caller = pass.desk.caller;
+        strike(
+            rt,
+            &self.register,
+            &mut pass.desk.register,
+            caller,
+            self.candidates,
+            candidate,
+        )
     }
 
     /// Freezes what stands, for a pass: while all turns are held what stands in each shard is copied
@@ -188,7 +207,7 @@ impl Office {
         ensures refused { OnErr result (own pass.new ≡ own pass.old) }
         ensures nothing_made { OnErr result (pass.new.mine ≡ pass.old.mine) }
     {
-        freeze_by(rt, alloc, self, &mut pass.seats, pass.caller)
+        freeze(rt, alloc, self, &mut pass.desk)
     }
 
     /// Freezes what stands, for the clerk, as a pass of caller 0 would.
@@ -212,7 +231,7 @@ impl Office {
         ensures refused { OnErr result (own clerk.new.desk ≡ own clerk.old.desk) }
         ensures nothing_made { OnErr result (clerk.new.desk.mine ≡ clerk.old.desk.mine) }
     {
-        freeze_by(rt, alloc, self, &mut clerk.seats, 0)
+        freeze(rt, alloc, self, &mut clerk.desk)
     }
 
     /// Closes the office, once all passes were taken in, and gives its history: it goes on from all that
@@ -237,11 +256,15 @@ fn ended(office: Office, alloc: Global, clerk: Clerk) -> Closing
 {
     let about = Snapshot::of(&clerk);
     let Clerk {
-        seats,
+        desk,
         mut lists,
         ..
     } = clerk;
-    let Seats { shards, register } = seats;
+    let Desk {
+        shards,
+        register,
+        ..
+    } = desk;
     let Office {
         shards: number,
         candidates,

@@ -2,29 +2,26 @@
 ghost use Rattle.std.specs.Prelude.{◌≡◌};
 ghost use Rattle.shard_office.specs.Passes.{HasSeenItsOwn};
 
-use crate::office::Office;
-use crate::seats::Seats;
+use crate::desk::Desk;
 use std::marker::Model;
-use std::snapshot::Snapshot;
 
 /// A caller at an office. Contracts see the office, the caller's number, its sight, which is the marks
 /// and the entries of each shard that it has seen, and of these the ones that it made itself. Its own
 /// calls are the caller's in the history that its sight shows.
 #[derive(Drop)]
 pub struct Pass {
-    pub(crate) office: Snapshot<Office>,
-    pub(crate) caller: u32,
-    pub(crate) seats: Seats,
+    pub(crate) desk: Desk,
 }
 
 impl Model for Pass {
-    ghost use Rattle.shard_office.specs.Passes.{PassState, sight_of, mine_of, AreAt};
+    ghost use Rattle.shard_office.specs.Passes.{PassState};
+    ghost use Rattle.shard_office.specs.Desks.{pass_at, IsSeated};
 
     ghost Value = { PassState };
 
-    ghost view = { λ p. record { office = p.office.value; caller = p.caller; sight = sight_of p.seats.shards.items p.seats.register; mine = mine_of p.seats.shards.items p.seats.register } };
+    ghost view = { λ p. pass_at p.desk };
 
-    ghost invariant = { λ p. AreAt p.office.value p.caller p.seats.shards.items p.seats.register };
+    ghost invariant = { λ p. IsSeated p.desk };
 }
 
 impl Pass {
@@ -33,6 +30,6 @@ impl Pass {
         ensures caller { result ≡ self.now.caller }
         ensures own { HasSeenItsOwn self.now }
     {
-        self.caller
+        self.desk.caller
     }
 }

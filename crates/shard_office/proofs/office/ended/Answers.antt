@@ -1,4 +1,4 @@
-use Rattle.std.proofs.Common.{◌≡◌, ◌+◌, ◌≤◌, ◌++◌, ℕ, List, length, map, sym, ap, ◌∙◌, subst, arith, Some}
+use Rattle.std.proofs.Common.{◌≡◌, ◌≤◌, ◌++◌, ℕ, List, length, map, sym, ap, ◌∙◌, subst, arith, Some}
 use Rattle.std.specs.Prelude.{slice_get, vec_len, reverse, All}
 use Rattle.batch_core.specs.Entries.{EntryList}
 use Rattle.call_register.specs.declared.mark.Mark.{Mark}
@@ -16,10 +16,10 @@ use Rattle.shard_office.proofs.office.ended.Goals as goal
 
 pub end_all-requires-clause-may : goal.end_all-requires-clause-may
 end_all-requires-clause-may c i s es =
-    let same : c.clerk.inside.office.value ≡ c.args.office =
+    let same : c.clerk.inside.desk.office.value ≡ c.args.office =
     ap (λ (z : ClerkState). z.desk.office) c.clerk.view_is ∙ c.requires.office in
     let teams : c.clerk.inside.teams ≡ 0 = ap (λ (z : ClerkState). z.open_teams) c.clerk.view_is ∙ c.requires.alone in
-    let to : c.clerk.inside.office.value ≡ _ = same ∙ sym c.office.view_is in
+    let to : c.clerk.inside.desk.office.value ≡ _ = same ∙ sym c.office.view_is in
     let first = c.clerk.invariant.0.shards i s es in
     let mine = c.clerk.invariant.0.at.shards i s es in
     let out = first.out in
@@ -33,12 +33,12 @@ end_all-requires-clause-may c i s es =
 
 pub invariant_of-result : goal.invariant_of-result
 invariant_of-result c =
-    let same : c.clerk.inside.office.value ≡ c.args.office =
+    let same : c.clerk.inside.desk.office.value ≡ c.args.office =
     ap (λ (z : ClerkState). z.desk.office) c.clerk.view_is ∙ c.requires.office in
     let teams : c.clerk.inside.teams ≡ 0 = ap (λ (z : ClerkState). z.open_teams) c.clerk.view_is ∙ c.requires.alone in
     let taken : List PassState = map (λ t. t.value) c.clerk.inside.taken.items in
-    let seats = c.clerk.inside.seats.shards.items in
-    let register = c.clerk.inside.seats.register in
+    let seats = c.clerk.inside.desk.shards.items in
+    let register = c.clerk.inside.desk.register in
     let lists = c.end_all.new.lists.items in
     let marks = c.close-kept.result.register.marks in
     let are : AreFirst c.args.office c.clerk.inside.last 0 taken seats register =
@@ -88,7 +88,7 @@ invariant_of-result c =
       desk =
           record {
             office = sym same i;
-            caller = 0;
+            caller = sym c.clerk.invariant.1 i;
             sight = sight_of seats register;
             mine = mine_of seats register;
           };

@@ -1,8 +1,8 @@
-use Rattle.std.proofs.Common.{◌≡◌, ◌+◌, ◌-◌, ◌++◌, ◌∷◌, [], List, map, sym, ap, ◌∙◌, subst, arith, Some}
+use Rattle.std.proofs.Common.{◌≡◌, ◌+◌, ◌-◌, ◌++◌, ◌∷◌, [], List, map, sym, ap, ◌∙◌, subst, arith}
 use Rattle.std.specs.Prelude.{slice_get}
 use Rattle.shard_office.specs.Office.{OfficeState}
 use Rattle.shard_office.specs.Owners.{owner_of_mark}
-use Rattle.shard_office.specs.Sight.{Sight, GoesOn}
+use Rattle.shard_office.specs.Sight.{Sight, GoesOn, calls_in}
 use Rattle.shard_office.specs.Passes.{PassState, AreAt, sight_of, mine_of, own}
 use Rattle.shard_office.specs.Meeting.{TookIn}
 use Rattle.shard_office.specs.Clerk.{ClerkState, AreFirst}
@@ -13,9 +13,9 @@ use Rattle.shard_office.proofs.clerk.Clerk.take_in.Goals as goal
 
 pub join_all-requires-clause-may : goal.join_all-requires-clause-may
 join_all-requires-clause-may c i x o ex eo =
-    let same : c.self.inside.office.value ≡ c.args.office.now =
+    let same : c.self.inside.desk.office.value ≡ c.args.office.now =
     ap (λ (s : ClerkState). s.desk.office) c.self.view_is ∙ c.requires.office.0 in
-    let theirs : c.pass.inside.office.value ≡ c.args.office.now =
+    let theirs : c.pass.inside.desk.office.value ≡ c.args.office.now =
     ap (λ (p : PassState). p.office) c.pass.view_is ∙ c.requires.office.1 in
     let first = c.self.invariant.0.shards i x ex in
     let mine = c.self.invariant.0.at.shards i x ex in
@@ -32,30 +32,30 @@ join_all-requires-clause-may c i x o ex eo =
     }
 
 -- both are of this office
-same : (c : goal.After-drop-pass-inside) → c.self.inside.office.value ≡ c.args.office.now
+same : (c : goal.After-drop-desk) → c.self.inside.desk.office.value ≡ c.args.office.now
 same c = ap (λ (s : ClerkState). s.desk.office) c.self.view_is ∙ c.requires.office.0
 
-theirs : (c : goal.After-drop-pass-inside) → c.pass.inside.office.value ≡ c.args.office.now
+theirs : (c : goal.After-drop-desk) → c.pass.inside.desk.office.value ≡ c.args.office.now
 theirs c = ap (λ (p : PassState). p.office) c.pass.view_is ∙ c.requires.office.1
 
 -- what became of the clerk's seats
 did :
-    (c : goal.After-drop-pass-inside)
+    (c : goal.After-drop-desk)
     → Joined c.args.office.now c.self.inside.last (c.self.inside.teams - 1)
-    (map (λ t. t.value) c.self.inside.taken.items) c.self.inside.seats.shards.items
-    c.pass.inside.seats.shards.items c.join_all.new.firsts.items c.self.inside.seats.register
-    c.pass.inside.seats.register c.join.new.seat c.pass.inside.caller
+    (map (λ t. t.value) c.self.inside.taken.items) c.self.inside.desk.shards.items
+    c.pass.inside.desk.shards.items c.join_all.new.firsts.items c.self.inside.desk.register
+    c.pass.inside.desk.register c.join.new.seat c.pass.inside.desk.caller
 did c =
     let taken : List PassState = map (λ t. t.value) c.self.inside.taken.items in
     let are :
     AreFirst c.args.office.now c.self.inside.last c.self.inside.teams taken
-    c.self.inside.seats.shards.items c.self.inside.seats.register =
+    c.self.inside.desk.shards.items c.self.inside.desk.register =
     subst (λ (o : OfficeState). AreFirst o c.self.inside.last c.self.inside.teams taken
-    c.self.inside.seats.shards.items c.self.inside.seats.register) (same c) c.self.invariant.0 in
-    let at : AreAt c.args.office.now c.pass.inside.caller c.pass.inside.seats.shards.items c.pass.inside.seats.register =
-    subst (λ (o : OfficeState). AreAt o c.pass.inside.caller c.pass.inside.seats.shards.items
-    c.pass.inside.seats.register) (theirs c) c.pass.invariant in
-    let took : TookIn owner_of_mark c.self.inside.seats.register c.pass.inside.seats.register c.join.new.seat =
+    c.self.inside.desk.shards.items c.self.inside.desk.register) (same c) c.self.invariant.0 in
+    let at : AreAt c.args.office.now c.pass.inside.desk.caller c.pass.inside.desk.shards.items c.pass.inside.desk.register =
+    subst (λ (o : OfficeState). AreAt o c.pass.inside.desk.caller c.pass.inside.desk.shards.items
+    c.pass.inside.desk.register) (theirs c) c.pass.invariant in
+    let took : TookIn owner_of_mark c.self.inside.desk.register c.pass.inside.desk.register c.join.new.seat =
     record {
       same = c.join.ensures.sight;
       begins = c.join.ensures.begins.0;
@@ -67,12 +67,12 @@ did c =
     let n =
     are.registered.out in
     let one =
-    some_out c.pass.inside.seats.register.caller c.self.inside.seats.register.out
+    some_out c.pass.inside.desk.register.caller c.self.inside.desk.register.out
     c.join.ensures.out in
     omega arith in
     joined c.args.office.now c.self.inside.last c.self.inside.teams (c.self.inside.teams - 1) taken
-    c.self.inside.seats.shards.items c.pass.inside.seats.shards.items c.join_all.new.firsts.items
-    c.self.inside.seats.register c.pass.inside.seats.register c.join.new.seat c.pass.inside.caller are at
+    c.self.inside.desk.shards.items c.pass.inside.desk.shards.items c.join_all.new.firsts.items
+    c.self.inside.desk.register c.pass.inside.desk.register c.join.new.seat c.pass.inside.desk.caller are at
     c.join_all.ensures.joined took less
 
 pub invariant_of-self : goal.invariant_of-self
@@ -81,16 +81,16 @@ invariant_of-self c =
     let pass :
     record {
       office = c.args.office.now;
-      caller = c.pass.inside.caller;
-      sight = sight_of c.pass.inside.seats.shards.items c.pass.inside.seats.register;
-      mine = mine_of c.pass.inside.seats.shards.items c.pass.inside.seats.register;
+      caller = c.pass.inside.desk.caller;
+      sight = sight_of c.pass.inside.desk.shards.items c.pass.inside.desk.register;
+      mine = mine_of c.pass.inside.desk.shards.items c.pass.inside.desk.register;
     }
     ≡ c.of-about.result.value =
     (λ i. record {
       office = sym (theirs c) i;
-      caller = c.pass.inside.caller;
-      sight = sight_of c.pass.inside.seats.shards.items c.pass.inside.seats.register;
-      mine = mine_of c.pass.inside.seats.shards.items c.pass.inside.seats.register;
+      caller = c.pass.inside.desk.caller;
+      sight = sight_of c.pass.inside.desk.shards.items c.pass.inside.desk.register;
+      mine = mine_of c.pass.inside.desk.shards.items c.pass.inside.desk.register;
     })
     ∙ (c.pass.view_is ∙ sym c.of-about.ensures) in
     let list : map (λ t. t.value) c.push_reserved.new.self.items ≡ taken ++ c.of-about.result.value ∷ [] =
@@ -102,9 +102,10 @@ invariant_of-self c =
           (subst (λ (l : List PassState). AreFirst c.args.office.now c.self.inside.last
           (c.self.inside.teams - 1) l c.join_all.new.firsts.items c.join.new.seat)
           (ap (λ (q : PassState). taken ++ q ∷ []) pass ∙ sym list) (did c).first),
-      omega (arith, c.self.invariant.1, c.push_reserved.ensures.len, c.push_reserved.ensures.capacity),
-      c.self.invariant.2,
+      c.self.invariant.1,
+      omega (arith, c.self.invariant.2, c.push_reserved.ensures.len, c.push_reserved.ensures.capacity),
       c.self.invariant.3,
+      c.self.invariant.4,
     )
 
 pub returns-clause-goes_on : goal.returns-clause-goes_on
@@ -118,7 +119,10 @@ returns-clause-begins c =
     (ap (λ (p : PassState). p.sight) c.pass.view_is) (did c).other
 
 pub returns-clause-own : goal.returns-clause-own
-returns-clause-own c = (did c).own ∙ ap (λ (s : ClerkState). own s.desk) c.self.view_is
+returns-clause-own c =
+    subst (λ n. calls_in n (sight_of c.join_all.new.firsts.items c.join.new.seat)
+    ≡ calls_in n (sight_of c.self.inside.desk.shards.items c.self.inside.desk.register)) (sym c.self.invariant.1) (did c).own
+    ∙ ap (λ (s : ClerkState). own s.desk) c.self.view_is
 
 pub returns-clause-mine : goal.returns-clause-mine
 returns-clause-mine c = (did c).mine ∙ ap (λ (s : ClerkState). s.desk.mine) c.self.view_is

@@ -1,4 +1,4 @@
-use Rattle.std.proofs.Common.{◌≡◌, List, [], map, sym, ap, ◌∙◌, subst, arith, Some}
+use Rattle.std.proofs.Common.{◌≡◌, List, [], map, refl, sym, ap, ◌∙◌, subst, arith, Some}
 use Rattle.turn_lock.specs.Sights.{first_sight}
 use Rattle.shard_office.specs.Office.{OfficeState, ties_at}
 use Rattle.shard_office.specs.Passes.{PassState}
@@ -34,6 +34,7 @@ invariant_of-clerk c =
       subst (λ (z : OfficeState × List PassState). AreFirst z.0 0 0 z.1 c.open_all.new.seats.items
           c.in-Ok-try_new.seat) (λ i. (sym is i, sym none i))
           (opened_first o c.open_all.new.seats.items c.in-Ok-try_new.seat c.open_all.new.halves.items opened seat),
+      refl,
       omega (arith, c.new-2.ensures.len),
       c.in-Ok-with_capacity-3.ensures.items,
       omega (arith, ap (λ (z : OfficeState). z.shards) is, c.in-Ok-with_capacity-3.ensures.capacity),
