@@ -15,19 +15,14 @@ use Rattle.shard_office.specs.Office.{OfficeState}
 use Rattle.shard_office.specs.Sight.{calls_in, GoesOn, AddsMark}
 use Rattle.shard_office.specs.Moves.{Looked, Gave, Looks, GoOn}
 use Rattle.shard_office.specs.Passes.{ShardSeat, RegisterSeat, sight_of, mine_of, AreAt}
+use Rattle.shard_office.proofs.Called.{HaveLooked}
 use Rattle.shard_office.proofs.Marked.{went, go_on, none_looked, all_looked-at, all_looked-own, all_looked-on}
 use Rattle.shard_office.proofs.Marked.{marked-on, frozen-at, frozen-own, struck-at, struck-own}
 use Rattle.shard_office.proofs.Mine.{nothing-mine, marked-mine}
 
--- what holds of a caller's seats after they looked at all shards, and marked nothing
-pub record HaveLooked (o : OfficeState) (p : ℕ) (seats seats' : List ShardSeat) (r r' : RegisterSeat) : Type 0 where
-  pub at : AreAt o p seats' r'
-  pub goes_on : GoesOn (sight_of seats r) (sight_of seats' r')
-  pub own : calls_in p (sight_of seats' r') ≡ calls_in p (sight_of seats r)
-  pub mine : mine_of seats' r' ≡ mine_of seats r
-
--- what holds of them after the mark of a freeze
-pub record HaveFrozen (o : OfficeState) (p : ℕ) (seats seats' : List ShardSeat) (r r' : RegisterSeat) : Type 0 where
+-- what holds of a caller's seats after the mark of a freeze
+pub record HaveFrozen (o : OfficeState) (p : ℕ) (seats seats' : List ShardSeat)
+    (r r' : RegisterSeat) : Type 0 where
   pub at : AreAt o p seats' r'
   pub goes_on : GoesOn (sight_of seats r) (sight_of seats' r')
   pub own : calls_in p (sight_of seats' r') ≡ calls_in p (sight_of seats r) ++ freeze_entry p ∷ []
@@ -71,11 +66,15 @@ pub record HaveStruck (o : OfficeState) (p k : ℕ) (seats : List ShardSeat) (r 
   pub at : AreAt o p seats r'
   pub goes_on : GoesOn (sight_of seats r) (sight_of seats r')
   pub own_are :
-      IfOk answer (λ a. calls_in p (sight_of seats r') ≡ calls_in p (sight_of seats r) ++ strike_answer p k a ∷ [])
+      IfOk answer
+      (λ a. calls_in p (sight_of seats r') ≡ calls_in p (sight_of seats r) ++ strike_answer p k a ∷ [])
   pub own_stay : OnErr answer (calls_in p (sight_of seats r') ≡ calls_in p (sight_of seats r))
 
-module _ (o : OfficeState) (p k : ℕ) (seats : List ShardSeat) (r r' : RegisterSeat) (are : AreAt o p seats r) where
-  pub have_struck : (answer : Result Reply NoMemory) → DidStrike p k r r' answer → HaveStruck o p k seats r r' answer
+module _ (o : OfficeState) (p k : ℕ) (seats : List ShardSeat) (r r' : RegisterSeat)
+    (are : AreAt o p seats r) where
+  pub have_struck :
+      (answer : Result Reply NoMemory) → DidStrike p k r r' answer
+      → HaveStruck o p k seats r r' answer
   have_struck (Ok a) d =
       let still = go_on seats seats (none_looked o p seats r are) in
       record {

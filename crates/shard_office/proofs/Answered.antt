@@ -14,8 +14,7 @@ use Rattle.shard_office.specs.Office.{OfficeState}
 use Rattle.shard_office.specs.Sight.{calls_in, GoesOn, IsChange, AddsEntry}
 use Rattle.shard_office.specs.Moves.{Looked, Gave}
 use Rattle.shard_office.specs.Passes.{ShardSeat, RegisterSeat, sight_of, mine_of, AreAt}
-use Rattle.shard_office.proofs.Mine.{looked-mine, changed-mine}
-use Rattle.shard_office.proofs.Called.{looked-at, looked-own, looked-on, changed-at, changed-own, changed-on, changed-is}
+use Rattle.shard_office.proofs.Called.{have_looked_at, have_changed}
 
 -- what became of the seat at the shard, and of that at the register
 pub record Did (p s : ℕ) (asked : Change) (x y : ShardSeat) (r r' : RegisterSeat)
@@ -33,9 +32,11 @@ pub record IsAnswered (o : OfficeState) (p s : ℕ) (asked : Change) (answer : R
     (seats seats' : List ShardSeat) (r r' : RegisterSeat) : Type 0 where
   pub at : AreAt o p seats' r'
   pub goes_on : GoesOn (sight_of seats r) (sight_of seats' r')
-  pub is_change : IfOk answer (λ a. IsChange s (change_entry p asked a) (sight_of seats r) (sight_of seats' r'))
+  pub is_change :
+      IfOk answer (λ a. IsChange s (change_entry p asked a) (sight_of seats r) (sight_of seats' r'))
   pub own_are :
-      IfOk answer (λ a. calls_in p (sight_of seats' r') ≡ calls_in p (sight_of seats r) ++ change_entry p asked a ∷ [])
+      IfOk answer
+      (λ a. calls_in p (sight_of seats' r') ≡ calls_in p (sight_of seats r) ++ change_entry p asked a ∷ [])
   pub adds : IfOk answer (λ a. AddsEntry s (change_entry p asked a) (mine_of seats r) (mine_of seats' r'))
   pub own_stay : OnErr answer (calls_in p (sight_of seats' r') ≡ calls_in p (sight_of seats r))
   pub mine_stay : OnErr answer (mine_of seats' r' ≡ mine_of seats r)
@@ -53,27 +54,26 @@ module _ (o : OfficeState) (p : ℕ) (seats : List ShardSeat) (r r' : RegisterSe
       → IsAnswered o p s asked answer seats (set seats i y) r r'
   answered (Ok a) d =
       let e = change_entry p asked a in
-      let mark = mark_at d.mark in
-      let whole = whole_at d.whole in
+      let it =
+      have_changed o p seats r r' i x y at are d.knows d.knows' e refl d.entry (mark_at d.mark)
+      (whole_at d.whole) d.legal in
       record {
-        at = changed-at o p seats r r' i x y at are d.knows d.knows' e refl d.entry mark whole;
-        goes_on = changed-on o p seats r r' i x y at are d.knows d.knows' e refl d.entry mark whole;
-        is_change =
-            subst (λ k. IsChange k e (sight_of seats r) (sight_of (set seats i y) r')) is
-            (changed-is o p seats r r' i x y at are d.knows d.knows' e refl d.entry mark whole d.legal);
-        own_are = changed-own o p seats r r' i x y at are d.knows d.knows' e refl d.entry mark whole;
-        adds =
-            subst (λ k. AddsEntry k e (mine_of seats r) (mine_of (set seats i y) r')) is
-            (changed-mine seats r r' i x y at e d.entry mark);
+        at = it.at;
+        goes_on = it.goes_on;
+        is_change = subst (λ k. IsChange k e (sight_of seats r) (sight_of (set seats i y) r')) is it.is_change;
+        own_are = it.own;
+        adds = subst (λ k. AddsEntry k e (mine_of seats r) (mine_of (set seats i y) r')) is it.mine;
         own_stay = tt;
         mine_stay = tt;
       }
-  answered (Err b) d = record {
-    at = looked-at o p seats r r' i x y at are d.knows d.knows' d.refused.0 d.refused.1;
-    goes_on = looked-on o p seats r r' i x y at are d.knows d.knows' d.refused.0 d.refused.1;
-    is_change = tt;
-    own_are = tt;
-    adds = tt;
-    own_stay = looked-own o p seats r r' i x y at are d.knows d.knows' d.refused.0 d.refused.1;
-    mine_stay = looked-mine seats r r' i x y at d.refused.0 d.refused.1;
-  }
+  answered (Err b) d =
+      let it = have_looked_at o p seats r r' i x y at are d.knows d.knows' d.refused.0 d.refused.1 in
+      record {
+        at = it.at;
+        goes_on = it.goes_on;
+        is_change = tt;
+        own_are = tt;
+        adds = tt;
+        own_stay = it.own;
+        mine_stay = it.mine;
+      }

@@ -3,6 +3,7 @@ use Rattle.std.proofs.Common.{◌≡◌, ℕ, ◌+◌, ◌≤◌, true, false, L
 use Rattle.std.specs.Prelude.{slice_get, Some}
 use Rattle.shard_office.specs.declared.window.Window.{Window}
 use Rattle.turn_lock.specs.Entries.{Begins}
+use Rattle.turn_lock.specs.Sights.{Sight as SeatSight}
 use Rattle.call_register.specs.declared.mark.Mark.{Mark}
 use Rattle.shard_office.specs.declared.shard_value.ShardName.{ShardName}
 use Rattle.shard_office.specs.Office.{OfficeState}
@@ -11,7 +12,8 @@ use Rattle.shard_office.specs.Names.{shard_name}
 use Rattle.shard_office.specs.Sight.{by_shard}
 use Rattle.shard_office.specs.Passes.{ShardSeat, RegisterSeat, lists_of, AreAt}
 use Rattle.shard_office.specs.Moves.{Looked, Gave, Looks}
-use Rattle.shard_office.specs.Turned.{AreOf, AreTied, Took, GaveBack, AreHeld, TookTurns, GaveTurns, AreNamed, entries_held}
+use Rattle.shard_office.specs.Turned.{AreOf, AreTied, Took, GaveBack, AreHeld, TookTurns, GaveTurns}
+use Rattle.shard_office.specs.Turned.{AreNamed, entries_held}
 use Rattle.shard_office.proofs.Places.{get_lt, get_some, map_each}
 
 pub seats_of :
@@ -44,15 +46,17 @@ looks_by n olds mids news few taken given = record {
 pub record AllHeld (o : OfficeState) (mids : List ShardSeat) (held : List SeenShard) : Type 0 where
   pub named : AreNamed o.shards o.candidates held
   pub ties : AreTied o.identity.windows held
-  pub seen : (news : List ShardSeat) → GaveTurns 0 mids news → by_shard (lists_of news) ≡ by_shard (entries_held held)
+  pub seen :
+      (news : List ShardSeat) → GaveTurns 0 mids news
+      → by_shard (lists_of news) ≡ by_shard (entries_held held)
 
 module _ (o : OfficeState) (p : ℕ) (olds mids : List ShardSeat) (r : RegisterSeat) (held : List SeenShard)
-    (are : AreAt o p olds r) (all : length o.identity.windows ≡ o.shards) (taken : TookTurns o.shards olds mids)
-    (len : length held ≡ o.shards) (by : AreHeld held mids) where
+    (are : AreAt o p olds r) (all : length o.identity.windows ≡ o.shards)
+    (taken : TookTurns o.shards olds mids) (len : length held ≡ o.shards) (by : AreHeld held mids) where
   -- the name of a value that is held
   name_is :
-      (i : ℕ) (w : Window) (v : SeenShard) → slice_get o.identity.windows i ≡ Some w → slice_get held i ≡ Some v
-      → shard_name v ≡ record { shard = i + 1; shards = o.shards; candidates = o.candidates; tie = w.tie }
+      (i : ℕ) (w : Window) (v : SeenShard) → slice_get o.identity.windows i ≡ Some w
+      → slice_get held i ≡ Some v → shard_name v ≡ record { shard = i + 1; shards = o.shards; candidates = o.candidates; tie = w.tie }
   name_is i w v ew e =
       let lt = get_lt held i v e in
       let count = are.count in
@@ -82,7 +86,9 @@ module _ (o : OfficeState) (p : ℕ) (olds mids : List ShardSeat) (r : RegisterS
   held_ties i w v ew e = ap (λ (k : ShardName). k.tie) (name_is i w v ew e)
 
   -- what was seen in the end is what was held
-  held_seen : (news : List ShardSeat) → GaveTurns 0 mids news → by_shard (lists_of news) ≡ by_shard (entries_held held)
+  held_seen :
+      (news : List ShardSeat) → GaveTurns 0 mids news
+      → by_shard (lists_of news) ≡ by_shard (entries_held held)
   held_seen news given = ap by_shard (map_each (λ (s : ShardSeat). s.seen) (λ (w : SeenShard). w.book.entries) news held
       (let a = are.count in let b = taken.len in let c = given.len in omega arith)
       (λ i y v ey ev.
@@ -118,3 +124,26 @@ register_looked r m r' log taken begins given = (
   given
       ∙ ((λ k. record (taken k) { holds = false }) ∙ (λ k. record r { holds = false; seen = begins.1 k })),
 )
+
+-- but for what it has seen and given a seat is as it was
+module _ {E N : Type 0} where
+  pub gave_still :
+      (x y : SeatSight E N) (e : E) → Gave x y e
+      → y ≡ record x { holds = false; seen = y.seen; mine = y.mine }
+  gave_still x y e gave =
+      gave.1
+      ∙ (λ k. record x {
+        holds = false;
+        seen = sym (ap (λ (z : SeatSight E N). z.seen) gave.1) k;
+        mine = sym (ap (λ (z : SeatSight E N). z.mine) gave.1) k;
+      })
+
+  pub looked_still :
+      (x y : SeatSight E N) → Looked x y → y ≡ record x { holds = false; seen = y.seen; mine = y.mine }
+  looked_still x y looked =
+      looked.1
+      ∙ (λ k. record x {
+        holds = false;
+        seen = sym (ap (λ (z : SeatSight E N). z.seen) looked.1) k;
+        mine = sym (ap (λ (z : SeatSight E N). z.mine) looked.1) k;
+      })

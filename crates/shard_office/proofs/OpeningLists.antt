@@ -22,8 +22,8 @@ use Rattle.shard_office.proofs.TurnLists.{get_push, get_last, same_place}
 use Rattle.shard_office.proofs.Places.{map-push}
 
 pub opened_more :
-    (shards candidates n : ℕ) (windows : List Window) (seats : List ShardSeat) (halves : List SeenHalf) (w : Window)
-    (m : ℕ) → m ≡ n → AreOpened shards candidates n windows seats halves
+    (shards candidates n : ℕ) (windows : List Window) (seats : List ShardSeat) (halves : List SeenHalf)
+    (w : Window) (m : ℕ) → m ≡ n → AreOpened shards candidates n windows seats halves
     → AreOpened shards candidates (n + 1) (windows ++ w ∷ []) (seats ++ opened_seat shards candidates m w ∷ [])
     (halves ++ record { tie = w.tie; number = 0 } ∷ [])
 opened_more shards candidates n windows seats halves w m is are =
@@ -45,7 +45,7 @@ opened_more shards candidates n windows seats halves w m is are =
           (λ (t : (i < length windows) × (slice_get windows i ≡ Some x)). inr t.1)
           (get_push windows w i x ex) in
           ⊎_elim
-          (λ (end : i ≡ length windows). absurd (let lt = h.0 in let a = are.windows_are in let b = are.seats_are in omega arith))
+          (λ (end : i ≡ length windows). absurd (omega (arith, h.0, are.windows_are, are.seats_are)))
           (λ (at : slice_get windows i ≡ Some x). are.opened i x s at h.1)
           old)
           (get_push seats seat i s es);

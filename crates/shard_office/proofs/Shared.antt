@@ -14,7 +14,10 @@ window_sync : IsSync window.the_row
 window_sync =
     let a = value_send in
     recorded_sync window.the_field.row _ _ window.the_type.to_one
-    (struct_sync (shape window.the_type) (search (lock.the_sync, sendable, crosses) depth 20, (tie.the_sync, tt)))
+    (struct_sync (shape window.the_type) (
+      search (lock.the_sync, sendable, crosses) depth 20,
+      (tie.the_sync, tt),
+    ))
 
 pub office_sync : IsSync office.the_row
 office_sync =

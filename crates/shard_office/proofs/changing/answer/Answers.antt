@@ -35,7 +35,8 @@ named :
       tie = c.index-window.result.now.tie;
     }
 named g c =
-    let at = c.requires.shard.window c.index-window.result.now (window g (goal.at.enter-reply-requires-clause-lawful g c).After-index-window) in
+    let before = goal.at.enter-reply-requires-clause-lawful g c in
+    let at = c.requires.shard.window c.index-window.result.now (window g before.After-index-window) in
     let is :
     Some (shard_name c.take-held.result)
     ≡ Some (record {
@@ -50,6 +51,7 @@ named g c =
 
 pub enter-reply-requires-clause-register_tie : goal.enter-reply-requires-clause-register_tie
 enter-reply-requires-clause-register_tie g c =
+    let before = goal.at.enter-reply-requires-clause-register_tie g c in
     let is :
     Some (register_name c.take-kept.result)
     ≡ Some (record {
@@ -68,7 +70,7 @@ enter-reply-requires-clause-register_tie g c =
     c.reserve.ensures.name ∙ (ap register_name c.value_mut-2.ensures.value ∙ cc is) in
     ap (λ (n : RegisterName). slice_get n.ties (c.args.asked.shard - 1)) name
     ∙ get_map (λ (w : Window). w.tie) c.args.office.now.identity.windows (c.args.asked.shard - 1)
-    c.index-window.result.now (window g (goal.at.enter-reply-requires-clause-register_tie g c).After-index-window)
+    c.index-window.result.now (window g before.After-index-window)
 
 pub enter-reply-requires-clause-lawful : goal.enter-reply-requires-clause-lawful
 enter-reply-requires-clause-lawful g c =

@@ -1,4 +1,5 @@
-use Rattle.std.proofs.Common.{◌≡◌, false, ◌++◌, ◌∷◌, [], ℕ, List, length, vec_len, refl, sym, ap, ◌∙◌, subst, arith}
+use Rattle.std.proofs.Common.{◌≡◌, false, ◌++◌, ◌∷◌, [], ℕ, List, length, vec_len}
+use Rattle.std.proofs.Common.{refl, sym, ap, ◌∙◌, subst, arith}
 use Rattle.call_register.specs.declared.mark.Mark.{Mark}
 use Rattle.call_register.specs.declared.mark.Mark.TheVariants.{Freeze}
 use Rattle.shard_office.specs.Office.{OfficeState}
@@ -9,9 +10,11 @@ use Rattle.shard_office.specs.Desks.{seen}
 use Rattle.shard_office.specs.Moves.{Looked, Gave, Looks}
 use Rattle.shard_office.specs.Turned.{TookTurns, AreTied, AreNamed, AreAgreed, entries_held}
 use Rattle.shard_office.specs.Versions.{IsFreeze}
-use Rattle.shard_office.proofs.HeldLemmas.{AllHeld, all_held, seats_of, looks_by, register_gave, register_looked}
+use Rattle.shard_office.proofs.HeldLemmas.{AllHeld, all_held, seats_of, looks_by}
+use Rattle.shard_office.proofs.HeldLemmas.{register_gave, register_looked, gave_still, looked_still}
 use Rattle.shard_office.proofs.Marked.{none_looked}
-use Rattle.shard_office.proofs.AfterMarks.{HaveLooked, HaveFrozen, have_looked, have_frozen}
+use Rattle.shard_office.proofs.Called.{HaveLooked}
+use Rattle.shard_office.proofs.AfterMarks.{HaveFrozen, have_looked, have_frozen}
 use Rattle.shard_office.proofs.FreezeLemmas.{freeze_is}
 use Rattle.shard_office.proofs.freezing.freeze.Given.{Over}
 use Rattle.shard_office.proofs.freezing.freeze.Goals as goal
@@ -47,7 +50,8 @@ taken g c =
       c.office.invariant.0,
       ap (λ (o : OfficeState). o.shards) c.office.view_is,
     ) in
-    subst (λ k. TookTurns k c.args.desk.now.shards.items c.take_all.new.seats.items) n c.take_all.ensures.taken
+    subst (λ k. TookTurns k c.args.desk.now.shards.items c.take_all.new.seats.items) n
+    c.take_all.ensures.taken
 
 held :
     (g : Over) (c : After-take_all g)
@@ -76,13 +80,9 @@ agree_all-requires-clause-ties g c =
     subst (λ (o : OfficeState). AreTied o.identity.windows c.take_all.new.held.items) (sym c.office.view_is)
     (held g (goal.at.agree_all-requires-clause-ties g c).After-take_all).ties
 
--- each value is its shard's, and has as many entries as marks
-named :
-    (g : Over) (c : After-agree_all g)
-    → AllHeld c.args.office.now c.take_all.new.seats.items c.take_all.new.held.items
-    → AreNamed (vec_len c.agree_all.new.held) c.office.inside.candidates c.agree_all.new.held.items
-named g c all =
-    let n : c.args.office.now.shards ≡ vec_len c.agree_all.new.held =
+-- there is a value for each shard
+count : (g : Over) (c : After-agree_all g) → vec_len c.agree_all.new.held ≡ c.args.office.now.shards
+count g c =
     omega (
       arith,
       c.take_all.ensures.len.0,
@@ -90,12 +90,21 @@ named g c all =
       c.office.inside.windows.ok.0,
       c.office.invariant.0,
       ap (λ (o : OfficeState). o.shards) c.office.view_is,
-    ) in
+    )
+
+-- each value is its shard's, and has as many entries as marks
+named :
+    (g : Over) (c : After-agree_all g)
+    → AllHeld c.args.office.now c.take_all.new.seats.items c.take_all.new.held.items
+    → AreNamed (vec_len c.agree_all.new.held) c.office.inside.candidates c.agree_all.new.held.items
+named g c all =
     let candidates = ap (λ (o : OfficeState). o.candidates) c.office.view_is in
     subst (λ (z : ℕ × ℕ × List SeenShard). AreNamed z.0 z.1 z.2)
-    (λ i. (n i, sym candidates i, sym c.agree_all.ensures.held.1 i)) all.named
+    (λ i. (sym (count g c) i, sym candidates i, sym c.agree_all.ensures.held.1 i)) all.named
 
-marks : (g : Over) (c : After-agree_all g) → c.take-kept.result.register.marks ≡ c.agree_all.new.kept.register.marks
+marks :
+    (g : Over) (c : After-agree_all g)
+    → c.take-kept.result.register.marks ≡ c.agree_all.new.kept.register.marks
 marks g c = sym (ap (λ (r : SeenRegister). r.register.marks) c.agree_all.ensures.kept)
 
 agreed :
@@ -125,7 +134,8 @@ looks g c =
 
 marks_now :
     (g : Over) (c : goal.After-give_all g)
-    → c.freeze.new.self.register.marks ≡ c.take-kept.result.register.marks ++ Freeze c.args.desk.now.caller ∷ []
+    → c.freeze.new.self.register.marks
+    ≡ c.take-kept.result.register.marks ++ Freeze c.args.desk.now.caller ∷ []
 marks_now g c =
     c.freeze.ensures.marks
     ∙ ap (λ (m : List Mark). m ++ Freeze c.args.desk.now.caller ∷ [])
@@ -138,7 +148,8 @@ gave :
 gave g c =
     let mark : Mark = Freeze c.args.desk.now.caller in
     let log : c.freeze.new.self.register.marks ≡ c.take-kept.new.seat.seen ++ mark ∷ [] =
-    marks_now g c ∙ ap (λ (m : List Mark). m ++ mark ∷ []) (sym (ap (λ z. z.seen) c.take-kept.ensures.seat)) in
+    marks_now g c
+    ∙ ap (λ (m : List Mark). m ++ mark ∷ []) (sym (ap (λ z. z.seen) c.take-kept.ensures.seat)) in
     register_gave c.args.desk.now.register c.take-kept.new.seat c.give_with.new.seat
     c.take-kept.result.register.marks c.freeze.new.self.register.marks mark c.take-kept.ensures.seat
     c.take-kept.ensures.begins c.give_with.ensures.seat (marks_now g c) (c.give_with.ensures.mine mark log)
@@ -157,17 +168,11 @@ returns-in-Ok-copied-clause-seated g c = (frozen g c).at
 
 pub returns-in-Ok-copied-clause-stays : goal.returns-in-Ok-copied-clause-stays
 returns-in-Ok-copied-clause-stays g c =
-    let is = (gave g c).1 in
     record {
       office = refl;
       caller = refl;
       looks = looks g c;
-      register =
-          is ∙ (λ k. record c.args.desk.now.register {
-            holds = false;
-            seen = sym (ap (λ (z : RegisterSeat). z.seen) is) k;
-            mine = sym (ap (λ (z : RegisterSeat). z.mine) is) k;
-          });
+      register = gave_still c.args.desk.now.register c.give_with.new.seat (Freeze c.args.desk.now.caller) (gave g c);
     }
 
 pub returns-in-Ok-copied-clause-goes_on : goal.returns-in-Ok-copied-clause-goes_on
@@ -185,23 +190,15 @@ returns-in-Ok-copied-clause-frozen g c =
     let now = seen (record desk { shards = c.give_all.new.seats; register = c.give_with.new.seat }) in
     let then = goal.at.returns-in-Ok-copied-clause-frozen g c in
     let all = held g then.After-take_all in
-    let n : vec_len c.agree_all.new.held ≡ c.args.office.now.shards =
-    omega (
-      arith,
-      c.take_all.ensures.len.0,
-      c.agree_all.ensures.held.0,
-      c.office.inside.windows.ok.0,
-      c.office.invariant.0,
-      ap (λ (o : OfficeState). o.shards) c.office.view_is,
-    ) in
+    let n = count g then.After-agree_all in
     let before = c.take-kept.ensures.begins in
     let it =
     freeze_is (vec_len c.agree_all.new.held) c.office.inside.candidates c.agree_all.new.kept.register.marks
     c.agree_all.new.held.items (omega (arith, c.agree_all.new.held.ok.0))
-    (omega (arith, c.office.invariant.1, ap (λ (o : OfficeState). o.shards) c.office.view_is))
+    (omega (arith, n, c.office.invariant.1, ap (λ (o : OfficeState). o.shards) c.office.view_is))
     c.in-Ok-copied.ensures.may (named g then.After-agree_all all) (agreed g then.After-agree_all)
-    c.in-Ok-copied.version.plans c.in-Ok-copied.ensures.count c.in-Ok-copied.ensures.plans desk.caller (seen desk) now
-    before.0
+    c.in-Ok-copied.version.plans c.in-Ok-copied.ensures.count c.in-Ok-copied.ensures.plans desk.caller
+    (seen desk) now before.0
     (ap (λ (z : RegisterSeat). z.seen) c.give_with.ensures.seat
     ∙ (marks_now g c ∙ ap (λ (m : List Mark). m ++ Freeze desk.caller ∷ []) before.1))
     (sym before.1 ∙ marks g then.After-agree_all)
@@ -221,10 +218,13 @@ looks_err g c =
     c.give_all-in-Err.new.seats.items (omega arith)
     (taken g (goal.at.returns-in-Err-clause-seated g c).After-take_all) c.give_all-in-Err.ensures.given
 
-looked_err : (g : Over) (c : goal.After-give_all-in-Err g) → Looked c.args.desk.now.register c.give_back.new.seat
+looked_err :
+    (g : Over) (c : goal.After-give_all-in-Err g)
+    → Looked c.args.desk.now.register c.give_back.new.seat
 looked_err g c =
     register_looked c.args.desk.now.register c.take-kept.new.seat c.give_back.new.seat
-    c.take-kept.result.register.marks c.take-kept.ensures.seat c.take-kept.ensures.begins c.give_back.ensures.seat
+    c.take-kept.result.register.marks c.take-kept.ensures.seat c.take-kept.ensures.begins
+    c.give_back.ensures.seat
 
 looked :
     (g : Over) (c : goal.After-give_all-in-Err g)
@@ -232,25 +232,19 @@ looked :
     c.give_all-in-Err.new.seats.items c.args.desk.now.register c.give_back.new.seat
 looked g c =
     let desk = c.args.desk.now in
-    have_looked desk.office.value desk.caller desk.shards.items c.give_all-in-Err.new.seats.items desk.register
-    c.give_back.new.seat c.requires.seated (looks_err g c) c.give_back.ensures.own (looked_err g c)
+    have_looked desk.office.value desk.caller desk.shards.items c.give_all-in-Err.new.seats.items
+    desk.register c.give_back.new.seat c.requires.seated (looks_err g c) c.give_back.ensures.own (looked_err g c)
 
 pub returns-in-Err-clause-seated : goal.returns-in-Err-clause-seated
 returns-in-Err-clause-seated g c = (looked g c).at
 
 pub returns-in-Err-clause-stays : goal.returns-in-Err-clause-stays
 returns-in-Err-clause-stays g c =
-    let is = (looked_err g c).1 in
     record {
       office = refl;
       caller = refl;
       looks = looks_err g c;
-      register =
-          is ∙ (λ k. record c.args.desk.now.register {
-            holds = false;
-            seen = sym (ap (λ (z : RegisterSeat). z.seen) is) k;
-            mine = sym (ap (λ (z : RegisterSeat). z.mine) is) k;
-          });
+      register = looked_still c.args.desk.now.register c.give_back.new.seat (looked_err g c);
     }
 
 pub returns-in-Err-clause-goes_on : goal.returns-in-Err-clause-goes_on

@@ -7,18 +7,22 @@ use Rattle.shard_office.proofs.meeting.join_all.Goals as goal
 
 pub join_at-requires-clause-may : goal.join_at-requires-clause-may
 join_at-requires-clause-may c x ex =
-    let was : c.loop-other.others.items ≡ c.pop.new.self.items ++ c.in-Some.other ∷ [] = c.in-Some.ensures.items in
+    let was : c.loop-other.others.items ≡ c.pop.new.self.items ++ c.in-Some.other ∷ [] =
+    c.in-Some.ensures.items in
     let less =
     front_less c.pop.new.self.items c.args.others.items c.in-Some.other (vec_len c.loop-other.others)
     (sym was ∙ c.loop-other.invariant.front) in
     let n : length c.pop.new.self.items ≡ c.len.result = omega (arith, c.len.ensures, c.pop.new.self.ok.0) in
-    let rest = c.loop-other.invariant.joined.rest c.len.result (omega (arith, c.len.ensures, c.in-Some.ensures.cases)) in
+    let rest =
+    c.loop-other.invariant.joined.rest c.len.result
+    (omega (arith, c.len.ensures, c.in-Some.ensures.cases)) in
     c.requires.may c.len.result x c.in-Some.other (sym rest ∙ ex)
     (ap (slice_get c.args.others.items) (sym n) ∙ less.1)
 
 pub loop-other-preserved : goal.loop-other-preserved
 loop-other-preserved c =
-    let was : c.loop-other.others.items ≡ c.pop.new.self.items ++ c.in-Some.other ∷ [] = c.in-Some.ensures.items in
+    let was : c.loop-other.others.items ≡ c.pop.new.self.items ++ c.in-Some.other ∷ [] =
+    c.in-Some.ensures.items in
     let less =
     front_less c.pop.new.self.items c.args.others.items c.in-Some.other (vec_len c.loop-other.others)
     (sym was ∙ c.loop-other.invariant.front) in

@@ -1,5 +1,6 @@
 use Rattle.std.proofs.Common.{◌≡◌, ◌+◌, ◌-◌, ◌++◌, ◌∷◌, [], List, map, sym, ap, ◌∙◌, subst, arith}
-use Rattle.std.specs.Prelude.{slice_get}
+use Rattle.std.specs.Prelude.{slice_get, Option}
+use Rattle.shard_office.specs.declared.window.Window.{Window}
 use Rattle.shard_office.specs.Office.{OfficeState}
 use Rattle.shard_office.specs.Owners.{owner_of_mark}
 use Rattle.shard_office.specs.Sight.{Sight, GoesOn, calls_in}
@@ -17,14 +18,15 @@ join_all-requires-clause-may c i x o ex eo =
     ap (λ (s : ClerkState). s.desk.office) c.self.view_is ∙ c.requires.office.0 in
     let theirs : c.pass.inside.desk.office.value ≡ c.args.office.now =
     ap (λ (p : PassState). p.office) c.pass.view_is ∙ c.requires.office.1 in
+    let window : OfficeState → Option Window = λ k. slice_get k.identity.windows i in
     let first = c.self.invariant.0.shards i x ex in
     let mine = c.self.invariant.0.at.shards i x ex in
     let other = c.pass.invariant.shards i o eo in
     record {
       lock =
           λ w ew. (
-            (mine.window w (ap (λ (k : OfficeState). slice_get k.identity.windows i) (same ∙ sym c.office.view_is) ∙ ew)).lock,
-            (other.window w (ap (λ (k : OfficeState). slice_get k.identity.windows i) (theirs ∙ sym c.office.view_is) ∙ ew)).lock,
+            (mine.window w (ap window (same ∙ sym c.office.view_is) ∙ ew)).lock,
+            (other.window w (ap window (theirs ∙ sym c.office.view_is) ∙ ew)).lock,
           );
       is_first = first.first;
       free = mine.free;
@@ -52,9 +54,10 @@ did c =
     c.self.inside.desk.shards.items c.self.inside.desk.register =
     subst (λ (o : OfficeState). AreFirst o c.self.inside.last c.self.inside.teams taken
     c.self.inside.desk.shards.items c.self.inside.desk.register) (same c) c.self.invariant.0 in
-    let at : AreAt c.args.office.now c.pass.inside.desk.caller c.pass.inside.desk.shards.items c.pass.inside.desk.register =
-    subst (λ (o : OfficeState). AreAt o c.pass.inside.desk.caller c.pass.inside.desk.shards.items
-    c.pass.inside.desk.register) (theirs c) c.pass.invariant in
+    let desk = c.pass.inside.desk in
+    let at : AreAt c.args.office.now desk.caller desk.shards.items desk.register =
+    subst (λ (o : OfficeState). AreAt o desk.caller desk.shards.items desk.register) (theirs c)
+    c.pass.invariant in
     let took : TookIn owner_of_mark c.self.inside.desk.register c.pass.inside.desk.register c.join.new.seat =
     record {
       same = c.join.ensures.sight;
@@ -120,8 +123,9 @@ returns-clause-begins c =
 
 pub returns-clause-own : goal.returns-clause-own
 returns-clause-own c =
-    subst (λ n. calls_in n (sight_of c.join_all.new.firsts.items c.join.new.seat)
-    ≡ calls_in n (sight_of c.self.inside.desk.shards.items c.self.inside.desk.register)) (sym c.self.invariant.1) (did c).own
+    let before = sight_of c.self.inside.desk.shards.items c.self.inside.desk.register in
+    let now = sight_of c.join_all.new.firsts.items c.join.new.seat in
+    subst (λ n. calls_in n now ≡ calls_in n before) (sym c.self.invariant.1) (did c).own
     ∙ ap (λ (s : ClerkState). own s.desk) c.self.view_is
 
 pub returns-clause-mine : goal.returns-clause-mine

@@ -31,7 +31,9 @@ overflow_add-self c =
     let above : c.self.inside.last < c.args.caller =
     subst (λ (s : ClerkState). s.last_caller < c.args.caller) (sym c.self.view_is) c.requires.caller in
     let out = c.self.invariant.0.registered.out in
-    let few = falling_length c.self.inside.last c.self.inside.desk.register.out c.self.invariant.0.registered.falling in
+    let few =
+    falling_length c.self.inside.last c.self.inside.desk.register.out
+    c.self.invariant.0.registered.falling in
     omega (arith, c.ranges.caller.fits)
 
 -- the clerk is of this office
@@ -52,7 +54,7 @@ did c =
     let seats = c.self.inside.desk.shards.items in
     let news = c.split_all.new.firsts.items in
     let made = c.split_all.new.made.items in
-    let are : AreFirst c.args.office.now c.self.inside.last c.self.inside.teams (taken c) seats c.self.inside.desk.register =
+    let are =
     subst (λ (o : OfficeState). AreFirst o c.self.inside.last c.self.inside.teams (taken c) seats
     c.self.inside.desk.register) (same c) c.self.invariant.0 in
     let above : c.self.inside.last < c.args.caller =

@@ -15,7 +15,8 @@ use Rattle.shard_office.proofs.office.Office.call.Goals.{After-index_mut-seat}
 -- the shard's seat is at its place
 place :
     (g : Over) (c : After-index_mut-seat g)
-    → slice_get c.pass.inside.desk.shards.items (c.shard_of-shard.result - 1) ≡ Some c.index_mut-seat.result.now
+    → slice_get c.pass.inside.desk.shards.items (c.shard_of-shard.result - 1)
+    ≡ Some c.index_mut-seat.result.now
 place g c =
     let count = c.pass.invariant.count in
     let of = ap (λ (p : PassState). p.office.shards) c.pass.view_is in
@@ -28,7 +29,8 @@ place g c =
 pub answer-requires-clause-shard : goal.answer-requires-clause-shard
 answer-requires-clause-shard g c =
     let desk = c.pass.inside.desk in
-    let same : desk.office.value ≡ c.args.self.now = ap (λ (p : PassState). p.office) c.pass.view_is ∙ c.requires.office in
+    let same : desk.office.value ≡ c.args.self.now =
+    ap (λ (p : PassState). p.office) c.pass.view_is ∙ c.requires.office in
     let are : AreAt c.args.self.now desk.caller desk.shards.items desk.register =
     subst (λ (o : OfficeState). AreAt o desk.caller desk.shards.items desk.register) same c.pass.invariant in
     are.shards (c.shard_of-shard.result - 1) c.index_mut-seat.result.now
@@ -52,7 +54,8 @@ did g c =
     (slice_set desk.shards.items (s - 1) c.answer.new.mine) desk.register c.answer.new.marks) is
     (answered desk.office.value desk.caller desk.shards.items desk.register c.answer.new.marks (s - 1) s
     (omega (arith, c.shard_of-shard.ensures.bounds.0)) c.index_mut-seat.result.now c.answer.new.mine
-    (place g (goal.at.invariant_of-pass g c).After-index_mut-seat) c.pass.invariant c.args.change c.answer.result (record {
+    (place g (goal.at.invariant_of-pass g c).After-index_mut-seat) c.pass.invariant c.args.change
+    c.answer.result (record {
       knows = c.answer.ensures.own.0;
       knows' = c.answer.ensures.own.1;
       entry = c.answer.ensures.entry;

@@ -16,7 +16,8 @@ invariant_of-clerk g c =
     let at : AreAt old.office.value 0 new.shards.items new.register =
     subst (λ (z : OfficeState × ℕ). AreAt z.0 z.1 new.shards.items new.register)
     (λ i. (stays.office i, number i)) c.freeze.ensures.seated in (
-      subst (λ (o : OfficeState). AreFirst o c.clerk.inside.last c.clerk.inside.teams taken new.shards.items new.register)
+      subst (λ (o : OfficeState). AreFirst o c.clerk.inside.last c.clerk.inside.teams taken
+          new.shards.items new.register)
           (sym stays.office)
           (first_after_look old.office.value c.clerk.inside.last c.clerk.inside.teams taken old.shards.items
           new.shards.items old.register new.register c.clerk.invariant.0 at stays.looks stays.register
