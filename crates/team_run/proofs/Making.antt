@@ -1,6 +1,6 @@
 -- One call of a team after another.
 use Rattle.std.proofs.Common.{◌≡◌, ℕ, ◌<◌, List, [], ◌∷◌, ◌++◌, reverse, count_by, All, refl, sym, ap, subst}
-use Rattle.std.proofs.Common.{◌∙◌, append-nil}
+use Rattle.std.proofs.Common.{◌∙◌}
 use Rattle.std.proofs.lemmas.List.{reverse-reverse}
 use Rattle.std.proofs.lemmas.List.Elements.{All-nil}
 use Rattle.batch_core.specs.declared.call.Call.{Call}

@@ -1,6 +1,6 @@
 -- One pass after another.
-use Rattle.std.proofs.Common.{◌≡◌, ℕ, ◌<◌, List, [], ◌∷◌, ◌++◌, length, map, reverse, All, refl, sym, ap}
-use Rattle.std.proofs.Common.{subst, ◌∙◌, append-nil, length-append, arith}
+use Rattle.std.proofs.Common.{◌≡◌, ℕ, List, [], ◌∷◌, ◌++◌, length, map, reverse, All, refl, sym, ap}
+use Rattle.std.proofs.Common.{subst, ◌∙◌, length-append, arith}
 use Rattle.std.proofs.lemmas.List.{map-append, reverse-append, reverse-reverse}
 use Rattle.std.proofs.lemmas.List.Elements.{All-nil, All-push}
 use Rattle.day_reader.specs.declared.script.Script.{Script}
@@ -9,7 +9,7 @@ use Rattle.shard_office.specs.Office.{OfficeState}
 use Rattle.shard_office.specs.Clerk.{ClerkState}
 use Rattle.team_run.specs.declared.team.Team.{Team}
 use Rattle.team_run.specs.Teams.{RisesFrom, MayRun, IsFresh}
-use Rattle.team_run.specs.Runs.{asked, IsReady, HasGiven, HasOpened, IsOpening}
+use Rattle.team_run.specs.Runs.{asked, IsReady, HasGiven, IsOpening}
 use Rattle.team_run.proofs.Lists.{next_of, All-reverse, All-split}
 
 abbrev CanAnswer : OfficeState → Script → Type 0

@@ -1,46 +1,20 @@
-// One call of a team.
+// The calls of a team, by their kinds.
 ghost use Rattle.std.specs.Prelude.{◌≡◌, ◌≤◌, ◌++◌, ◌∷◌, [], OnOk, OnErr};
 ghost use Rattle.batch_core.specs.Lawful.{IsLawful};
 ghost use Rattle.batch_core.specs.declared.call.Call.TheVariants as call;
-ghost use Rattle.day_reader.specs.Said.{IsAnswerable};
 ghost use Rattle.shard_office.specs.Passes.{own};
 ghost use Rattle.team_run.specs.Teams.{calls_of};
 ghost use Rattle.team_run.specs.Runs.{freezes_of, IsSamePass, IsAtWork};
 
 use crate::NoMemory;
-use batch_core::{Call, Change};
+use batch_core::Change;
 use byte_edge::Gate;
 use shard_office::{Office, Pass, Version, versions_stay};
 use std::alloc::Global;
 use std::sync::Wait;
 
-/// Makes a call, and keeps the version of a freeze.
-pub(crate) fn make_call<R: Wait, G: Gate>(
-    rt: &R,
-    alloc: Global,
-    office: &Office,
-    pass: &mut Pass,
-    versions: &mut Vec<Version>,
-    asked: Call,
-    gate: &G,
-) -> Result<(), NoMemory>
-    requires office { pass.old.office ≡ office.now }
-    requires answerable { IsAnswerable office.now.candidates asked }
-    requires work { IsAtWork pass.old versions.old.items }
-    ensures same { IsSamePass pass.old pass.new }
-    ensures work { IsAtWork pass.new versions.new.items }
-    ensures made { OnOk result (calls_of (own pass.new) ≡ calls_of (own pass.old) ++ asked ∷ []) }
-    ensures refused { OnErr result (own pass.new ≡ own pass.old) }
-{
-    versions_stay();
-    match asked {
-        Call::Change(change) => make_change(rt, office, pass, change, gate),
-        Call::Freeze => make_freeze(rt, alloc, office, pass, versions),
-        Call::Strike(candidate) => make_strike(rt, office, pass, candidate),
-    }
-}
-
-fn make_change<R: Wait, G: Gate>(
+/// Changes a batch.
+pub(crate) fn make_change<R: Wait, G: Gate>(
     rt: &R,
     office: &Office,
     pass: &mut Pass,
@@ -60,7 +34,8 @@ fn make_change<R: Wait, G: Gate>(
     }
 }
 
-fn make_strike<R: Wait>(
+/// Strikes a candidate.
+pub(crate) fn make_strike<R: Wait>(
     rt: &R,
     office: &Office,
     pass: &mut Pass,
@@ -80,7 +55,7 @@ fn make_strike<R: Wait>(
 }
 
 /// Freezes. Room for the version is made before, so that no freeze is without its version.
-fn make_freeze<R: Wait>(
+pub(crate) fn make_freeze<R: Wait>(
     rt: &R,
     alloc: Global,
     office: &Office,

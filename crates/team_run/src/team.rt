@@ -1,16 +1,15 @@
 // A team at work.
-ghost use Rattle.std.specs.Prelude.{◌≡◌, ◌++◌, [], All, OnOk, List};
-ghost use Rattle.batch_core.specs.declared.call.Call.{Call};
+ghost use Rattle.std.specs.Prelude.{◌≡◌, ◌++◌, ◌∷◌, [], OnOk, OnErr};
 ghost use Rattle.day_reader.specs.Said.{IsAnswerable};
 ghost use Rattle.shard_office.specs.Passes.{own};
 ghost use Rattle.team_run.specs.Teams.{calls_of, HasBegun};
-ghost use Rattle.team_run.specs.Runs.{IsReady, IsAtWork, HasRun};
+ghost use Rattle.team_run.specs.Runs.{asked, IsSamePass, IsReady, IsAtWork, HasRun};
 
 use crate::NoMemory;
-use crate::calls::make_call;
-use batch_core::Calls;
+use crate::calls::{make_change, make_freeze, make_strike};
+use batch_core::{Call, Calls};
 use byte_edge::Gate;
-use shard_office::{Office, Pass, Version};
+use shard_office::{Office, Pass, Version, versions_stay};
 use std::alloc::Global;
 use std::sync::Wait;
 
@@ -30,43 +29,56 @@ impl Team {
         requires { IsReady office.now self.old }
         ensures { HasRun office.now self.old self.new }
     {
-        match make_all(
-            rt,
-            alloc,
-            office,
-            &mut self.pass,
-            &mut self.versions,
-            &mut self.left,
-            gate,
-        ) {
+        match self.make_all(rt, alloc, office, gate) {
             Ok(()) => {}
             Err(_) => self.refused = true,
         }
     }
-}
 
-/// Makes calls in their order, up to the first for which memory is wanted.
-fn make_all<R: Wait, G: Gate>(
-    rt: &R,
-    alloc: Global,
-    office: &Office,
-    pass: &mut Pass,
-    versions: &mut Vec<Version>,
-    left: &mut Calls,
-    gate: &G,
-) -> Result<(), NoMemory>
-    requires office { pass.old.office ≡ office.now }
-    requires own_is { own pass.old ≡ [] }
-    requires versions { versions.old.items ≡ [] }
-    requires answerable { All (IsAnswerable office.now.candidates) left.old }
-    ensures office { pass.new.office ≡ office.now }
-    ensures work { IsAtWork pass.new versions.new.items }
-    ensures begun { HasBegun pass.new (record { team = pass.old.caller; calls = left.old }) }
-    ensures whole { OnOk result (calls_of (own pass.new) ≡ left.old) }
-{
-    left.reverse();
-    'calls: while let Some(call) = left.pop() {
-        make_call(rt, alloc, office, pass, versions, call, gate)?;
+    /// Makes calls in their order, up to the first for which memory is wanted.
+    fn make_all<R: Wait, G: Gate>(
+        &mut self,
+        rt: &R,
+        alloc: Global,
+        office: &Office,
+        gate: &G,
+    ) -> Result<(), NoMemory>
+        requires { IsReady office.now self.old }
+        ensures office { self.new.pass.office ≡ office.now }
+        ensures work { IsAtWork self.new.pass self.new.versions.items }
+        ensures begun { HasBegun self.new.pass (asked self.old) }
+        ensures whole { OnOk result (calls_of (own self.new.pass) ≡ self.old.left) }
+    {
+        self.left.reverse();
+        'calls: while let Some(call) = self.left.pop() {
+            self.make(rt, alloc, office, call, gate)?;
+        }
+        Ok(())
     }
-    Ok(())
+
+    /// Makes a call, and keeps the version of a freeze.
+    fn make<R: Wait, G: Gate>(
+        &mut self,
+        rt: &R,
+        alloc: Global,
+        office: &Office,
+        asked: Call,
+        gate: &G,
+    ) -> Result<(), NoMemory>
+        requires office { self.old.pass.office ≡ office.now }
+        requires answerable { IsAnswerable office.now.candidates asked }
+        requires work { IsAtWork self.old.pass self.old.versions.items }
+        ensures same { IsSamePass self.old.pass self.new.pass }
+        ensures left { self.new.left ≡ self.old.left }
+        ensures work { IsAtWork self.new.pass self.new.versions.items }
+        ensures made { OnOk result (calls_of (own self.new.pass) ≡ calls_of (own self.old.pass) ++ asked ∷ []) }
+        ensures refused { OnErr result (own self.new.pass ≡ own self.old.pass) }
+    {
+        versions_stay();
+        match asked {
+            Call::Change(change) => make_change(rt, office, &mut self.pass, change, gate),
+            Call::Freeze => make_freeze(rt, alloc, office, &mut self.pass, &mut self.versions),
+            Call::Strike(candidate) => make_strike(rt, office, &mut self.pass, candidate),
+        }
+    }
 }
