@@ -1,9 +1,11 @@
 // The register of all calls.
-ghost use Rattle.std.specs.Prelude.{◌≡◌, ◌+◌, ◌-◌, ◌≤◌, ◌<◌, [], ◌∷◌, ◌++◌, All, IfOk, OnOk, vec_len, vec_capacity};
-ghost use Rattle.batch_core.specs.Book.{strike};
+ghost use Rattle.std.specs.Prelude.{◌≡◌, ◌+◌, ◌≤◌, [], ◌∷◌, ◌++◌, All, IfOk, OnOk};
+ghost use Rattle.batch_core.specs.Book.{strike_reply};
 ghost use Rattle.call_register.specs.Marks.{MayMark, marks_of, struck_by};
 
+use crate::struck::Struck;
 use crate::{Mark, Marks, NoMemory};
+use batch_core::Reply;
 use std::alloc::Global;
 use std::marker::Model;
 
@@ -14,19 +16,19 @@ pub struct Register {
     candidates: u32,
     marks: Marks,
     booked: Vec<u64>,
-    struck: Vec<u32>,
+    struck: Struck,
 }
 
 impl Model for Register {
-    ghost use Rattle.std.specs.Prelude.{◌≡◌, ◌-◌, All, length, min, vec_len, vec_capacity};
+    ghost use Rattle.std.specs.Prelude.{◌≡◌, All, length, min};
     ghost use Rattle.call_register.specs.Marks.{RegisterState, AreBooked, MayMark, struck_by};
 
     ghost Value = { RegisterState };
 
-    ghost view = { λ r. record { shards = length r.booked.items; candidates = r.candidates; marks = r.marks.items; spare = min r.marks.spare (vec_capacity r.struck - vec_len r.struck) } };
+    ghost view = { λ r. record { shards = length r.booked.items; candidates = r.candidates; marks = r.marks.items; spare = min r.marks.spare r.struck.spare } };
 
     ghost invariant = { λ r. AreBooked r.marks.items r.booked.items
-        × (r.struck.items ≡ struck_by r.marks.items)
+        × (r.struck.candidates ≡ struck_by r.marks.items)
         × All (λ m. MayMark (length r.booked.items) r.candidates m) r.marks.items };
 }
 
@@ -41,7 +43,7 @@ impl Register {
                 candidates,
                 marks: Marks::new(alloc),
                 booked,
-                struck: Vec::new(alloc),
+                struck: Struck::new(alloc),
             }),
             Err(_) => Err(NoMemory),
         }
@@ -55,10 +57,7 @@ impl Register {
         ensures room { OnOk result (1 ≤ self.new.spare) }
     {
         self.marks.reserve(1)?;
-        match self.struck.reserve(1) {
-            Ok(()) => Ok(()),
-            Err(_) => Err(NoMemory),
-        }
+        self.struck.reserve(1)
     }
 
     /// Adds a mark that there is room for.
@@ -79,7 +78,7 @@ impl Register {
             }
             Mark::Freeze(_) => self.marks.push_reserved(mark),
             Mark::Strike { candidate, .. } => {
-                add_struck(&mut self.struck, candidate);
+                self.struck.strike(candidate);
                 self.marks.push_reserved(mark);
             }
         }
@@ -101,22 +100,17 @@ impl Register {
         self.booked[shard as usize - 1]
     }
 
+    /// The reply to a strike of this candidate after these marks.
+    pub fn strike_reply(&self, candidate: u32) -> Reply
+        ensures { result ≡ strike_reply (struck_by self.now.marks) candidate }
+    {
+        self.struck.reply(candidate)
+    }
+
     /// Each struck candidate once, in the order of their first strikes.
     pub fn struck(&self) -> &[u32]
         ensures { result.now ≡ struck_by self.now.marks }
     {
-        self.struck.as_slice()
-    }
-}
-
-/// Adds a candidate who isn't there yet.
-fn add_struck(struck: &mut Vec<u32>, candidate: u32)
-    requires { vec_len struck.old < vec_capacity struck.old }
-    ensures struck { struck.new.items ≡ strike struck.old.items candidate }
-    ensures spare { vec_capacity struck.old - vec_len struck.old
-        ≤ (vec_capacity struck.new - vec_len struck.new) + 1 }
-{
-    if !struck.contains(&candidate) {
-        struck.push_reserved(candidate);
+        self.struck.candidates()
     }
 }

@@ -80,7 +80,7 @@ invariant_of-self-in-Strike c =
       subst (λ (l : List Mark). AreBooked l c.self.inside.booked.items) (sym list)
           (booked_else c.self.inside.marks.items c.self.inside.booked.items
           (Strike c.in-Strike.caller c.in-Strike.candidate) (λ t. refl) c.self.invariant.0),
-      c.add_struck.ensures.struck ∙ (ap (λ (st : List ℕ). strike st c.in-Strike.candidate) c.self.invariant.1
+      c.strike.ensures.candidates ∙ (ap (λ (st : List ℕ). strike st c.in-Strike.candidate) c.self.invariant.1
           ∙ (sym (struck-append [] c.self.inside.marks.items
           (Strike c.in-Strike.caller c.in-Strike.candidate ∷ [])) ∙ ap struck_by (sym list))),
       (let candidates : c.self.inside.candidates ≡ c.args.self.now.candidates =
