@@ -1,0 +1,11 @@
+mod Heads
+mod Marks
+mod Steps
+mod Over
+mod CellFields
+mod Lines
+mod Texts
+mod Forward
+mod SpelledRecords
+mod Backward
+mod ReadBack

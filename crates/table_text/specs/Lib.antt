@@ -1,0 +1,6 @@
+pub mod Spelling
+pub mod Reading
+pub mod Separator
+pub mod Reader
+pub mod Laws
+pub mod Worked

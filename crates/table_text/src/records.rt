@@ -1,0 +1,130 @@
+// The records of a text.
+ghost use Rattle.std.specs.Prelude.{◌≡◌, ◌≢◌, ◌≤◌, length, All, IfOk, Ok, Err};
+ghost use Rattle.table_text.specs.Reading.{read_text};
+ghost use Rattle.table_text.specs.Reader.{IsCellOf, IsEnded, LineEnds, GivesFrom, Gives};
+
+use crate::mark::FEED;
+use crate::record::{next_count, record_end};
+use crate::{Cells, Step, TextFault, TextKind, TextStop};
+use std::marker::Model;
+
+/// The records of a text that are still to come, one after another.
+#[derive(Drop)]
+pub struct Records<'a> {
+    bytes: &'a [u8],
+    separator: u8,
+    at: usize,
+    row: u32,
+}
+
+impl<'a> Model for Records<'a> {
+    ghost use Rattle.std.specs.Prelude.{◌≤◌, length};
+    ghost use Rattle.table_text.specs.Reading.{left};
+    ghost use Rattle.table_text.specs.Reader.{Reader};
+
+    ghost Value = { Reader };
+
+    ghost view = { λ r. record { bytes = r.bytes.now; rest = left r.separator r.bytes.now r.row r.at } };
+
+    ghost invariant = { λ r. (r.at ≤ length r.bytes.now) × (1 ≤ r.row) };
+}
+
+// What comes from a place on, with the place and the row of what is to come behind it.
+fn next_from(
+    bytes: &[u8],
+    separator: u8,
+    row: u32,
+    at: usize,
+    cells: &mut Cells,
+) -> Result<(Step, usize, u32), TextStop>
+    requires inside { at ≤ length bytes.now }
+    requires row { 1 ≤ row }
+    ensures inside { IfOk result (λ found. found.1 ≤ length bytes.now) }
+    ensures row { IfOk result (λ found. 1 ≤ found.2) }
+    ensures cells { All (IsCellOf bytes.now) cells.new }
+    ensures gives { GivesFrom separator bytes.now row at result cells.new }
+{
+    if at == bytes.len() {
+        cells.clear();
+        return at_end(row, at);
+    }
+    let end = record_end(bytes, separator, row, at, cells)?;
+    let rest = behind_line(bytes, separator, end);
+    if end == at {
+        return Err(refused(TextKind::EmptyLine, at, row));
+    }
+    Ok((
+        Step::Record { at, end, row },
+        rest,
+        next_count(row as usize),
+    ))
+}
+
+// The text ends at a record's place.
+fn at_end(row: u32, at: usize) -> Result<(Step, usize, u32), TextStop>
+    ensures wanted { row ≡ 1 → result ≡ Err (TextStop.Fault (record { kind = TextKind.Ended; at = at; row = row; column = 1 })) }
+    ensures done { row ≢ 1 → result ≡ Ok (Step.End, at, row) }
+{
+    if row == 1 {
+        return Err(refused(TextKind::Ended, at, row));
+    }
+    Ok((Step::End, at, row))
+}
+
+fn refused(kind: TextKind, at: usize, row: u32) -> TextStop
+    ensures { result ≡ TextStop.Fault (record { kind = kind; at = at; row = row; column = 1 }) }
+{
+    TextStop::Fault(TextFault {
+        kind,
+        at,
+        row,
+        column: 1,
+    })
+}
+
+// The place behind the line end of a record that ends at a place.
+fn behind_line(bytes: &[u8], separator: u8, end: usize) -> usize
+    requires inside { end ≤ length bytes.now }
+    requires ended { IsEnded separator bytes.now end }
+    ensures inside { result ≤ length bytes.now }
+    ensures over { LineEnds separator bytes.now end result }
+{
+    if end == bytes.len() {
+        end
+    } else if bytes[end] == FEED {
+        end + 1
+    } else {
+        end + 2
+    }
+}
+
+impl<'a> Records<'a> {
+    /// The records of a text, behind its byte order mark.
+    pub fn new(bytes: &'a [u8], separator: u8) -> Self
+        ensures { result ≡ record { bytes = bytes.entry.now; rest = read_text separator bytes.entry.now } }
+    {
+        let at = if bytes.starts_with(&[0xEF, 0xBB, 0xBF]) {
+            3
+        } else {
+            0
+        };
+        Records {
+            bytes,
+            separator,
+            at,
+            row: 1,
+        }
+    }
+
+    /// The next record, with the places of its fields in `cells`. An end and a fault are answered again.
+    pub fn next(&mut self, cells: &mut Cells) -> Result<Step, TextStop>
+        ensures bytes { self.new.bytes ≡ self.old.bytes }
+        ensures cells { All (IsCellOf self.old.bytes) cells.new }
+        ensures gives { Gives self.old result cells.new self.new }
+    {
+        let (step, at, row) = next_from(self.bytes, self.separator, self.row, self.at, cells)?;
+        self.at = at;
+        self.row = row;
+        Ok(step)
+    }
+}
