@@ -15,6 +15,7 @@ mod record;
 mod records;
 mod separator;
 mod step;
+mod text;
 mod text_fault;
 mod text_kind;
 mod text_stop;

@@ -1,11 +1,12 @@
 // The records of a text.
-ghost use Rattle.std.specs.Prelude.{◌≡◌, ◌≢◌, ◌≤◌, length, All, IfOk, Ok, Err};
-ghost use Rattle.table_text.specs.Reading.{read_text};
+ghost use Rattle.std.specs.Prelude.{◌≡◌, ◌≢◌, ◌≤◌, [], length, slice_range, All, IfOk, OnOk, OnErr, Ok, Err};
+ghost use Rattle.table_text.specs.Reading.{field_text, read_text};
 ghost use Rattle.table_text.specs.Reader.{IsCellOf, IsEnded, LineEnds, GivesFrom, Gives};
 
 use crate::mark::FEED;
 use crate::record::{next_count, record_end};
-use crate::{Cells, Step, TextFault, TextKind, TextStop};
+use crate::text::put_text;
+use crate::{Cell, Cells, NoMemory, Step, TextFault, TextKind, TextStop};
 use std::marker::Model;
 
 /// The records of a text that are still to come, one after another.
@@ -126,5 +127,21 @@ impl<'a> Records<'a> {
         self.at = at;
         self.row = row;
         Ok(step)
+    }
+
+    /// The text of a field: its bytes without its quotes, with one quote for each two. It is then all that is
+    /// in `into`, which is empty where memory is wanted.
+    pub fn text(&self, cell: Cell, into: &mut Vec<u8>) -> Result<(), NoMemory>
+        requires { IsCellOf self.now.bytes cell }
+        ensures ok { OnOk result (into.new.items ≡ field_text (slice_range self.now.bytes cell.at cell.stop)) }
+        ensures err { OnErr result (into.new.items ≡ []) }
+    {
+        match put_text(&self.bytes[cell.at..cell.stop], into) {
+            Ok(()) => Ok(()),
+            Err(stop) => {
+                into.clear();
+                Err(stop)
+            }
+        }
     }
 }
