@@ -1,4 +1,4 @@
-//! Tests of the public calls of blt_reader and day_reader.
+//! Tests of the public calls of blt_reader, day_reader and table_text.
 #![tactic(auto)]
 
 #[cfg(test)]
@@ -13,5 +13,7 @@ mod lines;
 mod rolls;
 #[cfg(test)]
 mod scripts;
+#[cfg(test)]
+mod tables;
 #[cfg(test)]
 mod tokens;
