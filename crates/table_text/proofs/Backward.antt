@@ -1,11 +1,13 @@
 -- What is read to its end is spelled so.
-use Rattle.std.proofs.Common.{◌≡◌, ℕ, ◌+◌, List, [], ◌∷◌, ◌++◌, length, map, Bool, true, false, cond, ◌==◌, inl, inr, refl, sym, ◌∙◌, ap, subst, append-nil, append_assoc}
+use Rattle.std.proofs.Common.{◌≡◌, ℕ, ◌+◌, List, [], ◌∷◌, ◌++◌, length, map, Bool, true, false, cond, ◌==◌}
+use Rattle.std.proofs.Common.{inl, inr, refl, sym, ◌∙◌, ap, subst, append-nil, append_assoc}
 use Rattle.std.proofs.lemmas.Bool.{and_from}
 use Rattle.std.proofs.lemmas.List.Concat.{flat_map-append}
 use Rattle.std.proofs.lemmas.List.Folds.{list_all-append}
 use Rattle.std.specs.List.{flat_map, list_all}
 use Rattle.table_text.specs.Spelling.{is_text, is_plain, within_quotes, IsQuoted, IsField, AreFields}
-use Rattle.table_text.specs.Reading.{Field, field_text, Part, Front, Plain, Within, BehindQuote, Return, begins_with_feed}
+use Rattle.table_text.specs.Reading.{Field, field_text, Part, Front, Plain, Within, BehindQuote, Return}
+use Rattle.table_text.specs.Reading.{begins_with_feed}
 use Rattle.table_text.specs.Laws.{IsSeparator}
 use Rattle.table_text.proofs.Texts.{text_is}
 use Rattle.table_text.proofs.Forward.{text_of}
@@ -67,14 +69,17 @@ module _ (s : ℕ) (fit : IsSeparator s) where
       list_all-append is_text field (b ∷ [])
       ∙ and_from (list_all is_text field) (list_all is_text (b ∷ [])) all (and_from (is_text b) true is refl)
 
-  pub open_more : (bytes : List ℕ) (b : ℕ) → IsOpen bytes → (b == 34) ≡ false → is_text b ≡ true → IsOpen (bytes ++ b ∷ [])
+  pub open_more :
+      (bytes : List ℕ) (b : ℕ) → IsOpen bytes → (b == 34) ≡ false → is_text b ≡ true
+      → IsOpen (bytes ++ b ∷ [])
   open_more bytes b is unlike text = record {
     field = is.field ++ b ∷ [];
     spelled =
         let single : within_quotes b ≡ b ∷ [] = ap (λ (q : Bool). cond q (34 ∷ 34 ∷ []) (b ∷ [])) unlike in
         ap (λ (l : List ℕ). l ++ b ∷ []) is.spelled
         ∙ ap (λ (l : List ℕ). 34 ∷ l)
-        (ap (λ (w : List ℕ). flat_map within_quotes is.field ++ w) (sym (append-nil (b ∷ [])) ∙ ap (λ (w : List ℕ). w ++ []) (sym single))
+        (ap (λ (w : List ℕ). flat_map within_quotes is.field ++ w)
+        (sym (append-nil (b ∷ [])) ∙ ap (λ (w : List ℕ). w ++ []) (sym single))
         ∙ sym (flat_map-append within_quotes is.field (b ∷ [])));
     text = text_more is.field b is.text text;
   }
@@ -113,7 +118,8 @@ module _ (s : ℕ) (fit : IsSeparator s) where
   -- ---- the fields of a record
 
   pub with_first :
-      (field front : List ℕ) (more : List (List ℕ)) (rest : List ℕ) → IsField s field front → AreFields s more rest
+      (field front : List ℕ) (more : List (List ℕ)) (rest : List ℕ) → IsField s field front
+      → AreFields s more rest
       → AreFields s (field ∷ more) (front ++ s ∷ rest)
   with_first field front [] rest is are = absurd are
   with_first field front (other ∷ more) rest is are = (front, rest, refl, is, are)
@@ -125,7 +131,8 @@ module _ (s : ℕ) (fit : IsSeparator s) where
       → AreFields s (map text_of fields ++ more) (front ++ rest)
 
   -- where a reader stands, behind the fields that this front spells
-  pub record Stands (start : ℕ) (fields : List Field) (from : ℕ) (bytes : List ℕ) (part : Part) (at : ℕ) (front : List ℕ)
+  pub record Stands (start : ℕ) (fields : List Field) (from : ℕ) (bytes : List ℕ) (part : Part) (at : ℕ)
+      (front : List ℕ)
       : Type 0 where
     pub before : AreBefore fields front
     pub part_is : PartIs part bytes

@@ -1,11 +1,14 @@
 -- What is spelled is read.
-use Rattle.std.proofs.Common.{◌≡◌, ℕ, ◌+◌, suc, List, [], ◌∷◌, ◌++◌, length, map, Bool, true, false, cond, ◌==◌, inl, inr, refl, sym, ◌∙◌, ap, subst, arith, append-nil, append_assoc, add-zero, length-append}
+use Rattle.std.proofs.Common.{◌≡◌, ℕ, ◌+◌, suc, List, [], ◌∷◌, ◌++◌, length, map, Bool, true, false, cond}
+use Rattle.std.proofs.Common.{◌==◌, inl, inr, refl, sym, ◌∙◌, ap, subst, arith, append-nil, append_assoc}
+use Rattle.std.proofs.Common.{add-zero, length-append}
 use Rattle.std.proofs.lemmas.Bool.{and_parts, eqb-true}
 use Rattle.std.proofs.lemmas.List.{map_push}
 use Rattle.std.specs.List.{flat_map, list_all}
 use Rattle.table_text.specs.declared.mark.Mark.{Mark}
 use Rattle.table_text.specs.Spelling.{is_text, is_plain, within_quotes, quoted, IsField, AreFields}
-use Rattle.table_text.specs.Reading.{Field, field_text, Front, Plain, Within, BehindQuote, Part, Takes, Wrong, Stand, by_mark, moved, read}
+use Rattle.table_text.specs.Reading.{Field, field_text, Front, Plain, Within, BehindQuote, Part, Takes, Wrong}
+use Rattle.table_text.specs.Reading.{Stand, by_mark, moved, read}
 use Rattle.table_text.specs.declared.text_kind.TextKind.TheVariants.{BadByte}
 use Rattle.table_text.specs.Reader.{in_field, closes}
 use Rattle.table_text.specs.Laws.{IsSeparator}
@@ -29,7 +32,8 @@ module _ (s row start : ℕ) (fields : List Field) (from : ℕ) where
 
   plain_over :
       (done field : List ℕ) (at : ℕ) (rest : List ℕ) → list_all (is_plain s) field ≡ true
-      → read s (stand done Plain) at (field ++ rest) ≡ read s (stand (done ++ field) Plain) (at + length field) rest
+      → read s (stand done Plain) at (field ++ rest)
+      ≡ read s (stand (done ++ field) Plain) (at + length field) rest
   plain_over done [] at rest all =
       ap (λ (d : List ℕ). read s (stand d Plain) at rest) (sym (append-nil done))
       ∙ ap (λ (n : ℕ). read s (stand (done ++ []) Plain) n rest) (sym (add-zero at))
@@ -38,7 +42,8 @@ module _ (s row start : ℕ) (fields : List Field) (from : ℕ) where
       let place : at + 1 + length field ≡ at + suc (length field) = omega arith in
       plain_byte done at b (field ++ rest) both.0
       ∙ (plain_over (done ++ b ∷ []) field (at + 1) rest both.1
-      ∙ (ap (λ (d : List ℕ). read s (stand d Plain) (at + 1 + length field) rest) (append_assoc done (b ∷ []) field)
+      ∙ (ap (λ (d : List ℕ). read s (stand d Plain) (at + 1 + length field) rest)
+      (append_assoc done (b ∷ []) field)
       ∙ ap (λ (n : ℕ). read s (stand (done ++ b ∷ field) Plain) n rest) place))
 
   text_byte :
@@ -47,7 +52,8 @@ module _ (s row start : ℕ) (fields : List Field) (from : ℕ) where
   unfolding read
   text_byte done at b rest unlike is =
       ap (λ (q : Bool). moved (stand done Within) at b
-      (cond q (Takes BehindQuote) (cond (is_text b) (Takes Within) (Wrong BadByte))) (λ next. read s next (at + 1) rest)) unlike
+      (cond q (Takes BehindQuote) (cond (is_text b) (Takes Within) (Wrong BadByte)))
+      (λ next. read s next (at + 1) rest)) unlike
       ∙ ap (λ (q : Bool). moved (stand done Within) at b
       (cond q (Takes Within) (Wrong BadByte)) (λ next. read s next (at + 1) rest)) is
 
@@ -69,18 +75,21 @@ module _ (s row start : ℕ) (fields : List Field) (from : ℕ) where
       let place : at + 1 + 1 ≡ at + 2 = omega arith in
       subst P (sym (eqb-true b 34 is))
       (pair_over done at rest
-      ∙ (ap (λ (d : List ℕ). read s (stand d Within) (at + 1 + 1) rest) (append_assoc done (34 ∷ []) (34 ∷ []))
+      ∙ (ap (λ (d : List ℕ). read s (stand d Within) (at + 1 + 1) rest)
+      (append_assoc done (34 ∷ []) (34 ∷ []))
       ∙ ap (λ (n : ℕ). read s (stand (done ++ 34 ∷ 34 ∷ []) Within) n rest) place))
   within_byte done at b rest false is text =
       let P : List ℕ → Type 0 =
-      λ w. read s (stand done Within) at (w ++ rest) ≡ read s (stand (done ++ w) Within) (at + length w) rest in
+      λ w. read s (stand done Within) at (w ++ rest)
+      ≡ read s (stand (done ++ w) Within) (at + length w) rest in
       let single : within_quotes b ≡ b ∷ [] = ap (λ (q : Bool). cond q (34 ∷ 34 ∷ []) (b ∷ [])) is in
       subst P (sym single) (text_byte done at b rest is text)
 
   within_over :
       (done field : List ℕ) (at : ℕ) (rest : List ℕ) → list_all is_text field ≡ true
       → read s (stand done Within) at (flat_map within_quotes field ++ rest)
-      ≡ read s (stand (done ++ flat_map within_quotes field) Within) (at + length (flat_map within_quotes field)) rest
+      ≡ read s (stand (done ++ flat_map within_quotes field) Within)
+      (at + length (flat_map within_quotes field)) rest
   within_over done [] at rest all =
       ap (λ (d : List ℕ). read s (stand d Within) at rest) (sym (append-nil done))
       ∙ ap (λ (n : ℕ). read s (stand (done ++ []) Within) n rest) (sym (add-zero at))
@@ -88,11 +97,13 @@ module _ (s row start : ℕ) (fields : List Field) (from : ℕ) where
       let both = and_parts (is_text b) (list_all is_text field) all in
       let w : List ℕ = within_quotes b in
       let more : List ℕ = flat_map within_quotes field in
-      let place : at + length w + length more ≡ at + length (w ++ more) = omega (arith, length-append w more) in
+      let place : at + length w + length more ≡ at + length (w ++ more) =
+      omega (arith, length-append w more) in
       ap (read s (stand done Within) at) (append_assoc w more rest)
       ∙ (within_byte done at b (more ++ rest) (b == 34) refl both.0
       ∙ (within_over (done ++ w) field (at + length w) rest both.1
-      ∙ (ap (λ (d : List ℕ). read s (stand d Within) (at + length w + length more) rest) (append_assoc done w more)
+      ∙ (ap (λ (d : List ℕ). read s (stand d Within) (at + length w + length more) rest)
+      (append_assoc done w more)
       ∙ ap (λ (n : ℕ). read s (stand (done ++ (w ++ more)) Within) n rest) place)))
 
   plain-not_quoted :
@@ -151,20 +162,23 @@ module _ (s : ℕ) (fit : IsSeparator s) (row start : ℕ) where
     pub last : List ℕ
     pub same : read s (in_field row start done at [] Front) at (text ++ rest)
         ≡ read s (in_field row start before from last Plain) (at + length text) rest
-    pub texts_are : map text_of (before ++ record { at = from; bytes = last } ∷ []) ≡ map text_of done ++ texts
+    pub texts_are :
+        map text_of (before ++ record { at = from; bytes = last } ∷ []) ≡ map text_of done ++ texts
     pub place : from + length last ≡ at + length text
 
   over_separator :
       (done : List Field) (from : ℕ) (bytes : List ℕ) (at : ℕ) (rest : List ℕ)
       → read s (in_field row start done from bytes Plain) at (s ∷ rest)
-      ≡ read s (in_field row start (done ++ record { at = from; bytes = bytes } ∷ []) (at + 1) [] Front) (at + 1) rest
+      ≡ read s (in_field row start (done ++ record { at = from; bytes = bytes } ∷ []) (at + 1) [] Front)
+      (at + 1) rest
   unfolding read
   over_separator done from bytes at rest =
       ap (λ (m : Mark). moved (in_field row start done from bytes Plain) at s (by_mark Plain m)
       (λ next. read s next (at + 1) rest)) (mark_separator s fit rest)
 
   pub fields_over :
-      (texts : List (List ℕ)) (text : List ℕ) (done : List Field) (at : ℕ) (rest : List ℕ) → AreFields s texts text
+      (texts : List (List ℕ)) (text : List ℕ) (done : List Field) (at : ℕ) (rest : List ℕ)
+      → AreFields s texts text
       → Parted s rest → Gone done at texts text rest
   fields_over [] text done at rest is parted = absurd is
   fields_over (field ∷ []) text done at rest is parted = record {
@@ -198,11 +212,13 @@ module _ (s : ℕ) (fit : IsSeparator s) (row start : ℕ) where
             (ap closes (mark_separator s fit (behind ++ rest)))
             ∙ (over_separator done at front p (behind ++ rest)
             ∙ (gone.same
-            ∙ ap (λ (n : ℕ). read s (in_field row start gone.before gone.from gone.last Plain) n rest) place))));
+            ∙ ap (λ (n : ℕ). read s (in_field row start gone.before gone.from gone.last Plain) n rest)
+            place))));
         texts_are =
             gone.texts_are
             ∙ (ap (λ (ts : List (List ℕ)). ts ++ other ∷ more)
-            (map_push text_of done first ∙ ap (λ (t : List ℕ). map text_of done ++ t ∷ []) (text_is s field front is.3))
+            (map_push text_of done first
+            ∙ ap (λ (t : List ℕ). map text_of done ++ t ∷ []) (text_is s field front is.3))
             ∙ append_assoc (map text_of done) (field ∷ []) (other ∷ more));
         place = gone.place ∙ place;
       }

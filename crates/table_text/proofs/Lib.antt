@@ -1,4 +1,5 @@
 mod Heads
+mod HeadKinds
 mod Marks
 mod Steps
 mod Over
@@ -8,4 +9,5 @@ mod Texts
 mod Forward
 mod SpelledRecords
 mod Backward
+mod ReadSteps
 mod ReadBack

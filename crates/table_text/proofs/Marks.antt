@@ -1,5 +1,6 @@
 -- What a byte does outside quotes.
-use Rattle.std.proofs.Common.{◌≡◌, ℕ, List, ◌∷◌, Bool, true, false, cond, not, ◌==◌, ◌||◌, ◌&&◌, nat_lt, refl, sym, subst, arith}
+use Rattle.std.proofs.Common.{◌≡◌, ℕ, List, ◌∷◌, Bool, true, false, cond, not, ◌==◌, ◌||◌, ◌&&◌, nat_lt, refl}
+use Rattle.std.proofs.Common.{sym, subst, arith}
 use Rattle.std.proofs.lemmas.Bool.{false≢true, true≢false, ne_eqb, eqb-true, eq-eqb, and_parts}
 use Rattle.table_text.specs.declared.mark.Mark.{Mark}
 use Rattle.table_text.specs.declared.mark.Mark.TheVariants as marks
@@ -24,7 +25,8 @@ quote_tests false false false false false unlike is = cc
 
 pub mark-no_quote : (s b : ℕ) (rest : List ℕ) → (b == 34) ≡ false → mark s b rest ≡ marks.Quote → ⊥
 mark-no_quote s b rest unlike is =
-    quote_tests (b == 34) (b == s) (b == 10) (b == 13 && begins_with_feed rest) (nat_lt b 32 && not (b == 9)) unlike is
+    quote_tests (b == 34) (b == s) (b == 10) (b == 13 && begins_with_feed rest) (nat_lt b 32 && not (b == 9))
+    unlike is
 
 closing_tests : (q p f r w : Bool) → closes (chosen q p f r w) ≡ true → q ≡ false
 closing_tests true p f r w is = absurd (false≢true is)
@@ -32,7 +34,8 @@ closing_tests false p f r w is = refl
 
 pub closes-no_quote : (s b : ℕ) (rest : List ℕ) → closes (mark s b rest) ≡ true → (b == 34) ≡ false
 closes-no_quote s b rest is =
-    closing_tests (b == 34) (b == s) (b == 10) (b == 13 && begins_with_feed rest) (nat_lt b 32 && not (b == 9)) is
+    closing_tests (b == 34) (b == s) (b == 10) (b == 13 && begins_with_feed rest)
+    (nat_lt b 32 && not (b == 9)) is
 
 plain_tests :
     (p q f r n l t : Bool) → (not (((p || q) || f) || r) && (((not l || t) || f) || r)) ≡ true
@@ -103,7 +106,8 @@ quoting_tests false false false false true is = cc
 quoting_tests false false false false false is = cc
 
 inner_tests :
-    (q p f r n l t : Bool) → (r ≡ true → (l ≡ true) × (t ≡ false)) → chosen q p f (r && n) (l && not t) ≡ marks.Inner
+    (q p f r n l t : Bool) → (r ≡ true → (l ≡ true) × (t ≡ false))
+    → chosen q p f (r && n) (l && not t) ≡ marks.Inner
     → (not (((p || q) || f) || r) && (((not l || t) || f) || r)) ≡ true
 inner_tests true p f r n l t low is = cc
 inner_tests false true f r n l t low is = cc
@@ -120,23 +124,27 @@ module _ (s b : ℕ) (rest : List ℕ) where
   pub is_separator : mark s b rest ≡ marks.Parts → b ≡ s
   is_separator is =
       eqb-true b s
-      (parts_tests (b == 34) (b == s) (b == 10) (b == 13 && begins_with_feed rest) (nat_lt b 32 && not (b == 9)) is)
+      (parts_tests (b == 34) (b == s) (b == 10) (b == 13 && begins_with_feed rest)
+      (nat_lt b 32 && not (b == 9)) is)
 
   pub is_feed : mark s b rest ≡ marks.Feeds → b ≡ 10
   is_feed is =
       eqb-true b 10
-      (feeds_tests (b == 34) (b == s) (b == 10) (b == 13 && begins_with_feed rest) (nat_lt b 32 && not (b == 9)) is)
+      (feeds_tests (b == 34) (b == s) (b == 10) (b == 13 && begins_with_feed rest)
+      (nat_lt b 32 && not (b == 9)) is)
 
   pub is_return : mark s b rest ≡ marks.Returns → (b ≡ 13) × (begins_with_feed rest ≡ true)
   is_return is =
       let both = and_parts (b == 13) (begins_with_feed rest)
-      (returns_tests (b == 34) (b == s) (b == 10) (b == 13 && begins_with_feed rest) (nat_lt b 32 && not (b == 9)) is) in
+      (returns_tests (b == 34) (b == s) (b == 10) (b == 13 && begins_with_feed rest)
+      (nat_lt b 32 && not (b == 9)) is) in
       (eqb-true b 13 both.0, both.1)
 
   pub is_quote : mark s b rest ≡ marks.Quote → b ≡ 34
   is_quote is =
       eqb-true b 34
-      (quoting_tests (b == 34) (b == s) (b == 10) (b == 13 && begins_with_feed rest) (nat_lt b 32 && not (b == 9)) is)
+      (quoting_tests (b == 34) (b == s) (b == 10) (b == 13 && begins_with_feed rest)
+      (nat_lt b 32 && not (b == 9)) is)
 
   pub is_inner : mark s b rest ≡ marks.Inner → is_plain s b ≡ true
   is_inner is =
@@ -146,17 +154,20 @@ module _ (s b : ℕ) (rest : List ℕ) where
 
 -- ---- a mark behind a field
 
-closing_parts_tests : (q p f r w : Bool) → closes (chosen q p f r w) ≡ true → p ≡ true → chosen q p f r w ≡ marks.Parts
+closing_parts_tests :
+    (q p f r w : Bool) → closes (chosen q p f r w) ≡ true → p ≡ true → chosen q p f r w ≡ marks.Parts
 closing_parts_tests true p f r w is also = absurd (false≢true is)
 closing_parts_tests false true f r w is also = refl
 closing_parts_tests false false f r w is also = absurd (false≢true also)
 
 pub parts_at : (s b : ℕ) (rest : List ℕ) → closes (mark s b rest) ≡ true → b ≡ s → mark s b rest ≡ marks.Parts
 parts_at s b rest is same =
-    closing_parts_tests (b == 34) (b == s) (b == 10) (b == 13 && begins_with_feed rest) (nat_lt b 32 && not (b == 9)) is
+    closing_parts_tests (b == 34) (b == s) (b == 10) (b == 13 && begins_with_feed rest)
+    (nat_lt b 32 && not (b == 9)) is
     (eq-eqb b s same)
 
-closing_line_tests : (q p f r w : Bool) → closes (chosen q p f r w) ≡ true → p ≡ false → ends_line (chosen q p f r w) ≡ true
+closing_line_tests :
+    (q p f r w : Bool) → closes (chosen q p f r w) ≡ true → p ≡ false → ends_line (chosen q p f r w) ≡ true
 closing_line_tests true p f r w is other = absurd (false≢true is)
 closing_line_tests false true f r w is other = absurd (true≢false other)
 closing_line_tests false false true r w is other = refl
@@ -167,5 +178,6 @@ closing_line_tests false false false false false is other = absurd (false≢true
 pub line_at :
     (s b : ℕ) (rest : List ℕ) → closes (mark s b rest) ≡ true → (b ≡ s → ⊥) → ends_line (mark s b rest) ≡ true
 line_at s b rest is other =
-    closing_line_tests (b == 34) (b == s) (b == 10) (b == 13 && begins_with_feed rest) (nat_lt b 32 && not (b == 9)) is
+    closing_line_tests (b == 34) (b == s) (b == 10) (b == 13 && begins_with_feed rest)
+    (nat_lt b 32 && not (b == 9)) is
     (ne_eqb b s other)

@@ -1,5 +1,6 @@
 -- A field's bytes at a place, one after another.
-use Rattle.std.proofs.Common.{◌≡◌, ℕ, ◌+◌, ◌<◌, ◌≤◌, List, [], length, drop, get_or, true, false, ◌==◌, refl, sym, ◌∙◌, ap, subst}
+use Rattle.std.proofs.Common.{◌≡◌, ℕ, ◌+◌, ◌<◌, ◌≤◌, List, [], length, drop, get_or, true, false, ◌==◌, refl}
+use Rattle.std.proofs.Common.{sym, ◌∙◌, ap, subst}
 use Rattle.std.proofs.lemmas.Bool.{ne_eqb}
 use Rattle.std.proofs.lemmas.List.{drop_more, drop_all}
 use Rattle.std.proofs.lemmas.List.Edits.{between_none, between_more}
@@ -10,7 +11,8 @@ use Rattle.table_text.specs.declared.mark.Mark.{Mark}
 use Rattle.table_text.specs.declared.mark.Mark.TheVariants as marks
 use Rattle.table_text.specs.declared.field.Flaw.{Flaw}
 use Rattle.table_text.specs.Spelling.{is_text}
-use Rattle.table_text.specs.Reading.{Part, Front, Plain, Within, BehindQuote, mark, Takes, Wrong, Move, within, move, Stand, moved, at_end, read}
+use Rattle.table_text.specs.Reading.{Part, Front, Plain, Within, BehindQuote, mark, Takes, Wrong, Move}
+use Rattle.table_text.specs.Reading.{within, move, Stand, moved, at_end, read}
 use Rattle.table_text.specs.Reader.{in_field, closes, GoesOver, HasFlaw}
 use Rattle.table_text.proofs.Steps.{Parted, NotQuoted, front_plain, behind_plain}
 
@@ -31,7 +33,8 @@ read_all s stand bytes at past = ap (read s stand at) (drop_all at bytes past)
 module _ (s : ℕ) (bytes : List ℕ) (at : ℕ) where
   pub over_none : (part : Part) → GoesOver s bytes part at at part
   over_none part row start fields =
-      ap (λ (l : List ℕ). read s (in_field row start fields at l part) at (drop at bytes)) (sym (between_none bytes at))
+      ap (λ (l : List ℕ). read s (in_field row start fields at l part) at (drop at bytes))
+      (sym (between_none bytes at))
 
   module _ (first part : Part) (stop : ℕ) (inside : stop < length bytes) where
     -- the byte there is one more of the field
@@ -42,7 +45,8 @@ module _ (s : ℕ) (bytes : List ℕ) (at : ℕ) where
         let here : Stand = in_field row start fields at (slice_range bytes at stop) part in
         over row start fields
         ∙ (read_more s here bytes stop inside
-        ∙ (ap (λ (m : Move). moved here stop (get_or bytes stop 0) m (λ next. read s next (stop + 1) (drop (stop + 1) bytes))) is
+        ∙ (ap (λ (m : Move). moved here stop (get_or bytes stop 0) m
+        (λ next. read s next (stop + 1) (drop (stop + 1) bytes))) is
         ∙ ap (λ (l : List ℕ). read s (in_field row start fields at l p) (stop + 1) (drop (stop + 1) bytes))
         (sym (between_more bytes at stop 0 after inside))))
 
@@ -54,7 +58,8 @@ module _ (s : ℕ) (bytes : List ℕ) (at : ℕ) where
         let here : Stand = in_field row start fields at (slice_range bytes at stop) part in
         over row start fields
         ∙ (read_more s here bytes stop inside
-        ∙ ap (λ (m : Move). moved here stop (get_or bytes stop 0) m (λ next. read s next (stop + 1) (drop (stop + 1) bytes))) is)
+        ∙ ap (λ (m : Move). moved here stop (get_or bytes stop 0) m
+        (λ next. read s next (stop + 1) (drop (stop + 1) bytes))) is)
 
     -- behind its closing quote the field ends there
     pub over_closed :
@@ -79,7 +84,8 @@ module _ (s : ℕ) (bytes : List ℕ) (at : ℕ) where
       (first : Part) (stop : ℕ) → length bytes ≤ stop → GoesOver s bytes first at stop Within
       → HasFlaw s bytes first at (record { kind = Ended; at = stop })
   over_open_end first stop past over row start fields =
-      over row start fields ∙ read_all s (in_field row start fields at (slice_range bytes at stop) Within) bytes stop past
+      over row start fields
+      ∙ read_all s (in_field row start fields at (slice_range bytes at stop) Within) bytes stop past
 
 pub closes_other :
     (m : Mark) → (m ≡ marks.Quote → ⊥) → (m ≡ marks.Wrong → ⊥) → (m ≡ marks.Inner → ⊥) → closes m ≡ true
@@ -104,7 +110,8 @@ within_wrong b unlike is =
 
 -- ---- a field that begins with no quote
 
-pub not_quoted_at : (bytes : List ℕ) (at : ℕ) → at < length bytes → (get_or bytes at 0 ≡ 34 → ⊥) → NotQuoted (drop at bytes)
+pub not_quoted_at :
+    (bytes : List ℕ) (at : ℕ) → at < length bytes → (get_or bytes at 0 ≡ 34 → ⊥) → NotQuoted (drop at bytes)
 not_quoted_at bytes at inside unlike =
     subst NotQuoted (sym (drop_more bytes at 0 inside)) (ne_eqb (get_or bytes at 0) 34 unlike)
 
@@ -112,7 +119,8 @@ pub not_quoted_end : (bytes : List ℕ) (at : ℕ) → length bytes ≤ at → N
 not_quoted_end bytes at past = subst NotQuoted (sym (drop_all at bytes past)) tt
 
 module _ (s : ℕ) (bytes : List ℕ) (at : ℕ) (plain : NotQuoted (drop at bytes)) where
-  pub over_from_front : (stop : ℕ) → GoesOver s bytes Plain at stop Plain → GoesOver s bytes Front at stop Plain
+  pub over_from_front :
+      (stop : ℕ) → GoesOver s bytes Plain at stop Plain → GoesOver s bytes Front at stop Plain
   over_from_front stop over row start fields =
       front_plain row start fields at [] s at (drop at bytes) plain ∙ over row start fields
 

@@ -1,9 +1,12 @@
 -- Records that are spelled are read.
-use Rattle.std.proofs.Common.{◌≡◌, ◌≢◌, ℕ, ◌+◌, ◌<◌, ◌≤◌, List, [], ◌∷◌, ◌++◌, length, true, false, ◌==◌, inl, inr, refl, sym, ◌∙◌, ap, subst, arith, add-zero}
+use Rattle.std.proofs.Common.{◌≡◌, ◌≢◌, ℕ, ◌+◌, ◌<◌, ◌≤◌, List, [], ◌∷◌, ◌++◌, length, true, false, ◌==◌, inl}
+use Rattle.std.proofs.Common.{inr, refl, sym, ◌∙◌, ap, subst, arith, add-zero}
 use Rattle.std.proofs.lemmas.Bool.{ne_eqb, eq-eqb}
 use Rattle.table_text.specs.declared.mark.Mark.{Mark}
 use Rattle.table_text.specs.Spelling.{EndsRecord, Begins, Spelled}
-use Rattle.table_text.specs.Reading.{Field, Row, Reading, AtEnd, ends, with_row, texts_of, Plain, Stand, first_field, fields_with_last, next_count, is_empty, with_record, by_mark, moved, read}
+use Rattle.table_text.specs.Reading.{Field, Row, Reading, AtEnd, ends, with_row, texts_of, Plain, Stand}
+use Rattle.table_text.specs.Reading.{first_field, fields_with_last, next_count, is_empty, with_record}
+use Rattle.table_text.specs.Reading.{by_mark, moved, read}
 use Rattle.table_text.specs.Reader.{in_field, closes}
 use Rattle.table_text.specs.Laws.{IsSeparator}
 use Rattle.table_text.proofs.Marks.{mark_feed, mark_return}
@@ -24,7 +27,8 @@ row_of stand = record {
 }
 
 pub with_row_of :
-    (stand : Stand) (behind : Reading) → is_empty stand ≡ false → with_record stand behind ≡ with_row (row_of stand) behind
+    (stand : Stand) (behind : Reading) → is_empty stand ≡ false
+    → with_record stand behind ≡ with_row (row_of stand) behind
 with_row_of stand behind some = rw some refl
 
 -- a text is read as these records, up to its end
@@ -51,7 +55,8 @@ module _ (s : ℕ) (fit : IsSeparator s) where
         (read s (first_field (next_count row) (at + 1)) (at + 1) rest)
     unfolding read
     over_feed at rest =
-        ap (λ (m : Mark). moved behind_last at 10 (by_mark Plain m) (λ next. read s next (at + 1) rest)) (mark_feed s fit rest)
+        ap (λ (m : Mark). moved behind_last at 10 (by_mark Plain m) (λ next. read s next (at + 1) rest))
+        (mark_feed s fit rest)
 
     pub over_return :
         (at : ℕ) (rest : List ℕ)
@@ -60,7 +65,8 @@ module _ (s : ℕ) (fit : IsSeparator s) where
         (read s (first_field (next_count row) (at + 1 + 1)) (at + 1 + 1) rest)
     unfolding read
     over_return at rest =
-        ap (λ (m : Mark). moved behind_last at 13 (by_mark Plain m) (λ next. read s next (at + 1) (10 ∷ rest)))
+        ap
+        (λ (m : Mark). moved behind_last at 13 (by_mark Plain m) (λ next. read s next (at + 1) (10 ∷ rest)))
         (mark_return s fit rest)
 
     pub at_last :
@@ -81,7 +87,8 @@ module _ (s : ℕ) (fit : IsSeparator s) where
 
     has_bytes : is_empty last_stand ≡ false
     has_bytes =
-        ne_eqb (gone.from + length gone.last) at (λ e. absurd (omega (arith, e, gone.place, nonempty front some)))
+        ne_eqb (gone.from + length gone.last) at
+        (λ e. absurd (omega (arith, e, gone.place, nonempty front some)))
 
     -- the record, and then what is read behind it
     joined :
@@ -91,7 +98,8 @@ module _ (s : ℕ) (fit : IsSeparator s) where
         → texts_of behind.rows ≡ records → behind.ending ≡ AtEnd
         → IsReadFrom s row at (texts ∷ records) (front ++ (end ++ rest))
     joined behind over rows ending =
-        let whole : read s (first_field row at) at (front ++ (end ++ rest)) ≡ with_row (row_of last_stand) behind =
+        let whole :
+        read s (first_field row at) at (front ++ (end ++ rest)) ≡ with_row (row_of last_stand) behind =
         gone.same ∙ (over ∙ with_row_of last_stand behind has_bytes) in
         record {
           texts =
@@ -114,14 +122,16 @@ module _ (s : ℕ) (fit : IsSeparator s) where
       (sym (ap (λ (e : List ℕ). e ++ rest) is.0 ∙ none)) tt
 
   by_end :
-      (row at : ℕ) (texts : List (List ℕ)) (records : List (List (List ℕ))) (front end rest : List ℕ) → front ≢ []
+      (row at : ℕ) (texts : List (List ℕ)) (records : List (List (List ℕ))) (front end rest : List ℕ)
+      → front ≢ []
       → Gone s fit row at [] at texts front (end ++ rest) → EndsRecord records end → Spelled s records rest
       → ((next : ℕ) → IsReadFrom s (next_count row) next records rest)
       → IsReadFrom s row at (texts ∷ records) (front ++ (end ++ rest))
   by_end row at texts records front end rest some gone (inl (inl is)) spelled behind =
       let p : ℕ = at + length front in
       let next : IsReadFrom s (next_count row) (p + 1) records rest = behind (p + 1) in
-      joined row at texts records front end rest some gone (read s (first_field (next_count row) (p + 1)) (p + 1) rest)
+      joined row at texts records front end rest some gone
+      (read s (first_field (next_count row) (p + 1)) (p + 1) rest)
       (ap (λ (e : List ℕ). read s (in_field row at gone.before gone.from gone.last Plain) p (e ++ rest)) is
       ∙ over_feed row at gone.before gone.from gone.last p rest)
       next.texts next.ending
@@ -149,7 +159,8 @@ module _ (s : ℕ) (fit : IsSeparator s) where
   spelled_read [] text row at some late spelled =
       let none : read s (first_field row at) at text ≡ ends AtEnd =
       ap (read s (first_field row at) at) spelled ∙ nothing_left s row at (late refl) in
-      record { texts = ap (λ (r : Reading). texts_of r.rows) none; ending = ap (λ (r : Reading). r.ending) none }
+      record
+      { texts = ap (λ (r : Reading). texts_of r.rows) none; ending = ap (λ (r : Reading). r.ending) none }
   spelled_read (texts ∷ records) text row at some late spelled =
       let rest : List ℕ = spelled.0 in
       let begins : Begins s texts records text rest = spelled.1 in

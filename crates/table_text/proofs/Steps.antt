@@ -3,7 +3,8 @@ use Rattle.std.proofs.Common.{◌≡◌, ℕ, ◌+◌, List, [], ◌∷◌, true
 use Rattle.std.proofs.lemmas.Bool.{false≢true}
 use Rattle.table_text.specs.declared.mark.Mark.{Mark}
 use Rattle.table_text.specs.declared.mark.Mark.TheVariants as marks
-use Rattle.table_text.specs.Reading.{Field, Reading, Part, Front, Plain, BehindQuote, Stand, by_mark, mark, moved, read}
+use Rattle.table_text.specs.Reading.{Field, Reading, Part, Front, Plain, BehindQuote, Stand, by_mark, mark}
+use Rattle.table_text.specs.Reading.{moved, read}
 use Rattle.table_text.specs.Reader.{in_field, closes}
 use Rattle.table_text.proofs.Marks.{mark-no_quote, closes-no_quote}
 
@@ -37,7 +38,8 @@ module _ (row start : ℕ) (fields : List Field) (from : ℕ) (bytes : List ℕ)
 
   behind_moves :
       (at b : ℕ) (m : Mark) (next : Stand → Reading) → closes m ≡ true
-      → moved (stand BehindQuote) at b (by_mark BehindQuote m) next ≡ moved (stand Plain) at b (by_mark Plain m) next
+      → moved (stand BehindQuote) at b (by_mark BehindQuote m) next
+      ≡ moved (stand Plain) at b (by_mark Plain m) next
   behind_moves at b marks.Quote next is = absurd (false≢true is)
   behind_moves at b marks.Parts next is = refl
   behind_moves at b marks.Feeds next is = refl

@@ -1,5 +1,6 @@
 -- The text of a field from its spelling.
-use Rattle.std.proofs.Common.{◌≡◌, ℕ, List, [], ◌∷◌, ◌++◌, Bool, true, false, cond, ◌==◌, inl, inr, refl, sym, ◌∙◌, ap, subst, append_assoc}
+use Rattle.std.proofs.Common.{◌≡◌, ℕ, List, [], ◌∷◌, ◌++◌, Bool, true, false, cond, ◌==◌, inl, inr, refl, sym}
+use Rattle.std.proofs.Common.{◌∙◌, ap, subst, append_assoc}
 use Rattle.std.proofs.lemmas.Bool.{and_parts, eqb-true}
 use Rattle.std.specs.List.{flat_map, list_all}
 use Rattle.table_text.specs.Spelling.{is_plain, within_quotes, IsField}
@@ -18,7 +19,8 @@ pub unquoted-quoted : (field : List ℕ) → unquoted false (flat_map within_quo
 unquoted-quoted [] = refl
 unquoted-quoted (b ∷ field) =
     ap (unquoted false) (append_assoc (within_quotes b) (flat_map within_quotes field) (34 ∷ []))
-    ∙ (one_byte b (flat_map within_quotes field ++ 34 ∷ []) (b == 34) refl ∙ ap (λ (t : List ℕ). b ∷ t) (unquoted-quoted field))
+    ∙ (one_byte b (flat_map within_quotes field ++ 34 ∷ []) (b == 34) refl
+    ∙ ap (λ (t : List ℕ). b ∷ t) (unquoted-quoted field))
 
 pub plain_text : (s : ℕ) (field : List ℕ) → list_all (is_plain s) field ≡ true → field_text field ≡ field
 plain_text s [] all = refl

@@ -1,7 +1,8 @@
 -- What holds of every table as text.
-use Rattle.std.specs.Prelude.{◌≡◌, ◌≢◌, ◌⊎◌, ℕ, List, []}
+use Rattle.std.specs.Prelude.{◌≡◌, ◌≢◌, ◌⊎◌, ℕ, List, [], Ok}
 use Rattle.table_text.specs.declared.text_fault.TextFault.{TextFault}
 use Rattle.table_text.specs.Spelling.{Spelled}
+use Rattle.table_text.specs.Separator.{separator_of}
 use Rattle.table_text.specs.Reading.{AtEnd, AtFault, first_field, read, texts_of}
 
 -- a byte that can be told from what else parts a table
@@ -45,3 +46,7 @@ abbrev pub NotBoth : Type 0
 NotBoth =
     (separator at : ℕ) (records : List (List (List ℕ))) (fault : TextFault) (text : List ℕ) → IsSeparator separator → text ≢ []
     → Spelled separator records text → ¬ ((read separator (first_field 1 at) at text).ending ≡ AtFault fault)
+
+-- What a head tells is a separator, so what is said above holds of it.
+abbrev pub HeadsTellSeparators : Type 0
+HeadsTellSeparators = (bytes : List ℕ) (separator : ℕ) → separator_of bytes ≡ Ok separator → IsSeparator separator

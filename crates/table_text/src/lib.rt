@@ -23,7 +23,7 @@ mod worked;
 
 pub use cell::Cell;
 pub use cells::Cells;
-pub use laws::one_table;
+pub use laws::{heads_tell_separators, one_table};
 pub use no_memory::NoMemory;
 pub use records::Records;
 pub use separator::find_separator;

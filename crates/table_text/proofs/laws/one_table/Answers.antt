@@ -1,4 +1,5 @@
-use Rattle.std.proofs.Common.{◌≡◌, ◌≢◌, ℕ, ◌<◌, List, [], ◌∷◌, ◌++◌, ◌⊎◌, inl, inr, refl, sym, ◌∙◌, subst, arith}
+use Rattle.std.proofs.Common.{◌≡◌, ◌≢◌, ℕ, ◌<◌, List, [], ◌∷◌, ◌++◌, ◌⊎◌, inl, inr, refl, sym, ◌∙◌, subst}
+use Rattle.std.proofs.Common.{arith}
 use Rattle.table_text.specs.declared.text_fault.TextFault.{TextFault}
 use Rattle.table_text.specs.Spelling.{Spelled}
 use Rattle.table_text.specs.Reading.{Ending, AtEnd, AtFault, first_field, read, texts_of}
@@ -12,7 +13,8 @@ returns-clause-read c s at text fit = read_back s fit text 1 at
 
 -- what has no records has no bytes
 some_records :
-    (s : ℕ) (records : List (List (List ℕ))) (text : List ℕ) → text ≢ [] → Spelled s records text → records ≡ [] → 1 < 1
+    (s : ℕ) (records : List (List (List ℕ))) (text : List ℕ) → text ≢ [] → Spelled s records text
+    → records ≡ [] → 1 < 1
 some_records s records text some spelled none =
     absurd (some (subst (λ (r : List (List (List ℕ))). Spelled s r text) none spelled))
 
@@ -20,7 +22,9 @@ is_read :
     (s at : ℕ) (records : List (List (List ℕ))) (text : List ℕ) → IsSeparator s → text ≢ []
     → Spelled s records text → IsRead s at records text
 is_read s at records text fit some spelled =
-    let is = spelled_read s fit records text 1 at (omega arith) (some_records s records text some spelled) spelled in
+    let is =
+    spelled_read s fit records text 1 at (omega arith) (some_records s records text some spelled)
+    spelled in
     record { texts = is.texts; ending = is.ending }
 
 pub returns-clause-spelled : goal.returns-clause-spelled
@@ -38,12 +42,14 @@ none_of s (texts ∷ records) spelled =
     absurd (spelled.1.some (no_front front (spelled.1.end ++ spelled.0) spelled.1.parts))
 
 one_of :
-    (s : ℕ) (one other : List (List (List ℕ))) (text : List ℕ) → IsSeparator s → Spelled s one text → Spelled s other text
+    (s : ℕ) (one other : List (List (List ℕ))) (text : List ℕ) → IsSeparator s → Spelled s one text
+    → Spelled s other text
     → one ≡ other
 one_of s one other [] fit first second = none_of s one first ∙ sym (none_of s other second)
 one_of s one other (b ∷ text) fit first second =
     let some : (b ∷ text) ≢ [] = λ e. cc in
-    sym (is_read s 0 one (b ∷ text) fit some first).texts ∙ (is_read s 0 other (b ∷ text) fit some second).texts
+    sym (is_read s 0 one (b ∷ text) fit some first).texts
+    ∙ (is_read s 0 other (b ∷ text) fit some second).texts
 
 pub returns-clause-one : goal.returns-clause-one
 returns-clause-one c = one_of

@@ -10,7 +10,8 @@ loop-stop-preserved c =
     let l = c.loop-stop in
     let bytes = c.args.bytes.now in
     let stop = c.in-Ok.stop in
-    let pushed : c.push.new.self ≡ l.cells ++ record { at = l.at; stop = stop } ∷ [] = c.in_ok-push.ensures.ok in
+    let pushed : c.push.new.self ≡ l.cells ++ record { at = l.at; stop = stop } ∷ [] =
+    c.in_ok-push.ensures.ok in
     let after : l.at ≤ stop = c.in-Ok.ensures.after in
     let within : stop ≤ length bytes = c.in-Ok.ensures.inside in
     let inside : stop < length bytes = omega arith in
@@ -22,7 +23,10 @@ loop-stop-preserved c =
           (All-push (IsCellOf bytes) l.cells _ l.invariant.cells
           (record { ordered = c.in-Ok.ensures.after; inside = c.in-Ok.ensures.inside }));
       begun =
-          subst (λ (cells : List Cell). IsBegun c.args.separator bytes c.args.row c.args.start cells (stop + 1)) (sym pushed)
-          (begun_more c.args.separator bytes c.args.row c.args.start l.cells l.at stop l.invariant.begun inside
+          subst
+          (λ (cells : List Cell). IsBegun c.args.separator bytes c.args.row c.args.start cells (stop + 1))
+          (sym pushed)
+          (begun_more c.args.separator bytes c.args.row c.args.start l.cells l.at stop l.invariant.begun
+          inside
           c.in-Ok.ensures.over (c.in-Ok.ensures.parted inside) c.if-bytes-stop.false);
     }
