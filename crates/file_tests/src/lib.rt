@@ -1,4 +1,4 @@
-//! Tests of the public calls of blt_reader, day_reader and table_text.
+//! Tests of the public calls of input_text, blt_reader and day_reader.
 #![tactic(auto)]
 
 #[cfg(test)]
@@ -13,7 +13,5 @@ mod lines;
 mod rolls;
 #[cfg(test)]
 mod scripts;
-#[cfg(test)]
-mod tables;
 #[cfg(test)]
 mod tokens;

@@ -1,4 +1,4 @@
-//! Tests of the public calls of plain_ballots, candidate_roll, lot_order and ballot_marks.
+//! Tests of the public calls of plain_ballots, candidate_roll and lot_order.
 #![tactic(auto)]
 
 #[cfg(test)]
@@ -9,8 +9,6 @@ mod ballots;
 mod flags;
 #[cfg(test)]
 mod lots;
-#[cfg(test)]
-mod marks;
 #[cfg(test)]
 mod name;
 #[cfg(test)]
