@@ -2,11 +2,12 @@
 use Rattle.std.proofs.Common.{◌≡◌, ℕ, zero, suc, ◌<◌, ◌==◌, true, false, List, [], ◌∷◌, ◌++◌, length, refl}
 use Rattle.std.proofs.Common.{ap, sym, ◌∙◌, subst, arith, inl, None, set, true≢false}
 use Rattle.std.proofs.lemmas.List.{append-nil, get_or-set_same}
+use mathlib.Core.List.{IsPrefix}
 use prog.Atomic.{either}
-use Rattle.logbook.specs.Pages.{Cell, Nib, cell, adds, gives, no_nib, may_write, step, Moves}
+use Rattle.logbook.specs.Pages.{Cell, Nib, cell, adds, gives, keeps, no_nib, may_write, step, Moves}
 use Rattle.tally_board.specs.declared.line.Line.{Line}
 use Rattle.tally_board.specs.Lines.{IsUnspent}
-use Rattle.tally_board.specs.Law.{AreSpent, IsKept, Opened, Added}
+use Rattle.tally_board.specs.Law.{AreSpent, IsKept, Opened, Added, Held}
 
 abbrev pub shown : List Line → List Line
 shown log = []
@@ -108,5 +109,34 @@ spends v p e may cs log kept pre away =
         record { head = still 0 kept.head; spent = and_one after log l (spent_still cs after log still kept.spent) one },
         inl (refl, refl),
         (log, pre, unspent cs log p.key kept.spent here.1, refl),
+      ),
+    )
+
+-- who holds the pen of a key sees that no line has spent it
+pub holds :
+    (v : List Line) (p : Nib) (e : Line) → p.right ≡ may_write
+    → Moves IsKept shown moved 0 (v, (p, None)) (λ n. either (n == 0) 0 n)
+    (Held (step 0 0 0 e) (v, (p, None)))
+holds v p e may cs log kept pre away =
+    let n = either ((cell cs 0).0 == 0) 0 (cell cs 0).0 in let ds = set cs 0 (n, true) in
+    let here = away may in let all = sym (append-nil log) in
+    let still : (j : ℕ) → IsHome cs j → IsHome ds j = λ j h. home_set cs 0 n j h in (
+      home_in cs 0 kept.head,
+      kept.head,
+      (
+        keeps,
+        [],
+        None,
+        tt,
+        record {
+          head = still 0 kept.head;
+          spent = subst (AreSpent ds) all (spent_still cs ds log still kept.spent);
+        },
+        inl (refl, refl),
+        (
+          refl,
+          subst (IsPrefix v) all pre,
+          subst (IsUnspent p.key) all (unspent cs log p.key kept.spent here.1),
+        ),
       ),
     )

@@ -2,6 +2,7 @@
 use Rattle.std.proofs.Common.{◌≡◌, ℕ, ◌==◌, Bool, true, false, List, [], ◌∷◌, ◌++◌, if◌then◌else◌, refl, ap}
 use Rattle.std.proofs.Common.{sym, ◌∙◌, subst, arith, append_assoc}
 use Rattle.std.proofs.lemmas.Bool.Decides.{nat_tests}
+use Rattle.std.proofs.lemmas.List.{append-nil}
 use mathlib.Core.List.{IsPrefix}
 use Rattle.tally_board.specs.declared.ballot_move.Move.{Move}
 use Rattle.tally_board.specs.declared.line.Line.{Line}
@@ -70,3 +71,22 @@ pushed first key seen after m next same t =
     let l : Line = record { key = key; step = m; next = next } in
     let more = one_more first seen t.0 l t.1 (subst (λ (k : ℕ). IsUnspent k t.0) same t.2) same in
     (ap (moves_from first) t.3 ∙ more.0, ap (key_after first) t.3 ∙ more.1)
+
+pub prefix_more : (xs ys zs : List Line) → IsPrefix xs ys → IsPrefix ys zs → IsPrefix xs zs
+prefix_more xs ys zs p q = (p.0 ++ q.0, sym (append_assoc xs p.0 q.0) ∙ (ap (λ ls. ls ++ q.0) p.1 ∙ q.1))
+
+no_moves : (key : ℕ) (xs : List Line) → IsUnspent key xs → moves_from key xs ≡ []
+no_moves key [] h = refl
+no_moves key (x ∷ xs) h = let b : (x.key == key) ≡ false = grind (arith, nat_tests) in rw b (no_moves key xs h.1)
+
+-- until the next key is spent there are no more moves
+pub none_more :
+    (key : ℕ) (seen log : List Line) → IsPrefix seen log → IsUnspent (key_after key seen) log
+    → moves_from key log ≡ moves_from key seen
+none_more key seen log p h =
+    let next = key_after key seen in
+    let none =
+    no_moves next p.0 (rest_unspent next seen p.0 (subst (IsUnspent next) (sym p.1) h)) in
+    ap (moves_from key) (sym p.1)
+    ∙ (moves_append key seen p.0
+    ∙ (ap (λ ms. moves_from key seen ++ ms) none ∙ append-nil (moves_from key seen)))

@@ -26,3 +26,7 @@ Opened s v found w = (key : ℕ) × (w.1.0 ≡ nib may_make key 0)
 abbrev pub Added : Step Line → View Line ℕ → ℕ → View Line ℕ → Type 0
 Added s v found w = (log : List Line) × IsPrefix v.0 log × IsUnspent v.1.0.key log
     × (w.0 ≡ log ++ record { key = v.1.0.key; step = s.ask.step; next = s.ask.next } ∷ [])
+
+-- nothing was added, and no line has spent the pen's key
+abbrev pub Held : Step Line → View Line ℕ → ℕ → View Line ℕ → Type 0
+Held s v found w = (w.1.0 ≡ v.1.0) × IsPrefix v.0 w.0 × IsUnspent v.1.0.key w.0

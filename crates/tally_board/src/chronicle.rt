@@ -1,9 +1,10 @@
 // All moves of a board, published or not.
 ghost use Rattle.std.specs.Prelude.{◌≡◌, [], ◌∷◌, ◌++◌};
 ghost use Rattle.logbook.specs.Pages.{may_write};
+ghost use Rattle.tally_board.specs.Begins.{Begins};
 ghost use Rattle.tally_board.specs.Law.{head_of};
 
-use crate::law::{Adds, Ask, Law, Nothing, Opens};
+use crate::law::{Adds, Ask, Holds, Law, Nothing, Opens};
 use crate::line::Line;
 use crate::mark::Mark;
 use crate::{Move, Note};
@@ -96,6 +97,24 @@ impl Chronicle {
         self.pen = ask.next;
         self.count = self.count.saturating_add(1);
         self.last = Some(step);
+    }
+
+    /// No note of this board tells more than its moves, since nobody else can add one.
+    pub(crate) fn covers(&mut self, note: &Note)
+        requires { note.now.board ≡ self.old.board }
+        ensures same { self.new ≡ self.old }
+        ensures begins { Begins note.now.moves self.old.moves }
+    {
+        let step = Move {
+            candidate: 0,
+            ballots: 0,
+            comes: false,
+        };
+        let mut both = self.seen.again();
+        both.learn(&note.seen);
+        let mut offer: Offer<Line, u64, Law, Nothing> = both.plain::<Nothing, Move, Holds>(&step);
+        self.head
+            .compare_exchange::<Holds, Nothing>(0, 0, &mut both, &mut offer, &mut self.pen);
     }
 
     /// A note of all moves.

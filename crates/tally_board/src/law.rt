@@ -52,6 +52,15 @@ impl Play<Line, u64> for Adds {
     ghost then = { Added };
 }
 
+/// A step that leaves the book as it is, by who holds a pen.
+pub struct Holds;
+
+impl Play<Line, u64> for Holds {
+    ghost use Rattle.tally_board.specs.Law.{Held};
+
+    ghost then = { Held };
+}
+
 /// A move, and the right to make the next one.
 #[derive(Drop)]
 pub struct Ask {
@@ -68,6 +77,14 @@ impl Plain<Ask, Line, u64> for Adds {
 }
 
 impl Plain<Move, Line, u64> for Opens {
+    ghost use Rattle.std.specs.Prelude.{None};
+
+    ghost ask = { λ m. record { key = 0; step = m; next = 0 } };
+
+    ghost state = { λ m. None };
+}
+
+impl Plain<Move, Line, u64> for Holds {
     ghost use Rattle.std.specs.Prelude.{None};
 
     ghost ask = { λ m. record { key = 0; step = m; next = 0 } };

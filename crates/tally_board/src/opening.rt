@@ -58,6 +58,7 @@ fn seat(scribe: &mut Scribe) -> Option<Watcher>
                 reader: Some(reader),
                 told: scribe.chronicle.note(),
                 seen: Snapshot::of(&Story::Empty),
+                before: scribe.chronicle.note(),
                 refused: 0,
             })
         }

@@ -1,13 +1,15 @@
 // The one who changes a board.
 ghost use Rattle.std.specs.Prelude.{◌≡◌, [], ◌∷◌, ◌++◌, MatchResult};
+ghost use Rattle.tally_board.specs.Begins.{Begins};
 ghost use Rattle.tally_board.specs.Moves.{CanMove, totals_after};
+ghost use Rattle.tally_board.specs.Told.{front};
 
 use crate::board::Board;
 use crate::chronicle::Chronicle;
 use crate::entry::Entry;
 use crate::rule::{Begun, Look};
 use crate::view::View;
-use crate::{Move, MoveBack, Note, Totals};
+use crate::{Move, MoveBack, Note, Totals, Watcher};
 use left_right::writer::Writer;
 use std::marker::Model;
 use std::mem;
@@ -97,6 +99,18 @@ impl Scribe {
             None => unreachable!(),
             Some(writer) => &writer.published().totals,
         }
+    }
+
+    /// Says of a watcher of this board that the scribe took, in this order, the moves that the watcher
+    /// has seen, all but the last, and those of the longest note that it learnt. Nothing changes.
+    pub fn vouch_for(&mut self, watcher: &Watcher)
+        requires { watcher.now.board ≡ self.old.board }
+        ensures same { self.new ≡ self.old }
+        ensures seen { Begins (front watcher.now.seen) (self.old.published ++ self.old.pending) }
+        ensures told { Begins watcher.now.told (self.old.published ++ self.old.pending) }
+    {
+        self.chronicle.covers(&watcher.before);
+        self.chronicle.covers(&watcher.told);
     }
 
     /// Ends the board. It waits for those who look at it.

@@ -22,6 +22,8 @@ pub struct Watcher {
     pub(crate) reader: Option<Inner>,
     pub(crate) told: Note,
     pub(crate) seen: Snapshot<Story>,
+    // Of all moves that were seen but the last.
+    pub(crate) before: Note,
     pub(crate) refused: u64,
 }
 
@@ -31,6 +33,7 @@ impl Model for Watcher {
     ghost use Rattle.tally_board.specs.Sight.{Sight, IsWatcher, candidates_told};
     ghost use Rattle.tally_board.specs.Stories.{moves_of};
     ghost use Rattle.tally_board.specs.There.{or_else, IsThere};
+    ghost use Rattle.tally_board.specs.Told.{front};
 
     ghost Value = { Sight };
 
@@ -43,7 +46,8 @@ impl Model for Watcher {
     } };
 
     ghost invariant = { λ w. IsThere
-        (λ r. IsWatcher (known r.place) w.told.board (moves_of w.seen.value)) w.reader };
+        (λ r. IsWatcher (known r.place) w.told.board (moves_of w.seen.value)) w.reader
+        × (w.before ≡ record { board = w.told.board; moves = front (moves_of w.seen.value) }) };
 }
 
 impl Watcher {
@@ -94,6 +98,7 @@ impl Watcher {
                     }
                     into.copy_from(&reading.get().totals);
                     self.seen = Snapshot::of(&reading.get().story);
+                    self.before = reading.get().before.again();
                     self.reader = Some(reading.leave());
                     Ok(())
                 }

@@ -24,7 +24,8 @@ invariant_of-self c =
     let is : IsWatcher v z moves = search rules in
     let saw : Looks v b b w = search rules in
     let back : view c.leave.result.place ≡ w = search rules in
-    subst (λ u. IsWatcher u z moves) (sym back) (watcher_after v w b z moves is saw moves (it_goes_on v w b z moves is saw))
+    let on = watcher_after v w b z moves is saw moves (it_goes_on v w b z moves is saw) in
+    (subst (λ u. IsWatcher u z moves) (sym back) on, c.self.invariant.1)
 
 pub returns-else-not-shows-clause-seen : goal.returns-else-not-shows-clause-seen
 returns-else-not-shows-clause-seen c =
