@@ -44,8 +44,17 @@ fn the_line_or_the_refusal_is_written(rt: HostRuntime) -> Result<(), Fail> {
 // The order is that of a program in Python with its hashlib.
 #[test]
 fn the_line_of_three_candidates_is_written(rt: HostRuntime) -> Result<(), Fail> {
-    let words = seed_words(rt.alloc(), "2 6 5 3 5")?;
+    let words = seed_words(rt.alloc(), "2 6 5 3 5", "3")?;
     draws(&rt, rt.alloc(), &words, &[], (End::Done, b"2,3,1\n"))
+}
+
+// The letters that are no ASCII have two bytes each in UTF-8. The order is that of the program in Python that stands
+// with the draws.
+#[test]
+fn a_seed_is_taken_in_utf8(rt: HostRuntime) -> Result<(), Fail> {
+    let words = seed_words(rt.alloc(), "Zürich, 3 März", "12")?;
+    let line = b"11,9,5,2,12,6,1,3,10,7,8,4\n";
+    draws(&rt, rt.alloc(), &words, &[], (End::Done, line))
 }
 
 #[test]

@@ -59,10 +59,10 @@ fn other_words_are_refused(rt: HostRuntime) -> Result<(), Fail> {
     Ok(())
 }
 
-/// The words that ask for a draw of three candidates from this seed.
-pub(crate) fn seed_words(alloc: Global, seed: &str) -> Result<Vec<String>, Fail> {
+/// The words that ask for a draw of so many candidates from this seed.
+pub(crate) fn seed_words(alloc: Global, seed: &str, candidates: &str) -> Result<Vec<String>, Fail> {
     let mut words = Vec::new(alloc);
-    for word in ["--seed", seed, "--candidates", "3"] {
+    for word in ["--seed", seed, "--candidates", candidates] {
         words.push(String::from_str(alloc, word)?)?;
     }
     Ok(words)
@@ -70,7 +70,7 @@ pub(crate) fn seed_words(alloc: Global, seed: &str) -> Result<Vec<String>, Fail>
 
 /// Whether a seed is taken, for three candidates.
 fn is_taken(alloc: Global, seed: &str) -> Result<bool, Fail> {
-    let words = seed_words(alloc, seed)?;
+    let words = seed_words(alloc, seed, "3")?;
     match takes_draw(alloc, words.as_slice()) {
         Ok(_) => Ok(true),
         Err(WordsStop::BadWords) => Ok(false),

@@ -1,9 +1,18 @@
 // Tests of lot_draw: draws.
 use lot_draw::draw_lots;
+use std::alloc::Global;
 use std::test::Fail;
 
-// The expected orders are those of a program in Python with its hashlib, and at three candidates those of
-// sha256sum worked out by hand.
+// The expected orders are those of a program in Python, written from docs/FORMATS.md, and at three candidates those of
+// sha256sum worked out by hand:
+//
+//     from hashlib import sha256
+//     def draw(seed, n):
+//         left, order = list(range(1, n + 1)), []
+//         while left:
+//             number = int(sha256(seed + b",%d" % len(left)).hexdigest(), 16)
+//             order.append(left.pop(number % len(left)))
+//         return order
 
 const SEED: &[u8] = b"2 6 5 3 5";
 
@@ -36,5 +45,36 @@ fn one_and_three_candidates(rt: HostRuntime) -> Result<(), Fail> {
 fn as_many_as_a_roll_has_at_most(rt: HostRuntime) -> Result<(), Fail> {
     let order = draw_lots(rt.alloc(), SEED, 250)?;
     assert_eq!(rt; order.as_slice(), OF_250.as_slice());
+    Ok(())
+}
+
+// How many letters a seed has, from a to z and from a again, and the order of twelve candidates. A block of SHA-256 has
+// 64 bytes, so each of these seeds is hashed in two blocks or more.
+const OF_LETTERS: [(usize, [u32; 12]); 6] = [
+    (64, [9, 3, 6, 1, 10, 2, 5, 8, 11, 7, 12, 4]),
+    (65, [7, 10, 11, 4, 1, 12, 2, 5, 3, 8, 9, 6]),
+    (119, [11, 12, 9, 4, 1, 7, 10, 6, 2, 3, 8, 5]),
+    (120, [6, 8, 2, 11, 10, 1, 12, 4, 7, 3, 9, 5]),
+    (200, [5, 1, 8, 7, 4, 9, 10, 6, 2, 11, 3, 12]),
+    (1_000, [4, 11, 1, 8, 6, 3, 9, 7, 10, 2, 12, 5]),
+];
+
+/// So many letters, from a to z and from a again.
+fn letters(alloc: Global, len: usize) -> Result<Vec<u8>, Fail> {
+    let alphabet = b"abcdefghijklmnopqrstuvwxyz";
+    let mut seed = Vec::new(alloc);
+    for i in 0..len {
+        seed.push(alphabet[i % 26])?;
+    }
+    Ok(seed)
+}
+
+#[test]
+fn a_seed_counts_to_its_last_byte(rt: HostRuntime) -> Result<(), Fail> {
+    for (len, order) in OF_LETTERS {
+        let seed = letters(rt.alloc(), len)?;
+        let drawn = draw_lots(rt.alloc(), seed.as_slice(), 12)?;
+        assert_eq!(rt; (len, drawn.as_slice()), (len, order.as_slice()));
+    }
     Ok(())
 }
