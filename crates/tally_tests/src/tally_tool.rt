@@ -79,6 +79,24 @@ fn words_and_other_files_are_refused(rt: HostRuntime) -> Result<(), Fail> {
     ends(&rt, rt.alloc(), ("", b"3 1\n"), &[], (ended, line))
 }
 
+/// So many bytes, which are spaces and then the day.
+fn behind_spaces(alloc: Global, len: usize, day: &[u8]) -> Result<Vec<u8>, Fail> {
+    let mut input = vec![in alloc; b' '; len.saturating_sub(day.len())]?;
+    input.extend_from_slice(day)?;
+    Ok(input)
+}
+
+#[test]
+fn a_day_has_at_most_16777216_bytes(rt: HostRuntime) -> Result<(), Fail> {
+    let longest = behind_spaces(rt.alloc(), 16_777_216, STRUCK)?;
+    let totals = (End::Done, b"1 3\n2 2\n3 0\n".as_slice());
+    ends(&rt, rt.alloc(), ("", longest.as_slice()), &[], totals)?;
+    let longer = behind_spaces(rt.alloc(), 16_777_217, STRUCK)?;
+    let too_long = End::BadInput(InputFault::new(FaultKind::TooLong, 16_777_216));
+    let line = (too_long, b"refused TooLong at 16777216\n".as_slice());
+    ends(&rt, rt.alloc(), ("", longer.as_slice()), &[], line)
+}
+
 // The text is one write, and the flush is the call behind it.
 #[test]
 fn a_flush_that_fails_is_a_fault(rt: HostRuntime) -> Result<(), Fail> {
