@@ -2,6 +2,8 @@
 ghost use Rattle.std.specs.Prelude.{◌≡◌, ◌<◌, true, false, Some, None, IfOk, ◌++◌, ◌∷◌, []};
 ghost use Rattle.turn_lock.specs.Entries.{MayGive};
 
+mod wakes;
+
 use std::alloc::{AllocError, Global};
 use std::process::Abort;
 use std::sync::Wait;
