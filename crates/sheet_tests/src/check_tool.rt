@@ -1,6 +1,6 @@
 // Tests of sheet_check: check tool.
 use blt_reader::{FaultKind, InputFault};
-use byte_edge::{MemorySink, MemorySource};
+use byte_edge::{CalmSource, MemorySink, MemorySource};
 use sample_runs::{AT_OMEGA, FILE, TIED, sheet, sink_of, words_of};
 use sheet_check::check;
 use std::alloc::Global;
@@ -152,6 +152,29 @@ fn a_refusal_has_its_place_in_the_whole(rt: HostRuntime) -> Result<(), Fail> {
             (end, line),
         )?;
     }
+    Ok(())
+}
+
+/// How a check of so many spaces ends that writes into this sink.
+fn end_of_spaces<R: Threads + Sync>(
+    rt: &R,
+    alloc: Global,
+    len: usize,
+    sink: &mut MemorySink,
+) -> Result<End, Fail> {
+    let words = words_of(alloc, "--lots 1")?;
+    let mut source = CalmSource::new(vec![in alloc; b' '; len]?);
+    Ok(check(rt, alloc, words.as_slice(), &mut source, sink))
+}
+
+// A sheet and its file have one byte more than they may have together. The line says how many these are.
+#[test]
+fn an_input_has_at_most_67108864_bytes(rt: HostRuntime) -> Result<(), Fail> {
+    let mut sink = sink_of(rt.alloc(), 100, 100, &[])?;
+    let found = end_of_spaces(&rt, rt.alloc(), 67_108_865, &mut sink)?;
+    let end = End::BadInput(InputFault::new(FaultKind::TooLong, 67_108_864));
+    let line = b"refused TooLong at 67108864\n".as_slice();
+    assert_eq!(rt; (found, sink.bytes()), (end, line));
     Ok(())
 }
 

@@ -63,7 +63,7 @@ fn with_byte(alloc: Global, text: &[u8], at: usize, byte: u8) -> Result<Vec<u8>,
 }
 
 /// The text with a piece in the place of so many of its lines, the first of which has this number, from 1.
-fn with_piece(
+pub(crate) fn with_piece(
     alloc: Global,
     text: &[u8],
     first: u64,

@@ -1,4 +1,5 @@
 // Tests of sheet_reader: sheet.
+use crate::judging::with_piece;
 use candidate_roll::State;
 use meek_rule::Step;
 use sample_runs::{SHEET, sheet};
@@ -136,6 +137,48 @@ fn numbers_have_their_greatest(rt: HostRuntime) -> Result<(), Fail> {
     {
         let taken = takes(rt.alloc(), "T", number, vote, "A")?;
         assert_eq!(rt; (i, taken), (i, *due));
+    }
+    Ok(())
+}
+
+/// A sheet of one candidate and one iteration.
+const SMALL: &[u8] =
+    b"title T\nseats 1\ncandidates 1\nballots 1\nround 1 iteration 1\n1 elected 1.000000000 1.000000000\n\
+total 1.000000000\nquota 1.000000000\nsurplus 0.000000000\nstep iterate\nresult\n1 elected A\nend\n";
+
+// The number of a line of the small sheet, what stands there in its place, and whether that is taken.
+const OTHER_LINES: [(u64, &[u8], bool); 23] = [
+    (2, b"seats 250\n", true),
+    (2, b"seats 251\n", false),
+    (4, b"ballots 0\n", true),
+    (4, b"ballots 999999999\n", true),
+    (4, b"ballots 1000000000\n", false),
+    (5, b"round 0 iteration 0\n", true),
+    (5, b"round 2147483647 iteration 2147483648\n", true),
+    (5, b"round 4294967295 iteration 4294967296\n", true),
+    (5, b"round 1 iteration 9223372036854775808\n", true),
+    (6, b"1 elected 0.000000000 1000000000.000000000\n", true),
+    (6, b"1 elected 1.000000001 1.000000000\n", false),
+    (6, b"1 elected 4294967297.000000000 1.000000000\n", false),
+    (7, b"total 1000000000.000000000\n", true),
+    (7, b"total 1000000000.000000001\n", false),
+    (8, b"quota 1000000000.000000000\n", true),
+    (8, b"quota 1000000000.000000001\n", false),
+    (9, b"surplus 1000000000.000000000\n", true),
+    (9, b"surplus 1000000000.000000001\n", false),
+    (9, b"surplus 9223372036.854775808\n", false),
+    (9, b"surplus 18446744073.709551616\n", false),
+    (10, b"step defeat 1 tied 1\n", true),
+    (10, b"step defeat 2 tied 1\n", false),
+    (10, b"step defeat 4294967297 tied 1\n", false),
+];
+
+#[test]
+fn each_number_has_its_range(rt: HostRuntime) -> Result<(), Fail> {
+    for (at, (line, other, due)) in OTHER_LINES.iter().enumerate() {
+        let text = with_piece(rt.alloc(), SMALL, *line, 1, other)?;
+        let taken = is_taken(rt.alloc(), text.as_slice())?;
+        assert_eq!(rt; (at, taken), (at, *due));
     }
     Ok(())
 }
