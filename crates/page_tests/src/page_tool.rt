@@ -1,7 +1,9 @@
 // Whole runs over memory: sheets worked by hand, and texts that are none.
+mod order;
 mod ties;
 mod transfer;
 
+use bstr::ByteSlice;
 use byte_edge::MemorySink;
 use sample_runs::{SHEET, sink_of, source_of, words_of};
 use sheet_input::SheetFault;
@@ -20,12 +22,12 @@ const SAMPLE_CSV: &[u8] =
 const SAMPLE_JSON: &[u8] =
     b"{\"title\":\"Sample\",\"seats\":2,\"ballots\":13,\"candidates\":[{\"number\":1,\"name\":\"Ann\",\"outcome\":\"elected\"},{\"number\":2,\"name\":\"Ben\",\"outcome\":\"withdrawn\"},{\"number\":3,\"name\":\"Cid\",\"outcome\":\"defeated\"},{\"number\":4,\"name\":\"Dee\",\"outcome\":\"elected\"}],\"iterations\":[{\"round\":1,\"iteration\":1,\"total\":\"12.000000000\",\"quota\":\"4.000000001\",\"surplus\":\"2.999999999\",\"step\":\"elected\",\"candidates\":[{\"number\":1,\"state\":\"hopeful\",\"keep\":\"1.000000000\",\"vote\":\"7.000000000\",\"elected\":true,\"capped\":false,\"tied\":false,\"defeated\":false},{\"number\":2,\"state\":\"withdrawn\",\"keep\":\"0.000000000\",\"vote\":\"0.000000000\",\"elected\":false,\"capped\":false,\"tied\":false,\"defeated\":false},{\"number\":3,\"state\":\"hopeful\",\"keep\":\"1.000000000\",\"vote\":\"1.000000000\",\"elected\":false,\"capped\":false,\"tied\":false,\"defeated\":false},{\"number\":4,\"state\":\"hopeful\",\"keep\":\"1.000000000\",\"vote\":\"4.000000000\",\"elected\":false,\"capped\":false,\"tied\":false,\"defeated\":false}]},{\"round\":2,\"iteration\":1,\"total\":\"12.000000000\",\"quota\":\"4.000000001\",\"surplus\":\"2.999999999\",\"step\":\"iterate\",\"candidates\":[{\"number\":1,\"state\":\"elected\",\"keep\":\"1.000000000\",\"vote\":\"7.000000000\",\"elected\":false,\"capped\":false,\"tied\":false,\"defeated\":false},{\"number\":2,\"state\":\"withdrawn\",\"keep\":\"0.000000000\",\"vote\":\"0.000000000\",\"elected\":false,\"capped\":false,\"tied\":false,\"defeated\":false},{\"number\":3,\"state\":\"hopeful\",\"keep\":\"1.000000000\",\"vote\":\"1.000000000\",\"elected\":false,\"capped\":false,\"tied\":false,\"defeated\":false},{\"number\":4,\"state\":\"hopeful\",\"keep\":\"1.000000000\",\"vote\":\"4.000000000\",\"elected\":false,\"capped\":false,\"tied\":false,\"defeated\":false}]},{\"round\":2,\"iteration\":2,\"total\":\"12.000000000\",\"quota\":\"4.000000001\",\"surplus\":\"0.000000003\",\"step\":\"defeat\",\"candidates\":[{\"number\":1,\"state\":\"elected\",\"keep\":\"0.571428572\",\"vote\":\"4.000000004\",\"elected\":false,\"capped\":false,\"tied\":false,\"defeated\":false},{\"number\":2,\"state\":\"withdrawn\",\"keep\":\"0.000000000\",\"vote\":\"0.000000000\",\"elected\":false,\"capped\":false,\"tied\":false,\"defeated\":false},{\"number\":3,\"state\":\"hopeful\",\"keep\":\"1.000000000\",\"vote\":\"3.999999996\",\"elected\":false,\"capped\":false,\"tied\":true,\"defeated\":true},{\"number\":4,\"state\":\"hopeful\",\"keep\":\"1.000000000\",\"vote\":\"4.000000000\",\"elected\":false,\"capped\":false,\"tied\":false,\"defeated\":false}]}]}\n";
 
-// A comma, backslashes and a byte that is no UTF-8.
+// A comma, backslashes, a slash and a byte that is no UTF-8.
 const ODD: &[u8] =
-    b"title \\ & <T>\nseats 1\ncandidates 3\nballots 2\nround 1 iteration 1\n1 hopeful 1.000000000 1.000000000\n2 hopeful 1.000000000 1.000000000\n3 hopeful 1.000000000 0.000000000\ntotal 2.000000000\nquota 1.000000001\nsurplus 0.000000000\nstep defeat 3 tied 3\nresult\n1 elected Doe, J\n2 defeated a\xFFb\n3 defeated C\\D\nend\n";
+    b"title \\ & <T>\nseats 1\ncandidates 3\nballots 2\nround 1 iteration 1\n1 hopeful 1.000000000 1.000000000\n2 hopeful 1.000000000 1.000000000\n3 hopeful 1.000000000 0.000000000\ntotal 2.000000000\nquota 1.000000001\nsurplus 0.000000000\nstep defeat 3 tied 3\nresult\n1 elected Doe, J\n2 defeated a\xFFb\n3 defeated C\\D/E\nend\n";
 
 const ODD_JSON: &[u8] =
-    b"{\"title\":\"\\\\ & <T>\",\"seats\":1,\"ballots\":2,\"candidates\":[{\"number\":1,\"name\":\"Doe, J\",\"outcome\":\"elected\"},{\"number\":2,\"name\":\"a\xEF\xBF\xBDb\",\"outcome\":\"defeated\"},{\"number\":3,\"name\":\"C\\\\D\",\"outcome\":\"defeated\"}],\"iterations\":[{\"round\":1,\"iteration\":1,\"total\":\"2.000000000\",\"quota\":\"1.000000001\",\"surplus\":\"0.000000000\",\"step\":\"defeat\",\"candidates\":[{\"number\":1,\"state\":\"hopeful\",\"keep\":\"1.000000000\",\"vote\":\"1.000000000\",\"elected\":false,\"capped\":false,\"tied\":false,\"defeated\":false},{\"number\":2,\"state\":\"hopeful\",\"keep\":\"1.000000000\",\"vote\":\"1.000000000\",\"elected\":false,\"capped\":false,\"tied\":false,\"defeated\":false},{\"number\":3,\"state\":\"hopeful\",\"keep\":\"1.000000000\",\"vote\":\"0.000000000\",\"elected\":false,\"capped\":false,\"tied\":true,\"defeated\":true}]}]}\n";
+    b"{\"title\":\"\\\\ & <T>\",\"seats\":1,\"ballots\":2,\"candidates\":[{\"number\":1,\"name\":\"Doe, J\",\"outcome\":\"elected\"},{\"number\":2,\"name\":\"a\xEF\xBF\xBDb\",\"outcome\":\"defeated\"},{\"number\":3,\"name\":\"C\\\\D/E\",\"outcome\":\"defeated\"}],\"iterations\":[{\"round\":1,\"iteration\":1,\"total\":\"2.000000000\",\"quota\":\"1.000000001\",\"surplus\":\"0.000000000\",\"step\":\"defeat\",\"candidates\":[{\"number\":1,\"state\":\"hopeful\",\"keep\":\"1.000000000\",\"vote\":\"1.000000000\",\"elected\":false,\"capped\":false,\"tied\":false,\"defeated\":false},{\"number\":2,\"state\":\"hopeful\",\"keep\":\"1.000000000\",\"vote\":\"1.000000000\",\"elected\":false,\"capped\":false,\"tied\":false,\"defeated\":false},{\"number\":3,\"state\":\"hopeful\",\"keep\":\"1.000000000\",\"vote\":\"0.000000000\",\"elected\":false,\"capped\":false,\"tied\":true,\"defeated\":true}]}]}\n";
 
 // Markup, quotes, bytes that are no UTF-8, and letters of other scripts.
 const HOSTILE: &[u8] =
@@ -78,6 +80,14 @@ fn is_shown(
     text: &[u8],
 ) -> Result<(), Fail> {
     ends(rt, alloc, (words, sheet), &[], (End::Done, text))
+}
+
+/// The page of the sheet has this piece.
+fn has(rt: &impl Abort, alloc: Global, sheet: &[u8], piece: &[u8]) -> Result<(), Fail> {
+    let mut sink = sink_of(alloc, 20_000, 20_000, &[])?;
+    end_of(alloc, "", sheet, &mut sink)?;
+    assert!(rt; sink.bytes().contains_str(piece));
+    Ok(())
 }
 
 #[test]

@@ -1,10 +1,6 @@
 // Sheets worked by hand: one where several are tied, and one where a keep value is capped. What they are
 // as a table and as JSON is a second program's, in Python with its modules csv and json.
-use super::{end_of, is_shown};
-use bstr::ByteSlice;
-use sample_runs::sink_of;
-use std::alloc::Global;
-use std::process::Abort;
+use super::{has, is_shown};
 use std::test::Fail;
 
 // Nobody votes: the lots alone decide, 2, 3, 1.
@@ -38,14 +34,6 @@ fn who_is_tied_and_who_is_capped(rt: HostRuntime) -> Result<(), Fail> {
     for (words, sheet, text) in cases {
         is_shown(&rt, rt.alloc(), words, sheet, text)?;
     }
-    Ok(())
-}
-
-/// The page of the sheet has this piece.
-fn has(rt: &impl Abort, alloc: Global, sheet: &[u8], piece: &[u8]) -> Result<(), Fail> {
-    let mut sink = sink_of(alloc, 20_000, 20_000, &[])?;
-    end_of(alloc, "", sheet, &mut sink)?;
-    assert!(rt; sink.bytes().contains_str(piece));
     Ok(())
 }
 
