@@ -13,26 +13,12 @@ mod trials;
 use blt_reader::{FaultKind, InputFault};
 use byte_edge::{FreeGate, Gate, MemorySink, MemorySource, Sink, Source};
 use meek_cli::{Status, meek};
+use sample_runs::{FILE, SHEET, words_of};
 use std::alloc::Global;
 use std::process::Abort;
 use std::sync::Wait;
 use std::test::Fail;
 use std::thread::Threads;
-
-const SAMPLE: &[u8] =
-    b"# sample\n4 2\n-2\n3 1 3 4 0\n4 1 3 2 0\n2 4 1 3 0\n1 2 0\n2 2 4 3 1 0\n1 3 4 2 0\n0\n\"Ann\"\n\"Ben\"\n\"Cid\"\n\"Dee\"\n\"Sample\"\n";
-
-const SAMPLE_SHEET: &[u8] = b"title Sample\nseats 2\ncandidates 4\nballots 13\n\
-round 1 iteration 1\n1 hopeful 1.000000000 7.000000000\n2 withdrawn 0.000000000 0.000000000\n\
-3 hopeful 1.000000000 1.000000000\n4 hopeful 1.000000000 4.000000000\ntotal 12.000000000\n\
-quota 4.000000001\nsurplus 2.999999999\nelected 1\nstep elected\n\
-round 2 iteration 1\n1 elected 1.000000000 7.000000000\n2 withdrawn 0.000000000 0.000000000\n\
-3 hopeful 1.000000000 1.000000000\n4 hopeful 1.000000000 4.000000000\ntotal 12.000000000\n\
-quota 4.000000001\nsurplus 2.999999999\nstep iterate\n\
-round 2 iteration 2\n1 elected 0.571428572 4.000000004\n2 withdrawn 0.000000000 0.000000000\n\
-3 hopeful 1.000000000 3.999999996\n4 hopeful 1.000000000 4.000000000\ntotal 12.000000000\n\
-quota 4.000000001\nsurplus 0.000000003\nstep defeat 3 tied 3\n\
-result\n1 elected Ann\n2 withdrawn Ben\n3 defeated Cid\n4 elected Dee\nend\n";
 
 /// How a run ended, how many calls its history has, and what it wrote.
 #[derive(Drop)]
@@ -40,15 +26,6 @@ struct Ran {
     status: Status,
     calls: usize,
     written: Vec<u8>,
-}
-
-/// The words of one text, cut at spaces.
-fn words_of(alloc: Global, text: &str) -> Result<Vec<String>, Fail> {
-    let mut words = Vec::new(alloc);
-    for word in text.split_whitespace() {
-        words.push(word.to_string(alloc)?)?;
-    }
-    Ok(words)
 }
 
 /// Does what the words ask for: how that ended, and how many calls its history has.
@@ -143,8 +120,8 @@ fn ends<R: Threads + Wait + Abort + Sync>(
 // all withdrawn, one ballot each, a surplus just below omega, one of omega, a file as most tools write it,
 // and the most ballots that a file may have.
 const ELECTIONS: [(&str, &[u8], &[u8]); 11] = [
-    ("count --lots 1,2,3,4", SAMPLE, SAMPLE_SHEET),
-    ("count --lots=1,2,3,4", SAMPLE, SAMPLE_SHEET),
+    ("count --lots 1,2,3,4", FILE, SHEET),
+    ("count --lots=1,2,3,4", FILE, SHEET),
     (
         "count --lots 1,2,3",
         b"3 2\n10 1 0\n4 2 0\n3 3 0\n0\n\"A\" \"B\" \"C\" \"T\"\n",
@@ -262,7 +239,7 @@ fn counts_elections(rt: HostRuntime) -> Result<(), Fail> {
 fn refuses_each_front_of_the_sample(rt: HostRuntime) -> Result<(), Fail> {
     let alloc = rt.alloc();
     let words = "count --lots 1,2,3,4";
-    assert_eq!(rt; SAMPLE.len(), 109);
+    assert_eq!(rt; FILE.len(), 109);
     for n in 0..108 {
         let (kind, name, at) = if n == 14 {
             (FaultKind::BadByte, "BadByte", 13)
@@ -271,21 +248,9 @@ fn refuses_each_front_of_the_sample(rt: HostRuntime) -> Result<(), Fail> {
         };
         let line = format!(in alloc; "refused {name} at {at}\n")?;
         let status = Status::BadInput(InputFault { kind, at });
-        ends(
-            &rt,
-            alloc,
-            words,
-            &SAMPLE[..n],
-            (status, 0, line.as_bytes()),
-        )?;
+        ends(&rt, alloc, words, &FILE[..n], (status, 0, line.as_bytes()))?;
     }
-    ends(
-        &rt,
-        alloc,
-        words,
-        &SAMPLE[..108],
-        (Status::Done, 0, SAMPLE_SHEET),
-    )
+    ends(&rt, alloc, words, &FILE[..108], (Status::Done, 0, SHEET))
 }
 
 // The sheet of the sample has 38 lines, each written as one piece, and one flush behind the last.
@@ -294,18 +259,18 @@ fn writes_the_lines_before_a_failure(rt: HostRuntime) -> Result<(), Fail> {
     let alloc = rt.alloc();
     let words = "count --lots 1,2,3,4";
     let mut line: u64 = 0;
-    for at in 0..SAMPLE_SHEET.len() {
-        if at == 0 || SAMPLE_SHEET[at - 1] == b'\n' {
+    for at in 0..SHEET.len() {
+        if at == 0 || SHEET[at - 1] == b'\n' {
             line = line.saturating_add(1);
-            let end = (Status::SinkFault, 0, &SAMPLE_SHEET[..at]);
-            ends_failing(&rt, alloc, words, SAMPLE, (&[], &[line]), end)?;
+            let end = (Status::SinkFault, 0, &SHEET[..at]);
+            ends_failing(&rt, alloc, words, FILE, (&[], &[line]), end)?;
         }
     }
     assert_eq!(rt; line, 38);
-    let fault = (Status::SinkFault, 0, SAMPLE_SHEET);
-    ends_failing(&rt, alloc, words, SAMPLE, (&[], &[39]), fault)?;
-    let done = (Status::Done, 0, SAMPLE_SHEET);
-    ends_failing(&rt, alloc, words, SAMPLE, (&[], &[40]), done)
+    let fault = (Status::SinkFault, 0, SHEET);
+    ends_failing(&rt, alloc, words, FILE, (&[], &[39]), fault)?;
+    let done = (Status::Done, 0, SHEET);
+    ends_failing(&rt, alloc, words, FILE, (&[], &[40]), done)
 }
 
 // The sample is read in seven pieces and an end.
@@ -317,7 +282,7 @@ fn writes_nothing_after_a_failed_read(rt: HostRuntime) -> Result<(), Fail> {
             &rt,
             rt.alloc(),
             "count --lots 1,2,3,4",
-            SAMPLE,
+            FILE,
             (&[k], &[]),
             end,
         )?;

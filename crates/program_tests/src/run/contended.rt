@@ -28,12 +28,15 @@ fn contended_day(alloc: Global) -> Result<Vec<u8>, Fail> {
 }
 
 /// What calls have come to so far: how many team t has made, at index t, the revision of batch 1, which
-/// is 3 once it is gone, and who has entered batch 2.
+/// is 3 once it is gone, who has entered batch 2, who called last, and how often somebody called who had
+/// not called just before.
 #[derive(Drop)]
 struct Replay {
     made: Vec<u32>,
     revision: u32,
     winner: u32,
+    last: u32,
+    turns: u32,
 }
 
 impl Replay {
@@ -42,11 +45,17 @@ impl Replay {
             made: vec![in alloc; 0; 17]?,
             revision: 0,
             winner: 0,
+            last: 0,
+            turns: 0,
         })
     }
 
     /// The next call of a team, with its reply.
     fn next(&mut self, team: u32) -> Result<&'static str, Fail> {
+        if team != self.last {
+            self.last = team;
+            self.turns = self.turns.saturating_add(1);
+        }
         let made = self.made.get_mut(team as usize).ok_or("no such team")?;
         let call = *made;
         *made = call.saturating_add(1);
@@ -112,8 +121,9 @@ fn caller_of(alloc: Global, n: u32, line: &[u8]) -> Result<u32, Fail> {
     Err("a line of no team")?
 }
 
-/// The text that a replay gives whose callers come in the order of the written text.
-fn replayed(alloc: Global, written: &[u8]) -> Result<Vec<u8>, Fail> {
+/// The text that a replay gives whose callers come in the order of the written text, and whether some team
+/// called while another had calls left.
+fn replayed(alloc: Global, written: &[u8]) -> Result<(Vec<u8>, bool), Fail> {
     let mut replay = Replay::new(alloc)?;
     let mut text = Vec::new(alloc);
     for n in 1..4 * TEAMS + 1 {
@@ -126,7 +136,7 @@ fn replayed(alloc: Global, written: &[u8]) -> Result<Vec<u8>, Fail> {
     text.extend_from_slice(b"65 clerk freeze frozen\nsheet 65\n")?;
     let sheet = sheet_of(alloc, replay.winner)?;
     text.extend_from_slice(sheet.as_bytes())?;
-    Ok(text)
+    Ok((text, replay.turns > TEAMS))
 }
 
 /// The sheet of twice so many ballots for the first candidate: for one seat their half and a unit are the
@@ -155,13 +165,13 @@ end
     )?)
 }
 
-/// The day's text is that of a replay of its order.
+/// The day's text is that of a replay of its order. It says whether the teams' calls were mixed.
 fn is_played_by_the_rules<R: Threads + Wait + Abort + Sync>(
     rt: &R,
     alloc: Global,
     day: &[u8],
     round: u32,
-) -> Result<(), Fail> {
+) -> Result<bool, Fail> {
     let words = "day --shards 2 --workers 1";
     let ran = run(rt, alloc, words, day, &FreeGate)?;
     assert_eq!(rt;
@@ -169,16 +179,23 @@ fn is_played_by_the_rules<R: Threads + Wait + Abort + Sync>(
         (Status::Done, 65),
         "round {round}"
     );
-    let text = replayed(alloc, ran.written.as_slice())?;
+    let (text, is_mixed) = replayed(alloc, ran.written.as_slice())?;
     assert_eq!(rt; ran.written.as_slice(), text.as_slice(), "round {round}");
-    Ok(())
+    Ok(is_mixed)
 }
 
 #[test]
 fn sixteen_teams_contend_for_two_batches(rt: HostRuntime) -> Result<(), Fail> {
     let day = contended_day(rt.alloc())?;
+    let mut mixed = 0u32;
     for round in 0..100 {
-        is_played_by_the_rules(&rt, rt.alloc(), day.as_slice(), round)?;
+        if is_played_by_the_rules(&rt, rt.alloc(), day.as_slice(), round)? {
+            mixed = mixed.saturating_add(1);
+        }
     }
+    assert!(rt;
+        mixed > 0,
+        "{mixed} of a hundred days were not played team after team"
+    );
     Ok(())
 }

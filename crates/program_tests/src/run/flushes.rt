@@ -1,7 +1,8 @@
 // The sink is flushed behind the last byte, at each end of a run that writes all it owes.
-use super::{SAMPLE, SAMPLE_SHEET, call};
+use super::call;
 use byte_edge::{FreeGate, MemorySource, StdSink};
 use meek_cli::Status;
+use sample_runs::{FILE, SHEET};
 use std::alloc::Global;
 use std::io::{self, BufWriter, Write};
 use std::process::Abort;
@@ -43,10 +44,10 @@ const SUMMARY: &[u8] =
 // The words, the input, and what is written: a sheet, refused lots, a refused file, refused words, a day,
 // a refused day, and a trial.
 const ENDS: [(&str, &[u8], &[u8]); 7] = [
-    ("count --lots 1,2,3,4", SAMPLE, SAMPLE_SHEET),
-    ("count --lots 1,2,3,3", SAMPLE, b"refused BadLots at 4\n"),
+    ("count --lots 1,2,3,4", FILE, SHEET),
+    ("count --lots 1,2,3,3", FILE, b"refused BadLots at 4\n"),
     ("count --lots 1", b"0 1\n", b"refused BadHeader at 0\n"),
-    ("count", SAMPLE, b"refused BadWords\n"),
+    ("count", FILE, b"refused BadWords\n"),
     ("day", EMPTY_DAY, EMPTY_DAY_TEXT),
     ("day", b"", b"refused Ended at 0\n"),
     ("trial 1", b"", SUMMARY),

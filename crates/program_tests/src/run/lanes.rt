@@ -1,9 +1,10 @@
 // Counts whose ballots are shared among shards and workers: the bytes are those that were worked out by
 // hand for one.
 use super::meetings::Meeting;
-use super::{ELECTIONS, SAMPLE, SAMPLE_SHEET, ends, run};
+use super::{ELECTIONS, ends, run};
 use byte_edge::{Gate, Place};
 use meek_cli::Status;
+use sample_runs::{FILE, SHEET};
 use std::alloc::Global;
 use std::process::Abort;
 use std::sync::Wait;
@@ -17,8 +18,8 @@ fn counts_the_sample_in_lanes(rt: HostRuntime) -> Result<(), Fail> {
             let words = format!(in rt.alloc();
                 "count --lots 1,2,3,4 --shards {shards} --workers {workers}"
             )?;
-            let end = (Status::Done, 0, SAMPLE_SHEET);
-            ends(&rt, rt.alloc(), words.as_str(), SAMPLE, end)?;
+            let end = (Status::Done, 0, SHEET);
+            ends(&rt, rt.alloc(), words.as_str(), FILE, end)?;
         }
     }
     Ok(())
@@ -83,6 +84,6 @@ fn meet<R: Threads + Wait + Abort + Sync>(
 #[test]
 fn two_lanes_count_at_the_same_time(rt: HostRuntime) -> Result<(), Fail> {
     let words = "count --lots 1,2,3,4 --shards 2 --workers 2";
-    meet(&rt, rt.alloc(), words, SAMPLE, SAMPLE_SHEET)?;
+    meet(&rt, rt.alloc(), words, FILE, SHEET)?;
     meet(&rt, rt.alloc(), "day --shards 2 --workers 2", DAY, DAY_TEXT)
 }

@@ -1,7 +1,8 @@
 // Words, files and lots that are refused, each with its line, worked out by hand.
-use super::{SAMPLE, ends};
+use super::ends;
 use blt_reader::{FaultKind, InputFault};
 use meek_cli::Status;
+use sample_runs::FILE;
 use std::alloc::Global;
 use std::test::Fail;
 
@@ -16,7 +17,7 @@ fn refuses_words(rt: HostRuntime) -> Result<(), Fail> {
         "help",
     ] {
         let end = (Status::BadWords, 0, b"refused BadWords\n".as_slice());
-        ends(&rt, rt.alloc(), words, SAMPLE, end)?;
+        ends(&rt, rt.alloc(), words, FILE, end)?;
     }
     Ok(())
 }

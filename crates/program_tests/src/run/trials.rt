@@ -10,6 +10,9 @@ const FIRST: &[u8] =
 const SEVENTH: &[u8] =
     b"trial 7\ncalls 42\nbatches 24\nballots 4560\nrounds 10\niterations 13\nelected 3 7 9 11\n";
 
+const THOUSANDTH: &[u8] =
+    b"trial 1000\ncalls 5905\nbatches 3429\nballots 651510\nrounds 9\niterations 11\nelected 1 3 7 9\n";
+
 /// How a run ends whose words ask for nothing.
 const REFUSED: Ending<'static> = (Status::BadWords, 0, b"refused BadWords\n");
 
@@ -24,6 +27,14 @@ fn sums_up_a_made_day(rt: HostRuntime) -> Result<(), Fail> {
         ends(&rt, rt.alloc(), words, b"", (Status::Done, calls, summary))?;
     }
     Ok(())
+}
+
+// The greatest made day. Its bag of ballots was made by a program in Python, and counted by tools/second_counter.
+#[test]
+fn sums_up_the_greatest_made_day(rt: HostRuntime) -> Result<(), Fail> {
+    let end = (Status::Done, 5_905, THOUSANDTH);
+    ends(&rt, rt.alloc(), "trial 1000 --shards 1", b"", end)?;
+    ends(&rt, rt.alloc(), "trial 1000 --shards 64", b"", end)
 }
 
 // The first read would fail.
