@@ -15,3 +15,4 @@ pub mod Iterations
 pub mod Html
 pub mod Laws
 pub mod Owed
+pub mod Worked

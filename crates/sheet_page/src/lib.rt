@@ -22,8 +22,10 @@ mod rounds;
 mod tool;
 mod values;
 mod words;
+mod worked;
 
 pub use format::Format;
 pub use laws::{pages_nest, strings_are_read_back, tables_are_read_back};
 pub use tool::page;
 pub use words::takes_format;
+pub use worked::worked_strings;
