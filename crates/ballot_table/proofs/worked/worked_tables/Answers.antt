@@ -1,0 +1,41 @@
+use Rattle.std.proofs.Common.{refl}
+use Rattle.ballot_table.proofs.worked.worked_tables.Goals as goal
+
+pub returns-clause-heads : goal.returns-clause-heads
+returns-clause-heads c = record {
+  sound = refl;
+  no_name = refl;
+  same_name = refl;
+  quote_in_name = refl;
+  missing = refl;
+  only_labels = refl;
+  withdrawn = refl;
+  in_brackets = refl;
+}
+
+pub returns-clause-rows : goal.returns-clause-rows
+returns-clause-rows c = record {
+  ranks = refl;
+  shorter = refl;
+  no_rank = refl;
+  choices = refl;
+  weights = refl;
+  words = refl;
+  ranks_in_words = refl;
+  dropped = refl;
+  kept = refl;
+  lists = refl;
+}
+
+pub returns-clause-refusals : goal.returns-clause-refusals
+returns-clause-refusals c = record {
+  equal_ranks = refl;
+  behind_a_passed_rank = refl;
+  skipped_rank = refl;
+  repeated = refl;
+  empty_row = refl;
+  no_candidate = refl;
+  too_many = refl;
+  no_weight = refl;
+  short_blank_row = refl;
+}

@@ -1,0 +1,20 @@
+-- What the words say of a table's columns and texts.
+use Rattle.std.specs.Prelude.{ℕ, Bool, List, Option}
+use Rattle.ballot_table.specs.declared.layout.Layout.{Layout}
+
+-- the layout, and the texts that have a meaning of their own
+pub record Asked : Type 0 where
+  pub layout : Layout
+  -- candidates stand in brackets at the end of the head's fields
+  pub bracketed : Bool
+  -- heads of the weight's column and of those that are passed over, in the order of the words
+  pub labels : List (List ℕ)
+  pub weight : Option (List ℕ)
+  -- texts of blank cells, and of ranks that more than one candidate has
+  pub blank : List (List ℕ)
+  pub over : List (List ℕ)
+  -- texts of the ranks from the first on; with none they are numbers
+  pub ranks : List (List ℕ)
+  -- names of the candidates in number order, where the head doesn't give them
+  pub candidates : List (List ℕ)
+  pub withdrawn : List ℕ

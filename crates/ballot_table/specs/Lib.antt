@@ -1,0 +1,10 @@
+pub mod Asked
+pub mod Texts
+pub mod Faults
+pub mod Head
+pub mod Cells
+pub mod Rows
+pub mod Table
+pub mod Refusals
+pub mod Laws
+pub mod Worked

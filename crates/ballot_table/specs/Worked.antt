@@ -1,0 +1,188 @@
+-- Tables worked by hand.
+use Rattle.std.specs.Prelude.{◌≡◌, ℕ, false, true, List, [], ◌∷◌, map, Option, Some, None, codes}
+use Rattle.ballot_marks.specs.declared.choice.Treat.TheVariants.{Cut, Pass}
+use Rattle.ballot_marks.specs.declared.treatment.Treatment.{Treatment}
+use Rattle.ballot_marks.specs.Laws.{strict}
+use Rattle.ballot_table.specs.declared.layout.Layout.{Layout}
+use Rattle.ballot_table.specs.declared.layout.Layout.TheVariants.{Ranks, Choices, List as Lists}
+use Rattle.ballot_table.specs.declared.empty.Empty.{Empty}
+use Rattle.ballot_table.specs.declared.empty.Empty.TheVariants.{Refuse, Keep, Drop}
+use Rattle.ballot_table.specs.declared.table_kind.TableKind.{TableKind}
+use Rattle.ballot_table.specs.declared.table_kind.TableKind.TheVariants.{NoColumn, RepeatedColumn}
+use Rattle.ballot_table.specs.declared.table_kind.TableKind.TheVariants.{ColumnExpected, NameExpected}
+use Rattle.ballot_table.specs.declared.table_kind.TableKind.TheVariants.{BadName, BadWithdrawn, BadRank}
+use Rattle.ballot_table.specs.declared.table_kind.TableKind.TheVariants.{BadWeight, TooManyBallots}
+use Rattle.ballot_table.specs.declared.table_kind.TableKind.TheVariants.{UnequalRow, EmptyRow}
+use Rattle.ballot_table.specs.declared.table_kind.TableKind.TheVariants.{NoSuchCandidate, EqualRank}
+use Rattle.ballot_table.specs.declared.table_kind.TableKind.TheVariants.{SkippedRank, Repeated}
+use Rattle.ballot_table.specs.Asked.{Asked}
+use Rattle.ballot_table.specs.Faults.{Fault}
+use Rattle.ballot_table.specs.Head.{head_fault, columns, names_of}
+use Rattle.ballot_table.specs.Table.{texts_of, row_faults, rows_of, ballots}
+use Rattle.ballot_table.specs.Refusals.{TableFault, fault_of_table}
+
+-- nothing is asked but a layout
+abbrev pub plainly : Layout → Asked
+plainly layout = record {
+  layout = layout;
+  bracketed = false;
+  labels = [];
+  weight = None;
+  blank = [];
+  over = [];
+  ranks = [];
+  candidates = [];
+  withdrawn = [];
+}
+
+abbrev pub fault : TableKind → ℕ → Option Fault
+fault kind place = Some (record { kind = kind; place = place })
+
+-- the ballots of a head and rows
+abbrev pub ballots_under :
+    Treatment → Empty → Asked → List (List ℕ) → List (List (List ℕ)) → Option (List (List ℕ))
+ballots_under treatment empty asked head rows =
+    ballots treatment (rows_of asked empty (columns asked (texts_of head)) (map texts_of rows))
+
+-- the faults of rows, each in its form
+abbrev pub faults_of : Asked → List (List ℕ) → List (List (List ℕ)) → List (Option Fault)
+faults_of asked head rows = row_faults asked Refuse (columns asked (texts_of head)) (map texts_of rows)
+
+abbrev pub ann_ben_cid : List (List ℕ)
+ann_ben_cid = codes "Ann" ∷ codes "Ben" ∷ codes "Cid" ∷ []
+
+-- one row for each of its cells
+abbrev pub row3 : List ℕ → List ℕ → List ℕ → List (List ℕ)
+row3 a b c = a ∷ b ∷ c ∷ []
+
+pub record WorkedHeads : Type 0 where
+  pub sound : head_fault (plainly Ranks) ann_ben_cid ≡ None
+  pub no_name : head_fault (plainly Ranks) (codes "Ann" ∷ [] ∷ codes "Cid" ∷ []) ≡ fault NameExpected 2
+  pub same_name :
+      head_fault (plainly Ranks) (texts_of (codes "Ann" ∷ codes " Ann " ∷ [])) ≡ fault RepeatedColumn 2
+  pub quote_in_name : head_fault (plainly Ranks) (codes "Ann" ∷ codes "B\"n" ∷ []) ≡ fault BadName 2
+  pub missing :
+      head_fault (record (plainly Ranks) { labels = codes "Id" ∷ codes "n" ∷ []; weight = Some (codes "n") })
+      (codes "Ann" ∷ codes "Id" ∷ []) ≡ fault NoColumn 2
+  pub only_labels :
+      head_fault (record (plainly Ranks) { labels = codes "Id" ∷ [] }) (codes "Id" ∷ [])
+      ≡ fault ColumnExpected 2
+  pub withdrawn :
+      head_fault (record (plainly Ranks) { withdrawn = 1 ∷ 3 ∷ [] }) (codes "Ann" ∷ codes "Ben" ∷ [])
+      ≡ fault BadWithdrawn 2
+  pub in_brackets :
+      names_of (record (plainly Ranks) { bracketed = true })
+      (codes "Your vote [1 to 2], please [Ben, jr]" ∷ []) ≡ codes "Ben, jr" ∷ []
+
+pub record WorkedRows : Type 0 where
+  pub ranks :
+      ballots_under strict Refuse (plainly Ranks) ann_ben_cid (row3 (codes "1") (codes "2") (codes "3") ∷ row3 [] (codes "1") []
+      ∷ row3 (codes "2") [] (codes "1") ∷ [])
+      ≡ Some ((1 ∷ 2 ∷ 3 ∷ []) ∷ (2 ∷ []) ∷ (3 ∷ 1 ∷ []) ∷ [])
+  pub shorter : faults_of (plainly Ranks) ann_ben_cid ((codes "1" ∷ []) ∷ []) ≡ fault UnequalRow 2 ∷ []
+  pub no_rank :
+      faults_of (plainly Ranks) ann_ben_cid (row3 (codes "1") (codes "0") [] ∷ row3 (codes "1.0") [] [] ∷ [])
+      ≡ fault BadRank 2 ∷ fault BadRank 1 ∷ []
+  pub choices :
+      ballots_under (record strict { repeated = Pass }) Refuse
+      (record (plainly Choices) { candidates = ann_ben_cid })
+      (codes "r1" ∷ codes "r2" ∷ codes "r3" ∷ []) (row3 (codes "Ben") (codes "Ben") (codes "Ann") ∷ [])
+      ≡ Some ((2 ∷ 1 ∷ []) ∷ [])
+  pub weights :
+      ballots_under (record strict { skipped = Some 9; equal = Cut }) Refuse
+      (record (plainly Ranks) { labels = codes "n" ∷ []; weight = Some (codes "n") })
+      (codes "n" ∷ codes "Ann" ∷ codes "Ben" ∷ [])
+      (row3 (codes "2") (codes "3") (codes "1") ∷ row3 (codes "1") (codes "1") (codes "1")
+      ∷ row3 (codes "0") (codes "1") (codes "2") ∷ [])
+      ≡ Some ((2 ∷ 1 ∷ []) ∷ (2 ∷ 1 ∷ []) ∷ [] ∷ [])
+  pub words :
+      ballots_under (record strict { equal = Cut }) Refuse (record (plainly Choices) {
+        labels = codes "n" ∷ codes "id" ∷ [];
+        weight = Some (codes "n");
+        blank = codes "undervote" ∷ [];
+        over = codes "overvote" ∷ [];
+        candidates = codes "Smith; John" ∷ codes "Doe" ∷ [];
+      })
+      (codes "id" ∷ codes "n" ∷ codes "r1" ∷ codes "r2" ∷ [])
+      ((codes "7" ∷ codes "2" ∷ codes "Doe" ∷ codes "Smith; John" ∷ [])
+      ∷ (codes "8" ∷ codes "1" ∷ codes " Doe " ∷ codes "overvote" ∷ [])
+      ∷ (codes "9" ∷ codes "0" ∷ codes "Doe" ∷ [] ∷ [])
+      ∷ (codes "10" ∷ codes "1" ∷ codes "undervote" ∷ codes "undervote" ∷ []) ∷ [])
+      ≡ Some ((2 ∷ 1 ∷ []) ∷ (2 ∷ 1 ∷ []) ∷ (2 ∷ []) ∷ [] ∷ [])
+  pub ranks_in_words :
+      ballots_under strict Refuse (record (plainly Ranks) {
+        labels = codes "Timestamp" ∷ [];
+        bracketed = true;
+        ranks = codes "1st choice" ∷ codes "2nd choice" ∷ [];
+        withdrawn = 2 ∷ [];
+      })
+      (codes "Timestamp" ∷ codes "Your vote [Ann]" ∷ codes "Your vote [Ben, jr]" ∷ [])
+      ((codes "9:00" ∷ codes "1st choice" ∷ codes "2nd choice" ∷ [])
+      ∷ (codes "9:01" ∷ [] ∷ codes "1st choice" ∷ []) ∷ [])
+      ≡ Some ((1 ∷ 2 ∷ []) ∷ (2 ∷ []) ∷ [])
+  pub dropped :
+      ballots_under strict Drop (record (plainly Choices) { candidates = ann_ben_cid })
+      (codes "r1" ∷ codes "r2" ∷ [])
+      ((codes "Cid" ∷ [] ∷ []) ∷ ([] ∷ [] ∷ []) ∷ [])
+      ≡ Some ((3 ∷ []) ∷ [])
+  pub kept :
+      ballots_under strict Keep (record (plainly Choices) { candidates = ann_ben_cid })
+      (codes "r1" ∷ codes "r2" ∷ [])
+      ((codes "Cid" ∷ [] ∷ []) ∷ ([] ∷ [] ∷ []) ∷ [])
+      ≡ Some ((3 ∷ []) ∷ [] ∷ [])
+  pub lists :
+      ballots_under strict Refuse
+      (record (plainly Lists) { labels = codes "Id" ∷ []; candidates = codes "Ann" ∷ codes "Ben" ∷ [] })
+      (codes "Id" ∷ codes "Order" ∷ [])
+      ((codes "1" ∷ codes "Ben;Ann;" ∷ []) ∷ (codes "2" ∷ codes "Ann" ∷ []) ∷ [])
+      ≡ Some ((2 ∷ 1 ∷ []) ∷ (1 ∷ []) ∷ [])
+
+abbrev pub four : List (List ℕ)
+four = codes "Ann" ∷ codes "Ben" ∷ codes "Cid" ∷ codes "Dee" ∷ []
+
+-- the first fault of a head and rows
+abbrev pub refusal_under :
+    Treatment → Empty → Asked → List (List ℕ) → List (List (List ℕ)) → Option TableFault
+refusal_under treatment empty asked head rows =
+    fault_of_table asked treatment empty (texts_of head) (map texts_of rows)
+
+abbrev pub at_row : ℕ → TableKind → ℕ → Option TableFault
+at_row row kind place = Some (record { row = row; fault = record { kind = kind; place = place } })
+
+pub record WorkedRefusals : Type 0 where
+  pub equal_ranks :
+      refusal_under strict Refuse (plainly Ranks) four ((codes "1" ∷ codes "2" ∷ codes "2" ∷ codes "3" ∷ []) ∷ [])
+      ≡ at_row 2 EqualRank 3
+  pub behind_a_passed_rank :
+      refusal_under (record strict { equal = Pass }) Refuse (plainly Ranks) four
+      ((codes "1" ∷ codes "2" ∷ codes "2" ∷ codes "4" ∷ []) ∷ [])
+      ≡ at_row 2 SkippedRank 4
+  pub skipped_rank :
+      refusal_under strict Refuse (plainly Ranks) ann_ben_cid (row3 (codes "1") (codes "3") [] ∷ []) ≡ at_row 2 SkippedRank 2
+  pub repeated :
+      refusal_under strict Refuse (record (plainly Choices) { candidates = ann_ben_cid })
+      (codes "r1" ∷ codes "r2" ∷ codes "r3" ∷ []) (row3 (codes "Ben") (codes "Ben") (codes "Ann") ∷ [])
+      ≡ at_row 2 Repeated 2
+  pub empty_row :
+      refusal_under (record strict { repeated = Pass }) Refuse
+      (record (plainly Choices) { candidates = ann_ben_cid })
+      (codes "r1" ∷ codes "r2" ∷ codes "r3" ∷ [])
+      (row3 (codes "Ben") (codes "Ben") (codes "Ann") ∷ row3 (codes "Cid") [] [] ∷ row3 [] [] [] ∷ [])
+      ≡ at_row 4 EmptyRow 1
+  pub no_candidate :
+      refusal_under strict Refuse (record (plainly Choices) { candidates = ann_ben_cid }) (codes "r1" ∷ codes "r2" ∷ [])
+      ((codes "Ann" ∷ codes "ben" ∷ []) ∷ [])
+      ≡ at_row 2 NoSuchCandidate 2
+  pub too_many :
+      refusal_under strict Refuse (record (plainly Ranks) { labels = codes "n" ∷ []; weight = Some (codes "n") })
+      (codes "n" ∷ codes "Ann" ∷ [])
+      ((codes "999999999" ∷ codes "1" ∷ []) ∷ (codes "1" ∷ codes "1" ∷ []) ∷ [])
+      ≡ at_row 3 TooManyBallots 1
+  pub no_weight :
+      refusal_under strict Refuse (record (plainly Ranks) { labels = codes "n" ∷ []; weight = Some (codes "n") })
+      (codes "n" ∷ codes "Ann" ∷ []) (([] ∷ codes "1" ∷ []) ∷ [])
+      ≡ at_row 2 BadWeight 1
+  pub short_blank_row :
+      refusal_under strict Drop (record (plainly Choices) { candidates = ann_ben_cid })
+      (codes "r1" ∷ codes "r2" ∷ []) (([] ∷ []) ∷ [])
+      ≡ at_row 2 UnequalRow 2

@@ -1,0 +1,20 @@
+// What holds of every table. Each law is the contract of a function with nothing to do.
+ghost use Rattle.ballot_table.specs.Laws.{FaultOrTable, RowsHaveNoOrder, TreatmentsOnlyMend};
+
+/// A head and rows have a fault, or they are a table whose rows all have a ranking, and not both.
+pub fn fault_or_table()
+    ensures { FaultOrTable }
+{}
+
+/// Rows in another order stand for the same ballots, in another order.
+pub fn rows_have_no_order()
+    ensures { RowsHaveNoOrder }
+{}
+
+/// What is accepted where whatever is not plain is refused, rows of blank fields too, is the same table of the
+/// same ballots under any treatment.
+pub fn tables_are_only_mended()
+    ensures { TreatmentsOnlyMend }
+{
+    ballot_marks::treatments_only_mend();
+}
