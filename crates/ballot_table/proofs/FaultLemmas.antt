@@ -17,7 +17,8 @@ use Rattle.ballot_table.specs.Head.{head_fault, columns, names_of}
 use Rattle.ballot_table.specs.Laws.{IsCounted}
 use Rattle.ballot_table.specs.Refusals.{reason_of, mark_fault, whole_fault, placed, faults_below}
 use Rattle.ballot_table.specs.Refusals.{fault_of_table}
-use Rattle.ballot_table.specs.Rows.{Row, is_dropped, ballots_in, said_in, marks_of, row_fault, row_of, with_room}
+use Rattle.ballot_table.specs.Rows.{Row, is_dropped, ballots_in, said_in, marks_of, row_fault, row_of}
+use Rattle.ballot_table.specs.Rows.{with_room}
 use Rattle.ballot_table.specs.Table.{plain_of, ballots, rows_of}
 use Rattle.ballot_table.proofs.BallotsLemmas.{joined, parted, mapped}
 
@@ -72,8 +73,8 @@ module _ (t : Treatment) where
   one_more (Some row) rows all fits is =
       (fits.0 ++ all, ap (λ o. joined o (ballots t rows)) fits.1 ∙ ap (joined (Some fits.0)) is)
 
-  one_less : (o : Option Row) (rows : List Row) (all : List (List ℕ)) → ballots t (cons_option o rows) ≡ Some all
-      → Fits o × ((less : List (List ℕ)) × (ballots t rows ≡ Some less))
+  one_less : (o : Option Row) (rows : List Row) (all : List (List ℕ))
+      → ballots t (cons_option o rows) ≡ Some all → Fits o × ((less : List (List ℕ)) × (ballots t rows ≡ Some less))
   one_less None rows all is = (tt, (all, is))
   one_less (Some row) rows all is =
       let parts = parted (plain_of t row) (ballots t rows) all is in
@@ -164,7 +165,8 @@ module _ (asked : Asked) (t : Treatment) (empty : Empty) (cols : List Column) wh
 
 module _ (asked : Asked) (t : Treatment) (empty : Empty) (head : List (List ℕ)) (below : List (List (List ℕ)))
   where
-    pub no_fault_is_table : fault_of_table asked t empty head below ≡ None → IsCounted asked t empty head below
+    pub no_fault_is_table : fault_of_table asked t empty head below ≡ None
+        → IsCounted asked t empty head below
     no_fault_is_table is =
         let rest = faults_below asked t empty (columns asked head) below in
         let all = none_placed 1 (head_fault asked head ∷ rest) is in
@@ -172,7 +174,10 @@ module _ (asked : Asked) (t : Treatment) (empty : Empty) (head : List (List ℕ)
         sound_rows asked t empty (columns asked head) (with_room (columns asked head) below)
         (All-tail IsNothing (head_fault asked head) rest all) in
         record {
-          table = record { names = names_of asked head; rows = rows_of asked empty (columns asked head) below };
+          table = record {
+            names = names_of asked head;
+            rows = rows_of asked empty (columns asked head) below;
+          };
           is_table = record {
             head_sound = All-head IsNothing (head_fault asked head) rest all;
             rows_sound = rows.0;
@@ -183,7 +188,8 @@ module _ (asked : Asked) (t : Treatment) (empty : Empty) (head : List (List ℕ)
           ranked = rows.1.1;
         }
 
-    pub table_has_no_fault : IsCounted asked t empty head below → fault_of_table asked t empty head below ≡ None
+    pub table_has_no_fault : IsCounted asked t empty head below
+        → fault_of_table asked t empty head below ≡ None
     table_has_no_fault is =
         let rest = faults_below asked t empty (columns asked head) below in
         placed_none 1 (head_fault asked head ∷ rest)

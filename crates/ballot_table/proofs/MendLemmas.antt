@@ -13,7 +13,8 @@ use Rattle.ballot_table.specs.declared.empty.Empty.TheVariants.{Refuse, Keep, Dr
 use Rattle.ballot_table.specs.Asked.{Asked}
 use Rattle.ballot_table.specs.Faults.{Fault, first_fault}
 use Rattle.ballot_table.specs.Head.{columns}
-use Rattle.ballot_table.specs.Rows.{Row, all_blank, is_dropped, cells_of, length_fault, empty_fault, row_fault}
+use Rattle.ballot_table.specs.Rows.{Row, all_blank, is_dropped, cells_of, length_fault, empty_fault}
+use Rattle.ballot_table.specs.Rows.{row_fault}
 use Rattle.ballot_table.specs.Rows.{ballots_in, said_in, marks_of, row_of, with_room}
 use Rattle.ballot_table.specs.Table.{Table, IsTable, plain_of, ballots}
 use Rattle.ballot_table.proofs.BallotsLemmas.{joined, parted, mapped}
@@ -26,7 +27,8 @@ not_blank :
 not_blank true cells is = absurd (cc is)
 not_blank false cells is = (refl, is)
 
-not_dropped : (empty : Empty) (texts : List (List ℕ)) → all_blank texts ≡ false → is_dropped empty texts ≡ false
+not_dropped : (empty : Empty) (texts : List (List ℕ)) → all_blank texts ≡ false
+    → is_dropped empty texts ≡ false
 not_dropped Refuse texts is = refl
 not_dropped Keep texts is = refl
 not_dropped Drop texts is = is

@@ -74,7 +74,10 @@ mark_fault asked treatment room columns texts =
     let js = judged treatment (marks_of said) in
     let rank = option_map_or (λ s. s.0) (slice_get said (length (effective js))) 0 in
     option_map
-    (λ reason. record { kind = kind_of reason; place = refused_column asked.layout columns cells rank reason })
+    (λ reason. record {
+      kind = kind_of reason;
+      place = refused_column asked.layout columns cells rank reason;
+    })
     (reason_of (end_way js))
 
 -- the first fault of a row: of its form, or else of its marks, if it isn't dropped

@@ -51,10 +51,11 @@ faults_of asked head rows = row_faults asked Refuse (columns asked (texts_of hea
 abbrev pub ann_ben_cid : List (List ℕ)
 ann_ben_cid = codes "Ann" ∷ codes "Ben" ∷ codes "Cid" ∷ []
 
--- one row for each of its cells
+-- a row of three cells
 abbrev pub row3 : List ℕ → List ℕ → List ℕ → List (List ℕ)
 row3 a b c = a ∷ b ∷ c ∷ []
 
+-- heads with and without a fault
 pub record WorkedHeads : Type 0 where
   pub sound : head_fault (plainly Ranks) ann_ben_cid ≡ None
   pub no_name : head_fault (plainly Ranks) (codes "Ann" ∷ [] ∷ codes "Cid" ∷ []) ≡ fault NameExpected 2
@@ -74,10 +75,11 @@ pub record WorkedHeads : Type 0 where
       names_of (record (plainly Ranks) { bracketed = true })
       (codes "Your vote [1 to 2], please [Ben, jr]" ∷ []) ≡ codes "Ben, jr" ∷ []
 
+-- rows, and the ballots that they stand for
 pub record WorkedRows : Type 0 where
   pub ranks :
-      ballots_under strict Refuse (plainly Ranks) ann_ben_cid (row3 (codes "1") (codes "2") (codes "3") ∷ row3 [] (codes "1") []
-      ∷ row3 (codes "2") [] (codes "1") ∷ [])
+      ballots_under strict Refuse (plainly Ranks) ann_ben_cid
+      (row3 (codes "1") (codes "2") (codes "3") ∷ row3 [] (codes "1") [] ∷ row3 (codes "2") [] (codes "1") ∷ [])
       ≡ Some ((1 ∷ 2 ∷ 3 ∷ []) ∷ (2 ∷ []) ∷ (3 ∷ 1 ∷ []) ∷ [])
   pub shorter : faults_of (plainly Ranks) ann_ben_cid ((codes "1" ∷ []) ∷ []) ≡ fault UnequalRow 2 ∷ []
   pub no_rank :
@@ -149,16 +151,19 @@ refusal_under treatment empty asked head rows =
 abbrev pub at_row : ℕ → TableKind → ℕ → Option TableFault
 at_row row kind place = Some (record { row = row; fault = record { kind = kind; place = place } })
 
+-- tables that are refused, at row and column
 pub record WorkedRefusals : Type 0 where
   pub equal_ranks :
-      refusal_under strict Refuse (plainly Ranks) four ((codes "1" ∷ codes "2" ∷ codes "2" ∷ codes "3" ∷ []) ∷ [])
+      refusal_under strict Refuse (plainly Ranks) four
+      ((codes "1" ∷ codes "2" ∷ codes "2" ∷ codes "3" ∷ []) ∷ [])
       ≡ at_row 2 EqualRank 3
   pub behind_a_passed_rank :
       refusal_under (record strict { equal = Pass }) Refuse (plainly Ranks) four
       ((codes "1" ∷ codes "2" ∷ codes "2" ∷ codes "4" ∷ []) ∷ [])
       ≡ at_row 2 SkippedRank 4
   pub skipped_rank :
-      refusal_under strict Refuse (plainly Ranks) ann_ben_cid (row3 (codes "1") (codes "3") [] ∷ []) ≡ at_row 2 SkippedRank 2
+      refusal_under strict Refuse (plainly Ranks) ann_ben_cid (row3 (codes "1") (codes "3") [] ∷ [])
+      ≡ at_row 2 SkippedRank 2
   pub repeated :
       refusal_under strict Refuse (record (plainly Choices) { candidates = ann_ben_cid })
       (codes "r1" ∷ codes "r2" ∷ codes "r3" ∷ []) (row3 (codes "Ben") (codes "Ben") (codes "Ann") ∷ [])
@@ -170,16 +175,19 @@ pub record WorkedRefusals : Type 0 where
       (row3 (codes "Ben") (codes "Ben") (codes "Ann") ∷ row3 (codes "Cid") [] [] ∷ row3 [] [] [] ∷ [])
       ≡ at_row 4 EmptyRow 1
   pub no_candidate :
-      refusal_under strict Refuse (record (plainly Choices) { candidates = ann_ben_cid }) (codes "r1" ∷ codes "r2" ∷ [])
+      refusal_under strict Refuse (record (plainly Choices) { candidates = ann_ben_cid })
+      (codes "r1" ∷ codes "r2" ∷ [])
       ((codes "Ann" ∷ codes "ben" ∷ []) ∷ [])
       ≡ at_row 2 NoSuchCandidate 2
   pub too_many :
-      refusal_under strict Refuse (record (plainly Ranks) { labels = codes "n" ∷ []; weight = Some (codes "n") })
+      refusal_under strict Refuse
+      (record (plainly Ranks) { labels = codes "n" ∷ []; weight = Some (codes "n") })
       (codes "n" ∷ codes "Ann" ∷ [])
       ((codes "999999999" ∷ codes "1" ∷ []) ∷ (codes "1" ∷ codes "1" ∷ []) ∷ [])
       ≡ at_row 3 TooManyBallots 1
   pub no_weight :
-      refusal_under strict Refuse (record (plainly Ranks) { labels = codes "n" ∷ []; weight = Some (codes "n") })
+      refusal_under strict Refuse
+      (record (plainly Ranks) { labels = codes "n" ∷ []; weight = Some (codes "n") })
       (codes "n" ∷ codes "Ann" ∷ []) (([] ∷ codes "1" ∷ []) ∷ [])
       ≡ at_row 2 BadWeight 1
   pub short_blank_row :

@@ -11,8 +11,8 @@ pub fn rows_have_no_order()
     ensures { RowsHaveNoOrder }
 {}
 
-/// What is accepted where whatever is not plain is refused, rows of blank fields too, is the same table of the
-/// same ballots under any treatment.
+/// What is accepted where whatever is not plain is refused, rows of blank fields too, is the same table of
+/// the same ballots under any treatment.
 pub fn tables_are_only_mended()
     ensures { TreatmentsOnlyMend }
 {
