@@ -1,5 +1,5 @@
 -- Tables worked by hand.
-use Rattle.std.specs.Prelude.{◌≡◌, ℕ, false, true, List, [], ◌∷◌, map, Option, Some, None, codes}
+use Rattle.std.specs.Prelude.{◌≡◌, ℕ, false, true, List, [], ◌∷◌, map, replicate, Option, Some, None, codes}
 use Rattle.ballot_marks.specs.declared.choice.Treat.TheVariants.{Cut, Pass}
 use Rattle.ballot_marks.specs.declared.treatment.Treatment.{Treatment}
 use Rattle.ballot_marks.specs.Laws.{strict}
@@ -8,8 +8,8 @@ use Rattle.ballot_table.specs.declared.layout.Layout.TheVariants.{Ranks, Choices
 use Rattle.ballot_table.specs.declared.empty.Empty.{Empty}
 use Rattle.ballot_table.specs.declared.empty.Empty.TheVariants.{Refuse, Keep, Drop}
 use Rattle.ballot_table.specs.declared.table_kind.TableKind.{TableKind}
-use Rattle.ballot_table.specs.declared.table_kind.TableKind.TheVariants.{NoColumn, RepeatedColumn}
-use Rattle.ballot_table.specs.declared.table_kind.TableKind.TheVariants.{ColumnExpected, NameExpected}
+use Rattle.ballot_table.specs.declared.table_kind.TableKind.TheVariants.{NoColumn, RepeatedColumn, TooManyColumns}
+use Rattle.ballot_table.specs.declared.table_kind.TableKind.TheVariants.{ColumnExpected, NameExpected, TooLongName}
 use Rattle.ballot_table.specs.declared.table_kind.TableKind.TheVariants.{BadName, BadWithdrawn, BadRank}
 use Rattle.ballot_table.specs.declared.table_kind.TableKind.TheVariants.{BadWeight, TooManyBallots}
 use Rattle.ballot_table.specs.declared.table_kind.TableKind.TheVariants.{UnequalRow, EmptyRow}
@@ -71,6 +71,13 @@ pub record WorkedHeads : Type 0 where
   pub withdrawn :
       head_fault (record (plainly Ranks) { withdrawn = 1 ∷ 3 ∷ [] }) (codes "Ann" ∷ codes "Ben" ∷ [])
       ≡ fault BadWithdrawn 2
+  pub same_label :
+      head_fault (record (plainly Ranks) { labels = codes "Id" ∷ [] })
+      (codes "Id" ∷ codes "Ann" ∷ codes "Id" ∷ [])
+      ≡ fault RepeatedColumn 3
+  pub further_column :
+      head_fault (plainly Lists) (codes "Order" ∷ codes "Again" ∷ []) ≡ fault TooManyColumns 2
+  pub long_name : head_fault (plainly Ranks) (codes "Ann" ∷ replicate 201 65 ∷ []) ≡ fault TooLongName 2
   pub in_brackets :
       names_of (record (plainly Ranks) { bracketed = true })
       (codes "Your vote [1 to 2], please [Ben, jr]" ∷ []) ≡ codes "Ben, jr" ∷ []
@@ -90,6 +97,29 @@ pub record WorkedRows : Type 0 where
       (record (plainly Choices) { candidates = ann_ben_cid })
       (codes "r1" ∷ codes "r2" ∷ codes "r3" ∷ []) (row3 (codes "Ben") (codes "Ben") (codes "Ann") ∷ [])
       ≡ Some ((2 ∷ 1 ∷ []) ∷ [])
+  pub closed :
+      ballots_under (record strict { skipped = Some 250 }) Refuse (plainly Ranks) ann_ben_cid
+      (row3 (codes "5") (codes "3") [] ∷ [])
+      ≡ Some ((2 ∷ 1 ∷ []) ∷ [])
+  pub one_closed :
+      ballots_under (record strict { skipped = Some 1 }) Refuse (plainly Ranks) ann_ben_cid
+      (row3 (codes "5") (codes "2") [] ∷ [])
+      ≡ Some ((2 ∷ []) ∷ [])
+  pub none_closed :
+      ballots_under (record strict { skipped = Some 0 }) Refuse (plainly Ranks) ann_ben_cid
+      (row3 (codes "5") (codes "2") [] ∷ [])
+      ≡ Some ([] ∷ [])
+  pub cut_again :
+      ballots_under (record strict { repeated = Cut }) Refuse
+      (record (plainly Choices) { candidates = ann_ben_cid })
+      (codes "r1" ∷ codes "r2" ∷ codes "r3" ∷ []) (row3 (codes "Ben") (codes "Ben") (codes "Ann") ∷ [])
+      ≡ Some ((2 ∷ []) ∷ [])
+  pub dropped_weight :
+      ballots_under strict Drop
+      (record (plainly Ranks) { labels = codes "n" ∷ []; weight = Some (codes "n") })
+      (codes "n" ∷ codes "Ann" ∷ codes "Ben" ∷ [])
+      (row3 (codes "2") (codes "1") [] ∷ row3 [] [] [] ∷ row3 (codes "1") [] (codes "1") ∷ [])
+      ≡ Some ((1 ∷ []) ∷ (1 ∷ []) ∷ (2 ∷ []) ∷ [])
   pub weights :
       ballots_under (record strict { skipped = Some 9; equal = Cut }) Refuse
       (record (plainly Ranks) { labels = codes "n" ∷ []; weight = Some (codes "n") })

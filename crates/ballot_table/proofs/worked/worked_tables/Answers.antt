@@ -10,6 +10,9 @@ returns-clause-heads c = record {
   missing = refl;
   only_labels = refl;
   withdrawn = refl;
+  same_label = refl;
+  further_column = refl;
+  long_name = refl;
   in_brackets = refl;
 }
 
@@ -19,6 +22,11 @@ returns-clause-rows c = record {
   shorter = refl;
   no_rank = refl;
   choices = refl;
+  closed = refl;
+  one_closed = refl;
+  none_closed = refl;
+  cut_again = refl;
+  dropped_weight = refl;
   weights = refl;
   words = refl;
   ranks_in_words = refl;
