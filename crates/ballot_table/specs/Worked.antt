@@ -8,8 +8,9 @@ use Rattle.ballot_table.specs.declared.layout.Layout.TheVariants.{Ranks, Choices
 use Rattle.ballot_table.specs.declared.empty.Empty.{Empty}
 use Rattle.ballot_table.specs.declared.empty.Empty.TheVariants.{Refuse, Keep, Drop}
 use Rattle.ballot_table.specs.declared.table_kind.TableKind.{TableKind}
-use Rattle.ballot_table.specs.declared.table_kind.TableKind.TheVariants.{NoColumn, RepeatedColumn, TooManyColumns}
-use Rattle.ballot_table.specs.declared.table_kind.TableKind.TheVariants.{ColumnExpected, NameExpected, TooLongName}
+use Rattle.ballot_table.specs.declared.table_kind.TableKind.TheVariants.{NoColumn, RepeatedColumn}
+use Rattle.ballot_table.specs.declared.table_kind.TableKind.TheVariants.{ColumnExpected, NameExpected}
+use Rattle.ballot_table.specs.declared.table_kind.TableKind.TheVariants.{TooManyColumns, TooLongName}
 use Rattle.ballot_table.specs.declared.table_kind.TableKind.TheVariants.{BadName, BadWithdrawn, BadRank}
 use Rattle.ballot_table.specs.declared.table_kind.TableKind.TheVariants.{BadWeight, TooManyBallots}
 use Rattle.ballot_table.specs.declared.table_kind.TableKind.TheVariants.{UnequalRow, EmptyRow}
@@ -86,7 +87,8 @@ pub record WorkedHeads : Type 0 where
 pub record WorkedRows : Type 0 where
   pub ranks :
       ballots_under strict Refuse (plainly Ranks) ann_ben_cid
-      (row3 (codes "1") (codes "2") (codes "3") ∷ row3 [] (codes "1") [] ∷ row3 (codes "2") [] (codes "1") ∷ [])
+      (row3 (codes "1") (codes "2") (codes "3") ∷ row3 [] (codes "1") []
+      ∷ row3 (codes "2") [] (codes "1") ∷ [])
       ≡ Some ((1 ∷ 2 ∷ 3 ∷ []) ∷ (2 ∷ []) ∷ (3 ∷ 1 ∷ []) ∷ [])
   pub shorter : faults_of (plainly Ranks) ann_ben_cid ((codes "1" ∷ []) ∷ []) ≡ fault UnequalRow 2 ∷ []
   pub no_rank :
