@@ -14,6 +14,8 @@ mod entry_lists;
 #[cfg(test)]
 mod history;
 #[cfg(test)]
+mod long_day;
+#[cfg(test)]
 mod marks;
 #[cfg(test)]
 mod register;

@@ -2,6 +2,7 @@
 ghost use Rattle.std.specs.Prelude.{◌≡◌};
 ghost use Rattle.call_register.specs.Marks.{MayMark};
 
+use batch_core::Reply;
 use call_register::{Mark, NoMemory, Register};
 
 /// Makes room for a mark and adds it.
@@ -54,6 +55,15 @@ fn a_struck_candidate_is_listed_once(rt: HostRuntime) -> Result<(), NoMemory> {
         },
     )?;
     assert_eq!(rt; register.struck(), [3, 1].as_slice());
+    let replies = [
+        register.strike_reply(1),
+        register.strike_reply(2),
+        register.strike_reply(3),
+    ];
+    assert_eq!(rt;
+        replies,
+        [Reply::AlreadyStruck, Reply::Struck, Reply::AlreadyStruck]
+    );
     assert_eq!(rt; (register.booked(1), register.marks().len()), (0, 3));
     Ok(())
 }

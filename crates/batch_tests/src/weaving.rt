@@ -98,7 +98,7 @@ fn woven_strikes(alloc: Global) -> Result<History, Fail> {
 
 /// The caller of an entry, the batch that it changes or 0, the candidate whom it strikes or 0, and the
 /// reply. A freeze neither changes a batch nor strikes anybody.
-fn row(entry: &Entry) -> (u32, u32, u32, Reply) {
+pub(crate) fn row(entry: &Entry) -> (u32, u32, u32, Reply) {
     let (batch, struck) = match &entry.call {
         Call::Change(change) => (change.batch(), 0),
         Call::Strike(candidate) => (0, *candidate),
