@@ -1,5 +1,7 @@
 // Tests of tally_board: scribe.
-ghost use Rattle.std.specs.Prelude.{◌≡◌, [], length};
+ghost use Rattle.std.specs.Prelude.{◌≡◌, ◌++◌, [], length};
+ghost use Rattle.tally_board.specs.Begins.{Begins};
+ghost use Rattle.tally_board.specs.Told.{front};
 
 use std::alloc::Global;
 use std::sync::Wait;
@@ -202,5 +204,34 @@ fn boards_are_apart(rt: HostRuntime) -> Result<(), Fail> {
     };
     scribe.close(&rt);
     assert_eq!(rt; (seen, other?), ((2, 0), (1, 0)));
+    Ok(())
+}
+
+// What a watcher reads: totals after moves that the scribe took, but for the last of them.
+fn read_taken(scribe: &mut Scribe, watcher: &mut Watcher, totals: &mut Totals) -> bool
+    requires board { watcher.old.board ≡ scribe.old.board }
+    requires length { length totals.old ≡ watcher.old.candidates }
+    ensures scribe { scribe.new ≡ scribe.old }
+    ensures taken { Begins (front watcher.new.seen) (scribe.old.published ++ scribe.old.pending) }
+{
+    let is_read = watcher.read(totals).is_ok();
+    scribe.vouch_for(watcher);
+    is_read
+}
+
+#[test]
+fn a_scribe_vouches_for_a_watcher(rt: HostRuntime) -> Result<(), Fail> {
+    let mut totals = Totals::filled(rt.alloc(), 1, 7)?;
+    let (mut scribe, mut watchers) = open_board(&rt, rt.alloc(), 1, 1)?;
+    publish_one(&rt, &mut scribe);
+    let is_read = match watchers.pop() {
+        Some(mut watcher) => read_taken(&mut scribe, &mut watcher, &mut totals),
+        None => false,
+    };
+    publish_one(&rt, &mut scribe);
+    let shown = first_of(scribe.totals());
+    scribe.close(&rt);
+    assert!(rt; is_read);
+    assert_eq!(rt; (first_of(&totals), shown), (1, 2));
     Ok(())
 }
