@@ -1,5 +1,6 @@
 // Whole runs over memory: sheets worked by hand, and texts that are none.
 mod order;
+mod rounds;
 mod ties;
 mod transfer;
 
