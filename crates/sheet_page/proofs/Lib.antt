@@ -2,6 +2,8 @@ mod Pens
 mod Printing
 mod Marks
 mod Peaks
+mod RoundPlaces
+mod RisingRounds
 mod Nesting
 mod Owing
 mod WordLemmas

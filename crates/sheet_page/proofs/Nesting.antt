@@ -1,6 +1,6 @@
 -- Pages have well named elements, so they nest.
-use Rattle.std.proofs.Common.{◌≡◌, refl, ℕ, List, [], ◌∷◌, Bool, true, false, length, arith}
-use Rattle.std.specs.Prelude.{◌&&◌, not, if◌then◌else◌, codes, nat_eq}
+use Rattle.std.proofs.Common.{◌≡◌, refl, ℕ, ◌+◌, List, [], ◌∷◌, Bool, true, false, length, arith}
+use Rattle.std.specs.Prelude.{◌&&◌, not, if◌then◌else◌, codes}
 use Rattle.std.specs.List.{list_all}
 use Rattle.std.proofs.lemmas.Bool.{and_parts}
 use Rattle.std.proofs.lemmas.List.Elements.{All-nil, All-cons}
@@ -12,6 +12,7 @@ use Rattle.sheet_reader.specs.Values.{SheetList}
 use Rattle.sheet_page.specs.Trees.{all, at, each, el}
 use Rattle.sheet_page.specs.Values.{places, name_at, row_at}
 use Rattle.sheet_page.specs.RoundEnds.{ends_round}
+use Rattle.sheet_page.specs.Stretches.{is_of_round}
 use Rattle.sheet_page.specs.Picture.{scaled, bar, quota_line, picture_title, picture_attributes, picture}
 use Rattle.sheet_page.specs.Picture.{amounts_of, round_picture, full_of}
 use Rattle.sheet_page.specs.Iterations.{standing_at, iteration_head, iteration, iteration_at, columns}
@@ -175,9 +176,9 @@ picture_tested v full row = tested_all (amounts_of v.ballots row ∷ picture v f
         ∷ quota_line (scaled full row.quota) (length v.names) ∷ []) refl refl refl
         (refl, (tested_each (bar v full row) (places (length v.names)) (λ p. refl), (refl, tt)))
 
-folded_tested : (v : SheetList) (round : ℕ) → tested (folded v round) ≡ true
-folded_tested v round =
-    tested_el (codes "details") [] (summary round ∷ iterations v round ∷ []) refl refl refl
+folded_tested : (v : SheetList) (last : ℕ) → tested (folded v last) ≡ true
+folded_tested v last =
+    tested_el (codes "details") [] (summary (row_at v.rows last).round ∷ iterations v last ∷ []) refl refl refl
     (refl, (table, tt))
   where
     one : (row : Row) → tested (iteration v row) ≡ true
@@ -186,14 +187,13 @@ folded_tested v round =
         (iteration_head row ∷ each (standing_at v row) (places (length v.names)) ∷ []) refl refl refl
         (refl, (tested_each (standing_at v row) (places (length v.names)) (λ p. refl), tt))
 
-    table : tested (iterations v round) ≡ true
+    table : tested (iterations v last) ≡ true
     table =
-        tested_el (codes "table") [] (columns ∷ each (iteration_at v round) (places (length v.rows)) ∷ []) refl refl refl (
+        tested_el (codes "table") [] (columns ∷ each (iteration_at v last) (places (last + 1)) ∷ []) refl refl refl (
           refl,
           (
-            tested_each (iteration_at v round) (places (length v.rows))
-                (λ i. tested_if (nat_eq (row_at v.rows i).round round) (iteration v (row_at v.rows i))
-                (one (row_at v.rows i))),
+            tested_each (iteration_at v last) (places (last + 1))
+                (λ i. tested_if (is_of_round v.rows last i) (iteration v (row_at v.rows i)) (one (row_at v.rows i))),
             tt,
           ),
         )
@@ -201,13 +201,14 @@ folded_tested v round =
 parts_tested : (v : SheetList) (full : ℕ) → tested (round_parts v full) ≡ true
 parts_tested v full =
     tested_each (part_at v full) (places (length v.rows))
-    (λ i. tested_if (ends_round v.rows i) (round_part v full (row_at v.rows i)) (part (row_at v.rows i)))
+    (λ i. tested_if (ends_round v.rows i) (round_part v full i) (part i))
   where
-    part : (row : Row) → tested (round_part v full row) ≡ true
-    part row =
+    part : (last : ℕ) → tested (round_part v full last) ≡ true
+    part last =
+        let row = row_at v.rows last in
         tested_el (codes "section") []
-        (round_title row.round ∷ round_picture v full row ∷ folded v row.round ∷ []) refl refl refl
-        (refl, (picture_tested v full row, (folded_tested v row.round, tt)))
+        (round_title row.round ∷ round_picture v full row ∷ folded v last ∷ []) refl refl refl
+        (refl, (picture_tested v full row, (folded_tested v last, tt)))
 
 -- every page
 pub well_named : (v : SheetList) → IsWellNamed (page v)

@@ -115,12 +115,16 @@ rounds_part v = el (codes "section") [] (rounds_title ∷ rounds_table v ∷ [])
 abbrev pub round_title : (round : ℕ) → Trees
 round_title round = el (codes "h2") [] (words (codes "Round ") ∷ words (decimal round) ∷ [])
 
-abbrev pub round_part : SheetList → (full : ℕ) → Row → Trees
-round_part v full row = el (codes "section") [] (round_title row.round ∷ round_picture v full row ∷ folded v row.round ∷ [])
+-- the part of the round that ends at a place
+abbrev pub round_part : SheetList → (full last : ℕ) → Trees
+round_part v full last =
+    el (codes "section") [] (
+    round_title (row_at v.rows last).round ∷ round_picture v full (row_at v.rows last) ∷ folded v last ∷ []
+    )
 
 -- the part of a round, if it ends at this place
 abbrev pub part_at : SheetList → (full i : ℕ) → Trees
-part_at v full i = if ends_round v.rows i then round_part v full (row_at v.rows i) else Nothing
+part_at v full i = if ends_round v.rows i then round_part v full i else Nothing
 
 abbrev pub round_parts : SheetList → (full : ℕ) → Trees
 round_parts v full = each (part_at v full) (places (length v.rows))

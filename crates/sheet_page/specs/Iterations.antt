@@ -1,11 +1,12 @@
 -- The iterations of a round, folded away.
-use Rattle.std.specs.Prelude.{ℕ, List, if◌then◌else◌, [], ◌∷◌, length, codes, decimal, nat_eq, slice_index}
+use Rattle.std.specs.Prelude.{ℕ, ◌+◌, List, if◌then◌else◌, [], ◌∷◌, length, codes, decimal, slice_index}
 use Rattle.candidate_roll.specs.State.{state_at}
 use Rattle.fixed_place.specs.Text.{text_of}
 use Rattle.meek_rule.specs.Row.{Row}
 use Rattle.page_tree.specs.Trees.{Trees, Nothing}
 use Rattle.sheet_text.specs.Lines.{state_word}
 use Rattle.sheet_reader.specs.Values.{SheetList}
+use Rattle.sheet_page.specs.Stretches.{is_of_round}
 use Rattle.sheet_page.specs.Trees.{each, el, words, at}
 use Rattle.sheet_page.specs.Values.{places, name_at, row_at, step_word}
 
@@ -39,10 +40,9 @@ abbrev pub iteration : SheetList → Row → Trees
 iteration v row =
     el (codes "tbody") [] (iteration_head row ∷ each (standing_at v row) (places (length v.names)) ∷ [])
 
--- the iteration at a place, if it is of this round
-abbrev pub iteration_at : SheetList → (round i : ℕ) → Trees
-iteration_at v round i =
-    if nat_eq (row_at v.rows i).round round then iteration v (row_at v.rows i) else Nothing
+-- the iteration at a place, if it is of the round that ends at the last
+abbrev pub iteration_at : SheetList → (last i : ℕ) → Trees
+iteration_at v last i = if is_of_round v.rows last i then iteration v (row_at v.rows i) else Nothing
 
 abbrev pub columns : Trees
 columns =
@@ -51,12 +51,12 @@ columns =
     ∷ el (codes "th") [] (words (codes "Keep value") ∷ []) ∷ el (codes "th") [] (words (codes "Vote") ∷ []) ∷ []
     )
 
-abbrev pub iterations : SheetList → (round : ℕ) → Trees
-iterations v round =
-    el (codes "table") [] (columns ∷ each (iteration_at v round) (places (length v.rows)) ∷ [])
+-- the iterations of the round that ends at a place
+abbrev pub iterations : SheetList → (last : ℕ) → Trees
+iterations v last = el (codes "table") [] (columns ∷ each (iteration_at v last) (places (last + 1)) ∷ [])
 
 abbrev pub summary : (round : ℕ) → Trees
 summary round = el (codes "summary") [] (words (codes "Iterations of round ") ∷ words (decimal round) ∷ [])
 
-abbrev pub folded : SheetList → (round : ℕ) → Trees
-folded v round = el (codes "details") [] (summary round ∷ iterations v round ∷ [])
+abbrev pub folded : SheetList → (last : ℕ) → Trees
+folded v last = el (codes "details") [] (summary (row_at v.rows last).round ∷ iterations v last ∷ [])

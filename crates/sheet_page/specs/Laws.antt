@@ -1,6 +1,7 @@
--- What holds of every page, of every table and of every string of JSON.
-use Rattle.std.specs.Prelude.{◌≡◌, ◌↔◌, ◌⊎◌, ℕ, List, true, [], ◌++◌, Some, None}
+-- What holds of every page, of every round, of every table and of every string of JSON.
+use Rattle.std.specs.Prelude.{◌≡◌, ◌↔◌, ◌⊎◌, ℕ, ◌+◌, ◌<◌, ◌≤◌, List, true, [], ◌++◌, length, Some, None}
 use Rattle.csv_text.specs.Reading.{read, Outside}
+use Rattle.meek_rule.specs.Row.{Row}
 use Rattle.page_tree.specs.Print.{printed, readable}
 use Rattle.page_tree.specs.Reading.{nests}
 use Rattle.sheet_reader.specs.Form.{IsPrintable}
@@ -9,10 +10,25 @@ use Rattle.sheet_page.specs.Csv.{csv_of, csv_records}
 use Rattle.sheet_page.specs.Html.{page}
 use Rattle.sheet_page.specs.JsonReading.{read_string}
 use Rattle.sheet_page.specs.JsonText.{string_text}
+use Rattle.sheet_page.specs.RoundEnds.{ends_round}
+use Rattle.sheet_page.specs.Stretches.{is_of_round}
+use Rattle.sheet_page.specs.Values.{row_at}
 
 -- elements nest, and each is closed
 abbrev pub PagesNest : Type 0
 PagesNest = (v : SheetList) → nests (Some []) None (printed (page v)) ≡ true
+
+-- ---- the iterations of a round
+
+-- the round numbers of iterations never fall, as in every count
+abbrev pub NeverFall : List Row → Type 0
+NeverFall rows = (i : ℕ) → i + 1 < length rows → (row_at rows i).round ≤ (row_at rows (i + 1)).round
+
+-- Where they never fall, the iterations of the round that ends at the last one are all that have its number.
+abbrev pub RisingRoundsAreWhole : Type 0
+RisingRoundsAreWhole =
+    (rows : List Row) (last i : ℕ) → NeverFall rows → last < length rows → ends_round rows last ≡ true → i < length rows
+    → ((i ≤ last) × (is_of_round rows last i ≡ true)) ↔ ((row_at rows i).round ≡ (row_at rows last).round)
 
 -- ---- tables
 

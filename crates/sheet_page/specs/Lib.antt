@@ -10,6 +10,7 @@ pub mod Words
 pub mod Trees
 pub mod Style
 pub mod RoundEnds
+pub mod Stretches
 pub mod Picture
 pub mod Iterations
 pub mod Html

@@ -1,30 +1,34 @@
 // The iterations of a round, folded away.
-ghost use Rattle.std.specs.Prelude.{◌≡◌, ◌<◌, ◌≤◌, length, nat_eq};
+ghost use Rattle.std.specs.Prelude.{◌+◌, ◌<◌, length};
 ghost use Rattle.meek_rule.specs.Row.{HasRoomFor};
 ghost use Rattle.page_tree.specs.Print.{printed};
 ghost use Rattle.sheet_reader.specs.Form.{IsPrintable};
 ghost use Rattle.sheet_page.specs.Iterations.{columns, folded, iteration, iteration_at, iteration_head, iteration_line, iterations, standing, standing_at, summary};
 ghost use Rattle.sheet_page.specs.Prints.{Prints};
 ghost use Rattle.sheet_page.specs.Trees.{print_each};
-ghost use Rattle.sheet_page.specs.Values.{places};
+ghost use Rattle.sheet_page.specs.Values.{places, row_at};
 
 use crate::cell::Cell;
 use crate::pen::Pen;
 use crate::piece::Piece;
+use crate::stretches::first_of;
 use crate::values::{kept_of_one, state_word, step_word};
 use byte_edge::Sink;
 use fixed_place::Amount;
 use meek_rule::Row;
 use sheet_reader::SheetValues;
 
-pub(crate) fn write_folded<K: Sink>(pen: &mut Pen, values: &SheetValues, round: u32, sink: &mut K)
+/// The iterations of the round that ends at a place.
+pub(crate) fn write_folded<K: Sink>(pen: &mut Pen, values: &SheetValues, last: usize, sink: &mut K)
     requires printable { IsPrintable 9 values.now }
+    requires place { last < length values.now.rows }
     ensures { Prints K.written K.faults pen.old.done sink.old pen.new.done sink.new
-        (printed (folded values.now round)) }
+        (printed (folded values.now last)) }
 {
+    let row = values.rows.get(last);
     pen.open(b"details", sink);
-    write_summary(pen, round, sink);
-    write_iterations(pen, values, round, sink);
+    write_summary(pen, row.round, sink);
+    write_iterations(pen, values, last, sink);
     pen.close(b"details", sink);
 }
 
@@ -43,14 +47,15 @@ fn write_summary<K: Sink>(pen: &mut Pen, round: u32, sink: &mut K)
     );
 }
 
-fn write_iterations<K: Sink>(pen: &mut Pen, values: &SheetValues, round: u32, sink: &mut K)
+fn write_iterations<K: Sink>(pen: &mut Pen, values: &SheetValues, last: usize, sink: &mut K)
     requires printable { IsPrintable 9 values.now }
+    requires place { last < length values.now.rows }
     ensures { Prints K.written K.faults pen.old.done sink.old pen.new.done sink.new
-        (printed (iterations values.now round)) }
+        (printed (iterations values.now last)) }
 {
     pen.open(b"table", sink);
     write_columns(pen, sink);
-    write_iterations_of(pen, values, round, sink);
+    write_iterations_of(pen, values, last, sink);
     pen.close(b"table", sink);
 }
 
@@ -79,33 +84,25 @@ fn write_columns<K: Sink>(pen: &mut Pen, sink: &mut K)
     );
 }
 
-fn write_iterations_of<K: Sink>(pen: &mut Pen, values: &SheetValues, round: u32, sink: &mut K)
+fn write_iterations_of<K: Sink>(pen: &mut Pen, values: &SheetValues, last: usize, sink: &mut K)
     requires printable { IsPrintable 9 values.now }
+    requires place { last < length values.now.rows }
     ensures { Prints K.written K.faults pen.old.done sink.old pen.new.done sink.new
-        (print_each (iteration_at values.now round) (places (length values.now.rows))) }
+        (print_each (iteration_at values.now last) (places (last + 1))) }
 {
-    for i in 0..values.rows.len() {
-        write_iteration_at(pen, values, round, i, sink);
+    let first = first_of(values.rows.items(), last);
+    for i in first..last + 1 {
+        write_iteration_at(pen, values, i, sink);
     }
 }
 
-/// The iteration at a place, if it is of this round.
-fn write_iteration_at<K: Sink>(
-    pen: &mut Pen,
-    values: &SheetValues,
-    round: u32,
-    i: usize,
-    sink: &mut K,
-)
+fn write_iteration_at<K: Sink>(pen: &mut Pen, values: &SheetValues, i: usize, sink: &mut K)
     requires printable { IsPrintable 9 values.now }
     requires place { i < length values.now.rows }
     ensures { Prints K.written K.faults pen.old.done sink.old pen.new.done sink.new
-        (printed (iteration_at values.now round i)) }
+        (printed (iteration values.now (row_at values.now.rows i))) }
 {
-    let row = values.rows.get(i);
-    if is_of(row, round) {
-        write_iteration(pen, values, row, sink);
-    }
+    write_iteration(pen, values, values.rows.get(i), sink);
 }
 
 fn write_iteration<K: Sink>(pen: &mut Pen, values: &SheetValues, row: &Row<9>, sink: &mut K)
@@ -232,11 +229,4 @@ fn write_standing<'x, K: Sink>(
         ],
         sink,
     );
-}
-
-/// Whether an iteration is of this round.
-fn is_of(row: &Row<9>, round: u32) -> bool
-    ensures { result ≡ nat_eq row.now.round round }
-{
-    row.round == round
 }

@@ -1,5 +1,5 @@
-// What holds of every page, of every table and of every string of JSON.
-ghost use Rattle.sheet_page.specs.Laws.{PagesNest, StringsAreReadBack, TablesAreReadBack, TablesSayTheirSheets};
+// What holds of every page, of every round, of every table and of every string of JSON.
+ghost use Rattle.sheet_page.specs.Laws.{PagesNest, RisingRoundsAreWhole, StringsAreReadBack, TablesAreReadBack, TablesSayTheirSheets};
 
 use csv_text::csv_laws;
 use page_tree::page_laws;
@@ -10,6 +10,12 @@ pub fn pages_nest()
 {
     page_laws();
 }
+
+/// Where the numbers of rounds never fall, as in every count, the part of a round has all iterations of
+/// its number. The call does nothing.
+pub fn rising_rounds_are_whole()
+    ensures { RisingRoundsAreWhole }
+{}
 
 /// The table of a sheet is read back as its records, and these say every iteration as it was, with the
 /// names and the last states: sheets that differ in them have different tables. The call does nothing.

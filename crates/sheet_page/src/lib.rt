@@ -19,13 +19,14 @@ mod picture;
 mod piece;
 mod round_parts;
 mod rounds;
+mod stretches;
 mod tool;
 mod values;
 mod words;
 mod worked;
 
 pub use format::Format;
-pub use laws::{pages_nest, strings_are_read_back, tables_are_read_back};
+pub use laws::{pages_nest, rising_rounds_are_whole, strings_are_read_back, tables_are_read_back};
 pub use tool::page;
 pub use words::takes_format;
 pub use worked::worked_strings;

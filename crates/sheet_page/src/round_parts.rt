@@ -1,6 +1,5 @@
 // What a page shows of each round.
 ghost use Rattle.std.specs.Prelude.{◌≡◌, ◌<◌, length};
-ghost use Rattle.meek_rule.specs.Row.{HasRoomFor};
 ghost use Rattle.page_tree.specs.Print.{printed};
 ghost use Rattle.sheet_reader.specs.Form.{IsPrintable};
 ghost use Rattle.sheet_page.specs.Html.{part_at, round_part, round_title};
@@ -15,7 +14,6 @@ use crate::picture::write_round_picture;
 use crate::piece::Piece;
 use crate::rounds::ends_round;
 use byte_edge::Sink;
-use meek_rule::Row;
 use sheet_reader::SheetValues;
 
 /// Writes the part of each round; `full` units have the whole width of a picture.
@@ -42,26 +40,28 @@ fn write_part_at<K: Sink>(pen: &mut Pen, values: &SheetValues, full: u64, i: usi
         (printed (part_at values.now full i)) }
 {
     if ends_round(values.rows.items(), i) {
-        write_round_part(pen, values, full, values.rows.get(i), sink);
+        write_round_part(pen, values, full, i, sink);
     }
 }
 
+/// The part of the round that ends at a place.
 fn write_round_part<K: Sink>(
     pen: &mut Pen,
     values: &SheetValues,
     full: u64,
-    row: &Row<9>,
+    last: usize,
     sink: &mut K,
 )
     requires printable { IsPrintable 9 values.now }
-    requires room { HasRoomFor (length values.now.names) row.now }
+    requires place { last < length values.now.rows }
     ensures { Prints K.written K.faults pen.old.done sink.old pen.new.done sink.new
-        (printed (round_part values.now full row.now)) }
+        (printed (round_part values.now full last)) }
 {
+    let row = values.rows.get(last);
     pen.open(b"section", sink);
     write_title(pen, row.round, sink);
     write_round_picture(pen, values, full, row, sink);
-    write_folded(pen, values, row.round, sink);
+    write_folded(pen, values, last, sink);
     pen.close(b"section", sink);
 }
 

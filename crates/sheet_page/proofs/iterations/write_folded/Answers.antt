@@ -1,11 +1,23 @@
-use Rattle.std.proofs.Common.{[], ◌∷◌}
-use Rattle.std.specs.Prelude.{codes}
+use Rattle.std.proofs.Common.{◌≡◌, ◌∙◌, ap, sym, subst, [], ◌∷◌}
+use Rattle.std.specs.Prelude.{codes, Some, slice_get}
+use Rattle.std.proofs.lemmas.Option.{get_or_from_slice_get}
+use Rattle.meek_rule.specs.Row.{Row, blank}
+use Rattle.page_tree.specs.Print.{printed}
+use Rattle.sheet_reader.specs.Values.{SheetList}
 use Rattle.sheet_page.specs.Iterations.{iterations, summary}
+use Rattle.sheet_page.specs.Values.{row_at}
 use Rattle.sheet_page.proofs.Printing.{wrapped}
 use Rattle.sheet_page.proofs.Pens.{later, renamed}
 use Rattle.sheet_page.proofs.iterations.write_folded.Goals as goal
 
 pub returns : goal.returns
 returns g c =
-    renamed (wrapped (codes "details") [] (summary c.args.round ∷ iterations c.args.values.now c.args.round ∷ []))
-    (later c.open.ensures (later c.write_summary.ensures (later c.write_iterations.ensures c.close.ensures)))
+    let v = c.args.values.now in
+    let last = c.args.last in
+    let at =
+    subst (λ (w : SheetList). slice_get w.rows last ≡ Some c.get-row.result.now) c.values.view_is c.get-row.ensures in
+    let row = get_or_from_slice_get v.rows last c.get-row.result.now (blank 0) at in
+    let title = ap (λ (r : Row). printed (summary r.round)) (c.row.view_is ∙ sym row) in
+    renamed (wrapped (codes "details") [] (summary (row_at v.rows last).round ∷ iterations v last ∷ []))
+    (later c.open.ensures (later (renamed title c.write_summary.ensures)
+    (later c.write_iterations.ensures c.close.ensures)))

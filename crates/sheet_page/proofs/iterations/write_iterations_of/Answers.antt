@@ -1,12 +1,33 @@
+use Rattle.std.proofs.Common.{◌∙◌, ap, sym, Bool, List, arith}
+use Rattle.std.specs.Prelude.{if◌then◌else◌}
+use Rattle.meek_rule.specs.Row.{Row}
 use Rattle.page_tree.specs.Print.{printed}
-use Rattle.sheet_page.specs.Iterations.{iteration_at}
-use Rattle.sheet_page.proofs.Pens.{nothing, place_more}
+use Rattle.page_tree.specs.Trees.{Nothing}
+use Rattle.sheet_reader.specs.Values.{SheetList}
+use Rattle.sheet_page.specs.Values.{row_at}
+use Rattle.sheet_page.specs.Stretches.{is_of_round}
+use Rattle.sheet_page.specs.Iterations.{iteration, iteration_at}
+use Rattle.sheet_page.proofs.Pens.{nothing, place_more, renamed}
+use Rattle.sheet_page.proofs.RoundPlaces.{nothing_before}
 use Rattle.sheet_page.proofs.iterations.write_iterations_of.Goals as goal
 
 pub loop-i-init : goal.loop-i-init
-loop-i-init g c = nothing _ _ _ _
+loop-i-init g c =
+    let v = c.args.values.now in
+    let last = c.args.last in
+    let rows = c.items.ensures ∙ ap (λ (w : SheetList). w.rows) c.values.view_is in
+    renamed (sym (nothing_before (λ i. printed (iteration_at v last i)) c.first_of-first.result (λ i below.
+    let other = ap (λ (l : List Row). is_of_round l last i) (sym rows) ∙ c.first_of-first.ensures.before i below in
+    ap (λ (b : Bool). printed (if b then iteration v (row_at v.rows i) else Nothing)) other))) (nothing _ _ _ _)
 
 pub loop-i-preserved : goal.loop-i-preserved
 loop-i-preserved g c =
-    place_more (λ i. printed (iteration_at c.args.values.now c.args.round i)) c.loop-i.i c.loop-i.invariant
-    c.write_iteration_at.ensures
+    let v = c.args.values.now in
+    let last = c.args.last in
+    let i = c.loop-i.i in
+    let rows = c.items.ensures ∙ ap (λ (w : SheetList). w.rows) c.values.view_is in
+    let of = ap (λ (l : List Row). is_of_round l last i) (sym rows)
+    ∙ c.first_of-first.ensures.of_it i (omega arith) (omega arith) in
+    place_more (λ i. printed (iteration_at v last i)) i c.loop-i.invariant (renamed
+    (sym (ap (λ (b : Bool). printed (if b then iteration v (row_at v.rows i) else Nothing)) of))
+    c.write_iteration_at.ensures)

@@ -1,11 +1,9 @@
-use Rattle.std.proofs.Common.{◌≡◌, ◌∙◌, ap, sym, subst, Bool, List}
-use Rattle.std.specs.Prelude.{if◌then◌else◌, Some, slice_get}
-use Rattle.std.proofs.lemmas.Option.{get_or_from_slice_get}
-use Rattle.meek_rule.specs.Row.{Row, blank}
+use Rattle.std.proofs.Common.{◌∙◌, ap, sym, Bool, List}
+use Rattle.std.specs.Prelude.{if◌then◌else◌}
+use Rattle.meek_rule.specs.Row.{Row}
 use Rattle.page_tree.specs.Print.{printed}
 use Rattle.page_tree.specs.Trees.{Nothing}
 use Rattle.sheet_reader.specs.Values.{SheetList}
-use Rattle.sheet_page.specs.Values.{row_at}
 use Rattle.sheet_page.specs.RoundEnds.{ends_round}
 use Rattle.sheet_page.specs.Html.{round_part}
 use Rattle.sheet_page.proofs.Pens.{renamed}
@@ -17,9 +15,5 @@ returns-then-ends_round g c =
     let i = c.args.i in
     let rows = c.items.ensures ∙ ap (λ (w : SheetList). w.rows) c.values.view_is in
     let ends = ap (λ (l : List Row). ends_round l i) (sym rows) ∙ sym c.ends_round.ensures ∙ c.if-ends_round.true in
-    let at = subst (λ (w : SheetList). slice_get w.rows i ≡ Some c.get.result.now) c.values.view_is c.get.ensures in
-    let row = get_or_from_slice_get v.rows i c.get.result.now (blank 0) at in
-    renamed (ap (λ (r : Row). printed (round_part v c.args.full r)) (sym row)
-    ∙ sym
-    (ap (λ (b : Bool). printed (if b then round_part v c.args.full (row_at v.rows i) else Nothing)) ends))
+    renamed (sym (ap (λ (b : Bool). printed (if b then round_part v c.args.full i else Nothing)) ends))
     c.write_round_part.ensures

@@ -1,21 +1,28 @@
-use Rattle.std.proofs.Common.{ap, [], ◌∷◌}
-use Rattle.std.specs.Prelude.{codes}
-use Rattle.meek_rule.specs.Row.{Row}
+use Rattle.std.proofs.Common.{◌≡◌, ◌∙◌, ap, sym, subst, [], ◌∷◌}
+use Rattle.std.specs.Prelude.{codes, Some, slice_get}
+use Rattle.std.proofs.lemmas.Option.{get_or_from_slice_get}
+use Rattle.meek_rule.specs.Row.{Row, blank}
 use Rattle.page_tree.specs.Print.{printed}
+use Rattle.sheet_reader.specs.Values.{SheetList}
 use Rattle.sheet_page.specs.Html.{round_title}
 use Rattle.sheet_page.specs.Iterations.{folded}
 use Rattle.sheet_page.specs.Picture.{round_picture}
+use Rattle.sheet_page.specs.Values.{row_at}
 use Rattle.sheet_page.proofs.Printing.{wrapped}
 use Rattle.sheet_page.proofs.Pens.{later, renamed}
 use Rattle.sheet_page.proofs.round_parts.write_round_part.Goals as goal
 
 pub returns : goal.returns
 returns g c =
-    let row = c.args.row.now in
-    renamed (wrapped (codes "section") [] (round_title row.round
-    ∷ round_picture c.args.values.now c.args.full row ∷ folded c.args.values.now row.round ∷ []))
-    (later c.open.ensures (later
-    (renamed (ap (λ (r : Row). printed (round_title r.round)) c.row.view_is) c.write_title.ensures)
-    (later c.write_round_picture.ensures (later (renamed
-    (ap (λ (r : Row). printed (folded c.args.values.now r.round)) c.row.view_is)
-    c.write_folded.ensures) c.close.ensures))))
+    let v = c.args.values.now in
+    let full = c.args.full in
+    let last = c.args.last in
+    let at =
+    subst (λ (w : SheetList). slice_get w.rows last ≡ Some c.get-row.result.now) c.values.view_is c.get-row.ensures in
+    let row = get_or_from_slice_get v.rows last c.get-row.result.now (blank 0) at in
+    let title = ap (λ (r : Row). printed (round_title r.round)) (c.row.view_is ∙ sym row) in
+    let picture = ap (λ (r : Row). printed (round_picture v full r)) (sym row) in
+    renamed (wrapped (codes "section") [] (round_title (row_at v.rows last).round
+    ∷ round_picture v full (row_at v.rows last) ∷ folded v last ∷ []))
+    (later c.open.ensures (later (renamed title c.write_title.ensures)
+    (later (renamed picture c.write_round_picture.ensures) (later c.write_folded.ensures c.close.ensures))))
