@@ -1,6 +1,7 @@
 // Whole runs over memory: sheets worked by hand, and texts that are none.
 mod order;
 mod rounds;
+mod stretches;
 mod ties;
 mod transfer;
 
