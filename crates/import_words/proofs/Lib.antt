@@ -1,0 +1,11 @@
+mod DifferentLemmas
+mod ExitLemmas
+mod FoundLemmas
+mod ForLemmas
+mod NumberLemmas
+mod OneLemmas
+mod PairLemmas
+mod PieceLemmas
+mod TextLemmas
+mod ValueLemmas
+mod WorkedLemmas

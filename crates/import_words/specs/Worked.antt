@@ -1,0 +1,54 @@
+-- Words worked by hand.
+use Rattle.std.specs.Prelude.{None, List, [], ◌∷◌, ◌++◌, codes}
+use Rattle.meek_words.specs.Numerals.{Word}
+use Rattle.ballot_marks.specs.declared.choice.Treat.TheVariants as treats
+use Rattle.import_words.specs.Asks.{Asks}
+use Rattle.import_words.specs.declared.asked.Asked.{Asked}
+use Rattle.import_words.specs.declared.layout.Layout.{Layout}
+use Rattle.import_words.specs.declared.layout.Layout.TheVariants as layouts
+use Rattle.import_words.specs.declared.output.Output.TheVariants as outputs
+use Rattle.import_words.specs.declared.empty_rows.EmptyRows.TheVariants as rows
+use Rattle.import_words.specs.declared.head_names.HeadNames.TheVariants as heads
+
+-- whatever is meant, these words do not ask for it
+abbrev pub AskNothing : List Word → Type 0
+AskNothing words = (asked : Asked) → ¬ (Asks words asked)
+
+-- a layout, and one seat
+abbrev pub one_seat : Word → List Word
+one_seat layout = codes "--layout" ∷ layout ∷ codes "--seats" ∷ codes "1" ∷ []
+
+abbrev pub ann_ben_cid : List Word
+ann_ben_cid =
+    codes "--candidate" ∷ codes "Ann" ∷ codes "--candidate" ∷ codes "Ben" ∷ codes "--candidate" ∷ codes "Cid"
+    ∷ []
+
+pub record RefusedWords : Type 0 where
+  pub none : AskNothing []
+  pub no_seats : AskNothing (codes "--layout" ∷ codes "ranks" ∷ [])
+  pub candidate_of_ranks : AskNothing (one_seat (codes "ranks") ++ codes "--candidate" ∷ codes "Ann" ∷ [])
+  pub seats_twice : AskNothing (one_seat (codes "ranks") ++ codes "--seats" ∷ codes "1" ∷ [])
+  pub skipped_of_preflib : AskNothing (one_seat (codes "preflib") ++ codes "--skipped" ∷ codes "close" ∷ [])
+  pub no_candidates : AskNothing (one_seat (codes "choices"))
+  pub equals_sign : AskNothing (codes "--layout=ranks" ∷ codes "--seats" ∷ codes "1" ∷ [])
+  pub over_is_candidate :
+      AskNothing (one_seat (codes "choices") ++ ann_ben_cid ++ codes "--over" ∷ codes "Ann" ∷ [])
+
+-- a layout, one seat and these candidates, and nothing else said
+abbrev pub plain : Layout → List Word → Asked
+plain layout candidates = record {
+  layout = layout;
+  output = outputs.Blt;
+  empty = rows.Refuse;
+  treatment = record { skipped = None; equal = treats.Refuse; repeated = treats.Refuse };
+  roll = record { seats = 1; title = []; withdrawn = []; candidates = candidates };
+  table = record { separator = None; names = heads.Whole; weight = None; ignored = [] };
+  cells = record { blanks = []; overs = []; ranks = [] };
+}
+
+pub record AcceptedWords : Type 0 where
+  pub ranks : Asks (one_seat (codes "ranks")) (plain layouts.Ranks [])
+  pub preflib : Asks (one_seat (codes "preflib")) (plain layouts.Preflib [])
+  pub choices :
+      Asks (one_seat (codes "choices") ++ ann_ben_cid)
+      (plain layouts.Choices (codes "Ann" ∷ codes "Ben" ∷ codes "Cid" ∷ []))

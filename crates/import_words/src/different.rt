@@ -1,0 +1,40 @@
+//! Labels that are different.
+ghost use Rattle.std.specs.Prelude.{◌≡◌, ◌↔◌, ◌∷◌, IsTrue};
+ghost use Rattle.std.specs.List.{Contains};
+ghost use Rattle.import_words.specs.Labels.{AreDifferent};
+
+use crate::Label;
+
+/// Whether a label is one of some.
+pub(crate) fn stands_in(labels: &[Label], label: &Label) -> bool
+    ensures { IsTrue result ↔ Contains labels.now label.now }
+{
+    for other in labels {
+        if other.bytes() == label.bytes() {
+            return true;
+        }
+    }
+    false
+}
+
+/// Whether no two of a label and others are the same.
+pub(crate) fn is_apart(label: &Label, others: &[Label]) -> bool
+    ensures { IsTrue result ↔ AreDifferent (label.now ∷ others.now) }
+{
+    if stands_in(others, label) {
+        return false;
+    }
+    are_different(others)
+}
+
+/// Whether no two labels are the same.
+pub(crate) fn are_different(labels: &[Label]) -> bool
+    ensures { IsTrue result ↔ AreDifferent labels.now }
+{
+    for (at, label) in labels.iter().enumerate() {
+        if stands_in(&labels[..at], label) {
+            return false;
+        }
+    }
+    true
+}

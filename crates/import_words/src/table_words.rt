@@ -1,0 +1,56 @@
+// What the words say of a table and its columns.
+ghost use Rattle.std.specs.Prelude.{◌≡◌, ◌++◌, ◌↔◌, IfOk, IsTrue};
+ghost use Rattle.std.specs.Option.{option_to_list};
+ghost use Rattle.import_words.specs.Asks.{SaysTable};
+ghost use Rattle.import_words.specs.Labels.{AreDifferent};
+ghost use Rattle.import_words.specs.Values.{given_by};
+ghost use Rattle.import_words.specs.declared.table_words.TableWords.{TableWords};
+
+use crate::different::{are_different, is_apart};
+use crate::values::Values;
+use crate::{HeadNames, Label, Labels, Separator, reading, settings};
+use meek_words::WordsStop;
+use std::alloc::Global;
+
+/// What the words say of a table's fields and of the columns that are no marks.
+#[derive(Debug, Drop)]
+pub struct TableWords {
+    /// Where none is said, the table shows it.
+    pub separator: Option<Separator>,
+    pub names: HeadNames,
+    /// The head of the column that says for how many ballots a row stands.
+    pub weight: Option<Label>,
+    /// The heads of the columns that are not read.
+    pub ignored: Labels,
+}
+
+impl TableWords {
+    pub(crate) fn read(alloc: Global, values: &Values<'_>) -> Result<TableWords, WordsStop>
+        ensures accepted { IfOk result (λ table. SaysTable (given_by values.now) table) }
+        ensures refused { result ≡ Err WordsStop.BadWords
+            → (table : TableWords) → ¬ (SaysTable (given_by values.now) table) }
+    {
+        let separator = settings::separator(values.separator).ok_or(WordsStop::BadWords)?;
+        let names = settings::head_names(values.names).ok_or(WordsStop::BadWords)?;
+        let weight = reading::weight(alloc, values.weight)?;
+        let ignored = reading::labels(alloc, values.ignored.as_slice())?;
+        if !columns_differ(&weight, ignored.items()) {
+            return Err(WordsStop::BadWords);
+        }
+        Ok(TableWords {
+            separator,
+            names,
+            weight,
+            ignored,
+        })
+    }
+}
+
+fn columns_differ(weight: &Option<Label>, ignored: &[Label]) -> bool
+    ensures { IsTrue result ↔ AreDifferent (option_to_list weight.now ++ ignored.now) }
+{
+    match weight {
+        Some(label) => is_apart(label, ignored),
+        None => are_different(ignored),
+    }
+}

@@ -1,0 +1,23 @@
+// The values of each option.
+
+/// The values of each option, still as text.
+#[derive(Drop)]
+pub(crate) struct Values<'a> {
+    pub(crate) layout: Option<&'a str>,
+    pub(crate) seats: Option<&'a str>,
+    pub(crate) title: Option<&'a str>,
+    pub(crate) withdrawn: Option<&'a str>,
+    pub(crate) output: Option<&'a str>,
+    pub(crate) equal: Option<&'a str>,
+    pub(crate) skipped: Option<&'a str>,
+    pub(crate) empty: Option<&'a str>,
+    pub(crate) separator: Option<&'a str>,
+    pub(crate) weight: Option<&'a str>,
+    pub(crate) ignored: Vec<&'a str>,
+    pub(crate) blanks: Vec<&'a str>,
+    pub(crate) names: Option<&'a str>,
+    pub(crate) ranks: Option<&'a str>,
+    pub(crate) candidates: Vec<&'a str>,
+    pub(crate) overs: Vec<&'a str>,
+    pub(crate) repeated: Option<&'a str>,
+}
