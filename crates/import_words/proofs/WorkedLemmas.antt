@@ -1,5 +1,5 @@
 -- Words worked by hand.
-use Rattle.std.proofs.Common.{◌≡◌, ◌≢◌, ◌≤◌, ◌∙◌, refl, sym, ap, subst, ℕ, zero, suc, true, List, [], ◌∷◌}
+use Rattle.std.proofs.Common.{◌≡◌, ◌≢◌, ◌≤◌, ◌∙◌, refl, sym, ap, subst, ℕ, zero, suc, true, false, List, [], ◌∷◌}
 use Rattle.std.proofs.Common.{get_or, ◌++◌, None, length, codes, arith, All, IsTrue}
 use Rattle.std.specs.List.{Contains, flat_map}
 use Rattle.std.proofs.lemmas.Bool.{false≢true}
@@ -13,6 +13,7 @@ use Rattle.import_words.specs.Asks.{Asks, AreFor, Says}
 use Rattle.import_words.specs.Labels.{AreDifferent, IsLabel}
 use Rattle.import_words.specs.Options.{flag_of, is_named, is_of, is_table}
 use Rattle.import_words.specs.Pairs.{Said, given_of, words_of}
+use Rattle.import_words.specs.Settings.{layout_word}
 use Rattle.import_words.specs.Worked.{AcceptedWords, AskNothing, RefusedWords, ann_ben_cid, one_seat, plain}
 use Rattle.import_words.specs.declared.asked.Asked.{Asked}
 use Rattle.import_words.specs.declared.layout.Layout.{Layout}
@@ -139,15 +140,17 @@ three_labelled a b c one two three first last = record {
   last = last;
 }
 
-pub accepted_ranks : Asks (one_seat (codes "ranks")) (plain layouts.Ranks [])
-accepted_ranks = record {
-  pairs = seat_of (codes "ranks");
+-- where cells name nobody, a layout and one seat are enough
+accepted_plain :
+    (layout : Layout) → is_named layout ≡ false → layout_word layout ≢ []
+    → Asks (one_seat (layout_word layout)) (plain layout [])
+accepted_plain layout unnamed some = record {
+  pairs = seat_of (layout_word layout);
   are = record {
     spelled = refl;
-    values = All-from_recursion HasValue (seat_of (codes "ranks")) ((λ e. cc), ((λ e. cc), tt));
+    values = All-from_recursion HasValue (seat_of (layout_word layout)) (some, ((λ e. cc), tt));
   };
-  fit =
-      All-from_recursion (λ (s : Said). IsTrue (is_of layouts.Ranks s.option)) (seat_of (codes "ranks"))
+  fit = All-from_recursion (λ (s : Said). IsTrue (is_of layout s.option)) (seat_of (layout_word layout))
       (refl, (refl, tt));
   says = record {
     layout = refl;
@@ -168,43 +171,16 @@ accepted_ranks = record {
       different = none_different;
     };
     cells = record { blanks = (refl, All-nil IsLabel); overs = (refl, All-nil IsLabel); ranks = refl };
-    enough = λ named. absurd (false≢true named);
+    enough = λ named. absurd (false≢true (sym unnamed ∙ named));
     distinguished = record { labels = All-nil IsLabel; different = none_different };
   };
 }
 
+pub accepted_ranks : Asks (one_seat (codes "ranks")) (plain layouts.Ranks [])
+accepted_ranks = accepted_plain layouts.Ranks refl (λ e. cc)
+
 pub accepted_preflib : Asks (one_seat (codes "preflib")) (plain layouts.Preflib [])
-accepted_preflib = record {
-  pairs = seat_of (codes "preflib");
-  are = record {
-    spelled = refl;
-    values = All-from_recursion HasValue (seat_of (codes "preflib")) ((λ e. cc), ((λ e. cc), tt));
-  };
-  fit = All-from_recursion (λ (s : Said). IsTrue (is_of layouts.Preflib s.option)) (seat_of (codes "preflib"))
-      (refl, (refl, tt));
-  says = record {
-    layout = refl;
-    output = refl;
-    empty = refl;
-    treatment = (refl, refl, refl);
-    roll = record {
-      seats = (one_is_seats, refl);
-      title = refl;
-      withdrawn = refl;
-      candidates = (refl, All-nil (IsName 200));
-    };
-    table = record {
-      separator = refl;
-      names = refl;
-      weight = refl;
-      ignored = (refl, All-nil IsLabel);
-      different = none_different;
-    };
-    cells = record { blanks = (refl, All-nil IsLabel); overs = (refl, All-nil IsLabel); ranks = refl };
-    enough = λ named. absurd (false≢true named);
-    distinguished = record { labels = All-nil IsLabel; different = none_different };
-  };
-}
+accepted_preflib = accepted_plain layouts.Preflib refl (λ e. cc)
 
 abbrev names : List Word
 names = codes "Ann" ∷ codes "Ben" ∷ codes "Cid" ∷ []
