@@ -1,5 +1,6 @@
 -- Which changes and calls a book of so many candidates takes.
 use Rattle.std.specs.Prelude.{◌≡◌, ℕ, ◌≤◌, ⊤, List, All, Option, Some, None}
+use Rattle.plain_ballots.specs.declared.limits.TheConstants.{MOST_CANDIDATES}
 use Rattle.plain_ballots.specs.Ballots.{BallotList, ballot_count}
 use Rattle.batch_core.specs.declared.batch.Batch.{Batch}
 use Rattle.batch_core.specs.declared.change.Change.{Change}
@@ -26,7 +27,7 @@ IsLawful candidates (Withdraw batch revision) = IsInRange batch × IsInRange rev
 abbrev pub MayStep : ℕ → Call → Type 0
 MayStep candidates (Changes change) = IsLawful candidates change
 MayStep candidates Freeze = ⊤
-MayStep candidates (Strike candidate) = (1 ≤ candidate) × (candidate ≤ 250)
+MayStep candidates (Strike candidate) = (1 ≤ candidate) × (candidate ≤ MOST_CANDIDATES)
 
 -- a book of so many candidates takes each of these calls
 abbrev pub AreLawful : ℕ → List Entry → Type 0

@@ -1,5 +1,6 @@
 // The plain book.
 ghost use Rattle.std.specs.Prelude.{◌≡◌, ◌+◌, ◌≤◌, ◌++◌, [], Some, None, IfOk, IfErr, OnOk, OnErr};
+ghost use Rattle.plain_ballots.specs.declared.limits.TheConstants.{MOST_BALLOTS};
 ghost use Rattle.plain_ballots.specs.Ballots.{ballot_count};
 ghost use Rattle.batch_core.specs.Book.{state_of, by_number, batch_of, reply, after, change_reply, changed, strike_reply, strike, ballot_lines, standing};
 ghost use Rattle.batch_core.specs.Lawful.{IsLawful, MayStep, AreOfBatch};
@@ -164,7 +165,7 @@ impl Book {
 /// Adds the lines of a batch, if it stands, to ballots that have room for them.
 fn append(ballots: &mut Ballots, batch: &Batch) -> Result<(), NoMemory>
     requires batch { AreOfBatch ballots.old.candidates batch.now.standing }
-    requires room { ballot_count ballots.old.lines + ballot_count (ballot_lines batch.now.standing) ≤ 999999999 }
+    requires room { ballot_count ballots.old.lines + ballot_count (ballot_lines batch.now.standing) ≤ MOST_BALLOTS }
     ensures candidates { ballots.new.candidates ≡ ballots.old.candidates }
     ensures lines { OnOk result (ballots.new.lines ≡ ballots.old.lines ++ ballot_lines batch.now.standing) }
 {

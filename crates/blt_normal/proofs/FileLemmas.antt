@@ -13,7 +13,7 @@ use Rattle.tool_edge.specs.Streams.{writing}
 use Rattle.tool_edge.specs.Contest.{SaysPoll}
 use Rattle.tool_edge.specs.Finishing.{Wrote}
 use Rattle.tool_edge.specs.Tool.{IsOwedFor, no_history}
-use Rattle.tool_edge.specs.Tools.{file_limit}
+use Rattle.tool_edge.specs.declared.opening.TheConstants.{FILE_LIMIT}
 use Rattle.blt_normal.specs.Laws.{TextsStay}
 use Rattle.blt_normal.specs.Owed.{normal_tool}
 
@@ -29,7 +29,7 @@ text_moved one other roll text moved (lines, are, is) = (
 
 -- The text of the plans' ballots is owed for the file.
 pub owed_for_file :
-    (input : List ℕ) (poll : Poll) (ballots : List (List ℕ)) (roll : RollList) (text : List ℕ) → length input ≤ file_limit
+    (input : List ℕ) (poll : Poll) (ballots : List (List ℕ)) (roll : RollList) (text : List ℕ) → length input ≤ FILE_LIMIT
     → SaysPoll input poll → IsPermutation ballots (plain poll.lines) → roll ≡ poll.roll → IsBltText ballots roll text
     → IsOwedFor normal_tool (tt {0}) input no_history Done text
 owed_for_file input poll ballots roll text short says moved same is = (

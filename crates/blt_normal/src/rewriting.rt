@@ -1,5 +1,6 @@
 // From the bytes of a ballot file to its canonical text.
 ghost use Rattle.std.specs.Prelude.{◌≤◌, length};
+ghost use Rattle.tool_edge.specs.declared.opening.TheConstants.{FILE_LIMIT};
 ghost use Rattle.tool_edge.specs.Finishing.{FinishesOwed};
 ghost use Rattle.tool_edge.specs.Streams.{writing};
 ghost use Rattle.tool_edge.specs.Tool.{IsOwedFor, no_history};
@@ -22,7 +23,7 @@ pub(crate) fn rewrite<R: Threads + Sync, K: Sink>(
     input: &[u8],
     sink: &mut K,
 ) -> End
-    requires { length input.now ≤ 67108864 }
+    requires { length input.now ≤ FILE_LIMIT }
     ensures { FinishesOwed (IsOwedFor normal_tool (tt {0}) input.now no_history) result
         (writing K.written K.faults sink.old sink.new) }
 {

@@ -1,6 +1,7 @@
 -- A ballot file, as the list of what its tokens say.
 use Rattle.std.specs.Prelude.{◌≡◌, ◌≤◌, ℕ, List, [], ◌∷◌, ◌++◌, length, map, All}
 use Rattle.std.specs.List.{flat_map}
+use Rattle.plain_ballots.specs.declared.limits.TheConstants.{MOST_CANDIDATES}
 use Rattle.plain_ballots.specs.Ballots.{ballot_count}
 use Rattle.plain_ballots.specs.Ranking.{IsRanking}
 use Rattle.plain_ballots.specs.declared.ballot_line.BallotLine.{BallotLine}
@@ -33,8 +34,8 @@ pub record IsUpToTitle (most : ℕ) (items : List Item) (poll : Poll) : Type 0 w
   pub withdrawn : List ℕ
   pub spelled : items ≡ opening (length poll.roll.names) poll.roll.seats withdrawn
       ++ (ballots poll.lines ++ (map Text poll.roll.names ++ Text poll.roll.title ∷ []))
-  pub candidates : IsIn 250 (length poll.roll.names)
-  pub seats : IsIn 250 poll.roll.seats
+  pub candidates : IsIn MOST_CANDIDATES (length poll.roll.names)
+  pub seats : IsIn MOST_CANDIDATES poll.roll.seats
   pub each_withdrawn : All (IsIn (length poll.roll.names)) withdrawn
   pub marks : poll.roll.withdrawn ≡ withdrawn_marks (length poll.roll.names) withdrawn
   pub lines : AreLines (length poll.roll.names) most poll.lines

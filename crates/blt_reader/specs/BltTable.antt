@@ -1,5 +1,6 @@
 -- What is expected in a ballot file, and what an item leads to there.
 use Rattle.std.specs.Prelude.{ℕ, List, [], ◌∷◌, ◌++◌, length, ◌==◌, if◌then◌else◌, nat_le, Ok, Err}
+use Rattle.plain_ballots.specs.declared.limits.TheConstants.{MOST_CANDIDATES}
 use Rattle.plain_ballots.specs.declared.ballot_line.BallotLine.{BallotLine}
 use Rattle.input_text.specs.declared.fault_kind.FaultKind.TheVariants.{BadHeader, BadWithdrawn, NameExpected, TooLongName, Trailing}
 use Rattle.input_text.specs.Token.{Item, Number, Minus, Text}
@@ -27,11 +28,11 @@ pub data Expected : Type 0 where
   Title : (heading : Heading) (lines : List BallotLine) (names : List (List ℕ)) → Expected
 
 abbrev pub at_candidates : ℕ → Judged (Progress Expected Poll)
-at_candidates n = if is_in 250 n then Ok (GoesOn (Seats n)) else Err BadHeader
+at_candidates n = if is_in MOST_CANDIDATES n then Ok (GoesOn (Seats n)) else Err BadHeader
 
 abbrev pub at_seats : ℕ → ℕ → Judged (Progress Expected Poll)
 at_seats candidates n =
-    if is_in 250 n then Ok (GoesOn (Withdrawn (record { candidates = candidates; seats = n; withdrawn = [] })))
+    if is_in MOST_CANDIDATES n then Ok (GoesOn (Withdrawn (record { candidates = candidates; seats = n; withdrawn = [] })))
     else Err BadHeader
 
 abbrev pub at_withdrawn : Heading → ℕ → Judged (Progress Expected Poll)

@@ -1,6 +1,7 @@
 -- Front parts of a ballot file, by what is expected behind them.
 use Rattle.std.specs.Prelude.{◌≡◌, ◌<◌, ◌≤◌, ℕ, ◌+◌, List, [], ◌∷◌, ◌++◌, length, map, All}
 use Rattle.std.specs.List.{flat_map}
+use Rattle.plain_ballots.specs.declared.limits.TheConstants.{MOST_CANDIDATES}
 use Rattle.plain_ballots.specs.Ballots.{ballot_count}
 use Rattle.plain_ballots.specs.Ranking.{IsRanking}
 use Rattle.plain_ballots.specs.declared.ballot_line.BallotLine.{BallotLine}
@@ -14,8 +15,8 @@ use Rattle.blt_reader.specs.BltTable.{Heading, Expected, Candidates, Seats, With
 
 -- numbers of candidates, seats and withdrawn candidates that a file may have
 pub record IsHeading (heading : Heading) : Type 0 where
-  pub candidates : IsIn 250 heading.candidates
-  pub seats : IsIn 250 heading.seats
+  pub candidates : IsIn MOST_CANDIDATES heading.candidates
+  pub seats : IsIn MOST_CANDIDATES heading.seats
   pub each_withdrawn : All (IsIn heading.candidates) heading.withdrawn
 
 abbrev pub opening_of : Heading → List Item
@@ -53,7 +54,7 @@ pub record IsInNames (most : ℕ) (heading : Heading) (lines : List BallotLine) 
 -- The items are a front part of a file that ends where this is expected.
 abbrev pub IsFront : ℕ → Expected → List Item → Type 0
 IsFront most Candidates items = items ≡ []
-IsFront most (Seats candidates) items = IsIn 250 candidates × (items ≡ Number candidates ∷ [])
+IsFront most (Seats candidates) items = IsIn MOST_CANDIDATES candidates × (items ≡ Number candidates ∷ [])
 IsFront most (Withdrawn heading) items = IsInBallots most heading (Between []) items
 IsFront most (Ballots heading lines) items = IsInBallots most heading lines items × (0 < length (begun lines))
 IsFront most (Name heading lines names) items = IsInNames most heading lines names items × (length names < heading.candidates)

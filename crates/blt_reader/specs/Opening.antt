@@ -1,5 +1,6 @@
 -- What stands before the ballots of a file, as the code reads it.
 use Rattle.std.specs.Prelude.{◌≡◌, ◌<◌, ℕ, List, [], ◌∷◌, ◌++◌, length, Bool, true, false, slice_index_or, All, Result, Ok, Err, ◌⊎◌}
+use Rattle.plain_ballots.specs.declared.limits.TheConstants.{MOST_CANDIDATES}
 use Rattle.candidate_roll.specs.Roll.{is_listed, withdrawn_marks}
 use Rattle.input_text.specs.declared.input_stop.InputStop.{InputStop}
 use Rattle.input_text.specs.declared.input_stop.InputStop.TheVariants as stop
@@ -31,8 +32,8 @@ ReadsWithdrawn candidates old withdrawn (Err (stop.Fault fault)) new = (limit : 
 ReadsWithdrawn candidates old withdrawn (Err stop.NoMemory) new = Unit {0}
 
 pub record IsOpening (opening : Opening) : Type 0 where
-  pub candidates : IsIn 250 opening.candidates
-  pub seats : IsIn 250 opening.seats
+  pub candidates : IsIn MOST_CANDIDATES opening.candidates
+  pub seats : IsIn MOST_CANDIDATES opening.seats
   pub withdrawn : All (IsIn opening.candidates) opening.withdrawn.items
 
 -- Behind an opening the first count is expected.

@@ -1,6 +1,7 @@
 -- What the parts of a ballot file give.
 use Rattle.std.specs.Prelude.{◌≡◌, ℕ, ◌≤◌, List, [], length, slice_index_or, if◌then◌else◌, nat_le, ◌==◌, Bool, false, Result, Ok, Err}
 use Rattle.std.specs.List.{list_any}
+use Rattle.plain_ballots.specs.declared.limits.TheConstants.{MOST_CANDIDATES}
 use Rattle.plain_ballots.specs.declared.ballot_line.BallotLine.{BallotLine}
 use Rattle.input_text.specs.declared.fault_kind.FaultKind.TheVariants.{BadHeader, NameExpected, TooLongName}
 use Rattle.input_text.specs.declared.input_fault.InputFault.{InputFault}
@@ -19,7 +20,7 @@ use Rattle.blt_reader.specs.BltTable.{Heading, behind_name, at_token, at_file_to
 
 -- a number of candidates or seats
 abbrev pub as_size : Item → Judged ℕ
-as_size (Number n) = if is_in 250 n then Ok n else Err BadHeader
+as_size (Number n) = if is_in MOST_CANDIDATES n then Ok n else Err BadHeader
 as_size item = Err BadHeader
 
 -- a name, or a title, of at most so many bytes

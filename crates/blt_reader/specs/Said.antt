@@ -1,5 +1,6 @@
 -- What a ballot file says, or why it is refused.
 use Rattle.std.specs.Prelude.{◌≡◌, ℕ, List, [], Bool, true, false, Result, Ok, Err, IsOk, ◌↔◌}
+use Rattle.plain_ballots.specs.declared.limits.TheConstants.{MOST_BALLOTS}
 use Rattle.input_text.specs.declared.fault_kind.FaultKind.TheVariants.{TooManyBallots, BallotsInRoll, Trailing}
 use Rattle.input_text.specs.declared.input_fault.InputFault.{InputFault}
 use Rattle.input_text.specs.Token.{Item, Scan}
@@ -15,7 +16,7 @@ use Rattle.input_text.specs.Refusal.{IsOpen, IsAccepted, IsFrontOf, IsRefusal, I
 
 -- a file has at most 999,999,999 ballots
 abbrev pub of_a_file : Limit
-of_a_file = record { most = 999999999; refusal = TooManyBallots }
+of_a_file = record { most = MOST_BALLOTS; refusal = TooManyBallots }
 
 -- a roll alone has none
 abbrev pub of_a_roll : Limit

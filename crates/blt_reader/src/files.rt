@@ -1,5 +1,6 @@
 // Whole ballot files.
 ghost use Rattle.std.specs.Prelude.{◌≡◌, false, length, IfOk};
+ghost use Rattle.plain_ballots.specs.declared.limits.TheConstants.{MOST_BALLOTS};
 ghost use Rattle.input_text.specs.Scan.{scan};
 ghost use Rattle.blt_reader.specs.Blt.{IsBlt};
 ghost use Rattle.input_text.specs.Refusal.{IsAccepted};
@@ -14,7 +15,7 @@ use std::alloc::Global;
 
 /// Reads a ballot file: Ok where it has no refusal, with the election that it says.
 pub fn read_blt(alloc: Global, bytes: &[u8]) -> Result<Election, InputStop>
-    ensures accepted { IfOk result (λ e. IsAccepted (IsBlt 999999999) (scan bytes.now false) (poll e)) }
+    ensures accepted { IfOk result (λ e. IsAccepted (IsBlt MOST_BALLOTS) (scan bytes.now false) (poll e)) }
     ensures refused { IfFault result (λ fault. IsFileRefusal of_a_file (scan bytes.now false) fault) }
     ensures says { SaysFile (reading bytes.now) result }
     ensures candidates { IfOk result (λ e. e.ballots.candidates ≡ length e.roll.names) }

@@ -1,5 +1,6 @@
 // Ballot lines.
 ghost use Rattle.std.specs.Prelude.{◌≡◌, ◌+◌, ◌<◌, ◌≤◌, [], ◌∷◌, ◌++◌, length, take, replicate, slice_index_or, true, false, Ok, IfOk, IfErr, IfSome, IfNone, OnOk};
+ghost use Rattle.plain_ballots.specs.declared.limits.TheConstants.{MOST_BALLOTS};
 ghost use Rattle.plain_ballots.specs.Ballots.{ballot_count};
 ghost use Rattle.plain_ballots.specs.Ranking.{IsRanking};
 ghost use Rattle.input_text.specs.declared.input_stop.InputStop.TheVariants as stop;
@@ -24,7 +25,7 @@ pub fn read_lines(
     most: u32,
     refusal: FaultKind,
 ) -> Result<Ballots, InputStop>
-    requires { most ≤ 999999999 }
+    requires { most ≤ MOST_BALLOTS }
     ensures reads { Reads (at_line candidates (record { most = most; refusal = refusal })) (Between []) (λ b. b.lines) tokens.old.rest result tokens.new.rest }
     ensures candidates { IfOk result (λ b. b.candidates ≡ candidates) }
     ensures lines { IfOk result (λ b. AreLines candidates most b.lines) }
@@ -43,7 +44,7 @@ pub(crate) fn read_lines_from(
     refusal: FaultKind,
     first: (u32, usize),
 ) -> Result<Ballots, InputStop>
-    requires { most ≤ 999999999 }
+    requires { most ≤ MOST_BALLOTS }
     ensures reads { Reads (at_line candidates (record { most = most; refusal = refusal })) (Between []) (λ b. b.lines) (with_front (record { at = first.1; item = Number first.0 }) tokens.old.rest) result tokens.new.rest }
     ensures candidates { IfOk result (λ b. b.candidates ≡ candidates) }
     ensures lines { IfOk result (λ b. AreLines candidates most b.lines) }
@@ -65,7 +66,7 @@ fn read_lines_ahead(
     refusal: FaultKind,
     first: (u32, usize),
 ) -> Result<Ballots, InputStop>
-    requires { most ≤ 999999999 }
+    requires { most ≤ MOST_BALLOTS }
     ensures reads { Reads (at_line candidates (record { most = most; refusal = refusal })) (Between []) (λ b. b.lines) (with_front (record { at = first.1; item = Number first.0 }) tokens.old.rest) result tokens.new.rest }
     ensures candidates { IfOk result (λ b. b.candidates ≡ candidates) }
     ensures lines { IfOk result (λ b. AreLines candidates most b.lines) }
@@ -207,7 +208,7 @@ fn next_zero(tokens: &mut Tokens<'_>) -> Option<usize>
 fn add_line(ballots: &mut Ballots, line: BallotLine) -> Result<(), InputStop>
     requires ranking { IsRanking ballots.old.candidates line.ranking }
     requires counted { 1 ≤ line.count }
-    requires room { ballot_count ballots.old.lines + line.count ≤ 999999999 }
+    requires room { ballot_count ballots.old.lines + line.count ≤ MOST_BALLOTS }
     ensures added { OnOk result (ballots.new ≡ record ballots.old { lines = ballots.old.lines ++ line ∷ [] }) }
     ensures only_memory { IfErr result (λ why. why ≡ stop.NoMemory) }
 {

@@ -8,6 +8,7 @@ ghost use Rattle.blt_reader.specs.Reads.{as_size};
 
 use crate::named::Named;
 use input_text::{FaultKind, InputFault, InputStop, Tokens, What};
+use plain_ballots::MOST_CANDIDATES;
 use std::alloc::Global;
 
 /// The numbers of candidates and seats, each withdrawn candidate once, and the first count, which
@@ -45,7 +46,7 @@ fn read_size(tokens: &mut Tokens<'_>) -> Result<u32, InputFault>
 {
     let token = tokens.next_token()?;
     match token.what {
-        What::Number(n) if n >= 1 && n <= 250 => Ok(n),
+        What::Number(n) if n >= 1 && n <= MOST_CANDIDATES => Ok(n),
         _ => Err(InputFault {
             kind: FaultKind::BadHeader,
             at: token.at,

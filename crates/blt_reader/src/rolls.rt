@@ -1,5 +1,6 @@
 // Files up to their title.
 ghost use Rattle.std.specs.Prelude.{◌≡◌, ◌≤◌, length, All, IfOk, IfErr};
+ghost use Rattle.plain_ballots.specs.declared.limits.TheConstants.{MOST_BALLOTS};
 ghost use Rattle.candidate_roll.specs.Roll.{IsFew, withdrawn_marks};
 ghost use Rattle.input_text.specs.declared.input_stop.InputStop.TheVariants as stop;
 ghost use Rattle.blt_reader.specs.BltTable.{Candidates, at_token};
@@ -13,6 +14,7 @@ use crate::names::{read_name, read_names};
 use crate::opening::read_opening;
 use candidate_roll::{Name, Names, Roll, RollStop};
 use input_text::{FaultKind, InputStop, Tokens};
+use plain_ballots::MOST_BALLOTS;
 use std::alloc::Global;
 
 /// Reads a file up to its title and no further: an Ok leaves the reader right behind the title.
@@ -31,7 +33,7 @@ pub fn read_roll(
     ensures behind { IsBehind tokens.old tokens.new }
 {
     if with_ballots {
-        read_up_to_title(alloc, tokens, 999_999_999, FaultKind::TooManyBallots)
+        read_up_to_title(alloc, tokens, MOST_BALLOTS, FaultKind::TooManyBallots)
     } else {
         read_up_to_title(alloc, tokens, 0, FaultKind::BallotsInRoll)
     }
@@ -43,7 +45,7 @@ fn read_up_to_title(
     most: u32,
     refusal: FaultKind,
 ) -> Result<Election, InputStop>
-    requires { most ≤ 999999999 }
+    requires { most ≤ MOST_BALLOTS }
     ensures reads { Reads (at_token (record { most = most; refusal = refusal })) Candidates poll tokens.old.rest result tokens.new.rest }
     ensures candidates { IfOk result (λ e. e.ballots.candidates ≡ length e.roll.names) }
     ensures behind { IsBehind tokens.old tokens.new }

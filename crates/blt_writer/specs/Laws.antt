@@ -1,5 +1,6 @@
 -- What holds of every bag of ballots and its text.
 use Rattle.std.specs.Prelude.{◌≡◌, ℕ, ◌≤◌, List, length, false, All, IsPermutation}
+use Rattle.plain_ballots.specs.declared.limits.TheConstants.{MOST_BALLOTS}
 use Rattle.candidate_roll.specs.Name.{IsName}
 use Rattle.candidate_roll.specs.Roll.{RollList, IsRoll}
 use Rattle.plain_ballots.specs.Ballots.{plain}
@@ -19,12 +20,12 @@ pub record IsNamedRoll (roll : RollList) : Type 0 where
 -- rankings of a roll's candidates, not too many
 pub record AreBallotsOf (roll : RollList) (ballots : List (List ℕ)) : Type 0 where
   pub rankings : All (IsRanking (length roll.names)) ballots
-  pub few : length ballots ≤ 999999999
+  pub few : length ballots ≤ MOST_BALLOTS
 
 -- The text says this roll, and these ballots in some order.
 pub record SaysBallots (roll : RollList) (ballots : List (List ℕ)) (text : List ℕ) : Type 0 where
   pub poll : Poll
-  pub file : IsAccepted (IsBlt 999999999) (scan text false) poll
+  pub file : IsAccepted (IsBlt MOST_BALLOTS) (scan text false) poll
   pub roll_is : poll.roll ≡ roll
   pub ballots_are : IsPermutation (plain poll.lines) ballots
 

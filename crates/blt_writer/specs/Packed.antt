@@ -5,6 +5,7 @@ use Rattle.std.specs.declared.cmp.Ordering.{Ordering}
 use Rattle.std.specs.declared.cmp.Ordering.TheVariants.{Less}
 use Rattle.std.specs.Ordering.{nat_cmp, ordering_then}
 use Rattle.std.specs.Cmp.Lexicographic.{slice_cmp}
+use Rattle.plain_ballots.specs.declared.limits.TheConstants.{MOST_CANDIDATES}
 use Rattle.plain_ballots.specs.declared.ballot_line.BallotLine.{BallotLine}
 use Rattle.blt_writer.specs.declared.entry.Entry.{Entry}
 
@@ -28,7 +29,7 @@ entry_lines packed entries = map (line_of packed) entries
 -- an entry of at least one ballot, whose ranking stands among the packed ones and has this front
 pub record IsEntry (packed : List ℕ) (entry : Entry) : Type 0 where
   pub inside : entry.start + slice_index packed entry.start < length packed
-  pub candidates : All (λ c. (1 ≤ c) × (c ≤ 250)) (ranking_at packed entry.start)
+  pub candidates : All (λ c. (1 ≤ c) × (c ≤ MOST_CANDIDATES)) (ranking_at packed entry.start)
   pub front_is : entry.front ≡ front 8 (ranking_at packed entry.start)
   pub counted : 1 ≤ entry.count
 

@@ -1,6 +1,7 @@
 -- The lines at the rows of a plan, in preorder: one for each row, also where no ballot ends.
 use Rattle.std.specs.Prelude.{◌≡◌, ℕ, ◌+◌, ◌-◌, ◌≤◌, List, [], ◌∷◌, length, take, drop, All, ⊤}
 use Rattle.std.specs.List.{slice_set}
+use Rattle.plain_ballots.specs.declared.limits.TheConstants.{MOST_CANDIDATES}
 use Rattle.frozen_plan.specs.declared.plan_row.PlanRow.{PlanRow}
 use Rattle.frozen_plan.specs.Forest.{Forest, through, rows_of, read}
 use Rattle.plain_ballots.specs.declared.ballot_line.BallotLine.{BallotLine}
@@ -46,7 +47,7 @@ pub record IsNode (row : PlanRow) (behind : List PlanRow) : Type 0 where
   pub inside : row.skip ≤ length behind + 1
   pub below_are : below row behind ≡ rows_of (row.depth + 1) (nodes_of (below row behind))
   pub enough : through (nodes_of (below row behind)) ≤ row.ballots
-  pub deep : row.depth ≤ 250
+  pub deep : row.depth ≤ MOST_CANDIDATES
 
 abbrev pub AreNodes : List PlanRow → Type 0
 AreNodes [] = ⊤

@@ -1,11 +1,13 @@
 // A place in a plan.
 ghost use Rattle.std.specs.Prelude.{◌≡◌, ◌≤◌, [], All, IfNone, IfSome, AllPairs, length};
+ghost use Rattle.plain_ballots.specs.declared.limits.TheConstants.{MOST_CANDIDATES};
 ghost use Rattle.frozen_plan.specs.Plan.{plan_ballots};
 ghost use Rattle.plain_ballots.specs.Ballots.{plain};
 ghost use Rattle.blt_writer.specs.Merge.{IsHead, had, is_first, left};
 ghost use Rattle.blt_writer.specs.Order.{StandsBefore};
 ghost use Rattle.blt_writer.specs.Walk.{AreNodes, led_to};
 
+use crate::ranks::ROOM;
 use crate::rows::ends_at_first;
 use frozen_plan::{Plan, PlanRow};
 use std::marker::Model;
@@ -16,7 +18,7 @@ pub(crate) struct Cursor {
     plan: Plan,
     at: usize,
     /// The candidates that lead to the row, and others behind them.
-    path: [u16; 250],
+    path: [u16; ROOM],
 }
 
 impl Model for Cursor {
@@ -37,11 +39,11 @@ impl Cursor {
         ensures ballots { plain result ≡ plan_ballots plan.rows }
         ensures rising { AllPairs StandsBefore result }
     {
-        Cursor::at_root(plan, [0; 250])
+        Cursor::at_root(plan, [0; ROOM])
     }
 
     /// The first place of a plan. It does not matter which path led there.
-    fn at_root(plan: Plan, path: [u16; 250]) -> Cursor
+    fn at_root(plan: Plan, path: [u16; ROOM]) -> Cursor
         ensures ballots { plain result ≡ plan_ballots plan.rows }
         ensures rising { AllPairs StandsBefore result }
     {
@@ -52,7 +54,7 @@ impl Cursor {
     /// The ranking of the next line.
     pub fn head(&self) -> Option<&[u16]>
         ensures head { IfSome result (λ ranking. IsHead ranking.now self.now) }
-        ensures short { IfSome result (λ ranking. length ranking.now ≤ 250) }
+        ensures short { IfSome result (λ ranking. length ranking.now ≤ MOST_CANDIDATES) }
         ensures none { IfNone result (self.now ≡ []) }
     {
         let rows = self.plan.rows();
@@ -92,7 +94,7 @@ impl Cursor {
 fn lead(rows: &[PlanRow], path: &mut [u16])
     requires rest { AreNodes rows.now }
     requires below_root { All (λ row. 1 ≤ row.depth) rows.now }
-    requires long { length path.old ≡ 250 }
+    requires long { length path.old ≡ MOST_CANDIDATES }
     ensures { path.new ≡ led_to path.old rows.now }
 {
     if rows.len() > 0 {

@@ -1,5 +1,6 @@
 // Ballots to be written.
 ghost use Rattle.std.specs.Prelude.{◌≡◌, ◌≤◌, [], ◌∷◌, ◌++◌, IfOk, OnOk, IsPermutation, length};
+ghost use Rattle.plain_ballots.specs.declared.limits.TheConstants.{MOST_BALLOTS};
 ghost use Rattle.frozen_plan.specs.Plan.{all_ballots};
 ghost use Rattle.blt_writer.specs.Merge.{AreInOrder, all_plain};
 ghost use Rattle.blt_writer.specs.Written.{WritesText};
@@ -32,13 +33,13 @@ impl<'e> Model for Export<'e> {
 
     ghost view = { λ e. record { roll = e.roll.now; ballots = all_plain e.cursors.items } };
 
-    ghost invariant = { λ e. AreInOrder e.cursors.items × (length (all_plain e.cursors.items) ≤ 999999999) };
+    ghost invariant = { λ e. AreInOrder e.cursors.items × (length (all_plain e.cursors.items) ≤ MOST_BALLOTS) };
 }
 
 impl<'e> Export<'e> {
     /// An export of the ballots of all plans. All its memory is taken here.
     pub fn begin(alloc: Global, roll: &'e Roll, plans: Plans) -> Result<Export<'e>, NoMemory>
-        requires few { length (all_ballots plans) ≤ 999999999 }
+        requires few { length (all_ballots plans) ≤ MOST_BALLOTS }
         ensures roll { IfOk result (λ export. export.roll ≡ roll.entry.now) }
         ensures ballots { IfOk result (λ export. IsPermutation export.ballots (all_ballots plans)) }
     {

@@ -1,5 +1,6 @@
 // Ballots in the order in which their file lists them.
 ghost use Rattle.std.specs.Prelude.{◌≡◌, ◌≤◌, IfOk, IsPermutation};
+ghost use Rattle.plain_ballots.specs.declared.limits.TheConstants.{MOST_BALLOTS, MOST_CANDIDATES};
 ghost use Rattle.plain_ballots.specs.Ballots.{plain};
 ghost use Rattle.blt_writer.specs.Written.{WritesText};
 
@@ -34,7 +35,7 @@ impl<'e> Model for Listing<'e> {
 
     ghost invariant = { λ l.
         AreShelved l.shelves.items × All AreListed l.shelves.items
-        × (length (all_plain l.shelves.items) ≤ 999999999) };
+        × (length (all_plain l.shelves.items) ≤ MOST_BALLOTS) };
 }
 
 impl<'e> Listing<'e> {
@@ -47,7 +48,7 @@ impl<'e> Listing<'e> {
         ballots: Ballots,
         workers: u32,
     ) -> Result<Listing<'e>, NoMemory>
-        requires candidates { ballots.candidates ≤ 250 }
+        requires candidates { ballots.candidates ≤ MOST_CANDIDATES }
         requires workers { 1 ≤ workers }
         ensures roll { IfOk result (λ listing. listing.roll ≡ roll.entry.now) }
         ensures ballots { IfOk result (λ listing. IsPermutation listing.ballots (plain ballots.lines)) }

@@ -1,5 +1,6 @@
 // Several plans walked at once.
 ghost use Rattle.std.specs.Prelude.{◌≡◌, ◌≤◌, ◌<◌, ℕ, List, All, IfNone, IfSome, [], true, false, length, map, slice_index_or, sum_by};
+ghost use Rattle.plain_ballots.specs.declared.limits.TheConstants.{MOST_BALLOTS};
 ghost use Rattle.blt_writer.specs.Merge.{AreInOrder, IsLeast, TakesLeast, all_plain, had, is_ahead, left};
 ghost use Rattle.blt_writer.specs.Merged.{WritesLines};
 ghost use Rattle.plain_ballots.specs.declared.ballot_line.BallotLine.{BallotLine};
@@ -16,10 +17,10 @@ pub(crate) fn write_merged<K: Sink>(
     sink: &mut K,
 ) -> Result<(), Failed>
     requires order { AreInOrder cursors.old }
-    requires few { length (all_plain cursors.old) ≤ 999999999 }
+    requires few { length (all_plain cursors.old) ≤ MOST_BALLOTS }
     ensures lines { WritesLines K.written K.faults sink.old sink.new (all_plain cursors.old) result }
     ensures order { AreInOrder cursors.new }
-    ensures few { length (all_plain cursors.new) ≤ 999999999 }
+    ensures few { length (all_plain cursors.new) ≤ MOST_BALLOTS }
 {
     while let Some(count) = take_least(cursors, ranking) {
         write_ballots(count, ranking.items(), sink)?;
@@ -30,7 +31,7 @@ pub(crate) fn write_merged<K: Sink>(
 /// Takes the least ranking from all cursors that stand at it, and gives how many ballots have it. None
 /// where all cursors are at their ends.
 fn take_least(cursors: &mut [Cursor], ranking: &mut Ranks) -> Option<u64>
-    requires few { length (all_plain cursors.old) ≤ 999999999 }
+    requires few { length (all_plain cursors.old) ≤ MOST_BALLOTS }
     ensures least { IfSome result (λ count. TakesLeast ranking.new count cursors.old cursors.new) }
     ensures none { IfNone result (All (λ lines. lines ≡ []) cursors.old) }
     ensures kept { IfNone result (cursors.new ≡ cursors.old) }
@@ -86,7 +87,7 @@ fn is_ahead(one: &Cursor, other: &Cursor) -> bool
 
 /// Takes the ballots of a ranking from all cursors that stand at it, and gives how many these are.
 fn take_all(cursors: &mut [Cursor], ranking: &[u16]) -> u64
-    requires few { length (all_plain cursors.old) ≤ 999999999 }
+    requires few { length (all_plain cursors.old) ≤ MOST_BALLOTS }
     ensures left { cursors.new ≡ map (left ranking.now) cursors.old }
     ensures count { result ≡ sum_by (had ranking.now) cursors.old }
 {

@@ -1,5 +1,6 @@
 // Rankings packed into bytes, one behind another.
 ghost use Rattle.std.specs.Prelude.{◌≡◌, ℕ, ◌≤◌, ◌∷◌, ◌++◌, All, length, IfOk, OnErr, OnOk, slice_index};
+ghost use Rattle.plain_ballots.specs.declared.limits.TheConstants.{MOST_CANDIDATES};
 ghost use Rattle.blt_writer.specs.Packed.{front, ranking_at};
 
 use crate::NoMemory;
@@ -9,8 +10,8 @@ use std::mem;
 
 /// Packs the ranking of a line behind the others.
 pub(crate) fn pack(line: &BallotLine, ranks: &mut Vec<u8>) -> Result<Entry, NoMemory>
-    requires candidates { All (λ c. (1 ≤ c) × (c ≤ 250)) line.now.ranking }
-    requires short { length line.now.ranking ≤ 250 }
+    requires candidates { All (λ c. (1 ≤ c) × (c ≤ MOST_CANDIDATES)) line.now.ranking }
+    requires short { length line.now.ranking ≤ MOST_CANDIDATES }
     ensures ranks { OnOk result (ranks.new.items ≡ ranks.old.items ++ (length line.now.ranking ∷ line.now.ranking)) }
     ensures refused { OnErr result (ranks.new.items ≡ ranks.old.items) }
     ensures entry { IfOk result (λ entry. entry ≡ record { front = front 8 line.now.ranking; start = length ranks.old.items; count = line.now.count }) }
@@ -30,8 +31,8 @@ pub(crate) fn pack(line: &BallotLine, ranks: &mut Vec<u8>) -> Result<Entry, NoMe
 /// Puts the length of a ranking behind the others, and then its candidates. The list is taken out meanwhile, so
 /// that its length is not written to memory with each candidate.
 fn push_ranking(ranks: &mut Vec<u8>, candidates: &[u32]) -> Result<(), NoMemory>
-    requires candidates { All (λ c. (1 ≤ c) × (c ≤ 250)) candidates.now }
-    requires short { length candidates.now ≤ 250 }
+    requires candidates { All (λ c. (1 ≤ c) × (c ≤ MOST_CANDIDATES)) candidates.now }
+    requires short { length candidates.now ≤ MOST_CANDIDATES }
     ensures ranks { OnOk result (ranks.new.items ≡ ranks.old.items ++ (length candidates.now ∷ candidates.now)) }
     ensures refused { OnErr result (ranks.new.items ≡ ranks.old.items) }
 {
@@ -50,7 +51,7 @@ fn push_ranking(ranks: &mut Vec<u8>, candidates: &[u32]) -> Result<(), NoMemory>
 
 /// The first eight candidates as the digits of a number, with zeros behind a shorter ranking.
 fn front_of(candidates: &[u32]) -> u64
-    requires { All (λ c. (1 ≤ c) × (c ≤ 250)) candidates.now }
+    requires { All (λ c. (1 ≤ c) × (c ≤ MOST_CANDIDATES)) candidates.now }
     ensures { result ≡ front 8 candidates.now }
 {
     let mut front = 0;
@@ -62,9 +63,9 @@ fn front_of(candidates: &[u32]) -> u64
 
 /// The candidate at a place from 0, and 0 behind the last.
 fn candidate_at(candidates: &[u32], place: usize) -> u64
-    requires { All (λ c. (1 ≤ c) × (c ≤ 250)) candidates.now }
+    requires { All (λ c. (1 ≤ c) × (c ≤ MOST_CANDIDATES)) candidates.now }
     ensures value { result ≡ slice_index candidates.now place }
-    ensures small { result ≤ 250 }
+    ensures small { result ≤ MOST_CANDIDATES }
 {
     match candidates.get(place) {
         Some(candidate) => *candidate as u64,

@@ -1,12 +1,14 @@
 // A ranking that was copied out of a plan.
 ghost use Rattle.std.specs.Prelude.{◌≡◌, ◌≤◌, [], length};
+ghost use Rattle.plain_ballots.specs.declared.limits.TheConstants.{MOST_CANDIDATES};
 
+use plain_ballots::MOST_CANDIDATES;
 use std::marker::Model;
 
 // No ranking of a plan is longer.
-const ROOM: usize = 250;
+pub(crate) const ROOM: usize = MOST_CANDIDATES as usize;
 
-/// The candidates of a ranking, of at most 250. It takes no memory of its own.
+/// The candidates of a ranking. It takes no memory of its own.
 #[derive(Drop)]
 pub(crate) struct Ranks {
     ranks: [u16; ROOM],
@@ -20,7 +22,7 @@ impl Model for Ranks {
 
     ghost view = { λ r. take r.len r.ranks };
 
-    ghost invariant = { λ r. r.len ≤ 250 };
+    ghost invariant = { λ r. r.len ≤ MOST_CANDIDATES };
 }
 
 impl Ranks {
@@ -35,7 +37,7 @@ impl Ranks {
 
     /// Makes the ranking this one.
     pub fn copy(&mut self, ranking: &[u16])
-        requires { length ranking.now ≤ 250 }
+        requires { length ranking.now ≤ MOST_CANDIDATES }
         ensures { self.new ≡ ranking.now }
     {
         self.len = ranking.len();

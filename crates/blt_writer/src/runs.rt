@@ -1,5 +1,6 @@
 // Entries that stand in order, written ranking by ranking.
 ghost use Rattle.std.specs.Prelude.{◌≡◌, ◌≤◌, ◌<◌, [], All, OnOk, length, slice_index_or, sum_by};
+ghost use Rattle.plain_ballots.specs.declared.limits.TheConstants.{MOST_BALLOTS};
 ghost use Rattle.plain_ballots.specs.Ballots.{plain};
 ghost use Rattle.blt_writer.specs.Merged.{WritesLines};
 ghost use Rattle.blt_writer.specs.declared.entry.Entry.{Entry};
@@ -19,7 +20,7 @@ pub(crate) fn write_runs<K: Sink>(
 ) -> Result<(), Failed>
     requires sound { All (IsEntry ranks.now) entries.now }
     requires listed { AreListed (entry_lines ranks.now entries.now) }
-    requires few { length (plain (entry_lines ranks.now entries.now)) ≤ 999999999 }
+    requires few { length (plain (entry_lines ranks.now entries.now)) ≤ MOST_BALLOTS }
     requires empty { page.old ≡ [] }
     ensures written { WritesLines K.written K.faults sink.old sink.new (plain (entry_lines ranks.now entries.now)) result }
     ensures empty { OnOk result (page.new ≡ []) }
@@ -61,7 +62,7 @@ fn entry_at(entries: &[Entry], i: usize) -> Entry
 
 /// The number of ballots of entries.
 fn count(entries: &[Entry]) -> u64
-    requires { sum_by (λ entry. entry.count) entries.now ≤ 999999999 }
+    requires { sum_by (λ entry. entry.count) entries.now ≤ MOST_BALLOTS }
     ensures { result ≡ sum_by (λ entry. entry.count) entries.now }
 {
     let mut total = 0;

@@ -1,6 +1,7 @@
 -- What holds for every order of calls, also where marks are seen whose entries aren't, or the other way round.
 use Rattle.std.specs.Prelude.{◌≡◌, ◌⊎◌, ℕ, ◌<◌, ◌≤◌, List, [], ◌∷◌, ◌++◌, All, Some, drop, length, slice_get, take}
 use Rattle.std.specs.List.{list_any}
+use Rattle.plain_ballots.specs.declared.limits.TheConstants.{MOST_CANDIDATES}
 use Rattle.batch_core.specs.declared.entry.Entry.{Entry}
 use Rattle.batch_core.specs.Book.{is_struck}
 use Rattle.batch_core.specs.Histories.{IsLegal, own_calls}
@@ -20,7 +21,7 @@ EveryOrderIsLegal =
 -- whatever the order of the marks, lawful lists are lawful together
 abbrev pub EveryOrderIsLawful : Type 0
 EveryOrderIsLawful =
-    (shards candidates : ℕ) (marks : List Mark) (lists : Lists) → candidates ≤ 250 → All (λ m. MayMark shards candidates m) marks
+    (shards candidates : ℕ) (marks : List Mark) (lists : Lists) → candidates ≤ MOST_CANDIDATES → All (λ m. MayMark shards candidates m) marks
     → ((s : ℕ) → AreLawful candidates (lists s)) → AreLawful candidates (weave marks lists)
 
 -- where each mark has its entry and each entry its mark, the law of weaving holds

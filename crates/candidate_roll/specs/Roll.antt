@@ -1,6 +1,7 @@
 -- An election as it was announced.
 use Rattle.std.specs.Prelude.{◌≡◌, ℕ, ◌+◌, ◌-◌, ◌≤◌, ◌==◌, ◌||◌, Bool, false, List, length, map, slice_index_or}
 use Rattle.std.specs.List.{list_any, range_with_len}
+use Rattle.plain_ballots.specs.declared.limits.TheConstants.{MOST_CANDIDATES}
 use Rattle.candidate_roll.specs.declared.roll_stop.RollStop.{RollStop}
 use Rattle.candidate_roll.specs.declared.roll_stop.RollStop.TheVariants.{BadCount, BadSeats, NoMemory}
 
@@ -15,9 +16,9 @@ pub record RollList : Type 0 where
 -- 1 to 250 seats and candidates
 pub record IsRoll (roll : RollList) : Type 0 where
   pub some_seat : 1 ≤ roll.seats
-  pub few_seats : roll.seats ≤ 250
+  pub few_seats : roll.seats ≤ MOST_CANDIDATES
   pub some_candidate : 1 ≤ length roll.names
-  pub few_candidates : length roll.names ≤ 250
+  pub few_candidates : length roll.names ≤ MOST_CANDIDATES
   pub same_length : length roll.withdrawn ≡ length roll.names
 
 -- whether candidate c was withdrawn
@@ -39,7 +40,7 @@ marks_with withdrawn listed =
 
 -- as many as an election may have of candidates, and of seats
 abbrev pub IsFew : ℕ → Type 0
-IsFew n = (1 ≤ n) × (n ≤ 250)
+IsFew n = (1 ≤ n) × (n ≤ MOST_CANDIDATES)
 
 -- why so many seats and candidates make no roll; memory is wanted for a roll alone
 abbrev pub IsRollStop : ℕ → ℕ → RollStop → Type 0

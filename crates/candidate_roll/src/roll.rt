@@ -3,6 +3,7 @@ ghost use Rattle.std.specs.Prelude.{◌≡◌, ◌-◌, ◌≤◌, length, slice
 ghost use Rattle.candidate_roll.specs.Roll.{IsRoll, IsRollStop, is_withdrawn, withdrawn_marks, marks_with};
 
 use crate::{Name, Names, NoMemory, RollStop};
+use plain_ballots::MOST_CANDIDATES;
 use std::alloc::Global;
 use std::marker::Model;
 
@@ -46,10 +47,10 @@ impl Roll {
         ensures sound { IfOk result IsRoll }
         ensures stop { IfErr result (IsRollStop seats (length names)) }
     {
-        if names.len() < 1 || names.len() > 250 {
+        if names.len() < 1 || names.len() > MOST_CANDIDATES as usize {
             return Err(RollStop::BadCount);
         }
-        if seats < 1 || seats > 250 {
+        if seats < 1 || seats > MOST_CANDIDATES {
             return Err(RollStop::BadSeats);
         }
         let Ok(mut marks) = vec![in alloc; false; names.len()] else {

@@ -1,6 +1,7 @@
 // The lines of what a count promises.
 ghost use Rattle.std.specs.Prelude.{◌≡◌, ◌+◌, ◌^◌, ◌<◌, ◌≤◌, ◌++◌, ◌∷◌, [], All, IfOk, OnOk, codes, decimal, length};
 ghost use Rattle.std.specs.List.{flat_map, list_any};
+ghost use Rattle.plain_ballots.specs.declared.limits.TheConstants.{MOST_BALLOTS};
 ghost use Rattle.fixed_place.specs.Rounding.{scale};
 ghost use Rattle.meek_rule.specs.Places.{each_place};
 ghost use Rattle.meek_rule.specs.Row.{HasRoomFor};
@@ -49,7 +50,7 @@ fn push_further(text: &mut Text, values: &SheetValues) -> Result<(), AllocError>
 
 /// The quota while nothing of any ballot is lost, in units.
 fn whole_quota(seats: u32, ballots: u64) -> u128
-    requires { ballots ≤ 999999999 }
+    requires { ballots ≤ MOST_BALLOTS }
     ensures value { result ≡ whole_quota (scale 9) seats ballots }
     ensures bound { result < 10 ^ 27 }
 {

@@ -1,5 +1,6 @@
 // What an iteration leaves over.
 ghost use Rattle.std.specs.Prelude.{◌≡◌, ◌*◌, ◌^◌, ◌<◌, ◌≤◌, length, option_map};
+ghost use Rattle.plain_ballots.specs.declared.limits.TheConstants.{MOST_CANDIDATES};
 ghost use Rattle.meek_rule.specs.Row.{HasRoomFor};
 ghost use Rattle.meek_rule.specs.Surplus.{holds_seat};
 ghost use Rattle.rule_laws.specs.Orderly.{shortfalls};
@@ -23,7 +24,7 @@ pub(crate) fn surplus_at(row: &Row<9>) -> u64
 /// What those who hold seats lack of their quotas together, where somebody is elected or defeated.
 pub(crate) fn lack_at(row: &Row<9>) -> u128
     requires room { HasRoomFor (length row.now.states) row.now }
-    requires few { length row.now.states ≤ 250 }
+    requires few { length row.now.states ≤ MOST_CANDIDATES }
     ensures value { result ≡ lack_at row.now.step row.now }
     ensures bound { result ≤ 10 ^ 21 }
 {
@@ -37,7 +38,7 @@ pub(crate) fn lack_at(row: &Row<9>) -> u128
 /// What those who hold seats, winners included, lack of a quota, each for itself, together.
 fn shortfalls(row: &Row<9>) -> u128
     requires room { HasRoomFor (length row.now.states) row.now }
-    requires few { length row.now.states ≤ 250 }
+    requires few { length row.now.states ≤ MOST_CANDIDATES }
     ensures value { result ≡ shortfalls row.now }
     ensures bound { result ≤ 10 ^ 21 }
 {

@@ -1,5 +1,6 @@
 // The greatest of what iterations leave over.
 ghost use Rattle.std.specs.Prelude.{◌≡◌, ◌^◌, ◌≤◌, length, max, All};
+ghost use Rattle.plain_ballots.specs.declared.limits.TheConstants.{MOST_CANDIDATES};
 ghost use Rattle.sheet_reader.specs.Form.{IsPrintableRow};
 ghost use Rattle.meek_rule.specs.Row.{HasRoomFor};
 ghost use Rattle.count_promise.specs.Left.{greatest_lack, greatest_surplus, lack_at, left_at_most, slack, surplus_at};
@@ -20,7 +21,7 @@ pub(crate) struct Peaks {
 
 /// The greatest of all iterations.
 pub(crate) fn peaks_of(rows: &[Row<9>], candidates: usize) -> Peaks
-    requires few { candidates ≤ 250 }
+    requires few { candidates ≤ MOST_CANDIDATES }
     requires rows { All (IsPrintableRow 9 candidates) rows.now }
     ensures surplus { result.surplus ≡ greatest_surplus rows.now }
     ensures lack { result.lack ≡ greatest_lack rows.now }
@@ -43,7 +44,7 @@ impl Peaks {
     /// The greatest with one iteration more.
     fn with(&self, row: &Row<9>) -> Peaks
         requires room { HasRoomFor (length row.now.states) row.now }
-        requires few { length row.now.states ≤ 250 }
+        requires few { length row.now.states ≤ MOST_CANDIDATES }
         requires few_lack { self.now.lack ≤ 10 ^ 22 }
         requires few_left { self.now.left ≤ 10 ^ 22 }
         ensures surplus { result.surplus ≡ max self.now.surplus (surplus_at row.now.step row.now) }

@@ -1,6 +1,7 @@
 // The tool that says what a count promises.
 ghost use Rattle.std.specs.Prelude.{◌≤◌, map, length};
 ghost use Rattle.std.specs.String.{string_bytes};
+ghost use Rattle.tool_edge.specs.declared.opening.TheConstants.{FILE_LIMIT};
 ghost use Rattle.tool_edge.specs.Finishing.{FinishesOwed};
 ghost use Rattle.tool_edge.specs.Streams.{reading, writing};
 ghost use Rattle.tool_edge.specs.Tool.{IsOwedFor, IsRun, no_history};
@@ -37,7 +38,7 @@ pub fn promise<S: Source, K: Sink>(
 /// Judges the whole input, and says what it promises.
 #[tactic(auto, using(crate::proofs::Owing::promise_owed, crate::proofs::Owing::malformed_owed))]
 fn tell<K: Sink>(alloc: Global, input: &[u8], sink: &mut K) -> End<SheetFault>
-    requires { length input.now ≤ 67108864 }
+    requires { length input.now ≤ FILE_LIMIT }
     ensures { FinishesOwed (IsOwedFor promises (tt {0}) input.now no_history) result
         (writing K.written K.faults sink.old sink.new) }
 {

@@ -1,5 +1,6 @@
 // The lots of a day.
 ghost use Rattle.std.specs.Prelude.{◌≡◌, ◌≤◌, [], length, IfOk, IfErr};
+ghost use Rattle.plain_ballots.specs.declared.limits.TheConstants.{MOST_CANDIDATES};
 ghost use Rattle.input_text.specs.Reader.{IsTokenAt, said};
 ghost use Rattle.input_text.specs.Reads.{IsBehind, Reads};
 ghost use Rattle.input_text.specs.declared.input_stop.InputStop.TheVariants as stop;
@@ -20,7 +21,7 @@ pub(crate) fn read_order(
     tokens: &mut Tokens<'_>,
     candidates: u32,
 ) -> Result<Lots, InputStop>
-    requires { candidates ≤ 250 }
+    requires { candidates ≤ MOST_CANDIDATES }
     ensures reads { ReadsOrder candidates tokens.old.rest result tokens.new.rest }
     ensures behind { IsBehind tokens.old tokens.new }
 {
@@ -59,7 +60,7 @@ fn lots_word(tokens: &Tokens<'_>, token: Token) -> Result<(), InputFault>
 /// Candidates, each of them once, and the 0 behind them.
 #[tactic(auto, using(input_text::proofs::Reading::behind_trans))]
 fn read_lots(alloc: Global, tokens: &mut Tokens<'_>, candidates: u32) -> Result<Lots, InputStop>
-    requires { candidates ≤ 250 }
+    requires { candidates ≤ MOST_CANDIDATES }
     ensures reads { Reads (at_lot candidates) [] (λ lots. lots) tokens.old.rest result tokens.new.rest }
     ensures behind { IsBehind tokens.old tokens.new }
 {
@@ -88,7 +89,7 @@ fn read_lots(alloc: Global, tokens: &mut Tokens<'_>, candidates: u32) -> Result<
 
 // The lots of an order that is known to be one.
 fn new_lots(alloc: Global, order: &[u32], candidates: u32) -> Result<Lots, InputStop>
-    requires few { candidates ≤ 250 }
+    requires few { candidates ≤ MOST_CANDIDATES }
     requires lots { AreAllLots candidates order.now }
     ensures lots { IfOk result (λ lots. lots ≡ order.now) }
     ensures only_memory { IfErr result (λ why. why ≡ stop.NoMemory) }

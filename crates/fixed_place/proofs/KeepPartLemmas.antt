@@ -1,7 +1,7 @@
 -- Rounding up by one sum and one division, in 64 bits.
-use Rattle.std.proofs.Common.{◌≡◌, ℕ, ◌+◌, ◌-◌, ◌*◌, ◌/◌, ◌<◌, ◌≤◌, arith, sym}
+use Rattle.std.proofs.Common.{◌≡◌, ℕ, ◌+◌, ◌-◌, ◌*◌, ◌/◌, ◌≤◌, arith}
 use Rattle.std.specs.Int.{div_ceil}
-use Rattle.std.proofs.Math.Nat.{mul-le-mul_left, mul-le-mul_right, div-eq_of_lt-le}
+use Rattle.std.proofs.Math.Nat.{mul-le-mul_left, div-eq_of_lt-le}
 use Rattle.std.proofs.lemmas.Grind.{div_ceil_times}
 use Rattle.fixed_place.proofs.RoundingLemmas.{up-le}
 

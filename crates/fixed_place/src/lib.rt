@@ -1,7 +1,7 @@
 //! The arithmetic of a count: amounts of votes and keep values as whole numbers of units, at `P`
 //! decimal places, and their roundings. An [`Amount`] is so many votes, a [`Keep`] the share of a
-//! vote that a candidate keeps; [`Amounts`] and [`Keeps`] have one for each candidate, and a
-//! [`RoundCase`] is a rounding worked by hand.
+//! vote that a candidate keeps; [`Amounts`] and [`Keeps`] have one for each candidate, an
+//! [`Omega`] is the least surplus that is transferred, and a [`RoundCase`] is a rounding worked by hand.
 #![tactic(auto)]
 
 mod amount;
@@ -9,6 +9,7 @@ mod amounts;
 mod keep;
 mod keeps;
 mod no_memory;
+mod omega;
 mod part;
 mod round_case;
 mod rounding;
@@ -20,6 +21,7 @@ pub use amounts::Amounts;
 pub use keep::Keep;
 pub use keeps::Keeps;
 pub use no_memory::NoMemory;
+pub use omega::{MOST_OMEGA, Omega, USUAL_OMEGA};
 pub use part::keep_part;
 pub use round_case::{RoundCase, check_cases};
 pub use rounding::{div_down, div_up_capped, mul_up, rounding_law, sum_checked};

@@ -1,5 +1,6 @@
 -- The nodes of a trie: siblings, each with what stands below it. A node is the beginning of rankings that leads to it.
 use Rattle.std.specs.Prelude.{ℕ, ◌+◌, ◌-◌, ◌≤◌, ◌<◌, List, [], ◌∷◌, ◌++◌, length, map, replicate, take, drop, zero, suc}
+use Rattle.plain_ballots.specs.declared.limits.TheConstants.{MOST_CANDIDATES}
 use Rattle.frozen_plan.specs.declared.plan_row.PlanRow.{PlanRow}
 
 -- the first sibling's candidate, how many ballots end at it, the nodes below it and those behind it
@@ -28,7 +29,7 @@ rows_of d (Grown c n inner next) =
 abbrev pub IsGrown : (n low depth : ℕ) → Forest → Type 0
 IsGrown n low d Bare = Unit {0}
 IsGrown n low d (Grown c k inner next) =
-    (low < c) × (c ≤ n) × (d ≤ 250) × (1 ≤ k + through inner) × IsGrown n 0 (d + 1) inner × IsGrown n c d next
+    (low < c) × (c ≤ n) × (d ≤ MOST_CANDIDATES) × (1 ≤ k + through inner) × IsGrown n 0 (d + 1) inner × IsGrown n c d next
 
 -- the nodes that rows in preorder say, of at most as many rows
 abbrev pub read : ℕ → List PlanRow → Forest

@@ -1,6 +1,7 @@
 -- The rows of a plan, and the ballots that they stand for.
 use Rattle.std.specs.Prelude.{◌≡◌, ℕ, ◌+◌, ◌-◌, ◌≤◌, List, [], ◌∷◌, ◌++◌, length, drop, replicate, slice_index_or}
 use Rattle.std.specs.List.{flat_map}
+use Rattle.plain_ballots.specs.declared.limits.TheConstants.{MOST_BALLOTS, MOST_CANDIDATES}
 use Rattle.frozen_plan.specs.declared.plan_row.PlanRow.{PlanRow}
 use Rattle.frozen_plan.specs.Forest.{Forest, ballots_of, through, rows_of, IsGrown, read}
 
@@ -32,10 +33,10 @@ plan_rows ends f =
 
 -- The root with all ballots, and then the nodes of a trie of n candidates in preorder.
 pub record IsPlan (n : ℕ) (rows : List PlanRow) : Type 0 where
-  pub few_candidates : n ≤ 250
+  pub few_candidates : n ≤ MOST_CANDIDATES
   pub preorder : rows ≡ plan_rows (ballot_count rows - through (forest_of rows)) (forest_of rows)
   pub grown : IsGrown n 0 1 (forest_of rows)
-  pub few : ballot_count rows ≤ 999999999
+  pub few : ballot_count rows ≤ MOST_BALLOTS
 
 -- the single ballots of some plans, plan by plan
 abbrev pub all_ballots : List PlanRows → List (List ℕ)

@@ -1,6 +1,7 @@
 -- The lines that are dealt to a shard, with their ranks as bytes.
 use Rattle.std.specs.Prelude.{◌≡◌, ℕ, ◌+◌, ◌≤◌, List, [], ◌∷◌, ◌++◌, All, length, drop, replicate, slice_index, sum_by, zero, suc}
 use Rattle.std.specs.List.{flat_map}
+use Rattle.plain_ballots.specs.declared.limits.TheConstants.{MOST_CANDIDATES}
 use Rattle.frozen_plan.specs.declared.share.Placed.{Placed}
 
 -- the ranking at the front of the bytes: the ranks before the first 0
@@ -35,5 +36,5 @@ pub record IsKept (bytes : List ℕ) (line : Placed) : Type 0 where
 pub record IsShare (n : ℕ) (bytes : List ℕ) (lines : List Placed) : Type 0 where
   pub numbers : All (λ c. c ≤ n) bytes
   pub kept : All (IsKept bytes) lines
-  pub short : All (λ line. length (rest_of bytes 0 line) ≤ 250) lines
+  pub short : All (λ line. length (rest_of bytes 0 line) ≤ MOST_CANDIDATES) lines
   pub counted : All (λ line. 1 ≤ line.count) lines

@@ -1,5 +1,6 @@
 // The rows of a single line: each node is below the one before.
 ghost use Rattle.std.specs.Prelude.{◌≡◌, ◌+◌, ◌≤◌, ◌++◌, length, IfOk, OnOk};
+ghost use Rattle.plain_ballots.specs.declared.limits.TheConstants.{MOST_CANDIDATES};
 ghost use Rattle.frozen_plan.specs.Forest.{rows_of};
 ghost use Rattle.frozen_plan.specs.Groups.{chain};
 ghost use Rattle.frozen_plan.specs.Share.{rest_of};
@@ -7,6 +8,7 @@ ghost use Rattle.frozen_plan.specs.Share.{rest_of};
 use crate::rows::append;
 use crate::share::{Placed, rank_at};
 use crate::{NoMemory, PlanRow};
+use plain_ballots::MOST_CANDIDATES;
 
 /// Appends the nodes of a line by what stands in its ranking from place `at` from 0 on, and gives how
 /// many ballots it has.
@@ -16,7 +18,7 @@ pub(crate) fn push_line(
     at: u16,
     rows: &mut Vec<PlanRow>,
 ) -> Result<u64, NoMemory>
-    requires short { at + length (rest_of ranks.now at line) ≤ 250 }
+    requires short { at + length (rest_of ranks.now at line) ≤ MOST_CANDIDATES }
     ensures rows { IfOk result (λ _. rows.new.items ≡ rows.old.items ++ rows_of (at + 1) (chain line.count (rest_of ranks.now at line))) }
     ensures total { IfOk result (λ n. n ≡ line.count) }
 {
@@ -36,13 +38,13 @@ pub(crate) fn push_line(
 
 /// The place from 0 behind a line's last rank, which is at `at` or behind it.
 fn end_of(ranks: &[u8], line: Placed, at: u16) -> u16
-    requires short { at + length (rest_of ranks.now at line) ≤ 250 }
+    requires short { at + length (rest_of ranks.now at line) ≤ MOST_CANDIDATES }
     ensures { result ≡ at + length (rest_of ranks.now at line) }
 {
-    for i in at..250 {
+    for i in at..MOST_CANDIDATES as u16 {
         if rank_at(ranks, line, i) == 0 {
             return i;
         }
     }
-    250
+    MOST_CANDIDATES as u16
 }

@@ -1,5 +1,6 @@
 // Ballots dealt out among shards, and a plan of what each gets.
 ghost use Rattle.std.specs.Prelude.{◌≡◌, ℕ, ◌+◌, ◌%◌, ◌<◌, ◌≤◌, [], ◌∷◌, ◌++◌, All, IfOk, OnOk, length, IsPermutation};
+ghost use Rattle.plain_ballots.specs.declared.limits.TheConstants.{MOST_BALLOTS, MOST_CANDIDATES};
 ghost use Rattle.plain_ballots.specs.Ballots.{plain, IsSound};
 ghost use Rattle.frozen_plan.specs.Dealing.{share, AreOfShares};
 ghost use Rattle.frozen_plan.specs.Dealt.{AreDealt, AreEmpty};
@@ -15,12 +16,12 @@ impl Plans {
     /// makes a plan of what each gets. The ballots are let go before the first plan is made.
     pub fn dealt(alloc: Global, ballots: Ballots, shards: u32) -> Result<Plans, NoMemory>
         requires shards { 1 ≤ shards }
-        requires candidates { (1 ≤ ballots.candidates) × (ballots.candidates ≤ 250) }
+        requires candidates { (1 ≤ ballots.candidates) × (ballots.candidates ≤ MOST_CANDIDATES) }
         ensures as_many { IfOk result (λ plans. length plans ≡ shards) }
         ensures candidates { IfOk result (All (λ plan. plan.candidates ≡ ballots.candidates)) }
         ensures shares { IfOk result (AreOfShares shards 1 ballots.lines) }
         ensures ballots { IfOk result (λ plans. IsPermutation (all_ballots plans) (plain ballots.lines)) }
-        ensures few { IfOk result (λ plans. length (all_ballots plans) ≤ 999999999) }
+        ensures few { IfOk result (λ plans. length (all_ballots plans) ≤ MOST_BALLOTS) }
     {
         lines_stand_for_ballots();
         let candidates = ballots.candidates();
@@ -47,7 +48,7 @@ pub(crate) fn add_plan(plans: &mut Plans, plan: Plan) -> Result<(), NoMemory>
 /// The lines of ballots, which are let go, dealt out to so many shares.
 fn shares_of(alloc: Global, ballots: Ballots, shards: u32) -> Result<Vec<Share>, NoMemory>
     requires shards { 1 ≤ shards }
-    requires candidates { ballots.candidates ≤ 250 }
+    requires candidates { ballots.candidates ≤ MOST_CANDIDATES }
     ensures as_many { IfOk result (λ shares. length shares.items ≡ shards) }
     ensures dealt { IfOk result (λ shares. AreDealt ballots.candidates 0 ballots.lines shares.items) }
     ensures sound { IfOk result (λ _. IsSound ballots.candidates ballots.lines) }
@@ -76,7 +77,7 @@ fn empty_shares(alloc: Global, shards: u32, lines: usize) -> Result<Vec<Share>, 
 /// Deals the lines of ballots out, one to each share in turn. They are taken from the last to the first, and
 /// each is let go when its share has it, so that few ballots stand beside many shares.
 fn deal(mut ballots: Ballots, shares: &mut [Share]) -> Result<(), NoMemory>
-    requires candidates { ballots.candidates ≤ 250 }
+    requires candidates { ballots.candidates ≤ MOST_CANDIDATES }
     requires some { 1 ≤ length shares.old }
     requires empty { AreEmpty shares.old }
     ensures { OnOk result (AreDealt ballots.candidates 0 ballots.lines shares.new) }

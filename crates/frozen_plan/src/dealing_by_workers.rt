@@ -1,5 +1,6 @@
 // Plans of shards, made by several workers.
 ghost use Rattle.std.specs.Prelude.{◌≡◌, ◌+◌, ◌<◌, ◌≤◌, ◌^◌, All, IfOk, IfSome, Some, length, map, vec_len, IsPermutation};
+ghost use Rattle.plain_ballots.specs.declared.limits.TheConstants.{MOST_BALLOTS, MOST_CANDIDATES};
 ghost use Rattle.plain_ballots.specs.Ballots.{plain, IsSound};
 ghost use Rattle.frozen_plan.specs.Dealing.{AreOfShares};
 ghost use Rattle.frozen_plan.specs.Dealt.{IsDealt, IsOfShare, AreOfTurns};
@@ -29,12 +30,12 @@ impl Plans {
     ) -> Result<Plans, NoMemory>
         requires shards { 1 ≤ shards }
         requires workers { 1 ≤ workers }
-        requires candidates { (1 ≤ ballots.candidates) × (ballots.candidates ≤ 250) }
+        requires candidates { (1 ≤ ballots.candidates) × (ballots.candidates ≤ MOST_CANDIDATES) }
         ensures as_many { IfOk result (λ plans. length plans ≡ shards) }
         ensures candidates { IfOk result (All (λ plan. plan.candidates ≡ ballots.candidates)) }
         ensures shares { IfOk result (AreOfShares shards 1 ballots.lines) }
         ensures ballots { IfOk result (λ plans. IsPermutation (all_ballots plans) (plain ballots.lines)) }
-        ensures few { IfOk result (λ plans. length (all_ballots plans) ≤ 999999999) }
+        ensures few { IfOk result (λ plans. length (all_ballots plans) ≤ MOST_BALLOTS) }
     {
         lines_stand_for_ballots();
         if workers == 1 || ballots.lines().len() < MANY {
@@ -73,14 +74,14 @@ fn make_plans<R: Threads + Sync>(
 )
     requires workers { 1 ≤ workers }
     requires shards { length made.old < 2 ^ 32 }
-    requires candidates { candidates ≤ 250 }
+    requires candidates { candidates ≤ MOST_CANDIDATES }
     requires sound { IsSound candidates lines.now }
     ensures as_many { length made.new ≡ length made.old }
     ensures made { AreOfTurns candidates lines.now made.new }
 {
     let shards = made.len();
     let make = |turn: usize, plan: &mut Option<Plan>|
-        requires { (turn < shards) × (shards < 2 ^ 32) × (candidates ≤ 250) × IsSound candidates lines.now }
+        requires { (turn < shards) × (shards < 2 ^ 32) × (candidates ≤ MOST_CANDIDATES) × IsSound candidates lines.now }
         ensures { IfSome plan.exit.now (IsOfShare candidates shards (turn + 1) lines.entry.now) }
     { *plan = plan_of(alloc, candidates, lines, shards, turn).ok() };
     thread::for_each_mut(rt, made, workers as usize, &make);
@@ -96,7 +97,7 @@ fn plan_of(
 ) -> Result<Plan, NoMemory>
     requires turn { turn < shards }
     requires shards { shards < 2 ^ 32 }
-    requires candidates { candidates ≤ 250 }
+    requires candidates { candidates ≤ MOST_CANDIDATES }
     requires sound { IsSound candidates lines.now }
     ensures { IfOk result (IsOfShare candidates shards (turn + 1) lines.now) }
 {
@@ -114,7 +115,7 @@ fn share_of(
 ) -> Result<Share, NoMemory>
     requires turn { turn < shards }
     requires shards { shards < 2 ^ 32 }
-    requires candidates { candidates ≤ 250 }
+    requires candidates { candidates ≤ MOST_CANDIDATES }
     requires sound { IsSound candidates lines.now }
     ensures { IfOk result (IsDealt candidates shards (turn + 1) 0 lines.now) }
 {

@@ -1,13 +1,15 @@
 // Equal lines of a share that stand beside each other, made one.
 ghost use Rattle.std.specs.Prelude.{◌≡◌, ℕ, ◌≤◌, length, take, true};
+ghost use Rattle.plain_ballots.specs.declared.limits.TheConstants.{MOST_BALLOTS};
 ghost use Rattle.frozen_plan.specs.Share.{IsShare, line_count, rest_of, rests};
 
 use crate::share::{Placed, rank_at};
+use plain_ballots::MOST_CANDIDATES;
 
 /// Puts one line for all equal ones that stand beside each other to the front, and gives how many there
 /// are then.
 pub(crate) fn merge(ranks: &[u8], lines: &mut [Placed]) -> usize
-    requires few { line_count lines.old ≤ 999999999 }
+    requires few { line_count lines.old ≤ MOST_BALLOTS }
     ensures within { result ≤ length lines.new }
     ensures sound { (n : ℕ) → IsShare n ranks.now lines.old → IsShare n ranks.now (take result lines.new) }
     ensures ballots { rests ranks.now 0 (take result lines.new) ≡ rests ranks.now 0 lines.old }
@@ -36,7 +38,7 @@ fn are_equal(ranks: &[u8], one: Placed, other: Placed) -> bool
     if one.front != other.front {
         return false;
     }
-    for at in 0..250 {
+    for at in 0..MOST_CANDIDATES as u16 {
         let rank = rank_at(ranks, one, at);
         if rank != rank_at(ranks, other, at) {
             return false;

@@ -1,5 +1,6 @@
 // A trie's bag of ballots, frozen.
 ghost use Rattle.std.specs.Prelude.{◌≡◌, ◌≤◌, IfOk, length};
+ghost use Rattle.plain_ballots.specs.declared.limits.TheConstants.{MOST_CANDIDATES};
 ghost use Rattle.frozen_plan.specs.Plan.{IsPlan, plan_ballots};
 ghost use Rattle.frozen_plan.specs.Rows.{AreRowsOf};
 
@@ -58,7 +59,7 @@ impl Plan {
 
 /// The root of a trie and the nodes below it.
 fn rows_of_trie(alloc: Global, trie: &Trie) -> Result<Vec<PlanRow>, NoMemory>
-    requires { trie.now.candidates ≤ 250 }
+    requires { trie.now.candidates ≤ MOST_CANDIDATES }
     ensures { IfOk result (λ rows. AreRowsOf trie.now rows.items) }
 {
     let Ok(mut rows) = Vec::with_capacity(alloc, trie.nodes().saturating_add(1)) else {

@@ -1,5 +1,6 @@
 // The rows of a trie's nodes.
 ghost use Rattle.std.specs.Prelude.{◌≡◌, ℕ, ◌+◌, ◌≤◌, [], ◌∷◌, ◌++◌, IfOk, OnOk};
+ghost use Rattle.plain_ballots.specs.declared.limits.TheConstants.{MOST_BALLOTS, MOST_CANDIDATES};
 ghost use Rattle.frozen_plan.specs.Forest.{Bare, Grown, through, rows_of, IsGrown};
 ghost use Rattle.frozen_plan.specs.Shape.{shape_of};
 
@@ -23,9 +24,9 @@ pub(crate) fn push_forest(
     depth: u16,
     rows: &mut Vec<PlanRow>,
 ) -> Result<u64, NoMemory>
-    requires grown { (low : ℕ) × IsGrown 250 low depth (shape_of forest.now) }
-    requires few { through (shape_of forest.now) ≤ 999999999 }
-    requires depth { depth ≤ 251 }
+    requires grown { (low : ℕ) × IsGrown MOST_CANDIDATES low depth (shape_of forest.now) }
+    requires few { through (shape_of forest.now) ≤ MOST_BALLOTS }
+    requires depth { depth ≤ MOST_CANDIDATES + 1 }
     ensures rows { IfOk result (λ _. rows.new.items ≡ rows.old.items ++ rows_of depth (shape_of forest.now)) }
     ensures through { IfOk result (λ n. n ≡ through (shape_of forest.now)) }
 {
@@ -47,10 +48,10 @@ fn push_node(
     depth: u16,
     rows: &mut Vec<PlanRow>,
 ) -> Result<u64, NoMemory>
-    requires candidate { candidate ≤ 250 }
-    requires grown { IsGrown 250 0 (depth + 1) (shape_of inner.now) }
-    requires few { ends + through (shape_of inner.now) ≤ 999999999 }
-    requires depth { depth ≤ 250 }
+    requires candidate { candidate ≤ MOST_CANDIDATES }
+    requires grown { IsGrown MOST_CANDIDATES 0 (depth + 1) (shape_of inner.now) }
+    requires few { ends + through (shape_of inner.now) ≤ MOST_BALLOTS }
+    requires depth { depth ≤ MOST_CANDIDATES }
     ensures rows { IfOk result (λ _. rows.new.items ≡ rows.old.items ++ rows_of depth (Grown candidate ends (shape_of inner.now) Bare)) }
     ensures through { IfOk result (λ n. n ≡ ends + through (shape_of inner.now)) }
 {

@@ -1,5 +1,6 @@
 -- What holds of every draw.
 use Rattle.std.specs.Prelude.{◌≡◌, ℕ, ◌≤◌, List}
+use Rattle.plain_ballots.specs.declared.limits.TheConstants.{MOST_CANDIDATES}
 use Rattle.lot_order.specs.Lots.{IsOrder}
 use Rattle.lot_draw.specs.Draw.{IsDraw}
 
@@ -10,4 +11,4 @@ SeedsHaveOneDraw =
 
 -- what is drawn is an order of lots
 abbrev pub DrawsAreOrders : Type 0
-DrawsAreOrders = (seed : List ℕ) (n : ℕ) (order : List ℕ) → n ≤ 250 → IsDraw seed n order → IsOrder order
+DrawsAreOrders = (seed : List ℕ) (n : ℕ) (order : List ℕ) → n ≤ MOST_CANDIDATES → IsDraw seed n order → IsOrder order

@@ -1,5 +1,6 @@
 -- The words that ask for a draw.
 use Rattle.std.specs.Prelude.{◌≡◌, ◌⊎◌, ◌≤◌, ℕ, List, [], ◌∷◌, length, codes}
+use Rattle.plain_ballots.specs.declared.limits.TheConstants.{MOST_CANDIDATES}
 use Rattle.meek_words.specs.Numerals.{Word, IsNumeralUpTo, number_of}
 
 -- a seed, and how many candidates there are
@@ -21,7 +22,7 @@ pub record IsSeed (seed : Word) : Type 0 where
 -- the values of the options: a seed, and a number of candidates from 1 to 250
 pub record Says (seed number : Word) (candidates : ℕ) : Type 0 where
   pub is_seed : IsSeed seed
-  pub numeral : IsNumeralUpTo 250 number
+  pub numeral : IsNumeralUpTo MOST_CANDIDATES number
   pub value : candidates ≡ number_of number
 
 -- the words ask for a draw from this seed among so many candidates

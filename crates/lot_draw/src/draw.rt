@@ -1,6 +1,7 @@
 // The draw.
 ghost use Rattle.std.specs.Prelude.{◌≡◌, ℕ, ◌%◌, ◌<◌, ◌≤◌, ◌++◌, ◌∷◌, All, IfOk, decimal};
 ghost use Rattle.std.specs.List.{range_with_len};
+ghost use Rattle.plain_ballots.specs.declared.limits.TheConstants.{MOST_CANDIDATES};
 ghost use Rattle.sha2.specs.Sha256.{sha256};
 ghost use Rattle.lot_order.specs.Lots.{IsOrder};
 ghost use Rattle.lot_draw.specs.Draw.{IsDraw, big_endian, drawn_place};
@@ -12,7 +13,7 @@ use std::alloc::{AllocError, Global};
 
 /// Draws an order of the candidates from 1 to `candidates`. A roll has at most 250 of them.
 pub fn draw_lots(alloc: Global, seed: &[u8], candidates: u32) -> Result<Vec<u32>, NoMemory>
-    requires few { candidates ≤ 250 }
+    requires few { candidates ≤ MOST_CANDIDATES }
     ensures drawn { IfOk result (λ order. IsDraw seed.now candidates order.items) }
     ensures order { IfOk result (λ order. IsOrder order.items) }
 {
@@ -23,7 +24,7 @@ pub fn draw_lots(alloc: Global, seed: &[u8], candidates: u32) -> Result<Vec<u32>
 }
 
 fn draw(alloc: Global, seed: &[u8], candidates: u32) -> Result<Vec<u32>, AllocError>
-    requires { candidates ≤ 250 }
+    requires { candidates ≤ MOST_CANDIDATES }
     ensures { IfOk result (λ order. IsDraw seed.now candidates order.items) }
 {
     let mut left = everybody(alloc, candidates)?;
@@ -37,7 +38,7 @@ fn draw(alloc: Global, seed: &[u8], candidates: u32) -> Result<Vec<u32>, AllocEr
 }
 
 fn everybody(alloc: Global, candidates: u32) -> Result<Vec<u32>, AllocError>
-    requires { candidates ≤ 250 }
+    requires { candidates ≤ MOST_CANDIDATES }
     ensures { IfOk result (λ all. all.items ≡ range_with_len 1 candidates) }
 {
     let mut all = Vec::with_capacity(alloc, candidates as usize)?;
@@ -50,7 +51,7 @@ fn everybody(alloc: Global, candidates: u32) -> Result<Vec<u32>, AllocError>
 /// The place, from 0, at which the next of so many candidates is drawn.
 fn place_among(seed: &[u8], candidates: u32) -> u32
     requires some { 0 < candidates }
-    requires few { candidates ≤ 250 }
+    requires few { candidates ≤ MOST_CANDIDATES }
     ensures place { result ≡ drawn_place seed.now candidates }
     ensures below { result < candidates }
 {
@@ -70,7 +71,7 @@ fn digest_of(seed: &[u8], candidates: u32) -> [u8; 32]
 
 fn remainder(bytes: &[u8], modulus: u32) -> u32
     requires some { 0 < modulus }
-    requires few { modulus ≤ 250 }
+    requires few { modulus ≤ MOST_CANDIDATES }
     ensures value { result ≡ big_endian bytes.now % modulus }
     ensures below { result < modulus }
 {

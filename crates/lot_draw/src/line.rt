@@ -1,5 +1,6 @@
 // The line of an order.
 ghost use Rattle.std.specs.Prelude.{◌≡◌, ◌≤◌, ◌+◌, [], ◌++◌, length, All};
+ghost use Rattle.plain_ballots.specs.declared.limits.TheConstants.{MOST_CANDIDATES};
 ghost use Rattle.lot_draw.specs.DrawnLine.{behind, drawn_line};
 
 use line_text::Line;
@@ -7,8 +8,8 @@ use line_text::Line;
 /// Writes the line of an order into an empty line. An order has at most 250 candidates.
 pub fn push_drawn(line: &mut Line, order: &[u32])
     requires empty { line.old ≡ [] }
-    requires few { length order.now ≤ 250 }
-    requires numbers { All (λ c. c ≤ 250) order.now }
+    requires few { length order.now ≤ MOST_CANDIDATES }
+    requires numbers { All (λ c. c ≤ MOST_CANDIDATES) order.now }
     ensures { line.new ≡ drawn_line order.now }
 {
     for (i, candidate) in order.iter().enumerate() {
@@ -20,7 +21,7 @@ pub fn push_drawn(line: &mut Line, order: &[u32])
 /// Appends a candidate behind so many others.
 #[tactic(auto, using(crate::proofs::Joined::rooms))]
 fn push_behind(line: &mut Line, others: usize, candidate: u32)
-    requires number { candidate ≤ 250 }
+    requires number { candidate ≤ MOST_CANDIDATES }
     requires room { length line.old + 4 ≤ 1400 }
     ensures text { line.new ≡ line.old ++ behind others candidate }
     ensures short { length line.new ≤ length line.old + 4 }

@@ -1,6 +1,7 @@
 // The tool that draws lots.
 ghost use Rattle.std.specs.Prelude.{◌≡◌, ◌≤◌, [], map};
 ghost use Rattle.std.specs.String.{string_bytes};
+ghost use Rattle.plain_ballots.specs.declared.limits.TheConstants.{MOST_CANDIDATES};
 ghost use Rattle.tool_edge.specs.Finishing.{FinishesOwed};
 ghost use Rattle.tool_edge.specs.Streams.{no_source, writing};
 ghost use Rattle.tool_edge.specs.Tool.{IsOwedFor, IsRun, no_history};
@@ -24,7 +25,7 @@ pub fn draw_in_public<K: Sink>(alloc: Global, words: &[String], sink: &mut K) ->
 }
 
 fn write_draw<K: Sink>(alloc: Global, seed: &[u8], candidates: u32, sink: &mut K) -> End
-    requires { candidates ≤ 250 }
+    requires { candidates ≤ MOST_CANDIDATES }
     ensures { FinishesOwed
         (IsOwedFor draws (record { seed = seed.now; candidates = candidates }) [] no_history)
         result (writing K.written K.faults sink.old sink.new) }

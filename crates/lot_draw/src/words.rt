@@ -1,15 +1,15 @@
 // The words that ask for a draw.
 ghost use Rattle.std.specs.Prelude.{◌≡◌, ◌↔◌, ◌≤◌, ℕ, List, IsTrue, IfOk, IfNone, IfSome, length, map, slice_index};
 ghost use Rattle.std.specs.String.{string_bytes};
+ghost use Rattle.plain_ballots.specs.declared.limits.TheConstants.{MOST_CANDIDATES};
 ghost use Rattle.meek_words.specs.Numerals.{IsNumeralUpTo, Word, number_of};
 ghost use Rattle.lot_draw.specs.Words.{Asked, IsSeed, Says, TakesDraw};
 
 use meek_words::{WordsStop, read_lots};
+use plain_ballots::MOST_CANDIDATES;
 use std::alloc::Global;
 
 const LONGEST_SEED: usize = 1000;
-
-const MOST_CANDIDATES: u32 = 250;
 
 /// The seed and the number of candidates of words that are just `--seed` and `--candidates`, in either
 /// order, each with its value behind it.
@@ -61,8 +61,8 @@ fn is_seed(word: &str) -> bool
 
 /// The number of candidates that a word writes, which is read as a list of just one.
 fn candidates_of(alloc: Global, word: &str) -> Result<u32, WordsStop>
-    ensures taken { IfOk result (λ n. IsNumeralUpTo 250 word.now × (n ≡ number_of word.now)) }
-    ensures refused { result ≡ Err WordsStop.BadWords → ¬ (IsNumeralUpTo 250 word.now) }
+    ensures taken { IfOk result (λ n. IsNumeralUpTo MOST_CANDIDATES word.now × (n ≡ number_of word.now)) }
+    ensures refused { result ≡ Err WordsStop.BadWords → ¬ (IsNumeralUpTo MOST_CANDIDATES word.now) }
 {
     match read_lots(alloc, word.as_bytes()) {
         Ok(numbers) => match only_one(numbers.items()) {
@@ -76,9 +76,9 @@ fn candidates_of(alloc: Global, word: &str) -> Result<u32, WordsStop>
 /// The only number, if there is just one and it may be a number of candidates.
 fn only_one(numbers: &[u32]) -> Option<u32>
     ensures only { IfSome result (λ n. (length numbers.now ≡ 1) × (slice_index numbers.now 0 ≡ n)) }
-    ensures range { IfSome result (λ n. (1 ≤ n) × (n ≤ 250)) }
+    ensures range { IfSome result (λ n. (1 ≤ n) × (n ≤ MOST_CANDIDATES)) }
     ensures none { IfNone result (length numbers.now ≡ 1
-        → 1 ≤ slice_index numbers.now 0 → slice_index numbers.now 0 ≤ 250 → ⊥) }
+        → 1 ≤ slice_index numbers.now 0 → slice_index numbers.now 0 ≤ MOST_CANDIDATES → ⊥) }
 {
     if numbers.len() != 1 {
         return None;

@@ -1,13 +1,14 @@
 -- An order of all candidates, by which ties are broken.
 use Rattle.std.specs.Prelude.{◌≡◌, ◌≢◌, ℕ, ◌+◌, ◌-◌, ◌<◌, ◌≤◌, ◌==◌, Bool, true, false, if◌then◌else◌, List, [], ◌∷◌, length, take, slice_index, count_by, All, AllPairs, Contains}
 use Rattle.std.specs.List.{position_or_len}
+use Rattle.plain_ballots.specs.declared.limits.TheConstants.{MOST_CANDIDATES}
 use Rattle.lot_order.specs.Flags.{mark_at}
 use Rattle.lot_order.specs.declared.lots_stop.LotsStop.{LotsStop}
 use Rattle.lot_order.specs.declared.lots_stop.LotsStop.TheVariants.{NotAll, Twice, OutOfRange, NoMemory}
 
 -- each candidate stands in the order just once, and nobody else does
 pub record IsOrder (order : List ℕ) : Type 0 where
-  pub few : length order ≤ 250
+  pub few : length order ≤ MOST_CANDIDATES
   pub candidates : (i : ℕ) → i < length order → (1 ≤ slice_index order i) × (slice_index order i ≤ length order)
   pub different : (i j : ℕ) → i < length order → j < length order → slice_index order i ≡ slice_index order j → i ≡ j
   pub whole : (c : ℕ) → 1 ≤ c → c ≤ length order → Contains order c

@@ -1,14 +1,16 @@
 // The order of lots.
 ghost use Rattle.std.specs.Prelude.{◌≡◌, ◌-◌, ◌<◌, ◌≤◌, ℕ, true, nat_lt, length, All, IfOk, IfErr, IfSome, IfNone, OnOk};
+ghost use Rattle.plain_ballots.specs.declared.limits.TheConstants.{MOST_CANDIDATES};
 ghost use Rattle.lot_order.specs.Flags.{mark_at};
 ghost use Rattle.lot_order.specs.Lots.{IsOrder, IsLotsStop, AreLots, Sees, IsFirstUnmarked, first_marked, place_in};
 
 use crate::{Flags, LotsStop};
+use plain_ballots::MOST_CANDIDATES;
 use std::alloc::Global;
 use std::marker::Model;
 
 /// An election has at most this many candidates.
-const MOST: usize = 250;
+const MOST: usize = MOST_CANDIDATES as usize;
 
 /// An order of all candidates, withdrawn ones included, by which ties are broken.
 #[derive(Debug, Drop)]
@@ -31,7 +33,7 @@ impl Lots {
     /// An order in which each candidate from 1 to `candidates` stands once. A roll has at most 250
     /// candidates, so no caller has more.
     pub fn try_new(alloc: Global, order: &[u32], candidates: u32) -> Result<Lots, LotsStop>
-        requires few { candidates ≤ 250 }
+        requires few { candidates ≤ MOST_CANDIDATES }
         ensures ok { IfOk result (λ lots. lots ≡ order.now) }
         ensures order { OnOk result (IsOrder order.now) }
         ensures all { OnOk result (length order.now ≡ candidates) }
@@ -87,7 +89,7 @@ impl Lots {
 
 /// Whether each candidate stands in the order once.
 fn check_order(order: &[u32], candidates: u32) -> Result<(), LotsStop>
-    requires { candidates ≤ 250 }
+    requires { candidates ≤ MOST_CANDIDATES }
     ensures ok { OnOk result (IsOrder order.now × (length order.now ≡ candidates)) }
     ensures stop { IfErr result (IsLotsStop candidates order.now) }
 {
@@ -123,7 +125,7 @@ fn mark_seen(order: &[u32], candidates: usize, seen: &mut [bool]) -> Result<(), 
 
 /// The least candidate that has no mark.
 fn first_unmarked(seen: &[bool]) -> Option<u32>
-    requires { length seen.now ≤ 250 }
+    requires { length seen.now ≤ MOST_CANDIDATES }
     ensures none { IfNone result (All (λ mark. mark ≡ true) seen.now) }
     ensures some { IfSome result (IsFirstUnmarked seen.now) }
 {

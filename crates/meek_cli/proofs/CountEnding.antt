@@ -14,7 +14,7 @@ use Rattle.tool_edge.specs.declared.end.End.TheVariants.{Done}
 use Rattle.tool_edge.specs.Streams.{Writing, writing}
 use Rattle.tool_edge.specs.Contest.{SaysContest}
 use Rattle.tool_edge.specs.Finishing.{Wrote}
-use Rattle.tool_edge.specs.Tools.{file_limit}
+use Rattle.tool_edge.specs.declared.opening.TheConstants.{FILE_LIMIT}
 use Rattle.meek_cli.specs.Run.{FinishesCount, WritesCount}
 
 -- the count is of these single ballots, this roll and these lots, with the program's omega
@@ -56,7 +56,7 @@ in_any_order roll lots other ballots status sink leaves same (inr (bytes, is, fi
 
 -- The sheet of the file's ballots is what is owed for the file.
 pub counted :
-    (lots input : List ℕ) (poll : Poll) (status : Status) (sink : Writing) → length input ≤ file_limit
+    (lots input : List ℕ) (poll : Poll) (status : Status) (sink : Writing) → length input ≤ FILE_LIMIT
     → SaysContest lots input poll → WritesCount poll.roll lots (plain poll.lines) status sink
     → FinishesCount lots input status sink
 counted lots input poll status sink short says (inl nothing) = inl nothing

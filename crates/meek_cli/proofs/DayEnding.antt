@@ -9,7 +9,7 @@ use Rattle.day_reader.specs.declared.day.Day.{Day}
 use Rattle.tool_edge.specs.declared.end.End.TheVariants.{Done, NoMemory}
 use Rattle.tool_edge.specs.Streams.{Writing}
 use Rattle.tool_edge.specs.Finishing.{RefusesInput}
-use Rattle.tool_edge.specs.Tools.{day_limit}
+use Rattle.tool_edge.specs.declared.opening.TheConstants.{DAY_LIMIT}
 use Rattle.tool_edge.proofs.Running.{refused, works_alone}
 use Rattle.meek_cli.specs.declared.outcome.Outcome.{Outcome}
 use Rattle.meek_cli.specs.declared.terms.Terms.{Terms}
@@ -22,7 +22,7 @@ use Rattle.meek_cli.specs.Run.{FinishesDay, PlaysDay, WritesDay}
 
 -- A day that is refused is answered by its line, or memory was wanted.
 pub refused_day :
-    (input : List ℕ) (stop : InputStop) (status : Status) (outcome : Outcome) (sink : Writing) → length input ≤ day_limit
+    (input : List ℕ) (stop : InputStop) (status : Status) (outcome : Outcome) (sink : Writing) → length input ≤ DAY_LIMIT
     → OnFault stop (IsDayRefusal (scan input true)) → outcome ≡ record { status = status; history = [] }
     → RefusesInput stop status sink → FinishesDay input outcome.status outcome.history sink
 refused_day input stop status outcome sink short why is finishes =
@@ -33,7 +33,7 @@ refused_day input stop status outcome sink short why is finishes =
 
 -- what playing a day of the file came to is what the work on the file came to
 pub day_of :
-    (input : List ℕ) (day : Day) (status : Status) (history : List Entry) (sink : Writing) → length input ≤ day_limit
+    (input : List ℕ) (day : Day) (status : Status) (history : List Entry) (sink : Writing) → length input ≤ DAY_LIMIT
     → SaysDay input day → PlaysDay day status history sink → FinishesDay input status history sink
 day_of input day status history sink short says (inl nothing) = inl nothing
 day_of input day status history sink short says (inr (calls, (text, is, finishes))) =

@@ -1,8 +1,8 @@
 -- The work that words ask for. How many shards and workers it is shared among makes no difference to what is owed.
 use Rattle.std.specs.Prelude.{ℕ, ◌≤◌, List, Option, Some, None}
+use Rattle.tool_edge.specs.declared.opening.TheConstants.{DAY_LIMIT, FILE_LIMIT}
 use Rattle.meek_words.specs.Forms.{HasForm}
 use Rattle.meek_words.specs.declared.command.Command.TheVariants.{Count as CountWords, Day as DayWords, Trial as TrialWords}
-use Rattle.tool_edge.specs.Tools.{file_limit, day_limit}
 use Rattle.meek_cli.specs.declared.work.Work.{Work}
 use Rattle.meek_cli.specs.declared.work.Work.TheVariants.{Count, Day, Trial}
 
@@ -14,8 +14,8 @@ AsksFor words (Trial number) = (shards : ℕ) × (workers : ℕ) × HasForm word
 
 -- the greatest length of its input, in bytes; a trial reads none
 abbrev pub limit_of : Work → Option ℕ
-limit_of (Count lots) = Some file_limit
-limit_of Day = Some day_limit
+limit_of (Count lots) = Some FILE_LIMIT
+limit_of Day = Some DAY_LIMIT
 limit_of (Trial number) = None
 
 -- a trial's number is from 1 to 1,000

@@ -1,5 +1,7 @@
 // A count: from the bytes of a ballot file to the sheet.
 ghost use Rattle.std.specs.Prelude.{◌≡◌, ◌≤◌, All, IfOk, IsPermutation, length};
+ghost use Rattle.plain_ballots.specs.declared.limits.TheConstants.{MOST_BALLOTS, MOST_CANDIDATES};
+ghost use Rattle.tool_edge.specs.declared.opening.TheConstants.{FILE_LIMIT};
 ghost use Rattle.fixed_place.specs.Rounding.{scale};
 ghost use Rattle.plain_ballots.specs.Ballots.{plain};
 ghost use Rattle.meek_rule.specs.Rule.{Meek};
@@ -40,7 +42,7 @@ pub(crate) fn count<R: Threads + Sync, K: Sink, G: Gate + Sync>(
     sink: &mut K,
     gate: &G,
 ) -> Status
-    requires { length input.items ≤ 67108864 }
+    requires { length input.items ≤ FILE_LIMIT }
     ensures { FinishesCount lots.now input.items result
         (writing K.written K.faults sink.old sink.new) }
 {
@@ -96,10 +98,10 @@ fn deal<R: Threads + Sync>(
     ballots: Ballots,
     split: &Split,
 ) -> Result<Plans, frozen_plan::NoMemory>
-    requires candidates { (1 ≤ ballots.candidates) × (ballots.candidates ≤ 250) }
+    requires candidates { (1 ≤ ballots.candidates) × (ballots.candidates ≤ MOST_CANDIDATES) }
     ensures candidates { IfOk result (All (λ plan. plan.candidates ≡ ballots.candidates)) }
     ensures ballots { IfOk result (λ plans. IsPermutation (all_ballots plans) (plain ballots.lines)) }
-    ensures few { IfOk result (λ plans. length (all_ballots plans) ≤ 999999999) }
+    ensures few { IfOk result (λ plans. length (all_ballots plans) ≤ MOST_BALLOTS) }
 {
     Plans::dealt_by(rt, alloc, ballots, split.shards(), split.workers())
 }
@@ -116,7 +118,7 @@ fn write_count<D: Spread<9>, K: Sink>(
     requires rule { D.rule ≡ Meek }
     requires can { D.can_spread spread.old }
     requires spread_of_all { D.candidates spread.old ≡ length roll.now.names }
-    requires few { length (D.ballots spread.old) ≤ 999999999 }
+    requires few { length (D.ballots spread.old) ≤ MOST_BALLOTS }
     ensures { WritesCount roll.now lots.now (D.ballots spread.old) result
         (writing K.written K.faults sink.old sink.new) }
 {

@@ -1,5 +1,6 @@
 // A day: from the bytes of a day file to its text.
 ghost use Rattle.std.specs.Prelude.{◌≡◌, ◌≤◌, length, IfOk};
+ghost use Rattle.tool_edge.specs.declared.opening.TheConstants.{DAY_LIMIT};
 ghost use Rattle.day_reader.specs.Said.{AreScripts};
 ghost use Rattle.tool_edge.specs.Streams.{writing};
 ghost use Rattle.meek_cli.specs.DayHistory.{IsHistoryOf};
@@ -33,7 +34,7 @@ pub(crate) fn play_day<R: Threads + Wait + Sync, K: Sink, G: Gate + Sync>(
     sink: &mut K,
     gate: &G,
 ) -> Outcome
-    requires { length input.items ≤ 16777216 }
+    requires { length input.items ≤ DAY_LIMIT }
     ensures { FinishesDay input.items result.status result.history
         (writing K.written K.faults sink.old sink.new) }
 {

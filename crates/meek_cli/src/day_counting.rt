@@ -1,5 +1,6 @@
 // The sheets of a day: each freeze is counted, and all is written.
 ghost use Rattle.std.specs.Prelude.{◌≡◌, ◌≤◌, ℕ, List, ◌++◌, map, length, All, IfOk};
+ghost use Rattle.plain_ballots.specs.declared.limits.TheConstants.{MOST_BALLOTS};
 ghost use Rattle.fixed_place.specs.Rounding.{scale};
 ghost use Rattle.meek_rule.specs.Rule.{Meek};
 ghost use Rattle.vote_spread.specs.Lanes.{HaveCounted};
@@ -114,7 +115,7 @@ fn write_day<const P: usize, D: Spread<P>, K: Sink>(
     requires rule { D.rule ≡ Meek }
     requires can { All D.can_spread spreads.old }
     requires spreads_of_all { All (λ s. D.candidates s ≡ length terms.now.lots) spreads.old }
-    requires few { All (λ s. length (D.ballots s) ≤ 999999999) spreads.old }
+    requires few { All (λ s. length (D.ballots s) ≤ MOST_BALLOTS) spreads.old }
     ensures { WritesDues P history.now (dues_of terms.now.omega terms.now.lots heads.now (map D.ballots spreads.old)) result
         (writing K.written K.faults sink.old sink.new) }
 {
@@ -138,7 +139,7 @@ fn begin_sheets<'e, const P: usize, D: Spread<P>>(
     requires rule { D.rule ≡ Meek }
     requires can { All D.can_spread spreads.old }
     requires spreads_of_all { All (λ s. D.candidates s ≡ length lots.now) spreads.old }
-    requires few { All (λ s. length (D.ballots s) ≤ 999999999) spreads.old }
+    requires few { All (λ s. length (D.ballots s) ≤ MOST_BALLOTS) spreads.old }
     ensures due { IfOk result (λ dues. dues.items ≡ dues_of omega lots.now heads.now (map D.ballots spreads.old)) }
     ensures sheets { IfOk result (λ dues. All (HasSheet P) dues.items) }
 {

@@ -1,5 +1,6 @@
 // A sheet that is due.
 ghost use Rattle.std.specs.Prelude.{◌≡◌, ◌≤◌, ℕ, List, length, IfOk};
+ghost use Rattle.plain_ballots.specs.declared.limits.TheConstants.{MOST_BALLOTS};
 ghost use Rattle.fixed_place.specs.Rounding.{scale};
 ghost use Rattle.meek_rule.specs.Rule.{Meek};
 ghost use Rattle.sheet_text.specs.Lines.{ended};
@@ -54,7 +55,7 @@ impl<'e, const P: usize, D: Spread<P>> DueSheet<'e, P, D> {
         requires rule { D.rule ≡ Meek }
         requires can { D.can_spread spread.old }
         requires spread_of_all { D.candidates spread.old ≡ length head.now.roll.names }
-        requires few { length (D.ballots spread.old) ≤ 999999999 }
+        requires few { length (D.ballots spread.old) ≤ MOST_BALLOTS }
         ensures due { IfOk result (λ due. due ≡ due_of omega lots.now head.now (D.ballots spread.old)) }
         ensures sheet { IfOk result (HasSheet P) }
     {

@@ -1,5 +1,6 @@
 // The calls of a day, answered at an office that its teams share.
 ghost use Rattle.std.specs.Prelude.{◌≡◌, ◌≤◌, IfOk};
+ghost use Rattle.plain_ballots.specs.declared.limits.TheConstants.{MOST_CANDIDATES};
 ghost use Rattle.day_reader.specs.Said.{AreScripts};
 ghost use Rattle.meek_cli.specs.DayHistory.{IsHistoryOf};
 ghost use Rattle.meek_cli.specs.Frozen.{AreFrozen};
@@ -25,7 +26,7 @@ pub(crate) fn answer_day<R: Threads + Wait + Sync, G: Gate + Sync>(
     scripts: Scripts,
     gate: &G,
 ) -> Result<(History, Versions), NoMemory>
-    requires candidates { (1 ≤ candidates) × (candidates ≤ 250) }
+    requires candidates { (1 ≤ candidates) × (candidates ≤ MOST_CANDIDATES) }
     requires shards { (1 ≤ shards) × (shards ≤ 64) }
     requires scripts { AreScripts candidates scripts }
     ensures history { IfOk result (λ day. IsHistoryOf scripts day.0) }

@@ -1,5 +1,6 @@
 // The summary of a made day.
 ghost use Rattle.std.specs.Prelude.{◌≡◌, ◌+◌, ◌*◌, ◌≤◌, ◌++◌, ◌∷◌, [], map, length, decimal};
+ghost use Rattle.plain_ballots.specs.declared.limits.TheConstants.{MOST_CANDIDATES};
 ghost use Rattle.meek_rule.specs.Situation.{is_elected};
 ghost use Rattle.sheet_text.specs.Lines.{ended, listed, text_of_lines};
 ghost use Rattle.meek_cli.specs.Summary.{summary_lines};
@@ -22,7 +23,7 @@ pub(crate) struct Summary {
 impl Summary {
     /// Its text, with the elected of these last states.
     pub(crate) fn text(&self, last: &States) -> Line
-        requires { length last.now ≤ 250 }
+        requires { length last.now ≤ MOST_CANDIDATES }
         ensures { result ≡ text_of_lines (summary_lines self.now last.now) }
     {
         let mut line = Line::new();
@@ -53,7 +54,7 @@ fn push_number_line(line: &mut Line, word: &[u8], n: u64)
 
 /// Appends the elected candidates, each after a space.
 fn push_elected(line: &mut Line, states: &States)
-    requires few { length states.now ≤ 250 }
+    requires few { length states.now ≤ MOST_CANDIDATES }
     requires room { length line.old + 4 * length states.now ≤ 1400 }
     ensures list { line.new ≡ line.old ++ listed 1 (map is_elected states.now) }
     ensures bound { length line.new ≤ length line.old + 4 * length states.now }
@@ -76,7 +77,7 @@ fn is_elected(state: State) -> bool
 
 #[tactic(auto, using(crate::proofs::Rooms::rooms))]
 fn push_candidate(line: &mut Line, c: u64)
-    requires few { c ≤ 250 }
+    requires few { c ≤ MOST_CANDIDATES }
     requires room { length line.old + 4 ≤ 1400 }
     ensures list { line.new ≡ line.old ++ 32 ∷ decimal c }
     ensures bound { length line.new ≤ length line.old + 4 }

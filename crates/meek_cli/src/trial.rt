@@ -1,5 +1,6 @@
 // A trial: a day that is made from a number is played, and its summary is written.
 ghost use Rattle.std.specs.Prelude.{◌≡◌, ◌≤◌, ◌++◌, ◌∷◌, [], true, List, length, IfOk};
+ghost use Rattle.plain_ballots.specs.declared.limits.TheConstants.{MOST_BALLOTS};
 ghost use Rattle.fixed_place.specs.Rounding.{scale};
 ghost use Rattle.meek_rule.specs.Rule.{Meek};
 ghost use Rattle.vote_spread.specs.Lanes.{HaveCounted};
@@ -184,7 +185,7 @@ fn write_summary<D: Spread<9>, K: Sink>(
     requires rule { D.rule ≡ Meek }
     requires can { D.can_spread spread.old }
     requires spread_of_all { D.candidates spread.old ≡ length roll.now.names }
-    requires few { length (D.ballots spread.old) ≤ 999999999 }
+    requires few { length (D.ballots spread.old) ≤ MOST_BALLOTS }
     requires legal { IsLegal history.now }
     requires numbers { HaveNumbers history.now }
     ensures { WritesSummaryOf number terms.now history.now (D.ballots spread.old) roll.now result

@@ -1,6 +1,7 @@
 -- Each election has one count by each rule.
 use Rattle.std.specs.Prelude.{◌≡◌, ℕ, ◌≤◌, ◌↔◌, List, length, All}
 use Rattle.std.specs.List.Sorted.{IsPermutation}
+use Rattle.plain_ballots.specs.declared.limits.TheConstants.{MOST_BALLOTS}
 use Rattle.candidate_roll.specs.Roll.{RollList, IsRoll}
 use Rattle.candidate_roll.specs.declared.state.State.{State}
 use Rattle.plain_ballots.specs.Ranking.{IsRanking}
@@ -17,7 +18,7 @@ pub record IsElection (places omega : ℕ) (ballots : List (List ℕ)) (roll : R
   pub places_to : places ≤ 9
   pub some_omega : 1 ≤ omega
   pub small_omega : omega ≤ 1000000
-  pub few_ballots : length ballots ≤ 999999999
+  pub few_ballots : length ballots ≤ MOST_BALLOTS
   pub rankings : All (IsRanking (length roll.names)) ballots
   pub sound_roll : IsRoll roll
   pub order_of_lots : IsOrder lots

@@ -1,5 +1,6 @@
 -- How far a count has come.
 use Rattle.std.specs.Prelude.{◌≡◌, ℕ, ◌≤◌, ◌++◌, Bool, List, length}
+use Rattle.plain_ballots.specs.declared.limits.TheConstants.{MOST_BALLOTS}
 use Rattle.candidate_roll.specs.Roll.{RollList}
 use Rattle.candidate_roll.specs.declared.state.State.{State}
 use Rattle.lot_order.specs.Lots.{IsOrder}
@@ -47,4 +48,4 @@ pub record IsCounting (s most : ℕ) (count : Progress) : Type 0 where
   pub lots_of_all : length count.lots ≡ length count.situation.states
   pub names_of_all : length count.roll.names ≡ length count.situation.states
   pub row_of_all : HasRoomFor (length count.situation.states) count.row
-  pub few_ballots : length count.ballots ≤ 999999999
+  pub few_ballots : length count.ballots ≤ MOST_BALLOTS

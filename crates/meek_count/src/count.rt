@@ -1,5 +1,6 @@
 // A count in steps.
 ghost use Rattle.std.specs.Prelude.{◌≡◌, ◌≤◌, ◌<◌, ◌↔◌, true, false, [], ◌∷◌, length, IfOk, IsTrue};
+ghost use Rattle.plain_ballots.specs.declared.limits.TheConstants.{MOST_BALLOTS};
 ghost use Rattle.fixed_place.specs.Rounding.{scale, most};
 ghost use Rattle.meek_rule.specs.Situation.{IsValid, is_complete, finished, final_states, opening, steps_left};
 ghost use Rattle.meek_rule.specs.Row.{HasRoomFor};
@@ -58,7 +59,7 @@ impl<'e, const P: usize, D: Spread<P> + Drop> Count<'e, P, D> {
         requires lots_of_all { length lots.now ≡ length roll.now.names }
         requires can_spread { D.can_spread spread }
         requires spread_of_all { D.candidates spread ≡ length roll.now.names }
-        requires few_ballots { length (D.ballots spread) ≤ 999999999 }
+        requires few_ballots { length (D.ballots spread) ≤ MOST_BALLOTS }
         requires omega { (1 ≤ omega) × (omega ≤ 1000000) }
         ensures opens { IfOk result (λ count. count.situation ≡ opening (scale P) omega.entry roll.now.seats roll.now.withdrawn) }
         ensures begun { IfOk result (HasJustBegun (scale P)) }
@@ -151,7 +152,7 @@ impl<'e, const P: usize, D: Spread<P> + Drop> Count<'e, P, D> {
     /// The number of all ballots, empty ones included.
     pub fn ballots(&self) -> u64
         ensures value { result ≡ length self.now.ballots }
-        ensures few { length self.now.ballots ≤ 999999999 }
+        ensures few { length self.now.ballots ≤ MOST_BALLOTS }
         ensures rest { HasRest D.rule (scale P) self.now }
     {
         self.spread.ballots()

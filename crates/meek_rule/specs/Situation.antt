@@ -1,5 +1,6 @@
 -- An election between two iterations, where `s` units are one vote.
 use Rattle.std.specs.Prelude.{◌≡◌, ℕ, ◌+◌, ◌*◌, ◌<◌, ◌≤◌, ◌==◌, ◌||◌, nat_le, if◌then◌else◌, Bool, true, false, Option, None, List, length, count_by, slice_index, is_none, unwrap_or}
+use Rattle.plain_ballots.specs.declared.limits.TheConstants.{MOST_CANDIDATES}
 use Rattle.candidate_roll.specs.State.{state_at}
 use Rattle.candidate_roll.specs.declared.state.State.{State}
 use Rattle.candidate_roll.specs.declared.state.State.TheVariants.{Hopeful, Elected, Defeated, Withdrawn}
@@ -44,9 +45,9 @@ FitsState s Withdrawn keep = keep ≡ 0
 
 pub record IsValid (s : ℕ) (now : Situation) : Type 0 where
   pub some_seat : 1 ≤ now.seats
-  pub few_seats : now.seats ≤ 250
+  pub few_seats : now.seats ≤ MOST_CANDIDATES
   pub some_candidate : 1 ≤ length now.states
-  pub few_candidates : length now.states ≤ 250
+  pub few_candidates : length now.states ≤ MOST_CANDIDATES
   pub same_length : length now.keeps ≡ length now.states
   pub fitting : (p : ℕ) → p < length now.states → FitsState s (state_at now.states p) (slice_index now.keeps p)
   pub seated : elected_count now.states ≤ now.seats

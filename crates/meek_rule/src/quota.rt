@@ -1,5 +1,6 @@
 // The votes together, and the quota.
 ghost use Rattle.std.specs.Prelude.{◌≡◌, ◌+◌, ◌/◌, ◌≤◌, sum};
+ghost use Rattle.plain_ballots.specs.declared.limits.TheConstants.{MOST_CANDIDATES};
 ghost use Rattle.fixed_place.specs.Rounding.{most};
 
 use fixed_place::{Amount, Amounts, div_down};
@@ -20,7 +21,7 @@ pub(crate) fn total_of<const P: usize>(votes: &Amounts<P>) -> Amount<P>
 
 /// The votes together over one more than the seats, rounded down, and one unit more.
 pub(crate) fn quota_of<const P: usize>(total: Amount<P>, seats: u32) -> Amount<P>
-    requires { (1 ≤ seats) × (seats ≤ 250) }
+    requires { (1 ≤ seats) × (seats ≤ MOST_CANDIDATES) }
     ensures value { result ≡ total.entry / (seats + 1) + 1 }
 {
     let _amount = total.units();

@@ -1,5 +1,6 @@
 // How many candidates are elected or hopeful, and who is.
 ghost use Rattle.std.specs.Prelude.{◌≡◌, ◌<◌, ◌≤◌, length};
+ghost use Rattle.plain_ballots.specs.declared.limits.TheConstants.{MOST_CANDIDATES};
 ghost use Rattle.candidate_roll.specs.State.{state_at};
 ghost use Rattle.meek_rule.specs.Situation.{is_elected, is_hopeful, elected_count, hopeful_count};
 
@@ -7,9 +8,9 @@ use candidate_roll::{State, States};
 
 /// How many are elected.
 pub(crate) fn count_elected(states: &States) -> u32
-    requires { length states.now ≤ 250 }
+    requires { length states.now ≤ MOST_CANDIDATES }
     ensures value { result ≡ elected_count states.now }
-    ensures bound { result ≤ 250 }
+    ensures bound { result ≤ MOST_CANDIDATES }
 {
     states
         .items()
@@ -20,9 +21,9 @@ pub(crate) fn count_elected(states: &States) -> u32
 
 /// How many are hopeful.
 pub(crate) fn count_hopeful(states: &States) -> u32
-    requires { length states.now ≤ 250 }
+    requires { length states.now ≤ MOST_CANDIDATES }
     ensures value { result ≡ hopeful_count states.now }
-    ensures bound { result ≤ 250 }
+    ensures bound { result ≤ MOST_CANDIDATES }
 {
     states
         .items()

@@ -1,5 +1,6 @@
 // What the elected have above a quota for each.
 ghost use Rattle.std.specs.Prelude.{◌≡◌, ◌<◌, ◌≤◌, length, sum};
+ghost use Rattle.plain_ballots.specs.declared.limits.TheConstants.{MOST_CANDIDATES};
 ghost use Rattle.fixed_place.specs.Rounding.{most};
 ghost use Rattle.meek_rule.specs.Surplus.{surplus, holds_seat};
 
@@ -15,7 +16,7 @@ pub(crate) fn surplus_of<const P: usize>(
     votes: &Amounts<P>,
     quota: Amount<P>,
 ) -> Amount<P>
-    requires candidates { length states.now ≤ 250 }
+    requires candidates { length states.now ≤ MOST_CANDIDATES }
     requires marks_of_all { length winners.now ≡ length states.now }
     requires votes_of_all { length votes.now ≡ length states.now }
     requires few { sum votes.now ≤ most P }

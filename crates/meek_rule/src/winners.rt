@@ -1,5 +1,6 @@
 // Who is elected in an iteration.
 ghost use Rattle.std.specs.Prelude.{◌≡◌, ◌&&◌, ◌<◌, ◌≤◌, length};
+ghost use Rattle.plain_ballots.specs.declared.limits.TheConstants.{MOST_CANDIDATES};
 ghost use Rattle.meek_rule.specs.Places.{each_place, marked_count};
 ghost use Rattle.meek_rule.specs.Quota.{has_reached};
 ghost use Rattle.meek_rule.specs.Winners.{AreWinners, comes_before};
@@ -21,7 +22,7 @@ pub(crate) fn mark_winners<const P: usize>(
     lots: &Lots,
     marks: &mut Flags,
 )
-    requires candidates { length states.now ≤ 250 }
+    requires candidates { length states.now ≤ MOST_CANDIDATES }
     requires votes_of_all { length votes.now ≡ length states.now }
     requires lots_of_all { length lots.now ≡ length states.now }
     requires marks_of_all { length marks.old ≡ length states.now }
@@ -58,7 +59,7 @@ fn mark_first<const P: usize>(
     lots: &Lots,
     marks: &mut Flags,
 )
-    requires candidates { length states.now ≤ 250 }
+    requires candidates { length states.now ≤ MOST_CANDIDATES }
     requires votes_of_all { length votes.now ≡ length states.now }
     requires lots_of_all { length lots.now ≡ length states.now }
     requires marks_of_all { length marks.old ≡ length states.now }
@@ -79,7 +80,7 @@ fn has_won<const P: usize>(
     lots: &Lots,
     p: usize,
 ) -> bool
-    requires candidates { length states.now ≤ 250 }
+    requires candidates { length states.now ≤ MOST_CANDIDATES }
     requires votes_of_all { length votes.now ≡ length states.now }
     requires lots_of_all { length lots.now ≡ length states.now }
     requires place { p < length states.now }
@@ -110,12 +111,12 @@ fn count_before<const P: usize>(
     lots: &Lots,
     p: usize,
 ) -> u32
-    requires candidates { length states.now ≤ 250 }
+    requires candidates { length states.now ≤ MOST_CANDIDATES }
     requires votes_of_all { length votes.now ≡ length states.now }
     requires lots_of_all { length lots.now ≡ length states.now }
     requires place { p < length states.now }
     ensures value { result ≡ count_before states.now votes.now lots.now quota.entry p }
-    ensures bound { result ≤ 250 }
+    ensures bound { result ≤ MOST_CANDIDATES }
 {
     let mut count = 0;
     for b in 0..states.len() {

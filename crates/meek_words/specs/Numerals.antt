@@ -3,6 +3,7 @@ use Rattle.std.specs.Prelude.{◌≡◌, ◌≤◌, ℕ, List, length, map, All}
 use Rattle.std.specs.List.{AllPass, join_with_byte}
 use Rattle.std.specs.Char.{is_ascii_digit}
 use Rattle.std.specs.Str.Parse.{digits_value}
+use Rattle.plain_ballots.specs.declared.limits.TheConstants.{MOST_CANDIDATES}
 
 abbrev pub Word : Type 0
 Word = List ℕ
@@ -30,7 +31,7 @@ pub record IsLotList (word : Word) (lots : List ℕ) : Type 0 where
   pub numerals : All IsNumeral parts
   pub numbers : lots ≡ map number_of parts
   pub some : 1 ≤ length parts
-  pub most : length parts ≤ 250
+  pub most : length parts ≤ MOST_CANDIDATES
 
 -- a word is at most one list of lots
 abbrev pub HaveOneLotList : Type 0

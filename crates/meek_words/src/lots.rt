@@ -3,10 +3,11 @@ ghost use Rattle.meek_words.specs.Numerals.{IsLotList};
 
 use crate::numeral::numeral;
 use crate::{LotWords, WordsStop};
+use plain_ballots::MOST_CANDIDATES;
 use std::alloc::Global;
 
 /// How many lots a list has at most, as many as an election has candidates.
-pub(crate) const MOST_LOTS: usize = 250;
+pub(crate) const MOST_LOTS: usize = MOST_CANDIDATES as usize;
 
 /// The numbers of one word that is a list of lots.
 ///

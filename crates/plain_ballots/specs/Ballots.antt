@@ -1,6 +1,7 @@
 -- A list of ballots in lines of equal ones.
 use Rattle.std.specs.Prelude.{◌≡◌, ℕ, ◌≤◌, List, sum_by, replicate, All}
 use Rattle.std.specs.List.{flat_map}
+use Rattle.plain_ballots.specs.declared.limits.TheConstants.{MOST_BALLOTS}
 use Rattle.plain_ballots.specs.declared.ballot_line.BallotLine.{BallotLine}
 use Rattle.plain_ballots.specs.declared.line_stop.LineStop.{LineStop}
 use Rattle.plain_ballots.specs.declared.line_stop.LineStop.TheVariants.{TooMany, NoMemory}
@@ -23,7 +24,7 @@ plain lines = flat_map (λ line. replicate line.count line.ranking) lines
 pub record IsSound (n : ℕ) (lines : List BallotLine) : Type 0 where
   pub rankings : All (λ line. IsRanking n line.ranking) lines
   pub counted : All (λ line. 1 ≤ line.count) lines
-  pub bounded : ballot_count lines ≤ 999999999
+  pub bounded : ballot_count lines ≤ MOST_BALLOTS
 
 -- a refusal hands this line back
 abbrev pub HandsBack : BallotLine → LineStop → Type 0

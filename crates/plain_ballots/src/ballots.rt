@@ -1,14 +1,15 @@
 // The ballots of an election.
 ghost use Rattle.std.specs.Prelude.{◌≡◌, ◌+◌, ◌<◌, ◌≤◌, ◌↔◌, [], ◌∷◌, ◌++◌, IfNone, IfOk, IfErr, IfSome, IsNone, OnOk, OnErr};
+ghost use Rattle.plain_ballots.specs.declared.limits.TheConstants.{MOST_BALLOTS};
 ghost use Rattle.plain_ballots.specs.Ballots.{IsSound, ballot_count, HandsBack};
 ghost use Rattle.plain_ballots.specs.Ranking.{IsRanking};
 
-use crate::{AppendStop, BallotLine, LineStop, NoMemory};
+use crate::{AppendStop, BallotLine, LineStop, MOST_BALLOTS, NoMemory};
 use std::alloc::Global;
 use std::marker::Model;
 
-/// An election has at most this many ballots, empty ones included.
-const MOST: u64 = 999_999_999;
+/// [`MOST_BALLOTS`], as a total.
+const MOST: u64 = MOST_BALLOTS as u64;
 
 /// Lines of ballots among so many candidates, with their total of at most 999,999,999.
 #[derive(Debug, Drop)]
@@ -46,7 +47,7 @@ impl Ballots {
         requires ranking { IsRanking self.old.candidates line.ranking }
         requires counted { 1 ≤ line.count }
         ensures ok { OnOk result (self.new ≡ record self.old { lines = self.old.lines ++ line ∷ [] }) }
-        ensures too_many { (result ≡ Err (LineStop.TooMany line)) ↔ (999999999 < ballot_count self.old.lines + line.count) }
+        ensures too_many { (result ≡ Err (LineStop.TooMany line)) ↔ (MOST_BALLOTS < ballot_count self.old.lines + line.count) }
         ensures handed_back { IfErr result (HandsBack line) }
         ensures refused { OnErr result (self.new ≡ self.old) }
     {
@@ -82,7 +83,7 @@ impl Ballots {
     pub fn append_copy(&mut self, other: &Ballots) -> Result<(), AppendStop>
         requires { other.now.candidates ≡ self.old.candidates }
         ensures ok { OnOk result (self.new ≡ record self.old { lines = self.old.lines ++ other.now.lines }) }
-        ensures too_many { (result ≡ Err AppendStop.TooMany) ↔ (999999999 < ballot_count self.old.lines + ballot_count other.now.lines) }
+        ensures too_many { (result ≡ Err AppendStop.TooMany) ↔ (MOST_BALLOTS < ballot_count self.old.lines + ballot_count other.now.lines) }
         ensures refused { OnErr result (self.new ≡ self.old) }
     {
         let total = self.total + other.total;

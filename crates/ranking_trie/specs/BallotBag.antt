@@ -2,6 +2,7 @@
 use Rattle.std.specs.Prelude.{◌≡◌, ℕ, ◌≤◌, List, ◌++◌, length, count_by, nat_eq, All, IsSorted, IsPermutation}
 use Rattle.std.specs.Ordering.{nat_cmp}
 use Rattle.std.specs.Cmp.Lexicographic.{pointwise, slice_cmp}
+use Rattle.plain_ballots.specs.declared.limits.TheConstants.{MOST_BALLOTS, MOST_CANDIDATES}
 use Rattle.plain_ballots.specs.Ranking.{IsRanking}
 
 -- the single rankings of a bag of ballots among so many candidates, and room for as many further ranks
@@ -13,9 +14,9 @@ pub record BallotBag : Type 0 where
 -- a total of ballots, not too many, that are rankings of 1 to 250 candidates
 pub record IsSoundBag (n total : ℕ) (ballots : List (List ℕ)) : Type 0 where
   pub some : 1 ≤ n
-  pub few_candidates : n ≤ 250
+  pub few_candidates : n ≤ MOST_CANDIDATES
   pub counted : total ≡ length ballots
-  pub few : length ballots ≤ 999999999
+  pub few : length ballots ≤ MOST_BALLOTS
   pub rankings : All (λ r. IsRanking n r) ballots
 
 -- rankings in the lexicographic order of candidate numbers: one stands before its own extensions

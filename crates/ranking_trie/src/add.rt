@@ -1,5 +1,6 @@
 // Ballots put into a trie.
 ghost use Rattle.std.specs.Prelude.{◌≡◌, ◌+◌, ◌-◌, ◌^◌, ◌<◌, ◌≤◌, ◌++◌, length, drop, replicate, vec_len, All, IsPermutation};
+ghost use Rattle.plain_ballots.specs.declared.limits.TheConstants.{MOST_CANDIDATES};
 ghost use Rattle.ranking_trie.specs.Bag.{bag, node_count, root_bag, IsRising};
 
 use crate::siblings::{find_or_make, pass_smaller, plant, put_back};
@@ -19,7 +20,7 @@ pub(crate) fn put<L: Ledger>(
     requires room { length ranks.now ≤ vec_len spare.old }
     requires few { length (root_bag ends forest) + count < 2 ^ 32 }
     requires rising { IsRising 0 forest }
-    requires numbers { All (λ r. (1 ≤ r) × (r ≤ 250)) ranks.now }
+    requires numbers { All (λ r. (1 ≤ r) × (r ≤ MOST_CANDIDATES)) ranks.now }
     requires some { 1 ≤ count }
     ensures bag { IsPermutation (root_bag result.0 result.1)
         (replicate count ranks.now ++ root_bag ends forest) }
@@ -48,7 +49,7 @@ fn add<L: Ledger>(
     requires room { length ranks.now ≤ vec_len spare.old + at }
     requires few { length (bag forest) + count < 2 ^ 32 }
     requires rising { IsRising 0 forest }
-    requires numbers { All (λ r. (1 ≤ r) × (r ≤ 250)) ranks.now }
+    requires numbers { All (λ r. (1 ≤ r) × (r ≤ MOST_CANDIDATES)) ranks.now }
     requires some { 1 ≤ count }
     ensures bag { IsPermutation (bag result) (replicate count (drop at ranks.now) ++ bag forest) }
     ensures rising { IsRising 0 result }

@@ -1,5 +1,6 @@
 // The ballots of a trie, in lines.
 ghost use Rattle.std.specs.Prelude.{◌≡◌, ◌+◌, ◌≤◌, ◌++◌, [], ◌∷◌, All, length, map, IfOk};
+ghost use Rattle.plain_ballots.specs.declared.limits.TheConstants.{MOST_BALLOTS};
 ghost use Rattle.plain_ballots.specs.Ballots.{ballot_count};
 ghost use Rattle.plain_ballots.specs.Ranking.{IsRanking};
 ghost use Rattle.ranking_trie.specs.Bag.{bag, below};
@@ -19,7 +20,7 @@ pub(crate) fn push_lines(
 ) -> Result<(), NoMemory>
     requires rankings { All (λ r. IsRanking ballots.old.candidates (ranks.old.items ++ r))
         (bag forest.now) }
-    requires few { ballot_count ballots.old.lines + length (bag forest.now) ≤ 999999999 }
+    requires few { ballot_count ballots.old.lines + length (bag forest.now) ≤ MOST_BALLOTS }
     ensures ranks { IfOk result (λ _. ranks.new.items ≡ ranks.old.items) }
     ensures lines { IfOk result (λ _. ballots.new ≡ record ballots.old {
       lines = ballots.old.lines ++ map (behind ranks.old.items) (lines_of forest.now);
@@ -46,7 +47,7 @@ fn push_node(
     requires rankings { All (λ r. IsRanking ballots.old.candidates (ranks.old.items ++ r))
         (below c ends (bag inner.now)) }
     requires few { ballot_count ballots.old.lines + length (below c ends (bag inner.now))
-        ≤ 999999999 }
+        ≤ MOST_BALLOTS }
     ensures ranks { IfOk result (λ _. ranks.new.items ≡ ranks.old.items) }
     ensures lines { IfOk result (λ _. ballots.new ≡ record ballots.old {
       lines = ballots.old.lines
@@ -70,7 +71,7 @@ pub(crate) fn push_line(
     ballots: &mut Ballots,
 ) -> Result<(), NoMemory>
     requires ranking { 1 ≤ count → IsRanking ballots.old.candidates ranks.now }
-    requires few { ballot_count ballots.old.lines + count ≤ 999999999 }
+    requires few { ballot_count ballots.old.lines + count ≤ MOST_BALLOTS }
     ensures { IfOk result (λ _. ballots.new ≡ record ballots.old {
       lines = ballots.old.lines ++ line_of count ranks.now;
     }) }

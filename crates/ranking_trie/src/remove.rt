@@ -1,5 +1,6 @@
 // Ballots taken out of a trie.
 ghost use Rattle.std.specs.Prelude.{◌≡◌, ◌+◌, ◌-◌, ◌<◌, ◌≤◌, ◌++◌, length, drop, replicate, All, IsPermutation};
+ghost use Rattle.plain_ballots.specs.declared.limits.TheConstants.{MOST_CANDIDATES};
 ghost use Rattle.ranking_trie.specs.Bag.{bag, node_count, root_bag, IsRising};
 ghost use Rattle.ranking_trie.specs.BallotBag.{count_of};
 
@@ -20,7 +21,7 @@ pub(crate) fn take_out<L: Ledger>(
 ) -> (u32, Forest)
     requires held { count ≤ count_of ranks.now (root_bag ends forest) }
     requires rising { IsRising 0 forest }
-    requires numbers { All (λ r. (1 ≤ r) × (r ≤ 250)) ranks.now }
+    requires numbers { All (λ r. (1 ≤ r) × (r ≤ MOST_CANDIDATES)) ranks.now }
     requires some { 1 ≤ count }
     requires counted { nodes.old ≡ node_count forest }
     ensures bag { IsPermutation (root_bag ends forest)
@@ -48,7 +49,7 @@ fn remove<L: Ledger>(
     requires ranked { at < length ranks.now }
     requires held { count ≤ count_of (drop at ranks.now) (bag forest) }
     requires rising { IsRising 0 forest }
-    requires numbers { All (λ r. (1 ≤ r) × (r ≤ 250)) ranks.now }
+    requires numbers { All (λ r. (1 ≤ r) × (r ≤ MOST_CANDIDATES)) ranks.now }
     requires some { 1 ≤ count }
     requires counted { node_count forest ≤ nodes.old }
     ensures bag { IsPermutation (bag forest) (replicate count (drop at ranks.now) ++ bag result) }

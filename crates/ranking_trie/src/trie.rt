@@ -1,5 +1,6 @@
 // A bag of ballots.
 ghost use Rattle.std.specs.Prelude.{◌≡◌, ◌+◌, ◌≤◌, [], ◌++◌, length, replicate, OnOk, IfOk, IsPermutation, vec_len};
+ghost use Rattle.plain_ballots.specs.declared.limits.TheConstants.{MOST_BALLOTS, MOST_CANDIDATES};
 ghost use Rattle.plain_ballots.specs.Ranking.{IsRanking};
 ghost use Rattle.plain_ballots.specs.Ballots.{ballot_count, plain};
 ghost use Rattle.ranking_trie.specs.Bag.{bag, node_count, IsRising, IsWithin};
@@ -71,7 +72,7 @@ impl Drop for Trie {
 impl Trie {
     /// No ballots among 1 to 250 candidates, and no room.
     pub fn new(alloc: Global, candidates: u32) -> Trie
-        requires { (1 ≤ candidates) × (candidates ≤ 250) }
+        requires { (1 ≤ candidates) × (candidates ≤ MOST_CANDIDATES) }
         ensures { result ≡ record { candidates = candidates; ballots = []; spare = 0 } }
     {
         Trie {
@@ -98,7 +99,7 @@ impl Trie {
     /// The number of all ballots, empty ones included.
     pub fn total(&self) -> u64
         ensures total { result ≡ length self.now.ballots }
-        ensures few { result ≤ 999999999 }
+        ensures few { result ≤ MOST_BALLOTS }
     {
         self.total
     }
@@ -108,7 +109,7 @@ impl Trie {
     pub fn add<L: Ledger>(&mut self, ballots: &Ballots, steps: &mut Steps<L>)
         requires candidates { ballots.now.candidates ≡ self.old.candidates }
         requires room { rank_count ballots.now.lines ≤ self.old.spare }
-        requires few { length self.old.ballots + ballot_count ballots.now.lines ≤ 999999999 }
+        requires few { length self.old.ballots + ballot_count ballots.now.lines ≤ MOST_BALLOTS }
         ensures candidates { self.new.candidates ≡ self.old.candidates }
         ensures bag { IsPermutation self.new.ballots (plain ballots.now.lines ++ self.old.ballots) }
         ensures total { length self.new.ballots
@@ -128,7 +129,7 @@ impl Trie {
         requires ranking { IsRanking self.old.candidates line.now.ranking }
         requires some { 1 ≤ line.now.count }
         requires room { length line.now.ranking ≤ self.old.spare }
-        requires few { length self.old.ballots + line.now.count ≤ 999999999 }
+        requires few { length self.old.ballots + line.now.count ≤ MOST_BALLOTS }
         ensures candidates { self.new.candidates ≡ self.old.candidates }
         ensures bag { IsPermutation self.new.ballots
             (replicate line.now.count line.now.ranking ++ self.old.ballots) }
@@ -237,7 +238,7 @@ impl Trie {
     /// The number of candidates.
     pub fn candidates(&self) -> u32
         ensures candidates { result ≡ self.now.candidates }
-        ensures few { result ≤ 250 }
+        ensures few { result ≤ MOST_CANDIDATES }
     {
         self.candidates
     }
@@ -254,7 +255,7 @@ impl Trie {
         ensures ballots { self.now.ballots
             ≡ replicate (count_of [] self.now.ballots) [] ++ bag result.now }
         ensures rising { IsRising 0 result.now }
-        ensures within { IsWithin self.now.candidates 250 1 result.now }
+        ensures within { IsWithin self.now.candidates MOST_CANDIDATES 1 result.now }
         ensures order { AreInOrder self.now.ballots }
     {
         &self.forest

@@ -1,5 +1,6 @@
 // The book of one shard.
 ghost use Rattle.std.specs.Prelude.{◌≡◌, ◌+◌, ◌≤◌, [], ◌∷◌, ◌++◌, OnOk, IsPermutation};
+ghost use Rattle.plain_ballots.specs.declared.limits.TheConstants.{MOST_CANDIDATES};
 ghost use Rattle.plain_ballots.specs.Ballots.{plain};
 ghost use Rattle.batch_core.specs.Book.{batch_of, reply, empty, standing};
 ghost use Rattle.batch_core.specs.Histories.{after_all};
@@ -69,7 +70,7 @@ impl ShardBook {
     /// The book of a shard without entries, in an office of so many shards and of 1 to 250 candidates.
     pub fn new(alloc: Global, shard: u32, shards: u32, candidates: u32) -> ShardBook
         requires shard { (1 ≤ shard) × (shard ≤ shards) }
-        requires candidates { (1 ≤ candidates) × (candidates ≤ 250) }
+        requires candidates { (1 ≤ candidates) × (candidates ≤ MOST_CANDIDATES) }
         ensures shard { result.shard ≡ shard }
         ensures shards { result.shards ≡ shards }
         ensures candidates { result.candidates ≡ candidates }

@@ -1,5 +1,6 @@
 // How a shard's trie follows a change.
 ghost use Rattle.std.specs.Prelude.{◌≡◌, ◌+◌, ◌≤◌, ◌++◌, length, true, Some, is_some, IsPermutation};
+ghost use Rattle.plain_ballots.specs.declared.limits.TheConstants.{MOST_BALLOTS};
 ghost use Rattle.plain_ballots.specs.Ballots.{ballot_count, plain};
 ghost use Rattle.batch_core.specs.Book.{ballots_of};
 ghost use Rattle.ranking_trie.specs.BallotBag.{Holds};
@@ -29,7 +30,7 @@ pub(crate) fn follow<L: Ledger>(
     requires room { rank_count (brought change.now) ≤ trie.old.spare }
     requires few { is_done reply ≡ true →
         length trie.old.ballots + ballot_count (brought change.now)
-        ≤ 999999999 + ballot_count (lines_at entries.now.items place) }
+        ≤ MOST_BALLOTS + ballot_count (lines_at entries.now.items place) }
     ensures candidates { trie.new.candidates ≡ trie.old.candidates }
     ensures exchanged { AreExchanged trie.old.ballots
         (plain (if_done reply (lines_at entries.now.items place)))
@@ -68,7 +69,7 @@ fn exchange<L: Ledger>(
     requires held { Holds trie.old.ballots (plain (lines_at entries.now.items place)) }
     requires room { rank_count (brought change.now) ≤ trie.old.spare }
     requires few { length trie.old.ballots + ballot_count (brought change.now)
-        ≤ 999999999 + ballot_count (lines_at entries.now.items place) }
+        ≤ MOST_BALLOTS + ballot_count (lines_at entries.now.items place) }
     ensures candidates { trie.new.candidates ≡ trie.old.candidates }
     ensures exchanged { AreExchanged trie.old.ballots
         (plain (lines_at entries.now.items place))
@@ -107,7 +108,7 @@ fn take_out<L: Ledger>(
 fn put_in<L: Ledger>(trie: &mut Trie, change: &Change, steps: &mut Steps<L>)
     requires candidates { AreOf trie.old.candidates (ballots_of change.now) }
     requires room { rank_count (brought change.now) ≤ trie.old.spare }
-    requires few { length trie.old.ballots + ballot_count (brought change.now) ≤ 999999999 }
+    requires few { length trie.old.ballots + ballot_count (brought change.now) ≤ MOST_BALLOTS }
     ensures candidates { trie.new.candidates ≡ trie.old.candidates }
     ensures bag { IsPermutation trie.new.ballots
         (plain (brought change.now) ++ trie.old.ballots) }

@@ -1,5 +1,6 @@
 // A freeze, at a caller's desk.
 ghost use Rattle.std.specs.Prelude.{◌≡◌, ◌+◌, ◌≤◌, ◌++◌, ◌∷◌, [], All, false, length, vec_len, IfOk, OnOk, OnErr};
+ghost use Rattle.plain_ballots.specs.declared.limits.TheConstants.{MOST_CANDIDATES};
 ghost use Rattle.call_register.specs.Marks.{MayMark, struck_by};
 ghost use Rattle.call_register.specs.declared.mark.Mark.TheVariants.{Freeze};
 ghost use Rattle.call_register.specs.Weaving.{freeze_entry};
@@ -28,7 +29,7 @@ fn copied(
     held: &Vec<Held<ShardValue>>,
     kept: &mut Held<RegisterValue>,
 ) -> Result<Version, NoMemory>
-    requires limits { (1 ≤ vec_len held.now) × (candidates ≤ 250) }
+    requires limits { (1 ≤ vec_len held.now) × (candidates ≤ MOST_CANDIDATES) }
     requires register { (kept.old.register.shards ≡ vec_len held.now) × (kept.old.register.candidates ≡ candidates) }
     requires named { AreNamed (vec_len held.now) candidates held.now.items }
     requires agreed { AreAgreed (vec_len held.now) kept.old.register.marks held.now.items }

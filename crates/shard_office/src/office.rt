@@ -1,5 +1,6 @@
 // The calls at an office that several callers share.
 ghost use Rattle.std.specs.Prelude.{◌≡◌, ℕ, ◌≤◌, ◌++◌, ◌∷◌, [], OnOk, OnErr, IfOk, IfErr};
+ghost use Rattle.plain_ballots.specs.declared.limits.TheConstants.{MOST_CANDIDATES};
 ghost use Rattle.batch_core.specs.Book.{batch_of};
 ghost use Rattle.batch_core.specs.Lawful.{IsLawful};
 ghost use Rattle.batch_core.specs.Shards.{shard_of};
@@ -54,13 +55,13 @@ impl Model for Office {
 
     ghost view = { λ o. record { shards = o.shards; candidates = o.candidates; identity = record { windows = o.windows.items; register = o.register } } };
 
-    ghost invariant = { λ o. (length o.windows.items ≡ o.shards) × (1 ≤ o.shards) × (o.shards ≤ 64) × (o.candidates ≤ 250) };
+    ghost invariant = { λ o. (length o.windows.items ≡ o.shards) × (1 ≤ o.shards) × (o.shards ≤ 64) × (o.candidates ≤ MOST_CANDIDATES) };
 }
 
 impl Office {
     /// A new office of 1 to 250 candidates and 1 to 64 shards, and its clerk, who has seen nothing yet.
     pub fn try_new(alloc: Global, candidates: u32, shards: u32) -> Result<(Office, Clerk), NoMemory>
-        requires candidates { (1 ≤ candidates) × (candidates ≤ 250) }
+        requires candidates { (1 ≤ candidates) × (candidates ≤ MOST_CANDIDATES) }
         requires shards { (1 ≤ shards) × (shards ≤ 64) }
         ensures office { IfOk result (λ made. (made.0.shards ≡ shards) × (made.0.candidates ≡ candidates)) }
         ensures desk { IfOk result (λ made. (made.1.desk.office ≡ made.0) × (made.1.desk.caller ≡ 0)) }

@@ -12,7 +12,8 @@ use Rattle.tool_edge.specs.Refusals.{fault_line}
 use Rattle.tool_edge.specs.Contest.{IsContest}
 use Rattle.tool_edge.specs.Finishing.{Finishes, FinishesOwed, RefusesInput}
 use Rattle.tool_edge.specs.Tool.{IsOwedFor, IsSound, no_history}
-use Rattle.tool_edge.specs.Tools.{file_limit, IsContestFile, HaveOneOrder, FilesAreNotRefused}
+use Rattle.tool_edge.specs.declared.opening.TheConstants.{FILE_LIMIT}
+use Rattle.tool_edge.specs.Tools.{IsContestFile, HaveOneOrder, FilesAreNotRefused}
 use Rattle.tool_edge.specs.Tools.{ContestsAreNotRefused, ContestsAreRefusedOnce}
 use Rattle.blt_reader.specs.Election.{poll}
 use Rattle.sheet_check.specs.Input.{IsSplit}
@@ -80,7 +81,7 @@ sound one files either once = record {
 
 -- No line is `end`.
 pub ended_early :
-    (lots input : List ℕ) (fault : InputFault) (end : End InputFault) (sink : Writing) → length input ≤ file_limit
+    (lots input : List ℕ) (fault : InputFault) (end : End InputFault) (sink : Writing) → length input ≤ FILE_LIMIT
     → EndsInSheet input fault → Finishes (BadInput fault) (fault_line fault) end sink
     → FinishesOwed (IsOwedFor audits lots input no_history) end sink
 ended_early lots input fault end sink short ends finishes =
@@ -89,7 +90,7 @@ ended_early lots input fault end sink short ends finishes =
 -- What stands behind the sheet is refused.
 pub refused_behind :
     (lots input sheet file : List ℕ) (before : ℕ) (stop : InputStop) (end : End InputFault) (sink : Writing)
-    → length input ≤ file_limit
+    → length input ≤ FILE_LIMIT
     → IsSplit input sheet file → before ≡ length sheet → ReadsBehind before lots file (Err stop)
     → RefusesInput stop end sink → FinishesOwed (IsOwedFor audits lots input no_history) end sink
 refused_behind lots input sheet file before (Fault fault) end sink short split same why finishes =
@@ -98,7 +99,7 @@ refused_behind lots input sheet file before (Fault fault) end sink short split s
 refused_behind lots input sheet file before NoInputRead end sink short split same why nothing = inl nothing
 
 owed_for_input :
-    (lots input sheet file : List ℕ) (contest : Contest) (due : End InputFault) (bytes : List ℕ) → length input ≤ file_limit
+    (lots input sheet file : List ℕ) (contest : Contest) (due : End InputFault) (bytes : List ℕ) → length input ≤ FILE_LIMIT
     → IsSplit input sheet file → IsContest lots file contest
     → IsOwedVerdict (poll contest.election) contest.lots sheet due bytes → IsOwedFor audits lots input no_history due bytes
 owed_for_input lots input sheet file contest due bytes short split is (done, owed) =
@@ -108,7 +109,7 @@ owed_for_input lots input sheet file contest due bytes short split is (done, owe
 
 -- The verdict on the sheet is what is owed for the input.
 judged :
-    (lots input sheet file : List ℕ) (contest : Contest) (end : End InputFault) (sink : Writing) → length input ≤ file_limit
+    (lots input sheet file : List ℕ) (contest : Contest) (end : End InputFault) (sink : Writing) → length input ≤ FILE_LIMIT
     → IsSplit input sheet file → IsContest lots file contest
     → FinishesOwed (IsOwedVerdict (poll contest.election) contest.lots sheet) end sink
     → FinishesOwed (IsOwedFor audits lots input no_history) end sink
@@ -119,7 +120,7 @@ judged lots input sheet file contest end sink short split is (inr (due, bytes, o
 -- The same where the verdict is on what is left of the input without its file.
 pub judged_front :
     (lots input sheet file front : List ℕ) (contest : Contest) (end : End InputFault) (sink : Writing)
-    → length input ≤ file_limit
+    → length input ≤ FILE_LIMIT
     → IsSplit input sheet file → front ≡ take (length sheet) input → IsContest lots file contest
     → FinishesOwed (IsOwedVerdict (poll contest.election) contest.lots front) end sink
     → FinishesOwed (IsOwedFor audits lots input no_history) end sink

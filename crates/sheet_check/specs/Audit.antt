@@ -1,5 +1,6 @@
 -- What the checker accepts, refuses and writes.
 use Rattle.std.specs.Prelude.{◌≡◌, ◌⊎◌, ℕ, ◌+◌, List, [], ◌∷◌, ◌++◌, length, codes, decimal, Some, Result, Ok, Err}
+use Rattle.tool_edge.specs.declared.opening.TheConstants.{FILE_LIMIT}
 use Rattle.plain_ballots.specs.Ballots.{plain}
 use Rattle.input_text.specs.declared.fault_kind.FaultKind.TheVariants.{Ended}
 use Rattle.input_text.specs.declared.input_fault.InputFault.{InputFault}
@@ -13,7 +14,7 @@ use Rattle.tool_edge.specs.Refusals.{file_refusals}
 use Rattle.tool_edge.specs.Words.{TakesLots}
 use Rattle.tool_edge.specs.Contest.{IsRefusedFile, HasBadLots, SaysContest, IsContest}
 use Rattle.tool_edge.specs.Tool.{Tool, no_history}
-use Rattle.tool_edge.specs.Tools.{file_limit, IsContestFile}
+use Rattle.tool_edge.specs.Tools.{IsContestFile}
 use Rattle.sheet_check.specs.declared.verdict.Verdict.{Verdict}
 use Rattle.sheet_check.specs.declared.verdict.Verdict.TheVariants.{True, False, Malformed}
 use Rattle.sheet_check.specs.Judged.{IsVerdict}
@@ -86,7 +87,7 @@ OwesAudit lots input bytes =
 abbrev pub audits : Tool (List ℕ) (Unit {0}) InputFault
 audits = record {
   Takes = TakesLots;
-  limit = λ lots. Some file_limit;
+  limit = λ lots. Some FILE_LIMIT;
   Accepts = IsAudit;
   Refuses = IsRefusedAudit;
   refusals = file_refusals;

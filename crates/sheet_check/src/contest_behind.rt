@@ -1,5 +1,6 @@
 // A ballot file behind other bytes, with an order of lots.
 ghost use Rattle.std.specs.Prelude.{◌≡◌, ◌≤◌, ◌+◌, length};
+ghost use Rattle.tool_edge.specs.declared.opening.TheConstants.{FILE_LIMIT};
 ghost use Rattle.input_text.specs.Reads.{OnFault};
 ghost use Rattle.sheet_check.specs.Audit.{ReadsBehind, stop_behind};
 
@@ -16,7 +17,7 @@ pub(crate) fn contest_behind(
     lots: &[u32],
     file: &[u8],
 ) -> Result<Contest, BltStop>
-    requires { before + length file.now ≤ 67108864 }
+    requires { before + length file.now ≤ FILE_LIMIT }
     ensures { ReadsBehind before lots.now file.now result }
 {
     let election = match read_blt(alloc, file) {

@@ -1,5 +1,6 @@
 // A text compared with the sheet of an election.
 ghost use Rattle.std.specs.Prelude.{◌≡◌, ◌≤◌, All, IfOk, IsPermutation, MatchBool, length};
+ghost use Rattle.plain_ballots.specs.declared.limits.TheConstants.{MOST_BALLOTS, MOST_CANDIDATES};
 ghost use Rattle.fixed_place.specs.Rounding.{scale};
 ghost use Rattle.frozen_plan.specs.Plan.{all_ballots};
 ghost use Rattle.meek_count.specs.Progress.{HasJustBegun};
@@ -97,10 +98,10 @@ fn first_difference<R: Threads + Sync>(
 
 /// All these ballots as one plan. Each line is let go as the plan's share has it.
 fn plans_of(alloc: Global, ballots: Ballots) -> Result<Plans, NoMemory>
-    requires candidates { (1 ≤ ballots.candidates) × (ballots.candidates ≤ 250) }
+    requires candidates { (1 ≤ ballots.candidates) × (ballots.candidates ≤ MOST_CANDIDATES) }
     ensures candidates { IfOk result (All (λ plan. plan.candidates ≡ ballots.candidates)) }
     ensures ballots { IfOk result (λ plans. IsPermutation (all_ballots plans) (plain ballots.lines)) }
-    ensures few { IfOk result (λ plans. length (all_ballots plans) ≤ 999999999) }
+    ensures few { IfOk result (λ plans. length (all_ballots plans) ≤ MOST_BALLOTS) }
 {
     match Plans::dealt(alloc, ballots, 1) {
         Ok(plans) => Ok(plans),
@@ -120,7 +121,7 @@ fn difference_from_count<D: Spread<9>>(
     requires rule { D.rule ≡ Meek }
     requires can { D.can_spread spread.old }
     requires spread_of_all { D.candidates spread.old ≡ length roll.now.names }
-    requires few { length (D.ballots spread.old) ≤ 999999999 }
+    requires few { length (D.ballots spread.old) ≤ MOST_BALLOTS }
     ensures { IfOk result (Compares 9 1000 (D.ballots spread.old) roll.now lots.now bytes.now) }
 {
     let omega = Amount::<9>::from_units(OMEGA);

@@ -1,6 +1,7 @@
 // The tool that checks a sheet.
 ghost use Rattle.std.specs.Prelude.{◌≡◌, ◌≤◌, map, length, take};
 ghost use Rattle.std.specs.String.{string_bytes};
+ghost use Rattle.tool_edge.specs.declared.opening.TheConstants.{FILE_LIMIT};
 ghost use Rattle.tool_edge.specs.Finishing.{FinishesOwed};
 ghost use Rattle.tool_edge.specs.Streams.{reading, writing};
 ghost use Rattle.tool_edge.specs.Tool.{IsOwedFor, IsRun, no_history};
@@ -53,7 +54,7 @@ fn check_input<R: Threads + Sync, K: Sink>(
     mut input: Vec<u8>,
     sink: &mut K,
 ) -> End
-    requires { length input.items ≤ 67108864 }
+    requires { length input.items ≤ FILE_LIMIT }
     ensures { FinishesOwed (IsOwedFor audits lots.now input.items no_history) result
         (writing K.written K.faults sink.old sink.new) }
 {

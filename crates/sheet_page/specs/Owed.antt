@@ -1,9 +1,9 @@
 -- What is owed for a sheet.
 use Rattle.std.specs.Prelude.{◌≡◌, ℕ, List, Some}
+use Rattle.tool_edge.specs.declared.opening.TheConstants.{FILE_LIMIT}
 use Rattle.sheet_reader.specs.Form.{HasForm}
 use Rattle.sheet_reader.specs.Values.{SheetList}
 use Rattle.tool_edge.specs.Tool.{Tool, no_history}
-use Rattle.tool_edge.specs.Tools.{file_limit}
 use Rattle.sheet_input.specs.declared.sheet_fault.SheetFault.{SheetFault}
 use Rattle.sheet_input.specs.Sheets.{IsSheetText, IsRefusedSheet, sheet_refusals}
 use Rattle.sheet_page.specs.declared.format.Format.{Format}
@@ -29,7 +29,7 @@ OwesShown format input bytes = (v : SheetList) × HasForm 9 input v × (bytes �
 abbrev pub shows : Tool Format (Unit {0}) SheetFault
 shows = record {
   Takes = TakesFormat;
-  limit = λ format. Some file_limit;
+  limit = λ format. Some FILE_LIMIT;
   Accepts = λ format. IsSheetText;
   Refuses = λ format. IsRefusedSheet;
   refusals = sheet_refusals;

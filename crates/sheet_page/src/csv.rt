@@ -1,6 +1,7 @@
 // A sheet as a table for spreadsheets.
 ghost use Rattle.std.specs.Prelude.{◌≡◌, ◌<◌, ◌≤◌, length, map};
 ghost use Rattle.std.specs.List.{flat_map};
+ghost use Rattle.plain_ballots.specs.declared.limits.TheConstants.{MOST_CANDIDATES};
 ghost use Rattle.csv_text.specs.Csv.{record_text};
 ghost use Rattle.meek_rule.specs.Row.{HasRoomFor};
 ghost use Rattle.piece_text.specs.Writing.{Writes};
@@ -60,7 +61,7 @@ fn write_head<K: Sink>(pen: &mut Pen, sink: &mut K)
 fn write_row<K: Sink>(pen: &mut Pen, values: &SheetValues, row: &Row<9>, sink: &mut K)
     requires room { HasRoomFor (length values.now.names) row.now }
     requires outcomes { length values.now.last ≡ length values.now.names }
-    requires few { length values.now.names ≤ 250 }
+    requires few { length values.now.names ≤ MOST_CANDIDATES }
     ensures { Prints K.written K.faults pen.old.done sink.old pen.new.done sink.new
         (flat_map (λ p. record_text (csv_record values.now row.now p)) (places (length values.now.names))) }
 {
@@ -73,7 +74,7 @@ fn write_row<K: Sink>(pen: &mut Pen, values: &SheetValues, row: &Row<9>, sink: &
 fn write_line<K: Sink>(pen: &mut Pen, values: &SheetValues, row: &Row<9>, p: usize, sink: &mut K)
     requires room { HasRoomFor (length values.now.names) row.now }
     requires outcomes { length values.now.last ≡ length values.now.names }
-    requires few { length values.now.names ≤ 250 }
+    requires few { length values.now.names ≤ MOST_CANDIDATES }
     requires place { p < length values.now.names }
     ensures { Prints K.written K.faults pen.old.done sink.old pen.new.done sink.new
         (record_text (csv_record values.now row.now p)) }

@@ -1,5 +1,6 @@
 // Who is elected, in the order and the round of election.
 ghost use Rattle.std.specs.Prelude.{◌≡◌, ◌<◌, ◌≤◌, ◌&&◌, not, length};
+ghost use Rattle.plain_ballots.specs.declared.limits.TheConstants.{MOST_CANDIDATES};
 ghost use Rattle.lot_order.specs.Flags.{mark_at};
 ghost use Rattle.meek_rule.specs.Row.{HasRoomFor};
 ghost use Rattle.page_tree.specs.Print.{printed};
@@ -66,7 +67,7 @@ fn write_elected_rows<K: Sink>(pen: &mut Pen, values: &SheetValues, sink: &mut K
 
 fn write_elected_in<K: Sink>(pen: &mut Pen, values: &SheetValues, row: &Row<9>, sink: &mut K)
     requires room { HasRoomFor (length values.now.names) row.now }
-    requires few { length values.now.names ≤ 250 }
+    requires few { length values.now.names ≤ MOST_CANDIDATES }
     ensures { Prints K.written K.faults pen.old.done sink.old pen.new.done sink.new
         (print_each (elected_item values.now row.now) (places (length values.now.names))) }
 {
@@ -84,7 +85,7 @@ fn write_elected_item<K: Sink>(
     sink: &mut K,
 )
     requires room { HasRoomFor (length values.now.names) row.now }
-    requires few { length values.now.names ≤ 250 }
+    requires few { length values.now.names ≤ MOST_CANDIDATES }
     requires place { p < length values.now.names }
     ensures { Prints K.written K.faults pen.old.done sink.old pen.new.done sink.new
         (printed (elected_item values.now row.now p)) }

@@ -1,6 +1,7 @@
 // A sheet as JSON.
 ghost use Rattle.std.specs.Prelude.{◌≡◌, ◌<◌, ◌≤◌, length};
 ghost use Rattle.std.specs.List.{flat_map};
+ghost use Rattle.plain_ballots.specs.declared.limits.TheConstants.{MOST_CANDIDATES};
 ghost use Rattle.meek_rule.specs.Row.{HasRoomFor};
 ghost use Rattle.piece_text.specs.Writing.{Writes};
 ghost use Rattle.sheet_reader.specs.Form.{IsPrintable};
@@ -49,7 +50,7 @@ fn write_head<K: Sink>(pen: &mut Pen, values: &SheetValues, sink: &mut K)
 
 fn write_candidates<K: Sink>(pen: &mut Pen, values: &SheetValues, sink: &mut K)
     requires outcomes { length values.now.last ≡ length values.now.names }
-    requires few { length values.now.names ≤ 250 }
+    requires few { length values.now.names ≤ MOST_CANDIDATES }
     ensures { Prints K.written K.faults pen.old.done sink.old pen.new.done sink.new
         (flat_map (candidate_json values.now) (places (length values.now.names))) }
 {
@@ -61,7 +62,7 @@ fn write_candidates<K: Sink>(pen: &mut Pen, values: &SheetValues, sink: &mut K)
 /// The candidate at a place, and what became of it.
 fn write_candidate<K: Sink>(pen: &mut Pen, values: &SheetValues, p: usize, sink: &mut K)
     requires outcomes { length values.now.last ≡ length values.now.names }
-    requires few { length values.now.names ≤ 250 }
+    requires few { length values.now.names ≤ MOST_CANDIDATES }
     requires place { p < length values.now.names }
     ensures { Prints K.written K.faults pen.old.done sink.old pen.new.done sink.new (candidate_json values.now p) }
 {
@@ -94,7 +95,7 @@ fn write_iterations<K: Sink>(pen: &mut Pen, values: &SheetValues, sink: &mut K)
 
 fn write_iteration<K: Sink>(pen: &mut Pen, i: usize, row: &Row<9>, sink: &mut K)
     requires room { HasRoomFor (length row.now.states) row.now }
-    requires few { length row.now.states ≤ 250 }
+    requires few { length row.now.states ≤ MOST_CANDIDATES }
     ensures { Prints K.written K.faults pen.old.done sink.old pen.new.done sink.new (iteration_json i row.now) }
 {
     write_amounts(pen, i, row, sink);
@@ -128,7 +129,7 @@ fn write_amounts<K: Sink>(pen: &mut Pen, i: usize, row: &Row<9>, sink: &mut K)
 
 fn write_standings<K: Sink>(pen: &mut Pen, row: &Row<9>, sink: &mut K)
     requires room { HasRoomFor (length row.now.states) row.now }
-    requires few { length row.now.states ≤ 250 }
+    requires few { length row.now.states ≤ MOST_CANDIDATES }
     ensures { Prints K.written K.faults pen.old.done sink.old pen.new.done sink.new
         (flat_map (standing_json row.now) (places (length row.now.states))) }
 {
@@ -140,7 +141,7 @@ fn write_standings<K: Sink>(pen: &mut Pen, row: &Row<9>, sink: &mut K)
 /// The candidate at a place in an iteration.
 fn write_standing<K: Sink>(pen: &mut Pen, row: &Row<9>, p: usize, sink: &mut K)
     requires room { HasRoomFor (length row.now.states) row.now }
-    requires few { length row.now.states ≤ 250 }
+    requires few { length row.now.states ≤ MOST_CANDIDATES }
     requires place { p < length row.now.states }
     ensures { Prints K.written K.faults pen.old.done sink.old pen.new.done sink.new (standing_json row.now p) }
 {
@@ -156,7 +157,7 @@ fn write_standing<K: Sink>(pen: &mut Pen, row: &Row<9>, p: usize, sink: &mut K)
 fn write_vote<K: Sink>(pen: &mut Pen, row: &Row<9>, p: usize, sink: &mut K)
     requires room { HasRoomFor (length row.now.states) row.now }
     requires place { p < length row.now.states }
-    requires few { length row.now.states ≤ 250 }
+    requires few { length row.now.states ≤ MOST_CANDIDATES }
     ensures { Prints K.written K.faults pen.old.done sink.old pen.new.done sink.new (vote_json row.now p) }
 {
     let state = state_word(*row.states.get(p));

@@ -1,5 +1,6 @@
 // The picture of a round: its votes as bars, and its quota as a line.
 ghost use Rattle.std.specs.Prelude.{◌≡◌, ◌<◌, ◌≤◌, codes, length, max};
+ghost use Rattle.plain_ballots.specs.declared.limits.TheConstants.{MOST_CANDIDATES};
 ghost use Rattle.meek_rule.specs.Row.{HasRoomFor};
 ghost use Rattle.page_tree.specs.Print.{opening, printed};
 ghost use Rattle.sheet_reader.specs.Form.{IsPrintable};
@@ -85,7 +86,7 @@ fn write_picture<K: Sink>(
 }
 
 fn write_start<K: Sink>(pen: &mut Pen, values: &SheetValues, sink: &mut K)
-    requires few { length values.now.names ≤ 250 }
+    requires few { length values.now.names ≤ MOST_CANDIDATES }
     ensures { Prints K.written K.faults pen.old.done sink.old pen.new.done sink.new
         (opening (codes "svg") (picture_attributes (length values.now.names))) }
 {
@@ -96,7 +97,7 @@ fn write_start<K: Sink>(pen: &mut Pen, values: &SheetValues, sink: &mut K)
 /// The part of the plane that is seen, with room for so many bars.
 #[tactic(auto, using(line_text::proofs::Lengths::lengths))]
 fn view_box(bars: usize) -> Line
-    requires { bars ≤ 250 }
+    requires { bars ≤ MOST_CANDIDATES }
     ensures { result ≡ view_box bars }
 {
     let mut line = Line::new();
@@ -139,7 +140,7 @@ fn write_title<K: Sink>(pen: &mut Pen, round: u32, sink: &mut K)
 }
 
 fn write_quota<K: Sink>(pen: &mut Pen, values: &SheetValues, full: u64, row: &Row<9>, sink: &mut K)
-    requires few { length values.now.names ≤ 250 }
+    requires few { length values.now.names ≤ MOST_CANDIDATES }
     ensures { Prints K.written K.faults pen.old.done sink.old pen.new.done sink.new
         (printed (quota_line (scaled full row.now.quota) (length values.now.names))) }
 {
@@ -147,7 +148,7 @@ fn write_quota<K: Sink>(pen: &mut Pen, values: &SheetValues, full: u64, row: &Ro
 }
 
 fn write_quota_line<K: Sink>(pen: &mut Pen, x: u64, bars: usize, sink: &mut K)
-    requires few { bars ≤ 250 }
+    requires few { bars ≤ MOST_CANDIDATES }
     ensures { Prints K.written K.faults pen.old.done sink.old pen.new.done sink.new
         (printed (quota_line x bars)) }
 {
@@ -221,7 +222,7 @@ fn write_label_at<K: Sink>(
 
 fn write_rectangle_at<K: Sink>(pen: &mut Pen, full: u64, row: &Row<9>, p: usize, sink: &mut K)
     requires room { HasRoomFor (length row.now.states) row.now }
-    requires few { length row.now.states ≤ 250 }
+    requires few { length row.now.states ≤ MOST_CANDIDATES }
     requires place { p < length row.now.states }
     ensures { Prints K.written K.faults pen.old.done sink.old pen.new.done sink.new
         (printed (rectangle_at full row.now p)) }

@@ -1,5 +1,6 @@
 // The table of rounds.
 ghost use Rattle.std.specs.Prelude.{◌≡◌, ◌-◌, ◌*◌, ◌<◌, ◌≤◌, length};
+ghost use Rattle.plain_ballots.specs.declared.limits.TheConstants.{MOST_BALLOTS, MOST_CANDIDATES};
 ghost use Rattle.meek_rule.specs.Row.{HasRoomFor};
 ghost use Rattle.page_tree.specs.Print.{printed};
 ghost use Rattle.sheet_reader.specs.Form.{IsPrintable};
@@ -174,7 +175,7 @@ fn write_round_cells<K: Sink>(pen: &mut Pen, values: &SheetValues, row: &Row<9>,
 
 fn write_vote_cells<K: Sink>(pen: &mut Pen, values: &SheetValues, row: &Row<9>, sink: &mut K)
     requires room { HasRoomFor (length values.now.names) row.now }
-    requires few { length values.now.names ≤ 250 }
+    requires few { length values.now.names ≤ MOST_CANDIDATES }
     ensures { Prints K.written K.faults pen.old.done sink.old pen.new.done sink.new
         (print_each (vote_cell row.now) (places (length values.now.names))) }
 {
@@ -185,7 +186,7 @@ fn write_vote_cells<K: Sink>(pen: &mut Pen, values: &SheetValues, row: &Row<9>, 
 
 fn write_vote_cell<K: Sink>(pen: &mut Pen, row: &Row<9>, p: usize, sink: &mut K)
     requires room { HasRoomFor (length row.now.states) row.now }
-    requires few { length row.now.states ≤ 250 }
+    requires few { length row.now.states ≤ MOST_CANDIDATES }
     requires place { p < length row.now.states }
     ensures { Prints K.written K.faults pen.old.done sink.old pen.new.done sink.new
         (printed (vote_cell row.now p)) }
@@ -207,7 +208,7 @@ fn write_vote_cell<K: Sink>(pen: &mut Pen, row: &Row<9>, p: usize, sink: &mut K)
 
 /// What of so many ballots is left on no candidate.
 pub(crate) fn left_over(ballots: u64, total: Amount<9>) -> Amount<9>
-    requires { ballots ≤ 999999999 }
+    requires { ballots ≤ MOST_BALLOTS }
     ensures { result ≡ ballots * 1000000000 - total }
 {
     Amount::from_units((ballots * 1_000_000_000).saturating_sub(total.units()))
@@ -229,7 +230,7 @@ pub(crate) fn ends_round(rows: &[Row<9>], i: usize) -> bool
 /// What a candidate is after an iteration.
 pub(crate) fn state_after(row: &Row<9>, p: usize) -> State
     requires room { HasRoomFor (length row.now.states) row.now }
-    requires few { length row.now.states ≤ 250 }
+    requires few { length row.now.states ≤ MOST_CANDIDATES }
     requires place { p < length row.now.states }
     ensures { result ≡ state_after row.now p }
 {

@@ -1,6 +1,7 @@
 // The tool that shows a sheet.
 ghost use Rattle.std.specs.Prelude.{◌≤◌, map, length};
 ghost use Rattle.std.specs.String.{string_bytes};
+ghost use Rattle.tool_edge.specs.declared.opening.TheConstants.{FILE_LIMIT};
 ghost use Rattle.tool_edge.specs.Finishing.{Finishes, FinishesOwed};
 ghost use Rattle.tool_edge.specs.Streams.{reading, writing};
 ghost use Rattle.tool_edge.specs.Tool.{IsOwedFor, IsRun, no_history};
@@ -41,7 +42,7 @@ pub fn page<S: Source, K: Sink>(
 /// Shows the whole input.
 #[tactic(auto, using(crate::proofs::Owing::values_owed, crate::proofs::Owing::malformed_owed))]
 fn show<K: Sink>(alloc: Global, format: Format, input: &[u8], sink: &mut K) -> End<SheetFault>
-    requires { length input.now ≤ 67108864 }
+    requires { length input.now ≤ FILE_LIMIT }
     ensures { FinishesOwed (IsOwedFor shows format input.now no_history) result
         (writing K.written K.faults sink.old sink.new) }
 {

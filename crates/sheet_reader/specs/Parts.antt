@@ -1,6 +1,7 @@
 -- The lines of a sheet, part by part.
 use Rattle.std.specs.Prelude.{◌≡◌, ℕ, ◌+◌, ◌≢◌, ◌≤◌, All, Bool, List, [], ◌∷◌, ◌++◌, codes, decimal, length, slice_index, slice_set}
 use Rattle.std.specs.List.{flat_map}
+use Rattle.plain_ballots.specs.declared.limits.TheConstants.{MOST_BALLOTS}
 use Rattle.candidate_roll.specs.Name.{IsName}
 use Rattle.candidate_roll.specs.Roll.{IsFew}
 use Rattle.candidate_roll.specs.State.{state_at}
@@ -25,7 +26,7 @@ head_lines title seats candidates ballots = (codes "title " ++ title) ∷ count_
 -- no title and numbers come next
 abbrev pub NoHead : (lines : List (List ℕ)) → Type 0
 NoHead lines =
-    (title : List ℕ) (seats candidates ballots : ℕ) (rest : List (List ℕ)) → IsName 1000 title → IsFew seats → IsFew candidates → ballots ≤ 999999999
+    (title : List ℕ) (seats candidates ballots : ℕ) (rest : List (List ℕ)) → IsName 1000 title → IsFew seats → IsFew candidates → ballots ≤ MOST_BALLOTS
     → lines ≢ head_lines title seats candidates ballots ++ rest
 
 -- the numbers of a round and an iteration

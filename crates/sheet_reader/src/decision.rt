@@ -1,5 +1,6 @@
 // What an iteration in a sheet decided.
 ghost use Rattle.std.specs.Prelude.{◌≡◌, ◌≢◌, ◌<◌, ◌≤◌, ◌^◌, [], ◌∷◌, ◌++◌, ℕ, Bool, List, IsTrue, true, length, MatchOption};
+ghost use Rattle.plain_ballots.specs.declared.limits.TheConstants.{MOST_CANDIDATES};
 ghost use Rattle.meek_rule.specs.declared.step.Step.{Step};
 ghost use Rattle.meek_rule.specs.declared.step.Step.TheVariants.{Defeat};
 ghost use Rattle.sheet_text.specs.Lines.{listed, marked_lines, step_line};
@@ -20,7 +21,7 @@ pub(crate) fn read_decision(
     capped: &mut Flags,
     tied: &mut Flags,
 ) -> Option<Step>
-    requires few { length tied.old ≤ 250 }
+    requires few { length tied.old ≤ MOST_CANDIDATES }
     requires elected { length elected.old ≡ length tied.old }
     requires capped { length capped.old ≡ length tied.old }
     ensures elected { length elected.new ≡ length tied.old }
@@ -48,7 +49,7 @@ pub(crate) fn read_decision(
 /// Reads the line of a word and a list, where the next line begins with this word. Without such a line
 /// nobody is marked.
 fn read_marks(lines: &mut Lines<'_>, word: &[u8], marks: &mut Flags) -> bool
-    requires few { length marks.old ≤ 250 }
+    requires few { length marks.old ≤ MOST_CANDIDATES }
     ensures same_length { length marks.new ≡ length marks.old }
     ensures sound { IsTrue result → lines.old ≡ marked_lines word.now marks.new ++ lines.new }
     ensures whole { (others : List Bool) (rest : List (List ℕ)) → length others ≡ length marks.old
@@ -67,7 +68,7 @@ fn read_marks(lines: &mut Lines<'_>, word: &[u8], marks: &mut Flags) -> bool
 
 /// Reads a step and the list of the tied.
 fn read_step(text: &[u8], tied: &mut Flags) -> Option<Step>
-    requires few { length tied.old ≤ 250 }
+    requires few { length tied.old ≤ MOST_CANDIDATES }
     ensures same_length { length tied.new ≡ length tied.old }
     ensures read { MatchOption result
         ((step : Step) (others : List Bool) → length others ≡ length tied.old → HasTiedFor (length tied.old) step others
@@ -90,7 +91,7 @@ fn read_step(text: &[u8], tied: &mut Flags) -> Option<Step>
 
 /// Reads the candidate whom a step defeated and the list of the tied, among whom the candidate stands.
 fn read_defeat(text: &[u8], tied: &mut Flags) -> Option<u32>
-    requires few { length tied.old ≤ 250 }
+    requires few { length tied.old ≤ MOST_CANDIDATES }
     ensures same_length { length tied.new ≡ length tied.old }
     ensures read { MatchOption result
         ((c : ℕ) (others : List Bool) → length others ≡ length tied.old → HasTiedFor (length tied.old) (Defeat c) others

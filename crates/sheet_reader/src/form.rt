@@ -1,5 +1,6 @@
 // Whether a text has the form of a sheet.
 ghost use Rattle.std.specs.Prelude.{◌≡◌, ◌≤◌, ◌∷◌, ◌++◌, List, All, codes, MatchResult};
+ghost use Rattle.plain_ballots.specs.declared.limits.TheConstants.{MOST_CANDIDATES};
 ghost use Rattle.meek_rule.specs.Row.{Row as Iteration};
 ghost use Rattle.sheet_reader.specs.Form.{HasForm, IsPrintableRow};
 ghost use Rattle.sheet_reader.specs.Parts.{NoRows, rows_lines};
@@ -42,7 +43,7 @@ pub fn check_form(alloc: Global, bytes: &[u8]) -> Result<(), SheetStop>
 
 /// Reads past all iterations of so many candidates and the line of the result.
 fn skip_rows(alloc: Global, lines: &mut Lines<'_>, candidates: u32) -> Result<(), SheetStop>
-    requires few { candidates ≤ 250 }
+    requires few { candidates ≤ MOST_CANDIDATES }
     ensures { MatchResult result
         (λ _. (rows : List Iteration) × All (IsPrintableRow 9 candidates) rows × (lines.old ≡ rows_lines 9 rows ++ codes "result" ∷ lines.new))
         (λ stop. Stops stop (NoRows candidates lines.old)) }

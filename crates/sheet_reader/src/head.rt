@@ -1,5 +1,6 @@
 // How a sheet begins.
 ghost use Rattle.std.specs.Prelude.{◌≡◌, ◌≢◌, ◌<◌, ◌≤◌, ◌^◌, ◌∷◌, ◌++◌, ℕ, List, codes, decimal, MatchOption, MatchResult};
+ghost use Rattle.plain_ballots.specs.declared.limits.TheConstants.{MOST_BALLOTS};
 ghost use Rattle.candidate_roll.specs.Name.{IsName};
 ghost use Rattle.candidate_roll.specs.Roll.{IsFew};
 ghost use Rattle.sheet_reader.specs.Parts.{NoHead, count_lines, head_lines};
@@ -9,6 +10,7 @@ use crate::SheetStop;
 use crate::lines::Lines;
 use crate::number::read_count;
 use candidate_roll::{Name, NameStop};
+use plain_ballots::{MOST_BALLOTS, MOST_CANDIDATES};
 use std::alloc::Global;
 
 /// What stands in a sheet before its iterations.
@@ -23,7 +25,7 @@ pub(crate) struct Head {
 /// The title and the numbers of a sheet.
 pub(crate) fn read_head(alloc: Global, lines: &mut Lines<'_>) -> Result<Head, SheetStop>
     ensures { MatchResult result
-        (λ head. IsName 1000 head.title × IsFew head.seats × IsFew head.candidates × (head.ballots ≤ 999999999)
+        (λ head. IsName 1000 head.title × IsFew head.seats × IsFew head.candidates × (head.ballots ≤ MOST_BALLOTS)
         × (lines.old ≡ head_lines head.title head.seats head.candidates head.ballots ++ lines.new))
         (λ stop. Stops stop (NoHead lines.old)) }
 {
@@ -74,17 +76,17 @@ pub(crate) fn read_name<const MAX: usize>(
 /// The numbers of seats, candidates and ballots.
 fn read_counts(lines: &mut Lines<'_>) -> Option<(u32, u32, u32)>
     ensures { MatchOption result
-        ((seats candidates ballots : ℕ) (rest : List (List ℕ)) → IsFew seats → IsFew candidates → ballots ≤ 999999999
+        ((seats candidates ballots : ℕ) (rest : List (List ℕ)) → IsFew seats → IsFew candidates → ballots ≤ MOST_BALLOTS
         → lines.old ≢ count_lines seats candidates ballots ++ rest)
-        (λ n. IsFew n.0 × IsFew n.1 × (n.2 ≤ 999999999) × (lines.old ≡ count_lines n.0 n.1 n.2 ++ lines.new)) }
+        (λ n. IsFew n.0 × IsFew n.1 × (n.2 ≤ MOST_BALLOTS) × (lines.old ≡ count_lines n.0 n.1 n.2 ++ lines.new)) }
 {
-    let Some(seats) = read_number(lines, b"seats ", 1, 250) else {
+    let Some(seats) = read_number(lines, b"seats ", 1, MOST_CANDIDATES) else {
         return None;
     };
-    let Some(candidates) = read_number(lines, b"candidates ", 1, 250) else {
+    let Some(candidates) = read_number(lines, b"candidates ", 1, MOST_CANDIDATES) else {
         return None;
     };
-    let Some(ballots) = read_number(lines, b"ballots ", 0, 999_999_999) else {
+    let Some(ballots) = read_number(lines, b"ballots ", 0, MOST_BALLOTS) else {
         return None;
     };
     Some((seats, candidates, ballots))

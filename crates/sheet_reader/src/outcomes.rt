@@ -1,5 +1,6 @@
 // How a sheet ends: what became of each candidate.
 ghost use Rattle.std.specs.Prelude.{◌≡◌, ◌≢◌, ◌+◌, ◌<◌, ◌≤◌, [], ◌∷◌, ◌++◌, ℕ, List, All, codes, length, MatchBool, MatchOption, MatchResult};
+ghost use Rattle.plain_ballots.specs.declared.limits.TheConstants.{MOST_CANDIDATES};
 ghost use Rattle.candidate_roll.specs.Name.{IsName};
 ghost use Rattle.candidate_roll.specs.declared.state.State.{State};
 ghost use Rattle.meek_rule.specs.Places.{each_place};
@@ -22,7 +23,7 @@ pub(crate) fn read_end(
     lines: &mut Lines<'_>,
     n: usize,
 ) -> Result<(States, Names), SheetStop>
-    requires few { n ≤ 250 }
+    requires few { n ≤ MOST_CANDIDATES }
     ensures { MatchResult result
         (λ read. (length read.0 ≡ n) × (length read.1 ≡ n) × All (IsName 200) read.1 × (lines.old ≡ end_lines n read.0 read.1))
         (λ stop. Stops stop (NoEnd n lines.old)) }
@@ -57,7 +58,7 @@ fn read_outcomes(
     lines: &mut Lines<'_>,
     n: usize,
 ) -> Result<(States, Names), SheetStop>
-    requires few { n ≤ 250 }
+    requires few { n ≤ MOST_CANDIDATES }
     ensures { MatchResult result
         (λ read. (length read.0 ≡ n) × (length read.1 ≡ n) × All (IsName 200) read.1
         × (lines.old ≡ each_place n (outcome_line read.0 read.1) ++ lines.new))
@@ -87,7 +88,7 @@ fn read_outcome(
     lines: &mut Lines<'_>,
     p: usize,
 ) -> Result<(State, Name<200>), SheetStop>
-    requires place { p < 250 }
+    requires place { p < MOST_CANDIDATES }
     ensures { MatchResult result
         (λ read. IsName 200 read.1 × (lines.old ≡ outcome_of p read.0 read.1 ∷ lines.new))
         (λ stop. Stops stop ((state : State) (name : List ℕ) (rest : List (List ℕ)) → IsName 200 name
@@ -107,7 +108,7 @@ fn read_outcome(
 
 /// The state and the bytes of the name in the line of the candidate at place `p`.
 fn outcome_parts(text: &[u8], p: usize) -> Option<(State, &[u8])>
-    requires place { p < 250 }
+    requires place { p < MOST_CANDIDATES }
     ensures { MatchOption result
         ((state : State) (name : List ℕ) → text.now ≢ outcome_of p state name)
         (λ parts. text.now ≡ outcome_of p parts.0 parts.1.now) }

@@ -1,5 +1,6 @@
 // An iteration in a sheet.
 ghost use Rattle.std.specs.Prelude.{◌≡◌, ◌≢◌, ◌<◌, ◌≤◌, ◌^◌, ◌∷◌, ◌++◌, ℕ, List, All, codes, decimal, length, MatchBool, MatchOption};
+ghost use Rattle.plain_ballots.specs.declared.limits.TheConstants.{MOST_CANDIDATES};
 ghost use Rattle.candidate_roll.specs.declared.state.State.{State};
 ghost use Rattle.fixed_place.specs.Rounding.{most, scale};
 ghost use Rattle.fixed_place.specs.Text.{text_of};
@@ -22,7 +23,7 @@ use meek_rule::Row;
 /// Reads an iteration into a row that has room for all candidates; whether there is one.
 pub(crate) fn read_row(lines: &mut Lines<'_>, line: &mut Line, row: &mut Row<9>) -> bool
     requires room { HasRoomFor (length row.old.states) row.old }
-    requires few { length row.old.states ≤ 250 }
+    requires few { length row.old.states ≤ MOST_CANDIDATES }
     ensures { MatchBool result
         (IsPrintableRow 9 (length row.old.states) row.new × (lines.old ≡ row_lines 9 row.new ++ lines.new))
         (NoRow (length row.old.states) lines.old) }
@@ -84,7 +85,7 @@ fn read_standings(
     keeps: &mut Keeps<9>,
     votes: &mut Amounts<9>,
 ) -> bool
-    requires few { length states.old ≤ 250 }
+    requires few { length states.old ≤ MOST_CANDIDATES }
     requires keeps { length keeps.old ≡ length states.old }
     requires votes { length votes.old ≡ length states.old }
     ensures states { length states.new ≡ length states.old }
@@ -115,7 +116,7 @@ fn read_standing_into(
     keeps: &mut Keeps<9>,
     votes: &mut Amounts<9>,
 ) -> bool
-    requires few { length states.old ≤ 250 }
+    requires few { length states.old ≤ MOST_CANDIDATES }
     requires place { p < length states.old }
     requires keeps { length keeps.old ≡ length states.old }
     requires votes { length votes.old ≡ length states.old }

@@ -1,5 +1,6 @@
 // A sheet as a whole.
 ghost use Rattle.std.specs.Prelude.{◌≡◌, ◌≤◌, ◌∷◌, ◌++◌, All, codes, MatchResult};
+ghost use Rattle.plain_ballots.specs.declared.limits.TheConstants.{MOST_CANDIDATES};
 ghost use Rattle.sheet_reader.specs.Form.{IsPrintableRow};
 ghost use Rattle.sheet_reader.specs.Parts.{NoRows, rows_lines};
 ghost use Rattle.sheet_reader.specs.Reading.{Reads};
@@ -46,7 +47,7 @@ pub fn read_sheet(alloc: Global, bytes: &[u8]) -> Result<SheetValues, SheetStop>
 
 /// All iterations of so many candidates, up to the line of the result.
 fn read_rows(alloc: Global, lines: &mut Lines<'_>, candidates: u32) -> Result<RowList, SheetStop>
-    requires few { candidates ≤ 250 }
+    requires few { candidates ≤ MOST_CANDIDATES }
     ensures { MatchResult result
         (λ rows. All (IsPrintableRow 9 candidates) rows × (lines.old ≡ rows_lines 9 rows ++ codes "result" ∷ lines.new))
         (λ stop. Stops stop (NoRows candidates lines.old)) }

@@ -1,5 +1,6 @@
 // A candidate's line in an iteration.
 ghost use Rattle.std.specs.Prelude.{◌≡◌, ◌+◌, ◌<◌, ◌≤◌, ◌≢◌, ℕ, List, Some, IfSome, MatchOption};
+ghost use Rattle.plain_ballots.specs.declared.limits.TheConstants.{MOST_CANDIDATES};
 ghost use Rattle.candidate_roll.specs.declared.state.State.{State};
 ghost use Rattle.fixed_place.specs.Rounding.{most, scale};
 ghost use Rattle.sheet_text.specs.Lines.{state_word};
@@ -26,7 +27,7 @@ pub(crate) fn read_standing<const P: usize>(
     p: usize,
 ) -> Option<Standing>
     requires places { (6 ≤ P) × (P ≤ 9) }
-    requires place { p < 250 }
+    requires place { p < MOST_CANDIDATES }
     ensures sound { IfSome result (λ s. (s.keep ≤ scale P) × (s.vote ≤ most P) × (text.now ≡ standing_line P p s.state s.keep s.vote)) }
     ensures whole { (state : State) (keep vote : ℕ) → keep ≤ scale P → vote ≤ most P → text.now ≡ standing_line P p state keep vote → result ≡ Some (record { state = state; keep = keep; vote = vote }) }
 {

@@ -1,6 +1,7 @@
 // An iteration in a sheet.
 ghost use Rattle.std.specs.Prelude.{◌≡◌, ◌≤◌, ◌<◌, [], ◌∷◌, length, OnOk, OnErr};
 ghost use Rattle.std.specs.Io.KnownBytes.{Appends};
+ghost use Rattle.plain_ballots.specs.declared.limits.TheConstants.{MOST_CANDIDATES};
 ghost use Rattle.byte_edge.specs.Bytes.{AppendsFront};
 ghost use Rattle.byte_edge.specs.Faults.{CountsFault};
 ghost use Rattle.meek_rule.specs.Places.{each_place};
@@ -19,7 +20,7 @@ use meek_rule::{Row, Step};
 /// amounts, and what was decided. All lists of the row have as many items, at most 250.
 pub fn write_row<const P: usize, K: Sink>(row: &Row<P>, sink: &mut K) -> Result<(), Failed>
     requires equally_long { HasRoomFor (length row.now.states) row.now }
-    requires few { length row.now.states ≤ 250 }
+    requires few { length row.now.states ≤ MOST_CANDIDATES }
     ensures all { OnOk result
         (Appends (K.written sink.old) (K.written sink.new) (text_of_lines (row_lines P row.now))) }
     ensures front { OnErr result
@@ -37,7 +38,7 @@ pub(crate) fn write_row_by<const P: usize, K: Sink>(
     sink: &mut K,
 ) -> Result<(), Failed>
     requires equally_long { HasRoomFor (length row.now.states) row.now }
-    requires few { length row.now.states ≤ 250 }
+    requires few { length row.now.states ≤ MOST_CANDIDATES }
     ensures { Writes K.written K.faults sink.old sink.new (row_lines P row.now) result }
 {
     write_numbers(line, row, sink)?;
@@ -68,7 +69,7 @@ fn write_candidates<const P: usize, K: Sink>(
     sink: &mut K,
 ) -> Result<(), Failed>
     requires equally_long { HasRoomFor (length row.now.states) row.now }
-    requires few { length row.now.states ≤ 250 }
+    requires few { length row.now.states ≤ MOST_CANDIDATES }
     ensures { Writes K.written K.faults sink.old sink.new
         (each_place (length row.now.states) (candidate_line P row.now)) result }
 {
@@ -83,7 +84,7 @@ fn write_candidates<const P: usize, K: Sink>(
 #[tactic(auto, using(crate::proofs::Rooms::rooms), unfolding(crate::specs::Lines::candidate_line))]
 fn push_candidate<const P: usize>(line: &mut Line, row: &Row<P>, p: usize)
     requires equally_long { HasRoomFor (length row.now.states) row.now }
-    requires few { length row.now.states ≤ 250 }
+    requires few { length row.now.states ≤ MOST_CANDIDATES }
     requires place { p < length row.now.states }
     ensures text { line.new ≡ candidate_line P row.now p }
     ensures short { length line.new ≤ 100 }
@@ -116,7 +117,7 @@ fn write_decision<const P: usize, K: Sink>(
     sink: &mut K,
 ) -> Result<(), Failed>
     requires equally_long { HasRoomFor (length row.now.states) row.now }
-    requires few { length row.now.states ≤ 250 }
+    requires few { length row.now.states ≤ MOST_CANDIDATES }
     ensures { Writes K.written K.faults sink.old sink.new (decision_lines row.now) result }
 {
     write_marked(line, b"elected", &row.elected, sink)?;
@@ -132,7 +133,7 @@ fn write_marked<K: Sink>(
     sink: &mut K,
 ) -> Result<(), Failed>
     requires short { length word.now ≤ 100 }
-    requires few { length marks.now ≤ 250 }
+    requires few { length marks.now ≤ MOST_CANDIDATES }
     ensures { Writes K.written K.faults sink.old sink.new (marked_lines word.now marks.now) result }
 {
     if !is_any(marks) {
@@ -150,7 +151,7 @@ fn write_step<K: Sink>(
     tied: &Flags,
     sink: &mut K,
 ) -> Result<(), Failed>
-    requires { length tied.now ≤ 250 }
+    requires { length tied.now ≤ MOST_CANDIDATES }
     ensures { Writes K.written K.faults sink.old sink.new (step_line step tied.now ∷ []) result }
 {
     push_step(line, step, tied);
@@ -159,7 +160,7 @@ fn write_step<K: Sink>(
 
 #[tactic(auto, using(crate::proofs::Rooms::rooms), unfolding(crate::specs::Lines::step_line))]
 fn push_step(line: &mut Line, step: Step, tied: &Flags)
-    requires { length tied.now ≤ 250 }
+    requires { length tied.now ≤ MOST_CANDIDATES }
     ensures text { line.new ≡ step_line step tied.now }
     ensures short { length line.new < 1400 }
 {

@@ -1,6 +1,7 @@
 // Words and lists of candidates within a line.
 ghost use Rattle.std.specs.Prelude.{◌≡◌, ◌+◌, ◌*◌, ◌<◌, ◌≤◌, ◌++◌, [], ◌∷◌, length, decimal};
 ghost use Rattle.std.specs.List.{list_any};
+ghost use Rattle.plain_ballots.specs.declared.limits.TheConstants.{MOST_CANDIDATES};
 ghost use Rattle.sheet_text.specs.Lines.{state_word, listed};
 
 use candidate_roll::State;
@@ -22,7 +23,7 @@ pub(crate) fn word_of(state: State) -> &'static [u8]
 /// Begins the line of the candidate at place `p`: its number and its state, with a space behind.
 #[tactic(auto, using(crate::proofs::Rooms::rooms))]
 pub(crate) fn begin_candidate(line: &mut Line, p: usize, state: State)
-    requires { p < 250 }
+    requires { p < MOST_CANDIDATES }
     ensures text { line.new ≡ decimal (p + 1) ++ 32 ∷ state_word state ++ 32 ∷ [] }
     ensures short { length line.new ≤ 14 }
 {
@@ -42,7 +43,7 @@ pub(crate) fn is_any(marks: &Flags) -> bool
 
 /// Appends the marked candidates, each after a space.
 pub(crate) fn push_listed(line: &mut Line, marks: &Flags)
-    requires few { length marks.now ≤ 250 }
+    requires few { length marks.now ≤ MOST_CANDIDATES }
     requires room { length line.old + 4 * length marks.now ≤ 1400 }
     ensures list { line.new ≡ line.old ++ listed 1 marks.now }
     ensures bound { length line.new ≤ length line.old + 4 * length marks.now }
@@ -56,7 +57,7 @@ pub(crate) fn push_listed(line: &mut Line, marks: &Flags)
 
 #[tactic(auto, using(crate::proofs::Rooms::rooms))]
 fn push_listed_one(line: &mut Line, c: u64)
-    requires few { c ≤ 250 }
+    requires few { c ≤ MOST_CANDIDATES }
     requires room { length line.old + 4 ≤ 1400 }
     ensures list { line.new ≡ line.old ++ 32 ∷ decimal c }
     ensures bound { length line.new ≤ length line.old + 4 }

@@ -1,5 +1,6 @@
 -- What moves do to the totals.
 use Rattle.std.specs.Prelude.{◌≡◌, ℕ, ◌+◌, ◌-◌, ◌<◌, ◌≤◌, List, [], ◌∷◌, length, replicate, fold, slice_index, slice_set, true, false, if◌then◌else◌}
+use Rattle.plain_ballots.specs.declared.limits.TheConstants.{MOST_BALLOTS}
 use Rattle.tally_board.specs.declared.ballot_move.Move.{Move}
 
 -- the ballots of the move's candidate
@@ -19,7 +20,7 @@ totals_after candidates moves = fold after_move (replicate candidates 0) moves
 pub record CanMove (totals : List ℕ) (m : Move) : Type 0 where
   pub some : 0 < m.candidate
   pub candidate : m.candidate ≤ length totals
-  pub comes : m.comes ≡ true → total_of totals m + m.ballots ≤ 999999999
+  pub comes : m.comes ≡ true → total_of totals m + m.ballots ≤ MOST_BALLOTS
   pub goes : m.comes ≡ false → m.ballots ≤ total_of totals m
 
 -- each of the moves can be made in its turn

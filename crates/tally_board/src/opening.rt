@@ -1,5 +1,6 @@
 // How a board begins.
 ghost use Rattle.std.specs.Prelude.{◌≡◌, [], ◌++◌, ◌<◌, ◌≤◌, replicate, IfOk, IfErr, IfSome};
+ghost use Rattle.plain_ballots.specs.declared.limits.TheConstants.{MOST_CANDIDATES};
 ghost use Rattle.tally_board.specs.Desk.{new_desk};
 ghost use Rattle.tally_board.specs.Sight.{new_sight};
 ghost use Rattle.tally_board.specs.declared.no_board.NoBoard.TheVariants.{NoPlace};
@@ -94,7 +95,7 @@ pub fn open_board<R: Wait>(
     candidates: u32,
     watchers: u32,
 ) -> Result<(Scribe, Watchers), NoBoard>
-    requires { (1 ≤ candidates) × (candidates ≤ 250) × (watchers ≤ 16) }
+    requires { (1 ≤ candidates) × (candidates ≤ MOST_CANDIDATES) × (watchers ≤ 16) }
     ensures scribe { IfOk result (λ t. t.0 ≡ new_desk t.0.board candidates) }
     ensures watchers { IfOk result (λ t. t.1 ≡ replicate watchers (new_sight t.0.board candidates)) }
     ensures cause { IfErr result (λ e. e ≡ NoPlace → 0 < watchers) }

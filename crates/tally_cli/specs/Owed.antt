@@ -1,6 +1,7 @@
 -- What the tool owes for a day file.
 use Rattle.std.specs.Prelude.{◌≡◌, ℕ, true, Some, List, [], ◌∷◌, ◌++◌, length, decimal}
 use Rattle.std.specs.List.{flat_map, range_with_len}
+use Rattle.tool_edge.specs.declared.opening.TheConstants.{DAY_LIMIT}
 use Rattle.input_text.specs.declared.input_fault.InputFault.{InputFault}
 use Rattle.input_text.specs.Scan.{scan}
 use Rattle.input_text.specs.Refusal.{IsAccepted}
@@ -13,7 +14,6 @@ use Rattle.day_reader.specs.Said.{IsDayRefusal}
 use Rattle.tool_edge.specs.Refusals.{file_refusals}
 use Rattle.tool_edge.specs.Words.{TakesNothing}
 use Rattle.tool_edge.specs.Tool.{Tool, no_history}
-use Rattle.tool_edge.specs.Tools.{day_limit}
 use Rattle.tally_cli.specs.First.{first}
 use Rattle.tally_cli.specs.Changes.{IsHistoryOf}
 
@@ -37,7 +37,7 @@ pub record OwesTally (input bytes : List ℕ) : Type 0 where
 abbrev pub over_days : Tool (Unit {0}) (Unit {0}) InputFault
 over_days = record {
   Takes = TakesNothing;
-  limit = λ asked. Some day_limit;
+  limit = λ asked. Some DAY_LIMIT;
   Accepts = λ asked input. (day : Day) × IsAccepted IsDay (scan input true) day;
   Refuses = λ asked input. IsDayRefusal (scan input true);
   refusals = file_refusals;

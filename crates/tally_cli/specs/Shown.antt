@@ -1,5 +1,6 @@
 -- How a book, what is kept of its batches, and the board agree.
 use Rattle.std.specs.Prelude.{◌≡◌, ℕ, ◌+◌, ◌-◌, ◌≤◌, List, [], length, slice_index, slice_index_or, Option, Some, None}
+use Rattle.plain_ballots.specs.declared.limits.TheConstants.{MOST_BALLOTS, MOST_CANDIDATES}
 use Rattle.plain_ballots.specs.declared.ballot_line.BallotLine.{BallotLine}
 use Rattle.plain_ballots.specs.Ballots.{BallotList, plain}
 use Rattle.batch_core.specs.declared.batch.Batch.{Batch}
@@ -28,7 +29,7 @@ pub record AreKept (candidates : ℕ) (book : BookState) (kept : List BallotList
 
 -- the board shows the first preferences of the ballots that stand in the book of all batches
 pub record IsShown (hall : Hall) : Type 0 where
-  pub few : hall.book.candidates ≤ 250
+  pub few : hall.book.candidates ≤ MOST_CANDIDATES
   pub shard : hall.book.shard ≡ 1
   pub shards : hall.book.shards ≡ 1
   pub legal : IsLegal hall.book.entries
@@ -42,7 +43,7 @@ pub record IsShown (hall : Hall) : Type 0 where
 -- the old ballots are there to go, and with the new ones no candidate has more than 999,999,999
 pub record CanExchange (candidates : ℕ) (totals : List ℕ) (old new : List BallotLine) : Type 0 where
   pub going : (c : ℕ) → 1 ≤ c → c ≤ candidates → first (plain old) c ≤ total totals c
-  pub coming : (c : ℕ) → 1 ≤ c → c ≤ candidates → total totals c - first (plain old) c + first (plain new) c ≤ 999999999
+  pub coming : (c : ℕ) → 1 ≤ c → c ≤ candidates → total totals c - first (plain old) c + first (plain new) c ≤ MOST_BALLOTS
 
 -- the totals once the old ballots have gone and the new ones have come
 abbrev pub AreExchanged : ℕ → (totals : List ℕ) → (old new : List BallotLine) → List ℕ → Type 0

@@ -1,5 +1,6 @@
 // A hall before the first change.
 ghost use Rattle.std.specs.Prelude.{◌≡◌, ◌≤◌, [], replicate, IfOk};
+ghost use Rattle.plain_ballots.specs.declared.limits.TheConstants.{MOST_CANDIDATES};
 ghost use Rattle.tally_cli.specs.Shown.{IsShown};
 
 use crate::NoMemory;
@@ -15,7 +16,7 @@ const BATCHES: usize = 9_999;
 
 /// A hall in which no ballots stand.
 pub(crate) fn open_hall<R: Wait>(rt: &R, alloc: Global, candidates: u32) -> Result<Hall, NoMemory>
-    requires { (1 ≤ candidates) × (candidates ≤ 250) }
+    requires { (1 ≤ candidates) × (candidates ≤ MOST_CANDIDATES) }
     ensures candidates { IfOk result (λ hall. hall.book.candidates ≡ candidates) }
     ensures entries { IfOk result (λ hall. hall.book.entries ≡ []) }
     ensures shown { IfOk result IsShown }

@@ -1,5 +1,6 @@
 // The lines of totals.
 ghost use Rattle.std.specs.Prelude.{◌≡◌, ◌≤◌, ◌++◌, [], length, IfOk};
+ghost use Rattle.plain_ballots.specs.declared.limits.TheConstants.{MOST_CANDIDATES};
 ghost use Rattle.tally_cli.specs.Owed.{total_line, total_lines};
 ghost use Rattle.tally_cli.specs.Shown.{total};
 
@@ -9,7 +10,7 @@ use std::alloc::Global;
 
 /// A line for each candidate: its number, a space, and its total.
 pub(crate) fn text_of(alloc: Global, totals: &[u64]) -> Result<Vec<u8>, NoMemory>
-    requires { length totals.now ≤ 250 }
+    requires { length totals.now ≤ MOST_CANDIDATES }
     ensures { IfOk result (λ text. text.items ≡ total_lines (length totals.now) (total totals.now)) }
 {
     let mut text = Vec::new(alloc);

@@ -1,6 +1,8 @@
 // The tool that shows a day's first preferences.
 ghost use Rattle.std.specs.Prelude.{◌≡◌, ◌≤◌, List, map, length, All, IfOk};
 ghost use Rattle.std.specs.String.{string_bytes};
+ghost use Rattle.plain_ballots.specs.declared.limits.TheConstants.{MOST_CANDIDATES};
+ghost use Rattle.tool_edge.specs.declared.opening.TheConstants.{DAY_LIMIT};
 ghost use Rattle.plain_ballots.specs.Ballots.{plain};
 ghost use Rattle.batch_core.specs.declared.entry.Entry.{Entry};
 ghost use Rattle.batch_core.specs.Histories.{standing_after};
@@ -53,7 +55,7 @@ fn tally_input<R: Wait, K: Sink>(
     input: &[u8],
     sink: &mut K,
 ) -> End
-    requires { length input.now ≤ 16777216 }
+    requires { length input.now ≤ DAY_LIMIT }
     ensures { FinishesOwed (IsOwedFor over_days asked input.now no_history) result
         (writing K.written K.faults sink.old sink.new) }
 {
@@ -74,7 +76,7 @@ fn tally_scripts<R: Wait>(
     candidates: u32,
     scripts: &[Script],
 ) -> Result<Vec<u8>, NoMemory>
-    requires candidates { (1 ≤ candidates) × (candidates ≤ 250) }
+    requires candidates { (1 ≤ candidates) × (candidates ≤ MOST_CANDIDATES) }
     requires answerable { All (λ script. All (IsAnswerable candidates) script.calls) scripts.now }
     ensures { IfOk result (λ text. (history : List Entry) × IsHistoryOf scripts.now history
         × (text.items ≡ total_lines candidates (first (plain (standing_after history (length history)))))) }

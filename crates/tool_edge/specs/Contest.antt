@@ -1,5 +1,6 @@
 -- What a ballot file and the lots of the words say together, or why they are refused.
 use Rattle.std.specs.Prelude.{◌≡◌, ◌⊎◌, ℕ, ◌+◌, List, length, false, Result, Ok, Err}
+use Rattle.plain_ballots.specs.declared.limits.TheConstants.{MOST_BALLOTS}
 use Rattle.lot_order.specs.Lots.{IsOrder, IsTwiceAt, IsOutOfRangeAt, IsFirstMissing}
 use Rattle.lot_order.specs.declared.lots_stop.LotsStop.{LotsStop}
 use Rattle.lot_order.specs.declared.lots_stop.LotsStop.TheVariants.{NotAll, Twice, OutOfRange, NoMemory as NoLots}
@@ -17,7 +18,7 @@ use Rattle.tool_edge.specs.declared.contest.Contest.{Contest}
 
 -- The input is the ballot file of this poll.
 abbrev pub SaysPoll : (input : List ℕ) → Poll → Type 0
-SaysPoll input poll = IsAccepted (IsBlt 999999999) (scan input false) poll
+SaysPoll input poll = IsAccepted (IsBlt MOST_BALLOTS) (scan input false) poll
 
 abbrev pub IsRefusedFile : (input : List ℕ) → InputFault → Type 0
 IsRefusedFile input fault = IsFileRefusal of_a_file (scan input false) fault

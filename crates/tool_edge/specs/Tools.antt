@@ -1,5 +1,6 @@
 -- Tools over ballot files, and tools over words alone.
 use Rattle.std.specs.Prelude.{◌≡◌, ℕ, List, Some, None}
+use Rattle.tool_edge.specs.declared.opening.TheConstants.{DAY_LIMIT, FILE_LIMIT}
 use Rattle.input_text.specs.declared.input_fault.InputFault.{InputFault}
 use Rattle.blt_reader.specs.Poll.{Poll}
 use Rattle.meek_words.specs.Numerals.{Word}
@@ -7,14 +8,6 @@ use Rattle.tool_edge.specs.Words.{TakesNothing, TakesLots}
 use Rattle.tool_edge.specs.Contest.{SaysPoll, IsRefusedFile, SaysContest, IsRefusedContest}
 use Rattle.tool_edge.specs.Refusals.{file_refusals}
 use Rattle.tool_edge.specs.Tool.{Tool, no_history}
-
--- the greatest length of a tool's input, in bytes
-abbrev pub file_limit : ℕ
-file_limit = 67108864
-
--- the greatest length of a day file, in bytes
-abbrev pub day_limit : ℕ
-day_limit = 16777216
 
 abbrev pub IsFile : (input : List ℕ) → Type 0
 IsFile input = (poll : Poll) × SaysPoll input poll
@@ -26,7 +19,7 @@ IsContestFile lots input = (poll : Poll) × SaysContest lots input poll
 abbrev pub over_contests : (Owes : (lots input bytes : List ℕ) → Type 0) → Tool (List ℕ) (Unit {0}) InputFault
 over_contests Owes = record {
   Takes = TakesLots;
-  limit = λ lots. Some file_limit;
+  limit = λ lots. Some FILE_LIMIT;
   Accepts = IsContestFile;
   Refuses = IsRefusedContest;
   refusals = file_refusals;
@@ -38,7 +31,7 @@ over_contests Owes = record {
 abbrev pub over_files : {A : Type 0} → (Owes : (input bytes : List ℕ) → Type 0) → Tool A (Unit {0}) InputFault
 over_files Owes = record {
   Takes = TakesNothing;
-  limit = λ asked. Some file_limit;
+  limit = λ asked. Some FILE_LIMIT;
   Accepts = λ asked. IsFile;
   Refuses = λ asked. IsRefusedFile;
   refusals = file_refusals;

@@ -1,5 +1,6 @@
 -- What the stems of a walk give to a candidate.
 use Rattle.std.specs.Prelude.{ℕ, ◌-◌, ◌*◌, List, [], ◌∷◌, slice_index, slice_set, replicate, take, drop, sum}
+use Rattle.vote_spread.specs.declared.depths.TheConstants.{DEPTHS}
 use Rattle.meek_rule.specs.Weights.{kept, given}
 use Rattle.vote_spread.specs.Stem.{Stem}
 
@@ -26,7 +27,7 @@ gains s keeps c weights (stem ∷ stems) = gain s keeps c weights stem ∷ gains
 
 -- the weights before any candidate
 abbrev pub opening : (s : ℕ) → List ℕ
-opening s = slice_set (replicate 251 0) 0 s
+opening s = slice_set (replicate DEPTHS 0) 0 s
 
 -- what stems `from` to `to` give to candidate c
 abbrev pub part : (s : ℕ) (keeps : List ℕ) (c : ℕ) → List Stem → (from to : ℕ) → ℕ

@@ -1,5 +1,6 @@
 -- Workers' lanes, and what they count.
 use Rattle.std.specs.Prelude.{◌≡◌, ℕ, ◌+◌, ◌<◌, ◌≤◌, List, length, slice_index, sum_by, All}
+use Rattle.plain_ballots.specs.declared.limits.TheConstants.{MOST_BALLOTS}
 use Rattle.meek_rule.specs.Weights.{vote}
 use Rattle.vote_spread.specs.Stem.{Stem}
 use Rattle.vote_spread.specs.Packed.{StandFor}
@@ -18,7 +19,7 @@ pub record LanesSeen : Type 0 where
 pub record AreReady (ballots : List (List ℕ)) (stems : List Stem) (keeping : KeepingSeen)
     (lanes : List LaneSeen) : Type 0 where
   pub stand : StandFor (length keeping.keeps) 1 stems ballots
-  pub few_ballots : length ballots ≤ 999999999
+  pub few_ballots : length ballots ≤ MOST_BALLOTS
   pub at_most_one : All (λ k. k ≤ keeping.one) keeping.keeps
   pub some : 1 ≤ length lanes
   pub few : length lanes ≤ 32
@@ -38,4 +39,4 @@ pub record AreLoaded (keeps : List ℕ) (old new : LanesSeen) : Type 0 where
   pub same_ballots : new.ballots ≡ old.ballots
   pub loaded : new.keeps ≡ keeps
   pub at_most_one : All (λ k. k ≤ new.scale) new.keeps
-  pub few : length new.ballots ≤ 999999999
+  pub few : length new.ballots ≤ MOST_BALLOTS

@@ -1,6 +1,7 @@
 -- Siblings of several plans that are packed together.
 use Rattle.std.specs.Prelude.{◌≡◌, ℕ, ◌≤◌, ◌==◌, Bool, false, if◌then◌else◌, List, [], ◌∷◌, ◌++◌, All, ◌-◌, length, map, take, drop, slice_index_or}
 use Rattle.std.specs.List.{flat_map}
+use Rattle.plain_ballots.specs.declared.limits.TheConstants.{MOST_BALLOTS, MOST_CANDIDATES}
 use Rattle.frozen_plan.specs.declared.plan_row.PlanRow.{PlanRow}
 use Rattle.frozen_plan.specs.Forest.{ballots_of, IsGrown}
 use Rattle.vote_spread.specs.Stem.{Stem}
@@ -32,8 +33,8 @@ part_ballots parts = flat_map (λ rows. ballots_of (nodes_of rows)) parts
 
 -- siblings at depth d of several plans, of no more ballots together than there may be
 pub record AreParts (d : ℕ) (parts : List (List PlanRow)) : Type 0 where
-  pub each : All (AreRows 250 d) parts
-  pub few : length (part_ballots parts) ≤ 999999999
+  pub each : All (AreRows MOST_CANDIDATES d) parts
+  pub few : length (part_ballots parts) ≤ MOST_BALLOTS
 
 -- the one sibling of these rows is of candidate c
 pub record IsAlone (c : ℕ) (rows : List PlanRow) : Type 0 where

@@ -1,5 +1,6 @@
 -- The ballots that stems in preorder stand for.
 use Rattle.std.specs.Prelude.{◌≡◌, ℕ, ◌+◌, ◌-◌, ◌<◌, ◌≤◌, List, ◌++◌, length, slice_index, sum, sum_by, All}
+use Rattle.plain_ballots.specs.declared.limits.TheConstants.{MOST_BALLOTS, MOST_CANDIDATES}
 use Rattle.frozen_plan.specs.declared.plan_row.PlanRow.{PlanRow}
 use Rattle.frozen_plan.specs.Forest.{Forest, ballots_of, through, rows_of, IsGrown, read}
 use Rattle.meek_rule.specs.Weights.{given}
@@ -15,7 +16,7 @@ pub record StandFor (n d : ℕ) (stems : List Stem) (ballots : List (List ℕ)) 
   pub walk : (rest : List Stem) → IsFrom d rest → IsWalk n d rest → IsWalk n d (stems ++ rest)
   pub gives :
       (s : ℕ) (keeps : List ℕ) (c : ℕ) (weights : List ℕ) (rest : List Stem)
-      → IsFrom d rest → IsWalk n d rest → 250 < length weights
+      → IsFrom d rest → IsWalk n d rest → MOST_CANDIDATES < length weights
       → sum (gains s keeps c weights (stems ++ rest))
       ≡ sum_by (λ r. given s keeps (slice_index weights (d - 1)) r c) ballots + sum (gains s keeps c weights rest)
 
@@ -28,7 +29,7 @@ pub record AreRows (n d : ℕ) (rows : List PlanRow) : Type 0 where
   pub preorder : rows ≡ rows_of d (nodes_of rows)
   pub low : ℕ
   pub grown : IsGrown n low d (nodes_of rows)
-  pub few : through (nodes_of rows) ≤ 999999999
+  pub few : through (nodes_of rows) ≤ MOST_BALLOTS
 
 -- stems for the ballots of rows at depth d were added behind others, whatever the number of candidates
 pub record HasAdded (d : ℕ) (rows : List PlanRow) (old new : List Stem) : Type 0 where

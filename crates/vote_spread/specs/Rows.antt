@@ -1,5 +1,6 @@
 -- Rows: what of the stems has a say while candidates are of some classes.
 use Rattle.std.specs.Prelude.{◌≡◌, ℕ, ◌+◌, ◌-◌, ◌*◌, ◌≤◌, List, [], ◌∷◌, Option, Some, None, length, map, take, drop, slice_index, sum, sum_by, All}
+use Rattle.plain_ballots.specs.declared.limits.TheConstants.{MOST_CANDIDATES}
 use Rattle.meek_rule.specs.Weights.{kept, given}
 use Rattle.vote_spread.specs.declared.class.Class.{Class}
 use Rattle.vote_spread.specs.declared.row.Row.{Row}
@@ -18,7 +19,7 @@ seen rows = map (λ r. row_stem r.depth r.candidate r.ballots) rows
 -- a row of n candidates
 pub record IsRow (n : ℕ) (row : Stem) : Type 0 where
   pub below_root : 1 ≤ row.depth
-  pub shallow : row.depth ≤ 250
+  pub shallow : row.depth ≤ MOST_CANDIDATES
   pub candidate : 1 ≤ row.candidate
   pub known : row.candidate ≤ n
 

@@ -1,5 +1,6 @@
 -- Stems in preorder.
 use Rattle.std.specs.Prelude.{ℕ, ◌+◌, ◌-◌, ◌^◌, ◌<◌, ◌≤◌, List, [], ◌∷◌, length, take, drop, All}
+use Rattle.plain_ballots.specs.declared.limits.TheConstants.{MOST_CANDIDATES}
 use Rattle.vote_spread.specs.declared.branch.Branch.{Branch}
 use Rattle.vote_spread.specs.Stem.{Stem}
 
@@ -13,7 +14,7 @@ IsFrom d (stem ∷ stems) = stem.depth ≤ d
 pub record IsPlaced (n m : ℕ) (stem : Stem) (stems : List Stem) : Type 0 where
   pub below_root : 1 ≤ stem.depth
   pub not_too_deep : stem.depth ≤ m
-  pub shallow : stem.depth + length stem.tail ≤ 250
+  pub shallow : stem.depth + length stem.tail ≤ MOST_CANDIDATES
   pub candidate : 1 ≤ stem.candidate
   pub known : stem.candidate ≤ n
   pub ranks : All (λ r. (1 ≤ r) × (r ≤ n)) stem.tail

@@ -1,5 +1,6 @@
 // The nodes of tries in preorder, packed.
 ghost use Rattle.std.specs.Prelude.{◌≡◌, ◌+◌, ◌-◌, ◌*◌, ◌^◌, ◌<◌, ◌≤◌, [], ◌∷◌, ◌++◌, All, OnErr, OnOk, length, map, slice_index_or, slice_set, sum_by, vec_capacity};
+ghost use Rattle.plain_ballots.specs.declared.limits.TheConstants.{MOST_BALLOTS, MOST_CANDIDATES};
 ghost use Rattle.vote_spread.specs.Stem.{stem_of_row, closed_stem};
 ghost use Rattle.vote_spread.specs.Walk.{IsWalk};
 ghost use Rattle.vote_spread.specs.Rows.{seen, StandForPart, room_for};
@@ -56,11 +57,11 @@ impl Branches {
         row: PlanRow,
         tail: &[PlanRow],
     ) -> Result<(), NoMemory>
-        requires depth { depth ≤ 250 }
-        requires candidate { row.candidate ≤ 250 }
-        requires few { row.ballots ≤ 999999999 }
-        requires short { length tail.now ≤ 250 }
-        requires candidates { All (λ r. r.candidate ≤ 250) tail.now }
+        requires depth { depth ≤ MOST_CANDIDATES }
+        requires candidate { row.candidate ≤ MOST_CANDIDATES }
+        requires few { row.ballots ≤ MOST_BALLOTS }
+        requires short { length tail.now ≤ MOST_CANDIDATES }
+        requires candidates { All (λ r. r.candidate ≤ MOST_CANDIDATES) tail.now }
         ensures { OnOk result (self.new ≡ self.old ++ stem_of_row depth row tail.now ∷ []) }
     {
         if self.list.len() >= MOST || self.tails.len() >= MOST {
@@ -146,7 +147,7 @@ fn push_branch(list: &mut Vec<Branch>, branch: Branch) -> Result<(), NoMemory>
 
 /// Appends the candidates of some rows.
 fn push_tail(tails: &mut Vec<u8>, rows: &[PlanRow]) -> Result<(), NoMemory>
-    requires { All (λ r. r.candidate ≤ 250) rows.now }
+    requires { All (λ r. r.candidate ≤ MOST_CANDIDATES) rows.now }
     ensures ok { OnOk result (tails.new.items ≡ tails.old.items ++ map (λ r. r.candidate) rows.now) }
     ensures more { length tails.old.items ≤ length tails.new.items }
 {

@@ -1,11 +1,13 @@
 // The rows of a share of branches, while candidates are of some classes.
 ghost use Rattle.std.specs.Prelude.{◌≡◌, ℕ, ◌+◌, ◌-◌, ◌<◌, ◌≤◌, [], ◌∷◌, ◌++◌, All, false, true, if◌then◌else◌, length, slice_index, vec_len, vec_capacity};
+ghost use Rattle.plain_ballots.specs.declared.limits.TheConstants.{MOST_CANDIDATES};
 ghost use Rattle.vote_spread.specs.Stem.{stem_of, stems_of};
 ghost use Rattle.vote_spread.specs.Walk.{IsWalk, HaveTails};
 ghost use Rattle.vote_spread.specs.Rows.{seen, IsRow, Continues, Leaves, StandForPart, room_for};
 
 use crate::branch::Branch;
 use crate::class::Class;
+use crate::depths::DEPTHS;
 use crate::row::Row;
 
 /// Makes the rows of branches `from` to `to` in place of those that stand there. First come the
@@ -26,7 +28,7 @@ pub(crate) fn condense(
     ensures stand { StandForPart classes.now (stems_of tails.now branches.now) from to (seen rows.new.items) }
 {
     rows.clear();
-    let mut reached = [0u8; 251];
+    let mut reached = [0u8; DEPTHS];
     let mut i = 0;
     while i < to {
         let branch = branches[i];
@@ -76,7 +78,7 @@ fn tail_of(branch: Branch, tails: &[u8]) -> &[u8]
 fn enter(branch: Branch, tail: &[u8], at: u8, classes: &[Class], rows: &mut Vec<Row>) -> Option<u8>
     requires candidate { (1 ≤ branch.candidate) × (branch.candidate ≤ length classes.now) }
     requires ranks { All (λ r. (1 ≤ r) × (r ≤ length classes.now)) tail.now }
-    requires depth { at + 1 + length tail.now ≤ 250 }
+    requires depth { at + 1 + length tail.now ≤ MOST_CANDIDATES }
     requires room { vec_len rows.old + 1 + length tail.now ≤ vec_capacity rows.old }
     ensures capacity { vec_capacity rows.new ≡ vec_capacity rows.old }
     ensures few { vec_len rows.new ≤ vec_len rows.old + 1 + length tail.now }
@@ -91,7 +93,7 @@ fn enter(branch: Branch, tail: &[u8], at: u8, classes: &[Class], rows: &mut Vec<
 /// Puts the rows of a tail behind the others, as far as anything is left.
 fn follow(ballots: u32, tail: &[u8], at: u8, classes: &[Class], rows: &mut Vec<Row>)
     requires ranks { All (λ r. (1 ≤ r) × (r ≤ length classes.now)) tail.now }
-    requires depth { at + length tail.now ≤ 250 }
+    requires depth { at + length tail.now ≤ MOST_CANDIDATES }
     requires room { vec_len rows.old + length tail.now ≤ vec_capacity rows.old }
     ensures capacity { vec_capacity rows.new ≡ vec_capacity rows.old }
     ensures few { vec_len rows.new ≤ vec_len rows.old + length tail.now }
@@ -110,7 +112,7 @@ fn follow(ballots: u32, tail: &[u8], at: u8, classes: &[Class], rows: &mut Vec<R
 /// depth `at`. Gives the depth behind which the rest stands, if there is any.
 fn put(ballots: u32, candidate: u8, at: u8, classes: &[Class], rows: &mut Vec<Row>) -> Option<u8>
     requires candidate { (1 ≤ candidate) × (candidate ≤ length classes.now) }
-    requires depth { at < 250 }
+    requires depth { at < MOST_CANDIDATES }
     requires room { vec_len rows.old < vec_capacity rows.old }
     ensures capacity { vec_capacity rows.new ≡ vec_capacity rows.old }
     ensures few { vec_len rows.new ≤ vec_len rows.old + 1 }

@@ -1,5 +1,6 @@
 // A worker's lane.
 ghost use Rattle.std.specs.Prelude.{◌≡◌, ◌+◌, ◌^◌, ◌<◌, ◌≤◌, IfOk, length, replicate};
+ghost use Rattle.vote_spread.specs.declared.depths.TheConstants.{DEPTHS};
 ghost use Rattle.vote_spread.specs.KeepingSeen.{settled};
 ghost use Rattle.vote_spread.specs.Shares.{share, CanCount, HasCounted};
 ghost use Rattle.vote_spread.specs.LaneSeen.{IsFit};
@@ -7,6 +8,7 @@ ghost use Rattle.vote_spread.specs.Walk.{IsWalk};
 
 use crate::NoMemory;
 use crate::admission::Admission;
+use crate::depths::DEPTHS;
 use crate::row::Row;
 use crate::task::Task;
 use crate::walk::walk;
@@ -31,7 +33,7 @@ impl Model for Lane {
 
     ghost view = { λ lane. record { tally = lane.tally.items; rows = seen lane.rows.items; room = vec_capacity lane.rows } };
 
-    ghost invariant = { λ lane. length lane.weights.items ≡ 251 };
+    ghost invariant = { λ lane. length lane.weights.items ≡ DEPTHS };
 }
 
 impl Lane {
@@ -46,7 +48,7 @@ impl Lane {
         };
         Ok(Lane {
             rows,
-            weights: zeros(alloc, 251)?,
+            weights: zeros(alloc, DEPTHS)?,
             tally: zeros(alloc, candidates)?,
         })
     }

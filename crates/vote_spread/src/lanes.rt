@@ -1,5 +1,6 @@
 // Workers' lanes over the ballots of plans.
 ghost use Rattle.std.specs.Prelude.{◌≡◌, ℕ, ◌+◌, ◌<◌, ◌≤◌, All, IfOk, length, slice_index, sum_by, true, vec_len};
+ghost use Rattle.plain_ballots.specs.declared.limits.TheConstants.{MOST_BALLOTS};
 ghost use Rattle.fixed_place.specs.Rounding.{scale, most};
 ghost use Rattle.frozen_plan.specs.Plan.{all_ballots};
 ghost use Rattle.vote_spread.specs.KeepingSeen.{KeepingSeen};
@@ -65,7 +66,7 @@ impl Lanes {
         requires places { P ≤ 9 }
         requires workers { (1 ≤ workers) × (workers ≤ 32) }
         requires plans { All (λ plan. plan.candidates ≡ candidates) plans }
-        requires few { length (all_ballots plans) ≤ 999999999 }
+        requires few { length (all_ballots plans) ≤ MOST_BALLOTS }
         ensures scale { IfOk result (λ lanes. lanes.scale ≡ scale P) }
         ensures ballots { IfOk result (λ lanes. lanes.ballots ≡ all_ballots plans) }
         ensures candidates { IfOk result (λ lanes. length lanes.keeps ≡ candidates) }

@@ -7,6 +7,7 @@ mod branch;
 mod branches;
 mod class;
 mod condense;
+mod depths;
 mod factor;
 mod gather;
 mod keeping;

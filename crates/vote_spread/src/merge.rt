@@ -1,6 +1,8 @@
 // Siblings of several plans packed together.
 ghost use Rattle.std.specs.Prelude.{◌≡◌, ◌+◌, ◌-◌, ◌*◌, ◌≤◌, ◌<◌, ◌⊎◌, [], ◌++◌, ℕ, None, All, IfNone, IfSome, OnOk, drop, length, map, sum_by, take};
 ghost use Rattle.std.specs.List.{flat_map};
+ghost use Rattle.plain_ballots.specs.declared.limits.TheConstants.{MOST_BALLOTS, MOST_CANDIDATES};
+ghost use Rattle.vote_spread.specs.declared.depths.TheConstants.{DEPTHS};
 ghost use Rattle.vote_spread.specs.Merged.{behind, first_ballots, front, AreParts, HasMerged, IsAlone};
 ghost use Rattle.vote_spread.specs.Packed.{AreRows};
 
@@ -20,7 +22,7 @@ pub(crate) fn merge<'a>(
     depth: u16,
     branches: &mut Branches,
 ) -> Result<(), NoMemory>
-    requires depth { (1 ≤ depth) × (depth ≤ 251) }
+    requires depth { (1 ≤ depth) × (depth ≤ DEPTHS) }
     requires parts { AreParts depth parts.old }
     requires room { (252 - depth) * length parts.old ≤ length room.old }
     ensures merged { OnOk result (HasMerged depth parts.old branches.old branches.new) }
@@ -44,11 +46,11 @@ fn merge_nodes<'a>(
     depth: u16,
     branches: &mut Branches,
 ) -> Result<(), NoMemory>
-    requires depth { (1 ≤ depth) × (depth ≤ 251) }
+    requires depth { (1 ≤ depth) × (depth ≤ DEPTHS) }
     requires nodes { AreParts depth nodes.old }
     requires some { 1 ≤ length nodes.old }
     requires alone { All (IsAlone candidate) nodes.old }
-    requires room { (251 - depth) * length nodes.old ≤ length room.old }
+    requires room { (DEPTHS - depth) * length nodes.old ≤ length room.old }
     ensures merged { OnOk result (HasMerged depth nodes.old branches.old branches.new) }
     ensures as_many { OnOk result (length nodes.new ≡ length nodes.old) }
     ensures as_much_room { OnOk result (length room.new ≡ length room.old) }
@@ -102,7 +104,7 @@ fn lesser(one: Option<u16>, other: Option<u16>) -> Option<u16>
 /// Takes the next sibling of each part out to the front of the room, where it is of this candidate, and
 /// gives how many there are.
 fn take_nodes<'a>(candidate: u16, parts: &mut [Part<'a>], room: &mut [Part<'a>]) -> usize
-    requires rows { (d : ℕ) × All (AreRows 250 d) parts.old }
+    requires rows { (d : ℕ) × All (AreRows MOST_CANDIDATES d) parts.old }
     requires room { length parts.old ≤ length room.old }
     ensures nodes { take result room.new ≡ flat_map (front candidate) parts.old }
     ensures few { result ≤ length parts.old }
@@ -119,7 +121,7 @@ fn take_nodes<'a>(candidate: u16, parts: &mut [Part<'a>], room: &mut [Part<'a>])
 /// Takes the next sibling of a part out to place `at` of the room, where it is of this candidate, and
 /// gives the place behind.
 fn take_node<'a>(candidate: u16, part: &mut Part<'a>, at: usize, room: &mut [Part<'a>]) -> usize
-    requires rows { (d : ℕ) × AreRows 250 d part.old }
+    requires rows { (d : ℕ) × AreRows MOST_CANDIDATES d part.old }
     requires room { at < length room.old }
     ensures node { take result room.new ≡ take at room.old ++ front candidate part.old }
     ensures next { result ≤ at + 1 }
@@ -138,7 +140,7 @@ fn take_node<'a>(candidate: u16, part: &mut Part<'a>, at: usize, room: &mut [Par
 /// Leaves the first row of each node out, and gives how many ballots go through all nodes.
 fn open_all(nodes: &mut [Part]) -> u64
     requires some { All (λ rows. 1 ≤ length rows) nodes.old }
-    requires few { sum_by first_ballots nodes.old ≤ 999999999 }
+    requires few { sum_by first_ballots nodes.old ≤ MOST_BALLOTS }
     ensures ballots { result ≡ sum_by first_ballots nodes.old }
     ensures below { nodes.new ≡ map (drop 1) nodes.old }
 {

@@ -1,10 +1,13 @@
 // The rows of plans, packed.
 ghost use Rattle.std.specs.Prelude.{◌≡◌, ℕ, ◌≤◌, ◌*◌, All, IfOk, OnOk, drop, length, map, slice_index_or, vec_len};
+ghost use Rattle.plain_ballots.specs.declared.limits.TheConstants.{MOST_BALLOTS, MOST_CANDIDATES};
+ghost use Rattle.vote_spread.specs.declared.depths.TheConstants.{DEPTHS};
 ghost use Rattle.frozen_plan.specs.Plan.{all_ballots, IsPlan};
 ghost use Rattle.vote_spread.specs.Packed.{AreRows, HasAdded, StandFor};
 
 use crate::NoMemory;
 use crate::branches::Branches;
+use crate::depths::DEPTHS;
 use crate::merge::merge;
 use crate::part::{Part, push_part};
 use frozen_plan::{Plan, PlanRow, Plans};
@@ -12,7 +15,7 @@ use std::alloc::Global;
 
 /// Packs the siblings of all plans together.
 pub(crate) fn pack_plans(alloc: Global, plans: Plans) -> Result<Branches, NoMemory>
-    requires few { length (all_ballots plans) ≤ 999999999 }
+    requires few { length (all_ballots plans) ≤ MOST_BALLOTS }
     ensures { IfOk result (λ branches. (n : ℕ) → All (λ plan. plan.candidates ≡ n) plans → StandFor n 1 branches (all_ballots plans)) }
 {
     let mut branches = Branches::new(alloc);
@@ -24,9 +27,9 @@ pub(crate) fn pack_plans(alloc: Global, plans: Plans) -> Result<Branches, NoMemo
 
 /// Room for the nodes of so many parts on their way, at each depth as many.
 fn room_for<'a>(alloc: Global, parts: usize) -> Result<Vec<Part<'a>>, NoMemory>
-    ensures { IfOk result (λ room. vec_len room ≡ 251 * parts) }
+    ensures { IfOk result (λ room. vec_len room ≡ DEPTHS * parts) }
 {
-    let Some(len) = parts.checked_mul(251) else {
+    let Some(len) = parts.checked_mul(DEPTHS) else {
         return Err(NoMemory);
     };
     let Ok(mut room) = Vec::with_capacity(alloc, len) else {
@@ -58,8 +61,8 @@ pub(crate) fn pack_rows(
     depth: u16,
     branches: &mut Branches,
 ) -> Result<(), NoMemory>
-    requires depth { (1 ≤ depth) × (depth ≤ 251) }
-    requires rows { AreRows 250 depth rows.now }
+    requires depth { (1 ≤ depth) × (depth ≤ DEPTHS) }
+    requires rows { AreRows MOST_CANDIDATES depth rows.now }
     ensures { OnOk result (HasAdded depth rows.now branches.old branches.new) }
 {
     let mut rest = rows;
@@ -78,8 +81,8 @@ pub(crate) fn pack_node(
     depth: u16,
     branches: &mut Branches,
 ) -> Result<(), NoMemory>
-    requires depth { (1 ≤ depth) × (depth ≤ 251) }
-    requires rows { AreRows 250 depth rows.now }
+    requires depth { (1 ≤ depth) × (depth ≤ DEPTHS) }
+    requires rows { AreRows MOST_CANDIDATES depth rows.now }
     requires some { 1 ≤ length rows.now }
     requires one { (d : _) → (slice_index_or rows.now 0 d).skip ≡ length rows.now }
     ensures { OnOk result (HasAdded depth rows.now branches.old branches.new) }

@@ -1,5 +1,6 @@
 // Siblings of one plan on their way into branches.
 ghost use Rattle.std.specs.Prelude.{◌≡◌, ◌≤◌, [], ◌∷◌, ◌++◌, ℕ, true, IfNone, IfSome, OnOk, drop, length};
+ghost use Rattle.plain_ballots.specs.declared.limits.TheConstants.{MOST_CANDIDATES};
 ghost use Rattle.vote_spread.specs.Merged.{begins, behind, first_ballots, front};
 ghost use Rattle.vote_spread.specs.Packed.{AreRows};
 
@@ -69,7 +70,7 @@ impl<'a> Part<'a> {
 
     /// Takes the first sibling out with all below it, where it is of this candidate.
     pub(crate) fn take(&mut self, candidate: u16) -> Option<Part<'a>>
-        requires { (d : ℕ) × AreRows 250 d self.old }
+        requires { (d : ℕ) × AreRows MOST_CANDIDATES d self.old }
         ensures node { IfSome result (λ node. front candidate self.old ≡ node ∷ []) }
         ensures none { IfNone result (front candidate self.old ≡ []) }
         ensures behind { self.new ≡ behind candidate self.old }

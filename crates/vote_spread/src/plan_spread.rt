@@ -1,5 +1,6 @@
 // A distribution of the ballots of plans by lanes.
 ghost use Rattle.std.specs.Prelude.{◌≡◌, ◌≤◌, ◌^◌, All, IfOk, length};
+ghost use Rattle.plain_ballots.specs.declared.limits.TheConstants.{MOST_BALLOTS};
 ghost use Rattle.fixed_place.specs.Rounding.{scale};
 ghost use Rattle.frozen_plan.specs.Plan.{all_ballots};
 ghost use Rattle.meek_rule.specs.Rule.{Meek};
@@ -56,7 +57,7 @@ impl<const P: usize, F: Fn(&mut Lanes) + Drop> PlanSpread<P, F> {
         requires places { P ≤ 9 }
         requires workers { (1 ≤ workers) × (workers ≤ 32) }
         requires plans { All (λ plan. plan.candidates ≡ candidates) plans }
-        requires few { length (all_ballots plans) ≤ 999999999 }
+        requires few { length (all_ballots plans) ≤ MOST_BALLOTS }
         requires runs { RunsLanes F.Fn (scale P) run }
         ensures can { IfOk result (λ s. CanSpread F.Fn (scale P) candidates s.total s.lanes s.run) }
         ensures candidates { IfOk result (λ s. s.candidates ≡ candidates) }
@@ -76,7 +77,7 @@ impl<const P: usize, F: Fn(&mut Lanes) + Drop> PlanSpread<P, F> {
 
 /// How many ballots all plans have.
 fn total_of(plans: &Plans) -> u64
-    requires { length (all_ballots plans.now) ≤ 999999999 }
+    requires { length (all_ballots plans.now) ≤ MOST_BALLOTS }
     ensures { result ≡ length (all_ballots plans.now) }
 {
     let mut total = 0;

@@ -1,5 +1,6 @@
 // A walk over rows.
 ghost use Rattle.std.specs.Prelude.{◌≡◌, ℕ, ◌+◌, ◌*◌, ◌^◌, ◌<◌, ◌≤◌, All, length, slice_index, slice_set};
+ghost use Rattle.vote_spread.specs.declared.depths.TheConstants.{DEPTHS};
 ghost use Rattle.vote_spread.specs.Gain.{gain, past};
 ghost use Rattle.vote_spread.specs.Rows.{row_stem, seen, IsRow, total};
 
@@ -10,9 +11,9 @@ use crate::row::Row;
 pub(crate) fn walk(rows: &[Row], leaving: &Leaving, weights: &mut [u64], tally: &mut [u64])
     requires rows { All (IsRow (length tally.old)) (seen rows.now) }
     requires keeps_of_all { length leaving.now.keeps ≡ length tally.old }
-    requires depths { length weights.old ≡ 251 }
+    requires depths { length weights.old ≡ DEPTHS }
     requires room { (p : ℕ) → p < length tally.old → total leaving.now.one leaving.now.keeps (p + 1) (seen rows.now) < 2 ^ 64 }
-    ensures depths { length weights.new ≡ 251 }
+    ensures depths { length weights.new ≡ DEPTHS }
     ensures same_length { length tally.new ≡ length tally.old }
     ensures total { (p : ℕ) → p < length tally.old → slice_index tally.new p ≡ total leaving.now.one leaving.now.keeps (p + 1) (seen rows.now) }
 {

@@ -16,7 +16,8 @@ use Rattle.tool_edge.specs.Streams.{Writing, writing}
 use Rattle.tool_edge.specs.Contest.{SaysContest}
 use Rattle.tool_edge.specs.Finishing.{FinishesOwed, Wrote}
 use Rattle.tool_edge.specs.Tool.{IsOwedFor, no_history}
-use Rattle.tool_edge.specs.Tools.{over_contests, file_limit}
+use Rattle.tool_edge.specs.declared.opening.TheConstants.{FILE_LIMIT}
+use Rattle.tool_edge.specs.Tools.{over_contests}
 use Rattle.warren_cli.specs.Owed.{OwesWarren, IsSheetOwed}
 
 -- the count is of these single ballots, this roll and these lots, with the tool's omega
@@ -50,7 +51,7 @@ wrote_sheet written faults old new roll lots ballots count (Err stop) of whole (
 -- The sheet of the plan's ballots is what is owed for the file.
 owed_for_file :
     (lots input : List ℕ) (poll : Poll) (ballots : List (List ℕ)) (due : End InputFault) (bytes : List ℕ)
-    → length input ≤ file_limit
+    → length input ≤ FILE_LIMIT
     → SaysContest lots input poll → OrderOfBallotsLeavesTheSheet → IsPermutation ballots (plain poll.lines)
     → IsSheetOwed ballots poll.roll lots due bytes → IsOwedFor (over_contests OwesWarren) lots input no_history due bytes
 owed_for_file lots input poll ballots Done bytes short says leaves same owed =
@@ -59,7 +60,7 @@ owed_for_file lots input poll ballots due bytes short says leaves same owed = ab
 
 pub counted :
     (lots input : List ℕ) (poll : Poll) (ballots : List (List ℕ)) (end : End InputFault) (sink : Writing)
-    → length input ≤ file_limit
+    → length input ≤ FILE_LIMIT
     → SaysContest lots input poll → OrderOfBallotsLeavesTheSheet → IsPermutation ballots (plain poll.lines)
     → FinishesOwed (IsSheetOwed ballots poll.roll lots) end sink
     → FinishesOwed (IsOwedFor (over_contests OwesWarren) lots input no_history) end sink

@@ -1,5 +1,7 @@
 // A count: from the bytes of a ballot file to the sheet.
 ghost use Rattle.std.specs.Prelude.{◌≡◌, ◌≤◌, All, IfOk, IsPermutation, length};
+ghost use Rattle.plain_ballots.specs.declared.limits.TheConstants.{MOST_BALLOTS, MOST_CANDIDATES};
+ghost use Rattle.tool_edge.specs.declared.opening.TheConstants.{FILE_LIMIT};
 ghost use Rattle.plain_ballots.specs.Ballots.{plain};
 ghost use Rattle.frozen_plan.specs.Plan.{all_ballots};
 ghost use Rattle.tool_edge.specs.Finishing.{FinishesOwed};
@@ -25,7 +27,7 @@ const OMEGA: u64 = 1_000;
 
 /// Counts the ballots of a file by these lots, and writes the sheet or the refusal.
 pub(crate) fn count<K: Sink>(alloc: Global, lots: &[u32], input: &[u8], sink: &mut K) -> End
-    requires { length input.now ≤ 67108864 }
+    requires { length input.now ≤ FILE_LIMIT }
     ensures { FinishesOwed (IsOwedFor (over_contests OwesWarren) lots.now input.now no_history) result
         (writing K.written K.faults sink.old sink.new) }
 {
@@ -49,10 +51,10 @@ pub(crate) fn count<K: Sink>(alloc: Global, lots: &[u32], input: &[u8], sink: &m
 
 /// All the ballots as one plan.
 fn plans_of(alloc: Global, ballots: Ballots) -> Result<Plans, frozen_plan::NoMemory>
-    requires { (1 ≤ ballots.candidates) × (ballots.candidates ≤ 250) }
+    requires { (1 ≤ ballots.candidates) × (ballots.candidates ≤ MOST_CANDIDATES) }
     ensures candidates { IfOk result (All (λ plan. plan.candidates ≡ ballots.candidates)) }
     ensures ballots { IfOk result (λ plans. IsPermutation (all_ballots plans) (plain ballots.lines)) }
-    ensures few { IfOk result (λ plans. length (all_ballots plans) ≤ 999999999) }
+    ensures few { IfOk result (λ plans. length (all_ballots plans) ≤ MOST_BALLOTS) }
 {
     Plans::dealt(alloc, ballots, 1)
 }
@@ -67,7 +69,7 @@ fn write_count<K: Sink>(
 ) -> End
     requires lots_of_all { length lots.now ≡ length roll.now.names }
     requires spread_of_all { spread.candidates ≡ length roll.now.names }
-    requires few { length spread.ballots ≤ 999999999 }
+    requires few { length spread.ballots ≤ MOST_BALLOTS }
     ensures { FinishesOwed (IsSheetOwed spread.ballots roll.now lots.now) result
         (writing K.written K.faults sink.old sink.new) }
 {

@@ -1,5 +1,6 @@
 // A distribution of the ballots of plans at prices.
 ghost use Rattle.std.specs.Prelude.{◌≡◌, ◌≤◌, ◌<◌, ◌^◌, ℕ, All, IfOk, length, replicate, slice_index};
+ghost use Rattle.plain_ballots.specs.declared.limits.TheConstants.{MOST_BALLOTS};
 ghost use Rattle.fixed_place.specs.Rounding.{scale};
 ghost use Rattle.frozen_plan.specs.Plan.{all_ballots};
 ghost use Rattle.meek_rule.specs.Rule.{Warren};
@@ -36,7 +37,7 @@ impl Model for WarrenSpread {
 
     ghost invariant = { λ s.
         All (λ plan. plan.candidates ≡ s.candidates) s.plans
-        × (s.total ≡ length (all_ballots s.plans)) × (s.total ≤ 999999999)
+        × (s.total ≡ length (all_ballots s.plans)) × (s.total ≤ MOST_BALLOTS)
         × (length s.prices.items ≡ s.candidates) × (length s.sums.items ≡ s.candidates) };
 }
 
@@ -44,7 +45,7 @@ impl WarrenSpread {
     /// A distribution of the ballots of plans. All its memory is taken here.
     pub fn begin(alloc: Global, plans: Plans, candidates: u32) -> Result<WarrenSpread, NoMemory>
         requires plans { All (λ plan. plan.candidates ≡ candidates) plans }
-        requires few { length (all_ballots plans) ≤ 999999999 }
+        requires few { length (all_ballots plans) ≤ MOST_BALLOTS }
         ensures candidates { IfOk result (λ s. s.candidates ≡ candidates) }
         ensures ballots { IfOk result (λ s. s.ballots ≡ all_ballots plans) }
     {
@@ -91,7 +92,7 @@ impl<const P: usize> Spread<P> for WarrenSpread {
 
 /// How many ballots all plans have.
 fn total_of(plans: &Plans) -> u64
-    requires { length (all_ballots plans.now) ≤ 999999999 }
+    requires { length (all_ballots plans.now) ≤ MOST_BALLOTS }
     ensures { result ≡ length (all_ballots plans.now) }
 {
     let mut total = 0;
@@ -135,7 +136,7 @@ fn distribute<const P: usize>(
 )
     requires places { (6 ≤ P) × (P ≤ 9) }
     requires plans { All (λ plan. plan.candidates ≡ length sums.old) plans.now }
-    requires few { length (all_ballots plans.now) ≤ 999999999 }
+    requires few { length (all_ballots plans.now) ≤ MOST_BALLOTS }
     requires prices_of_all { length prices.now ≡ length sums.old }
     requires at_most_one { All (λ k. k ≤ scale P) prices.now }
     requires votes_of_all { length tally.old ≡ length sums.old }

@@ -1,5 +1,6 @@
 // The plan of the lines that were dealt to a shard.
 ghost use Rattle.std.specs.Prelude.{◌≡◌, ◌≤◌, IfOk, IsPermutation};
+ghost use Rattle.plain_ballots.specs.declared.limits.TheConstants.{MOST_BALLOTS, MOST_CANDIDATES};
 ghost use Rattle.frozen_plan.specs.Plan.{IsPlan, plan_ballots};
 ghost use Rattle.frozen_plan.specs.Share.{IsShare, line_count, rests};
 
@@ -18,9 +19,9 @@ impl Plan {
         candidates: u32,
         share: &mut Share,
     ) -> Result<Plan, NoMemory>
-        requires candidates { candidates ≤ 250 }
+        requires candidates { candidates ≤ MOST_CANDIDATES }
         requires sound { IsShare candidates share.old.ranks.items share.old.lines.items }
-        requires few { line_count share.old.lines.items ≤ 999999999 }
+        requires few { line_count share.old.lines.items ≤ MOST_BALLOTS }
         ensures candidates { IfOk result (λ plan. plan.candidates ≡ candidates) }
         ensures ballots { IfOk result (λ plan. IsPermutation (plan_ballots plan.rows) (rests share.old.ranks.items 0 share.old.lines.items)) }
     {
@@ -41,9 +42,9 @@ fn rows_of_lines(
     ranks: &[u8],
     lines: &mut [Placed],
 ) -> Result<Vec<PlanRow>, NoMemory>
-    requires candidates { candidates ≤ 250 }
+    requires candidates { candidates ≤ MOST_CANDIDATES }
     requires sound { IsShare candidates ranks.now lines.old }
-    requires few { line_count lines.old ≤ 999999999 }
+    requires few { line_count lines.old ≤ MOST_BALLOTS }
     ensures plan { IfOk result (λ rows. IsPlan candidates rows.items) }
     ensures ballots { IfOk result (λ rows. IsPermutation (plan_ballots rows.items) (rests ranks.now 0 lines.old)) }
 {

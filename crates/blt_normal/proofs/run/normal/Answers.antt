@@ -2,7 +2,8 @@ use Rattle.std.proofs.Common.{refl, map}
 use Rattle.std.specs.Prelude.{Some, string_bytes}
 use Rattle.tool_edge.specs.Streams.{reading, writing}
 use Rattle.tool_edge.specs.Tool.{IsSound}
-use Rattle.tool_edge.specs.Tools.{file_limit, FilesAreNotRefused, FilesAreRefusedOnce}
+use Rattle.tool_edge.specs.declared.opening.TheConstants.{FILE_LIMIT}
+use Rattle.tool_edge.specs.Tools.{FilesAreNotRefused, FilesAreRefusedOnce}
 use Rattle.tool_edge.proofs.Running.{stopped, worked_on}
 use Rattle.blt_normal.specs.Owed.{normal_tool}
 use Rattle.blt_normal.proofs.run.normal.Goals as goal
@@ -17,7 +18,7 @@ sound either once = record {
 
 pub returns-in-Err : goal.returns-in-Err
 returns-in-Err g c =
-    stopped normal_tool (Some file_limit) (λ asked. refl) (map string_bytes c.args.words.now)
+    stopped normal_tool (Some FILE_LIMIT) (λ asked. refl) (map string_bytes c.args.words.now)
     c.takes_nothing-asked.result c.in-Err.end
     (reading g.S.Source.left g.S.Source.faults c.args.source.now c.open.new.source)
     (writing g.K.Sink.written g.K.Sink.faults c.args.sink.now c.open.new.sink)

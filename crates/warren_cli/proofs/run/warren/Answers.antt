@@ -2,7 +2,8 @@ use Rattle.std.proofs.Common.{map, refl}
 use Rattle.std.specs.Prelude.{Some, string_bytes}
 use Rattle.tool_edge.specs.Streams.{reading, writing}
 use Rattle.tool_edge.specs.Tool.{IsSound}
-use Rattle.tool_edge.specs.Tools.{file_limit, over_contests, HaveOneOrder, ContestsAreNotRefused, ContestsAreRefusedOnce}
+use Rattle.tool_edge.specs.declared.opening.TheConstants.{FILE_LIMIT}
+use Rattle.tool_edge.specs.Tools.{over_contests, HaveOneOrder, ContestsAreNotRefused, ContestsAreRefusedOnce}
 use Rattle.tool_edge.proofs.Running.{stopped, worked_on}
 use Rattle.warren_cli.specs.Owed.{OwesWarren}
 use Rattle.warren_cli.proofs.run.warren.Goals as goal
@@ -13,7 +14,7 @@ sound one either once =
 
 pub returns-in-Err : goal.returns-in-Err
 returns-in-Err g c =
-    stopped (over_contests OwesWarren) (Some file_limit) (λ lots. refl) (map string_bytes c.args.words.now)
+    stopped (over_contests OwesWarren) (Some FILE_LIMIT) (λ lots. refl) (map string_bytes c.args.words.now)
     c.takes_lots-asked.result c.in-Err.end
     (reading g.S.Source.left g.S.Source.faults c.args.source.now c.open.new.source)
     (writing g.K.Sink.written g.K.Sink.faults c.args.sink.now c.open.new.sink)
