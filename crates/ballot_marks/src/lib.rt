@@ -24,7 +24,7 @@ pub use marks::Marks;
 pub use says::Says;
 pub use treat_stop::TreatStop;
 pub use treated::Treated;
-pub use treating::{MOST_CANDIDATES, treat};
+pub use treating::treat;
 pub use treatment::Treatment;
 pub use way::Way;
 pub use why::Why;

@@ -7,9 +7,8 @@ ghost use Rattle.ballot_marks.specs.declared.way.Way.TheVariants.{Ranked, Passed
 ghost use Rattle.ballot_marks.specs.SoFar.{behind, made, SaysNew};
 ghost use Rattle.ballot_marks.specs.declared.treat_stop.TreatStop.TheVariants.{NoMemory as no_memory};
 
-use crate::treating::MOST_CANDIDATES;
 use crate::{Mark, Says, TreatStop, Treated, Treatment, Way};
-use plain_ballots::Ranking;
+use plain_ballots::{MOST_CANDIDATES, Ranking};
 use std::alloc::Global;
 use std::marker::Model;
 
@@ -28,7 +27,7 @@ pub(crate) struct SoFar {
 
 impl Model for SoFar {
     ghost use Rattle.std.specs.Prelude.{◌≤◌, take};
-    ghost use Rattle.ballot_marks.specs.declared.treating.TheConstants.{MOST_CANDIDATES};
+    ghost use Rattle.plain_ballots.specs.declared.limits.TheConstants.{MOST_CANDIDATES};
     ghost use Rattle.plain_ballots.specs.Ranking.{IsRanking};
     ghost use Rattle.ballot_marks.specs.SoFar.{Standing};
 

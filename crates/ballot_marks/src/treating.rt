@@ -1,5 +1,6 @@
 // From marks to a ranking.
 ghost use Rattle.std.specs.Prelude.{◌≡◌, ◌≤◌, Some, All, IfOk, IfErr};
+ghost use Rattle.plain_ballots.specs.declared.limits.TheConstants.{MOST_CANDIDATES};
 ghost use Rattle.plain_ballots.specs.Ranking.{IsRanking};
 ghost use Rattle.ballot_marks.specs.Marks.{SaysOneOf};
 ghost use Rattle.ballot_marks.specs.Ballot.{ranked, is_closed, is_passed, is_cut, IsTreatStop};
@@ -7,9 +8,6 @@ ghost use Rattle.ballot_marks.specs.Ballot.{ranked, is_closed, is_passed, is_cut
 use crate::so_far::SoFar;
 use crate::{Mark, TreatStop, Treated, Treatment, Way};
 use std::alloc::Global;
-
-/// An election has at most this many candidates.
-pub const MOST_CANDIDATES: u32 = 250;
 
 /// The ranking of a ballot of these marks, which stand by rising rank, and how it came about; or the first
 /// mark that is refused.

@@ -12,7 +12,7 @@ use Rattle.import_words.specs.Settings.{IsAtMostOnce, IsOnce, IsDigit, SaysSkipp
 use Rattle.import_words.specs.Settings.{layout_word, output_word, treat_word, rows_word, separator_word, head_word}
 use Rattle.import_words.specs.Asks.{AreDistinguished, AreFor, Asks, IsRankList, IsWeight, Says, SaysCells, SaysRoll, SaysTable}
 use Rattle.import_words.specs.Laws.{AskOneThing}
-use Rattle.import_words.specs.declared.reading.TheConstants.{MOST_SEATS}
+use Rattle.plain_ballots.specs.declared.limits.TheConstants.{MOST_CANDIDATES}
 use Rattle.import_words.specs.declared.layout.Layout.TheVariants as layouts
 use Rattle.import_words.specs.declared.output.Output.TheVariants as outputs
 use Rattle.import_words.specs.declared.empty_rows.EmptyRows.TheVariants as rows
@@ -154,7 +154,7 @@ said_layout given a b one other =
 module _ (lots : HaveOneLotList) where
   one_roll : (given : Given) (a b : RollWords) → SaysRoll given a → SaysRoll given b → a ≡ b
   one_roll given a b one other =
-      let seats = one_once 0 (λ n word. IsNumeralUpTo MOST_SEATS word × (n ≡ number_of word))
+      let seats = one_once 0 (λ n word. IsNumeralUpTo MOST_CANDIDATES word × (n ≡ number_of word))
       (λ word m n e f. e.1 ∙ sym f.1) given.seats a.seats b.seats one.seats other.seats in
       let title = one_at_most [] (λ t word. (t ≡ word) × IsName 1000 word)
       (λ word m n e f. e.0 ∙ sym f.0) given.title a.title b.title one.title other.title in

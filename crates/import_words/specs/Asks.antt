@@ -8,7 +8,7 @@ use Rattle.import_words.specs.Options.{is_of, is_named}
 use Rattle.import_words.specs.Pairs.{Said, Given, ArePairs, given_of}
 use Rattle.import_words.specs.Labels.{IsLabel, AreLabels, AreDifferent}
 use Rattle.import_words.specs.Settings.{IsOnce, IsAtMostOnce, IsLayout, IsOutput, IsTreatment, IsForEmpty, IsSeparator, IsForNames}
-use Rattle.import_words.specs.declared.reading.TheConstants.{MOST, MOST_SEATS}
+use Rattle.plain_ballots.specs.declared.limits.TheConstants.{MOST_CANDIDATES}
 use Rattle.import_words.specs.declared.layout.Layout.{Layout}
 use Rattle.import_words.specs.declared.asked.Asked.{Asked}
 use Rattle.import_words.specs.declared.roll_words.RollWords.{RollWords}
@@ -17,7 +17,7 @@ use Rattle.import_words.specs.declared.cells.CellWords.{CellWords}
 
 -- a number from 1 on, and not too many
 abbrev pub IsSeats : List Word → ℕ → Type 0
-IsSeats values seats = IsOnce (λ word. IsNumeralUpTo MOST_SEATS word × (seats ≡ number_of word)) values
+IsSeats values seats = IsOnce (λ word. IsNumeralUpTo MOST_CANDIDATES word × (seats ≡ number_of word)) values
 
 -- a title of at most 1,000 bytes; where none is said it is empty
 abbrev pub IsTitle : List Word → Word → Type 0
@@ -53,7 +53,7 @@ pub record SaysTable (given : Given) (table : TableWords) : Type 0 where
 -- the pieces between the commas (44) of a word, not too many, each of them a label
 pub record IsRankList (word : Word) (labels : List Word) : Type 0 where
   pub pieces : labels ≡ slice_split (λ b. nat_eq b 44) word
-  pub few : length labels ≤ MOST
+  pub few : length labels ≤ MOST_CANDIDATES
   pub all : All IsLabel labels
 
 -- labels of ranks; where none are said ranks are numbers
@@ -72,7 +72,7 @@ pub record AreDistinguished (cells : CellWords) (candidates : List Word) : Type 
 
 -- where cells name candidates, there are some, and not too many
 abbrev pub AreEnough : Layout → List Word → Type 0
-AreEnough layout candidates = is_named layout ≡ true → (1 ≤ length candidates) × (length candidates ≤ MOST)
+AreEnough layout candidates = is_named layout ≡ true → (1 ≤ length candidates) × (length candidates ≤ MOST_CANDIDATES)
 
 -- the values say this, apart from which options a layout has
 pub record Says (given : Given) (asked : Asked) : Type 0 where

@@ -5,24 +5,23 @@ ghost use Rattle.import_words.specs.Asks.{AreNames, AreRanks, AreWithdrawn, IsSe
 ghost use Rattle.candidate_roll.specs.Name.{IsName};
 ghost use Rattle.import_words.specs.Labels.{AreLabels};
 ghost use Rattle.import_words.specs.Values.{texts_in, words_in};
-ghost use Rattle.import_words.specs.declared.reading.TheConstants.{MOST_SEATS};
+ghost use Rattle.plain_ballots.specs.declared.limits.TheConstants.{MOST_CANDIDATES};
 
 use crate::{Label, Labels};
 use candidate_roll::{Name, NameStop, Names};
 use meek_words::{LotWords, WordsStop, read_lots};
+use plain_ballots::MOST_CANDIDATES;
 use std::alloc::Global;
 
-/// An election has at most so many candidates, and its ranks so many labels.
-pub(crate) const MOST: usize = 250;
-
-pub(crate) const MOST_SEATS: u32 = 250;
+/// As many labels at most as an election has candidates: of `--candidate`, and of `--ranks`.
+pub(crate) const MOST: usize = MOST_CANDIDATES as usize;
 
 /// The only number, if there is just one and it may be a number of seats.
 fn only_one(numbers: &[u32]) -> Option<u32>
     ensures only { IfSome result (λ n. (length numbers.now ≡ 1) × (slice_index numbers.now 0 ≡ n)) }
-    ensures range { IfSome result (λ n. (1 ≤ n) × (n ≤ MOST_SEATS)) }
+    ensures range { IfSome result (λ n. (1 ≤ n) × (n ≤ MOST_CANDIDATES)) }
     ensures none { IfNone result (length numbers.now ≡ 1
-        → 1 ≤ slice_index numbers.now 0 → slice_index numbers.now 0 ≤ MOST_SEATS → ⊥) }
+        → 1 ≤ slice_index numbers.now 0 → slice_index numbers.now 0 ≤ MOST_CANDIDATES → ⊥) }
 {
     if numbers.len() != 1 {
         return None;
@@ -31,7 +30,7 @@ fn only_one(numbers: &[u32]) -> Option<u32>
     if number == 0 {
         return None;
     }
-    if number > MOST_SEATS {
+    if number > MOST_CANDIDATES {
         return None;
     }
     Some(number)
@@ -39,8 +38,8 @@ fn only_one(numbers: &[u32]) -> Option<u32>
 
 /// The number of seats that a word writes, which is read as a list of just one.
 fn seats_of(alloc: Global, word: &str) -> Result<u32, WordsStop>
-    ensures taken { IfOk result (λ n. IsNumeralUpTo MOST_SEATS word.now × (n ≡ number_of word.now)) }
-    ensures refused { result ≡ Err WordsStop.BadWords → ¬ (IsNumeralUpTo MOST_SEATS word.now) }
+    ensures taken { IfOk result (λ n. IsNumeralUpTo MOST_CANDIDATES word.now × (n ≡ number_of word.now)) }
+    ensures refused { result ≡ Err WordsStop.BadWords → ¬ (IsNumeralUpTo MOST_CANDIDATES word.now) }
 {
     match read_lots(alloc, word.as_bytes()) {
         Ok(numbers) => match only_one(numbers.items()) {
