@@ -31,6 +31,8 @@ pub record EqualRanks : Type 0 where
   pub cut : ComesTo (record strict { equal = Cut }) (equal_seconds 0) (1 ∷ []) false false true
   pub passed : ComesTo (record strict { equal = Pass }) (equal_seconds 0) (1 ∷ 4 ∷ []) false true false
   pub passed_is_not_skipped : IsRefusedAt (record strict { equal = Pass }) (equal_seconds 1) 2 SkippedRank
+  pub not_passed_behind_a_cut :
+      ComesTo (record strict { skipped = Some 0; equal = Pass }) (mark 1 (One 1) ∷ mark 0 Over ∷ []) [] false false true
 
 -- candidate 2 and then 1, with so many skipped ranks before each
 abbrev pub two_apart : ℕ → ℕ → List Mark
@@ -41,6 +43,7 @@ pub record SkippedRanks : Type 0 where
   pub closed : ComesTo (record strict { skipped = Some CLOSE }) (two_apart 2 1) (2 ∷ 1 ∷ []) true false false
   pub one_closed : ComesTo (record strict { skipped = Some 1 }) (two_apart 1 2) (2 ∷ []) true false true
   pub none_closed : ComesTo (record strict { skipped = Some 0 }) (two_apart 1 2) [] false false true
+  pub judged_first : IsRefusedAt strict (mark 0 (One 1) ∷ mark 1 Over ∷ []) 1 SkippedRank
 
 -- candidate 2 twice, and then 1
 abbrev pub repeated : List Mark

@@ -2,6 +2,7 @@
 use Rattle.std.specs.Prelude.{ℕ, ◌&&◌, nat_lt, nat_le, Bool, true, if◌then◌else◌}
 use Rattle.std.specs.Prelude.{List, [], ◌∷◌, map, Option, Some, None, Result, Ok, Err}
 use Rattle.std.specs.List.{filter_map, slice_get}
+use Rattle.plain_ballots.specs.declared.limits.TheConstants.{MOST_CANDIDATES}
 use Rattle.ballot_marks.specs.declared.says.Says.{Says}
 use Rattle.ballot_marks.specs.declared.says.Says.TheVariants.{One, Over}
 use Rattle.ballot_table.specs.declared.column.Column.{Column}
@@ -26,10 +27,10 @@ abbrev pub is_blank : Asked → List ℕ → Bool
 is_blank asked [] = true
 is_blank asked (b ∷ bs) = is_in asked.blank (b ∷ bs)
 
--- a rank is 1 to 250
+-- a rank is 1 to the most candidates
 abbrev pub in_range : Option ℕ → Option ℕ
 in_range None = None
-in_range (Some n) = if nat_lt 0 n && nat_le n 250 then Some n else None
+in_range (Some n) = if nat_lt 0 n && nat_le n MOST_CANDIDATES then Some n else None
 
 -- the rank that a text is: a number, or its place among the texts of ranks
 abbrev pub rank_number : List (List ℕ) → List ℕ → Option ℕ

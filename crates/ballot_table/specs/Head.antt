@@ -1,10 +1,11 @@
 -- The head of a table: what its columns are of, by the fields before them alone.
-use Rattle.std.specs.Prelude.{ℕ, ◌+◌, ◌-◌, ◌==◌, ◌||◌, ◌&&◌, not, nat_lt, false, if◌then◌else◌}
+use Rattle.std.specs.Prelude.{ℕ, ◌+◌, ◌-◌, ◌==◌, ◌||◌, ◌&&◌, not, nat_le, nat_lt, false, if◌then◌else◌}
 use Rattle.std.specs.Prelude.{List, [], ◌∷◌, length, take, map, filter, position, Option, Some, None, Result}
 use Rattle.std.specs.Prelude.{Ok, Err}
 use Rattle.std.specs.List.{enumerate_from, list_any, after_last, ends_with}
 use Rattle.std.specs.Option.{option_map, option_or, option_map_or}
 use Rattle.std.specs.Str.{bytes_eq}
+use Rattle.plain_ballots.specs.declared.limits.TheConstants.{MOST_CANDIDATES}
 use Rattle.ballot_table.specs.declared.column.Column.{Column}
 use Rattle.ballot_table.specs.declared.column.Column.TheVariants as column
 use Rattle.ballot_table.specs.declared.layout.Layout.{Layout}
@@ -37,7 +38,7 @@ name_fault before (b ∷ bs) =
     if list_any (λ c. nat_lt c 32 || c == 34) name then Some BadName
     else if nat_lt 200 (length name) then Some TooLongName
     else if is_in before name then Some RepeatedColumn
-    else if nat_lt 249 (length before) then Some TooManyCandidates
+    else if nat_le MOST_CANDIDATES (length before) then Some TooManyCandidates
     else None
 
 -- of a head's texts, those that are no labels

@@ -3,6 +3,7 @@ use Rattle.std.specs.Prelude.{ℕ, ◌+◌, ◌-◌, ◌==◌, min, Bool, true, 
 use Rattle.std.specs.Prelude.{length, take, map, sum_by, Option, Some, None, Result}
 use Rattle.std.specs.List.{enumerate_from, filter_map, flat_map, list_all, range_with_len, zip, slice_get}
 use Rattle.std.specs.Option.{option_or, unwrap_or}
+use Rattle.plain_ballots.specs.declared.limits.TheConstants.{MOST_BALLOTS, MOST_CANDIDATES}
 use Rattle.ballot_marks.specs.declared.mark.Mark.{Mark}
 use Rattle.ballot_marks.specs.declared.says.Says.{Says}
 use Rattle.ballot_marks.specs.declared.says.Says.TheVariants.{One, Over}
@@ -48,7 +49,7 @@ ballots_in columns texts = unwrap_or (slice_get (filter_map weight_in (zip colum
 
 -- so many more ballots have room behind these rows
 abbrev pub room_behind : List Column → List (List (List ℕ)) → ℕ
-room_behind columns before = 999999999 - sum_by (ballots_in columns) before
+room_behind columns before = MOST_BALLOTS - sum_by (ballots_in columns) before
 
 -- rows, each with the room behind those before it
 abbrev pub with_room : List Column → List (List (List ℕ)) → List (ℕ × List (List ℕ))
@@ -97,10 +98,10 @@ by_rank says = filter_map (λ p. at p.0 p.1) (enumerate_from 1 says)
     at rank None = None
     at rank (Some said) = Some (rank, said)
 
--- what ranks 1 to 250 say, or as many as there are columns or parts
+-- what each rank says, from 1 to the most candidates, or as many as there are columns or parts
 abbrev pub said_at : Layout → List Cell → List (Option Says)
 said_at layout.Ranks cells =
-    map (λ rank. said_by_holders (holders rank (ranks_of cells))) (range_with_len 1 250)
+    map (λ rank. said_by_holders (holders rank (ranks_of cells))) (range_with_len 1 MOST_CANDIDATES)
 said_at layout.Choices cells = says_of cells
 said_at layout.List cells = says_of cells
 

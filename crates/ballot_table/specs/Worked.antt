@@ -1,5 +1,6 @@
 -- Tables worked by hand.
-use Rattle.std.specs.Prelude.{◌≡◌, ℕ, false, true, List, [], ◌∷◌, map, replicate, Option, Some, None, codes}
+use Rattle.std.specs.Prelude.{◌≡◌, ◌+◌, ◌/◌, ◌%◌, ℕ, false, true, List, [], ◌∷◌, ◌++◌, map, replicate, Option, Some, None, codes}
+use Rattle.std.specs.List.{range_with_len}
 use Rattle.ballot_marks.specs.declared.choice.Treat.TheVariants.{Cut, Pass}
 use Rattle.ballot_marks.specs.declared.treatment.Treatment.{Treatment}
 use Rattle.ballot_marks.specs.Laws.{strict}
@@ -10,7 +11,7 @@ use Rattle.ballot_table.specs.declared.empty.Empty.TheVariants.{Refuse, Keep, Dr
 use Rattle.ballot_table.specs.declared.table_kind.TableKind.{TableKind}
 use Rattle.ballot_table.specs.declared.table_kind.TableKind.TheVariants.{NoColumn, RepeatedColumn}
 use Rattle.ballot_table.specs.declared.table_kind.TableKind.TheVariants.{ColumnExpected, NameExpected}
-use Rattle.ballot_table.specs.declared.table_kind.TableKind.TheVariants.{TooManyColumns, TooLongName}
+use Rattle.ballot_table.specs.declared.table_kind.TableKind.TheVariants.{TooManyColumns, TooLongName, TooManyCandidates}
 use Rattle.ballot_table.specs.declared.table_kind.TableKind.TheVariants.{BadName, BadWithdrawn, BadRank}
 use Rattle.ballot_table.specs.declared.table_kind.TableKind.TheVariants.{BadWeight, TooManyBallots}
 use Rattle.ballot_table.specs.declared.table_kind.TableKind.TheVariants.{UnequalRow, EmptyRow}
@@ -56,6 +57,10 @@ ann_ben_cid = codes "Ann" ∷ codes "Ben" ∷ codes "Cid" ∷ []
 abbrev pub row3 : List ℕ → List ℕ → List ℕ → List (List ℕ)
 row3 a b c = a ∷ b ∷ c ∷ []
 
+-- so many names of two letters, all different
+abbrev pub short_names : ℕ → List (List ℕ)
+short_names n = map (λ i. (65 + i / 16) ∷ (65 + i % 16) ∷ []) (range_with_len 0 n)
+
 -- heads with and without a fault
 pub record WorkedHeads : Type 0 where
   pub sound : head_fault (plainly Ranks) ann_ben_cid ≡ None
@@ -79,6 +84,11 @@ pub record WorkedHeads : Type 0 where
   pub further_column :
       head_fault (plainly Lists) (codes "Order" ∷ codes "Again" ∷ []) ≡ fault TooManyColumns 2
   pub long_name : head_fault (plainly Ranks) (codes "Ann" ∷ replicate 201 65 ∷ []) ≡ fault TooLongName 2
+  pub longest_name : head_fault (plainly Ranks) (codes "Ann" ∷ replicate 200 65 ∷ []) ≡ None
+  pub line_end_in_name :
+      head_fault (plainly Ranks) (texts_of ((codes "Ann" ++ 10 ∷ []) ∷ [])) ≡ fault BadName 1
+  pub most_candidates : head_fault (plainly Ranks) (short_names 250) ≡ None
+  pub one_too_many : head_fault (plainly Ranks) (short_names 251) ≡ fault TooManyCandidates 251
   pub in_brackets :
       names_of (record (plainly Ranks) { bracketed = true })
       (codes "Your vote [1 to 2], please [Ben, jr]" ∷ []) ≡ codes "Ben, jr" ∷ []
@@ -94,6 +104,9 @@ pub record WorkedRows : Type 0 where
   pub no_rank :
       faults_of (plainly Ranks) ann_ben_cid (row3 (codes "1") (codes "0") [] ∷ row3 (codes "1.0") [] [] ∷ [])
       ≡ fault BadRank 2 ∷ fault BadRank 1 ∷ []
+  pub greatest_rank :
+      faults_of (plainly Ranks) ann_ben_cid (row3 (codes "250") [] [] ∷ row3 (codes "251") [] [] ∷ [])
+      ≡ None ∷ fault BadRank 1 ∷ []
   pub choices :
       ballots_under (record strict { repeated = Pass }) Refuse
       (record (plainly Choices) { candidates = ann_ben_cid })

@@ -28,8 +28,11 @@ use Rattle.import_words.proofs.PairLemmas.{HasValue}
 abbrev said : ImportOption → Word → Said
 said option value = record { option = option; value = value }
 
+abbrev seats_of : Word → Word → List Said
+seats_of layout number = said options.Layout layout ∷ said options.Seats number ∷ []
+
 abbrev seat_of : Word → List Said
-seat_of layout = said options.Layout layout ∷ said options.Seats (codes "1") ∷ []
+seat_of layout = seats_of layout (codes "1")
 
 abbrev candidates : List Said
 candidates =
@@ -94,6 +97,22 @@ refused_words = record {
       ≡ codes "Ann" ∷ codes "Ann" ∷ codes "Ben" ∷ codes "Cid" ∷ [] =
       λ i. says.cells.blanks.0 i ++ says.cells.overs.0 i ++ says.roll.candidates.0 i ++ says.cells.ranks i in
       subst AreDifferent all says.distinguished.different 0 1 [] (omega arith) (omega arith) refl);
+  blank_behind_a_label =
+      refused _ (seat_of (codes "ranks") ++ said options.Blank (codes "NA ") ∷ []) refl
+      (λ asked fit says. (says.cells.blanks.1 0 [] (omega arith)).last refl);
+  blank_before_a_label =
+      refused _ (seat_of (codes "ranks") ++ said options.Blank (codes " NA") ∷ []) refl
+      (λ asked fit says. (says.cells.blanks.1 0 [] (omega arith)).first refl);
+  no_seat =
+      refused _ (seats_of (codes "ranks") (codes "0")) refl
+      (λ asked fit says.
+      let value : number_of (codes "0") ≡ 0 = refl in
+      omega (arith, says.roll.seats.0.least, value));
+  a_seat_too_many =
+      refused _ (seats_of (codes "ranks") (codes "251")) refl
+      (λ asked fit says.
+      let value : number_of (codes "251") ≡ 251 = refl in
+      omega (arith, says.roll.seats.0.most, value));
 }
 
 -- one digit writes a number of seats

@@ -14,9 +14,12 @@ use Rattle.import_words.specs.declared.head_names.HeadNames.TheVariants as heads
 abbrev pub AskNothing : List Word → Type 0
 AskNothing words = (asked : Asked) → ¬ (Asks words asked)
 
--- a layout, and one seat
+-- a layout, and so many seats
+abbrev pub seats : Word → Word → List Word
+seats layout number = codes "--layout" ∷ layout ∷ codes "--seats" ∷ number ∷ []
+
 abbrev pub one_seat : Word → List Word
-one_seat layout = codes "--layout" ∷ layout ∷ codes "--seats" ∷ codes "1" ∷ []
+one_seat layout = seats layout (codes "1")
 
 abbrev pub ann_ben_cid : List Word
 ann_ben_cid =
@@ -33,6 +36,10 @@ pub record RefusedWords : Type 0 where
   pub equals_sign : AskNothing (codes "--layout=ranks" ∷ codes "--seats" ∷ codes "1" ∷ [])
   pub over_is_candidate :
       AskNothing (one_seat (codes "choices") ++ ann_ben_cid ++ codes "--over" ∷ codes "Ann" ∷ [])
+  pub blank_behind_a_label : AskNothing (one_seat (codes "ranks") ++ codes "--blank" ∷ codes "NA " ∷ [])
+  pub blank_before_a_label : AskNothing (one_seat (codes "ranks") ++ codes "--blank" ∷ codes " NA" ∷ [])
+  pub no_seat : AskNothing (seats (codes "ranks") (codes "0"))
+  pub a_seat_too_many : AskNothing (seats (codes "ranks") (codes "251"))
 
 -- a layout, one seat and these candidates, and nothing else said
 abbrev pub plain : Layout → List Word → Asked

@@ -58,3 +58,5 @@ pub record Separators : Type 0 where
   pub in_later_rows : separator_of (codes "Ann;Ben\n1,2\n") ≡ Ok 59
   pub tabs : separator_of (codes "Ann" ++ 9 ∷ codes "Ben") ≡ Ok 9
   pub none : separator_of (codes "Ann\n1;\n") ≡ Ok 44
+  pub no_bar : separator_of (codes "Ann|Ben\n") ≡ Ok 44
+  pub behind_a_return : separator_of (codes "Ann,Ben" ++ 13 ∷ codes ";") ≡ Ok 44

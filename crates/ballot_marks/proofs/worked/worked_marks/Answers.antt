@@ -7,6 +7,7 @@ returns-clause-equal c = record {
   cut = record { ranked_are = refl; closed_is = refl; passed_is = refl; cut_is = refl };
   passed = record { ranked_are = refl; closed_is = refl; passed_is = refl; cut_is = refl };
   passed_is_not_skipped = record { first = refl; refused = refl };
+  not_passed_behind_a_cut = record { ranked_are = refl; closed_is = refl; passed_is = refl; cut_is = refl };
 }
 
 pub returns-clause-skipped : goal.returns-clause-skipped
@@ -15,6 +16,7 @@ returns-clause-skipped c = record {
   closed = record { ranked_are = refl; closed_is = refl; passed_is = refl; cut_is = refl };
   one_closed = record { ranked_are = refl; closed_is = refl; passed_is = refl; cut_is = refl };
   none_closed = record { ranked_are = refl; closed_is = refl; passed_is = refl; cut_is = refl };
+  judged_first = record { first = refl; refused = refl };
 }
 
 pub returns-clause-repeated : goal.returns-clause-repeated

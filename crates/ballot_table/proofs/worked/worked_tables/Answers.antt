@@ -13,6 +13,10 @@ returns-clause-heads c = record {
   same_label = refl;
   further_column = refl;
   long_name = refl;
+  longest_name = refl;
+  line_end_in_name = refl;
+  most_candidates = refl;
+  one_too_many = refl;
   in_brackets = refl;
 }
 
@@ -21,6 +25,7 @@ returns-clause-rows c = record {
   ranks = refl;
   shorter = refl;
   no_rank = refl;
+  greatest_rank = refl;
   choices = refl;
   closed = refl;
   one_closed = refl;

@@ -4,4 +4,12 @@ use Rattle.table_text.proofs.worked.worked_separators.Goals as goal
 
 pub returns : goal.returns
 unfolding parting
-returns c = record { unclear = refl; within_quotes = refl; in_later_rows = refl; tabs = refl; none = refl }
+returns c = record {
+  unclear = refl;
+  within_quotes = refl;
+  in_later_rows = refl;
+  tabs = refl;
+  none = refl;
+  no_bar = refl;
+  behind_a_return = refl;
+}
