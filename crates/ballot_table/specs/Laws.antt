@@ -32,6 +32,14 @@ RowsHaveNoOrder =
     → ballots treatment one ≡ Some rankings
     → (others : List (List ℕ)) × (ballots treatment other ≡ Some others) × IsPermutation rankings others
 
+-- Records below the head in another order are a table too, of the same ballots in another order.
+abbrev pub RecordsHaveNoOrder : Type 0
+RecordsHaveNoOrder =
+    (asked : Asked) (treatment : Treatment) (empty : Empty) (head : List (List ℕ))
+    (one other : List (List (List ℕ))) → IsPermutation one other
+    → (counted : IsCounted asked treatment empty head one)
+    → (again : IsCounted asked treatment empty head other) × IsPermutation counted.rankings again.rankings
+
 -- What is accepted where all is refused is the same table, of the same ballots, under any treatment.
 abbrev pub TreatmentsOnlyMend : Type 0
 TreatmentsOnlyMend =

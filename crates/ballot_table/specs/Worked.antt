@@ -92,6 +92,8 @@ pub record WorkedHeads : Type 0 where
   pub in_brackets :
       names_of (record (plainly Ranks) { bracketed = true })
       (codes "Your vote [1 to 2], please [Ben, jr]" ∷ []) ≡ codes "Ben, jr" ∷ []
+  pub blanks_in_brackets :
+      names_of (record (plainly Ranks) { bracketed = true }) (codes "Vote [ Ann ]" ∷ []) ≡ codes "Ann" ∷ []
 
 -- rows, and the ballots that they stand for
 pub record WorkedRows : Type 0 where

@@ -1,5 +1,5 @@
 // What holds of every table. Each law is the contract of a function with nothing to do.
-ghost use Rattle.ballot_table.specs.Laws.{FaultOrTable, RowsHaveNoOrder, TreatmentsOnlyMend};
+ghost use Rattle.ballot_table.specs.Laws.{FaultOrTable, RecordsHaveNoOrder, RowsHaveNoOrder, TreatmentsOnlyMend};
 
 /// A head and rows have a fault, or they are a table whose rows all have a ranking, and not both.
 pub fn fault_or_table()
@@ -9,6 +9,12 @@ pub fn fault_or_table()
 /// Rows in another order stand for the same ballots, in another order.
 pub fn rows_have_no_order()
     ensures { RowsHaveNoOrder }
+{}
+
+/// Records in another order below the same head are a table too, which stands for the same ballots, in another
+/// order.
+pub fn records_have_no_order()
+    ensures { RecordsHaveNoOrder }
 {}
 
 /// What is accepted where whatever is not plain is refused, rows of blank fields too, is the same table of

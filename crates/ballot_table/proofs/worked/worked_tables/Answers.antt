@@ -18,6 +18,7 @@ returns-clause-heads c = record {
   most_candidates = refl;
   one_too_many = refl;
   in_brackets = refl;
+  blanks_in_brackets = refl;
 }
 
 pub returns-clause-rows : goal.returns-clause-rows
