@@ -1,9 +1,9 @@
 -- The lines of a forest.
-use Rattle.std.proofs.Common.{◌≡◌, ℕ, ◌+◌, ◌≤◌, List, [], ◌∷◌, ◌++◌, length, get_or, map, replicate}
+use Rattle.std.proofs.Common.{◌≡◌, ℕ, ◌+◌, List, [], ◌∷◌, ◌++◌, length, get_or, map, replicate}
 use Rattle.std.proofs.Common.{append_assoc, append-nil, zero, suc, arith, refl, ap, sym, subst, ◌∙◌}
 use Rattle.std.specs.List.{All}
 use Rattle.std.proofs.lemmas.Grind.{flat_map-append}
-use Rattle.std.proofs.lemmas.List.{map-append, length-append, length-map, length-replicate, get_or-replicate}
+use Rattle.std.proofs.lemmas.List.{map-append, length-append, length-map, length-replicate}
 use Rattle.std.proofs.lemmas.List.Sums.{sum_by-append, sum_by-cons}
 use Rattle.plain_ballots.specs.declared.ballot_line.BallotLine.{BallotLine}
 use Rattle.plain_ballots.specs.Ballots.{BallotList, ballot_count, plain}
@@ -14,7 +14,7 @@ use Rattle.ranking_trie.specs.Bag.{below, bag}
 use Rattle.ranking_trie.specs.Lines.{line_of, behind, node_lines, lines_of}
 use Rattle.ranking_trie.proofs.BagLemmas.{map-replicate}
 use Rattle.ranking_trie.proofs.LineLemmas.{ballots_of}
-use Rattle.ranking_trie.proofs.ListLemmas.{All-left, All-right, All-unmap}
+use Rattle.ranking_trie.proofs.ListLemmas.{All-right, All-unmap}
 
 -- lines behind ranks that go on
 pub behind_both :

@@ -54,9 +54,7 @@ fn push_node(
           ++ map (behind ranks.old.items) (node_lines c ends (lines_of inner.now));
     }) }
 {
-    let Ok(()) = ranks.push(c as u32) else {
-        return Err(NoMemory);
-    };
+    ranks.push(c as u32)?;
     push_line(alloc, ends, ranks.as_slice(), ballots)?;
     push_lines(alloc, inner, ranks, ballots)?;
     ranks.pop();
@@ -79,9 +77,7 @@ pub(crate) fn push_line(
     if count == 0 {
         return Ok(());
     }
-    let Ok(ranking) = Ranking::new(alloc, ranks) else {
-        return Err(NoMemory);
-    };
+    let ranking = Ranking::new(alloc, ranks)?;
     match ballots.push_line(BallotLine { count, ranking }) {
         Ok(()) => Ok(()),
         Err(LineStop::NoMemory(_)) => Err(NoMemory),

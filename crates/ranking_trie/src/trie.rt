@@ -276,23 +276,13 @@ fn fill_spare(alloc: Global, spare: &mut Vec<Box<Pair>>, ranks: usize) -> Result
     ensures more { vec_len spare.old ≤ vec_len spare.new }
     ensures room { OnOk result (ranks ≤ vec_len spare.new) }
 {
-    if spare
-        .reserve_exact(ranks.saturating_sub(spare.len()))
-        .is_err()
-    {
-        return Err(NoMemory);
-    }
+    spare.reserve_exact(ranks.saturating_sub(spare.len()))?;
     while spare.len() < ranks {
         let pair = Pair {
             inner: Forest::Empty,
             next: Forest::Empty,
         };
-        let Ok(node) = Box::new(alloc, pair) else {
-            return Err(NoMemory);
-        };
-        if spare.push(node).is_err() {
-            return Err(NoMemory);
-        }
+        spare.push(Box::new(alloc, pair)?)?;
     }
     Ok(())
 }

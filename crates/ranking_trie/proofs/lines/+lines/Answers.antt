@@ -102,7 +102,7 @@ push_node-push_lines-requires t c =
       omega arith,
       (
         subst (λ (m : ℕ). All (λ r. IsRanking m (c.push.new.self.items ++ r)) (bag inner)) (sym same)
-            (subst (λ (f : List ℕ). All (λ r. IsRanking n (f ++ r)) (bag inner)) (sym c.in-Ok.ensures.items)
+            (subst (λ (f : List ℕ). All (λ r. IsRanking n (f ++ r)) (bag inner)) (sym c.in_ok-push.ensures.items)
             (rankings_below n front c.args.c c.args.ends (bag inner) c.requires.rankings)),
         omega arith,
       ),
@@ -112,5 +112,5 @@ pub push_node-returns-clause-lines : goal.push_node-returns-clause-lines
 push_node-returns-clause-lines t c =
     node_listed c.args.ballots.now c.push_line.new.ballots c.push_lines.new.ballots c.args.ranks.now.items
     c.as_slice.result.now c.push.new.self.items c.args.c c.args.ends c.args.inner.now
-    (c.as_slice.ensures.value ∙ c.in-Ok.ensures.items) c.in-Ok.ensures.items c.in_ok-push_line.ensures
+    (c.as_slice.ensures.value ∙ c.in_ok-push.ensures.items) c.in_ok-push.ensures.items c.in_ok-push_line.ensures
     c.in_ok-push_lines.ensures.lines
