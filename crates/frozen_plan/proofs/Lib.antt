@@ -8,6 +8,7 @@ mod RunLemmas
 mod ChainLemmas
 mod MergeLemmas
 mod GroupLemmas
+mod GroupSteps
 mod ShareLemmas
 mod LastLines
 mod TurnLemmas

@@ -9,7 +9,7 @@ use Rattle.std.proofs.lemmas.List.Elements.{All-push, All-take}
 use Rattle.std.proofs.lemmas.List.Sums.{sum_by-cons, sum_by-append, sum_by-take-le}
 use Rattle.frozen_plan.specs.declared.share.Placed.{Placed}
 use Rattle.frozen_plan.specs.Share.{rank_of, rest_of, rests, line_count, IsKept, IsShare}
-use Rattle.frozen_plan.proofs.RunLemmas.{nothing, rest_none, rest_more, length-rests}
+use Rattle.frozen_plan.proofs.RunLemmas.{nothing, rest_none, length-rests}
 
 -- ---- equal rankings
 

@@ -5,7 +5,6 @@ ghost use Rattle.frozen_plan.specs.Forest.{rows_of};
 ghost use Rattle.frozen_plan.specs.Groups.{chain};
 ghost use Rattle.frozen_plan.specs.Share.{rest_of};
 
-use crate::rows::append;
 use crate::share::{Placed, rank_at};
 use crate::{NoMemory, PlanRow};
 use plain_ballots::MOST_CANDIDATES;
@@ -31,7 +30,7 @@ pub(crate) fn push_line(
             ballots,
             skip: (end - i) as usize,
         };
-        append(rows, row)?;
+        rows.push(row)?;
     }
     Ok(ballots)
 }

@@ -29,19 +29,9 @@ impl Plans {
         let mut plans = Plans::new(alloc);
         for shard in 0..shards {
             let plan = Plan::from_share(alloc, candidates, &mut shares[shard as usize])?;
-            add_plan(&mut plans, plan)?;
+            plans.push(plan)?;
         }
         Ok(plans)
-    }
-}
-
-/// Puts a plan behind the others.
-pub(crate) fn add_plan(plans: &mut Plans, plan: Plan) -> Result<(), NoMemory>
-    ensures { OnOk result (plans.new ≡ plans.old ++ plan ∷ []) }
-{
-    match plans.push(plan) {
-        Ok(()) => Ok(()),
-        Err(_) => Err(NoMemory),
     }
 }
 
@@ -65,9 +55,7 @@ fn empty_shares(alloc: Global, shards: u32, lines: usize) -> Result<Vec<Share>, 
     ensures empty { IfOk result (λ shares. AreEmpty shares.items) }
 {
     let each = lines.div_ceil(shards as usize);
-    let Ok(mut shares) = Vec::with_capacity(alloc, shards as usize) else {
-        return Err(NoMemory);
-    };
+    let mut shares = Vec::with_capacity(alloc, shards as usize)?;
     for i in 0..shards {
         shares.push_reserved(Share::new(alloc, each)?);
     }

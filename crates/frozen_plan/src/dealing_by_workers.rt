@@ -6,7 +6,6 @@ ghost use Rattle.frozen_plan.specs.Dealing.{AreOfShares};
 ghost use Rattle.frozen_plan.specs.Dealt.{IsDealt, IsOfShare, AreOfTurns};
 ghost use Rattle.frozen_plan.specs.Plan.{all_ballots};
 
-use crate::dealing::add_plan;
 use crate::share::Share;
 use crate::{NoMemory, Plan, Plans};
 use plain_ballots::{BallotLine, Ballots, lines_stand_for_ballots};
@@ -56,9 +55,7 @@ fn none_made(alloc: Global, shards: u32) -> Result<Vec<Option<Plan>>, NoMemory>
 {
     let mut made = Vec::new(alloc);
     for i in 0..shards {
-        if made.push(None).is_err() {
-            return Err(NoMemory);
-        }
+        made.push(None)?;
     }
     Ok(made)
 }
@@ -137,7 +134,7 @@ fn all_made(alloc: Global, mut made: Vec<Option<Plan>>) -> Result<Plans, NoMemor
         let Some(plan) = plan else {
             return Err(NoMemory);
         };
-        add_plan(&mut plans, plan)?;
+        plans.push(plan)?;
     }
     plans.reverse();
     Ok(plans)

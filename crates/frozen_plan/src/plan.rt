@@ -4,7 +4,7 @@ ghost use Rattle.plain_ballots.specs.declared.limits.TheConstants.{MOST_CANDIDAT
 ghost use Rattle.frozen_plan.specs.Plan.{IsPlan, plan_ballots};
 ghost use Rattle.frozen_plan.specs.Rows.{AreRowsOf};
 
-use crate::rows::{append, push_forest};
+use crate::rows::push_forest;
 use crate::{NoMemory, PlanRow};
 use ranking_trie::Trie;
 use std::alloc::Global;
@@ -62,16 +62,14 @@ fn rows_of_trie(alloc: Global, trie: &Trie) -> Result<Vec<PlanRow>, NoMemory>
     requires { trie.now.candidates ≤ MOST_CANDIDATES }
     ensures { IfOk result (λ rows. AreRowsOf trie.now rows.items) }
 {
-    let Ok(mut rows) = Vec::with_capacity(alloc, trie.nodes().saturating_add(1)) else {
-        return Err(NoMemory);
-    };
+    let mut rows = Vec::with_capacity(alloc, trie.nodes().saturating_add(1))?;
     let root = PlanRow {
         depth: 0,
         candidate: 0,
         ballots: trie.total(),
         skip: 0,
     };
-    append(&mut rows, root)?;
+    rows.push(root)?;
     push_forest(trie.forest(), 1, &mut rows)?;
     rows[0] = PlanRow {
         skip: rows.len(),

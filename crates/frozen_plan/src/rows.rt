@@ -7,16 +7,6 @@ ghost use Rattle.frozen_plan.specs.Shape.{shape_of};
 use crate::{NoMemory, PlanRow};
 use ranking_trie::Forest;
 
-/// Appends a row.
-pub(crate) fn append(rows: &mut Vec<PlanRow>, row: PlanRow) -> Result<(), NoMemory>
-    ensures { OnOk result (rows.new.items ≡ rows.old.items ++ row ∷ []) }
-{
-    match rows.push(row) {
-        Ok(()) => Ok(()),
-        Err(_) => Err(NoMemory),
-    }
-}
-
 /// Appends the nodes of a forest in preorder, and gives how many ballots go through them.
 #[cycle(rows)]
 pub(crate) fn push_forest(
@@ -62,7 +52,7 @@ fn push_node(
         ballots: 0,
         skip: 0,
     };
-    append(rows, row)?;
+    rows.push(row)?;
     let below = push_forest(inner, depth + 1, rows)?;
     let ballots = ends as u64 + below;
     let skip = rows.len() - at;

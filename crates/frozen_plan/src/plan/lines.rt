@@ -6,7 +6,6 @@ ghost use Rattle.frozen_plan.specs.Share.{IsShare, line_count, rests};
 
 use crate::groups::push_group;
 use crate::merge::merge;
-use crate::rows::append;
 use crate::share::{Placed, Share};
 use crate::{NoMemory, Plan, PlanRow};
 use std::alloc::Global;
@@ -55,7 +54,7 @@ fn rows_of_lines(
         ballots: 0,
         skip: 0,
     };
-    append(&mut rows, root)?;
+    rows.push(root)?;
     let ballots = push_group(ranks, lines, 0, &mut rows)?;
     rows[0] = PlanRow {
         ballots,

@@ -11,10 +11,10 @@ loop-i-preserved c =
     let rows = c.loop-i.rows.items in
     let before = c.loop-i.invariant in
     let row : ℕ → PlanRow = λ k. record { depth = i + 1; candidate = k; ballots = line.count; skip = end - i } in
-    let pushed = c.in_ok-append.ensures ∙ ap (λ (k : ℕ). rows ++ row k ∷ []) c.rank_at.ensures in
+    let pushed = c.in_ok-push.ensures.items ∙ ap (λ (k : ℕ). rows ++ row k ∷ []) c.rank_at.ensures in
     record {
       rows =
-          one_row c.args.ranks.now i end line.count line rows c.append.new.rows.items before.left
+          one_row c.args.ranks.now i end line.count line rows c.push.new.self.items before.left
           c.loop-i-test.true pushed ∙ before.rows;
       left = one_less c.args.ranks.now i end line before.left c.loop-i-test.true;
     }

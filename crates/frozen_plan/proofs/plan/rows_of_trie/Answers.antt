@@ -36,7 +36,7 @@ returns c =
     let items : now ≡ first ∷ below =
     c.in_ok-push_forest.ensures.rows
     ∙ ap (λ (l : List PlanRow). l ++ below)
-    (c.in_ok-append.ensures ∙ ap (λ (l : List PlanRow). l ++ first ∷ []) c.in-Ok.ensures.items) in
+    (c.in_ok-push.ensures.items ∙ ap (λ (l : List PlanRow). l ++ first ∷ []) c.in_ok-rows.ensures.items) in
     let size : c.len.result ≡ length below + 1 =
     omega (arith, c.push_forest.new.rows.ok.0, c.len.ensures, ap length items) in
     let count : c.total.result ≡ ends + through (shape_of f) =

@@ -14,7 +14,7 @@ push_node-returns-clause-rows t c =
     let at = c.len-at.result in
     let place : at ≡ length old = omega (arith, c.args.rows.now.ok.0, c.len-at.ensures) in
     let is : now ≡ (old ++ first ∷ []) ++ low =
-    c.in_ok-below.ensures.rows ∙ ap (λ (l : List PlanRow). l ++ low) c.in_ok-append.ensures in
+    c.in_ok-below.ensures.rows ∙ ap (λ (l : List PlanRow). l ++ low) c.in_ok-push.ensures.items in
     let behind : c.len.result - at ≡ length low + 1 =
     ap (λ n. n - at) (omega (arith, c.push_forest.new.rows.ok.0, c.len.ensures))
     ∙ rows_behind old low now first at place is in

@@ -11,8 +11,8 @@ returns-clause-plan c =
     let lines = c.args.lines.now in
     let first : PlanRow = record { depth = 0; candidate = 0; ballots = 0; skip = 0 } in
     let now = c.push_group.new.rows.items in
-    let root : c.append.new.rows.items ≡ first ∷ [] =
-    c.in_ok-append.ensures ∙ ap (λ (l : List PlanRow). l ++ first ∷ []) c.new-rows.ensures.items in
+    let root : c.push.new.self.items ≡ first ∷ [] =
+    c.in_ok-push.ensures.items ∙ ap (λ (l : List PlanRow). l ++ first ∷ []) c.new-rows.ensures.items in
     let nodes =
     subst (λ (old : List PlanRow). AreNodesOf bytes 1 (rests bytes 0 lines) old now) root
     c.in_ok-ballots.ensures.nodes in
@@ -26,8 +26,8 @@ returns-clause-ballots c =
     let lines = c.args.lines.now in
     let first : PlanRow = record { depth = 0; candidate = 0; ballots = 0; skip = 0 } in
     let now = c.push_group.new.rows.items in
-    let root : c.append.new.rows.items ≡ first ∷ [] =
-    c.in_ok-append.ensures ∙ ap (λ (l : List PlanRow). l ++ first ∷ []) c.new-rows.ensures.items in
+    let root : c.push.new.self.items ≡ first ∷ [] =
+    c.in_ok-push.ensures.items ∙ ap (λ (l : List PlanRow). l ++ first ∷ []) c.new-rows.ensures.items in
     let nodes =
     subst (λ (old : List PlanRow). AreNodesOf bytes 1 (rests bytes 0 lines) old now) root
     c.in_ok-ballots.ensures.nodes in

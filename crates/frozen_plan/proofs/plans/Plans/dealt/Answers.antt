@@ -49,7 +49,7 @@ loop-shard-preserved c =
     let one : All (λ (p : PlanRows). p.candidates ≡ candidates) (plan ∷ []) =
     All-one (λ (p : PlanRows). p.candidates ≡ candidates) plan
     (c.in_ok-plan.ensures.candidates ∙ c.candidates-candidates.ensures) in
-    let more : c.add_plan.new.plans ≡ plans ++ plan ∷ [] = c.in_ok-add_plan.ensures in
+    let more : c.push.new.self ≡ plans ++ plan ∷ [] = c.in_ok-push.ensures.ok in
     record {
       as_many = ap length more ∙ (length-append plans (plan ∷ []) ∙ ap (λ (k : ℕ). k + 1) before.as_many);
       candidates =
