@@ -76,7 +76,7 @@ impl Branches {
             length: tail.len() as u8,
         };
         push_tail(&mut self.tails, tail)?;
-        push_branch(&mut self.list, branch)?;
+        self.list.push(branch)?;
         Ok(())
     }
 
@@ -134,17 +134,6 @@ fn tail_room(branches: &[Branch]) -> usize
 /// More nodes are as good as no memory for them.
 const MOST: usize = 4_294_967_295;
 
-/// Appends a branch.
-fn push_branch(list: &mut Vec<Branch>, branch: Branch) -> Result<(), NoMemory>
-    ensures ok { OnOk result (list.new.items ≡ list.old.items ++ branch ∷ []) }
-    ensures refused { OnErr result (list.new.items ≡ list.old.items) }
-{
-    match list.push(branch) {
-        Ok(()) => Ok(()),
-        Err(_) => Err(NoMemory),
-    }
-}
-
 /// Appends the candidates of some rows.
 fn push_tail(tails: &mut Vec<u8>, rows: &[PlanRow]) -> Result<(), NoMemory>
     requires { All (λ r. r.candidate ≤ MOST_CANDIDATES) rows.now }
@@ -152,9 +141,7 @@ fn push_tail(tails: &mut Vec<u8>, rows: &[PlanRow]) -> Result<(), NoMemory>
     ensures more { length tails.old.items ≤ length tails.new.items }
 {
     for row in rows {
-        if tails.push(row.candidate as u8).is_err() {
-            return Err(NoMemory);
-        }
+        tails.push(row.candidate as u8)?;
     }
     Ok(())
 }

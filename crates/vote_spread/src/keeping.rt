@@ -47,7 +47,7 @@ impl Keeping {
         let keeps = zeros(alloc, candidates)?;
         let mut factors = zeros(alloc, candidates)?;
         find_factors(one, keeps.as_slice(), factors.as_mut_slice());
-        let classes = all_pass(alloc, candidates)?;
+        let classes = vec![in alloc; Class::Passes; candidates]?;
         Ok(Keeping {
             one,
             keeps,
@@ -147,14 +147,4 @@ fn classify(one: u64, keeps: &[u64], classes: &mut [Class]) -> bool
         changed |= !same;
     }
     changed
-}
-
-/// So many candidates with keep value 0.
-fn all_pass(alloc: Global, len: usize) -> Result<Vec<Class>, NoMemory>
-    ensures { IfOk result (λ list. list.items ≡ replicate len Class.Passes) }
-{
-    match vec![in alloc; Class::Passes; len] {
-        Ok(list) => Ok(list),
-        Err(_) => Err(NoMemory),
-    }
 }

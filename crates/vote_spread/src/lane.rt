@@ -26,6 +26,7 @@ pub(crate) struct Lane {
 
 impl Model for Lane {
     ghost use Rattle.std.specs.Prelude.{◌≡◌, length, vec_capacity};
+    ghost use Rattle.vote_spread.specs.declared.depths.TheConstants.{DEPTHS};
     ghost use Rattle.vote_spread.specs.Rows.{seen};
     ghost use Rattle.vote_spread.specs.LaneSeen.{LaneSeen};
 
@@ -43,11 +44,8 @@ impl Lane {
         ensures of_all { IfOk result (λ lane. length lane.tally ≡ candidates) }
         ensures room { IfOk result (λ lane. lane.room ≡ room) }
     {
-        let Ok(rows) = Vec::with_capacity(alloc, room) else {
-            return Err(NoMemory);
-        };
         Ok(Lane {
-            rows,
+            rows: Vec::with_capacity(alloc, room)?,
             weights: zeros(alloc, DEPTHS)?,
             tally: zeros(alloc, candidates)?,
         })
@@ -123,11 +121,7 @@ pub(crate) fn zeros(alloc: Global, len: usize) -> Result<Vec<u64>, NoMemory>
     requires { len < 2 ^ 32 }
     ensures { IfOk result (λ list. list.items ≡ replicate len 0) }
 {
-    let Ok(mut list) = Vec::with_capacity(alloc, len + APART) else {
-        return Err(NoMemory);
-    };
-    match list.resize(len, 0) {
-        Ok(()) => Ok(list),
-        Err(_) => Err(NoMemory),
-    }
+    let mut list = Vec::with_capacity(alloc, len + APART)?;
+    list.resize(len, 0)?;
+    Ok(list)
 }

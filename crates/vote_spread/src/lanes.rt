@@ -139,9 +139,7 @@ fn lanes_of(
     ensures of_all { IfOk result (λ lanes. All (λ lane. length lane.tally ≡ candidates) lanes.items) }
     ensures fit { IfOk result (λ lanes. (keeping : KeepingSeen) → keeping.stale ≡ true → AreFit keeping branches.now 0 workers lanes.items) }
 {
-    let Ok(mut lanes) = Vec::with_capacity(alloc, workers as usize) else {
-        return Err(NoMemory);
-    };
+    let mut lanes = Vec::with_capacity(alloc, workers as usize)?;
     for k in 0..workers {
         let room = room_of(branches, k as usize, workers as usize);
         lanes.push_reserved(Lane::new(alloc, candidates as usize, room)?);

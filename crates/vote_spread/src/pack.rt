@@ -9,7 +9,7 @@ use crate::NoMemory;
 use crate::branches::Branches;
 use crate::depths::DEPTHS;
 use crate::merge::merge;
-use crate::part::{Part, push_part};
+use crate::part::Part;
 use frozen_plan::{Plan, PlanRow, Plans};
 use std::alloc::Global;
 
@@ -32,9 +32,7 @@ fn room_for<'a>(alloc: Global, parts: usize) -> Result<Vec<Part<'a>>, NoMemory>
     let Some(len) = parts.checked_mul(DEPTHS) else {
         return Err(NoMemory);
     };
-    let Ok(mut room) = Vec::with_capacity(alloc, len) else {
-        return Err(NoMemory);
-    };
+    let mut room = Vec::with_capacity(alloc, len)?;
     for _ in 0..len {
         room.push_reserved(Part::new(&[]));
     }
@@ -48,8 +46,7 @@ fn parts_of<'a>(alloc: Global, plans: &'a [Plan]) -> Result<Vec<Part<'a>>, NoMem
 {
     let mut parts = Vec::new(alloc);
     for plan in plans {
-        let part = Part::new(behind_first(plan.rows()));
-        push_part(&mut parts, part)?;
+        parts.push(Part::new(behind_first(plan.rows())))?;
     }
     Ok(parts)
 }

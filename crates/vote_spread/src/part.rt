@@ -4,7 +4,6 @@ ghost use Rattle.plain_ballots.specs.declared.limits.TheConstants.{MOST_CANDIDAT
 ghost use Rattle.vote_spread.specs.Merged.{begins, behind, first_ballots, front};
 ghost use Rattle.vote_spread.specs.Packed.{AreRows};
 
-use crate::NoMemory;
 use frozen_plan::PlanRow;
 use std::marker::Model;
 
@@ -81,15 +80,5 @@ impl<'a> Part<'a> {
         let (node, behind) = self.rows.split_at(self.rows[0].skip);
         self.rows = behind;
         Some(Part { rows: node })
-    }
-}
-
-/// Puts a part behind the others.
-pub(crate) fn push_part<'a>(parts: &mut Vec<Part<'a>>, part: Part<'a>) -> Result<(), NoMemory>
-    ensures { OnOk result (parts.new.items ≡ parts.old.items ++ part.entry ∷ []) }
-{
-    match parts.push(part) {
-        Ok(()) => Ok(()),
-        Err(_) => Err(NoMemory),
     }
 }

@@ -20,10 +20,10 @@ rooms_more (x ∷ xs) lane need each last (suc k) d lt =
 
 pub loop-k-init : goal.loop-k-init
 loop-k-init c = record {
-  as_many = c.in-Ok.ensures.len;
-  capacity = c.in-Ok.ensures.capacity;
+  as_many = c.in_ok-lanes.ensures.len;
+  capacity = c.in_ok-lanes.ensures.capacity;
   of_all =
-      subst (All (λ (lane : LaneSeen). length lane.tally ≡ c.args.candidates)) (sym c.in-Ok.ensures.items)
+      subst (All (λ (lane : LaneSeen). length lane.tally ≡ c.args.candidates)) (sym c.in_ok-lanes.ensures.items)
       (All-nil (λ (lane : LaneSeen). length lane.tally ≡ c.args.candidates));
   rooms = λ k d lt. absurd (omega (arith, lt));
 }

@@ -16,11 +16,11 @@ loop-plan-preserved c =
     let inside : i < length plans = c.loop-plan-test.true in
     let more : take (i + 1) plans ≡ take i plans ++ x ∷ [] =
     take_more plans i x inside ∙ ap (λ (p : PlanRows). take i plans ++ p ∷ []) (sym c.plan-item.is) in
-    let part : c.new-part.result ≡ low x = c.new-part.ensures ∙ (c.behind_first.ensures ∙ ap (drop 1) c.rows.ensures.rows) in
+    let part : c.new.result ≡ low x = c.new.ensures ∙ (c.behind_first.ensures ∙ ap (drop 1) c.rows.ensures.rows) in
     record {
       parts =
-          c.in_ok-push_part.ensures
-          ∙ (ap (λ (l : List (List PlanRow)). l ++ c.new-part.result ∷ []) c.loop-plan.invariant.parts
+          c.in_ok-push.ensures.items
+          ∙ (ap (λ (l : List (List PlanRow)). l ++ c.new.result ∷ []) c.loop-plan.invariant.parts
           ∙ (ap (λ (r : List PlanRow). map low (take i plans) ++ r ∷ []) part
           ∙ (sym (map-append low (take i plans) (x ∷ [])) ∙ ap (map low) (sym more))));
       plans =

@@ -22,7 +22,7 @@ returns c =
       candidate = row.candidate;
       length = length rows;
     } in
-    ap (λ (l : List Branch). stems_of c.push_tail.new.tails.items l) c.in_ok-push_branch.ensures.ok
+    ap (λ (l : List Branch). stems_of c.push_tail.new.tails.items l) c.in_ok-push.ensures.items
     ∙ (ap (λ (t : List ℕ). stems_of t (list ++ b ∷ [])) c.in_ok-push_tail.ensures.ok
     ∙ (stems_of-push tails ranks list b c.self.invariant.tails
     (omega (arith, c.len-2.ensures, c.self.inside.tails.ok.0))

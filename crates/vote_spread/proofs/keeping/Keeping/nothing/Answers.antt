@@ -14,7 +14,7 @@ invariant_of-result c =
     let factors = c.in_ok-factors.factors in
     let found = c.find_factors.new.factors in
     let zeros : c.in_ok-keeps.keeps.items ≡ replicate n 0 = c.in_ok-keeps.ensures in
-    let passes : c.in_ok-classes.classes.items ≡ replicate n Passes = c.in_ok-classes.ensures in
+    let passes : c.in_ok-classes.classes.items ≡ replicate n Passes = c.in_ok-classes.ensures.items_if_clones_equal (λ y is. is) in
     record {
       have_factors = record {
         whole = c.requires.whole;
