@@ -10,6 +10,7 @@ mod TakenLemmas
 mod OpenedLemmas
 mod TailLemmas
 mod MergeLemmas
+mod MergeSteps
 mod FirstLemmas
 mod RootLemmas
 mod LaneLemmas
@@ -18,6 +19,7 @@ mod TotalLemmas
 mod PutLemmas
 mod FollowLemmas
 mod PlaceLemmas
+mod Underway
 mod CondenseLemmas
 mod RoomLemmas
 mod BranchLemmas

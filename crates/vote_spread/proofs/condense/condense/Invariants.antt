@@ -1,7 +1,7 @@
 use Rattle.std.proofs.Common.{◌≡◌, ◌+◌, ◌-◌, ◌≤◌, vec_len, vec_capacity}
 use Rattle.vote_spread.specs.Stem.{stems_of}
 use Rattle.vote_spread.specs.Rows.{seen}
-use Rattle.vote_spread.proofs.CondenseLemmas.{IsUnderway}
+use Rattle.vote_spread.proofs.Underway.{IsUnderway}
 use Rattle.vote_spread.proofs.RoomLemmas.{room_left}
 use Rattle.vote_spread.proofs.condense.condense.Given as goal
 
