@@ -26,6 +26,7 @@ pub struct Export<'e> {
 
 impl<'e> Model for Export<'e> {
     ghost use Rattle.std.specs.Prelude.{◌≤◌, length};
+    ghost use Rattle.plain_ballots.specs.declared.limits.TheConstants.{MOST_BALLOTS};
     ghost use Rattle.blt_writer.specs.Exported.{Exported};
     ghost use Rattle.blt_writer.specs.Merge.{AreInOrder, all_plain};
 
@@ -57,23 +58,12 @@ fn cursors_of(alloc: Global, plans: Plans) -> Result<Vec<Cursor>, NoMemory>
     ensures order { IfOk result (λ cursors. AreInOrder cursors.items) }
     ensures ballots { IfOk result (λ cursors. IsPermutation (all_plain cursors.items) (all_ballots plans)) }
 {
-    let Ok(mut cursors) = Vec::with_capacity(alloc, plans.len()) else {
-        return Err(NoMemory);
-    };
+    let mut cursors = Vec::with_capacity(alloc, plans.len())?;
     let mut others = plans;
     while let Some(plan) = others.pop() {
-        append(&mut cursors, Cursor::begin(plan))?;
+        cursors.push(Cursor::begin(plan))?;
     }
     Ok(cursors)
-}
-
-fn append(cursors: &mut Vec<Cursor>, cursor: Cursor) -> Result<(), NoMemory>
-    ensures { OnOk result (cursors.new.items ≡ cursors.old.items ++ cursor ∷ []) }
-{
-    match cursors.push(cursor) {
-        Ok(()) => Ok(()),
-        Err(_) => Err(NoMemory),
-    }
 }
 
 /// Writes the file of an export's ballots under its roll, and takes no memory. Ok leaves no ballots to be

@@ -24,6 +24,7 @@ pub struct Listing<'e> {
 
 impl<'e> Model for Listing<'e> {
     ghost use Rattle.std.specs.Prelude.{◌≤◌, All, length};
+    ghost use Rattle.plain_ballots.specs.declared.limits.TheConstants.{MOST_BALLOTS};
     ghost use Rattle.blt_writer.specs.Exported.{Exported};
     ghost use Rattle.blt_writer.specs.Merge.{all_plain};
     ghost use Rattle.blt_writer.specs.Packed.{AreListed};

@@ -36,9 +36,7 @@ fn push_ranking(ranks: &mut Vec<u8>, candidates: &[u32]) -> Result<(), NoMemory>
     ensures ranks { OnOk result (ranks.new.items ≡ ranks.old.items ++ (length candidates.now ∷ candidates.now)) }
     ensures refused { OnErr result (ranks.new.items ≡ ranks.old.items) }
 {
-    if ranks.reserve(candidates.len() + 1).is_err() {
-        return Err(NoMemory);
-    }
+    ranks.reserve(candidates.len() + 1)?;
     let empty = Vec::new(*ranks.allocator());
     let mut longer = mem::replace(ranks, empty);
     longer.push_reserved(candidates.len() as u8);

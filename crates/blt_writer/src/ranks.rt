@@ -17,6 +17,7 @@ pub(crate) struct Ranks {
 
 impl Model for Ranks {
     ghost use Rattle.std.specs.Prelude.{◌≤◌, List, ℕ, take};
+    ghost use Rattle.plain_ballots.specs.declared.limits.TheConstants.{MOST_CANDIDATES};
 
     ghost Value = { List ℕ };
 
