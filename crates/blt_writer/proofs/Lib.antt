@@ -16,7 +16,9 @@ mod ExportLemmas
 mod FrontLemmas
 mod PackedLemmas
 mod OrderedEntries
+mod RunLines
 mod ListingLemmas
 mod KindLemmas
 mod ShelfLemmas
+mod ShelvesWritten
 mod ShortTextLemmas

@@ -8,7 +8,7 @@ use Rattle.std.proofs.lemmas.List.Concat.{flat_map-append}
 use Rattle.std.proofs.lemmas.List.Elements.{All-head, All-tail}
 use Rattle.std.proofs.lemmas.List.Sorted.{length_permutation}
 use Rattle.piece_text.specs.Writing.{Wrote, Stopped, Writes}
-use Rattle.piece_text.proofs.Written.{wrote_nothing, wrote_later, stopped_later, stops}
+use Rattle.piece_text.proofs.Written.{wrote_later, stopped_later, stops}
 use Rattle.plain_ballots.specs.declared.ballot_line.BallotLine.{BallotLine}
 use Rattle.blt_writer.specs.Order.{AreLinesOf}
 use Rattle.blt_writer.specs.Text.{ballot_text}

@@ -9,7 +9,6 @@ use Rattle.std.proofs.lemmas.List.Sorted.{IsPermutation-map}
 use Rattle.plain_ballots.specs.Ballots.{plain}
 use Rattle.plain_ballots.proofs.PermutationLemmas.{flat_map-IsPermutation}
 use Rattle.plain_ballots.specs.declared.ballot_line.BallotLine.{BallotLine}
-use Rattle.plain_ballots.specs.Ranking.{IsRanking}
 use Rattle.blt_writer.specs.declared.entry.Entry.{Entry}
 use Rattle.blt_writer.specs.Packed.{ranking_at, front, line_of, entry_lines, IsEntry}
 use Rattle.blt_writer.proofs.FrontLemmas.{IsCandidate}

@@ -2,7 +2,6 @@
 use Rattle.std.proofs.Common.{◌≡◌, ℕ, ◌+◌, ◌-◌, ◌≤◌, Bool, true, false, cond, List, [], ◌∷◌, length, get_or}
 use Rattle.std.proofs.Common.{take, drop, All, arith, refl, ap, sym, subst, ◌∙◌}
 use Rattle.std.specs.Prelude.{AllPairs}
-use Rattle.std.specs.Ordering.{is_lt}
 use Rattle.std.proofs.lemmas.List.{take_rest, drop-drop, length-drop}
 use Rattle.std.proofs.lemmas.List.Elements.{All-tail}
 use Rattle.frozen_plan.specs.declared.plan_row.PlanRow.{PlanRow}
@@ -10,8 +9,7 @@ use Rattle.frozen_plan.specs.Plan.{IsPlan}
 use Rattle.plain_ballots.specs.declared.ballot_line.BallotLine.{BallotLine}
 use Rattle.blt_writer.specs.Order.{StandsBefore}
 use Rattle.blt_writer.specs.Walk.{ends_at, lines_behind, lines_from, led_to, AreNodes, IsRest}
-use Rattle.blt_writer.specs.Merge.{IsHead, had, is_ahead, is_first, left}
-use Rattle.blt_writer.proofs.LineOrder.{order}
+use Rattle.blt_writer.specs.Merge.{had, is_first, left}
 use Rattle.blt_writer.proofs.WalkLemmas.{plan_is}
 use Rattle.blt_writer.proofs.WalkOrder.{root_first}
 

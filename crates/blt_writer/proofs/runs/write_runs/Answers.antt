@@ -7,8 +7,8 @@ use Rattle.blt_writer.specs.declared.entry.Entry.{Entry}
 use Rattle.blt_writer.specs.Packed.{ranking_at, line_of, entry_lines, IsEntry}
 use Rattle.blt_writer.specs.Text.{ballot_text}
 use Rattle.blt_writer.proofs.ListingLemmas.{IsListing, listing_begun, listing_handed, listing_more}
-use Rattle.blt_writer.proofs.ListingLemmas.{listing_stopped, listing_done, few_of_run, parted, count_of_run}
-use Rattle.blt_writer.proofs.ListingLemmas.{counted_lines}
+use Rattle.blt_writer.proofs.ListingLemmas.{listing_stopped, listing_done, few_of_run}
+use Rattle.blt_writer.proofs.RunLines.{parted, count_of_run, counted_lines}
 use Rattle.blt_writer.proofs.MergingLemmas.{line}
 use Rattle.blt_writer.proofs.runs.write_runs.Goals as goal
 
