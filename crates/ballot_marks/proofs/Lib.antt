@@ -6,3 +6,4 @@ mod SoFarLemmas
 mod DifferentLemmas
 mod CutLemmas
 mod PlainLemmas
+mod PlainRanks

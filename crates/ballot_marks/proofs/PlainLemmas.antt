@@ -20,11 +20,11 @@ use Rattle.ballot_marks.proofs.DifferentLemmas.{ranked_is}
 use Rattle.ballot_marks.proofs.JudgedLemmas.{with_way, judged-behind, judged_behind, effective-on}
 
 -- A mark that says one candidate, who was not said before, with no skipped rank.
-record IsPlainMark (before : List ℕ) (m : Mark) : Type 0 where
-  none_skipped : m.skipped ≡ 0
-  candidate : ℕ
-  one : m.says ≡ One candidate
-  new : is_among before candidate ≡ false
+pub record IsPlainMark (before : List ℕ) (m : Mark) : Type 0 where
+  pub none_skipped : m.skipped ≡ 0
+  pub candidate : ℕ
+  pub one : m.says ≡ One candidate
+  pub new : is_among before candidate ≡ false
 
 -- it is ranked under any treatment
 plain_is_ranked :
@@ -36,16 +36,16 @@ plain_is_ranked t before m plain =
     ∙ ap (λ (again : Bool). cond again (chosen t.repeated Repeated) Ranked) plain.new)
 
 -- all marks behind others are plain
-abbrev ArePlain : List Mark → List Mark → Type 0
+abbrev pub ArePlain : List Mark → List Mark → Type 0
 ArePlain before [] = Unit {0}
 ArePlain before (m ∷ ms) = IsPlainMark (said before) m × ArePlain (before ++ m ∷ []) ms
 
 -- Judged marks that are all ranked.
-record AreRanked (ms : List Mark) (js : List Judged) : Type 0 where
-  last : end_way js ≡ None
-  ranks : ranks_of (effective js) ≡ said ms
-  closed : some_closed (effective js) ≡ false
-  passed : some_passed (effective js) ≡ false
+pub record AreRanked (ms : List Mark) (js : List Judged) : Type 0 where
+  pub last : end_way js ≡ None
+  pub ranks : ranks_of (effective js) ≡ said ms
+  pub closed : some_closed (effective js) ≡ false
+  pub passed : some_passed (effective js) ≡ false
 
 one_more :
     (m : Mark) (c : ℕ) (ms : List Mark) (js : List Judged) → m.skipped ≡ 0 → m.says ≡ One c → AreRanked ms js
@@ -61,7 +61,7 @@ one_more m c ms js none one others =
       passed = ap some_passed on ∙ others.passed;
     }
 
-plain_are_ranked :
+pub plain_are_ranked :
     (t : Treatment) (before ms : List Mark) → ArePlain before ms → AreRanked ms (judged_behind t before ms)
 plain_are_ranked t before [] plain = record { last = refl; ranks = refl; closed = refl; passed = refl }
 plain_are_ranked t before (m ∷ ms) plain =

@@ -1,9 +1,9 @@
 -- What a treatment leaves of marks.
-use Rattle.std.specs.Prelude.{◌≡◌, ◌≢◌, ℕ, false, List, ◌++◌, length, AllPairs, All, Some, None}
+use Rattle.std.specs.Prelude.{◌≡◌, ◌≢◌, ℕ, false, List, ◌++◌, length, map, AllPairs, All, Some, None}
 use Rattle.ballot_marks.specs.declared.mark.Mark.{Mark}
 use Rattle.ballot_marks.specs.declared.choice.Treat.TheVariants.{Refuse, Cut}
 use Rattle.ballot_marks.specs.declared.treatment.Treatment.{Treatment}
-use Rattle.ballot_marks.specs.Marks.{said}
+use Rattle.ballot_marks.specs.Marks.{plain_mark, said}
 use Rattle.ballot_marks.specs.Ballot.{ranked, is_closed, is_passed, is_cut}
 
 -- whatever is not plain is refused
@@ -37,6 +37,12 @@ pub record IsWhole (marks : List Mark) (ranks : List ℕ) : Type 0 where
 abbrev pub RefusalLeavesTheWhole : Type 0
 RefusalLeavesTheWhole =
     (marks : List Mark) (ranks : List ℕ) → ranked strict marks ≡ Some ranks → IsWhole marks ranks
+
+-- plain marks of different candidates are ranked as they stand
+abbrev pub PlainMarksAreRanked : Type 0
+PlainMarksAreRanked =
+    (treatment : Treatment) (ranks : List ℕ) → AllPairs (λ a b. a ≢ b) ranks
+    → ranked treatment (map plain_mark ranks) ≡ Some ranks
 
 -- a ballot that ranks these, with no skipped rank closed, no mark passed and none cut
 pub record IsPlain (treatment : Treatment) (marks : List Mark) (ranks : List ℕ) : Type 0 where

@@ -22,3 +22,7 @@ is_among candidates c = list_any (λ d. d == c) candidates
 abbrev pub SaysOneOf : ℕ → Says → Type 0
 SaysOneOf n (One c) = (1 ≤ c) × (c ≤ n)
 SaysOneOf n Over = ⊤
+
+-- a mark that says this candidate, with no rank skipped before it
+abbrev pub plain_mark : ℕ → Mark
+plain_mark c = record { skipped = 0; says = One c }

@@ -6,3 +6,8 @@ mod WeightLemmas
 mod OrderLemmas
 mod RecordLemmas
 mod BehindLemmas
+mod SayingLemmas
+mod ChoiceRows
+mod ListRows
+mod HolderLemmas
+mod RankRows

@@ -7,4 +7,5 @@ pub mod Rows
 pub mod Table
 pub mod Refusals
 pub mod Laws
+pub mod Layouts
 pub mod Worked

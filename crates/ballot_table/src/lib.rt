@@ -12,7 +12,10 @@ mod worked;
 
 pub use column::Column;
 pub use empty::Empty;
-pub use laws::{fault_or_table, records_have_no_order, rows_have_no_order, tables_are_only_mended};
+pub use laws::{
+    fault_or_table, layouts_agree, records_have_no_order, rows_have_no_order,
+    tables_are_only_mended,
+};
 pub use layout::Layout;
 pub use table_kind::TableKind;
 pub use worked::worked_tables;
