@@ -1,14 +1,16 @@
 -- Pieces written one after another.
 use Rattle.std.proofs.Common.{◌≡◌, ◌∙◌, refl, sym, ap, subst, ℕ, ◌+◌, ◌<◌, ◌≤◌, List, [], ◌∷◌, ◌++◌, length}
 use Rattle.std.proofs.Common.{take, get_or, map, arith, append-nil}
-use Rattle.std.specs.Prelude.{Option, Result, Ok, Err}
+use Rattle.std.specs.Prelude.{Option, Result, Ok, Err, IsOk, IsErr}
 use Rattle.std.specs.List.{flat_map}
 use Rattle.std.proofs.lemmas.List.{take_more, take_all}
 use Rattle.std.proofs.lemmas.List.Concat.{flat_map-append}
 use Rattle.std.proofs.lemmas.List.FromFn.{map-range_with_len_more}
 use Rattle.std.proofs.lemmas.List.Folds.{flat_map-map}
+use Rattle.byte_edge.specs.declared.failed.Failed.{Failed}
 use Rattle.piece_text.specs.Writing.{Writes}
 use Rattle.piece_text.proofs.Written.{wrote_nothing, later as written_later, stops}
+use Rattle.sheet_page.specs.declared.pen.Pen.{Pen}
 use Rattle.sheet_page.specs.Prints.{Prints}
 use Rattle.sheet_page.specs.Values.{places}
 
@@ -31,81 +33,72 @@ items-more g xs i d below =
     ∙ flat_map-append g (take i xs) (get_or xs i d ∷ [])
     ∙ ap (λ (l : List ℕ). flat_map g (take i xs) ++ l) (append-nil (g (get_or xs i d)))
 
+-- behind bytes that were handed to the sink, what a pen writes
 behind :
-    {S T E : Type 0} (w : S → Option (List ℕ)) (f : S → ℕ) (a b c : S) (first second : List ℕ)
-    (q r : Result T E) → Writes w f a b first q → Prints w f q b r c second
-    → Writes w f a c (first ++ second) r
-behind w f a b c first second (Ok done) r wrote next = written_later c second r wrote (next.well done refl)
-behind {S} {T} {E} w f a b c first second (Err stop) r stopped next =
-    let kept = next.failed stop refl in
-    let here : Result T E = Err stop in
-    subst (λ (s : Result T E). Writes w f a c (first ++ second) s) (sym kept.1)
-    (subst (λ (s : S). Writes w f a s (first ++ second) here) (sym kept.0) (stops second here refl stopped))
+    {S : Type 0} (w : S → Option (List ℕ)) (f : S → ℕ) (a : S) (q r : Pen S) (first second : List ℕ)
+    (done : Result (Unit {0}) Failed) → q.done ≡ done → Writes w f a q.sink.now first done → Prints w f q r second
+    → Writes w f a r.sink.now (first ++ second) r.done
+behind w f a q r first second (Ok done) is wrote next =
+    written_later r.sink.now second r.done wrote (next.well (rw is refl))
+behind {S} w f a q r first second (Err stop) is stopped next =
+    subst (λ (p : Pen S). Writes w f a p.sink.now (first ++ second) p.done) (sym (next.failed (rw is refl)))
+    (subst (λ (s : Result (Unit {0}) Failed). Writes w f a q.sink.now (first ++ second) s) (sym is)
+    (stops {T = Unit {0}} second (Err stop) refl stopped))
 
 -- one piece of writing behind another
 pub later :
-    {S T E : Type 0} {w : S → Option (List ℕ)} {f : S → ℕ} {p q r : Result T E} {a b c : S}
-    {first second : List ℕ} → Prints w f p a q b first → Prints w f q b r c second
-    → Prints w f p a r c (first ++ second)
-later {w} {f} {p} {q} {r} {a} {b} {c} {first} {second} one next = record {
-  well = λ done is. behind w f a b c first second q r (one.well done is) next;
-  failed = λ stop is. (
-    (next.failed stop (one.failed stop is).1).0 ∙ (one.failed stop is).0,
-    (next.failed stop (one.failed stop is).1).1,
-  );
+    {S : Type 0} {w : S → Option (List ℕ)} {f : S → ℕ} {p q r : Pen S} {first second : List ℕ}
+    → Prints w f p q first → Prints w f q r second → Prints w f p r (first ++ second)
+later {S} {w} {f} {p} {q} {r} {first} {second} one next = record {
+  same_sink = next.same_sink ∙ one.same_sink;
+  well = λ ok. behind w f p.sink.now q r first second q.done refl (one.well ok) next;
+  failed = λ err. next.failed (subst (λ (s : Pen S). IsErr s.done) (sym (one.failed err)) err) ∙ one.failed err;
 }
 
-pub nothing : {S T E : Type 0} (w : S → Option (List ℕ)) (f : S → ℕ) (r : Result T E) (a : S) → Prints w f r a r a []
-nothing w f r a = record {
-  well = λ done is. subst (λ s. Writes w f a a [] s) (sym is) (wrote_nothing w f a);
-  failed = λ stop is. (refl, is);
-}
-
--- a piece that was written
-pub wrote :
-    {S T E : Type 0} {w : S → Option (List ℕ)} {f : S → ℕ} {p r : Result T E} {a b : S} {bytes : List ℕ}
-    (x : T) → p ≡ Ok x → Writes w f a b bytes r → Prints w f p a r b bytes
-wrote x is writes = record { well = λ done same. writes; failed = λ stop same. absurd (unlike is same) }
+pub nothing : {S : Type 0} (w : S → Option (List ℕ)) (f : S → ℕ) (p : Pen S) → Prints w f p p []
+nothing w f p = record { same_sink = refl; well = λ ok. none w f p.sink.now p.done ok; failed = λ err. refl }
   where
-    unlike : {T E : Type 0} {p : Result T E} {x : T} {stop : E} → p ≡ Ok x → p ≡ Err stop → ⊥
-    unlike one other = cc
+    none :
+        {S : Type 0} (w : S → Option (List ℕ)) (f : S → ℕ) (a : S) (done : Result (Unit {0}) Failed) → IsOk done
+        → Writes w f a a [] done
+    none w f a (Ok x) ok = wrote_nothing w f a
+    none w f a (Err e) ok = cc
 
--- nothing was done behind a failure
-pub skipped :
-    {S T E : Type 0} (w : S → Option (List ℕ)) (f : S → ℕ) {p : Result T E} (a : S) (bytes : List ℕ) (e : E)
-    → p ≡ Err e → Prints w f p a p a bytes
-skipped w f a bytes e is = record { well = λ done same. absurd (unlike same is); failed = λ stop same. (refl, same) }
-  where
-    unlike : {T E : Type 0} {p : Result T E} {x : T} {stop : E} → p ≡ Ok x → p ≡ Err stop → ⊥
-    unlike one other = cc
+-- what was handed to the sink, where the pen was new and all that it wrote is this
+pub ended :
+    {S : Type 0} {w : S → Option (List ℕ)} {f : S → ℕ} {p q : Pen S} {a c : S} {r : Result (Unit {0}) Failed}
+    {bytes : List ℕ} → p.sink.now ≡ a → p.done ≡ Ok (tt {0}) → Prints w f p q bytes → c ≡ q.sink.now → r ≡ q.done
+    → Writes w f a c bytes r
+ended {S} {w} {f} {p} {q} {a} {c} {r} {bytes} before well wrote after done =
+    subst (λ (s : S). Writes w f s c bytes r) before
+    (subst (λ (s : S). Writes w f p.sink.now s bytes r) (sym after)
+    (subst (λ (s : Result (Unit {0}) Failed). Writes w f p.sink.now q.sink.now bytes s) (sym done)
+    (wrote.well (rw well refl))))
 
 pub place_more :
-    {S T E : Type 0} {w : S → Option (List ℕ)} {f : S → ℕ} {p q r : Result T E} {a b c : S} (g : ℕ → List ℕ)
-    (n : ℕ) → Prints w f p a q b (flat_map g (places n)) → Prints w f q b r c (g n)
-    → Prints w f p a r c (flat_map g (places (n + 1)))
-place_more {w} {f} {p} {r} {a} {c} g n done next =
-    subst (λ (l : List ℕ). Prints w f p a r c l) (sym (places-more g n)) (later done next)
+    {S : Type 0} {w : S → Option (List ℕ)} {f : S → ℕ} {p q r : Pen S} (g : ℕ → List ℕ) (n : ℕ)
+    → Prints w f p q (flat_map g (places n)) → Prints w f q r (g n) → Prints w f p r (flat_map g (places (n + 1)))
+place_more {w} {f} {p} {r} g n done next =
+    subst (λ (l : List ℕ). Prints w f p r l) (sym (places-more g n)) (later done next)
 
 -- one item more, which is x
 pub item_more :
-    {S T E X : Type 0} {w : S → Option (List ℕ)} {f : S → ℕ} {p q r : Result T E} {a b c : S} (g : X → List ℕ)
+    {S X : Type 0} {w : S → Option (List ℕ)} {f : S → ℕ} {p q r : Pen S} (g : X → List ℕ)
     (xs : List X) (i : ℕ) (x : X) → x ≡ get_or xs i x → i < length xs
-    → Prints w f p a q b (flat_map g (take i xs)) → Prints w f q b r c (g x)
-    → Prints w f p a r c (flat_map g (take (i + 1) xs))
-item_more {w} {f} {p} {q} {r} {a} {b} {c} g xs i x is below done next =
-    let here = subst (λ y. Prints w f q b r c (g y)) is next in
-    subst (λ (l : List ℕ). Prints w f p a r c l) (sym (items-more g xs i x below)) (later done here)
+    → Prints w f p q (flat_map g (take i xs)) → Prints w f q r (g x) → Prints w f p r (flat_map g (take (i + 1) xs))
+item_more {w} {f} {p} {q} {r} g xs i x is below done next =
+    let here = subst (λ y. Prints w f q r (g y)) is next in
+    subst (λ (l : List ℕ). Prints w f p r l) (sym (items-more g xs i x below)) (later done here)
 
 -- all items
 pub items_all :
-    {S T E X : Type 0} {w : S → Option (List ℕ)} {f : S → ℕ} {p r : Result T E} {a c : S} (g : X → List ℕ)
-    (xs : List X) (i : ℕ) → length xs ≤ i → Prints w f p a r c (flat_map g (take i xs))
-    → Prints w f p a r c (flat_map g xs)
-items_all {X = X} {w} {f} {p} {r} {a} {c} g xs i past done =
-    subst (λ (l : List X). Prints w f p a r c (flat_map g l)) (take_all i xs past) done
+    {S X : Type 0} {w : S → Option (List ℕ)} {f : S → ℕ} {p r : Pen S} (g : X → List ℕ) (xs : List X) (i : ℕ)
+    → length xs ≤ i → Prints w f p r (flat_map g (take i xs)) → Prints w f p r (flat_map g xs)
+items_all {X = X} {w} {f} {p} {r} g xs i past done =
+    subst (λ (l : List X). Prints w f p r (flat_map g l)) (take_all i xs past) done
 
 -- the same bytes by another name
 pub renamed :
-    {S T E : Type 0} {w : S → Option (List ℕ)} {f : S → ℕ} {p r : Result T E} {a c : S}
-    {bytes others : List ℕ} → bytes ≡ others → Prints w f p a r c bytes → Prints w f p a r c others
-renamed {w} {f} {p} {r} {a} {c} same done = subst (λ (l : List ℕ). Prints w f p a r c l) same done
+    {S : Type 0} {w : S → Option (List ℕ)} {f : S → ℕ} {p r : Pen S} {bytes others : List ℕ}
+    → bytes ≡ others → Prints w f p r bytes → Prints w f p r others
+renamed {w} {f} {p} {r} same done = subst (λ (l : List ℕ). Prints w f p r l) same done

@@ -148,11 +148,8 @@ body v = el (codes "body") [] (heading v ∷ elected_part v ∷ rounds_part v �
 abbrev pub window_title : List ℕ → Trees
 window_title text = el (codes "title") [] (words text ∷ [])
 
-abbrev pub style_of : List ℕ → Trees
-style_of text = el (codes "style") [] (words text ∷ [])
-
 abbrev pub style_part : Trees
-style_part = style_of style
+style_part = el (codes "style") [] (words style ∷ [])
 
 abbrev pub head : SheetList → Trees
 head v =

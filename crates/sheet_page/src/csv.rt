@@ -23,16 +23,17 @@ pub(crate) fn write_csv<K: Sink>(values: &SheetValues, sink: &mut K) -> Result<(
     requires { IsPrintable 9 values.now }
     ensures { Writes K.written K.faults sink.old sink.new (csv_of values.now) result }
 {
-    let mut pen = Pen::new();
-    write_head(&mut pen, sink);
+    let mut pen = Pen::new(sink);
+    write_head(&mut pen);
     for row in values.rows.items() {
-        write_row(&mut pen, values, row, sink);
+        write_row(&mut pen, values, row);
     }
     pen.end()
 }
 
-fn write_head<K: Sink>(pen: &mut Pen, sink: &mut K)
-    ensures { Prints K.written K.faults pen.old.done sink.old pen.new.done sink.new (record_text csv_head) }
+/// The names of the columns.
+fn write_head<K: Sink>(pen: &mut Pen<'_, K>)
+    ensures { Prints K.written K.faults pen.old pen.new (record_text csv_head) }
 {
     pen.record(
         &Cell::Bytes(b"round"),
@@ -53,31 +54,29 @@ fn write_head<K: Sink>(pen: &mut Pen, sink: &mut K)
             Cell::Bytes(b"surplus"),
             Cell::Bytes(b"step"),
         ],
-        sink,
     );
 }
 
 /// The candidates of an iteration.
-fn write_row<K: Sink>(pen: &mut Pen, values: &SheetValues, row: &Row<9>, sink: &mut K)
+fn write_row<K: Sink>(pen: &mut Pen<'_, K>, values: &SheetValues, row: &Row<9>)
     requires room { HasRoomFor (length values.now.names) row.now }
     requires outcomes { length values.now.last ≡ length values.now.names }
     requires few { length values.now.names ≤ MOST_CANDIDATES }
-    ensures { Prints K.written K.faults pen.old.done sink.old pen.new.done sink.new
+    ensures { Prints K.written K.faults pen.old pen.new
         (flat_map (λ p. record_text (csv_record values.now row.now p)) (places (length values.now.names))) }
 {
     for p in 0..values.names.len() {
-        write_line(pen, values, row, p, sink);
+        write_line(pen, values, row, p);
     }
 }
 
 /// The candidate at a place in an iteration.
-fn write_line<K: Sink>(pen: &mut Pen, values: &SheetValues, row: &Row<9>, p: usize, sink: &mut K)
+fn write_line<K: Sink>(pen: &mut Pen<'_, K>, values: &SheetValues, row: &Row<9>, p: usize)
     requires room { HasRoomFor (length values.now.names) row.now }
     requires outcomes { length values.now.last ≡ length values.now.names }
     requires few { length values.now.names ≤ MOST_CANDIDATES }
     requires place { p < length values.now.names }
-    ensures { Prints K.written K.faults pen.old.done sink.old pen.new.done sink.new
-        (record_text (csv_record values.now row.now p)) }
+    ensures { Prints K.written K.faults pen.old pen.new (record_text (csv_record values.now row.now p)) }
 {
     let name = values.names.get(p).bytes();
     let outcome = state_word(*values.last.get(p));
@@ -106,10 +105,10 @@ fn write_line<K: Sink>(pen: &mut Pen, values: &SheetValues, row: &Row<9>, p: usi
             Cell::Amount(row.surplus),
             Cell::Bytes(step_word(row.step)),
         ],
-        sink,
     );
 }
 
+/// A mark as a spreadsheet shows it.
 fn yes_or_no(mark: bool) -> &'static [u8]
     ensures { result.now ≡ yes_or_no mark }
 {

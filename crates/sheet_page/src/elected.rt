@@ -18,134 +18,117 @@ use candidate_roll::State;
 use meek_rule::Row;
 use sheet_reader::SheetValues;
 
-pub(crate) fn write_elected<K: Sink>(pen: &mut Pen, values: &SheetValues, sink: &mut K)
+/// The part of a page that lists who is elected.
+pub(crate) fn write_elected<K: Sink>(pen: &mut Pen<'_, K>, values: &SheetValues)
     requires printable { IsPrintable 9 values.now }
-    ensures { Prints K.written K.faults pen.old.done sink.old pen.new.done sink.new
-        (printed (elected_part values.now)) }
+    ensures { Prints K.written K.faults pen.old pen.new (printed (elected_part values.now)) }
 {
-    pen.open(b"section", sink);
-    write_title(pen, sink);
-    write_list(pen, values, sink);
-    pen.close(b"section", sink);
+    pen.open(b"section");
+    write_title(pen);
+    write_list(pen, values);
+    pen.close(b"section");
 }
 
-fn write_title<K: Sink>(pen: &mut Pen, sink: &mut K)
-    ensures { Prints K.written K.faults pen.old.done sink.old pen.new.done sink.new
-        (printed (elected_title)) }
+fn write_title<K: Sink>(pen: &mut Pen<'_, K>)
+    ensures { Prints K.written K.faults pen.old pen.new (printed elected_title) }
 {
-    pen.write(
-        &[
-            Piece::Start(b"h2"),
-            Piece::Text(Cell::Bytes(b"Elected")),
-            Piece::End(b"h2"),
-        ],
-        sink,
-    );
+    pen.write(&[
+        Piece::Start(b"h2"),
+        Piece::Text(Cell::Bytes(b"Elected")),
+        Piece::End(b"h2"),
+    ]);
 }
 
-fn write_list<K: Sink>(pen: &mut Pen, values: &SheetValues, sink: &mut K)
+/// All who are elected, each once.
+fn write_list<K: Sink>(pen: &mut Pen<'_, K>, values: &SheetValues)
     requires printable { IsPrintable 9 values.now }
-    ensures { Prints K.written K.faults pen.old.done sink.old pen.new.done sink.new
-        (printed (elected_list values.now)) }
+    ensures { Prints K.written K.faults pen.old pen.new (printed (elected_list values.now)) }
 {
-    pen.open(b"ol", sink);
-    write_elected_rows(pen, values, sink);
-    write_seated(pen, values, sink);
-    pen.close(b"ol", sink);
+    pen.open(b"ol");
+    write_elected_rows(pen, values);
+    write_seated(pen, values);
+    pen.close(b"ol");
 }
 
 /// Who was elected in the iterations, one after another.
-fn write_elected_rows<K: Sink>(pen: &mut Pen, values: &SheetValues, sink: &mut K)
+fn write_elected_rows<K: Sink>(pen: &mut Pen<'_, K>, values: &SheetValues)
     requires printable { IsPrintable 9 values.now }
-    ensures { Prints K.written K.faults pen.old.done sink.old pen.new.done sink.new
-        (print_each (elected_in values.now) values.now.rows) }
+    ensures { Prints K.written K.faults pen.old pen.new (print_each (elected_in values.now) values.now.rows) }
 {
     for row in values.rows.items() {
-        write_elected_in(pen, values, row, sink);
+        write_elected_in(pen, values, row);
     }
 }
 
-fn write_elected_in<K: Sink>(pen: &mut Pen, values: &SheetValues, row: &Row<9>, sink: &mut K)
+/// Whom an iteration elected, by rising numbers.
+fn write_elected_in<K: Sink>(pen: &mut Pen<'_, K>, values: &SheetValues, row: &Row<9>)
     requires room { HasRoomFor (length values.now.names) row.now }
     requires few { length values.now.names ≤ MOST_CANDIDATES }
-    ensures { Prints K.written K.faults pen.old.done sink.old pen.new.done sink.new
+    ensures { Prints K.written K.faults pen.old pen.new
         (print_each (elected_item values.now row.now) (places (length values.now.names))) }
 {
     for p in 0..values.names.len() {
-        write_elected_item(pen, values, row, p, sink);
+        write_elected_item(pen, values, row, p);
     }
 }
 
 /// A candidate, if the iteration elected it.
-fn write_elected_item<K: Sink>(
-    pen: &mut Pen,
-    values: &SheetValues,
-    row: &Row<9>,
-    p: usize,
-    sink: &mut K,
-)
+fn write_elected_item<K: Sink>(pen: &mut Pen<'_, K>, values: &SheetValues, row: &Row<9>, p: usize)
     requires room { HasRoomFor (length values.now.names) row.now }
     requires few { length values.now.names ≤ MOST_CANDIDATES }
     requires place { p < length values.now.names }
-    ensures { Prints K.written K.faults pen.old.done sink.old pen.new.done sink.new
-        (printed (elected_item values.now row.now p)) }
+    ensures { Prints K.written K.faults pen.old pen.new (printed (elected_item values.now row.now p)) }
 {
     if *row.elected.get(p) {
-        write_in_round(pen, values.names.get(p).bytes(), row.round, sink);
+        write_in_round(pen, values.names.get(p).bytes(), row.round);
     }
 }
 
-fn write_in_round<K: Sink>(pen: &mut Pen, name: &[u8], round: u32, sink: &mut K)
-    ensures { Prints K.written K.faults pen.old.done sink.old pen.new.done sink.new
-        (printed (in_round name.now round)) }
+/// Somebody whom an iteration elected.
+fn write_in_round<K: Sink>(pen: &mut Pen<'_, K>, name: &[u8], round: u32)
+    ensures { Prints K.written K.faults pen.old pen.new (printed (in_round name.now round)) }
 {
-    pen.write(
-        &[
-            Piece::Start(b"li"),
-            Piece::Text(Cell::Bytes(name)),
-            Piece::Text(Cell::Bytes(b": elected in round ")),
-            Piece::Text(Cell::Count(round as u64)),
-            Piece::End(b"li"),
-        ],
-        sink,
-    );
+    pen.write(&[
+        Piece::Start(b"li"),
+        Piece::Text(Cell::Bytes(name)),
+        Piece::Text(Cell::Bytes(b": elected in round ")),
+        Piece::Text(Cell::Count(round as u64)),
+        Piece::End(b"li"),
+    ]);
 }
 
 /// Who is elected in the end, and was in no iteration.
-fn write_seated<K: Sink>(pen: &mut Pen, values: &SheetValues, sink: &mut K)
+fn write_seated<K: Sink>(pen: &mut Pen<'_, K>, values: &SheetValues)
     requires printable { IsPrintable 9 values.now }
-    ensures { Prints K.written K.faults pen.old.done sink.old pen.new.done sink.new
+    ensures { Prints K.written K.faults pen.old pen.new
         (print_each (seated_item values.now) (places (length values.now.names))) }
 {
     for p in 0..values.names.len() {
-        write_seated_item(pen, values, p, sink);
+        write_seated_item(pen, values, p);
     }
 }
 
-fn write_seated_item<K: Sink>(pen: &mut Pen, values: &SheetValues, p: usize, sink: &mut K)
+/// A candidate, if it is elected in the end and was in no iteration.
+fn write_seated_item<K: Sink>(pen: &mut Pen<'_, K>, values: &SheetValues, p: usize)
     requires printable { IsPrintable 9 values.now }
     requires place { p < length values.now.names }
-    ensures { Prints K.written K.faults pen.old.done sink.old pen.new.done sink.new
-        (printed (seated_item values.now p)) }
+    ensures { Prints K.written K.faults pen.old pen.new (printed (seated_item values.now p)) }
 {
     if is_seated(values, p) {
-        write_at_end(pen, values.names.get(p).bytes(), sink);
+        write_at_end(pen, values.names.get(p).bytes());
     }
 }
 
-fn write_at_end<K: Sink>(pen: &mut Pen, name: &[u8], sink: &mut K)
-    ensures { Prints K.written K.faults pen.old.done sink.old pen.new.done sink.new
-        (printed (at_end name.now)) }
+/// Somebody who is elected to a seat that was left.
+fn write_at_end<K: Sink>(pen: &mut Pen<'_, K>, name: &[u8])
+    ensures { Prints K.written K.faults pen.old pen.new (printed (at_end name.now)) }
 {
-    pen.write(
-        &[
-            Piece::Start(b"li"),
-            Piece::Text(Cell::Bytes(name)),
-            Piece::Text(Cell::Bytes(b": elected at the end, to a seat that was left")),
-            Piece::End(b"li"),
-        ],
-        sink,
-    );
+    pen.write(&[
+        Piece::Start(b"li"),
+        Piece::Text(Cell::Bytes(name)),
+        Piece::Text(Cell::Bytes(b": elected at the end, to a seat that was left")),
+        Piece::End(b"li"),
+    ]);
 }
 
 /// Whether the candidate at a place is elected in the end, and was in no iteration.

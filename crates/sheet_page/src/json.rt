@@ -22,191 +22,179 @@ pub(crate) fn write_json<K: Sink>(values: &SheetValues, sink: &mut K) -> Result<
     requires { IsPrintable 9 values.now }
     ensures { Writes K.written K.faults sink.old sink.new (json_of values.now) result }
 {
-    let mut pen = Pen::new();
-    write_head(&mut pen, values, sink);
-    write_candidates(&mut pen, values, sink);
-    pen.piece(&Piece::Raw(b"],\"iterations\":["), sink);
-    write_iterations(&mut pen, values, sink);
-    pen.piece(&Piece::Raw(b"]}\n"), sink);
+    let mut pen = Pen::new(sink);
+    write_head(&mut pen, values);
+    write_candidates(&mut pen, values);
+    pen.piece(&Piece::Raw(b"],\"iterations\":["));
+    write_iterations(&mut pen, values);
+    pen.piece(&Piece::Raw(b"]}\n"));
     pen.end()
 }
 
-fn write_head<K: Sink>(pen: &mut Pen, values: &SheetValues, sink: &mut K)
-    ensures { Prints K.written K.faults pen.old.done sink.old pen.new.done sink.new (head_json values.now) }
+/// Title and numbers, up to the list of candidates.
+fn write_head<K: Sink>(pen: &mut Pen<'_, K>, values: &SheetValues)
+    ensures { Prints K.written K.faults pen.old pen.new (head_json values.now) }
 {
-    pen.write(
-        &[
-            Piece::Raw(b"{\"title\":"),
-            Piece::Quoted(Cell::Bytes(values.title.bytes())),
-            Piece::Raw(b",\"seats\":"),
-            Piece::Number(values.seats as u64),
-            Piece::Raw(b",\"ballots\":"),
-            Piece::Number(values.ballots),
-            Piece::Raw(b",\"candidates\":["),
-        ],
-        sink,
-    );
+    pen.write(&[
+        Piece::Raw(b"{\"title\":"),
+        Piece::Quoted(Cell::Bytes(values.title.bytes())),
+        Piece::Raw(b",\"seats\":"),
+        Piece::Number(values.seats as u64),
+        Piece::Raw(b",\"ballots\":"),
+        Piece::Number(values.ballots),
+        Piece::Raw(b",\"candidates\":["),
+    ]);
 }
 
-fn write_candidates<K: Sink>(pen: &mut Pen, values: &SheetValues, sink: &mut K)
+/// All candidates of the roll, with what became of them.
+fn write_candidates<K: Sink>(pen: &mut Pen<'_, K>, values: &SheetValues)
     requires outcomes { length values.now.last ≡ length values.now.names }
     requires few { length values.now.names ≤ MOST_CANDIDATES }
-    ensures { Prints K.written K.faults pen.old.done sink.old pen.new.done sink.new
+    ensures { Prints K.written K.faults pen.old pen.new
         (flat_map (candidate_json values.now) (places (length values.now.names))) }
 {
     for p in 0..values.names.len() {
-        write_candidate(pen, values, p, sink);
+        write_candidate(pen, values, p);
     }
 }
 
 /// The candidate at a place, and what became of it.
-fn write_candidate<K: Sink>(pen: &mut Pen, values: &SheetValues, p: usize, sink: &mut K)
+fn write_candidate<K: Sink>(pen: &mut Pen<'_, K>, values: &SheetValues, p: usize)
     requires outcomes { length values.now.last ≡ length values.now.names }
     requires few { length values.now.names ≤ MOST_CANDIDATES }
     requires place { p < length values.now.names }
-    ensures { Prints K.written K.faults pen.old.done sink.old pen.new.done sink.new (candidate_json values.now p) }
+    ensures { Prints K.written K.faults pen.old pen.new (candidate_json values.now p) }
 {
     let name = values.names.get(p).bytes();
     let outcome = state_word(*values.last.get(p));
-    pen.write(
-        &[
-            Piece::Raw(comma_at(p)),
-            Piece::Raw(b"{\"number\":"),
-            Piece::Number(p as u64 + 1),
-            Piece::Raw(b",\"name\":"),
-            Piece::Quoted(Cell::Bytes(name)),
-            Piece::Raw(b",\"outcome\":"),
-            Piece::Quoted(Cell::Bytes(outcome)),
-            Piece::Raw(b"}"),
-        ],
-        sink,
-    );
+    pen.write(&[
+        Piece::Raw(comma_at(p)),
+        Piece::Raw(b"{\"number\":"),
+        Piece::Number(p as u64 + 1),
+        Piece::Raw(b",\"name\":"),
+        Piece::Quoted(Cell::Bytes(name)),
+        Piece::Raw(b",\"outcome\":"),
+        Piece::Quoted(Cell::Bytes(outcome)),
+        Piece::Raw(b"}"),
+    ]);
 }
 
-fn write_iterations<K: Sink>(pen: &mut Pen, values: &SheetValues, sink: &mut K)
+fn write_iterations<K: Sink>(pen: &mut Pen<'_, K>, values: &SheetValues)
     requires { IsPrintable 9 values.now }
-    ensures { Prints K.written K.faults pen.old.done sink.old pen.new.done sink.new
+    ensures { Prints K.written K.faults pen.old pen.new
         (flat_map (iteration_at values.now) (places (length values.now.rows))) }
 {
     for i in 0..values.rows.len() {
-        write_iteration(pen, i, values.rows.get(i), sink);
+        write_iteration(pen, i, values.rows.get(i));
     }
 }
 
-fn write_iteration<K: Sink>(pen: &mut Pen, i: usize, row: &Row<9>, sink: &mut K)
+/// An iteration, behind a comma if it isn't the first.
+fn write_iteration<K: Sink>(pen: &mut Pen<'_, K>, i: usize, row: &Row<9>)
     requires room { HasRoomFor (length row.now.states) row.now }
     requires few { length row.now.states ≤ MOST_CANDIDATES }
-    ensures { Prints K.written K.faults pen.old.done sink.old pen.new.done sink.new (iteration_json i row.now) }
+    ensures { Prints K.written K.faults pen.old pen.new (iteration_json i row.now) }
 {
-    write_amounts(pen, i, row, sink);
-    write_standings(pen, row, sink);
-    pen.piece(&Piece::Raw(b"]}"), sink);
+    write_amounts(pen, i, row);
+    write_standings(pen, row);
+    pen.piece(&Piece::Raw(b"]}"));
 }
 
-fn write_amounts<K: Sink>(pen: &mut Pen, i: usize, row: &Row<9>, sink: &mut K)
-    ensures { Prints K.written K.faults pen.old.done sink.old pen.new.done sink.new (amounts_json i row.now) }
+/// Numbers, amounts and step of an iteration, up to its list of candidates.
+fn write_amounts<K: Sink>(pen: &mut Pen<'_, K>, i: usize, row: &Row<9>)
+    ensures { Prints K.written K.faults pen.old pen.new (amounts_json i row.now) }
 {
-    pen.write(
-        &[
-            Piece::Raw(comma_at(i)),
-            Piece::Raw(b"{\"round\":"),
-            Piece::Number(row.round as u64),
-            Piece::Raw(b",\"iteration\":"),
-            Piece::Number(row.iteration),
-            Piece::Raw(b",\"total\":"),
-            Piece::Quoted(Cell::Amount(row.total)),
-            Piece::Raw(b",\"quota\":"),
-            Piece::Quoted(Cell::Amount(row.quota)),
-            Piece::Raw(b",\"surplus\":"),
-            Piece::Quoted(Cell::Amount(row.surplus)),
-            Piece::Raw(b",\"step\":"),
-            Piece::Quoted(Cell::Bytes(step_word(row.step))),
-            Piece::Raw(b",\"candidates\":["),
-        ],
-        sink,
-    );
+    pen.write(&[
+        Piece::Raw(comma_at(i)),
+        Piece::Raw(b"{\"round\":"),
+        Piece::Number(row.round as u64),
+        Piece::Raw(b",\"iteration\":"),
+        Piece::Number(row.iteration),
+        Piece::Raw(b",\"total\":"),
+        Piece::Quoted(Cell::Amount(row.total)),
+        Piece::Raw(b",\"quota\":"),
+        Piece::Quoted(Cell::Amount(row.quota)),
+        Piece::Raw(b",\"surplus\":"),
+        Piece::Quoted(Cell::Amount(row.surplus)),
+        Piece::Raw(b",\"step\":"),
+        Piece::Quoted(Cell::Bytes(step_word(row.step))),
+        Piece::Raw(b",\"candidates\":["),
+    ]);
 }
 
-fn write_standings<K: Sink>(pen: &mut Pen, row: &Row<9>, sink: &mut K)
+/// All candidates in an iteration.
+fn write_standings<K: Sink>(pen: &mut Pen<'_, K>, row: &Row<9>)
     requires room { HasRoomFor (length row.now.states) row.now }
     requires few { length row.now.states ≤ MOST_CANDIDATES }
-    ensures { Prints K.written K.faults pen.old.done sink.old pen.new.done sink.new
+    ensures { Prints K.written K.faults pen.old pen.new
         (flat_map (standing_json row.now) (places (length row.now.states))) }
 {
     for p in 0..row.states.len() {
-        write_standing(pen, row, p, sink);
+        write_standing(pen, row, p);
     }
 }
 
 /// The candidate at a place in an iteration.
-fn write_standing<K: Sink>(pen: &mut Pen, row: &Row<9>, p: usize, sink: &mut K)
+fn write_standing<K: Sink>(pen: &mut Pen<'_, K>, row: &Row<9>, p: usize)
     requires room { HasRoomFor (length row.now.states) row.now }
     requires few { length row.now.states ≤ MOST_CANDIDATES }
     requires place { p < length row.now.states }
-    ensures { Prints K.written K.faults pen.old.done sink.old pen.new.done sink.new (standing_json row.now p) }
+    ensures { Prints K.written K.faults pen.old pen.new (standing_json row.now p) }
 {
-    write_vote(pen, row, p, sink);
+    write_vote(pen, row, p);
     let elected = truth(*row.elected.get(p));
     let capped = truth(*row.capped.get(p));
-    write_won(pen, elected, capped, sink);
+    write_won(pen, elected, capped);
     let tied = truth(*row.tied.get(p));
     let defeated = truth(defeats(row.step, p as u32 + 1));
-    write_lost(pen, tied, defeated, sink);
+    write_lost(pen, tied, defeated);
 }
 
-fn write_vote<K: Sink>(pen: &mut Pen, row: &Row<9>, p: usize, sink: &mut K)
+/// Number, state, keep value and vote, up to the marks.
+fn write_vote<K: Sink>(pen: &mut Pen<'_, K>, row: &Row<9>, p: usize)
     requires room { HasRoomFor (length row.now.states) row.now }
     requires place { p < length row.now.states }
     requires few { length row.now.states ≤ MOST_CANDIDATES }
-    ensures { Prints K.written K.faults pen.old.done sink.old pen.new.done sink.new (vote_json row.now p) }
+    ensures { Prints K.written K.faults pen.old pen.new (vote_json row.now p) }
 {
     let state = state_word(*row.states.get(p));
     let keep = kept_of_one(*row.keeps.get(p));
-    pen.write(
-        &[
-            Piece::Raw(comma_at(p)),
-            Piece::Raw(b"{\"number\":"),
-            Piece::Number(p as u64 + 1),
-            Piece::Raw(b",\"state\":"),
-            Piece::Quoted(Cell::Bytes(state)),
-            Piece::Raw(b",\"keep\":"),
-            Piece::Quoted(Cell::Amount(keep)),
-            Piece::Raw(b",\"vote\":"),
-            Piece::Quoted(Cell::Amount(*row.votes.get(p))),
-        ],
-        sink,
-    );
+    pen.write(&[
+        Piece::Raw(comma_at(p)),
+        Piece::Raw(b"{\"number\":"),
+        Piece::Number(p as u64 + 1),
+        Piece::Raw(b",\"state\":"),
+        Piece::Quoted(Cell::Bytes(state)),
+        Piece::Raw(b",\"keep\":"),
+        Piece::Quoted(Cell::Amount(keep)),
+        Piece::Raw(b",\"vote\":"),
+        Piece::Quoted(Cell::Amount(*row.votes.get(p))),
+    ]);
 }
 
-fn write_won<'x, K: Sink>(pen: &mut Pen, elected: &'x [u8], capped: &'x [u8], sink: &mut K)
-    ensures { Prints K.written K.faults pen.old.done sink.old pen.new.done sink.new
-        (won_json elected.now capped.now) }
+/// The marks of who is elected and whose keep value is capped.
+fn write_won<'x, K: Sink>(pen: &mut Pen<'_, K>, elected: &'x [u8], capped: &'x [u8])
+    ensures { Prints K.written K.faults pen.old pen.new (won_json elected.now capped.now) }
 {
-    pen.write(
-        &[
-            Piece::Raw(b",\"elected\":"),
-            Piece::Raw(elected),
-            Piece::Raw(b",\"capped\":"),
-            Piece::Raw(capped),
-        ],
-        sink,
-    );
+    pen.write(&[
+        Piece::Raw(b",\"elected\":"),
+        Piece::Raw(elected),
+        Piece::Raw(b",\"capped\":"),
+        Piece::Raw(capped),
+    ]);
 }
 
-fn write_lost<'x, K: Sink>(pen: &mut Pen, tied: &'x [u8], defeated: &'x [u8], sink: &mut K)
-    ensures { Prints K.written K.faults pen.old.done sink.old pen.new.done sink.new
-        (lost_json tied.now defeated.now) }
+/// The marks of who is tied and who is defeated.
+fn write_lost<'x, K: Sink>(pen: &mut Pen<'_, K>, tied: &'x [u8], defeated: &'x [u8])
+    ensures { Prints K.written K.faults pen.old pen.new (lost_json tied.now defeated.now) }
 {
-    pen.write(
-        &[
-            Piece::Raw(b",\"tied\":"),
-            Piece::Raw(tied),
-            Piece::Raw(b",\"defeated\":"),
-            Piece::Raw(defeated),
-            Piece::Raw(b"}"),
-        ],
-        sink,
-    );
+    pen.write(&[
+        Piece::Raw(b",\"tied\":"),
+        Piece::Raw(tied),
+        Piece::Raw(b",\"defeated\":"),
+        Piece::Raw(defeated),
+        Piece::Raw(b"}"),
+    ]);
 }
 
 /// What stands before the item at a place of a list.

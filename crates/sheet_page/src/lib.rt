@@ -5,6 +5,7 @@
 //! written is a function of these values. What is no sheet is refused with a `SheetFault` of sheet_input.
 #![tactic(auto)]
 
+mod bars;
 mod cell;
 mod csv;
 mod elected;
@@ -20,8 +21,10 @@ mod piece;
 mod round_parts;
 mod rounds;
 mod stretches;
+mod style;
 mod tool;
 mod values;
+mod widths;
 mod words;
 mod worked;
 

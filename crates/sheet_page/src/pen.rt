@@ -18,96 +18,98 @@ use csv_text::write_field;
 use page_tree::{Attribute, write_end, write_start, write_text};
 use piece_text::write_bytes;
 
-/// Writes pieces one after another, up to the first failure: behind it nothing more is written.
+/// Writes pieces to a sink one after another, up to the first failure: behind it nothing more is written.
 #[derive(Drop)]
-pub(crate) struct Pen {
+pub(crate) struct Pen<'s, K> {
+    sink: &'s mut K,
     done: Result<(), Failed>,
 }
 
-impl Pen {
-    pub(crate) fn new() -> Pen
-        ensures { result.done ≡ Ok (tt {0}) }
+impl<'s, K: Sink> Pen<'s, K> {
+    /// A pen at a sink, with nothing written yet.
+    pub(crate) fn new(sink: &'s mut K) -> Pen<'s, K>
+        ensures same_sink { result.sink.ghost_name ≡ sink.entry.ghost_name }
+        ensures before { result.sink.now ≡ sink.old }
+        ensures well { result.done ≡ Ok (tt {0}) }
     {
-        Pen { done: Ok(()) }
+        Pen { sink, done: Ok(()) }
     }
 
-    /// Whether all was written.
+    /// Whether all was written. The sink is as the pen left it.
     pub(crate) fn end(self) -> Result<(), Failed>
-        ensures { result ≡ self.done }
+        ensures left { self.exit.0.now ≡ self.entry.sink.now }
+        ensures done { result ≡ self.entry.done }
     {
         self.done
     }
 
     /// Writes some pieces.
-    pub(crate) fn write<K: Sink>(&mut self, pieces: &[Piece<'_>], sink: &mut K)
-        ensures { Prints K.written K.faults self.old.done sink.old self.new.done sink.new
-            (flat_map piece_text pieces.now) }
+    pub(crate) fn write(&mut self, pieces: &[Piece<'_>])
+        ensures { Prints K.written K.faults self.old self.new (flat_map piece_text pieces.now) }
     {
         for piece in pieces {
-            self.piece(piece, sink);
+            self.piece(piece);
         }
     }
 
     /// Writes a piece, if all before it was written.
-    pub(crate) fn piece<K: Sink>(&mut self, piece: &Piece<'_>, sink: &mut K)
-        ensures { Prints K.written K.faults self.old.done sink.old self.new.done sink.new (piece_text piece.now) }
+    pub(crate) fn piece(&mut self, piece: &Piece<'_>)
+        ensures { Prints K.written K.faults self.old self.new (piece_text piece.now) }
     {
         if let Ok(()) = self.done {
-            self.done = write_piece(piece, sink);
+            self.done = write_piece(piece, self.sink);
         }
     }
 
     /// Writes the start of an element with attributes.
-    pub(crate) fn start<K: Sink>(&mut self, name: &[u8], attributes: &[Attribute<'_>], sink: &mut K)
-        ensures { Prints K.written K.faults self.old.done sink.old self.new.done sink.new
-            (opening name.now (given attributes.now)) }
+    pub(crate) fn start(&mut self, name: &[u8], attributes: &[Attribute<'_>])
+        ensures { Prints K.written K.faults self.old self.new (opening name.now (given attributes.now)) }
     {
         if let Ok(()) = self.done {
-            self.done = write_start(name, attributes, sink);
+            self.done = write_start(name, attributes, self.sink);
         }
     }
 
     /// Writes the start of an element without attributes.
-    pub(crate) fn open<K: Sink>(&mut self, name: &[u8], sink: &mut K)
-        ensures { Prints K.written K.faults self.old.done sink.old self.new.done sink.new
-            (opening name.now []) }
+    pub(crate) fn open(&mut self, name: &[u8])
+        ensures { Prints K.written K.faults self.old self.new (opening name.now []) }
     {
-        self.start(name, &[], sink);
+        self.start(name, &[]);
     }
 
     /// Writes the end of an element.
-    pub(crate) fn close<K: Sink>(&mut self, name: &[u8], sink: &mut K)
-        ensures { Prints K.written K.faults self.old.done sink.old self.new.done sink.new (closing name.now) }
+    pub(crate) fn close(&mut self, name: &[u8])
+        ensures { Prints K.written K.faults self.old self.new (closing name.now) }
     {
-        self.piece(&Piece::End(name), sink);
+        self.piece(&Piece::End(name));
     }
 
     /// Writes a record of a spreadsheet, which has at least one field.
-    pub(crate) fn record<K: Sink>(&mut self, first: &Cell<'_>, others: &[Cell<'_>], sink: &mut K)
-        ensures { Prints K.written K.faults self.old.done sink.old self.new.done sink.new
+    pub(crate) fn record(&mut self, first: &Cell<'_>, others: &[Cell<'_>])
+        ensures { Prints K.written K.faults self.old self.new
             (record_text (map cell_text (first.now ∷ others.now))) }
     {
-        self.field(first, sink);
+        self.field(first);
         for other in others {
-            self.behind_comma(other, sink);
+            self.behind_comma(other);
         }
-        self.piece(&Piece::Raw(b"\r\n"), sink);
+        self.piece(&Piece::Raw(b"\r\n"));
     }
 
-    fn behind_comma<K: Sink>(&mut self, cell: &Cell<'_>, sink: &mut K)
-        ensures { Prints K.written K.faults self.old.done sink.old self.new.done sink.new
-            (behind_comma (cell_text cell.now)) }
+    /// Writes a further field of a record.
+    fn behind_comma(&mut self, cell: &Cell<'_>)
+        ensures { Prints K.written K.faults self.old self.new (behind_comma (cell_text cell.now)) }
     {
-        self.piece(&Piece::Raw(b","), sink);
-        self.field(cell, sink);
+        self.piece(&Piece::Raw(b","));
+        self.field(cell);
     }
 
-    fn field<K: Sink>(&mut self, cell: &Cell<'_>, sink: &mut K)
-        ensures { Prints K.written K.faults self.old.done sink.old self.new.done sink.new
-            (field_text (cell_text cell.now)) }
+    /// Writes a field of a record.
+    fn field(&mut self, cell: &Cell<'_>)
+        ensures { Prints K.written K.faults self.old self.new (field_text (cell_text cell.now)) }
     {
         if let Ok(()) = self.done {
-            self.done = write_cell_field(cell, sink);
+            self.done = write_cell_field(cell, self.sink);
         }
     }
 }
@@ -128,6 +130,7 @@ fn write_piece<K: Sink>(piece: &Piece<'_>, sink: &mut K) -> Result<(), Failed>
     }
 }
 
+/// Writes the start of an element up to its attributes.
 fn write_begin<K: Sink>(name: &[u8], sink: &mut K) -> Result<(), Failed>
     ensures { Writes K.written K.faults sink.old sink.new (60 ∷ name.now) result }
 {
@@ -147,6 +150,7 @@ fn write_with<K: Sink>(name: &[u8], cell: &Cell<'_>, sink: &mut K) -> Result<(),
     write_bytes(b"\"", sink)
 }
 
+/// Writes a value as a text of a page.
 fn write_cell_text<K: Sink>(cell: &Cell<'_>, sink: &mut K) -> Result<(), Failed>
     ensures { Writes K.written K.faults sink.old sink.new (shown (cell_text cell.now)) result }
 {
@@ -157,6 +161,7 @@ fn write_cell_text<K: Sink>(cell: &Cell<'_>, sink: &mut K) -> Result<(), Failed>
     }
 }
 
+/// Writes a value as a string of JSON.
 fn write_cell_string<K: Sink>(cell: &Cell<'_>, sink: &mut K) -> Result<(), Failed>
     ensures { Writes K.written K.faults sink.old sink.new (string_text (cell_text cell.now)) result }
 {
@@ -167,6 +172,7 @@ fn write_cell_string<K: Sink>(cell: &Cell<'_>, sink: &mut K) -> Result<(), Faile
     }
 }
 
+/// Writes a value as a field of a record.
 fn write_cell_field<K: Sink>(cell: &Cell<'_>, sink: &mut K) -> Result<(), Failed>
     ensures { Writes K.written K.faults sink.old sink.new (field_text (cell_text cell.now)) result }
 {

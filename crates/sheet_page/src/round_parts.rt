@@ -17,65 +17,48 @@ use byte_edge::Sink;
 use sheet_reader::SheetValues;
 
 /// Writes the part of each round; `full` units have the whole width of a picture.
-pub(crate) fn write_round_parts<K: Sink>(
-    pen: &mut Pen,
-    values: &SheetValues,
-    full: u64,
-    sink: &mut K,
-)
+pub(crate) fn write_round_parts<K: Sink>(pen: &mut Pen<'_, K>, values: &SheetValues, full: u64)
     requires printable { IsPrintable 9 values.now }
-    ensures { Prints K.written K.faults pen.old.done sink.old pen.new.done sink.new
+    ensures { Prints K.written K.faults pen.old pen.new
         (print_each (part_at values.now full) (places (length values.now.rows))) }
 {
     for i in 0..values.rows.len() {
-        write_part_at(pen, values, full, i, sink);
+        write_part_at(pen, values, full, i);
     }
 }
 
 /// The part of a round, if it ends at this place.
-fn write_part_at<K: Sink>(pen: &mut Pen, values: &SheetValues, full: u64, i: usize, sink: &mut K)
+fn write_part_at<K: Sink>(pen: &mut Pen<'_, K>, values: &SheetValues, full: u64, i: usize)
     requires printable { IsPrintable 9 values.now }
     requires place { i < length values.now.rows }
-    ensures { Prints K.written K.faults pen.old.done sink.old pen.new.done sink.new
-        (printed (part_at values.now full i)) }
+    ensures { Prints K.written K.faults pen.old pen.new (printed (part_at values.now full i)) }
 {
     if ends_round(values.rows.items(), i) {
-        write_round_part(pen, values, full, i, sink);
+        write_round_part(pen, values, full, i);
     }
 }
 
 /// The part of the round that ends at a place.
-fn write_round_part<K: Sink>(
-    pen: &mut Pen,
-    values: &SheetValues,
-    full: u64,
-    last: usize,
-    sink: &mut K,
-)
+fn write_round_part<K: Sink>(pen: &mut Pen<'_, K>, values: &SheetValues, full: u64, last: usize)
     requires printable { IsPrintable 9 values.now }
     requires place { last < length values.now.rows }
-    ensures { Prints K.written K.faults pen.old.done sink.old pen.new.done sink.new
-        (printed (round_part values.now full last)) }
+    ensures { Prints K.written K.faults pen.old pen.new (printed (round_part values.now full last)) }
 {
     let row = values.rows.get(last);
-    pen.open(b"section", sink);
-    write_title(pen, row.round, sink);
-    write_round_picture(pen, values, full, row, sink);
-    write_folded(pen, values, last, sink);
-    pen.close(b"section", sink);
+    pen.open(b"section");
+    write_title(pen, row.round);
+    write_round_picture(pen, values, full, row);
+    write_folded(pen, values, last);
+    pen.close(b"section");
 }
 
-fn write_title<K: Sink>(pen: &mut Pen, round: u32, sink: &mut K)
-    ensures { Prints K.written K.faults pen.old.done sink.old pen.new.done sink.new
-        (printed (round_title round)) }
+fn write_title<K: Sink>(pen: &mut Pen<'_, K>, round: u32)
+    ensures { Prints K.written K.faults pen.old pen.new (printed (round_title round)) }
 {
-    pen.write(
-        &[
-            Piece::Start(b"h2"),
-            Piece::Text(Cell::Bytes(b"Round ")),
-            Piece::Text(Cell::Count(round as u64)),
-            Piece::End(b"h2"),
-        ],
-        sink,
-    );
+    pen.write(&[
+        Piece::Start(b"h2"),
+        Piece::Text(Cell::Bytes(b"Round ")),
+        Piece::Text(Cell::Count(round as u64)),
+        Piece::End(b"h2"),
+    ]);
 }

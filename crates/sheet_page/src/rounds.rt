@@ -20,190 +20,175 @@ use fixed_place::Amount;
 use meek_rule::Row;
 use sheet_reader::SheetValues;
 
-pub(crate) fn write_rounds<K: Sink>(pen: &mut Pen, values: &SheetValues, sink: &mut K)
+/// The part of a page that has the table of rounds.
+pub(crate) fn write_rounds<K: Sink>(pen: &mut Pen<'_, K>, values: &SheetValues)
     requires printable { IsPrintable 9 values.now }
-    ensures { Prints K.written K.faults pen.old.done sink.old pen.new.done sink.new
-        (printed (rounds_part values.now)) }
+    ensures { Prints K.written K.faults pen.old pen.new (printed (rounds_part values.now)) }
 {
-    pen.open(b"section", sink);
-    write_title(pen, sink);
-    write_table(pen, values, sink);
-    pen.close(b"section", sink);
+    pen.open(b"section");
+    write_title(pen);
+    write_table(pen, values);
+    pen.close(b"section");
 }
 
-fn write_title<K: Sink>(pen: &mut Pen, sink: &mut K)
-    ensures { Prints K.written K.faults pen.old.done sink.old pen.new.done sink.new
-        (printed (rounds_title)) }
+fn write_title<K: Sink>(pen: &mut Pen<'_, K>)
+    ensures { Prints K.written K.faults pen.old pen.new (printed rounds_title) }
 {
-    pen.write(
-        &[
-            Piece::Start(b"h2"),
-            Piece::Text(Cell::Bytes(b"Votes at the end of each round")),
-            Piece::End(b"h2"),
-        ],
-        sink,
-    );
+    pen.write(&[
+        Piece::Start(b"h2"),
+        Piece::Text(Cell::Bytes(b"Votes at the end of each round")),
+        Piece::End(b"h2"),
+    ]);
 }
 
-fn write_table<K: Sink>(pen: &mut Pen, values: &SheetValues, sink: &mut K)
+/// A line of heads, and a line for each round.
+fn write_table<K: Sink>(pen: &mut Pen<'_, K>, values: &SheetValues)
     requires printable { IsPrintable 9 values.now }
-    ensures { Prints K.written K.faults pen.old.done sink.old pen.new.done sink.new
-        (printed (rounds_table values.now)) }
+    ensures { Prints K.written K.faults pen.old pen.new (printed (rounds_table values.now)) }
 {
-    pen.open(b"table", sink);
-    write_head_row(pen, values, sink);
-    write_round_rows(pen, values, sink);
-    pen.close(b"table", sink);
+    pen.open(b"table");
+    write_head_row(pen, values);
+    write_round_rows(pen, values);
+    pen.close(b"table");
 }
 
-fn write_head_row<K: Sink>(pen: &mut Pen, values: &SheetValues, sink: &mut K)
-    ensures { Prints K.written K.faults pen.old.done sink.old pen.new.done sink.new
-        (printed (head_row values.now)) }
+fn write_head_row<K: Sink>(pen: &mut Pen<'_, K>, values: &SheetValues)
+    ensures { Prints K.written K.faults pen.old pen.new (printed (head_row values.now)) }
 {
-    pen.open(b"tr", sink);
-    write_head_cells(pen, sink);
-    write_name_cells(pen, values, sink);
-    pen.close(b"tr", sink);
+    pen.open(b"tr");
+    write_head_cells(pen);
+    write_name_cells(pen, values);
+    pen.close(b"tr");
 }
 
-fn write_head_cells<K: Sink>(pen: &mut Pen, sink: &mut K)
-    ensures { Prints K.written K.faults pen.old.done sink.old pen.new.done sink.new
-        (printed (head_cells)) }
+/// The heads of the columns that every table has.
+fn write_head_cells<K: Sink>(pen: &mut Pen<'_, K>)
+    ensures { Prints K.written K.faults pen.old pen.new (printed head_cells) }
 {
-    pen.write(
-        &[
-            Piece::Start(b"th"),
-            Piece::Text(Cell::Bytes(b"Round")),
-            Piece::End(b"th"),
-            Piece::Start(b"th"),
-            Piece::Text(Cell::Bytes(b"Quota")),
-            Piece::End(b"th"),
-            Piece::Start(b"th"),
-            Piece::Text(Cell::Bytes(b"On no candidate")),
-            Piece::End(b"th"),
-        ],
-        sink,
-    );
+    pen.write(&[
+        Piece::Start(b"th"),
+        Piece::Text(Cell::Bytes(b"Round")),
+        Piece::End(b"th"),
+        Piece::Start(b"th"),
+        Piece::Text(Cell::Bytes(b"Quota")),
+        Piece::End(b"th"),
+        Piece::Start(b"th"),
+        Piece::Text(Cell::Bytes(b"On no candidate")),
+        Piece::End(b"th"),
+    ]);
 }
 
-fn write_name_cells<K: Sink>(pen: &mut Pen, values: &SheetValues, sink: &mut K)
-    ensures { Prints K.written K.faults pen.old.done sink.old pen.new.done sink.new
+/// The heads of the candidates' columns.
+fn write_name_cells<K: Sink>(pen: &mut Pen<'_, K>, values: &SheetValues)
+    ensures { Prints K.written K.faults pen.old pen.new
         (print_each (name_cell values.now) (places (length values.now.names))) }
 {
     for p in 0..values.names.len() {
-        write_name_cell(pen, values, p, sink);
+        write_name_cell(pen, values, p);
     }
 }
 
-fn write_name_cell<K: Sink>(pen: &mut Pen, values: &SheetValues, p: usize, sink: &mut K)
+/// The head of the column of the candidate at a place.
+fn write_name_cell<K: Sink>(pen: &mut Pen<'_, K>, values: &SheetValues, p: usize)
     requires place { p < length values.now.names }
-    ensures { Prints K.written K.faults pen.old.done sink.old pen.new.done sink.new
-        (printed (name_cell values.now p)) }
+    ensures { Prints K.written K.faults pen.old pen.new (printed (name_cell values.now p)) }
 {
-    write_name(pen, values.names.get(p).bytes(), sink);
+    write_name(pen, values.names.get(p).bytes());
 }
 
-fn write_name<K: Sink>(pen: &mut Pen, name: &[u8], sink: &mut K)
-    ensures { Prints K.written K.faults pen.old.done sink.old pen.new.done sink.new
-        (printed (head_cell name.now)) }
+/// A name as the head of a column.
+fn write_name<K: Sink>(pen: &mut Pen<'_, K>, name: &[u8])
+    ensures { Prints K.written K.faults pen.old pen.new (printed (head_cell name.now)) }
 {
-    pen.write(
-        &[
-            Piece::Start(b"th"),
-            Piece::Text(Cell::Bytes(name)),
-            Piece::End(b"th"),
-        ],
-        sink,
-    );
+    pen.write(&[
+        Piece::Start(b"th"),
+        Piece::Text(Cell::Bytes(name)),
+        Piece::End(b"th"),
+    ]);
 }
 
-fn write_round_rows<K: Sink>(pen: &mut Pen, values: &SheetValues, sink: &mut K)
+/// The rounds, one behind another.
+fn write_round_rows<K: Sink>(pen: &mut Pen<'_, K>, values: &SheetValues)
     requires printable { IsPrintable 9 values.now }
-    ensures { Prints K.written K.faults pen.old.done sink.old pen.new.done sink.new
+    ensures { Prints K.written K.faults pen.old pen.new
         (print_each (round_at values.now) (places (length values.now.rows))) }
 {
     for i in 0..values.rows.len() {
-        write_round_at(pen, values, i, sink);
+        write_round_at(pen, values, i);
     }
 }
 
 /// A round, if it ends at this place.
-fn write_round_at<K: Sink>(pen: &mut Pen, values: &SheetValues, i: usize, sink: &mut K)
+fn write_round_at<K: Sink>(pen: &mut Pen<'_, K>, values: &SheetValues, i: usize)
     requires printable { IsPrintable 9 values.now }
     requires place { i < length values.now.rows }
-    ensures { Prints K.written K.faults pen.old.done sink.old pen.new.done sink.new
-        (printed (round_at values.now i)) }
+    ensures { Prints K.written K.faults pen.old pen.new (printed (round_at values.now i)) }
 {
     if ends_round(values.rows.items(), i) {
-        write_round_row(pen, values, values.rows.get(i), sink);
+        write_round_row(pen, values, values.rows.get(i));
     }
 }
 
-fn write_round_row<K: Sink>(pen: &mut Pen, values: &SheetValues, row: &Row<9>, sink: &mut K)
+/// The line of a round, from its last iteration.
+fn write_round_row<K: Sink>(pen: &mut Pen<'_, K>, values: &SheetValues, row: &Row<9>)
     requires printable { IsPrintable 9 values.now }
     requires room { HasRoomFor (length values.now.names) row.now }
-    ensures { Prints K.written K.faults pen.old.done sink.old pen.new.done sink.new
-        (printed (round_row values.now row.now)) }
+    ensures { Prints K.written K.faults pen.old pen.new (printed (round_row values.now row.now)) }
 {
-    pen.open(b"tr", sink);
-    write_round_cells(pen, values, row, sink);
-    write_vote_cells(pen, values, row, sink);
-    pen.close(b"tr", sink);
+    pen.open(b"tr");
+    write_round_cells(pen, values, row);
+    write_vote_cells(pen, values, row);
+    pen.close(b"tr");
 }
 
-fn write_round_cells<K: Sink>(pen: &mut Pen, values: &SheetValues, row: &Row<9>, sink: &mut K)
+/// Number and quota of a round, and the votes on no candidate.
+fn write_round_cells<K: Sink>(pen: &mut Pen<'_, K>, values: &SheetValues, row: &Row<9>)
     requires { IsPrintable 9 values.now }
-    ensures { Prints K.written K.faults pen.old.done sink.old pen.new.done sink.new
-        (printed (round_cells values.now.ballots row.now)) }
+    ensures { Prints K.written K.faults pen.old pen.new (printed (round_cells values.now.ballots row.now)) }
 {
     let left = left_over(values.ballots, row.total);
-    pen.write(
-        &[
-            Piece::Start(b"th"),
-            Piece::Text(Cell::Count(row.round as u64)),
-            Piece::End(b"th"),
-            Piece::Start(b"td"),
-            Piece::Text(Cell::Amount(row.quota)),
-            Piece::End(b"td"),
-            Piece::Start(b"td"),
-            Piece::Text(Cell::Amount(left)),
-            Piece::End(b"td"),
-        ],
-        sink,
-    );
+    pen.write(&[
+        Piece::Start(b"th"),
+        Piece::Text(Cell::Count(row.round as u64)),
+        Piece::End(b"th"),
+        Piece::Start(b"td"),
+        Piece::Text(Cell::Amount(row.quota)),
+        Piece::End(b"td"),
+        Piece::Start(b"td"),
+        Piece::Text(Cell::Amount(left)),
+        Piece::End(b"td"),
+    ]);
 }
 
-fn write_vote_cells<K: Sink>(pen: &mut Pen, values: &SheetValues, row: &Row<9>, sink: &mut K)
+/// All candidates at the end of a round.
+fn write_vote_cells<K: Sink>(pen: &mut Pen<'_, K>, values: &SheetValues, row: &Row<9>)
     requires room { HasRoomFor (length values.now.names) row.now }
     requires few { length values.now.names ≤ MOST_CANDIDATES }
-    ensures { Prints K.written K.faults pen.old.done sink.old pen.new.done sink.new
+    ensures { Prints K.written K.faults pen.old pen.new
         (print_each (vote_cell row.now) (places (length values.now.names))) }
 {
     for p in 0..values.names.len() {
-        write_vote_cell(pen, row, p, sink);
+        write_vote_cell(pen, row, p);
     }
 }
 
-fn write_vote_cell<K: Sink>(pen: &mut Pen, row: &Row<9>, p: usize, sink: &mut K)
+/// A candidate's vote at the end of a round, and what it is then.
+fn write_vote_cell<K: Sink>(pen: &mut Pen<'_, K>, row: &Row<9>, p: usize)
     requires room { HasRoomFor (length row.now.states) row.now }
     requires few { length row.now.states ≤ MOST_CANDIDATES }
     requires place { p < length row.now.states }
-    ensures { Prints K.written K.faults pen.old.done sink.old pen.new.done sink.new
-        (printed (vote_cell row.now p)) }
+    ensures { Prints K.written K.faults pen.old pen.new (printed (vote_cell row.now p)) }
 {
     let state = state_word(state_after(row, p));
-    pen.write(
-        &[
-            Piece::Start(b"td"),
-            Piece::Text(Cell::Amount(*row.votes.get(p))),
-            Piece::Text(Cell::Bytes(b" ")),
-            Piece::Start(b"small"),
-            Piece::Text(Cell::Bytes(state)),
-            Piece::End(b"small"),
-            Piece::End(b"td"),
-        ],
-        sink,
-    );
+    pen.write(&[
+        Piece::Start(b"td"),
+        Piece::Text(Cell::Amount(*row.votes.get(p))),
+        Piece::Text(Cell::Bytes(b" ")),
+        Piece::Start(b"small"),
+        Piece::Text(Cell::Bytes(state)),
+        Piece::End(b"small"),
+        Piece::End(b"td"),
+    ]);
 }
 
 /// What of so many ballots is left on no candidate.

@@ -26,6 +26,7 @@ pub fn takes_format(words: &[String]) -> Result<Format, WordsStop>
     }
 }
 
+/// The format that a name stands for.
 fn format_of(name: &str) -> Option<Format>
     ensures { MatchOption result ((format : Format) → ¬ (name.now ≡ name_of format)) (λ format. name.now ≡ name_of format) }
 {

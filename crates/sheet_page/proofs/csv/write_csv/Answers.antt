@@ -1,14 +1,12 @@
-use Rattle.std.proofs.Common.{◌≡◌, ◌∙◌, ap, ◌<◌, ◌≤◌, List, length, get_or, sym, subst}
+use Rattle.std.proofs.Common.{rules, ◌≡◌, ◌∙◌, ap, ◌<◌, ◌≤◌, List, length, get_or, subst}
 use Rattle.meek_rule.specs.Row.{Row}
-use Rattle.piece_text.specs.Writing.{Writes}
 use Rattle.sheet_reader.specs.Values.{SheetList}
-use Rattle.sheet_page.specs.Csv.{csv_of}
 use Rattle.sheet_page.proofs.CsvLemmas.{row_text, csv-parts}
-use Rattle.sheet_page.proofs.Pens.{nothing, later, item_more, items_all, renamed}
+use Rattle.sheet_page.proofs.Pens.{nothing, later, ended, item_more, items_all, renamed}
 use Rattle.sheet_page.proofs.csv.write_csv.Goals as goal
 
 pub loop-row-init : goal.loop-row-init
-loop-row-init g c = nothing _ _ _ _
+loop-row-init g c = nothing _ _ _
 
 pub loop-row-preserved : goal.loop-row-preserved
 loop-row-preserved g c =
@@ -29,6 +27,4 @@ returns g c =
     items_all (row_text c.args.values.now) c.args.values.now.rows c.loop-row.row-index past
     c.loop-row.invariant in
     let all = renamed (csv-parts c.args.values.now) (later c.write_head.ensures rows) in
-    subst (λ r. Writes g.K.Sink.written g.K.Sink.faults c.args.sink.now c.loop-row.sink
-    (csv_of c.args.values.now) r) (sym c.end.ensures)
-    (all.well (tt {0}) c.new-pen.ensures)
+    ended c.new-pen.ensures.before c.new-pen.ensures.well all (search rules) c.end.ensures.done

@@ -3,7 +3,7 @@ use Rattle.std.specs.Prelude.{max}
 use Rattle.meek_rule.specs.Row.{Row}
 use Rattle.sheet_page.specs.Picture.{greatest, full_of}
 use Rattle.sheet_page.proofs.Peaks.{full_more}
-use Rattle.sheet_page.proofs.picture.full_of.Goals as goal
+use Rattle.sheet_page.proofs.widths.full_of.Goals as goal
 
 pub loop-row-preserved : goal.loop-row-preserved
 loop-row-preserved c =

@@ -1,7 +1,7 @@
 use Rattle.sheet_page.specs.Picture.{label_at, rectangle_at}
 use Rattle.sheet_page.proofs.Printing.{printed-two}
 use Rattle.sheet_page.proofs.Pens.{later, renamed}
-use Rattle.sheet_page.proofs.picture.write_bar.Goals as goal
+use Rattle.sheet_page.proofs.bars.write_bar.Goals as goal
 
 pub returns : goal.returns
 returns g c =

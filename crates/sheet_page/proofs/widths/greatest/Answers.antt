@@ -2,7 +2,7 @@ use Rattle.std.proofs.Common.{◌∙◌, ap, sym, ℕ, take}
 use Rattle.std.specs.Prelude.{max}
 use Rattle.sheet_page.specs.Picture.{greatest}
 use Rattle.sheet_page.proofs.Peaks.{greatest_more}
-use Rattle.sheet_page.proofs.picture.greatest.Goals as goal
+use Rattle.sheet_page.proofs.widths.greatest.Goals as goal
 
 pub loop-amount-preserved : goal.loop-amount-preserved
 loop-amount-preserved c =

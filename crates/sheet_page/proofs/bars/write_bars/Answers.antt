@@ -1,10 +1,10 @@
 use Rattle.page_tree.specs.Print.{printed}
 use Rattle.sheet_page.specs.Picture.{bar}
 use Rattle.sheet_page.proofs.Pens.{nothing, place_more}
-use Rattle.sheet_page.proofs.picture.write_bars.Goals as goal
+use Rattle.sheet_page.proofs.bars.write_bars.Goals as goal
 
 pub loop-p-init : goal.loop-p-init
-loop-p-init g c = nothing _ _ _ _
+loop-p-init g c = nothing _ _ _
 
 pub loop-p-preserved : goal.loop-p-preserved
 loop-p-preserved g c =

@@ -1,0 +1,112 @@
+// The bars of a picture: a candidate's vote each, below its label.
+ghost use Rattle.std.specs.Prelude.{◌<◌, ◌≤◌, length};
+ghost use Rattle.plain_ballots.specs.declared.limits.TheConstants.{MOST_CANDIDATES};
+ghost use Rattle.meek_rule.specs.Row.{HasRoomFor};
+ghost use Rattle.page_tree.specs.Print.{printed};
+ghost use Rattle.sheet_reader.specs.Form.{IsPrintable};
+ghost use Rattle.sheet_page.specs.Picture.{bar, label, label_at, rectangle, rectangle_at};
+ghost use Rattle.sheet_page.specs.Prints.{Prints};
+ghost use Rattle.sheet_page.specs.Trees.{print_each};
+ghost use Rattle.sheet_page.specs.Values.{places};
+
+use crate::cell::Cell;
+use crate::pen::Pen;
+use crate::piece::Piece;
+use crate::rounds::state_after;
+use crate::values::state_word;
+use crate::widths::scaled;
+use byte_edge::Sink;
+use fixed_place::Amount;
+use meek_rule::Row;
+use sheet_reader::SheetValues;
+
+/// Writes the bars of a round, a candidate's below the other's; `full` units have the whole width.
+pub(crate) fn write_bars<K: Sink>(
+    pen: &mut Pen<'_, K>,
+    values: &SheetValues,
+    full: u64,
+    row: &Row<9>,
+)
+    requires printable { IsPrintable 9 values.now }
+    requires room { HasRoomFor (length values.now.names) row.now }
+    ensures { Prints K.written K.faults pen.old pen.new
+        (print_each (bar values.now full row.now) (places (length values.now.names))) }
+{
+    for p in 0..values.names.len() {
+        write_bar(pen, values, full, row, p);
+    }
+}
+
+/// A candidate's vote at the end of a round, and what it is then.
+fn write_bar<K: Sink>(pen: &mut Pen<'_, K>, values: &SheetValues, full: u64, row: &Row<9>, p: usize)
+    requires printable { IsPrintable 9 values.now }
+    requires room { HasRoomFor (length values.now.names) row.now }
+    requires place { p < length values.now.names }
+    ensures { Prints K.written K.faults pen.old pen.new (printed (bar values.now full row.now p)) }
+{
+    write_label_at(pen, values, row, p);
+    write_rectangle_at(pen, full, row, p);
+}
+
+/// The label of the candidate at a place.
+fn write_label_at<K: Sink>(pen: &mut Pen<'_, K>, values: &SheetValues, row: &Row<9>, p: usize)
+    requires printable { IsPrintable 9 values.now }
+    requires room { HasRoomFor (length values.now.names) row.now }
+    requires place { p < length values.now.names }
+    ensures { Prints K.written K.faults pen.old pen.new (printed (label_at values.now row.now p)) }
+{
+    let state = state_word(state_after(row, p));
+    let name = values.names.get(p).bytes();
+    write_label(pen, p as u64 * 36 + 16, name, state, *row.votes.get(p));
+}
+
+/// The bar of the candidate at a place.
+fn write_rectangle_at<K: Sink>(pen: &mut Pen<'_, K>, full: u64, row: &Row<9>, p: usize)
+    requires room { HasRoomFor (length row.now.states) row.now }
+    requires few { length row.now.states ≤ MOST_CANDIDATES }
+    requires place { p < length row.now.states }
+    ensures { Prints K.written K.faults pen.old pen.new (printed (rectangle_at full row.now p)) }
+{
+    let state = state_word(state_after(row, p));
+    let length = scaled(full, *row.votes.get(p));
+    write_rectangle(pen, p as u64 * 36 + 21, length, state);
+}
+
+/// State, vote and name, so many points down.
+fn write_label<'x, K: Sink>(
+    pen: &mut Pen<'_, K>,
+    y: u64,
+    name: &'x [u8],
+    state: &'x [u8],
+    vote: Amount<9>,
+)
+    ensures { Prints K.written K.faults pen.old pen.new (printed (label y name.now state.now vote)) }
+{
+    pen.write(&[
+        Piece::Begin(b"text"),
+        Piece::With(b"class", Cell::Bytes(state)),
+        Piece::With(b"y", Cell::Count(y)),
+        Piece::Within,
+        Piece::Text(Cell::Bytes(state)),
+        Piece::Text(Cell::Bytes(b" ")),
+        Piece::Text(Cell::Amount(vote)),
+        Piece::Text(Cell::Bytes(b" ")),
+        Piece::Text(Cell::Bytes(name)),
+        Piece::End(b"text"),
+    ]);
+}
+
+/// A bar, so many points down and so many long.
+fn write_rectangle<K: Sink>(pen: &mut Pen<'_, K>, y: u64, length: u64, state: &[u8])
+    ensures { Prints K.written K.faults pen.old pen.new (printed (rectangle y length state.now)) }
+{
+    pen.write(&[
+        Piece::Begin(b"rect"),
+        Piece::With(b"class", Cell::Bytes(state)),
+        Piece::With(b"y", Cell::Count(y)),
+        Piece::With(b"width", Cell::Count(length)),
+        Piece::With(b"height", Cell::Bytes(b"12")),
+        Piece::Within,
+        Piece::End(b"rect"),
+    ]);
+}
