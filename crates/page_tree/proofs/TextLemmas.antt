@@ -3,8 +3,8 @@ use Rattle.std.proofs.Common.{◌≡◌, refl, sym, ap, subst, ◌∙◌, ℕ, t
 use Rattle.std.specs.List.{list_all}
 use Rattle.std.proofs.lemmas.Bool.Decides.{eqb_tells}
 use Rattle.std.proofs.lemmas.List.Folds.{list_all-append}
-use Rattle.std.proofs.lemmas.List.Concat.{flat_map-append}
-use Rattle.page_tree.specs.Print.{entity, escaped, readable, shown}
+use Rattle.page_tree.specs.Escaping.{escaped, readable}
+use Rattle.page_tree.specs.Print.{entity, shown}
 use Rattle.page_tree.specs.Reading.{read_text}
 use Rattle.page_tree.specs.Laws.{is_plain}
 
@@ -37,10 +37,10 @@ read-entity b rest =
     entity-cases (λ c. read_text None (entity c ++ rest) ≡ c ∷ read_text None rest) refl refl refl refl refl b
     (λ amp lt gt quot apos. rw (amp, lt, gt, quot, apos) (rw amp refl))
 
-pub read-escaped : (bytes : List ℕ) → read_text None (escaped bytes) ≡ bytes
+pub read-escaped : (bytes : List ℕ) → read_text None (escaped entity bytes) ≡ bytes
 unfolding escaped
 read-escaped [] = refl
-read-escaped (b ∷ bytes) = read-entity b (escaped bytes) ∙ ap (λ (l : List ℕ). b ∷ l) (read-escaped bytes)
+read-escaped (b ∷ bytes) = read-entity b (escaped entity bytes) ∙ ap (λ (l : List ℕ). b ∷ l) (read-escaped bytes)
 
 pub read-shown : (text : List ℕ) → read_text None (shown text) ≡ readable text
 read-shown text = read-escaped (readable text)
@@ -50,22 +50,13 @@ plain-entity b =
     entity-cases (λ c. list_all is_plain (entity c) ≡ true) refl refl refl refl refl b
     (λ amp lt gt quot apos. rw (amp, lt, gt, quot, apos) (rw (lt, gt, quot, apos) refl))
 
-pub plain-escaped : (bytes : List ℕ) → list_all is_plain (escaped bytes) ≡ true
+pub plain-escaped : (bytes : List ℕ) → list_all is_plain (escaped entity bytes) ≡ true
 unfolding escaped
 plain-escaped [] = refl
 plain-escaped (b ∷ bytes) =
-    list_all-append is_plain (entity b) (escaped bytes)
-    ∙ ap (λ t. t && list_all is_plain (escaped bytes)) (plain-entity b)
+    list_all-append is_plain (entity b) (escaped entity bytes)
+    ∙ ap (λ t. t && list_all is_plain (escaped entity bytes)) (plain-entity b)
     ∙ plain-escaped bytes
 
 pub plain-shown : (text : List ℕ) → list_all is_plain (shown text) ≡ true
 plain-shown text = plain-escaped (readable text)
-
--- one more byte of a text
-pub escaped-append : (xs ys : List ℕ) → escaped (xs ++ ys) ≡ escaped xs ++ escaped ys
-unfolding escaped
-escaped-append xs ys = flat_map-append entity xs ys
-
-pub escaped-nil : escaped [] ≡ []
-unfolding escaped
-escaped-nil = refl

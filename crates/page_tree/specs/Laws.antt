@@ -2,7 +2,8 @@
 use Rattle.std.specs.Prelude.{◌≡◌, ◌==◌, ◌&&◌, not, ℕ, Bool, true, List, [], Some, None}
 use Rattle.std.specs.List.{list_all}
 use Rattle.page_tree.specs.Trees.{Trees, IsWellNamed}
-use Rattle.page_tree.specs.Print.{readable, shown, printed}
+use Rattle.page_tree.specs.Escaping.{readable}
+use Rattle.page_tree.specs.Print.{shown, printed}
 use Rattle.page_tree.specs.Reading.{read_text, nests}
 
 -- a text read back is the text

@@ -1,3 +1,4 @@
+pub mod Escaping
 pub mod Trees
 pub mod Print
 pub mod Reading

@@ -1,8 +1,7 @@
 -- How trees are printed.
 use Rattle.std.specs.Prelude.{ℕ, ◌==◌, if◌then◌else◌, List, [], ◌∷◌, ◌++◌, codes}
 use Rattle.std.specs.List.{flat_map}
-use Rattle.std.specs.Str.{encode_utf8_all}
-use Rattle.bstr.specs.Utf8.{lossy_chars}
+use Rattle.page_tree.specs.Escaping.{readable, escaped}
 use Rattle.page_tree.specs.Trees.{Attribute, Trees, Nothing, Text, Element, Void}
 
 -- a byte of a text: `&` (38), `<` (60), `>` (62), `"` (34) and `'` (39) as entities, and each other one as it is
@@ -15,15 +14,9 @@ entity b =
     else if b == 39 then codes "&#39;"
     else b ∷ []
 
-unfoldable pub escaped : List ℕ → List ℕ
-escaped bytes = flat_map entity bytes
-
--- a text in UTF-8, with the replacement sign for each piece that is none
-abbrev pub readable : List ℕ → List ℕ
-readable text = encode_utf8_all (lossy_chars text)
-
+-- a text as it is printed
 abbrev pub shown : List ℕ → List ℕ
-shown text = escaped (readable text)
+shown text = escaped entity (readable text)
 
 -- an attribute behind a space (32), its value between quotes (34)
 abbrev pub attribute_text : Attribute → List ℕ

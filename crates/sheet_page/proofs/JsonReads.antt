@@ -5,8 +5,8 @@ use Rattle.std.proofs.Common.{append_assoc, append-nil}
 use Rattle.std.specs.Prelude.{nat_lt, Option, Some, None}
 use Rattle.std.proofs.lemmas.Bool.{cases_Bool, ltb-true, ltb-false, lt-ltb, le-ltb}
 use Rattle.std.proofs.lemmas.Bool.Decides.{eqb_tells}
-use Rattle.page_tree.specs.Print.{readable}
-use Rattle.sheet_page.specs.JsonText.{hex_digit, escape, escaped, string_text}
+use Rattle.page_tree.specs.Escaping.{readable, escaped}
+use Rattle.sheet_page.specs.JsonText.{hex_digit, escape, string_text}
 use Rattle.sheet_page.specs.JsonReading.{Between, InNumber, is_within, is_hex, hex_value, read_on, read_string}
 
 -- ---- digits of base 16
@@ -97,16 +97,16 @@ read_byte done more b =
         read_number done more (hex_digit (b / 16)) (hex_digit (b % 16)) b high.0 low.0
         (omega (arith, high.1, low.1)) (omega (arith, small))
 
-read_escaped : (done bytes rest : List ℕ) → read_on done Between (escaped bytes ++ 34 ∷ rest) ≡ Some (done ++ bytes, rest)
+read_escaped : (done bytes rest : List ℕ) → read_on done Between (escaped escape bytes ++ 34 ∷ rest) ≡ Some (done ++ bytes, rest)
 unfolding escaped
 read_escaped done [] rest = ap (λ (l : List ℕ). Some (l, rest)) (sym (append-nil done))
 read_escaped done (b ∷ bytes) rest =
-    ap (read_on done Between) (append_assoc (escape b) (escaped bytes) (34 ∷ rest))
-    ∙ read_byte done (escaped bytes ++ 34 ∷ rest) b
+    ap (read_on done Between) (append_assoc (escape b) (escaped escape bytes) (34 ∷ rest))
+    ∙ read_byte done (escaped escape bytes ++ 34 ∷ rest) b
     ∙ read_escaped (done ++ b ∷ []) bytes rest
     ∙ ap (λ (l : List ℕ). Some (l, rest)) (append_assoc done (b ∷ []) bytes)
 
 -- a whole string, and bytes behind it
 pub strings_read : (text rest : List ℕ) → read_string (string_text text ++ rest) ≡ Some (readable text, rest)
 strings_read text rest =
-    ap (read_on [] Between) (append_assoc (escaped (readable text)) (34 ∷ []) rest) ∙ read_escaped [] (readable text) rest
+    ap (read_on [] Between) (append_assoc (escaped escape (readable text)) (34 ∷ []) rest) ∙ read_escaped [] (readable text) rest

@@ -8,7 +8,6 @@ mod Nesting
 mod Owing
 mod WordLemmas
 mod CsvLemmas
-mod JsonTexts
 mod JsonReads
 mod AmountTexts
 mod FieldWords

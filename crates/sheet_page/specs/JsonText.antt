@@ -1,7 +1,6 @@
 -- Strings of JSON (RFC 8259). 34 is the quote, and 92 the backslash.
 use Rattle.std.specs.Prelude.{ℕ, ◌+◌, ◌/◌, ◌%◌, ◌==◌, nat_lt, if◌then◌else◌, List, [], ◌∷◌, ◌++◌, codes}
-use Rattle.std.specs.List.{flat_map}
-use Rattle.page_tree.specs.Print.{readable}
+use Rattle.page_tree.specs.Escaping.{readable, escaped}
 
 -- a digit of base 16: 48 is `0`, and 97 is `a`
 abbrev pub hex_digit : ℕ → ℕ
@@ -15,9 +14,6 @@ escape b =
     else if nat_lt b 32 then codes "\\u00" ++ hex_digit (b / 16) ∷ hex_digit (b % 16) ∷ []
     else b ∷ []
 
-unfoldable pub escaped : List ℕ → List ℕ
-escaped bytes = flat_map escape bytes
-
 -- a text in quotes, in UTF-8, with the replacement sign for each piece that is none
 abbrev pub string_text : List ℕ → List ℕ
-string_text text = 34 ∷ (escaped (readable text) ++ 34 ∷ [])
+string_text text = 34 ∷ (escaped escape (readable text) ++ 34 ∷ [])

@@ -2,7 +2,8 @@
 use Rattle.std.specs.Prelude.{◌≡◌, ◌↔◌, ◌⊎◌, ℕ, ◌+◌, ◌<◌, ◌≤◌, List, true, [], ◌++◌, length, Some, None}
 use Rattle.csv_text.specs.Reading.{read, Outside}
 use Rattle.meek_rule.specs.Row.{Row}
-use Rattle.page_tree.specs.Print.{printed, readable}
+use Rattle.page_tree.specs.Escaping.{readable}
+use Rattle.page_tree.specs.Print.{printed}
 use Rattle.page_tree.specs.Reading.{nests}
 use Rattle.sheet_reader.specs.Form.{IsPrintable}
 use Rattle.sheet_reader.specs.Values.{SheetList}

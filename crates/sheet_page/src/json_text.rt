@@ -1,11 +1,10 @@
 // A string of JSON.
 ghost use Rattle.std.specs.Prelude.{◌≡◌, ◌<◌};
-ghost use Rattle.sheet_page.specs.JsonText.{escape, escaped, hex_digit, string_text};
-ghost use Rattle.page_tree.specs.Print.{readable};
 ghost use Rattle.piece_text.specs.Writing.{Writes};
+ghost use Rattle.sheet_page.specs.JsonText.{escape, hex_digit, string_text};
 
-use bstr::ByteSlice;
 use byte_edge::{Failed, Sink};
+use page_tree::{Escapes, write_escaped};
 use piece_text::write_bytes;
 
 /// Writes a text as a string of JSON. Bytes that are no UTF-8 are written as the replacement sign.
@@ -13,48 +12,33 @@ pub(crate) fn write_string<K: Sink>(text: &[u8], sink: &mut K) -> Result<(), Fai
     ensures { Writes K.written K.faults sink.old sink.new (string_text text.now) result }
 {
     write_bytes(b"\"", sink)?;
-    write_readable(text, sink)?;
+    write_escaped::<InQuotes, K>(text, sink)?;
     write_bytes(b"\"", sink)
 }
 
-fn write_readable<K: Sink>(text: &[u8], sink: &mut K) -> Result<(), Failed>
-    ensures { Writes K.written K.faults sink.old sink.new (escaped (readable text.now)) result }
-{
-    let mut rest = text.chars();
-    while let Some(c) = rest.next() {
-        let mut room = [0; 4];
-        write_escaped(c.encode_utf8(&mut room).as_bytes(), sink)?;
-    }
-    Ok(())
-}
+/// What stands within the quotes of a string: no quote and no backslash alone, and no control byte.
+struct InQuotes;
 
-fn write_escaped<K: Sink>(bytes: &[u8], sink: &mut K) -> Result<(), Failed>
-    ensures { Writes K.written K.faults sink.old sink.new (escaped bytes.now) result }
-{
-    for byte in bytes {
-        write_byte(*byte, sink)?;
-    }
-    Ok(())
-}
+impl Escapes for InQuotes {
+    ghost escape = { escape };
 
-fn write_byte<K: Sink>(byte: u8, sink: &mut K) -> Result<(), Failed>
-    ensures { Writes K.written K.faults sink.old sink.new (escape byte) result }
-{
-    match byte {
-        b'"' => write_bytes(b"\\\"", sink),
-        b'\\' => write_bytes(b"\\\\", sink),
-        0..=31 => write_bytes(
-            &[
-                b'\\',
-                b'u',
-                b'0',
-                b'0',
-                hex_digit(byte / 16),
-                hex_digit(byte % 16),
-            ],
-            sink,
-        ),
-        _ => write_bytes(&[byte], sink),
+    fn write_byte<K: Sink>(byte: u8, sink: &mut K) -> Result<(), Failed> {
+        match byte {
+            b'"' => write_bytes(b"\\\"", sink),
+            b'\\' => write_bytes(b"\\\\", sink),
+            0..=31 => write_bytes(
+                &[
+                    b'\\',
+                    b'u',
+                    b'0',
+                    b'0',
+                    hex_digit(byte / 16),
+                    hex_digit(byte % 16),
+                ],
+                sink,
+            ),
+            _ => write_bytes(&[byte], sink),
+        }
     }
 }
 

@@ -1,5 +1,5 @@
 use Rattle.std.proofs.Common.{refl}
-use Rattle.sheet_page.specs.JsonText.{escaped}
+use Rattle.page_tree.specs.Escaping.{escaped}
 use Rattle.sheet_page.proofs.worked.worked_strings.Goals as goal
 
 pub returns : goal.returns
