@@ -9,6 +9,8 @@ mod Owing
 mod WordLemmas
 mod CsvLemmas
 mod JsonReads
+mod JsonParts
+mod SheetJson
 mod AmountTexts
 mod FieldWords
 mod RecordRuns

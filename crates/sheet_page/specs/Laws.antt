@@ -1,5 +1,5 @@
--- What holds of every page, of every round, of every table and of every string of JSON.
-use Rattle.std.specs.Prelude.{◌≡◌, ◌↔◌, ◌⊎◌, ℕ, ◌+◌, ◌<◌, ◌≤◌, List, true, [], ◌++◌, length, Some, None}
+-- What holds of every page, of every round, of every table and of all JSON.
+use Rattle.std.specs.Prelude.{◌≡◌, ◌↔◌, ◌⊎◌, ℕ, ◌+◌, ◌<◌, ◌≤◌, List, true, [], ◌∷◌, ◌++◌, length, Some, None}
 use Rattle.csv_text.specs.Reading.{read, Outside}
 use Rattle.meek_rule.specs.Row.{Row}
 use Rattle.page_tree.specs.Escaping.{readable}
@@ -9,8 +9,11 @@ use Rattle.sheet_reader.specs.Form.{IsPrintable}
 use Rattle.sheet_reader.specs.Values.{SheetList}
 use Rattle.sheet_page.specs.Csv.{csv_of, csv_records}
 use Rattle.sheet_page.specs.Html.{page}
+use Rattle.sheet_page.specs.Json.{json_of}
+use Rattle.sheet_page.specs.JsonGrammar.{IsTextOf}
 use Rattle.sheet_page.specs.JsonReading.{read_string}
 use Rattle.sheet_page.specs.JsonText.{string_text}
+use Rattle.sheet_page.specs.JsonValues.{sheet_value}
 use Rattle.sheet_page.specs.RoundEnds.{ends_round}
 use Rattle.sheet_page.specs.Stretches.{is_of_round}
 use Rattle.sheet_page.specs.Values.{row_at}
@@ -47,9 +50,13 @@ abbrev pub TablesSayTheirSheets : Type 0
 TablesSayTheirSheets =
     (v w : SheetList) → IsPrintable 9 v → IsPrintable 9 w → (csv_of v ≡ csv_of w) ↔ HaveOneTable v w
 
--- ---- strings of JSON
+-- ---- JSON
 
 -- Whatever bytes a text holds, and whatever stands behind its string: who reads the string has the text, with the replacement sign for each piece
 -- that is no UTF-8, and knows where the string ends.
 abbrev pub StringsAreReadBack : Type 0
 StringsAreReadBack = (text rest : List ℕ) → read_string (string_text text ++ rest) ≡ Some (readable text, rest)
+
+-- What is written of a sheet is a text of JSON in one line: by the grammar of JSON it is a text of just what the sheet says. 10 is the line feed.
+abbrev pub SheetsAreJson : Type 0
+SheetsAreJson = (v : SheetList) → (text : List ℕ) × (json_of v ≡ text ++ 10 ∷ []) × IsTextOf (sheet_value v) text

@@ -3,9 +3,11 @@ pub mod Cells
 pub mod Values
 pub mod JsonText
 pub mod JsonReading
+pub mod JsonGrammar
 pub mod Pieces
 pub mod Csv
 pub mod Json
+pub mod JsonValues
 pub mod Words
 pub mod Trees
 pub mod Style

@@ -1,5 +1,5 @@
-// What holds of every page, of every round, of every table and of every string of JSON.
-ghost use Rattle.sheet_page.specs.Laws.{PagesNest, RisingRoundsAreWhole, StringsAreReadBack, TablesAreReadBack, TablesSayTheirSheets};
+// What holds of every page, of every round, of every table and of all JSON.
+ghost use Rattle.sheet_page.specs.Laws.{PagesNest, RisingRoundsAreWhole, SheetsAreJson, StringsAreReadBack, TablesAreReadBack, TablesSayTheirSheets};
 
 use csv_text::csv_laws;
 use page_tree::page_laws;
@@ -29,4 +29,10 @@ pub fn tables_are_read_back()
 /// A string of JSON is read back as its text, and it ends where the reader says. The call does nothing.
 pub fn strings_are_read_back()
     ensures { StringsAreReadBack }
+{}
+
+/// What is written of a sheet is JSON, and says what the sheet says: its title and numbers, each candidate
+/// with its outcome, and every iteration. The call does nothing.
+pub fn sheets_are_json()
+    ensures { SheetsAreJson }
 {}

@@ -29,7 +29,10 @@ mod words;
 mod worked;
 
 pub use format::Format;
-pub use laws::{pages_nest, rising_rounds_are_whole, strings_are_read_back, tables_are_read_back};
+pub use laws::{
+    pages_nest, rising_rounds_are_whole, sheets_are_json, strings_are_read_back,
+    tables_are_read_back,
+};
 pub use tool::page;
 pub use words::takes_format;
-pub use worked::worked_strings;
+pub use worked::{worked_strings, worked_texts};

@@ -57,4 +57,5 @@ returns g c =
     let all =
     sym (append-nil now.0)
     ∙ ap (λ (l : List ℕ). now.0 ++ encode_utf8_all l) (sym c.in_default.ensures.steps.0) ∙ now.1 in
-    subst (λ (l : List ℕ). Wrote g.K.Sink.written g.K.Sink.faults c.args.sink.now c.loop-c.sink (escaped g.E.Escapes.escape l)) all now.2
+    subst (λ (l : List ℕ). Wrote g.K.Sink.written g.K.Sink.faults c.args.sink.now c.loop-c.sink
+          (escaped g.E.Escapes.escape l)) all now.2

@@ -1,0 +1,261 @@
+-- The JSON of a sheet as a text of what it says.
+use Rattle.std.proofs.Common.{◌≡◌, ◌∙◌, refl, sym, ap, ℕ, ◌+◌, Bool, true, false, List, [], ◌∷◌, ◌++◌, length}
+use Rattle.std.proofs.Common.{map, append_assoc}
+use Rattle.std.specs.Prelude.{codes, decimal, slice_index}
+use Rattle.std.specs.List.{flat_map}
+use Rattle.candidate_roll.specs.State.{state_at}
+use Rattle.lot_order.specs.Flags.{mark_at}
+use Rattle.meek_rule.specs.Row.{Row}
+use Rattle.fixed_place.specs.Text.{text_of}
+use Rattle.sheet_text.specs.Lines.{state_word}
+use Rattle.sheet_reader.specs.Values.{SheetList}
+use Rattle.sheet_page.specs.Json.{amount, comma_at, truth, candidate_json, won_json, lost_json, standing_json}
+use Rattle.sheet_page.specs.Json.{iteration_json, iteration_at, json_of}
+use Rattle.sheet_page.specs.JsonGrammar.{Truth, IsTextOf, closed}
+use Rattle.sheet_page.specs.JsonText.{string_text}
+use Rattle.sheet_page.specs.JsonValues.{array, candidate_value, standing_value, iteration_value}
+use Rattle.sheet_page.specs.JsonValues.{iteration_value_at, sheet_value}
+use Rattle.sheet_page.specs.Values.{places, name_at, row_at, step_word, defeats}
+use Rattle.sheet_page.proofs.JsonParts.{onto, joined-onto, onto-append, said-text, list-written, are-items}
+
+-- a member: its key as a string, a colon and the text of its value
+abbrev member : (name text : List ℕ) → List ℕ
+member name text = name ++ 58 ∷ text
+
+-- members between brackets
+abbrev members : List (List ℕ) → List ℕ
+members pieces = 123 ∷ closed pieces 125
+
+truth-text : (mark : Bool) → IsTextOf (Truth mark) (truth mark)
+truth-text true = refl
+truth-text false = refl
+
+-- ---- a candidate of the roll
+
+abbrev candidate_pieces : SheetList → (p : ℕ) → List (List ℕ)
+candidate_pieces v p =
+    member (codes "\"number\"") (decimal (p + 1)) ∷ member (codes "\"name\"") (string_text (name_at v p))
+    ∷ member (codes "\"outcome\"") (string_text (state_word (state_at v.last p))) ∷ []
+
+candidate-written : (v : SheetList) (p : ℕ) → candidate_json v p ≡ comma_at p ++ members (candidate_pieces v p)
+candidate-written v p = refl
+
+candidate-is : (v : SheetList) (p : ℕ) → IsTextOf (candidate_value v p) (members (candidate_pieces v p))
+candidate-is v p = (
+  candidate_pieces v p,
+  refl,
+  (
+    (codes "\"number\"", decimal (p + 1), refl, refl, refl),
+    (
+      (codes "\"name\"", string_text (name_at v p), refl, refl, said-text (name_at v p)),
+      ((codes "\"outcome\"", string_text (state_word (state_at v.last p)), refl, refl,
+            said-text (state_word (state_at v.last p))), refl),
+    ),
+  ),
+)
+
+-- ---- a candidate in an iteration
+
+abbrev standing_pieces : Row → (p : ℕ) → List (List ℕ)
+standing_pieces row p =
+    member (codes "\"number\"") (decimal (p + 1))
+    ∷ member (codes "\"state\"") (string_text (state_word (state_at row.states p)))
+    ∷ member (codes "\"keep\"") (amount (slice_index row.keeps p))
+    ∷ member (codes "\"vote\"") (amount (slice_index row.votes p))
+    ∷ member (codes "\"elected\"") (truth (mark_at row.elected p))
+    ∷ member (codes "\"capped\"") (truth (mark_at row.capped p))
+    ∷ member (codes "\"tied\"") (truth (mark_at row.tied p))
+    ∷ member (codes "\"defeated\"") (truth (defeats row.step (p + 1))) ∷ []
+
+abbrev vote_parts : Row → (p : ℕ) → List (List ℕ)
+vote_parts row p =
+    comma_at p ∷ codes "{\"number\":" ∷ decimal (p + 1) ∷ codes ",\"state\":"
+    ∷ string_text (state_word (state_at row.states p))
+    ∷ codes ",\"keep\":" ∷ amount (slice_index row.keeps p) ∷ codes ",\"vote\":" ∷ amount (slice_index row.votes p) ∷ []
+
+abbrev won_parts : (elected capped : List ℕ) → List (List ℕ)
+won_parts elected capped = codes ",\"elected\":" ∷ elected ∷ codes ",\"capped\":" ∷ capped ∷ []
+
+standing-written : (row : Row) (p : ℕ) → standing_json row p ≡ comma_at p ++ members (standing_pieces row p)
+standing-written row p =
+    let lost = lost_json (truth (mark_at row.tied p)) (truth (defeats row.step (p + 1))) in
+    let elected = truth (mark_at row.elected p) in
+    let capped = truth (mark_at row.capped p) in
+    joined-onto (vote_parts row p) (won_json elected capped ++ lost)
+    ∙ ap (onto (vote_parts row p)) (joined-onto (won_parts elected capped) lost)
+
+standing-is : (row : Row) (p : ℕ) → IsTextOf (standing_value row p) (members (standing_pieces row p))
+standing-is row p = (
+  standing_pieces row p,
+  refl,
+  (
+    (codes "\"number\"", decimal (p + 1), refl, refl, refl),
+    (
+      (codes "\"state\"", string_text (state_word (state_at row.states p)), refl, refl,
+        said-text (state_word (state_at row.states p))),
+      (
+        (codes "\"keep\"", amount (slice_index row.keeps p), refl, refl, said-text (text_of 9 (slice_index row.keeps p))),
+        (
+          (codes "\"vote\"", amount (slice_index row.votes p), refl, refl, said-text (text_of 9 (slice_index row.votes p))),
+          (
+            (codes "\"elected\"", truth (mark_at row.elected p), refl, refl, truth-text (mark_at row.elected p)),
+            (
+              (codes "\"capped\"", truth (mark_at row.capped p), refl, refl, truth-text (mark_at row.capped p)),
+              (
+                (codes "\"tied\"", truth (mark_at row.tied p), refl, refl, truth-text (mark_at row.tied p)),
+                ((codes "\"defeated\"", truth (defeats row.step (p + 1)), refl, refl,
+                      truth-text (defeats row.step (p + 1))), refl),
+              ),
+            ),
+          ),
+        ),
+      ),
+    ),
+  ),
+)
+
+-- ---- an iteration
+
+abbrev standings_text : Row → List ℕ
+standings_text row = 91 ∷ closed (map (λ p. members (standing_pieces row p)) (places (length row.states))) 93
+
+abbrev iteration_pieces : Row → List (List ℕ)
+iteration_pieces row =
+    member (codes "\"round\"") (decimal row.round) ∷ member (codes "\"iteration\"") (decimal row.iteration)
+    ∷ member (codes "\"total\"") (amount row.total) ∷ member (codes "\"quota\"") (amount row.quota)
+    ∷ member (codes "\"surplus\"") (amount row.surplus) ∷ member (codes "\"step\"") (string_text (step_word row.step))
+    ∷ member (codes "\"candidates\"") (standings_text row) ∷ []
+
+abbrev amounts_parts : (i : ℕ) → Row → List (List ℕ)
+amounts_parts i row =
+    comma_at i ∷ codes "{\"round\":" ∷ decimal row.round ∷ codes ",\"iteration\":" ∷ decimal row.iteration
+    ∷ codes ",\"total\":" ∷ amount row.total ∷ codes ",\"quota\":" ∷ amount row.quota ∷ codes ",\"surplus\":"
+    ∷ amount row.surplus
+    ∷ codes ",\"step\":" ∷ string_text (step_word row.step) ∷ codes ",\"candidates\":[" ∷ []
+
+iteration-written : (i : ℕ) (row : Row) → iteration_json i row ≡ comma_at i ++ members (iteration_pieces row)
+iteration-written i row =
+    joined-onto (amounts_parts i row) (flat_map (standing_json row) (places (length row.states)) ++ codes "]}")
+    ∙ ap (onto (amounts_parts i row))
+    (list-written (standing_json row) (λ p. members (standing_pieces row p)) (standing-written row) (125 ∷ [])
+    (length row.states))
+
+standings-are :
+    (row : Row) → IsTextOf (array (map (standing_value row) (places (length row.states)))) (standings_text row)
+standings-are row = (
+  map (λ p. members (standing_pieces row p)) (places (length row.states)),
+  refl,
+  are-items (standing_value row) (λ p. members (standing_pieces row p)) (standing-is row) (places (length row.states)),
+)
+
+iteration-is : (row : Row) → IsTextOf (iteration_value row) (members (iteration_pieces row))
+iteration-is row = (
+  iteration_pieces row,
+  refl,
+  (
+    (codes "\"round\"", decimal row.round, refl, refl, refl),
+    (
+      (codes "\"iteration\"", decimal row.iteration, refl, refl, refl),
+      (
+        (codes "\"total\"", amount row.total, refl, refl, said-text (text_of 9 row.total)),
+        (
+          (codes "\"quota\"", amount row.quota, refl, refl, said-text (text_of 9 row.quota)),
+          (
+            (codes "\"surplus\"", amount row.surplus, refl, refl, said-text (text_of 9 row.surplus)),
+            (
+              (codes "\"step\"", string_text (step_word row.step), refl, refl, said-text (step_word row.step)),
+              ((codes "\"candidates\"", standings_text row, refl, refl, standings-are row), refl),
+            ),
+          ),
+        ),
+      ),
+    ),
+  ),
+)
+
+-- ---- the whole sheet
+
+abbrev candidates_text : SheetList → List ℕ
+candidates_text v = 91 ∷ closed (map (λ p. members (candidate_pieces v p)) (places (length v.names))) 93
+
+abbrev iterations_text : SheetList → List ℕ
+iterations_text v = 91 ∷ closed (map (λ i. members (iteration_pieces (row_at v.rows i))) (places (length v.rows))) 93
+
+abbrev sheet_pieces : SheetList → List (List ℕ)
+sheet_pieces v =
+    member (codes "\"title\"") (string_text v.title) ∷ member (codes "\"seats\"") (decimal v.seats)
+    ∷ member (codes "\"ballots\"") (decimal v.ballots) ∷ member (codes "\"candidates\"") (candidates_text v)
+    ∷ member (codes "\"iterations\"") (iterations_text v) ∷ []
+
+abbrev head_parts : SheetList → List (List ℕ)
+head_parts v =
+    codes "{\"title\":" ∷ string_text v.title ∷ codes ",\"seats\":" ∷ decimal v.seats ∷ codes ",\"ballots\":"
+    ∷ decimal v.ballots
+    ∷ codes ",\"candidates\":[" ∷ []
+
+abbrev pub sheet_text : SheetList → List ℕ
+sheet_text v = members (sheet_pieces v)
+
+-- the text of a sheet, and bytes behind it
+written-onto : (v : SheetList) (more : List ℕ) →
+    members (sheet_pieces v) ++ more
+    ≡ onto (head_parts v) (closed (map (λ p. members (candidate_pieces v p)) (places (length v.names))) 93
+    ++ (codes ",\"iterations\":["
+          ++ (closed (map (λ i. members (iteration_pieces (row_at v.rows i))) (places (length v.rows))) 93
+    ++ 125 ∷ more)))
+written-onto v more =
+    let candidates = closed (map (λ p. members (candidate_pieces v p)) (places (length v.names))) 93 in
+    let iterations = closed (map (λ i. members (iteration_pieces (row_at v.rows i))) (places (length v.rows))) 93 in
+    let behind = codes ",\"iterations\":[" ++ (iterations ++ 125 ∷ []) in
+    onto-append (head_parts v) (candidates ++ behind) more
+    ∙ ap (onto (head_parts v)) (append_assoc candidates behind more
+    ∙ ap (λ (l : List ℕ). candidates ++ (codes ",\"iterations\":[" ++ l)) (append_assoc iterations (125 ∷ []) more))
+
+pub sheet-written : (v : SheetList) → json_of v ≡ sheet_text v ++ 10 ∷ []
+sheet-written v =
+    let head = head_parts v in
+    let iterations = flat_map (iteration_at v) (places (length v.rows)) ++ (codes "]}" ++ 10 ∷ []) in
+    let candidates = closed (map (λ p. members (candidate_pieces v p)) (places (length v.names))) 93 in
+    joined-onto head (flat_map (candidate_json v) (places (length v.names)) ++ (codes "],\"iterations\":[" ++ iterations))
+    ∙ ap (onto head) (list-written (candidate_json v) (λ p. members (candidate_pieces v p)) (candidate-written v)
+    (codes ",\"iterations\":[" ++ iterations) (length v.names)
+    ∙ ap (λ (l : List ℕ). candidates ++ (codes ",\"iterations\":[" ++ l))
+    (list-written (iteration_at v) (λ i. members (iteration_pieces (row_at v.rows i)))
+    (λ i. iteration-written i (row_at v.rows i)) (125 ∷ 10 ∷ []) (length v.rows)))
+    ∙ sym (written-onto v (10 ∷ []))
+
+candidates-are :
+    (v : SheetList) → IsTextOf (array (map (candidate_value v) (places (length v.names)))) (candidates_text v)
+candidates-are v = (
+  map (λ p. members (candidate_pieces v p)) (places (length v.names)),
+  refl,
+  are-items (candidate_value v) (λ p. members (candidate_pieces v p)) (candidate-is v) (places (length v.names)),
+)
+
+iterations-are :
+    (v : SheetList) → IsTextOf (array (map (iteration_value_at v) (places (length v.rows)))) (iterations_text v)
+iterations-are v = (
+  map (λ i. members (iteration_pieces (row_at v.rows i))) (places (length v.rows)),
+  refl,
+  are-items (iteration_value_at v) (λ i. members (iteration_pieces (row_at v.rows i)))
+      (λ i. iteration-is (row_at v.rows i)) (places (length v.rows)),
+)
+
+pub sheet-is : (v : SheetList) → IsTextOf (sheet_value v) (sheet_text v)
+sheet-is v = (
+  sheet_pieces v,
+  refl,
+  (
+    (codes "\"title\"", string_text v.title, refl, refl, said-text v.title),
+    (
+      (codes "\"seats\"", decimal v.seats, refl, refl, refl),
+      (
+        (codes "\"ballots\"", decimal v.ballots, refl, refl, refl),
+        (
+          (codes "\"candidates\"", candidates_text v, refl, refl, candidates-are v),
+          ((codes "\"iterations\"", iterations_text v, refl, refl, iterations-are v), refl),
+        ),
+      ),
+    ),
+  ),
+)
