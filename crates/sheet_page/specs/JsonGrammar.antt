@@ -1,5 +1,5 @@
--- The grammar of JSON (RFC 8259) without white space: which bytes are a text of a value. 44 is the comma, and 58 the colon; 91 and 93 are `[`
--- and `]`, 123 and 125 `{` and `}`.
+-- The grammar of JSON (RFC 8259), as far as a sheet needs it: which bytes are a text of a value. It has no white space, whole numbers alone,
+-- and no null. 44 is the comma, and 58 the colon; 91 and 93 are `[` and `]`, 123 and 125 `{` and `}`.
 use Rattle.std.specs.Prelude.{◌≡◌, ℕ, Bool, true, false, List, [], ◌∷◌, ◌++◌, codes, decimal, Some}
 use Rattle.sheet_page.specs.JsonReading.{read_string}
 
