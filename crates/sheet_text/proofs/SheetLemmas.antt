@@ -1,4 +1,6 @@
--- A sheet under way.
+-- A sheet under way. The rows so far lead from where the count was begun to where it stands, and their lines were written.
+-- Whatever rows lead on from there to the end, with them the lines are those of the whole sheet: so a writing that stops
+-- has written a front of the sheet, and one that ends with the result has written all of it.
 use Rattle.std.proofs.Common.{◌≡◌, ℕ, List, [], ◌∷◌, ◌++◌, length, Option, Result, Ok, Err, IsErr, refl, sym}
 use Rattle.std.proofs.Common.{ap, subst, ◌∙◌, append_assoc, append-nil, inl, inr}
 use Rattle.std.specs.Prelude.{OnOk, OnErr, true}
@@ -22,30 +24,36 @@ use Rattle.sheet_text.specs.Sheet.{StandsWhereItStopped}
 use Rattle.sheet_text.specs.Writing.{Wrote, Stopped, Writes}
 use Rattle.sheet_text.proofs.WritingLemmas.{later, stops, wrote_later, stopped_later}
 
-pub lines_up_to-append :
-    (places : ℕ) (roll : RollList) (ballots : ℕ) (done more : List Row)
-    → lines_up_to places roll ballots (done ++ more)
-    ≡ lines_up_to places roll ballots done ++ flat_map (row_lines places) more
-lines_up_to-append places roll ballots done more =
-    ap (λ (l : List (List ℕ)). head_lines roll ballots ++ l) (flat_map-append (row_lines places) done more)
-    ∙ sym (append_assoc (head_lines roll ballots) (flat_map (row_lines places) done) (flat_map (row_lines places) more))
+-- THE LINES OF A SHEET
 
-pub lines_up_to-one :
-    (places : ℕ) (roll : RollList) (ballots : ℕ) (done : List Row) (row : Row)
-    → lines_up_to places roll ballots (done ++ row ∷ [])
-    ≡ lines_up_to places roll ballots done ++ row_lines places row
-lines_up_to-one places roll ballots done row =
-    lines_up_to-append places roll ballots done (row ∷ [])
-    ∙ ap (λ (l : List (List ℕ)). lines_up_to places roll ballots done ++ l) (append-nil (row_lines places row))
+module _ (places : ℕ) (roll : RollList) (ballots : ℕ) (done : List Row) where
+  -- up to further rows
+  lines_up_to-append :
+      (more : List Row)
+      → lines_up_to places roll ballots (done ++ more)
+      ≡ lines_up_to places roll ballots done ++ flat_map (row_lines places) more
+  lines_up_to-append more =
+      ap (λ (l : List (List ℕ)). head_lines roll ballots ++ l) (flat_map-append (row_lines places) done more)
+      ∙ sym (append_assoc (head_lines roll ballots) (flat_map (row_lines places) done) (flat_map (row_lines places) more))
 
-pub sheet_lines-append :
-    (places : ℕ) (roll : RollList) (ballots : ℕ) (done more : List Row) (last : List State)
-    → sheet_lines places roll ballots (done ++ more) last
-    ≡ lines_up_to places roll ballots done
-    ++ (flat_map (row_lines places) more ++ result_lines roll.names last)
-sheet_lines-append places roll ballots done more last =
-    ap (λ (l : List (List ℕ)). l ++ result_lines roll.names last) (lines_up_to-append places roll ballots done more)
-    ∙ append_assoc (lines_up_to places roll ballots done) (flat_map (row_lines places) more) (result_lines roll.names last)
+  -- up to one row more
+  lines_up_to-one :
+      (row : Row)
+      → lines_up_to places roll ballots (done ++ row ∷ []) ≡ lines_up_to places roll ballots done ++ row_lines places row
+  lines_up_to-one row =
+      lines_up_to-append (row ∷ [])
+      ∙ ap (λ (l : List (List ℕ)). lines_up_to places roll ballots done ++ l) (append-nil (row_lines places row))
+
+  -- all of them
+  sheet_lines-append :
+      (more : List Row) (last : List State)
+      → sheet_lines places roll ballots (done ++ more) last
+      ≡ lines_up_to places roll ballots done ++ (flat_map (row_lines places) more ++ result_lines roll.names last)
+  sheet_lines-append more last =
+      ap (λ (l : List (List ℕ)). l ++ result_lines roll.names last) (lines_up_to-append more)
+      ∙ append_assoc (lines_up_to places roll ballots done) (flat_map (row_lines places) more) (result_lines roll.names last)
+
+-- THE WHOLE SHEET
 
 -- what a call that writes the sheet of a count owes
 pub record OwesSheet {S T E : Type 0} (w : S → Option (List ℕ)) (f : S → ℕ) (a b : S) (rule : Rule)
@@ -54,33 +62,38 @@ pub record OwesSheet {S T E : Type 0} (w : S → Option (List ℕ)) (f : S → �
   pub front : OnErr r (AppendsFrontOfSheet rule places count (w a) (w b))
   pub faults : CountsFault (f a) (f b) r
 
--- the rows that lead from where a count was begun are its rows
-begun_rows :
-    (rule : Rule) (places : ℕ) (count : Progress) (rows : List Row) (last : List State)
-    → HasJustBegun (scale places) count
-    → Rows rule (scale places) count.ballots count.lots count.situation rows last
-    → IsCountUnder rule places count.situation.omega count.ballots count.roll count.lots rows last
-begun_rows rule places count rows last begun whole =
-    subst (λ (now : Situation). Rows rule (scale places) count.ballots count.lots now rows last) begun whole
+module _ {S T E : Type 0} {w : S → Option (List ℕ)} {f : S → ℕ} {a b : S} (rule : Rule) (places : ℕ)
+    (start : Progress) (begun : HasJustBegun (scale places) start) (r : Result T E) where
+  -- What wrote the lines of all rows and of the result wrote the sheet: these rows are those of the count.
+  owes_sheet :
+      (rows : List Row) (last : List State)
+      → Rows rule (scale places) start.ballots start.lots start.situation rows last
+      → Writes w f a b (sheet_lines places start.roll (length start.ballots) rows last) r
+      → OwesSheet w f a b rule places start r
+  owes_sheet rows last whole = by r
+    where
+      counted : IsCountUnder rule places start.situation.omega start.ballots start.roll start.lots rows last
+      counted =
+          subst (λ (now : Situation). Rows rule (scale places) start.ballots start.lots now rows last) begun whole
 
--- what wrote the lines of a whole count wrote its sheet
-pub owes_sheet :
-    {S T E : Type 0} {w : S → Option (List ℕ)} {f : S → ℕ} {a b : S} (rule : Rule) (places : ℕ)
-    (count : Progress) (rows : List Row) (last : List State) (r : Result T E)
-    → HasJustBegun (scale places) count
-    → Rows rule (scale places) count.ballots count.lots count.situation rows last
-    → Writes w f a b (sheet_lines places count.roll (length count.ballots) rows last) r
-    → OwesSheet w f a b rule places count r
-owes_sheet rule places count rows last (Ok x) begun whole did = record {
-  all = (_, (rows, last, begun_rows rule places count rows last begun whole, refl), did.whole);
-  front = tt;
-  faults = did.calm;
-}
-owes_sheet rule places count rows last (Err e) begun whole did = record {
-  all = tt;
-  front = (_, (rows, last, begun_rows rule places count rows last begun whole, refl), did.part);
-  faults = did.rose;
-}
+      by :
+          (r : Result T E) → Writes w f a b (sheet_lines places start.roll (length start.ballots) rows last) r
+          → OwesSheet w f a b rule places start r
+      by (Ok x) did = record { all = (_, (rows, last, counted, refl), did.whole); front = tt; faults = did.calm }
+      by (Err e) did = record { all = tt; front = (_, (rows, last, counted, refl), did.part); faults = did.rose }
+
+  -- The writing stopped within the lines of rows that lead on to the end.
+  stopped_in_sheet :
+      (now : Progress) (done : List Row) → RowsLead rule (scale places) start done now
+      → HasRest rule (scale places) now → IsErr r
+      → Stopped w f a b (lines_up_to places start.roll (length start.ballots) done)
+      → OnErr r (AppendsFrontOfSheet rule places start (w a) (w b))
+  stopped_in_sheet now done leads rest failed stopped =
+      let writes : Writes w f a b (sheet_lines places start.roll (length start.ballots) (done ++ rest.0) rest.1) r =
+      rw sheet_lines-append (stops _ r failed stopped) in
+      (owes_sheet (done ++ rest.0) rest.1 (leads.onward rest.0 rest.1 rest.2) writes).front
+
+-- UNDER WAY
 
 -- The count has come from where it was begun to here, and the lines so far were written.
 pub record IsUnderWay {S : Type 0} (w : S → Option (List ℕ)) (f : S → ℕ) (a b : S) (rule : Rule) (places : ℕ)
@@ -89,111 +102,88 @@ pub record IsUnderWay {S : Type 0} (w : S → Option (List ℕ)) (f : S → ℕ)
   pub leads : RowsLead rule (scale places) start done now
   pub wrote : Wrote w f a b (lines_up_to places start.roll (length start.ballots) done)
 
--- nothing of it was counted yet
-pub under_way :
-    {S : Type 0} {w : S → Option (List ℕ)} {f : S → ℕ} {a b : S} (rule : Rule) (places : ℕ) (count : Progress)
-    → Wrote w f a b (head_lines count.roll (length count.ballots))
-    → IsUnderWay w f a b rule places count count
-under_way rule places count wrote = record {
-  done = [];
-  leads = leads_none rule (scale places) count;
-  wrote = rw append-nil wrote;
-}
+-- a stop at which a fact holds
+on_err : {T E P : Type 0} (r : Result T E) → P → OnErr r P
+on_err (Ok x) p = tt
+on_err (Err e) p = p
 
--- one iteration more was counted and written
-pub one_more :
-    {S : Type 0} {w : S → Option (List ℕ)} {f : S → ℕ} {a b c : S} (rule : Rule) (places : ℕ)
-    (start now next : Progress) (row : Row) → IsUnderWay w f a b rule places start now
-    → RowsLead rule (scale places) now (next.row ∷ []) next → row ≡ next.row
-    → Wrote w f b c (row_lines places row) → IsUnderWay w f a c rule places start next
-one_more {w} {f} {b} {c} rule places start now next row so_far leads is wrote = record {
-  done = so_far.done ++ next.row ∷ [];
-  leads = leads_more rule (scale places) start now next so_far.done (next.row ∷ []) so_far.leads leads;
-  wrote = rw lines_up_to-one (wrote_later so_far.wrote (subst (λ (r : Row). Wrote w f b c (row_lines places r)) is wrote));
-}
+-- at the head nothing of the count was made yet
+module _ {S : Type 0} {w : S → Option (List ℕ)} {f : S → ℕ} {a b : S} (rule : Rule) (places : ℕ)
+    (start : Progress) where
+  -- the head was written
+  pub under_way :
+      Wrote w f a b (head_lines start.roll (length start.ballots)) → IsUnderWay w f a b rule places start start
+  under_way wrote = record { done = []; leads = leads_none rule (scale places) start; wrote = rw append-nil wrote }
 
--- the writing stopped within the lines of rows that lead on to the end
-stopped_in_sheet :
-    {S T E : Type 0} {w : S → Option (List ℕ)} {f : S → ℕ} {a b : S} (rule : Rule) (places : ℕ)
-    (start now : Progress) (done : List Row) (r : Result T E) → HasJustBegun (scale places) start
-    → RowsLead rule (scale places) start done now → HasRest rule (scale places) now → IsErr r
-    → Stopped w f a b (lines_up_to places start.roll (length start.ballots) done)
-    → OnErr r (AppendsFrontOfSheet rule places start (w a) (w b))
-stopped_in_sheet {w} {f} {a} {b} rule places start now done r begun leads rest failed stopped =
-    let whole = leads.onward rest.0 rest.1 rest.2 in
-    let writes : Writes w f a b (sheet_lines places start.roll (length start.ballots) (done ++ rest.0) rest.1) r =
-    rw sheet_lines-append (stops _ r failed stopped) in
-    (owes_sheet rule places start (done ++ rest.0) rest.1 r begun whole writes).front
+  module _ {T E : Type 0} (r : Result T E) (stopped : Stopped w f a b (head_lines start.roll (length start.ballots))) where
+    -- the writing stopped there
+    pub stopped_in_head :
+        HasJustBegun (scale places) start → HasRest rule (scale places) start → IsErr r
+        → OnErr r (AppendsFrontOfSheet rule places start (w a) (w b))
+    stopped_in_head begun rest failed =
+        let none : Stopped w f a b (lines_up_to places start.roll (length start.ballots) []) = rw append-nil stopped in
+        stopped_in_sheet rule places start begun r start [] (leads_none rule (scale places) start) rest failed none
 
--- the writing stopped in the head
-pub stopped_in_head :
-    {S T E : Type 0} {w : S → Option (List ℕ)} {f : S → ℕ} {a b : S} (rule : Rule) (places : ℕ)
-    (count : Progress) (r : Result T E) → HasJustBegun (scale places) count
-    → HasRest rule (scale places) count → IsErr r
-    → Stopped w f a b (head_lines count.roll (length count.ballots))
-    → OnErr r (AppendsFrontOfSheet rule places count (w a) (w b))
-stopped_in_head {w} {f} {a} {b} rule places count r begun rest failed stopped =
-    let stopped' : Stopped w f a b (lines_up_to places count.roll (length count.ballots) []) = rw append-nil stopped in
-    stopped_in_sheet rule places count count [] r begun (leads_none rule (scale places) count) rest failed stopped'
+    -- and so the count stands where it was begun
+    pub stands_in_head : OnErr r (StandsWhereItStopped rule places start start (w a) (w b))
+    stands_in_head = on_err r (inl (refl, stopped.part))
 
--- the writing stopped in a row
-pub stopped_in_row :
-    {S T E : Type 0} {w : S → Option (List ℕ)} {f : S → ℕ} {a b c : S} (rule : Rule) (places : ℕ)
-    (start now next : Progress) (row : Row) (r : Result T E) → HasJustBegun (scale places) start
-    → IsUnderWay w f a b rule places start now → RowsLead rule (scale places) now (next.row ∷ []) next
-    → row ≡ next.row → HasRest rule (scale places) next → IsErr r → Stopped w f b c (row_lines places row)
-    → OnErr r (AppendsFrontOfSheet rule places start (w a) (w c))
-stopped_in_row {w} {f} {a} {b} {c} rule places start now next row r begun so_far leads is rest failed stopped =
-    let further = leads_more rule (scale places) start now next so_far.done (next.row ∷ []) so_far.leads leads in
-    let stopped' : Stopped w f a c (lines_up_to places start.roll (length start.ballots) (so_far.done ++ next.row ∷ [])) =
-    rw lines_up_to-one (stopped_later so_far.wrote (subst (λ (r : Row). Stopped w f b c (row_lines places r)) is stopped)) in
-    stopped_in_sheet rule places start next (so_far.done ++ next.row ∷ []) r begun further rest failed stopped'
+module _ {S : Type 0} {w : S → Option (List ℕ)} {f : S → ℕ} {a b : S} (rule : Rule) (places : ℕ)
+    (start now : Progress) (so_far : IsUnderWay w f a b rule places start now) where
+  -- one iteration more was made, and its row is being written
+  module _ (next : Progress) (row : Row) (leads : RowsLead rule (scale places) now (next.row ∷ []) next)
+      (is : row ≡ next.row) where
+    led : RowsLead rule (scale places) start (so_far.done ++ next.row ∷ []) next
+    led = leads_more rule (scale places) start now next so_far.done (next.row ∷ []) so_far.leads leads
 
--- the count was complete, and its result was written or the writing stopped there
-pub at_end :
-    {S T E : Type 0} {w : S → Option (List ℕ)} {f : S → ℕ} {a b c : S} (rule : Rule) (places : ℕ)
-    (start now : Progress) (names : List (List ℕ)) (last : List State) (r : Result T E)
-    → HasJustBegun (scale places) start → IsUnderWay w f a b rule places start now
-    → is_complete now.situation ≡ true → last ≡ final_states now.situation → names ≡ start.roll.names
-    → Writes w f b c (result_lines names last) r → OwesSheet w f a c rule places start r
-at_end {w} {f} {a} {b} {c} rule places start now names last r begun so_far complete is same writes =
-    let whole : Rows rule (scale places) start.ballots start.lots start.situation so_far.done last =
-    subst (λ (rows : List Row). Rows rule (scale places) start.ballots start.lots start.situation rows last)
-    (append-nil so_far.done) (so_far.leads.onward [] last (complete, is)) in
-    owes_sheet rule places start so_far.done last r begun whole
-    (later c _ r so_far.wrote (subst (λ (n : List (List ℕ)). Writes w f b c (result_lines n last) r) same writes))
+    -- the row was written
+    pub one_more : {c : S} → Wrote w f b c (row_lines places row) → IsUnderWay w f a c rule places start next
+    one_more {c} wrote =
+        let own = subst (λ (r : Row). Wrote w f b c (row_lines places r)) is wrote in
+        record { done = so_far.done ++ next.row ∷ []; leads = led; wrote = rw lines_up_to-one (wrote_later so_far.wrote own) }
+
+    module _ {T E : Type 0} {c : S} (r : Result T E) (stopped : Stopped w f b c (row_lines places row)) where
+      own_row : Stopped w f b c (row_lines places next.row)
+      own_row = subst (λ (r : Row). Stopped w f b c (row_lines places r)) is stopped
+
+      -- the writing stopped there
+      pub stopped_in_row :
+          HasJustBegun (scale places) start → HasRest rule (scale places) next → IsErr r
+          → OnErr r (AppendsFrontOfSheet rule places start (w a) (w c))
+      stopped_in_row begun rest failed =
+          let lines = lines_up_to places start.roll (length start.ballots) (so_far.done ++ next.row ∷ []) in
+          let up_to : Stopped w f a c lines = rw lines_up_to-one (stopped_later so_far.wrote own_row) in
+          stopped_in_sheet rule places start begun r next (so_far.done ++ next.row ∷ []) led rest failed up_to
+
+      -- and so the count stands behind the iteration of that row
+      pub stands_in_row : OnErr r (StandsWhereItStopped rule places start next (w a) (w c))
+      stands_in_row =
+          on_err r (inr (inl (record {
+            done = so_far.done;
+            leads = led;
+            written = (w b, so_far.wrote.whole, own_row.part);
+          })))
+
+  -- The count was complete, and its result was written or the writing stopped there.
+  pub at_end :
+      {T E : Type 0} {c : S} (r : Result T E) (names : List (List ℕ)) (last : List State)
+      → HasJustBegun (scale places) start
+      → is_complete now.situation ≡ true → last ≡ final_states now.situation → names ≡ start.roll.names
+      → Writes w f b c (result_lines names last) r → OwesSheet w f a c rule places start r
+  at_end {c = c} r names last begun complete is same writes =
+      let whole : Rows rule (scale places) start.ballots start.lots start.situation so_far.done last =
+      subst (λ (rows : List Row). Rows rule (scale places) start.ballots start.lots start.situation rows last)
+      (append-nil so_far.done) (so_far.leads.onward [] last (complete, is)) in
+      let result = subst (λ (n : List (List ℕ)). Writes w f b c (result_lines n last) r) same writes in
+      owes_sheet rule places start begun r so_far.done last whole (later c _ r so_far.wrote result)
+
+-- a stop behind the last iteration
+pub stands_ended :
+    {T E : Type 0} (rule : Rule) (places : ℕ) (start now : Progress) (old new : Option (List ℕ))
+    (r : Result T E) → HasEnded now → OnErr r (StandsWhereItStopped rule places start now old new)
+stands_ended rule places start now old new r ended = on_err r (inr (inr ended))
 
 -- a turn is an iteration or the end
 pub not_iterated : (turn : Turn) → (turn ≡ Iterated → ⊥) → turn ≡ Finished
 not_iterated Iterated other = absurd (other refl)
 not_iterated Finished other = refl
-
--- where the count stands when the writing stopped in the head
-pub stands_in_head :
-    {S T E : Type 0} {w : S → Option (List ℕ)} {f : S → ℕ} {a b : S} (rule : Rule) (places : ℕ)
-    (count : Progress) (r : Result T E) → Stopped w f a b (head_lines count.roll (length count.ballots))
-    → OnErr r (StandsWhereItStopped rule places count count (w a) (w b))
-stands_in_head rule places count (Ok x) stopped = tt
-stands_in_head rule places count (Err e) stopped = inl (refl, stopped.part)
-
--- and in a row
-pub stands_in_row :
-    {S T E : Type 0} {w : S → Option (List ℕ)} {f : S → ℕ} {a b c : S} (rule : Rule) (places : ℕ)
-    (start now next : Progress) (row : Row) (r : Result T E) → IsUnderWay w f a b rule places start now
-    → RowsLead rule (scale places) now (next.row ∷ []) next → row ≡ next.row
-    → Stopped w f b c (row_lines places row)
-    → OnErr r (StandsWhereItStopped rule places start next (w a) (w c))
-stands_in_row rule places start now next row (Ok x) so_far leads is stopped = tt
-stands_in_row {w} {f} {a} {b} {c} rule places start now next row (Err e) so_far leads is stopped =
-    inr (inl (record {
-      done = so_far.done;
-      leads = leads_more rule (scale places) start now next so_far.done (next.row ∷ []) so_far.leads leads;
-      written = (w b, so_far.wrote.whole, (subst (λ (r : Row). Stopped w f b c (row_lines places r)) is stopped).part);
-    }))
-
--- and at its end
-pub stands_ended :
-    {T E : Type 0} (rule : Rule) (places : ℕ) (start now : Progress) (old new : Option (List ℕ))
-    (r : Result T E) → HasEnded now → OnErr r (StandsWhereItStopped rule places start now old new)
-stands_ended rule places start now old new (Ok x) ended = tt
-stands_ended rule places start now old new (Err e) ended = inr (inr ended)

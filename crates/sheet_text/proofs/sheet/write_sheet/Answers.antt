@@ -7,8 +7,8 @@ use Rattle.sheet_text.proofs.sheet.write_sheet.Goals as goal
 pub returns-in_err-write_head_by-clause-front : goal.returns-in_err-write_head_by-clause-front
 returns-in_err-write_head_by-clause-front g c =
     let stopped = rw (c.roll-2.ensures.value, c.ballots.ensures.value) at c.in_err-write_head_by.ensures in
-    stopped_in_head g.D.Spread.rule g.row.P c.args.count.now _ c.requires c.ballots.ensures.rest
-    c.from_residual.ensures.0 stopped
+    stopped_in_head g.D.Spread.rule g.row.P c.args.count.now _ stopped c.requires c.ballots.ensures.rest
+    c.from_residual.ensures.0
 
 pub returns-in_err-write_head_by-clause-stands : goal.returns-in_err-write_head_by-clause-stands
 returns-in_err-write_head_by-clause-stands g c =
@@ -22,19 +22,19 @@ rows-init g c =
 
 pub rows-preserved : goal.rows-preserved
 rows-preserved g c =
-    one_more g.D.Spread.rule g.row.P c.args.count.now c.rows.count c.next.new.self c.row.result.now
-    c.rows.invariant (c.in-Iterated.ensures.leads refl) c.row.ensures.value c.in_ok-write_row_by.ensures
+    one_more g.D.Spread.rule g.row.P c.args.count.now c.rows.count c.rows.invariant c.next.new.self c.row.result.now
+    (c.in-Iterated.ensures.leads refl) c.row.ensures.value c.in_ok-write_row_by.ensures
 
 pub returns-in_err-write_row_by-clause-front : goal.returns-in_err-write_row_by-clause-front
 returns-in_err-write_row_by-clause-front g c =
-    stopped_in_row g.D.Spread.rule g.row.P c.args.count.now c.rows.count c.next.new.self c.row.result.now _
-    c.requires c.rows.invariant (c.in-Iterated.ensures.leads refl) c.row.ensures.value
-    c.in-Iterated.ensures.rest c.from_residual-in_err-write_row_by.ensures.0 c.in_err-write_row_by.ensures
+    stopped_in_row g.D.Spread.rule g.row.P c.args.count.now c.rows.count c.rows.invariant c.next.new.self
+    c.row.result.now (c.in-Iterated.ensures.leads refl) c.row.ensures.value _ c.in_err-write_row_by.ensures
+    c.requires c.in-Iterated.ensures.rest c.from_residual-in_err-write_row_by.ensures.0
 
 pub returns-in_err-write_row_by-clause-stands : goal.returns-in_err-write_row_by-clause-stands
 returns-in_err-write_row_by-clause-stands g c =
-    stands_in_row g.D.Spread.rule g.row.P c.args.count.now c.rows.count c.next.new.self c.row.result.now _
-    c.rows.invariant (c.in-Iterated.ensures.leads refl) c.row.ensures.value c.in_err-write_row_by.ensures
+    stands_in_row g.D.Spread.rule g.row.P c.args.count.now c.rows.count c.rows.invariant c.next.new.self
+    c.row.result.now (c.in-Iterated.ensures.leads refl) c.row.ensures.value _ c.in_err-write_row_by.ensures
 
 pub returns-clause-stands : goal.returns-clause-stands
 returns-clause-stands g c =
@@ -47,15 +47,13 @@ returns-clause-all g c =
     let done = not_iterated c.next.result c.in_default.not-Iterated in
     let last = c.states.ensures.value ∙ c.next.ensures.last done in
     let roll = c.roll-3.ensures.value ∙ c.next.ensures.same.roll ∙ c.rows.invariant.leads.same.roll in
-    (at_end g.D.Spread.rule g.row.P c.args.count.now c.rows.count _ _ c.write_result_by.result c.requires
-    c.rows.invariant (c.next.ensures.at_end.0 done) last (ap (λ (r : RollList). r.names) roll)
-    c.write_result_by.ensures).all
+    (at_end g.D.Spread.rule g.row.P c.args.count.now c.rows.count c.rows.invariant c.write_result_by.result _ _ c.requires
+    (c.next.ensures.at_end.0 done) last (ap (λ (r : RollList). r.names) roll) c.write_result_by.ensures).all
 
 pub returns-clause-front : goal.returns-clause-front
 returns-clause-front g c =
     let done = not_iterated c.next.result c.in_default.not-Iterated in
     let last = c.states.ensures.value ∙ c.next.ensures.last done in
     let roll = c.roll-3.ensures.value ∙ c.next.ensures.same.roll ∙ c.rows.invariant.leads.same.roll in
-    (at_end g.D.Spread.rule g.row.P c.args.count.now c.rows.count _ _ c.write_result_by.result c.requires
-    c.rows.invariant (c.next.ensures.at_end.0 done) last (ap (λ (r : RollList). r.names) roll)
-    c.write_result_by.ensures).front
+    (at_end g.D.Spread.rule g.row.P c.args.count.now c.rows.count c.rows.invariant c.write_result_by.result _ _ c.requires
+    (c.next.ensures.at_end.0 done) last (ap (λ (r : RollList). r.names) roll) c.write_result_by.ensures).front
