@@ -6,6 +6,7 @@ mod LineLemmas
 mod LineLists
 mod LineParts
 mod Places
+mod ReadRow
 mod ReadRows
 mod ReadSheet
 mod RowLines

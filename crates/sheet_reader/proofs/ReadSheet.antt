@@ -2,18 +2,19 @@
 use Rattle.std.proofs.Common.{◌≡◌, ℕ, ◌≤◌, List, [], ◌∷◌, ◌++◌, length, sym, ◌∙◌, ap, subst, arith}
 use Rattle.std.specs.Prelude.{◌≢◌, codes, decimal, All}
 use Rattle.std.proofs.lemmas.Fmt.{decimal_injective}
+use Rattle.plain_ballots.specs.declared.limits.TheConstants.{MOST_CANDIDATES}
 use Rattle.candidate_roll.specs.Name.{IsName}
 use Rattle.candidate_roll.specs.Roll.{IsFew}
 use Rattle.candidate_roll.specs.declared.state.State.{State}
 use Rattle.meek_rule.specs.Places.{each_place}
 use Rattle.meek_rule.specs.Row.{Row}
-use Rattle.sheet_text.specs.Lines.{text_of_lines, outcome_line}
+use Rattle.sheet_text.specs.Lines.{outcome_line}
 use Rattle.sheet_reader.specs.Form.{HasForm, IsPrintableRow}
-use Rattle.sheet_reader.specs.LineList.{lines_in, IsOfLines}
-use Rattle.sheet_reader.specs.Parts.{NoHead, NoRows, NoEnd, count_lines, head_lines, end_lines, rows_lines}
+use Rattle.sheet_reader.specs.LineList.{lines_in}
+use Rattle.sheet_reader.specs.Parts.{NoHead, NoRows, NoEnd, count_lines, head_lines, rows_lines}
 use Rattle.sheet_reader.specs.Values.{SheetList}
 use Rattle.sheet_reader.proofs.LineParts.{heads, behind_front}
-use Rattle.sheet_reader.proofs.RowLines.{behind_rows}
+use Rattle.sheet_reader.proofs.RowValues.{rows_say}
 use Rattle.sheet_reader.proofs.SheetLines.{form_lines}
 
 abbrev pub outcomes_of : SheetList → List (List ℕ)
@@ -56,41 +57,13 @@ pub rows_of :
 rows_of n bytes v same is = subst (λ (m : ℕ). All (IsPrintableRow 9 m) v.rows) (sym same) is.in_range.rows
 
 pub at_outcomes :
-    (n : ℕ) (bytes : List ℕ) (v : SheetList) (rows : List Row) (l2 l3 : List (List ℕ)) → HasForm 9 bytes v
-    → (n ≡ length v.names) × (l2 ≡ behind_counts v)
+    (n : ℕ) (bytes : List ℕ) (v : SheetList) (rows : List Row) (l2 l3 : List (List ℕ)) → n ≤ MOST_CANDIDATES
+    → HasForm 9 bytes v → (n ≡ length v.names) × (l2 ≡ behind_counts v)
     → All (IsPrintableRow 9 n) rows → l2 ≡ rows_lines 9 rows ++ codes "result" ∷ l3
     → l3 ≡ each_place n (outcome_line v.last v.names) ++ codes "end" ∷ []
-at_outcomes n bytes v rows l2 l3 is at all read =
-    behind_rows n rows v.rows l3 (outcomes_of v) all (rows_of n bytes v at.0 is) (sym read ∙ at.1)
+at_outcomes n bytes v rows l2 l3 few is at all read =
+    (rows_say n rows v.rows l3 (outcomes_of v) few all (rows_of n bytes v at.0 is) (sym read ∙ at.1)).1
     ∙ ap (λ (k : ℕ). each_place k (outcome_line v.last v.names) ++ codes "end" ∷ []) (is.in_range.last ∙ sym at.0)
-
--- the whole sheet was read
-pub sheet_read :
-    {values : SheetList} (bytes : List ℕ) (n : ℕ) (lines l1 l2 : List (List ℕ)) → IsOfLines bytes
-    → lines ≡ lines_in bytes
-    → IsName 1000 values.title × IsFew values.seats × IsFew n × (values.ballots ≤ 999999999)
-    × (lines ≡ head_lines values.title values.seats n values.ballots ++ l1)
-    → All (IsPrintableRow 9 n) values.rows × (l1 ≡ rows_lines 9 values.rows ++ codes "result" ∷ l2)
-    → (length values.last ≡ n) × (length values.names ≡ n) × All (IsName 200) values.names
-    × (l2 ≡ end_lines n values.last values.names)
-    → HasForm 9 bytes values
-sheet_read {values} bytes n lines l1 l2 ended e head rows outcomes = record {
-  in_range = record {
-    title = head.0;
-    seats = head.1;
-    ballots = head.3;
-    candidates = subst (λ (m : ℕ). IsFew m) (sym outcomes.1) head.2;
-    names = outcomes.2;
-    rows = subst (λ (m : ℕ). All (IsPrintableRow 9 m) values.rows) (sym outcomes.1) rows.0;
-    last = outcomes.0 ∙ sym outcomes.1;
-  };
-  text = ended ∙ ap (λ (ls : List (List ℕ)). text_of_lines ls) (sym e ∙ head.4
-      ∙ ap (λ (k : ℕ). head_lines values.title values.seats k values.ballots ++ l1) (sym outcomes.1)
-      ∙ ap (λ (ls : List (List ℕ)). head_lines values.title values.seats (length values.names) values.ballots
-      ++ ls)
-      (rows.1 ∙ ap (λ (ls : List (List ℕ)). rows_lines 9 values.rows ++ codes "result" ∷ ls)
-      (outcomes.3 ∙ ap (λ (k : ℕ). end_lines k values.last values.names) (sym outcomes.0))));
-}
 
 module _ (bytes : List ℕ) (lines : List (List ℕ)) (whole : lines ≡ lines_in bytes) where
   -- where a part is missing, the text has no form
@@ -113,7 +86,7 @@ module _ (bytes : List ℕ) (lines : List (List ℕ)) (whole : lines ≡ lines_i
         → NoEnd n l2 → (v : SheetList) → ¬ (HasForm 9 bytes v)
     end_stops rows l2 all next none v is =
         let at = at_rows bytes title v seats n ballots lines l1 whole is few head in
-        none v.last v.names (sym at.0) is.in_range.names (at_outcomes n bytes v rows l1 l2 is at all next)
+        none v.last v.names (sym at.0) is.in_range.names (at_outcomes n bytes v rows l1 l2 few.1 is at all next)
 
 -- ---- where a first part is missing
 

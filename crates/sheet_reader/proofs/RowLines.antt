@@ -1,15 +1,13 @@
 -- The lines of an iteration are read in one way.
 use Rattle.std.proofs.Common.{◌≡◌, ℕ, ◌<◌, Bool, true, false, List, [], ◌∷◌, ◌++◌, length, refl, sym, ◌∙◌, ap}
 use Rattle.std.proofs.Common.{arith, append_assoc, get_or}
-use Rattle.std.specs.Prelude.{◌≢◌, codes, decimal, All}
+use Rattle.std.specs.Prelude.{◌≢◌, codes, decimal}
 use Rattle.std.specs.List.{list_any}
-use Rattle.std.proofs.lemmas.List.Elements.{All-head, All-tail}
 use Rattle.meek_rule.specs.Places.{each_place}
 use Rattle.meek_rule.specs.Row.{Row}
 use Rattle.meek_rule.specs.declared.step.Step.{Step}
 use Rattle.meek_rule.specs.declared.step.Step.TheVariants.{Elected, Iterate, Defeat}
 use Rattle.sheet_text.specs.Lines.{listed, marked_lines, step_line, row_lines, number_line, candidate_line}
-use Rattle.sheet_reader.specs.Form.{IsPrintableRow}
 use Rattle.sheet_reader.specs.Parts.{number_line_of, standing_lines, standing_at, amount_lines_of}
 use Rattle.sheet_reader.specs.Parts.{decision_lines_of, defeat_line, rows_lines}
 use Rattle.sheet_reader.proofs.LineLemmas.{candidate_line_is}
@@ -165,21 +163,3 @@ pub rows_cons :
     (row : Row) (rows : List Row) (rest : List (List ℕ))
     → rows_lines 9 (row ∷ rows) ++ rest ≡ row_lines 9 row ++ (rows_lines 9 rows ++ rest)
 rows_cons row rows rest = append_assoc (row_lines 9 row) (rows_lines 9 rows) rest
-
--- what stands behind all iterations
-pub behind_rows :
-    (n : ℕ) (rows others : List Row) (rest behind : List (List ℕ)) → All (IsPrintableRow 9 n) rows
-    → All (IsPrintableRow 9 n) others
-    → rows_lines 9 rows ++ codes "result" ∷ rest ≡ rows_lines 9 others ++ codes "result" ∷ behind → rest ≡ behind
-behind_rows n [] [] rest behind p q e = (heads (codes "result") (codes "result") rest behind e).1
-behind_rows n [] (o ∷ others) rest behind p q e =
-    absurd (row_not_result o (rows_lines 9 others ++ codes "result" ∷ behind) rest
-    (sym (e ∙ rows_cons o others (codes "result" ∷ behind))))
-behind_rows n (r ∷ rows) [] rest behind p q e =
-    absurd (row_not_result r (rows_lines 9 rows ++ codes "result" ∷ rest) behind
-    (sym (rows_cons r rows (codes "result" ∷ rest)) ∙ e))
-behind_rows n (r ∷ rows) (o ∷ others) rest behind p q e =
-    behind_rows n rows others rest behind (All-tail (IsPrintableRow 9 n) r rows p) (All-tail (IsPrintableRow 9 n) o others q)
-    (behind_row n r o (rows_lines 9 rows ++ codes "result" ∷ rest) (rows_lines 9 others ++ codes "result" ∷ behind)
-    (All-head (IsPrintableRow 9 n) r rows p).of_all.states (All-head (IsPrintableRow 9 n) o others q).of_all.states
-    (sym (rows_cons r rows (codes "result" ∷ rest)) ∙ e ∙ rows_cons o others (codes "result" ∷ behind)))

@@ -23,7 +23,7 @@ use Rattle.sheet_reader.proofs.Cuts.{cut_once, decimal_without, amount_injective
 use Rattle.sheet_reader.proofs.LineLemmas.{listed_once, standing_once}
 use Rattle.sheet_reader.proofs.LineParts.{heads, behind_front, behind_as_long, length-each_place, any_none}
 use Rattle.sheet_reader.proofs.LineParts.{marked_or_not, with_line}
-use Rattle.sheet_reader.proofs.ReadRows.{at_numbers, behind_amounts, behind_numbers, behind_standings}
+use Rattle.sheet_reader.proofs.ReadRow.{in_parts, behind_amounts, behind_numbers, behind_standings}
 use Rattle.sheet_reader.proofs.RowLines.{after_capped, after_elected, decision_is, elected_line, iterate_line}
 use Rattle.sheet_reader.proofs.RowLines.{marks_once, row_not_result, rows_cons, step_line_is}
 use Rattle.sheet_reader.proofs.WordLines.{defeat_once, defeated_small}
@@ -144,8 +144,7 @@ row_says n row other rest behind few is also e =
     let one =
     heads (number_line_of row.round row.iteration) (number_line_of other.round other.iteration)
     (behind_numbers n row rest) (behind_numbers n other behind)
-    (sym (at_numbers n row (row_lines 9 row ++ rest) rest is refl)
-    ∙ at_numbers n other (row_lines 9 row ++ rest) behind also e) in
+    (sym (in_parts row rest is.of_all.states refl) ∙ in_parts other behind also.of_all.states e) in
     let numbers =
     numbers_once row.round row.iteration other.round other.iteration (omega (arith, is.round))
     is.iteration (omega (arith, also.round)) also.iteration one.0 in

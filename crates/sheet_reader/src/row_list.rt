@@ -2,9 +2,11 @@
 ghost use Rattle.std.specs.Prelude.{◌≡◌, ◌<◌, ◌↔◌, [], ◌∷◌, ◌++◌, length, reverse, slice_get, IfErr, IfNone, IfSome, IsNone, OnErr, OnOk};
 
 use crate::PushBack;
-use meek_rule::Row;
+use crate::row_sink::RowSink;
+use meek_rule::{NoMemory, Row};
 use std::alloc::Global;
 use std::marker::Model;
+use std::mem;
 
 /// Iterations in the order in which they were made.
 #[derive(Debug, Drop)]
@@ -76,5 +78,17 @@ impl RowList {
         ensures { slice_get self.now i ≡ Some result.now }
     {
         &self.list[i]
+    }
+}
+
+impl RowSink for RowList {
+    ghost takes = { λ before row after. after ≡ before ++ row ∷ [] };
+
+    fn take(&mut self, alloc: Global, row: &mut Row<9>) -> Result<(), NoMemory> {
+        let next = Row::new(alloc, row.states.len() as u32)?;
+        match self.push(mem::replace(row, next)) {
+            Ok(()) => Ok(()),
+            Err(_) => Err(NoMemory),
+        }
     }
 }

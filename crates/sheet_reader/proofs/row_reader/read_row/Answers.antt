@@ -1,54 +1,62 @@
-use Rattle.std.proofs.Common.{◌≡◌, ℕ, length, sym, ◌∙◌, ap, subst}
+use Rattle.std.proofs.Common.{ℕ, length, sym, ◌∙◌, ap, subst}
 use Rattle.meek_rule.specs.Row.{Row}
 use Rattle.meek_count.specs.Ranges.{HasTiedFor}
-use Rattle.sheet_reader.specs.Form.{IsPrintableRow}
-use Rattle.sheet_reader.proofs.ReadRows.{at_numbers, at_standings, behind_amounts_at, at_decision}
-use Rattle.sheet_reader.proofs.ReadRows.{behind_amounts, behind_standings, row_read}
+use Rattle.sheet_reader.proofs.LineParts.{heads, behind_places}
+use Rattle.sheet_reader.proofs.ReadRow.{in_parts, of_parts, behind_three}
 use Rattle.sheet_reader.proofs.row_reader.read_row.Goals as goal
 
 pub returns-in_default : goal.returns-in_default
 returns-in_default c row rest is e =
-    c.in_default.ensures row.round row.iteration _ is.round is.iteration
-    (at_numbers _ row c.args.lines.now rest is e)
+    c.in_default.ensures row.round row.iteration _ is.round is.iteration (in_parts row rest is.of_all.states e)
 
 pub returns-then-not-read_standings : goal.returns-then-not-read_standings
 returns-then-not-read_standings c row rest is e =
-    let all : length c.row.inside.states ≡ length c.args.row.now.states = ap (λ (r : Row). length r.states) c.row.view_is in
-    let here : IsPrintableRow 9 (length c.row.inside.states) row = subst (λ (m : ℕ). IsPrintableRow 9 m row) (sym all) is in
-    c.if-not-read_standings.ensures.read row.states row.keeps row.votes (behind_standings row rest)
-    here.of_all.keeps here.of_all.votes is.keeps is.votes
-    (at_standings (length c.row.inside.states) c.in-Some.round c.in-Some.iteration row c.args.lines.now _ rest
-    here c.in-Some.ensures.2 e)
+    let all = sym (ap (λ (r : Row). length r.states) c.row.view_is) in
+    let at_standings = (heads _ _ _ _ (sym c.in-Some.ensures.2 ∙ in_parts row rest (is.of_all.states ∙ all) e)).1 in
+    c.if-not-read_standings.ensures.read row.states row.keeps row.votes _ (is.of_all.keeps ∙ all)
+    (is.of_all.votes ∙ all) is.keeps is.votes at_standings
 
 pub returns-in_default-read_amounts : goal.returns-in_default-read_amounts
 returns-in_default-read_amounts c row rest is e =
-    let all : length c.row.inside.states ≡ length c.args.row.now.states = ap (λ (r : Row). length r.states) c.row.view_is in
-    let here : IsPrintableRow 9 (length c.row.inside.states) row = subst (λ (m : ℕ). IsPrintableRow 9 m row) (sym all) is in
-    c.in_default-read_amounts.ensures row.total row.quota row.surplus (behind_amounts row rest) is.total is.quota is.surplus
-    (behind_amounts_at (length c.row.inside.states) c.in-Some.round c.in-Some.iteration
-    c.read_standings.new.states c.read_standings.new.keeps c.read_standings.new.votes row c.args.lines.now _
-    _ rest here
-    c.in-Some.ensures.2 c.if-not-read_standings.ensures.read.2 e)
+    let all = sym (ap (λ (r : Row). length r.states) c.row.view_is) in
+    let at_standings = (heads _ _ _ _ (sym c.in-Some.ensures.2 ∙ in_parts row rest (is.of_all.states ∙ all) e)).1 in
+    let at_amounts = behind_places _ _ _ _ _ (sym c.if-not-read_standings.ensures.read.2 ∙ at_standings) in
+    c.in_default-read_amounts.ensures row.total row.quota row.surplus _ is.total is.quota is.surplus at_amounts
 
 pub returns-in_default-read_decision : goal.returns-in_default-read_decision
 returns-in_default-read_decision c row rest is e =
-    let all : length c.row.inside.states ≡ length c.args.row.now.states = ap (λ (r : Row). length r.states) c.row.view_is in
-    let marked : length c.row.inside.tied ≡ length c.args.row.now.states =
-    ap (λ (r : Row). length r.tied) c.row.view_is ∙ c.requires.room.tied in
-    let here : IsPrintableRow 9 (length c.row.inside.states) row = subst (λ (m : ℕ). IsPrintableRow 9 m row) (sym all) is in
+    let all = sym (ap (λ (r : Row). length r.states) c.row.view_is) in
+    let marked = sym (ap (λ (r : Row). length r.tied) c.row.view_is ∙ c.requires.room.tied) in
+    let at_standings = (heads _ _ _ _ (sym c.in-Some.ensures.2 ∙ in_parts row rest (is.of_all.states ∙ all) e)).1 in
+    let at_amounts = behind_places _ _ _ _ _ (sym c.if-not-read_standings.ensures.read.2 ∙ at_standings) in
+    let at_decision = behind_three (sym c.in-Some-read_amounts.ensures.3 ∙ at_amounts) in
     c.in_default-read_decision.ensures.read row.elected row.capped row.tied row.step rest
-    (is.of_all.elected ∙ sym marked) (is.of_all.capped ∙ sym marked) (is.of_all.tied ∙ sym marked)
-    (subst (λ (j : ℕ). HasTiedFor j row.step row.tied) (sym marked) is.tied)
-    (at_decision (length c.row.inside.states) c.in-Some.round c.in-Some.iteration c.read_standings.new.states
-    c.read_standings.new.keeps c.read_standings.new.votes _ _ _ row c.args.lines.now _ _ _ rest here
-    c.in-Some.ensures.2 c.if-not-read_standings.ensures.read.2 c.in-Some-read_amounts.ensures.3 e)
+    (is.of_all.elected ∙ marked) (is.of_all.capped ∙ marked) (is.of_all.tied ∙ marked)
+    (subst (λ (j : ℕ). HasTiedFor j row.step row.tied) marked is.tied) at_decision
 
 pub returns : goal.returns
 returns c =
-    row_read _ _ _ _ _ (ap (λ (r : Row). length r.states) c.row.view_is)
-    (ap (λ (r : Row). length r.tied) c.row.view_is ∙ c.requires.room.tied)
-    c.in-Some.ensures c.read_standings.ensures.states c.read_standings.ensures.keeps
-    c.read_standings.ensures.votes c.if-not-read_standings.ensures.read
-    c.in-Some-read_amounts.ensures
-    c.read_decision.ensures.elected c.read_decision.ensures.capped c.read_decision.ensures.tied
-    c.in-Some-read_decision.ensures.read
+    let all = ap (λ (r : Row). length r.states) c.row.view_is in
+    let marked = ap (λ (r : Row). length r.tied) c.row.view_is ∙ c.requires.room.tied in
+    let numbers = c.in-Some.ensures in
+    let standings = c.if-not-read_standings.ensures.read in
+    let amounts = c.in-Some-read_amounts.ensures in
+    let decision = c.in-Some-read_decision.ensures.read in
+    of_parts _ (record {
+      of_all = record {
+        states = c.read_standings.ensures.states ∙ all;
+        keeps = c.read_standings.ensures.keeps ∙ all;
+        votes = c.read_standings.ensures.votes ∙ all;
+        elected = c.read_decision.ensures.elected ∙ marked;
+        capped = c.read_decision.ensures.capped ∙ marked;
+        tied = c.read_decision.ensures.tied ∙ marked;
+      };
+      round = numbers.0;
+      iteration = numbers.1;
+      keeps = standings.0;
+      votes = standings.1;
+      total = amounts.0;
+      quota = amounts.1;
+      surplus = amounts.2;
+      tied = subst (λ (j : ℕ). HasTiedFor j c.in-Some-read_decision.step c.read_decision.new.tied) marked decision.0;
+    }) c.read_standings.ensures.states numbers.2 standings.2 amounts.3 decision.1

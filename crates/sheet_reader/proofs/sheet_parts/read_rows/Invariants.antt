@@ -1,0 +1,13 @@
+use Rattle.std.proofs.Common.{length}
+use Rattle.meek_rule.specs.Row.{HasRoomFor}
+use Rattle.sheet_reader.proofs.ReadRows.{AreReadUpTo}
+use Rattle.sheet_reader.proofs.sheet_parts.read_rows.Given as goal
+
+abbrev pub invariant-loop-alloc : goal.invariant-loop-alloc
+invariant-loop-alloc g l = record {
+  room : HasRoomFor l.candidates l.row;
+  so_far : AreReadUpTo g.K.RowSink.takes l.candidates l.fn.lines l.lines l.fn.sink l.sink;
+}
+
+abbrev pub decreases-loop-alloc : goal.decreases-loop-alloc
+decreases-loop-alloc g l = length l.lines

@@ -1,0 +1,91 @@
+// A sheet that is read part by part.
+ghost use Rattle.std.specs.Prelude.{◌≡◌, ◌≤◌, ◌∷◌, ◌++◌, List, All, codes, MatchResult};
+ghost use Rattle.std.specs.List.{FoldsTo};
+ghost use Rattle.plain_ballots.specs.declared.limits.TheConstants.{MOST_CANDIDATES};
+ghost use Rattle.meek_rule.specs.Row.{Row as Iteration};
+ghost use Rattle.sheet_reader.specs.Form.{HasForm, IsPrintableRow};
+ghost use Rattle.sheet_reader.specs.Parts.{NoRows, rows_lines};
+ghost use Rattle.sheet_reader.specs.Refusal.{Stops};
+ghost use Rattle.sheet_reader.specs.Values.{SheetList};
+
+use crate::SheetStop;
+use crate::head::read_head;
+use crate::lines::{Lines, is_ended};
+use crate::outcomes::read_end;
+use crate::row_reader::read_row;
+use crate::row_sink::RowSink;
+use candidate_roll::{Name, Names, States};
+use line_text::Line;
+use meek_rule::Row;
+use std::alloc::Global;
+
+/// What stands in a sheet around its iterations.
+#[derive(Drop)]
+pub(crate) struct SheetParts {
+    pub title: Name<1000>,
+    pub seats: u32,
+    pub ballots: u32,
+    pub names: Names,
+    pub last: States,
+}
+
+/// Reads a sheet from its title to its end, at nine places, and hands on each iteration.
+pub(crate) fn read_parts<K: RowSink>(
+    alloc: Global,
+    bytes: &[u8],
+    sink: &mut K,
+) -> Result<SheetParts, SheetStop>
+    ensures { MatchResult result
+        (λ parts. (rows : List Iteration) × FoldsTo K.takes sink.old rows sink.new × HasForm 9 bytes.now (record {
+          title = parts.title;
+          seats = parts.seats;
+          ballots = parts.ballots;
+          names = parts.names;
+          rows = rows;
+          last = parts.last;
+        }))
+        (λ stop. Stops stop ((values : SheetList) → ¬ (HasForm 9 bytes.now values))) }
+{
+    if !is_ended(bytes) {
+        return Err(SheetStop::Malformed);
+    }
+    let mut lines = Lines::new(bytes);
+    let head = read_head(alloc, &mut lines)?;
+    read_rows(alloc, &mut lines, head.candidates, sink)?;
+    let (last, names) = read_end(alloc, &mut lines, head.candidates as usize)?;
+    Ok(SheetParts {
+        title: head.title,
+        seats: head.seats,
+        ballots: head.ballots,
+        names,
+        last,
+    })
+}
+
+/// Hands on all iterations of so many candidates, up to the line of the result.
+fn read_rows<K: RowSink>(
+    alloc: Global,
+    lines: &mut Lines<'_>,
+    candidates: u32,
+    sink: &mut K,
+) -> Result<(), SheetStop>
+    requires few { candidates ≤ MOST_CANDIDATES }
+    ensures { MatchResult result
+        (λ _. (rows : List Iteration) × FoldsTo K.takes sink.old rows sink.new
+        × All (IsPrintableRow 9 candidates) rows × (lines.old ≡ rows_lines 9 rows ++ codes "result" ∷ lines.new))
+        (λ stop. Stops stop (NoRows candidates lines.old)) }
+{
+    let mut line = Line::new();
+    let Ok(mut row) = Row::new(alloc, candidates) else {
+        return Err(SheetStop::NoMemory);
+    };
+    while !lines.skips(b"result") {
+        if !read_row(lines, &mut line, &mut row) {
+            return Err(SheetStop::Malformed);
+        }
+        let Ok(()) = sink.take(alloc, &mut row) else {
+            return Err(SheetStop::NoMemory);
+        };
+    }
+    Ok(())
+}
