@@ -7,9 +7,14 @@ mod TieBreaks
 mod Kept
 mod Members
 mod MemberSteps
+mod StandingSteps
 mod CoalitionSteps
+mod CoalitionEnd
 mod Seated
+mod SolidBallots
+mod LeftOver
 mod Coalitions
+mod SolidMajority
 mod Orderly
 mod FirstVotes
 mod FirstQuota

@@ -1,7 +1,7 @@
 -- Orderly counts are proportional.
 use Rattle.std.proofs.Common.{◌≡◌, ℕ, ◌+◌, ◌-◌, ◌*◌, ◌<◌, ◌≤◌, ◌&&◌, not, Bool, true, false, cond, List, ◌++◌}
-use Rattle.std.proofs.Common.{length, get_or, sum, All, arith, refl, ap}
-use Rattle.std.proofs.Common.{sym, subst, ◌∙◌, ◌||◌, ◌/◌, inl, inr, zero, suc, lit≤}
+use Rattle.std.proofs.Common.{length, get_or, sum, All, arith, refl, ap, sym, subst, ◌∙◌, ◌||◌, ◌/◌, inl, inr}
+use Rattle.std.proofs.Common.{zero, suc, lit≤}
 use Rattle.std.proofs.Math.Nat.{pow-suc, mul_comm, mul-le-mul_left, mul-le-mul_right, lt_of_mul-lt-mul_right}
 use Rattle.std.proofs.Math.Nat.{div-mul-le_self}
 use Rattle.std.proofs.lemmas.Bool.{cases_eq}
@@ -27,9 +27,8 @@ use Rattle.meek_count.specs.Rows.{IsCountUnder}
 use Rattle.rule_laws.specs.Coalition.{IsSolid, running_members, elected_members}
 use Rattle.rule_laws.specs.Orderly.{IsOrderly, shortfalls}
 use Rattle.rule_laws.proofs.Totals.{count-total, one_if, sum-total, total, total-add, total-le, total-times}
-use Rattle.rule_laws.proofs.Members.{IsWithin, above, below, elected_of}
-use Rattle.rule_laws.proofs.Seated.{seated}
-use Rattle.rule_laws.proofs.Coalitions.{coalition-stays, members-total, shares_enough}
+use Rattle.rule_laws.proofs.Members.{IsWithin, above, below}
+use Rattle.rule_laws.proofs.Coalitions.{shares_enough, coalition_seated}
 
 -- what others lack together is part of what each lacks
 lack_point : (m hold : Bool) (q v : ℕ) → one_if (not m && hold) * q ≤ cond (not m && hold) v 0 + cond hold (q - v) 0
@@ -153,18 +152,13 @@ pub count-orderly :
     → k ≤ elected_members (length roll.names) members last
 count-orderly rule places units ballots coalition others roll lots rows last members k u d is moved counted
     solid running orderly small more =
-    let s : ℕ = scale places in
-    let n : ℕ = length roll.names in
-    let some : k ≤ elected_of n (mark_at members) last =
-    seated rule places units ballots roll lots rows last (mark_at members) k (length coalition) (u + d)
-    (IsOrderly u d) is counted orderly
-    (coalition-stays rule places units ballots coalition others roll lots members is moved solid)
-    (λ now row next valid going long seats settles good. orderly_within n (mark_at members) k u d s now
-    (votes_under rule s now.keeps ballots n) lots
-    row next settles long good.short row.step good.surplus)
-    (omega (arith, running, count-total n (λ p. mark_at members p && not (mark_at roll.withdrawn p))))
-    (shares_enough (scale places) (length ballots) (length coalition) k (u + d) (roll.seats + 1) (omega arith) small more) in
-    omega (arith, members-total n members last)
+    coalition_seated rule places units ballots coalition others roll lots rows last members k (u + d) (IsOrderly u d) is
+    moved counted solid running orderly
+    (λ now row next valid going long seats settles good.
+    orderly_within (length roll.names) (mark_at members) k u d (scale places) now
+    (votes_under rule (scale places) now.keeps ballots (length roll.names)) lots row next settles long good.short row.step
+    good.surplus)
+    (shares_enough (scale places) (length ballots) (length coalition) k (u + d) (roll.seats + 1) (omega arith) small more)
 
 -- HUNDREDTHS
 

@@ -26,7 +26,8 @@ use Rattle.rule_laws.proofs.Totals.{count_by-total, one_if, total, total-add, to
 use Rattle.rule_laws.proofs.Walk.{IsEnd, walk}
 use Rattle.rule_laws.proofs.Decided.{becomes-itself}
 use Rattle.rule_laws.proofs.Members.{IsWithin, Stands, VotesStay, elected_of}
-use Rattle.rule_laws.proofs.CoalitionSteps.{stands-end, stands-step}
+use Rattle.rule_laws.proofs.CoalitionEnd.{stands-end}
+use Rattle.rule_laws.proofs.CoalitionSteps.{stands-step}
 
 -- THE OPENING
 
