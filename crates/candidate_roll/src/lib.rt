@@ -3,6 +3,7 @@
 #![tactic(auto)]
 
 mod laws;
+mod limits;
 mod name;
 mod name_stop;
 mod names;
@@ -14,6 +15,7 @@ mod state;
 mod states;
 
 pub use laws::refusals_are_unique;
+pub use limits::{MOST_NAME_BYTES, MOST_TITLE_BYTES};
 pub use name::Name;
 pub use name_stop::NameStop;
 pub use names::Names;

@@ -1,14 +1,14 @@
 // The names of all candidates.
 ghost use Rattle.std.specs.Prelude.{◌≡◌, ◌<◌, ◌↔◌, [], ◌∷◌, ◌++◌, length, reverse, slice_get, IfOk, OnOk, OnErr, IfErr, IfSome, IfNone, IsNone};
 
-use crate::{Name, NoMemory, PushBack};
+use crate::{MOST_NAME_BYTES, Name, NoMemory, PushBack};
 use std::alloc::Global;
 use std::marker::Model;
 
 /// The names of all candidates: candidate c's stands at index c - 1.
 #[derive(Debug, Drop)]
 pub struct Names {
-    list: Vec<Name<200>>,
+    list: Vec<Name<MOST_NAME_BYTES>>,
 }
 
 impl Model for Names {
@@ -28,7 +28,10 @@ impl Names {
         }
     }
 
-    pub fn push(&mut self, item: Name<200>) -> Result<(), PushBack<Name<200>>>
+    pub fn push(
+        &mut self,
+        item: Name<MOST_NAME_BYTES>,
+    ) -> Result<(), PushBack<Name<MOST_NAME_BYTES>>>
         ensures ok { OnOk result (self.new ≡ self.old ++ item ∷ []) }
         ensures refused { OnErr result (self.new ≡ self.old) }
         ensures handed_back { IfErr result (λ back. back.item ≡ item) }
@@ -54,7 +57,7 @@ impl Names {
         Ok(Names { list })
     }
 
-    pub fn pop(&mut self) -> Option<Name<200>>
+    pub fn pop(&mut self) -> Option<Name<MOST_NAME_BYTES>>
         ensures last { IfSome result (λ item. self.old ≡ self.new ++ item ∷ []) }
         ensures empty { IsNone result ↔ (self.old ≡ []) }
         ensures kept { IfNone result (self.new ≡ self.old) }
@@ -74,13 +77,13 @@ impl Names {
         self.list.len()
     }
 
-    pub fn items(&self) -> &[Name<200>]
+    pub fn items(&self) -> &[Name<MOST_NAME_BYTES>]
         ensures { result.now ≡ self.now }
     {
         self.list.as_slice()
     }
 
-    pub fn get(&self, i: usize) -> &Name<200>
+    pub fn get(&self, i: usize) -> &Name<MOST_NAME_BYTES>
         requires { i < length self.now }
         ensures { slice_get self.now i ≡ Some result.now }
     {

@@ -2,7 +2,7 @@
 ghost use Rattle.std.specs.Prelude.{◌≡◌, ◌-◌, ◌≤◌, length, slice_get, All, IfOk, IfErr};
 ghost use Rattle.candidate_roll.specs.Roll.{IsRoll, IsRollStop, is_withdrawn, withdrawn_marks, marks_with};
 
-use crate::{Name, Names, NoMemory, RollStop};
+use crate::{MOST_NAME_BYTES, MOST_TITLE_BYTES, Name, Names, NoMemory, RollStop};
 use plain_ballots::MOST_CANDIDATES;
 use std::alloc::Global;
 use std::marker::Model;
@@ -13,7 +13,7 @@ use std::marker::Model;
 pub struct Roll {
     seats: u32,
     names: Names,
-    title: Name<1000>,
+    title: Name<MOST_TITLE_BYTES>,
     withdrawn: Vec<bool>,
 }
 
@@ -34,7 +34,7 @@ impl Roll {
         alloc: Global,
         seats: u32,
         names: Names,
-        title: Name<1000>,
+        title: Name<MOST_TITLE_BYTES>,
         withdrawn: &[u32],
     ) -> Result<Roll, RollStop>
         requires { All (λ c. (1 ≤ c) × (c ≤ length names)) withdrawn.now }
@@ -96,14 +96,14 @@ impl Roll {
         self.names.len() as u32
     }
 
-    pub fn name(&self, c: u32) -> &Name<200>
+    pub fn name(&self, c: u32) -> &Name<MOST_NAME_BYTES>
         requires { (1 ≤ c) × (c ≤ length self.now.names) }
         ensures { slice_get self.now.names (c - 1) ≡ Some result.now }
     {
         self.names.get((c - 1) as usize)
     }
 
-    pub fn title(&self) -> &Name<1000>
+    pub fn title(&self) -> &Name<MOST_TITLE_BYTES>
         ensures { result.now ≡ self.now.title }
     {
         &self.title

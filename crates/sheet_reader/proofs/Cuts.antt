@@ -7,6 +7,7 @@ use Rattle.std.proofs.lemmas.Grind.{take_at_read}
 use Rattle.std.specs.Str.Parse.{AllDigits}
 use Rattle.std.proofs.lemmas.Str.Parse.{digit_from_value}
 use Rattle.std.proofs.lemmas.Fmt.{decimal_is_IsNumeral}
+use Rattle.plain_ballots.specs.declared.limits.TheConstants.{MOST_CANDIDATES}
 use Rattle.candidate_roll.specs.declared.state.State.{State}
 use Rattle.candidate_roll.specs.declared.state.State.TheVariants.{Hopeful, Elected, Defeated, Withdrawn}
 use Rattle.fixed_place.specs.Text.{text_of, last_digits}
@@ -160,7 +161,7 @@ scale-most places = omega (arith, most_is places)
 
 -- the parts of a candidate's line
 pub parts_of_standing : (places p : ℕ) (state : State) (keep vote : ℕ) (a b c e text : List ℕ)
-    → places ≤ 9 → p < 250 → keep ≤ scale places → vote ≤ most places
+    → places ≤ 9 → p < MOST_CANDIDATES → keep ≤ scale places → vote ≤ most places
     → text ≡ four_parts_of a b c e → IsWithout 32 a → IsWithout 32 b → IsWithout 32 c
     → text ≡ standing_line places p state keep vote
     → (a ≡ decimal (p + 1)) × (b ≡ state_word state) × (c ≡ text_of places keep) × (e ≡ text_of places vote)

@@ -3,6 +3,7 @@ use Rattle.std.proofs.Common.{◌≡◌, ℕ, ◌<◌, ◌≤◌, List, [], ◌�
 use Rattle.std.specs.Prelude.{codes, decimal, slice_index_or, Ok, Err}
 use Rattle.std.proofs.lemmas.Fmt.{decimal_injective}
 use Rattle.std.proofs.lemmas.List.{ext_get_or}
+use Rattle.plain_ballots.specs.declared.limits.TheConstants.{MOST_BALLOTS, MOST_CANDIDATES}
 use Rattle.candidate_roll.specs.State.{state_at}
 use Rattle.candidate_roll.specs.declared.state.State.{State}
 use Rattle.candidate_roll.specs.declared.state.State.TheVariants.{Withdrawn}
@@ -17,13 +18,13 @@ use Rattle.sheet_reader.proofs.ReadSheet.{behind_counts, behind_title, outcomes_
 use Rattle.sheet_reader.proofs.RowValues.{each_place-at, rows_say}
 use Rattle.sheet_reader.proofs.SheetLines.{form_lines}
 
-number_once : (word : List ℕ) (m n : ℕ) → m ≤ 999999999 → n ≤ 999999999 → word ++ decimal m ≡ word ++ decimal n → m ≡ n
+number_once : (word : List ℕ) (m n : ℕ) → m ≤ MOST_BALLOTS → n ≤ MOST_BALLOTS → word ++ decimal m ≡ word ++ decimal n → m ≡ n
 number_once word m n small few e =
     decimal_injective m n (omega (arith, small)) (omega (arith, few))
     (behind_front word (decimal m) (decimal n) e)
 
 -- the lines of the result say all last states and all names
-outcomes_say : (n : ℕ) (states others : List State) (names called : List (List ℕ)) → n ≤ 250
+outcomes_say : (n : ℕ) (states others : List State) (names called : List (List ℕ)) → n ≤ MOST_CANDIDATES
     → length states ≡ n → length others ≡ n → length names ≡ n → length called ≡ n
     → each_place n (outcome_line states names) ≡ each_place n (outcome_line others called)
     → (states ≡ others) × (names ≡ called)

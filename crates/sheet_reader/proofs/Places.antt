@@ -4,6 +4,8 @@ use Rattle.std.proofs.Common.{subst, arith, append_assoc}
 use Rattle.std.specs.Prelude.{◌≢◌, All, decimal, slice_index, slice_index_or, slice_set}
 use Rattle.std.proofs.lemmas.List.{get_or-set_same, get_or-set_other, get_or_push, get_or_append_left}
 use Rattle.std.proofs.lemmas.List.Elements.{All-get_or}
+use Rattle.plain_ballots.specs.declared.limits.TheConstants.{MOST_CANDIDATES}
+use Rattle.candidate_roll.specs.declared.limits.TheConstants.{MOST_NAME_BYTES}
 use Rattle.candidate_roll.specs.Name.{IsName}
 use Rattle.candidate_roll.specs.State.{state_at}
 use Rattle.candidate_roll.specs.declared.state.State.{State}
@@ -78,13 +80,13 @@ outcome_line_is states names p =
     append_assoc (decimal (p + 1)) (32 ∷ state_word (state_at states p)) (32 ∷ slice_index_or names p [])
 
 pub no_outcome :
-    (p : ℕ) (state : State) (bytes text : List ℕ) (lines new : List (List ℕ)) → p < 250 → lines ≡ text ∷ new
+    (p : ℕ) (state : State) (bytes text : List ℕ) (lines new : List (List ℕ)) → p < MOST_CANDIDATES → lines ≡ text ∷ new
     → text ≡ outcome_of p state bytes
-    → (¬ (IsName 200 bytes)) → (other : State) (name : List ℕ) (rest : List (List ℕ)) → IsName 200 name
+    → (¬ (IsName MOST_NAME_BYTES bytes)) → (other : State) (name : List ℕ) (rest : List (List ℕ)) → IsName MOST_NAME_BYTES name
     → lines ≢ outcome_of p other name ∷ rest
 no_outcome p state bytes text lines new few read is unnamed other name rest named e =
     let same = heads text (outcome_of p other name) new rest (sym read ∙ e) in
-    unnamed (subst (λ (t : List ℕ). IsName 200 t)
+    unnamed (subst (λ (t : List ℕ). IsName MOST_NAME_BYTES t)
     (sym (outcome_once p state other bytes name few (sym is ∙ same.0)).1) named)
 
 -- the outcome at place p was read
@@ -120,11 +122,11 @@ outcome_more p states names states' names' state name all left new within long s
 -- at the place p there is no outcome
 pub no_outcomes : (n p : ℕ) (states : List State) (names : List (List ℕ)) (all left : List (List ℕ)) → p < n
     → all ≡ each_place p (outcome_line states names) ++ left
-    → ((state : State) (name : List ℕ) (rest : List (List ℕ)) → IsName 200 name → left ≢ outcome_of p state name ∷ rest)
+    → ((state : State) (name : List ℕ) (rest : List (List ℕ)) → IsName MOST_NAME_BYTES name → left ≢ outcome_of p state name ∷ rest)
     → (others : List State) (called : List (List ℕ)) (rest : List (List ℕ)) → length called ≡ n
-    → All (IsName 200) called → all ≢ each_place n (outcome_line others called) ++ rest
+    → All (IsName MOST_NAME_BYTES) called → all ≢ each_place n (outcome_line others called) ++ rest
 no_outcomes n p states names all left below read none others called rest long named other =
     let next = next_place (outcome_line states names) (outcome_line others called) p n all left rest below read other in
     none (state_at others p) (slice_index_or called p []) next.0
-    (All-get_or (IsName 200) called p [] (omega (arith, below, long)) named)
+    (All-get_or (IsName MOST_NAME_BYTES) called p [] (omega (arith, below, long)) named)
     (next.1 ∙ ap (λ (l : List ℕ). l ∷ next.0) (outcome_line_is others called p))

@@ -3,6 +3,7 @@ use Rattle.std.proofs.Common.{◌≡◌, ℕ, ◌≤◌, List, [], ◌∷◌, �
 use Rattle.std.specs.Prelude.{◌≢◌, codes, decimal, All}
 use Rattle.std.proofs.lemmas.Fmt.{decimal_injective}
 use Rattle.plain_ballots.specs.declared.limits.TheConstants.{MOST_CANDIDATES}
+use Rattle.candidate_roll.specs.declared.limits.TheConstants.{MOST_NAME_BYTES, MOST_TITLE_BYTES}
 use Rattle.candidate_roll.specs.Name.{IsName}
 use Rattle.candidate_roll.specs.Roll.{IsFew}
 use Rattle.candidate_roll.specs.declared.state.State.{State}
@@ -92,13 +93,13 @@ module _ (bytes : List ℕ) (lines : List (List ℕ)) (whole : lines ≡ lines_i
 
 pub no_head :
     (lines : List (List ℕ))
-    → ((title : List ℕ) (rest : List (List ℕ)) → IsName 1000 title → lines ≢ (codes "title " ++ title) ∷ rest)
+    → ((title : List ℕ) (rest : List (List ℕ)) → IsName MOST_TITLE_BYTES title → lines ≢ (codes "title " ++ title) ∷ rest)
     → NoHead lines
 no_head lines none title seats candidates ballots rest named fs fc small =
     none title (count_lines seats candidates ballots ++ rest) named
 
 pub no_end : (n : ℕ) (lines : List (List ℕ))
     → ((states : List State) (names : List (List ℕ)) (rest : List (List ℕ)) → length names ≡ n
-    → All (IsName 200) names → lines ≢ each_place n (outcome_line states names) ++ rest)
+    → All (IsName MOST_NAME_BYTES) names → lines ≢ each_place n (outcome_line states names) ++ rest)
     → NoEnd n lines
 no_end n lines none states names = none states names (codes "end" ∷ [])

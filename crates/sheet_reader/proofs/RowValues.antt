@@ -7,6 +7,7 @@ use Rattle.std.proofs.lemmas.Fmt.{decimal_injective}
 use Rattle.std.proofs.lemmas.List.{ext_get_or}
 use Rattle.std.proofs.lemmas.List.Elements.{All-get_or, All-head, All-tail}
 use Rattle.std.proofs.lemmas.List.FromFn.{get_or-map-range_with_len}
+use Rattle.plain_ballots.specs.declared.limits.TheConstants.{MOST_CANDIDATES}
 use Rattle.candidate_roll.specs.State.{state_at}
 use Rattle.candidate_roll.specs.declared.state.State.TheVariants.{Withdrawn}
 use Rattle.fixed_place.specs.Rounding.{scale, most}
@@ -55,7 +56,7 @@ amount_once word u w small small' e =
 
 -- a line of marks, or that there is none, says who is marked
 marks_say :
-    (word : List ℕ) (marks others : List Bool) (rest behind : List (List ℕ)) → length marks ≤ 250
+    (word : List ℕ) (marks others : List Bool) (rest behind : List (List ℕ)) → length marks ≤ MOST_CANDIDATES
     → length others ≡ length marks
     → ((text : List ℕ) (more : List (List ℕ)) → rest ≢ (word ++ text) ∷ more)
     → ((text : List ℕ) (more : List (List ℕ)) → behind ≢ (word ++ text) ∷ more)
@@ -79,7 +80,7 @@ abbrev sixth : List ℕ → ℕ
 sixth text = get_or text 5 0
 
 step_says :
-    (n : ℕ) (step other : Step) (tied marks : List Bool) → n ≤ 250 → length tied ≡ n → length marks ≡ n
+    (n : ℕ) (step other : Step) (tied marks : List Bool) → n ≤ MOST_CANDIDATES → length tied ≡ n → length marks ≡ n
     → HasTiedFor n step tied → HasTiedFor n other marks
     → step_line step tied ≡ step_line other marks → (step ≡ other) × (tied ≡ marks)
 step_says n Elected Elected tied marks few lt lm has also e = (refl, has ∙ sym also)
@@ -104,7 +105,7 @@ step_says n (Defeat c) (Defeat d) tied marks few lt lm has also e =
     (ap (λ k. Defeat k) parts.0, listed_once tied marks (omega (arith, few, lt)) (lm ∙ sym lt) parts.1)
 
 -- the lines of the candidates say all states, keep values and votes
-standings_say : (n : ℕ) (row other : Row) → n ≤ 250 → IsPrintableRow 9 n row → IsPrintableRow 9 n other
+standings_say : (n : ℕ) (row other : Row) → n ≤ MOST_CANDIDATES → IsPrintableRow 9 n row → IsPrintableRow 9 n other
     → standing_lines 9 n row.states row.keeps row.votes ≡ standing_lines 9 n other.states other.keeps other.votes
     → (row.states ≡ other.states) × (row.keeps ≡ other.keeps) × (row.votes ≡ other.votes)
 standings_say n row other few is also e = (
@@ -137,7 +138,7 @@ standings_say n row other few is also e = (
 
 -- the lines of an iteration say all of it
 pub row_says :
-    (n : ℕ) (row other : Row) (rest behind : List (List ℕ)) → n ≤ 250 → IsPrintableRow 9 n row
+    (n : ℕ) (row other : Row) (rest behind : List (List ℕ)) → n ≤ MOST_CANDIDATES → IsPrintableRow 9 n row
     → IsPrintableRow 9 n other
     → row_lines 9 row ++ rest ≡ row_lines 9 other ++ behind → (row ≡ other) × (rest ≡ behind)
 row_says n row other rest behind few is also e =
@@ -209,7 +210,7 @@ row_says n row other rest behind few is also e =
 
 -- the lines of all iterations, up to that of the result, say all of them
 pub rows_say :
-    (n : ℕ) (rows others : List Row) (rest behind : List (List ℕ)) → n ≤ 250 → All (IsPrintableRow 9 n) rows
+    (n : ℕ) (rows others : List Row) (rest behind : List (List ℕ)) → n ≤ MOST_CANDIDATES → All (IsPrintableRow 9 n) rows
     → All (IsPrintableRow 9 n) others
     → rows_lines 9 rows ++ codes "result" ∷ rest ≡ rows_lines 9 others ++ codes "result" ∷ behind
     → (rows ≡ others) × (rest ≡ behind)

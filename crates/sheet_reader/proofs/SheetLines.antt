@@ -5,6 +5,8 @@ use Rattle.std.specs.Prelude.{codes, decimal, All, slice_index, slice_index_or}
 use Rattle.std.specs.List.{flat_map, list_any}
 use Rattle.std.proofs.lemmas.Grind.{flat_map-append}
 use Rattle.std.proofs.lemmas.List.Elements.{All-head, All-tail, All-get_or}
+use Rattle.plain_ballots.specs.declared.limits.TheConstants.{MOST_CANDIDATES}
+use Rattle.candidate_roll.specs.declared.limits.TheConstants.{MOST_NAME_BYTES}
 use Rattle.candidate_roll.specs.Name.{IsName}
 use Rattle.candidate_roll.specs.State.{state_at}
 use Rattle.candidate_roll.specs.declared.state.State.{State}
@@ -59,7 +61,7 @@ list_without c (true ∷ marks) small =
 list_without c (false ∷ marks) small = list_without (c + 1) marks (omega (arith, small))
 
 marks_lines :
-    (word : List ℕ) (marks : List Bool) → IsWithout 10 word → length marks ≤ 250
+    (word : List ℕ) (marks : List Bool) → IsWithout 10 word → length marks ≤ MOST_CANDIDATES
     → AreLines (marked_lines word marks)
 marks_lines word marks w few = by (list_any (λ mark. mark) marks) refl
   where
@@ -70,7 +72,7 @@ marks_lines word marks w few = by (list_any (λ mark. mark) marks) refl
     by false e = subst (λ (ls : List (List ℕ)). AreLines ls) (sym (marked_or_not word marks false e)) tt
 
 step_without :
-    (n : ℕ) (step : Step) (tied : List Bool) → n ≤ 250 → length tied ≡ n → HasTiedFor n step tied
+    (n : ℕ) (step : Step) (tied : List Bool) → n ≤ MOST_CANDIDATES → length tied ≡ n → HasTiedFor n step tied
     → IsWithout 10 (step_line step tied)
 step_without n Elected tied few long has = subst (λ (t : List ℕ). IsWithout 10 t) (sym (elected_line tied)) refl
 step_without n Iterate tied few long has = subst (λ (t : List ℕ). IsWithout 10 t) (sym (iterate_line tied)) refl
@@ -84,7 +86,7 @@ amount : (u : ℕ) → u ≤ most 9 → IsWithout 10 (text_of 9 u)
 amount u small = amount_without 10 9 u (omega arith) (omega arith) small
 
 standing :
-    (n : ℕ) (row : Row) → n ≤ 250 → IsPrintableRow 9 n row → (p : ℕ) → p < n
+    (n : ℕ) (row : Row) → n ≤ MOST_CANDIDATES → IsPrintableRow 9 n row → (p : ℕ) → p < n
     → IsWithout 10 (standing_at 9 row.states row.keeps row.votes p)
 standing n row few is p below =
     let keep =
@@ -102,7 +104,7 @@ standing n row few is p below =
     (word_without_end (state_at row.states p)) behind)
 
 decision :
-    (n : ℕ) (row : Row) → n ≤ 250 → IsPrintableRow 9 n row
+    (n : ℕ) (row : Row) → n ≤ MOST_CANDIDATES → IsPrintableRow 9 n row
     → AreLines (decision_lines_of row.elected row.capped row.step row.tied)
 decision n row few is =
     lines-append (marked_lines (codes "elected") row.elected)
@@ -113,7 +115,7 @@ decision n row few is =
     (step_without n row.step row.tied few is.of_all.tied is.tied, tt))
 
 row_lines-are :
-    (n : ℕ) (row : Row) (rest : List (List ℕ)) → n ≤ 250 → IsPrintableRow 9 n row → AreLines rest
+    (n : ℕ) (row : Row) (rest : List (List ℕ)) → n ≤ MOST_CANDIDATES → IsPrintableRow 9 n row → AreLines rest
     → AreLines (row_lines 9 row ++ rest)
 row_lines-are n row rest few is behind =
     let decided = decision_lines_of row.elected row.capped row.step row.tied in
@@ -135,7 +137,7 @@ row_lines-are n row rest few is behind =
     )
 
 rows-are :
-    (n : ℕ) (rows : List Row) (rest : List (List ℕ)) → n ≤ 250 → All (IsPrintableRow 9 n) rows → AreLines rest
+    (n : ℕ) (rows : List Row) (rest : List (List ℕ)) → n ≤ MOST_CANDIDATES → All (IsPrintableRow 9 n) rows → AreLines rest
     → AreLines (rows_lines 9 rows ++ rest)
 rows-are n [] rest few all behind = behind
 rows-are n (r ∷ rows) rest few all behind =
@@ -144,10 +146,10 @@ rows-are n (r ∷ rows) rest few all behind =
     (rows-are n rows rest few (All-tail (IsPrintableRow 9 n) r rows all) behind))
 
 outcome :
-    (states : List State) (names : List (List ℕ)) → length names ≤ 250 → All (IsName 200) names → (p : ℕ)
+    (states : List State) (names : List (List ℕ)) → length names ≤ MOST_CANDIDATES → All (IsName MOST_NAME_BYTES) names → (p : ℕ)
     → p < length names → IsWithout 10 (outcome_line states names p)
 outcome states names few all p below =
-    let name = All-get_or (IsName 200) names p [] below all in
+    let name = All-get_or (IsName MOST_NAME_BYTES) names p [] below all in
     let word = state_word (state_at states p) in
     subst (λ (t : List ℕ). IsWithout 10 t) (sym (outcome_line_is states names p))
     (with_word (decimal (p + 1)) (32 ∷ (word ++ 32 ∷ slice_index_or names p [])) (number (p + 1) (omega (arith, below, few)))

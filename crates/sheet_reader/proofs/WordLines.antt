@@ -5,6 +5,7 @@ use Rattle.std.specs.Prelude.{◌≢◌, codes, decimal, Result, Ok, Err, MatchR
 use Rattle.std.proofs.lemmas.Bool.Decides.{nat_tests}
 use Rattle.std.proofs.lemmas.Fmt.{decimal_injective}
 use Rattle.std.proofs.lemmas.List.Elements.{All-get_or}
+use Rattle.plain_ballots.specs.declared.limits.TheConstants.{MOST_CANDIDATES}
 use Rattle.candidate_roll.specs.Name.{IsName, IsBadByteAt}
 use Rattle.candidate_roll.specs.declared.state.State.{State}
 use Rattle.sheet_text.specs.Lines.{state_word}
@@ -89,7 +90,7 @@ defeat_once n m text list other small few one two =
 
 -- the number of a candidate who stands among the tied
 pub defeated_small :
-    (n len : ℕ) (tied : List Bool) → len ≤ 250 → length tied ≡ len → HasTiedFor len (Defeat n) tied → n ≤ len
+    (n len : ℕ) (tied : List Bool) → len ≤ MOST_CANDIDATES → length tied ≡ len → HasTiedFor len (Defeat n) tied → n ≤ len
 defeated_small n len tied few long has = omega (arith, has.0, long, inside tied (n - 1) has.1)
 
 pub number_text :

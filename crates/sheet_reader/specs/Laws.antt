@@ -1,5 +1,6 @@
 -- A sheet that is written is read back.
 use Rattle.std.specs.Prelude.{◌≡◌, ℕ, List, length, All, Result}
+use Rattle.candidate_roll.specs.declared.limits.TheConstants.{MOST_NAME_BYTES, MOST_TITLE_BYTES}
 use Rattle.candidate_roll.specs.Name.{IsName}
 use Rattle.candidate_roll.specs.Roll.{RollList}
 use Rattle.candidate_roll.specs.declared.state.State.{State}
@@ -26,8 +27,8 @@ WrittenValuesAreRead =
 
 -- a title and names such as ballot files have
 pub record HasNames (roll : RollList) : Type 0 where
-  pub title : IsName 1000 roll.title
-  pub names : All (IsName 200) roll.names
+  pub title : IsName MOST_TITLE_BYTES roll.title
+  pub names : All (IsName MOST_NAME_BYTES) roll.names
 
 -- what the sheet of a count says of it
 abbrev pub values_of : RollList → (ballots : ℕ) → List Row → List State → SheetList

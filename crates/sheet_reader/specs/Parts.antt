@@ -2,6 +2,7 @@
 use Rattle.std.specs.Prelude.{◌≡◌, ℕ, ◌+◌, ◌≢◌, ◌≤◌, All, Bool, List, [], ◌∷◌, ◌++◌, codes, decimal, length, slice_index, slice_set}
 use Rattle.std.specs.List.{flat_map}
 use Rattle.plain_ballots.specs.declared.limits.TheConstants.{MOST_BALLOTS}
+use Rattle.candidate_roll.specs.declared.limits.TheConstants.{MOST_NAME_BYTES, MOST_TITLE_BYTES}
 use Rattle.candidate_roll.specs.Name.{IsName}
 use Rattle.candidate_roll.specs.Roll.{IsFew}
 use Rattle.candidate_roll.specs.State.{state_at}
@@ -26,7 +27,7 @@ head_lines title seats candidates ballots = (codes "title " ++ title) ∷ count_
 -- no title and numbers come next
 abbrev pub NoHead : (lines : List (List ℕ)) → Type 0
 NoHead lines =
-    (title : List ℕ) (seats candidates ballots : ℕ) (rest : List (List ℕ)) → IsName 1000 title → IsFew seats → IsFew candidates → ballots ≤ MOST_BALLOTS
+    (title : List ℕ) (seats candidates ballots : ℕ) (rest : List (List ℕ)) → IsName MOST_TITLE_BYTES title → IsFew seats → IsFew candidates → ballots ≤ MOST_BALLOTS
     → lines ≢ head_lines title seats candidates ballots ++ rest
 
 -- the numbers of a round and an iteration
@@ -65,7 +66,7 @@ end_lines n states names = each_place n (outcome_line states names) ++ codes "en
 
 -- the end of a sheet of n candidates is not what comes next
 abbrev pub NoEnd : (n : ℕ) → (lines : List (List ℕ)) → Type 0
-NoEnd n lines = (states : List State) (names : List (List ℕ)) → length names ≡ n → All (IsName 200) names → lines ≢ end_lines n states names
+NoEnd n lines = (states : List State) (names : List (List ℕ)) → length names ≡ n → All (IsName MOST_NAME_BYTES) names → lines ≢ end_lines n states names
 
 -- the lines of some iterations
 abbrev pub rows_lines : (places : ℕ) → List Row → List (List ℕ)

@@ -1,6 +1,7 @@
 // How a sheet begins.
 ghost use Rattle.std.specs.Prelude.{◌≡◌, ◌≢◌, ◌<◌, ◌≤◌, ◌^◌, ◌∷◌, ◌++◌, ℕ, List, codes, decimal, MatchOption, MatchResult};
 ghost use Rattle.plain_ballots.specs.declared.limits.TheConstants.{MOST_BALLOTS};
+ghost use Rattle.candidate_roll.specs.declared.limits.TheConstants.{MOST_TITLE_BYTES};
 ghost use Rattle.candidate_roll.specs.Name.{IsName};
 ghost use Rattle.candidate_roll.specs.Roll.{IsFew};
 ghost use Rattle.sheet_reader.specs.Parts.{NoHead, count_lines, head_lines};
@@ -9,14 +10,14 @@ ghost use Rattle.sheet_reader.specs.Refusal.{Stops};
 use crate::SheetStop;
 use crate::lines::Lines;
 use crate::number::read_count;
-use candidate_roll::{Name, NameStop};
+use candidate_roll::{MOST_TITLE_BYTES, Name, NameStop};
 use plain_ballots::{MOST_BALLOTS, MOST_CANDIDATES};
 use std::alloc::Global;
 
 /// What stands in a sheet before its iterations.
 #[derive(Drop)]
 pub(crate) struct Head {
-    pub title: Name<1000>,
+    pub title: Name<MOST_TITLE_BYTES>,
     pub seats: u32,
     pub candidates: u32,
     pub ballots: u32,
@@ -25,7 +26,7 @@ pub(crate) struct Head {
 /// The title and the numbers of a sheet.
 pub(crate) fn read_head(alloc: Global, lines: &mut Lines<'_>) -> Result<Head, SheetStop>
     ensures { MatchResult result
-        (λ head. IsName 1000 head.title × IsFew head.seats × IsFew head.candidates × (head.ballots ≤ MOST_BALLOTS)
+        (λ head. IsName MOST_TITLE_BYTES head.title × IsFew head.seats × IsFew head.candidates × (head.ballots ≤ MOST_BALLOTS)
         × (lines.old ≡ head_lines head.title head.seats head.candidates head.ballots ++ lines.new))
         (λ stop. Stops stop (NoHead lines.old)) }
 {
@@ -45,10 +46,10 @@ pub(crate) fn read_head(alloc: Global, lines: &mut Lines<'_>) -> Result<Head, Sh
 }
 
 /// The title of a sheet.
-fn read_title(alloc: Global, lines: &mut Lines<'_>) -> Result<Name<1000>, SheetStop>
+fn read_title(alloc: Global, lines: &mut Lines<'_>) -> Result<Name<MOST_TITLE_BYTES>, SheetStop>
     ensures { MatchResult result
-        (λ title. IsName 1000 title × (lines.old ≡ (codes "title " ++ title) ∷ lines.new))
-        (λ stop. Stops stop ((title : List ℕ) (rest : List (List ℕ)) → IsName 1000 title
+        (λ title. IsName MOST_TITLE_BYTES title × (lines.old ≡ (codes "title " ++ title) ∷ lines.new))
+        (λ stop. Stops stop ((title : List ℕ) (rest : List (List ℕ)) → IsName MOST_TITLE_BYTES title
         → lines.old ≢ (codes "title " ++ title) ∷ rest)) }
 {
     let Some(title) = lines.next_after(b"title ") else {

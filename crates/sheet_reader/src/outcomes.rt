@@ -1,6 +1,7 @@
 // How a sheet ends: what became of each candidate.
 ghost use Rattle.std.specs.Prelude.{◌≡◌, ◌≢◌, ◌+◌, ◌<◌, ◌≤◌, [], ◌∷◌, ◌++◌, ℕ, List, All, codes, length, MatchBool, MatchOption, MatchResult};
 ghost use Rattle.plain_ballots.specs.declared.limits.TheConstants.{MOST_CANDIDATES};
+ghost use Rattle.candidate_roll.specs.declared.limits.TheConstants.{MOST_NAME_BYTES};
 ghost use Rattle.candidate_roll.specs.Name.{IsName};
 ghost use Rattle.candidate_roll.specs.declared.state.State.{State};
 ghost use Rattle.meek_rule.specs.Places.{each_place};
@@ -14,7 +15,7 @@ use crate::head::read_name;
 use crate::lines::Lines;
 use crate::number::read_count;
 use crate::standing::read_state;
-use candidate_roll::{Name, Names, State, States};
+use candidate_roll::{MOST_NAME_BYTES, Name, Names, State, States};
 use std::alloc::Global;
 
 /// The last states and the names of `n` candidates, where the sheet ends behind them.
@@ -25,7 +26,7 @@ pub(crate) fn read_end(
 ) -> Result<(States, Names), SheetStop>
     requires few { n ≤ MOST_CANDIDATES }
     ensures { MatchResult result
-        (λ read. (length read.0 ≡ n) × (length read.1 ≡ n) × All (IsName 200) read.1 × (lines.old ≡ end_lines n read.0 read.1))
+        (λ read. (length read.0 ≡ n) × (length read.1 ≡ n) × All (IsName MOST_NAME_BYTES) read.1 × (lines.old ≡ end_lines n read.0 read.1))
         (λ stop. Stops stop (NoEnd n lines.old)) }
 {
     let outcomes = match read_outcomes(alloc, lines, n) {
@@ -60,10 +61,10 @@ fn read_outcomes(
 ) -> Result<(States, Names), SheetStop>
     requires few { n ≤ MOST_CANDIDATES }
     ensures { MatchResult result
-        (λ read. (length read.0 ≡ n) × (length read.1 ≡ n) × All (IsName 200) read.1
+        (λ read. (length read.0 ≡ n) × (length read.1 ≡ n) × All (IsName MOST_NAME_BYTES) read.1
         × (lines.old ≡ each_place n (outcome_line read.0 read.1) ++ lines.new))
         (λ stop. Stops stop ((states : List State) (names : List (List ℕ)) (rest : List (List ℕ))
-        → length names ≡ n → All (IsName 200) names → lines.old ≢ each_place n (outcome_line states names) ++ rest)) }
+        → length names ≡ n → All (IsName MOST_NAME_BYTES) names → lines.old ≢ each_place n (outcome_line states names) ++ rest)) }
 {
     let Ok(mut states) = States::filled(alloc, n, State::Withdrawn) else {
         return Err(SheetStop::NoMemory);
@@ -87,11 +88,11 @@ fn read_outcome(
     alloc: Global,
     lines: &mut Lines<'_>,
     p: usize,
-) -> Result<(State, Name<200>), SheetStop>
+) -> Result<(State, Name<MOST_NAME_BYTES>), SheetStop>
     requires place { p < MOST_CANDIDATES }
     ensures { MatchResult result
-        (λ read. IsName 200 read.1 × (lines.old ≡ outcome_of p read.0 read.1 ∷ lines.new))
-        (λ stop. Stops stop ((state : State) (name : List ℕ) (rest : List (List ℕ)) → IsName 200 name
+        (λ read. IsName MOST_NAME_BYTES read.1 × (lines.old ≡ outcome_of p read.0 read.1 ∷ lines.new))
+        (λ stop. Stops stop ((state : State) (name : List ℕ) (rest : List (List ℕ)) → IsName MOST_NAME_BYTES name
         → lines.old ≢ outcome_of p state name ∷ rest)) }
 {
     let Some(text) = lines.next() else {

@@ -14,7 +14,7 @@ use crate::lines::{Lines, is_ended};
 use crate::outcomes::read_end;
 use crate::row_reader::read_row;
 use crate::row_sink::RowSink;
-use candidate_roll::{Name, Names, States};
+use candidate_roll::{MOST_TITLE_BYTES, Name, Names, States};
 use line_text::Line;
 use meek_rule::Row;
 use std::alloc::Global;
@@ -22,7 +22,7 @@ use std::alloc::Global;
 /// What stands in a sheet around its iterations.
 #[derive(Drop)]
 pub(crate) struct SheetParts {
-    pub title: Name<1000>,
+    pub title: Name<MOST_TITLE_BYTES>,
     pub seats: u32,
     pub ballots: u32,
     pub names: Names,

@@ -1,13 +1,13 @@
 // What a sheet says.
 use crate::RowList;
-use candidate_roll::{Name, Names, States};
+use candidate_roll::{MOST_TITLE_BYTES, Name, Names, States};
 use std::marker::Model;
 
 /// The values that a sheet writes: its head, its iterations, and what became of each candidate. Who was
 /// withdrawn before the count is told by the states alone.
 #[derive(Debug, Drop)]
 pub struct SheetValues {
-    pub title: Name<1000>,
+    pub title: Name<MOST_TITLE_BYTES>,
     pub seats: u32,
     pub ballots: u64,
     pub names: Names,

@@ -2,6 +2,7 @@ use Rattle.std.proofs.Common.{ℕ, ◌+◌, List, length, sym, ◌∙◌, ap, su
 use Rattle.std.specs.Prelude.{All}
 use Rattle.std.proofs.lemmas.List.{length-set}
 use Rattle.std.proofs.lemmas.List.Elements.{All-push}
+use Rattle.candidate_roll.specs.declared.limits.TheConstants.{MOST_NAME_BYTES}
 use Rattle.candidate_roll.specs.Name.{IsName}
 use Rattle.candidate_roll.specs.declared.state.State.{State}
 use Rattle.sheet_reader.proofs.Places.{no_outcomes, outcome_more}
@@ -22,8 +23,8 @@ loop-p-preserved c = record {
       ap (λ (l : List (List ℕ)). length l) c.in-Ok-push.ensures.ok ∙ length-append c.loop-p.names _
       ∙ ap (λ (k : ℕ). k + 1) c.loop-p.invariant.names;
   called =
-      subst (λ (l : List (List ℕ)). All (IsName 200) l) (sym c.in-Ok-push.ensures.ok)
-      (All-push (IsName 200) c.loop-p.names _ c.loop-p.invariant.called c.in-Ok-read_outcome.ensures.0);
+      subst (λ (l : List (List ℕ)). All (IsName MOST_NAME_BYTES) l) (sym c.in-Ok-push.ensures.ok)
+      (All-push (IsName MOST_NAME_BYTES) c.loop-p.names _ c.loop-p.invariant.called c.in-Ok-read_outcome.ensures.0);
   read =
       outcome_more c.loop-p.p c.loop-p.states c.loop-p.names _ _ _ _ _ _ _
       (omega (arith, c.loop-p-test.true, c.loop-p.invariant.states)) c.loop-p.invariant.names
