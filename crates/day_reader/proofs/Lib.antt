@@ -4,6 +4,7 @@ mod SharedParts
 mod CallSoundness
 mod TeamLists
 mod TeamSoundness
+mod RollSoundness
 mod DaySoundness
 mod CallCompleteness
 mod TeamCompleteness
@@ -14,6 +15,9 @@ mod Steps
 mod CallSteps
 mod TeamSteps
 mod ByNumber
+mod States
+mod TitleSteps
+mod LotSteps
 mod HeadSteps
 mod DaySteps
 mod DayScripts

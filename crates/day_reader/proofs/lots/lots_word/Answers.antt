@@ -1,4 +1,4 @@
-use Rattle.day_reader.proofs.HeadSteps.{another_word}
+use Rattle.day_reader.proofs.TitleSteps.{another_word}
 use Rattle.day_reader.proofs.lots.lots_word.Goals as goal
 
 pub returns-in_default-keyword : goal.returns-in_default-keyword

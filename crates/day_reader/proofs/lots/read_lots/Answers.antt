@@ -9,8 +9,8 @@ use Rattle.input_text.proofs.Reading.{behind_trans}
 use Rattle.day_reader.specs.Day.{AreDifferent, AreAllLots}
 use Rattle.day_reader.specs.DayTable.{at_lot}
 use Rattle.day_reader.proofs.DifferentNumbers.{one_number_more, at_most}
-use Rattle.day_reader.proofs.HeadSteps.{lot_stops, lots_end, lots_missing, above, again, one_more}
-use Rattle.day_reader.proofs.HeadSteps.{one_marked_more, lots_read}
+use Rattle.day_reader.proofs.LotSteps.{lot_stops, lots_end, lots_missing, above, again, one_more}
+use Rattle.day_reader.proofs.LotSteps.{one_marked_more, lots_read}
 use Rattle.day_reader.proofs.lots.read_lots.Goals as goal
 
 pub returns-in_err-n-clause-reads : goal.returns-in_err-n-clause-reads

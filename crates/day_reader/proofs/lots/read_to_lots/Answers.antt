@@ -4,7 +4,7 @@ use Rattle.input_text.specs.Reader.{said}
 use Rattle.std.proofs.lemmas.Result.{err_from_is_err_and}
 use Rattle.input_text.proofs.Reading.{behind_trans}
 use Rattle.day_reader.proofs.Steps.{leads}
-use Rattle.day_reader.proofs.HeadSteps.{string_passed, title_ends, title_word}
+use Rattle.day_reader.proofs.TitleSteps.{string_passed, title_ends, title_word}
 use Rattle.day_reader.proofs.lots.read_to_lots.Goals as goal
 
 pub returns-in_err-token-clause-reads : goal.returns-in_err-token-clause-reads
