@@ -79,12 +79,8 @@ impl Clerk {
         ensures open_teams { OnOk result (self.new.open_teams ≡ self.old.open_teams + 1) }
         ensures refused { OnErr result (self.new ≡ self.old) }
     {
-        let Ok(()) = self.taken.reserve(self.teams as usize + 1) else {
-            return Err(NoMemory);
-        };
-        let Ok(mut shards) = Vec::with_capacity(alloc, office.windows.len()) else {
-            return Err(NoMemory);
-        };
+        self.taken.reserve(self.teams as usize + 1)?;
+        let mut shards = Vec::with_capacity(alloc, office.windows.len())?;
         split_all(&office.windows, &mut self.desk.shards, caller, &mut shards);
         let register = office.register.split(&mut self.desk.register, caller);
         self.last = caller;

@@ -76,9 +76,7 @@ pub(crate) fn freeze<R: Wait>(
     ensures refused { OnErr result (own (pass_at desk.new) ≡ own (pass_at desk.old)) }
     ensures nothing_made { OnErr result (made desk.new ≡ made desk.old) }
 {
-    let Ok(mut held) = Vec::with_capacity(alloc, office.windows.len()) else {
-        return Err(NoMemory);
-    };
+    let mut held = Vec::with_capacity(alloc, office.windows.len())?;
     take_all(rt, &office.windows, &mut desk.shards, &mut held);
     let mut kept = office.register.take(rt, &mut desk.register);
     agree_all(&office.windows, &mut held, &mut kept);

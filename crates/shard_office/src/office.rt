@@ -49,6 +49,7 @@ pub struct Office {
 
 impl Model for Office {
     ghost use Rattle.std.specs.Prelude.{◌≡◌, ◌≤◌, length};
+    ghost use Rattle.plain_ballots.specs.declared.limits.TheConstants.{MOST_CANDIDATES};
     ghost use Rattle.shard_office.specs.Office.{OfficeState};
 
     ghost Value = { OfficeState };
@@ -69,18 +70,10 @@ impl Office {
         ensures nobody_taken { IfOk result (λ made. (made.1.taken ≡ []) × (made.1.last_caller ≡ 0) × (made.1.open_teams ≡ 0)) }
     {
         let room = shards as usize;
-        let Ok(mut windows) = Vec::with_capacity(alloc, room) else {
-            return Err(NoMemory);
-        };
-        let Ok(mut seats) = Vec::with_capacity(alloc, room) else {
-            return Err(NoMemory);
-        };
-        let Ok(mut halves) = Vec::with_capacity(alloc, room) else {
-            return Err(NoMemory);
-        };
-        let Ok(lists) = Vec::with_capacity(alloc, room) else {
-            return Err(NoMemory);
-        };
+        let mut windows = Vec::with_capacity(alloc, room)?;
+        let mut seats = Vec::with_capacity(alloc, room)?;
+        let mut halves = Vec::with_capacity(alloc, room)?;
+        let lists = Vec::with_capacity(alloc, room)?;
         open_all(
             alloc,
             shards,
@@ -89,13 +82,9 @@ impl Office {
             &mut seats,
             &mut halves,
         )?;
-        let Ok(register) = Register::new(alloc, shards, candidates) else {
-            return Err(NoMemory);
-        };
+        let register = Register::new(alloc, shards, candidates)?;
         let value = RegisterValue { register, halves };
-        let Ok((lock, seat)) = TurnLock::try_new(alloc, value) else {
-            return Err(NoMemory);
-        };
+        let (lock, seat) = TurnLock::try_new(alloc, value)?;
         let office = Office {
             shards,
             candidates,

@@ -128,13 +128,8 @@ pub(crate) fn agree_all(
 fn add_plan(alloc: Global, plans: &mut Plans, value: &Held<ShardValue>) -> Result<(), NoMemory>
     ensures { OnOk result ((plan : PlanRows) × IsPlanOf value.now plan × (plans.new ≡ plans.old ++ plan ∷ [])) }
 {
-    let Ok(plan) = Plan::from_trie(alloc, value.value().book.trie()) else {
-        return Err(NoMemory);
-    };
-    match plans.push(plan) {
-        Ok(()) => Ok(()),
-        Err(_) => Err(NoMemory),
-    }
+    let plan = Plan::from_trie(alloc, value.value().book.trie())?;
+    Ok(plans.push(plan)?)
 }
 
 /// A plan for each shard.

@@ -20,8 +20,8 @@ use Rattle.shard_office.proofs.freezing.freeze.Given.{Over}
 use Rattle.shard_office.proofs.freezing.freeze.Goals as goal
 use Rattle.shard_office.proofs.freezing.freeze.Goals.{After-take_all, After-agree_all}
 
-pub returns-in_default-clause-stays : goal.returns-in_default-clause-stays
-returns-in_default-clause-stays g c =
+pub returns-in_err-held-clause-stays : goal.returns-in_err-held-clause-stays
+returns-in_err-held-clause-stays g c =
     let desk = c.args.desk.now in
     let free = c.requires.seated.registered.free in
     record {
@@ -130,7 +130,7 @@ looks g c =
     let same = ap (λ (o : OfficeState). o.shards) c.requires.office in
     looks_by c.args.office.now.shards c.args.desk.now.shards.items c.take_all.new.seats.items
     c.give_all.new.seats.items (omega arith)
-    (taken g (goal.at.returns-in-Ok-copied-clause-seated g c).After-take_all) c.give_all.ensures.given
+    (taken g (goal.at.returns-in-Ok-clause-seated g c).After-take_all) c.give_all.ensures.given
 
 marks_now :
     (g : Over) (c : goal.After-give_all g)
@@ -140,7 +140,7 @@ marks_now g c =
     c.freeze.ensures.marks
     ∙ ap (λ (m : List Mark). m ++ Freeze c.args.desk.now.caller ∷ [])
     (ap (λ (r : SeenRegister). r.register.marks) c.value_mut.ensures.value
-    ∙ (c.in-Ok-copied.ensures.marks ∙ ap (λ (r : SeenRegister). r.register.marks) c.agree_all.ensures.kept))
+    ∙ (c.in-Ok.ensures.marks ∙ ap (λ (r : SeenRegister). r.register.marks) c.agree_all.ensures.kept))
 
 gave :
     (g : Over) (c : goal.After-give_all g)
@@ -163,11 +163,11 @@ frozen g c =
     have_frozen desk.office.value desk.caller desk.shards.items c.give_all.new.seats.items desk.register
     c.give_with.new.seat c.requires.seated (looks g c) c.give_with.ensures.own (gave g c)
 
-pub returns-in-Ok-copied-clause-seated : goal.returns-in-Ok-copied-clause-seated
-returns-in-Ok-copied-clause-seated g c = (frozen g c).at
+pub returns-in-Ok-clause-seated : goal.returns-in-Ok-clause-seated
+returns-in-Ok-clause-seated g c = (frozen g c).at
 
-pub returns-in-Ok-copied-clause-stays : goal.returns-in-Ok-copied-clause-stays
-returns-in-Ok-copied-clause-stays g c =
+pub returns-in-Ok-clause-stays : goal.returns-in-Ok-clause-stays
+returns-in-Ok-clause-stays g c =
     record {
       office = refl;
       caller = refl;
@@ -175,20 +175,20 @@ returns-in-Ok-copied-clause-stays g c =
       register = gave_still c.args.desk.now.register c.give_with.new.seat (Freeze c.args.desk.now.caller) (gave g c);
     }
 
-pub returns-in-Ok-copied-clause-goes_on : goal.returns-in-Ok-copied-clause-goes_on
-returns-in-Ok-copied-clause-goes_on g c = (frozen g c).goes_on
+pub returns-in-Ok-clause-goes_on : goal.returns-in-Ok-clause-goes_on
+returns-in-Ok-clause-goes_on g c = (frozen g c).goes_on
 
-pub returns-in-Ok-copied-clause-own : goal.returns-in-Ok-copied-clause-own
-returns-in-Ok-copied-clause-own g c = (frozen g c).own
+pub returns-in-Ok-clause-own : goal.returns-in-Ok-clause-own
+returns-in-Ok-clause-own g c = (frozen g c).own
 
-pub returns-in-Ok-copied-clause-mine : goal.returns-in-Ok-copied-clause-mine
-returns-in-Ok-copied-clause-mine g c = (frozen g c).mine
+pub returns-in-Ok-clause-mine : goal.returns-in-Ok-clause-mine
+returns-in-Ok-clause-mine g c = (frozen g c).mine
 
-pub returns-in-Ok-copied-clause-frozen : goal.returns-in-Ok-copied-clause-frozen
-returns-in-Ok-copied-clause-frozen g c =
+pub returns-in-Ok-clause-frozen : goal.returns-in-Ok-clause-frozen
+returns-in-Ok-clause-frozen g c =
     let desk = c.args.desk.now in
     let now = seen (record desk { shards = c.give_all.new.seats; register = c.give_with.new.seat }) in
-    let then = goal.at.returns-in-Ok-copied-clause-frozen g c in
+    let then = goal.at.returns-in-Ok-clause-frozen g c in
     let all = held g then.After-take_all in
     let n = count g then.After-agree_all in
     let before = c.take-kept.ensures.begins in
@@ -196,16 +196,16 @@ returns-in-Ok-copied-clause-frozen g c =
     freeze_is (vec_len c.agree_all.new.held) c.office.inside.candidates c.agree_all.new.kept.register.marks
     c.agree_all.new.held.items (omega (arith, c.agree_all.new.held.ok.0))
     (omega (arith, n, c.office.invariant.1, ap (λ (o : OfficeState). o.shards) c.office.view_is))
-    c.in-Ok-copied.ensures.may (named g then.After-agree_all all) (agreed g then.After-agree_all)
-    c.in-Ok-copied.version.plans c.in-Ok-copied.ensures.count c.in-Ok-copied.ensures.plans desk.caller
+    c.in-Ok.ensures.may (named g then.After-agree_all all) (agreed g then.After-agree_all)
+    c.in-Ok.version.plans c.in-Ok.ensures.count c.in-Ok.ensures.plans desk.caller
     (seen desk) now before.0
     (ap (λ (z : RegisterSeat). z.seen) c.give_with.ensures.seat
     ∙ (marks_now g c ∙ ap (λ (m : List Mark). m ++ Freeze desk.caller ∷ []) before.1))
     (sym before.1 ∙ marks g then.After-agree_all)
     (all.seen c.give_all.new.seats.items c.give_all.ensures.given
     ∙ ap (λ (l : List SeenShard). by_shard (entries_held l)) (sym c.agree_all.ensures.held.1))
-    c.in-Ok-copied.version c.in-Ok-copied.ensures.at refl c.in-Ok-copied.ensures.struck in
-    subst (λ k. IsFreeze k desk.caller c.in-Ok-copied.version (seen desk) now) n it
+    c.in-Ok.version c.in-Ok.ensures.at refl c.in-Ok.ensures.struck in
+    subst (λ k. IsFreeze k desk.caller c.in-Ok.version (seen desk) now) n it
 
 -- after want of memory
 looks_err :

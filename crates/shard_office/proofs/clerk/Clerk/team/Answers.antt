@@ -85,7 +85,7 @@ invariant_of-self-2 c =
           c.split_all.new.firsts.items c.split-register.new.seat)
           (λ i. (sym (same c) i, list i)) (did c).first,
       c.self.invariant.1,
-      omega (arith, c.in-Ok.ensures.ok),
+      omega (arith, c.in_ok-reserve.ensures.ok),
       c.self.invariant.3,
       c.self.invariant.4,
     )
