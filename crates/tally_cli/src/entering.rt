@@ -36,12 +36,8 @@ pub(crate) fn enter<L: Ledger>(
         ≡ book.old.entries
         ++ record { caller = team; call = Changes change.now; reply = answer } ∷ []) }
 {
-    let Ok(copy) = change.copy(alloc) else {
-        return Err(NoMemory);
-    };
-    if book.ready(&copy).is_err() {
-        return Err(NoMemory);
-    }
+    let copy = change.copy(alloc)?;
+    book.ready(&copy)?;
     let mut steps = Steps::<L>::new(blank);
     Ok(book.apply(team, copy, &mut steps))
 }
@@ -77,8 +73,5 @@ fn brought(alloc: Global, candidates: u32, change: &Change) -> Result<Ballots, N
         Change::Correct { ballots, .. } => ballots.copy(alloc),
         Change::Withdraw { .. } => Ok(Ballots::new(alloc, candidates)),
     };
-    match copied {
-        Ok(ballots) => Ok(ballots),
-        Err(_) => Err(NoMemory),
-    }
+    Ok(copied?)
 }

@@ -54,8 +54,5 @@ fn append_line(scribe: &mut Scribe, line: &BallotLine, comes: bool) -> Result<()
         ballots: line.count,
         comes,
     };
-    match scribe.append(step) {
-        Ok(()) => Ok(()),
-        Err(_) => Err(NoMemory),
-    }
+    Ok(scribe.append(step)?)
 }

@@ -39,9 +39,7 @@ fn nothing_kept(alloc: Global, candidates: u32) -> Result<Vec<Ballots>, NoMemory
 {
     let mut kept = Vec::new(alloc);
     for _ in 0..BATCHES {
-        if kept.push(Ballots::new(alloc, candidates)).is_err() {
-            return Err(NoMemory);
-        }
+        kept.push(Ballots::new(alloc, candidates))?;
     }
     Ok(kept)
 }

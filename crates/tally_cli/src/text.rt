@@ -16,9 +16,7 @@ pub(crate) fn text_of(alloc: Global, totals: &[u64]) -> Result<Vec<u8>, NoMemory
     let mut text = Vec::new(alloc);
     for (i, ballots) in totals.iter().enumerate() {
         let line = total_line(i as u64 + 1, *ballots);
-        if text.extend_from_slice(line.bytes()).is_err() {
-            return Err(NoMemory);
-        }
+        text.extend_from_slice(line.bytes())?;
     }
     Ok(text)
 }
