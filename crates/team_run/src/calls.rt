@@ -28,10 +28,8 @@ pub(crate) fn make_change<R: Wait, G: Gate>(
     ensures made { OnOk result (calls_of (own pass.new) ≡ calls_of (own pass.old) ++ call.Change change ∷ []) }
     ensures refused { OnErr result (own pass.new ≡ own pass.old) }
 {
-    match office.call(rt, pass, change, gate) {
-        Ok(_) => Ok(()),
-        Err(_) => Err(NoMemory),
-    }
+    office.call(rt, pass, change, gate)?;
+    Ok(())
 }
 
 /// Strikes a candidate.
@@ -48,10 +46,8 @@ pub(crate) fn make_strike<R: Wait>(
     ensures made { OnOk result (calls_of (own pass.new) ≡ calls_of (own pass.old) ++ call.Strike candidate ∷ []) }
     ensures refused { OnErr result (own pass.new ≡ own pass.old) }
 {
-    match office.strike(rt, pass, candidate) {
-        Ok(_) => Ok(()),
-        Err(_) => Err(NoMemory),
-    }
+    office.strike(rt, pass, candidate)?;
+    Ok(())
 }
 
 /// Freezes. Room for the version is made before, so that no freeze is without its version.
@@ -70,14 +66,8 @@ pub(crate) fn make_freeze<R: Wait>(
     ensures refused { OnErr result (own pass.new ≡ own pass.old) }
 {
     versions_stay();
-    let Ok(()) = versions.reserve(1) else {
-        return Err(NoMemory);
-    };
-    match office.freeze(rt, alloc, pass) {
-        Ok(version) => {
-            versions.push_reserved(version);
-            Ok(())
-        }
-        Err(_) => Err(NoMemory),
-    }
+    versions.reserve(1)?;
+    let version = office.freeze(rt, alloc, pass)?;
+    versions.push_reserved(version);
+    Ok(())
 }

@@ -52,16 +52,12 @@ fn open_one(
     ensures team { OnOk result ((team : Team) × (teams.new.items ≡ teams.old.items ++ team ∷ []) × IsReady office.now team × (asked team ≡ script)) }
     ensures refused { OnErr result ((clerk.new ≡ clerk.old) × (teams.new.items ≡ teams.old.items)) }
 {
-    match clerk.team(alloc, office, script.team) {
-        Ok(pass) => {
-            teams.push_reserved(Team {
-                pass,
-                left: script.calls,
-                versions: Vec::new(alloc),
-                refused: false,
-            });
-            Ok(())
-        }
-        Err(_) => Err(NoMemory),
-    }
+    let pass = clerk.team(alloc, office, script.team)?;
+    teams.push_reserved(Team {
+        pass,
+        left: script.calls,
+        versions: Vec::new(alloc),
+        refused: false,
+    });
+    Ok(())
 }

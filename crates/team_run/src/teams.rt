@@ -37,9 +37,7 @@ pub fn run_teams<R: Threads + Wait + Sync, G: Gate + Sync>(
     ensures versions { IfOk result (AreVersionsOf clerk.new.taken) }
     ensures refused { OnErr result (HaveBegun clerk.new.taken scripts) }
 {
-    let Ok(mut teams) = Vec::with_capacity(alloc, scripts.len()) else {
-        return Err(NoMemory);
-    };
+    let mut teams = Vec::with_capacity(alloc, scripts.len())?;
     match open_all(alloc, office, clerk, scripts, &mut teams) {
         Ok(()) => run_opened(rt, alloc, office, clerk, teams, gate),
         Err(_) => {
@@ -69,13 +67,9 @@ fn run_opened<R: Threads + Wait + Sync, G: Gate + Sync>(
     ensures refused { OnErr result (HaveBegun clerk.new.taken (map asked teams.items)) }
 {
     run_all(rt, alloc, office, &mut teams, gate);
-    match take_all_in(alloc, office, clerk, teams) {
-        Ok(versions) => {
-            let _ = clerk.open_teams();
-            Ok(by_place(versions))
-        }
-        Err(_) => Err(NoMemory),
-    }
+    let versions = take_all_in(alloc, office, clerk, teams)?;
+    let _ = clerk.open_teams();
+    Ok(by_place(versions))
 }
 
 /// The versions by rising place.

@@ -3,23 +3,23 @@ use Rattle.team_run.specs.Runs.{IsSamePass, IsAtWork}
 use Rattle.team_run.proofs.Work.{same_work, at_work_with}
 use Rattle.team_run.proofs.calls.make_freeze.Goals as goal
 
-pub returns-in-Ok-freeze-clause-work : goal.returns-in-Ok-freeze-clause-work
-returns-in-Ok-freeze-clause-work g c =
+pub returns-clause-work : goal.returns-clause-work
+returns-clause-work g c =
     let same : IsSamePass c.args.pass.now c.freeze.new.pass =
     record {
       office = c.freeze.ensures.office;
       caller = c.freeze.ensures.caller;
       goes_on = c.freeze.ensures.goes_on;
     } in
-    let items : c.push_reserved.new.self.items ≡ c.args.versions.now.items ++ c.in-Ok-freeze.version ∷ [] = search rules in
+    let items : c.push_reserved.new.self.items ≡ c.args.versions.now.items ++ c.in_ok-version.version ∷ [] = search rules in
     subst (IsAtWork c.freeze.new.pass) (sym items)
     (at_work_with c.versions_stay.ensures.stay c.args.office.now c.args.pass.now c.freeze.new.pass
-    c.args.versions.now.items c.in-Ok-freeze.version same
-    c.in-Ok-freeze.ensures.own c.in-Ok-freeze.ensures.frozen c.in-Ok-freeze.ensures.candidates
+    c.args.versions.now.items c.in_ok-version.version same
+    c.in_ok-version.ensures.own c.in_ok-version.ensures.frozen c.in_ok-version.ensures.candidates
     c.requires.office c.requires.work)
 
-pub returns-in-Err-clause-work : goal.returns-in-Err-clause-work
-returns-in-Err-clause-work g c =
+pub returns-in_err-version-clause-work : goal.returns-in_err-version-clause-work
+returns-in_err-version-clause-work g c =
     let same : IsSamePass c.args.pass.now c.freeze.new.pass =
     record {
       office = c.freeze.ensures.office;
@@ -28,4 +28,4 @@ returns-in-Err-clause-work g c =
     } in
     subst (IsAtWork c.freeze.new.pass) (sym c.reserve.ensures.items)
     (same_work c.versions_stay.ensures.stay c.args.pass.now c.freeze.new.pass c.args.versions.now.items same
-    c.in-Err.ensures.refused c.requires.work)
+    c.in_err-version.ensures.refused c.requires.work)

@@ -4,6 +4,7 @@ use Rattle.shard_office.specs.Sight.{GoesOn}
 use Rattle.shard_office.specs.Versions.{VersionState}
 use Rattle.team_run.specs.Teams.{script_of, RisesFrom, HaveBegun, AreVersionsOf}
 use Rattle.team_run.specs.Runs.{asked, passes_of}
+use Rattle.team_run.proofs.EntryLines.{on_err}
 use Rattle.team_run.proofs.Lists.{all_got}
 use Rattle.team_run.proofs.Ran.{as_many, still_of, all_whole, all_begun, all_work}
 use Rattle.team_run.proofs.Places.{are_versions}
@@ -18,29 +19,30 @@ pub take_all_in-requires-clause-teams : goal.take_all_in-requires-clause-teams
 take_all_in-requires-clause-teams g c =
     still_of c.args.office.now c.args.teams.items c.run_all.new.teams.items c.run_all.ensures
 
-pub returns-in-Err-clause-refused : goal.returns-in-Err-clause-refused
-returns-in-Err-clause-refused g c =
+pub returns-in_err-versions-clause-refused : goal.returns-in_err-versions-clause-refused
+returns-in_err-versions-clause-refused g c =
     let taken : c.take_all_in.new.clerk.taken ≡ passes_of c.run_all.new.teams.items =
     c.take_all_in.ensures.taken ∙ ap (λ (l : List PassState). l ++ passes_of c.run_all.new.teams.items) c.requires.taken in
-    subst (λ (l : List PassState). HaveBegun l (map asked c.args.teams.items)) (sym taken)
-    (all_begun c.args.office.now c.args.teams.items c.run_all.new.teams.items c.run_all.ensures)
+    on_err c.from_residual.result _
+    (subst (λ (l : List PassState). HaveBegun l (map asked c.args.teams.items)) (sym taken)
+    (all_begun c.args.office.now c.args.teams.items c.run_all.new.teams.items c.run_all.ensures))
 
-pub returns-in-Ok-clause-teams : goal.returns-in-Ok-clause-teams
-returns-in-Ok-clause-teams g c =
+pub returns-clause-teams : goal.returns-clause-teams
+returns-clause-teams g c =
     let taken : c.take_all_in.new.clerk.taken ≡ passes_of c.run_all.new.teams.items =
     c.take_all_in.ensures.taken ∙ ap (λ (l : List PassState). l ++ passes_of c.run_all.new.teams.items) c.requires.taken in
     ap (map script_of) taken
     ∙ all_whole c.args.office.now c.args.teams.items c.run_all.new.teams.items c.run_all.ensures
-    c.in-Ok.ensures.whole
+    c.in_ok-versions.ensures.whole
 
-pub returns-in-Ok-clause-versions : goal.returns-in-Ok-clause-versions
-returns-in-Ok-clause-versions g c =
+pub returns-clause-versions : goal.returns-clause-versions
+returns-clause-versions g c =
     let office = c.args.office.now in
     let new = c.run_all.new.teams.items in
     let sight = c.take_all_in.new.clerk.desk.sight in
     let taken : c.take_all_in.new.clerk.taken ≡ passes_of new =
     c.take_all_in.ensures.taken ∙ ap (λ (l : List PassState). l ++ passes_of new) c.requires.taken in
-    let whole = all_whole office c.args.teams.items new c.run_all.ensures c.in-Ok.ensures.whole in
+    let whole = all_whole office c.args.teams.items new c.run_all.ensures c.in_ok-versions.ensures.whole in
     let rises : RisesFrom 0 (map script_of (passes_of new)) = subst (RisesFrom 0) (sym whole) c.requires.numbers in
     let begins : All (λ pass. GoesOn pass.sight sight) (passes_of new) =
     subst (All (λ (pass : PassState). GoesOn pass.sight sight)) taken
@@ -48,5 +50,5 @@ returns-in-Ok-clause-versions g c =
     (λ k q e. (c.open_teams.ensures.taken k q e).begins)) in
     subst (λ (l : List PassState). AreVersionsOf l c.by_place.result) (sym taken)
     (are_versions sight new c.by_place.result (all_work office c.args.teams.items new c.run_all.ensures) rises begins
-    (subst (λ (l : List VersionState). IsPermutation l c.by_place.result) c.in-Ok.ensures.versions
+    (subst (λ (l : List VersionState). IsPermutation l c.by_place.result) c.in_ok-versions.ensures.versions
     c.by_place.ensures.same) c.by_place.ensures.rising)
