@@ -16,6 +16,7 @@ mod FirstSeats
 mod TakenIn
 mod TeamMade
 mod MeetingLists
+mod Fitting
 mod ClosingLemmas
 mod OpeningLists
 mod VersionLemmas

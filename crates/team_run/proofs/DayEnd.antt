@@ -20,7 +20,8 @@ use Rattle.team_run.specs.Endings.{freezes_from, DaysEnd}
 use Rattle.team_run.proofs.Lists.{got, pairs_head, pairs_tail, pairs_append, one_pair}
 use Rattle.team_run.proofs.Sights.{froze_stays, one_caller, at_the_end, froze_last}
 use Rattle.team_run.proofs.Ends.{teams_have_their_scripts, no_other_of_clerk}
-use Rattle.team_run.proofs.Freezes.{Rise, StandsAmong, StandAmong, stands_there, all_placed}
+use Rattle.team_run.proofs.Rising.{Rise, StandsAmong, StandAmong}
+use Rattle.team_run.proofs.Freezes.{stands_there, all_placed}
 
 abbrev IsBefore : VersionState → VersionState → Type 0
 IsBefore v w = v.at < w.at

@@ -9,6 +9,7 @@ mod Places
 mod Days
 mod Crosses
 mod Ends
+mod Rising
 mod Freezes
 mod DayEnd
 mod Rooms
