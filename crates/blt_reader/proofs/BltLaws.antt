@@ -18,8 +18,8 @@ use Rattle.blt_reader.proofs.BallotSoundness.{no_lines, line_goes_on}
 use Rattle.blt_reader.proofs.BallotCompleteness.{reads_line_front}
 use Rattle.blt_reader.proofs.BltSoundness.{roll_goes_on, file_goes_on}
 use Rattle.blt_reader.proofs.BltCompleteness.{reads_front, reads_up_to_title, can_go_on, reads_blt}
-use Rattle.input_text.proofs.Ruling.{front_behind, Follows, expects, follows_open, one_value, refuses_by_rule}
-use Rattle.input_text.proofs.Ruling.{accepts, refuses_else}
+use Rattle.input_text.proofs.Following.{front_behind, Follows, expects, follows_open, one_value}
+use Rattle.input_text.proofs.Ruling.{refuses_by_rule, accepts, refuses_else}
 use Rattle.input_text.proofs.FrontRuling.{reads_fronts, refuses_fronts}
 
 module _ (limit : Limit) where
@@ -95,33 +95,22 @@ module _ (limit : Limit) where
 pub has_one_poll : HasOnePoll
 has_one_poll most items one other a b =
     let limit : Limit = record { most = most; refusal = TooManyBallots } in
-    one_value (at_file_token limit) ended (GoesOn Candidates) (IsBlt most) (IsFileFront most)
-    (file_follows limit) items one other a b
+    one_value (file_follows limit) items one other a b
 
 pub follows_open_lists : FollowsOpenLists
-follows_open_lists limit =
-    follows_open (at_file_token limit) ended (GoesOn Candidates) (IsBlt limit.most) (IsFileFront limit.most)
-    (file_follows limit)
+follows_open_lists limit = follows_open (file_follows limit)
 
 pub expects_rightly : ExpectsRightly
-expects_rightly limit =
-    expects (at_file_token limit) ended (GoesOn Candidates) (IsBlt limit.most) (IsFileFront limit.most)
-    (file_follows limit)
+expects_rightly limit = expects (file_follows limit)
 
 pub accepts_files : AcceptsFiles
-accepts_files limit =
-    accepts (at_file_token limit) ended (GoesOn Candidates) (IsBlt limit.most) (IsFileFront limit.most)
-    (file_follows limit)
+accepts_files limit = accepts (file_follows limit)
 
 pub refuses_by_the_rule : RefusesByTheRule
-refuses_by_the_rule limit =
-    refuses_by_rule (at_file_token limit) ended (GoesOn Candidates) (IsBlt limit.most)
-    (IsFileFront limit.most) (file_follows limit)
+refuses_by_the_rule limit = refuses_by_rule (file_follows limit)
 
 pub refuses_all_else : RefusesAllElse
-refuses_all_else limit =
-    refuses_else (at_file_token limit) ended (GoesOn Candidates) (IsBlt limit.most) (IsFileFront limit.most)
-    (file_follows limit)
+refuses_all_else limit = refuses_else (file_follows limit)
 
 pub accepts_rolls : AcceptsRolls
 accepts_rolls limit =
@@ -134,9 +123,7 @@ refuses_rolls_by_the_rule limit =
     (roll_follows limit)
 
 pub expects_rolls_rightly : ExpectsRollsRightly
-expects_rolls_rightly limit =
-    expects (at_roll_token limit) ended (GoesOn Candidates) (IsUpToTitle limit.most) (IsRollFront limit.most)
-    (roll_follows limit)
+expects_rolls_rightly limit = expects (roll_follows limit)
 
 -- ---- ballot lines
 

@@ -4,7 +4,8 @@ use Rattle.std.specs.Prelude.{Some}
 use Rattle.input_text.specs.Token.{Item}
 use Rattle.input_text.specs.Judged.{after, Progress, GoesOn, Ends, ended}
 use Rattle.input_text.proofs.Judgements.{same_some, none_not}
-use Rattle.input_text.proofs.Ruling.{Follows, expects, follows_open, one_value, refuses_by_rule, accepts, refuses_else}
+use Rattle.input_text.proofs.Following.{Follows, expects, follows_open, one_value}
+use Rattle.input_text.proofs.Ruling.{refuses_by_rule, accepts, refuses_else}
 use Rattle.day_reader.specs.declared.day.Day.{Day}
 use Rattle.day_reader.specs.Day.{IsDay}
 use Rattle.day_reader.specs.DayTable.{Expected, at_file_token}
@@ -48,19 +49,19 @@ module _ (shared : Shared) where
   }
 
   pub has_one_day : HasOneDay
-  has_one_day items one other a b = one_value at_file_token ended start IsDay IsFileFront day_follows items one other a b
+  has_one_day items one other a b = one_value day_follows items one other a b
 
   pub follows_open_lists : FollowsOpenLists
-  follows_open_lists = follows_open at_file_token ended start IsDay IsFileFront day_follows
+  follows_open_lists = follows_open day_follows
 
   pub expects_rightly : ExpectsRightly
-  expects_rightly = expects at_file_token ended start IsDay IsFileFront day_follows
+  expects_rightly = expects day_follows
 
   pub accepts_days : AcceptsDays
-  accepts_days = accepts at_file_token ended start IsDay IsFileFront day_follows
+  accepts_days = accepts day_follows
 
   pub refuses_by_the_rule : RefusesByTheRule
-  refuses_by_the_rule = refuses_by_rule at_file_token ended start IsDay IsFileFront day_follows
+  refuses_by_the_rule = refuses_by_rule day_follows
 
   pub refuses_all_else : RefusesAllElse
-  refuses_all_else = refuses_else at_file_token ended start IsDay IsFileFront day_follows
+  refuses_all_else = refuses_else day_follows

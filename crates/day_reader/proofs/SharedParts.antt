@@ -5,7 +5,7 @@ use Rattle.plain_ballots.specs.declared.ballot_line.BallotLine.{BallotLine}
 use Rattle.input_text.specs.Token.{Item}
 use Rattle.input_text.specs.Judged.{Judged, after, Progress, GoesOn, Ends, closed}
 use Rattle.input_text.proofs.Tables.{in_parts}
-use Rattle.input_text.proofs.Ruling.{one_more}
+use Rattle.input_text.proofs.Following.{one_more}
 use Rattle.blt_reader.specs.Poll.{Poll}
 use Rattle.blt_reader.specs.Blt.{AreLines, ballots}
 use Rattle.blt_reader.specs.BallotTable.{Limit, Lines, Between, at_line}

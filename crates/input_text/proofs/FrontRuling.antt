@@ -8,7 +8,8 @@ use Rattle.input_text.specs.Judged.{carried_to, on_progress, front_of, reads, cl
 use Rattle.input_text.specs.Refusal.{items_of, IsFrontOf, IsRefusal, IsFrontRefusal}
 use Rattle.input_text.proofs.Judgements.{refused, accepted, same_value, same_kind, same_some, none_not}
 use Rattle.input_text.proofs.Tables.{behind_front, reads_front}
-use Rattle.input_text.proofs.Ruling.{Follows, front_expected, refuses_by_rule}
+use Rattle.input_text.proofs.Following.{Follows, front_expected}
+use Rattle.input_text.proofs.Ruling.{refuses_by_rule}
 
 module _ {S V : Type 0} (table : S → Item → Judged (Progress S V)) where
   same_end : {a b : V} → ◌≡◌ {A = Judged (Progress S V)} (Ok (Ends a)) (Ok (Ends b)) → a ≡ b
@@ -128,8 +129,7 @@ module _ {S V : Type 0} (table : S → Item → Judged (Progress S V)) (start : 
         ending = found.2;
         file =
             follows.ends_file (Ends value) value (items_of found.0)
-            (front_expected (closed table) ended (GoesOn start) IsFile IsFront follows (items_of found.0)
-            (Ends value) found.3)
+            (front_expected follows (items_of found.0) (Ends value) found.3)
             refl;
       }
 
@@ -142,7 +142,7 @@ module _ {S V : Type 0} (table : S → Item → Judged (Progress S V)) (start : 
   abbrev Rule :
       (text : Scan) (fault : InputFault) → (outcome (closed table) ended (GoesOn start) text.tokens text.ending ≡ Err fault)
       ↔ IsRefusal IsFile (closed table) (GoesOn start) text fault
-  Rule = refuses_by_rule (closed table) ended (GoesOn start) IsFile IsFront follows
+  Rule = refuses_by_rule follows
 
   is_refused :
       (text : Scan) (fault : InputFault)

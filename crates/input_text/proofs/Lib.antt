@@ -4,6 +4,7 @@ mod ShortNumbers
 pub mod Judgements
 pub mod Repeats
 pub mod Tables
+pub mod Following
 pub mod Ruling
 pub mod FrontRuling
 mod SpellingLaws

@@ -9,130 +9,21 @@ use Rattle.input_text.specs.declared.input_fault.InputFault.{InputFault}
 use Rattle.input_text.specs.Token.{Item, Placed, Ending, AtEnd, AtFault, Scan}
 use Rattle.input_text.specs.Judged.{Judged, then_on, after, at_place, at_ending, outcome}
 use Rattle.input_text.specs.Refusal.{items_of, IsOpen, IsAccepted, ByToken, ByLength, IsRefusal}
-use Rattle.input_text.proofs.Judgements.{refused, accepted, same_value, same_kind, same_some, none_not}
-use Rattle.input_text.proofs.Tables.{in_parts, front_read}
+use Rattle.input_text.proofs.Judgements.{refused, accepted, same_value, same_kind, none_not}
+use Rattle.input_text.proofs.Tables.{in_parts}
+use Rattle.input_text.proofs.Following.{Follows, front_expected, open_read, Reached, still_open, file_value}
 
--- ---- one item more
-
--- Where each accepted item leads to what its list is a front part for, a whole list does.
-module _ {S : Type 0} (table : S → Item → Judged S) (IsFront : S → List Item → Type 0)
-    (steps : (expected next : S) (item : Item) (items : List Item) → IsFront expected items → table expected item ≡ Ok next
-    → IsFront next (items ++ item ∷ [])) where
-  then_front :
-      (expected last : S) (x : Item) (items front : List Item) (judged : Judged S) → IsFront expected front
-      → table expected x ≡ judged → then_on judged (λ next. after table next items) ≡ Ok last
-      → ((next : S) → IsFront next (front ++ x ∷ []) → after table next items ≡ Ok last
-      → IsFront last ((front ++ x ∷ []) ++ items))
-      → IsFront last (front ++ x ∷ items)
-  then_front expected last x items front (Err kind) is judged e rest = absurd (refused e)
-  then_front expected last x items front (Ok next) is judged e rest =
-      subst (λ (l : List Item). IsFront last l) (append_assoc front (x ∷ []) items)
-      (rest next (steps expected next x front is judged) e)
-
-  pub front_behind :
-      (items front : List Item) (expected last : S) → IsFront expected front → after table expected items ≡ Ok last
-      → IsFront last (front ++ items)
-  front_behind [] front expected last is e =
-      subst (λ (l : List Item). IsFront last l) (sym (append-nil front)) (subst (λ s. IsFront s front) (same_value e) is)
-  front_behind (x ∷ items) front expected last is e =
-      then_front expected last x items front (table expected x) is refl e
-      (λ next on then. front_behind items (front ++ x ∷ []) next last on then)
-
--- Where a table expects just what the list before it expects, an accepted item leads to what the longer list expects.
-module _ {S : Type 0} (table : S → Item → Judged S) (start : S) (IsFront : S → List Item → Type 0)
-    (rightly : (items : List Item) (expected : S) → (after table start items ≡ Ok expected) ↔ IsFront expected items) where
-  pub one_more :
-      (expected next : S) (item : Item) (items : List Item) → IsFront expected items → table expected item ≡ Ok next
-      → IsFront next (items ++ item ∷ [])
-  one_more expected next item items is e =
-      (rightly (items ++ item ∷ []) next).0 (
-      in_parts table start expected items (item ∷ []) ((rightly items expected).1 is)
-      ∙ ap (λ (j : Judged S). then_on j (λ (s : S). Ok s)) e)
-
--- ---- tables that follow files
-
--- The table expects what a list is a front part for, it reads each front part as such, each can go on to where reading
--- may end, and reading may end where the list is a file.
-pub record Follows {S V : Type 0} (table : S → Item → Judged S) (whole : S → Option V) (start : S)
-    (IsFile : List Item → V → Type 0) (IsFront : S → List Item → Type 0) : Type 0 where
-  pub begins : IsFront start []
-  pub steps :
-      (expected next : S) (item : Item) (items : List Item) → IsFront expected items → table expected item ≡ Ok next
-      → IsFront next (items ++ item ∷ [])
-  pub reads_front : (expected : S) (items : List Item) → IsFront expected items → after table start items ≡ Ok expected
-  pub goes_on :
-      (expected : S) (items : List Item) → IsFront expected items
-      → (more : List Item) × (last : S) × (value : V) × (after table expected more ≡ Ok last) × (whole last ≡ Some value)
-  pub ends_file :
-      (expected : S) (value : V) (items : List Item) → IsFront expected items → whole expected ≡ Some value
-      → IsFile items value
-  pub reads_file :
-      (items : List Item) (value : V) → IsFile items value
-      → (last : S) × (after table start items ≡ Ok last) × (whole last ≡ Some value)
-
-module _ {S V : Type 0} (table : S → Item → Judged S) (whole : S → Option V) (start : S) (IsFile : List Item → V → Type 0)
-    (IsFront : S → List Item → Type 0) (follows : Follows table whole start IsFile IsFront) where
-  -- ---- what is expected
-
-  pub front_expected : (items : List Item) (expected : S) → after table start items ≡ Ok expected → IsFront expected items
-  front_expected items expected e = front_behind table IsFront follows.steps items [] start expected follows.begins e
-
-  -- The table expects exactly what the list before it expects.
-  pub expects : (items : List Item) (expected : S) → (after table start items ≡ Ok expected) ↔ IsFront expected items
-  expects items expected = (front_expected items expected, follows.reads_front expected items)
-
-  -- ---- open lists
-
-  opens : (items : List Item) (judged : Judged S) → after table start items ≡ judged → IsOk judged → IsOpen IsFile items
-  opens items (Err kind) is ok = absurd (false≢true ok)
-  opens items (Ok expected) is ok =
-      let more = follows.goes_on expected items (front_expected items expected is) in
-      let all = in_parts table start expected items more.0 is ∙ more.3 in (
-        more.0,
-        more.2,
-        follows.ends_file more.1 more.2 (items ++ more.0) (front_expected (items ++ more.0) more.1 all)
-            more.4,
-      )
-
-  pub open_read : (items : List Item) → IsOpen IsFile items → IsOk (after table start items)
-  open_read items is =
-      let file = follows.reads_file (items ++ is.0) is.1 is.2 in
-      front_read table start file.0 items is.0 file.1
-
-  -- A list is open exactly where none of its items is refused.
-  pub follows_open : (items : List Item) → IsOk (after table start items) ↔ IsOpen IsFile items
-  follows_open items = (opens items (after table start items) refl, open_read items)
-
-  abbrev Reached : List Placed → S → Type 0
-  Reached front expected = after table start (items_of front) ≡ Ok expected
-
-  still_open : (front : List Placed) (expected : S) → Reached front expected → IsOpen IsFile (items_of front)
-  still_open front expected reached = (follows_open (items_of front)).0 (ap is_ok reached)
-
-  -- ---- files
-
-  file_value :
-      (items : List Item) (expected : S) (value : V) → after table start items ≡ Ok expected → IsFile items value
-      → whole expected ≡ Some value
-  file_value items expected value reached file =
-      let read = follows.reads_file items value file in
-      ap whole (same_value (sym reached ∙ read.1)) ∙ read.2
-
-  -- A list is the file of at most one value.
-  pub one_value : (items : List Item) (one other : V) → IsFile items one → IsFile items other → one ≡ other
-  one_value items one other a b =
-      let read = follows.reads_file items one a in
-      same_some (sym read.2 ∙ file_value items read.0 other read.1 b)
-
+module _ {S V : Type 0} {table : S → Item → Judged S} {whole : S → Option V} {start : S} {IsFile : List Item → V → Type 0}
+    {IsFront : S → List Item → Type 0} (follows : Follows table whole start IsFile IsFront) where
   -- ---- refusals
 
   abbrev Refusal : Scan → InputFault → Type 0
   Refusal = IsRefusal IsFile table start
 
   further :
-      (front : List Placed) (expected next : S) (token : Placed) → Reached front expected
+      (front : List Placed) (expected next : S) (token : Placed) → Reached follows front expected
       → table expected token.item ≡ Ok next
-      → Reached (front ++ token ∷ []) next
+      → Reached follows (front ++ token ∷ []) next
   further front expected next token reached judged =
       ap (λ (l : List Item). after table start l) (map-append (λ (t : Placed). t.item) front (token ∷ []))
       ∙ in_parts table start expected (items_of front) (token.item ∷ []) reached
@@ -144,30 +35,30 @@ module _ {S V : Type 0} (table : S → Item → Judged S) (whole : S → Option 
   no_further front expected item kind reached judged goes =
       false≢true (sym (ap is_ok
       (in_parts table start expected front (item ∷ []) reached ∙ ap (λ (j : Judged S). then_on j (λ next. Ok next)) judged))
-      ∙ open_read (front ++ item ∷ []) goes)
+      ∙ open_read follows (front ++ item ∷ []) goes)
 
   at_the_end :
-      (front : List Placed) (expected : S) (ending : Ending) (fault : InputFault) (value : Option V) → Reached front expected
+      (front : List Placed) (expected : S) (ending : Ending) (fault : InputFault) (value : Option V) → Reached follows front expected
       → whole expected ≡ value → at_ending value ending ≡ Err fault
       → Refusal (record { tokens = front; ending = ending }) fault
   at_the_end front expected (AtFault found) fault None reached is e =
-      inr (inl (record { open_before = still_open front expected reached; ending = ap AtFault (same_kind e) }))
+      inr (inl (record { open_before = still_open follows front expected reached; ending = ap AtFault (same_kind e) }))
   at_the_end front expected (AtFault found) fault (Some value) reached is e =
-      inr (inl (record { open_before = still_open front expected reached; ending = ap AtFault (same_kind e) }))
+      inr (inl (record { open_before = still_open follows front expected reached; ending = ap AtFault (same_kind e) }))
   at_the_end front expected (AtEnd at) fault None reached is e = inr (inr (record {
-    open_before = still_open front expected reached;
+    open_before = still_open follows front expected reached;
     at = at;
     ending = refl;
-    no_file = λ value file. none_not (sym is ∙ file_value (items_of front) expected value reached file);
+    no_file = λ value file. none_not (sym is ∙ file_value follows (items_of front) expected value reached file);
     fault_is = sym (same_kind e);
   }))
   at_the_end front expected (AtEnd at) fault (Some value) reached is e = absurd (accepted e)
 
   behind_token :
       (front : List Placed) (expected : S) (token : Placed) (tokens : List Placed) (ending : Ending) (fault : InputFault)
-      (judged : Judged S) → Reached front expected → table expected token.item ≡ judged
+      (judged : Judged S) → Reached follows front expected → table expected token.item ≡ judged
       → at_place token.at judged (λ next. outcome table whole next tokens ending) ≡ Err fault
-      → ((next : S) → Reached (front ++ token ∷ []) next → outcome table whole next tokens ending ≡ Err fault
+      → ((next : S) → Reached follows (front ++ token ∷ []) next → outcome table whole next tokens ending ≡ Err fault
       → Refusal (record { tokens = (front ++ token ∷ []) ++ tokens; ending = ending }) fault)
       → Refusal (record { tokens = front ++ token ∷ tokens; ending = ending }) fault
   behind_token front expected token tokens ending fault (Err kind) reached judged e rest =
@@ -177,7 +68,7 @@ module _ {S V : Type 0} (table : S → Item → Judged S) (whole : S → Option 
         token = token;
         behind = tokens;
         split = refl;
-        open_before = still_open front expected reached;
+        open_before = still_open follows front expected reached;
         not_open = no_further (items_of front) expected token.item kind reached judged;
         expected = expected;
         is_expected = reached;
@@ -190,7 +81,7 @@ module _ {S V : Type 0} (table : S → Item → Judged S) (whole : S → Option 
       (rest next (further front expected next token reached judged) e)
 
   refuses_behind :
-      (tokens front : List Placed) (expected : S) (ending : Ending) (fault : InputFault) → Reached front expected
+      (tokens front : List Placed) (expected : S) (ending : Ending) (fault : InputFault) → Reached follows front expected
       → outcome table whole expected tokens ending ≡ Err fault
       → Refusal (record { tokens = front ++ tokens; ending = ending }) fault
   refuses_behind [] front expected ending fault reached e =
@@ -224,7 +115,7 @@ module _ {S V : Type 0} (table : S → Item → Judged S) (whole : S → Option 
       (λ next on. outcome_behind front tokens ending next last on)
 
   outcome_at_end :
-      (tokens : List Placed) (ending : Ending) (last : S) → Reached tokens last
+      (tokens : List Placed) (ending : Ending) (last : S) → Reached follows tokens last
       → outcome table whole start tokens ending ≡ at_ending (whole last) ending
   outcome_at_end tokens ending last reached =
       ap (λ (l : List Placed). outcome table whole start l ending) (sym (append-nil tokens))
@@ -255,7 +146,7 @@ module _ {S V : Type 0} (table : S → Item → Judged S) (whole : S → Option 
       (items : List Item) (last : S) (value : Option V) (at : ℕ) → after table start items ≡ Ok last → whole last ≡ value
       → ((v : V) → IsFile items v → ⊥) → at_ending (whole last) (AtEnd at) ≡ Err (record { kind = Ended; at = at })
   not_whole items last (Some value) at reached is none =
-      absurd (none value (follows.ends_file last value items (front_expected items last reached) is))
+      absurd (none value (follows.ends_file last value items (front_expected follows items last reached) is))
   not_whole items last None at reached is none = ap (λ (v : Option V). at_ending v (AtEnd at)) is
 
   by_length :
@@ -274,10 +165,10 @@ module _ {S V : Type 0} (table : S → Item → Judged S) (whole : S → Option 
   refused_so text fault (inl r) = by_token text fault r
   refused_so text fault (inr (inl r)) =
       by_ending text fault (after table start (items_of text.tokens)) refl
-      (open_read (items_of text.tokens) r.open_before) r.ending
+      (open_read follows (items_of text.tokens) r.open_before) r.ending
   refused_so text fault (inr (inr r)) =
       by_length text fault (after table start (items_of text.tokens)) refl
-      (open_read (items_of text.tokens) r.open_before) r
+      (open_read follows (items_of text.tokens) r.open_before) r
 
   -- A text is refused exactly by the rule.
   pub refuses_by_rule :
@@ -326,7 +217,7 @@ module _ {S V : Type 0} (table : S → Item → Judged S) (whole : S → Option 
         at = read.3.0;
         ending = read.3.1;
         file = follows.ends_file read.0 value (items_of text.tokens)
-            (front_expected (items_of text.tokens) read.0 read.1) read.2;
+            (front_expected follows (items_of text.tokens) read.0 read.1) read.2;
       }
 
   said :
