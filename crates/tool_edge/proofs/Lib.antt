@@ -1,4 +1,6 @@
 pub mod Ending
+mod Inputs
+mod Answering
 pub mod Running
 mod Contests
 mod WordLemmas
