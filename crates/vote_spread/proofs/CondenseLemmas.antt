@@ -22,11 +22,10 @@ module _ {classes : List Class} {stems : List Stem} {from to i : ℕ} {depths : 
   -- a subtree before the part is passed over
   pub underway-before : i + stem.skip ≤ from → IsUnderway classes stems from to (i + stem.skip) depths rows
   underway-before before =
-      let n = length classes in
       let le : stem.depth ≤ under.depth = here.placed.not_too_deep in
       record {
         depth = stem.depth;
-        at = at_past n stems i under.depth stem here;
+        at = at_past here;
         climbs = lower stem.depth le under.climbs;
         sound = under.sound;
         follows =
@@ -35,7 +34,7 @@ module _ {classes : List Class} {stems : List Stem} {from to i : ℕ} {depths : 
             record {
               weights = f.weights;
               long = f.long;
-              ahead = ahead_before n s keeps stems i under.depth f.weights stem (omega (arith, f.long)) here f.ahead;
+              ahead = ahead_before here s keeps f.weights f.ahead (omega (arith, f.long));
               same = λ e lt. f.same e (omega arith);
               gives =
                   λ c.
@@ -63,7 +62,7 @@ module _ {classes : List Class} {stems : List Stem} {from to i : ℕ} {depths : 
         let at = get_or depths (stem.depth - 1) 0 in
         let all = stem.ballots * given s keeps (left_at s keeps rows at) (stem.candidate ∷ stem.tail) c in
         let own : get_or (gains s keeps c (opening s) stems) i 0 ≡ all =
-        gain_at (length classes) s keeps stems i under.depth f.weights stem c here f.ahead
+        gain_at here s keeps f.weights f.ahead c
         ∙ ap (λ w. stem.ballots * given s keeps w (stem.candidate ∷ stem.tail) c) (weight_here f) in
         let split :
         still s keeps c stems from to i
@@ -88,14 +87,13 @@ module _ {classes : List Class} {stems : List Stem} {from to i : ℕ} {depths : 
         (below : ℕ) → Leaves classes (get_or depths (stem.depth - 1) 0) stem.candidate rows new (Some below)
         → IsUnderway classes stems from to (i + 1) (set depths stem.depth below) new
     underway-next below leaves =
-        let n = length classes in
         let k = stem.depth in
         let one : 1 ≤ k = here.placed.below_root in
         let le : k ≤ under.depth = here.placed.not_too_deep in
         let shallow : k ≤ 250 = omega (arith, here.placed.shallow) in
         record {
           depth = k + 1;
-          at = at_next n stems i under.depth stem (omega arith) here;
+          at = at_next here;
           climbs = climbs_on under.climbs k below one le shallow leaves.0 leaves.1;
           sound = entered.sound under.sound;
           follows =
@@ -105,7 +103,7 @@ module _ {classes : List Class} {stems : List Stem} {from to i : ℕ} {depths : 
               record {
                 weights = past s keeps ws stem;
                 long = length-past s keeps ws stem ∙ f.long;
-                ahead = ahead_next n s keeps stems i under.depth ws stem here f.ahead;
+                ahead = ahead_next here s keeps ws f.ahead;
                 same =
                     λ e deep. elim (cases_lt e k) [
                       | inl above ↦
@@ -130,11 +128,10 @@ module _ {classes : List Class} {stems : List Stem} {from to i : ℕ} {depths : 
         Leaves classes (get_or depths (stem.depth - 1) 0) stem.candidate rows new None
         → IsUnderway classes stems from to (i + stem.skip) depths new
     underway-jump leaves =
-        let n = length classes in
         let le : stem.depth ≤ under.depth = here.placed.not_too_deep in
         record {
           depth = stem.depth;
-          at = at_past n stems i under.depth stem here;
+          at = at_past here;
           climbs = lower stem.depth le under.climbs;
           sound = entered.sound under.sound;
           follows =
@@ -142,20 +139,18 @@ module _ {classes : List Class} {stems : List Stem} {from to i : ℕ} {depths : 
               let f = under.follows s keeps are in
               let ws = f.weights in
               let deep : 250 < length ws = omega (arith, f.long) in
-              let below : i < length stems = omega arith in
               let nothing : left s keeps ws stem ≡ 0 =
               ap (λ w. w - kept s keeps w stem.candidate) (weight_here f) ∙ leaves s keeps are in
               record {
                 weights = past s keeps ws stem;
                 long = length-past s keeps ws stem ∙ f.long;
-                ahead = ahead_jump n s keeps stems i under.depth ws stem below deep here f.ahead;
+                ahead = ahead_jump here s keeps ws f.ahead deep;
                 same = same_above are f;
                 gives =
                     λ c.
                     let jump =
                     still_jump s keeps c stems from to (i + 1) (i + stem.skip) (omega (arith, here.some))
-                    (gains_jump n s keeps stems i under.depth ws stem c below are.whole deep nothing here
-                    f.ahead) in
+                    (gains_jump here s keeps ws f.ahead are.whole deep nothing c) in
                     omega (arith, jump, visited are f c);
               };
         }

@@ -61,103 +61,90 @@ parted n stems i depth d below at =
       some = some;
     }
 
--- behind the subtree
-pub at_past :
-    (n : ℕ) (stems : List Stem) (i depth : ℕ) (stem : Stem) → IsParted n stems i depth stem
-    → IsAt n stems (i + stem.skip) stem.depth
-at_past n stems i depth stem p =
-    let rest = drop (i + stem.skip) stems in
-    let next = walk_behind n depth (stem ∷ subtree stems i stem) rest p.walk in
-    record { inside = p.inside; walk = walk_from n next.0 stem.depth rest next.1 p.behind }
+module _ {n : ℕ} {stems : List Stem} {i depth : ℕ} {stem : Stem} (here : IsParted n stems i depth stem) where
+  abbrev sub : List Stem
+  sub = subtree stems i stem
 
--- behind the stem
-pub at_next :
-    (n : ℕ) (stems : List Stem) (i depth : ℕ) (stem : Stem) → i < length stems → IsParted n stems i depth stem
-    → IsAt n stems (i + 1) (stem.depth + 1)
-at_next n stems i depth stem below p =
-    let e : (stem ∷ subtree stems i stem) ++ drop (i + stem.skip) stems ≡ stem ∷ drop (i + 1) stems =
-    ap (λ l. stem ∷ l) (sym p.cut) in
-    let walk : IsWalk n depth (stem ∷ drop (i + 1) stems) = subst (λ (l : List Stem). IsWalk n depth l) e p.walk in
-    record { inside = omega arith; walk = walk.1 }
+  abbrev rest : List Stem
+  rest = drop (i + stem.skip) stems
 
--- a subtree before the part is passed over
-pub ahead_before :
-    (n s : ℕ) (keeps : List ℕ) (stems : List Stem) (i depth : ℕ) (ws : List ℕ) (stem : Stem) → 250 < length ws
-    → IsParted n stems i depth stem → Ahead s keeps stems i ws → Ahead s keeps stems (i + stem.skip) ws
-ahead_before n s keeps stems i depth ws stem deep p ahead c =
-    let sub = subtree stems i stem in
-    let rest = drop (i + stem.skip) stems in
-    let low : All (λ r. stem.depth ≤ r.depth) (stem ∷ sub) =
-    All-cons (λ (r : Stem). stem.depth ≤ r.depth) stem sub (omega arith)
-    (λ k e lt. let more = p.placed.deeper k e lt in omega arith) in
-    let many : stem.skip ≡ length (stem ∷ sub) = omega (arith, p.long, p.some) in
-    sym (drop-drop stem.skip i (gains s keeps c (opening s) stems))
-    ∙ (ap (drop stem.skip) (ahead c ∙ ap (gains s keeps c ws) (p.at ∙ ap (λ l. stem ∷ l) p.cut))
-    ∙ (ap (λ n. drop n (gains s keeps c ws ((stem ∷ sub) ++ rest))) many
-    ∙ gains_behind n depth stem.depth s keeps c ws ws (stem ∷ sub) rest p.walk low p.behind deep refl (λ j lt. refl)))
+  -- the walk goes on behind the subtree
+  pub at_past : IsAt n stems (i + stem.skip) stem.depth
+  at_past =
+      let next = walk_behind n depth (stem ∷ sub) rest here.walk in
+      record { inside = here.inside; walk = walk_from n next.0 stem.depth rest next.1 here.behind }
 
--- a stem is visited
-pub ahead_next :
-    (n s : ℕ) (keeps : List ℕ) (stems : List Stem) (i depth : ℕ) (ws : List ℕ) (stem : Stem)
-    → IsParted n stems i depth stem → Ahead s keeps stems i ws
-    → Ahead s keeps stems (i + 1) (past s keeps ws stem)
-ahead_next n s keeps stems i depth ws stem p ahead c =
-    sym (drop-drop 1 i (gains s keeps c (opening s) stems))
-    ∙ ap (drop 1) (ahead c ∙ ap (gains s keeps c ws) p.at)
+  -- and behind the stem
+  pub at_next : IsAt n stems (i + 1) (stem.depth + 1)
+  at_next =
+      let e : (stem ∷ sub) ++ rest ≡ stem ∷ drop (i + 1) stems = ap (λ l. stem ∷ l) (sym here.cut) in
+      let walk : IsWalk n depth (stem ∷ drop (i + 1) stems) = subst (λ (l : List Stem). IsWalk n depth l) e here.walk in
+      record { inside = omega (arith, here.inside, here.some); walk = walk.1 }
 
--- what a stem gives to a candidate stands at its place
-pub gain_at :
-    (n s : ℕ) (keeps : List ℕ) (stems : List Stem) (i depth : ℕ) (ws : List ℕ) (stem : Stem) (c : ℕ)
-    → IsParted n stems i depth stem → Ahead s keeps stems i ws
-    → get_or (gains s keeps c (opening s) stems) i 0 ≡ gain s keeps c ws stem
-gain_at n s keeps stems i depth ws stem c p ahead =
-    let e : i + 0 ≡ i = omega arith in
-    ap (λ n. get_or (gains s keeps c (opening s) stems) n 0) (sym e)
-    ∙ (sym (get_or-drop i (gains s keeps c (opening s) stems) 0 0)
-    ∙ ap (λ l. get_or l 0 0) (ahead c ∙ ap (gains s keeps c ws) p.at))
+  below_here : IsWalk n (stem.depth + 1) (sub ++ rest)
+  below_here = subst (λ (l : List Stem). IsWalk n (stem.depth + 1) l) here.cut at_next.walk
 
--- where a stem leaves nothing its subtree is passed over
-pub ahead_jump :
-    (n s : ℕ) (keeps : List ℕ) (stems : List Stem) (i depth : ℕ) (ws : List ℕ) (stem : Stem)
-    → i < length stems → 250 < length ws → IsParted n stems i depth stem → Ahead s keeps stems i ws
-    → Ahead s keeps stems (i + stem.skip) (past s keeps ws stem)
-ahead_jump n s keeps stems i depth ws stem below deep p ahead c =
-    let sub = subtree stems i stem in
-    let rest = drop (i + stem.skip) stems in
-    let vs = past s keeps ws stem in
-    let deep' : 250 < length vs = rw length-past deep in
-    let walk : IsWalk n (stem.depth + 1) (sub ++ rest) =
-    subst (λ (l : List Stem). IsWalk n (stem.depth + 1) l) p.cut
-    (at_next n stems i depth stem below p).walk in
-    let same : (i + 1) + length sub ≡ i + stem.skip = omega (arith, p.long, p.some) in
-    ap (λ n. drop n (gains s keeps c (opening s) stems)) (sym same)
-    ∙ (sym (drop-drop (length sub) (i + 1) (gains s keeps c (opening s) stems))
-    ∙ (ap (drop (length sub)) (ahead_next n s keeps stems i depth ws stem p ahead c ∙ ap (gains s keeps c vs) p.cut)
-    ∙ gains_behind n (stem.depth + 1) (stem.depth + 1) s keeps c vs vs sub rest walk p.placed.deeper
-    (from_more stem.depth rest p.behind) deep' refl (λ j lt. refl)))
+  -- The stem is reached with these weights.
+  module _ (s : ℕ) (keeps ws : List ℕ) (ahead : Ahead s keeps stems i ws) where
+    -- a subtree before the part is passed over
+    pub ahead_before : 250 < length ws → Ahead s keeps stems (i + stem.skip) ws
+    ahead_before deep = λ c.
+        let low : All (λ r. stem.depth ≤ r.depth) (stem ∷ sub) =
+        All-cons (λ (r : Stem). stem.depth ≤ r.depth) stem sub (omega arith)
+        (λ k e lt. let more = here.placed.deeper k e lt in omega arith) in
+        let many : stem.skip ≡ length (stem ∷ sub) = omega (arith, here.long, here.some) in
+        sym (drop-drop stem.skip i (gains s keeps c (opening s) stems))
+        ∙ (ap (drop stem.skip) (ahead c ∙ ap (gains s keeps c ws) (here.at ∙ ap (λ l. stem ∷ l) here.cut))
+        ∙ (ap (λ n. drop n (gains s keeps c ws ((stem ∷ sub) ++ rest))) many
+        ∙ gains_behind n depth stem.depth s keeps c ws ws (stem ∷ sub) rest here.walk low here.behind deep refl
+        (λ j lt. refl)))
 
--- and no stem of it gives anything
-pub gains_jump :
-    (n s : ℕ) (keeps : List ℕ) (stems : List Stem) (i depth : ℕ) (ws : List ℕ) (stem : Stem) (c : ℕ)
-    → i < length stems → 1 ≤ s → 250 < length ws → left s keeps ws stem ≡ 0 → IsParted n stems i depth stem
-    → Ahead s keeps stems i ws → (k : ℕ) → i + 1 ≤ k → k < i + stem.skip
-    → get_or (gains s keeps c (opening s) stems) k 0 ≡ 0
-gains_jump n s keeps stems i depth ws stem c below pos deep none p ahead k over under =
-    let sub = subtree stems i stem in
-    let rest = drop (i + stem.skip) stems in
-    let vs = past s keeps ws stem in
-    let deep' : 250 < length vs = rw length-past deep in
-    let shallow : stem.depth ≤ 250 = omega (arith, p.placed.shallow) in
-    let walk : IsWalk n (stem.depth + 1) (sub ++ rest) =
-    subst (λ (l : List Stem). IsWalk n (stem.depth + 1) l) p.cut
-    (at_next n stems i depth stem below p).walk in
-    let zeros : (j : ℕ) → stem.depth + 1 ≤ j + 1 → j < stem.depth + 1 → get_or vs j 0 ≡ 0 =
-    λ j a b. let e : j ≡ stem.depth = omega arith in
-    subst (λ (q : ℕ). get_or vs q 0 ≡ 0) (sym e) (past-here s keeps ws stem (omega arith) ∙ none) in
-    let t = k - (i + 1) in
-    let e : (i + 1) + t ≡ k = omega arith in
-    ap (λ n. get_or (gains s keeps c (opening s) stems) n 0) (sym e)
-    ∙ (sym (get_or-drop (i + 1) (gains s keeps c (opening s) stems) t 0)
-    ∙ (ap (λ l. get_or l t 0) (ahead_next n s keeps stems i depth ws stem p ahead c ∙ ap (gains s keeps c vs) p.cut)
-    ∙ gains_zero n (stem.depth + 1) (stem.depth + 1) s keeps c vs sub rest walk p.placed.deeper pos deep'
-    zeros t (omega (arith, p.long))))
+    -- the stem is visited
+    pub ahead_next : Ahead s keeps stems (i + 1) (past s keeps ws stem)
+    ahead_next = λ c.
+        sym (drop-drop 1 i (gains s keeps c (opening s) stems))
+        ∙ ap (drop 1) (ahead c ∙ ap (gains s keeps c ws) here.at)
+
+    -- what the stem gives to a candidate stands at its place
+    pub gain_at : (c : ℕ) → get_or (gains s keeps c (opening s) stems) i 0 ≡ gain s keeps c ws stem
+    gain_at c =
+        let e : i + 0 ≡ i = omega arith in
+        ap (λ n. get_or (gains s keeps c (opening s) stems) n 0) (sym e)
+        ∙ (sym (get_or-drop i (gains s keeps c (opening s) stems) 0 0)
+        ∙ ap (λ l. get_or l 0 0) (ahead c ∙ ap (gains s keeps c ws) here.at))
+
+    -- what the stems behind it give
+    gains_on : (c : ℕ)
+        → drop (i + 1) (gains s keeps c (opening s) stems) ≡ gains s keeps c (past s keeps ws stem) (sub ++ rest)
+    gains_on c = ahead_next c ∙ ap (gains s keeps c (past s keeps ws stem)) here.cut
+
+    -- where the stem leaves nothing its subtree is passed over
+    pub ahead_jump : 250 < length ws → Ahead s keeps stems (i + stem.skip) (past s keeps ws stem)
+    ahead_jump deep = λ c.
+        let vs = past s keeps ws stem in
+        let deep' : 250 < length vs = rw length-past deep in
+        let same : (i + 1) + length sub ≡ i + stem.skip = omega (arith, here.long, here.some) in
+        ap (λ n. drop n (gains s keeps c (opening s) stems)) (sym same)
+        ∙ (sym (drop-drop (length sub) (i + 1) (gains s keeps c (opening s) stems))
+        ∙ (ap (drop (length sub)) (gains_on c)
+        ∙ gains_behind n (stem.depth + 1) (stem.depth + 1) s keeps c vs vs sub rest below_here here.placed.deeper
+        (from_more stem.depth rest here.behind) deep' refl (λ j lt. refl)))
+
+    -- and no stem of it gives anything
+    pub gains_jump :
+        1 ≤ s → 250 < length ws → left s keeps ws stem ≡ 0 → (c k : ℕ) → i + 1 ≤ k → k < i + stem.skip
+        → get_or (gains s keeps c (opening s) stems) k 0 ≡ 0
+    gains_jump pos deep none c k over under =
+        let vs = past s keeps ws stem in
+        let deep' : 250 < length vs = rw length-past deep in
+        let shallow : stem.depth ≤ 250 = omega (arith, here.placed.shallow) in
+        let zeros : (j : ℕ) → stem.depth + 1 ≤ j + 1 → j < stem.depth + 1 → get_or vs j 0 ≡ 0 =
+        λ j a b. let e : j ≡ stem.depth = omega arith in
+        subst (λ (q : ℕ). get_or vs q 0 ≡ 0) (sym e) (past-here s keeps ws stem (omega arith) ∙ none) in
+        let t = k - (i + 1) in
+        let e : (i + 1) + t ≡ k = omega arith in
+        ap (λ n. get_or (gains s keeps c (opening s) stems) n 0) (sym e)
+        ∙ (sym (get_or-drop (i + 1) (gains s keeps c (opening s) stems) t 0)
+        ∙ (ap (λ l. get_or l t 0) (gains_on c)
+        ∙ gains_zero n (stem.depth + 1) (stem.depth + 1) s keeps c vs sub rest below_here here.placed.deeper pos
+        deep' zeros t (omega (arith, here.long))))
