@@ -28,6 +28,7 @@ pub struct WarrenSpread {
 
 impl Model for WarrenSpread {
     ghost use Rattle.std.specs.Prelude.{◌≡◌, ◌≤◌, All, length};
+    ghost use Rattle.plain_ballots.specs.declared.limits.TheConstants.{MOST_BALLOTS};
     ghost use Rattle.frozen_plan.specs.Plan.{all_ballots};
     ghost use Rattle.warren_spread.specs.Seen.{Seen};
 
