@@ -7,6 +7,7 @@ use Rattle.std.proofs.lemmas.Bool.{le-leb}
 use Rattle.std.proofs.lemmas.List.{append-nil, length_push, length-append, length-replicate}
 use Rattle.std.proofs.lemmas.List.Elements.{All-head, All-tail, All-replicate}
 use Rattle.plain_ballots.specs.declared.ballot_line.BallotLine.{BallotLine}
+use Rattle.candidate_roll.specs.declared.limits.TheConstants.{MOST_NAME_BYTES, MOST_TITLE_BYTES}
 use Rattle.input_text.specs.Token.{Item, Number, Minus, Text}
 use Rattle.blt_reader.specs.Poll.{Poll}
 use Rattle.input_text.specs.Range.{IsIn}
@@ -21,8 +22,8 @@ use Rattle.input_text.proofs.Tables.{in_parts, carried_is, place_of, carries}
 use Rattle.blt_reader.proofs.NameSteps.{name_expected, title_expected}
 use Rattle.blt_reader.proofs.BallotCompleteness.{reads_begun_line, reads_lines, reads_ballots}
 
-short_names : (n : ℕ) → All (λ (name : List ℕ). length name ≤ 200) (replicate n [])
-short_names n = All-replicate (λ (name : List ℕ). length name ≤ 200) n [] (omega arith)
+short_names : (n : ℕ) → All (λ (name : List ℕ). length name ≤ MOST_NAME_BYTES) (replicate n [])
+short_names n = All-replicate (λ (name : List ℕ). length name ≤ MOST_NAME_BYTES) n [] (omega arith)
 
 -- whatever may stand behind the title
 module _ (limit : Limit) (behind : Poll → Item → Judged (Progress Expected Poll)) where
@@ -112,7 +113,7 @@ module _ (limit : Limit) (behind : Poll → Item → Judged (Progress Expected P
   first_begun (Within (line ∷ lines) count ranks) h some = first_number h line.count _
 
   reads_names :
-      (more names : List (List ℕ)) (h : Heading) (lines : List BallotLine) → All (λ name. length name ≤ 200) more
+      (more names : List (List ℕ)) (h : Heading) (lines : List BallotLine) → All (λ name. length name ≤ MOST_NAME_BYTES) more
       → length names + length more ≤ h.candidates
       → Reads (behind_name h lines names) (map Text more) (GoesOn (behind_name h lines (names ++ more)))
   unfolding at_token
@@ -123,22 +124,22 @@ module _ (limit : Limit) (behind : Poll → Item → Judged (Progress Expected P
       let counts : length (names ++ name ∷ []) + length more ≤ h.candidates = omega (arith, fewer, length_push names name) in
       rw (
         name_expected h lines names one_more,
-        le-leb (length name) 200 (All-head (λ (n : List ℕ). length n ≤ 200) name more short),
+        le-leb (length name) MOST_NAME_BYTES (All-head (λ (n : List ℕ). length n ≤ MOST_NAME_BYTES) name more short),
       )
-      (reads_names more (names ++ name ∷ []) h lines (All-tail (λ (n : List ℕ). length n ≤ 200) name more short) counts
+      (reads_names more (names ++ name ∷ []) h lines (All-tail (λ (n : List ℕ). length n ≤ MOST_NAME_BYTES) name more short) counts
       ∙ ap (λ (n : List (List ℕ)). Ok (GoesOn (behind_name h lines n))) (append_assoc names (name ∷ []) more))
 
   reads_title :
-      (h : Heading) (lines : List BallotLine) (names : List (List ℕ)) (title : List ℕ) → length title ≤ 1000
+      (h : Heading) (lines : List BallotLine) (names : List (List ℕ)) (title : List ℕ) → length title ≤ MOST_TITLE_BYTES
       → Reads (Title h lines names) (Text title ∷ []) (Ends (poll_of h lines names title))
   unfolding at_token
-  reads_title h lines names title short = rw (le-leb (length title) 1000 short) refl
+  reads_title h lines names title short = rw (le-leb (length title) MOST_TITLE_BYTES short) refl
 
   -- the opening, all ballots and some names
   reads_up_to_names :
       (h : Heading) (lines : List BallotLine) (names : List (List ℕ)) → IsIn 250 h.candidates → IsIn 250 h.seats
       → All (IsIn h.candidates) h.withdrawn → AreLines h.candidates limit.most lines
-      → All (λ name. length name ≤ 200) names → length names ≤ h.candidates
+      → All (λ name. length name ≤ MOST_NAME_BYTES) names → length names ≤ h.candidates
       → Reads Candidates (opening_of h ++ (ballots lines ++ map Text names)) (GoesOn (behind_name h lines names))
   reads_up_to_names h lines names candidates seats each are short fewer =
       let some : 0 < h.candidates = omega (arith, candidates.least) in

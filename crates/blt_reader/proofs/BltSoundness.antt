@@ -6,6 +6,7 @@ use Rattle.std.proofs.lemmas.Bool.{leb-true, eqb-true, cond_both}
 use Rattle.std.proofs.lemmas.List.{append-nil, map-append, length_push}
 use Rattle.std.proofs.lemmas.List.Elements.{All-nil, All-push}
 use Rattle.plain_ballots.specs.declared.ballot_line.BallotLine.{BallotLine}
+use Rattle.candidate_roll.specs.declared.limits.TheConstants.{MOST_NAME_BYTES, MOST_TITLE_BYTES}
 use Rattle.input_text.specs.Token.{Item, Number, Minus, Text}
 use Rattle.candidate_roll.specs.Roll.{withdrawn_marks}
 use Rattle.blt_reader.specs.Poll.{Poll}
@@ -65,7 +66,7 @@ module _ (most : ℕ) (heading : Heading) where
   all_ballots before lines x items front are spelled = record {
     numbers = front.numbers;
     all_lines = are;
-    so_far = All-nil (λ (name : List ℕ). length name ≤ 200);
+    so_far = All-nil (λ (name : List ℕ). length name ≤ MOST_NAME_BYTES);
     spelled = ap (λ (l : List Item). l ++ x ∷ []) front.spelled
         ∙ append_assoc was (begun before) (x ∷ [])
         ∙ ap (λ (l : List Item). was ++ l) (sym spelled ∙ sym (append-nil (ballots lines)));
@@ -73,14 +74,14 @@ module _ (most : ℕ) (heading : Heading) where
 
   named :
       (lines : List BallotLine) (names : List (List ℕ)) (name : List ℕ) (items : List Item)
-      → IsInNames most heading lines names items → length names < heading.candidates → length name ≤ 200
+      → IsInNames most heading lines names items → length names < heading.candidates → length name ≤ MOST_NAME_BYTES
       → IsFront most (behind_name heading lines (names ++ name ∷ [])) (items ++ Text name ∷ [])
   unfolding was
   named lines names name items front fewer short =
       let now : IsInNames most heading lines (names ++ name ∷ []) (items ++ Text name ∷ []) = record {
         numbers = front.numbers;
         all_lines = front.all_lines;
-        so_far = All-push (λ (n : List ℕ). length n ≤ 200) names name front.so_far short;
+        so_far = All-push (λ (n : List ℕ). length n ≤ MOST_NAME_BYTES) names name front.so_far short;
         spelled = ap (λ (l : List Item). l ++ Text name ∷ []) front.spelled
             ∙ append_assoc was (ballots lines ++ map Text names) (Text name ∷ [])
             ∙ ap (λ (l : List Item). was ++ l)
@@ -98,7 +99,7 @@ module _ (most : ℕ) (heading : Heading) where
 
   titled :
       (lines : List BallotLine) (names : List (List ℕ)) (title : List ℕ) (items : List Item)
-      → IsInNames most heading lines names items → length names ≡ heading.candidates → length title ≤ 1000
+      → IsInNames most heading lines names items → length names ≡ heading.candidates → length title ≤ MOST_TITLE_BYTES
       → IsUpToTitle most (items ++ Text title ∷ []) (poll_of heading lines names title)
   unfolding was
   titled lines names title items front same short = record {
@@ -161,14 +162,14 @@ module _ (limit : Limit) where
   goes_on (Withdrawn heading) next x items front e = ballots_go_on heading (Between []) x next items _ front refl e
   goes_on (Ballots heading lines) next x items front e = ballots_go_on heading lines x next items _ front.0 refl e
   goes_on (Name heading lines names) next (Text name) items front e =
-      let ok = passed (nat_le (length name) 200) _ next _ e in
+      let ok = passed (nat_le (length name) MOST_NAME_BYTES) _ next _ e in
       subst (λ s. IsRollFront limit.most s (items ++ Text name ∷ [])) ok.1
-      (named limit.most heading lines names name items front.0 front.1 (leb-true (length name) 200 ok.0))
+      (named limit.most heading lines names name items front.0 front.1 (leb-true (length name) MOST_NAME_BYTES ok.0))
   goes_on (Name heading lines names) next x items front e = absurd (refused e)
   goes_on (Title heading lines names) next (Text title) items front e =
-      let ok = passed (nat_le (length title) 1000) _ next _ e in
+      let ok = passed (nat_le (length title) MOST_TITLE_BYTES) _ next _ e in
       subst (λ s. IsRollFront limit.most s (items ++ Text title ∷ [])) ok.1
-      (titled limit.most heading lines names title items front.0 front.1 (leb-true (length title) 1000 ok.0))
+      (titled limit.most heading lines names title items front.0 front.1 (leb-true (length title) MOST_TITLE_BYTES ok.0))
   goes_on (Title heading lines names) next x items front e = absurd (refused e)
 
   pub roll_goes_on :

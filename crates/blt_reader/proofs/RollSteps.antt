@@ -2,6 +2,7 @@
 use Rattle.std.proofs.Common.{◌≡◌, ℕ, ◌<◌, List, [], length, Bool, refl, sym, ◌∙◌, ap, Ok, Err}
 use Rattle.plain_ballots.specs.Ballots.{BallotList}
 use Rattle.plain_ballots.specs.declared.ballot_line.BallotLine.{BallotLine}
+use Rattle.candidate_roll.specs.declared.limits.TheConstants.{MOST_TITLE_BYTES}
 use Rattle.candidate_roll.specs.Roll.{RollList, withdrawn_marks}
 use Rattle.input_text.specs.declared.input_stop.InputStop.{InputStop}
 use Rattle.input_text.specs.declared.input_stop.InputStop.TheVariants as stop
@@ -64,7 +65,7 @@ module _ (limit : Limit) (start : Scan) (opening : Opening) (behind_opening : Sc
     module _ (names : List (List ℕ)) (all : length names ≡ opening.candidates) where
       pub title_stop :
           {Q : Type 0} (value : Q → Poll) (old new : Scan) (why : InputStop) → GoesTo (behind_name HeadingOf lines names) old
-          → OnFault why (λ fault. Stops (as_name 1000) old fault new)
+          → OnFault why (λ fault. Stops (as_name MOST_TITLE_BYTES) old fault new)
           → Reads (at_token limit) Candidates value start (Err why) new
       title_stop value old new (stop.Fault fault) goes fails =
           goes ∙ title_stops limit HeadingOf lines names old new fault all fails
@@ -72,7 +73,7 @@ module _ (limit : Limit) (start : Scan) (opening : Opening) (behind_opening : Sc
 
       pub all_read :
           (title : List ℕ) (roll : RollList) (old new : Scan) → GoesTo (behind_name HeadingOf lines names) old
-          → Accepts (as_name 1000) old title new
+          → Accepts (as_name MOST_TITLE_BYTES) old title new
           → roll
           ≡ record {
             seats = opening.seats;

@@ -5,6 +5,7 @@ use Rattle.plain_ballots.specs.declared.limits.TheConstants.{MOST_CANDIDATES}
 use Rattle.plain_ballots.specs.Ballots.{ballot_count}
 use Rattle.plain_ballots.specs.Ranking.{IsRanking}
 use Rattle.plain_ballots.specs.declared.ballot_line.BallotLine.{BallotLine}
+use Rattle.candidate_roll.specs.declared.limits.TheConstants.{MOST_NAME_BYTES, MOST_TITLE_BYTES}
 use Rattle.input_text.specs.Token.{Item, Number, Minus, Text}
 use Rattle.input_text.specs.Range.{IsIn}
 use Rattle.candidate_roll.specs.Roll.{withdrawn_marks}
@@ -39,8 +40,8 @@ pub record IsUpToTitle (most : ℕ) (items : List Item) (poll : Poll) : Type 0 w
   pub each_withdrawn : All (IsIn (length poll.roll.names)) withdrawn
   pub marks : poll.roll.withdrawn ≡ withdrawn_marks (length poll.roll.names) withdrawn
   pub lines : AreLines (length poll.roll.names) most poll.lines
-  pub names : All (λ name. length name ≤ 200) poll.roll.names
-  pub title : length poll.roll.title ≤ 1000
+  pub names : All (λ name. length name ≤ MOST_NAME_BYTES) poll.roll.names
+  pub title : length poll.roll.title ≤ MOST_TITLE_BYTES
 
 -- A whole file: strings of any length may stand behind the title, and are not kept.
 pub record IsBlt (most : ℕ) (items : List Item) (poll : Poll) : Type 0 where

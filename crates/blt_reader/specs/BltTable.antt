@@ -2,6 +2,7 @@
 use Rattle.std.specs.Prelude.{ℕ, List, [], ◌∷◌, ◌++◌, length, ◌==◌, if◌then◌else◌, nat_le, Ok, Err}
 use Rattle.plain_ballots.specs.declared.limits.TheConstants.{MOST_CANDIDATES}
 use Rattle.plain_ballots.specs.declared.ballot_line.BallotLine.{BallotLine}
+use Rattle.candidate_roll.specs.declared.limits.TheConstants.{MOST_NAME_BYTES, MOST_TITLE_BYTES}
 use Rattle.input_text.specs.declared.fault_kind.FaultKind.TheVariants.{BadHeader, BadWithdrawn, NameExpected, TooLongName, Trailing}
 use Rattle.input_text.specs.Token.{Item, Number, Minus, Text}
 use Rattle.input_text.specs.Range.{is_in}
@@ -50,14 +51,14 @@ behind_name heading lines names = if length names == heading.candidates then Tit
 
 abbrev pub at_name : Heading → List BallotLine → List (List ℕ) → List ℕ → Judged (Progress Expected Poll)
 at_name heading lines names name =
-    if nat_le (length name) 200 then Ok (GoesOn (behind_name heading lines (names ++ name ∷ []))) else Err TooLongName
+    if nat_le (length name) MOST_NAME_BYTES then Ok (GoesOn (behind_name heading lines (names ++ name ∷ []))) else Err TooLongName
 
 abbrev pub poll_of : Heading → List BallotLine → List (List ℕ) → List ℕ → Poll
 poll_of heading lines names title =
     record { roll = record { seats = heading.seats; names = names; title = title; withdrawn = withdrawn_marks heading.candidates heading.withdrawn }; lines = lines }
 
 abbrev pub at_title : Heading → List BallotLine → List (List ℕ) → List ℕ → Judged (Progress Expected Poll)
-at_title heading lines names title = if nat_le (length title) 1000 then Ok (Ends (poll_of heading lines names title)) else Err TooLongName
+at_title heading lines names title = if nat_le (length title) MOST_TITLE_BYTES then Ok (Ends (poll_of heading lines names title)) else Err TooLongName
 
 -- a file up to its title
 unfoldable pub at_token : Limit → Expected → Item → Judged (Progress Expected Poll)

@@ -5,6 +5,7 @@ use Rattle.plain_ballots.specs.declared.limits.TheConstants.{MOST_CANDIDATES}
 use Rattle.plain_ballots.specs.Ballots.{ballot_count}
 use Rattle.plain_ballots.specs.Ranking.{IsRanking}
 use Rattle.plain_ballots.specs.declared.ballot_line.BallotLine.{BallotLine}
+use Rattle.candidate_roll.specs.declared.limits.TheConstants.{MOST_NAME_BYTES}
 use Rattle.input_text.specs.Token.{Item, Number, Text}
 use Rattle.blt_reader.specs.Poll.{Poll}
 use Rattle.input_text.specs.Judged.{Progress, GoesOn, Ends}
@@ -48,7 +49,7 @@ pub record IsInBallots (most : ℕ) (heading : Heading) (lines : Lines) (items :
 pub record IsInNames (most : ℕ) (heading : Heading) (lines : List BallotLine) (names : List (List ℕ)) (items : List Item) : Type 0 where
   pub numbers : IsHeading heading
   pub all_lines : AreLines heading.candidates most lines
-  pub so_far : All (λ name. length name ≤ 200) names
+  pub so_far : All (λ name. length name ≤ MOST_NAME_BYTES) names
   pub spelled : items ≡ opening_of heading ++ (ballots lines ++ map Text names)
 
 -- The items are a front part of a file that ends where this is expected.

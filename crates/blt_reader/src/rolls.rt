@@ -12,7 +12,7 @@ use crate::Election;
 use crate::lines::read_lines_from;
 use crate::names::{read_name, read_names};
 use crate::opening::read_opening;
-use candidate_roll::{Name, Names, Roll, RollStop};
+use candidate_roll::{MOST_TITLE_BYTES, Name, Names, Roll, RollStop};
 use input_text::{FaultKind, InputStop, Tokens};
 use plain_ballots::MOST_BALLOTS;
 use std::alloc::Global;
@@ -70,7 +70,7 @@ fn new_roll(
     alloc: Global,
     seats: u32,
     names: Names,
-    title: Name<1000>,
+    title: Name<MOST_TITLE_BYTES>,
     withdrawn: &[u32],
 ) -> Result<Roll, InputStop>
     requires seats { IsFew seats }

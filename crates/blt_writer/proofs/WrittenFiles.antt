@@ -10,6 +10,7 @@ use Rattle.std.proofs.lemmas.Fmt.{decimal_nonempty}
 use Rattle.std.proofs.lemmas.List.Elements.{All-nil, All-cons, All-head, All-tail, All-weaker}
 use Rattle.std.proofs.lemmas.List.Sums.{get_or-le-sum_by}
 use Rattle.std.proofs.lemmas.List.Sorted.{All-permutation, IsPermutation-sym, length_permutation}
+use Rattle.candidate_roll.specs.declared.limits.TheConstants.{MOST_NAME_BYTES, MOST_TITLE_BYTES}
 use Rattle.candidate_roll.specs.Name.{IsName}
 use Rattle.candidate_roll.specs.Roll.{RollList}
 use Rattle.plain_ballots.specs.declared.ballot_line.BallotLine.{BallotLine}
@@ -105,7 +106,7 @@ spells roll ls named small =
     (spelled.head n roll.seats (omega (arith, named.roll_is.few_candidates)) (omega (arith, named.roll_is.few_seats)))
     (spelled.withdrawn ws listed) in
     let strings = parts (flat_map quoted roll.names) (quoted roll.title) (map Text roll.names) (Text roll.title ∷ [])
-    (spelled.names 200 roll.names named.names) (spelled.one_name 1000 roll.title named.title) in
+    (spelled.names MOST_NAME_BYTES roll.names named.names) (spelled.one_name MOST_TITLE_BYTES roll.title named.title) in
     let back =
     parts (codes "0\n") (flat_map quoted roll.names ++ quoted roll.title) (Number 0 ∷ []) closing
     spelled.zero_line strings in
@@ -188,7 +189,7 @@ file_of roll ls named are = record {
         (numbers_are roll.withdrawn);
     marks = marks_are (length roll.names) roll.withdrawn named.roll_is.same_length;
     lines = are;
-    names = All-weaker (IsName 200) (λ (name : List ℕ). length name ≤ 200) (λ name is. is.short) roll.names named.names;
+    names = All-weaker (IsName MOST_NAME_BYTES) (λ (name : List ℕ). length name ≤ MOST_NAME_BYTES) (λ name is. is.short) roll.names named.names;
     title = named.title.short;
   };
 }

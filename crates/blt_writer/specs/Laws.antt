@@ -1,6 +1,7 @@
 -- What holds of every bag of ballots and its text.
 use Rattle.std.specs.Prelude.{◌≡◌, ℕ, ◌≤◌, List, length, false, All, IsPermutation}
 use Rattle.plain_ballots.specs.declared.limits.TheConstants.{MOST_BALLOTS}
+use Rattle.candidate_roll.specs.declared.limits.TheConstants.{MOST_NAME_BYTES, MOST_TITLE_BYTES}
 use Rattle.candidate_roll.specs.Name.{IsName}
 use Rattle.candidate_roll.specs.Roll.{RollList, IsRoll}
 use Rattle.plain_ballots.specs.Ballots.{plain}
@@ -14,8 +15,8 @@ use Rattle.blt_writer.specs.Text.{IsBltText}
 -- a roll with names and a title that can be printed
 pub record IsNamedRoll (roll : RollList) : Type 0 where
   pub roll_is : IsRoll roll
-  pub names : All (IsName 200) roll.names
-  pub title : IsName 1000 roll.title
+  pub names : All (IsName MOST_NAME_BYTES) roll.names
+  pub title : IsName MOST_TITLE_BYTES roll.title
 
 -- rankings of a roll's candidates, not too many
 pub record AreBallotsOf (roll : RollList) (ballots : List (List ℕ)) : Type 0 where

@@ -1,6 +1,7 @@
 -- Words ask for one thing at most.
 use Rattle.std.proofs.Common.{◌≡◌, ◌∙◌, refl, sym, ap, subst, ℕ, Option, Some, None, List, [], ◌∷◌, inl, inr, ◌-◌}
 use Rattle.std.specs.List.{flat_map}
+use Rattle.candidate_roll.specs.declared.limits.TheConstants.{MOST_TITLE_BYTES}
 use Rattle.meek_words.specs.Numerals.{Word, HaveOneLotList, IsLotList, IsNumeralUpTo, number_of}
 use Rattle.candidate_roll.specs.Name.{IsName}
 use Rattle.ballot_marks.specs.declared.choice.Treat.{Treat}
@@ -156,7 +157,7 @@ module _ (lots : HaveOneLotList) where
   one_roll given a b one other =
       let seats = one_once 0 (λ n word. IsNumeralUpTo MOST_CANDIDATES word × (n ≡ number_of word))
       (λ word m n e f. e.1 ∙ sym f.1) given.seats a.seats b.seats one.seats other.seats in
-      let title = one_at_most [] (λ t word. (t ≡ word) × IsName 1000 word)
+      let title = one_at_most [] (λ t word. (t ≡ word) × IsName MOST_TITLE_BYTES word)
       (λ word m n e f. e.0 ∙ sym f.0) given.title a.title b.title one.title other.title in
       let withdrawn = one_at_most [] (λ ns word. IsLotList word ns) lots given.withdrawn a.withdrawn
       b.withdrawn

@@ -7,6 +7,7 @@ use Rattle.std.proofs.lemmas.Option.{none-some}
 use Rattle.std.proofs.lemmas.List.Elements.{All-from_recursion, All-nil}
 use Rattle.std.proofs.lemmas.List.Sums.{AllPass-from_list_all}
 use Rattle.std.specs.Char.{is_ascii_digit}
+use Rattle.candidate_roll.specs.declared.limits.TheConstants.{MOST_NAME_BYTES}
 use Rattle.meek_words.specs.Numerals.{Word, IsNumeralUpTo, number_of}
 use Rattle.candidate_roll.specs.Name.{IsName, IsPrintable}
 use Rattle.import_words.specs.Asks.{Asks, AreFor, Says}
@@ -144,7 +145,7 @@ none_in_none word has = absurd (omega (arith, has.1))
 
 -- a name of three bytes is a name and a label
 three_named :
-    (a b c : ℕ) → IsPrintable a → IsPrintable b → IsPrintable c → IsName 200 (a ∷ b ∷ c ∷ [])
+    (a b c : ℕ) → IsPrintable a → IsPrintable b → IsPrintable c → IsName MOST_NAME_BYTES (a ∷ b ∷ c ∷ [])
 three_named a b c one two three = record {
   short = omega arith;
   printable = All-from_recursion IsPrintable (a ∷ b ∷ c ∷ []) (one, (two, (three, tt)));
@@ -180,7 +181,7 @@ accepted_plain layout unnamed some = record {
       seats = (one_is_seats, refl);
       title = refl;
       withdrawn = refl;
-      candidates = (refl, All-nil (IsName 200));
+      candidates = (refl, All-nil (IsName MOST_NAME_BYTES));
     };
     table = record {
       separator = refl;
@@ -204,8 +205,8 @@ accepted_preflib = accepted_plain layouts.Preflib refl (λ e. cc)
 abbrev names : List Word
 names = codes "Ann" ∷ codes "Ben" ∷ codes "Cid" ∷ []
 
-all_named : All (IsName 200) names
-all_named = All-from_recursion (IsName 200) names (
+all_named : All (IsName MOST_NAME_BYTES) names
+all_named = All-from_recursion (IsName MOST_NAME_BYTES) names (
   three_named 65 110 110 (omega arith, omega arith) (omega arith, omega arith) (omega arith, omega arith),
   (
     three_named 66 101 110 (omega arith, omega arith) (omega arith, omega arith) (omega arith, omega arith),

@@ -2,6 +2,7 @@
 use Rattle.std.specs.Prelude.{◌≡◌, ◌≤◌, ℕ, true, Option, Some, None, List, [], ◌∷◌, ◌++◌, length, All, IsTrue, nat_eq}
 use Rattle.std.specs.List.{slice_split}
 use Rattle.std.specs.Option.{option_to_list}
+use Rattle.candidate_roll.specs.declared.limits.TheConstants.{MOST_NAME_BYTES, MOST_TITLE_BYTES}
 use Rattle.meek_words.specs.Numerals.{Word, IsNumeralUpTo, IsLotList, number_of}
 use Rattle.candidate_roll.specs.Name.{IsName}
 use Rattle.import_words.specs.Options.{is_of, is_named}
@@ -21,7 +22,7 @@ IsSeats values seats = IsOnce (λ word. IsNumeralUpTo MOST_CANDIDATES word × (s
 
 -- a title of at most 1,000 bytes; where none is said it is empty
 abbrev pub IsTitle : List Word → Word → Type 0
-IsTitle values title = IsAtMostOnce (title ≡ []) (λ word. (title ≡ word) × IsName 1000 word) values
+IsTitle values title = IsAtMostOnce (title ≡ []) (λ word. (title ≡ word) × IsName MOST_TITLE_BYTES word) values
 
 -- numbers with commas between them; where none are said nobody is withdrawn
 abbrev pub AreWithdrawn : List Word → List ℕ → Type 0
@@ -29,7 +30,7 @@ AreWithdrawn values withdrawn = IsAtMostOnce (withdrawn ≡ []) (λ word. IsLotL
 
 -- each value is a name
 abbrev pub AreNames : List Word → List Word → Type 0
-AreNames values names = (names ≡ values) × All (IsName 200) values
+AreNames values names = (names ≡ values) × All (IsName MOST_NAME_BYTES) values
 
 pub record SaysRoll (given : Given) (roll : RollWords) : Type 0 where
   pub seats : IsSeats given.seats roll.seats

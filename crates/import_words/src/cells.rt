@@ -8,7 +8,7 @@ ghost use Rattle.import_words.specs.declared.cells.CellWords.{CellWords};
 use crate::different::are_different;
 use crate::values::Values;
 use crate::{Label, Labels, reading};
-use candidate_roll::Name;
+use candidate_roll::{MOST_NAME_BYTES, Name};
 use meek_words::WordsStop;
 use std::alloc::Global;
 
@@ -40,7 +40,7 @@ impl CellWords {
     pub(crate) fn distinguish(
         &self,
         alloc: Global,
-        candidates: &[Name<200>],
+        candidates: &[Name<MOST_NAME_BYTES>],
     ) -> Result<(), WordsStop>
         ensures accepted { OnOk result (AreDistinguished self.now candidates.now) }
         ensures refused { result ≡ Err WordsStop.BadWords → ¬ (AreDistinguished self.now candidates.now) }
@@ -70,7 +70,11 @@ fn append(alloc: Global, all: &mut Labels, labels: &[Label]) -> Result<(), Words
 }
 
 /// Puts names behind labels, where they are labels too.
-fn append_names(alloc: Global, all: &mut Labels, names: &[Name<200>]) -> Result<(), WordsStop>
+fn append_names(
+    alloc: Global,
+    all: &mut Labels,
+    names: &[Name<MOST_NAME_BYTES>],
+) -> Result<(), WordsStop>
     ensures ok { OnOk result ((all.new ≡ all.old ++ names.now) × All IsLabel names.now) }
     ensures refused { result ≡ Err WordsStop.BadWords → ¬ (All IsLabel names.now) }
 {

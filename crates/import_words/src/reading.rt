@@ -8,7 +8,7 @@ ghost use Rattle.import_words.specs.Values.{texts_in, words_in};
 ghost use Rattle.plain_ballots.specs.declared.limits.TheConstants.{MOST_CANDIDATES};
 
 use crate::{Label, Labels};
-use candidate_roll::{Name, NameStop, Names};
+use candidate_roll::{MOST_TITLE_BYTES, Name, NameStop, Names};
 use meek_words::{LotWords, WordsStop, read_lots};
 use plain_ballots::MOST_CANDIDATES;
 use std::alloc::Global;
@@ -72,7 +72,7 @@ fn name<const MAX: usize>(alloc: Global, bytes: &[u8]) -> Result<Name<MAX>, Word
     }
 }
 
-pub(crate) fn title(alloc: Global, value: Option<&str>) -> Result<Name<1000>, WordsStop>
+pub(crate) fn title(alloc: Global, value: Option<&str>) -> Result<Name<MOST_TITLE_BYTES>, WordsStop>
     ensures accepted { IfOk result (λ title. IsTitle (words_in value.entry) title) }
     ensures refused { result ≡ Err WordsStop.BadWords
         → (title : Word) → ¬ (IsTitle (words_in value.entry) title) }

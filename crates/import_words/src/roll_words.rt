@@ -6,7 +6,7 @@ ghost use Rattle.import_words.specs.declared.roll_words.RollWords.{RollWords};
 
 use crate::reading;
 use crate::values::Values;
-use candidate_roll::{Name, Names};
+use candidate_roll::{MOST_TITLE_BYTES, Name, Names};
 use meek_words::{LotWords, WordsStop};
 use std::alloc::Global;
 
@@ -15,7 +15,7 @@ use std::alloc::Global;
 pub struct RollWords {
     pub seats: u32,
     /// Empty where none is said.
-    pub title: Name<1000>,
+    pub title: Name<MOST_TITLE_BYTES>,
     /// Numbers as they were typed, which need not be candidates'.
     pub withdrawn: LotWords,
     /// The candidates' names, where the layout does not have them.
