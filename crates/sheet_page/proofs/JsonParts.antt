@@ -1,5 +1,5 @@
 -- Parts of a text of JSON, one behind another.
-use Rattle.std.proofs.Common.{◌≡◌, ◌∙◌, refl, sym, ap, ℕ, ◌+◌, ◌≤◌, List, [], ◌∷◌, ◌++◌, map, arith}
+use Rattle.std.proofs.Common.{◌≡◌, ◌∙◌, refl, sym, ap, ℕ, ◌+◌, ◌<◌, ◌≤◌, List, [], ◌∷◌, ◌++◌, map, arith}
 use Rattle.std.proofs.Common.{append_assoc, append-nil}
 use Rattle.std.specs.Prelude.{zero, suc}
 use Rattle.std.specs.List.{flat_map, range_with_len}
@@ -60,8 +60,16 @@ module _ (j g : ℕ → List ℕ) (is : (p : ℕ) → j p ≡ comma_at p ++ g p)
       ∙ sym (append_assoc (g 0) more rest)
 
 -- a value for each place
+are-items-from :
+    (value : ℕ → Json) (text : ℕ → List ℕ) (n a : ℕ) → ((p : ℕ) → a ≤ p → p < a + n → IsTextOf (value p) (text p))
+    → AreItems (items_of (map value (range_with_len a n))) (map text (range_with_len a n))
+are-items-from value text zero a is = refl
+are-items-from value text (suc n) a is = (
+  is a (omega arith) (omega arith),
+  are-items-from value text n (a + 1) (λ p low high. is p (omega (arith, low)) (omega (arith, high))),
+)
+
 pub are-items :
-    (value : ℕ → Json) (text : ℕ → List ℕ) → ((p : ℕ) → IsTextOf (value p) (text p)) → (ps : List ℕ)
-    → AreItems (items_of (map value ps)) (map text ps)
-are-items value text is [] = refl
-are-items value text is (p ∷ ps) = (is p, are-items value text is ps)
+    (value : ℕ → Json) (text : ℕ → List ℕ) (n : ℕ) → ((p : ℕ) → p < n → IsTextOf (value p) (text p))
+    → AreItems (items_of (map value (places n))) (map text (places n))
+are-items value text n is = are-items-from value text n 0 (λ p low high. is p (omega (arith, high)))

@@ -11,6 +11,8 @@ mod CsvLemmas
 mod JsonReads
 mod JsonParts
 mod SheetJson
+mod JsonFronts
+mod JsonOneThing
 mod AmountTexts
 mod FieldWords
 mod RecordRuns

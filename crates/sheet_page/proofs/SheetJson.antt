@@ -1,13 +1,17 @@
 -- The JSON of a sheet as a text of what it says.
 use Rattle.std.proofs.Common.{◌≡◌, ◌∙◌, refl, sym, ap, ℕ, ◌+◌, Bool, true, false, List, [], ◌∷◌, ◌++◌, length}
+use Rattle.std.proofs.Common.{arith, ◌<◌, ◌≤◌}
 use Rattle.std.proofs.Common.{map, append_assoc}
 use Rattle.std.specs.Prelude.{codes, decimal, slice_index}
 use Rattle.std.specs.List.{flat_map}
+use Rattle.std.proofs.lemmas.List.Elements.{All-get_or}
 use Rattle.candidate_roll.specs.State.{state_at}
 use Rattle.lot_order.specs.Flags.{mark_at}
-use Rattle.meek_rule.specs.Row.{Row}
+use Rattle.meek_rule.specs.Row.{Row, blank}
+use Rattle.plain_ballots.specs.declared.limits.TheConstants.{MOST_CANDIDATES}
 use Rattle.fixed_place.specs.Text.{text_of}
 use Rattle.sheet_text.specs.Lines.{state_word}
+use Rattle.sheet_reader.specs.Form.{IsPrintable, IsPrintableRow}
 use Rattle.sheet_reader.specs.Values.{SheetList}
 use Rattle.sheet_page.specs.Json.{amount, comma_at, truth, candidate_json, won_json, lost_json, standing_json}
 use Rattle.sheet_page.specs.Json.{iteration_json, iteration_at, json_of}
@@ -16,6 +20,7 @@ use Rattle.sheet_page.specs.JsonText.{string_text}
 use Rattle.sheet_page.specs.JsonValues.{array, candidate_value, standing_value, iteration_value}
 use Rattle.sheet_page.specs.JsonValues.{iteration_value_at, sheet_value}
 use Rattle.sheet_page.specs.Values.{places, name_at, row_at, step_word, defeats}
+use Rattle.sheet_page.proofs.JsonOneThing.{value-one}
 use Rattle.sheet_page.proofs.JsonParts.{onto, joined-onto, onto-append, said-text, list-written, are-items}
 
 -- a member: its key as a string, a colon and the text of its value
@@ -40,16 +45,26 @@ candidate_pieces v p =
 candidate-written : (v : SheetList) (p : ℕ) → candidate_json v p ≡ comma_at p ++ members (candidate_pieces v p)
 candidate-written v p = refl
 
-candidate-is : (v : SheetList) (p : ℕ) → IsTextOf (candidate_value v p) (members (candidate_pieces v p))
-candidate-is v p = (
+candidate-is :
+    (v : SheetList) (p : ℕ) → p < MOST_CANDIDATES
+    → IsTextOf (candidate_value v p) (members (candidate_pieces v p))
+candidate-is v p few = (
   candidate_pieces v p,
   refl,
   (
-    (codes "\"number\"", decimal (p + 1), refl, refl, refl),
+    (codes "\"number\"", decimal (p + 1), refl, refl, (omega (arith, few), refl)),
     (
       (codes "\"name\"", string_text (name_at v p), refl, refl, said-text (name_at v p)),
-      ((codes "\"outcome\"", string_text (state_word (state_at v.last p)), refl, refl,
-            said-text (state_word (state_at v.last p))), refl),
+      (
+        (
+          codes "\"outcome\"",
+          string_text (state_word (state_at v.last p)),
+          refl,
+          refl,
+          said-text (state_word (state_at v.last p)),
+        ),
+        refl,
+      ),
     ),
   ),
 )
@@ -84,15 +99,20 @@ standing-written row p =
     joined-onto (vote_parts row p) (won_json elected capped ++ lost)
     ∙ ap (onto (vote_parts row p)) (joined-onto (won_parts elected capped) lost)
 
-standing-is : (row : Row) (p : ℕ) → IsTextOf (standing_value row p) (members (standing_pieces row p))
-standing-is row p = (
+standing-is : (row : Row) (p : ℕ) → p < MOST_CANDIDATES → IsTextOf (standing_value row p) (members (standing_pieces row p))
+standing-is row p few = (
   standing_pieces row p,
   refl,
   (
-    (codes "\"number\"", decimal (p + 1), refl, refl, refl),
+    (codes "\"number\"", decimal (p + 1), refl, refl, (omega (arith, few), refl)),
     (
-      (codes "\"state\"", string_text (state_word (state_at row.states p)), refl, refl,
-        said-text (state_word (state_at row.states p))),
+      (
+        codes "\"state\"",
+        string_text (state_word (state_at row.states p)),
+        refl,
+        refl,
+        said-text (state_word (state_at row.states p)),
+      ),
       (
         (codes "\"keep\"", amount (slice_index row.keeps p), refl, refl, said-text (text_of 9 (slice_index row.keeps p))),
         (
@@ -103,8 +123,16 @@ standing-is row p = (
               (codes "\"capped\"", truth (mark_at row.capped p), refl, refl, truth-text (mark_at row.capped p)),
               (
                 (codes "\"tied\"", truth (mark_at row.tied p), refl, refl, truth-text (mark_at row.tied p)),
-                ((codes "\"defeated\"", truth (defeats row.step (p + 1)), refl, refl,
-                      truth-text (defeats row.step (p + 1))), refl),
+                (
+                  (
+                    codes "\"defeated\"",
+                    truth (defeats row.step (p + 1)),
+                    refl,
+                    refl,
+                    truth-text (defeats row.step (p + 1)),
+                  ),
+                  refl,
+                ),
               ),
             ),
           ),
@@ -141,21 +169,25 @@ iteration-written i row =
     (length row.states))
 
 standings-are :
-    (row : Row) → IsTextOf (array (map (standing_value row) (places (length row.states)))) (standings_text row)
-standings-are row = (
+    (row : Row) → length row.states ≤ MOST_CANDIDATES
+    → IsTextOf (array (map (standing_value row) (places (length row.states)))) (standings_text row)
+standings-are row few = (
   map (λ p. members (standing_pieces row p)) (places (length row.states)),
   refl,
-  are-items (standing_value row) (λ p. members (standing_pieces row p)) (standing-is row) (places (length row.states)),
+  are-items (standing_value row) (λ p. members (standing_pieces row p)) (length row.states)
+      (λ p below. standing-is row p (omega (arith, few, below))),
 )
 
-iteration-is : (row : Row) → IsTextOf (iteration_value row) (members (iteration_pieces row))
-iteration-is row = (
+iteration-is :
+    (n : ℕ) (row : Row) → n ≤ MOST_CANDIDATES → IsPrintableRow 9 n row
+      → IsTextOf (iteration_value row) (members (iteration_pieces row))
+iteration-is n row few is = (
   iteration_pieces row,
   refl,
   (
-    (codes "\"round\"", decimal row.round, refl, refl, refl),
+    (codes "\"round\"", decimal row.round, refl, refl, (omega (arith, is.round), refl)),
     (
-      (codes "\"iteration\"", decimal row.iteration, refl, refl, refl),
+      (codes "\"iteration\"", decimal row.iteration, refl, refl, (is.iteration, refl)),
       (
         (codes "\"total\"", amount row.total, refl, refl, said-text (text_of 9 row.total)),
         (
@@ -164,7 +196,8 @@ iteration-is row = (
             (codes "\"surplus\"", amount row.surplus, refl, refl, said-text (text_of 9 row.surplus)),
             (
               (codes "\"step\"", string_text (step_word row.step), refl, refl, said-text (step_word row.step)),
-              ((codes "\"candidates\"", standings_text row, refl, refl, standings-are row), refl),
+              ((codes "\"candidates\"", standings_text row, refl, refl,
+                    standings-are row (omega (arith, few, is.of_all.states))), refl),
             ),
           ),
         ),
@@ -201,7 +234,7 @@ written-onto : (v : SheetList) (more : List ℕ) →
     members (sheet_pieces v) ++ more
     ≡ onto (head_parts v) (closed (map (λ p. members (candidate_pieces v p)) (places (length v.names))) 93
     ++ (codes ",\"iterations\":["
-          ++ (closed (map (λ i. members (iteration_pieces (row_at v.rows i))) (places (length v.rows))) 93
+    ++ (closed (map (λ i. members (iteration_pieces (row_at v.rows i))) (places (length v.rows))) 93
     ++ 125 ∷ more)))
 written-onto v more =
     let candidates = closed (map (λ p. members (candidate_pieces v p)) (places (length v.names))) 93 in
@@ -225,37 +258,48 @@ sheet-written v =
     ∙ sym (written-onto v (10 ∷ []))
 
 candidates-are :
-    (v : SheetList) → IsTextOf (array (map (candidate_value v) (places (length v.names)))) (candidates_text v)
-candidates-are v = (
+    (v : SheetList) → IsPrintable 9 v
+      → IsTextOf (array (map (candidate_value v) (places (length v.names)))) (candidates_text v)
+candidates-are v is = (
   map (λ p. members (candidate_pieces v p)) (places (length v.names)),
   refl,
-  are-items (candidate_value v) (λ p. members (candidate_pieces v p)) (candidate-is v) (places (length v.names)),
+  are-items (candidate_value v) (λ p. members (candidate_pieces v p)) (length v.names)
+      (λ p below. candidate-is v p (omega (arith, is.candidates.1, below))),
 )
 
 iterations-are :
-    (v : SheetList) → IsTextOf (array (map (iteration_value_at v) (places (length v.rows)))) (iterations_text v)
-iterations-are v = (
+    (v : SheetList) → IsPrintable 9 v
+      → IsTextOf (array (map (iteration_value_at v) (places (length v.rows)))) (iterations_text v)
+iterations-are v is = (
   map (λ i. members (iteration_pieces (row_at v.rows i))) (places (length v.rows)),
   refl,
-  are-items (iteration_value_at v) (λ i. members (iteration_pieces (row_at v.rows i)))
-      (λ i. iteration-is (row_at v.rows i)) (places (length v.rows)),
+  are-items (iteration_value_at v) (λ i. members (iteration_pieces (row_at v.rows i))) (length v.rows)
+      (λ i below. iteration-is (length v.names) (row_at v.rows i) is.candidates.1
+      (All-get_or (IsPrintableRow 9 (length v.names)) v.rows i (blank 0) below is.rows)),
 )
 
-pub sheet-is : (v : SheetList) → IsTextOf (sheet_value v) (sheet_text v)
-sheet-is v = (
+pub sheet-is : (v : SheetList) → IsPrintable 9 v → IsTextOf (sheet_value v) (sheet_text v)
+sheet-is v is = (
   sheet_pieces v,
   refl,
   (
     (codes "\"title\"", string_text v.title, refl, refl, said-text v.title),
     (
-      (codes "\"seats\"", decimal v.seats, refl, refl, refl),
+      (codes "\"seats\"", decimal v.seats, refl, refl, (omega (arith, is.seats.1), refl)),
       (
-        (codes "\"ballots\"", decimal v.ballots, refl, refl, refl),
+        (codes "\"ballots\"", decimal v.ballots, refl, refl, (omega (arith, is.ballots), refl)),
         (
-          (codes "\"candidates\"", candidates_text v, refl, refl, candidates-are v),
-          ((codes "\"iterations\"", iterations_text v, refl, refl, iterations-are v), refl),
+          (codes "\"candidates\"", candidates_text v, refl, refl, candidates-are v is),
+          ((codes "\"iterations\"", iterations_text v, refl, refl, iterations-are v is), refl),
         ),
       ),
     ),
   ),
 )
+
+-- two sheets with one JSON
+pub same-json :
+    (v w : SheetList) → IsPrintable 9 v → IsPrintable 9 w → json_of v ≡ json_of w → sheet_value v ≡ sheet_value w
+same-json v w is other e =
+    (value-one (sheet_value v) (sheet_value w) (sheet_text v) (sheet_text w) (10 ∷ []) (10 ∷ []) (sheet-is v is)
+    (sheet-is w other) refl refl (sym (sheet-written v) ∙ e ∙ sheet-written w)).0

@@ -1,6 +1,6 @@
--- The grammar of JSON (RFC 8259), as far as a sheet needs it: which bytes are a text of a value. It has no white space, whole numbers alone,
--- and no null. 44 is the comma, and 58 the colon; 91 and 93 are `[` and `]`, 123 and 125 `{` and `}`.
-use Rattle.std.specs.Prelude.{◌≡◌, ℕ, Bool, true, false, List, [], ◌∷◌, ◌++◌, codes, decimal, Some}
+-- The grammar of JSON (RFC 8259), as far as a sheet needs it: which bytes are a text of a value. It has no white space, no null, and
+-- of numbers whole ones alone, below 2 ^ 64. 44 is the comma, and 58 the colon; 91 and 93 are `[` and `]`, 123 and 125 `{` and `}`.
+use Rattle.std.specs.Prelude.{◌≡◌, ◌<◌, ◌^◌, ℕ, Bool, true, false, List, [], ◌∷◌, ◌++◌, codes, decimal, Some}
 use Rattle.sheet_page.specs.JsonReading.{read_string}
 
 mutual
@@ -38,7 +38,7 @@ abbrev mutual
   -- the bytes are a text of this value
   pub IsTextOf : Json → (bytes : List ℕ) → Type 0
   IsTextOf (Text text) bytes = IsString text bytes
-  IsTextOf (Whole n) bytes = bytes ≡ decimal n
+  IsTextOf (Whole n) bytes = (n < 2 ^ 64) × (bytes ≡ decimal n)
   IsTextOf (Truth true) bytes = bytes ≡ codes "true"
   IsTextOf (Truth false) bytes = bytes ≡ codes "false"
   IsTextOf (Array items) bytes = (pieces : List (List ℕ)) × (bytes ≡ 91 ∷ closed pieces 93) × AreItems items pieces

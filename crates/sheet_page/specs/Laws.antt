@@ -10,7 +10,7 @@ use Rattle.sheet_reader.specs.Values.{SheetList}
 use Rattle.sheet_page.specs.Csv.{csv_of, csv_records}
 use Rattle.sheet_page.specs.Html.{page}
 use Rattle.sheet_page.specs.Json.{json_of}
-use Rattle.sheet_page.specs.JsonGrammar.{IsTextOf}
+use Rattle.sheet_page.specs.JsonGrammar.{Json, IsTextOf}
 use Rattle.sheet_page.specs.JsonReading.{read_string}
 use Rattle.sheet_page.specs.JsonText.{string_text}
 use Rattle.sheet_page.specs.JsonValues.{sheet_value}
@@ -59,4 +59,13 @@ StringsAreReadBack = (text rest : List ℕ) → read_string (string_text text ++
 
 -- What is written of a sheet is a text of JSON in one line: by the grammar of JSON it is a text of just what the sheet says. 10 is the line feed.
 abbrev pub SheetsAreJson : Type 0
-SheetsAreJson = (v : SheetList) → (text : List ℕ) × (json_of v ≡ text ++ 10 ∷ []) × IsTextOf (sheet_value v) text
+SheetsAreJson =
+    (v : SheetList) → IsPrintable 9 v → (text : List ℕ) × (json_of v ≡ text ++ 10 ∷ []) × IsTextOf (sheet_value v) text
+
+-- A text of JSON says one thing, so who reads it by the grammar has just what it says.
+abbrev pub TextsSayOneThing : Type 0
+TextsSayOneThing = (x y : Json) (bytes : List ℕ) → IsTextOf x bytes → IsTextOf y bytes → x ≡ y
+
+-- Sheets that say different things have different JSON.
+abbrev pub JsonSaysItsSheet : Type 0
+JsonSaysItsSheet = (v w : SheetList) → IsPrintable 9 v → IsPrintable 9 w → json_of v ≡ json_of w → sheet_value v ≡ sheet_value w

@@ -1,5 +1,5 @@
 // What holds of every page, of every round, of every table and of all JSON.
-ghost use Rattle.sheet_page.specs.Laws.{PagesNest, RisingRoundsAreWhole, SheetsAreJson, StringsAreReadBack, TablesAreReadBack, TablesSayTheirSheets};
+ghost use Rattle.sheet_page.specs.Laws.{JsonSaysItsSheet, PagesNest, RisingRoundsAreWhole, SheetsAreJson, StringsAreReadBack, TablesAreReadBack, TablesSayTheirSheets, TextsSayOneThing};
 
 use csv_text::csv_laws;
 use page_tree::page_laws;
@@ -32,7 +32,10 @@ pub fn strings_are_read_back()
 {}
 
 /// What is written of a sheet is JSON, and says what the sheet says: its title and numbers, each candidate
-/// with its outcome, and every iteration. The call does nothing.
+/// with its outcome, and every iteration. A text of JSON says one thing, so this is read back from it, and
+/// sheets that differ in it have different JSON. The call does nothing.
 pub fn sheets_are_json()
-    ensures { SheetsAreJson }
+    ensures texts { SheetsAreJson }
+    ensures one_thing { TextsSayOneThing }
+    ensures values { JsonSaysItsSheet }
 {}

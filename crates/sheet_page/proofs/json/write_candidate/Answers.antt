@@ -34,5 +34,5 @@ returns g c =
     let name = c.bytes-name.ensures.value ∙ sym (get_or_from_slice_get v.names p c.get.result.now [] c.get.ensures) in
     let outcome = c.state_word-outcome.ensures ∙ ap state_word c.get-2.ensures.state in
     renamed (candidate_is v p _ _ _ c.comma_at.ensures name outcome
-          ∙ ap (λ (w : SheetList). candidate_json w p) c.values.view_is)
+    ∙ ap (λ (w : SheetList). candidate_json w p) c.values.view_is)
     c.write.ensures

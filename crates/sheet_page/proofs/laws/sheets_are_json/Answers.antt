@@ -1,5 +1,12 @@
-use Rattle.sheet_page.proofs.SheetJson.{sheet_text, sheet-written, sheet-is}
+use Rattle.sheet_page.proofs.JsonOneThing.{texts_say}
+use Rattle.sheet_page.proofs.SheetJson.{sheet_text, sheet-written, sheet-is, same-json}
 use Rattle.sheet_page.proofs.laws.sheets_are_json.Goals as goal
 
-pub returns : goal.returns
-returns c v = (sheet_text v, sheet-written v, sheet-is v)
+pub returns-clause-texts : goal.returns-clause-texts
+returns-clause-texts c v is = (sheet_text v, sheet-written v, sheet-is v is)
+
+pub returns-clause-one_thing : goal.returns-clause-one_thing
+returns-clause-one_thing c = texts_say
+
+pub returns-clause-values : goal.returns-clause-values
+returns-clause-values c = same-json

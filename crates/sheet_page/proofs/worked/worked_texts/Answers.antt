@@ -17,7 +17,7 @@ one = refl
 one_too_many : IsTextOf (array (Whole 1 ∷ [])) (codes "[1,]") → ⊥
 one_too_many (([]), is, items) = items
 one_too_many ((piece ∷ []), is, items) =
-    let all = subst (λ (l : List ℕ). codes "[1,]" ≡ 91 ∷ closed (l ∷ []) 93) (items.0 ∙ one) is in
+    let all = subst (λ (l : List ℕ). codes "[1,]" ≡ 91 ∷ closed (l ∷ []) 93) (items.0.1 ∙ one) is in
     omega (arith, ap (λ (l : List ℕ). length l) all)
 one_too_many ((piece ∷ other ∷ others), is, items) = cc
 
@@ -35,12 +35,12 @@ returns c = record {
         (
           (codes "10" ∷ codes "false" ∷ codes "[]" ∷ []),
           refl,
-          (ten, (refl, (([], refl, refl), refl))),
+          ((omega arith, ten), (refl, (([], refl, refl), refl))),
         ),
       ),
       ((codes "\"marks\"", codes "\"\\\"\\\\\\/\"", refl, refl, refl), refl),
     ),
   );
   no_comma_at_the_end = one_too_many;
-  no_zero_before = λ is. omega (arith, ap (λ (l : List ℕ). length l) (is ∙ one));
+  no_zero_before = λ is. omega (arith, ap (λ (l : List ℕ). length l) (is.1 ∙ one));
 }
