@@ -40,7 +40,7 @@ digits_say (suc k) n m below small e =
     (omega (arith, pow-suc 10 k, small)) parts.0 in
     omega (arith, last.0, others)
 
-votes_small : (u : ℕ) → u ≤ most 9 → u / scale 9 ≤ 1000000000
+pub votes_small : (u : ℕ) → u ≤ most 9 → u / scale 9 ≤ 1000000000
 votes_small u small = div-le_of_le-mul (scale 9) (omega (arith, pow-add 10 9 9, small))
 
 -- no two amounts are written alike

@@ -9,6 +9,7 @@ mod Owing
 mod WordLemmas
 mod CsvLemmas
 mod JsonReads
+mod JsonTwins
 mod JsonParts
 mod SheetJson
 mod JsonFronts
@@ -18,3 +19,5 @@ mod FieldWords
 mod RecordRuns
 mod RowFields
 mod TableValues
+mod JsonRows
+mod JsonSheets

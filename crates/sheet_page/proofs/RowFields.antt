@@ -32,6 +32,14 @@ marked n marks others long also same =
     ext_get_or false marks others (long ∙ sym also)
     (λ p below. marks_say (mark_at marks p) (mark_at others p) (same p (omega (arith, below, long))))
 
+pub keep_at : (n : ℕ) (row : Row) → IsPrintableRow 9 n row → (p : ℕ) → p < n → slice_index row.keeps p ≤ most 9
+keep_at n row is p below =
+    keep_small (slice_index row.keeps p)
+    (All-get_or (λ keep. keep ≤ scale 9) row.keeps p 0 (omega (arith, below, is.of_all.keeps)) is.keeps)
+
+pub vote_at : (n : ℕ) (row : Row) → IsPrintableRow 9 n row → (p : ℕ) → p < n → slice_index row.votes p ≤ most 9
+vote_at n row is p below = All-get_or (λ vote. vote ≤ most 9) row.votes p 0 (omega (arith, below, is.of_all.votes)) is.votes
+
 pub row_says :
     (v w : SheetList) (n : ℕ) (row other : Row) → 1 ≤ n → IsPrintableRow 9 n row → IsPrintableRow 9 n other
     → HaveOneText v w n row other → row ≡ other
@@ -76,24 +84,16 @@ row_says v w n row other some is also same =
         (λ p below. states_say (state_at row.states p) (state_at other.states p)
         (ap (field 5) (same p (omega (arith, below, is.of_all.states)))))
 
-    keep : (r : Row) → IsPrintableRow 9 n r → (p : ℕ) → p < n → slice_index r.keeps p ≤ most 9
-    keep r is p below =
-        keep_small (slice_index r.keeps p)
-        (All-get_or (λ keep. keep ≤ scale 9) r.keeps p 0 (omega (arith, below, is.of_all.keeps)) is.keeps)
-
     keeps : row.keeps ≡ other.keeps
     keeps =
         ext_get_or 0 row.keeps other.keeps (is.of_all.keeps ∙ sym also.of_all.keeps)
         (λ p below. let here : p < n = omega (arith, below, is.of_all.keeps) in
-        amounts_say (slice_index row.keeps p) (slice_index other.keeps p) (keep row is p here)
-        (keep other also p here) (ap (field 6) (same p here)))
-
-    vote : (r : Row) → IsPrintableRow 9 n r → (p : ℕ) → p < n → slice_index r.votes p ≤ most 9
-    vote r is p below = All-get_or (λ vote. vote ≤ most 9) r.votes p 0 (omega (arith, below, is.of_all.votes)) is.votes
+        amounts_say (slice_index row.keeps p) (slice_index other.keeps p) (keep_at n row is p here)
+        (keep_at n other also p here) (ap (field 6) (same p here)))
 
     votes : row.votes ≡ other.votes
     votes =
         ext_get_or 0 row.votes other.votes (is.of_all.votes ∙ sym also.of_all.votes)
         (λ p below. let here : p < n = omega (arith, below, is.of_all.votes) in
-        amounts_say (slice_index row.votes p) (slice_index other.votes p) (vote row is p here)
-        (vote other also p here) (ap (field 7) (same p here)))
+        amounts_say (slice_index row.votes p) (slice_index other.votes p) (vote_at n row is p here)
+        (vote_at n other also p here) (ap (field 7) (same p here)))

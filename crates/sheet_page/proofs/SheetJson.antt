@@ -20,7 +20,6 @@ use Rattle.sheet_page.specs.JsonText.{string_text}
 use Rattle.sheet_page.specs.JsonValues.{array, candidate_value, standing_value, iteration_value}
 use Rattle.sheet_page.specs.JsonValues.{iteration_value_at, sheet_value}
 use Rattle.sheet_page.specs.Values.{places, name_at, row_at, step_word, defeats}
-use Rattle.sheet_page.proofs.JsonOneThing.{value-one}
 use Rattle.sheet_page.proofs.JsonParts.{onto, joined-onto, onto-append, said-text, list-written, are-items}
 
 -- a member: its key as a string, a colon and the text of its value
@@ -82,13 +81,13 @@ standing_pieces row p =
     ∷ member (codes "\"tied\"") (truth (mark_at row.tied p))
     ∷ member (codes "\"defeated\"") (truth (defeats row.step (p + 1))) ∷ []
 
-abbrev vote_parts : Row → (p : ℕ) → List (List ℕ)
+abbrev pub vote_parts : Row → (p : ℕ) → List (List ℕ)
 vote_parts row p =
     comma_at p ∷ codes "{\"number\":" ∷ decimal (p + 1) ∷ codes ",\"state\":"
     ∷ string_text (state_word (state_at row.states p))
     ∷ codes ",\"keep\":" ∷ amount (slice_index row.keeps p) ∷ codes ",\"vote\":" ∷ amount (slice_index row.votes p) ∷ []
 
-abbrev won_parts : (elected capped : List ℕ) → List (List ℕ)
+abbrev pub won_parts : (elected capped : List ℕ) → List (List ℕ)
 won_parts elected capped = codes ",\"elected\":" ∷ elected ∷ codes ",\"capped\":" ∷ capped ∷ []
 
 standing-written : (row : Row) (p : ℕ) → standing_json row p ≡ comma_at p ++ members (standing_pieces row p)
@@ -154,7 +153,7 @@ iteration_pieces row =
     ∷ member (codes "\"surplus\"") (amount row.surplus) ∷ member (codes "\"step\"") (string_text (step_word row.step))
     ∷ member (codes "\"candidates\"") (standings_text row) ∷ []
 
-abbrev amounts_parts : (i : ℕ) → Row → List (List ℕ)
+abbrev pub amounts_parts : (i : ℕ) → Row → List (List ℕ)
 amounts_parts i row =
     comma_at i ∷ codes "{\"round\":" ∷ decimal row.round ∷ codes ",\"iteration\":" ∷ decimal row.iteration
     ∷ codes ",\"total\":" ∷ amount row.total ∷ codes ",\"quota\":" ∷ amount row.quota ∷ codes ",\"surplus\":"
@@ -180,7 +179,7 @@ standings-are row few = (
 
 iteration-is :
     (n : ℕ) (row : Row) → n ≤ MOST_CANDIDATES → IsPrintableRow 9 n row
-      → IsTextOf (iteration_value row) (members (iteration_pieces row))
+    → IsTextOf (iteration_value row) (members (iteration_pieces row))
 iteration-is n row few is = (
   iteration_pieces row,
   refl,
@@ -196,8 +195,16 @@ iteration-is n row few is = (
             (codes "\"surplus\"", amount row.surplus, refl, refl, said-text (text_of 9 row.surplus)),
             (
               (codes "\"step\"", string_text (step_word row.step), refl, refl, said-text (step_word row.step)),
-              ((codes "\"candidates\"", standings_text row, refl, refl,
-                    standings-are row (omega (arith, few, is.of_all.states))), refl),
+              (
+                (
+                  codes "\"candidates\"",
+                  standings_text row,
+                  refl,
+                  refl,
+                  standings-are row (omega (arith, few, is.of_all.states)),
+                ),
+                refl,
+              ),
             ),
           ),
         ),
@@ -220,7 +227,7 @@ sheet_pieces v =
     ∷ member (codes "\"ballots\"") (decimal v.ballots) ∷ member (codes "\"candidates\"") (candidates_text v)
     ∷ member (codes "\"iterations\"") (iterations_text v) ∷ []
 
-abbrev head_parts : SheetList → List (List ℕ)
+abbrev pub head_parts : SheetList → List (List ℕ)
 head_parts v =
     codes "{\"title\":" ∷ string_text v.title ∷ codes ",\"seats\":" ∷ decimal v.seats ∷ codes ",\"ballots\":"
     ∷ decimal v.ballots
@@ -259,7 +266,7 @@ sheet-written v =
 
 candidates-are :
     (v : SheetList) → IsPrintable 9 v
-      → IsTextOf (array (map (candidate_value v) (places (length v.names)))) (candidates_text v)
+    → IsTextOf (array (map (candidate_value v) (places (length v.names)))) (candidates_text v)
 candidates-are v is = (
   map (λ p. members (candidate_pieces v p)) (places (length v.names)),
   refl,
@@ -269,7 +276,7 @@ candidates-are v is = (
 
 iterations-are :
     (v : SheetList) → IsPrintable 9 v
-      → IsTextOf (array (map (iteration_value_at v) (places (length v.rows)))) (iterations_text v)
+    → IsTextOf (array (map (iteration_value_at v) (places (length v.rows)))) (iterations_text v)
 iterations-are v is = (
   map (λ i. members (iteration_pieces (row_at v.rows i))) (places (length v.rows)),
   refl,
@@ -296,10 +303,3 @@ sheet-is v is = (
     ),
   ),
 )
-
--- two sheets with one JSON
-pub same-json :
-    (v w : SheetList) → IsPrintable 9 v → IsPrintable 9 w → json_of v ≡ json_of w → sheet_value v ≡ sheet_value w
-same-json v w is other e =
-    (value-one (sheet_value v) (sheet_value w) (sheet_text v) (sheet_text w) (10 ∷ []) (10 ∷ []) (sheet-is v is)
-    (sheet-is w other) refl refl (sym (sheet-written v) ∙ e ∙ sheet-written w)).0

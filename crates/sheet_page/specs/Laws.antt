@@ -1,5 +1,5 @@
 -- What holds of every page, of every round, of every table and of all JSON.
-use Rattle.std.specs.Prelude.{◌≡◌, ◌↔◌, ◌⊎◌, ℕ, ◌+◌, ◌<◌, ◌≤◌, List, true, [], ◌∷◌, ◌++◌, length, Some, None}
+use Rattle.std.specs.Prelude.{◌≡◌, ◌↔◌, ◌⊎◌, ℕ, ◌+◌, ◌<◌, ◌≤◌, List, true, [], ◌∷◌, ◌++◌, length, map, Some, None}
 use Rattle.csv_text.specs.Reading.{read, Outside}
 use Rattle.meek_rule.specs.Row.{Row}
 use Rattle.page_tree.specs.Escaping.{readable}
@@ -66,6 +66,15 @@ SheetsAreJson =
 abbrev pub TextsSayOneThing : Type 0
 TextsSayOneThing = (x y : Json) (bytes : List ℕ) → IsTextOf x bytes → IsTextOf y bytes → x ≡ y
 
--- Sheets that say different things have different JSON.
+-- Two sheets are alike, as far as their title and names are UTF-8: of a piece that is none the replacement sign alone is seen.
+pub record HaveOneJson (v w : SheetList) : Type 0 where
+  pub title : readable v.title ≡ readable w.title
+  pub seats : v.seats ≡ w.seats
+  pub ballots : v.ballots ≡ w.ballots
+  pub names : map readable v.names ≡ map readable w.names
+  pub iterations : v.rows ≡ w.rows
+  pub last : v.last ≡ w.last
+
+-- JSON says a sheet whole: no two sheets have one text of JSON, but where only bytes that are no UTF-8 differ.
 abbrev pub JsonSaysItsSheet : Type 0
-JsonSaysItsSheet = (v w : SheetList) → IsPrintable 9 v → IsPrintable 9 w → json_of v ≡ json_of w → sheet_value v ≡ sheet_value w
+JsonSaysItsSheet = (v w : SheetList) → IsPrintable 9 v → IsPrintable 9 w → (json_of v ≡ json_of w) ↔ HaveOneJson v w

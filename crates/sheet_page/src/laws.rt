@@ -32,8 +32,9 @@ pub fn strings_are_read_back()
 {}
 
 /// What is written of a sheet is JSON, and says what the sheet says: its title and numbers, each candidate
-/// with its outcome, and every iteration. A text of JSON says one thing, so this is read back from it, and
-/// sheets that differ in it have different JSON. The call does nothing.
+/// with its outcome, and every iteration. A text of JSON says one thing, so this is read back from it. Sheets
+/// that differ have different texts, unless only bytes that are no UTF-8 differ in a title or a name. The
+/// call does nothing.
 pub fn sheets_are_json()
     ensures texts { SheetsAreJson }
     ensures one_thing { TextsSayOneThing }

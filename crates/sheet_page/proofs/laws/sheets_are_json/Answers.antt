@@ -1,5 +1,6 @@
 use Rattle.sheet_page.proofs.JsonOneThing.{texts_say}
-use Rattle.sheet_page.proofs.SheetJson.{sheet_text, sheet-written, sheet-is, same-json}
+use Rattle.sheet_page.proofs.JsonSheets.{json_says}
+use Rattle.sheet_page.proofs.SheetJson.{sheet_text, sheet-written, sheet-is}
 use Rattle.sheet_page.proofs.laws.sheets_are_json.Goals as goal
 
 pub returns-clause-texts : goal.returns-clause-texts
@@ -9,4 +10,4 @@ pub returns-clause-one_thing : goal.returns-clause-one_thing
 returns-clause-one_thing c = texts_say
 
 pub returns-clause-values : goal.returns-clause-values
-returns-clause-values c = same-json
+returns-clause-values c = json_says

@@ -1,0 +1,193 @@
+-- What the JSON of an iteration says of it. 44 is the comma, and 93 the bracket behind a list.
+use Rattle.std.proofs.Common.{◌≡◌, ◌∙◌, refl, sym, ap, ℕ, ◌+◌, ◌/◌, ◌%◌, ◌<◌, ◌≤◌, zero, suc, List, [], ◌∷◌, ◌++◌}
+use Rattle.std.proofs.Common.{true, get_or, length, append_assoc, arith}
+use Rattle.std.proofs.lemmas.Bool.{and_parts, ltb-true}
+use Rattle.std.specs.Prelude.{nat_lt, codes, decimal, slice_index}
+use Rattle.std.specs.List.{flat_map, list_all}
+use Rattle.std.specs.Str.{IsAscii}
+use Rattle.std.proofs.lemmas.Fmt.{IsAscii-decimal}
+use Rattle.std.proofs.lemmas.Str.{IsUtf8-from_ascii, IsAscii-append}
+use Rattle.std.proofs.lemmas.Str.Ascii.{IsAscii-nil, IsAscii-cons}
+use Rattle.bstr.proofs.lemmas.EncodeLemmas.{lossy_chars-utf8}
+use Rattle.candidate_roll.specs.State.{state_at}
+use Rattle.candidate_roll.specs.declared.state.State.{State}
+use Rattle.candidate_roll.specs.declared.state.State.TheVariants.{Hopeful, Elected as IsElected, Defeated, Withdrawn}
+use Rattle.fixed_place.specs.Rounding.{scale, most}
+use Rattle.fixed_place.specs.Text.{text_of, last_digits}
+use Rattle.lot_order.specs.Flags.{mark_at}
+use Rattle.meek_rule.specs.Row.{Row}
+use Rattle.meek_rule.specs.declared.step.Step.{Step}
+use Rattle.meek_rule.specs.declared.step.Step.TheVariants.{Elected, Iterate, Defeat}
+use Rattle.page_tree.specs.Escaping.{readable}
+use Rattle.sheet_text.specs.Lines.{state_word}
+use Rattle.sheet_reader.specs.Form.{IsPrintableRow}
+use Rattle.sheet_reader.specs.Values.{SheetList}
+use Rattle.sheet_page.specs.Csv.{csv_record, yes_or_no}
+use Rattle.sheet_page.specs.Json.{comma_at, truth, vote_json, won_json, lost_json, amounts_json}
+use Rattle.sheet_page.specs.Json.{standing_json, iteration_json}
+use Rattle.sheet_page.specs.Values.{places, name_at, step_word, defeats}
+use Rattle.sheet_page.proofs.AmountTexts.{heads, amounts_say, votes_small}
+use Rattle.sheet_page.proofs.FieldWords.{states_say}
+use Rattle.sheet_page.proofs.JsonParts.{onto, joined-onto}
+use Rattle.sheet_page.proofs.JsonTwins.{Twin, Bytes, Numbers, Strings, Truths, AreOne, twins_cut, lists_cut}
+use Rattle.sheet_page.proofs.RowFields.{HaveOneText, row_says, keep_at, vote_at}
+use Rattle.sheet_page.proofs.SheetJson.{vote_parts, won_parts, amounts_parts}
+
+-- ---- texts of ASCII are written as they are
+
+plain : (text : List ℕ) → IsAscii text → readable text ≡ text
+plain text is = lossy_chars-utf8 text (IsUtf8-from_ascii text is)
+
+digits_ascii : (k n : ℕ) → IsAscii (last_digits k n)
+unfolding last_digits
+digits_ascii zero n = IsAscii-nil
+digits_ascii (suc k) n =
+    IsAscii-append (last_digits k (n / 10)) ((48 + n % 10) ∷ []) (digits_ascii k (n / 10))
+    (IsAscii-cons (48 + n % 10) [] (omega arith) IsAscii-nil)
+
+amount_plain : (u : ℕ) → u ≤ most 9 → readable (text_of 9 u) ≡ text_of 9 u
+unfolding text_of
+amount_plain u small =
+    plain (decimal (u / scale 9) ++ 46 ∷ last_digits 9 (u % scale 9))
+    (IsAscii-append (decimal (u / scale 9)) (46 ∷ last_digits 9 (u % scale 9))
+    (IsAscii-decimal (u / scale 9) (omega (arith, votes_small u small)))
+    (IsAscii-cons 46 (last_digits 9 (u % scale 9)) (omega arith) (digits_ascii 9 (u % scale 9))))
+
+pub amounts_shown : (u w : ℕ) → u ≤ most 9 → w ≤ most 9 → readable (text_of 9 u) ≡ readable (text_of 9 w) → u ≡ w
+amounts_shown u w small few e =
+    amounts_say u w small few (sym (amount_plain u small) ∙ e ∙ amount_plain w few)
+
+-- a short word, letter by letter
+word_plain : (text : List ℕ) → list_all (λ b. nat_lt b 128) text ≡ true → IsAscii text
+word_plain [] is = IsAscii-nil
+word_plain (b ∷ text) is =
+    let parts = and_parts (nat_lt b 128) (list_all (λ b. nat_lt b 128) text) is in
+    IsAscii-cons b text (ltb-true b 128 parts.0) (word_plain text parts.1)
+
+state_plain : (state : State) → readable (state_word state) ≡ state_word state
+state_plain Hopeful = plain (codes "hopeful") (word_plain (codes "hopeful") refl)
+state_plain IsElected = plain (codes "elected") (word_plain (codes "elected") refl)
+state_plain Defeated = plain (codes "defeated") (word_plain (codes "defeated") refl)
+state_plain Withdrawn = plain (codes "withdrawn") (word_plain (codes "withdrawn") refl)
+
+pub states_shown : (state other : State) → readable (state_word state) ≡ readable (state_word other) → state ≡ other
+states_shown state other e = states_say state other (sym (state_plain state) ∙ e ∙ state_plain other)
+
+step_plain : (step : Step) → readable (step_word step) ≡ step_word step
+step_plain Elected = plain (codes "elected") (word_plain (codes "elected") refl)
+step_plain Iterate = plain (codes "iterate") (word_plain (codes "iterate") refl)
+step_plain (Defeat c) = plain (codes "defeat") (word_plain (codes "defeat") refl)
+
+-- ---- a candidate in two iterations
+
+abbrev standings : Row → Row → (p : ℕ) → List Twin
+standings row other p =
+    Bytes (comma_at p) ∷ Bytes (codes "{\"number\":") ∷ Bytes (decimal (p + 1)) ∷ Bytes (codes ",\"state\":")
+    ∷ Strings (state_word (state_at row.states p)) (state_word (state_at other.states p)) ∷ Bytes (codes ",\"keep\":")
+    ∷ Strings (text_of 9 (slice_index row.keeps p)) (text_of 9 (slice_index other.keeps p)) ∷ Bytes (codes ",\"vote\":")
+    ∷ Strings (text_of 9 (slice_index row.votes p)) (text_of 9 (slice_index other.votes p)) ∷ Bytes (codes ",\"elected\":")
+    ∷ Truths (mark_at row.elected p) (mark_at other.elected p) ∷ Bytes (codes ",\"capped\":")
+    ∷ Truths (mark_at row.capped p) (mark_at other.capped p) ∷ Bytes (codes ",\"tied\":")
+    ∷ Truths (mark_at row.tied p) (mark_at other.tied p) ∷ Bytes (codes ",\"defeated\":")
+    ∷ Truths (defeats row.step (p + 1)) (defeats other.step (p + 1)) ∷ Bytes (codes "}") ∷ []
+
+abbrev lost_parts : (tied defeated : List ℕ) → List (List ℕ)
+lost_parts tied defeated = codes ",\"tied\":" ∷ tied ∷ codes ",\"defeated\":" ∷ defeated ∷ codes "}" ∷ []
+
+standing_onto : (row : Row) (p : ℕ) (rest : List ℕ) →
+    standing_json row p ++ rest
+    ≡ onto (vote_parts row p) (onto (won_parts (truth (mark_at row.elected p)) (truth (mark_at row.capped p)))
+    (onto (lost_parts (truth (mark_at row.tied p)) (truth (defeats row.step (p + 1)))) rest))
+standing_onto row p rest =
+    let vote = vote_json row p in
+    let marks = won_parts (truth (mark_at row.elected p)) (truth (mark_at row.capped p)) in
+    let won = won_json (truth (mark_at row.elected p)) (truth (mark_at row.capped p)) in
+    let losses = lost_parts (truth (mark_at row.tied p)) (truth (defeats row.step (p + 1))) in
+    let lost = lost_json (truth (mark_at row.tied p)) (truth (defeats row.step (p + 1))) in
+    append_assoc vote (won ++ lost) rest
+    ∙ ap (λ (l : List ℕ). vote ++ l) (append_assoc won lost rest)
+    ∙ joined-onto (vote_parts row p) (won ++ (lost ++ rest))
+    ∙ ap (onto (vote_parts row p)) (joined-onto marks (lost ++ rest) ∙ ap (onto marks) (joined-onto losses rest))
+
+standings_cut :
+    (row other : Row) (p : ℕ) (rest others : List ℕ)
+    → standing_json row p ++ rest ≡ standing_json other p ++ others
+    → AreOne (standings row other p) × (rest ≡ others)
+standings_cut row other p rest others e =
+    twins_cut (standings row other p) rest others tt (sym (standing_onto row p rest) ∙ e ∙ standing_onto other p others)
+
+-- the first letter
+abbrev pub letter : List ℕ → ℕ
+letter word = get_or word 0 0
+
+no_bracket : (row : Row) (p : ℕ) (rest others : List ℕ) → standing_json row p ++ rest ≡ 93 ∷ others → ⊥
+no_bracket row zero rest others e = omega (arith, ap letter e)
+no_bracket row (suc p) rest others e = omega (arith, ap letter e)
+
+-- ---- two iterations
+
+abbrev amounts : (i : ℕ) → Row → Row → List Twin
+amounts i row other =
+    Bytes (comma_at i) ∷ Bytes (codes "{\"round\":") ∷ Numbers row.round other.round ∷ Bytes (codes "\"iteration\":")
+    ∷ Numbers row.iteration other.iteration ∷ Bytes (codes "\"total\":")
+    ∷ Strings (text_of 9 row.total) (text_of 9 other.total)
+    ∷ Bytes (codes ",\"quota\":") ∷ Strings (text_of 9 row.quota) (text_of 9 other.quota) ∷ Bytes (codes ",\"surplus\":")
+    ∷ Strings (text_of 9 row.surplus) (text_of 9 other.surplus) ∷ Bytes (codes ",\"step\":")
+    ∷ Strings (step_word row.step) (step_word other.step) ∷ Bytes (codes ",\"candidates\":[") ∷ []
+
+iteration_onto : (i : ℕ) (row : Row) (rest : List ℕ) →
+    iteration_json i row ++ rest
+    ≡ onto (amounts_parts i row) (flat_map (standing_json row) (places (length row.states)) ++ 93 ∷ 125 ∷ rest)
+iteration_onto i row rest =
+    let items = flat_map (standing_json row) (places (length row.states)) in
+    append_assoc (amounts_json i row) (items ++ codes "]}") rest
+    ∙ joined-onto (amounts_parts i row) ((items ++ codes "]}") ++ rest)
+    ∙ ap (onto (amounts_parts i row)) (append_assoc items (codes "]}") rest)
+
+-- a sheet whose names do not matter
+abbrev nobody : SheetList
+nobody = record { title = []; seats = 0; ballots = 0; names = []; rows = []; last = [] }
+
+-- iterations that say the same of themselves and of each candidate
+one_row : (n i : ℕ) (row other : Row) → 1 ≤ n → IsPrintableRow 9 n row → IsPrintableRow 9 n other
+    → AreOne (amounts i row other) → ((p : ℕ) → p < n → AreOne (standings row other p)) → row ≡ other
+one_row n i row other some is also (round, (iteration, (total, (quota, (surplus, (step, end)))))) same =
+    row_says nobody nobody n row other some is also texts
+  where
+    texts : HaveOneText nobody nobody n row other
+    texts p below = by (same p below)
+      where
+        by : AreOne (standings row other p) → csv_record nobody row p ≡ csv_record nobody other p
+        by (state, (keep, (vote, (elected, (capped, (tied, (defeated, end))))))) =
+            let word = states_shown (state_at row.states p) (state_at other.states p) state in
+            let kept = amounts_shown (slice_index row.keeps p) (slice_index other.keeps p) (keep_at n row is p below)
+            (keep_at n other also p below) keep in
+            let votes = amounts_shown (slice_index row.votes p) (slice_index other.votes p) (vote_at n row is p below)
+            (vote_at n other also p below) vote in
+            let totals = amounts_shown row.total other.total is.total also.total total in
+            let quotas = amounts_shown row.quota other.quota is.quota also.quota quota in
+            let surpluses = amounts_shown row.surplus other.surplus is.surplus also.surplus surplus in
+            let steps = sym (step_plain row.step) ∙ step ∙ step_plain other.step in
+            λ j.
+            decimal (round j) ∷ decimal (iteration j) ∷ decimal (p + 1) ∷ name_at nobody p
+            ∷ state_word (state_at nobody.last p)
+            ∷ state_word (word j) ∷ text_of 9 (kept j) ∷ text_of 9 (votes j)
+            ∷ yes_or_no (elected j) ∷ yes_or_no (capped j) ∷ yes_or_no (tied j)
+            ∷ yes_or_no (defeated j) ∷ text_of 9 (totals j) ∷ text_of 9 (quotas j) ∷ text_of 9 (surpluses j)
+            ∷ steps j ∷ []
+
+pub iterations_cut :
+    (n i : ℕ) (row other : Row) (rest others : List ℕ) → 1 ≤ n → IsPrintableRow 9 n row
+    → IsPrintableRow 9 n other
+    → iteration_json i row ++ rest ≡ iteration_json i other ++ others → (row ≡ other) × (rest ≡ others)
+iterations_cut n i row other rest others some is also e =
+    let head = twins_cut (amounts i row other) (flat_map (standing_json row) (places (length row.states)) ++ 93 ∷ 125 ∷ rest)
+    (flat_map (standing_json other) (places (length other.states)) ++ 93 ∷ 125 ∷ others)
+    (omega (arith, is.round), omega (arith, also.round), (is.iteration, also.iteration, tt))
+    (sym (iteration_onto i row rest) ∙ e ∙ iteration_onto i other others) in
+    let items = lists_cut (standing_json row) (standing_json other) (λ p. AreOne (standings row other p))
+    (length row.states) (length other.states) (no_bracket row) (no_bracket other)
+    (λ p r s low high. standings_cut row other p r s) (125 ∷ rest) (125 ∷ others) head.1 in (
+      one_row n i row other some is also head.0 (λ p below. items.1 p (omega (arith, below, is.of_all.states))),
+      (heads 125 125 rest others items.2).1,
+    )
