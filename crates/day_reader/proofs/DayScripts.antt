@@ -58,11 +58,10 @@ scripts_are items day is =
           );
     })
 
-scale_in :
-    (scale : Option Scale) → MayBeScale scale → ((6 ≤ (scale_of scale).places) × ((scale_of scale).places ≤ 9))
-    × ((1 ≤ (scale_of scale).omega) × ((scale_of scale).omega ≤ 1000000))
-scale_in (Some scale) is = ((is.least_places, is.most_places), (is.omega_in.least, is.omega_in.most))
-scale_in None is = ((omega arith, omega arith), (omega arith, omega arith))
+places_in :
+    (scale : Option Scale) → MayBeScale scale → (6 ≤ (scale_of scale).places) × ((scale_of scale).places ≤ 9)
+places_in (Some scale) is = (is.least_places, is.most_places)
+places_in None is = (omega arith, omega arith)
 
 module _ (law : AcceptsDays) (text : Scan) where
   -- what holds of each day that a text says, holds of an answer
@@ -87,11 +86,4 @@ module _ (law : AcceptsDays) (text : Scan) where
       → IfOk result (λ day. (6 ≤ day.places) × (day.places ≤ 9))
   has_places =
       of_day (λ day. (6 ≤ day.places) × (day.places ≤ 9))
-      (λ items day is. subst (λ n. (6 ≤ n) × (n ≤ 9)) (sym is.places) (scale_in is.scale is.scale_in).0)
-
-  pub has_omega :
-      (result : Result Day InputStop) → SaysDay (said_by text) result
-      → IfOk result (λ day. (1 ≤ day.omega) × (day.omega ≤ 1000000))
-  has_omega =
-      of_day (λ day. (1 ≤ day.omega) × (day.omega ≤ 1000000))
-      (λ items day is. subst (λ n. (1 ≤ n) × (n ≤ 1000000)) (sym is.omega) (scale_in is.scale is.scale_in).1)
+      (λ items day is. subst (λ n. (6 ≤ n) × (n ≤ 9)) (sym is.places) (places_in is.scale is.scale_in))

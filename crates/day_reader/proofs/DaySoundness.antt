@@ -5,6 +5,7 @@ use Rattle.std.specs.Prelude.{Some, None}
 use Rattle.std.specs.List.{flat_map}
 use Rattle.std.proofs.lemmas.Bool.{leb-true, and_parts}
 use Rattle.std.proofs.lemmas.List.{append-nil}
+use Rattle.fixed_place.specs.declared.omega.TheConstants.{MOST_OMEGA}
 use Rattle.candidate_roll.specs.Roll.{RollList}
 use Rattle.input_text.specs.declared.fault_kind.FaultKind.TheVariants.{BadPlaces, BadOmega}
 use Rattle.input_text.specs.Token.{Item, Number, Text}
@@ -158,10 +159,10 @@ goes_on shared (BehindPlaces roll lots places) next x items (are, within, is) e 
     word_goes_on IsFileFront items x next (behind_places roll lots places) e
     (λ keyword judged. places_end roll lots next items are places keyword within is judged)
 goes_on shared (Omega roll lots places) next x items (are, (least, most), is) e =
-    number_goes_on IsFileFront items (is_between 1 1000000) BadOmega x next
+    number_goes_on IsFileFront items (is_between 1 MOST_OMEGA) BadOmega x next
     (λ n. GoesOn (BehindOmega roll lots (record { places = places; omega = n }))) e (λ n ok. (
       are,
-      record { least_places = least; most_places = most; omega_in = in_range 1000000 n ok },
+      record { least_places = least; most_places = most; omega_in = in_range MOST_OMEGA n ok },
       behind_more roll items (Number n) is
           (sym (append_assoc (lots_items lots) (word key.Places ∷ Number places ∷ word key.Omega ∷ []) (Number n ∷ []))),
     ))

@@ -6,6 +6,7 @@ use Rattle.std.specs.List.{list_any}
 use Rattle.std.proofs.lemmas.Bool.{le-leb, eq-eqb}
 use Rattle.std.proofs.lemmas.List.{append-nil, length_push}
 use Rattle.std.proofs.lemmas.List.Elements.{All-head, All-tail}
+use Rattle.fixed_place.specs.declared.omega.TheConstants.{MOST_OMEGA}
 use Rattle.candidate_roll.specs.Roll.{RollList}
 use Rattle.input_text.specs.Token.{Item, Number, Minus, Text, Word}
 use Rattle.blt_reader.specs.Poll.{Poll}
@@ -214,7 +215,7 @@ module _ (is : RollList) where
     reads_omega scale items in_it =
         reads_places scale.places (word key.Omega ∷ Number scale.omega ∷ items) (in_it.least_places, in_it.most_places)
         ∙ omega_word scale.places (Number scale.omega ∷ items)
-        ∙ rw (to_range 1000000 scale.omega in_it.omega_in) refl
+        ∙ rw (to_range MOST_OMEGA scale.omega in_it.omega_in) refl
 
 -- ---- the head
 

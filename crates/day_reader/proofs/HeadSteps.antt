@@ -1,6 +1,7 @@
 -- What stands between the lots and the first team, state by state: the places, omega, and the word of a team or of the end.
 use Rattle.std.proofs.Common.{◌≡◌, ℕ, List, Bool, refl, sym, ◌∙◌, ap, Ok, Err}
 use Rattle.std.specs.Prelude.{Some, None, Result}
+use Rattle.fixed_place.specs.declared.omega.TheConstants.{MOST_OMEGA}
 use Rattle.candidate_roll.specs.Roll.{RollList}
 use Rattle.input_text.specs.declared.fault_kind.FaultKind.TheVariants.{WordExpected, BadPlaces, BadOmega}
 use Rattle.input_text.specs.declared.input_fault.InputFault.{InputFault}
@@ -25,7 +26,7 @@ abbrev pub as_places : Item → Judged ℕ
 as_places = as_between 6 9 BadPlaces
 
 abbrev pub as_omega : Item → Judged ℕ
-as_omega = as_between 1 1000000 BadOmega
+as_omega = as_between 1 MOST_OMEGA BadOmega
 
 module _ (roll : RollList) (lots : List ℕ) where
   pub lots_rule :

@@ -1,6 +1,7 @@
 -- A day file, as the list of what its tokens say.
 use Rattle.std.specs.Prelude.{◌≡◌, ◌≢◌, ◌≤◌, ◌==◌, ℕ, List, [], ◌∷◌, ◌++◌, length, map, filter, All, AllPairs, Option, Some, None, unwrap_or, ⊤}
 use Rattle.std.specs.List.{flat_map, range_with_len}
+use Rattle.fixed_place.specs.declared.omega.TheConstants.{MOST_OMEGA, USUAL_OMEGA}
 use Rattle.input_text.specs.Token.{Item, Number}
 use Rattle.input_text.specs.Range.{IsIn}
 use Rattle.blt_reader.specs.Blt.{IsBlt}
@@ -42,15 +43,15 @@ scale_items None = []
 pub record IsScale (scale : Scale) : Type 0 where
   pub least_places : 6 ≤ scale.places
   pub most_places : scale.places ≤ 9
-  pub omega_in : IsIn 1000000 scale.omega
+  pub omega_in : IsIn MOST_OMEGA scale.omega
 
 abbrev pub MayBeScale : Option Scale → Type 0
 MayBeScale (Some scale) = IsScale scale
 MayBeScale None = ⊤
 
--- nine places and an omega of 0.000001, where a file says nothing else
+-- nine places and the usual omega, where a file says nothing else
 abbrev pub scale_of : Option Scale → Scale
-scale_of scale = unwrap_or scale (record { places = 9; omega = 1000 })
+scale_of scale = unwrap_or scale (record { places = 9; omega = USUAL_OMEGA })
 
 -- ---- teams
 

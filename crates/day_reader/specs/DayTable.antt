@@ -1,6 +1,7 @@
 -- What is expected in a day file, and what an item leads to there.
 use Rattle.std.specs.Prelude.{ℕ, List, [], ◌∷◌, ◌++◌, length, ◌==◌, if◌then◌else◌, nat_le, Option, Some, None, Ok, Err}
 use Rattle.std.specs.List.{list_any}
+use Rattle.fixed_place.specs.declared.omega.TheConstants.{MOST_OMEGA}
 use Rattle.candidate_roll.specs.Roll.{RollList}
 use Rattle.input_text.specs.declared.fault_kind.FaultKind.TheVariants.{BadNumber, BadLots, WordExpected, BadPlaces, BadOmega, Trailing}
 use Rattle.input_text.specs.Token.{Item, Number, Text}
@@ -90,7 +91,7 @@ at_token (Lot roll lots) item = carried (λ more. Lot roll more) (λ all. Behind
 at_token (BehindLots roll lots) item = then_on (as_keyword item) (behind_lots roll lots)
 at_token (Places roll lots) item = then_on (as_between 6 9 BadPlaces item) (λ places. Ok (GoesOn (BehindPlaces roll lots places)))
 at_token (BehindPlaces roll lots places) item = then_on (as_keyword item) (behind_places roll lots places)
-at_token (Omega roll lots places) item = then_on (as_between 1 1000000 BadOmega item) (λ omega. Ok (GoesOn (BehindOmega roll lots (record { places = places; omega = omega }))))
+at_token (Omega roll lots places) item = then_on (as_between 1 MOST_OMEGA BadOmega item) (λ omega. Ok (GoesOn (BehindOmega roll lots (record { places = places; omega = omega }))))
 at_token (BehindOmega roll lots scale) item = then_on (as_keyword item) (behind_head (record { roll = roll; lots = lots; scale = Some scale }))
 at_token (Teams head expected) item = carried_to (λ more. GoesOn (Teams head more)) (λ teams. Ends (day_of head teams)) (at_teams (length head.roll.names) expected item)
 

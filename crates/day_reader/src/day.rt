@@ -1,5 +1,6 @@
 use crate::Scripts;
 use candidate_roll::Roll;
+use fixed_place::Omega;
 use lot_order::Lots;
 
 /// A day of ballot entry as its file says it. The lots are an order of the roll's candidates, and
@@ -10,7 +11,6 @@ pub struct Day {
     pub lots: Lots,
     /// How many places behind the point the count has, from 6 to 9.
     pub places: u32,
-    /// In units of the last place, from 1 to 1,000,000.
-    pub omega: u32,
+    pub omega: Omega,
     pub scripts: Scripts,
 }

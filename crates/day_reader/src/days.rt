@@ -28,7 +28,6 @@ pub fn read_day(alloc: Global, bytes: &[u8]) -> Result<Day, InputStop>
     ensures scripts { IfOk result (λ day. AreScripts (length day.roll.names) day.scripts) }
     ensures lots { IfOk result (λ day. length day.lots ≡ length day.roll.names) }
     ensures places { IfOk result (λ day. (6 ≤ day.places) × (day.places ≤ 9)) }
-    ensures omega { IfOk result (λ day. (1 ≤ day.omega) × (day.omega ≤ 1000000)) }
 {
     accepts_days();
     refuses_by_the_rule();

@@ -1,6 +1,7 @@
 -- How the writing of a count ends.
 use Rattle.std.proofs.Common.{◌≡◌, ℕ, ◌≤◌, List, length, refl, subst, inl, inr}
 use Rattle.std.specs.Prelude.{Option, Result, Ok, Err, OnOk, OnErr, IsPermutation}
+use Rattle.fixed_place.specs.declared.omega.TheConstants.{USUAL_OMEGA}
 use Rattle.byte_edge.specs.Faults.{CountsFault}
 use Rattle.candidate_roll.specs.Roll.{RollList}
 use Rattle.plain_ballots.specs.Ballots.{plain}
@@ -19,14 +20,14 @@ use Rattle.meek_cli.specs.Run.{FinishesCount, WritesCount}
 
 -- the count is of these single ballots, this roll and these lots, with the program's omega
 pub record IsCountOf (roll : RollList) (lots : List ℕ) (ballots : List (List ℕ)) (count : Progress) : Type 0 where
-  pub omega_is : count.situation.omega ≡ 1000
+  pub omega_is : count.situation.omega ≡ USUAL_OMEGA
   pub ballots_are : count.ballots ≡ ballots
   pub roll_is : count.roll ≡ roll
   pub lots_are : count.lots ≡ lots
 
 sheet_of :
     (roll : RollList) (lots : List ℕ) (ballots : List (List ℕ)) (count : Progress) (text : List ℕ)
-    → IsCountOf roll lots ballots count → IsSheetOf Meek 9 count text → IsSheet 9 1000 ballots roll lots text
+    → IsCountOf roll lots ballots count → IsSheetOf Meek 9 count text → IsSheet 9 USUAL_OMEGA ballots roll lots text
 sheet_of roll lots ballots count text of is =
     subst (λ (omega : ℕ). IsSheet 9 omega ballots roll lots text) of.omega_is
     (subst (λ (b : List (List ℕ)). IsSheet 9 count.situation.omega b roll lots text) of.ballots_are
@@ -39,7 +40,7 @@ pub wrote_sheet :
     (ballots : List (List ℕ)) (count : Progress) (r : Result T E) → IsCountOf roll lots ballots count
     → OnOk r (AppendsSheet Meek 9 count (written old) (written new))
     → OnErr r (AppendsFrontOfSheet Meek 9 count (written old) (written new)) → CountsFault (faults old) (faults new) r
-    → (text : List ℕ) × IsSheet 9 1000 ballots roll lots text × Wrote text r (writing written faults old new)
+    → (text : List ℕ) × IsSheet 9 USUAL_OMEGA ballots roll lots text × Wrote text r (writing written faults old new)
 wrote_sheet written faults old new roll lots ballots count (Ok done) of (text, is, whole) front calm =
     (text, sheet_of roll lots ballots count text of is, (calm, whole))
 wrote_sheet written faults old new roll lots ballots count (Err stop) of whole (text, is, front) rose =
@@ -52,7 +53,7 @@ pub in_any_order :
     → WritesCount roll lots ballots status sink
 in_any_order roll lots other ballots status sink leaves same (inl nothing) = inl nothing
 in_any_order roll lots other ballots status sink leaves same (inr (bytes, is, finishes)) =
-    inr (bytes, (leaves Meek 9 1000 other ballots roll lots bytes same).0 is, finishes)
+    inr (bytes, (leaves Meek 9 USUAL_OMEGA other ballots roll lots bytes same).0 is, finishes)
 
 -- The sheet of the file's ballots is what is owed for the file.
 pub counted :

@@ -1,6 +1,7 @@
 -- The day that the text of a made day says.
 use Rattle.std.specs.Prelude.{ℕ, ◌+◌, ◌%◌, ◌==◌, ◌≤◌, List, [], ◌∷◌, ◌++◌, map, codes, true, if◌then◌else◌}
 use Rattle.std.specs.List.{flat_map, range_with_len}
+use Rattle.fixed_place.specs.declared.omega.TheConstants.{USUAL_OMEGA}
 use Rattle.plain_ballots.specs.Ballots.{BallotList}
 use Rattle.plain_ballots.specs.declared.ballot_line.BallotLine.{BallotLine}
 use Rattle.candidate_roll.specs.Roll.{withdrawn_marks}
@@ -66,7 +67,7 @@ made_day number = record {
   roll = record { seats = 4; names = trial_names; title = title number; withdrawn = withdrawn_marks 12 [] };
   lots = trial_lots;
   places = 9;
-  omega = 1000;
+  omega = USUAL_OMEGA;
   scripts = by_number (team_scripts number 4);
 }
 

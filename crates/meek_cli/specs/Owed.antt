@@ -1,5 +1,6 @@
 -- What the program accepts, refuses and owes.
 use Rattle.std.specs.Prelude.{◌≡◌, ℕ, List, [], true}
+use Rattle.fixed_place.specs.declared.omega.TheConstants.{USUAL_OMEGA}
 use Rattle.plain_ballots.specs.Ballots.{plain}
 use Rattle.input_text.specs.declared.input_fault.InputFault.{InputFault}
 use Rattle.input_text.specs.Scan.{scan}
@@ -24,11 +25,11 @@ use Rattle.meek_cli.specs.Work.{AsksFor, limit_of}
 
 -- ---- what is owed
 
--- The sheet that the rule gives over the single ballots, at nine places with an omega of 1,000 units.
+-- The sheet that the rule gives over the single ballots, at nine places with the usual omega.
 pub record OwesSheet (lots input : List ℕ) (bytes : List ℕ) : Type 0 where
   pub poll : Poll
   pub says : SaysContest lots input poll
-  pub sheet : IsSheet 9 1000 (plain poll.lines) poll.roll lots bytes
+  pub sheet : IsSheet 9 USUAL_OMEGA (plain poll.lines) poll.roll lots bytes
 
 -- The input is the file of this day.
 abbrev pub SaysDay : (input : List ℕ) → DayFile → Type 0

@@ -1,5 +1,6 @@
 -- What the parts of a run come to.
 use Rattle.std.specs.Prelude.{◌≡◌, ◌⊎◌, ℕ, List, [], ◌++◌}
+use Rattle.fixed_place.specs.declared.omega.TheConstants.{USUAL_OMEGA}
 use Rattle.candidate_roll.specs.Roll.{RollList}
 use Rattle.sheet_text.specs.Sheet.{IsSheet}
 use Rattle.batch_core.specs.declared.entry.Entry.{Entry}
@@ -26,7 +27,7 @@ FinishesCount lots input status sink = FinishesOwed (IsOwedFor meek (Count lots)
 abbrev pub WritesCount : RollList → (lots : List ℕ) → (ballots : List (List ℕ)) → Status → Writing → Type 0
 WritesCount roll lots ballots status sink =
     ((status ≡ NoMemory) × NothingWritten sink)
-    ⊎ ((bytes : List ℕ) × IsSheet 9 1000 ballots roll lots bytes × Finishes Done bytes status sink)
+    ⊎ ((bytes : List ℕ) × IsSheet 9 USUAL_OMEGA ballots roll lots bytes × Finishes Done bytes status sink)
 
 -- what a day of this input came to
 abbrev pub FinishesDay : (input : List ℕ) → Status → List Entry → Writing → Type 0

@@ -15,7 +15,7 @@ use crate::split::Split;
 use blt_reader::Election;
 use byte_edge::{Gate, Sink};
 use candidate_roll::Roll;
-use fixed_place::Amount;
+use fixed_place::Omega;
 use frozen_plan::Plans;
 use lent_spread::Lent;
 use lot_order::Lots;
@@ -27,9 +27,6 @@ use std::alloc::Global;
 use std::thread::Threads;
 use tool_edge::{Contest, close, refuse_input};
 use vote_spread::{Lanes, PlanSpread};
-
-/// Below so many units of 10^-9 votes a surplus is not transferred: 0.000001 votes.
-const OMEGA: u64 = 1_000;
 
 /// Counts the ballots of a file by these lots, and writes the sheet or the refusal. The bytes are let go
 /// before anything is made of the ballots.
@@ -122,7 +119,7 @@ fn write_count<D: Spread<9>, K: Sink>(
     ensures { WritesCount roll.now lots.now (D.ballots spread.old) result
         (writing K.written K.faults sink.old sink.new) }
 {
-    let omega = Amount::<9>::from_units(OMEGA);
+    let omega = Omega::usual();
     let mut count = match Count::begin(alloc, roll, lots, Lent { spread }, omega) {
         Ok(count) => count,
         Err(_) => return Status::NoMemory,

@@ -58,7 +58,6 @@ fn play<R: Threads + Wait + Sync, K: Sink, G: Gate + Sync>(
     requires scripts { AreScripts (length day.roll.names) day.scripts }
     requires lots { length day.lots ≡ length day.roll.names }
     requires places { (6 ≤ day.places) × (day.places ≤ 9) }
-    requires omega { (1 ≤ day.omega) × (day.omega ≤ 1000000) }
     ensures { PlaysDay day result.status result.history
         (writing K.written K.faults sink.old sink.new) }
 {
@@ -124,7 +123,6 @@ fn count_at_places<R: Threads + Sync, K: Sink, G: Gate + Sync>(
     gate: &G,
 ) -> Status
     requires places { (6 ≤ terms.now.places) × (terms.now.places ≤ 9) }
-    requires omega { (1 ≤ terms.now.omega) × (terms.now.omega ≤ 1000000) }
     requires workers { (1 ≤ workers) × (workers ≤ 32) }
     requires lots_of_all { length terms.now.lots ≡ length terms.now.roll.names }
     requires frozen { AreFrozen (length terms.now.roll.names) history.now versions }

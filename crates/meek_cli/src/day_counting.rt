@@ -20,6 +20,7 @@ use crate::terms::Terms;
 use byte_edge::{Failed, Gate, Sink};
 use call_register::History;
 use candidate_roll::Roll;
+use fixed_place::Omega;
 use lot_order::Lots;
 use meek_rule::{NoMemory, Spread};
 use shard_office::Version;
@@ -44,7 +45,6 @@ pub(crate) fn count_day<const P: usize, R: Threads + Sync, K: Sink, G: Gate + Sy
 ) -> Status
     requires places { (6 ≤ P) × (P ≤ 9) }
     requires of_terms { terms.now.places ≡ P }
-    requires omega { (1 ≤ terms.now.omega) × (terms.now.omega ≤ 1000000) }
     requires workers { (1 ≤ workers) × (workers ≤ 32) }
     requires lots_of_all { length terms.now.lots ≡ length terms.now.roll.names }
     requires frozen { AreFrozen (length terms.now.roll.names) history.now versions }
@@ -110,7 +110,6 @@ fn write_day<const P: usize, D: Spread<P>, K: Sink>(
     sink: &mut K,
 ) -> Status
     requires places { (6 ≤ P) × (P ≤ 9) }
-    requires omega { (1 ≤ terms.now.omega) × (terms.now.omega ≤ 1000000) }
     requires heads_of_all { All (IsHeadOf (length terms.now.lots)) heads.now }
     requires rule { D.rule ≡ Meek }
     requires can { All D.can_spread spreads.old }
@@ -130,11 +129,10 @@ fn begin_sheets<'e, const P: usize, D: Spread<P>>(
     alloc: Global,
     heads: &'e [SheetHead],
     lots: &'e Lots,
-    omega: u32,
+    omega: Omega,
     spreads: &'e mut [D],
 ) -> Result<Vec<DueSheet<'e, P, D>>, NoMemory>
     requires places { (6 ≤ P) × (P ≤ 9) }
-    requires omega { (1 ≤ omega) × (omega ≤ 1000000) }
     requires heads_of_all { All (IsHeadOf (length lots.now)) heads.now }
     requires rule { D.rule ≡ Meek }
     requires can { All D.can_spread spreads.old }

@@ -10,7 +10,7 @@ ghost use Rattle.piece_text.specs.Writing.{Writes as WritesBytes};
 
 use crate::sheet_head::SheetHead;
 use byte_edge::{Failed, Sink, write_all};
-use fixed_place::Amount;
+use fixed_place::Omega;
 use lent_spread::Lent;
 use line_text::Line;
 use lot_order::Lots;
@@ -46,11 +46,10 @@ impl<'e, const P: usize, D: Spread<P>> DueSheet<'e, P, D> {
         alloc: Global,
         head: &'e SheetHead,
         lots: &'e Lots,
-        omega: u32,
+        omega: Omega,
         spread: &'e mut D,
     ) -> Result<DueSheet<'e, P, D>, NoMemory>
         requires places { (6 ≤ P) × (P ≤ 9) }
-        requires omega { (1 ≤ omega) × (omega ≤ 1000000) }
         requires lots_of_all { length lots.now ≡ length head.now.roll.names }
         requires rule { D.rule ≡ Meek }
         requires can { D.can_spread spread.old }
@@ -59,7 +58,7 @@ impl<'e, const P: usize, D: Spread<P>> DueSheet<'e, P, D> {
         ensures due { IfOk result (λ due. due ≡ due_of omega lots.now head.now (D.ballots spread.old)) }
         ensures sheet { IfOk result (HasSheet P) }
     {
-        let count = Count::begin(alloc, &head.roll, lots, Lent { spread }, units(omega))?;
+        let count = Count::begin(alloc, &head.roll, lots, Lent { spread }, omega)?;
         Ok(DueSheet { at: head.at, count })
     }
 
@@ -73,15 +72,6 @@ impl<'e, const P: usize, D: Spread<P>> DueSheet<'e, P, D> {
         write_sheet_line(at, sink)?;
         write_sheet(&mut count, sink)
     }
-}
-
-/// An omega of so many units.
-pub(crate) fn units<const P: usize>(omega: u32) -> Amount<P>
-    requires places { (6 ≤ P) × (P ≤ 9) }
-    requires omega { (1 ≤ omega) × (omega ≤ 1000000) }
-    ensures { result ≡ omega }
-{
-    Amount::from_units(omega as u64)
 }
 
 /// Writes the line that names the freeze of a sheet.

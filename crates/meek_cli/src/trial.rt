@@ -21,7 +21,6 @@ ghost use Rattle.meek_cli.specs.Run.{FinishesTrial, PlaysTrial, WritesSummary, W
 
 use crate::counted_out::count_out;
 use crate::day::answer;
-use crate::due_sheet::units;
 use crate::made_days::made_days_are_days;
 use crate::played_day::PlayedDay;
 use crate::split::Split;
@@ -179,7 +178,6 @@ fn write_summary<D: Spread<9>, K: Sink>(
     sink: &mut K,
 ) -> Status
     requires places { terms.now.places ≡ 9 }
-    requires omega { (1 ≤ terms.now.omega) × (terms.now.omega ≤ 1000000) }
     requires lots_of_all { length terms.now.lots ≡ length roll.now.names }
     requires few_candidates { length roll.now.names ≤ 12 }
     requires rule { D.rule ≡ Meek }
@@ -191,8 +189,7 @@ fn write_summary<D: Spread<9>, K: Sink>(
     ensures { WritesSummaryOf number terms.now history.now (D.ballots spread.old) roll.now result
         (writing K.written K.faults sink.old sink.new) }
 {
-    let omega = units(terms.omega);
-    let Ok(mut count) = Count::begin(alloc, roll, &terms.lots, Lent { spread }, omega) else {
+    let Ok(mut count) = Count::begin(alloc, roll, &terms.lots, Lent { spread }, terms.omega) else {
         return Status::NoMemory;
     };
     let ballots = count.ballots();

@@ -6,6 +6,7 @@ use Rattle.std.proofs.lemmas.Bool.{cases_Bool}
 use Rattle.std.proofs.lemmas.List.Elements.{All-from_get_or}
 use Rattle.std.proofs.lemmas.List.FromFn.{length-map-range_with_len, fill_by_all, get_or-map-range_with_len}
 use Rattle.std.proofs.lemmas.List.Sorted.{sum_by-IsPermutation, IsPermutation-sym}
+use Rattle.fixed_place.specs.declared.omega.TheConstants.{MOST_OMEGA}
 use Rattle.fixed_place.specs.Rounding.{scale}
 use Rattle.fixed_place.proofs.RoundingLemmas.{scale_pos}
 use Rattle.candidate_roll.specs.Roll.{RollList, IsRoll}
@@ -141,7 +142,7 @@ length-opening s units roll is = length-map-range_with_len _ 0 (length roll.with
 
 -- an election opens in a valid situation
 pub valid-opening_of_roll :
-    (s units : ℕ) (roll : RollList) → 1 ≤ units → units ≤ 1000000 → IsRoll roll
+    (s units : ℕ) (roll : RollList) → 1 ≤ units → units ≤ MOST_OMEGA → IsRoll roll
     → IsValid s (opening s units roll.seats roll.withdrawn)
 valid-opening_of_roll s units roll some few is =
     valid-opening s units roll.seats roll.withdrawn some few is.some_seat is.few_seats

@@ -2,6 +2,7 @@
 use Rattle.std.specs.Prelude.{◌≡◌, ℕ, ◌≤◌, ◌↔◌, List, length, All}
 use Rattle.std.specs.List.Sorted.{IsPermutation}
 use Rattle.plain_ballots.specs.declared.limits.TheConstants.{MOST_BALLOTS}
+use Rattle.fixed_place.specs.declared.omega.TheConstants.{MOST_OMEGA}
 use Rattle.candidate_roll.specs.Roll.{RollList, IsRoll}
 use Rattle.candidate_roll.specs.declared.state.State.{State}
 use Rattle.plain_ballots.specs.Ranking.{IsRanking}
@@ -17,7 +18,7 @@ pub record IsElection (places omega : ℕ) (ballots : List (List ℕ)) (roll : R
   pub places_from : 6 ≤ places
   pub places_to : places ≤ 9
   pub some_omega : 1 ≤ omega
-  pub small_omega : omega ≤ 1000000
+  pub small_omega : omega ≤ MOST_OMEGA
   pub few_ballots : length ballots ≤ MOST_BALLOTS
   pub rankings : All (IsRanking (length roll.names)) ballots
   pub sound_roll : IsRoll roll

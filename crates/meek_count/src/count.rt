@@ -10,7 +10,7 @@ ghost use Rattle.meek_count.specs.Progress.{IsSameElection, HasJustBegun, HasRes
 
 use crate::Turn;
 use candidate_roll::{Roll, States};
-use fixed_place::{Amount, Amounts, Keeps};
+use fixed_place::{Amount, Amounts, Keeps, Omega};
 use lot_order::Lots;
 use meek_rule::{NoMemory, Row, Situation, Spread, Step};
 use std::alloc::Global;
@@ -54,14 +54,14 @@ impl<'e, const P: usize, D: Spread<P> + Drop> Count<'e, P, D> {
         roll: &'e Roll,
         lots: &'e Lots,
         spread: D,
-        omega: Amount<P>,
+        omega: Omega,
     ) -> Result<Count<'e, P, D>, NoMemory>
+        requires places { (6 ≤ P) × (P ≤ 9) }
         requires lots_of_all { length lots.now ≡ length roll.now.names }
         requires can_spread { D.can_spread spread }
         requires spread_of_all { D.candidates spread ≡ length roll.now.names }
         requires few_ballots { length (D.ballots spread) ≤ MOST_BALLOTS }
-        requires omega { (1 ≤ omega) × (omega ≤ 1000000) }
-        ensures opens { IfOk result (λ count. count.situation ≡ opening (scale P) omega.entry roll.now.seats roll.now.withdrawn) }
+        ensures opens { IfOk result (λ count. count.situation ≡ opening (scale P) omega roll.now.seats roll.now.withdrawn) }
         ensures begun { IfOk result (HasJustBegun (scale P)) }
         ensures roll { IfOk result (λ count. count.roll ≡ roll.now) }
         ensures lots { IfOk result (λ count. count.lots ≡ lots.now) }
@@ -69,7 +69,6 @@ impl<'e, const P: usize, D: Spread<P> + Drop> Count<'e, P, D> {
         ensures no_row { IfOk result (λ count. count.has_row ≡ false) }
         ensures rest { IfOk result (HasRest D.rule (scale P)) }
     {
-        let _places = omega.units();
         let _order = lots.candidates();
         let n = roll.candidates();
         let situation = Situation::begin(alloc, roll, omega)?;

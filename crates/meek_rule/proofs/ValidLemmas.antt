@@ -5,6 +5,7 @@ use Rattle.std.proofs.lemmas.List.FromFn.{get_or-map-range_with_len, length-map-
 use Rattle.std.proofs.lemmas.Bool.{cases_eq, and_parts, ne_eqb}
 use Rattle.std.proofs.lemmas.List.{get_or-set_other, length-set}
 use Rattle.std.proofs.lemmas.Grind.{get_or-set_at}
+use Rattle.fixed_place.specs.declared.omega.TheConstants.{MOST_OMEGA}
 use Rattle.meek_rule.specs.Places.{each_place, marked_count}
 use Rattle.candidate_roll.specs.declared.state.State.{State}
 use Rattle.lot_order.specs.Flags.{mark_at}
@@ -20,7 +21,7 @@ use Rattle.meek_rule.proofs.StateCounts.{count_by-each_place, elected_count-elec
 
 -- the opening situation is valid
 pub valid-opening :
-    (s least seats : ℕ) (withdrawn : List Bool) → 1 ≤ least → least ≤ 1000000 → 1 ≤ seats → seats ≤ 250
+    (s least seats : ℕ) (withdrawn : List Bool) → 1 ≤ least → least ≤ MOST_OMEGA → 1 ≤ seats → seats ≤ 250
     → 1 ≤ length withdrawn → length withdrawn ≤ 250 → IsValid s (opening s least seats withdrawn)
 valid-opening s least seats withdrawn one_unit one_vote some few some_one not_many =
     let n : ℕ = length withdrawn in

@@ -1,6 +1,7 @@
 -- An election between two iterations, where `s` units are one vote.
 use Rattle.std.specs.Prelude.{◌≡◌, ℕ, ◌+◌, ◌*◌, ◌<◌, ◌≤◌, ◌==◌, ◌||◌, nat_le, if◌then◌else◌, Bool, true, false, Option, None, List, length, count_by, slice_index, is_none, unwrap_or}
 use Rattle.plain_ballots.specs.declared.limits.TheConstants.{MOST_CANDIDATES}
+use Rattle.fixed_place.specs.declared.omega.TheConstants.{MOST_OMEGA}
 use Rattle.candidate_roll.specs.State.{state_at}
 use Rattle.candidate_roll.specs.declared.state.State.{State}
 use Rattle.candidate_roll.specs.declared.state.State.TheVariants.{Hopeful, Elected, Defeated, Withdrawn}
@@ -54,7 +55,7 @@ pub record IsValid (s : ℕ) (now : Situation) : Type 0 where
   pub numbered : 1 ≤ now.iteration
   pub first : is_none now.previous ≡ (now.iteration == 1)
   pub some_omega : 1 ≤ now.omega
-  pub small_omega : now.omega ≤ 1000000
+  pub small_omega : now.omega ≤ MOST_OMEGA
 
 -- how a count opens: each candidate is hopeful with keep value 1, but for the withdrawn
 abbrev pub opening : (s : ℕ) → (omega : ℕ) → (seats : ℕ) → (withdrawn : List Bool) → Situation

@@ -3,11 +3,11 @@ ghost use Rattle.std.specs.Prelude.{◌≡◌, ◌+◌, ◌^◌, ◌<◌, ◌≤
 ghost use Rattle.fixed_place.specs.Rounding.{scale, most};
 ghost use Rattle.meek_rule.specs.Situation.{IsValid, IsOnItsWay, opening, is_complete, finished};
 
-use crate::NoMemory;
 use crate::ending::{end_keeps, end_states};
 use crate::states::{count_elected, count_hopeful};
+use crate::{NoMemory, Stage};
 use candidate_roll::{Roll, State, States};
-use fixed_place::{Amount, Keep, Keeps, scale_of};
+use fixed_place::{Amount, Keep, Keeps, Omega, scale_of};
 use std::alloc::Global;
 use std::marker::Model;
 
@@ -24,7 +24,7 @@ pub struct Situation<const P: usize> {
     round: u32,
     iteration: u64,
     previous: Option<Amount<P>>,
-    omega: Amount<P>,
+    omega: Omega,
 }
 
 impl<const P: usize> Model for Situation<P> {
@@ -40,13 +40,14 @@ impl<const P: usize> Model for Situation<P> {
 
 impl<const P: usize> Situation<P> {
     /// The situation that a count opens with.
-    pub fn begin(alloc: Global, roll: &Roll, omega: Amount<P>) -> Result<Situation<P>, NoMemory>
-        requires places { (6 ≤ P) × (P ≤ 9) }
-        requires omega { (1 ≤ omega) × (omega ≤ 1000000) }
-        ensures opening { IfOk result (λ now. now ≡ opening (scale P) omega.entry roll.now.seats roll.now.withdrawn) }
+    pub fn begin(alloc: Global, roll: &Roll, omega: Omega) -> Result<Situation<P>, NoMemory>
+        requires { (6 ≤ P) × (P ≤ 9) }
+        ensures opening { IfOk result (λ now. now ≡ opening (scale P) omega roll.now.seats roll.now.withdrawn) }
         ensures valid { IfOk result (IsValid (scale P)) }
         ensures on_its_way { IfOk result (IsOnItsWay (most P)) }
     {
+        // Omega is in its range.
+        let _range = omega.units();
         let n = roll.candidates();
         let mut states = States::filled(alloc, n as usize, State::Hopeful)?;
         let mut keeps = Keeps::filled(alloc, n as usize, Keep::from_units(scale_of::<P>()))?;
@@ -72,16 +73,19 @@ impl<const P: usize> Situation<P> {
         seats: u32,
         states: States,
         keeps: Keeps<P>,
-        round: u32,
-        iteration: u64,
-        previous: Option<Amount<P>>,
-        omega: Amount<P>,
+        stage: Stage<P>,
+        omega: Omega,
     ) -> Situation<P>
-        requires valid { IsValid (scale P) (record { seats = seats; states = states; keeps = keeps; round = round; iteration = iteration; previous = previous; omega = omega }) }
-        ensures { result ≡ record { seats = seats; states = states; keeps = keeps.entry; round = round; iteration = iteration; previous = previous.entry; omega = omega.entry } }
+        requires valid { IsValid (scale P) (record { seats = seats; states = states; keeps = keeps; round = stage.round; iteration = stage.iteration; previous = stage.previous; omega = omega }) }
+        ensures { result ≡ record { seats = seats; states = states; keeps = keeps.entry; round = stage.entry.round; iteration = stage.entry.iteration; previous = stage.entry.previous; omega = omega } }
     {
         // Its places are 6 to 9.
-        let _places = omega.units();
+        let _places = keeps.len();
+        let Stage {
+            round,
+            iteration,
+            previous,
+        } = stage;
         Situation {
             seats,
             states,

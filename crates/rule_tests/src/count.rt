@@ -1,9 +1,9 @@
 // Counts of small elections, with the figures that their rules give by hand.
 ghost use Rattle.std.specs.Prelude.{◌≡◌, ◌≤◌, true};
 
-use crate::elections::{Election, TEN_FOUR_THREE, ballots_of, begin, roll_and_lots};
+use crate::elections::{Election, TEN_FOUR_THREE, ballots_of, begin, omega_of, roll_and_lots};
 use candidate_roll::{Roll, State};
-use fixed_place::Amount;
+use fixed_place::Omega;
 use lot_order::Lots;
 use meek_count::{Count, Turn};
 use meek_rule::{FlatSpread, Row, Step};
@@ -243,13 +243,13 @@ fn counts_ballots<const P: usize>(
     alloc: Global,
     roll: &Roll,
     lots: &Lots,
-    omega: Amount<P>,
+    omega: Omega,
     case: &Case,
 ) -> Result<(), Fail>
-    requires { (1 ≤ omega) × (omega ≤ 1000000) }
+    requires { (6 ≤ P) × (P ≤ 9) }
 {
     let ballots = ballots_of(alloc, roll.candidates(), case.election.lines)?;
-    let mut count = begin(rt, alloc, roll, lots, ballots, omega)?;
+    let mut count = begin::<P>(rt, alloc, roll, lots, ballots, omega)?;
     goes(rt, &mut count, case);
     Ok(())
 }
@@ -258,13 +258,13 @@ fn counts_ballots<const P: usize>(
 fn counts<const P: usize>(
     rt: &impl Abort,
     alloc: Global,
-    omega: Amount<P>,
+    omega: Omega,
     case: &Case,
 ) -> Result<(), Fail>
-    requires { (1 ≤ omega) × (omega ≤ 1000000) }
+    requires { (6 ≤ P) × (P ≤ 9) }
 {
     let (roll, lots) = roll_and_lots(alloc, &case.election)?;
-    counts_ballots(rt, alloc, &roll, &lots, omega, case)
+    counts_ballots::<P>(rt, alloc, &roll, &lots, omega, case)
 }
 
 #[test]
@@ -275,18 +275,17 @@ fn counts_at_nine_places(rt: HostRuntime) -> Result<(), Fail> {
         &A_SURPLUS_IS_TRANSFERRED_AT_NINE_PLACES,
         &A_LONE_BALLOT_IS_LOST_BIT_BY_BIT,
     ] {
-        counts(&rt, rt.alloc(), Amount::<9>::from_units(1_000), case)?;
+        counts::<9>(&rt, rt.alloc(), omega_of(1_000)?, case)?;
     }
     Ok(())
 }
 
 #[test]
 fn counts_at_six_places(rt: HostRuntime) -> Result<(), Fail> {
-    let omega = Amount::<6>::from_units(1);
-    counts(
+    counts::<6>(
         &rt,
         rt.alloc(),
-        omega,
+        omega_of(1)?,
         &A_SURPLUS_IS_TRANSFERRED_AT_SIX_PLACES,
     )
 }

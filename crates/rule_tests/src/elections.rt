@@ -4,7 +4,7 @@ ghost use Rattle.fixed_place.specs.Rounding.{scale};
 ghost use Rattle.meek_count.specs.Progress.{HasJustBegun};
 
 use candidate_roll::{Name, Names, Roll};
-use fixed_place::Amount;
+use fixed_place::Omega;
 use lot_order::Lots;
 use meek_count::Count;
 use meek_rule::{FlatSpread, NoMemory};
@@ -83,6 +83,14 @@ pub(crate) fn ballots_of(
     Ok(ballots)
 }
 
+/// An omega of so many units.
+pub(crate) fn omega_of(units: u32) -> Result<Omega, Fail> {
+    match Omega::new(units) {
+        Some(omega) => Ok(omega),
+        None => Err(Fail::from("no omega of so many units")),
+    }
+}
+
 /// Begins the count of these ballots.
 pub(crate) fn begin<'a, const P: usize>(
     rt: &impl Abort,
@@ -90,9 +98,9 @@ pub(crate) fn begin<'a, const P: usize>(
     roll: &'a Roll,
     lots: &'a Lots,
     ballots: Ballots,
-    omega: Amount<P>,
+    omega: Omega,
 ) -> Result<Count<'a, P, FlatSpread>, NoMemory>
-    requires { (1 ≤ omega) × (omega ≤ 1000000) }
+    requires { (6 ≤ P) × (P ≤ 9) }
     ensures { IfOk result (HasJustBegun (scale P)) }
 {
     let (candidates, all) = (ballots.candidates(), roll.candidates());

@@ -1,10 +1,10 @@
 // Sheets of small elections, byte for byte.
 ghost use Rattle.std.specs.Prelude.{◌<◌, ◌≤◌};
 
-use crate::elections::{Election, TEN_FOUR_THREE, ballots_of, begin, roll_and_lots};
+use crate::elections::{Election, TEN_FOUR_THREE, ballots_of, begin, omega_of, roll_and_lots};
 use byte_edge::MemorySink;
 use candidate_roll::Roll;
-use fixed_place::Amount;
+use fixed_place::Omega;
 use lot_order::Lots;
 use sheet_text::write_sheet;
 use std::alloc::Global;
@@ -27,13 +27,13 @@ fn write_by<const P: usize>(
     roll: &Roll,
     lots: &Lots,
     election: &Election,
-    omega: Amount<P>,
+    omega: Omega,
     sink: &mut MemorySink,
 ) -> Result<bool, Fail>
-    requires { (1 ≤ omega) × (omega ≤ 1000000) }
+    requires { (6 ≤ P) × (P ≤ 9) }
 {
     let ballots = ballots_of(alloc, roll.candidates(), election.lines)?;
-    let mut count = begin(rt, alloc, roll, lots, ballots, omega)?;
+    let mut count = begin::<P>(rt, alloc, roll, lots, ballots, omega)?;
     Ok(write_sheet(&mut count, sink).is_ok())
 }
 
@@ -42,13 +42,13 @@ fn write<const P: usize>(
     rt: &impl Abort,
     alloc: Global,
     election: &Election,
-    omega: Amount<P>,
+    omega: Omega,
     sink: &mut MemorySink,
 ) -> Result<bool, Fail>
-    requires { (1 ≤ omega) × (omega ≤ 1000000) }
+    requires { (6 ≤ P) × (P ≤ 9) }
 {
     let (roll, lots) = roll_and_lots(alloc, election)?;
-    write_by(rt, alloc, &roll, &lots, election, omega, sink)
+    write_by::<P>(rt, alloc, &roll, &lots, election, omega, sink)
 }
 
 /// The sheet of an election, or what is written of it until a write fails, is this text.
@@ -56,14 +56,14 @@ fn writes<const P: usize>(
     rt: &impl Abort,
     alloc: Global,
     election: &Election,
-    omega: Amount<P>,
+    omega: Omega,
     sink: &mut MemorySink,
     outcome: (bool, &str),
 ) -> Result<(), Fail>
-    requires { (1 ≤ omega) × (omega ≤ 1000000) }
+    requires { (6 ≤ P) × (P ≤ 9) }
 {
     let (whole, text) = outcome;
-    let wrote = write(rt, alloc, election, omega, sink)?;
+    let wrote = write::<P>(rt, alloc, election, omega, sink)?;
     assert_eq!(rt; (wrote, sink.bytes()), (whole, text.as_bytes()));
     Ok(())
 }
@@ -166,8 +166,14 @@ fn is_sheet(
 ) -> Result<(), Fail> {
     assert!(rt; chunk > 0);
     let mut sink = sink_of(alloc, chunk, &[])?;
-    let omega = Amount::<9>::from_units(1_000);
-    writes(rt, alloc, election, omega, &mut sink, (true, text))
+    writes::<9>(
+        rt,
+        alloc,
+        election,
+        omega_of(1_000)?,
+        &mut sink,
+        (true, text),
+    )
 }
 
 #[test]
@@ -181,7 +187,7 @@ fn writes_sheets_at_nine_places(rt: HostRuntime) -> Result<(), Fail> {
 #[test]
 fn writes_transfers_at_six_places(rt: HostRuntime) -> Result<(), Fail> {
     let mut sink = sink_of(rt.alloc(), 1_400, &[])?;
-    let omega = Amount::<6>::from_units(1);
+    let omega = omega_of(1)?;
     let text = "title T\nseats 2\ncandidates 3\nballots 17\n\
                 round 1 iteration 1\n\
                 1 hopeful 1.000000 10.000000\n\
@@ -208,7 +214,7 @@ fn writes_transfers_at_six_places(rt: HostRuntime) -> Result<(), Fail> {
                 total 11.222230\nquota 3.740744\nsurplus 0.740742\n\
                 elected 2\nstep elected\n\
                 result\n1 elected A\n2 elected B\n3 defeated C\nend\n";
-    writes(
+    writes::<6>(
         &rt,
         rt.alloc(),
         &TEN_FOUR_THREE,
@@ -221,9 +227,9 @@ fn writes_transfers_at_six_places(rt: HostRuntime) -> Result<(), Fail> {
 #[test]
 fn stops_at_a_failing_write(rt: HostRuntime) -> Result<(), Fail> {
     let mut sink = sink_of(rt.alloc(), 8, &[3])?;
-    let omega = Amount::<9>::from_units(1_000);
+    let omega = omega_of(1_000)?;
     let text = "title T\nseats 2\n";
-    writes(
+    writes::<9>(
         &rt,
         rt.alloc(),
         &TEN_FOUR_THREE,

@@ -1,5 +1,6 @@
 -- What the checker accepts, refuses and writes.
 use Rattle.std.specs.Prelude.{◌≡◌, ◌⊎◌, ℕ, ◌+◌, List, [], ◌∷◌, ◌++◌, length, codes, decimal, Some, Result, Ok, Err}
+use Rattle.fixed_place.specs.declared.omega.TheConstants.{USUAL_OMEGA}
 use Rattle.tool_edge.specs.declared.opening.TheConstants.{FILE_LIMIT}
 use Rattle.plain_ballots.specs.Ballots.{plain}
 use Rattle.input_text.specs.declared.fault_kind.FaultKind.TheVariants.{Ended}
@@ -69,7 +70,7 @@ verdict_line Malformed = codes "sheet malformed" ++ 10 ∷ []
 -- the line of the verdict on a text that is held to be the sheet of this election, counted at nine places
 pub record OwesVerdict (poll : Poll) (lots sheet bytes : List ℕ) : Type 0 where
   pub verdict : Verdict
-  pub right : IsVerdict 9 1000 (plain poll.lines) poll.roll lots sheet verdict
+  pub right : IsVerdict 9 USUAL_OMEGA (plain poll.lines) poll.roll lots sheet verdict
   pub line : bytes ≡ verdict_line verdict
 
 -- that line, with the end of a run that is done

@@ -2,6 +2,7 @@
 ghost use Rattle.std.specs.Prelude.{◌≡◌, ◌≤◌, All, IfOk, IsPermutation, MatchBool, length};
 ghost use Rattle.plain_ballots.specs.declared.limits.TheConstants.{MOST_BALLOTS, MOST_CANDIDATES};
 ghost use Rattle.fixed_place.specs.Rounding.{scale};
+ghost use Rattle.fixed_place.specs.declared.omega.TheConstants.{USUAL_OMEGA};
 ghost use Rattle.frozen_plan.specs.Plan.{all_ballots};
 ghost use Rattle.meek_count.specs.Progress.{HasJustBegun};
 ghost use Rattle.meek_rule.specs.Rule.{Meek};
@@ -16,7 +17,7 @@ use crate::{NoMemory, Verdict};
 use blt_reader::Election;
 use byte_edge::FreeGate;
 use candidate_roll::Roll;
-use fixed_place::Amount;
+use fixed_place::Omega;
 use frozen_plan::Plans;
 use lent_spread::Lent;
 use lot_order::Lots;
@@ -28,9 +29,6 @@ use sheet_text::{sheets_are_unique, write_sheet};
 use std::alloc::Global;
 use std::thread::Threads;
 use vote_spread::{Lanes, PlanSpread};
-
-/// Below so many units of 10^-9 votes a surplus is not transferred.
-const OMEGA: u64 = 1_000;
 
 /// The verdict on a text that is held to be the sheet of an election, whose lots are of its candidates. The
 /// count is run again by one worker; what it writes is compared with the text as it comes, and kept nowhere.
@@ -44,7 +42,7 @@ pub fn judge<R: Threads + Sync>(
 ) -> Result<Verdict, NoMemory>
     requires lots_of_all { length lots.now ≡ length election.roll.names }
     requires ballots_of_all { election.ballots.candidates ≡ length election.roll.names }
-    ensures { IfOk result (IsVerdict 9 1000 (plain election.ballots.lines) election.roll lots.now bytes.now) }
+    ensures { IfOk result (IsVerdict 9 USUAL_OMEGA (plain election.ballots.lines) election.roll lots.now bytes.now) }
 {
     if !has_form(alloc, bytes)? {
         return Ok(Verdict::Malformed);
@@ -79,7 +77,7 @@ fn first_difference<R: Threads + Sync>(
 ) -> Result<Option<u64>, NoMemory>
     requires lots_of_all { length lots.now ≡ length election.roll.names }
     requires ballots_of_all { election.ballots.candidates ≡ length election.roll.names }
-    ensures { IfOk result (Compares 9 1000 (plain election.ballots.lines) election.roll lots.now bytes.now) }
+    ensures { IfOk result (Compares 9 USUAL_OMEGA (plain election.ballots.lines) election.roll lots.now bytes.now) }
 {
     // The sheet of the plan's ballots is that of the file's.
     sheets_are_unique();
@@ -122,9 +120,9 @@ fn difference_from_count<D: Spread<9>>(
     requires can { D.can_spread spread.old }
     requires spread_of_all { D.candidates spread.old ≡ length roll.now.names }
     requires few { length (D.ballots spread.old) ≤ MOST_BALLOTS }
-    ensures { IfOk result (Compares 9 1000 (D.ballots spread.old) roll.now lots.now bytes.now) }
+    ensures { IfOk result (Compares 9 USUAL_OMEGA (D.ballots spread.old) roll.now lots.now bytes.now) }
 {
-    let omega = Amount::<9>::from_units(OMEGA);
+    let omega = Omega::usual();
     let Ok(mut count) = Count::begin(alloc, roll, lots, Lent { spread }, omega) else {
         return Err(NoMemory);
     };

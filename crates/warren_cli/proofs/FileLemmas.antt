@@ -1,6 +1,7 @@
 -- What the count of a ballot file comes to.
 use Rattle.std.proofs.Common.{◌≡◌, ℕ, ◌≤◌, List, length, subst, inl, inr}
 use Rattle.std.specs.Prelude.{Option, Result, Ok, Err, OnOk, OnErr, IsPermutation}
+use Rattle.fixed_place.specs.declared.omega.TheConstants.{USUAL_OMEGA}
 use Rattle.byte_edge.specs.Faults.{CountsFault}
 use Rattle.candidate_roll.specs.Roll.{RollList}
 use Rattle.plain_ballots.specs.Ballots.{plain}
@@ -22,14 +23,14 @@ use Rattle.warren_cli.specs.Owed.{OwesWarren, IsSheetOwed}
 
 -- the count is of these single ballots, this roll and these lots, with the tool's omega
 pub record IsCountOf (roll : RollList) (lots : List ℕ) (ballots : List (List ℕ)) (count : Progress) : Type 0 where
-  pub omega_is : count.situation.omega ≡ 1000
+  pub omega_is : count.situation.omega ≡ USUAL_OMEGA
   pub ballots_are : count.ballots ≡ ballots
   pub roll_is : count.roll ≡ roll
   pub lots_are : count.lots ≡ lots
 
 sheet_of :
     (roll : RollList) (lots : List ℕ) (ballots : List (List ℕ)) (count : Progress) (text : List ℕ)
-    → IsCountOf roll lots ballots count → IsSheetOf Warren 9 count text → IsSheetUnder Warren 9 1000 ballots roll lots text
+    → IsCountOf roll lots ballots count → IsSheetOf Warren 9 count text → IsSheetUnder Warren 9 USUAL_OMEGA ballots roll lots text
 sheet_of roll lots ballots count text of is =
     subst (λ (omega : ℕ). IsSheetUnder Warren 9 omega ballots roll lots text) of.omega_is
     (subst (λ (b : List (List ℕ)). IsSheetUnder Warren 9 count.situation.omega b roll lots text) of.ballots_are
@@ -55,7 +56,7 @@ owed_for_file :
     → SaysContest lots input poll → OrderOfBallotsLeavesTheSheet → IsPermutation ballots (plain poll.lines)
     → IsSheetOwed ballots poll.roll lots due bytes → IsOwedFor (over_contests OwesWarren) lots input no_history due bytes
 owed_for_file lots input poll ballots Done bytes short says leaves same owed =
-    (short, (poll, says, (leaves Warren 9 1000 ballots (plain poll.lines) poll.roll lots bytes same).0 owed))
+    (short, (poll, says, (leaves Warren 9 USUAL_OMEGA ballots (plain poll.lines) poll.roll lots bytes same).0 owed))
 owed_for_file lots input poll ballots due bytes short says leaves same owed = absurd owed
 
 pub counted :

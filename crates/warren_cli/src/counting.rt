@@ -13,7 +13,7 @@ ghost use Rattle.warren_cli.specs.Owed.{OwesWarren, IsSheetOwed};
 use blt_reader::Election;
 use byte_edge::Sink;
 use candidate_roll::Roll;
-use fixed_place::Amount;
+use fixed_place::Omega;
 use frozen_plan::Plans;
 use lot_order::Lots;
 use plain_ballots::Ballots;
@@ -21,9 +21,6 @@ use sheet_text::sheets_are_unique;
 use std::alloc::Global;
 use tool_edge::{Contest, End, close, refuse_input};
 use warren_spread::{WarrenCount, WarrenSpread, write_warren};
-
-/// Below so many units of 10^-9 votes a surplus is not transferred: 0.000001 votes.
-const OMEGA: u64 = 1_000;
 
 /// Counts the ballots of a file by these lots, and writes the sheet or the refusal.
 pub(crate) fn count<K: Sink>(alloc: Global, lots: &[u32], input: &[u8], sink: &mut K) -> End
@@ -73,7 +70,7 @@ fn write_count<K: Sink>(
     ensures { FinishesOwed (IsSheetOwed spread.ballots roll.now lots.now) result
         (writing K.written K.faults sink.old sink.new) }
 {
-    let omega = Amount::<9>::from_units(OMEGA);
+    let omega = Omega::usual();
     let Ok(mut count) = WarrenCount::begin(alloc, roll, lots, spread, omega) else {
         return End::NoMemory;
     };

@@ -78,7 +78,10 @@ fn is_later(day: &Day, a: u32, b: u32) -> bool {
 /// The places, the omega and the lots of a day are those due.
 fn has_law(rt: &impl Abort, day: &Day, due: &DueDay) {
     let is_later = is_later(day, due.lots[0], due.lots[1]);
-    assert_eq!(rt; ([day.places, day.omega], is_later), (due.law, true));
+    assert_eq!(rt;
+        ([day.places, day.omega.units()], is_later),
+        (due.law, true)
+    );
 }
 
 fn has_day(rt: &impl Abort, day: &Day, due: &DueDay) {
@@ -228,7 +231,7 @@ fn teams_in_any_order(rt: HostRuntime) -> Result<(), Fail> {
 /// The places and the omega of a file.
 pub(super) fn law_of(alloc: Global, file: &[u8]) -> Result<[u32; 2], Fail> {
     let day = read_day(alloc, file)?;
-    Ok([day.places, day.omega])
+    Ok([day.places, day.omega.units()])
 }
 
 #[test]

@@ -80,7 +80,7 @@ impl<const P: usize> Situation<P> {
     fn has_to_defeat(&self, surplus: Amount<P>) -> bool
         ensures { result ≡ has_to_defeat self.now surplus.entry }
     {
-        surplus.units() < self.omega.units()
+        surplus.units() < self.omega.units() as u64
             || match self.previous {
                 Some(before) => surplus.units() >= before.units(),
                 None => false,

@@ -1,9 +1,9 @@
 // Iterations that are told by value, run.
 use super::checked::{all_fit, are_keeps, are_votes, count_elected, settle_checked};
 use candidate_roll::{State, States};
-use fixed_place::{Amount, Amounts, Keep, Keeps};
+use fixed_place::{Amount, Amounts, Keep, Keeps, Omega};
 use lot_order::Lots;
-use meek_rule::{Row, Situation, Step};
+use meek_rule::{Row, Situation, Stage, Step};
 use std::alloc::Global;
 use std::process::Abort;
 use std::test::Fail;
@@ -95,8 +95,12 @@ fn situation_with(rt: &impl Abort, case: &Case, states: States, keeps: Keeps<9>)
     assert!(rt; previous.is_none() == (iteration == 1));
     assert!(rt; 1 <= states.len() && states.len() <= 250 && keeps.len() == states.len());
     assert!(rt; count_elected(&states) <= seats && all_fit(&states, &keeps));
-    let omega = Amount::from_units(1000);
-    Situation::from_parts(seats, states, keeps, 2, iteration, previous, omega)
+    let stage = Stage {
+        round: 2,
+        iteration,
+        previous,
+    };
+    Situation::from_parts(seats, states, keeps, stage, Omega::usual())
 }
 
 fn situation_of(rt: &impl Abort, alloc: Global, case: &Case) -> Result<Situation<9>, Fail> {

@@ -1,7 +1,7 @@
 use Rattle.std.proofs.Common.{true}
 use Rattle.input_text.specs.Scan.{scan}
 use Rattle.day_reader.proofs.DaySteps.{says_day, refuses_day}
-use Rattle.day_reader.proofs.DayScripts.{has_scripts, has_lots, has_places, has_omega}
+use Rattle.day_reader.proofs.DayScripts.{has_scripts, has_lots, has_places}
 use Rattle.day_reader.proofs.days.read_day.Goals as goal
 
 pub returns-clause-accepted : goal.returns-clause-accepted
@@ -23,6 +23,3 @@ returns-clause-lots c = has_lots c.accepts_days.ensures (scan c.args.bytes.now t
 pub returns-clause-places : goal.returns-clause-places
 returns-clause-places c =
     has_places c.accepts_days.ensures (scan c.args.bytes.now true) c.read_file.result c.read_file.ensures
-
-pub returns-clause-omega : goal.returns-clause-omega
-returns-clause-omega c = has_omega c.accepts_days.ensures (scan c.args.bytes.now true) c.read_file.result c.read_file.ensures

@@ -31,7 +31,7 @@ returns-in_ok-begins_team-in_default-clause-reads c =
     record {
       scale = None;
       places = refl;
-      omega = refl;
+      omega = c.usual.ensures;
       same =
           λ roll lots. head_leads (record { roll = roll; lots = lots; scale = None })
           (behind_the_lots roll lots) keyword c.in_ok-begins_team-in_default.field-0

@@ -24,10 +24,7 @@ returns g c =
     wrote_summary c.args.number terms c.args.history.now (g.D.Spread.ballots c.args.spread.now) roll count
     turns _ c.states.result.now c.bytes.result.now
     c.finish.result (writing g.K.Sink.written g.K.Sink.faults c.args.sink.now c.finish.new.sink)
-    c.requires.places (c.in-Ok.ensures.opens
-    ∙ ap (λ (omega : ℕ). opening (scale 9) omega roll.seats roll.withdrawn) c.units-omega.ensures)
-    c.in-Ok.ensures.ballots
-    c.in-Ok.ensures.lots out
+    c.requires.places c.in-Ok.ensures.opens c.in-Ok.ensures.ballots c.in-Ok.ensures.lots out
     (λ i. let s : Summary =
     record {
       number = c.args.number;

@@ -8,7 +8,7 @@ use Rattle.warren_cli.proofs.counting.write_count.Goals as goal
 pub returns : goal.returns
 returns g c =
     let of : IsCountOf c.args.roll.now c.args.lots.now c.args.spread.ballots c.in-Ok.count = record {
-      omega_is = ap (λ (now : Situation). now.omega) c.in-Ok.ensures.opens ∙ c.from_units-omega.ensures;
+      omega_is = ap (λ (now : Situation). now.omega) c.in-Ok.ensures.opens ∙ c.usual-omega.ensures;
       ballots_are = c.in-Ok.ensures.ballots;
       roll_is = c.in-Ok.ensures.roll;
       lots_are = c.in-Ok.ensures.lots;

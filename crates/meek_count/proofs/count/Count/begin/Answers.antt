@@ -15,8 +15,8 @@ invariant_of-result g c =
     ∙ length-opening (scale g.row.P) c.args.omega c.args.roll.now c.candidates-n.ensures.sound in
     let all : c.candidates-n.result ≡ length c.in_ok-situation.situation.states =
     c.candidates-n.ensures.value ∙ sym states in (
-      c.units-places.ensures.places.0,
-      c.units-places.ensures.places.1,
+      c.requires.places.0,
+      c.requires.places.1,
       c.requires.can_spread,
       c.requires.spread_of_all ∙ sym states,
       ap (λ (v : List ℕ). length v) c.in_ok-tally.ensures ∙ (length-replicate _ _ ∙ all),

@@ -1,4 +1,5 @@
-use Rattle.std.proofs.Common.{◌≡◌, ◌^◌, ℕ, Bool, cond, List, length, arith, refl, sym, ◌∙◌}
+use Rattle.std.proofs.Common.{◌≡◌, ◌^◌, ◌≤◌, ℕ, Bool, cond, List, length, arith, refl, sym, subst, ◌∙◌}
+use Rattle.fixed_place.specs.declared.omega.TheConstants.{MOST_OMEGA}
 use Rattle.std.proofs.lemmas.List.FromFn.{fill_by_all}
 use Rattle.fixed_place.specs.Rounding.{scale, most}
 use Rattle.candidate_roll.specs.Roll.{IsRoll}
@@ -24,11 +25,14 @@ invariant_of-result g c =
     let keeps : c.loop-c.keeps ≡ each_place (length gone) keep =
     fill_by_all keep c.loop-c.keeps (length gone) 0 (c.loop-c.invariant.keeps ∙ (count ∙ sym same))
     (λ q below. c.loop-c.invariant.kept q (omega arith)) in
+    let omega_in : (1 ≤ c.args.omega) × (c.args.omega ≤ MOST_OMEGA) =
+    subst (λ (u : ℕ). (1 ≤ u) × (u ≤ MOST_OMEGA)) c.units-range.ensures.value
+    (c.units-range.ensures.least, c.units-range.ensures.most) in
     rw (c.seats.ensures.value, states, keeps) (
-      c.requires.places.0,
-      c.requires.places.1,
-      valid-opening (10 ^ g.row.P) c.args.omega c.args.roll.now.seats gone c.requires.omega.0
-          c.requires.omega.1 roll.some_seat roll.few_seats (omega (arith, roll.some_candidate))
+      c.requires.0,
+      c.requires.1,
+      valid-opening (10 ^ g.row.P) c.args.omega c.args.roll.now.seats gone omega_in.0
+          omega_in.1 roll.some_seat roll.few_seats (omega (arith, roll.some_candidate))
           (omega (arith, roll.few_candidates)),
     )
 
@@ -62,8 +66,11 @@ returns-clause-valid g c =
     let keeps : c.loop-c.keeps ≡ each_place (length gone) keep =
     fill_by_all keep c.loop-c.keeps (length gone) 0 (c.loop-c.invariant.keeps ∙ (count ∙ sym same))
     (λ q below. c.loop-c.invariant.kept q (omega arith)) in
+    let omega_in : (1 ≤ c.args.omega) × (c.args.omega ≤ MOST_OMEGA) =
+    subst (λ (u : ℕ). (1 ≤ u) × (u ≤ MOST_OMEGA)) c.units-range.ensures.value
+    (c.units-range.ensures.least, c.units-range.ensures.most) in
     rw (c.seats.ensures.value, states, keeps) (valid-opening (10 ^ g.row.P) c.args.omega c.args.roll.now.seats
-    gone c.requires.omega.0 c.requires.omega.1 roll.some_seat roll.few_seats
+    gone omega_in.0 omega_in.1 roll.some_seat roll.few_seats
     (omega (arith, roll.some_candidate)) (omega (arith, roll.few_candidates)))
 
 pub returns-clause-on_its_way : goal.returns-clause-on_its_way
