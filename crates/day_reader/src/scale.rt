@@ -59,7 +59,7 @@ fn read_places(tokens: &mut Tokens<'_>) -> Result<Scale, InputFault>
 /// An omega. Units of which there are none, or too many, are refused.
 #[tactic(auto, using(input_text::proofs::Reading::behind_trans))]
 fn read_omega(tokens: &mut Tokens<'_>) -> Result<Omega, InputFault>
-    ensures number { IfOk result (λ omega. Accepts (as_between 1 MOST_OMEGA FaultKind.BadOmega) tokens.old.rest omega tokens.new.rest) }
+    ensures number { IfOk result (λ n. Accepts (as_between 1 MOST_OMEGA FaultKind.BadOmega) tokens.old.rest n tokens.new.rest) }
     ensures fault { IfErr result (λ fault. Stops (as_between 1 MOST_OMEGA FaultKind.BadOmega) tokens.old.rest fault tokens.new.rest) }
     ensures behind { IsBehind tokens.old tokens.new }
 {
