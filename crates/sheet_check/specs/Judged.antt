@@ -1,9 +1,7 @@
 -- What is said of a text that is held to be the sheet of an election.
 use Rattle.std.specs.Prelude.{ℕ, List, Option, Some, None}
 use Rattle.candidate_roll.specs.Roll.{RollList}
-use Rattle.meek_count.specs.Progress.{Progress}
-use Rattle.meek_rule.specs.Rule.{Meek}
-use Rattle.sheet_text.specs.Sheet.{IsSheet, IsSheetOf}
+use Rattle.sheet_text.specs.Sheet.{IsSheet}
 use Rattle.sheet_reader.specs.Values.{SheetList}
 use Rattle.sheet_reader.specs.Form.{HasForm}
 use Rattle.sheet_check.specs.declared.verdict.Verdict.{Verdict}
@@ -15,11 +13,6 @@ abbrev pub Compares : (places omega : ℕ) → List (List ℕ) → RollList → 
 Compares places omega ballots roll lots bytes None = IsSheet places omega ballots roll lots bytes
 Compares places omega ballots roll lots bytes (Some n) =
     (text : List ℕ) × IsSheet places omega ballots roll lots text × IsFirstDifference bytes text n
-
--- the same against the sheet of a count that was just begun
-abbrev pub DiffersFromSheetOf : (places : ℕ) → Progress → (bytes : List ℕ) → Option ℕ → Type 0
-DiffersFromSheetOf places count bytes None = IsSheetOf Meek places count bytes
-DiffersFromSheetOf places count bytes (Some n) = (text : List ℕ) × IsSheetOf Meek places count text × IsFirstDifference bytes text n
 
 -- The verdict on a text: whether it has the form of a sheet, whether it is the sheet of this election, and else in
 -- which line it first differs from it.

@@ -1,34 +1,21 @@
 // A text compared with the sheet of an election.
-ghost use Rattle.std.specs.Prelude.{◌≡◌, ◌≤◌, All, IfOk, IsPermutation, MatchBool, length};
-ghost use Rattle.plain_ballots.specs.declared.limits.TheConstants.{MOST_BALLOTS, MOST_CANDIDATES};
-ghost use Rattle.fixed_place.specs.Rounding.{scale};
+ghost use Rattle.std.specs.Prelude.{◌≡◌, IfOk, MatchBool, length};
 ghost use Rattle.fixed_place.specs.declared.omega.TheConstants.{USUAL_OMEGA};
-ghost use Rattle.frozen_plan.specs.Plan.{all_ballots};
-ghost use Rattle.meek_count.specs.Progress.{HasJustBegun};
-ghost use Rattle.meek_rule.specs.Rule.{Meek};
 ghost use Rattle.plain_ballots.specs.Ballots.{plain};
 ghost use Rattle.sheet_reader.specs.Form.{HasForm};
 ghost use Rattle.sheet_reader.specs.Values.{SheetList};
-ghost use Rattle.vote_spread.specs.Lanes.{HaveCounted};
-ghost use Rattle.sheet_check.specs.Judged.{Compares, DiffersFromSheetOf, IsVerdict};
+ghost use Rattle.sheet_check.specs.Judged.{Compares, IsVerdict};
 
 use crate::comparing::Comparing;
 use crate::{NoMemory, Verdict};
 use blt_reader::Election;
 use byte_edge::FreeGate;
-use candidate_roll::Roll;
 use fixed_place::Omega;
-use frozen_plan::Plans;
-use lent_spread::Lent;
+use lane_sheet::{Crew, write_sheet_in_lanes};
 use lot_order::Lots;
-use meek_count::Count;
-use meek_rule::Spread;
-use plain_ballots::Ballots;
 use sheet_reader::{SheetStop, check_form};
-use sheet_text::{sheets_are_unique, write_sheet};
 use std::alloc::Global;
 use std::thread::Threads;
-use vote_spread::{Lanes, PlanSpread};
 
 /// The verdict on a text that is held to be the sheet of an election, whose lots are of its candidates. The
 /// count is run again by one worker; what it writes is compared with the text as it comes, and kept nowhere.
@@ -79,67 +66,20 @@ fn first_difference<R: Threads + Sync>(
     requires ballots_of_all { election.ballots.candidates ≡ length election.roll.names }
     ensures { IfOk result (Compares 9 USUAL_OMEGA (plain election.ballots.lines) election.roll lots.now bytes.now) }
 {
-    // The sheet of the plan's ballots is that of the file's.
-    sheets_are_unique();
-    let run = |lanes: &mut Lanes|
-        requires { lanes.now.scale ≡ scale 9 }
-        ensures { HaveCounted lanes.entry.now lanes.exit.now }
-    { lanes.run::<9, R, FreeGate>(rt, &FreeGate) };
     let Election { roll, ballots } = election;
-    let candidates = roll.candidates();
-    let plans = plans_of(alloc, ballots)?;
-    let Ok(mut spread) = PlanSpread::<9, _>::begin(alloc, plans, candidates, 1, run) else {
-        return Err(NoMemory);
+    let crew = Crew {
+        rt,
+        alloc,
+        gate: &FreeGate,
+        shards: 1,
+        workers: 1,
     };
-    difference_from_count(alloc, bytes, &roll, lots, &mut spread)
-}
-
-/// All these ballots as one plan. Each line is let go as the plan's share has it.
-fn plans_of(alloc: Global, ballots: Ballots) -> Result<Plans, NoMemory>
-    requires candidates { (1 ≤ ballots.candidates) × (ballots.candidates ≤ MOST_CANDIDATES) }
-    ensures candidates { IfOk result (All (λ plan. plan.candidates ≡ ballots.candidates)) }
-    ensures ballots { IfOk result (λ plans. IsPermutation (all_ballots plans) (plain ballots.lines)) }
-    ensures few { IfOk result (λ plans. length (all_ballots plans) ≤ MOST_BALLOTS) }
-{
-    match Plans::dealt(alloc, ballots, 1) {
-        Ok(plans) => Ok(plans),
-        Err(_) => Err(NoMemory),
-    }
-}
-
-/// The first line in which a text differs from the sheet of the ballots that a distribution holds.
-fn difference_from_count<D: Spread<9>>(
-    alloc: Global,
-    bytes: &[u8],
-    roll: &Roll,
-    lots: &Lots,
-    spread: &mut D,
-) -> Result<Option<u64>, NoMemory>
-    requires lots_of_all { length lots.now ≡ length roll.now.names }
-    requires rule { D.rule ≡ Meek }
-    requires can { D.can_spread spread.old }
-    requires spread_of_all { D.candidates spread.old ≡ length roll.now.names }
-    requires few { length (D.ballots spread.old) ≤ MOST_BALLOTS }
-    ensures { IfOk result (Compares 9 USUAL_OMEGA (D.ballots spread.old) roll.now lots.now bytes.now) }
-{
-    let omega = Omega::usual();
-    let Ok(mut count) = Count::begin(alloc, roll, lots, Lent { spread }, omega) else {
-        return Err(NoMemory);
-    };
-    Ok(difference_from_sheet_of(&mut count, bytes))
-}
-
-/// The first line in which a text differs from the sheet of a count that was just begun.
-fn difference_from_sheet_of<D: Spread<9>>(
-    count: &mut Count<'_, 9, Lent<'_, D>>,
-    bytes: &[u8],
-) -> Option<u64>
-    requires { HasJustBegun (scale 9) count.old }
-    ensures { DiffersFromSheetOf 9 count.old bytes.now result }
-{
     let mut sink = Comparing::new(bytes);
-    match write_sheet(count, &mut sink) {
-        Ok(()) => sink.difference_from_whole(),
-        Err(_) => Some(sink.difference_from_front()),
+    let omega = Omega::usual();
+    match write_sheet_in_lanes::<9, R, FreeGate, Comparing<'_>>(
+        &crew, ballots, &roll, lots, omega, &mut sink,
+    )? {
+        Ok(()) => Ok(sink.difference_from_whole()),
+        Err(_) => Ok(Some(sink.difference_from_front())),
     }
 }

@@ -1,0 +1,3 @@
+mod BegunCounts
+mod BegunSpreads
+pub mod Sheets
