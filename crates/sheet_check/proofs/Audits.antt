@@ -17,8 +17,9 @@ use Rattle.tool_edge.specs.Tools.{IsContestFile, HaveOneOrder, FilesAreNotRefuse
 use Rattle.tool_edge.specs.Tools.{ContestsAreNotRefused, ContestsAreRefusedOnce}
 use Rattle.blt_reader.specs.Election.{poll}
 use Rattle.sheet_check.specs.Input.{IsSplit}
-use Rattle.sheet_check.specs.Audit.{IsAudit, behind, IsRefusedBehind, EndsInSheet, IsRefusedAudit}
-use Rattle.sheet_check.specs.Audit.{ReadsBehind, OwesVerdict, IsOwedVerdict, audits}
+use Rattle.tool_edge.specs.Contest.{IsRefusedBehind, ReadsBehind, behind}
+use Rattle.sheet_check.specs.Audit.{IsAudit, EndsInSheet, IsRefusedAudit}
+use Rattle.sheet_check.specs.Audit.{OwesVerdict, IsOwedVerdict, audits}
 use Rattle.sheet_check.proofs.Splits.{file_once, sheet_once, front_is_sheet}
 
 -- ---- soundness

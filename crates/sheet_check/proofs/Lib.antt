@@ -3,5 +3,4 @@ mod FirstDifferences
 mod Verdicts
 mod Ends
 mod Splits
-mod Places
 mod Audits

@@ -5,15 +5,12 @@ use Rattle.tool_edge.specs.declared.opening.TheConstants.{FILE_LIMIT}
 use Rattle.plain_ballots.specs.Ballots.{plain}
 use Rattle.input_text.specs.declared.fault_kind.FaultKind.TheVariants.{Ended}
 use Rattle.input_text.specs.declared.input_fault.InputFault.{InputFault}
-use Rattle.input_text.specs.declared.input_stop.InputStop.{InputStop}
-use Rattle.input_text.specs.declared.input_stop.InputStop.TheVariants.{Fault, NoMemory}
 use Rattle.blt_reader.specs.Poll.{Poll}
-use Rattle.tool_edge.specs.declared.contest.Contest.{Contest}
 use Rattle.tool_edge.specs.declared.end.End.{End}
 use Rattle.tool_edge.specs.declared.end.End.TheVariants.{Done}
 use Rattle.tool_edge.specs.Refusals.{file_refusals}
 use Rattle.tool_edge.specs.Words.{TakesLots}
-use Rattle.tool_edge.specs.Contest.{IsRefusedFile, HasBadLots, SaysContest, IsContest}
+use Rattle.tool_edge.specs.Contest.{SaysContest, IsRefusedBehind}
 use Rattle.tool_edge.specs.Tool.{Tool, no_history}
 use Rattle.tool_edge.specs.Tools.{IsContestFile}
 use Rattle.sheet_check.specs.declared.verdict.Verdict.{Verdict}
@@ -29,19 +26,6 @@ IsAudit lots input = (sheet : List ℕ) × (file : List ℕ) × IsSplit input sh
 
 -- ---- what is refused
 
--- a fault of what stands behind so many bytes, at its place in the whole
-abbrev pub behind : ℕ → InputFault → InputFault
-behind before fault = record { kind = fault.kind; at = before + fault.at }
-
-abbrev pub stop_behind : ℕ → InputStop → InputStop
-stop_behind before (Fault fault) = Fault (behind before fault)
-stop_behind before NoMemory = NoMemory
-
--- The file behind so many bytes is refused at its place in the whole, or else the lots at their place in the list.
-abbrev pub IsRefusedBehind : (before : ℕ) → (lots file : List ℕ) → InputFault → Type 0
-IsRefusedBehind before lots file fault =
-    ((of_file : InputFault) × IsRefusedFile file of_file × (fault ≡ behind before of_file)) ⊎ HasBadLots lots file fault
-
 -- No line is `end`, so that the input has ended too early.
 pub record EndsInSheet (input : List ℕ) (fault : InputFault) : Type 0 where
   pub no_end : HasNoEnd input
@@ -52,12 +36,6 @@ abbrev pub IsRefusedAudit : (lots input : List ℕ) → InputFault → Type 0
 IsRefusedAudit lots input fault =
     EndsInSheet input fault
     ⊎ ((sheet : List ℕ) × (file : List ℕ) × IsSplit input sheet file × IsRefusedBehind (length sheet) lots file fault)
-
--- Ok is what the lots and the file say; a fault is why they are refused.
-abbrev pub ReadsBehind : (before : ℕ) → (lots file : List ℕ) → Result Contest InputStop → Type 0
-ReadsBehind before lots file (Ok contest) = IsContest lots file contest
-ReadsBehind before lots file (Err (Fault fault)) = IsRefusedBehind before lots file fault
-ReadsBehind before lots file (Err NoMemory) = Unit {0}
 
 -- ---- what is written
 

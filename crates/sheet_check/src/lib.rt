@@ -7,7 +7,6 @@
 #![tactic(auto)]
 
 mod comparing;
-mod contest_behind;
 mod judging;
 mod laws;
 mod no_memory;

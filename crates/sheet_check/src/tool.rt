@@ -8,7 +8,6 @@ ghost use Rattle.tool_edge.specs.Tool.{IsOwedFor, IsRun, no_history};
 ghost use Rattle.blt_reader.specs.Election.{poll};
 ghost use Rattle.sheet_check.specs.Audit.{audits, IsOwedVerdict};
 
-use crate::contest_behind::contest_behind;
 use crate::judge;
 use crate::split::split;
 use crate::verdict_line::verdict_line;
@@ -62,7 +61,7 @@ fn check_input<R: Threads + Sync, K: Sink>(
         return refuse(sink, ended(input.len()));
     };
     let len = sheet.len();
-    match contest_behind(alloc, len, lots, file) {
+    match Contest::read_behind(alloc, len, lots, file) {
         Ok(contest) => {
             keep_front(&mut input, len);
             write_verdict(rt, alloc, input.as_slice(), contest, sink)

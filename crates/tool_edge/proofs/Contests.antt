@@ -1,12 +1,12 @@
 -- Ballot files and lots that are accepted are not refused.
-use Rattle.std.proofs.Common.{◌≡◌, ℕ, ◌+◌, ◌-◌, ◌<◌, List, ◌∷◌, [], length, take, slice_index, refl, sym, ◌∙◌}
+use Rattle.std.proofs.Common.{◌≡◌, ℕ, ◌-◌, ◌<◌, List, ◌∷◌, [], length, take, slice_index, refl, sym, ◌∙◌}
 use Rattle.std.proofs.Common.{ap, subst, arith, inl, inr, false, length-take}
 use Rattle.std.specs.Prelude.{codes, Ok, Err}
 use Rattle.std.proofs.lemmas.List.{get_or-take, get_or_default}
 use Rattle.lot_order.specs.Lots.{IsOrder, IsLotsStop}
 use Rattle.lot_order.specs.Laws.{HasOneRefusal}
 use Rattle.lot_order.specs.declared.lots_stop.LotsStop.{LotsStop}
-use Rattle.lot_order.specs.declared.lots_stop.LotsStop.TheVariants.{NotAll, Twice, OutOfRange, NoMemory as NoLots}
+use Rattle.lot_order.specs.declared.lots_stop.LotsStop.TheVariants.{NotAll, Twice, OutOfRange}
 use Rattle.input_text.specs.declared.fault_kind.FaultKind.TheVariants.{BadLots}
 use Rattle.input_text.specs.declared.input_fault.InputFault.{InputFault}
 use Rattle.input_text.specs.declared.input_stop.InputStop.{InputStop}
@@ -15,7 +15,7 @@ use Rattle.input_text.specs.Scan.{scan}
 use Rattle.blt_reader.specs.Poll.{Poll}
 use Rattle.blt_reader.specs.Said.{of_a_file, said_by, AcceptsFiles, RefusesByTheRule}
 use Rattle.meek_words.specs.Numerals.{Word, IsLotList, HaveOneLotList}
-use Rattle.tool_edge.specs.Contest.{SaysPoll, IsBadPlace, HasBadLots, ReadsContest, lots_stop}
+use Rattle.tool_edge.specs.Contest.{SaysPoll, IsBadPlace, HasBadLots, lots_stop}
 use Rattle.tool_edge.specs.Tools.{HaveOneOrder, FilesAreNotRefused, FilesAreRefusedOnce}
 use Rattle.tool_edge.specs.Tools.{ContestsAreNotRefused, ContestsAreRefusedOnce}
 
@@ -118,20 +118,3 @@ have_one_order one words lots others (word, is, list) (again, is_again, list_aga
     let same : codes "--lots" ∷ again ∷ [] ≡ codes "--lots" ∷ word ∷ [] = sym is_again ∙ is in
     let w : again ≡ word = cc in
     one word lots others list (subst (λ (v : Word). IsLotList v others) w list_again)
-
--- A file was read, and the lots are not an order of its candidates.
-pub bad_lots :
-    (lots input : List ℕ) (poll : Poll) (stop : LotsStop) (result : InputStop) → SaysPoll input poll
-    → IsLotsStop (length poll.roll.names) lots stop → result ≡ lots_stop (length lots) stop
-    → ReadsContest lots input (Err result)
-bad_lots lots input poll (NotAll c) result file is same =
-    subst (λ (s : InputStop). ReadsContest lots input (Err s)) (sym same)
-    (inr (record { poll = poll; file = file; place = length lots + 1; lots_at = inr (inr (c, is, refl)); fault_is = refl }))
-bad_lots lots input poll (Twice place) result file is same =
-    subst (λ (s : InputStop). ReadsContest lots input (Err s)) (sym same)
-    (inr (record { poll = poll; file = file; place = place; lots_at = inl is; fault_is = refl }))
-bad_lots lots input poll (OutOfRange place) result file is same =
-    subst (λ (s : InputStop). ReadsContest lots input (Err s)) (sym same)
-    (inr (record { poll = poll; file = file; place = place; lots_at = inr (inl is); fault_is = refl }))
-bad_lots lots input poll NoLots result file is same =
-    subst (λ (s : InputStop). ReadsContest lots input (Err s)) (sym same) tt

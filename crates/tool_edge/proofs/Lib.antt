@@ -3,4 +3,5 @@ mod Inputs
 mod Answering
 pub mod Running
 mod Contests
+mod Places
 mod WordLemmas

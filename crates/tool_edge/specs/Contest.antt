@@ -66,3 +66,24 @@ abbrev pub ReadsContest : (lots input : List ℕ) → Result Contest InputStop �
 ReadsContest lots input (Ok contest) = IsContest lots input contest
 ReadsContest lots input (Err (Fault fault)) = IsRefusedContest lots input fault
 ReadsContest lots input (Err NoMemory) = Unit {0}
+
+-- ---- a file behind other bytes
+
+-- a fault of what stands behind so many bytes, at its place in the whole
+abbrev pub behind : ℕ → InputFault → InputFault
+behind before fault = record { kind = fault.kind; at = before + fault.at }
+
+abbrev pub stop_behind : ℕ → InputStop → InputStop
+stop_behind before (Fault fault) = Fault (behind before fault)
+stop_behind before NoMemory = NoMemory
+
+-- The file behind so many bytes is refused at its place in the whole, or else the lots at their place in the list.
+abbrev pub IsRefusedBehind : (before : ℕ) → (lots file : List ℕ) → InputFault → Type 0
+IsRefusedBehind before lots file fault =
+    ((of_file : InputFault) × IsRefusedFile file of_file × (fault ≡ behind before of_file)) ⊎ HasBadLots lots file fault
+
+-- Ok is what the lots and the file say; a fault is why they are refused, at its place in the whole.
+abbrev pub ReadsBehind : (before : ℕ) → (lots file : List ℕ) → Result Contest InputStop → Type 0
+ReadsBehind before lots file (Ok contest) = IsContest lots file contest
+ReadsBehind before lots file (Err (Fault fault)) = IsRefusedBehind before lots file fault
+ReadsBehind before lots file (Err NoMemory) = Unit {0}

@@ -1,6 +1,6 @@
 -- Tools over ballot files, and tools over words alone.
 use Rattle.std.specs.Prelude.{◌≡◌, ℕ, List, Some, None}
-use Rattle.tool_edge.specs.declared.opening.TheConstants.{DAY_LIMIT, FILE_LIMIT}
+use Rattle.tool_edge.specs.declared.opening.TheConstants.{FILE_LIMIT}
 use Rattle.input_text.specs.declared.input_fault.InputFault.{InputFault}
 use Rattle.blt_reader.specs.Poll.{Poll}
 use Rattle.meek_words.specs.Numerals.{Word}

@@ -14,6 +14,7 @@ use Rattle.input_text.specs.Scan.{Lexeme, Wrong, Unclosed, number_piece, minus_p
 use Rattle.input_text.specs.Scan.{word_piece, piece, beginning, cut, mark_len, scan}
 use Rattle.blt_reader.specs.Said.{of_a_file, IsFileRefusal}
 use Rattle.input_text.specs.Reads.{OnFault}
+use Rattle.tool_edge.specs.declared.opening.TheConstants.{FILE_LIMIT}
 use Rattle.tool_edge.specs.Contest.{IsRefusedFile}
 
 -- ---- one piece
@@ -147,7 +148,7 @@ file_refusal_near file fault refused =
 
 -- so there is room for its place in the whole
 pub room_for_place :
-    (before : ℕ) (file : List ℕ) (stop : InputStop) → before + length file ≤ 67108864
-    → OnFault stop (λ fault. IsRefusedFile file fault) → OnFault stop (λ fault. before + fault.at ≤ 67108866)
+    (before : ℕ) (file : List ℕ) (stop : InputStop) → before + length file ≤ FILE_LIMIT
+    → OnFault stop (λ fault. IsRefusedFile file fault) → OnFault stop (λ fault. before + fault.at ≤ FILE_LIMIT + 2)
 room_for_place before file (Fault fault) short refused = omega (arith, short, file_refusal_near file fault refused)
 room_for_place before file NoMemory short refused = tt
