@@ -1,3 +1,3 @@
 mod BegunCounts
 mod BegunSpreads
-pub mod Sheets
+mod Sheets
