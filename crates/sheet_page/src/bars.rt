@@ -29,7 +29,7 @@ pub(crate) fn write_bars<K: Sink>(
 )
     requires printable { IsPrintable 9 values.now }
     requires room { HasRoomFor (length values.now.names) row.now }
-    ensures { Prints K.written K.faults pen.old pen.new
+    ensures { Prints K.Sink pen.old pen.new
         (print_each (bar values.now full row.now) (places (length values.now.names))) }
 {
     for p in 0..values.names.len() {
@@ -42,7 +42,7 @@ fn write_bar<K: Sink>(pen: &mut Pen<'_, K>, values: &SheetValues, full: u64, row
     requires printable { IsPrintable 9 values.now }
     requires room { HasRoomFor (length values.now.names) row.now }
     requires place { p < length values.now.names }
-    ensures { Prints K.written K.faults pen.old pen.new (printed (bar values.now full row.now p)) }
+    ensures { Prints K.Sink pen.old pen.new (printed (bar values.now full row.now p)) }
 {
     write_label_at(pen, values, row, p);
     write_rectangle_at(pen, full, row, p);
@@ -53,7 +53,7 @@ fn write_label_at<K: Sink>(pen: &mut Pen<'_, K>, values: &SheetValues, row: &Row
     requires printable { IsPrintable 9 values.now }
     requires room { HasRoomFor (length values.now.names) row.now }
     requires place { p < length values.now.names }
-    ensures { Prints K.written K.faults pen.old pen.new (printed (label_at values.now row.now p)) }
+    ensures { Prints K.Sink pen.old pen.new (printed (label_at values.now row.now p)) }
 {
     let state = state_word(state_after(row, p));
     let name = values.names.get(p).bytes();
@@ -65,7 +65,7 @@ fn write_rectangle_at<K: Sink>(pen: &mut Pen<'_, K>, full: u64, row: &Row<9>, p:
     requires room { HasRoomFor (length row.now.states) row.now }
     requires few { length row.now.states ≤ MOST_CANDIDATES }
     requires place { p < length row.now.states }
-    ensures { Prints K.written K.faults pen.old pen.new (printed (rectangle_at full row.now p)) }
+    ensures { Prints K.Sink pen.old pen.new (printed (rectangle_at full row.now p)) }
 {
     let state = state_word(state_after(row, p));
     let length = scaled(full, *row.votes.get(p));
@@ -80,7 +80,7 @@ fn write_label<'x, K: Sink>(
     state: &'x [u8],
     vote: Amount<9>,
 )
-    ensures { Prints K.written K.faults pen.old pen.new (printed (label y name.now state.now vote)) }
+    ensures { Prints K.Sink pen.old pen.new (printed (label y name.now state.now vote)) }
 {
     pen.write(&[
         Piece::Begin(b"text"),
@@ -98,7 +98,7 @@ fn write_label<'x, K: Sink>(
 
 /// A bar, so many points down and so many long.
 fn write_rectangle<K: Sink>(pen: &mut Pen<'_, K>, y: u64, length: u64, state: &[u8])
-    ensures { Prints K.written K.faults pen.old pen.new (printed (rectangle y length state.now)) }
+    ensures { Prints K.Sink pen.old pen.new (printed (rectangle y length state.now)) }
 {
     pen.write(&[
         Piece::Begin(b"rect"),

@@ -33,7 +33,7 @@ pub(crate) fn write_csv<K: Sink>(values: &SheetValues, sink: &mut K) -> Result<(
 
 /// The names of the columns.
 fn write_head<K: Sink>(pen: &mut Pen<'_, K>)
-    ensures { Prints K.written K.faults pen.old pen.new (record_text csv_head) }
+    ensures { Prints K.Sink pen.old pen.new (record_text csv_head) }
 {
     pen.record(
         &Cell::Bytes(b"round"),
@@ -62,7 +62,7 @@ fn write_row<K: Sink>(pen: &mut Pen<'_, K>, values: &SheetValues, row: &Row<9>)
     requires room { HasRoomFor (length values.now.names) row.now }
     requires outcomes { length values.now.last ≡ length values.now.names }
     requires few { length values.now.names ≤ MOST_CANDIDATES }
-    ensures { Prints K.written K.faults pen.old pen.new
+    ensures { Prints K.Sink pen.old pen.new
         (flat_map (λ p. record_text (csv_record values.now row.now p)) (places (length values.now.names))) }
 {
     for p in 0..values.names.len() {
@@ -76,7 +76,7 @@ fn write_line<K: Sink>(pen: &mut Pen<'_, K>, values: &SheetValues, row: &Row<9>,
     requires outcomes { length values.now.last ≡ length values.now.names }
     requires few { length values.now.names ≤ MOST_CANDIDATES }
     requires place { p < length values.now.names }
-    ensures { Prints K.written K.faults pen.old pen.new (record_text (csv_record values.now row.now p)) }
+    ensures { Prints K.Sink pen.old pen.new (record_text (csv_record values.now row.now p)) }
 {
     let name = values.names.get(p).bytes();
     let outcome = state_word(*values.last.get(p));

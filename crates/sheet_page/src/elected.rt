@@ -21,7 +21,7 @@ use sheet_reader::SheetValues;
 /// The part of a page that lists who is elected.
 pub(crate) fn write_elected<K: Sink>(pen: &mut Pen<'_, K>, values: &SheetValues)
     requires printable { IsPrintable 9 values.now }
-    ensures { Prints K.written K.faults pen.old pen.new (printed (elected_part values.now)) }
+    ensures { Prints K.Sink pen.old pen.new (printed (elected_part values.now)) }
 {
     pen.open(b"section");
     write_title(pen);
@@ -30,7 +30,7 @@ pub(crate) fn write_elected<K: Sink>(pen: &mut Pen<'_, K>, values: &SheetValues)
 }
 
 fn write_title<K: Sink>(pen: &mut Pen<'_, K>)
-    ensures { Prints K.written K.faults pen.old pen.new (printed elected_title) }
+    ensures { Prints K.Sink pen.old pen.new (printed elected_title) }
 {
     pen.write(&[
         Piece::Start(b"h2"),
@@ -42,7 +42,7 @@ fn write_title<K: Sink>(pen: &mut Pen<'_, K>)
 /// All who are elected, each once.
 fn write_list<K: Sink>(pen: &mut Pen<'_, K>, values: &SheetValues)
     requires printable { IsPrintable 9 values.now }
-    ensures { Prints K.written K.faults pen.old pen.new (printed (elected_list values.now)) }
+    ensures { Prints K.Sink pen.old pen.new (printed (elected_list values.now)) }
 {
     pen.open(b"ol");
     write_elected_rows(pen, values);
@@ -53,7 +53,7 @@ fn write_list<K: Sink>(pen: &mut Pen<'_, K>, values: &SheetValues)
 /// Who was elected in the iterations, one after another.
 fn write_elected_rows<K: Sink>(pen: &mut Pen<'_, K>, values: &SheetValues)
     requires printable { IsPrintable 9 values.now }
-    ensures { Prints K.written K.faults pen.old pen.new (print_each (elected_in values.now) values.now.rows) }
+    ensures { Prints K.Sink pen.old pen.new (print_each (elected_in values.now) values.now.rows) }
 {
     for row in values.rows.items() {
         write_elected_in(pen, values, row);
@@ -64,7 +64,7 @@ fn write_elected_rows<K: Sink>(pen: &mut Pen<'_, K>, values: &SheetValues)
 fn write_elected_in<K: Sink>(pen: &mut Pen<'_, K>, values: &SheetValues, row: &Row<9>)
     requires room { HasRoomFor (length values.now.names) row.now }
     requires few { length values.now.names ≤ MOST_CANDIDATES }
-    ensures { Prints K.written K.faults pen.old pen.new
+    ensures { Prints K.Sink pen.old pen.new
         (print_each (elected_item values.now row.now) (places (length values.now.names))) }
 {
     for p in 0..values.names.len() {
@@ -77,7 +77,7 @@ fn write_elected_item<K: Sink>(pen: &mut Pen<'_, K>, values: &SheetValues, row: 
     requires room { HasRoomFor (length values.now.names) row.now }
     requires few { length values.now.names ≤ MOST_CANDIDATES }
     requires place { p < length values.now.names }
-    ensures { Prints K.written K.faults pen.old pen.new (printed (elected_item values.now row.now p)) }
+    ensures { Prints K.Sink pen.old pen.new (printed (elected_item values.now row.now p)) }
 {
     if *row.elected.get(p) {
         write_in_round(pen, values.names.get(p).bytes(), row.round);
@@ -86,7 +86,7 @@ fn write_elected_item<K: Sink>(pen: &mut Pen<'_, K>, values: &SheetValues, row: 
 
 /// Somebody whom an iteration elected.
 fn write_in_round<K: Sink>(pen: &mut Pen<'_, K>, name: &[u8], round: u32)
-    ensures { Prints K.written K.faults pen.old pen.new (printed (in_round name.now round)) }
+    ensures { Prints K.Sink pen.old pen.new (printed (in_round name.now round)) }
 {
     pen.write(&[
         Piece::Start(b"li"),
@@ -100,7 +100,7 @@ fn write_in_round<K: Sink>(pen: &mut Pen<'_, K>, name: &[u8], round: u32)
 /// Who is elected in the end, and was in no iteration.
 fn write_seated<K: Sink>(pen: &mut Pen<'_, K>, values: &SheetValues)
     requires printable { IsPrintable 9 values.now }
-    ensures { Prints K.written K.faults pen.old pen.new
+    ensures { Prints K.Sink pen.old pen.new
         (print_each (seated_item values.now) (places (length values.now.names))) }
 {
     for p in 0..values.names.len() {
@@ -112,7 +112,7 @@ fn write_seated<K: Sink>(pen: &mut Pen<'_, K>, values: &SheetValues)
 fn write_seated_item<K: Sink>(pen: &mut Pen<'_, K>, values: &SheetValues, p: usize)
     requires printable { IsPrintable 9 values.now }
     requires place { p < length values.now.names }
-    ensures { Prints K.written K.faults pen.old pen.new (printed (seated_item values.now p)) }
+    ensures { Prints K.Sink pen.old pen.new (printed (seated_item values.now p)) }
 {
     if is_seated(values, p) {
         write_at_end(pen, values.names.get(p).bytes());
@@ -121,7 +121,7 @@ fn write_seated_item<K: Sink>(pen: &mut Pen<'_, K>, values: &SheetValues, p: usi
 
 /// Somebody who is elected to a seat that was left.
 fn write_at_end<K: Sink>(pen: &mut Pen<'_, K>, name: &[u8])
-    ensures { Prints K.written K.faults pen.old pen.new (printed (at_end name.now)) }
+    ensures { Prints K.Sink pen.old pen.new (printed (at_end name.now)) }
 {
     pen.write(&[
         Piece::Start(b"li"),

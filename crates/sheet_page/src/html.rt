@@ -31,7 +31,7 @@ pub(crate) fn write_html<K: Sink>(values: &SheetValues, sink: &mut K) -> Result<
 /// All behind the line that says that it is HTML.
 fn write_page<K: Sink>(pen: &mut Pen<'_, K>, values: &SheetValues)
     requires printable { IsPrintable 9 values.now }
-    ensures { Prints K.written K.faults pen.old pen.new (printed (page values.now)) }
+    ensures { Prints K.Sink pen.old pen.new (printed (page values.now)) }
 {
     pen.start(
         b"html",
@@ -47,7 +47,7 @@ fn write_page<K: Sink>(pen: &mut Pen<'_, K>, values: &SheetValues)
 
 /// What a browser reads and doesn't show in the page.
 fn write_head<K: Sink>(pen: &mut Pen<'_, K>, values: &SheetValues)
-    ensures { Prints K.written K.faults pen.old pen.new (printed (head values.now)) }
+    ensures { Prints K.Sink pen.old pen.new (printed (head values.now)) }
 {
     pen.open(b"head");
     pen.start(
@@ -77,7 +77,7 @@ fn write_head<K: Sink>(pen: &mut Pen<'_, K>, values: &SheetValues)
 
 /// What the window of a browser is called.
 fn write_window_title<K: Sink>(pen: &mut Pen<'_, K>, text: &[u8])
-    ensures { Prints K.written K.faults pen.old pen.new (printed (window_title text.now)) }
+    ensures { Prints K.Sink pen.old pen.new (printed (window_title text.now)) }
 {
     pen.write(&[
         Piece::Start(b"title"),
@@ -87,7 +87,7 @@ fn write_window_title<K: Sink>(pen: &mut Pen<'_, K>, text: &[u8])
 }
 
 fn write_style<K: Sink>(pen: &mut Pen<'_, K>)
-    ensures { Prints K.written K.faults pen.old pen.new (printed style_part) }
+    ensures { Prints K.Sink pen.old pen.new (printed style_part) }
 {
     pen.write(&[
         Piece::Start(b"style"),
@@ -99,7 +99,7 @@ fn write_style<K: Sink>(pen: &mut Pen<'_, K>)
 /// What is seen of the page.
 fn write_body<K: Sink>(pen: &mut Pen<'_, K>, values: &SheetValues)
     requires printable { IsPrintable 9 values.now }
-    ensures { Prints K.written K.faults pen.old pen.new (printed (body values.now)) }
+    ensures { Prints K.Sink pen.old pen.new (printed (body values.now)) }
 {
     pen.open(b"body");
     write_heading(pen, values);
@@ -111,7 +111,7 @@ fn write_body<K: Sink>(pen: &mut Pen<'_, K>, values: &SheetValues)
 
 /// The title of the election, and the numbers of seats and ballots.
 fn write_heading<K: Sink>(pen: &mut Pen<'_, K>, values: &SheetValues)
-    ensures { Prints K.written K.faults pen.old pen.new (printed (heading values.now)) }
+    ensures { Prints K.Sink pen.old pen.new (printed (heading values.now)) }
 {
     pen.write(&[
         Piece::Start(b"h1"),

@@ -22,7 +22,7 @@ use sheet_reader::SheetValues;
 pub(crate) fn write_folded<K: Sink>(pen: &mut Pen<'_, K>, values: &SheetValues, last: usize)
     requires printable { IsPrintable 9 values.now }
     requires place { last < length values.now.rows }
-    ensures { Prints K.written K.faults pen.old pen.new (printed (folded values.now last)) }
+    ensures { Prints K.Sink pen.old pen.new (printed (folded values.now last)) }
 {
     let row = values.rows.get(last);
     pen.open(b"details");
@@ -33,7 +33,7 @@ pub(crate) fn write_folded<K: Sink>(pen: &mut Pen<'_, K>, values: &SheetValues, 
 
 /// What is seen of iterations that are folded away.
 fn write_summary<K: Sink>(pen: &mut Pen<'_, K>, round: u32)
-    ensures { Prints K.written K.faults pen.old pen.new (printed (summary round)) }
+    ensures { Prints K.Sink pen.old pen.new (printed (summary round)) }
 {
     pen.write(&[
         Piece::Start(b"summary"),
@@ -47,7 +47,7 @@ fn write_summary<K: Sink>(pen: &mut Pen<'_, K>, round: u32)
 fn write_iterations<K: Sink>(pen: &mut Pen<'_, K>, values: &SheetValues, last: usize)
     requires printable { IsPrintable 9 values.now }
     requires place { last < length values.now.rows }
-    ensures { Prints K.written K.faults pen.old pen.new (printed (iterations values.now last)) }
+    ensures { Prints K.Sink pen.old pen.new (printed (iterations values.now last)) }
 {
     pen.open(b"table");
     write_columns(pen);
@@ -56,7 +56,7 @@ fn write_iterations<K: Sink>(pen: &mut Pen<'_, K>, values: &SheetValues, last: u
 }
 
 fn write_columns<K: Sink>(pen: &mut Pen<'_, K>)
-    ensures { Prints K.written K.faults pen.old pen.new (printed columns) }
+    ensures { Prints K.Sink pen.old pen.new (printed columns) }
 {
     pen.write(&[
         Piece::Start(b"tr"),
@@ -80,8 +80,7 @@ fn write_columns<K: Sink>(pen: &mut Pen<'_, K>)
 fn write_iterations_of<K: Sink>(pen: &mut Pen<'_, K>, values: &SheetValues, last: usize)
     requires printable { IsPrintable 9 values.now }
     requires place { last < length values.now.rows }
-    ensures { Prints K.written K.faults pen.old pen.new
-        (print_each (iteration_at values.now last) (places (last + 1))) }
+    ensures { Prints K.Sink pen.old pen.new (print_each (iteration_at values.now last) (places (last + 1))) }
 {
     let first = first_of(values.rows.items(), last);
     for i in first..last + 1 {
@@ -93,8 +92,7 @@ fn write_iterations_of<K: Sink>(pen: &mut Pen<'_, K>, values: &SheetValues, last
 fn write_iteration_at<K: Sink>(pen: &mut Pen<'_, K>, values: &SheetValues, i: usize)
     requires printable { IsPrintable 9 values.now }
     requires place { i < length values.now.rows }
-    ensures { Prints K.written K.faults pen.old pen.new
-        (printed (iteration values.now (row_at values.now.rows i))) }
+    ensures { Prints K.Sink pen.old pen.new (printed (iteration values.now (row_at values.now.rows i))) }
 {
     write_iteration(pen, values, values.rows.get(i));
 }
@@ -103,7 +101,7 @@ fn write_iteration_at<K: Sink>(pen: &mut Pen<'_, K>, values: &SheetValues, i: us
 fn write_iteration<K: Sink>(pen: &mut Pen<'_, K>, values: &SheetValues, row: &Row<9>)
     requires printable { IsPrintable 9 values.now }
     requires room { HasRoomFor (length values.now.names) row.now }
-    ensures { Prints K.written K.faults pen.old pen.new (printed (iteration values.now row.now)) }
+    ensures { Prints K.Sink pen.old pen.new (printed (iteration values.now row.now)) }
 {
     pen.open(b"tbody");
     write_iteration_head(pen, row);
@@ -113,7 +111,7 @@ fn write_iteration<K: Sink>(pen: &mut Pen<'_, K>, values: &SheetValues, row: &Ro
 
 /// The line of an iteration.
 fn write_iteration_head<K: Sink>(pen: &mut Pen<'_, K>, row: &Row<9>)
-    ensures { Prints K.written K.faults pen.old pen.new (printed (iteration_head row.now)) }
+    ensures { Prints K.Sink pen.old pen.new (printed (iteration_head row.now)) }
 {
     let step = step_word(row.step);
     write_iteration_line(pen, row.iteration, row.total, row.quota, row.surplus, step);
@@ -128,7 +126,7 @@ fn write_iteration_line<K: Sink>(
     surplus: Amount<9>,
     step: &[u8],
 )
-    ensures { Prints K.written K.faults pen.old pen.new
+    ensures { Prints K.Sink pen.old pen.new
         (printed (iteration_line iteration total quota surplus step.now)) }
 {
     pen.write(&[
@@ -155,7 +153,7 @@ fn write_iteration_line<K: Sink>(
 fn write_standings<K: Sink>(pen: &mut Pen<'_, K>, values: &SheetValues, row: &Row<9>)
     requires printable { IsPrintable 9 values.now }
     requires room { HasRoomFor (length values.now.names) row.now }
-    ensures { Prints K.written K.faults pen.old pen.new
+    ensures { Prints K.Sink pen.old pen.new
         (print_each (standing_at values.now row.now) (places (length values.now.names))) }
 {
     for p in 0..values.names.len() {
@@ -168,7 +166,7 @@ fn write_standing_at<K: Sink>(pen: &mut Pen<'_, K>, values: &SheetValues, row: &
     requires printable { IsPrintable 9 values.now }
     requires room { HasRoomFor (length values.now.names) row.now }
     requires place { p < length values.now.names }
-    ensures { Prints K.written K.faults pen.old pen.new (printed (standing_at values.now row.now p)) }
+    ensures { Prints K.Sink pen.old pen.new (printed (standing_at values.now row.now p)) }
 {
     let state = state_word(*row.states.get(p));
     let name = values.names.get(p).bytes();
@@ -184,7 +182,7 @@ fn write_standing<'x, K: Sink>(
     keep: Amount<9>,
     vote: Amount<9>,
 )
-    ensures { Prints K.written K.faults pen.old pen.new (printed (standing name.now state.now keep vote)) }
+    ensures { Prints K.Sink pen.old pen.new (printed (standing name.now state.now keep vote)) }
 {
     pen.write(&[
         Piece::Start(b"tr"),

@@ -33,7 +33,7 @@ pub(crate) fn write_json<K: Sink>(values: &SheetValues, sink: &mut K) -> Result<
 
 /// Title and numbers, up to the list of candidates.
 fn write_head<K: Sink>(pen: &mut Pen<'_, K>, values: &SheetValues)
-    ensures { Prints K.written K.faults pen.old pen.new (head_json values.now) }
+    ensures { Prints K.Sink pen.old pen.new (head_json values.now) }
 {
     pen.write(&[
         Piece::Raw(b"{\"title\":"),
@@ -50,7 +50,7 @@ fn write_head<K: Sink>(pen: &mut Pen<'_, K>, values: &SheetValues)
 fn write_candidates<K: Sink>(pen: &mut Pen<'_, K>, values: &SheetValues)
     requires outcomes { length values.now.last ≡ length values.now.names }
     requires few { length values.now.names ≤ MOST_CANDIDATES }
-    ensures { Prints K.written K.faults pen.old pen.new
+    ensures { Prints K.Sink pen.old pen.new
         (flat_map (candidate_json values.now) (places (length values.now.names))) }
 {
     for p in 0..values.names.len() {
@@ -63,7 +63,7 @@ fn write_candidate<K: Sink>(pen: &mut Pen<'_, K>, values: &SheetValues, p: usize
     requires outcomes { length values.now.last ≡ length values.now.names }
     requires few { length values.now.names ≤ MOST_CANDIDATES }
     requires place { p < length values.now.names }
-    ensures { Prints K.written K.faults pen.old pen.new (candidate_json values.now p) }
+    ensures { Prints K.Sink pen.old pen.new (candidate_json values.now p) }
 {
     let name = values.names.get(p).bytes();
     let outcome = state_word(*values.last.get(p));
@@ -81,7 +81,7 @@ fn write_candidate<K: Sink>(pen: &mut Pen<'_, K>, values: &SheetValues, p: usize
 
 fn write_iterations<K: Sink>(pen: &mut Pen<'_, K>, values: &SheetValues)
     requires { IsPrintable 9 values.now }
-    ensures { Prints K.written K.faults pen.old pen.new
+    ensures { Prints K.Sink pen.old pen.new
         (flat_map (iteration_at values.now) (places (length values.now.rows))) }
 {
     for i in 0..values.rows.len() {
@@ -93,7 +93,7 @@ fn write_iterations<K: Sink>(pen: &mut Pen<'_, K>, values: &SheetValues)
 fn write_iteration<K: Sink>(pen: &mut Pen<'_, K>, i: usize, row: &Row<9>)
     requires room { HasRoomFor (length row.now.states) row.now }
     requires few { length row.now.states ≤ MOST_CANDIDATES }
-    ensures { Prints K.written K.faults pen.old pen.new (iteration_json i row.now) }
+    ensures { Prints K.Sink pen.old pen.new (iteration_json i row.now) }
 {
     write_amounts(pen, i, row);
     write_standings(pen, row);
@@ -102,7 +102,7 @@ fn write_iteration<K: Sink>(pen: &mut Pen<'_, K>, i: usize, row: &Row<9>)
 
 /// Numbers, amounts and step of an iteration, up to its list of candidates.
 fn write_amounts<K: Sink>(pen: &mut Pen<'_, K>, i: usize, row: &Row<9>)
-    ensures { Prints K.written K.faults pen.old pen.new (amounts_json i row.now) }
+    ensures { Prints K.Sink pen.old pen.new (amounts_json i row.now) }
 {
     pen.write(&[
         Piece::Raw(comma_at(i)),
@@ -126,7 +126,7 @@ fn write_amounts<K: Sink>(pen: &mut Pen<'_, K>, i: usize, row: &Row<9>)
 fn write_standings<K: Sink>(pen: &mut Pen<'_, K>, row: &Row<9>)
     requires room { HasRoomFor (length row.now.states) row.now }
     requires few { length row.now.states ≤ MOST_CANDIDATES }
-    ensures { Prints K.written K.faults pen.old pen.new
+    ensures { Prints K.Sink pen.old pen.new
         (flat_map (standing_json row.now) (places (length row.now.states))) }
 {
     for p in 0..row.states.len() {
@@ -139,7 +139,7 @@ fn write_standing<K: Sink>(pen: &mut Pen<'_, K>, row: &Row<9>, p: usize)
     requires room { HasRoomFor (length row.now.states) row.now }
     requires few { length row.now.states ≤ MOST_CANDIDATES }
     requires place { p < length row.now.states }
-    ensures { Prints K.written K.faults pen.old pen.new (standing_json row.now p) }
+    ensures { Prints K.Sink pen.old pen.new (standing_json row.now p) }
 {
     write_vote(pen, row, p);
     let elected = truth(*row.elected.get(p));
@@ -155,7 +155,7 @@ fn write_vote<K: Sink>(pen: &mut Pen<'_, K>, row: &Row<9>, p: usize)
     requires room { HasRoomFor (length row.now.states) row.now }
     requires place { p < length row.now.states }
     requires few { length row.now.states ≤ MOST_CANDIDATES }
-    ensures { Prints K.written K.faults pen.old pen.new (vote_json row.now p) }
+    ensures { Prints K.Sink pen.old pen.new (vote_json row.now p) }
 {
     let state = state_word(*row.states.get(p));
     let keep = kept_of_one(*row.keeps.get(p));
@@ -174,7 +174,7 @@ fn write_vote<K: Sink>(pen: &mut Pen<'_, K>, row: &Row<9>, p: usize)
 
 /// The marks of who is elected and whose keep value is capped.
 fn write_won<'x, K: Sink>(pen: &mut Pen<'_, K>, elected: &'x [u8], capped: &'x [u8])
-    ensures { Prints K.written K.faults pen.old pen.new (won_json elected.now capped.now) }
+    ensures { Prints K.Sink pen.old pen.new (won_json elected.now capped.now) }
 {
     pen.write(&[
         Piece::Raw(b",\"elected\":"),
@@ -186,7 +186,7 @@ fn write_won<'x, K: Sink>(pen: &mut Pen<'_, K>, elected: &'x [u8], capped: &'x [
 
 /// The marks of who is tied and who is defeated.
 fn write_lost<'x, K: Sink>(pen: &mut Pen<'_, K>, tied: &'x [u8], defeated: &'x [u8])
-    ensures { Prints K.written K.faults pen.old pen.new (lost_json tied.now defeated.now) }
+    ensures { Prints K.Sink pen.old pen.new (lost_json tied.now defeated.now) }
 {
     pen.write(&[
         Piece::Raw(b",\"tied\":"),

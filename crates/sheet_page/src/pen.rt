@@ -45,7 +45,7 @@ impl<'s, K: Sink> Pen<'s, K> {
 
     /// Writes some pieces.
     pub(crate) fn write(&mut self, pieces: &[Piece<'_>])
-        ensures { Prints K.written K.faults self.old self.new (flat_map piece_text pieces.now) }
+        ensures { Prints K.Sink self.old self.new (flat_map piece_text pieces.now) }
     {
         for piece in pieces {
             self.piece(piece);
@@ -54,7 +54,7 @@ impl<'s, K: Sink> Pen<'s, K> {
 
     /// Writes a piece, if all before it was written.
     pub(crate) fn piece(&mut self, piece: &Piece<'_>)
-        ensures { Prints K.written K.faults self.old self.new (piece_text piece.now) }
+        ensures { Prints K.Sink self.old self.new (piece_text piece.now) }
     {
         if let Ok(()) = self.done {
             self.done = write_piece(piece, self.sink);
@@ -63,7 +63,7 @@ impl<'s, K: Sink> Pen<'s, K> {
 
     /// Writes the start of an element with attributes.
     pub(crate) fn start(&mut self, name: &[u8], attributes: &[Attribute<'_>])
-        ensures { Prints K.written K.faults self.old self.new (opening name.now (given attributes.now)) }
+        ensures { Prints K.Sink self.old self.new (opening name.now (given attributes.now)) }
     {
         if let Ok(()) = self.done {
             self.done = write_start(name, attributes, self.sink);
@@ -72,22 +72,21 @@ impl<'s, K: Sink> Pen<'s, K> {
 
     /// Writes the start of an element without attributes.
     pub(crate) fn open(&mut self, name: &[u8])
-        ensures { Prints K.written K.faults self.old self.new (opening name.now []) }
+        ensures { Prints K.Sink self.old self.new (opening name.now []) }
     {
         self.start(name, &[]);
     }
 
     /// Writes the end of an element.
     pub(crate) fn close(&mut self, name: &[u8])
-        ensures { Prints K.written K.faults self.old self.new (closing name.now) }
+        ensures { Prints K.Sink self.old self.new (closing name.now) }
     {
         self.piece(&Piece::End(name));
     }
 
     /// Writes a record of a spreadsheet, which has at least one field.
     pub(crate) fn record(&mut self, first: &Cell<'_>, others: &[Cell<'_>])
-        ensures { Prints K.written K.faults self.old self.new
-            (record_text (map cell_text (first.now ∷ others.now))) }
+        ensures { Prints K.Sink self.old self.new (record_text (map cell_text (first.now ∷ others.now))) }
     {
         self.field(first);
         for other in others {
@@ -98,7 +97,7 @@ impl<'s, K: Sink> Pen<'s, K> {
 
     /// Writes a further field of a record.
     fn behind_comma(&mut self, cell: &Cell<'_>)
-        ensures { Prints K.written K.faults self.old self.new (behind_comma (cell_text cell.now)) }
+        ensures { Prints K.Sink self.old self.new (behind_comma (cell_text cell.now)) }
     {
         self.piece(&Piece::Raw(b","));
         self.field(cell);
@@ -106,7 +105,7 @@ impl<'s, K: Sink> Pen<'s, K> {
 
     /// Writes a field of a record.
     fn field(&mut self, cell: &Cell<'_>)
-        ensures { Prints K.written K.faults self.old self.new (field_text (cell_text cell.now)) }
+        ensures { Prints K.Sink self.old self.new (field_text (cell_text cell.now)) }
     {
         if let Ok(()) = self.done {
             self.done = write_cell_field(cell, self.sink);

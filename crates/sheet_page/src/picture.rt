@@ -28,7 +28,7 @@ pub(crate) fn write_round_picture<K: Sink>(
 )
     requires printable { IsPrintable 9 values.now }
     requires room { HasRoomFor (length values.now.names) row.now }
-    ensures { Prints K.written K.faults pen.old pen.new (printed (round_picture values.now full row.now)) }
+    ensures { Prints K.Sink pen.old pen.new (printed (round_picture values.now full row.now)) }
 {
     write_amounts(pen, values, row);
     write_picture(pen, values, full, row);
@@ -37,7 +37,7 @@ pub(crate) fn write_round_picture<K: Sink>(
 /// The quota of a round, and the votes on no candidate.
 fn write_amounts<K: Sink>(pen: &mut Pen<'_, K>, values: &SheetValues, row: &Row<9>)
     requires { IsPrintable 9 values.now }
-    ensures { Prints K.written K.faults pen.old pen.new (printed (amounts_of values.now.ballots row.now)) }
+    ensures { Prints K.Sink pen.old pen.new (printed (amounts_of values.now.ballots row.now)) }
 {
     let left = left_over(values.ballots, row.total);
     write_amounts_text(pen, row.quota, left);
@@ -45,7 +45,7 @@ fn write_amounts<K: Sink>(pen: &mut Pen<'_, K>, values: &SheetValues, row: &Row<
 
 /// Both amounts as a sentence.
 fn write_amounts_text<K: Sink>(pen: &mut Pen<'_, K>, quota: Amount<9>, left: Amount<9>)
-    ensures { Prints K.written K.faults pen.old pen.new (printed (amounts_text quota left)) }
+    ensures { Prints K.Sink pen.old pen.new (printed (amounts_text quota left)) }
 {
     pen.write(&[
         Piece::Start(b"p"),
@@ -62,7 +62,7 @@ fn write_amounts_text<K: Sink>(pen: &mut Pen<'_, K>, quota: Amount<9>, left: Amo
 fn write_picture<K: Sink>(pen: &mut Pen<'_, K>, values: &SheetValues, full: u64, row: &Row<9>)
     requires printable { IsPrintable 9 values.now }
     requires room { HasRoomFor (length values.now.names) row.now }
-    ensures { Prints K.written K.faults pen.old pen.new (printed (picture values.now full row.now)) }
+    ensures { Prints K.Sink pen.old pen.new (printed (picture values.now full row.now)) }
 {
     write_start(pen, values);
     write_title(pen, row.round);
@@ -74,7 +74,7 @@ fn write_picture<K: Sink>(pen: &mut Pen<'_, K>, values: &SheetValues, full: u64,
 /// The start of the picture, with room for the bars of all candidates.
 fn write_start<K: Sink>(pen: &mut Pen<'_, K>, values: &SheetValues)
     requires few { length values.now.names ≤ MOST_CANDIDATES }
-    ensures { Prints K.written K.faults pen.old pen.new
+    ensures { Prints K.Sink pen.old pen.new
         (opening (codes "svg") (picture_attributes (length values.now.names))) }
 {
     let view = view_box(values.names.len());
@@ -95,7 +95,7 @@ fn view_box(bars: usize) -> Line
 
 /// The start of a picture that shows this part of the plane.
 fn write_start_of<K: Sink>(pen: &mut Pen<'_, K>, view: &[u8])
-    ensures { Prints K.written K.faults pen.old pen.new (opening (codes "svg") (attributes_of view.now)) }
+    ensures { Prints K.Sink pen.old pen.new (opening (codes "svg") (attributes_of view.now)) }
 {
     pen.write(&[
         Piece::Begin(b"svg"),
@@ -107,7 +107,7 @@ fn write_start_of<K: Sink>(pen: &mut Pen<'_, K>, view: &[u8])
 
 /// What is told to who doesn't see the picture.
 fn write_title<K: Sink>(pen: &mut Pen<'_, K>, round: u32)
-    ensures { Prints K.written K.faults pen.old pen.new (printed (picture_title round)) }
+    ensures { Prints K.Sink pen.old pen.new (printed (picture_title round)) }
 {
     pen.write(&[
         Piece::Start(b"title"),
@@ -123,7 +123,7 @@ fn write_title<K: Sink>(pen: &mut Pen<'_, K>, round: u32)
 /// The quota of a round as a line; `full` units have the whole width.
 fn write_quota<K: Sink>(pen: &mut Pen<'_, K>, values: &SheetValues, full: u64, row: &Row<9>)
     requires few { length values.now.names ≤ MOST_CANDIDATES }
-    ensures { Prints K.written K.faults pen.old pen.new
+    ensures { Prints K.Sink pen.old pen.new
         (printed (quota_line (scaled full row.now.quota) (length values.now.names))) }
 {
     write_quota_line(pen, scaled(full, row.quota), values.names.len());
@@ -132,7 +132,7 @@ fn write_quota<K: Sink>(pen: &mut Pen<'_, K>, values: &SheetValues, full: u64, r
 /// A line down over so many bars, so many points from the left.
 fn write_quota_line<K: Sink>(pen: &mut Pen<'_, K>, x: u64, bars: usize)
     requires few { bars ≤ MOST_CANDIDATES }
-    ensures { Prints K.written K.faults pen.old pen.new (printed (quota_line x bars)) }
+    ensures { Prints K.Sink pen.old pen.new (printed (quota_line x bars)) }
 {
     pen.write(&[
         Piece::Begin(b"line"),

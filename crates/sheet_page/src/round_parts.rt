@@ -19,7 +19,7 @@ use sheet_reader::SheetValues;
 /// Writes the part of each round; `full` units have the whole width of a picture.
 pub(crate) fn write_round_parts<K: Sink>(pen: &mut Pen<'_, K>, values: &SheetValues, full: u64)
     requires printable { IsPrintable 9 values.now }
-    ensures { Prints K.written K.faults pen.old pen.new
+    ensures { Prints K.Sink pen.old pen.new
         (print_each (part_at values.now full) (places (length values.now.rows))) }
 {
     for i in 0..values.rows.len() {
@@ -31,7 +31,7 @@ pub(crate) fn write_round_parts<K: Sink>(pen: &mut Pen<'_, K>, values: &SheetVal
 fn write_part_at<K: Sink>(pen: &mut Pen<'_, K>, values: &SheetValues, full: u64, i: usize)
     requires printable { IsPrintable 9 values.now }
     requires place { i < length values.now.rows }
-    ensures { Prints K.written K.faults pen.old pen.new (printed (part_at values.now full i)) }
+    ensures { Prints K.Sink pen.old pen.new (printed (part_at values.now full i)) }
 {
     if ends_round(values.rows.items(), i) {
         write_round_part(pen, values, full, i);
@@ -42,7 +42,7 @@ fn write_part_at<K: Sink>(pen: &mut Pen<'_, K>, values: &SheetValues, full: u64,
 fn write_round_part<K: Sink>(pen: &mut Pen<'_, K>, values: &SheetValues, full: u64, last: usize)
     requires printable { IsPrintable 9 values.now }
     requires place { last < length values.now.rows }
-    ensures { Prints K.written K.faults pen.old pen.new (printed (round_part values.now full last)) }
+    ensures { Prints K.Sink pen.old pen.new (printed (round_part values.now full last)) }
 {
     let row = values.rows.get(last);
     pen.open(b"section");
@@ -53,7 +53,7 @@ fn write_round_part<K: Sink>(pen: &mut Pen<'_, K>, values: &SheetValues, full: u
 }
 
 fn write_title<K: Sink>(pen: &mut Pen<'_, K>, round: u32)
-    ensures { Prints K.written K.faults pen.old pen.new (printed (round_title round)) }
+    ensures { Prints K.Sink pen.old pen.new (printed (round_title round)) }
 {
     pen.write(&[
         Piece::Start(b"h2"),

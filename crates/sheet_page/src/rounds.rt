@@ -23,7 +23,7 @@ use sheet_reader::SheetValues;
 /// The part of a page that has the table of rounds.
 pub(crate) fn write_rounds<K: Sink>(pen: &mut Pen<'_, K>, values: &SheetValues)
     requires printable { IsPrintable 9 values.now }
-    ensures { Prints K.written K.faults pen.old pen.new (printed (rounds_part values.now)) }
+    ensures { Prints K.Sink pen.old pen.new (printed (rounds_part values.now)) }
 {
     pen.open(b"section");
     write_title(pen);
@@ -32,7 +32,7 @@ pub(crate) fn write_rounds<K: Sink>(pen: &mut Pen<'_, K>, values: &SheetValues)
 }
 
 fn write_title<K: Sink>(pen: &mut Pen<'_, K>)
-    ensures { Prints K.written K.faults pen.old pen.new (printed rounds_title) }
+    ensures { Prints K.Sink pen.old pen.new (printed rounds_title) }
 {
     pen.write(&[
         Piece::Start(b"h2"),
@@ -44,7 +44,7 @@ fn write_title<K: Sink>(pen: &mut Pen<'_, K>)
 /// A line of heads, and a line for each round.
 fn write_table<K: Sink>(pen: &mut Pen<'_, K>, values: &SheetValues)
     requires printable { IsPrintable 9 values.now }
-    ensures { Prints K.written K.faults pen.old pen.new (printed (rounds_table values.now)) }
+    ensures { Prints K.Sink pen.old pen.new (printed (rounds_table values.now)) }
 {
     pen.open(b"table");
     write_head_row(pen, values);
@@ -53,7 +53,7 @@ fn write_table<K: Sink>(pen: &mut Pen<'_, K>, values: &SheetValues)
 }
 
 fn write_head_row<K: Sink>(pen: &mut Pen<'_, K>, values: &SheetValues)
-    ensures { Prints K.written K.faults pen.old pen.new (printed (head_row values.now)) }
+    ensures { Prints K.Sink pen.old pen.new (printed (head_row values.now)) }
 {
     pen.open(b"tr");
     write_head_cells(pen);
@@ -63,7 +63,7 @@ fn write_head_row<K: Sink>(pen: &mut Pen<'_, K>, values: &SheetValues)
 
 /// The heads of the columns that every table has.
 fn write_head_cells<K: Sink>(pen: &mut Pen<'_, K>)
-    ensures { Prints K.written K.faults pen.old pen.new (printed head_cells) }
+    ensures { Prints K.Sink pen.old pen.new (printed head_cells) }
 {
     pen.write(&[
         Piece::Start(b"th"),
@@ -80,7 +80,7 @@ fn write_head_cells<K: Sink>(pen: &mut Pen<'_, K>)
 
 /// The heads of the candidates' columns.
 fn write_name_cells<K: Sink>(pen: &mut Pen<'_, K>, values: &SheetValues)
-    ensures { Prints K.written K.faults pen.old pen.new
+    ensures { Prints K.Sink pen.old pen.new
         (print_each (name_cell values.now) (places (length values.now.names))) }
 {
     for p in 0..values.names.len() {
@@ -91,14 +91,14 @@ fn write_name_cells<K: Sink>(pen: &mut Pen<'_, K>, values: &SheetValues)
 /// The head of the column of the candidate at a place.
 fn write_name_cell<K: Sink>(pen: &mut Pen<'_, K>, values: &SheetValues, p: usize)
     requires place { p < length values.now.names }
-    ensures { Prints K.written K.faults pen.old pen.new (printed (name_cell values.now p)) }
+    ensures { Prints K.Sink pen.old pen.new (printed (name_cell values.now p)) }
 {
     write_name(pen, values.names.get(p).bytes());
 }
 
 /// A name as the head of a column.
 fn write_name<K: Sink>(pen: &mut Pen<'_, K>, name: &[u8])
-    ensures { Prints K.written K.faults pen.old pen.new (printed (head_cell name.now)) }
+    ensures { Prints K.Sink pen.old pen.new (printed (head_cell name.now)) }
 {
     pen.write(&[
         Piece::Start(b"th"),
@@ -110,7 +110,7 @@ fn write_name<K: Sink>(pen: &mut Pen<'_, K>, name: &[u8])
 /// The rounds, one behind another.
 fn write_round_rows<K: Sink>(pen: &mut Pen<'_, K>, values: &SheetValues)
     requires printable { IsPrintable 9 values.now }
-    ensures { Prints K.written K.faults pen.old pen.new
+    ensures { Prints K.Sink pen.old pen.new
         (print_each (round_at values.now) (places (length values.now.rows))) }
 {
     for i in 0..values.rows.len() {
@@ -122,7 +122,7 @@ fn write_round_rows<K: Sink>(pen: &mut Pen<'_, K>, values: &SheetValues)
 fn write_round_at<K: Sink>(pen: &mut Pen<'_, K>, values: &SheetValues, i: usize)
     requires printable { IsPrintable 9 values.now }
     requires place { i < length values.now.rows }
-    ensures { Prints K.written K.faults pen.old pen.new (printed (round_at values.now i)) }
+    ensures { Prints K.Sink pen.old pen.new (printed (round_at values.now i)) }
 {
     if ends_round(values.rows.items(), i) {
         write_round_row(pen, values, values.rows.get(i));
@@ -133,7 +133,7 @@ fn write_round_at<K: Sink>(pen: &mut Pen<'_, K>, values: &SheetValues, i: usize)
 fn write_round_row<K: Sink>(pen: &mut Pen<'_, K>, values: &SheetValues, row: &Row<9>)
     requires printable { IsPrintable 9 values.now }
     requires room { HasRoomFor (length values.now.names) row.now }
-    ensures { Prints K.written K.faults pen.old pen.new (printed (round_row values.now row.now)) }
+    ensures { Prints K.Sink pen.old pen.new (printed (round_row values.now row.now)) }
 {
     pen.open(b"tr");
     write_round_cells(pen, values, row);
@@ -144,7 +144,7 @@ fn write_round_row<K: Sink>(pen: &mut Pen<'_, K>, values: &SheetValues, row: &Ro
 /// Number and quota of a round, and the votes on no candidate.
 fn write_round_cells<K: Sink>(pen: &mut Pen<'_, K>, values: &SheetValues, row: &Row<9>)
     requires { IsPrintable 9 values.now }
-    ensures { Prints K.written K.faults pen.old pen.new (printed (round_cells values.now.ballots row.now)) }
+    ensures { Prints K.Sink pen.old pen.new (printed (round_cells values.now.ballots row.now)) }
 {
     let left = left_over(values.ballots, row.total);
     pen.write(&[
@@ -164,7 +164,7 @@ fn write_round_cells<K: Sink>(pen: &mut Pen<'_, K>, values: &SheetValues, row: &
 fn write_vote_cells<K: Sink>(pen: &mut Pen<'_, K>, values: &SheetValues, row: &Row<9>)
     requires room { HasRoomFor (length values.now.names) row.now }
     requires few { length values.now.names ≤ MOST_CANDIDATES }
-    ensures { Prints K.written K.faults pen.old pen.new
+    ensures { Prints K.Sink pen.old pen.new
         (print_each (vote_cell row.now) (places (length values.now.names))) }
 {
     for p in 0..values.names.len() {
@@ -177,7 +177,7 @@ fn write_vote_cell<K: Sink>(pen: &mut Pen<'_, K>, row: &Row<9>, p: usize)
     requires room { HasRoomFor (length row.now.states) row.now }
     requires few { length row.now.states ≤ MOST_CANDIDATES }
     requires place { p < length row.now.states }
-    ensures { Prints K.written K.faults pen.old pen.new (printed (vote_cell row.now p)) }
+    ensures { Prints K.Sink pen.old pen.new (printed (vote_cell row.now p)) }
 {
     let state = state_word(state_after(row, p));
     pen.write(&[

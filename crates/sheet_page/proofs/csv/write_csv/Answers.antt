@@ -6,7 +6,7 @@ use Rattle.sheet_page.proofs.Pens.{nothing, later, ended, item_more, items_all, 
 use Rattle.sheet_page.proofs.csv.write_csv.Goals as goal
 
 pub loop-row-init : goal.loop-row-init
-loop-row-init g c = nothing _ _ _
+loop-row-init g c = nothing _ _
 
 pub loop-row-preserved : goal.loop-row-preserved
 loop-row-preserved g c =

@@ -7,5 +7,5 @@ use Rattle.sheet_page.proofs.csv.write_row.Given as goal
 
 abbrev pub invariant-loop-p : goal.invariant-loop-p
 invariant-loop-p g l =
-    Prints g.K.Sink.written g.K.Sink.faults l.initial.pen l.pen
+    Prints g.K.Sink l.initial.pen l.pen
     (flat_map (λ p. record_text (csv_record l.values l.row p)) (places l.p))

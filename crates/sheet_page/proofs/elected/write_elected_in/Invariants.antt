@@ -6,5 +6,5 @@ use Rattle.sheet_page.proofs.elected.write_elected_in.Given as goal
 
 abbrev pub invariant-loop-p : goal.invariant-loop-p
 invariant-loop-p g l =
-    Prints g.K.Sink.written g.K.Sink.faults l.initial.pen l.pen
+    Prints g.K.Sink l.initial.pen l.pen
     (print_each (elected_item l.fn.values l.fn.row) (places l.p))

@@ -9,7 +9,7 @@ use Rattle.sheet_page.proofs.Pens.{nothing, item_more, items_all, renamed}
 use Rattle.sheet_page.proofs.elected.write_elected_rows.Goals as goal
 
 pub loop-row-init : goal.loop-row-init
-loop-row-init g c = nothing _ _ _
+loop-row-init g c = nothing _ _
 
 pub loop-row-preserved : goal.loop-row-preserved
 loop-row-preserved g c =

@@ -6,5 +6,5 @@ use Rattle.sheet_page.proofs.elected.write_elected_rows.Given as goal
 
 abbrev pub invariant-loop-row : goal.invariant-loop-row
 invariant-loop-row g l =
-    Prints g.K.Sink.written g.K.Sink.faults l.initial.pen l.pen
+    Prints g.K.Sink l.initial.pen l.pen
     (print_each (elected_in l.fn.values) (take l.row-index l.fn.values.rows))

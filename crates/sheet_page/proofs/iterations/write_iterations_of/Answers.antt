@@ -18,7 +18,7 @@ loop-i-init g c =
     let rows = c.items.ensures ∙ ap (λ (w : SheetList). w.rows) c.values.view_is in
     renamed (sym (nothing_before (λ i. printed (iteration_at v last i)) c.first_of-first.result (λ i below.
     let other = ap (λ (l : List Row). is_of_round l last i) (sym rows) ∙ c.first_of-first.ensures.before i below in
-    ap (λ (b : Bool). printed (if b then iteration v (row_at v.rows i) else Nothing)) other))) (nothing _ _ _)
+    ap (λ (b : Bool). printed (if b then iteration v (row_at v.rows i) else Nothing)) other))) (nothing _ _)
 
 pub loop-i-preserved : goal.loop-i-preserved
 loop-i-preserved g c =

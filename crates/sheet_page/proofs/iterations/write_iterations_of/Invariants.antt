@@ -6,5 +6,5 @@ use Rattle.sheet_page.proofs.iterations.write_iterations_of.Given as goal
 
 abbrev pub invariant-loop-i : goal.invariant-loop-i
 invariant-loop-i g l =
-    Prints g.K.Sink.written g.K.Sink.faults l.initial.pen l.pen
+    Prints g.K.Sink l.initial.pen l.pen
     (print_each (iteration_at l.fn.values l.fn.last) (places l.i))

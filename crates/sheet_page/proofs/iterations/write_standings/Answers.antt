@@ -4,7 +4,7 @@ use Rattle.sheet_page.proofs.Pens.{nothing, place_more}
 use Rattle.sheet_page.proofs.iterations.write_standings.Goals as goal
 
 pub loop-p-init : goal.loop-p-init
-loop-p-init g c = nothing _ _ _
+loop-p-init g c = nothing _ _
 
 pub loop-p-preserved : goal.loop-p-preserved
 loop-p-preserved g c =

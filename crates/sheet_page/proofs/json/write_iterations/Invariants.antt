@@ -6,5 +6,5 @@ use Rattle.sheet_page.proofs.json.write_iterations.Given as goal
 
 abbrev pub invariant-loop-i : goal.invariant-loop-i
 invariant-loop-i g l =
-    Prints g.K.Sink.written g.K.Sink.faults l.initial.pen l.pen
+    Prints g.K.Sink l.initial.pen l.pen
     (flat_map (iteration_at l.fn.values) (places l.i))

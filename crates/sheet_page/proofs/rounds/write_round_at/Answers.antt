@@ -28,4 +28,4 @@ returns-else-ends_round g c =
     let i = c.args.i in
     let rows = c.items.ensures ∙ ap (λ (w : SheetList). w.rows) c.values.view_is in
     let ends = ap (λ (l : List Row). ends_round l i) (sym rows) ∙ sym c.ends_round.ensures ∙ c.if-ends_round.false in
-    renamed (sym (ap (λ (b : Bool). printed (if b then round_row v (row_at v.rows i) else Nothing)) ends)) (nothing _ _ _)
+    renamed (sym (ap (λ (b : Bool). printed (if b then round_row v (row_at v.rows i) else Nothing)) ends)) (nothing _ _)

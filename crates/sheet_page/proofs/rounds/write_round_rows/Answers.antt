@@ -4,7 +4,7 @@ use Rattle.sheet_page.proofs.Pens.{nothing, place_more}
 use Rattle.sheet_page.proofs.rounds.write_round_rows.Goals as goal
 
 pub loop-i-init : goal.loop-i-init
-loop-i-init g c = nothing _ _ _
+loop-i-init g c = nothing _ _
 
 pub loop-i-preserved : goal.loop-i-preserved
 loop-i-preserved g c =

@@ -6,5 +6,5 @@ use Rattle.sheet_page.proofs.rounds.write_round_rows.Given as goal
 
 abbrev pub invariant-loop-i : goal.invariant-loop-i
 invariant-loop-i g l =
-    Prints g.K.Sink.written g.K.Sink.faults l.initial.pen l.pen
+    Prints g.K.Sink l.initial.pen l.pen
     (print_each (round_at l.fn.values) (places l.i))

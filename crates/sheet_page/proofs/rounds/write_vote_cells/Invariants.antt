@@ -6,5 +6,5 @@ use Rattle.sheet_page.proofs.rounds.write_vote_cells.Given as goal
 
 abbrev pub invariant-loop-p : goal.invariant-loop-p
 invariant-loop-p g l =
-    Prints g.K.Sink.written g.K.Sink.faults l.initial.pen l.pen
+    Prints g.K.Sink l.initial.pen l.pen
     (print_each (vote_cell l.fn.row) (places l.p))

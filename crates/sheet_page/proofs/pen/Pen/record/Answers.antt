@@ -5,7 +5,7 @@ use Rattle.sheet_page.proofs.Pens.{nothing, later, item_more, items_all, renamed
 use Rattle.sheet_page.proofs.pen.Pen.record.Goals as goal
 
 pub loop-other-init : goal.loop-other-init
-loop-other-init g c = nothing _ _ _
+loop-other-init g c = nothing _ _
 
 pub loop-other-preserved : goal.loop-other-preserved
 loop-other-preserved g c =

@@ -3,7 +3,7 @@ use Rattle.sheet_page.proofs.Pens.{nothing, item_more, items_all}
 use Rattle.sheet_page.proofs.pen.Pen.write.Goals as goal
 
 pub loop-piece-init : goal.loop-piece-init
-loop-piece-init g c = nothing _ _ _
+loop-piece-init g c = nothing _ _
 
 pub loop-piece-preserved : goal.loop-piece-preserved
 loop-piece-preserved g c =
