@@ -5,7 +5,7 @@ use Rattle.left_right.specs.Register.{TurnsAt}
 use Rattle.tally_board.specs.declared.ballot_move.Move.{Move}
 use Rattle.tally_board.specs.declared.board.Board.{Board}
 use Rattle.tally_board.specs.declared.entry.Entry.{Entry}
-use Rattle.tally_board.specs.declared.view.View.{View}
+use Rattle.tally_board.specs.declared.board_view.BoardView.{BoardView}
 use Rattle.tally_board.specs.Moves.{CanMove, IsStory, totals_after}
 use Rattle.tally_board.specs.Rule.{IsNoted, Keeps, Looks, candidates_of, shown}
 use Rattle.tally_board.specs.Desk.{AreNoted, IsScribe, steps}
@@ -15,7 +15,7 @@ use Rattle.tally_board.proofs.RuleLemmas.{absorbed, looks, newest, newest_noted,
 
 -- one move more, with a note of all before it
 pub scribe_more :
-    (v : View) (b : Board) (es es' : List Entry) (e : Entry) (all all' : Told) → IsScribe v b es all
+    (v : BoardView) (b : Board) (es es' : List Entry) (e : Entry) (all all' : Told) → IsScribe v b es all
     → es' ≡ es ++ e ∷ [] → e.before ≡ all
     → CanMove (totals_after (candidates_of b) (shown b ++ steps es)) e.step
     → all' ≡ record { board = all.board; moves = all.moves ++ e.step ∷ [] } → IsScribe v b es' all'
@@ -51,7 +51,7 @@ Took b next es =
 
 -- a board without moves stays so
 pub begins_on :
-    (seat : ℕ) (v : View) (b next : Board) (es : List Entry) → es ≡ [] → shown b ≡ [] → b.before.moves ≡ []
+    (seat : ℕ) (v : BoardView) (b next : Board) (es : List Entry) → es ≡ [] → shown b ≡ [] → b.before.moves ≡ []
     → Took b next es → TurnsAt Keeps seat v b next Looks
 begins_on seat v b next es none bare unnoted took =
     let same : taken next ≡ taken b =
@@ -65,7 +65,8 @@ begins_on seat v b next es none bare unnoted took =
     (subst (λ (ms : List Move). ∥ IsStory (candidates_of next) ms ∥₁) (sym (moves ∙ bare)) ∣ tt ∣₁)
     (ap (λ t. t.moves) note ∙ (unnoted ∙ ap front (sym (moves ∙ bare))))
 
-module _ (v : View) (b next : Board) (es : List Entry) (all : Told) (is : IsScribe v b es all) (took : Took b next es) where
+module _ (v : BoardView) (b next : Board) (es : List Entry) (all : Told) (is : IsScribe v b es all)
+    (took : Took b next es) where
   all_of : taken next ≡ (candidates_of b, (shown b ++ steps es, newest b.before es))
   all_of = took ∙ absorbed (candidates_of b) (shown b) b.before es
 
@@ -87,7 +88,7 @@ module _ (v : View) (b next : Board) (es : List Entry) (all : Told) (is : IsScri
   pub publishes : (seat : ℕ) → TurnsAt Keeps seat v b next Looks
   publishes seat = looks seat v b next (is.board ∙ sym notes.0) (sym same_candidates) (steps es, shows_all) all_story notes.1
 
-  pub scribe_after : (w : View) → Looks v b next w → IsScribe w next [] all
+  pub scribe_after : (w : BoardView) → Looks v b next w → IsScribe w next [] all
   scribe_after w saw = record {
     candidates = ap (λ u. u.candidates) saw.0;
     home = ap (λ u. u.home) saw.0;

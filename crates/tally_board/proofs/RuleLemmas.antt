@@ -10,14 +10,14 @@ use Rattle.left_right.specs.Register.{Admits, TurnsAt, Forks, Merges}
 use Rattle.atomic_table.proofs.Lists.{at_set, at_snoc}
 use Rattle.tally_board.specs.declared.ballot_move.Move.{Move}
 use Rattle.tally_board.specs.declared.board.Board.{Board}
-use Rattle.tally_board.specs.declared.view.View.{View}
+use Rattle.tally_board.specs.declared.board_view.BoardView.{BoardView}
 use Rattle.tally_board.specs.Begins.{Begins}
 use Rattle.tally_board.specs.Moves.{IsStory}
 use Rattle.tally_board.specs.declared.entry.Entry.{Entry}
 use Rattle.tally_board.specs.Desk.{AreNoted, steps}
 use Rattle.tally_board.specs.Rule.{IsNoted, Keeps, Knows, KnowsOf, Looks, candidates_of, shown, looked, newcomer, named}
 use Rattle.tally_board.specs.Sight.{or_zero}
-use Rattle.tally_board.specs.Told.{Name, Told, front}
+use Rattle.tally_board.specs.Told.{BoardName, Told, front}
 use Rattle.tally_board.proofs.Counts.{front_push}
 
 -- the note of the last entry, or t where there is none
@@ -43,7 +43,7 @@ absorbed n ms t (e ∷ es) =
 
 -- the note of the last entry is of this board, and of all moves but the last
 pub newest_noted :
-    (z : Name) (ms : List Move) (t : Told) (es : List Entry) → t.board ≡ z → t.moves ≡ front ms
+    (z : BoardName) (ms : List Move) (t : Told) (es : List Entry) → t.board ≡ z → t.moves ≡ front ms
     → AreNoted z ms es
     → ((newest t es).board ≡ z) × ((newest t es).moves ≡ front (ms ++ steps es))
 newest_noted z ms t [] b h noted = (b, h ∙ ap front (sym (append-nil ms)))
@@ -55,7 +55,7 @@ newest_noted z ms t (e ∷ es) b h noted =
 
 -- one entry more
 pub noted_more :
-    (z : Name) (ms : List Move) (es : List Entry) (e : Entry) → AreNoted z ms es
+    (z : BoardName) (ms : List Move) (es : List Entry) (e : Entry) → AreNoted z ms es
     → e.before ≡ record { board = z; moves = ms ++ steps es } → AreNoted z ms (es ++ e ∷ [])
 noted_more z ms [] e h is = (is ∙ (λ i. record { board = z; moves = append-nil ms i }), tt)
 noted_more z ms (x ∷ xs) e h is = (
@@ -68,14 +68,16 @@ pub steps_push : (es : List Entry) (e : Entry) → steps (es ++ e ∷ []) ≡ st
 steps_push [] e = refl
 steps_push (x ∷ xs) e = ap (λ ms. x.step ∷ ms) (steps_push xs e)
 
-knows_more : (z : Name) (n : ℕ) (ms more : List Move) (v : View) → Begins ms more → Knows z n ms v → Knows z n more v
+knows_more :
+    (z : BoardName) (n : ℕ) (ms more : List Move) (v : BoardView) → Begins ms more → Knows z n ms v
+    → Knows z n more v
 knows_more z n ms more v b h = record {
   home_is = h.home_is;
   candidates_is = h.candidates_is;
   seen = begins_more v.seen ms more h.seen b;
 }
 
-knows_newcomer : (z : Name) (n : ℕ) (ms : List Move) → Knows z n ms newcomer
+knows_newcomer : (z : BoardName) (n : ℕ) (ms : List Move) → Knows z n ms newcomer
 knows_newcomer z n ms =
     record {
       home_is = λ t e. absurd (none-some t e);
@@ -95,29 +97,31 @@ knows_looked b =
       seen = begins_itself (shown b);
     }
 
-knows_named : (z : Name) (n : ℕ) (ms : List Move) (v w : View) → Knows z n ms v → Knows z n ms w → Knows z n ms (named v w)
+knows_named :
+    (z : BoardName) (n : ℕ) (ms : List Move) (v w : BoardView) → Knows z n ms v → Knows z n ms w
+    → Knows z n ms (named v w)
 knows_named z n ms v w h k = record { home_is = k.home_is; candidates_is = k.candidates_is; seen = h.seen }
 
 each_set :
-    (b : Board) (views : List View) (seat : ℕ) (w : View)
-    → ((j : ℕ) (u : View) → get_elem? views j ≡ some u → KnowsOf b u) → KnowsOf b w
-    → (j : ℕ) (u : View) → get_elem? (set views seat w) j ≡ some u → KnowsOf b u
+    (b : Board) (views : List BoardView) (seat : ℕ) (w : BoardView)
+    → ((j : ℕ) (u : BoardView) → get_elem? views j ≡ some u → KnowsOf b u) → KnowsOf b w
+    → (j : ℕ) (u : BoardView) → get_elem? (set views seat w) j ≡ some u → KnowsOf b u
 each_set b views seat w h k j u e =
-    ⊎_elim (λ (t : (j ≡ seat) × (w ≡ u)). subst (λ (z : View). KnowsOf b z) t.1 k)
+    ⊎_elim (λ (t : (j ≡ seat) × (w ≡ u)). subst (λ (z : BoardView). KnowsOf b z) t.1 k)
     (λ (t : (j ≢ seat) × (get_elem? views j ≡ some u)). h j u t.1) (at_set views seat j w u e)
 
 -- a look at a board that went on from x to y, or did not
 pub looks :
-    (seat : ℕ) (v : View) (x y : Board) → x.before.board ≡ y.before.board → candidates_of x ≡ candidates_of y
+    (seat : ℕ) (v : BoardView) (x y : Board) → x.before.board ≡ y.before.board → candidates_of x ≡ candidates_of y
     → Begins (shown x) (shown y) → ∥ IsStory (candidates_of y) (shown y) ∥₁ → IsNoted y
     → TurnsAt Keeps seat v x y Looks
 looks seat v x y home same more story noted views h at =
-    let each : (j : ℕ) (u : View) → get_elem? views j ≡ some u → KnowsOf y u =
+    let each : (j : ℕ) (u : BoardView) → get_elem? views j ≡ some u → KnowsOf y u =
     λ j u e. knows_more y.before.board (candidates_of y) (shown x) (shown y) u more
-    (subst (λ (t : Name × ℕ). Knows t.0 t.1 (shown x) u) (λ i. (home i, same i)) (h.2 j u e)) in
+    (subst (λ (t : BoardName × ℕ). Knows t.0 t.1 (shown x) u) (λ i. (home i, same i)) (h.2 j u e)) in
     (looked y, (story, noted, each_set y views seat (looked y) each (knows_looked y)), (refl, each seat v at, story, noted))
 
-pub looks_on : (seat : ℕ) (v : View) (x : Board) → TurnsAt Keeps seat v x x Looks
+pub looks_on : (seat : ℕ) (v : BoardView) (x : Board) → TurnsAt Keeps seat v x x Looks
 looks_on seat v x views h at = looks seat v x x refl refl (begins_itself (shown x)) h.0 h.1 views h at
 
 pub comes : Admits Keeps newcomer
@@ -125,20 +129,20 @@ comes x views h = (
   h.0,
   h.1,
   λ j u e. ⊎_elim (λ (a : get_elem? views j ≡ some u). h.2 j u a) (λ (a : newcomer ≡ u).
-      subst (λ (z : View). KnowsOf x z) a (knows_newcomer x.before.board (candidates_of x) (shown x)))
+      subst (λ (z : BoardView). KnowsOf x z) a (knows_newcomer x.before.board (candidates_of x) (shown x)))
       (at_snoc views newcomer u j e),
 )
 
-pub tells : (seat : ℕ) (v : View) → Forks Keeps seat v v v
+pub tells : (seat : ℕ) (v : BoardView) → Forks Keeps seat v v v
 tells seat v x views h at = (
   h.0,
   h.1,
   λ j u e. let k = h.2 seat v at in
-      ⊎_elim (each_set x views seat v h.2 k j u) (λ (a : v ≡ u). subst (λ (z : View). KnowsOf x z) a k)
+      ⊎_elim (each_set x views seat v h.2 k j u) (λ (a : v ≡ u). subst (λ (z : BoardView). KnowsOf x z) a k)
       (at_snoc (set views seat v) v u j e),
 )
 
-pub names : (seat : ℕ) (v : View) (other : ℕ) (w : View) → Merges Keeps seat v other w (named v w) newcomer
+pub names : (seat : ℕ) (v : BoardView) (other : ℕ) (w : BoardView) → Merges Keeps seat v other w (named v w) newcomer
 names seat v other w x views h at apart there = let n = candidates_of x in let ms = shown x in let z = x.before.board in
     let theirs : KnowsOf x w =
     ⊎_elim (λ (t : (other ≡ seat) × (named v w ≡ w)). absurd (apart t.0))
@@ -163,9 +167,9 @@ opens b none bare = (
   λ j u e. each_only b j u e,
 )
   where
-    each_only : (b : Board) (j : ℕ) (u : View) → get_elem? (newcomer ∷ []) j ≡ some u → KnowsOf b u
+    each_only : (b : Board) (j : ℕ) (u : BoardView) → get_elem? (newcomer ∷ []) j ≡ some u → KnowsOf b u
     each_only b zero u e =
-        subst (λ (z : View). KnowsOf b z) (some-injective newcomer u e)
+        subst (λ (z : BoardView). KnowsOf b z) (some-injective newcomer u e)
         (knows_newcomer b.before.board (candidates_of b) (shown b))
     each_only b (suc j) u e = absurd (some-ne-none u (sym e))
 

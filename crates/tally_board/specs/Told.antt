@@ -4,16 +4,16 @@ use Rattle.logbook.specs.Pages.{Book}
 use Rattle.tally_board.specs.declared.ballot_move.Move.{Move}
 
 -- which board it is: the book that its moves stand in, and the key that its first move spends
-pub record Name : Type 0 where
+pub record BoardName : Type 0 where
   pub book : Book
   pub first : ℕ
 
-abbrev pub nowhere : Name
+abbrev pub nowhere : BoardName
 nowhere = record { book = record { number = 0; log_name = 0; cells_name = 0 }; first = 0 }
 
 -- a board, and its first moves
 pub record Told : Type 0 where
-  pub board : Name
+  pub board : BoardName
   pub moves : List Move
 
 -- all but the last

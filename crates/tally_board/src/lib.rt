@@ -8,6 +8,7 @@
 
 mod ballot_move;
 mod board;
+mod board_view;
 mod chronicle;
 mod entry;
 mod law;
@@ -23,7 +24,6 @@ mod rule;
 mod scribe;
 mod story;
 mod totals;
-mod view;
 mod watcher;
 mod watchers;
 mod worked;

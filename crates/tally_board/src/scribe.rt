@@ -5,17 +5,17 @@ ghost use Rattle.tally_board.specs.Moves.{CanMove, totals_after};
 ghost use Rattle.tally_board.specs.Told.{front};
 
 use crate::board::Board;
+use crate::board_view::BoardView;
 use crate::chronicle::Chronicle;
 use crate::entry::Entry;
 use crate::rule::{Begun, Look};
-use crate::view::View;
 use crate::{Move, MoveBack, Note, Totals, Watcher};
 use left_right::writer::Writer;
 use std::marker::Model;
 use std::mem;
 use std::sync::Wait;
 
-pub(crate) type Inner = Writer<Board, Entry, View, Begun>;
+pub(crate) type Inner = Writer<Board, Entry, BoardView, Begun>;
 
 /// The one who changes a board. Contracts see which board it is, the number of candidates, the moves
 /// that it has published, and those that are pending.

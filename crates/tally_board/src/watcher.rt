@@ -4,15 +4,15 @@ ghost use Rattle.tally_board.specs.Begins.{Begins};
 ghost use Rattle.tally_board.specs.Moves.{totals_after};
 
 use crate::board::Board;
+use crate::board_view::BoardView;
 use crate::rule::{Begun, Look};
 use crate::story::Story;
-use crate::view::View;
 use crate::{NoReading, Note, Totals};
 use left_right::reader::Reader;
 use std::marker::Model;
 use std::snapshot::Snapshot;
 
-pub(crate) type Inner = Reader<Board, View, Begun>;
+pub(crate) type Inner = Reader<Board, BoardView, Begun>;
 
 /// One who reads a board. Contracts see which board it is, the number of candidates, the moves that it
 /// has seen, those of the longest note that it learnt, and how often it was refused.

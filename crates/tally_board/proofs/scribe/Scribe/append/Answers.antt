@@ -2,7 +2,7 @@ use Rattle.std.proofs.Common.{rules, ◌≡◌, ℕ, List, drop, ◌++◌, sym, 
 use Rattle.left_right.specs.Sides.{view}
 use Rattle.tally_board.specs.declared.ballot_move.Move.{Move}
 use Rattle.tally_board.specs.declared.board.Board.{Board}
-use Rattle.tally_board.specs.declared.view.View.{View}
+use Rattle.tally_board.specs.declared.board_view.BoardView.{BoardView}
 use Rattle.tally_board.specs.Rule.{candidates_of, shown}
 use Rattle.tally_board.specs.Desk.{IsScribe, steps}
 use Rattle.tally_board.specs.Moves.{CanMove, totals_after}
@@ -22,7 +22,7 @@ invariant_of-self c =
     let can : CanMove (totals_after (candidates_of b) (shown b ++ steps es)) c.args.step =
     subst (λ (z : ℕ × (List Move × List Move)). CanMove (totals_after z.0 (z.1.0 ++ z.1.1)) c.args.step)
     (λ i. (n i, (moves i, more i))) c.requires in
-    subst (λ (z : View × Board). IsScribe z.0 z.1 (drop after.behind after.log.items) c.push.new.self)
+    subst (λ (z : BoardView × Board). IsScribe z.0 z.1 (drop after.behind after.log.items) c.push.new.self)
     (λ i. (view (sym desk i).place, (sym desk i).shown.value))
     (scribe_more (view w.desk.place) b es _ (record { step = c.args.step; before = c.note.result })
     c.self.inside.chronicle _ is c.in-Ok.ensures.pending c.note.ensures can c.push.ensures)

@@ -3,7 +3,7 @@ use crate::{Move, Note};
 use std::collections::LinkedList;
 
 /// What is known of a board. No value of it is ever made.
-pub struct View {
+pub struct BoardView {
     /// How many candidates there are, once that was told.
     pub candidates: Option<u64>,
     /// A note of the board, once that was told.
