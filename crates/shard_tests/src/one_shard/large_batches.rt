@@ -8,7 +8,8 @@ ghost use Rattle.batch_core.specs.Lawful.{IsInRange};
 ghost use Rattle.batch_core.specs.Shards.{shard_of};
 ghost use Rattle.ranking_trie.specs.Lines.{visit_count};
 
-use super::{be_refused, carry_out, correct, line, look_at_entries};
+use super::counted_steps::{be_refused, carry_out};
+use super::{correct, line, look_at_entries};
 use batch_core::{Change, Entry, Reply, shard_of};
 use plain_ballots::{BallotLine, Ballots, RankStop, Ranking, Steps};
 use shard_book::ShardBook;
