@@ -4,4 +4,5 @@ mod eight_passes;
 mod gates;
 mod one_thread;
 mod replay;
+mod shown;
 mod steps;

@@ -5,7 +5,8 @@ ghost use denote.Param.Send.{IsSync};
 
 use super::asking::{correct, enter, withdraw};
 use super::replay::Replay;
-use super::steps::{NotPlayed, Note, Step, clerk_freeze, closed, joined, noted, opened, step_of};
+use super::shown::step_of;
+use super::steps::{NotPlayed, Note, Step, clerk_freeze, closed, joined, noted, opened};
 use batch_core::Entry;
 use byte_edge::FreeGate;
 use call_register::History;

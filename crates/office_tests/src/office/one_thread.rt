@@ -2,9 +2,9 @@
 ghost use Rattle.std.specs.Prelude.{◌≡◌};
 
 use super::asking::{correct, enter, withdraw};
+use super::shown::{shown_by_shard, step_of};
 use super::steps::{
-    Frozen, NotPlayed, Note, Step, clerk_freeze, closed, joined, noted, opened, shown_by_shard,
-    step_of, version_for_clerk,
+    Frozen, NotPlayed, Note, Step, clerk_freeze, closed, joined, noted, opened, version_for_clerk,
 };
 use batch_core::Reply;
 use byte_edge::FreeGate;

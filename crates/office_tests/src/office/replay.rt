@@ -1,5 +1,6 @@
 // A book of this test's own, by which a history is played again.
-use super::steps::{Frozen, Note, Step, three};
+use super::shown::three;
+use super::steps::{Frozen, Note, Step};
 use batch_core::Reply;
 use std::alloc::{AllocError, Global};
 

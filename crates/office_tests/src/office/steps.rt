@@ -2,10 +2,10 @@
 // once more, so that one failing allocation changes no note.
 ghost use Rattle.std.specs.Prelude.{◌≡◌, ◌≤◌, IfOk};
 
-use batch_core::{Call, Change, Reply};
+use super::shown::shown;
+use batch_core::{Change, Reply};
 use byte_edge::Gate;
 use call_register::History;
-use frozen_plan::Plans;
 use plain_ballots::{BallotLine, Ballots, Ranking};
 use shard_office::{CallBack, Clerk, CloseBack, Office, Pass, Version};
 use std::alloc::Global;
@@ -278,43 +278,6 @@ fn change_of(alloc: Global, step: Step) -> Result<Change, NotPlayed> {
     }
 }
 
-/// What a version shows.
-fn shown(version: Version) -> Frozen {
-    let at = version.at();
-    let struck = three(version.struck());
-    Frozen {
-        at,
-        ballots: all_ballots(&version.into_plans()),
-        struck,
-    }
-}
-
-/// How many ballots a version has in each of the first three shards, and 0 where there are fewer.
-pub(super) fn shown_by_shard(version: Version) -> [u64; 3] {
-    let mut totals = [0; 3];
-    let plans = version.into_plans();
-    for (place, plan) in totals.iter_mut().zip(plans.items()) {
-        *place = plan.total();
-    }
-    totals
-}
-
-/// The first three numbers, and 0 where there are fewer.
-pub(super) fn three(numbers: &[u32]) -> [u32; 3] {
-    let mut first = [0; 3];
-    for (place, number) in first.iter_mut().zip(numbers) {
-        *place = *number;
-    }
-    first
-}
-
-fn all_ballots(plans: &Plans) -> u64 {
-    plans
-        .items()
-        .iter()
-        .fold(0u64, |sum, plan| sum.wrapping_add(plan.total()))
-}
-
 /// Closes an office whose passes were all taken in.
 pub(super) fn closed(office: Office, alloc: Global, clerk: Clerk) -> Result<History, NotPlayed>
     requires { clerk.desk.office ≡ office }
@@ -329,51 +292,4 @@ pub(super) fn closed(office: Office, alloc: Global, clerk: Clerk) -> Result<Hist
             Err(_) => Err(NotPlayed),
         },
     }
-}
-
-/// The step that a call of a history stands for.
-pub(super) fn step_of(call: &Call) -> Option<Step> {
-    match call {
-        Call::Change(Change::Enter { batch, ballots }) => {
-            let (count, candidate) = count_and_candidate(ballots)?;
-            Some(Step::Enter {
-                batch: *batch,
-                count,
-                candidate,
-            })
-        }
-        Call::Change(
-            Change::Correct {
-                batch,
-                revision,
-                ballots,
-            },
-        ) => {
-            let (count, candidate) = count_and_candidate(ballots)?;
-            Some(Step::Correct {
-                batch: *batch,
-                revision: *revision,
-                count,
-                candidate,
-            })
-        }
-        Call::Change(Change::Withdraw { batch, revision }) => Some(Step::Withdraw {
-            batch: *batch,
-            revision: *revision,
-        }),
-        Call::Strike(candidate) => Some(Step::Strike(*candidate)),
-        Call::Freeze => Some(Step::Freeze),
-    }
-}
-
-/// The one line's count and its one rank.
-fn count_and_candidate(ballots: &Ballots) -> Option<(u32, u32)> {
-    if ballots.lines().len() != 1 {
-        return None;
-    }
-    let line = ballots.lines().first()?;
-    if line.ranking.ranks().len() != 1 {
-        return None;
-    }
-    Some((line.count, *line.ranking.ranks().first()?))
 }
