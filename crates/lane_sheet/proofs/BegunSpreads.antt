@@ -70,7 +70,9 @@ begun_more candidates run lists spreads spreads' left rest plans s so_far is put
       each =
           subst (All (IsBegunBy candidates run)) (sym put)
           (All-push (IsBegunBy candidates run) spreads s so_far.each begun);
-      left_of_all = All-tail (CanBeCounted candidates) plans rest (subst (All (CanBeCounted candidates)) is so_far.left_of_all);
+      left_of_all =
+          All-tail (CanBeCounted candidates) plans rest
+          (subst (All (CanBeCounted candidates)) is so_far.left_of_all);
     }
 
 pub next_left :

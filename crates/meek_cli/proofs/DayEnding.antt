@@ -18,7 +18,7 @@ use Rattle.meek_cli.specs.Status.{Status}
 use Rattle.meek_cli.specs.DayHistory.{IsHistoryOf}
 use Rattle.meek_cli.specs.DayText.{terms_of, IsDayText}
 use Rattle.meek_cli.specs.Owed.{SaysDay, meek}
-use Rattle.meek_cli.specs.Run.{FinishesDay, PlaysDay, WritesDay}
+use Rattle.meek_cli.specs.Run.{FinishesDay, PlaysDay, WritesOwed}
 
 -- A day that is refused is answered by its line, or memory was wanted.
 pub refused_day :
@@ -43,7 +43,7 @@ day_of input day status history sink short says (inr (calls, (text, is, finishes
 pub played :
     (day : Day) (terms : Terms) (history : List Entry) (status : Status) (sink : Writing)
     → terms ≡ terms_of day → IsHistoryOf day.scripts history
-    → ¬ (status ≡ NoMemory) → WritesDay terms history status sink → PlaysDay day status history sink
+    → ¬ (status ≡ NoMemory) → WritesOwed (IsDayText terms history) status sink → PlaysDay day status history sink
 played day terms history status sink of calls other (inl (same, nothing)) = absurd (other same)
 played day terms history status sink of calls other (inr (text, is, finishes)) =
     inr (calls, (text, subst (λ (t : Terms). IsDayText t history text) of is, finishes))

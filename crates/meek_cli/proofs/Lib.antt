@@ -1,12 +1,12 @@
 mod Sound
+mod Endings
 mod CountEnding
 mod Rooms
 mod WritingBytes
 mod DueTexts
 mod DayOffice
-mod BegunSheets
 mod DaySheets
-mod BegunSpreads
+mod FrozenPlans
 mod DayEnding
 mod MadeTexts
 mod MadeHead

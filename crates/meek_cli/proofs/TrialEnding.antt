@@ -1,6 +1,7 @@
 -- How a trial ends.
-use Rattle.std.proofs.Common.{◌≡◌, ℕ, ◌≤◌, List, length, true, Ok, sym, ap, ◌∙◌, subst, inl, inr}
-use Rattle.std.specs.Prelude.{IsPermutation}
+use Rattle.std.proofs.Common.{◌≡◌, ℕ, ◌≤◌, List, [], ◌∷◌, length, true, Ok, sym, ap, ◌∙◌, subst, inl, inr, arith}
+use Rattle.std.specs.Prelude.{IsPermutation, All}
+use Rattle.std.proofs.lemmas.List.Elements.{All-nil, All-cons}
 use Rattle.std.proofs.lemmas.List.Sorted.{length_permutation}
 use Rattle.plain_ballots.specs.Ballots.{plain}
 use Rattle.candidate_roll.specs.Roll.{RollList}
@@ -12,29 +13,31 @@ use Rattle.day_reader.specs.Day.{IsDay}
 use Rattle.day_reader.specs.declared.day.Day.{Day}
 use Rattle.day_reader.specs.Said.{AcceptsDays, reading}
 use Rattle.meek_rule.specs.Rule.{Meek}
-use Rattle.meek_rule.specs.Situation.{Situation, opening}
+use Rattle.meek_rule.specs.Situation.{Situation}
 use Rattle.meek_count.specs.Rows.{Rows, IsCount}
 use Rattle.meek_count.specs.Laws.{OrderOfBallotsChangesNothing}
-use Rattle.meek_count.specs.Progress.{Progress}
+use Rattle.meek_count.specs.Progress.{Progress, HasJustBegun}
 use Rattle.sheet_text.specs.Lines.{text_of_lines}
+use Rattle.lane_sheet.specs.Due.{CountDue, due_in, due_of}
 use Rattle.batch_core.specs.declared.entry.Entry.{Entry}
 use Rattle.batch_core.specs.Book.{empty}
 use Rattle.batch_core.specs.Histories.{after_all, standing_after, struck_after}
-use Rattle.frozen_plan.specs.Plan.{all_ballots}
+use Rattle.frozen_plan.specs.Plan.{PlanRows, all_ballots}
+use Rattle.lane_sheet.specs.Plans.{CanBeCounted}
 use Rattle.shard_office.specs.Versions.{VersionState}
 use Rattle.meek_trial.specs.Trial.{trial_day}
 use Rattle.meek_cli.specs.Status.{Status}
-use Rattle.tool_edge.specs.declared.end.End.TheVariants.{Done}
+use Rattle.tool_edge.specs.declared.end.End.TheVariants.{Done, NoMemory}
 use Rattle.meek_cli.specs.declared.summary.Summary.{Summary}
 use Rattle.meek_cli.specs.declared.terms.Terms.{Terms}
 use Rattle.meek_cli.specs.declared.turns.Turns.{Turns}
 use Rattle.meek_cli.specs.CountedOut.{IsCountedOut}
-use Rattle.meek_cli.specs.DayText.{roll_with}
+use Rattle.meek_cli.specs.DayText.{roll_with, terms_of}
 use Rattle.meek_cli.specs.MadeDay.{made_day, MadeDaysAreDays}
 use Rattle.tool_edge.specs.Streams.{Writing}
-use Rattle.meek_cli.specs.Summary.{standing_batches, summary_of, summary_lines, IsSummaryOf}
-use Rattle.tool_edge.specs.Finishing.{Finishes}
-use Rattle.meek_cli.specs.Run.{FinishesTrial, PlaysTrial, WritesSummary, WritesSummaryOf}
+use Rattle.meek_cli.specs.Summary.{standing_batches, summary_of, summary_lines, IsSummary, IsSummaryDue, IsOnlySummary}
+use Rattle.meek_cli.specs.Run.{FinishesTrial, PlaysTrial, WritesOwed}
+use Rattle.meek_cli.specs.DayHistory.{IsHistoryOf}
 use Rattle.meek_cli.proofs.LastFreeze.{IsClerks}
 
 -- the text of a made day is read as the made day
@@ -53,93 +56,115 @@ trial_of number day status history sink says (inl nothing) = inl nothing
 trial_of number day status history sink says (inr (calls, (text, is, finishes))) =
     inr (Done, text, (tt, record { day = day; says = says; calls = calls; summary = is }), finishes)
 
+-- what writing the summary came to is what playing the day came to
+pub played_trial :
+    (number : ℕ) (day : Day) (terms : Terms) (history : List Entry) (status : Status) (sink : Writing)
+    → terms ≡ terms_of day → IsHistoryOf day.scripts history → ¬ (status ≡ NoMemory)
+    → WritesOwed (IsSummary number terms history) status sink → PlaysTrial number day status history sink
+played_trial number day terms history status sink of calls other (inl (same, nothing)) = absurd (other same)
+played_trial number day terms history status sink of calls other (inr (text, is, finishes)) =
+    inr (calls, (text, subst (λ (t : Terms). IsSummary number t history text) of is, finishes))
+
 -- ---- the summary
 
--- the summary of a count that was made to its end was written
-pub wrote_summary :
-    (number : ℕ) (terms : Terms) (history : List Entry) (ballots : List (List ℕ)) (roll : RollList)
-    (start : Progress) (turns : Turns) (summary : Summary)
-    (last : List State) (bytes : List ℕ) (status : Status) (sink : Writing)
-    → terms.places ≡ 9 → start.situation ≡ opening (scale 9) terms.omega roll.seats roll.withdrawn
-    → start.ballots ≡ ballots → start.lots ≡ terms.lots
-    → IsCountedOut 9 start turns last
+-- the summary of a count that was made to its end
+pub summary_is :
+    (number : ℕ) (history : List Entry) (start : Progress) (turns : Turns) (summary : Summary) (last : List State)
+    → HasJustBegun (scale 9) start → IsCountedOut 9 start turns last
     → summary
     ≡ record {
       number = number;
       calls = length history;
       batches = standing_batches (after_all empty history);
-      ballots = length ballots;
+      ballots = length start.ballots;
       rounds = turns.rounds;
       iterations = turns.iterations;
     }
-    → bytes ≡ text_of_lines (summary_lines summary last) → Finishes Done bytes status sink
-    → WritesSummaryOf number terms history ballots roll status sink
-wrote_summary number terms history ballots roll start turns summary last bytes status sink nine opens
-    of_ballots of_lots out says text finishes =
-    let counted : IsCount 9 terms.omega ballots roll terms.lots out.rows last =
-    subst (λ (now : Situation). Rows Meek (scale 9) ballots terms.lots now out.rows last) opens
-    (subst (λ (l : List ℕ). Rows Meek (scale 9) ballots l start.situation out.rows last) of_lots
-    (subst (λ (b : List (List ℕ)). Rows Meek (scale 9) b start.lots start.situation out.rows last) of_ballots
-    out.to_the_end)) in
-    let same : summary ≡ summary_of number history (length ballots) out.rows =
+    → IsSummaryDue number 9 history (due_in start) (text_of_lines (summary_lines summary last))
+summary_is number history start turns summary last begun out says =
+    let counted : IsCount 9 start.situation.omega start.ballots start.roll start.lots out.rows last =
+    subst (λ (now : Situation). Rows Meek (scale 9) start.ballots start.lots now out.rows last) begun out.to_the_end in
+    let same : summary ≡ summary_of number history (length start.ballots) out.rows =
     says
     ∙ (λ i. let s : Summary =
     record {
       number = number;
       calls = length history;
       batches = standing_batches (after_all empty history);
-      ballots = length ballots;
+      ballots = length start.ballots;
       rounds = out.rounds i;
       iterations = out.iterations i;
     } in
     s) in
-    inr (
-      bytes,
-      (
-        out.rows,
-        last,
-        subst (λ (p : ℕ). IsCount p terms.omega ballots roll terms.lots out.rows last) (sym nine) counted,
-        text ∙ ap (λ (s : Summary). text_of_lines (summary_lines s last)) same,
-      ),
-      finishes,
-    )
+    (out.rows, last, counted, ap (λ (s : Summary). text_of_lines (summary_lines s last)) same)
 
 in_order :
-    (number : ℕ) (terms : Terms) (history : List Entry) (one other : List (List ℕ)) (roll : RollList)
+    (number places omega : ℕ) (history : List Entry) (one other : List (List ℕ)) (roll : RollList) (lots : List ℕ)
     (text : List ℕ) → OrderOfBallotsChangesNothing
-    → IsPermutation one other → IsSummaryOf number terms history one roll text
-    → IsSummaryOf number terms history other roll text
-in_order number terms history one other roll text leaves same (rows, last, counted, is) = (
+    → IsPermutation one other → IsSummaryDue number places history (due_of omega lots roll one) text
+    → IsSummaryDue number places history (due_of omega lots roll other) text
+in_order number places omega history one other roll lots text leaves same (rows, last, counted, is) = (
   rows,
   last,
-  (leaves Meek terms.places terms.omega one other roll terms.lots rows last same).0 counted,
+  (leaves Meek places omega one other roll lots rows last same).0 counted,
   is
       ∙ ap (λ (n : ℕ). text_of_lines (summary_lines (summary_of number history n rows) last))
       (sym (length_permutation one other same)),
 )
 
+only_one : (one other : CountDue) → one ∷ [] ≡ other ∷ [] → other ≡ one
+only_one one other same = cc
+
 -- the summary of the clerk's version is that of what stands after all calls
 pub sums_up :
-    (number n : ℕ) (terms : Terms) (history : List Entry) (version : VersionState) (ballots : List (List ℕ))
-    (roll : RollList) (status : Status) (sink : Writing)
-    → OrderOfBallotsChangesNothing → IsClerks n history version → ballots ≡ all_ballots version.plans
+    (number n : ℕ) (terms : Terms) (history : List Entry) (version : VersionState) (roll : RollList)
+    (text : List ℕ) → terms.places ≡ 9 → OrderOfBallotsChangesNothing → IsClerks n history version
     → roll ≡ roll_with terms.roll version.struck
-    → WritesSummaryOf number terms history ballots roll status sink → WritesSummary number terms history status sink
-sums_up number n terms history version ballots roll status sink leaves clerks of_ballots of_roll (inl nothing) = inl nothing
-sums_up number n terms history version ballots roll status sink leaves clerks of_ballots of_roll (inr (text, is, finishes)) =
-    let of_version :
-    IsSummaryOf number terms history (all_ballots version.plans)
-    (roll_with terms.roll (struck_after history version.at)) text =
-    subst (λ (r : RollList). IsSummaryOf number terms history (all_ballots version.plans) r text)
-    (of_roll ∙ ap (roll_with terms.roll) clerks.stands.struck)
-    (subst (λ (b : List (List ℕ)). IsSummaryOf number terms history b roll text) of_ballots is) in
+    → IsOnlySummary number 9 history (due_of terms.omega terms.lots roll (all_ballots version.plans) ∷ []) text
+    → IsSummary number terms history text
+sums_up number n terms history version roll text nine leaves clerks of_roll (due, only, is) =
+    let of : CountDue → Type 0 = λ d. IsSummaryDue number 9 history d text in
+    let given = due_of terms.omega terms.lots roll (all_ballots version.plans) in
+    let of_given = subst of (only_one given due only) is in
+    let of_version =
+    subst (λ (r : RollList). of (due_of terms.omega terms.lots r (all_ballots version.plans)))
+    (of_roll ∙ ap (roll_with terms.roll) clerks.stands.struck) of_given in
     let stands =
-    in_order number terms history (all_ballots version.plans) (plain (standing_after history version.at))
-    (roll_with terms.roll (struck_after history version.at)) text leaves clerks.stands.ballots
-    of_version in
-    inr (
-      text,
-      subst (λ (k : ℕ). IsSummaryOf number terms history (plain (standing_after history k))
-          (roll_with terms.roll (struck_after history k)) text) clerks.at stands,
-      finishes,
-    )
+    in_order number 9 terms.omega history (all_ballots version.plans) (plain (standing_after history version.at))
+    (roll_with terms.roll (struck_after history version.at)) terms.lots text leaves
+    clerks.stands.ballots of_version in
+    subst (λ (p : ℕ). IsSummaryDue number p history
+    (due_of terms.omega terms.lots (roll_with terms.roll (struck_after history (length history)))
+    (plain (standing_after history (length history)))) text) (sym nine)
+    (subst (λ (k : ℕ). of
+    (due_of terms.omega terms.lots (roll_with terms.roll (struck_after history k))
+    (plain (standing_after history k)))) clerks.at stands)
+
+-- ---- what is counted
+
+-- the roll of the clerk's sheet is of the candidates of the made day's lots
+pub one_roll :
+    (number : ℕ) (terms : Terms) (roll : RollList) (rolls : List RollList) (struck : List ℕ)
+    → terms ≡ terms_of (made_day number) → roll ≡ roll_with terms.roll struck → rolls ≡ roll ∷ []
+    → All (λ r. length r.names ≡ length terms.lots) rolls
+one_roll number terms roll rolls struck made of_roll only =
+    let Of : RollList → Type 0 = λ r. length r.names ≡ length terms.lots in
+    let lots : length terms.lots ≡ 12 = ap (λ (t : Terms). length t.lots) made in
+    let names : length terms.roll.names ≡ 12 = ap (λ (t : Terms). length t.roll.names) made in
+    subst (All Of) (sym only)
+    (All-cons Of roll [] (ap (λ (r : RollList). length r.names) of_roll ∙ (names ∙ sym lots)) (All-nil Of))
+
+pub one_list :
+    (n : ℕ) (plans : List PlanRows) (lists : List (List PlanRows)) → lists ≡ plans ∷ [] → CanBeCounted n plans
+    → All (CanBeCounted n) lists
+one_list n plans lists only counted =
+    subst (All (CanBeCounted n)) (sym only) (All-cons (CanBeCounted n) plans [] counted (All-nil (CanBeCounted n)))
+
+-- the made day has 12 candidates
+pub twelve :
+    (number : ℕ) (terms : Terms) (roll : RollList) (struck : List ℕ) → terms ≡ terms_of (made_day number)
+    → roll ≡ roll_with terms.roll struck → length roll.names ≤ 12
+twelve number terms roll struck made of_roll =
+    let names : length terms.roll.names ≡ 12 = ap (λ (t : Terms). length t.roll.names) made in
+    let same : length roll.names ≡ length terms.roll.names = ap (λ (r : RollList). length r.names) of_roll in
+    omega (arith, names, same)

@@ -1,52 +1,35 @@
 -- Sheets that are due: what is still to be counted and written.
-use Rattle.std.specs.Prelude.{◌≡◌, ℕ, List, [], ◌∷◌, ◌++◌, length}
-use Rattle.candidate_roll.specs.Roll.{RollList}
+use Rattle.std.specs.Prelude.{◌≡◌, ℕ, List, [], ◌∷◌, ◌++◌}
+use Rattle.batch_core.specs.declared.entry.Entry.{Entry}
 use Rattle.sheet_text.specs.Lines.{ended}
-use Rattle.sheet_text.specs.Sheet.{IsSheet}
-use Rattle.shard_office.specs.Versions.{VersionState}
-use Rattle.meek_cli.specs.declared.sheet_head.SheetHead.{SheetHead}
-use Rattle.meek_cli.specs.DayText.{sheet_line, roll_with}
+use Rattle.lane_sheet.specs.Due.{CountDue, IsSheetDue}
+use Rattle.team_run.specs.EntryText.{entries_text}
+use Rattle.meek_cli.specs.DayText.{sheet_line}
 
 -- the place of a freeze, and what is counted for it
 pub record SheetDue : Type 0 where
   pub at : ℕ
-  pub omega : ℕ
-  pub ballots : List (List ℕ)
-  pub roll : RollList
-  pub lots : List ℕ
+  pub due : CountDue
 
--- the head of the sheet of a version
-abbrev pub head_of : RollList → VersionState → SheetHead
-head_of roll version = record { at = version.at; roll = roll_with roll version.struck }
-
--- the head is of so many candidates
-abbrev pub IsHeadOf : ℕ → SheetHead → Type 0
-IsHeadOf n head = length head.roll.names ≡ n
-
--- the sheet over these single ballots, with this head
-abbrev pub due_of : (omega : ℕ) → (lots : List ℕ) → SheetHead → (ballots : List (List ℕ)) → SheetDue
-due_of omega lots head ballots = record { at = head.at; omega = omega; ballots = ballots; roll = head.roll; lots = lots }
-
--- the sheets with these heads, each over its own ballots
-abbrev pub dues_of : (omega : ℕ) → (lots : List ℕ) → List SheetHead → List (List (List ℕ)) → List SheetDue
-dues_of omega lots [] ballots = []
-dues_of omega lots (head ∷ heads) [] = []
-dues_of omega lots (head ∷ heads) (own ∷ ballots) = due_of omega lots head own ∷ dues_of omega lots heads ballots
-
-abbrev pub IsSheetDue : (places : ℕ) → SheetDue → List ℕ → Type 0
-IsSheetDue places due sheet = IsSheet places due.omega due.ballots due.roll due.lots sheet
-
-abbrev pub HasSheet : (places : ℕ) → SheetDue → Type 0
-HasSheet places due = (sheet : List ℕ) × IsSheetDue places due sheet
+-- the sheets of the freezes at these places, each with its own count
+abbrev pub sheets_at : List ℕ → List CountDue → List SheetDue
+sheets_at [] dues = []
+sheets_at (at ∷ places) [] = []
+sheets_at (at ∷ places) (due ∷ dues) = record { at = at; due = due } ∷ sheets_at places dues
 
 -- its line, and then the sheet
 abbrev pub IsDueText : (places : ℕ) → SheetDue → List ℕ → Type 0
-IsDueText places due text =
-    (sheet : List ℕ) × IsSheetDue places due sheet × (text ≡ ended (sheet_line due.at) ++ sheet)
+IsDueText places sheet text =
+    (own : List ℕ) × IsSheetDue places sheet.due own × (text ≡ ended (sheet_line sheet.at) ++ own)
 
 -- one after another
 abbrev pub AreDueTexts : (places : ℕ) → List SheetDue → List ℕ → Type 0
 AreDueTexts places [] text = text ≡ []
-AreDueTexts places (due ∷ dues) text =
+AreDueTexts places (sheet ∷ sheets) text =
     (first : List ℕ) × (others : List ℕ)
-    × IsDueText places due first × AreDueTexts places dues others × (text ≡ first ++ others)
+    × IsDueText places sheet first × AreDueTexts places sheets others × (text ≡ first ++ others)
+
+-- the lines of these answered calls, and then the sheets of these places
+abbrev pub IsDayTextOf : (places : ℕ) → List Entry → List ℕ → List CountDue → List ℕ → Type 0
+IsDayTextOf places history freezes dues text =
+    (sheets : List ℕ) × AreDueTexts places (sheets_at freezes dues) sheets × (text ≡ entries_text history ++ sheets)

@@ -1,14 +1,14 @@
 -- The summary of a made day: what stands in the end, and what its count came to.
-use Rattle.std.specs.Prelude.{◌≡◌, ℕ, Bool, false, List, [], ◌∷◌, ◌++◌, length, map, count_by, codes, decimal, Option, Some, None}
+use Rattle.std.specs.Prelude.{◌≡◌, ℕ, ◌≤◌, Bool, false, List, [], ◌∷◌, ◌++◌, length, map, count_by, codes, decimal, Option, Some, None}
 use Rattle.std.specs.Option.{is_some}
 use Rattle.std.specs.List.{range_with_len}
 use Rattle.plain_ballots.specs.Ballots.{plain}
-use Rattle.candidate_roll.specs.Roll.{RollList}
 use Rattle.candidate_roll.specs.declared.state.State.{State}
 use Rattle.meek_rule.specs.Situation.{is_elected}
 use Rattle.meek_rule.specs.Row.{Row}
 use Rattle.meek_count.specs.Rows.{IsCount}
 use Rattle.sheet_text.specs.Lines.{text_of_lines, listed}
+use Rattle.lane_sheet.specs.Due.{CountDue, due_of}
 use Rattle.batch_core.specs.declared.batch.Batch.{Batch}
 use Rattle.batch_core.specs.declared.entry.Entry.{Entry}
 use Rattle.batch_core.specs.Book.{BookState, empty, last_batch}
@@ -61,16 +61,25 @@ summary_lines summary last =
     ∷ (codes "elected" ++ listed 1 (map is_elected last))
     ∷ []
 
--- the text is the summary of these calls, and of the count of these single ballots with this roll
-abbrev pub IsSummaryOf : (number : ℕ) → Terms → List Entry → (ballots : List (List ℕ)) → RollList → List ℕ → Type 0
-IsSummaryOf number terms history ballots roll text =
+-- the text is the summary of these calls, and of the count that is due
+abbrev pub IsSummaryDue : (number places : ℕ) → List Entry → CountDue → List ℕ → Type 0
+IsSummaryDue number places history due text =
     (rows : List Row) × (last : List State)
-    × IsCount terms.places terms.omega ballots roll terms.lots rows last
-    × (text ≡ text_of_lines (summary_lines (summary_of number history (length ballots) rows) last))
+    × IsCount places due.omega due.ballots due.roll due.lots rows last
+    × (text ≡ text_of_lines (summary_lines (summary_of number history (length due.ballots) rows) last))
+
+-- this is the only count, and of no more than the candidates of a made day
+abbrev pub IsSummedUp : List CountDue → Type 0
+IsSummedUp dues = (due : CountDue) × (dues ≡ due ∷ []) × (length due.roll.names ≤ 12)
+
+-- the text is the summary of the only count
+abbrev pub IsOnlySummary : (number places : ℕ) → List Entry → List CountDue → List ℕ → Type 0
+IsOnlySummary number places history dues text = (due : CountDue) × (dues ≡ due ∷ []) × IsSummaryDue number places history due text
 
 -- The summary of a history that ends with the clerk's freeze: the count is that of the freeze's sheet, over the single
 -- ballots of the batches that stand after all calls.
 abbrev pub IsSummary : (number : ℕ) → Terms → List Entry → List ℕ → Type 0
 IsSummary number terms history text =
     let n = length history in
-    IsSummaryOf number terms history (plain (standing_after history n)) (roll_with terms.roll (struck_after history n)) text
+    IsSummaryDue number terms.places history
+    (due_of terms.omega terms.lots (roll_with terms.roll (struck_after history n)) (plain (standing_after history n))) text

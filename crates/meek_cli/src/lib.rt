@@ -2,25 +2,29 @@
 //! says how that ended as an [`Outcome`].
 #![tactic(auto)]
 
+mod closing;
 mod counted_out;
 mod counting;
 mod day;
 mod day_counting;
-mod due_sheet;
+mod day_text;
+mod hands;
 mod made_days;
+mod no_memory;
 mod office;
 mod outcome;
 mod played_day;
 mod run;
-mod sheet_head;
 mod split;
 mod standing;
 mod summary;
+mod summary_text;
 mod terms;
 mod trial;
 mod turns;
 mod work;
 
+use no_memory::NoMemory;
 pub use outcome::Outcome;
 pub use run::meek;
 pub use tool_edge::End as Status;

@@ -5,7 +5,7 @@ ghost use Rattle.day_reader.specs.Said.{AreScripts};
 ghost use Rattle.meek_cli.specs.DayHistory.{IsHistoryOf};
 ghost use Rattle.meek_cli.specs.Frozen.{AreFrozen};
 
-use batch_core::NoMemory;
+use crate::NoMemory;
 use byte_edge::Gate;
 use call_register::History;
 use day_reader::Scripts;

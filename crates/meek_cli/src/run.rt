@@ -6,6 +6,7 @@ ghost use Rattle.tool_edge.specs.Tool.{IsRun};
 ghost use Rattle.meek_cli.specs.Owed.{meek};
 
 use crate::Outcome;
+use crate::hands::Hands;
 use crate::work::Work;
 use byte_edge::{Gate, Sink, Source};
 use day_reader::{accepts_days, refuses_by_the_rule};
@@ -41,7 +42,15 @@ pub fn meek<R: Threads + Wait + Sync, S: Source, K: Sink, G: Gate + Sync>(
         Err(stop) => return Outcome::without_calls(alloc, refuse_words(sink, stop)),
     };
     match work.read(alloc, source, sink) {
-        Ok(input) => work.finish(rt, alloc, input, &split, sink, gate),
+        Ok(input) => {
+            let hands = Hands {
+                rt,
+                alloc,
+                gate,
+                split,
+            };
+            work.finish(&hands, input, sink)
+        }
         Err(status) => Outcome::without_calls(alloc, status),
     }
 }

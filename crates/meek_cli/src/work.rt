@@ -10,6 +10,7 @@ ghost use Rattle.meek_cli.specs.Work.{AsksFor, IsNumbered, limit_of};
 
 use crate::counting::count;
 use crate::day::play_day;
+use crate::hands::Hands;
 use crate::split::Split;
 use crate::trial::play_trial;
 use crate::{Outcome, Status};
@@ -83,14 +84,11 @@ impl Work {
     }
 
     /// Does it with the whole input, which is let go once it was read, and writes what is owed.
-    pub(crate) fn finish<R: Threads + Wait + Sync, K: Sink, G: Gate + Sync>(
+    pub(crate) fn finish<R: Threads + Wait + Sync, G: Gate + Sync, K: Sink>(
         &self,
-        rt: &R,
-        alloc: Global,
+        hands: &Hands<'_, R, G>,
         input: Vec<u8>,
-        split: &Split,
         sink: &mut K,
-        gate: &G,
     ) -> Outcome
         requires numbered { IsNumbered self.now }
         requires short { IsWithin (limit_of self.now) input.items }
@@ -99,11 +97,11 @@ impl Work {
     {
         match self {
             Work::Count(lots) => {
-                let status = count(rt, alloc, input, lots.items(), split, sink, gate);
-                Outcome::without_calls(alloc, status)
+                let status = count(hands, input, lots.items(), sink);
+                Outcome::without_calls(hands.alloc, status)
             }
-            Work::Day => play_day(rt, alloc, input, split, sink, gate),
-            Work::Trial(number) => play_trial(rt, alloc, *number, split, sink, gate),
+            Work::Day => play_day(hands, input, sink),
+            Work::Trial(number) => play_trial(hands, *number, sink),
         }
     }
 }

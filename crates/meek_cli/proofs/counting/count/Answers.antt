@@ -8,8 +8,11 @@ use Rattle.tool_edge.specs.Contest.{ReadsContest, SaysContest}
 use Rattle.tool_edge.proofs.Running.{refused}
 use Rattle.meek_cli.specs.declared.work.Work.TheVariants.{Count}
 use Rattle.meek_cli.specs.Owed.{meek}
-use Rattle.meek_cli.specs.Run.{WritesCount}
+use Rattle.meek_cli.specs.Run.{WritesOwed}
+use Rattle.sheet_text.specs.Sheet.{IsSheet}
+use Rattle.fixed_place.specs.declared.omega.TheConstants.{USUAL_OMEGA}
 use Rattle.meek_cli.proofs.CountEnding.{counted}
+use Rattle.meek_cli.proofs.Endings.{ended}
 use Rattle.meek_cli.proofs.counting.count.Goals as goal
 
 pub returns-in-Err : goal.returns-in-Err
@@ -25,10 +28,16 @@ returns-in-Err g c =
 -- the lots are those of the words
 pub returns : goal.returns
 returns g c =
+    let w = g.K.Sink.written in
+    let f = g.K.Sink.faults in
     let of = c.in-Ok.ensures in
     let file = poll c.in-Ok.contest.election in
-    let sink = writing g.K.Sink.written g.K.Sink.faults c.args.sink.now c.count_in_lanes.new.sink in
-    counted c.args.lots.now c.args.input.items file c.count_in_lanes.result sink c.requires
+    let sink = writing w f c.args.sink.now c.end.new.sink in
+    let wrote =
+    ended w f c.args.sink.now c.count_contest-wrote.new.sink c.end.new.sink
+    (IsSheet 9 USUAL_OMEGA (plain file.lines) file.roll c.in-Ok.contest.lots) c.count_contest-wrote.result
+    c.end.result c.count_contest-wrote.ensures c.end.ensures in
+    counted c.args.lots.now c.args.input.items file c.end.result sink c.requires
     (subst (λ (i : List ℕ). SaysContest c.args.lots.now i file) c.as_slice.ensures.value of.says)
-    (subst (λ (l : List ℕ). WritesCount file.roll l (plain file.lines) c.count_in_lanes.result sink)
-    of.lots_are c.count_in_lanes.ensures)
+    (subst (λ (l : List ℕ). WritesOwed (IsSheet 9 USUAL_OMEGA (plain file.lines) file.roll l) c.end.result sink)
+    of.lots_are wrote)

@@ -1,5 +1,0 @@
-use Rattle.meek_cli.proofs.DueTexts.{sheet_of}
-use Rattle.meek_cli.proofs.due_sheet.DueSheet.begin.Goals as goal
-
-pub returns-clause-sheet : goal.returns-clause-sheet
-returns-clause-sheet g c = sheet_of g.row.P c.in_ok-count.count c.in_ok-count.ensures.begun c.in_ok-count.ensures.rest
