@@ -1,3 +1,3 @@
 mod BegunCounts
 mod BegunSpreads
-mod Sheets
+pub mod Sheets
