@@ -38,7 +38,7 @@ items-more g xs i d below =
 behind :
     {S : Type 0} (k : Ghosts S) (a : S) (q r : Pen S) (first second : List ℕ)
     (done : Result (Unit {0}) Failed) → q.done ≡ done → Writes k.written k.faults a q.sink.now first done
-      → Prints k q r second
+    → Prints k q r second
     → Writes k.written k.faults a r.sink.now (first ++ second) r.done
 behind k a q r first second (Ok done) is wrote next =
     written_later r.sink.now second r.done wrote (next.well (rw is refl))

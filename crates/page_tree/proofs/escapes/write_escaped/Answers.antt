@@ -58,4 +58,4 @@ returns g c =
     sym (append-nil now.0)
     ∙ ap (λ (l : List ℕ). now.0 ++ encode_utf8_all l) (sym c.in_default.ensures.steps.0) ∙ now.1 in
     subst (λ (l : List ℕ). Wrote g.K.Sink.written g.K.Sink.faults c.args.sink.now c.loop-c.sink
-          (escaped g.E.Escapes.escape l)) all now.2
+    (escaped g.E.Escapes.escape l)) all now.2
