@@ -21,3 +21,6 @@ mod RowFields
 mod TableValues
 mod JsonRows
 mod JsonSheets
+mod PageWalks
+mod PageTexts
+mod LeftSeats

@@ -17,5 +17,7 @@ pub mod Picture
 pub mod Iterations
 pub mod Html
 pub mod Laws
+pub mod PageReading
+pub mod PageLaws
 pub mod Owed
 pub mod Worked

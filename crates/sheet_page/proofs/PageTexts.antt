@@ -1,0 +1,213 @@
+-- What stands on a page of its sheet.
+use Rattle.std.proofs.Common.{◌≡◌, ◌∙◌, refl, sym, ap, ℕ, List, [], ◌∷◌, ◌++◌}
+use Rattle.std.proofs.Common.{map, length, append-nil}
+use Rattle.std.specs.Prelude.{if◌then◌else◌, codes, decimal, slice_index}
+use Rattle.std.specs.List.{filter, flat_map}
+use Rattle.std.proofs.lemmas.List.Concat.{flat_map_single}
+use Rattle.std.proofs.lemmas.List.FromFn.{fill_by_all}
+use Rattle.fixed_place.specs.Text.{text_of}
+use Rattle.lot_order.specs.Flags.{mark_at}
+use Rattle.meek_rule.specs.Row.{Row}
+use Rattle.page_tree.specs.Trees.{Trees, Nothing, followed}
+use Rattle.sheet_text.specs.Lines.{state_word}
+use Rattle.sheet_reader.specs.Values.{SheetList}
+use Rattle.sheet_page.specs.Html.{elected_item, elected_in, in_round, at_end, is_seated, seated_item}
+use Rattle.sheet_page.specs.Html.{elected_part, rounds_part}
+use Rattle.sheet_page.specs.Html.{head_cells, head_row, name_cell, round_cells, vote_cell, round_at}
+use Rattle.sheet_page.specs.Html.{round_row, round_part, part_at, round_parts, page}
+use Rattle.sheet_page.specs.PageLaws.{below, elected_line, seated_line, marked_lines, round_ends, vote_text}
+use Rattle.sheet_page.specs.PageLaws.{round_texts, cells_of}
+use Rattle.sheet_page.specs.PageReading.{text_in, along, texts_along}
+use Rattle.sheet_page.specs.Picture.{full_of}
+use Rattle.sheet_page.specs.RoundEnds.{ends_round, left_over, state_after}
+use Rattle.sheet_page.specs.Trees.{all, each}
+use Rattle.sheet_page.specs.Values.{places, name_at, row_at}
+use Rattle.sheet_page.proofs.PageWalks.{no_part, no_parts, picked, behind_nothing, found, found_followed}
+use Rattle.sheet_page.proofs.PageWalks.{found_each, found_if}
+use Rattle.sheet_page.proofs.PageWalks.{at_ends}
+
+-- ---- the parts of a page
+
+module _ {X : Type 0} (h : Trees → X) (path : List (List ℕ)) (v : SheetList) where
+  abbrev in_parts : Trees → List X
+  in_parts = found h (codes "section") path
+
+  -- the parts of rounds, where a path leads in each to what its last iteration says
+  in_rounds :
+      (g : Row → List X) → ((full i : ℕ) → in_parts (round_part v full i) ≡ g (row_at v.rows i))
+      → in_parts (round_parts v (full_of v.rows)) ≡ flat_map g (round_ends v.rows)
+  in_rounds g is =
+      let full = full_of v.rows in
+      found_each h (codes "section") path (part_at v full) (places (length v.rows))
+      ∙ (λ j. flat_map (λ i. here i j) (places (length v.rows)))
+      ∙ at_ends g v.rows
+    where
+      here : (i : ℕ) → in_parts (part_at v (full_of v.rows) i) ≡ (if ends_round v.rows i then g (row_at v.rows i) else [])
+      here i =
+          found_if h (codes "section") path (ends_round v.rows i) (round_part v (full_of v.rows) i)
+          ∙ ap (λ l. if ends_round v.rows i then l else []) (is (full_of v.rows) i)
+
+  -- a whole page
+  pub in_page :
+      (g : Row → List X) → ((full i : ℕ) → in_parts (round_part v full i) ≡ g (row_at v.rows i))
+      → map h (along (below path) (page v))
+      ≡ in_parts (elected_part v) ++ (in_parts (rounds_part v) ++ flat_map g (round_ends v.rows))
+  in_page g is =
+      let full = full_of v.rows in
+      let parts = followed (elected_part v) (followed (rounds_part v) (followed (round_parts v full) Nothing)) in
+      ap (map h) (append-nil (along (codes "section" ∷ path) parts ++ [])
+      ∙ append-nil (along (codes "section" ∷ path) parts))
+      ∙ found_followed h (codes "section") path (elected_part v)
+      (followed (rounds_part v) (followed (round_parts v full) Nothing))
+      ∙ ap (λ l. in_parts (elected_part v) ++ l) (
+      found_followed h (codes "section") path (rounds_part v) (followed (round_parts v full) Nothing)
+      ∙ ap (λ l. in_parts (rounds_part v) ++ l) (ap in_parts (behind_nothing (round_parts v full)) ∙ in_rounds g is))
+
+-- ---- who is elected
+
+abbrev items : Trees → List (List ℕ)
+items = found text_in (codes "li") []
+
+-- the items of an iteration
+marked : (v : SheetList) (row : Row) → items (elected_in v row) ≡ marked_lines v row
+marked v row =
+    found_each text_in (codes "li") [] (elected_item v row) (places (length v.names))
+    ∙ (λ j. flat_map (λ p. here p j) (places (length v.names)))
+    ∙ picked (mark_at row.elected) (elected_line v row.round) (places (length v.names))
+  where
+    here : (p : ℕ) → items (elected_item v row p) ≡ (if mark_at row.elected p then elected_line v row.round p ∷ [] else [])
+    here p =
+        found_if text_in (codes "li") [] (mark_at row.elected p) (in_round (name_at v p) row.round)
+        ∙ ap (λ l. if mark_at row.elected p then (name_at v p ++ (codes ": elected in round " ++ l)) ∷ [] else [])
+        (append-nil (decimal row.round))
+
+left_seats : (v : SheetList) → items (each (seated_item v) (places (length v.names)))
+    ≡ map (seated_line v) (filter (is_seated v) (places (length v.names)))
+left_seats v =
+    found_each text_in (codes "li") [] (seated_item v) (places (length v.names))
+    ∙ (λ j. flat_map (λ p. found_if text_in (codes "li") [] (is_seated v p) (at_end (name_at v p)) j)
+    (places (length v.names)))
+    ∙ picked (is_seated v) (seated_line v) (places (length v.names))
+
+pub elected_items : (v : SheetList) →
+    texts_along (below (codes "ol" ∷ codes "li" ∷ [])) (page v)
+    ≡ flat_map (marked_lines v) v.rows ++ map (seated_line v) (filter (is_seated v) (places (length v.names)))
+elected_items v =
+    let rows = each (elected_in v) v.rows in
+    let seats = each (seated_item v) (places (length v.names)) in
+    let list = followed rows (followed seats Nothing) in
+    let marks = flat_map (marked_lines v) v.rows in
+    let left = map (seated_line v) (filter (is_seated v) (places (length v.names))) in
+    in_page text_in (codes "ol" ∷ codes "li" ∷ []) v no_part (λ full i. refl)
+    ∙ ap (λ l. in_parts text_in (codes "ol" ∷ codes "li" ∷ []) v (elected_part v) ++ l) (no_parts (round_ends v.rows))
+    ∙ append-nil (in_parts text_in (codes "ol" ∷ codes "li" ∷ []) v (elected_part v))
+    ∙ ap (map text_in) (append-nil (along (codes "li" ∷ []) list ++ []) ∙ append-nil (along (codes "li" ∷ []) list))
+    ∙ found_followed text_in (codes "li") [] rows (followed seats Nothing)
+    ∙ ap (λ l. l ++ items (followed seats Nothing))
+    (found_each text_in (codes "li") [] (elected_in v) v.rows ∙ (λ j. flat_map (λ row. marked v row j) v.rows))
+    ∙ ap (λ l. marks ++ l) (ap items (behind_nothing seats) ∙ left_seats v)
+
+-- ---- titles of rounds
+
+pub round_titles : (v : SheetList) →
+    texts_along (below (codes "h2" ∷ [])) (page v)
+    ≡ codes "Elected" ∷ codes "Votes at the end of each round"
+    ∷ map (λ row. codes "Round " ++ decimal row.round) (round_ends v.rows)
+round_titles v =
+    in_page text_in (codes "h2" ∷ []) v (λ row. (codes "Round " ++ decimal row.round) ∷ [])
+    (λ full i. ap (λ l. (codes "Round " ++ l) ∷ []) (append-nil (decimal (row_at v.rows i).round)))
+    ∙ ap (λ l. codes "Elected" ∷ codes "Votes at the end of each round" ∷ l)
+    (flat_map_single (λ (row : Row). codes "Round " ++ decimal row.round) (round_ends v.rows))
+
+pub folded_titles : (v : SheetList) →
+    texts_along (below (codes "details" ∷ codes "summary" ∷ [])) (page v)
+    ≡ map (λ row. codes "Iterations of round " ++ decimal row.round) (round_ends v.rows)
+folded_titles v =
+    in_page text_in (codes "details" ∷ codes "summary" ∷ []) v
+    (λ row. (codes "Iterations of round " ++ decimal row.round) ∷ [])
+    (λ full i. ap (λ l. (codes "Iterations of round " ++ l) ∷ []) (append-nil (decimal (row_at v.rows i).round)))
+    ∙ flat_map_single (λ (row : Row). codes "Iterations of round " ++ decimal row.round) (round_ends v.rows)
+
+-- ---- the table of rounds
+
+-- what stands in the first row, and in the row of a round
+abbrev head_within : SheetList → Trees
+head_within v = all (head_cells ∷ each (name_cell v) (places (length v.names)) ∷ [])
+
+abbrev row_within : SheetList → Row → Trees
+row_within v row = all (round_cells v.ballots row ∷ each (vote_cell row) (places (length v.names)) ∷ [])
+
+module _ {X : Type 0} (h : Trees → X) (v : SheetList) (g : Row → X) (is : (row : Row) → h (row_within v row) ≡ g row) where
+  rows_at : found h (codes "tr") [] (each (round_at v) (places (length v.rows))) ≡ map g (round_ends v.rows)
+  rows_at =
+      found_each h (codes "tr") [] (round_at v) (places (length v.rows))
+      ∙ (λ j. flat_map (λ i. here i j) (places (length v.rows)))
+      ∙ at_ends (λ row. g row ∷ []) v.rows
+      ∙ flat_map_single g (round_ends v.rows)
+    where
+      here :
+          (i : ℕ)
+          → found h (codes "tr") [] (round_at v i)
+          ≡ (if ends_round v.rows i then g (row_at v.rows i) ∷ [] else [])
+      here i =
+          found_if h (codes "tr") [] (ends_round v.rows i) (round_row v (row_at v.rows i))
+          ∙ ap (λ x. if ends_round v.rows i then x ∷ [] else []) (is (row_at v.rows i))
+
+  pub table_rows :
+      map h (along (below (codes "table" ∷ codes "tr" ∷ [])) (page v)) ≡ h (head_within v) ∷ map g (round_ends v.rows)
+  table_rows =
+      let rows = each (round_at v) (places (length v.rows)) in
+      let table = followed (head_row v) (followed rows Nothing) in
+      in_page h (codes "table" ∷ codes "tr" ∷ []) v no_part (λ full i. refl)
+      ∙ ap (λ l. in_parts h (codes "table" ∷ codes "tr" ∷ []) v (rounds_part v) ++ l) (no_parts (round_ends v.rows))
+      ∙ append-nil (in_parts h (codes "table" ∷ codes "tr" ∷ []) v (rounds_part v))
+      ∙ ap (map h) (append-nil (along (codes "tr" ∷ []) table ++ []) ∙ append-nil (along (codes "tr" ∷ []) table))
+      ∙ ap (λ l. h (head_within v) ∷ l) (ap (found h (codes "tr") []) (behind_nothing rows) ∙ rows_at)
+
+-- the cells that stand in each of these trees, one in each or none
+module _ (name : List ℕ) (tree : ℕ → Trees) (ps : List ℕ) where
+  one_each : (text : ℕ → List ℕ) → ((p : ℕ) → texts_along (name ∷ []) (tree p) ≡ text p ∷ [])
+      → texts_along (name ∷ []) (followed (each tree ps) Nothing) ≡ map text ps
+  one_each text is =
+      ap (texts_along (name ∷ [])) (behind_nothing (each tree ps))
+      ∙ found_each text_in name [] tree ps
+      ∙ (λ j. flat_map (λ p. is p j) ps)
+      ∙ flat_map_single text ps
+
+  none_each :
+      ((p : ℕ) → texts_along (name ∷ []) (tree p) ≡ [])
+      → texts_along (name ∷ []) (followed (each tree ps) Nothing) ≡ []
+  none_each is =
+      ap (texts_along (name ∷ [])) (behind_nothing (each tree ps))
+      ∙ found_each text_in name [] tree ps
+      ∙ (λ j. flat_map (λ p. is p j) ps)
+      ∙ no_parts ps
+
+pub table_heads : (v : SheetList) →
+    cells_of (codes "th") v
+    ≡ (codes "Round" ∷ codes "Quota" ∷ codes "On no candidate" ∷ v.names)
+    ∷ map (λ row. decimal row.round ∷ []) (round_ends v.rows)
+table_heads v =
+    let ps = places (length v.names) in
+    table_rows (texts_along (codes "th" ∷ [])) v (λ row. decimal row.round ∷ [])
+    (λ row. ap (λ l. (decimal row.round ++ []) ∷ l) (none_each (codes "th") (vote_cell row) ps (λ p. refl))
+    ∙ ap (λ l. l ∷ []) (append-nil (decimal row.round)))
+    ∙ ap (λ l. (codes "Round" ∷ codes "Quota" ∷ codes "On no candidate" ∷ l)
+    ∷ map (λ (row : Row). decimal row.round ∷ []) (round_ends v.rows))
+    (one_each (codes "th") (name_cell v) ps (name_at v) (λ p. ap (λ l. l ∷ []) (append-nil (name_at v p)))
+    ∙ sym (fill_by_all (name_at v) v.names (length v.names) [] refl (λ k below. refl)))
+
+vote_said : (row : Row) (p : ℕ) → texts_along (codes "td" ∷ []) (vote_cell row p) ≡ vote_text row p ∷ []
+vote_said row p =
+    let word = state_word (state_after row p) in
+    ap (λ l. (text_of 9 (slice_index row.votes p) ++ (codes " " ++ l)) ∷ []) (append-nil (word ++ []) ∙ append-nil word)
+
+pub table_cells : (v : SheetList) → cells_of (codes "td") v ≡ [] ∷ map (round_texts v) (round_ends v.rows)
+table_cells v =
+    let ps = places (length v.names) in
+    table_rows (texts_along (codes "td" ∷ [])) v (round_texts v)
+    (λ row. ap (λ l. (text_of 9 row.quota ++ []) ∷ (text_of 9 (left_over v.ballots row) ++ []) ∷ l)
+    (one_each (codes "td") (vote_cell row) ps (vote_text row) (vote_said row))
+    ∙ ap (λ l. l ∷ (text_of 9 (left_over v.ballots row) ++ []) ∷ map (vote_text row) ps) (append-nil (text_of 9 row.quota))
+    ∙ ap (λ l. text_of 9 row.quota ∷ l ∷ map (vote_text row) ps) (append-nil (text_of 9 (left_over v.ballots row))))
+    ∙ ap (λ l. l ∷ map (round_texts v) (round_ends v.rows)) (none_each (codes "td") (name_cell v) ps (λ p. refl))

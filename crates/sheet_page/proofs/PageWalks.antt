@@ -1,0 +1,137 @@
+-- A walk along a path of names, over trees that are put together.
+use Rattle.std.proofs.Common.{◌≡◌, ◌∙◌, refl, sym, ap, ℕ, ◌+◌, Bool, true, false, zero, suc, List, [], ◌∷◌, ◌++◌}
+use Rattle.std.proofs.Common.{map, length, inl, inr, eq-eqb, ne_eqb, arith}
+use Rattle.std.specs.Prelude.{◌||◌, not, if◌then◌else◌, nat_eq}
+use Rattle.std.specs.List.{filter, flat_map, range_with_len}
+use Rattle.std.specs.Str.{bytes_eq}
+use Rattle.std.proofs.lemmas.Bool.Decides.{eqb_tells}
+use Rattle.std.proofs.lemmas.List.{map-append}
+use Rattle.std.proofs.lemmas.List.Concat.{flat_map-append}
+use Rattle.meek_rule.specs.Row.{Row}
+use Rattle.page_tree.specs.Trees.{Trees, Nothing, Text, Element, Void, followed}
+use Rattle.sheet_page.specs.PageLaws.{round_ends}
+use Rattle.sheet_page.specs.PageReading.{children, along}
+use Rattle.sheet_page.specs.RoundEnds.{ends_round}
+use Rattle.sheet_page.specs.Trees.{each}
+use Rattle.sheet_page.specs.Values.{places, row_at}
+
+-- ---- lists
+
+-- nothing for each
+abbrev pub no_part : {X Y : Type 0} → X → List Y
+no_part x = []
+
+pub no_parts : {X Y : Type 0} (xs : List X) → flat_map (no_part {X = X} {Y = Y}) xs ≡ []
+no_parts [] = refl
+no_parts (x ∷ xs) = no_parts xs
+
+-- one for each that a test picks
+pub picked : {X Y : Type 0} (test : X → Bool) (f : X → Y) (xs : List X)
+    → flat_map (λ x. if test x then f x ∷ [] else []) xs ≡ map f (filter test xs)
+picked test f [] = refl
+picked test f (x ∷ xs) = by (test x) (picked test f xs)
+  where
+    by : (b : Bool) → flat_map (λ y. if test y then f y ∷ [] else []) xs ≡ map f (filter test xs)
+        → (if b then f x ∷ [] else []) ++ flat_map (λ y. if test y then f y ∷ [] else []) xs
+        ≡ map f (if b then x ∷ filter test xs else filter test xs)
+    by true more = ap (λ ys. f x ∷ ys) more
+    by false more = more
+
+-- ---- trees one behind another
+
+pub behind_nothing : (trees : Trees) → followed trees Nothing ≡ trees
+behind_nothing Nothing = refl
+behind_nothing (Text text behind) = ap (λ t. Text text t) (behind_nothing behind)
+behind_nothing (Element name attributes within behind) = ap (λ t. Element name attributes within t) (behind_nothing behind)
+behind_nothing (Void name attributes behind) = ap (λ t. Void name attributes t) (behind_nothing behind)
+
+children_followed :
+    (name : List ℕ) (trees others : Trees)
+    → children name (followed trees others) ≡ children name trees ++ children name others
+children_followed name Nothing others = refl
+children_followed name (Text text behind) others = children_followed name behind others
+children_followed name (Element other attributes within behind) others =
+    by (bytes_eq other name) (children_followed name behind others)
+  where
+    by : (b : Bool) → children name (followed behind others) ≡ children name behind ++ children name others
+        → (if b then within ∷ children name (followed behind others) else children name (followed behind others))
+        ≡ (if b then within ∷ children name behind else children name behind) ++ children name others
+    by true more = ap (λ ts. within ∷ ts) more
+    by false more = more
+children_followed name (Void other attributes behind) others = children_followed name behind others
+
+-- ---- what is found along a path
+
+module _ {X : Type 0} (h : Trees → X) (name : List ℕ) (path : List (List ℕ)) where
+  -- what a function says of all that the path leads to
+  abbrev pub found : Trees → List X
+  found trees = map h (along (name ∷ path) trees)
+
+  pub found_followed : (trees others : Trees) → found (followed trees others) ≡ found trees ++ found others
+  found_followed trees others =
+      ap (λ ts. map h (flat_map (along path) ts)) (children_followed name trees others)
+      ∙ ap (map h) (flat_map-append (along path) (children name trees) (children name others))
+      ∙ map-append h (along (name ∷ path) trees) (along (name ∷ path) others)
+
+  pub found_each :
+      {Y : Type 0} (tree : Y → Trees) (items : List Y)
+      → found (each tree items) ≡ flat_map (λ x. found (tree x)) items
+  found_each tree [] = refl
+  found_each tree (x ∷ items) =
+      found_followed (tree x) (each tree items) ∙ ap (λ l. found (tree x) ++ l) (found_each tree items)
+
+  -- in a tree that stands there if a test holds
+  pub found_if : (b : Bool) (tree : Trees) → found (if b then tree else Nothing) ≡ (if b then found tree else [])
+  found_if true tree = refl
+  found_if false tree = refl
+
+-- ---- the ends of rounds
+
+shifted : {X : Type 0} (f g : ℕ → List X) → ((i : ℕ) → f (suc i) ≡ g i) → (a n : ℕ)
+    → flat_map f (range_with_len (suc a) n) ≡ flat_map g (range_with_len a n)
+shifted f g same a zero = refl
+shifted f g same a (suc n) =
+    let next : suc a + 1 ≡ suc (a + 1) = omega arith in
+    ap (λ k. f (suc a) ++ flat_map f (range_with_len k n)) next
+    ∙ ap (λ l. f (suc a) ++ l) (shifted f g same (a + 1) n)
+    ∙ ap (λ l. l ++ flat_map g (range_with_len (a + 1) n)) (same a)
+
+one_less : (a b : ℕ) → nat_eq (suc a) (suc b) ≡ nat_eq a b
+one_less a b =
+    elim (eqb_tells a b) [
+      | inl same ↦ eq-eqb (suc a) (suc b) (ap suc same.1) ∙ sym same.0
+      | inr other ↦ ne_eqb (suc a) (suc b) (λ e. other.1 (omega (arith, e))) ∙ sym other.0
+    ]
+
+ends_behind : (row : Row) (rows : List Row) (i : ℕ) → ends_round (row ∷ rows) (suc i) ≡ ends_round rows i
+ends_behind row rows i =
+    let next : suc i + 1 ≡ suc (i + 1) = omega arith in
+    let here = nat_eq (row_at rows i).round (row_at rows (i + 1)).round in
+    ap (λ k. nat_eq k (suc (length rows)) || not (nat_eq (row_at rows i).round (row_at (row ∷ rows) k).round)) next
+    ∙ ap (λ b. b || not here) (one_less (i + 1) (length rows))
+
+first_ends : (row next : Row) (rows : List Row) → ends_round (row ∷ next ∷ rows) 0 ≡ not (nat_eq row.round next.round)
+first_ends row next rows =
+    ap (λ b. b || not (nat_eq row.round next.round)) (ne_eqb 1 (length (row ∷ next ∷ rows)) (λ e. omega (arith, e)))
+
+-- what is found at the ends of rounds, place by place
+abbrev at_end : {X : Type 0} → (Row → List X) → List Row → (i : ℕ) → List X
+at_end g rows i = if ends_round rows i then g (row_at rows i) else []
+
+pub at_ends : {X : Type 0} (g : Row → List X) (rows : List Row)
+    → flat_map (λ i. if ends_round rows i then g (row_at rows i) else []) (places (length rows))
+    ≡ flat_map g (round_ends rows)
+at_ends g [] = refl
+at_ends g (row ∷ []) = refl
+at_ends g (row ∷ next ∷ rows) =
+    ap (λ l. at_end g (row ∷ next ∷ rows) 0 ++ l)
+    (shifted (at_end g (row ∷ next ∷ rows)) (at_end g (next ∷ rows))
+    (λ i. ap (λ b. if b then g (row_at (next ∷ rows) i) else []) (ends_behind row (next ∷ rows) i)) 0 (length (next ∷ rows))
+    ∙ at_ends g (next ∷ rows))
+    ∙ ap (λ b. (if b then g row else []) ++ flat_map g (round_ends (next ∷ rows))) (first_ends row next rows)
+    ∙ by (nat_eq row.round next.round)
+  where
+    by : (b : Bool) → (if not b then g row else []) ++ flat_map g (round_ends (next ∷ rows))
+        ≡ flat_map g (if b then round_ends (next ∷ rows) else row ∷ round_ends (next ∷ rows))
+    by true = refl
+    by false = refl

@@ -1,0 +1,14 @@
+use Rattle.sheet_page.proofs.LeftSeats.{seated_are}
+use Rattle.sheet_page.proofs.PageTexts.{elected_items, round_titles, folded_titles, table_heads, table_cells}
+use Rattle.sheet_page.proofs.laws.pages_say_their_sheets.Goals as goal
+
+pub returns-clause-elected : goal.returns-clause-elected
+returns-clause-elected c v = record { items = elected_items v; seated = seated_are v }
+
+pub returns-clause-rounds : goal.returns-clause-rounds
+returns-clause-rounds c v = record {
+  titles = round_titles v;
+  folded = folded_titles v;
+  heads = table_heads v;
+  cells = table_cells v;
+}

@@ -1,0 +1,84 @@
+-- What every page shows of its sheet.
+use Rattle.std.specs.Prelude.{◌≡◌, ◌↔◌, ℕ, ◌<◌, true, false, if◌then◌else◌, List, [], ◌∷◌, ◌++◌, length, map, codes, decimal, nat_eq, slice_index}
+use Rattle.std.specs.List.{filter, flat_map}
+use Rattle.candidate_roll.specs.State.{state_at}
+use Rattle.candidate_roll.specs.declared.state.State.TheVariants.{Elected}
+use Rattle.fixed_place.specs.Text.{text_of}
+use Rattle.lot_order.specs.Flags.{mark_at}
+use Rattle.meek_rule.specs.Row.{Row}
+use Rattle.sheet_text.specs.Lines.{state_word}
+use Rattle.sheet_reader.specs.Values.{SheetList}
+use Rattle.sheet_page.specs.Html.{is_seated, page}
+use Rattle.sheet_page.specs.PageReading.{along, texts_along}
+use Rattle.sheet_page.specs.RoundEnds.{left_over, state_after}
+use Rattle.sheet_page.specs.Values.{places, name_at, row_at}
+
+-- a path below the parts of a page
+abbrev pub below : (path : List (List ℕ)) → List (List ℕ)
+below path = codes "html" ∷ codes "body" ∷ codes "section" ∷ path
+
+-- ---- who is elected
+
+abbrev pub elected_line : SheetList → (round p : ℕ) → List ℕ
+elected_line v round p = name_at v p ++ (codes ": elected in round " ++ decimal round)
+
+abbrev pub seated_line : SheetList → (p : ℕ) → List ℕ
+seated_line v p = name_at v p ++ codes ": elected at the end, to a seat that was left"
+
+-- a line for each candidate that an iteration marks as elected, in the order of their numbers
+abbrev pub marked_lines : SheetList → Row → List (List ℕ)
+marked_lines v row = map (elected_line v row.round) (filter (mark_at row.elected) (places (length v.names)))
+
+-- The list of a page has an item for each mark of each iteration, and for each candidate that is elected in the end and was
+-- in no iteration; and no other.
+pub record ListsItsElected (v : SheetList) : Type 0 where
+  pub items :
+      texts_along (below (codes "ol" ∷ codes "li" ∷ [])) (page v)
+      ≡ flat_map (marked_lines v) v.rows ++ map (seated_line v) (filter (is_seated v) (places (length v.names)))
+  pub seated :
+      (p : ℕ) → (is_seated v p ≡ true)
+      ↔ ((state_at v.last p ≡ Elected) × ((i : ℕ) → i < length v.rows → mark_at (row_at v.rows i).elected p ≡ false))
+
+abbrev pub PagesListTheirElected : Type 0
+PagesListTheirElected = (v : SheetList) → ListsItsElected v
+
+-- ---- rounds
+
+-- the last iteration of each round: a round goes on as long as its number stays
+abbrev pub round_ends : List Row → List Row
+round_ends [] = []
+round_ends (row ∷ []) = row ∷ []
+round_ends (row ∷ next ∷ rows) =
+    if nat_eq row.round next.round then round_ends (next ∷ rows) else row ∷ round_ends (next ∷ rows)
+
+-- a candidate's vote and state
+abbrev pub vote_text : Row → (p : ℕ) → List ℕ
+vote_text row p = text_of 9 (slice_index row.votes p) ++ (codes " " ++ state_word (state_after row p))
+
+-- the cells of a round: its quota, the votes on no candidate, and each candidate
+abbrev pub round_texts : SheetList → Row → List (List ℕ)
+round_texts v row =
+    text_of 9 row.quota ∷ text_of 9 (left_over v.ballots row) ∷ map (vote_text row) (places (length v.names))
+
+-- what the cells of this name say, in each row of the table of rounds
+abbrev pub cells_of : (name : List ℕ) → SheetList → List (List (List ℕ))
+cells_of name v = map (texts_along (name ∷ [])) (along (below (codes "table" ∷ codes "tr" ∷ [])) (page v))
+
+-- A page has a part with a title for each round, and its iterations within the part; and the table has a row for each
+-- round, below a row of all names. Both stand in the order of the rounds, and there is no other.
+pub record HasItsRounds (v : SheetList) : Type 0 where
+  pub titles :
+      texts_along (below (codes "h2" ∷ [])) (page v)
+      ≡ codes "Elected" ∷ codes "Votes at the end of each round"
+      ∷ map (λ row. codes "Round " ++ decimal row.round) (round_ends v.rows)
+  pub folded :
+      texts_along (below (codes "details" ∷ codes "summary" ∷ [])) (page v)
+      ≡ map (λ row. codes "Iterations of round " ++ decimal row.round) (round_ends v.rows)
+  pub heads :
+      cells_of (codes "th") v
+      ≡ (codes "Round" ∷ codes "Quota" ∷ codes "On no candidate" ∷ v.names)
+      ∷ map (λ row. decimal row.round ∷ []) (round_ends v.rows)
+  pub cells : cells_of (codes "td") v ≡ [] ∷ map (round_texts v) (round_ends v.rows)
+
+abbrev pub PagesHaveTheirRounds : Type 0
+PagesHaveTheirRounds = (v : SheetList) → HasItsRounds v
