@@ -21,6 +21,8 @@ mod RowFields
 mod TableValues
 mod JsonRows
 mod JsonSheets
+mod WholeRounds
 mod PageWalks
 mod PageTexts
+mod PageIterations
 mod LeftSeats

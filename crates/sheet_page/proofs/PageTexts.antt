@@ -29,30 +29,30 @@ use Rattle.sheet_page.proofs.PageWalks.{at_ends}
 -- ---- the parts of a page
 
 module _ {X : Type 0} (h : Trees → X) (path : List (List ℕ)) (v : SheetList) where
-  abbrev in_parts : Trees → List X
+  abbrev pub in_parts : Trees → List X
   in_parts = found h (codes "section") path
 
-  -- the parts of rounds, where a path leads in each to what its last iteration says
+  -- the parts of rounds, by what a path leads to in the part of the round that ends at each place
   in_rounds :
-      (g : Row → List X) → ((full i : ℕ) → in_parts (round_part v full i) ≡ g (row_at v.rows i))
-      → in_parts (round_parts v (full_of v.rows)) ≡ flat_map g (round_ends v.rows)
+      (g : ℕ → List X) → ((full i : ℕ) → in_parts (round_part v full i) ≡ g i)
+      → in_parts (round_parts v (full_of v.rows))
+      ≡ flat_map (λ i. if ends_round v.rows i then g i else []) (places (length v.rows))
   in_rounds g is =
-      let full = full_of v.rows in
-      found_each h (codes "section") path (part_at v full) (places (length v.rows))
+      found_each h (codes "section") path (part_at v (full_of v.rows)) (places (length v.rows))
       ∙ (λ j. flat_map (λ i. here i j) (places (length v.rows)))
-      ∙ at_ends g v.rows
     where
-      here : (i : ℕ) → in_parts (part_at v (full_of v.rows) i) ≡ (if ends_round v.rows i then g (row_at v.rows i) else [])
+      here : (i : ℕ) → in_parts (part_at v (full_of v.rows) i) ≡ (if ends_round v.rows i then g i else [])
       here i =
           found_if h (codes "section") path (ends_round v.rows i) (round_part v (full_of v.rows) i)
           ∙ ap (λ l. if ends_round v.rows i then l else []) (is (full_of v.rows) i)
 
   -- a whole page
-  pub in_page :
-      (g : Row → List X) → ((full i : ℕ) → in_parts (round_part v full i) ≡ g (row_at v.rows i))
+  pub in_page_at :
+      (g : ℕ → List X) → ((full i : ℕ) → in_parts (round_part v full i) ≡ g i)
       → map h (along (below path) (page v))
-      ≡ in_parts (elected_part v) ++ (in_parts (rounds_part v) ++ flat_map g (round_ends v.rows))
-  in_page g is =
+      ≡ in_parts (elected_part v)
+      ++ (in_parts (rounds_part v) ++ flat_map (λ i. if ends_round v.rows i then g i else []) (places (length v.rows)))
+  in_page_at g is =
       let full = full_of v.rows in
       let parts = followed (elected_part v) (followed (rounds_part v) (followed (round_parts v full) Nothing)) in
       ap (map h) (append-nil (along (codes "section" ∷ path) parts ++ [])
@@ -62,6 +62,15 @@ module _ {X : Type 0} (h : Trees → X) (path : List (List ℕ)) (v : SheetList)
       ∙ ap (λ l. in_parts (elected_part v) ++ l) (
       found_followed h (codes "section") path (rounds_part v) (followed (round_parts v full) Nothing)
       ∙ ap (λ l. in_parts (rounds_part v) ++ l) (ap in_parts (behind_nothing (round_parts v full)) ∙ in_rounds g is))
+
+  -- where the last iteration of a round says it
+  pub in_page :
+      (g : Row → List X) → ((full i : ℕ) → in_parts (round_part v full i) ≡ g (row_at v.rows i))
+      → map h (along (below path) (page v))
+      ≡ in_parts (elected_part v) ++ (in_parts (rounds_part v) ++ flat_map g (round_ends v.rows))
+  in_page g is =
+      in_page_at (λ i. g (row_at v.rows i)) is
+      ∙ ap (λ l. in_parts (elected_part v) ++ (in_parts (rounds_part v) ++ l)) (at_ends g v.rows)
 
 -- ---- who is elected
 
@@ -166,7 +175,7 @@ module _ {X : Type 0} (h : Trees → X) (v : SheetList) (g : Row → X) (is : (r
 
 -- the cells that stand in each of these trees, one in each or none
 module _ (name : List ℕ) (tree : ℕ → Trees) (ps : List ℕ) where
-  one_each : (text : ℕ → List ℕ) → ((p : ℕ) → texts_along (name ∷ []) (tree p) ≡ text p ∷ [])
+  pub one_each : (text : ℕ → List ℕ) → ((p : ℕ) → texts_along (name ∷ []) (tree p) ≡ text p ∷ [])
       → texts_along (name ∷ []) (followed (each tree ps) Nothing) ≡ map text ps
   one_each text is =
       ap (texts_along (name ∷ [])) (behind_nothing (each tree ps))

@@ -9,9 +9,10 @@ use Rattle.meek_rule.specs.Row.{Row}
 use Rattle.sheet_text.specs.Lines.{state_word}
 use Rattle.sheet_reader.specs.Values.{SheetList}
 use Rattle.sheet_page.specs.Html.{is_seated, page}
+use Rattle.sheet_page.specs.Json.{joined}
 use Rattle.sheet_page.specs.PageReading.{along, texts_along}
 use Rattle.sheet_page.specs.RoundEnds.{left_over, state_after}
-use Rattle.sheet_page.specs.Values.{places, name_at, row_at}
+use Rattle.sheet_page.specs.Values.{places, name_at, row_at, step_word}
 
 -- a path below the parts of a page
 abbrev pub below : (path : List (List ℕ)) → List (List ℕ)
@@ -82,3 +83,34 @@ pub record HasItsRounds (v : SheetList) : Type 0 where
 
 abbrev pub PagesHaveTheirRounds : Type 0
 PagesHaveTheirRounds = (v : SheetList) → HasItsRounds v
+
+-- ---- iterations
+
+-- the number and the amounts of an iteration, and its step
+abbrev pub iteration_text : Row → List ℕ
+iteration_text row =
+    joined (
+    codes "Iteration " ∷ decimal row.iteration ∷ codes ": total " ∷ text_of 9 row.total ∷ codes ", quota " ∷ text_of 9 row.quota
+    ∷ codes ", surplus " ∷ text_of 9 row.surplus ∷ codes ", step " ∷ step_word row.step ∷ []
+    )
+
+-- a candidate's state and keep value before an iteration, and its vote in it
+abbrev pub standing_texts : Row → (p : ℕ) → List (List ℕ)
+standing_texts row p =
+    state_word (state_at row.states p) ∷ text_of 9 (slice_index row.keeps p) ∷ text_of 9 (slice_index row.votes p) ∷ []
+
+-- what the cells of this name say, in each iteration that a page has in its parts
+abbrev pub iterations_of : (name : List ℕ) → SheetList → List (List (List ℕ))
+iterations_of name v =
+    map (texts_along (codes "tr" ∷ name ∷ []))
+    (along (below (codes "details" ∷ codes "table" ∷ codes "tbody" ∷ [])) (page v))
+
+-- The parts of a page together have each iteration of the sheet once, in their order: its amounts, and below them the name,
+-- the state, the keep value and the vote of each candidate.
+pub record HasItsIterations (v : SheetList) : Type 0 where
+  pub heads : iterations_of (codes "th") v ≡ map (λ row. iteration_text row ∷ v.names) v.rows
+  pub cells :
+      iterations_of (codes "td") v ≡ map (λ row. flat_map (standing_texts row) (places (length v.names))) v.rows
+
+abbrev pub PagesHaveTheirIterations : Type 0
+PagesHaveTheirIterations = (v : SheetList) → HasItsIterations v

@@ -1,4 +1,5 @@
 use Rattle.sheet_page.proofs.LeftSeats.{seated_are}
+use Rattle.sheet_page.proofs.PageIterations.{iteration_heads, iteration_cells}
 use Rattle.sheet_page.proofs.PageTexts.{elected_items, round_titles, folded_titles, table_heads, table_cells}
 use Rattle.sheet_page.proofs.laws.pages_say_their_sheets.Goals as goal
 
@@ -12,3 +13,6 @@ returns-clause-rounds c v = record {
   heads = table_heads v;
   cells = table_cells v;
 }
+
+pub returns-clause-iterations : goal.returns-clause-iterations
+returns-clause-iterations c v = record { heads = iteration_heads v; cells = iteration_cells v }
