@@ -25,4 +25,5 @@ mod WholeRounds
 mod PageWalks
 mod PageTexts
 mod PageIterations
+mod PageLabels
 mod LeftSeats

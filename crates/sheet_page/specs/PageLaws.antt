@@ -65,8 +65,15 @@ round_texts v row =
 abbrev pub cells_of : (name : List ℕ) → SheetList → List (List (List ℕ))
 cells_of name v = map (texts_along (name ∷ [])) (along (below (codes "table" ∷ codes "tr" ∷ [])) (page v))
 
--- A page has a part with a title for each round, and its iterations within the part; and the table has a row for each
--- round, below a row of all names. Both stand in the order of the rounds, and there is no other.
+-- what stands over a candidate's bar: its state, vote and name
+abbrev pub label_text : SheetList → Row → (p : ℕ) → List ℕ
+label_text v row p =
+    joined (
+    state_word (state_after row p) ∷ codes " " ∷ text_of 9 (slice_index row.votes p) ∷ codes " " ∷ name_at v p ∷ []
+    )
+
+-- A page has a part with a title for each round, with a label for each candidate and its iterations within the part; and the
+-- table has a row for each round, below a row of all names. Both stand in the order of the rounds, and there is no other.
 pub record HasItsRounds (v : SheetList) : Type 0 where
   pub titles :
       texts_along (below (codes "h2" ∷ [])) (page v)
@@ -75,6 +82,9 @@ pub record HasItsRounds (v : SheetList) : Type 0 where
   pub folded :
       texts_along (below (codes "details" ∷ codes "summary" ∷ [])) (page v)
       ≡ map (λ row. codes "Iterations of round " ++ decimal row.round) (round_ends v.rows)
+  pub labels :
+      texts_along (below (codes "svg" ∷ codes "text" ∷ [])) (page v)
+      ≡ flat_map (λ row. map (label_text v row) (places (length v.names))) (round_ends v.rows)
   pub heads :
       cells_of (codes "th") v
       ≡ (codes "Round" ∷ codes "Quota" ∷ codes "On no candidate" ∷ v.names)

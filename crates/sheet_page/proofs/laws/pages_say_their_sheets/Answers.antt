@@ -1,5 +1,6 @@
 use Rattle.sheet_page.proofs.LeftSeats.{seated_are}
 use Rattle.sheet_page.proofs.PageIterations.{iteration_heads, iteration_cells}
+use Rattle.sheet_page.proofs.PageLabels.{picture_labels}
 use Rattle.sheet_page.proofs.PageTexts.{elected_items, round_titles, folded_titles, table_heads, table_cells}
 use Rattle.sheet_page.proofs.laws.pages_say_their_sheets.Goals as goal
 
@@ -10,6 +11,7 @@ pub returns-clause-rounds : goal.returns-clause-rounds
 returns-clause-rounds c v = record {
   titles = round_titles v;
   folded = folded_titles v;
+  labels = picture_labels v;
   heads = table_heads v;
   cells = table_cells v;
 }

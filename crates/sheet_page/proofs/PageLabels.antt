@@ -1,0 +1,46 @@
+-- The labels of the pictures on a page.
+use Rattle.std.proofs.Common.{◌≡◌, ◌∙◌, ap, ℕ, List, [], ◌∷◌, ◌++◌, map, length, append-nil}
+use Rattle.std.specs.Prelude.{codes}
+use Rattle.std.specs.List.{flat_map}
+use Rattle.std.proofs.lemmas.List.Concat.{flat_map_single}
+use Rattle.meek_rule.specs.Row.{Row}
+use Rattle.page_tree.specs.Trees.{Trees, Nothing, followed}
+use Rattle.sheet_reader.specs.Values.{SheetList}
+use Rattle.sheet_page.specs.Html.{page}
+use Rattle.sheet_page.specs.PageLaws.{below, label_text, round_ends}
+use Rattle.sheet_page.specs.PageReading.{text_in, along, texts_along}
+use Rattle.sheet_page.specs.Picture.{bar, quota_line, scaled}
+use Rattle.sheet_page.specs.Trees.{each}
+use Rattle.sheet_page.specs.Values.{places, row_at}
+use Rattle.sheet_page.proofs.PageTexts.{in_page}
+use Rattle.sheet_page.proofs.PageWalks.{found, found_followed, found_each}
+
+abbrev labels : Trees → List (List ℕ)
+labels = found text_in (codes "text") []
+
+-- the bars of a round, and the line of its quota
+bars : (v : SheetList) (full : ℕ) (row : Row) →
+    labels (followed (each (bar v full row) (places (length v.names)))
+    (followed (quota_line (scaled full row.quota) (length v.names)) Nothing))
+    ≡ map (label_text v row) (places (length v.names))
+bars v full row =
+    let line = followed (quota_line (scaled full row.quota) (length v.names)) Nothing in
+    found_followed text_in (codes "text") [] (each (bar v full row) (places (length v.names))) line
+    ∙ append-nil (labels (each (bar v full row) (places (length v.names))))
+    ∙ found_each text_in (codes "text") [] (bar v full row) (places (length v.names))
+    ∙ flat_map_single (label_text v row) (places (length v.names))
+
+pub picture_labels : (v : SheetList) →
+    texts_along (below (codes "svg" ∷ codes "text" ∷ [])) (page v)
+    ≡ flat_map (λ row. map (label_text v row) (places (length v.names))) (round_ends v.rows)
+picture_labels v =
+    in_page text_in (codes "svg" ∷ codes "text" ∷ []) v (λ row. map (label_text v row) (places (length v.names))) here
+  where
+    here : (full i : ℕ) →
+        map text_in ((along (codes "text" ∷ []) (followed (each (bar v full (row_at v.rows i)) (places (length v.names)))
+        (followed (quota_line (scaled full (row_at v.rows i).quota) (length v.names)) Nothing)) ++ []) ++ [])
+        ≡ map (label_text v (row_at v.rows i)) (places (length v.names))
+    here full i =
+        let them = along (codes "text" ∷ []) (followed (each (bar v full (row_at v.rows i)) (places (length v.names)))
+        (followed (quota_line (scaled full (row_at v.rows i).quota) (length v.names)) Nothing)) in
+        ap (map text_in) (append-nil (them ++ []) ∙ append-nil them) ∙ bars v full (row_at v.rows i)
