@@ -12,7 +12,7 @@ use Rattle.ballot_marks.specs.declared.way.Way.TheVariants.{Ranked, Passed, Cut,
 use Rattle.ballot_table.specs.declared.column.Column.{Column}
 use Rattle.ballot_table.specs.declared.empty.Empty.{Empty}
 use Rattle.ballot_table.specs.Asked.{Asked}
-use Rattle.ballot_table.specs.Faults.{Fault}
+use Rattle.ballot_table.specs.declared.fault.Fault.{Fault}
 use Rattle.ballot_table.specs.Head.{head_fault, columns, names_of}
 use Rattle.ballot_table.specs.Laws.{IsCounted}
 use Rattle.ballot_table.specs.Refusals.{reason_of, mark_fault, whole_fault, placed, faults_below}
@@ -42,7 +42,7 @@ kept (Some Cut) ranks is = refl
 kept (Some (Refused why)) ranks is = absurd (cc is)
 
 -- marks that have one are not refused
-not_refused :
+pub not_refused :
     (way : Option Way) (ranks some : List ℕ) → unless_refused way ranks ≡ Some some → reason_of way ≡ None
 not_refused None ranks some is = refl
 not_refused (Some Ranked) ranks some is = refl

@@ -1,5 +1,9 @@
-mod FaultLemmas
+mod DroppedLemmas
 mod BallotsLemmas
+mod FaultLemmas
+mod LeftLemmas
+mod MarkFaultLemmas
+mod MarkingLemmas
 mod MendLemmas
 mod RoomLemmas
 mod WeightLemmas
@@ -11,3 +15,9 @@ mod ChoiceRows
 mod ListRows
 mod HolderLemmas
 mod RankRows
+mod HeadLemmas
+mod HeldLemmas
+mod NumberLemmas
+mod RowLemmas
+mod TableLemmas
+mod WithinLemmas

@@ -11,7 +11,8 @@ use Rattle.ballot_table.specs.declared.column.Column.{Column}
 use Rattle.ballot_table.specs.declared.empty.Empty.{Empty}
 use Rattle.ballot_table.specs.declared.empty.Empty.TheVariants.{Refuse, Keep, Drop}
 use Rattle.ballot_table.specs.Asked.{Asked}
-use Rattle.ballot_table.specs.Faults.{Fault, first_fault}
+use Rattle.ballot_table.specs.declared.fault.Fault.{Fault}
+use Rattle.ballot_table.specs.Faults.{first_fault}
 use Rattle.ballot_table.specs.Head.{columns}
 use Rattle.ballot_table.specs.Rows.{Row, all_blank, is_dropped, cells_of, length_fault, empty_fault}
 use Rattle.ballot_table.specs.Rows.{row_fault}

@@ -21,7 +21,7 @@ use Rattle.ballot_table.specs.Asked.{Asked}
 use Rattle.ballot_table.specs.Faults.{Fault, first_fault}
 use Rattle.ballot_table.specs.Texts.{number}
 use Rattle.ballot_table.specs.Cells.{Cell, Counts, as_cell, cell_of, counted, fault_one}
-use Rattle.ballot_table.specs.Rows.{all_blank, ballots_in, cells_of, empty_fault, length_fault, room_behind}
+use Rattle.ballot_table.specs.Rows.{all_blank, weight_at, cells_of, empty_fault, length_fault, room_behind}
 use Rattle.ballot_table.specs.Rows.{row_fault, weight_in}
 use Rattle.ballot_table.proofs.BehindLemmas.{each}
 use Rattle.ballot_table.proofs.FaultLemmas.{IsNothing, or_none}
@@ -180,7 +180,7 @@ module _ (asked : Asked) (empty : Empty) (cols : List Column) where
       as_many_weights cols texts (long_enough (length texts) both.0)
 
   -- with just one weight it is the number of ballots
-  only_one : (ks : List ℕ) (room : ℕ) → length ks ≡ 1 → (AreWithin room ks) ↔ (unwrap_or (slice_get ks 0) 1 ≤ room)
+  only_one : (ks : List ℕ) (room : ℕ) → length ks ≡ 1 → (AreWithin room ks) ↔ (unwrap_or (slice_get ks 0) 0 ≤ room)
   only_one [] room one = absurd (omega (arith, one))
   only_one (k ∷ []) room one =
       ((λ all. All-head (λ k. k ≤ room) k [] all), (λ few. All-cons (λ k. k ≤ room) k [] few (All-nil (λ k. k ≤ room))))
@@ -195,7 +195,7 @@ module _ (asked : Asked) (empty : Empty) (cols : List Column) where
   judged front rows = each (λ before texts. form (room_behind cols before) texts) front rows
 
   abbrev total : List (List (List ℕ)) → ℕ
-  total rows = sum_by (ballots_in cols) rows
+  total rows = sum_by (weight_at cols) rows
 
   -- a row that is sound with some room
   IsSoundRow : List (List ℕ) → Type 0
@@ -229,15 +229,15 @@ module _ (asked : Asked) (empty : Empty) (cols : List Column) where
   -- with one, sound rows have no more ballots than there may be
   have_room : weights cols ≡ 1 → (front rows : List (List (List ℕ))) → All IsNothing (judged front rows)
       → total front ≤ MOST_BALLOTS → total (front ++ rows) ≤ MOST_BALLOTS
-  have_room one front [] all few = omega (arith, few, sum_by-append (ballots_in cols) front [])
+  have_room one front [] all few = omega (arith, few, sum_by-append (weight_at cols) front [])
   have_room one front (texts ∷ rows) all few =
       let room = room_behind cols front in
       let more = judged (front ++ texts ∷ []) rows in
       let sound = All-head IsNothing (form room texts) more all in
-      let here : ballots_in cols texts ≤ room =
+      let here : weight_at cols texts ≤ room =
       (only_one (numbers texts) room (row_weights room texts sound ∙ one)).0 (row_within room texts sound) in
       let further : total (front ++ texts ∷ []) ≤ MOST_BALLOTS =
-      omega (arith, few, here, sum_by-append (ballots_in cols) front (texts ∷ [])) in
+      omega (arith, few, here, sum_by-append (weight_at cols) front (texts ∷ [])) in
       omega (
         arith,
         behind_one front rows texts,
@@ -252,13 +252,13 @@ module _ (asked : Asked) (empty : Empty) (cols : List Column) where
   sound_with_room one front (texts ∷ rows) all few =
       let here = All-head IsSoundRow texts rows all in
       let room = room_behind cols front in
-      let fits : ballots_in cols texts ≤ room =
+      let fits : weight_at cols texts ≤ room =
       omega (
         arith,
         few,
         behind_one front rows texts,
-        sum_by-append (ballots_in cols) (front ++ texts ∷ []) rows,
-        sum_by-append (ballots_in cols) front (texts ∷ []),
+        sum_by-append (weight_at cols) (front ++ texts ∷ []) rows,
+        sum_by-append (weight_at cols) front (texts ∷ []),
       ) in
       All-cons IsNothing (form room texts) (judged (front ++ texts ∷ []) rows)
       (row_moved here.0 room texts here.1
@@ -272,7 +272,7 @@ module _ (asked : Asked) (empty : Empty) (cols : List Column) where
       sound_anywhere none [] other (All-permutation IsSoundRow one other moved (each_sound [] one all))
   sound_moved (suc zero) only few one other moved all =
       sound_with_room only [] other (All-permutation IsSoundRow one other moved (each_sound [] one all))
-      (omega (arith, sum_by-IsPermutation (ballots_in cols) one other moved, have_room only [] one all (omega arith)))
+      (omega (arith, sum_by-IsPermutation (weight_at cols) one other moved, have_room only [] one all (omega arith)))
   sound_moved (suc (suc n)) only few one other moved all = absurd (omega (arith, few))
 
   -- Sound rows are sound in another order, with at most one column of the weight.

@@ -27,7 +27,7 @@ abbrev pub is_blank : Asked → List ℕ → Bool
 is_blank asked [] = true
 is_blank asked (b ∷ bs) = is_in asked.blank (b ∷ bs)
 
--- a rank is 1 to the most candidates
+-- a rank is that of one of as many candidates as there may be
 abbrev pub in_range : Option ℕ → Option ℕ
 in_range None = None
 in_range (Some n) = if nat_lt 0 n && nat_le n MOST_CANDIDATES then Some n else None

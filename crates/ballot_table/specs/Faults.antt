@@ -1,12 +1,8 @@
 -- Faults of a record at their places.
 use Rattle.std.specs.Prelude.{ℕ, List, Option, Some, None, Result, Ok, Err}
 use Rattle.std.specs.List.{filter_map, enumerate_from, slice_get}
+use Rattle.ballot_table.specs.declared.fault.Fault.{Fault}
 use Rattle.ballot_table.specs.declared.table_kind.TableKind.{TableKind}
-
--- a fault and its column, from 1; of NoColumn and BadWithdrawn the place in the list of the words, from 1
-pub record Fault : Type 0 where
-  pub kind : TableKind
-  pub place : ℕ
 
 abbrev pub fault_of : {X : Type 0} → ℕ × Result X TableKind → Option Fault
 fault_of (place, Ok x) = None

@@ -1,5 +1,5 @@
 -- The head of a table: what its columns are of, by the fields before them alone.
-use Rattle.std.specs.Prelude.{ℕ, ◌+◌, ◌-◌, ◌==◌, ◌||◌, ◌&&◌, not, nat_le, nat_lt, false, if◌then◌else◌}
+use Rattle.std.specs.Prelude.{ℕ, ◌+◌, ◌-◌, ◌==◌, ◌||◌, ◌&&◌, not, nat_lt, nat_le, false, if◌then◌else◌}
 use Rattle.std.specs.Prelude.{List, [], ◌∷◌, length, take, map, filter, position, Option, Some, None, Result}
 use Rattle.std.specs.Prelude.{Ok, Err}
 use Rattle.std.specs.List.{enumerate_from, list_any, after_last, ends_with}
@@ -17,7 +17,8 @@ use Rattle.ballot_table.specs.declared.table_kind.TableKind.TheVariants.{TooMany
 use Rattle.ballot_table.specs.declared.table_kind.TableKind.TheVariants.{BadName, TooLongName, BadWithdrawn}
 use Rattle.ballot_table.specs.Asked.{Asked}
 use Rattle.ballot_table.specs.Texts.{trimmed, is_in}
-use Rattle.ballot_table.specs.Faults.{Fault, first_fault, sound}
+use Rattle.ballot_table.specs.declared.fault.Fault.{Fault}
+use Rattle.ballot_table.specs.Faults.{first_fault, sound}
 
 -- what stands between the last `[` and the `]` that ends a text, and nothing where these are not there
 abbrev pub bracketed : List ℕ → List ℕ

@@ -17,7 +17,8 @@ use Rattle.ballot_table.specs.declared.layout.Layout.TheVariants as layout
 use Rattle.ballot_table.specs.declared.table_kind.TableKind.{TableKind}
 use Rattle.ballot_table.specs.declared.table_kind.TableKind.TheVariants.{SkippedRank, EqualRank, Repeated}
 use Rattle.ballot_table.specs.Asked.{Asked}
-use Rattle.ballot_table.specs.Faults.{Fault, sound}
+use Rattle.ballot_table.specs.declared.fault.Fault.{Fault}
+use Rattle.ballot_table.specs.Faults.{sound}
 use Rattle.ballot_table.specs.Head.{head_fault, columns}
 use Rattle.ballot_table.specs.Cells.{Cell}
 use Rattle.ballot_table.specs.Rows.{cells_of, ranks_of, holders, said_in, marks_of, is_dropped, row_fault}

@@ -17,7 +17,8 @@ use Rattle.ballot_table.specs.declared.table_kind.TableKind.{TableKind}
 use Rattle.ballot_table.specs.declared.table_kind.TableKind.TheVariants.{UnequalRow, EmptyRow}
 use Rattle.ballot_table.specs.Asked.{Asked}
 use Rattle.ballot_table.specs.Texts.{number}
-use Rattle.ballot_table.specs.Faults.{Fault, first_fault, sound}
+use Rattle.ballot_table.specs.declared.fault.Fault.{Fault}
+use Rattle.ballot_table.specs.Faults.{first_fault, sound}
 use Rattle.ballot_table.specs.Cells.{Cell, Ranked, Said, Listed, cell_of}
 
 -- a row: the number of ballots that it stands for, and their marks by rising rank
@@ -47,9 +48,13 @@ weight_in (other, text) = None
 abbrev pub ballots_in : List Column → List (List ℕ) → ℕ
 ballots_in columns texts = unwrap_or (slice_get (filter_map weight_in (zip columns texts)) 0) 1
 
--- so many more ballots have room behind these rows
+-- the number in the weight's column, and 0 where no column has one
+abbrev pub weight_at : List Column → List (List ℕ) → ℕ
+weight_at columns texts = unwrap_or (slice_get (filter_map weight_in (zip columns texts)) 0) 0
+
+-- so many more ballots have room behind these rows, by their weights
 abbrev pub room_behind : List Column → List (List (List ℕ)) → ℕ
-room_behind columns before = MOST_BALLOTS - sum_by (ballots_in columns) before
+room_behind columns before = MOST_BALLOTS - sum_by (weight_at columns) before
 
 -- rows, each with the room behind those before it
 abbrev pub with_room : List Column → List (List (List ℕ)) → List (ℕ × List (List ℕ))
@@ -59,13 +64,14 @@ with_room columns rows = map (λ at. (room_behind columns (take at.0 rows), at.1
 abbrev pub cells_of : Asked → ℕ → List Column → List (List ℕ) → List (Result Cell TableKind)
 cells_of asked room columns texts = map (λ p. cell_of asked room p.0 p.1) (zip columns texts)
 
+-- the rank in the cell of a candidate, which may be none
+abbrev pub rank_cell : Cell → List (Option ℕ)
+rank_cell (Ranked rank) = rank ∷ []
+rank_cell other = []
+
 -- what the cells say of the ranks in which candidates are, by number
 abbrev pub ranks_of : List Cell → List (Option ℕ)
-ranks_of cells = flat_map of_one cells
-  where
-    of_one : Cell → List (Option ℕ)
-    of_one (Ranked rank) = rank ∷ []
-    of_one other = []
+ranks_of cells = flat_map rank_cell cells
 
 -- what the cells say of ranks, from the first rank on
 abbrev pub says_of : List Cell → List (Option Says)
@@ -76,13 +82,14 @@ says_of cells = flat_map of_one cells
     of_one (Listed says) = says
     of_one other = []
 
+-- a candidate, where it has the rank
+abbrev pub holder : (rank : ℕ) → ℕ × Option ℕ → Option ℕ
+holder rank (c, None) = None
+holder rank (c, Some r) = if r == rank then Some c else None
+
 -- the candidates at a rank
-abbrev pub holders : ℕ → List (Option ℕ) → List ℕ
-holders rank ranks = filter_map (λ p. at p.0 p.1) (enumerate_from 1 ranks)
-  where
-    at : ℕ → Option ℕ → Option ℕ
-    at c None = None
-    at c (Some r) = if r == rank then Some c else None
+abbrev pub holders : (rank : ℕ) → List (Option ℕ) → List ℕ
+holders rank ranks = filter_map (holder rank) (enumerate_from 1 ranks)
 
 -- what a rank says that these candidates have
 abbrev pub said_by_holders : List ℕ → Option Says
@@ -90,25 +97,32 @@ said_by_holders [] = None
 said_by_holders (c ∷ []) = Some (One c)
 said_by_holders (c ∷ d ∷ others) = Some Over
 
+-- what a rank says, where it isn't blank
+abbrev pub said_of : ℕ × Option Says → Option (ℕ × Says)
+said_of (rank, None) = None
+said_of (rank, Some said) = Some (rank, said)
+
 -- what each rank says that isn't blank, by rising rank
 abbrev pub by_rank : List (Option Says) → List (ℕ × Says)
-by_rank says = filter_map (λ p. at p.0 p.1) (enumerate_from 1 says)
-  where
-    at : ℕ → Option Says → Option (ℕ × Says)
-    at rank None = None
-    at rank (Some said) = Some (rank, said)
+by_rank says = filter_map said_of (enumerate_from 1 says)
 
--- what each rank says, from 1 to the most candidates, or as many as there are columns or parts
+-- what each rank says from 1 up to a greatest, where the candidates in number order have these
+unfoldable pub said_up_to : (most : ℕ) → List (Option ℕ) → List (Option Says)
+said_up_to most ranks = map (λ rank. said_by_holders (holders rank ranks)) (range_with_len 1 most)
+
+-- what the ranks of as many candidates say as there may be, or as many as there are columns or parts
 abbrev pub said_at : Layout → List Cell → List (Option Says)
-said_at layout.Ranks cells =
-    map (λ rank. said_by_holders (holders rank (ranks_of cells))) (range_with_len 1 MOST_CANDIDATES)
+said_at layout.Ranks cells = said_up_to MOST_CANDIDATES (ranks_of cells)
 said_at layout.Choices cells = says_of cells
 said_at layout.List cells = says_of cells
 
--- the marks of ranks that aren't blank: the ranks between each and the one before it are skipped
+-- the marks of ranks that aren't blank, behind a rank: those between each and the one before it are skipped
+abbrev pub marks_behind : (last : ℕ) → List (ℕ × Says) → List Mark
+marks_behind last said =
+    map (λ p. record { skipped = p.1.0 - p.0 - 1; says = p.1.1 }) (zip (last ∷ map (λ s. s.0) said) said)
+
 abbrev pub marks_of : List (ℕ × Says) → List Mark
-marks_of said =
-    map (λ p. record { skipped = p.1.0 - p.0 - 1; says = p.1.1 }) (zip (0 ∷ map (λ s. s.0) said) said)
+marks_of said = marks_behind 0 said
 
 -- what the ranks of a row say that aren't blank, by rising rank
 abbrev pub said_in : Asked → ℕ → List Column → List (List ℕ) → List (ℕ × Says)

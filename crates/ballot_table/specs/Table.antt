@@ -8,7 +8,7 @@ use Rattle.ballot_table.specs.declared.column.Column.{Column}
 use Rattle.ballot_table.specs.declared.empty.Empty.{Empty}
 use Rattle.ballot_table.specs.Asked.{Asked}
 use Rattle.ballot_table.specs.Texts.{trimmed}
-use Rattle.ballot_table.specs.Faults.{Fault}
+use Rattle.ballot_table.specs.declared.fault.Fault.{Fault}
 use Rattle.ballot_table.specs.Head.{head_fault, columns, names_of}
 use Rattle.ballot_table.specs.Rows.{Row, row_fault, row_of, with_room}
 

@@ -1,5 +1,5 @@
 -- Texts of fields.
-use Rattle.std.specs.Prelude.{ℕ, ◌+◌, ◌-◌, ◌*◌, ◌==◌, ◌||◌, ◌&&◌, nat_le, Bool, if◌then◌else◌}
+use Rattle.std.specs.Prelude.{ℕ, ◌+◌, ◌-◌, ◌*◌, ◌==◌, ◌||◌, ◌&&◌, nat_le, Bool, false, if◌then◌else◌}
 use Rattle.std.specs.Prelude.{List, [], ◌∷◌, length, take, drop, fold, map, position, Option, Some, None}
 use Rattle.std.specs.List.{list_any, list_all, prefix_len, suffix_len, slice_split}
 use Rattle.std.specs.Option.{option_map}
@@ -26,11 +26,18 @@ number_in texts text = option_map (λ i. i + 1) (position (λ other. bytes_eq ot
 abbrev pub is_digit : ℕ → Bool
 is_digit b = nat_le 48 b && nat_le b 57
 
+-- some digits and nothing else
+abbrev pub are_digits : List ℕ → Bool
+are_digits [] = false
+are_digits (b ∷ bs) = list_all is_digit (b ∷ bs)
+
+-- the number that digits write
+abbrev pub value : List ℕ → ℕ
+value digits = fold (λ n d. n * 10 + (d - 48)) 0 digits
+
 -- the number that some digits are
 abbrev pub number : List ℕ → Option ℕ
-number [] = None
-number (b ∷ bs) =
-    if list_all is_digit (b ∷ bs) then Some (fold (λ n d. n * 10 + (d - 48)) 0 (b ∷ bs)) else None
+number text = if are_digits text then Some (value text) else None
 
 -- the texts between semicolons
 abbrev pub parts : List ℕ → List (List ℕ)

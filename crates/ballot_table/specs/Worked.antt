@@ -18,7 +18,7 @@ use Rattle.ballot_table.specs.declared.table_kind.TableKind.TheVariants.{Unequal
 use Rattle.ballot_table.specs.declared.table_kind.TableKind.TheVariants.{NoSuchCandidate, EqualRank}
 use Rattle.ballot_table.specs.declared.table_kind.TableKind.TheVariants.{SkippedRank, Repeated}
 use Rattle.ballot_table.specs.Asked.{Asked}
-use Rattle.ballot_table.specs.Faults.{Fault}
+use Rattle.ballot_table.specs.declared.fault.Fault.{Fault}
 use Rattle.ballot_table.specs.Head.{head_fault, columns, names_of}
 use Rattle.ballot_table.specs.Table.{texts_of, row_faults, rows_of, ballots}
 use Rattle.ballot_table.specs.Refusals.{TableFault, fault_of_table}

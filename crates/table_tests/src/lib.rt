@@ -1,9 +1,11 @@
-//! Tests of the public calls of table_text, ballot_marks and import_words.
+//! Tests of the public calls of table_text, ballot_marks, ballot_table and import_words.
 #![tactic(auto)]
 
 #[cfg(test)]
 mod marks;
 #[cfg(test)]
 mod records;
+#[cfg(test)]
+mod tables;
 #[cfg(test)]
 mod words;

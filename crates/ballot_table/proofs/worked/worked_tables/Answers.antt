@@ -1,4 +1,5 @@
 use Rattle.std.proofs.Common.{refl}
+use Rattle.ballot_table.specs.Rows.{said_up_to}
 use Rattle.ballot_table.proofs.worked.worked_tables.Goals as goal
 
 pub returns-clause-heads : goal.returns-clause-heads
@@ -22,6 +23,7 @@ returns-clause-heads c = record {
 }
 
 pub returns-clause-rows : goal.returns-clause-rows
+unfolding said_up_to
 returns-clause-rows c = record {
   ranks = refl;
   shorter = refl;
@@ -42,6 +44,7 @@ returns-clause-rows c = record {
 }
 
 pub returns-clause-refusals : goal.returns-clause-refusals
+unfolding said_up_to
 returns-clause-refusals c = record {
   equal_ranks = refl;
   behind_a_passed_rank = refl;

@@ -1,0 +1,51 @@
+use Rattle.std.proofs.Common.{List, sym, ◌∙◌, subst}
+use Rattle.std.specs.Option.{option_map}
+use Rattle.plain_ballots.specs.declared.limits.TheConstants.{MOST_BALLOTS}
+use Rattle.ballot_table.specs.declared.column.Column.{Column}
+use Rattle.ballot_table.specs.Imported.{stop_at, IsTableStop}
+use Rattle.ballot_table.specs.Left.{stop_left}
+use Rattle.ballot_table.specs.Ranks.{asked_ranks}
+use Rattle.ballot_table.specs.Refusals.{whole_fault}
+use Rattle.ballot_table.specs.Sheets.{row_at}
+use Rattle.ballot_table.proofs.LeftLemmas.{IsGoing, going_more, going_stop, same_stop}
+use Rattle.ballot_table.proofs.reader.read_rows.Goals as goal
+
+pub rows-preserved : goal.rows-preserved
+rows-preserved c =
+    let a = c.args.asked.now in
+    let all = c.args.sheet.now.records.rest in
+    let l = c.rows in
+    let new = c.next.new.self in
+    let turned = rw c.in-Ok-Some.field-0-is at c.in-Ok-Some.ensures in
+    let same = c.as_slice-columns.ensures.value in
+    let going =
+    subst (λ (cs : List Column). IsGoing a cs all l.room l.sheet.records.rest l.ballots) (sym same)
+    l.invariant.going in
+    record {
+      going = subst (λ (cs : List Column). IsGoing a cs all c.in-Ok.left new.records.rest c.take_row.new.ballots) same
+          (going_more a c.as_slice-columns.result.now all l.room l.sheet.records.rest l.ballots going
+          (row_at new c.in-Ok-Some.place) new.records.rest new.texts c.in-Ok.left c.take_row.new.ballots
+          turned.rest turned.texts c.in-Ok.ensures.sound c.in-Ok.ensures.room c.in-Ok.ensures.added);
+      candidates = c.in-Ok.ensures.candidates ∙ l.invariant.candidates;
+    }
+
+pub returns-in-Err-take_row-clause-stop : goal.returns-in-Err-take_row-clause-stop
+returns-in-Err-take_row-clause-stop c =
+    let a = c.args.asked.now in
+    let all = c.args.sheet.now.records.rest in
+    let l = c.rows in
+    let new = c.next.new.self in
+    let turned = rw c.in-Ok-Some.field-0-is at c.in-Ok-Some.ensures in
+    let same = c.as_slice-columns.ensures.value in
+    let cols = c.as_slice-columns.result.now in
+    let row = row_at new c.in-Ok-Some.place in
+    let going =
+    subst (λ (cs : List Column). IsGoing a cs all l.room l.sheet.records.rest l.ballots) (sym same)
+    l.invariant.going in
+    let found = c.in-Err-take_row.stop in
+    subst (λ (cs : List Column). IsTableStop (stop_left a cs MOST_BALLOTS all) found) same
+    (same_stop (option_map (stop_at row) (whole_fault (asked_ranks a) a.treatment a.empty l.room cols new.texts))
+    (stop_left a cols MOST_BALLOTS all) found
+    (going_stop a cols all l.room l.sheet.records.rest l.ballots going row new.records.rest new.texts found
+    turned.rest turned.texts)
+    c.in-Err-take_row.ensures.stop)

@@ -1,0 +1,49 @@
+-- What is still to come of a table's rows.
+use Rattle.std.specs.Prelude.{◌≡◌, ℕ, ◌-◌, ◌++◌, List, [], ◌∷◌, map, replicate, Option, Some, None}
+use Rattle.std.specs.List.{filter_map, slice_get}
+use Rattle.std.specs.Option.{option_or}
+use Rattle.plain_ballots.specs.Ballots.{BallotList, plain}
+use Rattle.ballot_marks.specs.declared.treatment.Treatment.{Treatment}
+use Rattle.ballot_marks.specs.Ballot.{ranked}
+use Rattle.table_text.specs.Reading as text
+use Rattle.ballot_table.specs.declared.column.Column.{Column}
+use Rattle.ballot_table.specs.declared.fault.Fault.{Fault}
+use Rattle.ballot_table.specs.declared.ranks_asked.RanksAsked.{RanksAsked}
+use Rattle.ballot_table.specs.declared.table_stop.TableStop.{TableStop}
+use Rattle.ballot_table.specs.Imported.{texts_in, stops, text_stop}
+use Rattle.ballot_table.specs.Ranks.{asked_ranks}
+use Rattle.ballot_table.specs.Refusals.{whole_fault}
+use Rattle.ballot_table.specs.Rows.{Row, weight_at, row_of}
+use Rattle.ballot_table.specs.Table.{ballots}
+
+-- rows, each with the room for more ballots that those before it leave
+abbrev pub rooms : List Column → (room : ℕ) → List (List (List ℕ)) → List (ℕ × List (List ℕ))
+rooms cols room [] = []
+rooms cols room (row ∷ rows) = (room, row) ∷ rooms cols (room - weight_at cols row) rows
+
+-- the faults of rows for which there is so much room
+abbrev pub faults_left : RanksAsked → List Column → (room : ℕ) → List text.Row → List (Option Fault)
+faults_left asked cols room rows =
+    map (λ r. whole_fault (asked_ranks asked) asked.treatment asked.empty r.0 cols r.1) (rooms cols room (map texts_in rows))
+
+-- the first fault of what is still to come, if it has one
+abbrev pub stop_left : RanksAsked → List Column → (room : ℕ) → text.Reading → Option TableStop
+stop_left asked cols room reading =
+    option_or (slice_get (stops reading.rows (faults_left asked cols room reading.rows)) 0) (text_stop reading.ending)
+
+-- the ballots of rows for which there is so much room
+abbrev pub ballots_left : RanksAsked → List Column → (room : ℕ) → List text.Row → Option (List (List ℕ))
+ballots_left asked cols room rows =
+    ballots asked.treatment
+    (filter_map (λ r. row_of (asked_ranks asked) asked.empty r.0 cols r.1) (rooms cols room (map texts_in rows)))
+
+-- a row's ranking is added as often as it stands for ballots
+pub record IsAddedRow (treatment : Treatment) (row : Row) (old new : BallotList) : Type 0 where
+  pub ranking : List ℕ
+  pub ranked_is : ranked treatment row.marks ≡ Some ranking
+  pub plain_is : plain new.lines ≡ plain old.lines ++ replicate row.count ranking
+
+-- the ballots of a row are added, if it isn't dropped
+abbrev pub IsAdded : Treatment → Option Row → (old new : BallotList) → Type 0
+IsAdded treatment None old new = plain new.lines ≡ plain old.lines
+IsAdded treatment (Some row) old new = IsAddedRow treatment row old new

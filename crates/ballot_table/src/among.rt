@@ -1,0 +1,31 @@
+// A text among others.
+ghost use Rattle.std.specs.Prelude.{◌≡◌, ◌<◌, length, position, IfSome};
+ghost use Rattle.std.specs.Str.{bytes_eq};
+ghost use Rattle.ballot_table.specs.Texts.{is_in, number_in};
+
+use crate::Text;
+
+/// Whether a text is one of these.
+pub(crate) fn is_in(texts: &[Text], text: &[u8]) -> bool
+    ensures { result ≡ is_in texts.now text.now }
+{
+    texts.iter().any(|other| other.is(text))
+}
+
+/// The place of a text among these, from 1.
+pub(crate) fn number_in(texts: &[Text], text: &[u8]) -> Option<usize>
+    ensures { result ≡ number_in texts.now text.now }
+{
+    match place_in(texts, text) {
+        Some(place) => Some(place + 1),
+        None => None,
+    }
+}
+
+// The same from 0.
+fn place_in(texts: &[Text], text: &[u8]) -> Option<usize>
+    ensures place { result ≡ position (λ other. bytes_eq other text.now) texts.now }
+    ensures inside { IfSome result (λ place. place < length texts.now) }
+{
+    texts.iter().position(|other| other.is(text))
+}

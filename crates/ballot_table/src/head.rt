@@ -1,0 +1,244 @@
+// The head of a table.
+ghost use Rattle.std.specs.Prelude.{◌≡◌, ◌≢◌, ◌+◌, ◌<◌, ◌≤◌, ◌==◌, ◌||◌, ◌&&◌, not, nat_lt, false, true};
+ghost use Rattle.std.specs.Prelude.{◌++◌, ◌∷◌, [], length, map, position, sum_by, Some, None, OnOk, IfOk};
+ghost use Rattle.std.specs.Prelude.{IfErr, IfSome};
+ghost use Rattle.std.specs.List.{list_any};
+ghost use Rattle.std.specs.Option.{option_or};
+ghost use Rattle.std.specs.Str.{bytes_eq};
+ghost use Rattle.plain_ballots.specs.declared.limits.TheConstants.{MOST_CANDIDATES};
+ghost use Rattle.ballot_table.specs.Faults.{first_fault};
+ghost use Rattle.ballot_table.specs.Head.{column_of, columns_of, columns, name_of, name_fault, names_of};
+ghost use Rattle.ballot_table.specs.Head.{unlabelled, no_column, column_expected, bad_withdrawn, head_fault};
+ghost use Rattle.ballot_table.specs.JudgedRows.{IsRowStop};
+ghost use Rattle.ballot_table.specs.Ranks.{asked_ranks, candidates_at, IsOfRanks, AreOfRanks, IsHead, IsNext};
+ghost use Rattle.ballot_table.specs.Texts.{is_in};
+
+use crate::among::is_in;
+use crate::fault::Fault;
+use crate::record_stop::RecordStop;
+use crate::{Column, RanksAsked, TableKind, Text};
+use candidate_roll::{Name, Names};
+use plain_ballots::{MOST_CANDIDATES, NoMemory};
+use std::alloc::Global;
+
+/// The columns of a table, and how many candidates they are of.
+#[derive(Drop)]
+pub(crate) struct Head {
+    pub columns: Vec<Column>,
+    pub candidates: u32,
+}
+
+impl Head {
+    /// The head of these texts, or its first fault.
+    pub fn read(alloc: Global, asked: &RanksAsked, texts: &[Text]) -> Result<Head, RecordStop>
+        ensures stop { IfErr result (IsRowStop (head_fault (asked_ranks asked.now) texts.now)) }
+        ensures sound { OnOk result (head_fault (asked_ranks asked.now) texts.now ≡ None) }
+        ensures head { IfOk result (IsHead (asked_ranks asked.now) texts.now) }
+    {
+        let head = Head::columns(alloc, asked, texts)?;
+        match head.finish(asked, texts) {
+            Ok(()) => Ok(head),
+            Err(fault) => Err(RecordStop::Fault(fault)),
+        }
+    }
+
+    fn columns(alloc: Global, asked: &RanksAsked, texts: &[Text]) -> Result<Head, RecordStop>
+        ensures stop { IfErr result (IsRowStop (first_fault (columns_of (asked_ranks asked.now) texts.now))) }
+        ensures sound { OnOk result (first_fault (columns_of (asked_ranks asked.now) texts.now) ≡ None) }
+        ensures head { IfOk result (IsHead (asked_ranks asked.now) texts.now) }
+    {
+        let mut columns = Vec::new(alloc);
+        let mut candidates = 0;
+        for (at, text) in texts.iter().enumerate() {
+            match column_of(asked, &texts[..at], candidates, text.bytes()) {
+                Ok(column) => {
+                    candidates += candidates_at(column);
+                    if columns.push(column).is_err() {
+                        return Err(RecordStop::NoMemory);
+                    }
+                }
+                Err(kind) => return Err(RecordStop::Fault(fault_at(kind, at))),
+            }
+        }
+        Ok(Head {
+            columns,
+            candidates,
+        })
+    }
+
+    /// What a head has to have besides columns that are sound each.
+    fn finish(&self, asked: &RanksAsked, texts: &[Text]) -> Result<(), Fault>
+        requires { self.now.candidates ≡ length (unlabelled (asked_ranks asked.now) texts.now) }
+        ensures fault { IfErr result (λ fault. option_or (no_column (asked_ranks asked.now) texts.now)
+            (option_or (column_expected (asked_ranks asked.now) texts.now) (bad_withdrawn (asked_ranks asked.now) texts.now)) ≡ Some fault) }
+        ensures sound { OnOk result (option_or (no_column (asked_ranks asked.now) texts.now)
+            (option_or (column_expected (asked_ranks asked.now) texts.now) (bad_withdrawn (asked_ranks asked.now) texts.now)) ≡ None) }
+    {
+        if let Some(place) = missing(asked.labels.items(), texts) {
+            return Err(fault_at(TableKind::NoColumn, place));
+        }
+        if self.candidates == 0 {
+            return Err(Fault {
+                kind: TableKind::ColumnExpected,
+                place: texts.len() + 1,
+            });
+        }
+        match no_candidate(asked.withdrawn.as_slice(), self.candidates) {
+            Some(place) => Err(fault_at(TableKind::BadWithdrawn, place)),
+            None => Ok(()),
+        }
+    }
+}
+
+fn candidates_at(column: Column) -> u32
+    ensures { result ≡ candidates_at column }
+{
+    match column {
+        Column::Candidate(_) => 1,
+        Column::Weight | Column::PassedOver | Column::Rank(_) | Column::List => 0,
+    }
+}
+
+/// The first label that no text is.
+fn missing(labels: &[Text], texts: &[Text]) -> Option<usize>
+    ensures place { result ≡ position (λ label. not (is_in texts.now label)) labels.now }
+    ensures inside { IfSome result (λ place. place < length labels.now) }
+{
+    labels.iter().position(|label| !is_in(texts, label.bytes()))
+}
+
+/// The first number that none of so many candidates has.
+fn no_candidate(numbers: &[u32], candidates: u32) -> Option<usize>
+    ensures place { result ≡ position (λ n. n == 0 || nat_lt candidates n) numbers.now }
+    ensures inside { IfSome result (λ place. place < length numbers.now) }
+{
+    numbers.iter().position(|n| *n == 0 || *n > candidates)
+}
+
+fn fault_at(kind: TableKind, i: usize) -> Fault
+    requires { i < usize.MAX }
+    ensures { result ≡ record { kind = kind; place = i + 1 } }
+{
+    Fault { kind, place: i + 1 }
+}
+
+/// The column of a head's text behind these texts, of which so many name candidates.
+fn column_of(
+    asked: &RanksAsked,
+    before: &[Text],
+    candidates: u32,
+    text: &[u8],
+) -> Result<Column, TableKind>
+    requires counted { candidates ≡ length (unlabelled (asked_ranks asked.now) before.now) }
+    requires few { candidates ≤ MOST_CANDIDATES }
+    ensures column { result ≡ column_of (asked_ranks asked.now) before.now text.now }
+    ensures next { IfOk result (IsNext (asked_ranks asked.now) candidates text.now) }
+{
+    if asked.is_label(text) {
+        return label_column(asked, before, text);
+    }
+    match name_fault(asked, before, candidates, asked.name_of(text)) {
+        Some(kind) => Err(kind),
+        None => Ok(Column::Candidate(candidates + 1)),
+    }
+}
+
+fn label_column(asked: &RanksAsked, before: &[Text], text: &[u8]) -> Result<Column, TableKind>
+    requires { is_in asked.now.labels text.now ≡ true }
+    ensures column { result ≡ column_of (asked_ranks asked.now) before.now text.now }
+    ensures other { IfOk result (λ column. candidates_at column ≡ 0) }
+    ensures kind { IfOk result IsOfRanks }
+{
+    if is_in(before, text) {
+        Err(TableKind::RepeatedColumn)
+    } else {
+        Ok(asked.labelled(text))
+    }
+}
+
+/// Why a name is none, or one too many.
+fn name_fault(
+    asked: &RanksAsked,
+    before: &[Text],
+    candidates: u32,
+    name: &[u8],
+) -> Option<TableKind>
+    requires { candidates ≡ length (unlabelled (asked_ranks asked.now) before.now) }
+    ensures fault { result ≡ name_fault (map (name_of (asked_ranks asked.now)) (unlabelled (asked_ranks asked.now) before.now)) name.now }
+    ensures few { result ≡ None → candidates < MOST_CANDIDATES }
+{
+    match name {
+        [] => Some(TableKind::NameExpected),
+        _ => bad_name(asked, before, candidates, name),
+    }
+}
+
+fn bad_name(asked: &RanksAsked, before: &[Text], candidates: u32, name: &[u8]) -> Option<TableKind>
+    requires counted { candidates ≡ length (unlabelled (asked_ranks asked.now) before.now) }
+    requires some { 1 ≤ length name.now }
+    ensures fault { result ≡ name_fault (map (name_of (asked_ranks asked.now)) (unlabelled (asked_ranks asked.now) before.now)) name.now }
+    ensures few { result ≡ None → candidates < MOST_CANDIDATES }
+{
+    if has_bad_byte(name) {
+        Some(TableKind::BadName)
+    } else if name.len() > 200 {
+        Some(TableKind::TooLongName)
+    } else if is_named(asked, before, name) {
+        Some(TableKind::RepeatedColumn)
+    } else if candidates >= MOST_CANDIDATES {
+        Some(TableKind::TooManyCandidates)
+    } else {
+        None
+    }
+}
+
+fn has_bad_byte(name: &[u8]) -> bool
+    ensures { result ≡ list_any (λ c. nat_lt c 32 || c == 34) name.now }
+{
+    name.iter().any(|b| *b < b' ' || *b == b'"')
+}
+
+/// Whether a head's text that is no label says this name.
+#[tactic(auto, using(crate::proofs::HeadLemmas::named_is))]
+fn is_named(asked: &RanksAsked, before: &[Text], name: &[u8]) -> bool
+    ensures { result ≡ is_in (map (name_of (asked_ranks asked.now)) (unlabelled (asked_ranks asked.now) before.now)) name.now }
+{
+    some_says(asked, before, name)
+}
+
+fn some_says(asked: &RanksAsked, texts: &[Text], name: &[u8]) -> bool
+    ensures { result ≡ list_any (λ other. not (is_in asked.now.labels other) && bytes_eq (name_of (asked_ranks asked.now) other) name.now) texts.now }
+{
+    texts.iter().any(|other| says(asked, other, name))
+}
+
+fn says(asked: &RanksAsked, text: &Text, name: &[u8]) -> bool
+    ensures { result ≡ (not (is_in asked.now.labels text.now) && bytes_eq (name_of (asked_ranks asked.now) text.now) name.now) }
+{
+    !asked.is_label(text.bytes()) && asked.name_of(text.bytes()) == name
+}
+
+/// The names that a sound head says.
+pub(crate) fn names(alloc: Global, asked: &RanksAsked, texts: &[Text]) -> Result<Names, NoMemory>
+    ensures { IfOk result (λ names. names ≡ names_of (asked_ranks asked.now) texts.now) }
+{
+    let mut names = Names::new(alloc);
+    for text in texts {
+        if !asked.is_label(text.bytes()) {
+            let name = name(alloc, asked.name_of(text.bytes()))?;
+            if names.push(name).is_err() {
+                return Err(NoMemory);
+            }
+        }
+    }
+    Ok(names)
+}
+
+fn name(alloc: Global, bytes: &[u8]) -> Result<Name<200>, NoMemory>
+    ensures { IfOk result (λ name. name ≡ bytes.now) }
+{
+    match Name::try_new(alloc, bytes) {
+        Ok(name) => Ok(name),
+        Err(_) => Err(NoMemory),
+    }
+}
