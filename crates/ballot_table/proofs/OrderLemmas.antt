@@ -18,7 +18,8 @@ use Rattle.ballot_table.specs.declared.empty.Empty.TheVariants.{Refuse, Keep, Dr
 use Rattle.ballot_table.specs.declared.table_kind.TableKind.{TableKind}
 use Rattle.ballot_table.specs.declared.table_kind.TableKind.TheVariants.{TooManyBallots}
 use Rattle.ballot_table.specs.Asked.{Asked}
-use Rattle.ballot_table.specs.Faults.{Fault, first_fault}
+use Rattle.ballot_table.specs.declared.fault.Fault.{Fault}
+use Rattle.ballot_table.specs.Faults.{first_fault}
 use Rattle.ballot_table.specs.Texts.{number}
 use Rattle.ballot_table.specs.Cells.{Cell, Counts, as_cell, cell_of, counted, fault_one}
 use Rattle.ballot_table.specs.Rows.{all_blank, weight_at, cells_of, empty_fault, length_fault, room_behind}

@@ -16,7 +16,8 @@ use Rattle.ballot_table.specs.declared.column.Column.{Column}
 use Rattle.ballot_table.specs.declared.empty.Empty.TheVariants.{Keep}
 use Rattle.ballot_table.specs.declared.table_kind.TableKind.TheVariants.{UnequalRow}
 use Rattle.ballot_table.specs.Asked.{Asked}
-use Rattle.ballot_table.specs.Faults.{Fault, first_fault, sound}
+use Rattle.ballot_table.specs.declared.fault.Fault.{Fault}
+use Rattle.ballot_table.specs.Faults.{first_fault, sound}
 use Rattle.ballot_table.specs.Head.{columns, head_fault, names_of}
 use Rattle.ballot_table.specs.Layouts.{SayRankings}
 use Rattle.ballot_table.specs.Rows.{Row, all_blank, by_rank, cells_of, marks_of, room_behind, row_fault}

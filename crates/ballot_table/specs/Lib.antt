@@ -16,3 +16,4 @@ pub mod Left
 pub mod Laws
 pub mod Layouts
 pub mod Worked
+pub mod WorkedTexts

@@ -28,7 +28,7 @@ asked_ranks asked = record {
   over = [];
   ranks = asked.ranks;
   candidates = [];
-  withdrawn = asked.withdrawn.items;
+  withdrawn = asked.withdrawn;
 }
 
 -- a column that such a table may have

@@ -83,7 +83,7 @@ impl Head {
                 place: texts.len() + 1,
             });
         }
-        match no_candidate(asked.withdrawn.as_slice(), self.candidates) {
+        match no_candidate(asked.withdrawn.items(), self.candidates) {
             Some(place) => Err(fault_at(TableKind::BadWithdrawn, place)),
             None => Ok(()),
         }

@@ -17,6 +17,7 @@ mod holders;
 mod imported;
 mod laws;
 mod layout;
+mod numbers;
 mod numeral;
 mod ranks_asked;
 mod reader;
@@ -38,10 +39,11 @@ pub use laws::{
     tables_are_only_mended,
 };
 pub use layout::Layout;
+pub use numbers::Numbers;
 pub use ranks_asked::RanksAsked;
 pub use reader::read_ranks;
 pub use table_kind::TableKind;
 pub use table_stop::TableStop;
 pub use text::Text;
 pub use texts::Texts;
-pub use worked::worked_tables;
+pub use worked::{worked_tables, worked_texts};

@@ -8,7 +8,7 @@ ghost use Rattle.ballot_table.specs.Texts.{is_in};
 use crate::among::{is_in, number_in};
 use crate::brackets::bracketed;
 use crate::numeral::{Numeral, numeral_in};
-use crate::{Column, Empty, TableKind, Text, Texts};
+use crate::{Column, Empty, Numbers, TableKind, Text, Texts};
 use ballot_marks::Treatment;
 use plain_ballots::MOST_CANDIDATES;
 
@@ -27,7 +27,7 @@ pub struct RanksAsked {
     /// What stands for the ranks from the first on; where there are none, ranks are numbers.
     pub ranks: Texts,
     /// Numbers of candidates as they were typed.
-    pub withdrawn: Vec<u32>,
+    pub withdrawn: Numbers,
     pub empty: Empty,
     pub treatment: Treatment,
 }

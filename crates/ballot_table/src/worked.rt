@@ -1,9 +1,15 @@
 // Tables worked by hand.
 ghost use Rattle.ballot_table.specs.Worked.{WorkedHeads, WorkedRows, WorkedRefusals};
+ghost use Rattle.ballot_table.specs.WorkedTexts.{WorkedTexts};
 
 /// Tables worked by hand have the heads, the ballots and the faults that are defined.
 pub fn worked_tables()
     ensures heads { WorkedHeads }
     ensures rows { WorkedRows }
     ensures refusals { WorkedRefusals }
+{}
+
+/// Texts worked by hand are refused, each at its byte, its row and its column, or are not.
+pub fn worked_texts()
+    ensures { WorkedTexts }
 {}

@@ -1,6 +1,6 @@
 // Tests of ballot_table: tables with a column for each candidate.
 use ballot_marks::{Treat, Treatment};
-use ballot_table::{Empty, RanksAsked, TableKind, TableStop, Text, Texts, read_ranks};
+use ballot_table::{Empty, Numbers, RanksAsked, TableKind, TableStop, Text, Texts, read_ranks};
 use std::alloc::Global;
 use std::process::Abort;
 use std::test::Fail;
@@ -27,7 +27,7 @@ fn plainly(alloc: Global) -> RanksAsked {
         weight: None,
         blank: Texts::new(alloc),
         ranks: Texts::new(alloc),
-        withdrawn: Vec::new(alloc),
+        withdrawn: Numbers::new(alloc),
         empty: Empty::Refuse,
         treatment: Treatment {
             skipped: None,
