@@ -23,7 +23,7 @@ use Rattle.ballot_table.specs.Asked.{Asked}
 use Rattle.ballot_table.specs.Faults.{sound}
 use Rattle.ballot_table.specs.Cells.{Cell, Ranked, as_cell, cell_of, fault_one, rank_in}
 use Rattle.ballot_table.specs.Layouts.{AreRankTexts, RanksSayRankings, rank_cell, rank_of, ranks_row}
-use Rattle.ballot_table.specs.Rows.{cells_of, holders, ranks_of, said_at, said_by_holders, weight_in}
+use Rattle.ballot_table.specs.Rows.{cells_of, holders, ranks_of, said_at, said_by_holders, weight_in, said_up_to}
 use Rattle.ballot_table.proofs.HolderLemmas.{filter_none, filter_one, has_rank, nobody, only_holder, rank_within}
 use Rattle.ballot_table.proofs.SayingLemmas.{SaysRanking, plainly, say_rankings, says_ranking}
 use Rattle.ballot_table.proofs.WeightLemmas.{IsFine}
@@ -106,6 +106,11 @@ module _ (n : ℕ) where
       (one_said front back c is (All-head (λ c. (1 ≤ c) × (c ≤ n)) c back all))
       ∙ ap (λ (l : List (Option Says)). Some (One c) ∷ l) moved
 
+  said_of_all : (ranks : List ℕ) (j : ℕ) → IsRanking n ranks → length ranks + j ≡ MOST_CANDIDATES
+      → said_up_to MOST_CANDIDATES (table n ranks) ≡ plainly ranks j
+  unfolding said_up_to
+  said_of_all ranks j is whole = all_said [] ranks j MOST_CANDIDATES is is.numbers whole
+
 -- ---- cells
 
 module _ (asked : Asked) (room : ℕ) (text : ℕ → List ℕ) (n : ℕ) (texts : AreRankTexts asked text n) (ranks : List ℕ)
@@ -170,10 +175,7 @@ module _ (asked : Asked) (text : ℕ → List ℕ) (n : ℕ) (fits : n ≤ MOST_
       ∙ sym (length-map-range_with_len column.Candidate 1 n) in
       says_ranking asked room (candidate_columns n) row ranks long come.weightless come.fine j
       (ap (λ (l : Layout). said_at l (sound (cells_of asked room (candidate_columns n) row))) is_ranks
-      ∙ ap (λ (found : List (Option ℕ)). map (λ (rank : ℕ). said_by_holders (holders rank found))
-      (range_with_len 1 MOST_CANDIDATES))
-      come.said
-      ∙ all_said n [] ranks j MOST_CANDIDATES is is.numbers whole)
+      ∙ ap (said_up_to MOST_CANDIDATES) come.said ∙ said_of_all n ranks j is whole)
 
 pub ranks_say_rankings : PlainMarksAreRanked → RanksSayRankings
 ranks_say_rankings plain asked head text n rankings has fits texts all =

@@ -1,7 +1,8 @@
 -- What a row is doesn't hang on the room that it has.
 use Rattle.std.proofs.Common.{◌≡◌, ℕ, ◌+◌, cond, List, [], ◌∷◌, ◌++◌, map}
 use Rattle.std.proofs.Common.{Some, None, Result, Ok, Err, refl, ap, ◌∙◌}
-use Rattle.std.specs.List.{filter_map, flat_map, cons_option, enumerate_from, range_with_len, zip}
+use Rattle.std.specs.List.{filter_map, flat_map, cons_option, enumerate_from, zip}
+use Rattle.plain_ballots.specs.declared.limits.TheConstants.{MOST_CANDIDATES}
 use Rattle.ballot_table.specs.declared.column.Column.{Column}
 use Rattle.ballot_table.specs.declared.column.Column.TheVariants as column
 use Rattle.ballot_table.specs.declared.empty.Empty.{Empty}
@@ -13,7 +14,7 @@ use Rattle.ballot_table.specs.Faults.{sound}
 use Rattle.ballot_table.specs.Texts.{number}
 use Rattle.ballot_table.specs.Cells.{Cell, Nothing, Counts, cell_of, as_cell, counted}
 use Rattle.ballot_table.specs.Rows.{is_dropped, ballots_in, said_in, said_at, marks_of, row_of, by_rank}
-use Rattle.ballot_table.specs.Rows.{ranks_of, says_of, said_by_holders, holders}
+use Rattle.ballot_table.specs.Rows.{ranks_of, said_up_to, says_of}
 
 -- what cells say of ranks, in either layout
 record SaySame (one other : List Cell) : Type 0 where
@@ -46,8 +47,7 @@ no_rank (Err kind) (Err other_kind) one other same = same
 
 said_alike :
     (layout : Layout) (one other : List Cell) → SaySame one other → said_at layout one ≡ said_at layout other
-said_alike layout.Ranks one other same =
-    ap (λ ranks. map (λ rank. said_by_holders (holders rank ranks)) (range_with_len 1 250)) same.ranks
+said_alike layout.Ranks one other same = ap (said_up_to MOST_CANDIDATES) same.ranks
 said_alike layout.Choices one other same = same.says
 said_alike layout.List one other same = same.says
 

@@ -1,5 +1,5 @@
 -- Texts worked by hand, from their bytes on.
-use Rattle.std.specs.Prelude.{◌≡◌, ℕ, false, List, [], ◌∷◌, Option, Some, None, codes}
+use Rattle.std.specs.Prelude.{◌≡◌, ℕ, false, [], ◌∷◌, Option, Some, None, codes}
 use Rattle.table_text.specs.declared.text_kind.TextKind.{TextKind}
 use Rattle.table_text.specs.declared.text_kind.TextKind.TheVariants.{Ended, UnclearSeparator}
 use Rattle.ballot_marks.specs.Laws.{strict}
