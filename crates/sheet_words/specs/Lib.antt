@@ -1,0 +1,5 @@
+pub mod Groups
+pub mod Phrases
+pub mod Sentences
+pub mod Lines
+pub mod Worked

@@ -1,0 +1,33 @@
+-- Parts of sentences. A sentence is a list of texts that stand in it one after another.
+use Rattle.std.specs.Prelude.{ℕ, ◌+◌, if◌then◌else◌, nat_eq, List, [], ◌∷◌, ◌++◌, length, codes, decimal, slice_index, slice_index_or}
+use Rattle.std.specs.List.{flat_map}
+use Rattle.fixed_place.specs.Text.{text_of}
+use Rattle.meek_rule.specs.Row.{Row}
+use Rattle.sheet_reader.specs.Values.{SheetList}
+use Rattle.sheet_words.specs.declared.group.Group.{Group}
+use Rattle.sheet_words.specs.Groups.{places, is_in, members_from}
+
+-- a candidate: its name, and its number in brackets
+abbrev pub called : SheetList → (p : ℕ) → List (List ℕ)
+called v p = slice_index_or v.names p [] ∷ codes " (" ∷ decimal (p + 1) ∷ codes ")" ∷ []
+
+-- a candidate with its votes in an iteration
+abbrev pub called_with_votes : SheetList → Row → (p : ℕ) → List (List ℕ)
+called_with_votes v row p = called v p ++ codes " with " ∷ text_of 9 (slice_index row.votes p) ∷ codes " votes" ∷ []
+
+-- what stands behind a candidate of a list with so many still to come
+abbrev pub separator : (still : ℕ) → List ℕ
+separator still = if nat_eq still 0 then [] else if nat_eq still 1 then codes " and " else codes ", "
+
+-- the candidate at a place, if it is of the group
+abbrev pub member : SheetList → Row → Group → (p : ℕ) → List (List ℕ)
+member v row group p =
+    if is_in row group p then called_with_votes v row p ++ separator (members_from row group (p + 1)) ∷ [] else []
+
+-- a group by rising number, as in `A, B and C`, each with its votes
+abbrev pub listing : SheetList → Row → Group → List (List ℕ)
+listing v row group = flat_map (member v row group) (places (length row.states))
+
+-- words for one, or for several
+abbrev pub for_one_or_more : (one more : List ℕ) → (count : ℕ) → List ℕ
+for_one_or_more one more count = if nat_eq count 1 then one else more
