@@ -2,4 +2,6 @@ pub mod Groups
 pub mod Phrases
 pub mod Sentences
 pub mod Lines
+pub mod Manner
+pub mod Parts
 pub mod Worked

@@ -3,31 +3,38 @@ use Rattle.std.specs.Prelude.{ℕ, List, [], ◌∷◌, ◌++◌, length, codes,
 use Rattle.std.specs.List.{flat_map}
 use Rattle.meek_rule.specs.Row.{Row}
 use Rattle.sheet_reader.specs.Values.{SheetList}
+use Rattle.sheet_words.specs.declared.decision.Decision.{Decision}
 use Rattle.sheet_words.specs.Groups.{places}
-use Rattle.sheet_words.specs.Sentences.{sentences_of, sentences_at_end, outcome}
+use Rattle.sheet_words.specs.Sentences.{decisions_of, sentence, sentences_at_end, outcome}
+
+-- which iteration of which round it is
+abbrev pub numbers : Row → List (List ℕ)
+numbers row = codes "Round " ∷ decimal row.round ∷ codes ", iteration " ∷ decimal row.iteration ∷ codes ": " ∷ []
+
+-- a decision of an iteration, behind the numbers of it
+abbrev pub numbered : SheetList → Row → Decision → List (List ℕ)
+numbered v row decision = numbers row ++ sentence v row decision
+
+-- the sentences of an iteration
+abbrev pub sentences_of : SheetList → Row → List (List (List ℕ))
+sentences_of v row = map (numbered v row) (decisions_of row)
+
+-- a sentence of the end
+abbrev pub at_end : List (List ℕ) → List (List ℕ)
+at_end texts = codes "End: " ∷ texts
+
+-- what became of each candidate
+abbrev pub results : SheetList → List (List (List ℕ))
+results v = (codes "Result" ∷ []) ∷ map (outcome v) (places (length v.names))
+
+-- What a count decided: by its iterations in their order, at its end, and for each candidate.
+abbrev pub sentences : SheetList → List (List (List ℕ))
+sentences v = flat_map (sentences_of v) v.rows ++ (map at_end (sentences_at_end v) ++ results v)
 
 -- texts one after another
 abbrev pub joined : List (List ℕ) → List ℕ
 joined texts = flat_map (λ text. text) texts
 
--- a sentence of an iteration, behind the numbers of its round and its iteration
-abbrev pub numbered : Row → List (List ℕ) → List (List ℕ)
-numbered row sentence =
-    codes "Round " ∷ decimal row.round ∷ codes ", iteration " ∷ decimal row.iteration ∷ codes ": " ∷ sentence
-
-abbrev pub numbered_of : SheetList → Row → List (List (List ℕ))
-numbered_of v row = map (numbered row) (sentences_of v row)
-
--- a sentence of the end
-abbrev pub ended : List (List ℕ) → List (List ℕ)
-ended sentence = codes "End: " ∷ sentence
-
-abbrev pub results : SheetList → List (List (List ℕ))
-results v = (codes "Result" ∷ []) ∷ map (outcome v) (places (length v.names))
-
--- What a count decided, in the order of its iterations, then its end, and what became of each candidate.
-abbrev pub decisions : SheetList → List (List (List ℕ))
-decisions v = flat_map (numbered_of v) v.rows ++ (map ended (sentences_at_end v) ++ results v)
-
+-- the sentences as lines
 abbrev pub decision_lines : SheetList → List (List ℕ)
-decision_lines v = map joined (decisions v)
+decision_lines v = map joined (sentences v)

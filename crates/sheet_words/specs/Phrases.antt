@@ -7,22 +7,28 @@ use Rattle.sheet_reader.specs.Values.{SheetList}
 use Rattle.sheet_words.specs.declared.group.Group.{Group}
 use Rattle.sheet_words.specs.Groups.{places, is_in, members_from}
 
--- a candidate: its name, and its number in brackets
-abbrev pub called : SheetList → (p : ℕ) → List (List ℕ)
-called v p = slice_index_or v.names p [] ∷ codes " (" ∷ decimal (p + 1) ∷ codes ")" ∷ []
+-- a name, and a number in brackets
+abbrev pub numbered_name : (name : List ℕ) → (number : ℕ) → List (List ℕ)
+numbered_name name number = name ∷ codes " (" ∷ decimal number ∷ codes ")" ∷ []
 
--- a candidate with its votes in an iteration
-abbrev pub called_with_votes : SheetList → Row → (p : ℕ) → List (List ℕ)
-called_with_votes v row p = called v p ++ codes " with " ∷ text_of 9 (slice_index row.votes p) ∷ codes " votes" ∷ []
+-- a candidate: its name and its number
+abbrev pub called : SheetList → (p : ℕ) → List (List ℕ)
+called v p = numbered_name (slice_index_or v.names p []) (p + 1)
+
+-- votes, and what stands behind them
+abbrev pub with_votes : (votes : ℕ) → (behind : List ℕ) → List (List ℕ)
+with_votes votes behind = codes " with " ∷ text_of 9 votes ∷ codes " votes" ∷ behind ∷ []
 
 -- what stands behind a candidate of a list with so many still to come
 abbrev pub separator : (still : ℕ) → List ℕ
 separator still = if nat_eq still 0 then [] else if nat_eq still 1 then codes " and " else codes ", "
 
--- the candidate at a place, if it is of the group
+-- the candidate at a place with its votes, if it is of the group
 abbrev pub member : SheetList → Row → Group → (p : ℕ) → List (List ℕ)
 member v row group p =
-    if is_in row group p then called_with_votes v row p ++ separator (members_from row group (p + 1)) ∷ [] else []
+    if is_in row group p
+    then called v p ++ with_votes (slice_index row.votes p) (separator (members_from row group (p + 1)))
+    else []
 
 -- a group by rising number, as in `A, B and C`, each with its votes
 abbrev pub listing : SheetList → Row → Group → List (List ℕ)

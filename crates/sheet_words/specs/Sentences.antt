@@ -1,39 +1,65 @@
 -- What an iteration, and the end of a count, decided: a sentence for each decision.
-use Rattle.std.specs.Prelude.{ℕ, ◌+◌, ◌-◌, ◌||◌, nat_eq, nat_le, not, if◌then◌else◌, Bool, false, List, [], ◌∷◌, ◌++◌, length, codes, decimal, slice_index, sum_by}
+use Rattle.std.specs.Prelude.{ℕ, ◌+◌, ◌-◌, ◌≤◌, ⊤, ◌||◌, nat_eq, nat_le, not, if◌then◌else◌, Bool, false, List, [], ◌∷◌, ◌++◌, length, codes, decimal, slice_index, count_by}
 use Rattle.std.specs.List.{flat_map, list_any}
 use Rattle.candidate_roll.specs.State.{state_at}
 use Rattle.candidate_roll.specs.declared.state.State.{State}
 use Rattle.candidate_roll.specs.declared.state.State.TheVariants.{Hopeful, Elected as IsElected, Defeated, Withdrawn}
 use Rattle.fixed_place.specs.Text.{text_of}
 use Rattle.lot_order.specs.Flags.{mark_at}
-use Rattle.meek_rule.specs.Places.{marked_count}
 use Rattle.meek_rule.specs.Row.{Row}
 use Rattle.meek_rule.specs.Situation.{elected_count}
 use Rattle.meek_rule.specs.declared.step.Step.{Step}
 use Rattle.meek_rule.specs.declared.step.Step.TheVariants.{Elected, Iterate, Defeat}
 use Rattle.sheet_reader.specs.Values.{SheetList}
-use Rattle.sheet_words.specs.declared.group.Group.{Group}
+use Rattle.sheet_words.specs.declared.decision.Decision.{Decision}
+use Rattle.sheet_words.specs.declared.decision.Decision.TheVariants.{Election, Arrival, Choice, Cap, Defeat as Defeats, Tie, Lot}
 use Rattle.sheet_words.specs.declared.group.Group.TheVariants.{Reached, Elected as Winners, LeftOut, LeftByLot, Capped, Tied}
 use Rattle.sheet_words.specs.Groups.{places, members}
 use Rattle.sheet_words.specs.Phrases.{called, listing, for_one_or_more}
 
--- ---- elections
+-- ---- the decisions of an iteration
 
--- the quota, which a group reached
-abbrev pub at_quota : Row → Group → List (List ℕ)
-at_quota row group =
-    for_one_or_more (codes " reaches the quota of ") (codes " reach the quota of ") (members row group)
-    ∷ text_of 9 row.quota ∷ []
+-- Somebody is elected: all who have the quota, or some of them, where more have it than seats are left.
+abbrev pub elections : Row → List Decision
+elections row =
+    if nat_eq (members row Winners) 0 then [] else if nat_eq (members row LeftOut) 0 then Election ∷ [] else Arrival ∷ Choice ∷ []
+
+abbrev pub caps : Row → List Decision
+caps row = if nat_eq (members row Capped) 0 then [] else Cap ∷ []
+
+-- Two or more are tied for a defeat: the lots decide.
+abbrev pub has_tie : Row → Bool
+has_tie row = nat_le 2 (members row Tied)
+
+abbrev pub defeats_of : Row → Step → List Decision
+defeats_of row Elected = []
+defeats_of row Iterate = []
+defeats_of row (Defeat c) = if has_tie row then Tie ∷ Lot c ∷ [] else Defeats c ∷ []
+
+abbrev pub decisions_of : Row → List Decision
+decisions_of row = elections row ++ (caps row ++ defeats_of row row.step)
+
+-- ---- their sentences
+
+-- the quota, which so many reached, and what stands behind it
+abbrev pub at_quota : (count quota : ℕ) → (behind : List ℕ) → List (List ℕ)
+at_quota count quota behind =
+    for_one_or_more (codes " reaches the quota of ") (codes " reach the quota of ") count ∷ text_of 9 quota ∷ behind ∷ []
 
 -- who reached the quota, and is elected
-abbrev pub election : SheetList → Row → List (List ℕ)
-election v row =
-    listing v row Winners ++ (at_quota row Winners
-    ++ for_one_or_more (codes " and is elected.") (codes " and are elected.") (members row Winners) ∷ [])
+abbrev pub seated : Row → List (List ℕ)
+seated row =
+    at_quota (members row Winners) row.quota (for_one_or_more (codes " and is elected.") (codes " and are elected.") (members row Winners))
 
--- who reached the quota, where some of them are not elected
+abbrev pub election : SheetList → Row → List (List ℕ)
+election v row = listing v row Winners ++ seated row
+
+-- who reached the quota, where not all of them are elected
+abbrev pub arrived : Row → List (List ℕ)
+arrived row = at_quota (members row Reached) row.quota (codes ".")
+
 abbrev pub arrival : SheetList → Row → List (List ℕ)
-arrival v row = listing v row Reached ++ (at_quota row Reached ++ codes "." ∷ [])
+arrival v row = listing v row Reached ++ arrived row
 
 -- how those are chosen for whom there are seats: by their votes, and where votes are equal by the lots
 abbrev pub reason : Row → List ℕ
@@ -45,58 +71,70 @@ reason row =
 abbrev pub seats_left : SheetList → Row → ℕ
 seats_left v row = v.seats - elected_count row.states
 
--- for whom of them there are seats
+abbrev pub seats_for_them : SheetList → Row → List (List ℕ)
+seats_for_them v row = codes "Seats left for them: " ∷ decimal (seats_left v row) ∷ codes ". " ∷ []
+
+-- for whom of them there are seats, and why
+abbrev pub chosen : Row → List (List ℕ)
+chosen row = for_one_or_more (codes " is elected") (codes " are elected") (members row Winners) ∷ reason row ∷ []
+
 abbrev pub choice : SheetList → Row → List (List ℕ)
-choice v row =
-    codes "Seats left for them: " ∷ decimal (seats_left v row) ∷ codes ". " ∷ listing v row Winners
-    ++ for_one_or_more (codes " is elected") (codes " are elected") (members row Winners) ∷ reason row ∷ []
-
--- the sentences of an iteration that elects
-abbrev pub elections : SheetList → Row → List (List (List ℕ))
-elections v row =
-    if nat_eq (members row Winners) 0 then []
-    else if nat_eq (members row LeftOut) 0 then election v row ∷ []
-    else arrival v row ∷ choice v row ∷ []
-
--- ---- keep values
+choice v row = seats_for_them v row ++ (listing v row Winners ++ chosen row)
 
 -- whose keep value would have been more than one whole vote
+abbrev pub held : Row → List (List ℕ)
+held row =
+    for_one_or_more (codes " has its keep value capped at one whole vote.")
+    (codes " have their keep values capped at one whole vote.") (members row Capped)
+    ∷ []
+
 abbrev pub cap : SheetList → Row → List (List ℕ)
-cap v row =
-    listing v row Capped
-    ++ for_one_or_more (codes " has its keep value capped at one whole vote.")
-    (codes " have their keep values capped at one whole vote.") (members row Capped) ∷ []
-
-abbrev pub caps : SheetList → Row → List (List (List ℕ))
-caps v row = if nat_eq (members row Capped) 0 then [] else cap v row ∷ []
-
--- ---- defeats
+cap v row = listing v row Capped ++ held row
 
 -- the defeat of candidate c, which nobody is tied with
+abbrev pub with_fewest : Row → (c : ℕ) → List (List ℕ)
+with_fewest row c =
+    codes " has the fewest votes, " ∷ text_of 9 (slice_index row.votes (c - 1)) ∷ codes ", and is defeated." ∷ []
+
 abbrev pub defeat : SheetList → Row → (c : ℕ) → List (List ℕ)
-defeat v row c =
-    called v (c - 1)
-    ++ codes " has the fewest votes, " ∷ text_of 9 (slice_index row.votes (c - 1)) ∷ codes ", and is defeated." ∷ []
+defeat v row c = called v (c - 1) ++ with_fewest row c
 
 -- who is tied: whoever has at most the fewest votes and the surplus together
+abbrev pub within_surplus : Row → List (List ℕ)
+within_surplus row =
+    codes " are tied: their votes are no further apart than the surplus of " ∷ text_of 9 row.surplus ∷ codes "." ∷ []
+
 abbrev pub tie : SheetList → Row → List (List ℕ)
-tie v row =
-    listing v row Tied
-    ++ codes " are tied: their votes are no further apart than the surplus of " ∷ text_of 9 row.surplus ∷ codes "." ∷ []
+tie v row = listing v row Tied ++ within_surplus row
 
--- which of the tied the lots chose; the sheet does not say the order of the others
+-- which of the tied the lots chose; a sheet does not say the order of the others
 abbrev pub lot : SheetList → (c : ℕ) → List (List ℕ)
-lot v c = codes "The lots decide: " ∷ called v (c - 1) ++ codes " stands first of them in the lots and is defeated." ∷ []
+lot v c =
+    (codes "The lots decide: " ∷ [])
+    ++ (called v (c - 1) ++ codes " stands first of them in the lots and is defeated." ∷ [])
 
-abbrev pub defeats_of : SheetList → Row → Step → List (List (List ℕ))
-defeats_of v row Elected = []
-defeats_of v row Iterate = []
-defeats_of v row (Defeat c) =
-    if nat_le 2 (members row Tied) then tie v row ∷ lot v c ∷ [] else defeat v row c ∷ []
+abbrev pub sentence : SheetList → Row → Decision → List (List ℕ)
+sentence v row Election = election v row
+sentence v row Arrival = arrival v row
+sentence v row Choice = choice v row
+sentence v row Cap = cap v row
+sentence v row (Defeats c) = defeat v row c
+sentence v row Tie = tie v row
+sentence v row (Lot c) = lot v c
 
--- all sentences of an iteration
-abbrev pub sentences_of : SheetList → Row → List (List (List ℕ))
-sentences_of v row = elections v row ++ (caps v row ++ defeats_of v row row.step)
+-- the number of one of n candidates
+abbrev pub IsNumber : (n c : ℕ) → Type 0
+IsNumber n c = (1 ≤ c) × (c ≤ n)
+
+-- A decision on one candidate names one of n.
+abbrev pub IsNamed : (n : ℕ) → Decision → Type 0
+IsNamed n Election = ⊤
+IsNamed n Arrival = ⊤
+IsNamed n Choice = ⊤
+IsNamed n Cap = ⊤
+IsNamed n (Defeats c) = IsNumber n c
+IsNamed n Tie = ⊤
+IsNamed n (Lot c) = IsNumber n c
 
 -- ---- the end
 
@@ -114,17 +152,19 @@ decides_on p row = mark_at row.elected p || strikes row.step p
 abbrev pub is_open : SheetList → (p : ℕ) → Bool
 is_open v p = not (list_any (decides_on p) v.rows)
 
+-- Some iteration elected the candidate at a place.
+abbrev pub takes_seat : SheetList → (p : ℕ) → Bool
+takes_seat v p = list_any (λ row. mark_at row.elected p) v.rows
+
 -- the seats that were taken in iterations
 abbrev pub seats_taken : SheetList → ℕ
-seats_taken v = sum_by (λ row. marked_count row.elected) v.rows
+seats_taken v = count_by (takes_seat v) (places (length v.names))
 
 -- why the count ends
-abbrev pub ending : SheetList → List (List ℕ)
-ending v =
-    (if nat_eq (seats_taken v) v.seats then codes "All seats are taken." else codes "No more candidates are left than seats.")
-    ∷ []
+abbrev pub ending : SheetList → List ℕ
+ending v = if nat_eq (seats_taken v) v.seats then codes "All seats are taken." else codes "No more candidates are left than seats."
 
--- what becomes of a candidate on whom no iteration decided
+-- what becomes at the end of a candidate on whom no iteration decided
 abbrev pub late : SheetList → (p : ℕ) → State → List (List (List ℕ))
 late v p Hopeful = []
 late v p IsElected = (called v p ++ codes " is elected: there is a seat for each who remains." ∷ []) ∷ []
@@ -136,16 +176,16 @@ late_at v p = if is_open v p then late v p (state_at v.last p) else []
 
 -- all sentences of the end
 abbrev pub sentences_at_end : SheetList → List (List (List ℕ))
-sentences_at_end v = ending v ∷ flat_map (late_at v) (places (length v.names))
+sentences_at_end v = (ending v ∷ []) ∷ flat_map (late_at v) (places (length v.names))
 
 -- ---- the result
 
--- what became of a candidate
 abbrev pub fate : State → List ℕ
 fate Hopeful = codes ": hopeful"
 fate IsElected = codes ": elected"
 fate Defeated = codes ": defeated"
 fate Withdrawn = codes ": withdrawn"
 
+-- what became of a candidate
 abbrev pub outcome : SheetList → (p : ℕ) → List (List ℕ)
 outcome v p = called v p ++ fate (state_at v.last p) ∷ []

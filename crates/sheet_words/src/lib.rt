@@ -1,9 +1,25 @@
 //! What a count decided, in sentences: who reached the quota and is elected, who is defeated and why,
 //! whose keep value is capped, why the count ends, and what became of each candidate. All of it is said
 //! of the values of a sheet; what a sheet does not say, as the order of the lots, is not said here.
+//!
+//! [`write_decisions`] writes a line for each sentence. A [`Voice`] says how sentences are written in
+//! other texts: [`write_sentences`] writes all of them so, and [`write_sentences_of`] those of an iteration.
 #![tactic(auto)]
 
+mod decision;
+mod decisions;
+mod end;
 mod group;
+mod members;
+mod part;
+mod results;
+mod saying;
+mod sentences;
+mod story;
+mod voice;
 mod worked;
 
+pub use decisions::write_sentences_of;
+pub use story::{write_decisions, write_sentences};
+pub use voice::{Lines, Voice};
 pub use worked::worked_decisions;

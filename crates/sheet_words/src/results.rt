@@ -1,0 +1,100 @@
+// What became of each candidate.
+ghost use Rattle.std.specs.Prelude.{◌≡◌, ◌∷◌, ◌<◌, [], codes, length, map};
+ghost use Rattle.std.specs.List.{flat_map};
+ghost use Rattle.piece_text.specs.Writing.{Writes};
+ghost use Rattle.sheet_reader.specs.Form.{IsPrintable};
+ghost use Rattle.sheet_words.specs.Groups.{places};
+ghost use Rattle.sheet_words.specs.Lines.{results};
+ghost use Rattle.sheet_words.specs.Manner.{said, told};
+ghost use Rattle.sheet_words.specs.Sentences.{fate, outcome};
+
+use crate::Voice;
+use crate::part::Part;
+use crate::saying::{say_about, say_parts};
+use byte_edge::{Failed, Sink};
+use candidate_roll::State;
+use sheet_reader::SheetValues;
+
+/// Writes what became of each candidate.
+pub(crate) fn write_results<V: Voice, K: Sink>(
+    voice: &V,
+    values: &SheetValues,
+    sink: &mut K,
+) -> Result<(), Failed>
+    requires printable { IsPrintable 9 values.now }
+    ensures { Writes K.written K.faults sink.old sink.new
+        (flat_map (told V.manner) (results values.now)) result }
+{
+    write_title(voice, sink)?;
+    write_outcomes(voice, values, sink)
+}
+
+fn write_title<V: Voice, K: Sink>(voice: &V, sink: &mut K) -> Result<(), Failed>
+    ensures { Writes K.written K.faults sink.old sink.new (told V.manner (codes "Result" ∷ [])) result }
+{
+    voice.begin(sink)?;
+    say_title(voice, sink)?;
+    voice.end(sink)
+}
+
+fn say_title<V: Voice, K: Sink>(voice: &V, sink: &mut K) -> Result<(), Failed>
+    ensures { Writes K.written K.faults sink.old sink.new (said V.manner (codes "Result" ∷ [])) result }
+{
+    say_parts(voice, &[Part::Words(b"Result")], sink)
+}
+
+fn write_outcomes<V: Voice, K: Sink>(
+    voice: &V,
+    values: &SheetValues,
+    sink: &mut K,
+) -> Result<(), Failed>
+    requires printable { IsPrintable 9 values.now }
+    ensures { Writes K.written K.faults sink.old sink.new
+        (flat_map (told V.manner) (map (outcome values.now) (places (length values.now.names)))) result }
+{
+    for p in 0..values.names.len() {
+        write_outcome(voice, values, p, sink)?;
+    }
+    Ok(())
+}
+
+fn write_outcome<V: Voice, K: Sink>(
+    voice: &V,
+    values: &SheetValues,
+    p: usize,
+    sink: &mut K,
+) -> Result<(), Failed>
+    requires printable { IsPrintable 9 values.now }
+    requires place { p < length values.now.names }
+    ensures { Writes K.written K.faults sink.old sink.new
+        (told V.manner (outcome values.now p)) result }
+{
+    voice.begin(sink)?;
+    say_outcome(voice, values, p, sink)?;
+    voice.end(sink)
+}
+
+fn say_outcome<V: Voice, K: Sink>(
+    voice: &V,
+    values: &SheetValues,
+    p: usize,
+    sink: &mut K,
+) -> Result<(), Failed>
+    requires printable { IsPrintable 9 values.now }
+    requires place { p < length values.now.names }
+    ensures { Writes K.written K.faults sink.old sink.new
+        (said V.manner (outcome values.now p)) result }
+{
+    say_about(voice, values, p, fate(*values.last.get(p)), sink)
+}
+
+fn fate(state: State) -> &'static [u8]
+    ensures { result.now ≡ fate state }
+{
+    match state {
+        State::Hopeful => b": hopeful",
+        State::Elected => b": elected",
+        State::Defeated => b": defeated",
+        State::Withdrawn => b": withdrawn",
+    }
+}

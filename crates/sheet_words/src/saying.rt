@@ -1,0 +1,199 @@
+// Parts of sentences, as a voice writes them.
+ghost use Rattle.std.specs.Prelude.{◌≡◌, ◌+◌, ◌++◌, ◌∷◌, ◌<◌, ◌≤◌, [], length, decimal, map};
+ghost use Rattle.plain_ballots.specs.declared.limits.TheConstants.{MOST_CANDIDATES};
+ghost use Rattle.fixed_place.specs.Text.{text_of};
+ghost use Rattle.meek_rule.specs.Row.{HasRoomFor};
+ghost use Rattle.piece_text.specs.Writing.{Writes};
+ghost use Rattle.sheet_words.specs.Manner.{said};
+ghost use Rattle.sheet_words.specs.Parts.{part_text};
+ghost use Rattle.sheet_words.specs.Phrases.{called, for_one_or_more, listing, member, numbered_name, separator, with_votes};
+
+use crate::Voice;
+use crate::group::Group;
+use crate::members::{is_in, members_from};
+use crate::part::Part;
+use byte_edge::{Failed, Sink};
+use fixed_place::Amount;
+use line_text::Line;
+use meek_rule::Row;
+use sheet_reader::SheetValues;
+
+/// Says some texts.
+pub(crate) fn say_parts<V: Voice, K: Sink>(
+    voice: &V,
+    parts: &[Part<'_>],
+    sink: &mut K,
+) -> Result<(), Failed>
+    ensures { Writes K.written K.faults sink.old sink.new
+        (said V.manner (map part_text parts.now)) result }
+{
+    for part in parts {
+        say_part(voice, part, sink)?;
+    }
+    Ok(())
+}
+
+fn say_part<V: Voice, K: Sink>(voice: &V, part: &Part<'_>, sink: &mut K) -> Result<(), Failed>
+    ensures { Writes K.written K.faults sink.old sink.new (V.manner.voiced (part_text part.now)) result }
+{
+    match part {
+        Part::Words(bytes) => voice.say(*bytes, sink),
+        Part::Number(n) => voice.say(count_text(*n).bytes(), sink),
+        Part::Votes(a) => voice.say(votes_text(*a).bytes(), sink),
+    }
+}
+
+#[tactic(auto, using(line_text::proofs::Lengths::lengths))]
+fn count_text(n: u64) -> Line
+    ensures { result ≡ decimal n }
+{
+    let mut line = Line::new();
+    line.push_count(n);
+    line
+}
+
+#[tactic(auto, using(line_text::proofs::Lengths::lengths))]
+fn votes_text(a: Amount<9>) -> Line
+    ensures { result ≡ text_of 9 a }
+{
+    let _units = a.units();
+    let mut line = Line::new();
+    line.push_amount(a);
+    line
+}
+
+/// Says a candidate: its name, and its number in brackets.
+pub(crate) fn say_called<V: Voice, K: Sink>(
+    voice: &V,
+    values: &SheetValues,
+    p: usize,
+    sink: &mut K,
+) -> Result<(), Failed>
+    requires place { p < length values.now.names }
+    requires few { length values.now.names ≤ MOST_CANDIDATES }
+    ensures { Writes K.written K.faults sink.old sink.new
+        (said V.manner (called values.now p)) result }
+{
+    let name = values.names.get(p).bytes();
+    say_name(voice, name, p as u64 + 1, sink)
+}
+
+/// Says a candidate, and something of it.
+pub(crate) fn say_about<V: Voice, K: Sink>(
+    voice: &V,
+    values: &SheetValues,
+    p: usize,
+    words: &[u8],
+    sink: &mut K,
+) -> Result<(), Failed>
+    requires few { length values.now.names ≤ MOST_CANDIDATES }
+    requires place { p < length values.now.names }
+    ensures { Writes K.written K.faults sink.old sink.new
+        (said V.manner (called values.now p ++ words.now ∷ [])) result }
+{
+    say_called(voice, values, p, sink)?;
+    say_parts(voice, &[Part::Words(words)], sink)
+}
+
+/// Says a group by rising number, each with its votes.
+pub(crate) fn say_listing<V: Voice, K: Sink>(
+    voice: &V,
+    values: &SheetValues,
+    row: &Row<9>,
+    group: Group,
+    sink: &mut K,
+) -> Result<(), Failed>
+    requires room { HasRoomFor (length values.now.names) row.now }
+    requires few { length values.now.names ≤ MOST_CANDIDATES }
+    ensures { Writes K.written K.faults sink.old sink.new
+        (said V.manner (listing values.now row.now group)) result }
+{
+    for p in 0..row.states.len() {
+        say_member(voice, values, row, group, p, sink)?;
+    }
+    Ok(())
+}
+
+/// Says the candidate at a place, if it is of the group, with what stands behind it.
+fn say_member<V: Voice, K: Sink>(
+    voice: &V,
+    values: &SheetValues,
+    row: &Row<9>,
+    group: Group,
+    p: usize,
+    sink: &mut K,
+) -> Result<(), Failed>
+    requires room { HasRoomFor (length values.now.names) row.now }
+    requires few { length values.now.names ≤ MOST_CANDIDATES }
+    requires place { p < length values.now.names }
+    ensures { Writes K.written K.faults sink.old sink.new
+        (said V.manner (member values.now row.now group p)) result }
+{
+    if !is_in(row, group, p) {
+        return Ok(());
+    }
+    let still = members_from(row, group, p + 1);
+    say_called(voice, values, p, sink)?;
+    say_votes(voice, *row.votes.get(p), separator(still), sink)
+}
+
+fn say_name<V: Voice, K: Sink>(
+    voice: &V,
+    name: &[u8],
+    number: u64,
+    sink: &mut K,
+) -> Result<(), Failed>
+    ensures { Writes K.written K.faults sink.old sink.new
+        (said V.manner (numbered_name name.now number)) result }
+{
+    say_parts(
+        voice,
+        &[
+            Part::Words(name),
+            Part::Words(b" ("),
+            Part::Number(number),
+            Part::Words(b")"),
+        ],
+        sink,
+    )
+}
+
+/// Says a candidate's votes, and what stands behind them.
+fn say_votes<V: Voice, K: Sink>(
+    voice: &V,
+    votes: Amount<9>,
+    behind: &[u8],
+    sink: &mut K,
+) -> Result<(), Failed>
+    ensures { Writes K.written K.faults sink.old sink.new
+        (said V.manner (with_votes votes behind.now)) result }
+{
+    say_parts(
+        voice,
+        &[
+            Part::Words(b" with "),
+            Part::Votes(votes),
+            Part::Words(b" votes"),
+            Part::Words(behind),
+        ],
+        sink,
+    )
+}
+
+/// What stands behind a candidate of a list with so many still to come.
+fn separator(still: usize) -> &'static [u8]
+    ensures { result.now ≡ separator still }
+{
+    match still {
+        0 => b"",
+        1 => b" and ",
+        _ => b", ",
+    }
+}
+
+/// Words for one, or for several.
+pub(crate) fn for_one_or_more<'x>(one: &'x [u8], more: &'x [u8], count: usize) -> &'x [u8]
+    ensures { result.now ≡ for_one_or_more one.now more.now count }
+{
+    if count == 1 { one } else { more }
+}
