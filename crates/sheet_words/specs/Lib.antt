@@ -4,4 +4,5 @@ pub mod Sentences
 pub mod Lines
 pub mod Manner
 pub mod Parts
+pub mod Laws
 pub mod Worked

@@ -10,6 +10,7 @@ mod decision;
 mod decisions;
 mod end;
 mod group;
+mod laws;
 mod members;
 mod part;
 mod results;
@@ -20,6 +21,7 @@ mod voice;
 mod worked;
 
 pub use decisions::write_sentences_of;
+pub use laws::each_has_one_sentence;
 pub use story::{write_decisions, write_sentences};
 pub use voice::{Lines, Voice};
 pub use worked::worked_decisions;

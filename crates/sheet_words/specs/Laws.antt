@@ -1,0 +1,50 @@
+-- What holds of the sentences of every sheet.
+use Rattle.std.specs.Prelude.{◌≡◌, ℕ, ◌-◌, ◌<◌, nat_eq, Bool, true, false, List, ◌++◌, length, count_by}
+use Rattle.lot_order.specs.Flags.{mark_at}
+use Rattle.meek_rule.specs.Row.{Row}
+use Rattle.meek_rule.specs.declared.step.Step.TheVariants.{Defeat}
+use Rattle.sheet_reader.specs.Values.{SheetList}
+use Rattle.sheet_words.specs.declared.decision.Decision.{Decision}
+use Rattle.sheet_words.specs.declared.decision.Decision.TheVariants.{Election, Arrival, Choice, Cap, Defeat as Defeats, Tie, Lot}
+use Rattle.sheet_words.specs.Phrases.{called}
+use Rattle.sheet_words.specs.Sentences.{decisions_of, sentence}
+
+-- A sentence names the candidate at a place: its name and its number stand in it.
+abbrev pub Names : SheetList → (p : ℕ) → (texts : List (List ℕ)) → Type 0
+Names v p texts = (before : List (List ℕ)) × (behind : List (List ℕ)) × (texts ≡ before ++ (called v p ++ behind))
+
+-- whether a sentence says who is elected
+abbrev pub says_elected : Decision → Bool
+says_elected Election = true
+says_elected Arrival = false
+says_elected Choice = true
+says_elected Cap = false
+says_elected (Defeats c) = false
+says_elected Tie = false
+says_elected (Lot c) = false
+
+-- whether a sentence says that the candidate of a number is defeated
+abbrev pub says_defeated : (c : ℕ) → Decision → Bool
+says_defeated c Election = false
+says_defeated c Arrival = false
+says_defeated c Choice = false
+says_defeated c Cap = false
+says_defeated c (Defeats d) = nat_eq d c
+says_defeated c Tie = false
+says_defeated c (Lot d) = nat_eq d c
+
+-- Just one sentence of an iteration says this, and every sentence that says it names the candidate at a place.
+pub record HasOneSentence (says : Decision → Bool) (v : SheetList) (row : Row) (p : ℕ) : Type 0 where
+  pub one : count_by says (decisions_of row) ≡ 1
+  pub named : (d : Decision) → says d ≡ true → Names v p (sentence v row d)
+
+-- Whoever is elected in an iteration stands in its one sentence on who is elected.
+abbrev pub WinnersHaveOneSentence : Type 0
+WinnersHaveOneSentence =
+    (v : SheetList) (row : Row) (p : ℕ)
+    → p < length row.states → mark_at row.elected p ≡ true → HasOneSentence says_elected v row p
+
+-- Whoever is defeated in an iteration stands in its one sentence on who is defeated.
+abbrev pub LosersHaveOneSentence : Type 0
+LosersHaveOneSentence =
+    (v : SheetList) (row : Row) (c : ℕ) → row.step ≡ Defeat c → HasOneSentence (says_defeated c) v row (c - 1)
