@@ -1,3 +1,5 @@
+mod Fates
 mod Places
 mod Naming
+mod OneFate
 mod Written

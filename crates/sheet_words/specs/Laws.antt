@@ -1,13 +1,21 @@
 -- What holds of the sentences of every sheet.
-use Rattle.std.specs.Prelude.{◌≡◌, ℕ, ◌-◌, ◌<◌, nat_eq, Bool, true, false, List, ◌++◌, length, count_by}
+use Rattle.std.specs.Prelude.{◌+◌, ◌≡◌, ℕ, ◌-◌, ◌<◌, nat_eq, Bool, true, false, List, ◌++◌, length, count_by}
+use Rattle.candidate_roll.specs.Roll.{RollList}
+use Rattle.candidate_roll.specs.State.{state_at}
+use Rattle.candidate_roll.specs.declared.state.State.{State}
+use Rattle.candidate_roll.specs.declared.state.State.TheVariants.{Hopeful, Elected as IsElected, Defeated, Withdrawn}
 use Rattle.lot_order.specs.Flags.{mark_at}
+use Rattle.meek_count.specs.Laws.{IsElection}
+use Rattle.meek_count.specs.Rows.{IsCountUnder}
 use Rattle.meek_rule.specs.Row.{Row}
+use Rattle.meek_rule.specs.Rule.{Rule}
 use Rattle.meek_rule.specs.declared.step.Step.TheVariants.{Defeat}
+use Rattle.sheet_reader.specs.Laws.{values_of}
 use Rattle.sheet_reader.specs.Values.{SheetList}
 use Rattle.sheet_words.specs.declared.decision.Decision.{Decision}
 use Rattle.sheet_words.specs.declared.decision.Decision.TheVariants.{Election, Arrival, Choice, Cap, Defeat as Defeats, Tie, Lot}
 use Rattle.sheet_words.specs.Phrases.{called}
-use Rattle.sheet_words.specs.Sentences.{decisions_of, sentence}
+use Rattle.sheet_words.specs.Sentences.{decisions_of, late_at, sentence, strikes}
 
 -- A sentence names the candidate at a place: its name and its number stand in it.
 abbrev pub Names : SheetList → (p : ℕ) → (texts : List (List ℕ)) → Type 0
@@ -48,3 +56,28 @@ WinnersHaveOneSentence =
 abbrev pub LosersHaveOneSentence : Type 0
 LosersHaveOneSentence =
     (v : SheetList) (row : Row) (c : ℕ) → row.step ≡ Defeat c → HasOneSentence (says_defeated c) v row (c - 1)
+
+-- ---- of the sheet of a count
+
+-- how many iterations elect the candidate at a place, and how many defeat it
+abbrev pub times_elected : List Row → (p : ℕ) → ℕ
+times_elected rows p = count_by (λ row. mark_at row.elected p) rows
+
+abbrev pub times_defeated : List Row → (p : ℕ) → ℕ
+times_defeated rows p = count_by (λ row. strikes row.step p) rows
+
+-- Who ends elected is elected by one sentence, of an iteration or of the end, and defeated by none; who ends defeated
+-- is so the other way round. No sentence but that of the result names the withdrawn, and nobody ends hopeful.
+abbrev pub HasOneFate : SheetList → (p : ℕ) → State → Type 0
+HasOneFate v p Hopeful = ⊥
+HasOneFate v p IsElected = (times_elected v.rows p + length (late_at v p) ≡ 1) × (times_defeated v.rows p ≡ 0)
+HasOneFate v p Defeated = (times_elected v.rows p ≡ 0) × (times_defeated v.rows p + length (late_at v p) ≡ 1)
+HasOneFate v p Withdrawn = (times_elected v.rows p ≡ 0) × (times_defeated v.rows p ≡ 0) × (length (late_at v p) ≡ 0)
+
+-- In the sheet of a count each candidate's last state is said by just one sentence before the result.
+abbrev pub EachHasOneFate : Type 0
+EachHasOneFate =
+    (rule : Rule) (places omega : ℕ) (ballots : List (List ℕ)) (roll : RollList) (lots : List ℕ) (rows : List Row) (last : List State) (p : ℕ)
+    → IsElection places omega ballots roll lots → IsCountUnder rule places omega ballots roll lots rows last
+    → p < length roll.names
+    → HasOneFate (values_of roll (length ballots) rows last) p (state_at last p)

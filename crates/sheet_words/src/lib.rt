@@ -21,7 +21,7 @@ mod voice;
 mod worked;
 
 pub use decisions::write_sentences_of;
-pub use laws::each_has_one_sentence;
+pub use laws::{each_has_one_fate, each_has_one_sentence};
 pub use story::{write_decisions, write_sentences};
 pub use voice::{Lines, Voice};
 pub use worked::worked_decisions;
