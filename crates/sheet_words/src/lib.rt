@@ -8,6 +8,7 @@
 
 mod decision;
 mod decisions;
+mod elections;
 mod end;
 mod group;
 mod laws;

@@ -4,7 +4,7 @@ use Rattle.sheet_words.specs.declared.group.Group.TheVariants.{Elected}
 use Rattle.sheet_words.specs.Groups.{members}
 use Rattle.sheet_words.specs.Phrases.{for_one_or_more}
 use Rattle.sheet_words.proofs.Written.{renamed}
-use Rattle.sheet_words.proofs.sentences.say_chosen.Goals as goal
+use Rattle.sheet_words.proofs.elections.say_chosen.Goals as goal
 
 abbrev words : ℕ → List ℕ
 words count =

@@ -1,5 +1,5 @@
 use Rattle.sheet_words.proofs.Written.{later, stops}
-use Rattle.sheet_words.proofs.sentences.say_choice.Goals as goal
+use Rattle.sheet_words.proofs.elections.say_choice.Goals as goal
 
 pub returns-in_err-say_seats : goal.returns-in_err-say_seats
 returns-in_err-say_seats g c = stops _ _ _ _ c.from_residual.ensures.0 c.in_err-say_seats.ensures

@@ -1,8 +1,8 @@
 use Rattle.sheet_words.proofs.Written.{later, stops}
-use Rattle.sheet_words.proofs.sentences.say_arrival.Goals as goal
+use Rattle.sheet_words.proofs.elections.say_election.Goals as goal
 
 pub returns-in_err-say_listing : goal.returns-in_err-say_listing
 returns-in_err-say_listing g c = stops _ _ _ _ c.from_residual.ensures.0 c.in_err-say_listing.ensures
 
 pub returns : goal.returns
-returns g c = later _ _ _ _ _ c.in_ok-say_listing.ensures c.say_arrived.ensures
+returns g c = later _ _ _ _ _ c.in_ok-say_listing.ensures c.say_seated.ensures

@@ -1,0 +1,145 @@
+// The sentences on who is elected.
+ghost use Rattle.std.specs.Prelude.{◌≡◌, ◌≤◌, length};
+ghost use Rattle.plain_ballots.specs.declared.limits.TheConstants.{MOST_CANDIDATES};
+ghost use Rattle.meek_rule.specs.Row.{HasRoomFor};
+ghost use Rattle.piece_text.specs.Writing.{Writes};
+ghost use Rattle.sheet_words.specs.Manner.{said};
+ghost use Rattle.sheet_words.specs.Sentences.{arrival, arrived, at_quota, choice, chosen, election, reason, seated, seats_for_them};
+
+use crate::Voice;
+use crate::group::Group;
+use crate::members::{elected_count, members};
+use crate::part::Part;
+use crate::saying::{for_one_or_more, say_listing, say_parts};
+use byte_edge::{Failed, Sink};
+use fixed_place::Amount;
+use meek_rule::Row;
+use sheet_reader::SheetValues;
+
+pub(crate) fn say_election<V: Voice, K: Sink>(
+    voice: &V,
+    values: &SheetValues,
+    row: &Row<9>,
+    sink: &mut K,
+) -> Result<(), Failed>
+    requires room { HasRoomFor (length values.now.names) row.now }
+    requires few { length values.now.names ≤ MOST_CANDIDATES }
+    ensures { Writes K.written K.faults sink.old sink.new (said V.manner (election values.now row.now)) result }
+{
+    say_listing(voice, values, row, Group::Elected, sink)?;
+    say_seated(voice, row, sink)
+}
+
+fn say_seated<V: Voice, K: Sink>(voice: &V, row: &Row<9>, sink: &mut K) -> Result<(), Failed>
+    requires { HasRoomFor (length row.now.states) row.now }
+    ensures { Writes K.written K.faults sink.old sink.new (said V.manner (seated row.now)) result }
+{
+    let winners = members(row, Group::Elected);
+    let seated = for_one_or_more(b" and is elected.", b" and are elected.", winners);
+    say_quota(voice, winners, row.quota, seated, sink)
+}
+
+pub(crate) fn say_arrival<V: Voice, K: Sink>(
+    voice: &V,
+    values: &SheetValues,
+    row: &Row<9>,
+    sink: &mut K,
+) -> Result<(), Failed>
+    requires room { HasRoomFor (length values.now.names) row.now }
+    requires few { length values.now.names ≤ MOST_CANDIDATES }
+    ensures { Writes K.written K.faults sink.old sink.new (said V.manner (arrival values.now row.now)) result }
+{
+    say_listing(voice, values, row, Group::Reached, sink)?;
+    say_arrived(voice, row, sink)
+}
+
+fn say_arrived<V: Voice, K: Sink>(voice: &V, row: &Row<9>, sink: &mut K) -> Result<(), Failed>
+    requires { HasRoomFor (length row.now.states) row.now }
+    ensures { Writes K.written K.faults sink.old sink.new (said V.manner (arrived row.now)) result }
+{
+    say_quota(voice, members(row, Group::Reached), row.quota, b".", sink)
+}
+
+/// Says that so many reached the quota, and what stands behind it.
+fn say_quota<V: Voice, K: Sink>(
+    voice: &V,
+    count: usize,
+    quota: Amount<9>,
+    behind: &[u8],
+    sink: &mut K,
+) -> Result<(), Failed>
+    ensures { Writes K.written K.faults sink.old sink.new
+        (said V.manner (at_quota count quota behind.now)) result }
+{
+    let reach = for_one_or_more(b" reaches the quota of ", b" reach the quota of ", count);
+    say_parts(
+        voice,
+        &[Part::Words(reach), Part::Votes(quota), Part::Words(behind)],
+        sink,
+    )
+}
+
+pub(crate) fn say_choice<V: Voice, K: Sink>(
+    voice: &V,
+    values: &SheetValues,
+    row: &Row<9>,
+    sink: &mut K,
+) -> Result<(), Failed>
+    requires room { HasRoomFor (length values.now.names) row.now }
+    requires few { length values.now.names ≤ MOST_CANDIDATES }
+    ensures { Writes K.written K.faults sink.old sink.new (said V.manner (choice values.now row.now)) result }
+{
+    say_seats(voice, values, row, sink)?;
+    say_listing(voice, values, row, Group::Elected, sink)?;
+    say_chosen(voice, row, sink)
+}
+
+/// Says how many seats are left before an iteration.
+fn say_seats<V: Voice, K: Sink>(
+    voice: &V,
+    values: &SheetValues,
+    row: &Row<9>,
+    sink: &mut K,
+) -> Result<(), Failed>
+    requires { length row.now.states ≤ MOST_CANDIDATES }
+    ensures { Writes K.written K.faults sink.old sink.new (said V.manner (seats_for_them values.now row.now)) result }
+{
+    let left = values.seats.saturating_sub(elected_count(&row.states));
+    say_parts(
+        voice,
+        &[
+            Part::Words(b"Seats left for them: "),
+            Part::Number(left as u64),
+            Part::Words(b". "),
+        ],
+        sink,
+    )
+}
+
+fn say_chosen<V: Voice, K: Sink>(voice: &V, row: &Row<9>, sink: &mut K) -> Result<(), Failed>
+    requires { HasRoomFor (length row.now.states) row.now }
+    ensures { Writes K.written K.faults sink.old sink.new (said V.manner (chosen row.now)) result }
+{
+    let seated = for_one_or_more(
+        b" is elected",
+        b" are elected",
+        members(row, Group::Elected),
+    );
+    say_parts(
+        voice,
+        &[Part::Words(seated), Part::Words(reason(row))],
+        sink,
+    )
+}
+
+/// How those are chosen for whom there are seats.
+fn reason(row: &Row<9>) -> &'static [u8]
+    requires { HasRoomFor (length row.now.states) row.now }
+    ensures { result.now ≡ reason row.now }
+{
+    if members(row, Group::LeftByLot) == 0 {
+        b": a greater vote comes first."
+    } else {
+        b": a greater vote comes first, and of equal votes the later in the lots."
+    }
+}
