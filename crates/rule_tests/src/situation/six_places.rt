@@ -1,5 +1,5 @@
 // A count at six places, with an omega of one unit.
-use crate::elections::{TEN_FOUR_THREE, ballots_of, roll_and_lots};
+use crate::elections::{TEN_FOUR_THREE, ballots_of, omega_of, roll_and_lots};
 use crate::situation::checked::{are_keeps, are_votes, settle_checked};
 use candidate_roll::{Roll, State};
 use fixed_place::{Amount, Amounts};
@@ -109,7 +109,7 @@ fn counts_turns(
 
 /// Counts them from the opening to the end.
 fn counts(rt: &impl Abort, alloc: Global, roll: &Roll, lots: &Lots) -> Result<(), Fail> {
-    let mut now = Situation::<6>::begin(alloc, roll, Amount::from_units(1))?;
+    let mut now = Situation::<6>::begin(alloc, roll, omega_of(1)?)?;
     let counted = counts_turns(rt, alloc, &mut now, lots);
     if counted.is_ok() {
         expect_end(rt, &mut now);
