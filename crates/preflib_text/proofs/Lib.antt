@@ -1,0 +1,4 @@
+mod Options
+mod OrderLemmas
+mod FaultLemmas
+mod MendLemmas

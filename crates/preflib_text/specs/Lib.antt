@@ -1,0 +1,15 @@
+pub mod Asked
+pub mod Texts
+pub mod Faults
+pub mod Lines
+pub mod Metadata
+pub mod Head
+pub mod Parts
+pub mod Orders
+pub mod Items
+pub mod Ballots
+pub mod Refusals
+pub mod Laws
+pub mod Worked
+pub mod WorkedHeads
+pub mod WorkedOrders

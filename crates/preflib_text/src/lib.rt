@@ -1,0 +1,14 @@
+//! What a text of PrefLib means: metadata, orders of candidates, the ballots that the orders stand for, and the
+//! first fault where it is refused. There is no reader of texts here yet: these are its definitions, what holds
+//! of every text, and texts worked by hand.
+#![tactic(auto)]
+
+mod laws;
+mod pref_fault;
+mod pref_kind;
+mod worked;
+
+pub use laws::{fault_or_ballots, texts_are_only_mended};
+pub use pref_fault::PrefFault;
+pub use pref_kind::PrefKind;
+pub use worked::worked_orders;
