@@ -2,3 +2,6 @@ mod Options
 mod OrderLemmas
 mod FaultLemmas
 mod MendLemmas
+mod LineLemmas
+mod PartLemmas
+mod EntryLemmas

@@ -9,6 +9,7 @@ pub mod Orders
 pub mod Items
 pub mod Ballots
 pub mod Refusals
+pub mod Reading
 pub mod Laws
 pub mod Worked
 pub mod WorkedHeads

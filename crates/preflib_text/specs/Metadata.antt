@@ -38,15 +38,16 @@ key_of text =
 abbrev pub is_colon : ℕ → Bool
 is_colon b = b == 58
 
--- the key of a line: what stands between the `#` and the first colon, or none that is used without a colon
+-- the key in what stands behind the `#`: what comes before the first colon, or none that is used without a colon
 abbrev pub key_in : List ℕ → Key
-key_in bytes = if list_any is_colon bytes then key_of (trimmed (before_first is_colon (drop 1 bytes))) else Other
+key_in text = if list_any is_colon text then key_of (trimmed (before_first is_colon text)) else Other
 
 -- The value stands behind the first colon.
 abbrev pub entry_of : List ℕ → Entry
 entry_of bytes =
-    let value = after_first is_colon bytes in
-    record { key = key_in bytes; value = trimmed value; at = length bytes - length (behind_blanks value) }
+    let text = drop 1 bytes in
+    let value = after_first is_colon text in
+    record { key = key_in text; value = trimmed value; at = length bytes - length (behind_blanks value) }
 
 -- the same thing that the text says once
 abbrev pub is_same : Key → Key → Bool

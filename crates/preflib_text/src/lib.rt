@@ -1,9 +1,15 @@
 //! What a text of PrefLib means: metadata, orders of candidates, the ballots that the orders stand for, and the
-//! first fault where it is refused. There is no reader of texts here yet: these are its definitions, what holds
-//! of every text, and texts worked by hand.
+//! first fault where it is refused. There is no reader of whole texts here yet: these are its definitions, what
+//! holds of every text, texts worked by hand, and the lines, metadata and parts that a reader will stand on.
 #![tactic(auto)]
 
+mod blanks;
+mod entry;
 mod laws;
+mod line;
+mod lines;
+mod numeral;
+mod part;
 mod pref_fault;
 mod pref_kind;
 mod worked;

@@ -1,0 +1,14 @@
+use Rattle.std.proofs.Common.{◌≡◌, ◌+◌, ◌-◌, ◌≤◌, length, drop}
+use Rattle.std.specs.List.{prefix_len}
+use Rattle.preflib_text.specs.Texts.{is_digit}
+use Rattle.preflib_text.proofs.part.behind_digits.Given as goal
+
+-- digits so far
+abbrev pub invariant-loop-at : goal.invariant-loop-at
+invariant-loop-at l = record {
+  inside : l.at ≤ length l.bytes;
+  before : l.from + prefix_len is_digit (drop l.from l.bytes) ≡ l.at + prefix_len is_digit (drop l.at l.bytes);
+}
+
+abbrev pub decreases-loop-at : goal.decreases-loop-at
+decreases-loop-at l = length l.bytes - l.at
