@@ -5,3 +5,5 @@ mod MendLemmas
 mod LineLemmas
 mod PartLemmas
 mod EntryLemmas
+mod ReadLemmas
+mod StandLemmas

@@ -27,7 +27,7 @@ digit_not_blank b is = grind arith
 blank_not_digit : (b : ℕ) → is_blank b ≡ true → is_digit b ≡ false
 blank_not_digit b is = grind arith
 
-last_push : (o : Option ℕ) (xs : List ℕ) (y : ℕ) → last_or o (xs ++ y ∷ []) ≡ Some y
+pub last_push : {X : Type 0} (o : Option X) (xs : List X) (y : X) → last_or o (xs ++ y ∷ []) ≡ Some y
 last_push o [] y = refl
 last_push o (x ∷ xs) y = last_push (Some x) xs y
 

@@ -10,6 +10,8 @@ pub mod Items
 pub mod Ballots
 pub mod Refusals
 pub mod Reading
+pub mod Standing
+pub mod Stops
 pub mod Laws
 pub mod Worked
 pub mod WorkedHeads

@@ -4,22 +4,15 @@ use Rattle.std.specs.Prelude.{ℕ, ◌==◌, nat_lt, nat_le, if◌then◌else◌
 use Rattle.std.specs.Prelude.{List, [], ◌∷◌, map, take, drop, Option, Some, None}
 use Rattle.std.specs.List.{filter_map, list_any, enumerate_from, last_or}
 use Rattle.std.specs.Option.{option_map}
+use Rattle.preflib_text.specs.declared.expected.Expected.{Expected}
+use Rattle.preflib_text.specs.declared.expected.Expected.TheVariants.{Count as AtCount, BehindCount, Item as AtItem, BehindItem}
+use Rattle.preflib_text.specs.declared.expected.Expected.TheVariants.{Number as AtNumber, BehindNumber}
 use Rattle.preflib_text.specs.declared.pref_fault.PrefFault.{PrefFault}
 use Rattle.preflib_text.specs.declared.pref_kind.PrefKind.{PrefKind}
 use Rattle.preflib_text.specs.declared.pref_kind.PrefKind.TheVariants.{BadByte, BadNumber, NoSuchCandidate, Repeated}
 use Rattle.preflib_text.specs.declared.pref_kind.PrefKind.TheVariants.{TooManyBallots}
 use Rattle.preflib_text.specs.Faults.{Line, in_line, first_of}
 use Rattle.preflib_text.specs.Parts.{Part, Number, Colon, Comma, Open, Close, Wrong, End, Placed, parts}
-
--- what may stand next: the count, the colon behind it, an item, what stands behind one, a number in braces,
--- what stands behind one
-pub data Expected : Type 0 where
-  AtCount : Expected
-  BehindCount : Expected
-  AtItem : Expected
-  BehindItem : Expected
-  AtNumber : Expected
-  BehindNumber : Expected
 
 -- whether a part stands within braces that follows another, which may stand within them itself
 abbrev pub braced : Bool → Part → Bool

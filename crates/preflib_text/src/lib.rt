@@ -4,17 +4,24 @@
 #![tactic(auto)]
 
 mod blanks;
+mod braced;
 mod entry;
+mod expected;
 mod laws;
 mod line;
 mod lines;
 mod numeral;
+mod order;
+mod order_stop;
 mod part;
+mod part_stop;
 mod pref_fault;
 mod pref_kind;
+mod pref_stop;
 mod worked;
 
 pub use laws::{fault_or_ballots, texts_are_only_mended};
 pub use pref_fault::PrefFault;
 pub use pref_kind::PrefKind;
+pub use pref_stop::PrefStop;
 pub use worked::worked_orders;

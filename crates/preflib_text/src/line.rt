@@ -27,6 +27,12 @@ impl<'a> Model for Line<'a> {
 }
 
 impl<'a> Line<'a> {
+    pub fn bytes(&self) -> &'a [u8]
+        ensures { result.now ≡ self.now.bytes }
+    {
+        self.bytes
+    }
+
     /// A line of metadata begins with `#`.
     pub fn is_metadata(&self) -> bool
         ensures { result ≡ is_metadata self.now }

@@ -1,5 +1,6 @@
 // The parts of a line that is an order.
-ghost use Rattle.std.specs.Prelude.{◌≡◌, ◌+◌, ◌≤◌, drop, length, IfSome};
+ghost use Rattle.std.specs.Prelude.{◌≡◌, ◌≢◌, ◌+◌, ◌<◌, ◌≤◌, drop, length};
+ghost use Rattle.preflib_text.specs.declared.part.Part.TheVariants as part;
 ghost use Rattle.std.specs.List.{prefix_len};
 ghost use Rattle.preflib_text.specs.Parts.{sign};
 ghost use Rattle.preflib_text.specs.Reading.{kept, IsFirst, IsFresh};
@@ -39,6 +40,7 @@ pub(crate) fn part_from(bytes: &[u8], from: usize) -> Found
     ensures first { IsFirst bytes.now from result }
     ensures fresh { IsFresh bytes.now result.stop }
     ensures ordered { result.at ≤ result.stop }
+    ensures further { result.part ≢ part.End → from < result.stop }
     ensures inside { result.stop ≤ length bytes.now }
 {
     let at = behind_blanks(bytes, from);

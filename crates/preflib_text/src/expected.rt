@@ -1,0 +1,14 @@
+// What may stand next in an order.
+
+/// What may stand next in an order.
+#[derive(Clone, Copy, Debug, PartialEq, Eq)]
+pub(crate) enum Expected {
+    Count,
+    /// The colon behind the count.
+    BehindCount,
+    Item,
+    BehindItem,
+    /// A candidate in braces.
+    Number,
+    BehindNumber,
+}
