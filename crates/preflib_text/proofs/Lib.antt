@@ -7,3 +7,5 @@ mod PartLemmas
 mod EntryLemmas
 mod ReadLemmas
 mod StandLemmas
+mod ItemLemmas
+mod ReadItems

@@ -20,7 +20,7 @@ use Rattle.preflib_text.proofs.PartLemmas.{last_push}
 abbrev one_number : Part → List ℕ
 one_number part = cons_option (number_in part) []
 
-braces_push : (inside : Bool) (xs : List Part) (p : Part) → fold braced inside (xs ++ p ∷ []) ≡ braced (fold braced inside xs) p
+pub braces_push : (inside : Bool) (xs : List Part) (p : Part) → fold braced inside (xs ++ p ∷ []) ≡ braced (fold braced inside xs) p
 braces_push inside [] p = refl
 braces_push inside (x ∷ xs) p = braces_push (braced inside x) xs p
 

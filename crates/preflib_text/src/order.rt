@@ -1,7 +1,8 @@
 // A line that is an order.
-ghost use Rattle.std.specs.Prelude.{◌≡◌, ◌≤◌, length, None, Ok, OnOk, IfErr};
+ghost use Rattle.std.specs.Prelude.{◌≡◌, ◌≤◌, length, map, None, Ok, OnOk, IfErr};
 ghost use Rattle.plain_ballots.specs.declared.limits.TheConstants.{MOST_BALLOTS, MOST_CANDIDATES};
 ghost use Rattle.preflib_text.specs.Orders.{count_fault, number_fault, order_fault};
+ghost use Rattle.preflib_text.specs.Items.{count_of, items, marks_of};
 ghost use Rattle.preflib_text.specs.Parts.{parts};
 ghost use Rattle.ballot_marks.specs.declared.says.Says.TheVariants.{One as says_one};
 ghost use Rattle.preflib_text.specs.declared.braced.Braced.TheVariants as braced;
@@ -92,7 +93,9 @@ impl Order {
         requires { room ≤ MOST_BALLOTS }
         ensures sound { OnOk result (order_fault room self.old.candidates line.now ≡ None) }
         ensures stop { IfErr result (IsPrefStop (order_fault room self.old.candidates line.now)) }
-        ensures read { OnOk result (read room (starting self.old.candidates) (parts line.now.bytes) ≡ Ok self.new) }
+        ensures count { OnOk result (self.new.count ≡ count_of line.now) }
+        ensures marks { OnOk result (self.new.marks ≡ marks_of (items line.now)) }
+        ensures places { OnOk result (self.new.places ≡ map (λ item. item.at) (items line.now)) }
     {
         match self.read(line.bytes(), room) {
             Ok(()) => Ok(()),
