@@ -9,3 +9,4 @@ mod ReadLemmas
 mod StandLemmas
 mod ItemLemmas
 mod ReadItems
+mod WithinLemmas

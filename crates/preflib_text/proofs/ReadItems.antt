@@ -74,7 +74,7 @@ record IsRead (s t : Stand) (items : List Item) : Type 0 where
 
 module _ (room : ℕ) where
   -- one part of an order that is read to its end
-  read_step : (s t : Stand) (p : Placed) (ps : List Placed) → read room s (p ∷ ps) ≡ Ok t
+  pub read_step : (s t : Stand) (p : Placed) (ps : List Placed) → read room s (p ∷ ps) ≡ Ok t
       → (standing_fault room s p.part ≡ None) × (read room (next s p.at p.part) ps ≡ Ok t)
   read_step s t p ps is =
       (elim (standing_fault room s p.part)

@@ -1,10 +1,15 @@
 // A line that is an order.
-ghost use Rattle.std.specs.Prelude.{◌≡◌, ◌≤◌, length, map, None, Ok, OnOk, IfErr};
+ghost use Rattle.std.specs.Prelude.{◌≡◌, ◌≤◌, ℕ, length, map, slice_get, unwrap_or, All, Some, None, Ok, IfOk, OnOk, IfErr};
 ghost use Rattle.plain_ballots.specs.declared.limits.TheConstants.{MOST_BALLOTS, MOST_CANDIDATES};
 ghost use Rattle.preflib_text.specs.Orders.{count_fault, number_fault, order_fault};
 ghost use Rattle.preflib_text.specs.Items.{count_of, items, marks_of};
 ghost use Rattle.preflib_text.specs.Parts.{parts};
 ghost use Rattle.ballot_marks.specs.declared.says.Says.TheVariants.{One as says_one};
+ghost use Rattle.plain_ballots.specs.Ranking.{IsRanking};
+ghost use Rattle.ballot_marks.specs.Ballot.{ranked, is_passed, is_cut};
+ghost use Rattle.ballot_marks.specs.Marks.{SaysOneOf};
+ghost use Rattle.preflib_text.specs.Ballots.{treating};
+ghost use Rattle.preflib_text.specs.Refusals.{mark_fault};
 ghost use Rattle.preflib_text.specs.declared.braced.Braced.TheVariants as braced;
 ghost use Rattle.preflib_text.specs.declared.part_stop.PartStop.TheVariants as part_stop;
 ghost use Rattle.preflib_text.specs.Standing.{more_braced, starting, listing, marking, next, standing_fault, seen, IsPartStop, IsOrderStop, IsWithin, read};
@@ -18,7 +23,7 @@ use crate::order_stop::{Misplaced, OrderStop};
 use crate::part::{Part, part_from};
 use crate::part_stop::PartStop;
 use crate::{PrefKind, PrefStop};
-use ballot_marks::{Mark, Marks, Says};
+use ballot_marks::{Mark, Marks, Says, Treat, TreatStop, Treated, Treatment, treat};
 use std::alloc::Global;
 use std::marker::Model;
 
@@ -96,11 +101,46 @@ impl Order {
         ensures count { OnOk result (self.new.count ≡ count_of line.now) }
         ensures marks { OnOk result (self.new.marks ≡ marks_of (items line.now)) }
         ensures places { OnOk result (self.new.places ≡ map (λ item. item.at) (items line.now)) }
+        ensures candidates { OnOk result (All (λ m. SaysOneOf self.new.candidates m.says) self.new.marks) }
+        ensures inside { OnOk result (All (λ at. at ≤ length line.now.bytes) self.new.places) }
     {
         match self.read(line.bytes(), room) {
             Ok(()) => Ok(()),
             Err(OrderStop::Misplaced(part)) => Err(PrefStop::Fault(line.fault(part.kind, part.at))),
             Err(OrderStop::NoMemory) => Err(PrefStop::NoMemory),
+        }
+    }
+
+    /// What the marks of a line come to that was read as an order.
+    pub fn treat(&self, alloc: Global, line: &Line<'_>, equal: Treat) -> Result<Treated, PrefStop>
+        requires marks { self.now.marks ≡ marks_of (items line.now) }
+        requires places { self.now.places ≡ map (λ item. item.at) (items line.now) }
+        requires candidates { All (λ m. SaysOneOf self.now.candidates m.says) self.now.marks }
+        requires inside { All (λ at. at ≤ length line.now.bytes) self.now.places }
+        ensures ranked { IfOk result (λ treated. ranked (treating equal) self.now.marks ≡ Some treated.ranking) }
+        ensures ranking { IfOk result (λ treated. IsRanking self.now.candidates treated.ranking) }
+        ensures passed { IfOk result (λ treated. treated.passed ≡ is_passed (treating equal) self.now.marks) }
+        ensures cut { IfOk result (λ treated. treated.cut ≡ is_cut (treating equal) self.now.marks) }
+        ensures sound { OnOk result (mark_fault equal line.now ≡ None) }
+        ensures stop { IfErr result (IsPrefStop (mark_fault equal line.now)) }
+    {
+        match treat(alloc, self.marks.items(), &treating(equal), self.candidates) {
+            Ok(treated) => Ok(treated),
+            Err(TreatStop::NoMemory) => Err(PrefStop::NoMemory),
+            Err(TreatStop::Refused { place, why: _ }) => {
+                Err(PrefStop::Fault(line.fault(PrefKind::EqualRank, self.place(place))))
+            }
+        }
+    }
+
+    // The place of a mark's item in its line.
+    fn place(&self, mark: usize) -> usize
+        ensures at { result ≡ unwrap_or (slice_get self.now.places mark) 0 }
+        ensures inside { (bound : ℕ) → All (λ at. at ≤ bound) self.now.places → result ≤ bound }
+    {
+        match self.places.get(mark) {
+            Some(at) => *at,
+            None => 0,
         }
     }
 
@@ -243,5 +283,16 @@ impl Order {
         self.marks.push(Mark { skipped: 0, says })?;
         self.expected = Expected::BehindItem;
         Ok(())
+    }
+}
+
+// A text has no other marks that are not plain than those of equal ranks.
+fn treating(equal: Treat) -> Treatment
+    ensures { result ≡ treating equal }
+{
+    Treatment {
+        skipped: None,
+        equal,
+        repeated: Treat::Refuse,
     }
 }

@@ -4,6 +4,7 @@ use Rattle.preflib_text.specs.Standing.{starting, read, IsOrderStop}
 use Rattle.preflib_text.proofs.ReadItems.{IsOrder, order_read}
 use Rattle.preflib_text.proofs.order.Order.judge.Goals.{In-Ok}
 use Rattle.preflib_text.specs.Items.{count_of, items}
+use Rattle.preflib_text.proofs.WithinLemmas.{marks_in, places_in}
 use Rattle.preflib_text.proofs.StandLemmas.{read_sound, read_misplaced}
 use Rattle.preflib_text.proofs.order.Order.judge.Goals as goal
 
@@ -38,3 +39,13 @@ returns-in-Err-Misplaced-clause-stop c =
     (ap (λ bytes. read c.args.room (starting c.args.self.now.candidates) (parts bytes)) (sym c.bytes.ensures)
     ∙ subst (IsOrderStop told) c.in-Err-Misplaced.field-0-is c.in-Err-Misplaced.ensures.stop)
     ∙ ap Some (sym c.fault.ensures)
+
+pub returns-in-Ok-clause-candidates : goal.returns-in-Ok-clause-candidates
+returns-in-Ok-clause-candidates c =
+    marks_in c.args.room c.args.self.now.candidates c.args.line.now.bytes c.read.new.self
+    (read_line ((goal.at.returns-in-Ok-clause-candidates c).In-Ok))
+
+pub returns-in-Ok-clause-inside : goal.returns-in-Ok-clause-inside
+returns-in-Ok-clause-inside c =
+    places_in c.args.room c.args.self.now.candidates c.args.line.now.bytes c.read.new.self
+    (read_line ((goal.at.returns-in-Ok-clause-inside c).In-Ok))
