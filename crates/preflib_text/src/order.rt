@@ -9,7 +9,7 @@ ghost use Rattle.plain_ballots.specs.Ranking.{IsRanking};
 ghost use Rattle.ballot_marks.specs.Ballot.{ranked, is_passed, is_cut};
 ghost use Rattle.ballot_marks.specs.Marks.{SaysOneOf};
 ghost use Rattle.preflib_text.specs.Ballots.{treating};
-ghost use Rattle.preflib_text.specs.Refusals.{mark_fault};
+ghost use Rattle.preflib_text.specs.Refusals.{mark_fault, whole_fault};
 ghost use Rattle.preflib_text.specs.declared.braced.Braced.TheVariants as braced;
 ghost use Rattle.preflib_text.specs.declared.part_stop.PartStop.TheVariants as part_stop;
 ghost use Rattle.preflib_text.specs.Standing.{more_braced, starting, listing, marking, next, standing_fault, seen, IsPartStop, IsOrderStop, IsWithin, read};
@@ -93,8 +93,31 @@ impl Order {
         self.braced = Braced::Nobody;
     }
 
+    /// Reads a line as an order, where so many more ballots have room: what its marks come to.
+    pub fn ballot(
+        &mut self,
+        alloc: Global,
+        line: &Line<'_>,
+        room: u32,
+        equal: Treat,
+    ) -> Result<Treated, PrefStop>
+        requires { room ≤ MOST_BALLOTS }
+        ensures sound { OnOk result (whole_fault equal self.old.candidates (room, line.now) ≡ None) }
+        ensures stop { IfErr result (IsPrefStop (whole_fault equal self.old.candidates (room, line.now))) }
+        ensures count { OnOk result (self.new.count ≡ count_of line.now) }
+        ensures ranked { IfOk result (λ treated. ranked (treating equal) (marks_of (items line.now)) ≡ Some treated.ranking) }
+        ensures ranking { IfOk result (λ treated. IsRanking self.old.candidates treated.ranking) }
+        ensures candidates { self.new.candidates ≡ self.old.candidates }
+    {
+        if let Some(fault) = line.form() {
+            return Err(PrefStop::Fault(fault));
+        }
+        self.judge(line, room)?;
+        self.treat(alloc, line, equal)
+    }
+
     /// Reads a line as an order, where so many more ballots have room.
-    pub fn judge(&mut self, line: &Line<'_>, room: u32) -> Result<(), PrefStop>
+    fn judge(&mut self, line: &Line<'_>, room: u32) -> Result<(), PrefStop>
         requires { room ≤ MOST_BALLOTS }
         ensures sound { OnOk result (order_fault room self.old.candidates line.now ≡ None) }
         ensures stop { IfErr result (IsPrefStop (order_fault room self.old.candidates line.now)) }
@@ -103,6 +126,7 @@ impl Order {
         ensures places { OnOk result (self.new.places ≡ map (λ item. item.at) (items line.now)) }
         ensures candidates { OnOk result (All (λ m. SaysOneOf self.new.candidates m.says) self.new.marks) }
         ensures inside { OnOk result (All (λ at. at ≤ length line.now.bytes) self.new.places) }
+        ensures same { self.new.candidates ≡ self.old.candidates }
     {
         match self.read(line.bytes(), room) {
             Ok(()) => Ok(()),
@@ -112,7 +136,7 @@ impl Order {
     }
 
     /// What the marks of a line come to that was read as an order.
-    pub fn treat(&self, alloc: Global, line: &Line<'_>, equal: Treat) -> Result<Treated, PrefStop>
+    fn treat(&self, alloc: Global, line: &Line<'_>, equal: Treat) -> Result<Treated, PrefStop>
         requires marks { self.now.marks ≡ marks_of (items line.now) }
         requires places { self.now.places ≡ map (λ item. item.at) (items line.now) }
         requires candidates { All (λ m. SaysOneOf self.now.candidates m.says) self.now.marks }
@@ -148,6 +172,7 @@ impl Order {
     fn read(&mut self, bytes: &[u8], room: u32) -> Result<(), OrderStop>
         requires { room ≤ MOST_BALLOTS }
         ensures inside { IfErr result (IsWithin (length bytes.now)) }
+        ensures candidates { self.new.candidates ≡ self.old.candidates }
         ensures ok { OnOk result (read room (starting self.old.candidates) (parts bytes.now) ≡ Ok self.new) }
         ensures stop { IfErr result (IsOrderStop (read room (starting self.old.candidates) (parts bytes.now))) }
     {
