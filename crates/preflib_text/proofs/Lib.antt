@@ -10,3 +10,4 @@ mod StandLemmas
 mod ItemLemmas
 mod ReadItems
 mod WithinLemmas
+mod CountLemmas

@@ -1,5 +1,5 @@
 -- The marks of a whole order, as they are read.
-use Rattle.std.proofs.Common.{◌≡◌, ℕ, zero, suc, ◌+◌, false, List, [], ◌∷◌, ◌++◌, map, take, drop, length, Option, Some, None, Ok}
+use Rattle.std.proofs.Common.{◌≡◌, ℕ, zero, suc, ◌+◌, ◌≤◌, false, List, [], ◌∷◌, ◌++◌, map, take, drop, length, Option, Some, None, Ok}
 use Rattle.std.proofs.Common.{refl, ap, sym, ◌∙◌, subst, arith}
 use Rattle.std.specs.List.{filter_map, cons_option, range_with_len, slice_get}
 use Rattle.std.specs.Option.{option_map, option_and_then, unwrap_or}
@@ -8,7 +8,7 @@ use Rattle.preflib_text.specs.declared.expected.Expected.{Expected}
 use Rattle.preflib_text.specs.declared.expected.Expected.TheVariants.{Count, BehindCount, Item as AtItem, BehindItem}
 use Rattle.preflib_text.specs.Faults.{Line}
 use Rattle.preflib_text.specs.Items.{Item, items, count_of, marks_of}
-use Rattle.preflib_text.specs.Orders.{number_in, part_fault}
+use Rattle.preflib_text.specs.Orders.{number_in, count_fault, part_fault}
 use Rattle.preflib_text.specs.Parts.{Part, Number, Colon, End, Placed, part_between, part_at, parts}
 use Rattle.preflib_text.specs.Standing.{Stand, starting, next, next_by, standing_fault, unless_misplaced, read}
 use Rattle.preflib_text.proofs.ItemLemmas.{items_with, items_from, Fits, left, gained, left_next, fits_next}
@@ -129,6 +129,9 @@ module _ (room : ℕ) where
 
   -- ---- the count and the colon
 
+  count_bounds : (m : ℕ) → count_fault room m ≡ None → (1 ≤ m) × (m ≤ room)
+  count_bounds m sound = grind arith
+
   first_part : (n : ℕ) (part : Part) → part_fault room n [] Count part ≡ None → (m : ℕ) × (part ≡ Number m)
   first_part n (Number m) sound = (m, refl)
   first_part n part sound = absurd (cc sound)
@@ -145,6 +148,7 @@ module _ (room : ℕ) where
     pub marks_are : t.marks ≡ marks_of items
     pub places_are : t.places ≡ ats items
     pub count_is : t.count ≡ count
+    pub bounded : (1 ≤ t.count) × (t.count ≤ room)
 
   abbrev behind_colon : (n m : ℕ) → Stand
   behind_colon n m = record (starting n) { expected = AtItem; count = m }
@@ -177,6 +181,8 @@ module _ (room : ℕ) where
         marks_are = done.marks_are;
         places_are = done.places_are;
         count_is = done.count_is ∙ ap (λ part. unwrap_or (number_in part) 0) (sym number.1);
+        bounded = subst (λ k. (1 ≤ k) × (k ≤ room)) (sym done.count_is)
+            (count_bounds m (ap (part_fault room n [] Count) (sym number.1) ∙ one.0));
       }
 
   pub order_read : (line : Line) (n : ℕ) (t : Stand) → read room (starting n) (parts line.bytes) ≡ Ok t

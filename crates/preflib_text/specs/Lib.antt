@@ -12,6 +12,7 @@ pub mod Refusals
 pub mod Reading
 pub mod Standing
 pub mod Stops
+pub mod Counting
 pub mod Laws
 pub mod Worked
 pub mod WorkedHeads

@@ -1,6 +1,6 @@
 //! What a text of PrefLib means: metadata, orders of candidates, the ballots that the orders stand for, and the
 //! first fault where it is refused. There is no reader of whole texts here yet: these are its definitions, what
-//! holds of every text, texts worked by hand, and the lines, metadata and parts that a reader will stand on.
+//! holds of every text, texts worked by hand, and the reading of lines, of metadata line by line, and of all orders, on which a reader will stand.
 #![tactic(auto)]
 
 mod blanks;
@@ -12,6 +12,7 @@ mod line;
 mod lines;
 mod numeral;
 mod order;
+mod order_lines;
 mod order_stop;
 mod part;
 mod part_stop;

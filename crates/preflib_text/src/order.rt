@@ -79,6 +79,13 @@ impl Order {
         }
     }
 
+    /// The number of ballots that the order stands for.
+    pub fn count(&self) -> u32
+        ensures { result ≡ self.now.count }
+    {
+        self.count
+    }
+
     /// Begins another order.
     fn clear(&mut self)
         ensures cleared { self.new ≡ starting self.old.candidates }
@@ -107,6 +114,7 @@ impl Order {
         ensures count { OnOk result (self.new.count ≡ count_of line.now) }
         ensures ranked { IfOk result (λ treated. ranked (treating equal) (marks_of (items line.now)) ≡ Some treated.ranking) }
         ensures ranking { IfOk result (λ treated. IsRanking self.old.candidates treated.ranking) }
+        ensures bounded { OnOk result ((1 ≤ self.new.count) × (self.new.count ≤ room)) }
         ensures candidates { self.new.candidates ≡ self.old.candidates }
     {
         if let Some(fault) = line.form() {
@@ -127,6 +135,7 @@ impl Order {
         ensures candidates { OnOk result (All (λ m. SaysOneOf self.new.candidates m.says) self.new.marks) }
         ensures inside { OnOk result (All (λ at. at ≤ length line.now.bytes) self.new.places) }
         ensures same { self.new.candidates ≡ self.old.candidates }
+        ensures bounded { OnOk result ((1 ≤ self.new.count) × (self.new.count ≤ room)) }
     {
         match self.read(line.bytes(), room) {
             Ok(()) => Ok(()),

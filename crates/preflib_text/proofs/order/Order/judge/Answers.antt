@@ -49,3 +49,6 @@ pub returns-in-Ok-clause-inside : goal.returns-in-Ok-clause-inside
 returns-in-Ok-clause-inside c =
     places_in c.args.room c.args.self.now.candidates c.args.line.now.bytes c.read.new.self
     (read_line ((goal.at.returns-in-Ok-clause-inside c).In-Ok))
+
+pub returns-in-Ok-clause-bounded : goal.returns-in-Ok-clause-bounded
+returns-in-Ok-clause-bounded c = (whole ((goal.at.returns-in-Ok-clause-bounded c).In-Ok)).bounded
