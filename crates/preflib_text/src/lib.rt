@@ -1,6 +1,6 @@
 //! What a text of PrefLib means: metadata, orders of candidates, the ballots that the orders stand for, and the
 //! first fault where it is refused. There is no reader of whole texts here yet: these are its definitions, what
-//! holds of every text, texts worked by hand, and the reading of lines, of metadata line by line, and of all orders, on which a reader will stand.
+//! holds of every text, texts worked by hand, and the reading of lines, of a line of metadata and of all orders.
 #![tactic(auto)]
 
 mod blanks;
