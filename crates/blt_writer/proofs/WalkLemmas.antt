@@ -5,13 +5,13 @@ use Rattle.std.proofs.Common.{append-nil}
 use Rattle.std.proofs.lemmas.List.{length-append, length-set, take_at, drop_at, take-set-le, take_more_set, map-append}
 use Rattle.std.proofs.lemmas.List.Elements.{All-nil, All-cons, All-append}
 use Rattle.frozen_plan.specs.declared.plan_row.PlanRow.{PlanRow}
-use Rattle.frozen_plan.specs.Forest.{Forest, Bare, Grown, ballots_of, through, rows_of, IsGrown}
+use Rattle.frozen_plan.specs.Forest.{Forest, Bare, Grown, ballots_of, through, rows_of, IsGrown, nodes_of}
 use Rattle.frozen_plan.specs.Plan.{forest_of, ballot_count, plan_ballots, plan_rows, IsPlan}
 use Rattle.frozen_plan.proofs.ReadLemmas.{read-rows_of}
 use Rattle.plain_ballots.specs.declared.ballot_line.BallotLine.{BallotLine}
 use Rattle.plain_ballots.specs.Ballots.{plain}
 use Rattle.plain_ballots.proofs.PlainLemmas.{plain-append}
-use Rattle.blt_writer.specs.Walk.{below, nodes_of, ends_at, line_at, lines_behind, lines_from, IsNode, AreNodes, IsRest}
+use Rattle.blt_writer.specs.Walk.{below, ends_at, line_at, lines_behind, lines_from, IsNode, AreNodes, IsRest}
 
 -- the lines of siblings behind a front that leads to them, and of all below them
 abbrev pub lines_of : (front : List ℕ) → Forest → List BallotLine

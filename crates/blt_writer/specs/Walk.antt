@@ -3,16 +3,12 @@ use Rattle.std.specs.Prelude.{◌≡◌, ℕ, ◌+◌, ◌-◌, ◌≤◌, List,
 use Rattle.std.specs.List.{slice_set}
 use Rattle.plain_ballots.specs.declared.limits.TheConstants.{MOST_CANDIDATES}
 use Rattle.frozen_plan.specs.declared.plan_row.PlanRow.{PlanRow}
-use Rattle.frozen_plan.specs.Forest.{Forest, through, rows_of, read}
+use Rattle.frozen_plan.specs.Forest.{through, rows_of, nodes_of}
 use Rattle.plain_ballots.specs.declared.ballot_line.BallotLine.{BallotLine}
 
 -- the rows of the nodes below a row
 abbrev pub below : PlanRow → (behind : List PlanRow) → List PlanRow
 below row behind = take (row.skip - 1) behind
-
--- the nodes that rows of siblings and of all below them say
-abbrev pub nodes_of : List PlanRow → Forest
-nodes_of rows = read (length rows) rows
 
 -- how many ballots end at a row
 abbrev pub ends_at : PlanRow → (behind : List PlanRow) → ℕ

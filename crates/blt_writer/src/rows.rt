@@ -1,8 +1,8 @@
 // How many ballots end at a row.
 ghost use Rattle.std.specs.Prelude.{◌≡◌, ◌+◌, ◌≤◌, ◌<◌, ◌^◌, ℕ, length, drop, slice_index_or};
-ghost use Rattle.frozen_plan.specs.Forest.{rows_of, through};
+ghost use Rattle.frozen_plan.specs.Forest.{rows_of, through, nodes_of};
 ghost use Rattle.frozen_plan.specs.declared.plan_row.PlanRow.{PlanRow};
-ghost use Rattle.blt_writer.specs.Walk.{AreNodes, ends_at, nodes_of};
+ghost use Rattle.blt_writer.specs.Walk.{AreNodes, ends_at};
 
 use frozen_plan::PlanRow;
 

@@ -37,3 +37,7 @@ read zero rows = Bare
 read (suc t) [] = Bare
 read (suc t) (row ∷ rows) =
     Grown row.candidate (row.ballots - through (read t (take (row.skip - 1) rows))) (read t (take (row.skip - 1) rows)) (read t (drop (row.skip - 1) rows))
+
+-- the nodes that rows of siblings and of all below them say
+abbrev pub nodes_of : List PlanRow → Forest
+nodes_of rows = read (length rows) rows

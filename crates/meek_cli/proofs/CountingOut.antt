@@ -13,7 +13,7 @@ use Rattle.meek_count.specs.Rows.{Rows}
 use Rattle.meek_count.specs.Progress.{Progress, HasJustBegun, RowsLead}
 use Rattle.meek_count.specs.declared.turn.Turn.{Turn}
 use Rattle.meek_count.specs.declared.turn.Turn.TheVariants.{Iterated, Finished}
-use Rattle.meek_count.proofs.Leading.{leads_none, leads_more}
+use Rattle.meek_count.proofs.Leading.{leads_more}
 use Rattle.meek_cli.specs.declared.turns.Turns.{Turns}
 use Rattle.meek_cli.specs.Summary.{last_round}
 use Rattle.meek_cli.specs.CountedOut.{IsCountedOut}
@@ -25,16 +25,6 @@ pub record IsCountingOut (places : ℕ) (start now : Progress) (turns : Turns) :
   pub rounds : turns.rounds ≡ last_round done
   pub iterations : turns.iterations ≡ length done
   pub bounded : turns.iterations + steps_left (most places) now.situation ≤ steps_left (most places) start.situation
-
-pub counting_none :
-    (places : ℕ) (start : Progress) → IsCountingOut places start start (record { rounds = 0; iterations = 0 })
-counting_none places start = record {
-  done = [];
-  leads = leads_none Meek (scale places) start;
-  rounds = refl;
-  iterations = refl;
-  bounded = omega arith;
-}
 
 last_round-last : (done : List Row) (row : Row) → last_round (done ++ row ∷ []) ≡ row.round
 last_round-last [] row = refl

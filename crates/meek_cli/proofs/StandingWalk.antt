@@ -1,5 +1,5 @@
 -- How many batches stand after the first calls of a history, and what is left of it.
-use Rattle.std.proofs.Common.{◌≡◌, ℕ, ◌+◌, ◌<◌, ◌≤◌, List, [], ◌∷◌, length, drop, get_or, refl, sym, ap, ◌∙◌, subst, arith}
+use Rattle.std.proofs.Common.{◌≡◌, ℕ, ◌+◌, ◌<◌, ◌≤◌, List, ◌∷◌, length, drop, get_or, refl, sym, ap, ◌∙◌, subst, arith}
 use Rattle.std.proofs.lemmas.List.{drop_more}
 use Rattle.std.proofs.lemmas.List.Elements.{All-head, All-tail}
 use Rattle.batch_core.specs.declared.entry.Entry.{Entry}
@@ -54,11 +54,6 @@ walk_begins history legal numbers = record {
   numbers = numbers;
   onward = refl;
 }
-
-pub walk_ends :
-    {history left : List Entry} {standing : ℕ} → HasWalked history left standing → left ≡ []
-    → standing ≡ standing_batches (after_all empty history)
-walk_ends so_far none = so_far.counted ∙ ap standing_batches (sym (ap (after_all so_far.book) none) ∙ so_far.onward)
 
 pub few : {history left : List Entry} {standing : ℕ} → HasWalked history left standing → standing ≤ 9999
 few so_far = subst (λ (n : ℕ). n ≤ 9999) (sym so_far.counted) (few_stand so_far.book)

@@ -1,5 +1,5 @@
 -- How a trial ends.
-use Rattle.std.proofs.Common.{◌≡◌, ℕ, ◌≤◌, List, [], ◌∷◌, length, true, Ok, sym, ap, ◌∙◌, subst, inl, inr, arith}
+use Rattle.std.proofs.Common.{◌≡◌, ℕ, ◌≤◌, List, [], ◌∷◌, length, sym, ap, ◌∙◌, subst, inl, inr, arith}
 use Rattle.std.specs.Prelude.{IsPermutation, All}
 use Rattle.std.proofs.lemmas.List.Elements.{All-nil, All-cons}
 use Rattle.std.proofs.lemmas.List.Sorted.{length_permutation}
@@ -7,11 +7,7 @@ use Rattle.plain_ballots.specs.Ballots.{plain}
 use Rattle.candidate_roll.specs.Roll.{RollList}
 use Rattle.candidate_roll.specs.declared.state.State.{State}
 use Rattle.fixed_place.specs.Rounding.{scale}
-use Rattle.input_text.specs.Scan.{scan}
-use Rattle.input_text.specs.Refusal.{IsAccepted}
-use Rattle.day_reader.specs.Day.{IsDay}
 use Rattle.day_reader.specs.declared.day.Day.{Day}
-use Rattle.day_reader.specs.Said.{AcceptsDays, reading}
 use Rattle.meek_rule.specs.Rule.{Meek}
 use Rattle.meek_rule.specs.Situation.{Situation}
 use Rattle.meek_count.specs.Rows.{Rows, IsCount}
@@ -25,36 +21,19 @@ use Rattle.batch_core.specs.Histories.{after_all, standing_after, struck_after}
 use Rattle.frozen_plan.specs.Plan.{PlanRows, all_ballots}
 use Rattle.lane_sheet.specs.Plans.{CanBeCounted}
 use Rattle.shard_office.specs.Versions.{VersionState}
-use Rattle.meek_trial.specs.Trial.{trial_day}
 use Rattle.meek_cli.specs.Status.{Status}
-use Rattle.tool_edge.specs.declared.end.End.TheVariants.{Done, NoMemory}
+use Rattle.tool_edge.specs.declared.end.End.TheVariants.{NoMemory}
 use Rattle.meek_cli.specs.declared.summary.Summary.{Summary}
 use Rattle.meek_cli.specs.declared.terms.Terms.{Terms}
 use Rattle.meek_cli.specs.declared.turns.Turns.{Turns}
 use Rattle.meek_cli.specs.CountedOut.{IsCountedOut}
 use Rattle.meek_cli.specs.DayText.{roll_with, terms_of}
-use Rattle.meek_cli.specs.MadeDay.{made_day, MadeDaysAreDays}
+use Rattle.meek_cli.specs.MadeDay.{made_day}
 use Rattle.tool_edge.specs.Streams.{Writing}
 use Rattle.meek_cli.specs.Summary.{standing_batches, summary_of, summary_lines, IsSummary, IsSummaryDue, IsOnlySummary}
-use Rattle.meek_cli.specs.Run.{FinishesTrial, PlaysTrial, WritesOwed}
+use Rattle.meek_cli.specs.Run.{PlaysTrial, WritesOwed}
 use Rattle.meek_cli.specs.DayHistory.{IsHistoryOf}
 use Rattle.meek_cli.proofs.LastFreeze.{IsClerks}
-
--- the text of a made day is read as the made day
-pub reads_made_day :
-    (number : ℕ) → MadeDaysAreDays → AcceptsDays → (1 ≤ number) × (number ≤ 1000)
-    → reading (trial_day number) ≡ Ok (made_day number)
-reads_made_day number days accepts small =
-    (accepts (scan (trial_day number) true) (made_day number)).1 (days number small.0 small.1)
-
--- What playing the day of the text came to is what the trial came to.
-pub trial_of :
-    (number : ℕ) (day : Day) (status : Status) (history : List Entry) (sink : Writing)
-    → IsAccepted IsDay (scan (trial_day number) true) day
-    → PlaysTrial number day status history sink → FinishesTrial number status history sink
-trial_of number day status history sink says (inl nothing) = inl nothing
-trial_of number day status history sink says (inr (calls, (text, is, finishes))) =
-    inr (Done, text, (tt, record { day = day; says = says; calls = calls; summary = is }), finishes)
 
 -- what writing the summary came to is what playing the day came to
 pub played_trial :

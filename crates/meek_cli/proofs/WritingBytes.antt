@@ -1,17 +1,9 @@
 -- Bytes written to a sink, as the writing of lines and the end of a run take them.
 use Rattle.std.proofs.Common.{ℕ, List, Option, Result, Ok, Err}
-use Rattle.sheet_text.specs.Lines.{text_of_lines}
 use Rattle.sheet_text.specs.Writing.{Writes}
 use Rattle.piece_text.specs.Writing.{Writes as WritesBytes}
 use Rattle.tool_edge.specs.Streams.{writing}
 use Rattle.tool_edge.specs.Finishing.{Wrote}
-
--- lines are written as their text
-pub writes_text :
-    {S T E : Type 0} (w : S → Option (List ℕ)) (f : S → ℕ) (a b : S) (lines : List (List ℕ)) (r : Result T E)
-    → Writes w f a b lines r → WritesBytes w f a b (text_of_lines lines) r
-writes_text w f a b lines (Ok x) did = record { whole = did.whole; calm = did.calm }
-writes_text w f a b lines (Err e) did = record { part = did.part; rose = did.rose }
 
 -- what was written, as the end of a run takes it
 pub wrote_of :

@@ -1,12 +1,12 @@
 -- A sheet as a page.
-use Rattle.std.specs.Prelude.{ℕ, ◌&&◌, not, Bool, true, false, if◌then◌else◌, List, [], ◌∷◌, ◌++◌, length, codes, decimal, slice_index}
+use Rattle.std.specs.Prelude.{ℕ, ◌&&◌, not, Bool, if◌then◌else◌, List, [], ◌∷◌, ◌++◌, length, codes, decimal, slice_index}
 use Rattle.std.specs.List.{list_any}
 use Rattle.candidate_roll.specs.State.{state_at}
-use Rattle.candidate_roll.specs.declared.state.State.{State}
-use Rattle.candidate_roll.specs.declared.state.State.TheVariants.{Hopeful, Elected, Defeated, Withdrawn}
+use Rattle.candidate_roll.specs.declared.state.State.TheVariants.{Elected}
 use Rattle.fixed_place.specs.Text.{text_of}
 use Rattle.lot_order.specs.Flags.{mark_at}
 use Rattle.meek_rule.specs.Row.{Row}
+use Rattle.meek_rule.specs.Situation.{is_elected}
 use Rattle.page_tree.specs.Trees.{Trees, Nothing}
 use Rattle.page_tree.specs.Print.{printed}
 use Rattle.sheet_text.specs.Lines.{state_word}
@@ -37,12 +37,6 @@ elected_in v row = each (elected_item v row) (places (length v.names))
 -- Some iteration elected the candidate at a place.
 abbrev pub was_elected : List Row → (p : ℕ) → Bool
 was_elected rows p = list_any (λ row. mark_at row.elected p) rows
-
-abbrev pub is_elected : State → Bool
-is_elected Hopeful = false
-is_elected Elected = true
-is_elected Defeated = false
-is_elected Withdrawn = false
 
 -- The candidate at a place is elected in the end, and was in no iteration.
 abbrev pub is_seated : SheetList → (p : ℕ) → Bool

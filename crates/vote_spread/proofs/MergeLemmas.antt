@@ -6,9 +6,9 @@ use Rattle.std.proofs.lemmas.List.{append-nil, length-append, get_or_at, set_at}
 use Rattle.std.proofs.lemmas.List.Elements.{All-head, All-tail}
 use Rattle.std.proofs.lemmas.List.Sums.{sum_by-append}
 use Rattle.frozen_plan.specs.declared.plan_row.PlanRow.{PlanRow}
-use Rattle.frozen_plan.specs.Forest.{ballots_of}
+use Rattle.frozen_plan.specs.Forest.{ballots_of, nodes_of}
 use Rattle.vote_spread.specs.Stem.{Stem, closed_stem}
-use Rattle.vote_spread.specs.Packed.{StandFor, nodes_of, AreRows, HasAdded}
+use Rattle.vote_spread.specs.Packed.{StandFor, AreRows, HasAdded}
 use Rattle.vote_spread.specs.Merged.{behind, front, first_ballots, part_ballots, AreParts, IsAlone, AreOfAll, HasMerged}
 use Rattle.vote_spread.proofs.StandLemmas.{stand-nothing, stand-append, stand-node}
 use Rattle.vote_spread.proofs.PartLemmas.{counted_by, of_all_rows, rows_of_all, stand_same}

@@ -8,9 +8,9 @@ use Rattle.std.proofs.lemmas.List.Folds.{sum_by-replicate}
 use Rattle.std.proofs.lemmas.List.Sums.{sum_by-append, sum_by-cons}
 use Rattle.std.proofs.Math.Nat.{add-mul}
 use Rattle.frozen_plan.specs.declared.plan_row.PlanRow.{PlanRow}
-use Rattle.frozen_plan.specs.Forest.{Forest, Bare, Grown, ballots_of, IsGrown}
+use Rattle.frozen_plan.specs.Forest.{Forest, Bare, Grown, ballots_of, IsGrown, nodes_of}
 use Rattle.frozen_plan.proofs.ReadLemmas.{length-ballots_of}
-use Rattle.vote_spread.specs.Packed.{nodes_of, AreRows}
+use Rattle.vote_spread.specs.Packed.{AreRows}
 use Rattle.vote_spread.specs.Merged.{first_ballots, part_ballots, AreParts, IsAlone}
 use Rattle.vote_spread.proofs.RowLemmas.{nodes_of-rows_of}
 use Rattle.vote_spread.proofs.PackLemmas.{one_node, below_node}

@@ -3,10 +3,10 @@ use Rattle.std.proofs.Common.{◌≡◌, ℕ, ◌+◌, ◌-◌, ◌≤◌, List,
 use Rattle.std.proofs.Common.{map, replicate, arith, refl, ap, sym, subst, ◌∙◌, append_assoc}
 use Rattle.std.proofs.lemmas.List.{append-nil, length-append, nil_from_length, set_at, get_or_at}
 use Rattle.frozen_plan.specs.declared.plan_row.PlanRow.{PlanRow}
-use Rattle.frozen_plan.specs.Forest.{Forest, Bare, Grown, ballots_of, through, rows_of, IsGrown}
+use Rattle.frozen_plan.specs.Forest.{Forest, Bare, Grown, ballots_of, through, rows_of, IsGrown, nodes_of}
 use Rattle.frozen_plan.proofs.ReadLemmas.{length-ballots_of}
 use Rattle.vote_spread.specs.Stem.{Stem, stem_of_row, closed_stem}
-use Rattle.vote_spread.specs.Packed.{StandFor, nodes_of, AreRows, HasAdded}
+use Rattle.vote_spread.specs.Packed.{StandFor, AreRows, HasAdded}
 use Rattle.vote_spread.proofs.StandLemmas.{stand-nothing, stand-append, stand-node}
 use Rattle.vote_spread.proofs.RowLemmas.{nodes_of-rows_of, rows_of_forest, parted_rows}
 

@@ -7,11 +7,11 @@ use Rattle.std.proofs.lemmas.List.{length-map, length-take-le, get_or-append_rig
 use Rattle.std.proofs.lemmas.List.Elements.{All-nil, All-cons}
 use Rattle.std.proofs.lemmas.List.Sums.{sum_by-append, sum_by-cons}
 use Rattle.frozen_plan.specs.declared.plan_row.PlanRow.{PlanRow}
-use Rattle.frozen_plan.specs.Forest.{ballots_of}
+use Rattle.frozen_plan.specs.Forest.{ballots_of, nodes_of}
 use Rattle.meek_rule.specs.Weights.{given}
 use Rattle.vote_spread.specs.Stem.{Stem}
 use Rattle.vote_spread.specs.Gain.{gains}
-use Rattle.vote_spread.specs.Packed.{StandFor, nodes_of, AreRows}
+use Rattle.vote_spread.specs.Packed.{StandFor, AreRows}
 use Rattle.vote_spread.specs.Merged.{part_ballots, AreOfAll}
 
 pub part-cons :

@@ -6,12 +6,12 @@ use Rattle.std.proofs.lemmas.List.{length-append}
 use Rattle.std.proofs.lemmas.List.Elements.{All-nil, All-cons, All-head, All-tail}
 use Rattle.std.proofs.lemmas.List.Sums.{sum_by-append}
 use Rattle.frozen_plan.specs.declared.plan_row.PlanRow.{PlanRow}
-use Rattle.frozen_plan.specs.Forest.{Forest, ballots_of, through, IsGrown}
+use Rattle.frozen_plan.specs.Forest.{Forest, ballots_of, through, IsGrown, nodes_of}
 use Rattle.frozen_plan.specs.Plan.{PlanRows, IsPlan, forest_of, ballot_count, plan_ballots, all_ballots}
 use Rattle.meek_rule.specs.Weights.{given}
 use Rattle.vote_spread.specs.Stem.{Stem}
 use Rattle.vote_spread.specs.Gain.{gains}
-use Rattle.vote_spread.specs.Packed.{StandFor, nodes_of, AreRows}
+use Rattle.vote_spread.specs.Packed.{StandFor, AreRows}
 use Rattle.vote_spread.specs.Merged.{part_ballots, AreParts, AreOfAll, HasMerged}
 use Rattle.vote_spread.proofs.StandLemmas.{given-ends}
 use Rattle.vote_spread.proofs.RowLemmas.{nodes_of-rows_of}

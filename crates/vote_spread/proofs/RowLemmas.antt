@@ -5,9 +5,9 @@ use Rattle.std.specs.List.{All}
 use Rattle.std.proofs.lemmas.List.{append-nil, length-append, take_at, drop_at}
 use Rattle.std.proofs.lemmas.List.Elements.{All-cons}
 use Rattle.frozen_plan.specs.declared.plan_row.PlanRow.{PlanRow}
-use Rattle.frozen_plan.specs.Forest.{Forest, Bare, Grown, ballots_of, through, rows_of, IsGrown}
+use Rattle.frozen_plan.specs.Forest.{Forest, Bare, Grown, ballots_of, through, rows_of, IsGrown, nodes_of}
 use Rattle.frozen_plan.proofs.ReadLemmas.{read-rows_of}
-use Rattle.vote_spread.specs.Packed.{nodes_of, AreRows}
+use Rattle.vote_spread.specs.Packed.{AreRows}
 
 -- the nodes that the rows of a forest say
 pub nodes_of-rows_of : (d : ℕ) (f : Forest) → nodes_of (rows_of d f) ≡ f

@@ -8,9 +8,9 @@ use Rattle.std.proofs.lemmas.List.Folds.{sum_by-replicate}
 use Rattle.std.proofs.lemmas.List.Sums.{sum_by-cons}
 use Rattle.std.proofs.Math.Nat.{add-mul}
 use Rattle.frozen_plan.specs.declared.plan_row.PlanRow.{PlanRow}
-use Rattle.frozen_plan.specs.Forest.{Forest, Bare, Grown, ballots_of, through, rows_of, IsGrown}
+use Rattle.frozen_plan.specs.Forest.{Forest, Bare, Grown, ballots_of, through, rows_of, IsGrown, nodes_of}
 use Rattle.vote_spread.specs.Stem.{Stem, stem_of_row}
-use Rattle.vote_spread.specs.Packed.{StandFor, nodes_of, AreRows, HasAdded}
+use Rattle.vote_spread.specs.Packed.{StandFor, AreRows, HasAdded}
 use Rattle.vote_spread.specs.Merged.{first_ballots, part_ballots, AreAlike, GoesOnLike, HasMerged, IsAlone}
 use Rattle.vote_spread.proofs.StandLemmas.{stand-tail}
 use Rattle.vote_spread.proofs.RowLemmas.{candidates, last_ballots, map-same, run}

@@ -9,8 +9,8 @@ use Rattle.std.proofs.lemmas.List.Sums.{sum_by-append, sum_by-cons}
 use Rattle.std.proofs.Math.Nat.{add-mul}
 use Rattle.std.proofs.lemmas.Nat.{mul-le}
 use Rattle.frozen_plan.specs.declared.plan_row.PlanRow.{PlanRow}
-use Rattle.frozen_plan.specs.Forest.{ballots_of}
-use Rattle.vote_spread.specs.Packed.{nodes_of, AreRows}
+use Rattle.frozen_plan.specs.Forest.{ballots_of, nodes_of}
+use Rattle.vote_spread.specs.Packed.{AreRows}
 use Rattle.vote_spread.specs.Merged.{behind, front, part_ballots, AreParts, IsAlone}
 use Rattle.vote_spread.proofs.RowLemmas.{parted_rows}
 use Rattle.vote_spread.proofs.PartLemmas.{All-one, counted_by, part-append, part-cons}

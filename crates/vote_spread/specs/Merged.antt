@@ -3,9 +3,9 @@ use Rattle.std.specs.Prelude.{◌≡◌, ℕ, ◌≤◌, ◌==◌, Bool, false, 
 use Rattle.std.specs.List.{flat_map}
 use Rattle.plain_ballots.specs.declared.limits.TheConstants.{MOST_BALLOTS, MOST_CANDIDATES}
 use Rattle.frozen_plan.specs.declared.plan_row.PlanRow.{PlanRow}
-use Rattle.frozen_plan.specs.Forest.{ballots_of, IsGrown}
+use Rattle.frozen_plan.specs.Forest.{ballots_of, IsGrown, nodes_of}
 use Rattle.vote_spread.specs.Stem.{Stem}
-use Rattle.vote_spread.specs.Packed.{StandFor, nodes_of, AreRows}
+use Rattle.vote_spread.specs.Packed.{StandFor, AreRows}
 
 -- whether the first sibling is of candidate c
 abbrev pub begins : (c : ℕ) → List PlanRow → Bool

@@ -2,7 +2,7 @@
 use Rattle.std.specs.Prelude.{◌≡◌, ℕ, ◌+◌, ◌-◌, ◌<◌, ◌≤◌, List, ◌++◌, length, slice_index, sum, sum_by, All}
 use Rattle.plain_ballots.specs.declared.limits.TheConstants.{MOST_BALLOTS, MOST_CANDIDATES}
 use Rattle.frozen_plan.specs.declared.plan_row.PlanRow.{PlanRow}
-use Rattle.frozen_plan.specs.Forest.{Forest, ballots_of, through, rows_of, IsGrown, read}
+use Rattle.frozen_plan.specs.Forest.{ballots_of, through, rows_of, IsGrown, nodes_of}
 use Rattle.meek_rule.specs.Weights.{given}
 use Rattle.vote_spread.specs.Stem.{Stem}
 use Rattle.vote_spread.specs.Walk.{IsFrom, IsWalk}
@@ -19,10 +19,6 @@ pub record StandFor (n d : ℕ) (stems : List Stem) (ballots : List (List ℕ)) 
       → IsFrom d rest → IsWalk n d rest → MOST_CANDIDATES < length weights
       → sum (gains s keeps c weights (stems ++ rest))
       ≡ sum_by (λ r. given s keeps (slice_index weights (d - 1)) r c) ballots + sum (gains s keeps c weights rest)
-
--- the nodes that rows say
-abbrev pub nodes_of : List PlanRow → Forest
-nodes_of rows = read (length rows) rows
 
 -- rows of siblings at depth d of n candidates, and of the nodes below them
 pub record AreRows (n d : ℕ) (rows : List PlanRow) : Type 0 where

@@ -1,14 +1,14 @@
 -- Rows of siblings, node by node.
-use Rattle.std.proofs.Common.{◌≡◌, ℕ, ◌+◌, ◌-◌, ◌*◌, ◌≤◌, ◌==◌, cond, List, [], ◌∷◌, ◌++◌, length, get_or}
+use Rattle.std.proofs.Common.{◌≡◌, ℕ, ◌+◌, ◌-◌, ◌≤◌, List, ◌++◌, length, get_or}
 use Rattle.std.proofs.Common.{drop, take, arith, refl, ap, sym, subst, ◌∙◌}
 use Rattle.std.proofs.lemmas.List.{length-append, take_at, drop_at}
 use Rattle.frozen_plan.specs.declared.plan_row.PlanRow.{PlanRow}
-use Rattle.frozen_plan.specs.Forest.{Forest, Bare, Grown, ballots_of, through, rows_of, IsGrown}
+use Rattle.frozen_plan.specs.Forest.{Forest, Bare, Grown, ballots_of, through, rows_of, IsGrown, nodes_of}
 use Rattle.frozen_plan.specs.Plan.{forest_of, ballot_count, plan_ballots, IsPlan}
 use Rattle.frozen_plan.proofs.ReadLemmas.{read-rows_of}
 use Rattle.meek_rule.specs.Rule.{Warren}
 use Rattle.meek_rule.specs.Weights.{kept_under}
-use Rattle.warren_spread.specs.Paid.{paid, nodes_of, row_ballots, AreSiblings, AreParted}
+use Rattle.warren_spread.specs.Paid.{paid, row_ballots, AreSiblings, AreParted}
 use Rattle.warren_spread.proofs.PaidLemmas.{paid-grown, paid-ends}
 
 -- the nodes that the rows of a forest say

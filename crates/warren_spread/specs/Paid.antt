@@ -1,17 +1,13 @@
 -- What ballots pay by Warren's rule. Of how many units one vote is makes no difference to it.
 use Rattle.std.specs.Prelude.{◌≡◌, ℕ, ◌+◌, ◌-◌, ◌*◌, ◌≤◌, ◌==◌, if◌then◌else◌, List, length, sum_by}
 use Rattle.frozen_plan.specs.declared.plan_row.PlanRow.{PlanRow}
-use Rattle.frozen_plan.specs.Forest.{Forest, ballots_of, rows_of, IsGrown, read}
+use Rattle.frozen_plan.specs.Forest.{ballots_of, rows_of, IsGrown, nodes_of}
 use Rattle.meek_rule.specs.Rule.{Warren}
 use Rattle.meek_rule.specs.Weights.{kept_under, given_under}
 
 -- what ballots that have so much left each pay to candidate c together
 abbrev pub paid : (prices : List ℕ) (rest : ℕ) → List (List ℕ) → (c : ℕ) → ℕ
 paid prices rest ballots c = sum_by (λ ranking. given_under Warren 1 prices rest ranking c) ballots
-
--- the nodes that rows of siblings and of all below them say
-abbrev pub nodes_of : List PlanRow → Forest
-nodes_of rows = read (length rows) rows
 
 -- the single ballots of such rows, each from the siblings' place on
 abbrev pub row_ballots : List PlanRow → List (List ℕ)

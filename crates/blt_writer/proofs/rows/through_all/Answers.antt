@@ -1,7 +1,6 @@
 use Rattle.std.proofs.Common.{◌≡◌, List, ap, sym, subst, arith}
 use Rattle.frozen_plan.specs.declared.plan_row.PlanRow.{PlanRow}
-use Rattle.frozen_plan.specs.Forest.{rows_of, through}
-use Rattle.blt_writer.specs.Walk.{nodes_of}
+use Rattle.frozen_plan.specs.Forest.{rows_of, through, nodes_of}
 use Rattle.blt_writer.proofs.WalkLemmas.{siblings_step}
 use Rattle.blt_writer.proofs.rows.through_all.Goals as goal
 

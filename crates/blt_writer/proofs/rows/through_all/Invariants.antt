@@ -1,6 +1,5 @@
 use Rattle.std.proofs.Common.{◌≡◌, ◌+◌, ℕ, length}
-use Rattle.frozen_plan.specs.Forest.{rows_of, through}
-use Rattle.blt_writer.specs.Walk.{nodes_of}
+use Rattle.frozen_plan.specs.Forest.{rows_of, through, nodes_of}
 use Rattle.blt_writer.proofs.rows.through_all.Given as goal
 
 -- what goes through the siblings that are left is what is missing

@@ -2,8 +2,8 @@ use Rattle.std.proofs.Common.{◌≡◌, ℕ, ◌+◌, ◌≤◌, [], ◌∷◌,
 use Rattle.std.proofs.lemmas.List.{length-append, length-take-le, length-drop}
 use Rattle.frozen_plan.specs.declared.plan_row.PlanRow.{PlanRow}
 use Rattle.vote_spread.specs.Stem.{Stem, stem_of_row}
-use Rattle.frozen_plan.specs.Forest.{Forest, Grown, Bare, rows_of, through, IsGrown}
-use Rattle.vote_spread.specs.Packed.{HasAdded, AreRows, nodes_of}
+use Rattle.frozen_plan.specs.Forest.{Forest, Grown, Bare, rows_of, through, IsGrown, nodes_of}
+use Rattle.vote_spread.specs.Packed.{HasAdded, AreRows}
 use Rattle.vote_spread.proofs.RowLemmas.{parted_rows}
 use Rattle.vote_spread.proofs.PackLemmas.{underway-begin, underway-next, underway-end, one_node, below_node, closed_node}
 use Rattle.vote_spread.proofs.TailLemmas.{tail_node}

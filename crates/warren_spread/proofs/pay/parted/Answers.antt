@@ -1,8 +1,6 @@
-use Rattle.std.proofs.Common.{◌≡◌, ◌-◌, ◌≤◌, List, length, get_or, drop, take, arith, ap, sym, subst, ◌∙◌}
-use Rattle.std.proofs.lemmas.List.{length-drop}
+use Rattle.std.proofs.Common.{◌≡◌, ◌-◌, get_or, drop, take, ap, ◌∙◌}
 use Rattle.frozen_plan.specs.declared.plan_row.PlanRow.{PlanRow}
-use Rattle.warren_spread.specs.Paid.{AreSiblings, AreParted}
-use Rattle.warren_spread.proofs.SiblingLemmas.{IsCut, cut}
+use Rattle.warren_spread.proofs.SiblingLemmas.{cut}
 use Rattle.warren_spread.proofs.pay.parted.Goals as goal
 
 -- what stands past the end of some rows

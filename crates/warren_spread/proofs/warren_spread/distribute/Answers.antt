@@ -1,4 +1,4 @@
-use Rattle.std.proofs.Common.{◌≡◌, ℕ, ◌+◌, ◌<◌, ◌≤◌, List, length, get_or, arith, ap, sym, subst, ◌∙◌}
+use Rattle.std.proofs.Common.{◌≡◌, ℕ, ◌+◌, ◌<◌, List, length, get_or, arith, ap, sym, subst, ◌∙◌}
 use Rattle.std.specs.List.{All}
 use Rattle.fixed_place.specs.Rounding.{scale, most}
 use Rattle.fixed_place.proofs.RoundingLemmas.{scale_pos, most_votes}

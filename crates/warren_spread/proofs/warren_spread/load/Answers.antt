@@ -1,4 +1,4 @@
-use Rattle.std.proofs.Common.{◌≡◌, ℕ, ◌<◌, ◌≤◌, List, length, get_or, arith, sym, subst, ◌∙◌}
+use Rattle.std.proofs.Common.{ℕ, ◌≤◌, List, arith, sym, subst, ◌∙◌}
 use Rattle.std.specs.List.{All}
 use Rattle.fixed_place.specs.Rounding.{scale}
 use Rattle.warren_spread.proofs.TallyLemmas.{same_list}
