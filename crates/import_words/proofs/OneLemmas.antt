@@ -110,7 +110,14 @@ one_table given a b one other =
     (λ word m n e f. one_head m n (sym e ∙ f)) given.names a.names b.names one.names other.names in
     let weight = one_weight given.weight a.weight b.weight one.weight other.weight in
     let ignored = one.ignored.0 ∙ sym other.ignored.0 in
-    λ i. record { separator = separator i; names = names i; weight = weight i; ignored = ignored i }
+    let columns = one.columns.0 ∙ sym other.columns.0 in
+    λ i. record {
+      separator = separator i;
+      names = names i;
+      weight = weight i;
+      ignored = ignored i;
+      columns = columns i;
+    }
 
 one_cells : (given : Given) (a b : CellWords) → SaysCells given a → SaysCells given b → a ≡ b
 one_cells given a b one other =

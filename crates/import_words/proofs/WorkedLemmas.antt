@@ -188,6 +188,7 @@ accepted_plain layout unnamed some = record {
       names = refl;
       weight = refl;
       ignored = (refl, All-nil IsLabel);
+      columns = (refl, All-nil IsLabel);
       different = none_different;
     };
     cells = record { blanks = (refl, All-nil IsLabel); overs = (refl, All-nil IsLabel); ranks = refl };
@@ -277,6 +278,7 @@ accepted_choices = record {
       names = refl;
       weight = refl;
       ignored = (refl, All-nil IsLabel);
+      columns = (refl, All-nil IsLabel);
       different = none_different;
     };
     cells = record { blanks = (refl, All-nil IsLabel); overs = (refl, All-nil IsLabel); ranks = refl };

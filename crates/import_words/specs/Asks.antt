@@ -1,7 +1,6 @@
 -- What the words ask for.
 use Rattle.std.specs.Prelude.{◌≡◌, ◌≤◌, ℕ, true, Option, Some, None, List, [], ◌∷◌, ◌++◌, length, All, IsTrue, nat_eq}
 use Rattle.std.specs.List.{slice_split}
-use Rattle.std.specs.Option.{option_to_list}
 use Rattle.candidate_roll.specs.declared.limits.TheConstants.{MOST_NAME_BYTES, MOST_TITLE_BYTES}
 use Rattle.meek_words.specs.Numerals.{Word, IsNumeralUpTo, IsLotList, number_of}
 use Rattle.candidate_roll.specs.Name.{IsName}
@@ -43,13 +42,14 @@ abbrev pub IsWeight : List Word → Option Word → Type 0
 IsWeight values None = values ≡ []
 IsWeight values (Some label) = (values ≡ label ∷ []) × IsLabel label
 
--- the columns of weights and the ignored ones are different
+-- the columns of weights and the ignored ones, which are different, also stand in the order of the words
 pub record SaysTable (given : Given) (table : TableWords) : Type 0 where
   pub separator : IsSeparator given.separator table.separator
   pub names : IsForNames given.names table.names
   pub weight : IsWeight given.weight table.weight
   pub ignored : AreLabels given.ignored table.ignored
-  pub different : AreDifferent (option_to_list table.weight ++ table.ignored)
+  pub columns : AreLabels given.columns table.columns
+  pub different : AreDifferent table.columns
 
 -- the pieces between the commas (44) of a word, not too many, each of them a label
 pub record IsRankList (word : Word) (labels : List Word) : Type 0 where

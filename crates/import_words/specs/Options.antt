@@ -49,6 +49,12 @@ place_of options.Repeated = 16
 abbrev pub same_option : ImportOption → ImportOption → Bool
 same_option option other = nat_eq (place_of option) (place_of other)
 
+-- an option whose value is the head of a column that is no mark
+abbrev pub is_column : ImportOption → Bool
+is_column options.Weight = true
+is_column options.Ignore = true
+is_column option = false
+
 -- a table with a column for each candidate
 abbrev pub is_ranks : Layout → Bool
 is_ranks layouts.Ranks = true

@@ -2,7 +2,7 @@
 use Rattle.std.specs.Prelude.{◌≡◌, ◌≢◌, List, [], ◌∷◌, map, All}
 use Rattle.std.specs.List.{filter, flat_map}
 use Rattle.meek_words.specs.Numerals.{Word}
-use Rattle.import_words.specs.Options.{flag_of, same_option}
+use Rattle.import_words.specs.Options.{flag_of, is_column, same_option}
 use Rattle.import_words.specs.declared.import_option.ImportOption.{ImportOption}
 use Rattle.import_words.specs.declared.import_option.ImportOption.TheVariants as options
 
@@ -23,6 +23,10 @@ pub record ArePairs (words : List Word) (pairs : List Said) : Type 0 where
 abbrev pub values_of : ImportOption → List Said → List Word
 values_of option pairs = map (λ said. said.value) (filter (λ said. same_option option said.option) pairs)
 
+-- the heads of columns that are no marks, in order
+abbrev pub columns_of : List Said → List Word
+columns_of pairs = map (λ said. said.value) (filter (λ said. is_column said.option) pairs)
+
 -- the values of each option
 pub record Given : Type 0 where
   pub layout : List Word
@@ -36,6 +40,7 @@ pub record Given : Type 0 where
   pub separator : List Word
   pub weight : List Word
   pub ignored : List Word
+  pub columns : List Word
   pub blanks : List Word
   pub names : List Word
   pub ranks : List Word
@@ -56,6 +61,7 @@ given_of pairs = record {
   separator = values_of options.Separator pairs;
   weight = values_of options.Weight pairs;
   ignored = values_of options.Ignore pairs;
+  columns = columns_of pairs;
   blanks = values_of options.Blank pairs;
   names = values_of options.Names pairs;
   ranks = values_of options.Ranks pairs;

@@ -33,6 +33,7 @@ given_by values = record {
   separator = words_in values.separator;
   weight = words_in values.weight;
   ignored = texts_in values.ignored.items;
+  columns = texts_in values.columns.items;
   blanks = texts_in values.blanks.items;
   names = words_in values.names;
   ranks = words_in values.ranks;

@@ -49,7 +49,7 @@ plain layout candidates = record {
   empty = rows.Refuse;
   treatment = record { skipped = None; equal = treats.Refuse; repeated = treats.Refuse };
   roll = record { seats = 1; title = []; withdrawn = []; candidates = candidates };
-  table = record { separator = None; names = heads.Whole; weight = None; ignored = [] };
+  table = record { separator = None; names = heads.Whole; weight = None; ignored = []; columns = [] };
   cells = record { blanks = []; overs = []; ranks = [] };
 }
 

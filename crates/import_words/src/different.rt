@@ -1,5 +1,5 @@
 //! Labels that are different.
-ghost use Rattle.std.specs.Prelude.{◌≡◌, ◌↔◌, ◌∷◌, IsTrue};
+ghost use Rattle.std.specs.Prelude.{◌≡◌, ◌↔◌, IsTrue};
 ghost use Rattle.std.specs.List.{Contains};
 ghost use Rattle.import_words.specs.Labels.{AreDifferent};
 
@@ -15,16 +15,6 @@ pub(crate) fn stands_in(labels: &[Label], label: &Label) -> bool
         }
     }
     false
-}
-
-/// Whether no two of a label and others are the same.
-pub(crate) fn is_apart(label: &Label, others: &[Label]) -> bool
-    ensures { IsTrue result ↔ AreDifferent (label.now ∷ others.now) }
-{
-    if stands_in(others, label) {
-        return false;
-    }
-    are_different(others)
 }
 
 /// Whether no two labels are the same.

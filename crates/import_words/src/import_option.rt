@@ -1,6 +1,6 @@
 // The options, and the layouts that have them.
 ghost use Rattle.std.specs.Prelude.{◌≡◌, ◌≢◌, ◌↔◌, IsTrue, IfNone, IfSome, nat_eq};
-ghost use Rattle.import_words.specs.Options.{flag_of, is_of, place_of, same_option};
+ghost use Rattle.import_words.specs.Options.{flag_of, is_column, is_of, place_of, same_option};
 ghost use Rattle.import_words.specs.declared.import_option.ImportOption.{ImportOption};
 
 use crate::Layout;
@@ -66,6 +66,13 @@ impl ImportOption {
         ensures { result ≡ same_option self other }
     {
         self.place() == other.place()
+    }
+
+    /// Whether the value is the head of a column that is no mark.
+    pub(crate) fn is_column(self) -> bool
+        ensures { result ≡ is_column self }
+    {
+        matches!(self, ImportOption::Weight | ImportOption::Ignore)
     }
 
     /// Whether words for a layout may have the option.

@@ -4,7 +4,7 @@ ghost use Rattle.meek_words.specs.Numerals.{Word};
 ghost use Rattle.import_words.specs.Asks.{AreFor, Says};
 ghost use Rattle.import_words.specs.declared.asked.Asked.{Asked};
 ghost use Rattle.import_words.specs.Options.{flag_of};
-ghost use Rattle.import_words.specs.Pairs.{ArePairs, Said, given_of, values_of, words_of};
+ghost use Rattle.import_words.specs.Pairs.{ArePairs, Said, columns_of, given_of, values_of, words_of};
 ghost use Rattle.import_words.specs.Values.{given_by, pairs_in, said_in, texts_in, words_in};
 
 use crate::Layout;
@@ -101,6 +101,22 @@ fn each<'a>(
     Ok(values)
 }
 
+/// The values of the options that say a column, in the order of the words.
+fn columns<'a>(alloc: Global, pairs: &[Pair<'a>]) -> Result<Vec<&'a str>, WordsStop>
+    ensures values { IfOk result (λ values. texts_in values.items ≡ columns_of (pairs_in pairs.now)) }
+    ensures memory { OnErr result (result ≡ Err WordsStop.NoMemory) }
+{
+    let mut values = Vec::new(alloc);
+    for pair in pairs {
+        if pair.option.is_column() {
+            if values.push(pair.value).is_err() {
+                return Err(WordsStop::NoMemory);
+            }
+        }
+    }
+    Ok(values)
+}
+
 /// The values of each option, where none has more of them than it may have.
 pub(crate) fn values<'a>(alloc: Global, pairs: &[Pair<'a>]) -> Result<Values<'a>, WordsStop>
     ensures given { IfOk result (λ values. given_by values ≡ given_of (pairs_in pairs.now)) }
@@ -120,6 +136,7 @@ pub(crate) fn values<'a>(alloc: Global, pairs: &[Pair<'a>]) -> Result<Values<'a>
         separator: at_most_one(pairs, ImportOption::Separator).ok_or(stop)?,
         weight: at_most_one(pairs, ImportOption::Weight).ok_or(stop)?,
         ignored: each(alloc, pairs, ImportOption::Ignore)?,
+        columns: columns(alloc, pairs)?,
         blanks: each(alloc, pairs, ImportOption::Blank)?,
         names: at_most_one(pairs, ImportOption::Names).ok_or(stop)?,
         ranks: at_most_one(pairs, ImportOption::Ranks).ok_or(stop)?,

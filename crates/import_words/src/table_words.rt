@@ -1,12 +1,10 @@
 // What the words say of a table and its columns.
-ghost use Rattle.std.specs.Prelude.{◌≡◌, ◌++◌, ◌↔◌, IfOk, IsTrue};
-ghost use Rattle.std.specs.Option.{option_to_list};
+ghost use Rattle.std.specs.Prelude.{◌≡◌, IfOk};
 ghost use Rattle.import_words.specs.Asks.{SaysTable};
-ghost use Rattle.import_words.specs.Labels.{AreDifferent};
 ghost use Rattle.import_words.specs.Values.{given_by};
 ghost use Rattle.import_words.specs.declared.table_words.TableWords.{TableWords};
 
-use crate::different::{are_different, is_apart};
+use crate::different::are_different;
 use crate::values::Values;
 use crate::{HeadNames, Label, Labels, Separator, reading, settings};
 use meek_words::WordsStop;
@@ -22,6 +20,8 @@ pub struct TableWords {
     pub weight: Option<Label>,
     /// The heads of the columns that are not read.
     pub ignored: Labels,
+    /// The heads of both, in the order of the words.
+    pub columns: Labels,
 }
 
 impl TableWords {
@@ -34,7 +34,8 @@ impl TableWords {
         let names = settings::head_names(values.names).ok_or(WordsStop::BadWords)?;
         let weight = reading::weight(alloc, values.weight)?;
         let ignored = reading::labels(alloc, values.ignored.as_slice())?;
-        if !columns_differ(&weight, ignored.items()) {
+        let columns = reading::labels(alloc, values.columns.as_slice())?;
+        if !are_different(columns.items()) {
             return Err(WordsStop::BadWords);
         }
         Ok(TableWords {
@@ -42,15 +43,7 @@ impl TableWords {
             names,
             weight,
             ignored,
+            columns,
         })
-    }
-}
-
-fn columns_differ(weight: &Option<Label>, ignored: &[Label]) -> bool
-    ensures { IsTrue result ↔ AreDifferent (option_to_list weight.now ++ ignored.now) }
-{
-    match weight {
-        Some(label) => is_apart(label, ignored),
-        None => are_different(ignored),
     }
 }

@@ -87,6 +87,8 @@ fn each_option_of_ranks(rt: HostRuntime) -> Result<(), Fail> {
     assert_eq!(rt; asked.table.names, HeadNames::Bracketed);
     assert_eq!(rt; asked.table.separator, Some(Separator::Tab));
     assert!(rt; says(asked.table.ignored.items(), 0, "Timestamp"));
+    assert!(rt; says(asked.table.columns.items(), 0, "Timestamp"));
+    assert!(rt; says(asked.table.columns.items(), 1, "n"));
     assert_eq!(rt; asked.cells.overs.len(), 0);
     assert!(rt; says(asked.cells.blanks.items(), 0, "-"));
     assert_eq!(rt; asked.cells.ranks.len(), 2);
@@ -118,6 +120,9 @@ fn each_option_of_choices(rt: HostRuntime) -> Result<(), Fail> {
     assert_eq!(rt; asked.table.separator, None);
     assert!(rt; says(asked.table.ignored.items(), 0, "id"));
     assert!(rt; says(asked.table.ignored.items(), 1, "--seats"));
+    assert!(rt; says(asked.table.columns.items(), 0, "n"));
+    assert!(rt; says(asked.table.columns.items(), 1, "id"));
+    assert!(rt; says(asked.table.columns.items(), 2, "--seats"));
     assert!(rt; says(asked.cells.overs.items(), 0, "overvote"));
     Ok(())
 }
