@@ -1,0 +1,3 @@
+mod Owing
+mod Withdrawn
+mod WordLemmas

@@ -1,0 +1,69 @@
+-- How tables are refused. 10 ends a line.
+use Rattle.std.specs.Prelude.{ℕ, List, [], ◌∷◌, ◌++◌, Option, Some, None, codes, decimal}
+use Rattle.ballot_table.specs.declared.table_kind.TableKind.{TableKind}
+use Rattle.ballot_table.specs.declared.table_kind.TableKind.TheVariants as table
+use Rattle.ballot_table.specs.declared.table_stop.TableStop.{TableStop}
+use Rattle.ballot_table.specs.declared.table_stop.TableStop.TheVariants as stop
+use Rattle.table_text.specs.declared.text_kind.TextKind.{TextKind}
+use Rattle.table_text.specs.declared.text_kind.TextKind.TheVariants as text
+use Rattle.tool_edge.specs.Refusals.{Refusals, fault_line, too_long}
+use Rattle.blt_import.specs.declared.import_fault.ImportFault.{ImportFault}
+use Rattle.blt_import.specs.declared.import_fault.ImportFault.TheVariants as fault
+
+-- the fault of a table that is refused; memory that is wanted is none
+abbrev pub fault_of : TableStop → Option ImportFault
+fault_of (stop.Text why) = Some (fault.Text why)
+fault_of (stop.Word kind place) = Some (fault.Word kind place)
+fault_of (stop.Record kind at row column) = Some (fault.Record kind at row column)
+fault_of stop.NoMemory = None
+
+-- ---- lines
+
+-- each kind has its own name as its word
+abbrev pub text_word : TextKind → List ℕ
+text_word text.BadByte = codes "BadByte"
+text_word text.BadQuote = codes "BadQuote"
+text_word text.EmptyLine = codes "EmptyLine"
+text_word text.Ended = codes "Ended"
+text_word text.UnclearSeparator = codes "UnclearSeparator"
+
+abbrev pub table_word : TableKind → List ℕ
+table_word table.NoColumn = codes "NoColumn"
+table_word table.RepeatedColumn = codes "RepeatedColumn"
+table_word table.ColumnExpected = codes "ColumnExpected"
+table_word table.TooManyColumns = codes "TooManyColumns"
+table_word table.TooManyCandidates = codes "TooManyCandidates"
+table_word table.NameExpected = codes "NameExpected"
+table_word table.BadName = codes "BadName"
+table_word table.TooLongName = codes "TooLongName"
+table_word table.BadWithdrawn = codes "BadWithdrawn"
+table_word table.UnequalRow = codes "UnequalRow"
+table_word table.EmptyRow = codes "EmptyRow"
+table_word table.BadRank = codes "BadRank"
+table_word table.NoSuchCandidate = codes "NoSuchCandidate"
+table_word table.BadWeight = codes "BadWeight"
+table_word table.TooManyBallots = codes "TooManyBallots"
+table_word table.SkippedRank = codes "SkippedRank"
+table_word table.EqualRank = codes "EqualRank"
+table_word table.Repeated = codes "Repeated"
+
+-- a fault of the words, at its place among its like
+abbrev pub word_line : (word : List ℕ) → (place : ℕ) → List ℕ
+word_line word place = codes "refused " ++ word ++ codes " at " ++ decimal place ++ 10 ∷ []
+
+-- a fault at a byte, in a field of a record
+abbrev pub record_line : (word : List ℕ) → (at row column : ℕ) → List ℕ
+record_line word at row column =
+    codes "refused " ++ word ++ codes " at " ++ decimal at ++ codes " row " ++ decimal row ++ codes " column "
+    ++ decimal column
+    ++ 10 ∷ []
+
+-- An input that is too long has the line of every tool.
+abbrev pub refusal_line : ImportFault → List ℕ
+refusal_line (fault.TooLong most) = fault_line (too_long most)
+refusal_line (fault.Text why) = record_line (text_word why.kind) why.at why.row why.column
+refusal_line (fault.Word kind place) = word_line (table_word kind) place
+refusal_line (fault.Record kind at row column) = record_line (table_word kind) at row column
+
+abbrev pub import_refusals : Refusals ImportFault
+import_refusals = record { line = refusal_line; too_long = λ most. fault.TooLong most }

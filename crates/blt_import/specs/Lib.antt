@@ -1,0 +1,4 @@
+pub mod Words
+pub mod Ranks
+pub mod Faults
+pub mod Owed

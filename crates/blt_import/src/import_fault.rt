@@ -1,0 +1,112 @@
+// Why a table is refused.
+ghost use Rattle.std.specs.Prelude.{◌≡◌, ◌≤◌, length};
+ghost use Rattle.blt_import.specs.Faults.{fault_of, import_refusals, record_line, word_line};
+
+use crate::kinds::{table_word, text_word};
+use ballot_table::{TableKind, TableStop};
+use blt_reader::InputFault;
+use line_text::Line;
+use table_text::TextFault;
+use tool_edge::Fault;
+
+/// Why an input that should be a table is refused, and where: the byte from 0, the record and the field
+/// from 1.
+#[derive(Clone, Copy, Debug, PartialEq, Eq)]
+pub enum ImportFault {
+    /// It has more bytes than so many, the most that are read.
+    TooLong(usize),
+    /// It is no table.
+    Text(TextFault),
+    /// One of the words fits no column or no candidate: its place among its like, from 1.
+    Word {
+        kind: TableKind,
+        place: usize,
+    },
+    /// A record is at fault.
+    Record {
+        kind: TableKind,
+        at: usize,
+        row: u32,
+        column: u32,
+    },
+}
+
+impl ImportFault {
+    /// The fault that stopped a reader, if it didn't want memory.
+    pub(crate) fn of(stop: TableStop) -> Option<ImportFault>
+        ensures { result ≡ fault_of stop }
+    {
+        match stop {
+            TableStop::Text(fault) => Some(ImportFault::Text(fault)),
+            TableStop::Word { kind, place } => Some(ImportFault::Word { kind, place }),
+            TableStop::Record {
+                kind,
+                at,
+                row,
+                column,
+            } => Some(ImportFault::Record {
+                kind,
+                at,
+                row,
+                column,
+            }),
+            TableStop::NoMemory => None,
+        }
+    }
+}
+
+impl Fault for ImportFault {
+    ghost refusals = { import_refusals };
+
+    fn line(&self) -> Line {
+        match *self {
+            ImportFault::TooLong(most) => InputFault::too_long(most).line(),
+            ImportFault::Text(fault) => {
+                record_line(text_word(fault.kind), fault.at, fault.row, fault.column)
+            }
+            ImportFault::Word { kind, place } => word_line(table_word(kind), place),
+            ImportFault::Record {
+                kind,
+                at,
+                row,
+                column,
+            } => record_line(table_word(kind), at, row, column),
+        }
+    }
+
+    fn too_long(most: usize) -> ImportFault {
+        ImportFault::TooLong(most)
+    }
+}
+
+/// The line of a fault of the words.
+fn word_line(word: &[u8], place: usize) -> Line
+    requires { length word.now ≤ 20 }
+    ensures { result ≡ word_line word.now place }
+{
+    let mut line = Line::new();
+    line.push_bytes(b"refused ");
+    line.push_bytes(word);
+    line.push_bytes(b" at ");
+    line.push_count(place as u64);
+    line.push_bytes(b"\n");
+    line
+}
+
+/// The line of a fault at a byte, in a field of a record.
+fn record_line(word: &[u8], at: usize, row: u32, column: u32) -> Line
+    requires { length word.now ≤ 20 }
+    ensures { result ≡ record_line word.now at row column }
+{
+    let mut line = Line::new();
+    line.push_bytes(b"refused ");
+    line.push_bytes(word);
+    line.push_bytes(b" at ");
+    line.push_count(at as u64);
+    line.push_bytes(b" row ");
+    line.push_count(u64::from(row));
+    line.push_bytes(b" column ");
+    line.push_count(u64::from(column));
+    line.push_bytes(b"\n");
+    line
+}

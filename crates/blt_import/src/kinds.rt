@@ -1,0 +1,47 @@
+// The words of refusals.
+ghost use Rattle.std.specs.Prelude.{◌≡◌, ◌≤◌, length};
+ghost use Rattle.blt_import.specs.Faults.{table_word, text_word};
+
+use ballot_table::TableKind;
+use table_text::TextKind;
+
+/// The kind of a text that is no table, as the line of a refusal names it.
+pub(crate) fn text_word(kind: TextKind) -> &'static [u8]
+    ensures word { result.now ≡ text_word kind }
+    ensures short { length result.now ≤ 20 }
+{
+    match kind {
+        TextKind::BadByte => b"BadByte",
+        TextKind::BadQuote => b"BadQuote",
+        TextKind::EmptyLine => b"EmptyLine",
+        TextKind::Ended => b"Ended",
+        TextKind::UnclearSeparator => b"UnclearSeparator",
+    }
+}
+
+/// The kind of a record's fault, or of the words', as the line of a refusal names it.
+pub(crate) fn table_word(kind: TableKind) -> &'static [u8]
+    ensures word { result.now ≡ table_word kind }
+    ensures short { length result.now ≤ 20 }
+{
+    match kind {
+        TableKind::NoColumn => b"NoColumn",
+        TableKind::RepeatedColumn => b"RepeatedColumn",
+        TableKind::ColumnExpected => b"ColumnExpected",
+        TableKind::TooManyColumns => b"TooManyColumns",
+        TableKind::TooManyCandidates => b"TooManyCandidates",
+        TableKind::NameExpected => b"NameExpected",
+        TableKind::BadName => b"BadName",
+        TableKind::TooLongName => b"TooLongName",
+        TableKind::BadWithdrawn => b"BadWithdrawn",
+        TableKind::UnequalRow => b"UnequalRow",
+        TableKind::EmptyRow => b"EmptyRow",
+        TableKind::BadRank => b"BadRank",
+        TableKind::NoSuchCandidate => b"NoSuchCandidate",
+        TableKind::BadWeight => b"BadWeight",
+        TableKind::TooManyBallots => b"TooManyBallots",
+        TableKind::SkippedRank => b"SkippedRank",
+        TableKind::EqualRank => b"EqualRank",
+        TableKind::Repeated => b"Repeated",
+    }
+}

@@ -1,0 +1,48 @@
+// From a table to the text of its ballots.
+ghost use Rattle.std.specs.Prelude.{◌≡◌, ◌≤◌, length, All};
+ghost use Rattle.tool_edge.specs.Finishing.{FinishesOwed};
+ghost use Rattle.tool_edge.specs.Streams.{writing};
+ghost use Rattle.blt_import.specs.Owed.{IsTextOf};
+
+use crate::ImportFault;
+use ballot_table::Imported;
+use blt_writer::{Listing, every_bag_has_a_text, one_bag_has_one_text, write_listing};
+use byte_edge::Sink;
+use candidate_roll::Roll;
+use import_words::RollWords;
+use std::alloc::Global;
+use std::thread::Threads;
+use tool_edge::{End, close};
+
+// Lines are put in order by at most as many workers: more than a machine has processors, as some have more lines.
+const WORKERS: u32 = 16;
+
+/// Writes the canonical text of a table's ballots.
+pub(crate) fn write_table<R: Threads + Sync, K: Sink>(
+    rt: &R,
+    alloc: Global,
+    words: &RollWords,
+    table: Imported,
+    sink: &mut K,
+) -> End<ImportFault>
+    requires withdrawn { All (λ c. (1 ≤ c) × (c ≤ length table.names)) words.now.withdrawn }
+    requires candidates { table.ballots.candidates ≡ length table.names }
+    ensures { FinishesOwed (IsTextOf words.now table) result
+        (writing K.written K.faults sink.old sink.new) }
+{
+    every_bag_has_a_text();
+    one_bag_has_one_text();
+    let Imported { names, ballots } = table;
+    let Ok(title) = words.title.copy(alloc) else {
+        return End::NoMemory;
+    };
+    let withdrawn = words.withdrawn.items();
+    let Ok(roll) = Roll::try_new(alloc, words.seats, names, title, withdrawn) else {
+        return End::NoMemory;
+    };
+    let Ok(listing) = Listing::begin(rt, alloc, &roll, ballots, WORKERS) else {
+        return End::NoMemory;
+    };
+    let wrote = write_listing(&listing, sink);
+    close(sink, wrote)
+}
