@@ -1,3 +1,4 @@
 mod Owing
+mod OneText
 mod Withdrawn
 mod WordLemmas
