@@ -1,7 +1,9 @@
-//! Tests of the writer of ballot files and the tool of their canonical form.
+//! Tests of the writer of ballot files, and of the tools that write them: in their canonical form, and from tables.
 #![tactic(auto)]
 
 #[cfg(test)]
 mod export;
+#[cfg(test)]
+mod import_tool;
 #[cfg(test)]
 mod normal_tool;
