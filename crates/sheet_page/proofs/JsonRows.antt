@@ -31,7 +31,8 @@ use Rattle.sheet_page.proofs.FieldWords.{states_say}
 use Rattle.sheet_page.proofs.JsonParts.{onto, joined-onto}
 use Rattle.sheet_page.proofs.JsonTwins.{Twin, Bytes, Numbers, Strings, Truths, AreOne, twins_cut, lists_cut}
 use Rattle.sheet_page.proofs.RowFields.{HaveOneText, row_says, keep_at, vote_at}
-use Rattle.sheet_page.proofs.SheetJson.{vote_parts, won_parts, amounts_parts}
+use Rattle.sheet_page.proofs.CandidateJson.{vote_parts, won_parts}
+use Rattle.sheet_page.proofs.SheetJson.{amounts_parts}
 
 -- ---- texts of ASCII are written as they are
 

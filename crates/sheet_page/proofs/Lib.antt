@@ -11,6 +11,7 @@ mod CsvLemmas
 mod JsonReads
 mod JsonTwins
 mod JsonParts
+mod CandidateJson
 mod SheetJson
 mod JsonFronts
 mod JsonOneThing

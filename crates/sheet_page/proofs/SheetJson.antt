@@ -1,6 +1,6 @@
 -- The JSON of a sheet as a text of what it says.
 use Rattle.std.proofs.Common.{◌≡◌, ◌∙◌, refl, sym, ap, ℕ, ◌+◌, Bool, true, false, List, [], ◌∷◌, ◌++◌, length}
-use Rattle.std.proofs.Common.{arith, ◌<◌, ◌≤◌}
+use Rattle.std.proofs.Common.{arith, ◌≤◌}
 use Rattle.std.proofs.Common.{map, append_assoc}
 use Rattle.std.specs.Prelude.{codes, decimal, slice_index}
 use Rattle.std.specs.List.{flat_map}
@@ -21,125 +21,8 @@ use Rattle.sheet_page.specs.JsonValues.{array, candidate_value, standing_value, 
 use Rattle.sheet_page.specs.JsonValues.{iteration_value_at, sheet_value}
 use Rattle.sheet_page.specs.Values.{places, name_at, row_at, step_word, defeats}
 use Rattle.sheet_page.proofs.JsonParts.{onto, joined-onto, onto-append, said-text, list-written, are-items}
-
--- a member: its key as a string, a colon and the text of its value
-abbrev member : (name text : List ℕ) → List ℕ
-member name text = name ++ 58 ∷ text
-
--- members between brackets
-abbrev members : List (List ℕ) → List ℕ
-members pieces = 123 ∷ closed pieces 125
-
-truth-text : (mark : Bool) → IsTextOf (Truth mark) (truth mark)
-truth-text true = refl
-truth-text false = refl
-
--- ---- a candidate of the roll
-
-abbrev candidate_pieces : SheetList → (p : ℕ) → List (List ℕ)
-candidate_pieces v p =
-    member (codes "\"number\"") (decimal (p + 1)) ∷ member (codes "\"name\"") (string_text (name_at v p))
-    ∷ member (codes "\"outcome\"") (string_text (state_word (state_at v.last p))) ∷ []
-
-candidate-written : (v : SheetList) (p : ℕ) → candidate_json v p ≡ comma_at p ++ members (candidate_pieces v p)
-candidate-written v p = refl
-
-candidate-is :
-    (v : SheetList) (p : ℕ) → p < MOST_CANDIDATES
-    → IsTextOf (candidate_value v p) (members (candidate_pieces v p))
-candidate-is v p few = (
-  candidate_pieces v p,
-  refl,
-  (
-    (codes "\"number\"", decimal (p + 1), refl, refl, (omega (arith, few), refl)),
-    (
-      (codes "\"name\"", string_text (name_at v p), refl, refl, said-text (name_at v p)),
-      (
-        (
-          codes "\"outcome\"",
-          string_text (state_word (state_at v.last p)),
-          refl,
-          refl,
-          said-text (state_word (state_at v.last p)),
-        ),
-        refl,
-      ),
-    ),
-  ),
-)
-
--- ---- a candidate in an iteration
-
-abbrev standing_pieces : Row → (p : ℕ) → List (List ℕ)
-standing_pieces row p =
-    member (codes "\"number\"") (decimal (p + 1))
-    ∷ member (codes "\"state\"") (string_text (state_word (state_at row.states p)))
-    ∷ member (codes "\"keep\"") (amount (slice_index row.keeps p))
-    ∷ member (codes "\"vote\"") (amount (slice_index row.votes p))
-    ∷ member (codes "\"elected\"") (truth (mark_at row.elected p))
-    ∷ member (codes "\"capped\"") (truth (mark_at row.capped p))
-    ∷ member (codes "\"tied\"") (truth (mark_at row.tied p))
-    ∷ member (codes "\"defeated\"") (truth (defeats row.step (p + 1))) ∷ []
-
-abbrev pub vote_parts : Row → (p : ℕ) → List (List ℕ)
-vote_parts row p =
-    comma_at p ∷ codes "{\"number\":" ∷ decimal (p + 1) ∷ codes ",\"state\":"
-    ∷ string_text (state_word (state_at row.states p))
-    ∷ codes ",\"keep\":" ∷ amount (slice_index row.keeps p) ∷ codes ",\"vote\":" ∷ amount (slice_index row.votes p) ∷ []
-
-abbrev pub won_parts : (elected capped : List ℕ) → List (List ℕ)
-won_parts elected capped = codes ",\"elected\":" ∷ elected ∷ codes ",\"capped\":" ∷ capped ∷ []
-
-standing-written : (row : Row) (p : ℕ) → standing_json row p ≡ comma_at p ++ members (standing_pieces row p)
-standing-written row p =
-    let lost = lost_json (truth (mark_at row.tied p)) (truth (defeats row.step (p + 1))) in
-    let elected = truth (mark_at row.elected p) in
-    let capped = truth (mark_at row.capped p) in
-    joined-onto (vote_parts row p) (won_json elected capped ++ lost)
-    ∙ ap (onto (vote_parts row p)) (joined-onto (won_parts elected capped) lost)
-
-standing-is : (row : Row) (p : ℕ) → p < MOST_CANDIDATES → IsTextOf (standing_value row p) (members (standing_pieces row p))
-standing-is row p few = (
-  standing_pieces row p,
-  refl,
-  (
-    (codes "\"number\"", decimal (p + 1), refl, refl, (omega (arith, few), refl)),
-    (
-      (
-        codes "\"state\"",
-        string_text (state_word (state_at row.states p)),
-        refl,
-        refl,
-        said-text (state_word (state_at row.states p)),
-      ),
-      (
-        (codes "\"keep\"", amount (slice_index row.keeps p), refl, refl, said-text (text_of 9 (slice_index row.keeps p))),
-        (
-          (codes "\"vote\"", amount (slice_index row.votes p), refl, refl, said-text (text_of 9 (slice_index row.votes p))),
-          (
-            (codes "\"elected\"", truth (mark_at row.elected p), refl, refl, truth-text (mark_at row.elected p)),
-            (
-              (codes "\"capped\"", truth (mark_at row.capped p), refl, refl, truth-text (mark_at row.capped p)),
-              (
-                (codes "\"tied\"", truth (mark_at row.tied p), refl, refl, truth-text (mark_at row.tied p)),
-                (
-                  (
-                    codes "\"defeated\"",
-                    truth (defeats row.step (p + 1)),
-                    refl,
-                    refl,
-                    truth-text (defeats row.step (p + 1)),
-                  ),
-                  refl,
-                ),
-              ),
-            ),
-          ),
-        ),
-      ),
-    ),
-  ),
-)
+use Rattle.sheet_page.proofs.CandidateJson.{member, members, candidate_pieces, candidate-written, candidate-is}
+use Rattle.sheet_page.proofs.CandidateJson.{standing_pieces, standing-written, standing-is}
 
 -- ---- an iteration
 
