@@ -8,7 +8,7 @@ use Rattle.ballot_marks.specs.declared.choice.Treat.TheVariants.{Refuse}
 use Rattle.preflib_text.specs.Asked.{Asked}
 use Rattle.preflib_text.specs.Ballots.{treating, orders, plain_of, ballots}
 use Rattle.preflib_text.specs.Items.{Order}
-use Rattle.preflib_text.specs.Laws.{SaysBallots}
+use Rattle.preflib_text.specs.Laws.{SaysBallots, refusing}
 use Rattle.preflib_text.proofs.Options.{mapped, joined, parted}
 
 module _ (mends : MarksAreOnlyMended) (equal : Treat) where
@@ -27,12 +27,13 @@ module _ (mends : MarksAreOnlyMended) (equal : Treat) where
       ap (λ o. joined o (ballots equal os)) (mended_order order parts.front parts.first_is)
       ∙ (ap (joined (Some parts.front)) (mended_orders os parts.back parts.rest_is) ∙ ap Some parts.all_is)
 
-  pub mended_text : (asked : Asked) (bytes : List ℕ) (rankings : List (List ℕ))
-      → SaysBallots asked Refuse bytes rankings → SaysBallots asked equal bytes rankings
-  mended_text asked bytes rankings says = record {
-    metadata_sound = says.metadata_sound;
-    whole_sound = says.whole_sound;
-    orders_sound = says.orders_sound;
-    total_sound = says.total_sound;
-    ranked = mended_orders (orders bytes) rankings says.ranked;
-  }
+pub mended_text :
+    MarksAreOnlyMended → (asked : Asked) (bytes : List ℕ) (rankings : List (List ℕ))
+    → SaysBallots (refusing asked) bytes rankings → SaysBallots asked bytes rankings
+mended_text mends asked bytes rankings says = record {
+  metadata_sound = says.metadata_sound;
+  whole_sound = says.whole_sound;
+  orders_sound = says.orders_sound;
+  total_sound = says.total_sound;
+  ranked = mended_orders mends asked.equal (orders bytes) rankings says.ranked;
+}

@@ -8,12 +8,17 @@ pub mod Parts
 pub mod Orders
 pub mod Items
 pub mod Ballots
+pub mod Tallies
 pub mod Refusals
 pub mod Reading
+pub mod Known
+pub mod Heading
 pub mod Standing
 pub mod Stops
 pub mod Counting
+pub mod Imported
 pub mod Laws
 pub mod Worked
 pub mod WorkedHeads
 pub mod WorkedOrders
+pub mod WorkedTallies

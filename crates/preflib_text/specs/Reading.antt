@@ -42,6 +42,16 @@ abbrev pub Takes : Coming → Option Line → Coming → Type 0
 Takes old (Some line) new = (old.rest ≡ line ∷ new.rest) × (new.bytes ≡ old.bytes) × (new.row ≡ old.row + 1)
 Takes old None new = (old.rest ≡ []) × (new ≡ old)
 
+-- where a text ends whose lines are all taken
+abbrev pub end_of : Coming → Line
+end_of coming = record { row = coming.row; at = length coming.bytes; bytes = [] }
+
+-- all lines that were to come were taken
+pub record AreAllRead (old new : Coming) : Type 0 where
+  pub none_left : new.rest ≡ []
+  pub row_is : new.row ≡ old.row + length old.rest
+  pub bytes_are : new.bytes ≡ old.bytes
+
 -- a part as the reader keeps it
 abbrev pub kept : parts.Part → Part
 kept (parts.Number n) = code.Number (capped n)

@@ -50,12 +50,13 @@ parts_fault room candidates line = option_or (form_fault line) (order_fault room
 abbrev pub whole_fault : Treat → (candidates : ℕ) → ℕ × Line → Option PrefFault
 whole_fault equal candidates line = option_or (parts_fault line.0 candidates line.1) (mark_fault equal line.1)
 
--- the number of voters, where it is given, is that of the ballots
+-- the number of voters, where it is given, is that of the ballots of a text that ends before this line
+abbrev pub voters_fault : (voters : Option ℕ) → (ballots : ℕ) → Line → Option PrefFault
+voters_fault voters ballots line =
+    option_and_then (λ n. if n == ballots then None else Some (in_line line WrongTotal 0)) voters
+
 abbrev pub total_fault : List ℕ → Option PrefFault
-total_fault bytes =
-    option_and_then
-    (λ n. if n == sum_by count_of (order_lines bytes) then None else Some (in_line (end_line bytes) WrongTotal 0))
-    (voters (entries bytes))
+total_fault bytes = voters_fault (voters (entries bytes)) (sum_by count_of (order_lines bytes)) (end_line bytes)
 
 -- the fault of the metadata as a whole, for which the form of the first other line is judged
 abbrev pub behind_metadata : Asked → List ℕ → Option PrefFault
@@ -68,8 +69,8 @@ abbrev pub order_faults : Treat → (candidates : ℕ) → List Line → List (O
 order_faults equal candidates lines = map (whole_fault equal candidates) (with_room lines)
 
 -- The first fault of a text: of its metadata, of these as a whole, of its orders, of the total of voters.
-abbrev pub fault_of_text : Asked → Treat → List ℕ → Option PrefFault
-fault_of_text asked equal bytes =
+abbrev pub fault_of_text : Asked → List ℕ → Option PrefFault
+fault_of_text asked bytes =
     option_or (first_of (metadata_faults asked (metadata bytes)))
     (option_or (behind_metadata asked bytes)
-    (option_or (first_of (order_faults equal (candidates (entries bytes)) (order_lines bytes))) (total_fault bytes)))
+    (option_or (first_of (order_faults asked.equal (candidates (entries bytes)) (order_lines bytes))) (total_fault bytes)))

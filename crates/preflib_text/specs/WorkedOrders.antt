@@ -1,6 +1,5 @@
 -- Orders worked by hand.
 use Rattle.std.specs.Prelude.{ℕ, ◌+◌, List, [], ◌∷◌, ◌++◌, replicate, codes}
-use Rattle.ballot_marks.specs.declared.choice.Treat.TheVariants.{Refuse}
 use Rattle.preflib_text.specs.declared.pref_kind.PrefKind.{PrefKind}
 use Rattle.preflib_text.specs.declared.pref_kind.PrefKind.TheVariants.{BadByte, BadNumber, NoSuchCandidate, Repeated}
 use Rattle.preflib_text.specs.declared.pref_kind.PrefKind.TheVariants.{TooManyBallots, EqualRank}
@@ -12,7 +11,7 @@ RefusesAt lines kind at = Refuses (three ++ lines) kind (103 + at) 5 (at + 1)
 
 -- lines behind three candidates stand for these ballots
 abbrev pub Counts : List ℕ → List (List ℕ) → Type 0
-Counts lines rankings = Says plainly Refuse (three ++ lines) ann_ben_cid [] rankings
+Counts lines rankings = Says plainly (three ++ lines) ann_ben_cid [] rankings
 
 pub record WorkedOrders : Type 0 where
   pub blanks : Counts (9 ∷ codes "3 : { 2 } , 1 " ++ 9 ∷ codes "\n") (replicate 3 (2 ∷ 1 ∷ []))

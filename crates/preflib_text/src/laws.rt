@@ -1,5 +1,5 @@
 // What holds of every text. Each law is the contract of a function with nothing to do.
-ghost use Rattle.preflib_text.specs.Laws.{FaultOrBallots, TreatmentsOnlyMend};
+ghost use Rattle.preflib_text.specs.Laws.{FaultOrBallots, NoOrderIsClosed, TalliesCountBallots, TreatmentsOnlyMend};
 
 /// A text has a fault, or it says ballots, and not both.
 pub fn fault_or_ballots()
@@ -12,3 +12,10 @@ pub fn texts_are_only_mended()
 {
     ballot_marks::treatments_only_mend();
 }
+
+/// A tally counts all ballots that the orders of a text say, and those of them that rank nobody. An order has no
+/// skipped ranks, so none is closed.
+pub fn tallies_count_ballots()
+    ensures counts { TalliesCountBallots }
+    ensures none_closed { NoOrderIsClosed }
+{}

@@ -1,8 +1,9 @@
 // The lines of a text.
-ghost use Rattle.std.specs.Prelude.{◌≡◌, ◌+◌, ◌<◌, ◌≤◌, ◌==◌, ◌∷◌, length, slice_get};
+ghost use Rattle.std.specs.Prelude.{◌≡◌, ◌+◌, ◌<◌, ◌≤◌, ◌==◌, ◌∷◌, [], length, slice_get};
 ghost use Rattle.std.specs.List.{position_or_len};
+ghost use Rattle.preflib_text.specs.Heading.{TakesMetadata};
 ghost use Rattle.preflib_text.specs.Lines.{lines, mark_len, without_return};
-ghost use Rattle.preflib_text.specs.Reading.{lines_from, Takes};
+ghost use Rattle.preflib_text.specs.Reading.{lines_from, Takes, end_of};
 
 use crate::line::Line;
 use std::marker::Model;
@@ -60,6 +61,27 @@ impl<'a> Lines<'a> {
         self.at = behind;
         self.row += 1;
         Some(line)
+    }
+
+    /// The next line, if it is one of metadata.
+    pub fn next_metadata(&mut self) -> Option<Line<'a>>
+        ensures { TakesMetadata self.old result self.new }
+    {
+        match self.peek() {
+            Some(line) if line.is_metadata() => self.next(),
+            _ => None,
+        }
+    }
+
+    /// Where the text ends, if no line is to come: at its length, in the row behind the last line.
+    pub fn end(&self) -> Line<'a>
+        ensures { result ≡ end_of self.now }
+    {
+        Line {
+            row: self.row,
+            at: self.bytes.len(),
+            bytes: &[],
+        }
     }
 }
 

@@ -114,6 +114,8 @@ impl Order {
         ensures count { OnOk result (self.new.count ≡ count_of line.now) }
         ensures ranked { IfOk result (λ treated. ranked (treating equal) (marks_of (items line.now)) ≡ Some treated.ranking) }
         ensures ranking { IfOk result (λ treated. IsRanking self.old.candidates treated.ranking) }
+        ensures passed { IfOk result (λ treated. treated.passed ≡ is_passed (treating equal) (marks_of (items line.now))) }
+        ensures cut { IfOk result (λ treated. treated.cut ≡ is_cut (treating equal) (marks_of (items line.now))) }
         ensures bounded { OnOk result ((1 ≤ self.new.count) × (self.new.count ≤ room)) }
         ensures candidates { self.new.candidates ≡ self.old.candidates }
     {

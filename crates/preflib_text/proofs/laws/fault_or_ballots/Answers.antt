@@ -2,5 +2,5 @@ use Rattle.preflib_text.proofs.FaultLemmas.{no_fault_says_ballots, ballots_have_
 use Rattle.preflib_text.proofs.laws.fault_or_ballots.Goals as goal
 
 pub returns : goal.returns
-returns c = λ asked equal bytes.
-    (no_fault_says_ballots asked equal bytes, λ says. ballots_have_no_fault asked equal bytes says.0 says.1)
+returns c = λ asked bytes.
+    (no_fault_says_ballots asked bytes, λ says. ballots_have_no_fault asked bytes says.0 says.1)

@@ -2,4 +2,4 @@ use Rattle.preflib_text.proofs.MendLemmas.{mended_text}
 use Rattle.preflib_text.proofs.laws.texts_are_only_mended.Goals as goal
 
 pub returns : goal.returns
-returns c = λ asked equal bytes rankings says. mended_text c.treatments_only_mend.ensures equal asked bytes rankings says
+returns c = mended_text c.treatments_only_mend.ensures

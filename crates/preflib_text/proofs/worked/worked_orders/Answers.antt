@@ -10,6 +10,7 @@ returns-clause-texts c = record {
   equal_rank_first = record { no_fault = refl; names_are = refl; title_is = refl; ballots_are = refl };
   cut_off = refl;
   cut_off_within = refl;
+  more_than_voters = refl;
   no_name = refl;
   no_such_candidate = refl;
   no_orders = record { no_fault = refl; names_are = refl; title_is = refl; ballots_are = refl };
@@ -58,6 +59,7 @@ returns-clause-heads c = record {
   title_again = refl;
   voters_again = refl;
   names_alike = record { no_fault = refl; names_are = refl; title_is = refl; ballots_are = refl };
+  names_by_number = record { no_fault = refl; names_are = refl; title_is = refl; ballots_are = refl };
   not_used = record { no_fault = refl; names_are = refl; title_is = refl; ballots_are = refl };
   no_name_at_end = refl;
   metadata_behind_an_order = refl;
@@ -101,4 +103,14 @@ returns-clause-orders c = record {
   form_before_marks = refl;
   order_by_order = refl;
   second_of_equal = refl;
+}
+
+pub returns-clause-tallies : goal.returns-clause-tallies
+returns-clause-tallies c = record {
+  none = refl;
+  plain = refl;
+  cut = refl;
+  passed = refl;
+  nobody_left = refl;
+  one_in_braces = refl;
 }
