@@ -9,3 +9,4 @@ mod PieceLemmas
 mod TextLemmas
 mod ValueLemmas
 mod WorkedLemmas
+mod WorkedColumns

@@ -15,7 +15,7 @@ use Rattle.import_words.specs.Labels.{AreDifferent, IsLabel}
 use Rattle.import_words.specs.Options.{flag_of, is_named, is_of, is_table}
 use Rattle.import_words.specs.Pairs.{Said, given_of, words_of}
 use Rattle.import_words.specs.Settings.{layout_word}
-use Rattle.import_words.specs.Worked.{AcceptedWords, AskNothing, RefusedWords, ann_ben_cid, one_seat, plain}
+use Rattle.import_words.specs.Worked.{AskNothing, RefusedWords, ann_ben_cid, one_seat, plain}
 use Rattle.import_words.specs.declared.asked.Asked.{Asked}
 use Rattle.import_words.specs.declared.layout.Layout.{Layout}
 use Rattle.import_words.specs.declared.layout.Layout.TheVariants as layouts
@@ -26,13 +26,13 @@ use Rattle.import_words.proofs.FoundLemmas.{all_options, each_option, found, one
 use Rattle.import_words.proofs.OneLemmas.{same_pairs}
 use Rattle.import_words.proofs.PairLemmas.{HasValue}
 
-abbrev said : ImportOption → Word → Said
+abbrev pub said : ImportOption → Word → Said
 said option value = record { option = option; value = value }
 
 abbrev seats_of : Word → Word → List Said
 seats_of layout number = said options.Layout layout ∷ said options.Seats number ∷ []
 
-abbrev seat_of : Word → List Said
+abbrev pub seat_of : Word → List Said
 seat_of layout = seats_of layout (codes "1")
 
 abbrev candidates : List Said
@@ -117,7 +117,7 @@ refused_words = record {
 }
 
 -- one digit writes a number of seats
-one_is_seats : IsNumeralUpTo 250 (codes "1")
+pub one_is_seats : IsNumeralUpTo 250 (codes "1")
 one_is_seats =
     let value : number_of (codes "1") ≡ 1 = refl in
     record {
@@ -130,17 +130,17 @@ one_is_seats =
       most = omega (arith, value);
     }
 
-none_different : AreDifferent []
+pub none_different : AreDifferent []
 none_different i j d before within = absurd (omega arith)
 
 -- a word that is unlike the first of some and none of the others
-none_in :
+pub none_in :
     (word other : Word) (words : List Word) → other ≢ word → ¬ (Contains words word)
     → ¬ (Contains (other ∷ words) word)
 none_in word other words unlike none (zero, within, same) = unlike same
 none_in word other words unlike none (suc k, within, same) = none (k, omega arith, same)
 
-none_in_none : (word : Word) → ¬ (Contains [] word)
+pub none_in_none : (word : Word) → ¬ (Contains [] word)
 none_in_none word has = absurd (omega (arith, has.1))
 
 -- a name of three bytes is a name and a label
@@ -151,7 +151,7 @@ three_named a b c one two three = record {
   printable = All-from_recursion IsPrintable (a ∷ b ∷ c ∷ []) (one, (two, (three, tt)));
 }
 
-three_labelled :
+pub three_labelled :
     (a b c : ℕ) → IsPrintable a → IsPrintable b → IsPrintable c → a ≢ 32 → c ≢ 32 → IsLabel (a ∷ b ∷ c ∷ [])
 three_labelled a b c one two three first last = record {
   some = omega arith;
@@ -235,7 +235,7 @@ all_labelled = All-from_recursion IsLabel names (
 )
 
 -- words with other first bytes are different
-begin_unlike :
+pub begin_unlike :
     (m n : ℕ) (word other : Word) → get_or word 0 0 ≡ m → get_or other 0 0 ≡ n → m ≢ n → word ≢ other
 begin_unlike m n word other first second unlike same =
     unlike (sym first ∙ ap (λ (w : Word). get_or w 0 0) same ∙ second)
@@ -286,6 +286,3 @@ accepted_choices = record {
     distinguished = record { labels = all_labelled; different = all_different };
   };
 }
-
-pub accepted_words : AcceptedWords
-accepted_words = record { ranks = accepted_ranks; preflib = accepted_preflib; choices = accepted_choices }

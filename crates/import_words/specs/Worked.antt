@@ -1,5 +1,5 @@
 -- Words worked by hand.
-use Rattle.std.specs.Prelude.{None, List, [], ◌∷◌, ◌++◌, codes}
+use Rattle.std.specs.Prelude.{Some, None, List, [], ◌∷◌, ◌++◌, codes}
 use Rattle.meek_words.specs.Numerals.{Word}
 use Rattle.ballot_marks.specs.declared.choice.Treat.TheVariants as treats
 use Rattle.import_words.specs.Asks.{Asks}
@@ -53,9 +53,38 @@ plain layout candidates = record {
   cells = record { blanks = []; overs = []; ranks = [] };
 }
 
+-- the head of the weights' column and that of an ignored one, each as it is said
+abbrev pub weight_num : List Word
+weight_num = codes "--weight" ∷ codes "Num" ∷ []
+
+abbrev pub ignore_key : List Word
+ignore_key = codes "--ignore" ∷ codes "Key" ∷ []
+
+-- a table of ranks with weights under Num and an ignored column Key, whose heads stand in this order
+abbrev pub with_columns : (columns : List Word) → Asked
+with_columns columns = record {
+  layout = layouts.Ranks;
+  output = outputs.Blt;
+  empty = rows.Refuse;
+  treatment = record { skipped = None; equal = treats.Refuse; repeated = treats.Refuse };
+  roll = record { seats = 1; title = []; withdrawn = []; candidates = [] };
+  table = record {
+    separator = None;
+    names = heads.Whole;
+    weight = Some (codes "Num");
+    ignored = codes "Key" ∷ [];
+    columns = columns;
+  };
+  cells = record { blanks = []; overs = []; ranks = [] };
+}
+
 pub record AcceptedWords : Type 0 where
   pub ranks : Asks (one_seat (codes "ranks")) (plain layouts.Ranks [])
   pub preflib : Asks (one_seat (codes "preflib")) (plain layouts.Preflib [])
   pub choices :
       Asks (one_seat (codes "choices") ++ ann_ben_cid)
       (plain layouts.Choices (codes "Ann" ∷ codes "Ben" ∷ codes "Cid" ∷ []))
+  pub weight_first :
+      Asks (one_seat (codes "ranks") ++ weight_num ++ ignore_key) (with_columns (codes "Num" ∷ codes "Key" ∷ []))
+  pub ignored_first :
+      Asks (one_seat (codes "ranks") ++ ignore_key ++ weight_num) (with_columns (codes "Key" ∷ codes "Num" ∷ []))

@@ -1,4 +1,5 @@
-use Rattle.import_words.proofs.WorkedLemmas.{accepted_words, refused_words}
+use Rattle.import_words.proofs.WorkedColumns.{accepted_words}
+use Rattle.import_words.proofs.WorkedLemmas.{refused_words}
 use Rattle.import_words.proofs.worked.worked_words.Goals as goal
 
 pub returns-clause-refused : goal.returns-clause-refused
