@@ -3,7 +3,8 @@ use Rattle.std.proofs.Common.{◌≡◌, ◌∙◌, ℕ, suc, Bool, true, false,
 use Rattle.std.proofs.Common.{ap, arith, refl, sym, subst, inl, inr, length, get_or, All}
 use Rattle.std.specs.Prelude.{◌||◌, not, nat_eq, nat_le, nat_lt, codes, count_by, Contains}
 use Rattle.std.specs.List.{list_any}
-use Rattle.std.proofs.lemmas.Bool.{cases_Bool, eqb-true, eq-eqb, leb-false, le-ltb, lt-leb, ltb-false, not-false, not_from_true}
+use Rattle.std.proofs.lemmas.Bool.{cases_Bool, eqb-true, eq-eqb, leb-false, le-ltb, lt-leb, ltb-false}
+use Rattle.std.proofs.lemmas.Bool.{not-false, not_from_true}
 use Rattle.std.proofs.lemmas.List.Folds.{list_any_at}
 use Rattle.std.proofs.lemmas.List.Sums.{get_or-le-sum_by, sum_by-le}
 use Rattle.plain_ballots.specs.Ballots.{plain}
@@ -67,7 +68,9 @@ pub unranked : UnrankedAreTold
 unranked candidates lines =
     let told = candidates_told 108 (codes "ook on no ballot ") candidates (λ c. not (is_ranked lines c)) in (
       λ none c from below.
-          let ballot = found (λ b. is_listed b c) (plain lines) (not-false (is_ranked lines c) (told.0 none c (from, below))) in
+          let ballot =
+          found (λ b. is_listed b c) (plain lines)
+          (not-false (is_ranked lines c) (told.0 none c (from, below))) in
           let rank = found (λ d. nat_eq d c) ballot.0 ballot.2 in
           (ballot.0, ballot.1, subst (λ (d : ℕ). Contains ballot.0 d) (eqb-true rank.0 c rank.2) rank.1),
       λ all.
@@ -81,7 +84,8 @@ pub withdrawn : WithdrawnAreTold
 withdrawn marks lines =
     let test : List ℕ → Bool = ranks_withdrawn marks in
     let n = how_many test lines in (
-      λ none. uncounted test (plain lines) (eqb-true n 0 (not-false (nat_eq n 0) (not_written (not (nat_eq n 0)) 108 _ none))),
+      λ none. uncounted test (plain lines)
+          (eqb-true n 0 (not-false (nat_eq n 0) (not_written (not (nat_eq n 0)) 108 _ none))),
       λ none.
           unwritten (not (nat_eq n 0)) _ (not_from_true (nat_eq n 0) (eq-eqb n 0 (not_counted test (plain lines) none))),
     )

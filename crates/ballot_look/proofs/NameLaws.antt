@@ -4,11 +4,13 @@ use Rattle.std.proofs.Common.{refl, sym, inl, inr, length, All}
 use Rattle.std.specs.Prelude.{◌&&◌, not, codes}
 use Rattle.std.specs.List.{list_any}
 use Rattle.std.specs.Str.{bytes_eq, chars, is_utf8}
-use Rattle.std.proofs.lemmas.Bool.{and_cases, and_left, and_right, cases_Bool, both_ways, false_from_ne_true, not-false, not_from_true}
+use Rattle.std.proofs.lemmas.Bool.{and_cases, and_left, and_right, cases_Bool, both_ways, false_from_ne_true}
+use Rattle.std.proofs.lemmas.Bool.{not-false, not_from_true}
 use Rattle.std.proofs.lemmas.List.Folds.{list_any_at, list_any_none}
 use Rattle.std.proofs.lemmas.Slice.Eq.{bytes_eq-Decides}
 use Rattle.std.proofs.lemmas.Str.{IsUtf8-from_is_utf8, is_utf8-from_IsUtf8}
-use Rattle.ballot_look.specs.Names.{has_directional, has_other_bytes, have_like_names, have_one_name, is_directional, name_of, plainly}
+use Rattle.ballot_look.specs.Names.{has_directional, has_other_bytes, have_like_names, have_one_name}
+use Rattle.ballot_look.specs.Names.{is_directional, name_of, plainly}
 use Rattle.ballot_look.specs.Laws.{LikeNamesAreTold, MarksAreTold, OneNameIsTold, OtherBytesAreTold}
 use Rattle.ballot_look.proofs.Told.{candidates_told, pairs_told}
 
@@ -44,7 +46,8 @@ like_names roll =
     let name : ℕ → List ℕ = name_of roll.names in (
       λ none c d of other less alike.
           (bytes_eq-Decides (name c) (name d)).0
-          (same_then (bytes_eq (name c) (name d)) (bytes_eq (plainly (name c)) (plainly (name d))) (told.0 none c d of other less)
+          (same_then (bytes_eq (name c) (name d)) (bytes_eq (plainly (name c)) (plainly (name d)))
+          (told.0 none c d of other less)
           ((bytes_eq-Decides (plainly (name c)) (plainly (name d))).1 alike)),
       λ same.
           told.1 (λ c d of other less.

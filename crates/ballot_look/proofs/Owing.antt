@@ -14,7 +14,9 @@ use Rattle.tool_edge.specs.Tool.{IsOwedFor, IsSound, no_history}
 use Rattle.tool_edge.specs.Tools.{FilesAreNotRefused, FilesAreRefusedOnce}
 use Rattle.ballot_look.specs.declared.looking.Looked.{Looked}
 use Rattle.ballot_look.specs.Counts.{figures, has_first, how_many, is_ranked}
-use Rattle.ballot_look.specs.Lines.{ballots_text, count_line, enough_seats_lines, first_line, first_lines, many_seats_lines, mean_text, name_warnings, only_if, roll_text, text_line, text_of, unranked_lines, withdrawn_lines}
+use Rattle.ballot_look.specs.Lines.{ballots_text, count_line, enough_seats_lines, first_line, first_lines}
+use Rattle.ballot_look.specs.Lines.{many_seats_lines, mean_text, name_warnings, only_if, roll_text, text_line}
+use Rattle.ballot_look.specs.Lines.{text_of, unranked_lines, withdrawn_lines}
 use Rattle.ballot_look.specs.Looked.{IsLooked, figures_of}
 use Rattle.ballot_look.specs.Names.{name_of}
 use Rattle.ballot_look.specs.Owed.{IsLookOf, look_tool}
@@ -27,10 +29,13 @@ pub looked_text :
     → text_of roll (figures_of looked) ≡ text_of roll (figures roll.withdrawn lines)
 looked_text roll lines looked is =
     let n = length roll.names in
-    let firsts : first_lines roll.names (first_of looked.tally) ≡ first_lines roll.names (λ c. how_many (has_first c) lines) =
+    let firsts :
+    first_lines roll.names (first_of looked.tally)
+    ≡ first_lines roll.names (λ c. how_many (has_first c) lines) =
     each_same (λ c. first_line c (first_of looked.tally c) (name_of roll.names c))
     (λ c. first_line c (how_many (has_first c) lines) (name_of roll.names c)) 1 n
-    (λ c from below. ap (λ (k : ℕ). first_line c k (name_of roll.names c)) (is.tally.firsts c from (omega (arith, below)))) in
+    (λ c from below. ap (λ (k : ℕ). first_line c k (name_of roll.names c))
+    (is.tally.firsts c from (omega (arith, below)))) in
     let unranked : unranked_lines n (was_ranked looked.tally) ≡ unranked_lines n (is_ranked lines) =
     each_same (λ c. only_if (not (was_ranked looked.tally c)) (count_line (codes "look on no ballot ") c))
     (λ c. only_if (not (is_ranked lines c)) (count_line (codes "look on no ballot ") c)) 1 n

@@ -17,7 +17,8 @@ no_text bytes none =
 -- what a search through a list says
 pub any_found :
     (test : ℕ → Bool) (xs : List ℕ) (r : Bool)
-    → MatchBool r ((k : ℕ) × (k < length xs) × HoldsAt (λ x. test x ≡ true) xs k) (AllWithin (λ x. test x ≡ false) xs 0 (length xs))
+    → MatchBool r ((k : ℕ) × (k < length xs) × HoldsAt (λ x. test x ≡ true) xs k)
+    (AllWithin (λ x. test x ≡ false) xs 0 (length xs))
     → r ≡ list_any test xs
 any_found test xs true (k, inside, holds) = sym (list_any_at test xs k 0 inside (holds 0))
 any_found test xs false none = sym (list_any_none test xs (λ k d inside. none k d (omega arith) inside))

@@ -69,12 +69,14 @@ pairs_told b words n test =
       λ none c d of other less.
           not_written (test c d) b _
           (each_none (line c) (c + 1) (n - c) d
-          (each_none lines 1 n c none of.0 (omega (arith, of.1))) (omega (arith, less)) (omega (arith, other.1, of.1, less))),
+          (each_none lines 1 n c none of.0 (omega (arith, of.1))) (omega (arith, less))
+          (omega (arith, other.1, of.1, less))),
       λ none.
           none_each lines 1 n
           (λ c from below.
           none_each (line c) (c + 1) (n - c)
           (λ d later inside.
           unwritten (test c d) (pair_line (b ∷ words) c d)
-          (none c d (from, omega (arith, below)) (omega (arith, later), omega (arith, inside, below)) (omega (arith, later))))),
+          (none c d (from, omega (arith, below)) (omega (arith, later), omega (arith, inside, below))
+          (omega (arith, later))))),
     )

@@ -1,8 +1,9 @@
 -- What is said of ballot files, worked by hand.
-use Rattle.std.specs.Prelude.{◌≡◌, ℕ, Bool, true, false, List, [], ◌∷◌, ◌++◌, codes}
+use Rattle.std.specs.Prelude.{◌≡◌, ℕ, Bool, true, false, List, [], ◌∷◌, ◌++◌, codes, map}
 use Rattle.plain_ballots.specs.declared.ballot_line.BallotLine.{BallotLine}
 use Rattle.blt_reader.specs.Poll.{Poll}
 use Rattle.ballot_look.specs.Lines.{look_text}
+use Rattle.ballot_look.specs.Names.{is_directional}
 
 abbrev pub line_of : (count : ℕ) → (ranking : List ℕ) → BallotLine
 line_of count ranking = record { count = count; ranking = ranking }
@@ -46,3 +47,10 @@ OddCounts =
     (poll_of 4 (codes "Ann" ∷ codes "Ben" ∷ codes "Cid" ∷ []) (false ∷ true ∷ true ∷ [])
     (line_of 2 (1 ∷ 2 ∷ []) ∷ line_of 1 (1 ∷ []) ∷ line_of 1 (1 ∷ 2 ∷ []) ∷ line_of 3 (1 ∷ []) ∷ []))
     ≡ codes "ballots 7\nlines 4\nempty 0\ncandidates 3\nseats 4\nwithdrawn 2 3\ntitle Board\nfirst 1 7 Ann\nfirst 2 0 Ben\nfirst 3 0 Cid\nmean 1.42\nequal 2\nlook more seats than candidates\nlook a seat for everybody who runs\nlook on no ballot 3\nlook ballots with withdrawn candidates 3\n"
+
+-- At both ends of each range of marks: the character before it, the first and the last in it, and the one behind it.
+abbrev pub Marks : Type 0
+Marks =
+    map is_directional
+    (0x200D ∷ 0x200E ∷ 0x200F ∷ 0x2010 ∷ 0x2029 ∷ 0x202A ∷ 0x202E ∷ 0x202F ∷ 0x2065 ∷ 0x2066 ∷ 0x2069 ∷ 0x206A ∷ [])
+    ≡ false ∷ true ∷ true ∷ false ∷ false ∷ true ∷ true ∷ false ∷ false ∷ true ∷ true ∷ false ∷ []

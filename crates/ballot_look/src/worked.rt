@@ -1,5 +1,5 @@
 // Files worked by hand.
-ghost use Rattle.ballot_look.specs.Worked.{NoBallots, OddCounts, OddNames, QuietFile};
+ghost use Rattle.ballot_look.specs.Worked.{Marks, NoBallots, OddCounts, OddNames, QuietFile};
 
 /// What is said of these files, to the byte. The call does nothing.
 pub fn worked_looks()
@@ -7,4 +7,5 @@ pub fn worked_looks()
     ensures none { NoBallots }
     ensures names { OddNames }
     ensures counts { OddCounts }
+    ensures marks { Marks }
 {}

@@ -64,7 +64,8 @@ first 1 5 Ann\nfirst 2 0 Ben\nfirst 3 0 Cid\nmean 3.00\nequal 0\n";
 // that is no UTF-8, the fifth the mark U+200F, the sixth U+2066, and the seventh U+2065, which is no mark.
 #[test]
 fn names_want_a_look(rt: HostRuntime) -> Result<(), Fail> {
-    let file = b"7 1\n2 1 2 3 4 5 6 7 0\n0\n\"Ann B\"\n\" ANNb\"\n\"Ann B\"\n\"J\xfcrg\"\n\"D\xe2\x80\x8f\"\n\
+    let file =
+        b"7 1\n2 1 2 3 4 5 6 7 0\n0\n\"Ann B\"\n\" ANNb\"\n\"Ann B\"\n\"J\xfcrg\"\n\"D\xe2\x80\x8f\"\n\
 \"\xe2\x81\xa6E\"\n\"\xe2\x81\xa5F\"\n\"T\"\n";
     let text = b"ballots 2\nlines 1\nempty 0\ncandidates 7\nseats 1\nwithdrawn none\ntitle T\n\
 first 1 2 Ann B\nfirst 2 0  ANNb\nfirst 3 0 Ann B\nfirst 4 0 J\xfcrg\nfirst 5 0 D\xe2\x80\x8f\n\
@@ -95,11 +96,29 @@ fn a_word_is_refused_and_so_is_what_is_no_file(rt: HostRuntime) -> Result<(), Fa
     ends(&rt, rt.alloc(), ("x", FILE), (&[], &[]), word)?;
     let wrong = End::BadInput(InputFault::new(FaultKind::Repeated, 10));
     let line = b"refused Repeated at 10\n";
-    ends(&rt, rt.alloc(), ("", b"2 1\n3 1\n2 1 0\n0\n"), (&[], &[]), (wrong, line))
+    ends(
+        &rt,
+        rt.alloc(),
+        ("", b"2 1\n3 1\n2 1 0\n0\n"),
+        (&[], &[]),
+        (wrong, line),
+    )
 }
 
 #[test]
 fn a_read_or_a_write_that_fails_is_a_fault(rt: HostRuntime) -> Result<(), Fail> {
-    ends(&rt, rt.alloc(), ("", FILE), (&[2], &[]), (End::SourceFault, b""))?;
-    ends(&rt, rt.alloc(), ("", FILE), (&[], &[1]), (End::SinkFault, b""))
+    ends(
+        &rt,
+        rt.alloc(),
+        ("", FILE),
+        (&[2], &[]),
+        (End::SourceFault, b""),
+    )?;
+    ends(
+        &rt,
+        rt.alloc(),
+        ("", FILE),
+        (&[], &[1]),
+        (End::SinkFault, b""),
+    )
 }

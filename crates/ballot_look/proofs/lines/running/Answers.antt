@@ -16,6 +16,7 @@ loop-p-preserved c =
           let one : counted (withdrawn (p + 1)) ≡ 1 = ap counted (sym c.is_withdrawn.ensures ∙ w.if-not-is_withdrawn.true) in
           record { counted = omega (arith, more, one); few = omega arith }
       | else-not-is_withdrawn w ↦
-          let none : counted (withdrawn (p + 1)) ≡ 0 = ap counted (sym c.is_withdrawn.ensures ∙ w.if-not-is_withdrawn.false) in
+          let none : counted (withdrawn (p + 1)) ≡ 0 =
+          ap counted (sym c.is_withdrawn.ensures ∙ w.if-not-is_withdrawn.false) in
           record { counted = omega (arith, more, none); few = omega arith }
     ]

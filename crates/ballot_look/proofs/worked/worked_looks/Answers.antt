@@ -19,3 +19,6 @@ returns-clause-names c = refl
 pub returns-clause-counts : goal.returns-clause-counts
 unfolding digits chars is_utf8 encode
 returns-clause-counts c = refl
+
+pub returns-clause-marks : goal.returns-clause-marks
+returns-clause-marks c = refl
