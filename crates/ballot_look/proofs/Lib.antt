@@ -1,0 +1,10 @@
+mod Each
+mod Counting
+mod Repeats
+mod LineItems
+mod Texts
+mod Told
+mod NameLaws
+mod CountLaws
+mod Firsts
+mod Owing

@@ -1,0 +1,24 @@
+use lib.Utf8.{encode}
+use Rattle.std.proofs.Common.{refl}
+use Rattle.std.specs.Fmt.{digits}
+use Rattle.std.specs.Str.{chars, is_utf8}
+use Rattle.ballot_look.proofs.worked.worked_looks.Goals as goal
+
+pub returns-clause-quiet : goal.returns-clause-quiet
+unfolding digits chars is_utf8 encode
+returns-clause-quiet c = refl
+
+pub returns-clause-none : goal.returns-clause-none
+unfolding digits chars is_utf8 encode
+returns-clause-none c = refl
+
+pub returns-clause-names : goal.returns-clause-names
+unfolding digits chars is_utf8 encode
+returns-clause-names c = refl
+
+pub returns-clause-counts : goal.returns-clause-counts
+unfolding digits chars is_utf8 encode
+returns-clause-counts c = refl
+
+pub returns-clause-marks : goal.returns-clause-marks
+returns-clause-marks c = refl

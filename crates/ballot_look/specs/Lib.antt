@@ -1,0 +1,10 @@
+pub mod Counts
+pub mod Names
+pub mod Lines
+pub mod Tally
+pub mod Doubts
+pub mod Said
+pub mod Looked
+pub mod Owed
+pub mod Laws
+pub mod Worked

@@ -1,0 +1,56 @@
+-- What is said of ballot files, worked by hand.
+use Rattle.std.specs.Prelude.{◌≡◌, ℕ, Bool, true, false, List, [], ◌∷◌, ◌++◌, codes, map}
+use Rattle.plain_ballots.specs.declared.ballot_line.BallotLine.{BallotLine}
+use Rattle.blt_reader.specs.Poll.{Poll}
+use Rattle.ballot_look.specs.Lines.{look_text}
+use Rattle.ballot_look.specs.Names.{is_directional}
+
+abbrev pub line_of : (count : ℕ) → (ranking : List ℕ) → BallotLine
+line_of count ranking = record { count = count; ranking = ranking }
+
+abbrev pub poll_of : (seats : ℕ) → (names : List (List ℕ)) → (withdrawn : List Bool) → List BallotLine → Poll
+poll_of seats names withdrawn lines =
+    record { roll = record { seats = seats; names = names; title = codes "Board"; withdrawn = withdrawn }; lines = lines }
+
+-- Nine ballots on four lines, two of them empty: 2*3 + 2*1 + 3*2 = 14 ranks, which are 1.555.. for each ballot. Nothing
+-- wants a look.
+abbrev pub QuietFile : Type 0
+QuietFile =
+    look_text
+    (poll_of 2 (codes "Ann" ∷ codes "Ben" ∷ codes "Cid" ∷ []) (false ∷ false ∷ false ∷ [])
+    (line_of 2 (1 ∷ 2 ∷ 3 ∷ []) ∷ line_of 2 (2 ∷ []) ∷ line_of 3 (1 ∷ 3 ∷ []) ∷ line_of 2 [] ∷ []))
+    ≡ codes "ballots 9\nlines 4\nempty 2\ncandidates 3\nseats 2\nwithdrawn none\ntitle Board\nfirst 1 5 Ann\nfirst 2 2 Ben\nfirst 3 0 Cid\nmean 1.55\nequal 0\n"
+
+-- No ballots at all.
+abbrev pub NoBallots : Type 0
+NoBallots =
+    look_text (poll_of 1 (codes "Ann" ∷ codes "Ben" ∷ []) (false ∷ false ∷ []) [])
+    ≡ codes "ballots 0\nlines 0\nempty 0\ncandidates 2\nseats 1\nwithdrawn none\ntitle Board\nfirst 1 0 Ann\nfirst 2 0 Ben\nmean none\nequal 0\nlook on no ballot 1\nlook on no ballot 2\n"
+
+-- Names: the first and the fourth are the same, the second is like both but for a space and a capital letter; the third has a byte
+-- that is no UTF-8, and the fifth a mark, U+202E.
+abbrev pub OddNames : Type 0
+OddNames =
+    look_text
+    (poll_of 1 (codes "Ann" ∷ codes "a nn" ∷ (codes "J" ++ 252 ∷ codes "rg") ∷ codes "Ann" ∷ (226 ∷ 128 ∷ 174 ∷ codes "Bob") ∷ [])
+    (false ∷ false ∷ false ∷ false ∷ false ∷ []) (line_of 1 (5 ∷ 4 ∷ 3 ∷ 2 ∷ 1 ∷ []) ∷ []))
+    ≡ codes "ballots 1\nlines 1\nempty 0\ncandidates 5\nseats 1\nwithdrawn none\ntitle Board\nfirst 1 0 Ann\nfirst 2 0 a nn\nfirst 3 0 J"
+    ++ 252 ∷ codes "rg\nfirst 4 0 Ann\nfirst 5 1 "
+    ++ 226 ∷ 128 ∷ 174 ∷ codes "Bob\nmean 5.00\nequal 0\nlook same name 1 4\nlook similar name 1 2\nlook similar name 2 4\nlook name is not UTF-8 3\nlook name has a directional mark 5\n"
+
+-- Four lines, of which the third says what the first says, and the fourth what the second says with another count; the second
+-- and the third candidate are withdrawn, so that one runs for four seats; 2 + 1 ballots rank the second, and none the third.
+-- 7 ballots have 2*2 + 1*1 + 1*2 + 3*1 = 10 ranks: 1.428.. for each.
+abbrev pub OddCounts : Type 0
+OddCounts =
+    look_text
+    (poll_of 4 (codes "Ann" ∷ codes "Ben" ∷ codes "Cid" ∷ []) (false ∷ true ∷ true ∷ [])
+    (line_of 2 (1 ∷ 2 ∷ []) ∷ line_of 1 (1 ∷ []) ∷ line_of 1 (1 ∷ 2 ∷ []) ∷ line_of 3 (1 ∷ []) ∷ []))
+    ≡ codes "ballots 7\nlines 4\nempty 0\ncandidates 3\nseats 4\nwithdrawn 2 3\ntitle Board\nfirst 1 7 Ann\nfirst 2 0 Ben\nfirst 3 0 Cid\nmean 1.42\nequal 2\nlook more seats than candidates\nlook a seat for everybody who runs\nlook on no ballot 3\nlook ballots with withdrawn candidates 3\n"
+
+-- At both ends of each range of marks: the character before it, the first and the last in it, and the one behind it.
+abbrev pub Marks : Type 0
+Marks =
+    map is_directional
+    (0x200D ∷ 0x200E ∷ 0x200F ∷ 0x2010 ∷ 0x2029 ∷ 0x202A ∷ 0x202E ∷ 0x202F ∷ 0x2065 ∷ 0x2066 ∷ 0x2069 ∷ 0x206A ∷ [])
+    ≡ false ∷ true ∷ true ∷ false ∷ false ∷ true ∷ true ∷ false ∷ false ∷ true ∷ true ∷ false ∷ []

@@ -1,0 +1,22 @@
+//! What a ballot file says, before anything is counted: [`look`] reads a ballot file from a source and writes
+//! to a sink what was read, a fact a line, and behind it a line for each thing that wants a look before a count:
+//! names that are easily mistaken, seats for everybody, candidates on no ballot.
+#![tactic(auto)]
+
+mod doubt;
+mod laws;
+mod likeness;
+mod lines;
+mod looking;
+mod names;
+mod no_memory;
+mod run;
+mod said;
+mod tally;
+mod text;
+mod warnings;
+mod worked;
+
+pub use laws::looks_are_owed;
+pub use run::look;
+pub use worked::worked_looks;

@@ -1,0 +1,83 @@
+// A text under way.
+ghost use Rattle.std.specs.Prelude.{◌≡◌, ◌<◌, [], ◌∷◌, ◌++◌, decimal, OnOk};
+ghost use Rattle.ballot_look.specs.Lines.{count_line, pair_line, text_line};
+
+use crate::no_memory::NoMemory;
+use itoa::Buffer;
+use std::alloc::Global;
+use std::marker::Model;
+
+/// A text under way, in memory. A push that is refused for want of it leaves no text to rely on.
+#[derive(Drop)]
+pub(crate) struct Text {
+    bytes: Vec<u8>,
+}
+
+impl Model for Text {
+    ghost use Rattle.std.specs.Prelude.{List, ℕ};
+
+    ghost Value = { List ℕ };
+
+    ghost view = { λ text. text.bytes.items };
+}
+
+impl Text {
+    /// No text. The allocator serves each later push.
+    pub(crate) fn new(alloc: Global) -> Text
+        ensures { result ≡ [] }
+    {
+        Text {
+            bytes: Vec::new(alloc),
+        }
+    }
+
+    pub(crate) fn bytes(&self) -> &[u8]
+        ensures { result.now ≡ self.now }
+    {
+        self.bytes.as_slice()
+    }
+
+    pub(crate) fn push(&mut self, bytes: &[u8]) -> Result<(), NoMemory>
+        ensures { OnOk result (self.new ≡ self.old ++ bytes.now) }
+    {
+        self.bytes.extend_from_slice(bytes)?;
+        Ok(())
+    }
+
+    /// Appends a whole number without leading zeros.
+    pub(crate) fn push_count(&mut self, n: u64) -> Result<(), NoMemory>
+        ensures { OnOk result (self.new ≡ self.old ++ decimal n) }
+    {
+        let mut buffer = Buffer::new();
+        self.push(buffer.format(n).as_bytes())
+    }
+
+    /// Appends a line of words and a number.
+    pub(crate) fn push_count_line(&mut self, words: &[u8], n: u64) -> Result<(), NoMemory>
+        ensures { OnOk result (self.new ≡ self.old ++ count_line words.now n) }
+    {
+        self.push(words)?;
+        self.push_count(n)?;
+        self.push(b"\n")
+    }
+
+    /// Appends a line of words and a text.
+    pub(crate) fn push_text_line(&mut self, words: &[u8], text: &[u8]) -> Result<(), NoMemory>
+        ensures { OnOk result (self.new ≡ self.old ++ text_line words.now text.now) }
+    {
+        self.push(words)?;
+        self.push(text)?;
+        self.push(b"\n")
+    }
+
+    /// Appends a line of words and two numbers.
+    pub(crate) fn push_pair_line(&mut self, words: &[u8], c: u32, d: u32) -> Result<(), NoMemory>
+        ensures { OnOk result (self.new ≡ self.old ++ pair_line words.now c d) }
+    {
+        self.push(words)?;
+        self.push_count(u64::from(c))?;
+        self.push(b" ")?;
+        self.push_count(u64::from(d))?;
+        self.push(b"\n")
+    }
+}

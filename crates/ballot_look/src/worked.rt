@@ -1,0 +1,11 @@
+// Files worked by hand.
+ghost use Rattle.ballot_look.specs.Worked.{Marks, NoBallots, OddCounts, OddNames, QuietFile};
+
+/// What is said of these files, to the byte. The call does nothing.
+pub fn worked_looks()
+    ensures quiet { QuietFile }
+    ensures none { NoBallots }
+    ensures names { OddNames }
+    ensures counts { OddCounts }
+    ensures marks { Marks }
+{}

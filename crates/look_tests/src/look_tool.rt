@@ -1,0 +1,124 @@
+// Whole runs over memory: files worked by hand with each line that wants a look, refusals, and a source and a sink
+// that fail.
+use ballot_look::look;
+use blt_reader::{FaultKind, InputFault};
+use byte_edge::MemorySink;
+use sample_runs::{FILE, sink_of, source_of, words_of};
+use std::alloc::Global;
+use std::process::Abort;
+use std::test::Fail;
+use tool_edge::End;
+
+/// How a run ends that writes into this sink; the reads with these numbers fail.
+fn end_of(
+    alloc: Global,
+    words: &str,
+    input: &[u8],
+    failing: &[u64],
+    sink: &mut MemorySink,
+) -> Result<End, Fail> {
+    let words = words_of(alloc, words)?;
+    let mut source = source_of(alloc, input, 16, failing)?;
+    Ok(look(alloc, words.as_slice(), &mut source, sink))
+}
+
+/// A run of these words over this input ends so, and writes this; the reads, and the writes and flushes, with
+/// these numbers fail.
+fn ends(
+    rt: &impl Abort,
+    alloc: Global,
+    (words, input): (&str, &[u8]),
+    (reads, writes): (&[u64], &[u64]),
+    (end, text): (End, &[u8]),
+) -> Result<(), Fail> {
+    let mut sink = sink_of(alloc, 1_000, 1_000, writes)?;
+    let found = end_of(alloc, words, input, reads, &mut sink)?;
+    assert_eq!(rt; (found, sink.bytes()), (end, text));
+    Ok(())
+}
+
+/// A run without words is done, and writes this.
+fn says(rt: &impl Abort, alloc: Global, input: &[u8], text: &[u8]) -> Result<(), Fail> {
+    ends(rt, alloc, ("", input), (&[], &[]), (End::Done, text))
+}
+
+// 13 ballots have 9 + 12 + 6 + 1 + 8 + 3 = 39 ranks. Candidate 2 is withdrawn, and stands on 4 + 1 + 2 + 1 ballots.
+#[test]
+fn the_sample_is_said(rt: HostRuntime) -> Result<(), Fail> {
+    let text = b"ballots 13\nlines 6\nempty 0\ncandidates 4\nseats 2\nwithdrawn 2\ntitle Sample\n\
+first 1 7 Ann\nfirst 2 3 Ben\nfirst 3 1 Cid\nfirst 4 2 Dee\nmean 3.00\nequal 0\n\
+look ballots with withdrawn candidates 8\n";
+    says(&rt, rt.alloc(), FILE, text)
+}
+
+// Seven papers, of which five lost the 0 at the end of their line: what is left are five ballots for 1 and then 2.
+#[test]
+fn a_missing_zero_shows_in_the_numbers(rt: HostRuntime) -> Result<(), Fail> {
+    let file = b"3 1\n5 1\n2 3 0\n0\n\"Ann\"\n\"Ben\"\n\"Cid\"\n\"Board\"\n";
+    let text = b"ballots 5\nlines 1\nempty 0\ncandidates 3\nseats 1\nwithdrawn none\ntitle Board\n\
+first 1 5 Ann\nfirst 2 0 Ben\nfirst 3 0 Cid\nmean 3.00\nequal 0\n";
+    says(&rt, rt.alloc(), file, text)
+}
+
+// The first and the third name are the same, the second is like both but for spaces and case; the fourth has a byte
+// that is no UTF-8, the fifth the mark U+200F, the sixth U+2066, and the seventh U+2065, which is no mark.
+#[test]
+fn names_want_a_look(rt: HostRuntime) -> Result<(), Fail> {
+    let file =
+        b"7 1\n2 1 2 3 4 5 6 7 0\n0\n\"Ann B\"\n\" ANNb\"\n\"Ann B\"\n\"J\xfcrg\"\n\"D\xe2\x80\x8f\"\n\
+\"\xe2\x81\xa6E\"\n\"\xe2\x81\xa5F\"\n\"T\"\n";
+    let text = b"ballots 2\nlines 1\nempty 0\ncandidates 7\nseats 1\nwithdrawn none\ntitle T\n\
+first 1 2 Ann B\nfirst 2 0  ANNb\nfirst 3 0 Ann B\nfirst 4 0 J\xfcrg\nfirst 5 0 D\xe2\x80\x8f\n\
+first 6 0 \xe2\x81\xa6E\nfirst 7 0 \xe2\x81\xa5F\nmean 7.00\nequal 0\nlook same name 1 3\n\
+look similar name 1 2\nlook similar name 2 3\nlook name is not UTF-8 4\n\
+look name has a directional mark 5\nlook name has a directional mark 6\n";
+    says(&rt, rt.alloc(), file, text)
+}
+
+// One runs for one seat; then two candidates have three seats. Lines with equal rankings and other counts are equal.
+#[test]
+fn seats_and_lines_want_a_look(rt: HostRuntime) -> Result<(), Fail> {
+    let file = b"2 1\n-1\n1 1 0\n3 0\n7 1 0\n2 0\n0\n\"A\"\n\"B\"\n\"\"\n";
+    let text = b"ballots 13\nlines 4\nempty 5\ncandidates 2\nseats 1\nwithdrawn 1\ntitle \n\
+first 1 8 A\nfirst 2 0 B\nmean 0.61\nequal 2\nlook a seat for everybody who runs\nlook on no ballot 2\n\
+look ballots with withdrawn candidates 8\n";
+    says(&rt, rt.alloc(), file, text)?;
+    let file = b"2 3\n1 2 1 0\n0\n\"A\"\n\"B\"\n\"T\"\n";
+    let text = b"ballots 1\nlines 1\nempty 0\ncandidates 2\nseats 3\nwithdrawn none\ntitle T\n\
+first 1 0 A\nfirst 2 1 B\nmean 2.00\nequal 0\nlook more seats than candidates\n\
+look a seat for everybody who runs\n";
+    says(&rt, rt.alloc(), file, text)
+}
+
+#[test]
+fn a_word_is_refused_and_so_is_what_is_no_file(rt: HostRuntime) -> Result<(), Fail> {
+    let word = (End::BadWords, b"refused BadWords\n".as_slice());
+    ends(&rt, rt.alloc(), ("x", FILE), (&[], &[]), word)?;
+    let wrong = End::BadInput(InputFault::new(FaultKind::Repeated, 10));
+    let line = b"refused Repeated at 10\n";
+    ends(
+        &rt,
+        rt.alloc(),
+        ("", b"2 1\n3 1\n2 1 0\n0\n"),
+        (&[], &[]),
+        (wrong, line),
+    )
+}
+
+#[test]
+fn a_read_or_a_write_that_fails_is_a_fault(rt: HostRuntime) -> Result<(), Fail> {
+    ends(
+        &rt,
+        rt.alloc(),
+        ("", FILE),
+        (&[2], &[]),
+        (End::SourceFault, b""),
+    )?;
+    ends(
+        &rt,
+        rt.alloc(),
+        ("", FILE),
+        (&[], &[1]),
+        (End::SinkFault, b""),
+    )
+}
