@@ -24,6 +24,7 @@ mod reader;
 mod record_stop;
 mod row;
 mod row_cells;
+mod rows;
 mod sheet;
 mod table_kind;
 mod table_stop;

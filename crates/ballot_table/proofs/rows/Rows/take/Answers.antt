@@ -5,7 +5,7 @@ use Rattle.ballot_table.specs.Ranks.{asked_ranks}
 use Rattle.ballot_table.specs.Refusals.{whole_fault}
 use Rattle.ballot_table.specs.Sheets.{row_at}
 use Rattle.ballot_table.proofs.LeftLemmas.{is_stop}
-use Rattle.ballot_table.proofs.reader.take_row.Goals as goal
+use Rattle.ballot_table.proofs.rows.Rows.take.Goals as goal
 
 pub returns-in-Err-Fault-clause-stop : goal.returns-in-Err-Fault-clause-stop
 returns-in-Err-Fault-clause-stop c =
@@ -14,5 +14,5 @@ returns-in-Err-Fault-clause-stop c =
     let is = rw c.in-Err-Fault.field-0-is at c.in-Err-Fault.ensures.stop in
     is_stop _ c.stop_at.result
     (ap (λ (ts : List (List ℕ)). option_map (stop_at row)
-    (whole_fault (asked_ranks a) a.treatment a.empty c.args.room c.args.columns.now ts)) (sym c.texts.ensures)
+    (whole_fault (asked_ranks a) a.treatment a.empty c.args.self.now.room c.args.columns.now ts)) (sym c.texts.ensures)
     ∙ ap (option_map (stop_at row)) is ∙ ap Some (sym c.stop_at.ensures))

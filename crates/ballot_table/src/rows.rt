@@ -1,0 +1,102 @@
+// The rows of a table, one after another.
+ghost use Rattle.std.specs.Prelude.{◌≡◌, ◌≤◌, ◌-◌, ◌++◌, None, Err, [], sum_by, replicate, OnOk, OnErr, IfErr};
+ghost use Rattle.std.specs.Option.{option_map};
+ghost use Rattle.plain_ballots.specs.declared.limits.TheConstants.{MOST_BALLOTS};
+ghost use Rattle.plain_ballots.specs.Ballots.{plain};
+ghost use Rattle.plain_ballots.specs.Ranking.{IsRanking};
+ghost use Rattle.ballot_table.specs.Imported.{IsTableStop, stop_at};
+ghost use Rattle.ballot_table.specs.Left.{IsAdded};
+ghost use Rattle.ballot_table.specs.Ranks.{asked_ranks, candidates_at, AreOfRanks};
+ghost use Rattle.ballot_table.specs.Refusals.{whole_fault};
+ghost use Rattle.ballot_table.specs.Rows.{row_of, weight_at};
+ghost use Rattle.ballot_table.specs.Sheets.{row_at};
+
+use crate::record_stop::RecordStop;
+use crate::row::{JudgedRow, read_row};
+use crate::sheet::{Place, Sheet};
+use crate::{Column, RanksAsked, TableStop};
+use ballot_marks::Marks;
+use plain_ballots::{BallotLine, Ballots, LineStop, MOST_BALLOTS};
+use std::alloc::Global;
+
+/// What the rows of a table have come to so far.
+#[derive(Drop)]
+pub(crate) struct Rows {
+    /// So many more ballots have room.
+    pub room: u32,
+    pub ballots: Ballots,
+    marks: Marks,
+}
+
+impl Rows {
+    /// No row yet.
+    pub fn new(alloc: Global, candidates: u32) -> Rows
+        ensures room { result.room ≡ MOST_BALLOTS }
+        ensures ballots { result.ballots ≡ record { candidates = candidates; lines = [] } }
+    {
+        Rows {
+            room: MOST_BALLOTS,
+            ballots: Ballots::new(alloc, candidates),
+            marks: Marks::new(alloc),
+        }
+    }
+
+    /// Adds the ballots of the row at a place of a sheet.
+    pub fn take(
+        &mut self,
+        alloc: Global,
+        asked: &RanksAsked,
+        columns: &[Column],
+        sheet: &Sheet<'_>,
+        place: Place,
+    ) -> Result<(), TableStop>
+        requires room { self.old.room ≤ MOST_BALLOTS }
+        requires columns { AreOfRanks columns.now }
+        requires candidates { sum_by candidates_at columns.now ≡ self.old.ballots.candidates }
+        ensures stop { IfErr result (IsTableStop (option_map (stop_at (row_at sheet.now place))
+            (whole_fault (asked_ranks asked.now) asked.now.treatment asked.now.empty self.old.room columns.now sheet.now.texts))) }
+        ensures sound { OnOk result (whole_fault (asked_ranks asked.now) asked.now.treatment asked.now.empty self.old.room
+            columns.now sheet.now.texts ≡ None) }
+        ensures room { OnOk result (self.new.room ≡ self.old.room - weight_at columns.now sheet.now.texts) }
+        ensures candidates { OnOk result (self.new.ballots.candidates ≡ self.old.ballots.candidates) }
+        ensures added { OnOk result (IsAdded asked.now.treatment
+            (row_of (asked_ranks asked.now) asked.now.empty self.old.room columns.now sheet.now.texts) self.old.ballots self.new.ballots) }
+    {
+        match read_row(
+            alloc,
+            asked,
+            self.room,
+            columns,
+            sheet.texts(),
+            &mut self.marks,
+        ) {
+            Ok(Some(row)) => {
+                self.room = self.room.saturating_sub(row.weight);
+                push_row(&mut self.ballots, row)
+            }
+            Ok(None) => Ok(()),
+            Err(RecordStop::Fault(fault)) => Err(sheet.stop_at(place, fault)),
+            Err(RecordStop::NoMemory) => Err(TableStop::NoMemory),
+        }
+    }
+}
+
+/// Adds a row's ballots as one line, where it stands for any.
+fn push_row(ballots: &mut Ballots, row: JudgedRow) -> Result<(), TableStop>
+    requires { IsRanking ballots.old.candidates row.treated.ranking }
+    ensures added { OnOk result (plain ballots.new.lines ≡ plain ballots.old.lines ++ replicate row.count row.treated.ranking) }
+    ensures candidates { OnOk result (ballots.new.candidates ≡ ballots.old.candidates) }
+    ensures memory { OnErr result (result ≡ Err TableStop.NoMemory) }
+{
+    if row.count == 0 {
+        return Ok(());
+    }
+    let line = BallotLine {
+        count: row.count,
+        ranking: row.treated.ranking,
+    };
+    match ballots.push_line(line) {
+        Ok(()) => Ok(()),
+        Err(LineStop::TooMany(_)) | Err(LineStop::NoMemory(_)) => Err(TableStop::NoMemory),
+    }
+}
