@@ -10,20 +10,20 @@ use Rattle.table_text.specs.Reading as text
 use Rattle.table_text.specs.declared.text_fault.TextFault.{TextFault}
 use Rattle.ballot_table.specs.declared.column.Column.{Column}
 use Rattle.ballot_table.specs.declared.fault.Fault.{Fault}
-use Rattle.ballot_table.specs.declared.ranks_asked.RanksAsked.{RanksAsked}
+use Rattle.ballot_table.specs.declared.table_asked.TableAsked.{TableAsked}
 use Rattle.ballot_table.specs.declared.table_stop.TableStop.{TableStop}
 use Rattle.ballot_table.specs.declared.table_stop.TableStop.TheVariants as stop
 use Rattle.ballot_table.specs.Imported.{texts_in, stops, stop_at, text_stop, IsTableStop}
 use Rattle.ballot_table.specs.Left.{faults_left, stop_left, ballots_left, IsAdded}
-use Rattle.ballot_table.specs.Ranks.{asked_ranks}
+use Rattle.ballot_table.specs.Asked.{asked_of}
 use Rattle.ballot_table.specs.Refusals.{whole_fault}
 use Rattle.ballot_table.specs.Rows.{Row, weight_at, row_of}
 use Rattle.ballot_table.specs.Table.{ballots}
 use Rattle.ballot_table.proofs.BallotsLemmas.{joined}
 
-module _ (a : RanksAsked) (cols : List Column) (room : ℕ) (row : text.Row) (rest : text.Reading) where
+module _ (a : TableAsked) (cols : List Column) (room : ℕ) (row : text.Row) (rest : text.Reading) where
   abbrev fault_is : Option Fault
-  fault_is = whole_fault (asked_ranks a) a.treatment a.empty room cols (texts_in row)
+  fault_is = whole_fault (asked_of a) a.treatment a.empty room cols (texts_in row)
 
   abbrev after : List text.Row → Option Fault → Option TableStop
   after rows o = option_or
@@ -32,12 +32,12 @@ module _ (a : RanksAsked) (cols : List Column) (room : ℕ) (row : text.Row) (re
       (text_stop rest.ending)
 
   -- a row without a fault leaves the first fault to those behind it
-  pub stop_none : whole_fault (asked_ranks a) a.treatment a.empty room cols (texts_in row) ≡ None
+  pub stop_none : whole_fault (asked_of a) a.treatment a.empty room cols (texts_in row) ≡ None
       → stop_left a cols room (text.with_row row rest) ≡ stop_left a cols (room - weight_at cols (texts_in row)) rest
   stop_none none = ap (after rest.rows) none
 
   pub stopped : (found : TableStop)
-      → option_map (stop_at row) (whole_fault (asked_ranks a) a.treatment a.empty room cols (texts_in row)) ≡ Some found
+      → option_map (stop_at row) (whole_fault (asked_of a) a.treatment a.empty room cols (texts_in row)) ≡ Some found
       → stop_left a cols room (text.with_row row rest) ≡ Some found
   stopped found some =
       ap (λ (o : Option TableStop). option_or
@@ -62,14 +62,14 @@ module _ (a : RanksAsked) (cols : List Column) (room : ℕ) (row : text.Row) (re
 
   -- a row's ballots are the first of those that are left
   pub ballots_more : (old new : BallotList)
-      → IsAdded a.treatment (row_of (asked_ranks a) a.empty room cols (texts_in row)) old new
+      → IsAdded a.treatment (row_of (asked_of a) a.empty room cols (texts_in row)) old new
       → joined (Some (plain old.lines)) (ballots_left a cols room (text.with_row row rest).rows)
       ≡ joined (Some (plain new.lines)) (ballots_left a cols (room - weight_at cols (texts_in row)) rest.rows)
   ballots_more old new is =
-      added (row_of (asked_ranks a) a.empty room cols (texts_in row)) old new _ is
+      added (row_of (asked_of a) a.empty room cols (texts_in row)) old new _ is
 
 -- Rows were taken in up to what is left.
-pub record IsGoing (a : RanksAsked) (cols : List Column) (all : text.Reading) (room : ℕ) (left : text.Reading)
+pub record IsGoing (a : TableAsked) (cols : List Column) (all : text.Reading) (room : ℕ) (left : text.Reading)
     (taken : BallotList) : Type 0 where
   pub stop : stop_left a cols MOST_BALLOTS all ≡ stop_left a cols room left
   pub ballots_are :
@@ -81,7 +81,7 @@ same_joined : (o : Option (List (List ℕ))) → o ≡ joined (Some []) o
 same_joined None = refl
 same_joined (Some ys) = refl
 
-pub going_begun : (a : RanksAsked) (cols : List Column) (all : text.Reading) (taken : BallotList) → taken.lines ≡ []
+pub going_begun : (a : TableAsked) (cols : List Column) (all : text.Reading) (taken : BallotList) → taken.lines ≡ []
     → IsGoing a cols all MOST_BALLOTS all taken
 going_begun a cols all taken none = record {
   stop = refl;
@@ -91,14 +91,14 @@ going_begun a cols all taken none = record {
   room_is = omega arith;
 }
 
-module _ (a : RanksAsked) (cols : List Column) (all : text.Reading) (room : ℕ) (left : text.Reading) (taken : BallotList)
+module _ (a : TableAsked) (cols : List Column) (all : text.Reading) (room : ℕ) (left : text.Reading) (taken : BallotList)
     (going : IsGoing a cols all room left taken)
   where
     pub going_more : (row : text.Row) (rest : text.Reading) (texts : List (List ℕ)) (room' : ℕ) (new : BallotList)
         → left ≡ text.with_row row rest → texts ≡ texts_in row
-        → whole_fault (asked_ranks a) a.treatment a.empty room cols texts ≡ None
+        → whole_fault (asked_of a) a.treatment a.empty room cols texts ≡ None
         → room' ≡ room - weight_at cols texts
-        → IsAdded a.treatment (row_of (asked_ranks a) a.empty room cols texts) taken new
+        → IsAdded a.treatment (row_of (asked_of a) a.empty room cols texts) taken new
         → IsGoing a cols all room' rest new
     going_more row rest texts room' new left_is texts_are none room_is is =
         let same = ap (λ (ts : List (List ℕ)). room - weight_at cols ts) texts_are in
@@ -107,27 +107,27 @@ module _ (a : RanksAsked) (cols : List Column) (all : text.Reading) (room : ℕ)
           stop =
               going.stop ∙ ap (stop_left a cols room) left_is
               ∙ stop_none a cols room row rest
-              (sym (ap (whole_fault (asked_ranks a) a.treatment a.empty room cols) texts_are) ∙ none)
+              (sym (ap (whole_fault (asked_of a) a.treatment a.empty room cols) texts_are) ∙ none)
               ∙ ap (λ (n : ℕ). stop_left a cols n rest) next;
           ballots_are =
               going.ballots_are
               ∙ ap (λ (r : text.Reading). joined (Some (plain taken.lines)) (ballots_left a cols room r.rows)) left_is
               ∙ ballots_more a cols room row rest taken new
               (subst (λ (ts : List (List ℕ)). IsAdded a.treatment
-              (row_of (asked_ranks a) a.empty room cols ts) taken new) texts_are is)
+              (row_of (asked_of a) a.empty room cols ts) taken new) texts_are is)
               ∙ ap (λ (n : ℕ). joined (Some (plain new.lines)) (ballots_left a cols n rest.rows)) next;
           room_is = let bound = going.room_is in omega (arith, bound, room_is);
         }
 
     pub going_stop : (row : text.Row) (rest : text.Reading) (texts : List (List ℕ)) (found : TableStop)
         → left ≡ text.with_row row rest → texts ≡ texts_in row
-        → option_map (stop_at row) (whole_fault (asked_ranks a) a.treatment a.empty room cols texts) ≡ Some found
+        → option_map (stop_at row) (whole_fault (asked_of a) a.treatment a.empty room cols texts) ≡ Some found
         → stop_left a cols MOST_BALLOTS all ≡ Some found
     going_stop row rest texts found left_is texts_are some =
         going.stop ∙ ap (stop_left a cols room) left_is
         ∙ stopped a cols room row rest found
         (sym (ap (λ (ts : List (List ℕ)). option_map (stop_at row)
-        (whole_fault (asked_ranks a) a.treatment a.empty room cols ts)) texts_are) ∙ some)
+        (whole_fault (asked_of a) a.treatment a.empty room cols ts)) texts_are) ∙ some)
 
     pub going_text : (fault : TextFault) → left ≡ text.ends (text.AtFault fault)
         → stop_left a cols MOST_BALLOTS all ≡ Some (stop.Text fault)

@@ -8,10 +8,10 @@ use Rattle.ballot_marks.specs.Ballot.{ranked}
 use Rattle.table_text.specs.Reading as text
 use Rattle.ballot_table.specs.declared.column.Column.{Column}
 use Rattle.ballot_table.specs.declared.fault.Fault.{Fault}
-use Rattle.ballot_table.specs.declared.ranks_asked.RanksAsked.{RanksAsked}
+use Rattle.ballot_table.specs.declared.table_asked.TableAsked.{TableAsked}
 use Rattle.ballot_table.specs.declared.table_stop.TableStop.{TableStop}
 use Rattle.ballot_table.specs.Imported.{texts_in, stops, text_stop}
-use Rattle.ballot_table.specs.Ranks.{asked_ranks}
+use Rattle.ballot_table.specs.Asked.{asked_of}
 use Rattle.ballot_table.specs.Refusals.{whole_fault}
 use Rattle.ballot_table.specs.Rows.{Row, weight_at, row_of}
 use Rattle.ballot_table.specs.Table.{ballots}
@@ -22,20 +22,20 @@ rooms cols room [] = []
 rooms cols room (row ∷ rows) = (room, row) ∷ rooms cols (room - weight_at cols row) rows
 
 -- the faults of rows for which there is so much room
-abbrev pub faults_left : RanksAsked → List Column → (room : ℕ) → List text.Row → List (Option Fault)
+abbrev pub faults_left : TableAsked → List Column → (room : ℕ) → List text.Row → List (Option Fault)
 faults_left asked cols room rows =
-    map (λ r. whole_fault (asked_ranks asked) asked.treatment asked.empty r.0 cols r.1) (rooms cols room (map texts_in rows))
+    map (λ r. whole_fault (asked_of asked) asked.treatment asked.empty r.0 cols r.1) (rooms cols room (map texts_in rows))
 
 -- the first fault of what is still to come, if it has one
-abbrev pub stop_left : RanksAsked → List Column → (room : ℕ) → text.Reading → Option TableStop
+abbrev pub stop_left : TableAsked → List Column → (room : ℕ) → text.Reading → Option TableStop
 stop_left asked cols room reading =
     option_or (slice_get (stops reading.rows (faults_left asked cols room reading.rows)) 0) (text_stop reading.ending)
 
 -- the ballots of rows for which there is so much room
-abbrev pub ballots_left : RanksAsked → List Column → (room : ℕ) → List text.Row → Option (List (List ℕ))
+abbrev pub ballots_left : TableAsked → List Column → (room : ℕ) → List text.Row → Option (List (List ℕ))
 ballots_left asked cols room rows =
     ballots asked.treatment
-    (filter_map (λ r. row_of (asked_ranks asked) asked.empty r.0 cols r.1) (rooms cols room (map texts_in rows)))
+    (filter_map (λ r. row_of (asked_of asked) asked.empty r.0 cols r.1) (rooms cols room (map texts_in rows)))
 
 -- a row's ranking is added as often as it stands for ballots
 pub record IsAddedRow (treatment : Treatment) (row : Row) (old new : BallotList) : Type 0 where

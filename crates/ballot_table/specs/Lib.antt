@@ -6,7 +6,8 @@ pub mod Head
 pub mod Cells
 pub mod Rows
 pub mod Held
-pub mod Ranks
+pub mod Said
+pub mod Finding
 pub mod Table
 pub mod Refusals
 pub mod JudgedRows

@@ -4,7 +4,8 @@ use Rattle.table_text.specs.declared.text_kind.TextKind.{TextKind}
 use Rattle.table_text.specs.declared.text_kind.TextKind.TheVariants.{Ended, UnclearSeparator}
 use Rattle.ballot_marks.specs.Laws.{strict}
 use Rattle.ballot_table.specs.declared.empty.Empty.TheVariants.{Refuse}
-use Rattle.ballot_table.specs.declared.ranks_asked.RanksAsked.{RanksAsked}
+use Rattle.ballot_table.specs.declared.table_asked.TableAsked.{TableAsked}
+use Rattle.ballot_table.specs.declared.layout.Layout.TheVariants.{Ranks}
 use Rattle.ballot_table.specs.declared.table_kind.TableKind.{TableKind}
 use Rattle.ballot_table.specs.declared.table_kind.TableKind.TheVariants.{BadRank, UnequalRow, EqualRank}
 use Rattle.ballot_table.specs.declared.table_kind.TableKind.TheVariants.{NameExpected, ColumnExpected, BadWithdrawn}
@@ -13,14 +14,17 @@ use Rattle.ballot_table.specs.declared.table_stop.TableStop.TheVariants as stop
 use Rattle.ballot_table.specs.Imported.{refusal}
 
 -- nothing is asked but a column for each candidate
-abbrev pub plain_ranks : RanksAsked
+abbrev pub plain_ranks : TableAsked
 plain_ranks = record {
+  layout = Ranks;
   separator = None;
   bracketed = false;
   labels = [];
   weight = None;
   blank = [];
+  over = [];
   ranks = [];
+  candidates = [];
   withdrawn = [];
   empty = Refuse;
   treatment = strict;

@@ -1,22 +1,24 @@
 // The reader of tables.
-ghost use Rattle.std.specs.Prelude.{◌≡◌, Some, None, Ok, sum_by, OnOk, IfOk, IfErr};
-ghost use Rattle.plain_ballots.specs.declared.limits.TheConstants.{MOST_BALLOTS};
+ghost use Rattle.std.specs.Prelude.{◌≡◌, ◌≤◌, Some, None, Ok, length, sum_by, OnOk, IfOk, IfErr};
+ghost use Rattle.plain_ballots.specs.declared.limits.TheConstants.{MOST_BALLOTS, MOST_CANDIDATES};
 ghost use Rattle.plain_ballots.specs.Ballots.{plain};
 ghost use Rattle.ballot_table.specs.Imported.{IsImported, IsTableStop, refusal, separator};
 ghost use Rattle.ballot_table.specs.Left.{stop_left, ballots_left};
-ghost use Rattle.ballot_table.specs.Ranks.{candidates_at, AreOfRanks};
+ghost use Rattle.ballot_table.specs.Asked.{asked_of};
+ghost use Rattle.ballot_table.specs.Finding.{candidates_at, candidates_in};
 
 use crate::head::{Head, names};
 use crate::record_stop::RecordStop;
 use crate::rows::Rows;
 use crate::sheet::Sheet;
-use crate::{Imported, RanksAsked, TableStop};
+use crate::{Imported, TableAsked, TableStop};
 use plain_ballots::Ballots;
 use std::alloc::Global;
 use table_text::find_separator;
 
-/// The ballots of a table that has a column for each candidate, or why it is refused.
-pub fn read_ranks(alloc: Global, asked: &RanksAsked, bytes: &[u8]) -> Result<Imported, TableStop>
+/// The ballots of a table, or why it is refused.
+pub fn read_table(alloc: Global, asked: &TableAsked, bytes: &[u8]) -> Result<Imported, TableStop>
+    requires names { length asked.now.candidates ≤ MOST_CANDIDATES }
     ensures imported { IfOk result (IsImported asked.now bytes.now) }
     ensures sound { OnOk result (refusal asked.now bytes.now ≡ None) }
     ensures stop { IfErr result (IsTableStop (refusal asked.now bytes.now)) }
@@ -45,7 +47,7 @@ pub fn read_ranks(alloc: Global, asked: &RanksAsked, bytes: &[u8]) -> Result<Imp
     }
 }
 
-fn separator(asked: &RanksAsked, bytes: &[u8]) -> Result<u8, TableStop>
+fn separator(asked: &TableAsked, bytes: &[u8]) -> Result<u8, TableStop>
     ensures byte { IfOk result (λ byte. separator asked.now.separator bytes.now ≡ Ok byte) }
     ensures stop { IfErr result (λ stop. refusal asked.now bytes.now ≡ Some stop) }
 {
@@ -61,12 +63,13 @@ fn separator(asked: &RanksAsked, bytes: &[u8]) -> Result<u8, TableStop>
 // The ballots of the rows that are still to come.
 fn read_rows(
     alloc: Global,
-    asked: &RanksAsked,
+    asked: &TableAsked,
     head: &Head,
     sheet: &mut Sheet<'_>,
 ) -> Result<Ballots, TableStop>
-    requires columns { AreOfRanks head.now.columns.items }
-    requires candidates { sum_by candidates_at head.now.columns.items ≡ head.now.candidates }
+    requires names { length asked.now.candidates ≤ MOST_CANDIDATES }
+    requires few { sum_by candidates_at head.now.columns.items ≤ MOST_CANDIDATES }
+    requires candidates { candidates_in (asked_of asked.now) head.now.columns.items ≡ head.now.candidates }
     ensures stop { IfErr result (IsTableStop (stop_left asked.now head.now.columns.items MOST_BALLOTS sheet.old.records.rest)) }
     ensures sound { OnOk result (stop_left asked.now head.now.columns.items MOST_BALLOTS sheet.old.records.rest ≡ None) }
     ensures candidates { IfOk result (λ ballots. ballots.candidates ≡ head.now.candidates) }

@@ -1,21 +1,22 @@
 // The rows of a table, one after another.
-ghost use Rattle.std.specs.Prelude.{◌≡◌, ◌≤◌, ◌-◌, ◌++◌, None, Err, [], sum_by, replicate, OnOk, OnErr, IfErr};
+ghost use Rattle.std.specs.Prelude.{◌≡◌, ◌≤◌, ◌-◌, ◌++◌, None, Err, [], length, sum_by, replicate, OnOk, OnErr, IfErr};
 ghost use Rattle.std.specs.Option.{option_map};
-ghost use Rattle.plain_ballots.specs.declared.limits.TheConstants.{MOST_BALLOTS};
+ghost use Rattle.plain_ballots.specs.declared.limits.TheConstants.{MOST_BALLOTS, MOST_CANDIDATES};
 ghost use Rattle.plain_ballots.specs.Ballots.{plain};
 ghost use Rattle.plain_ballots.specs.Ranking.{IsRanking};
 ghost use Rattle.ballot_table.specs.Imported.{IsTableStop, stop_at};
 ghost use Rattle.ballot_table.specs.Left.{IsAdded};
-ghost use Rattle.ballot_table.specs.Ranks.{asked_ranks, candidates_at, AreOfRanks};
+ghost use Rattle.ballot_table.specs.Asked.{asked_of};
+ghost use Rattle.ballot_table.specs.Finding.{candidates_at, candidates_in};
 ghost use Rattle.ballot_table.specs.Refusals.{whole_fault};
 ghost use Rattle.ballot_table.specs.Rows.{row_of, weight_at};
 ghost use Rattle.ballot_table.specs.Sheets.{row_at};
 
 use crate::record_stop::RecordStop;
 use crate::row::{JudgedRow, read_row};
+use crate::row_cells::RowCells;
 use crate::sheet::{Place, Sheet};
-use crate::{Column, RanksAsked, TableStop};
-use ballot_marks::Marks;
+use crate::{Column, TableAsked, TableStop};
 use plain_ballots::{BallotLine, Ballots, LineStop, MOST_BALLOTS};
 use std::alloc::Global;
 
@@ -25,7 +26,7 @@ pub(crate) struct Rows {
     /// So many more ballots have room.
     pub room: u32,
     pub ballots: Ballots,
-    marks: Marks,
+    cells: RowCells,
 }
 
 impl Rows {
@@ -37,7 +38,7 @@ impl Rows {
         Rows {
             room: MOST_BALLOTS,
             ballots: Ballots::new(alloc, candidates),
-            marks: Marks::new(alloc),
+            cells: RowCells::new(alloc),
         }
     }
 
@@ -45,22 +46,23 @@ impl Rows {
     pub fn take(
         &mut self,
         alloc: Global,
-        asked: &RanksAsked,
+        asked: &TableAsked,
         columns: &[Column],
         sheet: &Sheet<'_>,
         place: Place,
     ) -> Result<(), TableStop>
         requires room { self.old.room ≤ MOST_BALLOTS }
-        requires columns { AreOfRanks columns.now }
-        requires candidates { sum_by candidates_at columns.now ≡ self.old.ballots.candidates }
+        requires names { length asked.now.candidates ≤ MOST_CANDIDATES }
+        requires few { sum_by candidates_at columns.now ≤ MOST_CANDIDATES }
+        requires candidates { candidates_in (asked_of asked.now) columns.now ≡ self.old.ballots.candidates }
         ensures stop { IfErr result (IsTableStop (option_map (stop_at (row_at sheet.now place))
-            (whole_fault (asked_ranks asked.now) asked.now.treatment asked.now.empty self.old.room columns.now sheet.now.texts))) }
-        ensures sound { OnOk result (whole_fault (asked_ranks asked.now) asked.now.treatment asked.now.empty self.old.room
+            (whole_fault (asked_of asked.now) asked.now.treatment asked.now.empty self.old.room columns.now sheet.now.texts))) }
+        ensures sound { OnOk result (whole_fault (asked_of asked.now) asked.now.treatment asked.now.empty self.old.room
             columns.now sheet.now.texts ≡ None) }
         ensures room { OnOk result (self.new.room ≡ self.old.room - weight_at columns.now sheet.now.texts) }
         ensures candidates { OnOk result (self.new.ballots.candidates ≡ self.old.ballots.candidates) }
         ensures added { OnOk result (IsAdded asked.now.treatment
-            (row_of (asked_ranks asked.now) asked.now.empty self.old.room columns.now sheet.now.texts) self.old.ballots self.new.ballots) }
+            (row_of (asked_of asked.now) asked.now.empty self.old.room columns.now sheet.now.texts) self.old.ballots self.new.ballots) }
     {
         match read_row(
             alloc,
@@ -68,7 +70,7 @@ impl Rows {
             self.room,
             columns,
             sheet.texts(),
-            &mut self.marks,
+            &mut self.cells,
         ) {
             Ok(Some(row)) => {
                 self.room = self.room.saturating_sub(row.weight);

@@ -4,7 +4,7 @@ use Rattle.plain_ballots.specs.declared.limits.TheConstants.{MOST_BALLOTS}
 use Rattle.ballot_table.specs.declared.column.Column.{Column}
 use Rattle.ballot_table.specs.Imported.{stop_at, IsTableStop}
 use Rattle.ballot_table.specs.Left.{stop_left}
-use Rattle.ballot_table.specs.Ranks.{asked_ranks}
+use Rattle.ballot_table.specs.Asked.{asked_of}
 use Rattle.ballot_table.specs.Refusals.{whole_fault}
 use Rattle.ballot_table.specs.Sheets.{row_at}
 use Rattle.ballot_table.proofs.LeftLemmas.{IsGoing, going_more, going_stop, same_stop}
@@ -44,7 +44,7 @@ returns-in-Err-take-clause-stop c =
     l.invariant.going in
     let found = c.in-Err-take.stop in
     subst (λ (cs : List Column). IsTableStop (stop_left a cs MOST_BALLOTS all) found) same
-    (same_stop (option_map (stop_at row) (whole_fault (asked_ranks a) a.treatment a.empty l.taken.room cols new.texts))
+    (same_stop (option_map (stop_at row) (whole_fault (asked_of a) a.treatment a.empty l.taken.room cols new.texts))
     (stop_left a cols MOST_BALLOTS all) found
     (going_stop a cols all l.taken.room l.sheet.records.rest l.taken.ballots going row new.records.rest new.texts found
     turned.rest turned.texts)

@@ -1,7 +1,7 @@
 use Rattle.std.proofs.Common.{ℕ, List, Some, sym, ap, ◌∙◌}
 use Rattle.std.specs.Option.{option_map}
 use Rattle.ballot_table.specs.Imported.{stop_at}
-use Rattle.ballot_table.specs.Ranks.{asked_ranks}
+use Rattle.ballot_table.specs.Asked.{asked_of}
 use Rattle.ballot_table.specs.Refusals.{whole_fault}
 use Rattle.ballot_table.specs.Sheets.{row_at}
 use Rattle.ballot_table.proofs.LeftLemmas.{is_stop}
@@ -14,5 +14,5 @@ returns-in-Err-Fault-clause-stop c =
     let is = rw c.in-Err-Fault.field-0-is at c.in-Err-Fault.ensures.stop in
     is_stop _ c.stop_at.result
     (ap (λ (ts : List (List ℕ)). option_map (stop_at row)
-    (whole_fault (asked_ranks a) a.treatment a.empty c.args.self.now.room c.args.columns.now ts)) (sym c.texts.ensures)
+    (whole_fault (asked_of a) a.treatment a.empty c.args.self.now.room c.args.columns.now ts)) (sym c.texts.ensures)
     ∙ ap (option_map (stop_at row)) is ∙ ap Some (sym c.stop_at.ensures))

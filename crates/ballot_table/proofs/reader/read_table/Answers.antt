@@ -1,14 +1,13 @@
 use Rattle.std.proofs.Common.{ℕ, List, Some, sym, ap, ◌∙◌, length}
-use Rattle.std.proofs.lemmas.List.{length-map}
 use Rattle.plain_ballots.specs.declared.limits.TheConstants.{MOST_BALLOTS}
-use Rattle.ballot_table.specs.Head.{name_of, names_of, unlabelled}
+use Rattle.ballot_table.specs.Head.{names_of}
 use Rattle.ballot_table.specs.Imported.{refusal}
 use Rattle.ballot_table.specs.Left.{stop_left}
-use Rattle.ballot_table.specs.Ranks.{asked_ranks}
+use Rattle.ballot_table.specs.Asked.{asked_of}
 use Rattle.ballot_table.specs.Sheets.{row_at}
 use Rattle.ballot_table.proofs.LeftLemmas.{is_stop, same_stop}
 use Rattle.ballot_table.proofs.TableLemmas.{refused_head, refused_left, same_ballots}
-use Rattle.ballot_table.proofs.reader.read_ranks.Goals as goal
+use Rattle.ballot_table.proofs.reader.read_table.Goals as goal
 
 pub returns-in-Err-Fault-clause-stop : goal.returns-in-Err-Fault-clause-stop
 returns-in-Err-Fault-clause-stop c =
@@ -46,19 +45,18 @@ returns-in-Ok-read_rows-clause-imported c =
     let read = sym c.new-sheet.ensures ∙ turned.rest in
     let texts_are = c.texts.ensures ∙ turned.texts in
     let head = c.in-Ok-read in
-    let names = c.in-Ok-names.ensures ∙ ap (names_of (asked_ranks a)) c.texts-2.ensures in
-    let counted = length-map (unlabelled (asked_ranks a) c.next.new.self.texts) (name_of (asked_ranks a)) in
+    let names = c.in-Ok-names.ensures ∙ ap (names_of (asked_of a)) c.texts-2.ensures in
     record {
       byte = c.in-Ok.separator;
       separated = c.in-Ok.ensures.byte;
       head = row;
       below = rest.rows;
       records = ap (λ r. r.rows) read;
-      names = names ∙ ap (names_of (asked_ranks a)) turned.texts;
+      names = names ∙ ap (names_of (asked_of a)) turned.texts;
       candidates =
-          c.in-Ok-read_rows.ensures.candidates ∙ head.ensures.head.candidates
-          ∙ ap (λ (ts : List (List ℕ)). length (unlabelled (asked_ranks a) ts)) c.texts.ensures
-          ∙ sym counted ∙ sym (ap (λ (ns : List (List ℕ)). length ns) names);
+          c.in-Ok-read_rows.ensures.candidates ∙ head.ensures.head.names
+          ∙ ap (λ (ts : List (List ℕ)). length (names_of (asked_of a) ts)) (c.texts.ensures ∙ turned.texts)
+          ∙ sym (ap (λ (ns : List (List ℕ)). length ns) (names ∙ ap (names_of (asked_of a)) turned.texts));
       ballots_are =
           same_ballots a c.args.bytes.now c.in-Ok.separator c.in-Ok.ensures.byte row rest read c.texts.result.now texts_are
           head.head.columns.items head.ensures.head.columns_are
