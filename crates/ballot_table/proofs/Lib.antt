@@ -22,4 +22,5 @@ mod HeldLemmas
 mod NumberLemmas
 mod RowLemmas
 mod TableLemmas
+mod TallyLemmas
 mod WithinLemmas

@@ -16,7 +16,8 @@ use Rattle.ballot_table.specs.declared.table_stop.TableStop.{TableStop}
 use Rattle.ballot_table.specs.declared.table_stop.TableStop.TheVariants as stop
 use Rattle.ballot_table.specs.Head.{head_fault, columns}
 use Rattle.ballot_table.specs.Imported.{texts_in, stops, stop_at, text_stop, separator, stop_by, reading_stop, refusal}
-use Rattle.ballot_table.specs.Left.{rooms, stop_left, ballots_left}
+use Rattle.ballot_table.specs.Left.{rooms, stop_left, ballots_left, tally_left}
+use Rattle.ballot_table.specs.Report.{tally_of}
 use Rattle.ballot_table.specs.Asked.{asked_of}
 use Rattle.ballot_table.specs.Refusals.{whole_fault}
 use Rattle.ballot_table.specs.Rows.{weight_at, row_of, with_room, room_behind}
@@ -108,3 +109,13 @@ module _ (a : TableAsked) (bytes : List ℕ) (byte : ℕ) (separated : separator
           (filter_map (λ (r : ℕ × List (List ℕ)). row_of (asked_of a) a.empty r.0 cols r.1) rs)) (with_room_is cols below)
           ∙ ap (λ (cs : List Column). ballots_left a cs MOST_BALLOTS rest.rows)
           (sym (found_are ∙ ap (columns (asked_of a)) texts_are))
+
+      pub same_tally : (found : List Column) → found ≡ columns (asked_of a) texts
+          → tally_left a found MOST_BALLOTS rest.rows
+          ≡ tally_of a.treatment a.empty (map texts_in rest.rows)
+          (rows_of (asked_of a) a.empty (columns (asked_of a) (texts_in head)) (map texts_in rest.rows))
+      same_tally found found_are =
+          ap (λ (cs : List Column). tally_left a cs MOST_BALLOTS rest.rows)
+          (found_are ∙ ap (columns (asked_of a)) texts_are)
+          ∙ sym (ap (λ (rs : List (ℕ × List (List ℕ))). tally_of a.treatment a.empty (map texts_in rest.rows)
+          (filter_map (λ (r : ℕ × List (List ℕ)). row_of (asked_of a) a.empty r.0 cols r.1) rs)) (with_room_is cols below))

@@ -18,6 +18,7 @@ use Rattle.ballot_table.specs.declared.table_stop.TableStop.TheVariants as stop
 use Rattle.ballot_table.specs.Head.{head_fault, columns, names_of}
 use Rattle.ballot_table.specs.Asked.{asked_of}
 use Rattle.ballot_table.specs.Refusals.{faults_below}
+use Rattle.ballot_table.specs.Report.{tally_of}
 use Rattle.ballot_table.specs.Table.{rows_of, ballots}
 use Rattle.ballot_table.specs.Texts.{trimmed}
 
@@ -83,7 +84,7 @@ abbrev pub IsTableStop : Option TableStop → TableStop → Type 0
 IsTableStop first stop.NoMemory = ⊤
 IsTableStop first found = first ≡ Some found
 
--- The text is a head and rows, whose names and ballots these are.
+-- The text is a head and rows, whose names, ballots and numbers these are.
 pub record IsImported (asked : TableAsked) (bytes : List ℕ) (imported : Imported) : Type 0 where
   pub byte : ℕ
   pub separated : separator asked.separator bytes ≡ Ok byte
@@ -96,3 +97,7 @@ pub record IsImported (asked : TableAsked) (bytes : List ℕ) (imported : Import
       ballots asked.treatment
       (rows_of (asked_of asked) asked.empty (columns (asked_of asked) (texts_in head)) (map texts_in below))
       ≡ Some (plain imported.ballots.lines)
+  pub tally_is :
+      imported.tally
+      ≡ tally_of asked.treatment asked.empty (map texts_in below)
+      (rows_of (asked_of asked) asked.empty (columns (asked_of asked) (texts_in head)) (map texts_in below))

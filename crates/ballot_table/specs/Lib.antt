@@ -11,6 +11,7 @@ pub mod Finding
 pub mod Table
 pub mod Refusals
 pub mod JudgedRows
+pub mod Report
 pub mod Imported
 pub mod Sheets
 pub mod Left
@@ -18,3 +19,4 @@ pub mod Laws
 pub mod Layouts
 pub mod Worked
 pub mod WorkedTexts
+pub mod WorkedReports

@@ -3,7 +3,7 @@ ghost use Rattle.std.specs.Prelude.{◌≡◌, ◌≤◌, Some, None, Ok, length
 ghost use Rattle.plain_ballots.specs.declared.limits.TheConstants.{MOST_BALLOTS, MOST_CANDIDATES};
 ghost use Rattle.plain_ballots.specs.Ballots.{plain};
 ghost use Rattle.ballot_table.specs.Imported.{IsImported, IsTableStop, refusal, separator};
-ghost use Rattle.ballot_table.specs.Left.{stop_left, ballots_left};
+ghost use Rattle.ballot_table.specs.Left.{stop_left, ballots_left, tally_left};
 ghost use Rattle.ballot_table.specs.Asked.{asked_of};
 ghost use Rattle.ballot_table.specs.Finding.{candidates_at, candidates_in};
 
@@ -12,7 +12,6 @@ use crate::record_stop::RecordStop;
 use crate::rows::Rows;
 use crate::sheet::Sheet;
 use crate::{Imported, TableAsked, TableStop};
-use plain_ballots::Ballots;
 use std::alloc::Global;
 use table_text::find_separator;
 
@@ -42,7 +41,7 @@ pub fn read_table(alloc: Global, asked: &TableAsked, bytes: &[u8]) -> Result<Imp
         return Err(TableStop::NoMemory);
     };
     match read_rows(alloc, asked, &head, &mut sheet) {
-        Ok(ballots) => Ok(Imported { names, ballots }),
+        Ok(taken) => Ok(taken.imported(names)),
         Err(stop) => Err(stop),
     }
 }
@@ -60,21 +59,22 @@ fn separator(asked: &TableAsked, bytes: &[u8]) -> Result<u8, TableStop>
     }
 }
 
-// The ballots of the rows that are still to come.
+// What the rows that are still to come come to.
 fn read_rows(
     alloc: Global,
     asked: &TableAsked,
     head: &Head,
     sheet: &mut Sheet<'_>,
-) -> Result<Ballots, TableStop>
+) -> Result<Rows, TableStop>
     requires names { length asked.now.candidates ≤ MOST_CANDIDATES }
     requires few { sum_by candidates_at head.now.columns.items ≤ MOST_CANDIDATES }
     requires candidates { candidates_in (asked_of asked.now) head.now.columns.items ≡ head.now.candidates }
     ensures stop { IfErr result (IsTableStop (stop_left asked.now head.now.columns.items MOST_BALLOTS sheet.old.records.rest)) }
     ensures sound { OnOk result (stop_left asked.now head.now.columns.items MOST_BALLOTS sheet.old.records.rest ≡ None) }
-    ensures candidates { IfOk result (λ ballots. ballots.candidates ≡ head.now.candidates) }
-    ensures ballots { IfOk result (λ ballots. ballots_left asked.now head.now.columns.items MOST_BALLOTS sheet.old.records.rest.rows
-        ≡ Some (plain ballots.lines)) }
+    ensures candidates { IfOk result (λ taken. taken.ballots.candidates ≡ head.now.candidates) }
+    ensures ballots { IfOk result (λ taken. ballots_left asked.now head.now.columns.items MOST_BALLOTS sheet.old.records.rest.rows
+        ≡ Some (plain taken.ballots.lines)) }
+    ensures tally { IfOk result (λ taken. taken.tally ≡ tally_left asked.now head.now.columns.items MOST_BALLOTS sheet.old.records.rest.rows) }
 {
     let mut taken = Rows::new(alloc, head.candidates);
     'rows: loop {
@@ -86,7 +86,7 @@ fn read_rows(
                     Err(stop) => return Err(stop),
                 }
             }
-            Ok(None) => return Ok(taken.ballots),
+            Ok(None) => return Ok(taken),
             Err(stop) => return Err(stop),
         }
     }

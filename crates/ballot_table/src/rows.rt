@@ -5,7 +5,8 @@ ghost use Rattle.plain_ballots.specs.declared.limits.TheConstants.{MOST_BALLOTS,
 ghost use Rattle.plain_ballots.specs.Ballots.{plain};
 ghost use Rattle.plain_ballots.specs.Ranking.{IsRanking};
 ghost use Rattle.ballot_table.specs.Imported.{IsTableStop, stop_at};
-ghost use Rattle.ballot_table.specs.Left.{IsAdded};
+ghost use Rattle.ballot_table.specs.Left.{IsAdded, of_row};
+ghost use Rattle.ballot_table.specs.Report.{no_rows, plus};
 ghost use Rattle.ballot_table.specs.Asked.{asked_of};
 ghost use Rattle.ballot_table.specs.Finding.{candidates_at, candidates_in};
 ghost use Rattle.ballot_table.specs.Refusals.{whole_fault};
@@ -16,7 +17,8 @@ use crate::record_stop::RecordStop;
 use crate::row::{JudgedRow, read_row};
 use crate::row_cells::RowCells;
 use crate::sheet::{Place, Sheet};
-use crate::{Column, TableAsked, TableStop};
+use crate::{Column, Imported, TableAsked, TableStop, Tally};
+use candidate_roll::Names;
 use plain_ballots::{BallotLine, Ballots, LineStop, MOST_BALLOTS};
 use std::alloc::Global;
 
@@ -26,6 +28,7 @@ pub(crate) struct Rows {
     /// So many more ballots have room.
     pub room: u32,
     pub ballots: Ballots,
+    pub tally: Tally,
     cells: RowCells,
 }
 
@@ -34,10 +37,12 @@ impl Rows {
     pub fn new(alloc: Global, candidates: u32) -> Rows
         ensures room { result.room ≡ MOST_BALLOTS }
         ensures ballots { result.ballots ≡ record { candidates = candidates; lines = [] } }
+        ensures tally { result.tally ≡ no_rows }
     {
         Rows {
             room: MOST_BALLOTS,
             ballots: Ballots::new(alloc, candidates),
+            tally: Tally::new(),
             cells: RowCells::new(alloc),
         }
     }
@@ -63,6 +68,8 @@ impl Rows {
         ensures candidates { OnOk result (self.new.ballots.candidates ≡ self.old.ballots.candidates) }
         ensures added { OnOk result (IsAdded asked.now.treatment
             (row_of (asked_of asked.now) asked.now.empty self.old.room columns.now sheet.now.texts) self.old.ballots self.new.ballots) }
+        ensures tallied { OnOk result (self.new.tally ≡ plus (of_row asked.now.treatment
+            (row_of (asked_of asked.now) asked.now.empty self.old.room columns.now sheet.now.texts)) self.old.tally) }
     {
         match read_row(
             alloc,
@@ -74,11 +81,33 @@ impl Rows {
         ) {
             Ok(Some(row)) => {
                 self.room = self.room.saturating_sub(row.weight);
+                let Ok(tally) = self.tally.with(&row) else {
+                    return Err(TableStop::NoMemory);
+                };
+                self.tally = tally;
                 push_row(&mut self.ballots, row)
             }
-            Ok(None) => Ok(()),
+            Ok(None) => {
+                let Ok(tally) = self.tally.with_dropped() else {
+                    return Err(TableStop::NoMemory);
+                };
+                self.tally = tally;
+                Ok(())
+            }
             Err(RecordStop::Fault(fault)) => Err(sheet.stop_at(place, fault)),
             Err(RecordStop::NoMemory) => Err(TableStop::NoMemory),
+        }
+    }
+
+    /// All that was read of a table of these candidates.
+    pub fn imported(self, names: Names) -> Imported
+        ensures { result ≡ record { names = names; ballots = self.ballots; tally = self.tally } }
+    {
+        let Rows { ballots, tally, .. } = self;
+        Imported {
+            names,
+            ballots,
+            tally,
         }
     }
 }

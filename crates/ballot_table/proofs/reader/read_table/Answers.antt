@@ -1,12 +1,12 @@
-use Rattle.std.proofs.Common.{ℕ, List, Some, sym, ap, ◌∙◌, length}
+use Rattle.std.proofs.Common.{ℕ, List, Some, sym, ap, ◌∙◌, length, subst}
 use Rattle.plain_ballots.specs.declared.limits.TheConstants.{MOST_BALLOTS}
 use Rattle.ballot_table.specs.Head.{names_of}
-use Rattle.ballot_table.specs.Imported.{refusal}
+use Rattle.ballot_table.specs.Imported.{IsImported, refusal}
 use Rattle.ballot_table.specs.Left.{stop_left}
 use Rattle.ballot_table.specs.Asked.{asked_of}
 use Rattle.ballot_table.specs.Sheets.{row_at}
 use Rattle.ballot_table.proofs.LeftLemmas.{is_stop, same_stop}
-use Rattle.ballot_table.proofs.TableLemmas.{refused_head, refused_left, same_ballots}
+use Rattle.ballot_table.proofs.TableLemmas.{refused_head, refused_left, same_ballots, same_tally}
 use Rattle.ballot_table.proofs.reader.read_table.Goals as goal
 
 pub returns-in-Err-Fault-clause-stop : goal.returns-in-Err-Fault-clause-stop
@@ -46,7 +46,7 @@ returns-in-Ok-read_rows-clause-imported c =
     let texts_are = c.texts.ensures ∙ turned.texts in
     let head = c.in-Ok-read in
     let names = c.in-Ok-names.ensures ∙ ap (names_of (asked_of a)) c.texts-2.ensures in
-    record {
+    subst (IsImported a c.args.bytes.now) (sym c.imported.ensures) (record {
       byte = c.in-Ok.separator;
       separated = c.in-Ok.ensures.byte;
       head = row;
@@ -61,7 +61,11 @@ returns-in-Ok-read_rows-clause-imported c =
           same_ballots a c.args.bytes.now c.in-Ok.separator c.in-Ok.ensures.byte row rest read c.texts.result.now texts_are
           head.head.columns.items head.ensures.head.columns_are
           ∙ c.in-Ok-read_rows.ensures.ballots;
-    }
+      tally_is =
+          c.in-Ok-read_rows.ensures.tally
+          ∙ same_tally a c.args.bytes.now c.in-Ok.separator c.in-Ok.ensures.byte row rest read c.texts.result.now texts_are
+          head.head.columns.items head.ensures.head.columns_are;
+    })
 
 pub returns-clause-stop : goal.returns-clause-stop
 returns-clause-stop c =
