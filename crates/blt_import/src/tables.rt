@@ -10,11 +10,7 @@ use plain_ballots::NoMemory;
 use std::alloc::Global;
 
 /// What the words say of a table of this layout.
-pub(crate) fn table_of(
-    alloc: Global,
-    asked: &Asked,
-    layout: Layout,
-) -> Result<TableAsked, NoMemory>
+pub(crate) fn table_of(alloc: Global, asked: &Asked, layout: Layout) -> Result<TableAsked, NoMemory>
     ensures { IfOk result (λ table. table ≡ table_of asked.now layout) }
 {
     Ok(TableAsked {
