@@ -14,7 +14,7 @@ use Rattle.ballot_table.specs.declared.holders.Holders.{Holders}
 use Rattle.ballot_table.specs.Held.{IsHolding, held_by, with_holder}
 use Rattle.ballot_table.specs.Rows.{holder, holders}
 
-enumerate_push : {X : Type 0} (n : ℕ) (xs : List X) (x : X)
+pub enumerate_push : {X : Type 0} (n : ℕ) (xs : List X) (x : X)
     → enumerate_from n (xs ++ x ∷ []) ≡ enumerate_from n xs ++ (n + length xs, x) ∷ []
 enumerate_push n [] x = ap (λ k. (k, x) ∷ []) (omega arith)
 enumerate_push n (y ∷ ys) x =

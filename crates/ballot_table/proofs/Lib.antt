@@ -3,7 +3,9 @@ mod BallotsLemmas
 mod FaultLemmas
 mod LeftLemmas
 mod MarkFaultLemmas
-mod MarkingLemmas
+mod SaidLemmas
+mod PartLemmas
+mod HoldingLemmas
 mod MendLemmas
 mod RoomLemmas
 mod WeightLemmas
@@ -20,4 +22,5 @@ mod HeldLemmas
 mod NumberLemmas
 mod RowLemmas
 mod TableLemmas
+mod TallyLemmas
 mod WithinLemmas

@@ -1,81 +1,43 @@
--- The fault of a row's marks, from those who have each rank.
-use Rattle.std.proofs.Common.{◌≡◌, ℕ, ◌+◌, ◌<◌, Bool, true, false, cond, List, [], ◌∷◌, map, length}
-use Rattle.std.proofs.Common.{Option, Some, None, get_or, refl, ap, sym, ◌∙◌, arith, zip, suc, zero, add-zero}
+-- What is found of a row's cells: its marks, and the fault of the first that is refused.
+use Rattle.std.proofs.Common.{◌≡◌, ℕ, ◌+◌, ◌-◌, ◌<◌, ◌≤◌, Bool, true, false, cond, List, [], ◌∷◌, map, length}
+use Rattle.std.proofs.Common.{Option, Some, None, All, get_or, refl, ap, sym, ◌∙◌, subst, arith, zip, suc, zero, sum_by}
 use Rattle.std.specs.List.{filter_map, enumerate_from, slice_get, prefix_len, find}
-use Rattle.std.specs.Option.{option_map, option_map_or, option_or}
+use Rattle.std.specs.Option.{option_map, option_or, unwrap_or}
 use Rattle.std.proofs.lemmas.List.{length-map}
 use Rattle.std.proofs.lemmas.List.Folds.{length-prefix_len}
-use Rattle.std.proofs.lemmas.List.FromFn.{length-enumerate_from}
+use Rattle.std.proofs.lemmas.List.FromFn.{length-enumerate_from, length-map-range_with_len}
 use Rattle.std.proofs.lemmas.Slice.Zip.{length-zip}
+use Rattle.plain_ballots.specs.declared.limits.TheConstants.{MOST_CANDIDATES}
 use Rattle.ballot_marks.specs.declared.mark.Mark.{Mark}
 use Rattle.ballot_marks.specs.declared.says.Says.{Says}
-use Rattle.ballot_marks.specs.declared.says.Says.TheVariants.{One as says_one, Over}
 use Rattle.ballot_marks.specs.declared.treatment.Treatment.{Treatment}
 use Rattle.ballot_marks.specs.declared.way.Way.{Way}
 use Rattle.ballot_marks.specs.declared.way.Way.TheVariants.{Refused}
 use Rattle.ballot_marks.specs.declared.why.Why.{Why}
 use Rattle.ballot_marks.specs.declared.why.Why.TheVariants.{SkippedRank, EqualRank, Repeated}
-use Rattle.ballot_marks.specs.Ballot.{Judged, judged, effective, end_way, ranked, ranks_of as ranks_ranked}
+use Rattle.ballot_marks.specs.Ballot.{Judged, judged, effective, end_way, ranked, ranks_of as ranks_ranked, IsRefusedAt}
+use Rattle.ballot_marks.specs.Marks.{SaysOneOf}
 use Rattle.ballot_marks.specs.Ways.{goes_on, ends}
 use Rattle.ballot_table.specs.declared.column.Column.{Column}
 use Rattle.ballot_table.specs.declared.fault.Fault.{Fault}
 use Rattle.ballot_table.specs.declared.held.Held.{Held}
-use Rattle.ballot_table.specs.declared.held.Held.TheVariants.{Nobody, One, More}
+use Rattle.ballot_table.specs.declared.held.Held.TheVariants.{Nobody}
 use Rattle.ballot_table.specs.declared.holders.Holders.{Holders}
-use Rattle.ballot_table.specs.declared.ranks_asked.RanksAsked.{RanksAsked}
-use Rattle.ballot_table.specs.Faults.{sound, first_fault}
-use Rattle.ballot_table.specs.Held.{IsHolding, held_by, says_held, held_at_mark, held_refused}
-use Rattle.ballot_table.specs.declared.record_stop.RecordStop.{RecordStop}
-use Rattle.ballot_table.specs.declared.record_stop.RecordStop.TheVariants.{Fault as stopped, NoMemory}
-use Rattle.ballot_table.specs.JudgedRows.{IsMarkFault, IsMarkStop, IsRowStop, cells_fault}
-use Rattle.ballot_table.specs.Ranks.{asked_ranks}
-use Rattle.ballot_table.specs.Refusals.{kind_of, place_of, is_candidate, refused_holder, reason_of, mark_fault}
-use Rattle.ballot_table.specs.Rows.{said_of, by_rank, marks_of, ranks_of, cells_of, holders, said_in}
+use Rattle.ballot_table.specs.declared.layout.Layout.{Layout}
+use Rattle.ballot_table.specs.declared.layout.Layout.TheVariants as layout
+use Rattle.ballot_table.specs.declared.row_cells.RowCells.{RowCells}
+use Rattle.ballot_table.specs.Asked.{Asked}
+use Rattle.ballot_table.specs.Cells.{Cell}
+use Rattle.ballot_table.specs.Faults.{sound}
+use Rattle.ballot_table.specs.Finding.{candidates_at, candidates_in, among, AreTaken, IsSaidBy}
+use Rattle.ballot_table.specs.Held.{IsHolding, held_by, held_refused}
+use Rattle.ballot_table.specs.JudgedRows.{refused_at}
+use Rattle.ballot_table.specs.Refusals.{kind_of, place_of, is_candidate, is_rank, refused_holder, refused_column, reason_of, mark_fault}
+use Rattle.ballot_table.specs.Rows.{said_of, said_by_holders, said_up_to, by_rank, marks_of, ranks_of, cells_of, holders, said_in, said_at, says_of}
+use Rattle.ballot_table.specs.Said.{SaidList, IsSaying, rank_at}
 use Rattle.ballot_table.proofs.FaultLemmas.{not_refused}
-use Rattle.ballot_table.proofs.WithinLemmas.{holding_said}
-
--- The mark at a place is that of a rank, from one on.
-record IsFound (from : ℕ) (held : List Held) (place : ℕ) : Type 0 where
-  i : ℕ
-  inside : i < length held
-  says : Says
-  said_is : slice_get (filter_map said_of (enumerate_from from (map says_held held))) place ≡ Some (from + i, says)
-  held_is : held_at_mark held place ≡ get_or held i Nobody
-
-found_more : (from : ℕ) (h : Held) (hs : List Held) (place before : ℕ) → IsFound (from + 1) hs place
-    → slice_get (filter_map said_of (enumerate_from from (map says_held (h ∷ hs)))) before
-    ≡ slice_get (filter_map said_of (enumerate_from (from + 1) (map says_held hs))) place
-    → held_at_mark (h ∷ hs) before ≡ held_at_mark hs place → IsFound from (h ∷ hs) before
-found_more from h hs place before is said held = record {
-  i = suc is.i;
-  inside = let inside = is.inside in omega arith;
-  says = is.says;
-  said_is = said ∙ is.said_is ∙ ap (λ (n : ℕ). Some (n, is.says)) (omega arith);
-  held_is = held ∙ is.held_is;
-}
-
-found_first : (from : ℕ) (says : Says) (h : Held) (hs : List Held)
-    → slice_get (filter_map said_of (enumerate_from from (map says_held (h ∷ hs)))) 0 ≡ Some (from, says)
-    → held_at_mark (h ∷ hs) 0 ≡ h → get_or (h ∷ hs) 0 Nobody ≡ h → IsFound from (h ∷ hs) 0
-found_first from says h hs said held first = record {
-  i = 0;
-  inside = omega arith;
-  says = says;
-  said_is = said ∙ ap (λ (n : ℕ). Some (n, says)) (sym (add-zero from));
-  held_is = held ∙ sym first;
-}
-
-found : (from : ℕ) (held : List Held) (place : ℕ)
-    → place < length (filter_map said_of (enumerate_from from (map says_held held))) → IsFound from held place
-found from [] place inside = absurd (omega arith)
-found from (Nobody ∷ hs) place inside =
-    found_more from Nobody hs place place (found (from + 1) hs place inside) refl refl
-found from (One c ∷ hs) zero inside = found_first from (says_one c) (One c) hs refl refl refl
-found from (One c ∷ hs) (suc p) inside =
-    found_more from (One c) hs p (suc p) (found (from + 1) hs p (omega arith)) refl refl
-found from (More a b ∷ hs) zero inside = found_first from Over (More a b) hs refl refl refl
-found from (More a b ∷ hs) (suc p) inside =
-    found_more from (More a b) hs p (suc p) (found (from + 1) hs p (omega arith)) refl refl
+use Rattle.ballot_table.proofs.HoldingLemmas.{holding_said}
+use Rattle.ballot_table.proofs.WithinLemmas.{cells_within, marks_one_of, row_within}
 
 -- where a mark ends a ballot, it is one of the marks
 ends_if : (b : Bool) (j : Judged) (js : List Judged) (w : Way)
@@ -116,85 +78,124 @@ refused_is Repeated [] = refl
 refused_is Repeated (c ∷ []) = refl
 refused_is Repeated (c ∷ d ∷ cs) = refl
 
-module _ (a : RanksAsked) (t : Treatment) (room : ℕ) (columns : List Column) (texts : List (List ℕ)) (h : Holders)
-    (is : IsHolding (ranks_of (sound (cells_of (asked_ranks a) room columns texts))) h) (marks : List Mark)
-    (marks_are : marks ≡ marks_of (by_rank (map says_held h.held)))
+-- the rank of a mark is one of the ranks
+rank_within : (from : ℕ) (says : List (Option Says)) (place : ℕ)
+    → place < length (filter_map said_of (enumerate_from from says))
+    → (from ≤ rank_at (filter_map said_of (enumerate_from from says)) place)
+    × (rank_at (filter_map said_of (enumerate_from from says)) place < from + length says)
+rank_within from [] place inside = absurd (omega arith)
+rank_within from (None ∷ says) place inside =
+    let more = rank_within (from + 1) says place inside in (omega (arith, more.0), omega (arith, more.1))
+rank_within from (Some s ∷ says) zero inside = (omega arith, omega arith)
+rank_within from (Some s ∷ says) (suc place) inside =
+    let more = rank_within (from + 1) says place (omega arith) in (omega (arith, more.0), omega (arith, more.1))
+
+rank_found : (said : List (ℕ × Says)) (place : ℕ)
+    → unwrap_or (slice_get (map (λ (s : ℕ × Says). s.0) said) place) 0 ≡ rank_at said place
+rank_found [] place = refl
+rank_found (s ∷ said) zero = refl
+rank_found (s ∷ said) (suc place) = rank_found said place
+
+as_many_ranks : (most : ℕ) (ranks : List (Option ℕ)) → length (said_up_to most ranks) ≡ most
+unfolding said_up_to
+as_many_ranks most ranks = length-map-range_with_len (λ rank. said_by_holders (holders rank ranks)) 1 most
+
+-- What the cells of a row say is found: who has each rank, and what each rank says by the layout.
+pub record IsFound (l : Layout) (cells : List Cell) (found : RowCells) : Type 0 where
+  pub holding : IsHolding (ranks_of cells) found.holders
+  pub saying : IsSaying (said_at l cells) found.said
+
+pub said_found : (l : Layout) (cells : List Cell) (old new : RowCells) → IsHolding (ranks_of cells) old.holders
+    → IsSaying (says_of cells) old.said → new.holders ≡ old.holders → IsSaidBy l old new → IsFound l cells new
+said_found l cells old new holding saying same said = record {
+  holding = subst (IsHolding (ranks_of cells)) (sym same) holding;
+  saying = by_layout l said;
+}
   where
-    abbrev ranks : List (Option ℕ)
-    ranks = ranks_of (sound (cells_of (asked_ranks a) room columns texts))
+    by_layout : (l : Layout) → IsSaidBy l old new → IsSaying (said_at l cells) new.said
+    by_layout layout.Ranks said =
+        subst (λ (says : List (Option Says)). IsSaying says new.said) (holding_said (ranks_of cells) old.holders holding) said
+    by_layout layout.Choices said = subst (IsSaying (says_of cells)) (sym said) saying
+    by_layout layout.List said = subst (IsSaying (says_of cells)) (sym said) saying
 
-    abbrev said : List (ℕ × Says)
-    said = said_in (asked_ranks a) room columns texts
+module _ (l : Layout) (cells : List Cell) (found : RowCells) (is : IsFound l cells found) (columns : List Column) where
+  abbrev said : List (ℕ × Says)
+  said = by_rank (said_at l cells)
 
-    said_is : by_rank (map says_held h.held) ≡ said
-    said_is = ap by_rank (holding_said ranks h is)
+  -- the column is that of the definition
+  column_is : (place : ℕ) (why : Why) → place < length said
+      → refused_at l columns found place why ≡ refused_column l columns cells (rank_at said place) why
+  column_is place why inside = by_layout l is inside
+    where
+      rank_is : (k : Layout) → IsFound k cells found
+          → unwrap_or (slice_get found.said.ranks place) 0 ≡ rank_at (by_rank (said_at k cells)) place
+      rank_is k found_is =
+          ap (λ (ranks : List ℕ). unwrap_or (slice_get ranks place) 0) found_is.saying.ranks
+          ∙ rank_found (by_rank (said_at k cells)) place
 
-    pub same_marks : marks ≡ marks_of (said_in (asked_ranks a) room columns texts)
-    same_marks = marks_are ∙ ap marks_of said_is
+      by_layout : (k : Layout) → IsFound k cells found → place < length (by_rank (said_at k cells))
+          → refused_at k columns found place why
+          ≡ refused_column k columns cells (rank_at (by_rank (said_at k cells)) place) why
+      by_layout layout.Choices found_is within =
+          ap (λ (rank : ℕ). place_of (is_rank rank) columns) (rank_is layout.Choices found_is)
+      by_layout layout.List found_is within =
+          ap (λ (rank : ℕ). place_of (is_rank rank) columns) (rank_is layout.List found_is)
+      by_layout layout.Ranks found_is within =
+          let ranks = ranks_of cells in
+          let rank = rank_at (by_rank (said_up_to MOST_CANDIDATES ranks)) place in
+          let bounds = rank_within 1 (said_up_to MOST_CANDIDATES ranks) place within in
+          let most = as_many_ranks MOST_CANDIDATES ranks in
+          let below : rank - 1 < MOST_CANDIDATES = omega (arith, bounds.0, bounds.1, most) in
+          let one : rank - 1 + 1 ≡ rank = omega (arith, bounds.0) in
+          ap (λ (r : ℕ). place_of (is_candidate (held_refused why (get_or found.holders.held (r - 1) Nobody))) columns)
+          (rank_is layout.Ranks found_is)
+          ∙ ap (λ (h : Held). place_of (is_candidate (held_refused why h)) columns) (found_is.holding.each (rank - 1) below)
+          ∙ ap (λ (r : ℕ). place_of (is_candidate (held_refused why (held_by (holders r ranks)))) columns) one
+          ∙ sym (ap (λ (c : ℕ). place_of (is_candidate c) columns) (refused_is why (holders rank ranks)))
 
-    pub no_mark_fault : (ranking : List ℕ) → ranked t marks ≡ Some ranking
-        → mark_fault (asked_ranks a) t room columns texts ≡ None
+-- the marks of a row that is read
+module _ (a : Asked) (t : Treatment) (room : ℕ) (columns : List Column) (texts : List (List ℕ)) (found : RowCells)
+    (is : IsFound a.layout (sound (cells_of a room columns texts)) found)
+  where
+    pub same_marks : found.said.marks ≡ marks_of (said_in a room columns texts)
+    same_marks = is.saying.marks
+
+    pub no_mark_fault : (ranking : List ℕ) → ranked t found.said.marks ≡ Some ranking
+        → mark_fault a t room columns texts ≡ None
     no_mark_fault ranking some =
-        let js = judged t (marks_of said) in
+        let js = judged t (marks_of (said_in a room columns texts)) in
         ap (option_map _)
-        (not_refused (end_way js) (ranks_ranked (effective js)) ranking
-        (sym (ap (ranked t) same_marks) ∙ some))
+        (not_refused (end_way js) (ranks_ranked (effective js)) ranking (sym (ap (ranked t) same_marks) ∙ some))
 
-    module _ (fault : Fault) (refused : IsMarkFault t h.held columns marks fault) where
-      js_same : judged t marks ≡ judged t (marks_of said)
-      js_same = ap (judged t) same_marks
+    pub mark_fault_is : (place : ℕ) (why : Why) → IsRefusedAt t found.said.marks place why
+        → mark_fault a t room columns texts
+        ≡ Some (record { kind = kind_of why; place = refused_at a.layout columns found place why })
+    mark_fault_is place why refused =
+        let cells = sound (cells_of a room columns texts) in
+        let all = said_in a room columns texts in
+        let marks = marks_of all in
+        let ended : end_way (judged t marks) ≡ Some (Refused why) =
+        sym (ap (λ (ms : List Mark). end_way (judged t ms)) same_marks) ∙ refused.refused in
+        let first : place ≡ length (effective (judged t marks)) =
+        refused.first ∙ ap (λ (ms : List Mark). length (effective (judged t ms))) same_marks in
+        let before = ends_inside t marks (Refused why) ended in
+        let inside : place < length all = let long = long_marks all in omega (arith, before, long, first) in
+        ap (λ (o : Option Why). option_map (λ (reason : Why). record {
+          kind = kind_of reason;
+          place = refused_column a.layout columns cells (rank_at all (length (effective (judged t marks)))) reason;
+        }) o) (ap reason_of ended)
+        ∙ ap (λ (n : ℕ). Some (record { kind = kind_of why; place = refused_column a.layout columns cells (rank_at all n) why }))
+        (sym first)
+        ∙ ap (λ (n : ℕ). Some (record { kind = kind_of why; place = n }))
+        (sym (column_is a.layout cells found is columns place why inside))
 
-      ended : end_way (judged t (marks_of said)) ≡ Some (Refused refused.why)
-      ended = sym (ap end_way js_same) ∙ refused.refused.refused
-
-      place_is : refused.place ≡ length (effective (judged t (marks_of said)))
-      place_is = refused.refused.first ∙ ap (λ (js : List Judged). length (effective js)) js_same
-
-      there : IsFound 1 h.held refused.place
-      there =
-          let before = ends_inside t (marks_of said) (Refused refused.why) ended in
-          let long = long_marks said in
-          let same = ap (λ (s : List (ℕ × Says)). length s) said_is in
-          found 1 h.held refused.place (omega (arith, before, long, same, place_is))
-
-      abbrev rank_at : List Mark → ℕ
-      rank_at ms = option_map_or (λ (s : ℕ × Says). s.0) (slice_get said (length (effective (judged t ms)))) 0
-
-      abbrev fault_at : ℕ → Option Fault
-      fault_at c = Some (record { kind = kind_of refused.why; place = place_of (is_candidate c) columns })
-
-      rank_is : rank_at (marks_of said) ≡ there.i + 1
-      rank_is =
-          ap (λ (n : ℕ). option_map_or (λ (s : ℕ × Says). s.0) (slice_get said n) 0) (sym place_is)
-          ∙ ap (λ (s : List (ℕ × Says)). option_map_or (λ (x : ℕ × Says). x.0) (slice_get s refused.place) 0) (sym said_is)
-          ∙ ap (λ o. option_map_or (λ (s : ℕ × Says). s.0) o 0) there.said_is
-          ∙ omega arith
-
-      holder_is : refused_holder refused.why (holders (there.i + 1) ranks)
-          ≡ held_refused refused.why (held_at_mark h.held refused.place)
-      holder_is =
-          let size = is.size in
-          let inside = there.inside in
-          refused_is refused.why (holders (there.i + 1) ranks)
-          ∙ ap (held_refused refused.why) (sym (is.each there.i (omega arith)) ∙ sym there.held_is)
-
-      pub mark_fault_is : mark_fault (asked_ranks a) t room columns texts ≡ Some fault
-      mark_fault_is =
-          ap (λ (o : Option Why). option_map (λ (reason : Why). record {
-            kind = kind_of reason;
-            place = place_of (is_candidate (refused_holder reason (holders (rank_at (marks_of said)) ranks))) columns;
-          }) o) (ap reason_of ended)
-          ∙ ap (λ (rank : ℕ). fault_at (refused_holder refused.why (holders rank ranks))) rank_is
-          ∙ ap fault_at holder_is
-          ∙ ap Some (sym refused.is)
-
--- what stops the marks stops the row
-pub row_stop : (a : RanksAsked) (t : Treatment) (room : ℕ) (columns : List Column) (texts : List (List ℕ)) (h : Holders)
-    (is : IsHolding (ranks_of (sound (cells_of (asked_ranks a) room columns texts))) h) (marks : List Mark)
-    (marks_are : marks ≡ marks_of (by_rank (map says_held h.held))) (stop : RecordStop)
-    → first_fault (cells_of (asked_ranks a) room columns texts) ≡ None → IsMarkStop t h.held columns marks stop
-    → IsRowStop (cells_fault (asked_ranks a) t room columns texts) stop
-row_stop a t room columns texts h is marks marks_are (stopped fault) none refused =
-    ap (λ (o : Option Fault). option_or o (mark_fault (asked_ranks a) t room columns texts)) none
-    ∙ mark_fault_is a t room columns texts h is marks marks_are fault refused
-row_stop a t room columns texts h is marks marks_are NoMemory none refused = tt
+-- the marks of a row say candidates
+pub taken_within : (a : Asked) (room : ℕ) (columns : List Column) (texts : List (List ℕ)) (taken found : RowCells)
+    → AreTaken a room columns texts taken → IsFound a.layout (sound (cells_of a room columns texts)) found
+    → All (λ (m : Mark). SaysOneOf (candidates_in a columns) m.says) found.said.marks
+taken_within a room columns texts taken found all is =
+    let cells = sound (cells_of a room columns texts) in
+    let n : sum_by candidates_at columns ≡ length (ranks_of cells) = sym all.candidates ∙ all.holding.candidates in
+    subst (λ (ms : List Mark). All (λ (m : Mark). SaysOneOf (candidates_in a columns) m.says) ms) (sym is.saying.marks)
+    (marks_one_of (candidates_in a columns) (said_at a.layout cells)
+    (row_within a a.layout cells (sum_by candidates_at columns) n (cells_within a room (zip columns texts))))

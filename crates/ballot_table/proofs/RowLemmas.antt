@@ -7,6 +7,7 @@ use Rattle.std.specs.Option.{option_or, unwrap_or}
 use Rattle.std.proofs.Math.Seq.{drop-cons}
 use Rattle.std.proofs.lemmas.List.{append-nil, drop_all, get_or_default}
 use Rattle.std.proofs.lemmas.Slice.Zip.{length-zip, get_or-zip}
+use Rattle.ballot_marks.specs.declared.says.Says.{Says}
 use Rattle.ballot_table.specs.declared.column.Column.{Column}
 use Rattle.ballot_table.specs.declared.column.Column.TheVariants.{Weight, PassedOver, Candidate, Rank, List as Lists}
 use Rattle.ballot_table.specs.declared.fault.Fault.{Fault}
@@ -15,12 +16,13 @@ use Rattle.ballot_table.specs.declared.table_kind.TableKind.{TableKind}
 use Rattle.ballot_table.specs.declared.table_kind.TableKind.TheVariants.{TooManyBallots}
 use Rattle.ballot_table.specs.Asked.{Asked}
 use Rattle.ballot_table.specs.Cells.{Cell, Nothing, Counts, Ranked, Said, Listed, cell_of, as_cell, counted}
-use Rattle.ballot_table.specs.Cells.{rank_in, fault_one}
+use Rattle.ballot_table.specs.Cells.{rank_in, says_in, all_of, fault_one}
 use Rattle.ballot_table.specs.Faults.{fault_of, first_fault, sound}
 use Rattle.ballot_table.specs.Held.{IsHolding}
-use Rattle.ballot_table.specs.Ranks.{IsOfRanks, IsTaken, AreRead, candidates_at}
-use Rattle.ballot_table.specs.Rows.{weight_in, cells_of, ranks_of, rank_cell}
-use Rattle.ballot_table.specs.Texts.{number}
+use Rattle.ballot_table.specs.Finding.{IsTaken, AreTaken, candidates_at}
+use Rattle.ballot_table.specs.Rows.{weight_in, cells_of, ranks_of, rank_cell, says_of}
+use Rattle.ballot_table.specs.Said.{SaidList, IsSaying}
+use Rattle.ballot_table.specs.Texts.{number, parts}
 
 abbrev pub Pair : Type 0
 Pair = Column × List ℕ
@@ -57,13 +59,22 @@ weighs_nothing : (r : Result (Option ℕ) TableKind) (x : Cell) → as_cell Rank
 weighs_nothing (Ok rank) x is = let e : Ranked rank ≡ x = cc is in ap weight_of e
 weighs_nothing (Err kind) x is = absurd (cc is)
 
-weight_is : (asked : Asked) (room : ℕ) (column : Column) (text : List ℕ) (x : Cell) → IsOfRanks column
+said_weighs_nothing : (r : Result (Option Says) TableKind) (x : Cell) → as_cell Said r ≡ Ok x → None ≡ weight_of x
+said_weighs_nothing (Ok says) x is = let e : Said says ≡ x = cc is in ap weight_of e
+said_weighs_nothing (Err kind) x is = absurd (cc is)
+
+list_weighs_nothing : (r : Result (List (Option Says)) TableKind) (x : Cell) → as_cell Listed r ≡ Ok x
+    → None ≡ weight_of x
+list_weighs_nothing (Ok says) x is = let e : Listed says ≡ x = cc is in ap weight_of e
+list_weighs_nothing (Err kind) x is = absurd (cc is)
+
+weight_is : (asked : Asked) (room : ℕ) (column : Column) (text : List ℕ) (x : Cell)
     → cell_of asked room column text ≡ Ok x → weight_in (column, text) ≡ weight_of x
-weight_is asked room Weight text x of_ranks is = weighs room (number text) x is
-weight_is asked room PassedOver text x of_ranks is = let e : Nothing ≡ x = cc is in ap weight_of e
-weight_is asked room (Candidate c) text x of_ranks is = weighs_nothing (rank_in asked text) x is
-weight_is asked room (Rank r) text x of_ranks is = absurd of_ranks
-weight_is asked room Lists text x of_ranks is = absurd of_ranks
+weight_is asked room Weight text x is = weighs room (number text) x is
+weight_is asked room PassedOver text x is = let e : Nothing ≡ x = cc is in ap weight_of e
+weight_is asked room (Candidate c) text x is = weighs_nothing (rank_in asked text) x is
+weight_is asked room (Rank r) text x is = said_weighs_nothing (says_in asked text) x is
+weight_is asked room Lists text x is = list_weighs_nothing (all_of (map (says_in asked) (parts text))) x is
 
 first_weight : (o : Option ℕ) (ws : List ℕ) → slice_get (cons_option o ws) 0 ≡ option_or o (slice_get ws 0)
 first_weight None ws = refl
@@ -81,10 +92,10 @@ or_none (Some n) = refl
 count_taken : (x : Cell) (old new : RowCells) → IsTaken (Some x) old new
     → option_or old.count (weight_of x) ≡ new.count
 count_taken Nothing old new is = or_none old.count ∙ sym (ap (λ (c : RowCells). c.count) is)
-count_taken (Counts n) old new is = sym is.1
+count_taken (Counts n) old new is = sym is.2
 count_taken (Ranked rank) old new is = or_none old.count ∙ sym is.0
-count_taken (Said says) old new is = absurd is
-count_taken (Listed says) old new is = absurd is
+count_taken (Said says) old new is = or_none old.count ∙ sym is.0
+count_taken (Listed says) old new is = or_none old.count ∙ sym is.0
 
 -- the ranks that cells say, with one cell more
 holding_taken : (x : Cell) (old new : RowCells) (ranks : List (Option ℕ)) → IsTaken (Some x) old new
@@ -95,9 +106,28 @@ holding_taken Nothing old new ranks is holding =
 holding_taken (Counts n) old new ranks is holding =
     subst (λ (rs : List (Option ℕ)). IsHolding rs new.holders) (sym (append-nil ranks))
     (subst (IsHolding ranks) (sym is.0) holding)
-holding_taken (Ranked rank) old new ranks is holding = is.1 ranks holding
-holding_taken (Said says) old new ranks is holding = absurd is
-holding_taken (Listed says) old new ranks is holding = absurd is
+holding_taken (Ranked rank) old new ranks is holding = is.2 ranks holding
+holding_taken (Said says) old new ranks is holding =
+    subst (λ (rs : List (Option ℕ)). IsHolding rs new.holders) (sym (append-nil ranks))
+    (subst (IsHolding ranks) (sym is.1) holding)
+holding_taken (Listed says) old new ranks is holding =
+    subst (λ (rs : List (Option ℕ)). IsHolding rs new.holders) (sym (append-nil ranks))
+    (subst (IsHolding ranks) (sym is.1) holding)
+
+-- what cells say of ranks from the first on, with one cell more
+no_more_said : (says : List (Option Says)) (old new : RowCells) → new.said ≡ old.said → IsSaying says old.said
+    → IsSaying (says ++ []) new.said
+no_more_said says old new same saying =
+    subst (λ (l : List (Option Says)). IsSaying l new.said) (sym (append-nil says)) (subst (IsSaying says) (sym same) saying)
+
+saying_taken : (x : Cell) (old new : RowCells) (says : List (Option Says)) → IsTaken (Some x) old new
+    → IsSaying says old.said → IsSaying (says ++ says_of (x ∷ [])) new.said
+saying_taken Nothing old new says is saying = no_more_said says old new (ap (λ (c : RowCells). c.said) is) saying
+saying_taken (Counts n) old new says is saying = no_more_said says old new is.1 saying
+saying_taken (Ranked rank) old new says is saying = no_more_said says old new is.1 saying
+saying_taken (Said one) old new says is saying = is.2 says saying
+saying_taken (Listed more) old new says is saying =
+    subst (λ (l : List (Option Says)). IsSaying (says ++ l) new.said) (sym (append-nil more)) (is.2 says saying)
 
 -- The cells of a row are read up to these that are left.
 pub record IsReading (asked : Asked) (room : ℕ) (ps left : List Pair) (at : ℕ) (cells : RowCells) : Type 0 where
@@ -108,16 +138,31 @@ pub record IsReading (asked : Asked) (room : ℕ) (ps left : List Pair) (at : �
   pub holding : IsHolding ranks cells.holders
   pub all : ranks_of (sound (map (λ (p : Pair). cell_of asked room p.0 p.1) ps))
       ≡ ranks ++ ranks_of (sound (map (λ (p : Pair). cell_of asked room p.0 p.1) left))
+  pub says : List (Option Says)
+  pub saying : IsSaying says cells.said
+  pub all_said : says_of (sound (map (λ (p : Pair). cell_of asked room p.0 p.1) ps))
+      ≡ says ++ says_of (sound (map (λ (p : Pair). cell_of asked room p.0 p.1) left))
 
 pub reading_begun : (asked : Asked) (room : ℕ) (ps : List Pair) (cells : RowCells) → cells.count ≡ None
-    → IsHolding [] cells.holders → IsReading asked room ps ps 0 cells
-reading_begun asked room ps cells none holding = record {
+    → IsHolding [] cells.holders → IsSaying [] cells.said → IsReading asked room ps ps 0 cells
+reading_begun asked room ps cells none holding saying = record {
   fault = refl;
   count = sym (ap (λ o. option_or o (slice_get (filter_map weight_in ps) 0)) none);
   ranks = [];
   holding = holding;
   all = refl;
+  says = [];
+  saying = saying;
+  all_said = refl;
 }
+
+-- what a cell says, before what others say
+said_first : (x : Cell) (cells : List Cell) → says_of (x ∷ cells) ≡ says_of (x ∷ []) ++ says_of cells
+said_first Nothing cells = refl
+said_first (Counts n) cells = refl
+said_first (Ranked rank) cells = refl
+said_first (Said says) cells = refl
+said_first (Listed says) cells = ap (λ (l : List (Option Says)). l ++ says_of cells) (sym (append-nil says))
 
 module _ (asked : Asked) (room : ℕ) (ps : List Pair) (column : Column) (text : List ℕ) (rest : List Pair) (at : ℕ) where
   abbrev cell : Pair → Result Cell TableKind
@@ -130,14 +175,14 @@ module _ (asked : Asked) (room : ℕ) (ps : List Pair) (column : Column) (text :
       so_far.fault ∙ ap (λ r. fault_from (at + 1) (r ∷ map cell rest)) is
 
   pub reading_more : (x : Cell) (old new : RowCells) → IsReading asked room ps ((column, text) ∷ rest) at old
-      → IsOfRanks column → cell_of asked room column text ≡ Ok x → IsTaken (Some x) old new
+      → cell_of asked room column text ≡ Ok x → IsTaken (Some x) old new
       → IsReading asked room ps rest (at + 1) new
-  reading_more x old new so_far of_ranks is taken = record {
+  reading_more x old new so_far is taken = record {
     fault = so_far.fault ∙ ap (λ r. fault_from (at + 1) (r ∷ map cell rest)) is;
     count =
         let ws = filter_map weight_in rest in
         so_far.count
-        ∙ ap (λ o. option_or old.count (slice_get (cons_option o ws) 0)) (weight_is asked room column text x of_ranks is)
+        ∙ ap (λ o. option_or old.count (slice_get (cons_option o ws) 0)) (weight_is asked room column text x is)
         ∙ ap (option_or old.count) (first_weight (weight_of x) ws)
         ∙ or_or old.count (weight_of x) (slice_get ws 0)
         ∙ ap (λ o. option_or o (slice_get ws 0)) (count_taken x old new taken);
@@ -147,6 +192,13 @@ module _ (asked : Asked) (room : ℕ) (ps : List Pair) (column : Column) (text :
         so_far.all
         ∙ ap (λ r. so_far.ranks ++ ranks_of (sound (r ∷ map cell rest))) is
         ∙ sym (append_assoc so_far.ranks (rank_cell x) (ranks_of (sound (map cell rest))));
+    says = so_far.says ++ says_of (x ∷ []);
+    saying = saying_taken x old new so_far.says taken so_far.saying;
+    all_said =
+        so_far.all_said
+        ∙ ap (λ r. so_far.says ++ says_of (sound (r ∷ map cell rest))) is
+        ∙ ap (λ (l : List (Option Says)). so_far.says ++ l) (said_first x (sound (map cell rest)))
+        ∙ sym (append_assoc so_far.says (says_of (x ∷ [])) (says_of (sound (map cell rest))));
   }
 
 -- a row's next pair of a column and a text
@@ -196,7 +248,7 @@ module _ (asked : Asked) (room : ℕ) (columns : List Column) (texts : List (Lis
         ∙ ap (λ (l : List Pair). option_or cells.count (slice_get (filter_map weight_in l) 0)) no_pairs
         ∙ or_none cells.count
 
-    pub all_read : cells.holders.candidates ≡ sum_by candidates_at columns → AreRead asked room columns texts cells
+    pub all_read : cells.holders.candidates ≡ sum_by candidates_at columns → AreTaken asked room columns texts cells
     all_read candidates = record {
       weight = sym (ap (λ o. unwrap_or o 0) count_is);
       count = sym (ap (λ o. unwrap_or o 1) count_is);
@@ -206,5 +258,11 @@ module _ (asked : Asked) (room : ℕ) (columns : List Column) (texts : List (Lis
           ++ ranks_of (sound (map (λ (p : Pair). cell_of asked room p.0 p.1) l))) no_pairs
           ∙ append-nil so_far.ranks))
           so_far.holding;
+      saying = subst (λ (l : List (Option Says)). IsSaying l cells.said)
+          (sym (so_far.all_said
+          ∙ ap (λ (l : List Pair). so_far.says
+          ++ says_of (sound (map (λ (p : Pair). cell_of asked room p.0 p.1) l))) no_pairs
+          ∙ append-nil so_far.says))
+          so_far.saying;
       candidates = candidates;
     }

@@ -11,13 +11,14 @@ use Rattle.table_text.specs.Reading as text
 use Rattle.table_text.specs.declared.text_fault.TextFault.{TextFault}
 use Rattle.ballot_table.specs.declared.column.Column.{Column}
 use Rattle.ballot_table.specs.declared.fault.Fault.{Fault}
-use Rattle.ballot_table.specs.declared.ranks_asked.RanksAsked.{RanksAsked}
+use Rattle.ballot_table.specs.declared.table_asked.TableAsked.{TableAsked}
 use Rattle.ballot_table.specs.declared.table_stop.TableStop.{TableStop}
 use Rattle.ballot_table.specs.declared.table_stop.TableStop.TheVariants as stop
 use Rattle.ballot_table.specs.Head.{head_fault, columns}
 use Rattle.ballot_table.specs.Imported.{texts_in, stops, stop_at, text_stop, separator, stop_by, reading_stop, refusal}
-use Rattle.ballot_table.specs.Left.{rooms, stop_left, ballots_left}
-use Rattle.ballot_table.specs.Ranks.{asked_ranks}
+use Rattle.ballot_table.specs.Left.{rooms, stop_left, ballots_left, tally_left}
+use Rattle.ballot_table.specs.Report.{tally_of}
+use Rattle.ballot_table.specs.Asked.{asked_of}
 use Rattle.ballot_table.specs.Refusals.{whole_fault}
 use Rattle.ballot_table.specs.Rows.{weight_at, row_of, with_room, room_behind}
 use Rattle.ballot_table.specs.Table.{ballots, rows_of}
@@ -54,7 +55,7 @@ module _ (cols : List Column) where
   pub with_room_is : (rows : List Texts) → with_room cols rows ≡ rooms cols MOST_BALLOTS rows
   with_room_is rows = rooms_behind [] rows
 
-module _ (a : RanksAsked) (bytes : List ℕ) (byte : ℕ) (separated : separator a.separator bytes ≡ Ok byte) where
+module _ (a : TableAsked) (bytes : List ℕ) (byte : ℕ) (separated : separator a.separator bytes ≡ Ok byte) where
   by_reading : (reading : text.Reading) → text.read_text byte bytes ≡ reading → refusal a bytes ≡ reading_stop a reading
   by_reading reading is = ap (stop_by a bytes) separated ∙ ap (reading_stop a) is
 
@@ -69,42 +70,52 @@ module _ (a : RanksAsked) (bytes : List ℕ) (byte : ℕ) (separated : separator
       below = map texts_in rest.rows
 
       abbrev cols : List Column
-      cols = columns (asked_ranks a) (texts_in head)
+      cols = columns (asked_of a) (texts_in head)
 
       abbrev faults : List (ℕ × List (List ℕ)) → List (Option Fault)
-      faults rs = map (λ (r : ℕ × List (List ℕ)). whole_fault (asked_ranks a) a.treatment a.empty r.0 cols r.1) rs
+      faults rs = map (λ (r : ℕ × List (List ℕ)). whole_fault (asked_of a) a.treatment a.empty r.0 cols r.1) rs
 
       abbrev by_head : Option Fault → Option TableStop
       by_head o = option_or
           (slice_get (cons_option (option_map (stop_at head) o) (stops rest.rows (faults (with_room cols below)))) 0)
           (text_stop rest.ending)
 
-      whole : refusal a bytes ≡ by_head (head_fault (asked_ranks a) (texts_in head))
+      whole : refusal a bytes ≡ by_head (head_fault (asked_of a) (texts_in head))
       whole = by_reading (text.with_row head rest) is
 
-      pub refused_head : (fault : Fault) → head_fault (asked_ranks a) texts ≡ Some fault
+      pub refused_head : (fault : Fault) → head_fault (asked_of a) texts ≡ Some fault
           → refusal a bytes ≡ Some (stop_at head fault)
       refused_head fault some =
-          whole ∙ ap by_head (sym (ap (head_fault (asked_ranks a)) texts_are) ∙ some)
+          whole ∙ ap by_head (sym (ap (head_fault (asked_of a)) texts_are) ∙ some)
 
       pub refused_left :
-          (found : List Column) → head_fault (asked_ranks a) texts ≡ None
-          → found ≡ columns (asked_ranks a) texts
+          (found : List Column) → head_fault (asked_of a) texts ≡ None
+          → found ≡ columns (asked_of a) texts
           → refusal a bytes ≡ stop_left a found MOST_BALLOTS rest
       refused_left found none found_are =
-          whole ∙ ap by_head (sym (ap (head_fault (asked_ranks a)) texts_are) ∙ none)
+          whole ∙ ap by_head (sym (ap (head_fault (asked_of a)) texts_are) ∙ none)
           ∙ ap (λ (rs : List (ℕ × List (List ℕ))). option_or (slice_get (stops rest.rows (faults rs)) 0)
           (text_stop rest.ending))
           (with_room_is cols below)
           ∙ ap (λ (cs : List Column). stop_left a cs MOST_BALLOTS rest)
-          (sym (found_are ∙ ap (columns (asked_ranks a)) texts_are))
+          (sym (found_are ∙ ap (columns (asked_of a)) texts_are))
 
-      pub same_ballots : (found : List Column) → found ≡ columns (asked_ranks a) texts
-          → ballots a.treatment (rows_of (asked_ranks a) a.empty (columns (asked_ranks a) (texts_in head))
+      pub same_ballots : (found : List Column) → found ≡ columns (asked_of a) texts
+          → ballots a.treatment (rows_of (asked_of a) a.empty (columns (asked_of a) (texts_in head))
           (map texts_in rest.rows))
           ≡ ballots_left a found MOST_BALLOTS rest.rows
       same_ballots found found_are =
           ap (λ (rs : List (ℕ × List (List ℕ))). ballots a.treatment
-          (filter_map (λ (r : ℕ × List (List ℕ)). row_of (asked_ranks a) a.empty r.0 cols r.1) rs)) (with_room_is cols below)
+          (filter_map (λ (r : ℕ × List (List ℕ)). row_of (asked_of a) a.empty r.0 cols r.1) rs)) (with_room_is cols below)
           ∙ ap (λ (cs : List Column). ballots_left a cs MOST_BALLOTS rest.rows)
-          (sym (found_are ∙ ap (columns (asked_ranks a)) texts_are))
+          (sym (found_are ∙ ap (columns (asked_of a)) texts_are))
+
+      pub same_tally : (found : List Column) → found ≡ columns (asked_of a) texts
+          → tally_left a found MOST_BALLOTS rest.rows
+          ≡ tally_of a.treatment a.empty (map texts_in rest.rows)
+          (rows_of (asked_of a) a.empty (columns (asked_of a) (texts_in head)) (map texts_in rest.rows))
+      same_tally found found_are =
+          ap (λ (cs : List Column). tally_left a cs MOST_BALLOTS rest.rows)
+          (found_are ∙ ap (columns (asked_of a)) texts_are)
+          ∙ sym (ap (λ (rs : List (ℕ × List (List ℕ))). tally_of a.treatment a.empty (map texts_in rest.rows)
+          (filter_map (λ (r : ℕ × List (List ℕ)). row_of (asked_of a) a.empty r.0 cols r.1) rs)) (with_room_is cols below))

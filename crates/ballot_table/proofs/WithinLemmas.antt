@@ -1,58 +1,65 @@
 -- The marks of a row say its candidates.
-use Rattle.std.proofs.Common.{◌≡◌, ℕ, ◌+◌, ◌<◌, ◌≤◌, Bool, true, false, cond, eqb, List, [], ◌∷◌, map, length}
-use Rattle.std.proofs.Common.{Option, Some, None, All, get_or, refl, ap, sym, ◌∙◌, subst, arith}
+use Rattle.std.proofs.Common.{◌≡◌, ℕ, zero, suc, ◌+◌, ◌<◌, ◌≤◌, Bool, true, false, cond, eqb, List, [], ◌∷◌, ◌++◌}
+use Rattle.std.proofs.Common.{Option, Some, None, Result, Ok, Err, All, map, length, refl, ap, sym, ◌∙◌, subst, arith, inl, inr}
 use Rattle.std.specs.Bool.{⊤}
-use Rattle.std.specs.List.{filter_map, enumerate_from, cons_option, range_with_len}
-use Rattle.std.proofs.lemmas.List.{same_lists, length-map, get_or-map}
-use Rattle.std.proofs.lemmas.List.Elements.{All-nil, All-cons, All-head, All-tail, All-from_get_or}
-use Rattle.std.proofs.lemmas.List.FromFn.{length-map-range_with_len, get_or-map-range_with_len}
-use Rattle.plain_ballots.specs.declared.limits.TheConstants.{MOST_CANDIDATES}
+use Rattle.std.specs.List.{filter_map, enumerate_from, cons_option, position_or_len, range_with_len, slice_get}
+use Rattle.std.specs.Option.{option_map}
+use Rattle.std.specs.Str.{bytes_eq}
+use Rattle.std.proofs.lemmas.Bool.Decides.{leb_tells}
+use Rattle.std.proofs.lemmas.List.Elements.{All-nil, All-cons, All-head, All-tail, All-append}
 use Rattle.ballot_marks.specs.declared.mark.Mark.{Mark}
 use Rattle.ballot_marks.specs.declared.says.Says.{Says}
-use Rattle.ballot_marks.specs.declared.says.Says.TheVariants.{One as says_one, Over}
+use Rattle.ballot_marks.specs.declared.says.Says.TheVariants.{One, Over}
 use Rattle.ballot_marks.specs.Marks.{SaysOneOf}
-use Rattle.ballot_table.specs.declared.held.Held.{Held}
-use Rattle.ballot_table.specs.declared.held.Held.TheVariants.{Nobody, One, More}
-use Rattle.ballot_table.specs.declared.holders.Holders.{Holders}
-use Rattle.ballot_table.specs.Held.{IsHolding, held_by, says_held}
-use Rattle.ballot_table.specs.Rows.{holder, holders, said_by_holders, said_up_to, by_rank, marks_of}
-use Rattle.ballot_table.proofs.MarkingLemmas.{marking, marking_is, marking_end, one_none, one_some}
+use Rattle.ballot_table.specs.declared.column.Column.{Column}
+use Rattle.ballot_table.specs.declared.column.Column.TheVariants as column
+use Rattle.ballot_table.specs.declared.layout.Layout.{Layout}
+use Rattle.ballot_table.specs.declared.layout.Layout.TheVariants as layout
+use Rattle.ballot_table.specs.declared.table_kind.TableKind.{TableKind}
+use Rattle.ballot_table.specs.declared.table_kind.TableKind.TheVariants.{NoSuchCandidate}
+use Rattle.plain_ballots.specs.declared.limits.TheConstants.{MOST_CANDIDATES}
+use Rattle.ballot_table.specs.Asked.{Asked}
+use Rattle.ballot_table.specs.Cells.{Cell, Nothing, Counts, Ranked, Said, Listed, cell_of, as_cell, counted, rank_in}
+use Rattle.ballot_table.specs.Cells.{says_in, some_or, one_of, all_of, all_or, fault_one, is_blank}
+use Rattle.ballot_table.specs.Faults.{sound}
+use Rattle.ballot_table.specs.Finding.{among}
+use Rattle.ballot_table.specs.Rows.{holder, holders, said_by_holders, said_up_to, said_of, by_rank, marks_behind, marks_of}
+use Rattle.ballot_table.specs.Rows.{ranks_of, says_of, said_at}
+use Rattle.ballot_table.specs.Texts.{is_in, number, number_in, parts}
 
--- what the holders of a rank say
-says_is : (cs : List ℕ) → says_held (held_by cs) ≡ said_by_holders cs
-says_is [] = refl
-says_is (c ∷ []) = refl
-says_is (c ∷ d ∷ cs) = refl
+-- what a rank says is one of n candidates, where it is one
+abbrev pub IsWithin : ℕ → Option Says → Type 0
+IsWithin n None = ⊤
+IsWithin n (Some says) = SaysOneOf n says
 
-module _ (most : ℕ) (ranks : List (Option ℕ)) (held : List Held) (size : length held ≡ most)
-    (each : (k : ℕ) → k < most → get_or held k Nobody ≡ held_by (holders (k + 1) ranks))
-  where
-    said : ℕ → Option Says
-    said rank = said_by_holders (holders rank ranks)
+module _ (n : ℕ) where
+  abbrev IsMarkOf : Mark → Type 0
+  IsMarkOf m = SaysOneOf n m.says
 
-    said_each : (k : ℕ) (d : Option Says) → k < length (map says_held held)
-        → get_or (map says_held held) k d
-        ≡ get_or (map (λ rank. said_by_holders (holders rank ranks)) (range_with_len 1 most)) k d
-    said_each k d inside =
-        let long = length-map held says_held in
-        let within : k < most = omega (arith, long) in
-        get_or-map says_held held k Nobody d (omega arith)
-        ∙ ap says_held (each k within)
-        ∙ says_is (holders (k + 1) ranks)
-        ∙ sym (get_or-map-range_with_len (λ rank. said_by_holders (holders rank ranks)) 1 most k (k + 1) d
-        within (omega arith))
+  abbrev IsSaidOf : ℕ × Says → Type 0
+  IsSaidOf s = SaysOneOf n s.1
 
-    said_by_all : map says_held held ≡ said_up_to most ranks
-    unfolding said_up_to
-    said_by_all =
-        same_lists (map says_held held) (map (λ rank. said_by_holders (holders rank ranks)) (range_with_len 1 most))
-        (length-map held says_held ∙ size
-        ∙ sym (length-map-range_with_len (λ rank. said_by_holders (holders rank ranks)) 1 most))
-        said_each
+  said_within : (from : ℕ) (says : List (Option Says)) → All (IsWithin n) says
+      → All IsSaidOf (filter_map said_of (enumerate_from from says))
+  said_within from [] all = All-nil IsSaidOf
+  said_within from (None ∷ says) all = said_within (from + 1) says (All-tail (IsWithin n) None says all)
+  said_within from (Some s ∷ says) all =
+      All-cons IsSaidOf (from, s) (filter_map said_of (enumerate_from (from + 1) says))
+      (All-head (IsWithin n) (Some s) says all)
+      (said_within (from + 1) says (All-tail (IsWithin n) (Some s) says all))
 
-pub holding_said : (ranks : List (Option ℕ)) (h : Holders) → IsHolding ranks h
-    → map says_held h.held ≡ said_up_to MOST_CANDIDATES ranks
-holding_said ranks h is = said_by_all MOST_CANDIDATES ranks h.held is.size is.each
+  marks_within : (last : ℕ) (said : List (ℕ × Says)) → All IsSaidOf said → All IsMarkOf (marks_behind last said)
+  marks_within last [] all = All-nil IsMarkOf
+  marks_within last ((rank, s) ∷ said) all =
+      All-cons IsMarkOf _ (marks_behind rank said) (All-head IsSaidOf (rank, s) said all)
+      (marks_within rank said (All-tail IsSaidOf (rank, s) said all))
+
+-- the marks of ranks that say candidates do
+pub marks_one_of : (n : ℕ) (says : List (Option Says)) → All (IsWithin n) says
+    → All (λ (m : Mark). SaysOneOf n m.says) (marks_of (by_rank says))
+marks_one_of n says all = marks_within n 0 (by_rank says) (said_within n 1 says all)
+
+-- ---- ranks of candidates
 
 -- the holders of a rank are among so many candidates from one on
 abbrev IsFrom : (from n : ℕ) → ℕ → Type 0
@@ -83,52 +90,123 @@ holders_from rank from (q ∷ qs) =
     subst (λ n. All (IsFrom from n) (filter_map (holder rank) (enumerate_from from (q ∷ qs)))) (omega arith)
     (with_holder_first rank from (length qs) q (filter_map (holder rank) (enumerate_from (from + 1) qs)) rest)
 
--- whoever is alone at a rank is one of so many candidates
-abbrev IsWithin : ℕ → Held → Type 0
-IsWithin n Nobody = ⊤
-IsWithin n (One c) = (1 ≤ c) × (c ≤ n)
-IsWithin n (More first second) = ⊤
-
-within_by : (n : ℕ) (cs : List ℕ) → All (IsFrom 1 n) cs → IsWithin n (held_by cs)
-within_by n [] all = tt
-within_by n (c ∷ []) all =
+held_within : (n : ℕ) (cs : List ℕ) → All (IsFrom 1 n) cs → IsWithin n (said_by_holders cs)
+held_within n [] all = tt
+held_within n (c ∷ []) all =
     let one = All-head (IsFrom 1 n) c [] all in (one.0, omega (arith, one.1))
-within_by n (c ∷ d ∷ cs) all = tt
+held_within n (c ∷ d ∷ cs) all = tt
 
-says_within : (n : ℕ) (h : Held) (says : Says) → IsWithin n h → says_held h ≡ Some says → SaysOneOf n says
-says_within n Nobody says within is = absurd (cc is)
-says_within n (One c) says within is = let e : says_one c ≡ says = cc is in subst (SaysOneOf n) e within
-says_within n (More first second) says within is = let e : Over ≡ says = cc is in subst (SaysOneOf n) e tt
+ranks_within : (ranks : List (Option ℕ)) (from k : ℕ)
+    → All (IsWithin (length ranks)) (map (λ rank. said_by_holders (holders rank ranks)) (range_with_len from k))
+ranks_within ranks from zero = All-nil (IsWithin (length ranks))
+ranks_within ranks from (suc k) =
+    All-cons (IsWithin (length ranks)) (said_by_holders (holders from ranks))
+    (map (λ rank. said_by_holders (holders rank ranks)) (range_with_len (from + 1) k))
+    (held_within (length ranks) (holders from ranks) (holders_from from 1 ranks)) (ranks_within ranks (from + 1) k)
 
-abbrev IsMarkOf : ℕ → Mark → Type 0
-IsMarkOf n m = SaysOneOf n m.says
+all_ranks_within : (most : ℕ) (ranks : List (Option ℕ)) → All (IsWithin (length ranks)) (said_up_to most ranks)
+unfolding said_up_to
+all_ranks_within most ranks = ranks_within ranks 1 most
 
-module _ (n : ℕ) where
-  marks_more : (last rank : ℕ) (h : Held) (hs : List Held) (o : Option Says) → says_held h ≡ o → IsWithin n h
-      → ((l : ℕ) → All (IsMarkOf n) (marking l (rank + 1) hs)) → All (IsMarkOf n) (marking last rank (h ∷ hs))
-  marks_more last rank h hs None is within rest =
-      subst (All (IsMarkOf n)) (sym (one_none last rank h hs is)) (rest last)
-  marks_more last rank h hs (Some says) is within rest =
-      subst (All (IsMarkOf n)) (sym (one_some last rank h hs says is))
-      (All-cons (IsMarkOf n) _ (marking rank (rank + 1) hs) (says_within n h says within is) (rest rank))
+-- ---- names of candidates
 
-  marks_within : (rank : ℕ) (held : List Held) → All (IsWithin n) held → (last : ℕ)
-      → All (IsMarkOf n) (marking last rank held)
-  marks_within rank [] all last = subst (All (IsMarkOf n)) (sym (marking_end last rank)) (All-nil (IsMarkOf n))
-  marks_within rank (h ∷ hs) all last =
-      marks_more last rank h hs (says_held h) refl (All-head (IsWithin n) h hs all)
-      (marks_within (rank + 1) hs (All-tail (IsWithin n) h hs all))
+module _ (asked : Asked) where
+  abbrev IsNamed : Option Says → Type 0
+  IsNamed = IsWithin (length asked.candidates)
 
--- the marks of those who have each rank say candidates
-pub marks_one_of : (ranks : List (Option ℕ)) (h : Holders) → IsHolding ranks h
-    → All (λ (m : Mark). SaysOneOf h.candidates m.says) (marks_of (by_rank (map says_held h.held)))
-marks_one_of ranks h is =
-    subst (λ (n : ℕ). All (λ (m : Mark). SaysOneOf n m.says) (marks_of (by_rank (map says_held h.held)))) (sym is.candidates)
-    (subst (All (IsMarkOf (length ranks))) (marking_is h.held)
-    (marks_within (length ranks) 1 h.held
-    (All-from_get_or (IsWithin (length ranks)) h.held Nobody
-    (λ k inside.
-    let size = is.size in
-    let within : k < MOST_CANDIDATES = omega (arith, size) in
-    subst (IsWithin (length ranks)) (sym (is.each k within))
-    (within_by (length ranks) (holders (k + 1) ranks) (holders_from (k + 1) 1 ranks)))) 0))
+  place_within : (names : List (List ℕ)) (text : List ℕ) (c : ℕ) → number_in names text ≡ Some c
+      → (1 ≤ c) × (c ≤ length names)
+  place_within names text c is =
+      let at = position_or_len (λ other. bytes_eq other text) names in
+      elim (leb_tells (suc at) (length names)) [
+        | inl inside ↦
+            let found : Some (at + 1) ≡ Some c =
+            sym (ap (λ (b : Bool). option_map (λ (i : ℕ). i + 1) (cond b (Some at) None)) inside.0) ∙ is in
+            let same : at + 1 ≡ c = cc found in
+            (omega (arith, same), omega (arith, same, inside.1))
+        | inr outside ↦
+            absurd (cc (sym (ap (λ (b : Bool). option_map (λ (i : ℕ). i + 1) (cond b (Some at) None)) outside.0) ∙ is))
+      ]
+
+  number_within : (number : Option ℕ) → ((c : ℕ) → number ≡ Some c → (1 ≤ c) × (c ≤ length asked.candidates))
+      → (says : Option Says) → some_or NoSuchCandidate (one_of number) ≡ Ok says → IsNamed says
+  number_within None within says is = absurd (cc is)
+  number_within (Some c) within says is =
+      let same : Some (One c) ≡ says = cc is in subst IsNamed same (within c refl)
+
+  by_tests : (blank over : Bool) (r : Result (Option Says) TableKind) → ((says : Option Says) → r ≡ Ok says → IsNamed says)
+      → (says : Option Says) → cond blank (Ok None) (cond over (Ok (Some Over)) r) ≡ Ok says → IsNamed says
+  by_tests true over r within says is = let same : None ≡ says = cc is in subst IsNamed same tt
+  by_tests false true r within says is = let same : Some Over ≡ says = cc is in subst IsNamed same tt
+  by_tests false false r within says is = within says is
+
+  text_within : (text : List ℕ) (says : Option Says) → says_in asked text ≡ Ok says → IsNamed says
+  text_within text says is =
+      by_tests (is_blank asked text) (is_in asked.over text)
+      (some_or NoSuchCandidate (one_of (number_in asked.candidates text)))
+      (number_within (number_in asked.candidates text) (place_within asked.candidates text)) says is
+
+  -- what is said of texts, where each is sound
+  one_more : (r : Result (Option Says) TableKind) (rs : List (Result (Option Says) TableKind))
+      → ((says : Option Says) → r ≡ Ok says → IsNamed says) → All IsNamed (sound rs) → All IsNamed (sound (r ∷ rs))
+  one_more (Ok says) rs within all = All-cons IsNamed says (sound rs) (within says refl) all
+  one_more (Err kind) rs within all = all
+
+  texts_within : (texts : List (List ℕ)) → All IsNamed (sound (map (says_in asked) texts))
+  texts_within [] = All-nil IsNamed
+  texts_within (text ∷ texts) =
+      one_more (says_in asked text) (map (says_in asked) texts) (text_within text) (texts_within texts)
+
+  list_within : (kind : Option TableKind) (rs : List (Result (Option Says) TableKind)) (says : List (Option Says))
+      → all_or kind rs ≡ Ok says → All IsNamed (sound rs) → All IsNamed says
+  list_within None rs says is all = let same : sound rs ≡ says = cc is in subst (All IsNamed) same all
+  list_within (Some kind) rs says is all = absurd (cc is)
+
+  -- what a cell says before others
+  said_more : (r : Result (Option Says) TableKind) (cells : List (Result Cell TableKind))
+      → ((says : Option Says) → r ≡ Ok says → IsNamed says) → All IsNamed (says_of (sound cells))
+      → All IsNamed (says_of (sound (as_cell Said r ∷ cells)))
+  said_more (Ok says) cells within all = All-cons IsNamed says (says_of (sound cells)) (within says refl) all
+  said_more (Err kind) cells within all = all
+
+  listed_more : (r : Result (List (Option Says)) TableKind) (cells : List (Result Cell TableKind))
+      → ((says : List (Option Says)) → r ≡ Ok says → All IsNamed says) → All IsNamed (says_of (sound cells))
+      → All IsNamed (says_of (sound (as_cell Listed r ∷ cells)))
+  listed_more (Ok says) cells within all = All-append IsNamed says (says_of (sound cells)) (within says refl) all
+  listed_more (Err kind) cells within all = all
+
+  counted_more : (r : Result ℕ TableKind) (cells : List (Result Cell TableKind)) → All IsNamed (says_of (sound cells))
+      → All IsNamed (says_of (sound (as_cell Counts r ∷ cells)))
+  counted_more (Ok n) cells all = all
+  counted_more (Err kind) cells all = all
+
+  ranked_more : (r : Result (Option ℕ) TableKind) (cells : List (Result Cell TableKind)) → All IsNamed (says_of (sound cells))
+      → All IsNamed (says_of (sound (as_cell Ranked r ∷ cells)))
+  ranked_more (Ok rank) cells all = all
+  ranked_more (Err kind) cells all = all
+
+  abbrev cells_in : (room : ℕ) → List (Column × List ℕ) → List (Result Cell TableKind)
+  cells_in room ps = map (λ (p : Column × List ℕ). cell_of asked room p.0 p.1) ps
+
+  pub cells_within : (room : ℕ) (ps : List (Column × List ℕ))
+      → All IsNamed (says_of (sound (map (λ (p : Column × List ℕ). cell_of asked room p.0 p.1) ps)))
+  cells_within room [] = All-nil IsNamed
+  cells_within room ((column.PassedOver, text) ∷ ps) = cells_within room ps
+  cells_within room ((column.Weight, text) ∷ ps) = counted_more (counted room (number text)) (cells_in room ps) (cells_within room ps)
+  cells_within room ((column.Candidate c, text) ∷ ps) = ranked_more (rank_in asked text) (cells_in room ps) (cells_within room ps)
+  cells_within room ((column.Rank r, text) ∷ ps) =
+      said_more (says_in asked text) (cells_in room ps) (text_within text) (cells_within room ps)
+  cells_within room ((column.List, text) ∷ ps) =
+      let rs = map (says_in asked) (parts text) in
+      listed_more (all_of rs) (cells_in room ps)
+      (λ says is. list_within (slice_get (filter_map fault_one rs) 0) rs says is (texts_within (parts text)))
+      (cells_within room ps)
+
+  -- what the ranks of a row say, by its layout
+  pub row_within : (l : Layout) (cells : List Cell) (columns : ℕ) → columns ≡ length (ranks_of cells)
+      → All IsNamed (says_of cells) → All (IsWithin (among l (length asked.candidates) columns)) (said_at l cells)
+  row_within layout.Ranks cells columns is all =
+      subst (λ (n : ℕ). All (IsWithin n) (said_up_to MOST_CANDIDATES (ranks_of cells))) (sym is)
+      (all_ranks_within MOST_CANDIDATES (ranks_of cells))
+  row_within layout.Choices cells columns is all = all
+  row_within layout.List cells columns is all = all

@@ -1,6 +1,7 @@
 -- What the words say of a table's columns and texts.
 use Rattle.std.specs.Prelude.{ℕ, Bool, List, Option}
 use Rattle.ballot_table.specs.declared.layout.Layout.{Layout}
+use Rattle.ballot_table.specs.declared.table_asked.TableAsked.{TableAsked}
 
 -- the layout, and the texts that have a meaning of their own
 pub record Asked : Type 0 where
@@ -18,3 +19,17 @@ pub record Asked : Type 0 where
   -- names of the candidates in number order, where the head doesn't give them
   pub candidates : List (List ℕ)
   pub withdrawn : List ℕ
+
+-- what is asked of a table, but for the byte between its fields, its blank rows and marks that are not plain
+abbrev pub asked_of : TableAsked → Asked
+asked_of asked = record {
+  layout = asked.layout;
+  bracketed = asked.bracketed;
+  labels = asked.labels;
+  weight = asked.weight;
+  blank = asked.blank;
+  over = asked.over;
+  ranks = asked.ranks;
+  candidates = asked.candidates;
+  withdrawn = asked.withdrawn;
+}

@@ -1,7 +1,6 @@
 -- Who has each rank of a row, as far as a ballot depends on it.
-use Rattle.std.specs.Prelude.{◌≡◌, ◌<◌, ◌+◌, ℕ, Bool, true, false, List, [], ◌∷◌, length, filter, Option, Some, None}
-use Rattle.std.specs.List.{slice_get, slice_index_or}
-use Rattle.std.specs.Option.{unwrap_or}
+use Rattle.std.specs.Prelude.{◌≡◌, ◌<◌, ◌+◌, ℕ, List, [], ◌∷◌, length, Option, Some, None}
+use Rattle.std.specs.List.{slice_index_or}
 use Rattle.plain_ballots.specs.declared.limits.TheConstants.{MOST_CANDIDATES}
 use Rattle.ballot_marks.specs.declared.says.Says.{Says}
 use Rattle.ballot_marks.specs.declared.says.Says.TheVariants.{One as says_one, Over}
@@ -46,13 +45,3 @@ pub record IsHolding (ranks : List (Option ℕ)) (holders_are : Holders) : Type 
   pub candidates : holders_are.candidates ≡ length ranks
   pub size : length holders_are.held ≡ MOST_CANDIDATES
   pub each : (k : ℕ) → k < MOST_CANDIDATES → slice_index_or holders_are.held k Nobody ≡ held_by (holders (k + 1) ranks)
-
--- somebody has the rank
-abbrev pub is_held : Held → Bool
-is_held Nobody = false
-is_held (One c) = true
-is_held (More first second) = true
-
--- who has the rank of the mark at a place, from 0
-abbrev pub held_at_mark : List Held → ℕ → Held
-held_at_mark held place = unwrap_or (slice_get (filter is_held held) place) Nobody

@@ -1,39 +1,33 @@
 -- What the code finds of a row.
-use Rattle.std.specs.Prelude.{◌≡◌, ℕ, List, Option, Some, None, ⊤}
-use Rattle.std.specs.Option.{option_or}
+use Rattle.std.specs.Prelude.{◌≡◌, ℕ, ◌-◌, List, Option, Some, None, ⊤}
+use Rattle.std.specs.List.{slice_get, slice_index_or}
+use Rattle.std.specs.Option.{option_or, unwrap_or}
 use Rattle.plain_ballots.specs.Ranking.{IsRanking}
-use Rattle.ballot_marks.specs.declared.mark.Mark.{Mark}
 use Rattle.ballot_marks.specs.declared.treatment.Treatment.{Treatment}
 use Rattle.ballot_marks.specs.declared.why.Why.{Why}
-use Rattle.ballot_marks.specs.Ballot.{IsRefusedAt, ranked}
+use Rattle.ballot_marks.specs.Ballot.{ranked, is_closed, is_passed, is_cut}
 use Rattle.ballot_table.specs.declared.column.Column.{Column}
 use Rattle.ballot_table.specs.declared.fault.Fault.{Fault}
-use Rattle.ballot_table.specs.declared.held.Held.{Held}
+use Rattle.ballot_table.specs.declared.held.Held.TheVariants.{Nobody}
+use Rattle.ballot_table.specs.declared.layout.Layout.{Layout}
+use Rattle.ballot_table.specs.declared.layout.Layout.TheVariants as layout
 use Rattle.ballot_table.specs.declared.record_stop.RecordStop.{RecordStop}
 use Rattle.ballot_table.specs.declared.record_stop.RecordStop.TheVariants as stop
 use Rattle.ballot_table.specs.declared.row.JudgedRow.{JudgedRow}
-use Rattle.ballot_table.specs.Held.{held_refused, held_at_mark}
+use Rattle.ballot_table.specs.declared.row_cells.RowCells.{RowCells}
+use Rattle.ballot_table.specs.Held.{held_refused}
 use Rattle.ballot_table.specs.Asked.{Asked}
 use Rattle.ballot_table.specs.Faults.{first_fault}
-use Rattle.ballot_table.specs.Refusals.{kind_of, place_of, is_candidate, mark_fault}
+use Rattle.ballot_table.specs.Refusals.{place_of, is_candidate, is_rank, mark_fault}
 use Rattle.ballot_table.specs.Rows.{Row, ballots_in, cells_of, marks_of, said_in}
 
--- A mark is refused, at the column of a candidate who has its rank.
-pub record IsMarkFault (treatment : Treatment) (held : List Held) (columns : List Column) (marks : List Mark)
-    (fault : Fault) : Type 0
-  where
-    pub place : ℕ
-    pub why : Why
-    pub refused : IsRefusedAt treatment marks place why
-    pub is : fault ≡ record {
-      kind = kind_of why;
-      place = place_of (is_candidate (held_refused why (held_at_mark held place))) columns;
-    }
-
--- why marks have no ranking; or memory is wanted
-abbrev pub IsMarkStop : Treatment → List Held → List Column → List Mark → RecordStop → Type 0
-IsMarkStop treatment held columns marks (stop.Fault fault) = IsMarkFault treatment held columns marks fault
-IsMarkStop treatment held columns marks stop.NoMemory = ⊤
+-- The column at which the mark at a place, from 0, is refused, by what is found of a row's cells.
+abbrev pub refused_at : Layout → List Column → RowCells → (place : ℕ) → Why → ℕ
+refused_at layout.Ranks columns cells place why =
+    let rank = unwrap_or (slice_get cells.said.ranks place) 0 in
+    place_of (is_candidate (held_refused why (slice_index_or cells.holders.held (rank - 1) Nobody))) columns
+refused_at layout.Choices columns cells place why = place_of (is_rank (unwrap_or (slice_get cells.said.ranks place) 0)) columns
+refused_at layout.List columns cells place why = place_of (is_rank (unwrap_or (slice_get cells.said.ranks place) 0)) columns
 
 -- a record with this fault, if it has one, is refused for it; or memory is wanted
 abbrev pub IsRowStop : Option Fault → RecordStop → Type 0
@@ -59,11 +53,15 @@ row_there asked room columns texts = record {
   marks = marks_of (said_in asked room columns texts);
 }
 
--- A row among n candidates is judged: its weight is this, its ballots are counted, and its marks have this ranking.
+-- A row among n candidates is judged: its weight is this, its ballots are counted, and its marks have this
+-- ranking, with what became of them.
 pub record IsJudgedRow (n : ℕ) (treatment : Treatment) (weight : ℕ) (row : Row) (judged : JudgedRow) : Type 0 where
   pub weight_is : judged.weight ≡ weight
   pub count : judged.count ≡ row.count
   pub ranked_is : ranked treatment row.marks ≡ Some judged.treated.ranking
+  pub closed_is : judged.treated.closed ≡ is_closed treatment row.marks
+  pub passed_is : judged.treated.passed ≡ is_passed treatment row.marks
+  pub cut_is : judged.treated.cut ≡ is_cut treatment row.marks
   pub sound : IsRanking n judged.treated.ranking
 
 -- a row is judged, or it is dropped

@@ -4,15 +4,17 @@ use Rattle.std.specs.List.{filter_map, slice_get}
 use Rattle.std.specs.Option.{option_or}
 use Rattle.plain_ballots.specs.Ballots.{BallotList, plain}
 use Rattle.ballot_marks.specs.declared.treatment.Treatment.{Treatment}
-use Rattle.ballot_marks.specs.Ballot.{ranked}
+use Rattle.ballot_marks.specs.Ballot.{ranked, is_closed, is_passed, is_cut}
 use Rattle.table_text.specs.Reading as text
 use Rattle.ballot_table.specs.declared.column.Column.{Column}
 use Rattle.ballot_table.specs.declared.fault.Fault.{Fault}
-use Rattle.ballot_table.specs.declared.ranks_asked.RanksAsked.{RanksAsked}
+use Rattle.ballot_table.specs.declared.table_asked.TableAsked.{TableAsked}
 use Rattle.ballot_table.specs.declared.table_stop.TableStop.{TableStop}
+use Rattle.ballot_table.specs.declared.tally.Tally.{Tally}
 use Rattle.ballot_table.specs.Imported.{texts_in, stops, text_stop}
-use Rattle.ballot_table.specs.Ranks.{asked_ranks}
+use Rattle.ballot_table.specs.Asked.{asked_of}
 use Rattle.ballot_table.specs.Refusals.{whole_fault}
+use Rattle.ballot_table.specs.Report.{tally_of, one_dropped, counted_if, ranks_nobody}
 use Rattle.ballot_table.specs.Rows.{Row, weight_at, row_of}
 use Rattle.ballot_table.specs.Table.{ballots}
 
@@ -22,20 +24,39 @@ rooms cols room [] = []
 rooms cols room (row ∷ rows) = (room, row) ∷ rooms cols (room - weight_at cols row) rows
 
 -- the faults of rows for which there is so much room
-abbrev pub faults_left : RanksAsked → List Column → (room : ℕ) → List text.Row → List (Option Fault)
+abbrev pub faults_left : TableAsked → List Column → (room : ℕ) → List text.Row → List (Option Fault)
 faults_left asked cols room rows =
-    map (λ r. whole_fault (asked_ranks asked) asked.treatment asked.empty r.0 cols r.1) (rooms cols room (map texts_in rows))
+    map (λ r. whole_fault (asked_of asked) asked.treatment asked.empty r.0 cols r.1) (rooms cols room (map texts_in rows))
 
 -- the first fault of what is still to come, if it has one
-abbrev pub stop_left : RanksAsked → List Column → (room : ℕ) → text.Reading → Option TableStop
+abbrev pub stop_left : TableAsked → List Column → (room : ℕ) → text.Reading → Option TableStop
 stop_left asked cols room reading =
     option_or (slice_get (stops reading.rows (faults_left asked cols room reading.rows)) 0) (text_stop reading.ending)
 
 -- the ballots of rows for which there is so much room
-abbrev pub ballots_left : RanksAsked → List Column → (room : ℕ) → List text.Row → Option (List (List ℕ))
+abbrev pub ballots_left : TableAsked → List Column → (room : ℕ) → List text.Row → Option (List (List ℕ))
 ballots_left asked cols room rows =
     ballots asked.treatment
-    (filter_map (λ r. row_of (asked_ranks asked) asked.empty r.0 cols r.1) (rooms cols room (map texts_in rows)))
+    (filter_map (λ r. row_of (asked_of asked) asked.empty r.0 cols r.1) (rooms cols room (map texts_in rows)))
+
+-- the numbers of rows for which there is so much room
+abbrev pub tally_left : TableAsked → List Column → (room : ℕ) → List text.Row → Tally
+tally_left asked cols room rows =
+    tally_of asked.treatment asked.empty (map texts_in rows)
+    (filter_map (λ r. row_of (asked_of asked) asked.empty r.0 cols r.1) (rooms cols room (map texts_in rows)))
+
+-- the numbers of a row, where it isn't dropped and where it is
+abbrev pub of_row : Treatment → Option Row → Tally
+of_row treatment None = one_dropped
+of_row treatment (Some row) = record {
+  rows = 1;
+  dropped = 0;
+  ballots = row.count;
+  empty = counted_if (ranks_nobody (ranked treatment row.marks)) row.count;
+  closed = counted_if (is_closed treatment row.marks) row.count;
+  passed = counted_if (is_passed treatment row.marks) row.count;
+  cut = counted_if (is_cut treatment row.marks) row.count;
+}
 
 -- a row's ranking is added as often as it stands for ballots
 pub record IsAddedRow (treatment : Treatment) (row : Row) (old new : BallotList) : Type 0 where

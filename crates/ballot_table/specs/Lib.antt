@@ -6,10 +6,12 @@ pub mod Head
 pub mod Cells
 pub mod Rows
 pub mod Held
-pub mod Ranks
+pub mod Said
+pub mod Finding
 pub mod Table
 pub mod Refusals
 pub mod JudgedRows
+pub mod Report
 pub mod Imported
 pub mod Sheets
 pub mod Left
@@ -17,3 +19,4 @@ pub mod Laws
 pub mod Layouts
 pub mod Worked
 pub mod WorkedTexts
+pub mod WorkedReports

@@ -77,6 +77,10 @@ pub record WorkedHeads : Type 0 where
   pub withdrawn :
       head_fault (record (plainly Ranks) { withdrawn = 1 ∷ 3 ∷ [] }) (codes "Ann" ∷ codes "Ben" ∷ [])
       ≡ fault BadWithdrawn 2
+  pub withdrawn_of_the_words :
+      head_fault (record (plainly Choices) { candidates = codes "Ann" ∷ codes "Ben" ∷ []; withdrawn = 2 ∷ 3 ∷ [] })
+      (codes "r1" ∷ codes "r2" ∷ codes "r3" ∷ [])
+      ≡ fault BadWithdrawn 2
   pub same_label :
       head_fault (record (plainly Ranks) { labels = codes "Id" ∷ [] })
       (codes "Id" ∷ codes "Ann" ∷ codes "Id" ∷ [])
@@ -185,6 +189,10 @@ pub record WorkedRows : Type 0 where
       (codes "Id" ∷ codes "Order" ∷ [])
       ((codes "1" ∷ codes "Ben;Ann;" ∷ []) ∷ (codes "2" ∷ codes "Ann" ∷ []) ∷ [])
       ≡ Some ((2 ∷ 1 ∷ []) ∷ (1 ∷ []) ∷ [])
+  pub blanks_in_a_list :
+      ballots_under strict Refuse (record (plainly Lists) { candidates = codes "Ann" ∷ codes "Ben" ∷ [] })
+      (codes "Order" ∷ []) ((codes "Ben ; Ann" ∷ []) ∷ [])
+      ≡ Some ((2 ∷ 1 ∷ []) ∷ [])
 
 abbrev pub four : List (List ℕ)
 four = codes "Ann" ∷ codes "Ben" ∷ codes "Cid" ∷ codes "Dee" ∷ []
@@ -241,3 +249,15 @@ pub record WorkedRefusals : Type 0 where
       refusal_under strict Drop (record (plainly Choices) { candidates = ann_ben_cid })
       (codes "r1" ∷ codes "r2" ∷ []) (([] ∷ []) ∷ [])
       ≡ at_row 2 UnequalRow 2
+  pub behind_another_column :
+      refusal_under strict Refuse (record (plainly Choices) { labels = codes "Id" ∷ []; candidates = ann_ben_cid })
+      (codes "Id" ∷ codes "r1" ∷ codes "r2" ∷ []) (row3 (codes "7") (codes "Ben") (codes "Ben") ∷ [])
+      ≡ at_row 2 Repeated 3
+  pub in_a_list :
+      refusal_under strict Refuse (record (plainly Lists) { labels = codes "Id" ∷ []; candidates = ann_ben_cid })
+      (codes "Id" ∷ codes "Order" ∷ []) ((codes "7" ∷ codes "Ann;Ben;Ben" ∷ []) ∷ [])
+      ≡ at_row 2 Repeated 2
+  pub skipped_in_a_list :
+      refusal_under strict Refuse (record (plainly Lists) { labels = codes "Id" ∷ []; candidates = ann_ben_cid })
+      (codes "Id" ∷ codes "Order" ∷ []) ((codes "7" ∷ codes "Ann;;Ben" ∷ []) ∷ [])
+      ≡ at_row 2 SkippedRank 2

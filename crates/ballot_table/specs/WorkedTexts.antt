@@ -4,23 +4,27 @@ use Rattle.table_text.specs.declared.text_kind.TextKind.{TextKind}
 use Rattle.table_text.specs.declared.text_kind.TextKind.TheVariants.{Ended, UnclearSeparator}
 use Rattle.ballot_marks.specs.Laws.{strict}
 use Rattle.ballot_table.specs.declared.empty.Empty.TheVariants.{Refuse}
-use Rattle.ballot_table.specs.declared.ranks_asked.RanksAsked.{RanksAsked}
+use Rattle.ballot_table.specs.declared.table_asked.TableAsked.{TableAsked}
+use Rattle.ballot_table.specs.declared.layout.Layout.TheVariants.{Ranks, List as Lists}
 use Rattle.ballot_table.specs.declared.table_kind.TableKind.{TableKind}
-use Rattle.ballot_table.specs.declared.table_kind.TableKind.TheVariants.{BadRank, UnequalRow, EqualRank}
+use Rattle.ballot_table.specs.declared.table_kind.TableKind.TheVariants.{BadRank, UnequalRow, EqualRank, Repeated}
 use Rattle.ballot_table.specs.declared.table_kind.TableKind.TheVariants.{NameExpected, ColumnExpected, BadWithdrawn}
 use Rattle.ballot_table.specs.declared.table_stop.TableStop.{TableStop}
 use Rattle.ballot_table.specs.declared.table_stop.TableStop.TheVariants as stop
 use Rattle.ballot_table.specs.Imported.{refusal}
 
 -- nothing is asked but a column for each candidate
-abbrev pub plain_ranks : RanksAsked
+abbrev pub plain_ranks : TableAsked
 plain_ranks = record {
+  layout = Ranks;
   separator = None;
   bracketed = false;
   labels = [];
   weight = None;
   blank = [];
+  over = [];
   ranks = [];
+  candidates = [];
   withdrawn = [];
   empty = Refuse;
   treatment = strict;
@@ -48,3 +52,7 @@ pub record WorkedTexts : Type 0 where
   pub no_rank : refusal plain_ranks (codes "Ann,Ben\n1,0\n") ≡ at_byte BadRank 10 2 2
   pub before_what_follows : refusal plain_ranks (codes "Ann,Ben\n1,0\n\"") ≡ at_byte BadRank 10 2 2
   pub equal_ranks : refusal plain_ranks (codes "Ann,Ben,Cid,Dee\n1,2,2,3\n") ≡ at_byte EqualRank 20 2 3
+  pub in_a_list :
+      refusal (record plain_ranks { layout = Lists; candidates = codes "Ann" ∷ codes "Ben" ∷ [] })
+      (codes "Order\nBen;Ann;\nBen;Ben\n")
+      ≡ at_byte Repeated 15 3 1

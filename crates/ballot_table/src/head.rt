@@ -7,33 +7,36 @@ ghost use Rattle.std.specs.Option.{option_or};
 ghost use Rattle.std.specs.Str.{bytes_eq};
 ghost use Rattle.plain_ballots.specs.declared.limits.TheConstants.{MOST_CANDIDATES};
 ghost use Rattle.ballot_table.specs.Faults.{first_fault};
-ghost use Rattle.ballot_table.specs.Head.{column_of, columns_of, columns, name_of, name_fault, names_of};
+ghost use Rattle.ballot_table.specs.Head.{column_of, columns_of, next_column, name_of, name_fault, names_of};
 ghost use Rattle.ballot_table.specs.Head.{unlabelled, no_column, column_expected, bad_withdrawn, head_fault};
 ghost use Rattle.ballot_table.specs.JudgedRows.{IsRowStop};
-ghost use Rattle.ballot_table.specs.Ranks.{asked_ranks, candidates_at, IsOfRanks, AreOfRanks, IsHead, IsNext};
+ghost use Rattle.ballot_table.specs.Asked.{asked_of};
+ghost use Rattle.ballot_table.specs.Finding.{candidates_at, others_at, among, named_by, IsHead, IsNext};
 ghost use Rattle.ballot_table.specs.Texts.{is_in};
 
 use crate::among::is_in;
 use crate::fault::Fault;
 use crate::record_stop::RecordStop;
-use crate::{Column, RanksAsked, TableKind, Text};
+use crate::{Column, Layout, TableAsked, TableKind, Text};
 use candidate_roll::{Name, Names};
 use plain_ballots::{MOST_CANDIDATES, NoMemory};
 use std::alloc::Global;
 
-/// The columns of a table, and how many candidates they are of.
+/// The columns of a table, how many of their heads are no labels, and how many candidates there are.
 #[derive(Drop)]
 pub(crate) struct Head {
     pub columns: Vec<Column>,
+    others: u32,
     pub candidates: u32,
 }
 
 impl Head {
     /// The head of these texts, or its first fault.
-    pub fn read(alloc: Global, asked: &RanksAsked, texts: &[Text]) -> Result<Head, RecordStop>
-        ensures stop { IfErr result (IsRowStop (head_fault (asked_ranks asked.now) texts.now)) }
-        ensures sound { OnOk result (head_fault (asked_ranks asked.now) texts.now ≡ None) }
-        ensures head { IfOk result (IsHead (asked_ranks asked.now) texts.now) }
+    pub fn read(alloc: Global, asked: &TableAsked, texts: &[Text]) -> Result<Head, RecordStop>
+        requires names { length asked.now.candidates ≤ MOST_CANDIDATES }
+        ensures stop { IfErr result (IsRowStop (head_fault (asked_of asked.now) texts.now)) }
+        ensures sound { OnOk result (head_fault (asked_of asked.now) texts.now ≡ None) }
+        ensures head { IfOk result (IsHead (asked_of asked.now) texts.now) }
     {
         let head = Head::columns(alloc, asked, texts)?;
         match head.finish(asked, texts) {
@@ -42,17 +45,22 @@ impl Head {
         }
     }
 
-    fn columns(alloc: Global, asked: &RanksAsked, texts: &[Text]) -> Result<Head, RecordStop>
-        ensures stop { IfErr result (IsRowStop (first_fault (columns_of (asked_ranks asked.now) texts.now))) }
-        ensures sound { OnOk result (first_fault (columns_of (asked_ranks asked.now) texts.now) ≡ None) }
-        ensures head { IfOk result (IsHead (asked_ranks asked.now) texts.now) }
+    // There is no room for more columns than have numbers.
+    fn columns(alloc: Global, asked: &TableAsked, texts: &[Text]) -> Result<Head, RecordStop>
+        requires names { length asked.now.candidates ≤ MOST_CANDIDATES }
+        ensures stop { IfErr result (IsRowStop (first_fault (columns_of (asked_of asked.now) texts.now))) }
+        ensures sound { OnOk result (first_fault (columns_of (asked_of asked.now) texts.now) ≡ None) }
+        ensures head { IfOk result (IsHead (asked_of asked.now) texts.now) }
     {
+        if texts.len() > u32::MAX as usize {
+            return Err(RecordStop::NoMemory);
+        }
         let mut columns = Vec::new(alloc);
-        let mut candidates = 0;
+        let mut others = 0;
         for (at, text) in texts.iter().enumerate() {
-            match column_of(asked, &texts[..at], candidates, text.bytes()) {
+            match column_of(asked, &texts[..at], others, text.bytes()) {
                 Ok(column) => {
-                    candidates += candidates_at(column);
+                    others += others_at(column);
                     if columns.push(column).is_err() {
                         return Err(RecordStop::NoMemory);
                     }
@@ -62,22 +70,24 @@ impl Head {
         }
         Ok(Head {
             columns,
-            candidates,
+            others,
+            candidates: asked.among(others),
         })
     }
 
     /// What a head has to have besides columns that are sound each.
-    fn finish(&self, asked: &RanksAsked, texts: &[Text]) -> Result<(), Fault>
-        requires { self.now.candidates ≡ length (unlabelled (asked_ranks asked.now) texts.now) }
-        ensures fault { IfErr result (λ fault. option_or (no_column (asked_ranks asked.now) texts.now)
-            (option_or (column_expected (asked_ranks asked.now) texts.now) (bad_withdrawn (asked_ranks asked.now) texts.now)) ≡ Some fault) }
-        ensures sound { OnOk result (option_or (no_column (asked_ranks asked.now) texts.now)
-            (option_or (column_expected (asked_ranks asked.now) texts.now) (bad_withdrawn (asked_ranks asked.now) texts.now)) ≡ None) }
+    fn finish(&self, asked: &TableAsked, texts: &[Text]) -> Result<(), Fault>
+        requires others { self.now.others ≡ length (unlabelled (asked_of asked.now) texts.now) }
+        requires names { self.now.candidates ≡ length (names_of (asked_of asked.now) texts.now) }
+        ensures fault { IfErr result (λ fault. option_or (no_column (asked_of asked.now) texts.now)
+            (option_or (column_expected (asked_of asked.now) texts.now) (bad_withdrawn (asked_of asked.now) texts.now)) ≡ Some fault) }
+        ensures sound { OnOk result (option_or (no_column (asked_of asked.now) texts.now)
+            (option_or (column_expected (asked_of asked.now) texts.now) (bad_withdrawn (asked_of asked.now) texts.now)) ≡ None) }
     {
         if let Some(place) = missing(asked.labels.items(), texts) {
             return Err(fault_at(TableKind::NoColumn, place));
         }
-        if self.candidates == 0 {
+        if self.others == 0 {
             return Err(Fault {
                 kind: TableKind::ColumnExpected,
                 place: texts.len() + 1,
@@ -90,12 +100,12 @@ impl Head {
     }
 }
 
-fn candidates_at(column: Column) -> u32
-    ensures { result ≡ candidates_at column }
+fn others_at(column: Column) -> u32
+    ensures { result ≡ others_at column }
 {
     match column {
-        Column::Candidate(_) => 1,
-        Column::Weight | Column::PassedOver | Column::Rank(_) | Column::List => 0,
+        Column::Candidate(_) | Column::Rank(_) | Column::List => 1,
+        Column::Weight | Column::PassedOver => 0,
     }
 }
 
@@ -122,32 +132,31 @@ fn fault_at(kind: TableKind, i: usize) -> Fault
     Fault { kind, place: i + 1 }
 }
 
-/// The column of a head's text behind these texts, of which so many name candidates.
+/// The column of a head's text behind these texts, of which so many are no labels.
 fn column_of(
-    asked: &RanksAsked,
+    asked: &TableAsked,
     before: &[Text],
-    candidates: u32,
+    others: u32,
     text: &[u8],
 ) -> Result<Column, TableKind>
-    requires counted { candidates ≡ length (unlabelled (asked_ranks asked.now) before.now) }
-    requires few { candidates ≤ MOST_CANDIDATES }
-    ensures column { result ≡ column_of (asked_ranks asked.now) before.now text.now }
-    ensures next { IfOk result (IsNext (asked_ranks asked.now) candidates text.now) }
+    requires counted { others ≡ length (unlabelled (asked_of asked.now) before.now) }
+    requires few { named_by asked.now.layout others ≤ MOST_CANDIDATES }
+    requires room { others < u32.MAX }
+    ensures column { result ≡ column_of (asked_of asked.now) before.now text.now }
+    ensures next { IfOk result (IsNext (asked_of asked.now) others text.now) }
 {
     if asked.is_label(text) {
-        return label_column(asked, before, text);
-    }
-    match name_fault(asked, before, candidates, asked.name_of(text)) {
-        Some(kind) => Err(kind),
-        None => Ok(Column::Candidate(candidates + 1)),
+        label_column(asked, before, text)
+    } else {
+        next_column(asked, before, others, text)
     }
 }
 
-fn label_column(asked: &RanksAsked, before: &[Text], text: &[u8]) -> Result<Column, TableKind>
+fn label_column(asked: &TableAsked, before: &[Text], text: &[u8]) -> Result<Column, TableKind>
     requires { is_in asked.now.labels text.now ≡ true }
-    ensures column { result ≡ column_of (asked_ranks asked.now) before.now text.now }
-    ensures other { IfOk result (λ column. candidates_at column ≡ 0) }
-    ensures kind { IfOk result IsOfRanks }
+    ensures column { result ≡ column_of (asked_of asked.now) before.now text.now }
+    ensures other { IfOk result (λ column. others_at column ≡ 0) }
+    ensures named { IfOk result (λ column. candidates_at column ≡ 0) }
 {
     if is_in(before, text) {
         Err(TableKind::RepeatedColumn)
@@ -156,15 +165,41 @@ fn label_column(asked: &RanksAsked, before: &[Text], text: &[u8]) -> Result<Colu
     }
 }
 
+/// The column of a text that is no label.
+fn next_column(
+    asked: &TableAsked,
+    before: &[Text],
+    others: u32,
+    text: &[u8],
+) -> Result<Column, TableKind>
+    requires counted { others ≡ length (unlabelled (asked_of asked.now) before.now) }
+    requires few { named_by asked.now.layout others ≤ MOST_CANDIDATES }
+    requires room { others < u32.MAX }
+    ensures column { result ≡ next_column asked.now.layout (asked_of asked.now) (unlabelled (asked_of asked.now) before.now) text.now }
+    ensures other { IfOk result (λ column. others_at column ≡ 1) }
+    ensures named { IfOk result (λ column. candidates_at column ≡ named_by asked.now.layout 1) }
+    ensures few { OnOk result (named_by asked.now.layout (others + 1) ≤ MOST_CANDIDATES) }
+{
+    match asked.layout {
+        Layout::Choices => Ok(Column::Rank(others + 1)),
+        Layout::List if others == 0 => Ok(Column::List),
+        Layout::List => Err(TableKind::TooManyColumns),
+        Layout::Ranks => match name_fault(asked, before, others, asked.name_of(text)) {
+            Some(kind) => Err(kind),
+            None => Ok(Column::Candidate(others + 1)),
+        },
+    }
+}
+
 /// Why a name is none, or one too many.
 fn name_fault(
-    asked: &RanksAsked,
+    asked: &TableAsked,
     before: &[Text],
     candidates: u32,
     name: &[u8],
 ) -> Option<TableKind>
-    requires { candidates ≡ length (unlabelled (asked_ranks asked.now) before.now) }
-    ensures fault { result ≡ name_fault (map (name_of (asked_ranks asked.now)) (unlabelled (asked_ranks asked.now) before.now)) name.now }
+    requires { candidates ≡ length (unlabelled (asked_of asked.now) before.now) }
+    ensures fault { result ≡ name_fault (map (name_of (asked_of asked.now)) (unlabelled (asked_of asked.now) before.now)) name.now }
     ensures few { result ≡ None → candidates < MOST_CANDIDATES }
 {
     match name {
@@ -173,10 +208,10 @@ fn name_fault(
     }
 }
 
-fn bad_name(asked: &RanksAsked, before: &[Text], candidates: u32, name: &[u8]) -> Option<TableKind>
-    requires counted { candidates ≡ length (unlabelled (asked_ranks asked.now) before.now) }
+fn bad_name(asked: &TableAsked, before: &[Text], candidates: u32, name: &[u8]) -> Option<TableKind>
+    requires counted { candidates ≡ length (unlabelled (asked_of asked.now) before.now) }
     requires some { 1 ≤ length name.now }
-    ensures fault { result ≡ name_fault (map (name_of (asked_ranks asked.now)) (unlabelled (asked_ranks asked.now) before.now)) name.now }
+    ensures fault { result ≡ name_fault (map (name_of (asked_of asked.now)) (unlabelled (asked_of asked.now) before.now)) name.now }
     ensures few { result ≡ None → candidates < MOST_CANDIDATES }
 {
     if has_bad_byte(name) {
@@ -200,27 +235,40 @@ fn has_bad_byte(name: &[u8]) -> bool
 
 /// Whether a head's text that is no label says this name.
 #[tactic(auto, using(crate::proofs::HeadLemmas::named_is))]
-fn is_named(asked: &RanksAsked, before: &[Text], name: &[u8]) -> bool
-    ensures { result ≡ is_in (map (name_of (asked_ranks asked.now)) (unlabelled (asked_ranks asked.now) before.now)) name.now }
+fn is_named(asked: &TableAsked, before: &[Text], name: &[u8]) -> bool
+    ensures { result ≡ is_in (map (name_of (asked_of asked.now)) (unlabelled (asked_of asked.now) before.now)) name.now }
 {
     some_says(asked, before, name)
 }
 
-fn some_says(asked: &RanksAsked, texts: &[Text], name: &[u8]) -> bool
-    ensures { result ≡ list_any (λ other. not (is_in asked.now.labels other) && bytes_eq (name_of (asked_ranks asked.now) other) name.now) texts.now }
+fn some_says(asked: &TableAsked, texts: &[Text], name: &[u8]) -> bool
+    ensures { result ≡ list_any (λ other. not (is_in asked.now.labels other) && bytes_eq (name_of (asked_of asked.now) other) name.now) texts.now }
 {
     texts.iter().any(|other| says(asked, other, name))
 }
 
-fn says(asked: &RanksAsked, text: &Text, name: &[u8]) -> bool
-    ensures { result ≡ (not (is_in asked.now.labels text.now) && bytes_eq (name_of (asked_ranks asked.now) text.now) name.now) }
+fn says(asked: &TableAsked, text: &Text, name: &[u8]) -> bool
+    ensures { result ≡ (not (is_in asked.now.labels text.now) && bytes_eq (name_of (asked_of asked.now) text.now) name.now) }
 {
     !asked.is_label(text.bytes()) && asked.name_of(text.bytes()) == name
 }
 
+/// The names of the candidates, by a sound head or by the words.
+pub(crate) fn names(alloc: Global, asked: &TableAsked, texts: &[Text]) -> Result<Names, NoMemory>
+    ensures { IfOk result (λ names. names ≡ names_of (asked_of asked.now) texts.now) }
+{
+    match asked.layout {
+        Layout::Ranks => head_names(alloc, asked, texts),
+        Layout::Choices | Layout::List => match asked.candidates.copy(alloc) {
+            Ok(names) => Ok(names),
+            Err(_) => Err(NoMemory),
+        },
+    }
+}
+
 /// The names that a sound head says.
-pub(crate) fn names(alloc: Global, asked: &RanksAsked, texts: &[Text]) -> Result<Names, NoMemory>
-    ensures { IfOk result (λ names. names ≡ names_of (asked_ranks asked.now) texts.now) }
+fn head_names(alloc: Global, asked: &TableAsked, texts: &[Text]) -> Result<Names, NoMemory>
+    ensures { IfOk result (λ names. names ≡ map (name_of (asked_of asked.now)) (unlabelled (asked_of asked.now) texts.now)) }
 {
     let mut names = Names::new(alloc);
     for text in texts {

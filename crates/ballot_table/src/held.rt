@@ -1,6 +1,6 @@
 // Who has each rank of a row.
 ghost use Rattle.std.specs.Prelude.{◌≡◌};
-ghost use Rattle.ballot_table.specs.Held.{is_held, with_holder, says_held, held_refused};
+ghost use Rattle.ballot_table.specs.Held.{with_holder, says_held, held_refused};
 
 use ballot_marks::{Says, Why};
 
@@ -13,16 +13,6 @@ pub(crate) enum Held {
 }
 
 impl Held {
-    /// Somebody has the rank.
-    pub fn is_held(self) -> bool
-        ensures { result ≡ is_held self }
-    {
-        match self {
-            Held::Nobody => false,
-            Held::One(_) | Held::More { .. } => true,
-        }
-    }
-
     /// One more candidate has the rank.
     pub fn with(self, candidate: u32) -> Held
         ensures { result ≡ with_holder self candidate }

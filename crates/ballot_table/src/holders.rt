@@ -1,12 +1,13 @@
 // The ranks of a row's candidates.
-ghost use Rattle.std.specs.Prelude.{◌≡◌, ◌<◌, ◌≤◌, length, ◌+◌, ℕ, List, [], ◌∷◌, ◌++◌, map, Option, Some};
-ghost use Rattle.std.specs.Prelude.{OnOk};
+ghost use Rattle.std.specs.Prelude.{◌≡◌, ◌<◌, ◌+◌, ◌-◌, ℕ, List, [], ◌∷◌, ◌++◌, map, Option, Some, OnOk};
+ghost use Rattle.std.specs.List.{slice_index_or};
 ghost use Rattle.plain_ballots.specs.declared.limits.TheConstants.{MOST_CANDIDATES};
-ghost use Rattle.ballot_table.specs.Held.{IsHolding, says_held, held_at_mark};
-ghost use Rattle.ballot_table.specs.Rows.{by_rank, marks_of};
+ghost use Rattle.ballot_table.specs.declared.held.Held.TheVariants.{Nobody};
+ghost use Rattle.ballot_table.specs.Held.{IsHolding, says_held};
+ghost use Rattle.ballot_table.specs.Said.{IsSaying};
 
 use crate::held::Held;
-use ballot_marks::{Mark, Marks};
+use crate::said_ranks::SaidRanks;
 use plain_ballots::{MOST_CANDIDATES, NoMemory};
 
 const ROOM: usize = MOST_CANDIDATES as usize;
@@ -60,47 +61,33 @@ impl Holders {
         }
     }
 
-    /// Puts the marks of all ranks into an emptied list.
-    pub fn put_marks(&self, marks: &mut Marks) -> Result<(), NoMemory>
-        ensures { OnOk result (marks.new ≡ marks_of (by_rank (map says_held self.now.held))) }
+    /// What each rank says, in place of what was said.
+    pub fn say(&self, said: &mut SaidRanks) -> Result<(), NoMemory>
+        ensures { OnOk result (IsSaying (map says_held self.now.held) said.new) }
     {
-        put_marks(&self.held, marks)
+        say(&self.held, said)
     }
 
-    /// Who has the rank of the mark at a place, from 0.
-    pub fn at_mark(&self, place: usize) -> Held
-        ensures { result ≡ held_at_mark self.now.held place }
+    /// Who has a rank.
+    pub fn at(&self, rank: u32) -> Held
+        ensures { result ≡ slice_index_or self.now.held (rank - 1) Nobody }
     {
-        let mut left = place;
-        for held in &self.held {
-            if held.is_held() {
-                if left == 0 {
-                    return *held;
-                }
-                left -= 1;
-            }
+        let at = rank.saturating_sub(1) as usize;
+        if at < ROOM {
+            self.held[at]
+        } else {
+            Held::Nobody
         }
-        Held::Nobody
     }
 }
 
-// Puts the marks of all ranks into an emptied list.
-fn put_marks(ranks: &[Held], marks: &mut Marks) -> Result<(), NoMemory>
-    requires { length ranks.now ≤ MOST_CANDIDATES }
-    ensures { OnOk result (marks.new ≡ marks_of (by_rank (map says_held ranks.now))) }
+// What those say who have each rank, in place of what was said.
+fn say(ranks: &[Held], said: &mut SaidRanks) -> Result<(), NoMemory>
+    ensures { OnOk result (IsSaying (map says_held ranks.now) said.new) }
 {
-    marks.clear();
-    let mut last = 0;
-    for (at, held) in ranks.iter().enumerate() {
-        let rank = at as u32 + 1;
-        match held.says() {
-            Some(says) => {
-                let skipped = rank - last - 1;
-                marks.push(Mark { skipped, says })?;
-                last = rank;
-            }
-            None => {}
-        }
+    said.clear();
+    for held in ranks {
+        said.push(held.says())?;
     }
     Ok(())
 }

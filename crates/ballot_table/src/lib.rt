@@ -1,12 +1,13 @@
 //! What a table of ballots means: a head of columns, rows whose cells are marks, the ballots that the rows
 //! stand for, and the first fault where it is refused.
 //!
-//! [`read_ranks`] reads a table that has a column for each candidate, as a [`RanksAsked`] says. Tables with a
-//! column for each rank or with lists have their definitions and laws here, and no reader yet.
+//! [`read_table`] reads a table as a [`TableAsked`] says: with a column for each candidate, with one for each rank, or with
+//! lists.
 #![tactic(auto)]
 
 mod among;
 mod brackets;
+mod cell_stop;
 mod column;
 mod edges;
 mod empty;
@@ -19,14 +20,17 @@ mod laws;
 mod layout;
 mod numbers;
 mod numeral;
-mod ranks_asked;
 mod reader;
 mod record_stop;
 mod row;
 mod row_cells;
+mod rows;
+mod said_ranks;
 mod sheet;
+mod table_asked;
 mod table_kind;
 mod table_stop;
+mod tally;
 mod text;
 mod texts;
 mod worked;
@@ -40,10 +44,11 @@ pub use laws::{
 };
 pub use layout::Layout;
 pub use numbers::Numbers;
-pub use ranks_asked::RanksAsked;
-pub use reader::read_ranks;
+pub use reader::read_table;
+pub use table_asked::TableAsked;
 pub use table_kind::TableKind;
 pub use table_stop::TableStop;
+pub use tally::Tally;
 pub use text::Text;
 pub use texts::Texts;
-pub use worked::{worked_tables, worked_texts};
+pub use worked::{worked_reports, worked_tables, worked_texts};

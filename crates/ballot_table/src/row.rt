@@ -1,22 +1,19 @@
 // A row of a table.
-ghost use Rattle.std.specs.Prelude.{◌≡◌, ◌<◌, ◌≤◌, ◌+◌, min, position, None, Some, length, sum_by, All, OnOk};
+ghost use Rattle.std.specs.Prelude.{◌≡◌, ◌<◌, ◌≤◌, ◌+◌, min, position, None, length, sum_by, OnOk};
 ghost use Rattle.std.specs.Prelude.{IfOk, IfErr, IfSome};
 ghost use Rattle.plain_ballots.specs.declared.limits.TheConstants.{MOST_BALLOTS, MOST_CANDIDATES};
-ghost use Rattle.plain_ballots.specs.Ranking.{IsRanking};
-ghost use Rattle.ballot_marks.specs.Ballot.{ranked};
-ghost use Rattle.ballot_marks.specs.Marks.{SaysOneOf};
-ghost use Rattle.ballot_table.specs.Ranks.{asked_ranks, candidates_at, AreOfRanks};
-ghost use Rattle.ballot_table.specs.JudgedRows.{IsMarkStop, IsRowStop, IsJudged, IsJudgedRow, HasNoFault};
-ghost use Rattle.ballot_table.specs.JudgedRows.{cells_fault, row_there};
-ghost use Rattle.ballot_table.specs.Refusals.{kind_of, place_of, is_candidate, whole_fault};
+ghost use Rattle.ballot_table.specs.Asked.{asked_of};
+ghost use Rattle.ballot_table.specs.Finding.{candidates_at, candidates_in};
+ghost use Rattle.ballot_table.specs.JudgedRows.{IsRowStop, IsJudged, IsJudgedRow, HasNoFault};
+ghost use Rattle.ballot_table.specs.JudgedRows.{cells_fault, refused_at, row_there};
+ghost use Rattle.ballot_table.specs.Refusals.{kind_of, place_of, is_candidate, is_rank, whole_fault};
 ghost use Rattle.ballot_table.specs.Rows.{all_blank, row_of, weight_at};
 
 use crate::fault::Fault;
-use crate::holders::Holders;
 use crate::record_stop::RecordStop;
 use crate::row_cells::RowCells;
-use crate::{Column, Empty, RanksAsked, TableKind, Text};
-use ballot_marks::{Marks, TreatStop, Treated, Why, treat};
+use crate::{Column, Empty, Layout, TableAsked, TableKind, Text};
+use ballot_marks::{TreatStop, Treated, Why, treat};
 use std::alloc::Global;
 
 /// What a row comes to: the number of ballots that it stands for, and their ranking.
@@ -31,18 +28,19 @@ pub(crate) struct JudgedRow {
 /// What a row comes to, if it isn't dropped; so many more ballots have room.
 pub(crate) fn read_row(
     alloc: Global,
-    asked: &RanksAsked,
+    asked: &TableAsked,
     room: u32,
     columns: &[Column],
     texts: &[Text],
-    marks: &mut Marks,
+    cells: &mut RowCells,
 ) -> Result<Option<JudgedRow>, RecordStop>
+    requires names { length asked.now.candidates ≤ MOST_CANDIDATES }
     requires room { room ≤ MOST_BALLOTS }
-    requires columns { AreOfRanks columns.now }
-    ensures stop { IfErr result (IsRowStop (whole_fault (asked_ranks asked.now) asked.now.treatment asked.now.empty room columns.now texts.now)) }
-    ensures sound { OnOk result (whole_fault (asked_ranks asked.now) asked.now.treatment asked.now.empty room columns.now texts.now ≡ None) }
-    ensures row { IfOk result (IsJudged (sum_by candidates_at columns.now) asked.now.treatment (weight_at columns.now texts.now)
-        (row_of (asked_ranks asked.now) asked.now.empty room columns.now texts.now)) }
+    requires few { sum_by candidates_at columns.now ≤ MOST_CANDIDATES }
+    ensures stop { IfErr result (IsRowStop (whole_fault (asked_of asked.now) asked.now.treatment asked.now.empty room columns.now texts.now)) }
+    ensures sound { OnOk result (whole_fault (asked_of asked.now) asked.now.treatment asked.now.empty room columns.now texts.now ≡ None) }
+    ensures row { IfOk result (IsJudged (candidates_in (asked_of asked.now) columns.now) asked.now.treatment (weight_at columns.now texts.now)
+        (row_of (asked_of asked.now) asked.now.empty room columns.now texts.now)) }
 {
     if texts.len() != columns.len() {
         return Err(RecordStop::Fault(unequal(texts.len(), columns.len())));
@@ -54,59 +52,59 @@ pub(crate) fn read_row(
             Empty::Keep => {}
         }
     }
-    let row = judge_cells(alloc, asked, room, columns, texts, marks)?;
+    let row = judge_cells(alloc, asked, room, columns, texts, cells)?;
     Ok(Some(row))
 }
 
 // What the cells of a row come to.
 fn judge_cells(
     alloc: Global,
-    asked: &RanksAsked,
+    asked: &TableAsked,
     room: u32,
     columns: &[Column],
     texts: &[Text],
-    marks: &mut Marks,
+    cells: &mut RowCells,
 ) -> Result<JudgedRow, RecordStop>
+    requires names { length asked.now.candidates ≤ MOST_CANDIDATES }
     requires room { room ≤ MOST_BALLOTS }
-    requires columns { AreOfRanks columns.now }
+    requires few { sum_by candidates_at columns.now ≤ MOST_CANDIDATES }
     requires texts { length texts.now ≡ length columns.now }
-    ensures stop { IfErr result (IsRowStop (cells_fault (asked_ranks asked.now) asked.now.treatment room columns.now texts.now)) }
-    ensures sound { OnOk result (HasNoFault (asked_ranks asked.now) asked.now.treatment room columns.now texts.now) }
-    ensures row { IfOk result (IsJudgedRow (sum_by candidates_at columns.now) asked.now.treatment (weight_at columns.now texts.now)
-        (row_there (asked_ranks asked.now) room columns.now texts.now)) }
+    ensures stop { IfErr result (IsRowStop (cells_fault (asked_of asked.now) asked.now.treatment room columns.now texts.now)) }
+    ensures sound { OnOk result (HasNoFault (asked_of asked.now) asked.now.treatment room columns.now texts.now) }
+    ensures row { IfOk result (IsJudgedRow (candidates_in (asked_of asked.now) columns.now) asked.now.treatment (weight_at columns.now texts.now)
+        (row_there (asked_of asked.now) room columns.now texts.now)) }
 {
-    let cells = RowCells::read(asked, room, columns, texts)?;
-    cells.holders.put_marks(marks)?;
-    match treated(alloc, asked, &cells.holders, columns, marks) {
+    cells.read(asked, room, columns, texts)?;
+    cells.say(asked.layout)?;
+    let candidates = asked.among(cells.holders.candidates());
+    match treat(alloc, cells.said.marks(), &asked.treatment, candidates) {
         Ok(treated) => Ok(JudgedRow {
             weight: cells.count.unwrap_or(0),
             count: cells.count.unwrap_or(1),
             treated,
         }),
-        Err(stop) => Err(stop),
-    }
-}
-
-fn treated(
-    alloc: Global,
-    asked: &RanksAsked,
-    holders: &Holders,
-    columns: &[Column],
-    marks: &Marks,
-) -> Result<Treated, RecordStop>
-    requires few { holders.now.candidates ≤ MOST_CANDIDATES }
-    requires candidates { All (λ m. SaysOneOf holders.now.candidates m.says) marks.now }
-    ensures ranked { IfOk result (λ treated. ranked asked.now.treatment marks.now ≡ Some treated.ranking) }
-    ensures sound { IfOk result (λ treated. IsRanking holders.now.candidates treated.ranking) }
-    ensures stop { IfErr result (IsMarkStop asked.now.treatment holders.now.held columns.now marks.now) }
-{
-    match treat(alloc, marks.items(), &asked.treatment, holders.candidates()) {
-        Ok(treated) => Ok(treated),
         Err(TreatStop::NoMemory) => Err(RecordStop::NoMemory),
         Err(TreatStop::Refused { place, why }) => Err(RecordStop::Fault(Fault {
             kind: kind_of(why),
-            place: place_of_candidate(columns, holders.at_mark(place).refused(why)),
+            place: refused_column(asked.layout, columns, cells, place, why),
         })),
+    }
+}
+
+// The column at which the mark at a place, from 0, is refused.
+fn refused_column(
+    layout: Layout,
+    columns: &[Column],
+    cells: &RowCells,
+    place: usize,
+    why: Why,
+) -> usize
+    ensures { result ≡ refused_at layout columns.now cells.now place why }
+{
+    let rank = cells.said.rank_at(place);
+    match layout {
+        Layout::Ranks => place_of_candidate(columns, cells.holders.at(rank).refused(why)),
+        Layout::Choices | Layout::List => place_of_rank(columns, rank),
     }
 }
 
@@ -124,13 +122,13 @@ fn kind_of(why: Why) -> TableKind
 fn place_of_candidate(columns: &[Column], candidate: u32) -> usize
     ensures { result ≡ place_of (is_candidate candidate) columns.now }
 {
-    match column_of(columns, candidate) {
+    match candidate_column(columns, candidate) {
         Some(at) => at + 1,
         None => 1,
     }
 }
 
-fn column_of(columns: &[Column], candidate: u32) -> Option<usize>
+fn candidate_column(columns: &[Column], candidate: u32) -> Option<usize>
     ensures at { result ≡ position (is_candidate candidate) columns.now }
     ensures inside { IfSome result (λ at. at < length columns.now) }
 {
@@ -145,6 +143,33 @@ fn is_candidate(candidate: u32, column: Column) -> bool
     match column {
         Column::Candidate(other) => other == candidate,
         Column::Weight | Column::PassedOver | Column::Rank(_) | Column::List => false,
+    }
+}
+
+/// The place of a rank's column, or of the lists', from 1.
+fn place_of_rank(columns: &[Column], rank: u32) -> usize
+    ensures { result ≡ place_of (is_rank rank) columns.now }
+{
+    match rank_column(columns, rank) {
+        Some(at) => at + 1,
+        None => 1,
+    }
+}
+
+fn rank_column(columns: &[Column], rank: u32) -> Option<usize>
+    ensures at { result ≡ position (is_rank rank) columns.now }
+    ensures inside { IfSome result (λ at. at < length columns.now) }
+{
+    columns.iter().position(|column| is_rank(rank, *column))
+}
+
+fn is_rank(rank: u32, column: Column) -> bool
+    ensures { result ≡ is_rank rank column }
+{
+    match column {
+        Column::Rank(other) => other == rank,
+        Column::List => true,
+        Column::Weight | Column::PassedOver | Column::Candidate(_) => false,
     }
 }
 

@@ -1,79 +1,113 @@
 // The cells of a row, one after another.
-ghost use Rattle.std.specs.Prelude.{◌≡◌, ◌+◌, ◌≤◌, [], Some, None, length, OnOk, IfOk, IfErr};
+ghost use Rattle.std.specs.Prelude.{◌≡◌, ◌+◌, ◌≤◌, [], None, length, map, sum_by, OnOk, IfErr};
 ghost use Rattle.plain_ballots.specs.declared.limits.TheConstants.{MOST_BALLOTS, MOST_CANDIDATES};
-ghost use Rattle.ballot_table.specs.Cells.{cell_of, counted, fault_one};
+ghost use Rattle.ballot_table.specs.Asked.{asked_of};
+ghost use Rattle.ballot_table.specs.Cells.{cell_of, counted, all_of, fault_one, says_in};
 ghost use Rattle.ballot_table.specs.Faults.{first_fault, sound_one};
+ghost use Rattle.ballot_table.specs.Finding.{candidates_at, AreTaken, IsCellStop, IsSaidBy, IsTaken, SaysAll};
 ghost use Rattle.ballot_table.specs.Held.{IsHolding};
-ghost use Rattle.ballot_table.specs.Ranks.{asked_ranks, candidates_at, IsOfRanks, AreOfRanks, IsTaken};
-ghost use Rattle.ballot_table.specs.Ranks.{AreRead};
+ghost use Rattle.ballot_table.specs.JudgedRows.{IsRowStop};
 ghost use Rattle.ballot_table.specs.Rows.{cells_of};
-ghost use Rattle.ballot_table.specs.Texts.{number};
+ghost use Rattle.ballot_table.specs.Said.{IsSaying};
+ghost use Rattle.ballot_table.specs.Texts.{number, parts};
 
+use crate::cell_stop::CellStop;
+use crate::edges::trimmed;
 use crate::fault::Fault;
 use crate::holders::Holders;
 use crate::numeral::{Numeral, numeral_in};
-use crate::{Column, RanksAsked, TableKind, Text};
+use crate::record_stop::RecordStop;
+use crate::said_ranks::SaidRanks;
+use crate::{Column, Layout, TableAsked, TableKind, Text};
+use plain_ballots::NoMemory;
+use std::alloc::Global;
 
-/// What the cells of a row say: the number of ballots in the weight's column, where there is one, and who has each
-/// rank.
+/// What the cells of a row say: the number of ballots in the weight's column, where there is one, who has each rank, and
+/// what each rank says. Whoever reads many rows can read each of them into the same.
 #[derive(Drop)]
 pub(crate) struct RowCells {
     pub count: Option<u32>,
     pub holders: Holders,
+    pub said: SaidRanks,
 }
 
 impl RowCells {
     /// No cell yet.
-    pub fn new() -> RowCells
-        ensures count { result.count ≡ None }
-        ensures holding { IsHolding [] result.holders }
-    {
+    pub fn new(alloc: Global) -> RowCells {
         RowCells {
             count: None,
             holders: Holders::new(),
+            said: SaidRanks::new(alloc),
         }
     }
 
-    /// The cells of a row for which so many more ballots have room, or the first fault of one.
+    /// Takes out what was read of another row.
+    fn clear(&mut self)
+        ensures count { self.new.count ≡ None }
+        ensures holding { IsHolding [] self.new.holders }
+        ensures saying { IsSaying [] self.new.said }
+    {
+        self.count = None;
+        self.holders = Holders::new();
+        self.said.clear();
+    }
+
+    /// Reads the cells of a row for which so many more ballots have room, or gives the first fault of one.
     pub fn read(
-        asked: &RanksAsked,
+        &mut self,
+        asked: &TableAsked,
         room: u32,
         columns: &[Column],
         texts: &[Text],
-    ) -> Result<RowCells, Fault>
+    ) -> Result<(), RecordStop>
+        requires names { length asked.now.candidates ≤ MOST_CANDIDATES }
         requires room { room ≤ MOST_BALLOTS }
-        requires columns { AreOfRanks columns.now }
+        requires few { sum_by candidates_at columns.now ≤ MOST_CANDIDATES }
         requires texts { length texts.now ≡ length columns.now }
-        ensures fault { IfErr result (λ fault. first_fault (cells_of (asked_ranks asked.now) room columns.now texts.now) ≡ Some fault) }
-        ensures sound { OnOk result (first_fault (cells_of (asked_ranks asked.now) room columns.now texts.now) ≡ None) }
-        ensures cells { IfOk result (AreRead (asked_ranks asked.now) room columns.now texts.now) }
+        ensures stop { IfErr result (IsRowStop (first_fault (cells_of (asked_of asked.now) room columns.now texts.now))) }
+        ensures sound { OnOk result (first_fault (cells_of (asked_of asked.now) room columns.now texts.now) ≡ None) }
+        ensures taken { OnOk result (AreTaken (asked_of asked.now) room columns.now texts.now self.new) }
     {
-        let mut cells = RowCells::new();
+        self.clear();
         for (at, column) in columns.iter().enumerate() {
-            match cells.take(asked, room, *column, texts[at].bytes()) {
+            match self.take(asked, room, *column, texts[at].bytes()) {
                 Ok(()) => {}
-                Err(kind) => return Err(Fault {
+                Err(CellStop::Fault(kind)) => return Err(RecordStop::Fault(Fault {
                     kind,
                     place: at + 1,
-                }),
+                })),
+                Err(CellStop::NoMemory) => return Err(RecordStop::NoMemory),
             }
         }
-        Ok(cells)
+        Ok(())
+    }
+
+    /// What each rank says is what those say who have it, where the columns are the candidates'.
+    pub fn say(&mut self, layout: Layout) -> Result<(), NoMemory>
+        ensures count { self.new.count ≡ self.old.count }
+        ensures holders { self.new.holders ≡ self.old.holders }
+        ensures said { OnOk result (IsSaidBy layout self.old self.new) }
+    {
+        match layout {
+            Layout::Ranks => self.holders.say(&mut self.said),
+            Layout::Choices | Layout::List => Ok(()),
+        }
     }
 
     /// Takes in the next cell.
     fn take(
         &mut self,
-        asked: &RanksAsked,
+        asked: &TableAsked,
         room: u32,
         column: Column,
         text: &[u8],
-    ) -> Result<(), TableKind>
+    ) -> Result<(), CellStop>
+        requires names { length asked.now.candidates ≤ MOST_CANDIDATES }
         requires room { room ≤ MOST_BALLOTS }
-        requires column { IsOfRanks column }
         requires few { self.old.holders.candidates + candidates_at column ≤ MOST_CANDIDATES }
-        ensures fault { fault_one result ≡ fault_one (cell_of (asked_ranks asked.now) room column text.now) }
-        ensures taken { OnOk result (IsTaken (sound_one (cell_of (asked_ranks asked.now) room column text.now)) self.old self.new) }
+        ensures stop { IfErr result (IsCellStop (fault_one (cell_of (asked_of asked.now) room column text.now))) }
+        ensures sound { OnOk result (fault_one (cell_of (asked_of asked.now) room column text.now) ≡ None) }
+        ensures taken { OnOk result (IsTaken (sound_one (cell_of (asked_of asked.now) room column text.now)) self.old self.new) }
         ensures candidates { OnOk result (self.new.holders.candidates ≡ self.old.holders.candidates + candidates_at column) }
     {
         match column {
@@ -88,9 +122,30 @@ impl RowCells {
                 self.holders.put(rank);
                 Ok(())
             }
-            Column::Rank(_) | Column::List => unreachable!(),
+            Column::Rank(_) => {
+                let says = asked.says_in(text)?;
+                self.said.push(says)?;
+                Ok(())
+            }
+            Column::List => push_parts(asked, text, &mut self.said),
         }
     }
+}
+
+/// Takes in what the parts of a list say.
+fn push_parts(asked: &TableAsked, list: &[u8], said: &mut SaidRanks) -> Result<(), CellStop>
+    requires names { length asked.now.candidates ≤ MOST_CANDIDATES }
+    ensures stop { IfErr result (IsCellStop (fault_one (all_of (map (says_in (asked_of asked.now)) (parts list.now))))) }
+    ensures sound { OnOk result (fault_one (all_of (map (says_in (asked_of asked.now)) (parts list.now))) ≡ None) }
+    ensures said { OnOk result (SaysAll (sound_one (all_of (map (says_in (asked_of asked.now)) (parts list.now)))) said.old said.new) }
+{
+    for part in list.split(|b| *b == b';') {
+        match asked.says_in(trimmed(part)) {
+            Ok(says) => said.push(says)?,
+            Err(kind) => return Err(CellStop::Fault(kind)),
+        }
+    }
+    Ok(())
 }
 
 /// The number of ballots in a cell, of which there is room for so many more.

@@ -1,5 +1,6 @@
 // Tables worked by hand.
 ghost use Rattle.ballot_table.specs.Worked.{WorkedHeads, WorkedRows, WorkedRefusals};
+ghost use Rattle.ballot_table.specs.WorkedReports.{WorkedReports};
 ghost use Rattle.ballot_table.specs.WorkedTexts.{WorkedTexts};
 
 /// Tables worked by hand have the heads, the ballots and the faults that are defined.
@@ -12,4 +13,9 @@ pub fn worked_tables()
 /// Texts worked by hand are refused, each at its byte, its row and its column, or are not.
 pub fn worked_texts()
     ensures { WorkedTexts }
+{}
+
+/// The numbers of tables worked by hand: of rows, and of the ballots that they stand for.
+pub fn worked_reports()
+    ensures { WorkedReports }
 {}

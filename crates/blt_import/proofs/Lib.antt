@@ -2,3 +2,4 @@ mod Owing
 mod OneText
 mod Withdrawn
 mod WordLemmas
+mod FormLemmas

@@ -9,13 +9,12 @@ use Rattle.std.proofs.lemmas.List.Elements.{All-from_get_or, All-weaker}
 use Rattle.std.proofs.lemmas.List.Sums.{fails_before_first}
 use Rattle.table_text.specs.Reading as text
 use Rattle.ballot_table.specs.declared.imported.Imported.{Imported}
-use Rattle.ballot_table.specs.declared.ranks_asked.RanksAsked.{RanksAsked}
+use Rattle.ballot_table.specs.declared.table_asked.TableAsked.{TableAsked}
 use Rattle.ballot_table.specs.declared.table_kind.TableKind.TheVariants.{BadWithdrawn}
-use Rattle.ballot_table.specs.Asked.{Asked}
+use Rattle.ballot_table.specs.Asked.{Asked, asked_of}
 use Rattle.ballot_table.specs.Faults.{first_fault}
 use Rattle.ballot_table.specs.Head.{bad_withdrawn, column_expected, columns, columns_of, fault_at, head_fault, names_of, no_column}
 use Rattle.ballot_table.specs.Imported.{IsImported, record_stop, refusal, stop_at, stop_by, text_stop, texts_in}
-use Rattle.ballot_table.specs.Ranks.{asked_ranks}
 use Rattle.ballot_table.specs.Refusals.{faults_below}
 
 or_none : {X : Type 0} (a b : Option X) → option_or a b ≡ None → (a ≡ None) × (b ≡ None)
@@ -49,16 +48,16 @@ head_none :
 head_none at row None rows faults is = refl
 head_none at row (Some fault) rows faults is = absurd (cc is)
 
-module _ (asked : RanksAsked) where
+module _ (asked : TableAsked) where
   head_sound :
       (bytes : List ℕ) (table : Imported) (is : IsImported asked bytes table) → refusal asked bytes ≡ None
-      → head_fault (asked_ranks asked) (texts_in is.head) ≡ None
+      → head_fault (asked_of asked) (texts_in is.head) ≡ None
   head_sound bytes table is none =
       let reading = text.read_text is.byte bytes in
       let read : stop_by asked bytes (Ok is.byte) ≡ None = sym (ap (stop_by asked bytes) is.separated) ∙ none in
       let whole = (or_none (record_stop asked reading.rows) (text_stop reading.ending) read).0 in
       let first : record_stop asked (is.head ∷ is.below) ≡ None = sym (ap (record_stop asked) is.records) ∙ whole in
-      let all = asked_ranks asked in
+      let all = asked_of asked in
       head_none stop_at is.head (head_fault all (texts_in is.head)) is.below
       (faults_below all asked.treatment asked.empty (columns all (texts_in is.head)) (map texts_in is.below)) first
 
@@ -86,8 +85,8 @@ withdrawn_in asked texts none =
     (no_position (λ c. c == 0 || nat_lt n c) asked.withdrawn 0 nowhere)
 
 pub withdrawn_are_candidates :
-    (asked : RanksAsked) (bytes : List ℕ) (table : Imported) → IsImported asked bytes table → refusal asked bytes ≡ None
+    (asked : TableAsked) (bytes : List ℕ) (table : Imported) → IsImported asked bytes table → refusal asked bytes ≡ None
     → All (λ c. (1 ≤ c) × (c ≤ length table.names)) asked.withdrawn
 withdrawn_are_candidates asked bytes table is none =
     subst (λ (names : List (List ℕ)). All (λ c. (1 ≤ c) × (c ≤ length names)) asked.withdrawn) (sym is.names)
-    (withdrawn_in (asked_ranks asked) (texts_in is.head) (head_sound asked bytes table is none))
+    (withdrawn_in (asked_of asked) (texts_in is.head) (head_sound asked bytes table is none))

@@ -1,5 +1,6 @@
 pub mod Words
-pub mod Ranks
+pub mod Forms
 pub mod Faults
+pub mod Report
 pub mod Owed
 pub mod Laws

@@ -1,13 +1,14 @@
--- What is owed for a table of ballots.
-use Rattle.std.specs.Prelude.{◌≡◌, ℕ, List, length, Option, Some, None}
+-- What is owed for an input that says ballots.
+use Rattle.std.specs.Prelude.{◌≡◌, ℕ, List, length, Option, Some, None, ⊤}
 use Rattle.std.specs.Option.{option_and_then}
 use Rattle.plain_ballots.specs.Ballots.{plain}
 use Rattle.candidate_roll.specs.Roll.{RollList, withdrawn_marks}
 use Rattle.ballot_table.specs.Imported.{IsImported, refusal}
 use Rattle.ballot_table.specs.declared.imported.Imported.{Imported}
-use Rattle.ballot_table.specs.declared.table_stop.TableStop.{TableStop}
 use Rattle.blt_writer.specs.Text.{IsBltText}
 use Rattle.import_words.specs.declared.asked.Asked.{Asked}
+use Rattle.import_words.specs.declared.output.Output.{Output}
+use Rattle.import_words.specs.declared.output.Output.TheVariants.{Blt, Report}
 use Rattle.import_words.specs.declared.roll_words.RollWords.{RollWords}
 use Rattle.tool_edge.specs.declared.end.End.{End}
 use Rattle.tool_edge.specs.declared.end.End.TheVariants.{Done, BadInput, NoMemory}
@@ -16,9 +17,15 @@ use Rattle.tool_edge.specs.Finishing.{Finishes}
 use Rattle.tool_edge.specs.Streams.{Writing, NothingWritten}
 use Rattle.tool_edge.specs.Tool.{Tool, no_history}
 use Rattle.blt_import.specs.declared.import_fault.ImportFault.{ImportFault}
-use Rattle.blt_import.specs.Words.{TakesTable}
-use Rattle.blt_import.specs.Ranks.{ranks_of}
+use Rattle.blt_import.specs.declared.form.Form.{Form}
+use Rattle.blt_import.specs.declared.form.Form.TheVariants.{Table}
+use Rattle.blt_import.specs.declared.read.Read.{Read}
+use Rattle.blt_import.specs.declared.read_stop.ReadStop.{ReadStop}
+use Rattle.blt_import.specs.declared.read_stop.ReadStop.TheVariants as stop
+use Rattle.blt_import.specs.Words.{TakesInput}
+use Rattle.blt_import.specs.Forms.{form_of}
 use Rattle.blt_import.specs.Faults.{fault_of, import_refusals, refusal_line}
+use Rattle.blt_import.specs.Report.{report_text}
 
 -- the election of the words, with the names of a table
 abbrev pub roll_of : RollWords → (names : List (List ℕ)) → RollList
@@ -29,35 +36,63 @@ roll_of words names = record {
   withdrawn = withdrawn_marks (length names) words.withdrawn;
 }
 
--- the canonical text of a table's ballots under the roll of the words
-abbrev pub IsTextOf : RollWords → Imported → End ImportFault → (bytes : List ℕ) → Type 0
-IsTextOf words table end bytes =
-    (end ≡ Done) × IsBltText (plain table.ballots.lines) (roll_of words table.names) bytes
+-- What an input says of its form: the names of its candidates, its ballots, and what became of them.
+abbrev pub Says : Form → (input : List ℕ) → Read → Type 0
+Says (Table asked) input read =
+    (table : Imported) × IsImported asked input table × (read.names ≡ table.names) × (read.ballots ≡ table.ballots)
+    × (read.tally ≡ table.tally)
 
--- the table has no fault
-abbrev pub IsSoundTable : Asked → (input : List ℕ) → Type 0
-IsSoundTable asked input = refusal (ranks_of asked) input ≡ None
+-- the first fault of an input of its form
+abbrev pub fault_in : Form → (input : List ℕ) → Option ImportFault
+fault_in (Table asked) input = option_and_then fault_of (refusal asked input)
 
--- this is the table's first fault
-abbrev pub IsRefusedTable : Asked → (input : List ℕ) → ImportFault → Type 0
-IsRefusedTable asked input fault = option_and_then fault_of (refusal (ranks_of asked) input) ≡ Some fault
+-- an input of its form has no fault
+abbrev pub HasNoFault : Form → (input : List ℕ) → Type 0
+HasNoFault (Table asked) input = refusal asked input ≡ None
 
--- the canonical text of the ballots that the input says as a table without a fault
+-- whom the words of a form withdraw
+abbrev pub withdrawn_in : Form → List ℕ
+withdrawn_in (Table asked) = asked.withdrawn
+
+-- What is written: the canonical text of the ballots that are read, under the roll of the words; or the report on them.
+abbrev pub IsTextOf : Output → RollWords → Read → (bytes : List ℕ) → Type 0
+IsTextOf Blt words read bytes = IsBltText (plain read.ballots.lines) (roll_of words read.names) bytes
+IsTextOf Report words read bytes = bytes ≡ report_text read.tally
+
+-- it is all that is written
+abbrev pub IsDoneWith : Output → RollWords → Read → End ImportFault → (bytes : List ℕ) → Type 0
+IsDoneWith output words read end bytes = (end ≡ Done) × IsTextOf output words read bytes
+
+-- the words ask for a form of which the input has no fault
+pub record IsSoundInput (asked : Asked) (input : List ℕ) : Type 0 where
+  pub form : Form
+  pub is_form : form_of asked ≡ Some form
+  pub sound : HasNoFault form input
+
+-- this is the first fault of the input, of the form that the words ask for
+pub record IsRefusedInput (asked : Asked) (input : List ℕ) (fault : ImportFault) : Type 0 where
+  pub form : Form
+  pub is_form : form_of asked ≡ Some form
+  pub first : fault_in form input ≡ Some fault
+
+-- the text that is asked for, of what the input says without a fault
 pub record OwesText (asked : Asked) (input bytes : List ℕ) : Type 0 where
-  pub sound : IsSoundTable asked input
-  pub table : Imported
-  pub says : IsImported (ranks_of asked) input table
-  pub text : IsBltText (plain table.ballots.lines) (roll_of asked.roll table.names) bytes
+  pub form : Form
+  pub is_form : form_of asked ≡ Some form
+  pub sound : HasNoFault form input
+  pub read : Read
+  pub says : Says form input read
+  pub text : IsTextOf asked.output asked.roll read bytes
 
 -- ---- the tool
 
--- a tool that takes words of a table and a table, and writes its ballot file
+-- a tool that takes words and an input of the form that they ask for, and writes what they ask for
 abbrev pub import_tool : Tool Asked (Unit {0}) ImportFault
 import_tool = record {
-  Takes = TakesTable;
+  Takes = TakesInput;
   limit = λ asked. Some FILE_LIMIT;
-  Accepts = IsSoundTable;
-  Refuses = IsRefusedTable;
+  Accepts = IsSoundInput;
+  Refuses = IsRefusedInput;
   refusals = import_refusals;
   Owes = λ asked input history. OwesText asked input;
   no_calls = no_history;
@@ -65,11 +100,12 @@ import_tool = record {
 
 -- ---- a part of a run
 
--- a fault is answered by its line
-abbrev pub RefusesFor : Option ImportFault → End ImportFault → Writing → Type 0
-RefusesFor None end sink = (end ≡ NoMemory) × NothingWritten sink
-RefusesFor (Some fault) end sink = Finishes (BadInput fault) (refusal_line fault) end sink
+-- what stopped the reading is answered
+abbrev pub Refuses : ReadStop → End ImportFault → Writing → Type 0
+Refuses (stop.Fault fault) end sink = Finishes (BadInput fault) (refusal_line fault) end sink
+Refuses stop.NoMemory end sink = (end ≡ NoMemory) × NothingWritten sink
 
--- what stopped a reader is answered
-abbrev pub Refuses : TableStop → End ImportFault → Writing → Type 0
-Refuses stop end sink = RefusesFor (fault_of stop) end sink
+-- what stopped the reading is the first fault; or memory is wanted
+abbrev pub IsReadStop : Option ImportFault → ReadStop → Type 0
+IsReadStop first (stop.Fault fault) = first ≡ Some fault
+IsReadStop first stop.NoMemory = ⊤

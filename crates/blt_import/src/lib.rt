@@ -1,16 +1,19 @@
-//! Tables of ballots as ballot files: [`import`] reads a table, as the words describe it, and writes the
-//! canonical text of the ballots that it says. Any other input is refused with an [`ImportFault`].
-//! [`tables_have_one_text`] says that there is one text at most.
+//! Tables of ballots as ballot files, and reports on them: [`import`] reads an input of the form that the words describe,
+//! and writes the canonical text of the ballots that it says, or what became of them in numbers. Any other input is refused
+//! with an [`ImportFault`]. [`tables_have_one_text`] says that there is one text at most.
 //!
-//! Served are tables with a column for each candidate. Words that ask for another layout, or for a report, are
-//! refused.
+//! Served are tables of each layout. Words that ask for a text of PrefLib's are refused.
 #![tactic(auto)]
 
+mod form;
 mod import_fault;
 mod kinds;
 mod laws;
-mod ranks;
+mod read;
+mod read_stop;
+mod report;
 mod run;
+mod tables;
 mod takes;
 mod writing;
 

@@ -4,21 +4,24 @@ ghost use Rattle.tool_edge.specs.declared.opening.TheConstants.{FILE_LIMIT};
 ghost use Rattle.tool_edge.specs.Finishing.{FinishesOwed};
 ghost use Rattle.tool_edge.specs.Streams.{reading, writing};
 ghost use Rattle.tool_edge.specs.Tool.{IsOwedFor, IsRun, no_history};
+ghost use Rattle.import_words.specs.Asks.{AreEnough};
 ghost use Rattle.blt_import.specs.Owed.{import_tool, Refuses};
+ghost use Rattle.blt_import.specs.Words.{IsRead};
 
 use crate::ImportFault;
-use crate::ranks::ranks_of;
-use crate::takes::takes_table;
-use crate::writing::write_table;
-use ballot_table::{TableStop, read_ranks};
+use crate::form::Form;
+use crate::read_stop::ReadStop;
+use crate::report::report;
+use crate::takes::takes_input;
+use crate::writing::write_ballots;
 use byte_edge::{Sink, Source};
-use import_words::{Asked, words_ask_one_thing};
+use import_words::{Asked, Output, words_ask_one_thing};
 use std::alloc::Global;
 use std::thread::Threads;
-use tool_edge::{End, FILE_LIMIT, open, refuse};
+use tool_edge::{End, FILE_LIMIT, finish, open, refuse};
 
-/// Writes the canonical text of the ballots of the table that the source gives. The words say how it is
-/// read. All memory is taken before the first byte. The lines are put in order in threads, where there
+/// Writes the canonical text of the ballots that the source gives, or a report on them. The words say how they are read, and
+/// what is written. All memory is taken before the first byte. The lines are put in order in threads, where there
 /// are any to be had.
 pub fn import<R: Threads + Sync, S: Source, K: Sink>(
     rt: &R,
@@ -32,41 +35,46 @@ pub fn import<R: Threads + Sync, S: Source, K: Sink>(
         result no_history }
 {
     words_ask_one_thing();
-    let asked = takes_table(alloc, words);
+    let asked = takes_input(alloc, words);
     let opened = match open(alloc, asked, FILE_LIMIT, source, sink) {
         Ok(opened) => opened,
         Err(end) => return end,
     };
-    import_table(rt, alloc, &opened.asked, opened.input.as_slice(), sink)
+    import_input(rt, alloc, &opened.asked, opened.input.as_slice(), sink)
 }
 
-/// Writes the text of a whole input's ballots, or its refusal.
-fn import_table<R: Threads + Sync, K: Sink>(
+/// Writes what is asked for of a whole input, or its refusal.
+fn import_input<R: Threads + Sync, K: Sink>(
     rt: &R,
     alloc: Global,
     asked: &Asked,
     input: &[u8],
     sink: &mut K,
 ) -> End<ImportFault>
-    requires { length input.now ≤ FILE_LIMIT }
+    requires short { length input.now ≤ FILE_LIMIT }
+    requires read { IsRead asked.now.layout }
+    requires enough { AreEnough asked.now.layout asked.now.roll.candidates }
     ensures { FinishesOwed (IsOwedFor import_tool asked.now input.now no_history) result
         (writing K.written K.faults sink.old sink.new) }
 {
-    let Ok(ranks) = ranks_of(alloc, asked) else {
+    let Ok(form) = Form::of(alloc, asked) else {
         return End::NoMemory;
     };
-    match read_ranks(alloc, &ranks, input) {
-        Ok(table) => write_table(rt, alloc, &asked.roll, table, sink),
-        Err(stop) => refuse_table(sink, stop),
+    match form.read(alloc, input) {
+        Ok(read) => match asked.output {
+            Output::Blt => write_ballots(rt, alloc, &asked.roll, read, sink),
+            Output::Report => finish(sink, End::Done, report(read.tally).bytes()),
+        },
+        Err(stop) => refuse_input(sink, stop),
     }
 }
 
-/// Answers what stopped the reading of a table: a fault by its line.
-fn refuse_table<K: Sink>(sink: &mut K, stop: TableStop) -> End<ImportFault>
+/// Answers what stopped the reading of an input: a fault by its line.
+fn refuse_input<K: Sink>(sink: &mut K, stop: ReadStop) -> End<ImportFault>
     ensures { Refuses stop result (writing K.written K.faults sink.old sink.new) }
 {
-    match ImportFault::of(stop) {
-        Some(fault) => refuse(sink, fault),
-        None => End::NoMemory,
+    match stop {
+        ReadStop::Fault(fault) => refuse(sink, fault),
+        ReadStop::NoMemory => End::NoMemory,
     }
 }

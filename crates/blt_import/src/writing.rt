@@ -1,15 +1,15 @@
-// From a table to the text of its ballots.
+// From ballots to their text.
 ghost use Rattle.std.specs.Prelude.{◌≡◌, ◌≤◌, length, All};
 ghost use Rattle.tool_edge.specs.Finishing.{FinishesOwed};
 ghost use Rattle.tool_edge.specs.Streams.{writing};
-ghost use Rattle.blt_import.specs.Owed.{IsTextOf};
+ghost use Rattle.blt_import.specs.Owed.{IsDoneWith};
 
 use crate::ImportFault;
-use ballot_table::Imported;
+use crate::read::Read;
 use blt_writer::{Listing, every_bag_has_a_text, one_bag_has_one_text, write_listing};
 use byte_edge::Sink;
 use candidate_roll::Roll;
-use import_words::RollWords;
+use import_words::{Output, RollWords};
 use std::alloc::Global;
 use std::thread::Threads;
 use tool_edge::{End, close};
@@ -17,22 +17,22 @@ use tool_edge::{End, close};
 // Lines are put in order by at most as many workers: more than a machine has processors, as some have more lines.
 const WORKERS: u32 = 16;
 
-/// Writes the canonical text of a table's ballots.
-pub(crate) fn write_table<R: Threads + Sync, K: Sink>(
+/// Writes the canonical text of the ballots that were read.
+pub(crate) fn write_ballots<R: Threads + Sync, K: Sink>(
     rt: &R,
     alloc: Global,
     words: &RollWords,
-    table: Imported,
+    read: Read,
     sink: &mut K,
 ) -> End<ImportFault>
-    requires withdrawn { All (λ c. (1 ≤ c) × (c ≤ length table.names)) words.now.withdrawn }
-    requires candidates { table.ballots.candidates ≡ length table.names }
-    ensures { FinishesOwed (IsTextOf words.now table) result
+    requires withdrawn { All (λ c. (1 ≤ c) × (c ≤ length read.names)) words.now.withdrawn }
+    requires candidates { read.ballots.candidates ≡ length read.names }
+    ensures { FinishesOwed (IsDoneWith Output.Blt words.now read) result
         (writing K.written K.faults sink.old sink.new) }
 {
     every_bag_has_a_text();
     one_bag_has_one_text();
-    let Imported { names, ballots } = table;
+    let Read { names, ballots, .. } = read;
     let Ok(title) = words.title.copy(alloc) else {
         return End::NoMemory;
     };

@@ -2,6 +2,10 @@
 #![tactic(auto)]
 
 #[cfg(test)]
+mod asked;
+#[cfg(test)]
+mod layouts;
+#[cfg(test)]
 mod marks;
 #[cfg(test)]
 mod records;

@@ -1,82 +1,10 @@
 // Tests of ballot_table: tables with a column for each candidate.
+use crate::asked::{lines_of, plainly, read, refused, stop_of, texts_of, weighed};
 use ballot_marks::{Treat, Treatment};
-use ballot_table::{Empty, Numbers, RanksAsked, TableKind, TableStop, Text, Texts, read_ranks};
-use std::alloc::Global;
+use ballot_table::{TableKind, TableStop, Text};
 use std::process::Abort;
 use std::test::Fail;
 use table_text::{TextFault, TextKind};
-
-/// Texts with bars between them, or none.
-fn texts_of(alloc: Global, words: &str) -> Result<Texts, Fail> {
-    let mut texts = Texts::new(alloc);
-    if words.is_empty() {
-        return Ok(texts);
-    }
-    for word in words.split('|') {
-        texts.push(Text::new(alloc, word.as_bytes())?)?;
-    }
-    Ok(texts)
-}
-
-/// Nothing is asked but the layout.
-fn plainly(alloc: Global) -> RanksAsked {
-    RanksAsked {
-        separator: None,
-        bracketed: false,
-        labels: Texts::new(alloc),
-        weight: None,
-        blank: Texts::new(alloc),
-        ranks: Texts::new(alloc),
-        withdrawn: Numbers::new(alloc),
-        empty: Empty::Refuse,
-        treatment: Treatment {
-            skipped: None,
-            equal: Treat::Refuse,
-            repeated: Treat::Refuse,
-        },
-    }
-}
-
-fn weighed(alloc: Global) -> Result<RanksAsked, Fail> {
-    let mut asked = plainly(alloc);
-    asked.labels = texts_of(alloc, "n")?;
-    asked.weight = Some(Text::new(alloc, b"n")?);
-    Ok(asked)
-}
-
-/// The lines of a table's ballots: each its count and its ranks, with commas and a bar between them.
-fn lines_of(alloc: Global, asked: &RanksAsked, bytes: &[u8]) -> Result<String, Fail> {
-    let mut text = String::new(alloc);
-    match read_ranks(alloc, asked, bytes) {
-        Ok(imported) => {
-            for line in imported.ballots.lines() {
-                let one = format!(in alloc; "{} {:?}|", line.count, line.ranking)?;
-                text.push_str(one.as_str())?;
-            }
-            Ok(text)
-        }
-        Err(stop) => {
-            let one = format!(in alloc; "{:?}", stop)?;
-            Ok(one)
-        }
-    }
-}
-
-fn refused(kind: TableKind, at: usize, row: u32, column: u32) -> Option<TableStop> {
-    Some(TableStop::Record {
-        kind,
-        at,
-        row,
-        column,
-    })
-}
-
-fn stop_of(alloc: Global, asked: &RanksAsked, bytes: &[u8]) -> Option<TableStop> {
-    match read_ranks(alloc, asked, bytes) {
-        Ok(_) => None,
-        Err(stop) => Some(stop),
-    }
-}
 
 #[test]
 fn stand_for_their_ballots(rt: HostRuntime) -> Result<(), Fail> {
@@ -102,7 +30,7 @@ fn in_brackets_and_words(rt: HostRuntime) -> Result<(), Fail> {
     asked.ranks = texts_of(alloc, "1st choice|2nd choice")?;
     let bytes =
         b"\xEF\xBB\xBF\"Timestamp\",\"Your vote [1 to 2], please [Ann]\",\"Your vote [1 to 2], please [Ben, jr]\"\r\n\"2026/05/01 9:00\",\"1st choice\",\"2nd choice\"\r\n\"2026/05/01 9:01\",\"\",\"1st choice\"\r\n";
-    let imported = read_ranks(alloc, &asked, bytes)?;
+    let imported = read(alloc, &asked, bytes)?;
     assert_eq!(rt; imported.names.len(), 2);
     assert_eq!(rt; imported.names.items()[1].bytes(), b"Ben, jr".as_slice());
     let lines = lines_of(alloc, &asked, bytes)?;

@@ -1,79 +1,15 @@
-// Whole runs over memory: tables worked by hand as ballot files, refusals with their lines, and words that are not served.
-use blt_import::{ImportFault, import};
-use byte_edge::MemorySink;
-use sample_runs::{sink_of, source_of};
-use std::alloc::Global;
+// Whole runs over memory: tables with a column for each candidate as ballot files, and refusals with their lines.
+use crate::import_runs::{gives, refuses};
 use std::process::Abort;
 use std::test::Fail;
-use std::thread::Threads;
-use tool_edge::End;
-
-/// How a run ends that is asked for a table of one seat, and for what these words say besides.
-fn end_of<R: Threads + Sync>(
-    rt: &R,
-    alloc: Global,
-    (first, besides): (&str, &str),
-    input: &[u8],
-    sink: &mut MemorySink,
-) -> Result<End<ImportFault>, Fail> {
-    let mut words = Vec::new(alloc);
-    for line in [first, besides] {
-        for word in line.split('|') {
-            if !word.is_empty() {
-                words.push(word.to_string(alloc)?)?;
-            }
-        }
-    }
-    let mut source = source_of(alloc, input, 16, &[])?;
-    Ok(import(rt, alloc, words.as_slice(), &mut source, sink))
-}
 
 const RANKS: &str = "--layout|ranks|--seats|1";
-
-/// The run writes this, and is done.
-fn gives<R: Threads + Sync + Abort>(
-    rt: &R,
-    alloc: Global,
-    besides: &str,
-    input: &[u8],
-    text: &[u8],
-) -> Result<(), Fail> {
-    let mut sink = sink_of(alloc, 1_000, 1_000, &[])?;
-    let end = end_of(rt, alloc, (RANKS, besides), input, &mut sink)?;
-    assert_eq!(rt; sink.bytes(), text);
-    assert!(rt; matches!(end, End::Done));
-    Ok(())
-}
-
-/// The run refuses the input by this line.
-fn refuses<R: Threads + Sync + Abort>(
-    rt: &R,
-    alloc: Global,
-    besides: &str,
-    input: &[u8],
-    line: &[u8],
-) -> Result<(), Fail> {
-    let mut sink = sink_of(alloc, 1_000, 1_000, &[])?;
-    let end = end_of(rt, alloc, (RANKS, besides), input, &mut sink)?;
-    assert_eq!(rt; sink.bytes(), line);
-    assert!(rt; matches!(end, End::BadInput(_)));
-    Ok(())
-}
-
-/// The words are refused.
-fn no_words<R: Threads + Sync + Abort>(rt: &R, alloc: Global, words: &str) -> Result<(), Fail> {
-    let mut sink = sink_of(alloc, 1_000, 1_000, &[])?;
-    let end = end_of(rt, alloc, (words, ""), b"Ann,Ben\n1,2\n", &mut sink)?;
-    assert_eq!(rt; sink.bytes(), b"refused BadWords\n".as_slice());
-    assert!(rt; matches!(end, End::BadWords));
-    Ok(())
-}
 
 #[test]
 fn equal_rankings_come_together(rt: HostRuntime) -> Result<(), Fail> {
     let table = b"Ann,Ben,Cid\n1,2,3\n,1,\n1,2,3\n2,,1\n";
     let text = b"3 1\n2 1 2 3 0\n1 2 0\n1 3 1 0\n0\n\"Ann\"\n\"Ben\"\n\"Cid\"\n\"Club\"\n";
-    gives(&rt, rt.alloc(), "--title|Club", table, text)
+    gives(&rt, rt.alloc(), (RANKS, "--title|Club"), table, text)
 }
 
 // A byte order mark, lines that end with two bytes, names in brackets, ranks as words, a column that isn't read.
@@ -83,45 +19,46 @@ fn a_web_form_is_read(rt: HostRuntime) -> Result<(), Fail> {
     let table =
         b"\xef\xbb\xbf\"Timestamp\",\"Your vote [1 to 2], please [Ann]\",\"Your vote [1 to 2], please [Ben, jr]\"\r\n\"2026/05/01 9:00\",\"1st choice\",\"2nd choice\"\r\n\"2026/05/01 9:01\",\"\",\"1st choice\"\r\n";
     let text = b"2 1\n-2\n1 1 2 0\n1 2 0\n0\n\"Ann\"\n\"Ben, jr\"\n\"\"\n";
-    gives(&rt, rt.alloc(), words, table, text)
+    gives(&rt, rt.alloc(), (RANKS, words), table, text)
 }
 
 #[test]
 fn equal_ranks_are_refused_cut_or_passed(rt: HostRuntime) -> Result<(), Fail> {
     let table = b"Ann,Ben,Cid,Dee\n1,2,2,3\n";
     let line = b"refused EqualRank at 20 row 2 column 3\n";
-    refuses(&rt, rt.alloc(), "", table, line)?;
+    refuses(&rt, rt.alloc(), (RANKS, ""), table, line)?;
     let cut = b"4 1\n1 1 0\n0\n\"Ann\"\n\"Ben\"\n\"Cid\"\n\"Dee\"\n\"\"\n";
-    gives(&rt, rt.alloc(), "--equal|cut", table, cut)?;
+    gives(&rt, rt.alloc(), (RANKS, "--equal|cut"), table, cut)?;
     let passed = b"4 1\n1 1 4 0\n0\n\"Ann\"\n\"Ben\"\n\"Cid\"\n\"Dee\"\n\"\"\n";
-    gives(&rt, rt.alloc(), "--equal|pass", table, passed)?;
+    gives(&rt, rt.alloc(), (RANKS, "--equal|pass"), table, passed)?;
     let table = b"Ann,Ben,Cid,Dee\n1,2,2,4\n";
     let line = b"refused SkippedRank at 22 row 2 column 4\n";
-    refuses(&rt, rt.alloc(), "--equal|pass", table, line)
+    refuses(&rt, rt.alloc(), (RANKS, "--equal|pass"), table, line)
 }
 
 #[test]
 fn skipped_ranks_are_refused_or_closed(rt: HostRuntime) -> Result<(), Fail> {
     let line = b"refused SkippedRank at 14 row 2 column 2\n";
-    refuses(&rt, rt.alloc(), "", b"Ann,Ben,Cid\n1,3,\n", line)?;
+    refuses(&rt, rt.alloc(), (RANKS, ""), b"Ann,Ben,Cid\n1,3,\n", line)?;
     let closed = b"3 1\n1 2 1 0\n0\n\"Ann\"\n\"Ben\"\n\"Cid\"\n\"\"\n";
     gives(
         &rt,
         rt.alloc(),
-        "--skipped|close",
+        (RANKS, "--skipped|close"),
         b"Ann,Ben,Cid\n5,3,\n",
         closed,
     )?;
     let table = b"Ann,Ben,Cid\n5,2,\n";
     let one = b"3 1\n1 2 0\n0\n\"Ann\"\n\"Ben\"\n\"Cid\"\n\"\"\n";
-    gives(&rt, rt.alloc(), "--skipped|1", table, one)?;
+    gives(&rt, rt.alloc(), (RANKS, "--skipped|1"), table, one)?;
     let none = b"3 1\n1 0\n0\n\"Ann\"\n\"Ben\"\n\"Cid\"\n\"\"\n";
-    gives(&rt, rt.alloc(), "--skipped|0", table, none)
+    gives(&rt, rt.alloc(), (RANKS, "--skipped|0"), table, none)
 }
 
 #[test]
 fn a_text_that_is_no_table_is_refused(rt: HostRuntime) -> Result<(), Fail> {
-    let cases: [(&[u8], &[u8]); 11] = [
+    let cases: [(&[u8], &[u8]); 12] = [
+        (b"\xff\xfeA\x00", b"refused BadByte at 3 row 1 column 1\n"),
         (b"", b"refused Ended at 0 row 1 column 1\n"),
         (b"Ann,Ben\n1,\"2", b"refused Ended at 12 row 2 column 2\n"),
         (
@@ -150,13 +87,13 @@ fn a_text_that_is_no_table_is_refused(rt: HostRuntime) -> Result<(), Fail> {
         ),
     ];
     for (input, line) in cases {
-        refuses(&rt, rt.alloc(), "", input, line)?;
+        refuses(&rt, rt.alloc(), (RANKS, ""), input, line)?;
     }
     let text = b"2 1\n1 1 2 0\n0\n\"Ann\"\n\"Ben,jr\"\n\"\"\n";
     gives(
         &rt,
         rt.alloc(),
-        "--separator|semicolon",
+        (RANKS, "--separator|semicolon"),
         b"Ann;Ben,jr\n1;2\n",
         text,
     )
@@ -207,12 +144,12 @@ fn a_head_is_refused(rt: HostRuntime) -> Result<(), Fail> {
         ),
     ];
     for (words, input, line) in cases {
-        refuses(&rt, rt.alloc(), words, input, line)?;
+        refuses(&rt, rt.alloc(), (RANKS, words), input, line)?;
     }
     gives(
         &rt,
         rt.alloc(),
-        "",
+        (RANKS, ""),
         b"Ann,Ben\n",
         b"2 1\n0\n\"Ann\"\n\"Ben\"\n\"\"\n",
     )
@@ -224,21 +161,27 @@ fn weights_and_blank_rows_are_judged(rt: HostRuntime) -> Result<(), Fail> {
     refuses(
         &rt,
         rt.alloc(),
-        "--weight|n",
+        (RANKS, "--weight|n"),
         b"n,Ann\n999999999,1\n1,1\n",
         line,
     )?;
     let line = b"refused BadWeight at 6 row 2 column 1\n";
-    refuses(&rt, rt.alloc(), "--weight|n", b"n,Ann\n,1\n", line)?;
+    refuses(&rt, rt.alloc(), (RANKS, "--weight|n"), b"n,Ann\n,1\n", line)?;
     let line = b"refused EmptyRow at 8 row 2 column 1\n";
-    refuses(&rt, rt.alloc(), "", b"Ann,Ben\n,\n2,1\n", line)?;
+    refuses(&rt, rt.alloc(), (RANKS, ""), b"Ann,Ben\n,\n2,1\n", line)?;
     let kept = b"2 1\n1 0\n1 2 1 0\n0\n\"Ann\"\n\"Ben\"\n\"\"\n";
-    gives(&rt, rt.alloc(), "--empty|keep", b"Ann,Ben\n,\n2,1\n", kept)?;
+    gives(
+        &rt,
+        rt.alloc(),
+        (RANKS, "--empty|keep"),
+        b"Ann,Ben\n,\n2,1\n",
+        kept,
+    )?;
     let dropped = b"2 1\n1 2 1 0\n0\n\"Ann\"\n\"Ben\"\n\"\"\n";
     gives(
         &rt,
         rt.alloc(),
-        "--empty|drop",
+        (RANKS, "--empty|drop"),
         b"Ann,Ben\n,\n2,1\n",
         dropped,
     )
@@ -249,21 +192,5 @@ fn ranks_are_numbers_and_not_texts(rt: HostRuntime) -> Result<(), Fail> {
     let table = b"a,b,c,d,e,f,g,h,i,j,k\n1,2,3,4,5,6,7,8,9,10,11\n";
     let text =
         b"11 1\n1 1 2 3 4 5 6 7 8 9 10 11 0\n0\n\"a\"\n\"b\"\n\"c\"\n\"d\"\n\"e\"\n\"f\"\n\"g\"\n\"h\"\n\"i\"\n\"j\"\n\"k\"\n\"\"\n";
-    gives(&rt, rt.alloc(), "", table, text)
-}
-
-// Words of no table, of another layout, and of a report.
-#[test]
-fn words_that_are_not_served_are_refused(rt: HostRuntime) -> Result<(), Fail> {
-    for words in [
-        "",
-        "--layout|ranks",
-        "--layout|choices|--seats|1|--candidate|Ann",
-        "--layout|list|--seats|1|--candidate|Ann",
-        "--layout|preflib|--seats|1",
-        "--layout|ranks|--seats|1|--as|report",
-    ] {
-        no_words(&rt, rt.alloc(), words)?;
-    }
-    Ok(())
+    gives(&rt, rt.alloc(), (RANKS, ""), table, text)
 }

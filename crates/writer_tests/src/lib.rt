@@ -4,6 +4,10 @@
 #[cfg(test)]
 mod export;
 #[cfg(test)]
+mod import_layouts;
+#[cfg(test)]
+mod import_runs;
+#[cfg(test)]
 mod import_tool;
 #[cfg(test)]
 mod normal_tool;

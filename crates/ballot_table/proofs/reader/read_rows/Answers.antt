@@ -4,7 +4,7 @@ use Rattle.plain_ballots.specs.declared.limits.TheConstants.{MOST_BALLOTS}
 use Rattle.ballot_table.specs.declared.column.Column.{Column}
 use Rattle.ballot_table.specs.Imported.{stop_at, IsTableStop}
 use Rattle.ballot_table.specs.Left.{stop_left}
-use Rattle.ballot_table.specs.Ranks.{asked_ranks}
+use Rattle.ballot_table.specs.Asked.{asked_of}
 use Rattle.ballot_table.specs.Refusals.{whole_fault}
 use Rattle.ballot_table.specs.Sheets.{row_at}
 use Rattle.ballot_table.proofs.LeftLemmas.{IsGoing, going_more, going_stop, same_stop}
@@ -19,18 +19,20 @@ rows-preserved c =
     let turned = rw c.in-Ok-Some.field-0-is at c.in-Ok-Some.ensures in
     let same = c.as_slice-columns.ensures.value in
     let going =
-    subst (λ (cs : List Column). IsGoing a cs all l.room l.sheet.records.rest l.ballots) (sym same)
+    subst (λ (cs : List Column). IsGoing a cs all l.taken.room l.sheet.records.rest l.taken.ballots l.taken.tally) (sym same)
     l.invariant.going in
     record {
-      going = subst (λ (cs : List Column). IsGoing a cs all c.in-Ok.left new.records.rest c.take_row.new.ballots) same
-          (going_more a c.as_slice-columns.result.now all l.room l.sheet.records.rest l.ballots going
-          (row_at new c.in-Ok-Some.place) new.records.rest new.texts c.in-Ok.left c.take_row.new.ballots
-          turned.rest turned.texts c.in-Ok.ensures.sound c.in-Ok.ensures.room c.in-Ok.ensures.added);
+      going = subst (λ (cs : List Column). IsGoing a cs all c.take.new.self.room new.records.rest c.take.new.self.ballots c.take.new.self.tally) same
+          (going_more a c.as_slice-columns.result.now all l.taken.room l.sheet.records.rest l.taken.ballots l.taken.tally going
+          (row_at new c.in-Ok-Some.place) new.records.rest new.texts c.take.new.self.room c.take.new.self.ballots
+          c.take.new.self.tally
+          turned.rest turned.texts c.in-Ok.ensures.sound c.in-Ok.ensures.room c.in-Ok.ensures.added
+          c.in-Ok.ensures.tallied);
       candidates = c.in-Ok.ensures.candidates ∙ l.invariant.candidates;
     }
 
-pub returns-in-Err-take_row-clause-stop : goal.returns-in-Err-take_row-clause-stop
-returns-in-Err-take_row-clause-stop c =
+pub returns-in-Err-take-clause-stop : goal.returns-in-Err-take-clause-stop
+returns-in-Err-take-clause-stop c =
     let a = c.args.asked.now in
     let all = c.args.sheet.now.records.rest in
     let l = c.rows in
@@ -40,12 +42,12 @@ returns-in-Err-take_row-clause-stop c =
     let cols = c.as_slice-columns.result.now in
     let row = row_at new c.in-Ok-Some.place in
     let going =
-    subst (λ (cs : List Column). IsGoing a cs all l.room l.sheet.records.rest l.ballots) (sym same)
+    subst (λ (cs : List Column). IsGoing a cs all l.taken.room l.sheet.records.rest l.taken.ballots l.taken.tally) (sym same)
     l.invariant.going in
-    let found = c.in-Err-take_row.stop in
+    let found = c.in-Err-take.stop in
     subst (λ (cs : List Column). IsTableStop (stop_left a cs MOST_BALLOTS all) found) same
-    (same_stop (option_map (stop_at row) (whole_fault (asked_ranks a) a.treatment a.empty l.room cols new.texts))
+    (same_stop (option_map (stop_at row) (whole_fault (asked_of a) a.treatment a.empty l.taken.room cols new.texts))
     (stop_left a cols MOST_BALLOTS all) found
-    (going_stop a cols all l.room l.sheet.records.rest l.ballots going row new.records.rest new.texts found
+    (going_stop a cols all l.taken.room l.sheet.records.rest l.taken.ballots l.taken.tally going row new.records.rest new.texts found
     turned.rest turned.texts)
-    c.in-Err-take_row.ensures.stop)
+    c.in-Err-take.ensures.stop)

@@ -1,41 +1,84 @@
-use Rattle.std.proofs.Common.{ℕ, List, All, sym, ap, ◌∙◌, subst}
-use Rattle.ballot_marks.specs.declared.mark.Mark.{Mark}
+use Rattle.std.proofs.Common.{◌≡◌, ℕ, List, All, Some, length, sym, ap, ◌∙◌, subst}
+use Rattle.std.specs.Option.{option_or, unwrap_or}
 use Rattle.plain_ballots.specs.Ranking.{IsRanking}
-use Rattle.ballot_marks.specs.Ballot.{ranked}
+use Rattle.ballot_marks.specs.declared.mark.Mark.{Mark}
+use Rattle.ballot_marks.specs.Ballot.{IsRefusedAt, is_closed, is_cut, is_passed, ranked}
 use Rattle.ballot_marks.specs.Marks.{SaysOneOf}
-use Rattle.ballot_table.proofs.MarkFaultLemmas.{same_marks, no_mark_fault, row_stop}
-use Rattle.ballot_table.proofs.WithinLemmas.{marks_one_of}
+use Rattle.ballot_table.specs.Asked.{asked_of}
+use Rattle.ballot_table.specs.Faults.{sound}
+use Rattle.ballot_table.specs.Finding.{among, candidates_in}
+use Rattle.ballot_table.specs.Refusals.{mark_fault}
+use Rattle.ballot_table.specs.Rows.{cells_of}
+use Rattle.ballot_table.specs.declared.fault.Fault.{Fault}
+use Rattle.ballot_table.specs.declared.holders.Holders.{Holders}
+use Rattle.ballot_table.proofs.MarkFaultLemmas.{IsFound, mark_fault_is, no_mark_fault, said_found, same_marks, taken_within}
 use Rattle.ballot_table.proofs.row.judge_cells.Goals as goal
+use Rattle.ballot_table.proofs.row.judge_cells.Goals.{In_ok-say}
 
-pub treated-requires-clause-candidates : goal.treated-requires-clause-candidates
-treated-requires-clause-candidates c =
-    let cells = c.in_ok-cells.cells in
-    subst (λ (ms : List Mark). All (λ (m : Mark). SaysOneOf cells.holders.candidates m.says) ms)
-    (sym c.in_ok-put_marks.ensures)
-    (marks_one_of _ cells.holders c.in_ok-cells.ensures.cells.holding)
+-- what is found of the cells, and among how many candidates
+found : (c : In_ok-say)
+    → IsFound c.args.asked.now.layout (sound (cells_of (asked_of c.args.asked.now) c.args.room c.args.columns.now c.args.texts.now))
+    c.say.new.self
+found c =
+    let read = c.in_ok-read.ensures.taken in
+    said_found c.args.asked.now.layout _ c.read.new.self c.say.new.self read.holding read.saying
+    c.in_ok-say.ensures.holders c.in_ok-say.ensures.said
 
-pub returns-in-Err-clause-stop : goal.returns-in-Err-clause-stop
-returns-in-Err-clause-stop c =
-    row_stop c.args.asked.now c.args.asked.now.treatment c.args.room c.args.columns.now c.args.texts.now
-    c.in_ok-cells.cells.holders c.in_ok-cells.ensures.cells.holding c.put_marks.new.marks c.in_ok-put_marks.ensures
-    c.in-Err.stop c.in_ok-cells.ensures.sound c.in-Err.ensures.stop
+counted : (c : In_ok-say) (n holding : ℕ) → n ≡ among c.args.asked.now.layout (length c.args.asked.now.candidates) holding
+    → holding ≡ c.say.new.self.holders.candidates → n ≡ candidates_in (asked_of c.args.asked.now) c.args.columns.now
+counted c n holding is held =
+    is ∙ ap (among c.args.asked.now.layout (length c.args.asked.now.candidates))
+    (held ∙ ap (λ (h : Holders). h.candidates) c.in_ok-say.ensures.holders ∙ c.in_ok-read.ensures.taken.candidates)
+
+pub treat-requires-clause-candidates : goal.treat-requires-clause-candidates
+treat-requires-clause-candidates c =
+    let at = (goal.at.treat-requires-clause-candidates c).In_ok-say in
+    let n_is = counted at c.among-candidates.result c.candidates.result c.among-candidates.ensures c.candidates.ensures in
+    subst (λ (n : ℕ). All (λ (m : Mark). SaysOneOf n m.says) c.marks.result.now) (sym n_is)
+    (subst (λ (ms : List Mark). All (λ (m : Mark). SaysOneOf (candidates_in (asked_of c.args.asked.now) c.args.columns.now) m.says) ms)
+    (sym c.marks.ensures)
+    (taken_within (asked_of c.args.asked.now) c.args.room c.args.columns.now c.args.texts.now c.read.new.self c.say.new.self
+    c.in_ok-read.ensures.taken (found at)))
 
 pub returns-in-Ok-clause-sound : goal.returns-in-Ok-clause-sound
-returns-in-Ok-clause-sound c = record {
-  cells = c.in_ok-cells.ensures.sound;
-  marks = no_mark_fault c.args.asked.now c.args.asked.now.treatment c.args.room c.args.columns.now c.args.texts.now
-      c.in_ok-cells.cells.holders c.in_ok-cells.ensures.cells.holding c.put_marks.new.marks c.in_ok-put_marks.ensures
-      c.in-Ok.treated.ranking c.in-Ok.ensures.ranked;
-}
+returns-in-Ok-clause-sound c =
+    let t = c.args.asked.now.treatment in
+    record {
+      cells = c.in_ok-read.ensures.sound;
+      marks =
+          no_mark_fault (asked_of c.args.asked.now) t c.args.room c.args.columns.now c.args.texts.now c.say.new.self
+          (found (goal.at.returns-in-Ok-clause-sound c).In_ok-say) c.in-Ok.treated.ranking
+          (ap (ranked t) (sym c.marks.ensures) ∙ c.in-Ok.ensures.ranked);
+    }
 
 pub returns-in-Ok-clause-row : goal.returns-in-Ok-clause-row
 returns-in-Ok-clause-row c =
-    let read = c.in_ok-cells.ensures.cells in
-    let marks = same_marks c.args.asked.now c.args.asked.now.treatment c.args.room c.args.columns.now c.args.texts.now
-    c.in_ok-cells.cells.holders read.holding c.put_marks.new.marks c.in_ok-put_marks.ensures in
+    let at = (goal.at.returns-in-Ok-clause-row c).In_ok-say in
+    let t = c.args.asked.now.treatment in
+    let read = c.in_ok-read.ensures.taken in
+    let count = c.in_ok-say.ensures.count in
+    let marks = c.marks.ensures
+    ∙ same_marks (asked_of c.args.asked.now) t c.args.room c.args.columns.now c.args.texts.now c.say.new.self (found at) in
+    let n_is = counted at c.among-candidates.result c.candidates.result c.among-candidates.ensures c.candidates.ensures in
     record {
-      weight_is = c.unwrap_or.ensures ∙ read.weight;
-      count = c.unwrap_or-in-Ok.ensures ∙ read.count;
-      ranked_is = sym (ap (ranked c.args.asked.now.treatment) marks) ∙ c.in-Ok.ensures.ranked;
-      sound = subst (λ (n : ℕ). IsRanking n c.in-Ok.treated.ranking) read.candidates c.in-Ok.ensures.sound;
+      weight_is = c.unwrap_or.ensures ∙ ap (λ o. unwrap_or o 0) count ∙ read.weight;
+      count = c.unwrap_or-in-Ok.ensures ∙ ap (λ o. unwrap_or o 1) count ∙ read.count;
+      ranked_is = sym (ap (ranked t) marks) ∙ c.in-Ok.ensures.ranked;
+      closed_is = c.in-Ok.ensures.closed ∙ ap (is_closed t) marks;
+      passed_is = c.in-Ok.ensures.passed ∙ ap (is_passed t) marks;
+      cut_is = c.in-Ok.ensures.cut ∙ ap (is_cut t) marks;
+      sound = subst (λ (n : ℕ). IsRanking n c.in-Ok.treated.ranking) n_is c.in-Ok.ensures.sound;
     }
+
+pub returns-in-Err-Refused-clause-stop : goal.returns-in-Err-Refused-clause-stop
+returns-in-Err-Refused-clause-stop c =
+    let a = asked_of c.args.asked.now in
+    let t = c.args.asked.now.treatment in
+    let place = c.in-Err-Refused.place in
+    let why = c.in-Err-Refused.why in
+    let stop = rw c.in-Err-Refused.field-0-is at c.in-Err-Refused.ensures.stop in
+    let refused = subst (λ (ms : List Mark). IsRefusedAt t ms place why) c.marks.ensures stop in
+    ap (λ o. option_or o (mark_fault a t c.args.room c.args.columns.now c.args.texts.now)) c.in_ok-read.ensures.sound
+    ∙ mark_fault_is a t c.args.room c.args.columns.now c.args.texts.now c.say.new.self
+    (found (goal.at.returns-in-Err-Refused-clause-stop c).In_ok-say) place why refused
+    ∙ (λ i. Some (record { kind = sym c.kind_of.ensures i; place = sym c.refused_column.ensures i }))

@@ -11,6 +11,7 @@ returns-clause-heads c = record {
   missing = refl;
   only_labels = refl;
   withdrawn = refl;
+  withdrawn_of_the_words = refl;
   same_label = refl;
   further_column = refl;
   long_name = refl;
@@ -41,6 +42,7 @@ returns-clause-rows c = record {
   dropped = refl;
   kept = refl;
   lists = refl;
+  blanks_in_a_list = refl;
 }
 
 pub returns-clause-refusals : goal.returns-clause-refusals
@@ -55,4 +57,7 @@ returns-clause-refusals c = record {
   too_many = refl;
   no_weight = refl;
   short_blank_row = refl;
+  behind_another_column = refl;
+  in_a_list = refl;
+  skipped_in_a_list = refl;
 }

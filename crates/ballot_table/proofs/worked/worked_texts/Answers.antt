@@ -20,4 +20,5 @@ returns c = record {
   no_rank = refl;
   before_what_follows = refl;
   equal_ranks = refl;
+  in_a_list = refl;
 }

@@ -1,52 +1,56 @@
-use Rattle.std.proofs.Common.{◌+◌, List, ℕ, get_or, drop, ap, ◌∙◌, subst, arith, sum_by}
+use Rattle.std.proofs.Common.{◌+◌, List, ℕ, Some, get_or, drop, ap, sym, ◌∙◌, subst, arith, sum_by}
 use Rattle.std.specs.List.{zip}
 use Rattle.std.proofs.lemmas.List.{drop_all}
 use Rattle.std.proofs.lemmas.List.Elements.{All-get_or}
 use Rattle.std.proofs.lemmas.List.Sums.{sum_by-drop_more}
 use Rattle.ballot_table.specs.declared.column.Column.TheVariants.{Weight}
+use Rattle.ballot_table.specs.declared.table_kind.TableKind.{TableKind}
 use Rattle.ballot_table.specs.Cells.{cell_of, fault_one}
 use Rattle.ballot_table.specs.Faults.{sound_one}
-use Rattle.ballot_table.specs.Ranks.{asked_ranks, IsOfRanks, IsTaken, candidates_at}
+use Rattle.ballot_table.specs.Asked.{asked_of}
+use Rattle.ballot_table.specs.Finding.{IsTaken, candidates_at}
 use Rattle.ballot_table.proofs.RowLemmas.{turned, is_sound, is_faulty, reading_fault, reading_more, no_fault, all_read}
 use Rattle.ballot_table.proofs.row_cells.RowCells.read.Goals as goal
 
-pub returns-in-Err-clause-fault : goal.returns-in-Err-clause-fault
-returns-in-Err-clause-fault c =
-    let asked = asked_ranks c.args.asked.now in
+pub returns-in-Err-Fault-clause-stop : goal.returns-in-Err-Fault-clause-stop
+returns-in-Err-Fault-clause-stop c =
+    let asked = asked_of c.args.asked.now in
     let columns = c.args.columns.now in
     let texts = c.args.texts.now in
     let at = c.loop-at.at in
     let column = get_or columns at Weight in
     let text = c.index-texts-at.result in
-    let is = is_faulty (cell_of asked c.args.room column text) c.in-Err.kind
-    (c.in-Err.ensures.fault ∙ ap (λ (t : List ℕ). fault_one (cell_of asked c.args.room column t)) c.bytes.ensures) in
+    let kind = c.in-Err-Fault.kind in
+    let stop = rw c.in-Err-Fault.field-0-is at c.in-Err-Fault.ensures.stop in
+    let is = is_faulty (cell_of asked c.args.room column text) kind
+    (sym stop ∙ ap (λ (t : List ℕ). fault_one (cell_of asked c.args.room column t)) c.bytes.ensures) in
     reading_fault asked c.args.room (zip columns texts) column text (drop (at + 1) (zip columns texts)) at
-    c.loop-at.cells c.in-Err.kind
-    (turned asked c.args.room columns texts at text c.loop-at.cells c.loop-at-test.true c.requires.texts
+    c.loop-at.self kind
+    (turned asked c.args.room columns texts at text c.loop-at.self c.loop-at-test.true c.requires.texts
     c.index-texts-at.is c.loop-at.invariant.reading)
     is
+    ∙ ap (λ (k : TableKind). Some (record { kind = k; place = at + 1 })) (sym c.in-Err-Fault.kind-is)
 
 pub loop-at-preserved : goal.loop-at-preserved
 loop-at-preserved c =
-    let asked = asked_ranks c.args.asked.now in
+    let asked = asked_of c.args.asked.now in
     let columns = c.args.columns.now in
     let texts = c.args.texts.now in
     let at = c.loop-at.at in
     let column = get_or columns at Weight in
     let text = c.index-texts-at.result in
     let is = is_sound (cell_of asked c.args.room column text)
-    (c.in-Ok.ensures.fault ∙ ap (λ (t : List ℕ). fault_one (cell_of asked c.args.room column t)) c.bytes.ensures) in
+    (sym c.in-Ok.ensures.sound ∙ ap (λ (t : List ℕ). fault_one (cell_of asked c.args.room column t)) c.bytes.ensures) in
     let counted = c.in-Ok.ensures.candidates in
     let more = sum_by-drop_more candidates_at columns at Weight c.loop-at-test.true in
     record {
       reading =
           reading_more asked c.args.room (zip columns texts) column text (drop (at + 1) (zip columns texts)) at
-          is.0 c.loop-at.cells c.take.new.self
-          (turned asked c.args.room columns texts at text c.loop-at.cells c.loop-at-test.true c.requires.texts
+          is.0 c.loop-at.self c.take.new.self
+          (turned asked c.args.room columns texts at text c.loop-at.self c.loop-at-test.true c.requires.texts
           c.index-texts-at.is c.loop-at.invariant.reading)
-          (All-get_or IsOfRanks columns at Weight c.loop-at-test.true c.requires.columns.kinds)
           is.1
-          (subst (λ o. IsTaken o c.loop-at.cells c.take.new.self)
+          (subst (λ o. IsTaken o c.loop-at.self c.take.new.self)
           (ap (λ (t : List ℕ). sound_one (cell_of asked c.args.room column t)) c.bytes.ensures ∙ ap sound_one is.1)
           c.in-Ok.ensures.taken);
       candidates = omega (arith, counted, more, c.loop-at.invariant.candidates);
@@ -54,12 +58,12 @@ loop-at-preserved c =
 
 pub returns-clause-sound : goal.returns-clause-sound
 returns-clause-sound c =
-    no_fault (asked_ranks c.args.asked.now) c.args.room c.args.columns.now c.args.texts.now c.loop-at.at c.loop-at.cells
+    no_fault (asked_of c.args.asked.now) c.args.room c.args.columns.now c.args.texts.now c.loop-at.at c.loop-at.self
     c.loop-at-test.false c.loop-at.invariant.reading
 
-pub returns-clause-cells : goal.returns-clause-cells
-returns-clause-cells c =
+pub returns-clause-taken : goal.returns-clause-taken
+returns-clause-taken c =
     let columns = c.args.columns.now in
     let none = ap (sum_by candidates_at) (drop_all c.loop-at.at columns c.loop-at-test.false) in
-    all_read (asked_ranks c.args.asked.now) c.args.room columns c.args.texts.now c.loop-at.at c.loop-at.cells
+    all_read (asked_of c.args.asked.now) c.args.room columns c.args.texts.now c.loop-at.at c.loop-at.self
     c.loop-at-test.false c.loop-at.invariant.reading (omega (arith, none, c.loop-at.invariant.candidates))

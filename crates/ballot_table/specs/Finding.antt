@@ -1,0 +1,106 @@
+-- What the code finds of a head and of the cells of a row.
+use Rattle.std.specs.Prelude.{◌≡◌, ◌≤◌, ◌+◌, if◌then◌else◌, length, map, ◌++◌, ◌∷◌, ℕ, List, [], sum_by}
+use Rattle.std.specs.Prelude.{Option, Some, None, Result, ⊤}
+use Rattle.std.specs.Option.{option_or, unwrap_or}
+use Rattle.plain_ballots.specs.declared.limits.TheConstants.{MOST_CANDIDATES}
+use Rattle.ballot_marks.specs.declared.says.Says.{Says}
+use Rattle.ballot_table.specs.declared.cell_stop.CellStop.{CellStop}
+use Rattle.ballot_table.specs.declared.cell_stop.CellStop.TheVariants as stop
+use Rattle.ballot_table.specs.declared.column.Column.{Column}
+use Rattle.ballot_table.specs.declared.column.Column.TheVariants as column
+use Rattle.ballot_table.specs.declared.head.Head.{Head}
+use Rattle.ballot_table.specs.declared.layout.Layout.{Layout}
+use Rattle.ballot_table.specs.declared.layout.Layout.TheVariants as layout
+use Rattle.ballot_table.specs.declared.row_cells.RowCells.{RowCells}
+use Rattle.ballot_table.specs.declared.table_kind.TableKind.{TableKind}
+use Rattle.ballot_table.specs.Asked.{Asked}
+use Rattle.ballot_table.specs.Cells.{Cell, Nothing, Counts, Ranked, Said, Listed}
+use Rattle.ballot_table.specs.Faults.{sound}
+use Rattle.ballot_table.specs.Head.{columns, names_of, unlabelled}
+use Rattle.ballot_table.specs.Held.{IsHolding, says_held}
+use Rattle.ballot_table.specs.Rows.{cells_of, ranks_of, says_of, ballots_in, weight_at}
+use Rattle.ballot_table.specs.Said.{SaidList, IsSaying}
+use Rattle.ballot_table.specs.Texts.{is_in}
+
+-- how many candidates a column is of
+abbrev pub candidates_at : Column → ℕ
+candidates_at (column.Candidate c) = 1
+candidates_at other = 0
+
+-- a column whose head is no label
+abbrev pub others_at : Column → ℕ
+others_at column.Weight = 0
+others_at column.PassedOver = 0
+others_at other = 1
+
+-- how many candidates so many heads name that are no labels
+abbrev pub named_by : Layout → ℕ → ℕ
+named_by layout.Ranks others = others
+named_by layout.Choices others = 0
+named_by layout.List others = 0
+
+-- how many candidates there are: those of the head's columns, or those of the words
+abbrev pub among : Layout → (words columns : ℕ) → ℕ
+among layout.Ranks words columns = columns
+among layout.Choices words columns = words
+among layout.List words columns = words
+
+abbrev pub candidates_in : Asked → List Column → ℕ
+candidates_in asked columns = among asked.layout (length asked.candidates) (sum_by candidates_at columns)
+
+-- the column of a text behind so many that are no labels
+pub record IsNext (asked : Asked) (others : ℕ) (text : List ℕ) (next : Column) : Type 0 where
+  pub counted : others_at next ≡ (if is_in asked.labels text then 0 else 1)
+  pub named : candidates_at next ≡ named_by asked.layout (others_at next)
+  pub few : named_by asked.layout (others + others_at next) ≤ MOST_CANDIDATES
+
+-- the columns of a head, and the number of its candidates
+pub record IsHead (asked : Asked) (texts : List (List ℕ)) (head : Head) : Type 0 where
+  pub columns_are : head.columns.items ≡ columns asked texts
+  pub others : head.others ≡ length (unlabelled asked texts)
+  pub names : head.candidates ≡ length (names_of asked texts)
+  pub candidates : candidates_in asked head.columns.items ≡ head.candidates
+  pub few : sum_by candidates_at head.columns.items ≤ MOST_CANDIDATES
+
+-- why a cell is not taken in; or memory is wanted
+abbrev pub IsCellStop : Option TableKind → CellStop → Type 0
+IsCellStop fault (stop.Fault kind) = fault ≡ Some kind
+IsCellStop fault stop.NoMemory = ⊤
+
+-- these ranks more are taken in
+abbrev pub SaysMore : (more : List (Option Says)) → (old new : SaidList) → Type 0
+SaysMore more old new = (says : List (Option Says)) → IsSaying says old → IsSaying (says ++ more) new
+
+abbrev pub SaysAll : Option (List (Option Says)) → (old new : SaidList) → Type 0
+SaysAll None old new = ⊤
+SaysAll (Some more) old new = SaysMore more old new
+
+-- a cell adds what it says to what the cells before it say
+abbrev pub IsTaken : Option Cell → (old new : RowCells) → Type 0
+IsTaken None old new = ⊤
+IsTaken (Some Nothing) old new = new ≡ old
+IsTaken (Some (Counts n)) old new =
+    (new.holders ≡ old.holders) × (new.said ≡ old.said) × (new.count ≡ option_or old.count (Some n))
+IsTaken (Some (Ranked rank)) old new =
+    (new.count ≡ old.count) × (new.said ≡ old.said)
+    × ((ranks : List (Option ℕ)) → IsHolding ranks old.holders → IsHolding (ranks ++ rank ∷ []) new.holders)
+IsTaken (Some (Said says)) old new =
+    (new.count ≡ old.count) × (new.holders ≡ old.holders) × SaysMore (says ∷ []) old.said new.said
+IsTaken (Some (Listed says)) old new =
+    (new.count ≡ old.count) × (new.holders ≡ old.holders) × SaysMore says old.said new.said
+
+-- the cells of a row say this: the number of its ballots, who has each rank, and what each rank says
+pub record AreTaken (asked : Asked) (room : ℕ) (columns : List Column) (texts : List (List ℕ)) (cells : RowCells)
+    : Type 0
+  where
+    pub weight : unwrap_or cells.count 0 ≡ weight_at columns texts
+    pub count : unwrap_or cells.count 1 ≡ ballots_in columns texts
+    pub holding : IsHolding (ranks_of (sound (cells_of asked room columns texts))) cells.holders
+    pub saying : IsSaying (says_of (sound (cells_of asked room columns texts))) cells.said
+    pub candidates : cells.holders.candidates ≡ sum_by candidates_at columns
+
+-- what each rank says, by those who have it where the columns are the candidates'
+abbrev pub IsSaidBy : Layout → (old new : RowCells) → Type 0
+IsSaidBy layout.Ranks old new = IsSaying (map says_held old.holders.held) new.said
+IsSaidBy layout.Choices old new = new.said ≡ old.said
+IsSaidBy layout.List old new = new.said ≡ old.said

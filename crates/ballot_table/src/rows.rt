@@ -1,0 +1,133 @@
+// The rows of a table, one after another.
+ghost use Rattle.std.specs.Prelude.{◌≡◌, ◌≤◌, ◌-◌, ◌++◌, None, Err, [], length, sum_by, replicate, OnOk, OnErr, IfErr};
+ghost use Rattle.std.specs.Option.{option_map};
+ghost use Rattle.plain_ballots.specs.declared.limits.TheConstants.{MOST_BALLOTS, MOST_CANDIDATES};
+ghost use Rattle.plain_ballots.specs.Ballots.{plain};
+ghost use Rattle.plain_ballots.specs.Ranking.{IsRanking};
+ghost use Rattle.ballot_table.specs.Imported.{IsTableStop, stop_at};
+ghost use Rattle.ballot_table.specs.Left.{IsAdded, of_row};
+ghost use Rattle.ballot_table.specs.Report.{no_rows, plus};
+ghost use Rattle.ballot_table.specs.Asked.{asked_of};
+ghost use Rattle.ballot_table.specs.Finding.{candidates_at, candidates_in};
+ghost use Rattle.ballot_table.specs.Refusals.{whole_fault};
+ghost use Rattle.ballot_table.specs.Rows.{row_of, weight_at};
+ghost use Rattle.ballot_table.specs.Sheets.{row_at};
+
+use crate::record_stop::RecordStop;
+use crate::row::{JudgedRow, read_row};
+use crate::row_cells::RowCells;
+use crate::sheet::{Place, Sheet};
+use crate::{Column, Imported, TableAsked, TableStop, Tally};
+use candidate_roll::Names;
+use plain_ballots::{BallotLine, Ballots, LineStop, MOST_BALLOTS};
+use std::alloc::Global;
+
+/// What the rows of a table have come to so far.
+#[derive(Drop)]
+pub(crate) struct Rows {
+    /// So many more ballots have room.
+    pub room: u32,
+    pub ballots: Ballots,
+    pub tally: Tally,
+    cells: RowCells,
+}
+
+impl Rows {
+    /// No row yet.
+    pub fn new(alloc: Global, candidates: u32) -> Rows
+        ensures room { result.room ≡ MOST_BALLOTS }
+        ensures ballots { result.ballots ≡ record { candidates = candidates; lines = [] } }
+        ensures tally { result.tally ≡ no_rows }
+    {
+        Rows {
+            room: MOST_BALLOTS,
+            ballots: Ballots::new(alloc, candidates),
+            tally: Tally::new(),
+            cells: RowCells::new(alloc),
+        }
+    }
+
+    /// Adds the ballots of the row at a place of a sheet.
+    pub fn take(
+        &mut self,
+        alloc: Global,
+        asked: &TableAsked,
+        columns: &[Column],
+        sheet: &Sheet<'_>,
+        place: Place,
+    ) -> Result<(), TableStop>
+        requires room { self.old.room ≤ MOST_BALLOTS }
+        requires names { length asked.now.candidates ≤ MOST_CANDIDATES }
+        requires few { sum_by candidates_at columns.now ≤ MOST_CANDIDATES }
+        requires candidates { candidates_in (asked_of asked.now) columns.now ≡ self.old.ballots.candidates }
+        ensures stop { IfErr result (IsTableStop (option_map (stop_at (row_at sheet.now place))
+            (whole_fault (asked_of asked.now) asked.now.treatment asked.now.empty self.old.room columns.now sheet.now.texts))) }
+        ensures sound { OnOk result (whole_fault (asked_of asked.now) asked.now.treatment asked.now.empty self.old.room
+            columns.now sheet.now.texts ≡ None) }
+        ensures room { OnOk result (self.new.room ≡ self.old.room - weight_at columns.now sheet.now.texts) }
+        ensures candidates { OnOk result (self.new.ballots.candidates ≡ self.old.ballots.candidates) }
+        ensures added { OnOk result (IsAdded asked.now.treatment
+            (row_of (asked_of asked.now) asked.now.empty self.old.room columns.now sheet.now.texts) self.old.ballots self.new.ballots) }
+        ensures tallied { OnOk result (self.new.tally ≡ plus (of_row asked.now.treatment
+            (row_of (asked_of asked.now) asked.now.empty self.old.room columns.now sheet.now.texts)) self.old.tally) }
+    {
+        match read_row(
+            alloc,
+            asked,
+            self.room,
+            columns,
+            sheet.texts(),
+            &mut self.cells,
+        ) {
+            Ok(Some(row)) => {
+                self.room = self.room.saturating_sub(row.weight);
+                let Ok(tally) = self.tally.with(&row) else {
+                    return Err(TableStop::NoMemory);
+                };
+                self.tally = tally;
+                push_row(&mut self.ballots, row)
+            }
+            Ok(None) => {
+                let Ok(tally) = self.tally.with_dropped() else {
+                    return Err(TableStop::NoMemory);
+                };
+                self.tally = tally;
+                Ok(())
+            }
+            Err(RecordStop::Fault(fault)) => Err(sheet.stop_at(place, fault)),
+            Err(RecordStop::NoMemory) => Err(TableStop::NoMemory),
+        }
+    }
+
+    /// All that was read of a table of these candidates.
+    pub fn imported(self, names: Names) -> Imported
+        ensures { result ≡ record { names = names; ballots = self.ballots; tally = self.tally } }
+    {
+        let Rows { ballots, tally, .. } = self;
+        Imported {
+            names,
+            ballots,
+            tally,
+        }
+    }
+}
+
+/// Adds a row's ballots as one line, where it stands for any.
+fn push_row(ballots: &mut Ballots, row: JudgedRow) -> Result<(), TableStop>
+    requires { IsRanking ballots.old.candidates row.treated.ranking }
+    ensures added { OnOk result (plain ballots.new.lines ≡ plain ballots.old.lines ++ replicate row.count row.treated.ranking) }
+    ensures candidates { OnOk result (ballots.new.candidates ≡ ballots.old.candidates) }
+    ensures memory { OnErr result (result ≡ Err TableStop.NoMemory) }
+{
+    if row.count == 0 {
+        return Ok(());
+    }
+    let line = BallotLine {
+        count: row.count,
+        ranking: row.treated.ranking,
+    };
+    match ballots.push_line(line) {
+        Ok(()) => Ok(()),
+        Err(LineStop::TooMany(_)) | Err(LineStop::NoMemory(_)) => Err(TableStop::NoMemory),
+    }
+}

@@ -1,0 +1,134 @@
+// What the words say of a table.
+ghost use Rattle.std.specs.Prelude.{◌≡◌, ◌≤◌, length};
+ghost use Rattle.plain_ballots.specs.declared.limits.TheConstants.{MOST_CANDIDATES};
+ghost use Rattle.ballot_table.specs.Cells.{is_blank, rank_in, says_in};
+ghost use Rattle.ballot_table.specs.Finding.{among};
+ghost use Rattle.ballot_table.specs.Head.{name_of, labelled};
+ghost use Rattle.ballot_table.specs.Asked.{asked_of};
+ghost use Rattle.ballot_table.specs.Texts.{is_in, number_in};
+
+use crate::among::{is_in, name_in, number_in};
+use crate::brackets::bracketed;
+use crate::numeral::{Numeral, numeral_in};
+use crate::{Column, Empty, Layout, Numbers, TableKind, Text, Texts};
+use ballot_marks::{Says, Treatment};
+use candidate_roll::Names;
+use plain_ballots::MOST_CANDIDATES;
+
+/// What the words say of a table.
+#[derive(Debug, Drop)]
+pub struct TableAsked {
+    pub layout: Layout,
+    /// The byte between two fields; where none is said, the head shows it.
+    pub separator: Option<u8>,
+    /// The candidates stand in brackets at the end of the head's fields.
+    pub bracketed: bool,
+    /// The heads of the weight's column and of those that are passed over, in the order of the words.
+    pub labels: Texts,
+    pub weight: Option<Text>,
+    /// What blank cells say.
+    pub blank: Texts,
+    /// What stands for more than one candidate.
+    pub over: Texts,
+    /// What stands for the ranks from the first on; where there are none, ranks are numbers.
+    pub ranks: Texts,
+    /// The candidates in number order, where the head doesn't name them.
+    pub candidates: Names,
+    /// Numbers of candidates as they were typed.
+    pub withdrawn: Numbers,
+    pub empty: Empty,
+    pub treatment: Treatment,
+}
+
+impl TableAsked {
+    pub(crate) fn is_label(&self, text: &[u8]) -> bool
+        ensures { result ≡ is_in self.now.labels text.now }
+    {
+        is_in(self.labels.items(), text)
+    }
+
+    /// The column of a label.
+    pub(crate) fn labelled(&self, text: &[u8]) -> Column
+        ensures { result ≡ labelled (asked_of self.now) text.now }
+    {
+        match &self.weight {
+            Some(label) if label.is(text) => Column::Weight,
+            _ => Column::PassedOver,
+        }
+    }
+
+    /// The name that a head's text says.
+    pub(crate) fn name_of<'t>(&self, text: &'t [u8]) -> &'t [u8]
+        ensures { result.now ≡ name_of (asked_of self.now) text.now }
+    {
+        if self.bracketed {
+            bracketed(text)
+        } else {
+            text
+        }
+    }
+
+    fn is_blank(&self, text: &[u8]) -> bool
+        ensures { result ≡ is_blank (asked_of self.now) text.now }
+    {
+        text.is_empty() || is_in(self.blank.items(), text)
+    }
+
+    /// The rank in the cell of a candidate, if it isn't blank.
+    pub(crate) fn rank_in(&self, text: &[u8]) -> Result<Option<usize>, TableKind>
+        ensures { result ≡ rank_in (asked_of self.now) text.now }
+    {
+        if self.is_blank(text) {
+            return Ok(None);
+        }
+        if self.ranks.len() == 0 {
+            return match numeral_in(text, MOST_CANDIDATES) {
+                Numeral::Number(rank) if rank > 0 => Ok(Some(rank as usize)),
+                _ => Err(TableKind::BadRank),
+            };
+        }
+        match number_in(self.ranks.items(), text) {
+            Some(rank) => Ok(Some(rank)),
+            None => Err(TableKind::BadRank),
+        }
+    }
+
+    /// What the cell of a rank says, if it isn't blank.
+    pub(crate) fn says_in(&self, text: &[u8]) -> Result<Option<Says>, TableKind>
+        requires { length self.now.candidates ≤ MOST_CANDIDATES }
+        ensures { result ≡ says_in (asked_of self.now) text.now }
+    {
+        if self.is_blank(text) {
+            return Ok(None);
+        }
+        if is_in(self.over.items(), text) {
+            return Ok(Some(Says::Over));
+        }
+        match self.candidate(text) {
+            Some(candidate) => Ok(Some(Says::One(candidate))),
+            None => Err(TableKind::NoSuchCandidate),
+        }
+    }
+
+    /// The candidate of this name.
+    fn candidate(&self, name: &[u8]) -> Option<u32>
+        requires { length self.now.candidates ≤ MOST_CANDIDATES }
+        ensures { result ≡ number_in self.now.candidates name.now }
+    {
+        match name_in(self.candidates.items(), name) {
+            Some(place) => Some(place as u32 + 1),
+            None => None,
+        }
+    }
+
+    /// How many candidates there are, where the head has columns of so many.
+    pub(crate) fn among(&self, columns: u32) -> u32
+        requires { length self.now.candidates ≤ MOST_CANDIDATES }
+        ensures { result ≡ among self.now.layout (length self.now.candidates) columns }
+    {
+        match self.layout {
+            Layout::Ranks => columns,
+            Layout::Choices | Layout::List => self.candidates.len() as u32,
+        }
+    }
+}

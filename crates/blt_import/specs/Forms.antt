@@ -1,0 +1,72 @@
+-- What the words say of an input's form. 44 is the comma, 59 the semicolon and 9 the tab.
+use Rattle.std.specs.Prelude.{ℕ, ◌≤◌, Bool, true, false, List, [], length, Option, Some, None}
+use Rattle.std.specs.Option.{option_map}
+use Rattle.plain_ballots.specs.declared.limits.TheConstants.{MOST_CANDIDATES}
+use Rattle.ballot_table.specs.declared.empty.Empty.{Empty}
+use Rattle.ballot_table.specs.declared.empty.Empty.TheVariants as empty
+use Rattle.ballot_table.specs.declared.layout.Layout.{Layout as TableLayout}
+use Rattle.ballot_table.specs.declared.layout.Layout.TheVariants as table
+use Rattle.ballot_table.specs.declared.table_asked.TableAsked.{TableAsked}
+use Rattle.blt_import.specs.declared.form.Form.{Form}
+use Rattle.blt_import.specs.declared.form.Form.TheVariants.{Table}
+use Rattle.import_words.specs.declared.asked.Asked.{Asked}
+use Rattle.import_words.specs.declared.empty_rows.EmptyRows.{EmptyRows}
+use Rattle.import_words.specs.declared.empty_rows.EmptyRows.TheVariants as rows
+use Rattle.import_words.specs.declared.head_names.HeadNames.{HeadNames}
+use Rattle.import_words.specs.declared.head_names.HeadNames.TheVariants.{Whole, Bracketed}
+use Rattle.import_words.specs.declared.layout.Layout.{Layout}
+use Rattle.import_words.specs.declared.layout.Layout.TheVariants as words
+use Rattle.import_words.specs.declared.separator.Separator.{Separator}
+use Rattle.import_words.specs.declared.separator.Separator.TheVariants.{Comma, Semicolon, Tab}
+
+abbrev pub byte_of : Separator → ℕ
+byte_of Comma = 44
+byte_of Semicolon = 59
+byte_of Tab = 9
+
+abbrev pub is_bracketed : HeadNames → Bool
+is_bracketed Whole = false
+is_bracketed Bracketed = true
+
+abbrev pub empty_of : EmptyRows → Empty
+empty_of rows.Refuse = empty.Refuse
+empty_of rows.Keep = empty.Keep
+empty_of rows.LeaveOut = empty.Drop
+
+-- the layout of a table, where the input is to be one
+abbrev pub layout_of : Layout → Option TableLayout
+layout_of words.Ranks = Some table.Ranks
+layout_of words.Choices = Some table.Choices
+layout_of words.List = Some table.List
+layout_of words.Preflib = None
+
+-- the candidates whom the words name, where the head doesn't
+abbrev pub named_for : TableLayout → List (List ℕ) → List (List ℕ)
+named_for table.Ranks names = []
+named_for table.Choices names = names
+named_for table.List names = names
+
+-- The heads of columns that are no marks stand in the order of the words.
+abbrev pub table_of : Asked → TableLayout → TableAsked
+table_of asked layout = record {
+  layout = layout;
+  separator = option_map byte_of asked.table.separator;
+  bracketed = is_bracketed asked.table.names;
+  labels = asked.table.columns;
+  weight = asked.table.weight;
+  blank = asked.cells.blanks;
+  over = asked.cells.overs;
+  ranks = asked.cells.ranks;
+  candidates = named_for layout asked.roll.candidates;
+  withdrawn = asked.roll.withdrawn;
+  empty = empty_of asked.empty;
+  treatment = asked.treatment;
+}
+
+-- The form that the words ask for, where it is served.
+abbrev pub form_of : Asked → Option Form
+form_of asked = option_map (λ layout. Table (table_of asked layout)) (layout_of asked.layout)
+
+-- the words name not too many candidates
+abbrev pub HasFew : Form → Type 0
+HasFew (Table asked) = length asked.candidates ≤ MOST_CANDIDATES
