@@ -1,5 +1,6 @@
 mod Pens
 mod Printing
+mod Telling
 mod Marks
 mod Peaks
 mod RoundPlaces
@@ -27,4 +28,6 @@ mod PageWalks
 mod PageTexts
 mod PageIterations
 mod PageLabels
+mod PageRounds
+mod PageSentences
 mod LeftSeats

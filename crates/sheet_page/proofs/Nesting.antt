@@ -1,5 +1,5 @@
 -- Pages have well named elements, so they nest.
-use Rattle.std.proofs.Common.{◌≡◌, refl, ℕ, ◌+◌, List, [], ◌∷◌, Bool, true, false, length, arith}
+use Rattle.std.proofs.Common.{◌≡◌, refl, ℕ, ◌+◌, List, [], ◌∷◌, Bool, true, false, length, map, arith}
 use Rattle.std.specs.Prelude.{◌&&◌, not, if◌then◌else◌, codes}
 use Rattle.std.specs.List.{list_all}
 use Rattle.std.proofs.lemmas.Bool.{and_parts}
@@ -9,15 +9,18 @@ use Rattle.meek_rule.specs.Row.{Row}
 use Rattle.page_tree.specs.Trees.{Attribute, Trees, Nothing, Text, Element, Void, followed, is_void}
 use Rattle.page_tree.specs.Trees.{is_name_byte, IsName, AreNamed, IsWellNamed}
 use Rattle.sheet_reader.specs.Values.{SheetList}
-use Rattle.sheet_page.specs.Trees.{all, at, each, el}
+use Rattle.sheet_words.specs.Lines.{at_end, sentences_of}
+use Rattle.sheet_words.specs.Sentences.{outcome, sentences_at_end}
+use Rattle.sheet_page.specs.Told.{end_list, item, outcome_list, result_part, result_title, round_sentences, sentences_at}
+use Rattle.sheet_page.specs.Trees.{all, at, each, el, words}
 use Rattle.sheet_page.specs.Values.{places, name_at, row_at}
-use Rattle.sheet_page.specs.RoundEnds.{ends_round}
+use Rattle.sheet_page.specs.RoundEnds.{ends_round, settled_at}
 use Rattle.sheet_page.specs.Stretches.{is_of_round}
 use Rattle.sheet_page.specs.Picture.{scaled, bar, quota_line, picture_title, picture_attributes, picture}
 use Rattle.sheet_page.specs.Picture.{amounts_of, round_picture, full_of}
 use Rattle.sheet_page.specs.Iterations.{standing_at, iteration_head, iteration, iteration_at, columns}
 use Rattle.sheet_page.specs.Iterations.{iterations, summary, folded}
-use Rattle.sheet_page.specs.Html.{in_round, at_end, elected_item, elected_in, is_seated, seated_item}
+use Rattle.sheet_page.specs.Html.{in_round, at_end as seat_at_end, elected_item, elected_in, is_seated, seated_item}
 use Rattle.sheet_page.specs.Html.{elected_list, elected_title, elected_part, name_cell, head_cells, head_row}
 use Rattle.sheet_page.specs.Html.{vote_cell, round_cells, round_row, round_at, rounds_table, rounds_title}
 use Rattle.sheet_page.specs.Html.{rounds_part, round_title, round_part, part_at, round_parts, heading, body}
@@ -130,7 +133,7 @@ elected_tested v = tested_el (codes "section") [] (elected_title ∷ elected_lis
     item row p = tested_if (mark_at row.elected p) (in_round (name_at v p) row.round) refl
 
     seated : (p : ℕ) → tested (seated_item v p) ≡ true
-    seated p = tested_if (is_seated v p) (at_end (name_at v p)) refl
+    seated p = tested_if (is_seated v p) (seat_at_end (name_at v p)) refl
 
     list : tested (elected_list v) ≡ true
     list =
@@ -160,8 +163,8 @@ rounds_tested v = tested_el (codes "section") [] (rounds_title ∷ rounds_table 
           first,
           (
             tested_each (round_at v) (places (length v.rows)) (λ i.
-                tested_if (ends_round v.rows i) (round_row v (row_at v.rows i))
-                (row_tested (row_at v.rows i))),
+                tested_if (ends_round v.rows i) (round_row v (settled_at v i))
+                (row_tested (settled_at v i))),
             tt,
           ),
         )
@@ -198,6 +201,30 @@ folded_tested v last =
           ),
         )
 
+words_tested : (texts : List (List ℕ)) → Tested (map words texts)
+words_tested [] = tt
+words_tested (text ∷ texts) = (refl, words_tested texts)
+
+items_tested : (sentences : List (List (List ℕ))) → tested (each item sentences) ≡ true
+items_tested sentences =
+    tested_each item sentences (λ texts. tested_el (codes "li") [] (map words texts) refl refl refl (words_tested texts))
+
+told_tested : (v : SheetList) (last : ℕ) → tested (round_sentences v last) ≡ true
+told_tested v last =
+    tested_el (codes "ul") [] (each (sentences_at v last) (places (last + 1)) ∷ []) refl refl refl
+    (tested_each (sentences_at v last) (places (last + 1)) (λ i.
+    tested_if (is_of_round v.rows last i) (each item (sentences_of v (row_at v.rows i)))
+    (items_tested (sentences_of v (row_at v.rows i)))), tt)
+
+result_tested : (v : SheetList) → tested (result_part v) ≡ true
+result_tested v =
+    tested_el (codes "section") [] (result_title ∷ end_list v ∷ outcome_list v ∷ []) refl refl refl
+    (refl, (list (map at_end (sentences_at_end v)), (list (map (outcome v) (places (length v.names))), tt)))
+  where
+    list : (sentences : List (List (List ℕ))) → tested (el (codes "ul") [] (each item sentences ∷ [])) ≡ true
+    list sentences =
+        tested_el (codes "ul") [] (each item sentences ∷ []) refl refl refl (items_tested sentences, tt)
+
 parts_tested : (v : SheetList) (full : ℕ) → tested (round_parts v full) ≡ true
 parts_tested v full =
     tested_each (part_at v full) (places (length v.rows))
@@ -205,10 +232,10 @@ parts_tested v full =
   where
     part : (last : ℕ) → tested (round_part v full last) ≡ true
     part last =
-        let row = row_at v.rows last in
+        let row = settled_at v last in
         tested_el (codes "section") []
-        (round_title row.round ∷ round_picture v full row ∷ folded v last ∷ []) refl refl refl
-        (refl, (picture_tested v full row, (folded_tested v last, tt)))
+        (round_title row.round ∷ round_sentences v last ∷ round_picture v full row ∷ folded v last ∷ []) refl refl refl
+        (refl, (told_tested v last, (picture_tested v full row, (folded_tested v last, tt))))
 
 -- every page
 pub well_named : (v : SheetList) → IsWellNamed (page v)
@@ -219,5 +246,5 @@ well_named v =
     whole : tested (body v) ≡ true
     whole =
         tested_el (codes "body") []
-        (heading v ∷ elected_part v ∷ rounds_part v ∷ round_parts v (full_of v.rows) ∷ []) refl refl refl
-        (refl, (elected_tested v, (rounds_tested v, (parts_tested v (full_of v.rows), tt))))
+        (heading v ∷ elected_part v ∷ result_part v ∷ rounds_part v ∷ round_parts v (full_of v.rows) ∷ []) refl refl refl
+        (refl, (elected_tested v, (result_tested v, (rounds_tested v, (parts_tested v (full_of v.rows), tt)))))

@@ -7,11 +7,12 @@ use Rattle.meek_rule.specs.Row.{Row}
 use Rattle.page_tree.specs.Trees.{Trees, Nothing, followed}
 use Rattle.sheet_reader.specs.Values.{SheetList}
 use Rattle.sheet_page.specs.Html.{page}
-use Rattle.sheet_page.specs.PageLaws.{below, label_text, round_ends}
+use Rattle.sheet_page.specs.PageLaws.{below, label_text, ends_of}
 use Rattle.sheet_page.specs.PageReading.{text_in, along, texts_along}
 use Rattle.sheet_page.specs.Picture.{bar, quota_line, scaled}
+use Rattle.sheet_page.specs.RoundEnds.{settled_at}
 use Rattle.sheet_page.specs.Trees.{each}
-use Rattle.sheet_page.specs.Values.{places, row_at}
+use Rattle.sheet_page.specs.Values.{places}
 use Rattle.sheet_page.proofs.PageTexts.{in_page}
 use Rattle.sheet_page.proofs.PageWalks.{found, found_followed, found_each}
 
@@ -32,15 +33,15 @@ bars v full row =
 
 pub picture_labels : (v : SheetList) →
     texts_along (below (codes "svg" ∷ codes "text" ∷ [])) (page v)
-    ≡ flat_map (λ row. map (label_text v row) (places (length v.names))) (round_ends v.rows)
+    ≡ flat_map (λ row. map (label_text v row) (places (length v.names))) (ends_of v)
 picture_labels v =
     in_page text_in (codes "svg" ∷ codes "text" ∷ []) v (λ row. map (label_text v row) (places (length v.names))) here
   where
     here : (full i : ℕ) →
-        map text_in ((along (codes "text" ∷ []) (followed (each (bar v full (row_at v.rows i)) (places (length v.names)))
-        (followed (quota_line (scaled full (row_at v.rows i).quota) (length v.names)) Nothing)) ++ []) ++ [])
-        ≡ map (label_text v (row_at v.rows i)) (places (length v.names))
+        map text_in ((along (codes "text" ∷ []) (followed (each (bar v full (settled_at v i)) (places (length v.names)))
+        (followed (quota_line (scaled full (settled_at v i).quota) (length v.names)) Nothing)) ++ []) ++ [])
+        ≡ map (label_text v (settled_at v i)) (places (length v.names))
     here full i =
-        let them = along (codes "text" ∷ []) (followed (each (bar v full (row_at v.rows i)) (places (length v.names)))
-        (followed (quota_line (scaled full (row_at v.rows i).quota) (length v.names)) Nothing)) in
-        ap (map text_in) (append-nil (them ++ []) ∙ append-nil them) ∙ bars v full (row_at v.rows i)
+        let them = along (codes "text" ∷ []) (followed (each (bar v full (settled_at v i)) (places (length v.names)))
+        (followed (quota_line (scaled full (settled_at v i).quota) (length v.names)) Nothing)) in
+        ap (map text_in) (append-nil (them ++ []) ∙ append-nil them) ∙ bars v full (settled_at v i)

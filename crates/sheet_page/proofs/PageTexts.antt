@@ -5,6 +5,7 @@ use Rattle.std.specs.Prelude.{if◌then◌else◌, codes, decimal, slice_index}
 use Rattle.std.specs.List.{filter, flat_map}
 use Rattle.std.proofs.lemmas.List.Concat.{flat_map_single}
 use Rattle.std.proofs.lemmas.List.FromFn.{fill_by_all}
+use Rattle.candidate_roll.specs.State.{state_at}
 use Rattle.fixed_place.specs.Text.{text_of}
 use Rattle.lot_order.specs.Flags.{mark_at}
 use Rattle.meek_rule.specs.Row.{Row}
@@ -15,11 +16,12 @@ use Rattle.sheet_page.specs.Html.{elected_item, elected_in, in_round, at_end, is
 use Rattle.sheet_page.specs.Html.{elected_part, rounds_part}
 use Rattle.sheet_page.specs.Html.{head_cells, head_row, name_cell, round_cells, vote_cell, round_at}
 use Rattle.sheet_page.specs.Html.{round_row, round_part, part_at, round_parts, page}
-use Rattle.sheet_page.specs.PageLaws.{below, elected_line, seated_line, marked_lines, round_ends, vote_text}
+use Rattle.sheet_page.specs.PageLaws.{below, elected_line, seated_line, marked_lines, ends_of, vote_text}
 use Rattle.sheet_page.specs.PageLaws.{round_texts, cells_of}
 use Rattle.sheet_page.specs.PageReading.{text_in, along, texts_along}
 use Rattle.sheet_page.specs.Picture.{full_of}
-use Rattle.sheet_page.specs.RoundEnds.{ends_round, left_over, state_after}
+use Rattle.sheet_page.specs.RoundEnds.{ends_round, left_over, settled_at}
+use Rattle.sheet_page.specs.Told.{result_part}
 use Rattle.sheet_page.specs.Trees.{all, each}
 use Rattle.sheet_page.specs.Values.{places, name_at, row_at}
 use Rattle.sheet_page.proofs.PageWalks.{no_part, no_parts, picked, behind_nothing, found, found_followed}
@@ -50,27 +52,30 @@ module _ {X : Type 0} (h : Trees → X) (path : List (List ℕ)) (v : SheetList)
   pub in_page_at :
       (g : ℕ → List X) → ((full i : ℕ) → in_parts (round_part v full i) ≡ g i)
       → map h (along (below path) (page v))
-      ≡ in_parts (elected_part v)
-      ++ (in_parts (rounds_part v) ++ flat_map (λ i. if ends_round v.rows i then g i else []) (places (length v.rows)))
+      ≡ in_parts (elected_part v) ++ (in_parts (result_part v)
+      ++ (in_parts (rounds_part v) ++ flat_map (λ i. if ends_round v.rows i then g i else []) (places (length v.rows))))
   in_page_at g is =
       let full = full_of v.rows in
-      let parts = followed (elected_part v) (followed (rounds_part v) (followed (round_parts v full) Nothing)) in
+      let rounds = followed (rounds_part v) (followed (round_parts v full) Nothing) in
+      let parts = followed (elected_part v) (followed (result_part v) rounds) in
       ap (map h) (append-nil (along (codes "section" ∷ path) parts ++ [])
       ∙ append-nil (along (codes "section" ∷ path) parts))
-      ∙ found_followed h (codes "section") path (elected_part v)
-      (followed (rounds_part v) (followed (round_parts v full) Nothing))
+      ∙ found_followed h (codes "section") path (elected_part v) (followed (result_part v) rounds)
       ∙ ap (λ l. in_parts (elected_part v) ++ l) (
+      found_followed h (codes "section") path (result_part v) rounds
+      ∙ ap (λ l. in_parts (result_part v) ++ l) (
       found_followed h (codes "section") path (rounds_part v) (followed (round_parts v full) Nothing)
-      ∙ ap (λ l. in_parts (rounds_part v) ++ l) (ap in_parts (behind_nothing (round_parts v full)) ∙ in_rounds g is))
+      ∙ ap (λ l. in_parts (rounds_part v) ++ l) (ap in_parts (behind_nothing (round_parts v full)) ∙ in_rounds g is)))
 
   -- where the last iteration of a round says it
   pub in_page :
-      (g : Row → List X) → ((full i : ℕ) → in_parts (round_part v full i) ≡ g (row_at v.rows i))
+      (g : Row → List X) → ((full i : ℕ) → in_parts (round_part v full i) ≡ g (settled_at v i))
       → map h (along (below path) (page v))
-      ≡ in_parts (elected_part v) ++ (in_parts (rounds_part v) ++ flat_map g (round_ends v.rows))
+      ≡ in_parts (elected_part v) ++ (in_parts (result_part v) ++ (in_parts (rounds_part v) ++ flat_map g (ends_of v)))
   in_page g is =
-      in_page_at (λ i. g (row_at v.rows i)) is
-      ∙ ap (λ l. in_parts (elected_part v) ++ (in_parts (rounds_part v) ++ l)) (at_ends g v.rows)
+      in_page_at (λ i. g (settled_at v i)) is
+      ∙ ap (λ l. in_parts (elected_part v) ++ (in_parts (result_part v) ++ (in_parts (rounds_part v) ++ l)))
+      (at_ends g v.rows v.last)
 
 -- ---- who is elected
 
@@ -108,7 +113,7 @@ elected_items v =
     let marks = flat_map (marked_lines v) v.rows in
     let left = map (seated_line v) (filter (is_seated v) (places (length v.names))) in
     in_page text_in (codes "ol" ∷ codes "li" ∷ []) v no_part (λ full i. refl)
-    ∙ ap (λ l. in_parts text_in (codes "ol" ∷ codes "li" ∷ []) v (elected_part v) ++ l) (no_parts (round_ends v.rows))
+    ∙ ap (λ l. in_parts text_in (codes "ol" ∷ codes "li" ∷ []) v (elected_part v) ++ l) (no_parts (ends_of v))
     ∙ append-nil (in_parts text_in (codes "ol" ∷ codes "li" ∷ []) v (elected_part v))
     ∙ ap (map text_in) (append-nil (along (codes "li" ∷ []) list ++ []) ∙ append-nil (along (codes "li" ∷ []) list))
     ∙ found_followed text_in (codes "li") [] rows (followed seats Nothing)
@@ -120,22 +125,22 @@ elected_items v =
 
 pub round_titles : (v : SheetList) →
     texts_along (below (codes "h2" ∷ [])) (page v)
-    ≡ codes "Elected" ∷ codes "Votes at the end of each round"
-    ∷ map (λ row. codes "Round " ++ decimal row.round) (round_ends v.rows)
+    ≡ codes "Elected" ∷ codes "Result" ∷ codes "Votes at the end of each round"
+    ∷ map (λ row. codes "Round " ++ decimal row.round) (ends_of v)
 round_titles v =
     in_page text_in (codes "h2" ∷ []) v (λ row. (codes "Round " ++ decimal row.round) ∷ [])
     (λ full i. ap (λ l. (codes "Round " ++ l) ∷ []) (append-nil (decimal (row_at v.rows i).round)))
-    ∙ ap (λ l. codes "Elected" ∷ codes "Votes at the end of each round" ∷ l)
-    (flat_map_single (λ (row : Row). codes "Round " ++ decimal row.round) (round_ends v.rows))
+    ∙ ap (λ l. codes "Elected" ∷ codes "Result" ∷ codes "Votes at the end of each round" ∷ l)
+    (flat_map_single (λ (row : Row). codes "Round " ++ decimal row.round) (ends_of v))
 
 pub folded_titles : (v : SheetList) →
     texts_along (below (codes "details" ∷ codes "summary" ∷ [])) (page v)
-    ≡ map (λ row. codes "Iterations of round " ++ decimal row.round) (round_ends v.rows)
+    ≡ map (λ row. codes "Iterations of round " ++ decimal row.round) (ends_of v)
 folded_titles v =
     in_page text_in (codes "details" ∷ codes "summary" ∷ []) v
     (λ row. (codes "Iterations of round " ++ decimal row.round) ∷ [])
     (λ full i. ap (λ l. (codes "Iterations of round " ++ l) ∷ []) (append-nil (decimal (row_at v.rows i).round)))
-    ∙ flat_map_single (λ (row : Row). codes "Iterations of round " ++ decimal row.round) (round_ends v.rows)
+    ∙ flat_map_single (λ (row : Row). codes "Iterations of round " ++ decimal row.round) (ends_of v)
 
 -- ---- the table of rounds
 
@@ -147,28 +152,28 @@ abbrev row_within : SheetList → Row → Trees
 row_within v row = all (round_cells v.ballots row ∷ each (vote_cell row) (places (length v.names)) ∷ [])
 
 module _ {X : Type 0} (h : Trees → X) (v : SheetList) (g : Row → X) (is : (row : Row) → h (row_within v row) ≡ g row) where
-  rows_at : found h (codes "tr") [] (each (round_at v) (places (length v.rows))) ≡ map g (round_ends v.rows)
+  rows_at : found h (codes "tr") [] (each (round_at v) (places (length v.rows))) ≡ map g (ends_of v)
   rows_at =
       found_each h (codes "tr") [] (round_at v) (places (length v.rows))
       ∙ (λ j. flat_map (λ i. here i j) (places (length v.rows)))
-      ∙ at_ends (λ row. g row ∷ []) v.rows
-      ∙ flat_map_single g (round_ends v.rows)
+      ∙ at_ends (λ row. g row ∷ []) v.rows v.last
+      ∙ flat_map_single g (ends_of v)
     where
       here :
           (i : ℕ)
           → found h (codes "tr") [] (round_at v i)
-          ≡ (if ends_round v.rows i then g (row_at v.rows i) ∷ [] else [])
+          ≡ (if ends_round v.rows i then g (settled_at v i) ∷ [] else [])
       here i =
-          found_if h (codes "tr") [] (ends_round v.rows i) (round_row v (row_at v.rows i))
-          ∙ ap (λ x. if ends_round v.rows i then x ∷ [] else []) (is (row_at v.rows i))
+          found_if h (codes "tr") [] (ends_round v.rows i) (round_row v (settled_at v i))
+          ∙ ap (λ x. if ends_round v.rows i then x ∷ [] else []) (is (settled_at v i))
 
   pub table_rows :
-      map h (along (below (codes "table" ∷ codes "tr" ∷ [])) (page v)) ≡ h (head_within v) ∷ map g (round_ends v.rows)
+      map h (along (below (codes "table" ∷ codes "tr" ∷ [])) (page v)) ≡ h (head_within v) ∷ map g (ends_of v)
   table_rows =
       let rows = each (round_at v) (places (length v.rows)) in
       let table = followed (head_row v) (followed rows Nothing) in
       in_page h (codes "table" ∷ codes "tr" ∷ []) v no_part (λ full i. refl)
-      ∙ ap (λ l. in_parts h (codes "table" ∷ codes "tr" ∷ []) v (rounds_part v) ++ l) (no_parts (round_ends v.rows))
+      ∙ ap (λ l. in_parts h (codes "table" ∷ codes "tr" ∷ []) v (rounds_part v) ++ l) (no_parts (ends_of v))
       ∙ append-nil (in_parts h (codes "table" ∷ codes "tr" ∷ []) v (rounds_part v))
       ∙ ap (map h) (append-nil (along (codes "tr" ∷ []) table ++ []) ∙ append-nil (along (codes "tr" ∷ []) table))
       ∙ ap (λ l. h (head_within v) ∷ l) (ap (found h (codes "tr") []) (behind_nothing rows) ∙ rows_at)
@@ -195,23 +200,23 @@ module _ (name : List ℕ) (tree : ℕ → Trees) (ps : List ℕ) where
 pub table_heads : (v : SheetList) →
     cells_of (codes "th") v
     ≡ (codes "Round" ∷ codes "Quota" ∷ codes "On no candidate" ∷ v.names)
-    ∷ map (λ row. decimal row.round ∷ []) (round_ends v.rows)
+    ∷ map (λ row. decimal row.round ∷ []) (ends_of v)
 table_heads v =
     let ps = places (length v.names) in
     table_rows (texts_along (codes "th" ∷ [])) v (λ row. decimal row.round ∷ [])
     (λ row. ap (λ l. (decimal row.round ++ []) ∷ l) (none_each (codes "th") (vote_cell row) ps (λ p. refl))
     ∙ ap (λ l. l ∷ []) (append-nil (decimal row.round)))
     ∙ ap (λ l. (codes "Round" ∷ codes "Quota" ∷ codes "On no candidate" ∷ l)
-    ∷ map (λ (row : Row). decimal row.round ∷ []) (round_ends v.rows))
+    ∷ map (λ (row : Row). decimal row.round ∷ []) (ends_of v))
     (one_each (codes "th") (name_cell v) ps (name_at v) (λ p. ap (λ l. l ∷ []) (append-nil (name_at v p)))
     ∙ sym (fill_by_all (name_at v) v.names (length v.names) [] refl (λ k below. refl)))
 
 vote_said : (row : Row) (p : ℕ) → texts_along (codes "td" ∷ []) (vote_cell row p) ≡ vote_text row p ∷ []
 vote_said row p =
-    let word = state_word (state_after row p) in
+    let word = state_word (state_at row.states p) in
     ap (λ l. (text_of 9 (slice_index row.votes p) ++ (codes " " ++ l)) ∷ []) (append-nil (word ++ []) ∙ append-nil word)
 
-pub table_cells : (v : SheetList) → cells_of (codes "td") v ≡ [] ∷ map (round_texts v) (round_ends v.rows)
+pub table_cells : (v : SheetList) → cells_of (codes "td") v ≡ [] ∷ map (round_texts v) (ends_of v)
 table_cells v =
     let ps = places (length v.names) in
     table_rows (texts_along (codes "td" ∷ [])) v (round_texts v)
@@ -219,4 +224,4 @@ table_cells v =
     (one_each (codes "td") (vote_cell row) ps (vote_text row) (vote_said row))
     ∙ ap (λ l. l ∷ (text_of 9 (left_over v.ballots row) ++ []) ∷ map (vote_text row) ps) (append-nil (text_of 9 row.quota))
     ∙ ap (λ l. text_of 9 row.quota ∷ l ∷ map (vote_text row) ps) (append-nil (text_of 9 (left_over v.ballots row))))
-    ∙ ap (λ l. l ∷ map (round_texts v) (round_ends v.rows)) (none_each (codes "td") (name_cell v) ps (λ p. refl))
+    ∙ ap (λ l. l ∷ map (round_texts v) (ends_of v)) (none_each (codes "td") (name_cell v) ps (λ p. refl))

@@ -7,11 +7,12 @@ use Rattle.std.specs.Str.{bytes_eq}
 use Rattle.std.proofs.lemmas.Bool.Decides.{eqb_tells}
 use Rattle.std.proofs.lemmas.List.{map-append}
 use Rattle.std.proofs.lemmas.List.Concat.{flat_map-append}
+use Rattle.candidate_roll.specs.declared.state.State.{State}
 use Rattle.meek_rule.specs.Row.{Row}
 use Rattle.page_tree.specs.Trees.{Trees, Nothing, Text, Element, Void, followed}
 use Rattle.sheet_page.specs.PageLaws.{round_ends}
 use Rattle.sheet_page.specs.PageReading.{children, along}
-use Rattle.sheet_page.specs.RoundEnds.{ends_round}
+use Rattle.sheet_page.specs.RoundEnds.{ends_round, settled}
 use Rattle.sheet_page.specs.Trees.{each}
 use Rattle.sheet_page.specs.Values.{places, row_at}
 
@@ -87,7 +88,7 @@ module _ {X : Type 0} (h : Trees → X) (name : List ℕ) (path : List (List ℕ
 
 -- ---- the ends of rounds
 
-shifted : {X : Type 0} (f g : ℕ → List X) → ((i : ℕ) → f (suc i) ≡ g i) → (a n : ℕ)
+pub shifted : {X : Type 0} (f g : ℕ → List X) → ((i : ℕ) → f (suc i) ≡ g i) → (a n : ℕ)
     → flat_map f (range_with_len (suc a) n) ≡ flat_map g (range_with_len a n)
 shifted f g same a zero = refl
 shifted f g same a (suc n) =
@@ -103,35 +104,61 @@ one_less a b =
       | inr other ↦ ne_eqb (suc a) (suc b) (λ e. other.1 (omega (arith, e))) ∙ sym other.0
     ]
 
-ends_behind : (row : Row) (rows : List Row) (i : ℕ) → ends_round (row ∷ rows) (suc i) ≡ ends_round rows i
+pub ends_behind : (row : Row) (rows : List Row) (i : ℕ) → ends_round (row ∷ rows) (suc i) ≡ ends_round rows i
 ends_behind row rows i =
     let next : suc i + 1 ≡ suc (i + 1) = omega arith in
     let here = nat_eq (row_at rows i).round (row_at rows (i + 1)).round in
     ap (λ k. nat_eq k (suc (length rows)) || not (nat_eq (row_at rows i).round (row_at (row ∷ rows) k).round)) next
     ∙ ap (λ b. b || not here) (one_less (i + 1) (length rows))
 
-first_ends : (row next : Row) (rows : List Row) → ends_round (row ∷ next ∷ rows) 0 ≡ not (nat_eq row.round next.round)
+pub first_ends : (row next : Row) (rows : List Row) → ends_round (row ∷ next ∷ rows) 0 ≡ not (nat_eq row.round next.round)
 first_ends row next rows =
     ap (λ b. b || not (nat_eq row.round next.round)) (ne_eqb 1 (length (row ∷ next ∷ rows)) (λ e. omega (arith, e)))
 
--- what is found at the ends of rounds, place by place
-abbrev at_end : {X : Type 0} → (Row → List X) → List Row → (i : ℕ) → List X
-at_end g rows i = if ends_round rows i then g (row_at rows i) else []
+-- an iteration with what the candidates are behind it
+abbrev settled_in : List Row → (last : List State) → (i : ℕ) → Row
+settled_in rows last i = settled (row_at rows i) (if nat_eq (i + 1) (length rows) then last else (row_at rows (i + 1)).states)
 
-pub at_ends : {X : Type 0} (g : Row → List X) (rows : List Row)
-    → flat_map (λ i. if ends_round rows i then g (row_at rows i) else []) (places (length rows))
-    ≡ flat_map g (round_ends rows)
-at_ends g [] = refl
-at_ends g (row ∷ []) = refl
-at_ends g (row ∷ next ∷ rows) =
-    ap (λ l. at_end g (row ∷ next ∷ rows) 0 ++ l)
-    (shifted (at_end g (row ∷ next ∷ rows)) (at_end g (next ∷ rows))
-    (λ i. ap (λ b. if b then g (row_at (next ∷ rows) i) else []) (ends_behind row (next ∷ rows) i)) 0 (length (next ∷ rows))
-    ∙ at_ends g (next ∷ rows))
-    ∙ ap (λ b. (if b then g row else []) ++ flat_map g (round_ends (next ∷ rows))) (first_ends row next rows)
+settled_behind :
+    (row : Row) (rows : List Row) (last : List State) (i : ℕ)
+    → settled_in (row ∷ rows) last (suc i) ≡ settled_in rows last i
+settled_behind row rows last i =
+    let next : suc i + 1 ≡ suc (i + 1) = omega arith in
+    ap (λ k. settled (row_at rows i) (if nat_eq k (suc (length rows)) then last else (row_at (row ∷ rows) k).states)) next
+    ∙ ap (λ b. settled (row_at rows i) (if b then last else (row_at rows (i + 1)).states)) (one_less (i + 1) (length rows))
+
+first_settled :
+    (row next : Row) (rows : List Row) (last : List State)
+    → settled_in (row ∷ next ∷ rows) last 0 ≡ settled row next.states
+first_settled row next rows last =
+    ap (λ b. settled row (if b then last else next.states))
+    (ne_eqb 1 (length (row ∷ next ∷ rows)) (λ e. omega (arith, e)))
+
+-- what is found at the ends of rounds, place by place
+abbrev at_end : {X : Type 0} → (Row → List X) → List Row → (last : List State) → (i : ℕ) → List X
+at_end g rows last i = if ends_round rows i then g (settled_in rows last i) else []
+
+pub at_ends : {X : Type 0} (g : Row → List X) (rows : List Row) (last : List State)
+    → flat_map (at_end g rows last) (places (length rows))
+    ≡ flat_map g (round_ends rows last)
+at_ends g [] last = refl
+at_ends g (row ∷ []) last = refl
+at_ends g (row ∷ next ∷ rows) last =
+    let all = row ∷ next ∷ rows in
+    let behind = flat_map g (round_ends (next ∷ rows) last) in
+    ap (λ l. at_end g all last 0 ++ l)
+    (shifted (at_end g all last) (at_end g (next ∷ rows) last) later 0 (length (next ∷ rows))
+    ∙ at_ends g (next ∷ rows) last)
+    ∙ ap (λ b. (if b then g (settled_in all last 0) else []) ++ behind) (first_ends row next rows)
+    ∙ ap (λ r. (if not (nat_eq row.round next.round) then g r else []) ++ behind) (first_settled row next rows last)
     ∙ by (nat_eq row.round next.round)
   where
-    by : (b : Bool) → (if not b then g row else []) ++ flat_map g (round_ends (next ∷ rows))
-        ≡ flat_map g (if b then round_ends (next ∷ rows) else row ∷ round_ends (next ∷ rows))
+    later : (i : ℕ) → at_end g (row ∷ next ∷ rows) last (suc i) ≡ at_end g (next ∷ rows) last i
+    later i =
+        ap (λ b. if b then g (settled_in (row ∷ next ∷ rows) last (suc i)) else []) (ends_behind row (next ∷ rows) i)
+        ∙ ap (λ r. if ends_round (next ∷ rows) i then g r else []) (settled_behind row (next ∷ rows) last i)
+
+    by : (b : Bool) → (if not b then g (settled row next.states) else []) ++ flat_map g (round_ends (next ∷ rows) last)
+        ≡ flat_map g (if b then round_ends (next ∷ rows) last else settled row next.states ∷ round_ends (next ∷ rows) last)
     by true = refl
     by false = refl

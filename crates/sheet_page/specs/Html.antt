@@ -13,8 +13,9 @@ use Rattle.sheet_text.specs.Lines.{state_word}
 use Rattle.sheet_reader.specs.Values.{SheetList}
 use Rattle.sheet_page.specs.Iterations.{folded}
 use Rattle.sheet_page.specs.Picture.{full_of, round_picture}
-use Rattle.sheet_page.specs.RoundEnds.{ends_round, left_over, state_after}
+use Rattle.sheet_page.specs.RoundEnds.{ends_round, left_over, settled_at}
 use Rattle.sheet_page.specs.Style.{style}
+use Rattle.sheet_page.specs.Told.{result_part, round_sentences}
 use Rattle.sheet_page.specs.Trees.{all, each, el, void, words, at}
 use Rattle.sheet_page.specs.Values.{places, name_at, row_at}
 
@@ -73,12 +74,12 @@ head_cells =
 abbrev pub head_row : SheetList → Trees
 head_row v = el (codes "tr") [] (head_cells ∷ each (name_cell v) (places (length v.names)) ∷ [])
 
--- a candidate's vote at the end of a round, and what it is then
+-- a candidate's vote at the end of a round, and what it is behind it
 abbrev pub vote_cell : Row → (p : ℕ) → Trees
 vote_cell row p =
     el (codes "td") [] (
     words (text_of 9 (slice_index row.votes p)) ∷ words (codes " ")
-    ∷ el (codes "small") [] (words (state_word (state_after row p)) ∷ []) ∷ []
+    ∷ el (codes "small") [] (words (state_word (state_at row.states p)) ∷ []) ∷ []
     )
 
 abbrev pub round_cells : (ballots : ℕ) → Row → Trees
@@ -93,7 +94,7 @@ round_row v row = el (codes "tr") [] (round_cells v.ballots row ∷ each (vote_c
 
 -- a round, if it ends at this place
 abbrev pub round_at : SheetList → (i : ℕ) → Trees
-round_at v i = if ends_round v.rows i then round_row v (row_at v.rows i) else Nothing
+round_at v i = if ends_round v.rows i then round_row v (settled_at v i) else Nothing
 
 abbrev pub rounds_table : SheetList → Trees
 rounds_table v = el (codes "table") [] (head_row v ∷ each (round_at v) (places (length v.rows)) ∷ [])
@@ -113,7 +114,8 @@ round_title round = el (codes "h2") [] (words (codes "Round ") ∷ words (decima
 abbrev pub round_part : SheetList → (full last : ℕ) → Trees
 round_part v full last =
     el (codes "section") [] (
-    round_title (row_at v.rows last).round ∷ round_picture v full (row_at v.rows last) ∷ folded v last ∷ []
+    round_title (row_at v.rows last).round ∷ round_sentences v last ∷ round_picture v full (settled_at v last)
+    ∷ folded v last ∷ []
     )
 
 -- the part of a round, if it ends at this place
@@ -136,7 +138,7 @@ heading v =
     )
 
 abbrev pub body : SheetList → Trees
-body v = el (codes "body") [] (heading v ∷ elected_part v ∷ rounds_part v ∷ round_parts v (full_of v.rows) ∷ [])
+body v = el (codes "body") [] (heading v ∷ elected_part v ∷ result_part v ∷ rounds_part v ∷ round_parts v (full_of v.rows) ∷ [])
 
 -- the title for the window, and how the page looks
 abbrev pub window_title : List ℕ → Trees
@@ -156,5 +158,6 @@ head v =
 abbrev pub page : SheetList → Trees
 page v = el (codes "html") (at (codes "lang") (codes "en") ∷ []) (head v ∷ body v ∷ [])
 
+-- a page, in one line; 10 is the line feed that ends it
 abbrev pub html_of : SheetList → List ℕ
-html_of v = codes "<!DOCTYPE html>" ++ printed (page v)
+html_of v = codes "<!DOCTYPE html>" ++ (printed (page v) ++ 10 ∷ [])

@@ -15,9 +15,11 @@ pub mod RoundEnds
 pub mod Stretches
 pub mod Picture
 pub mod Iterations
+pub mod Told
 pub mod Html
 pub mod Laws
 pub mod PageReading
 pub mod PageLaws
+pub mod SentenceLaws
 pub mod Owed
 pub mod Worked

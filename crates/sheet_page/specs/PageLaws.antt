@@ -2,6 +2,7 @@
 use Rattle.std.specs.Prelude.{◌≡◌, ◌↔◌, ℕ, ◌<◌, true, false, if◌then◌else◌, List, [], ◌∷◌, ◌++◌, length, map, codes, decimal, nat_eq, slice_index}
 use Rattle.std.specs.List.{filter, flat_map}
 use Rattle.candidate_roll.specs.State.{state_at}
+use Rattle.candidate_roll.specs.declared.state.State.{State}
 use Rattle.candidate_roll.specs.declared.state.State.TheVariants.{Elected}
 use Rattle.fixed_place.specs.Text.{text_of}
 use Rattle.lot_order.specs.Flags.{mark_at}
@@ -11,7 +12,7 @@ use Rattle.sheet_reader.specs.Values.{SheetList}
 use Rattle.sheet_page.specs.Html.{is_seated, page}
 use Rattle.sheet_page.specs.Json.{joined}
 use Rattle.sheet_page.specs.PageReading.{along, texts_along}
-use Rattle.sheet_page.specs.RoundEnds.{left_over, state_after}
+use Rattle.sheet_page.specs.RoundEnds.{left_over, settled}
 use Rattle.sheet_page.specs.Values.{places, name_at, row_at, step_word}
 
 -- a path below the parts of a page
@@ -45,16 +46,21 @@ PagesListTheirElected = (v : SheetList) → ListsItsElected v
 
 -- ---- rounds
 
--- the last iteration of each round: a round goes on as long as its number stays
-abbrev pub round_ends : List Row → List Row
-round_ends [] = []
-round_ends (row ∷ []) = row ∷ []
-round_ends (row ∷ next ∷ rows) =
-    if nat_eq row.round next.round then round_ends (next ∷ rows) else row ∷ round_ends (next ∷ rows)
+-- The last iteration of each round, with what the candidates are behind it: as before the next one, or as in the end. A round
+-- goes on as long as its number stays.
+abbrev pub round_ends : List Row → (last : List State) → List Row
+round_ends [] last = []
+round_ends (row ∷ []) last = settled row last ∷ []
+round_ends (row ∷ next ∷ rows) last =
+    if nat_eq row.round next.round then round_ends (next ∷ rows) last
+    else settled row next.states ∷ round_ends (next ∷ rows) last
+
+abbrev pub ends_of : SheetList → List Row
+ends_of v = round_ends v.rows v.last
 
 -- a candidate's vote and state
 abbrev pub vote_text : Row → (p : ℕ) → List ℕ
-vote_text row p = text_of 9 (slice_index row.votes p) ++ (codes " " ++ state_word (state_after row p))
+vote_text row p = text_of 9 (slice_index row.votes p) ++ (codes " " ++ state_word (state_at row.states p))
 
 -- the cells of a round: its quota, the votes on no candidate, and each candidate
 abbrev pub round_texts : SheetList → Row → List (List ℕ)
@@ -69,7 +75,7 @@ cells_of name v = map (texts_along (name ∷ [])) (along (below (codes "table" �
 abbrev pub label_text : SheetList → Row → (p : ℕ) → List ℕ
 label_text v row p =
     joined (
-    state_word (state_after row p) ∷ codes " " ∷ text_of 9 (slice_index row.votes p) ∷ codes " " ∷ name_at v p ∷ []
+    state_word (state_at row.states p) ∷ codes " " ∷ text_of 9 (slice_index row.votes p) ∷ codes " " ∷ name_at v p ∷ []
     )
 
 -- A page has a part with a title for each round, with a label for each candidate and its iterations within the part; and the
@@ -77,19 +83,19 @@ label_text v row p =
 pub record HasItsRounds (v : SheetList) : Type 0 where
   pub titles :
       texts_along (below (codes "h2" ∷ [])) (page v)
-      ≡ codes "Elected" ∷ codes "Votes at the end of each round"
-      ∷ map (λ row. codes "Round " ++ decimal row.round) (round_ends v.rows)
+      ≡ codes "Elected" ∷ codes "Result" ∷ codes "Votes at the end of each round"
+      ∷ map (λ row. codes "Round " ++ decimal row.round) (ends_of v)
   pub folded :
       texts_along (below (codes "details" ∷ codes "summary" ∷ [])) (page v)
-      ≡ map (λ row. codes "Iterations of round " ++ decimal row.round) (round_ends v.rows)
+      ≡ map (λ row. codes "Iterations of round " ++ decimal row.round) (ends_of v)
   pub labels :
       texts_along (below (codes "svg" ∷ codes "text" ∷ [])) (page v)
-      ≡ flat_map (λ row. map (label_text v row) (places (length v.names))) (round_ends v.rows)
+      ≡ flat_map (λ row. map (label_text v row) (places (length v.names))) (ends_of v)
   pub heads :
       cells_of (codes "th") v
       ≡ (codes "Round" ∷ codes "Quota" ∷ codes "On no candidate" ∷ v.names)
-      ∷ map (λ row. decimal row.round ∷ []) (round_ends v.rows)
-  pub cells : cells_of (codes "td") v ≡ [] ∷ map (round_texts v) (round_ends v.rows)
+      ∷ map (λ row. decimal row.round ∷ []) (ends_of v)
+  pub cells : cells_of (codes "td") v ≡ [] ∷ map (round_texts v) (ends_of v)
 
 abbrev pub PagesHaveTheirRounds : Type 0
 PagesHaveTheirRounds = (v : SheetList) → HasItsRounds v

@@ -1,11 +1,12 @@
 -- The picture of a round: its votes as bars, and its quota as a line.
 use Rattle.std.specs.Prelude.{ℕ, ◌+◌, ◌*◌, ◌/◌, max, min, if◌then◌else◌, List, [], ◌∷◌, ◌++◌, length, codes, decimal, nat_eq, slice_index}
+use Rattle.candidate_roll.specs.State.{state_at}
 use Rattle.fixed_place.specs.Text.{text_of}
 use Rattle.meek_rule.specs.Row.{Row}
 use Rattle.page_tree.specs.Trees.{Attribute, Trees}
 use Rattle.sheet_text.specs.Lines.{state_word}
 use Rattle.sheet_reader.specs.Values.{SheetList}
-use Rattle.sheet_page.specs.RoundEnds.{left_over, state_after}
+use Rattle.sheet_page.specs.RoundEnds.{left_over}
 use Rattle.sheet_page.specs.Trees.{all, each, el, words, at}
 use Rattle.sheet_page.specs.Values.{places, name_at}
 
@@ -41,12 +42,12 @@ rectangle y length state =
     ∷ at (codes "height") (codes "12") ∷ []
     ) []
 
--- a candidate's vote at the end of a round, and what it is then
+-- a candidate's vote at the end of a round, and what it is behind it
 abbrev pub label_at : SheetList → Row → (p : ℕ) → Trees
-label_at v row p = label (p * 36 + 16) (name_at v p) (state_word (state_after row p)) (slice_index row.votes p)
+label_at v row p = label (p * 36 + 16) (name_at v p) (state_word (state_at row.states p)) (slice_index row.votes p)
 
 abbrev pub rectangle_at : (full : ℕ) → Row → (p : ℕ) → Trees
-rectangle_at full row p = rectangle (p * 36 + 21) (scaled full (slice_index row.votes p)) (state_word (state_after row p))
+rectangle_at full row p = rectangle (p * 36 + 21) (scaled full (slice_index row.votes p)) (state_word (state_at row.states p))
 
 abbrev pub bar : SheetList → (full : ℕ) → Row → (p : ℕ) → Trees
 bar v full row p = all (label_at v row p ∷ rectangle_at full row p ∷ [])

@@ -1,10 +1,11 @@
 // The bars of a picture: a candidate's vote each, below its label.
-ghost use Rattle.std.specs.Prelude.{◌<◌, ◌≤◌, length};
+ghost use Rattle.std.specs.Prelude.{◌≡◌, ◌<◌, ◌≤◌, length};
 ghost use Rattle.plain_ballots.specs.declared.limits.TheConstants.{MOST_CANDIDATES};
 ghost use Rattle.meek_rule.specs.Row.{HasRoomFor};
 ghost use Rattle.page_tree.specs.Print.{printed};
 ghost use Rattle.sheet_reader.specs.Form.{IsPrintable};
 ghost use Rattle.sheet_page.specs.Picture.{bar, label, label_at, rectangle, rectangle_at};
+ghost use Rattle.sheet_page.specs.RoundEnds.{settled};
 ghost use Rattle.sheet_page.specs.Prints.{Prints};
 ghost use Rattle.sheet_page.specs.Trees.{print_each};
 ghost use Rattle.sheet_page.specs.Values.{places};
@@ -12,10 +13,10 @@ ghost use Rattle.sheet_page.specs.Values.{places};
 use crate::cell::Cell;
 use crate::pen::Pen;
 use crate::piece::Piece;
-use crate::rounds::state_after;
 use crate::values::state_word;
 use crate::widths::scaled;
 use byte_edge::Sink;
+use candidate_roll::States;
 use fixed_place::Amount;
 use meek_rule::Row;
 use sheet_reader::SheetValues;
@@ -26,48 +27,72 @@ pub(crate) fn write_bars<K: Sink>(
     values: &SheetValues,
     full: u64,
     row: &Row<9>,
+    behind: &States,
 )
     requires printable { IsPrintable 9 values.now }
     requires room { HasRoomFor (length values.now.names) row.now }
+    requires states { length behind.now ≡ length values.now.names }
     ensures { Prints K.Sink pen.old pen.new
-        (print_each (bar values.now full row.now) (places (length values.now.names))) }
+        (print_each (bar values.now full (settled row.now behind.now)) (places (length values.now.names))) }
 {
     for p in 0..values.names.len() {
-        write_bar(pen, values, full, row, p);
+        write_bar(pen, values, full, row, behind, p);
     }
 }
 
-/// A candidate's vote at the end of a round, and what it is then.
-fn write_bar<K: Sink>(pen: &mut Pen<'_, K>, values: &SheetValues, full: u64, row: &Row<9>, p: usize)
+/// A candidate's vote at the end of a round, and what it is behind it.
+fn write_bar<K: Sink>(
+    pen: &mut Pen<'_, K>,
+    values: &SheetValues,
+    full: u64,
+    row: &Row<9>,
+    behind: &States,
+    p: usize,
+)
     requires printable { IsPrintable 9 values.now }
     requires room { HasRoomFor (length values.now.names) row.now }
+    requires states { length behind.now ≡ length values.now.names }
     requires place { p < length values.now.names }
-    ensures { Prints K.Sink pen.old pen.new (printed (bar values.now full row.now p)) }
+    ensures { Prints K.Sink pen.old pen.new (printed (bar values.now full (settled row.now behind.now) p)) }
 {
-    write_label_at(pen, values, row, p);
-    write_rectangle_at(pen, full, row, p);
+    write_label_at(pen, values, row, behind, p);
+    write_rectangle_at(pen, full, row, behind, p);
 }
 
 /// The label of the candidate at a place.
-fn write_label_at<K: Sink>(pen: &mut Pen<'_, K>, values: &SheetValues, row: &Row<9>, p: usize)
+fn write_label_at<K: Sink>(
+    pen: &mut Pen<'_, K>,
+    values: &SheetValues,
+    row: &Row<9>,
+    behind: &States,
+    p: usize,
+)
     requires printable { IsPrintable 9 values.now }
     requires room { HasRoomFor (length values.now.names) row.now }
+    requires states { length behind.now ≡ length values.now.names }
     requires place { p < length values.now.names }
-    ensures { Prints K.Sink pen.old pen.new (printed (label_at values.now row.now p)) }
+    ensures { Prints K.Sink pen.old pen.new (printed (label_at values.now (settled row.now behind.now) p)) }
 {
-    let state = state_word(state_after(row, p));
+    let state = state_word(*behind.get(p));
     let name = values.names.get(p).bytes();
     write_label(pen, p as u64 * 36 + 16, name, state, *row.votes.get(p));
 }
 
 /// The bar of the candidate at a place.
-fn write_rectangle_at<K: Sink>(pen: &mut Pen<'_, K>, full: u64, row: &Row<9>, p: usize)
+fn write_rectangle_at<K: Sink>(
+    pen: &mut Pen<'_, K>,
+    full: u64,
+    row: &Row<9>,
+    behind: &States,
+    p: usize,
+)
     requires room { HasRoomFor (length row.now.states) row.now }
     requires few { length row.now.states ≤ MOST_CANDIDATES }
+    requires states { length behind.now ≡ length row.now.states }
     requires place { p < length row.now.states }
-    ensures { Prints K.Sink pen.old pen.new (printed (rectangle_at full row.now p)) }
+    ensures { Prints K.Sink pen.old pen.new (printed (rectangle_at full (settled row.now behind.now) p)) }
 {
-    let state = state_word(state_after(row, p));
+    let state = state_word(*behind.get(p));
     let length = scaled(full, *row.votes.get(p));
     write_rectangle(pen, p as u64 * 36 + 21, length, state);
 }

@@ -12,6 +12,7 @@ use crate::piece::Piece;
 use crate::round_parts::write_round_parts;
 use crate::rounds::write_rounds;
 use crate::style::STYLE;
+use crate::told::write_result;
 use crate::widths::sheet_full;
 use byte_edge::{Failed, Sink};
 use page_tree::Attribute;
@@ -25,6 +26,7 @@ pub(crate) fn write_html<K: Sink>(values: &SheetValues, sink: &mut K) -> Result<
     let mut pen = Pen::new(sink);
     pen.piece(&Piece::Raw(b"<!DOCTYPE html>"));
     write_page(&mut pen, values);
+    pen.piece(&Piece::Raw(b"\n"));
     pen.end()
 }
 
@@ -104,6 +106,7 @@ fn write_body<K: Sink>(pen: &mut Pen<'_, K>, values: &SheetValues)
     pen.open(b"body");
     write_heading(pen, values);
     write_elected(pen, values);
+    write_result(pen, values);
     write_rounds(pen, values);
     write_round_parts(pen, values, sheet_full(values));
     pen.close(b"body");

@@ -1,5 +1,6 @@
 // What holds of every page, of every round, of every table and of all JSON.
 ghost use Rattle.sheet_page.specs.PageLaws.{PagesHaveTheirIterations, PagesHaveTheirRounds, PagesListTheirElected};
+ghost use Rattle.sheet_page.specs.SentenceLaws.{PagesSayTheirDecisions};
 ghost use Rattle.sheet_page.specs.Laws.{JsonSaysItsSheet, PagesNest, RisingRoundsAreWhole, SheetsAreJson, StringsAreReadBack, TablesAreReadBack, TablesSayTheirSheets, TextsSayOneThing};
 
 use csv_text::csv_laws;
@@ -13,12 +14,13 @@ pub fn pages_nest()
 }
 
 /// A page lists each candidate that an iteration elected, with its round, and each that took a seat at the
-/// end; it has a part and a row of the table for each round, and in the parts each iteration once. The
-/// call does nothing.
+/// end; it has a part and a row of the table for each round, in the parts each iteration once, and with it
+/// the sentences of what it decided. The call does nothing.
 pub fn pages_say_their_sheets()
     ensures elected { PagesListTheirElected }
     ensures rounds { PagesHaveTheirRounds }
     ensures iterations { PagesHaveTheirIterations }
+    ensures decisions { PagesSayTheirDecisions }
 {}
 
 /// Where the numbers of rounds never fall, as in every count, the part of a round has all iterations of

@@ -1,22 +1,31 @@
 // What is written piece by piece.
-ghost use Rattle.std.specs.Prelude.{◌≡◌, Ok, [], ◌∷◌, map};
+ghost use Rattle.std.specs.Prelude.{◌≡◌, Ok, [], ◌∷◌, ◌≤◌, length, map};
 ghost use Rattle.std.specs.List.{flat_map};
+ghost use Rattle.plain_ballots.specs.declared.limits.TheConstants.{MOST_CANDIDATES};
 ghost use Rattle.csv_text.specs.Csv.{behind_comma, field_text, record_text};
 ghost use Rattle.page_tree.specs.Given.{given};
 ghost use Rattle.page_tree.specs.Print.{attribute_text, closing, opening, shown};
 ghost use Rattle.piece_text.specs.Writing.{Writes};
+ghost use Rattle.sheet_reader.specs.Form.{IsPrintable, IsPrintableRow};
+ghost use Rattle.sheet_words.specs.Lines.{at_end, sentences_of};
+ghost use Rattle.sheet_words.specs.Manner.{told};
+ghost use Rattle.sheet_words.specs.Sentences.{outcome, sentences_at_end};
 ghost use Rattle.sheet_page.specs.Cells.{cell_text};
 ghost use Rattle.sheet_page.specs.JsonText.{string_text};
 ghost use Rattle.sheet_page.specs.Pieces.{piece_text};
 ghost use Rattle.sheet_page.specs.Prints.{Prints};
+ghost use Rattle.sheet_page.specs.Values.{places};
 
 use crate::cell::{Cell, amount_text, count_text};
 use crate::json_text::write_string;
 use crate::piece::Piece;
 use byte_edge::{Failed, Sink};
 use csv_text::write_field;
-use page_tree::{Attribute, write_end, write_start, write_text};
+use page_tree::{Attribute, write_end as write_end_tag, write_start, write_text};
+use meek_rule::Row;
 use piece_text::write_bytes;
+use sheet_reader::SheetValues;
+use sheet_words::{Voice, write_end, write_outcomes, write_sentences_of};
 
 /// Writes pieces to a sink one after another, up to the first failure: behind it nothing more is written.
 #[derive(Drop)]
@@ -84,6 +93,39 @@ impl<'s, K: Sink> Pen<'s, K> {
         self.piece(&Piece::End(name));
     }
 
+    /// Writes what an iteration decided, in the manner of a voice.
+    pub(crate) fn decisions<V: Voice>(&mut self, voice: &V, values: &SheetValues, row: &Row<9>)
+        requires few { length values.now.names ≤ MOST_CANDIDATES }
+        requires printable { IsPrintableRow 9 (length values.now.names) row.now }
+        ensures { Prints K.Sink self.old self.new (flat_map (told V.manner) (sentences_of values.now row.now)) }
+    {
+        if let Ok(()) = self.done {
+            self.done = write_sentences_of(voice, values, row, self.sink);
+        }
+    }
+
+    /// Writes why the count ended, and what became of those on whom no iteration decided.
+    pub(crate) fn ending<V: Voice>(&mut self, voice: &V, values: &SheetValues)
+        requires { IsPrintable 9 values.now }
+        ensures { Prints K.Sink self.old self.new
+            (flat_map (told V.manner) (map at_end (sentences_at_end values.now))) }
+    {
+        if let Ok(()) = self.done {
+            self.done = write_end(voice, values, self.sink);
+        }
+    }
+
+    /// Writes what became of each candidate.
+    pub(crate) fn outcomes<V: Voice>(&mut self, voice: &V, values: &SheetValues)
+        requires { IsPrintable 9 values.now }
+        ensures { Prints K.Sink self.old self.new
+            (flat_map (told V.manner) (map (outcome values.now) (places (length values.now.names)))) }
+    {
+        if let Ok(()) = self.done {
+            self.done = write_outcomes(voice, values, self.sink);
+        }
+    }
+
     /// Writes a record of a spreadsheet, which has at least one field.
     pub(crate) fn record(&mut self, first: &Cell<'_>, others: &[Cell<'_>])
         ensures { Prints K.Sink self.old self.new (record_text (map cell_text (first.now ∷ others.now))) }
@@ -121,7 +163,7 @@ fn write_piece<K: Sink>(piece: &Piece<'_>, sink: &mut K) -> Result<(), Failed>
         Piece::Number(n) => write_bytes(count_text(*n).bytes(), sink),
         Piece::Quoted(cell) => write_cell_string(cell, sink),
         Piece::Start(name) => write_start(*name, &[], sink),
-        Piece::End(name) => write_end(*name, sink),
+        Piece::End(name) => write_end_tag(*name, sink),
         Piece::Text(cell) => write_cell_text(cell, sink),
         Piece::Begin(name) => write_begin(*name, sink),
         Piece::With(name, cell) => write_with(*name, cell, sink),

@@ -5,6 +5,7 @@ ghost use Rattle.meek_rule.specs.Row.{HasRoomFor};
 ghost use Rattle.page_tree.specs.Print.{opening, printed};
 ghost use Rattle.sheet_reader.specs.Form.{IsPrintable};
 ghost use Rattle.sheet_page.specs.Picture.{amounts_of, amounts_text, attributes_of, picture, picture_attributes, picture_title, quota_line, round_picture, scaled, view_box};
+ghost use Rattle.sheet_page.specs.RoundEnds.{settled};
 ghost use Rattle.sheet_page.specs.Prints.{Prints};
 
 use crate::bars::write_bars;
@@ -14,24 +15,29 @@ use crate::piece::Piece;
 use crate::rounds::left_over;
 use crate::widths::scaled;
 use byte_edge::Sink;
+use candidate_roll::States;
 use fixed_place::Amount;
 use line_text::Line;
 use meek_rule::Row;
 use sheet_reader::SheetValues;
 
-/// Writes the quota and the picture of a round; `full` units have the whole width.
+/// Writes the quota and the picture of a round, by its last iteration and the states behind it; `full`
+/// units have the whole width.
 pub(crate) fn write_round_picture<K: Sink>(
     pen: &mut Pen<'_, K>,
     values: &SheetValues,
     full: u64,
     row: &Row<9>,
+    behind: &States,
 )
     requires printable { IsPrintable 9 values.now }
     requires room { HasRoomFor (length values.now.names) row.now }
-    ensures { Prints K.Sink pen.old pen.new (printed (round_picture values.now full row.now)) }
+    requires states { length behind.now ≡ length values.now.names }
+    ensures { Prints K.Sink pen.old pen.new
+        (printed (round_picture values.now full (settled row.now behind.now))) }
 {
     write_amounts(pen, values, row);
-    write_picture(pen, values, full, row);
+    write_picture(pen, values, full, row, behind);
 }
 
 /// The quota of a round, and the votes on no candidate.
@@ -59,14 +65,22 @@ fn write_amounts_text<K: Sink>(pen: &mut Pen<'_, K>, quota: Amount<9>, left: Amo
 }
 
 /// The picture alone; `full` units have its whole width.
-fn write_picture<K: Sink>(pen: &mut Pen<'_, K>, values: &SheetValues, full: u64, row: &Row<9>)
+fn write_picture<K: Sink>(
+    pen: &mut Pen<'_, K>,
+    values: &SheetValues,
+    full: u64,
+    row: &Row<9>,
+    behind: &States,
+)
     requires printable { IsPrintable 9 values.now }
     requires room { HasRoomFor (length values.now.names) row.now }
-    ensures { Prints K.Sink pen.old pen.new (printed (picture values.now full row.now)) }
+    requires states { length behind.now ≡ length values.now.names }
+    ensures { Prints K.Sink pen.old pen.new
+        (printed (picture values.now full (settled row.now behind.now))) }
 {
     write_start(pen, values);
     write_title(pen, row.round);
-    write_bars(pen, values, full, row);
+    write_bars(pen, values, full, row, behind);
     write_quota(pen, values, full, row);
     pen.close(b"svg");
 }

@@ -12,7 +12,8 @@ use crate::iterations::write_folded;
 use crate::pen::Pen;
 use crate::picture::write_round_picture;
 use crate::piece::Piece;
-use crate::rounds::ends_round;
+use crate::rounds::{ends_round, states_behind};
+use crate::told::write_round_sentences;
 use byte_edge::Sink;
 use sheet_reader::SheetValues;
 
@@ -47,7 +48,8 @@ fn write_round_part<K: Sink>(pen: &mut Pen<'_, K>, values: &SheetValues, full: u
     let row = values.rows.get(last);
     pen.open(b"section");
     write_title(pen, row.round);
-    write_round_picture(pen, values, full, row);
+    write_round_sentences(pen, values, last);
+    write_round_picture(pen, values, full, row, states_behind(values, last));
     write_folded(pen, values, last);
     pen.close(b"section");
 }

@@ -6,16 +6,16 @@ ghost use Rattle.page_tree.specs.Print.{printed};
 ghost use Rattle.sheet_reader.specs.Form.{IsPrintable};
 ghost use Rattle.sheet_page.specs.Html.{head_cell, head_cells, head_row, name_cell, round_at, round_cells, round_row, rounds_part, rounds_table, rounds_title, vote_cell};
 ghost use Rattle.sheet_page.specs.Prints.{Prints};
-ghost use Rattle.sheet_page.specs.RoundEnds.{ends_round, state_after};
+ghost use Rattle.sheet_page.specs.RoundEnds.{ends_round, settled, settled_at, states_behind};
 ghost use Rattle.sheet_page.specs.Trees.{print_each};
 ghost use Rattle.sheet_page.specs.Values.{places};
 
 use crate::cell::Cell;
 use crate::pen::Pen;
 use crate::piece::Piece;
-use crate::values::{defeats, state_word};
+use crate::values::state_word;
 use byte_edge::Sink;
-use candidate_roll::State;
+use candidate_roll::States;
 use fixed_place::Amount;
 use meek_rule::Row;
 use sheet_reader::SheetValues;
@@ -125,19 +125,26 @@ fn write_round_at<K: Sink>(pen: &mut Pen<'_, K>, values: &SheetValues, i: usize)
     ensures { Prints K.Sink pen.old pen.new (printed (round_at values.now i)) }
 {
     if ends_round(values.rows.items(), i) {
-        write_round_row(pen, values, values.rows.get(i));
+        write_round_row(pen, values, values.rows.get(i), states_behind(values, i));
     }
 }
 
-/// The line of a round, from its last iteration.
-fn write_round_row<K: Sink>(pen: &mut Pen<'_, K>, values: &SheetValues, row: &Row<9>)
+/// The line of a round, from its last iteration and the states behind it.
+fn write_round_row<K: Sink>(
+    pen: &mut Pen<'_, K>,
+    values: &SheetValues,
+    row: &Row<9>,
+    behind: &States,
+)
     requires printable { IsPrintable 9 values.now }
     requires room { HasRoomFor (length values.now.names) row.now }
-    ensures { Prints K.Sink pen.old pen.new (printed (round_row values.now row.now)) }
+    requires states { length behind.now ≡ length values.now.names }
+    ensures { Prints K.Sink pen.old pen.new
+        (printed (round_row values.now (settled row.now behind.now))) }
 {
     pen.open(b"tr");
     write_round_cells(pen, values, row);
-    write_vote_cells(pen, values, row);
+    write_vote_cells(pen, values, row, behind);
     pen.close(b"tr");
 }
 
@@ -161,25 +168,30 @@ fn write_round_cells<K: Sink>(pen: &mut Pen<'_, K>, values: &SheetValues, row: &
 }
 
 /// All candidates at the end of a round.
-fn write_vote_cells<K: Sink>(pen: &mut Pen<'_, K>, values: &SheetValues, row: &Row<9>)
+fn write_vote_cells<K: Sink>(
+    pen: &mut Pen<'_, K>,
+    values: &SheetValues,
+    row: &Row<9>,
+    behind: &States,
+)
     requires room { HasRoomFor (length values.now.names) row.now }
-    requires few { length values.now.names ≤ MOST_CANDIDATES }
+    requires states { length behind.now ≡ length values.now.names }
     ensures { Prints K.Sink pen.old pen.new
-        (print_each (vote_cell row.now) (places (length values.now.names))) }
+        (print_each (vote_cell (settled row.now behind.now)) (places (length values.now.names))) }
 {
     for p in 0..values.names.len() {
-        write_vote_cell(pen, row, p);
+        write_vote_cell(pen, row, behind, p);
     }
 }
 
-/// A candidate's vote at the end of a round, and what it is then.
-fn write_vote_cell<K: Sink>(pen: &mut Pen<'_, K>, row: &Row<9>, p: usize)
+/// A candidate's vote at the end of a round, and what it is behind it.
+fn write_vote_cell<K: Sink>(pen: &mut Pen<'_, K>, row: &Row<9>, behind: &States, p: usize)
     requires room { HasRoomFor (length row.now.states) row.now }
-    requires few { length row.now.states ≤ MOST_CANDIDATES }
+    requires states { length behind.now ≡ length row.now.states }
     requires place { p < length row.now.states }
-    ensures { Prints K.Sink pen.old pen.new (printed (vote_cell row.now p)) }
+    ensures { Prints K.Sink pen.old pen.new (printed (vote_cell (settled row.now behind.now) p)) }
 {
-    let state = state_word(state_after(row, p));
+    let state = state_word(*behind.get(p));
     pen.write(&[
         Piece::Start(b"td"),
         Piece::Text(Cell::Amount(*row.votes.get(p))),
@@ -212,18 +224,17 @@ pub(crate) fn ends_round(rows: &[Row<9>], i: usize) -> bool
     row.round != next.round
 }
 
-/// What a candidate is after an iteration.
-pub(crate) fn state_after(row: &Row<9>, p: usize) -> State
-    requires room { HasRoomFor (length row.now.states) row.now }
-    requires few { length row.now.states ≤ MOST_CANDIDATES }
-    requires place { p < length row.now.states }
-    ensures { result ≡ state_after row.now p }
+/// What the candidates are behind the iteration at a place: as before the next one, or as in the end.
+pub(crate) fn states_behind(values: &SheetValues, i: usize) -> &States
+    requires printable { IsPrintable 9 values.now }
+    requires place { i < length values.now.rows }
+    ensures states { result.now ≡ states_behind values.now i }
+    ensures all { length result.now ≡ length values.now.names }
 {
-    if *row.elected.get(p) {
-        return State::Elected;
+    let count = values.rows.len();
+    if count == i + 1 {
+        return &values.last;
     }
-    if defeats(row.step, p as u32 + 1) {
-        return State::Defeated;
-    }
-    *row.states.get(p)
+    let next = values.rows.get(i + 1);
+    &next.states
 }

@@ -21,7 +21,7 @@ use meek_rule::{Row, Step};
 use sheet_reader::SheetValues;
 
 /// Writes why the count ends, and what becomes of those on whom no iteration decided.
-pub(crate) fn write_end<V: Voice, K: Sink>(
+pub fn write_end<V: Voice, K: Sink>(
     voice: &V,
     values: &SheetValues,
     sink: &mut K,

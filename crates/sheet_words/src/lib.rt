@@ -3,7 +3,8 @@
 //! of the values of a sheet; what a sheet does not say, as the order of the lots, is not said here.
 //!
 //! [`write_decisions`] writes a line for each sentence. A [`Voice`] says how sentences are written in
-//! other texts: [`write_sentences`] writes all of them so, and [`write_sentences_of`] those of an iteration.
+//! other texts: [`write_sentences`] writes all of them so, [`write_sentences_of`] those of an iteration,
+//! [`write_end`] those of the end, and [`write_outcomes`] what became of each candidate.
 #![tactic(auto)]
 
 mod decision;
@@ -22,7 +23,9 @@ mod voice;
 mod worked;
 
 pub use decisions::write_sentences_of;
+pub use end::write_end;
 pub use laws::{each_has_one_fate, each_has_one_sentence};
+pub use results::write_outcomes;
 pub use story::{write_decisions, write_sentences};
 pub use voice::{Lines, Voice};
 pub use worked::worked_decisions;

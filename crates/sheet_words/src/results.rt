@@ -15,7 +15,7 @@ use byte_edge::{Failed, Sink};
 use candidate_roll::State;
 use sheet_reader::SheetValues;
 
-/// Writes what became of each candidate.
+/// Writes what became of each candidate, below a title.
 pub(crate) fn write_results<V: Voice, K: Sink>(
     voice: &V,
     values: &SheetValues,
@@ -43,7 +43,8 @@ fn say_title<V: Voice, K: Sink>(voice: &V, sink: &mut K) -> Result<(), Failed>
     say_parts(voice, &[Part::Words(b"Result")], sink)
 }
 
-fn write_outcomes<V: Voice, K: Sink>(
+/// Writes what became of each candidate, without a title.
+pub fn write_outcomes<V: Voice, K: Sink>(
     voice: &V,
     values: &SheetValues,
     sink: &mut K,

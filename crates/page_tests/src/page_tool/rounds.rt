@@ -16,7 +16,7 @@ round 3 iteration 1\n\
 total 5.000000000\nquota 2.500000001\nsurplus 0.499999999\nstep iterate\n\
 result\n1 elected Ann\n2 defeated Ben\n3 defeated Cid\nend\n";
 
-// Of the six votes one is on nobody from round 2 on.
+// Of the six votes one is on nobody from round 2 on. Ben is defeated at the end.
 #[test]
 fn each_round_has_its_row(rt: HostRuntime) -> Result<(), Fail> {
     let rows = b"<tr><th>1</th><td>3.000000001</td><td>0.000000000</td>\
@@ -26,7 +26,7 @@ fn each_round_has_its_row(rt: HostRuntime) -> Result<(), Fail> {
 <td>3.000000000 <small>elected</small></td><td>2.000000000 <small>hopeful</small></td>\
 <td>0.000000000 <small>defeated</small></td></tr>\
 <tr><th>3</th><td>2.500000001</td><td>1.000000000</td>\
-<td>3.000000000 <small>elected</small></td><td>2.000000000 <small>hopeful</small></td>\
+<td>3.000000000 <small>elected</small></td><td>2.000000000 <small>defeated</small></td>\
 <td>0.000000000 <small>defeated</small></td></tr></table>";
     has(&rt, rt.alloc(), THREE, rows)?;
     has(&rt, rt.alloc(), THREE, b"<h2>Round 3</h2>")

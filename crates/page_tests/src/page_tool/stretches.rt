@@ -41,7 +41,7 @@ const THIRD: &[u8] =
 <th>State before</th><th>Keep value</th><th>Vote</th></tr>\
 <tbody><tr><th colspan=\"4\">Iteration 1: total 9.000000000, quota 4.500000001, surplus 0.000000000, \
 step iterate</th></tr><tr><th>A</th><td>hopeful</td><td>1.000000000</td><td>4.000000000</td></tr></tbody>\
-</table></details></section></body></html>";
+</table></details></section></body></html>\n";
 
 #[test]
 fn a_round_has_the_iterations_that_follow_one_another(rt: HostRuntime) -> Result<(), Fail> {

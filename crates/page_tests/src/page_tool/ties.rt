@@ -37,6 +37,21 @@ fn who_is_tied_and_who_is_capped(rt: HostRuntime) -> Result<(), Fail> {
     Ok(())
 }
 
+/// The part of the first round says who is tied, and that the lots decide; the part of the second has its own.
+#[test]
+fn a_round_says_that_the_lots_decided(rt: HostRuntime) -> Result<(), Fail> {
+    let first =
+        b"<h2>Round 1</h2><ul><li>Round 1, iteration 1: A (1) with 0.000000000 votes, B (2) with 0.000000000 votes \
+and C (3) with 0.000000000 votes are tied: their votes are no further apart than the surplus of 0.000000000.</li>\
+<li>Round 1, iteration 1: The lots decide: B (2) stands first of them in the lots and is defeated.</li></ul><p>";
+    has(&rt, rt.alloc(), TIE, first)?;
+    let second =
+        b"<h2>Round 2</h2><ul><li>Round 2, iteration 1: A (1) with 0.000000000 votes and C (3) with 0.000000000 \
+votes are tied: their votes are no further apart than the surplus of 0.000000000.</li>\
+<li>Round 2, iteration 1: The lots decide: C (3) stands first of them in the lots and is defeated.</li></ul><p>";
+    has(&rt, rt.alloc(), TIE, second)
+}
+
 /// No vote reaches the quota: it has the whole width, 400, and each bar its part of it.
 #[test]
 fn a_quota_above_all_votes_has_the_whole_width(rt: HostRuntime) -> Result<(), Fail> {

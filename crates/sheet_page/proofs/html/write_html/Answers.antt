@@ -4,5 +4,5 @@ use Rattle.sheet_page.proofs.html.write_html.Goals as goal
 
 pub returns : goal.returns
 returns g c =
-    ended c.new-pen.ensures.before c.new-pen.ensures.well (later c.piece.ensures c.write_page.ensures) (search rules)
+    ended c.new-pen.ensures.before c.new-pen.ensures.well (later c.piece.ensures (later c.write_page.ensures c.piece-2.ensures)) (search rules)
     c.end.ensures.done

@@ -1,6 +1,8 @@
 use Rattle.sheet_page.proofs.LeftSeats.{seated_are}
 use Rattle.sheet_page.proofs.PageIterations.{iteration_heads, iteration_cells}
 use Rattle.sheet_page.proofs.PageLabels.{picture_labels}
+use Rattle.sheet_page.proofs.PageRounds.{rounds_whole}
+use Rattle.sheet_page.proofs.PageSentences.{page_items}
 use Rattle.sheet_page.proofs.PageTexts.{elected_items, round_titles, folded_titles, table_heads, table_cells}
 use Rattle.sheet_page.proofs.laws.pages_say_their_sheets.Goals as goal
 
@@ -18,3 +20,6 @@ returns-clause-rounds c v = record {
 
 pub returns-clause-iterations : goal.returns-clause-iterations
 returns-clause-iterations c v = record { heads = iteration_heads v; cells = iteration_cells v }
+
+pub returns-clause-decisions : goal.returns-clause-decisions
+returns-clause-decisions c v = record { items = page_items v; whole = rounds_whole v.rows }

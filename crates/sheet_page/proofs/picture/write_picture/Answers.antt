@@ -6,6 +6,7 @@ use Rattle.sheet_page.specs.Trees.{each}
 use Rattle.sheet_page.specs.Values.{places}
 use Rattle.sheet_page.specs.Picture.{bar, picture_attributes, picture_title, quota_line, scaled}
 use Rattle.sheet_page.proofs.Printing.{wrapped, printed-each}
+use Rattle.sheet_page.specs.RoundEnds.{settled}
 use Rattle.sheet_page.proofs.Pens.{later, renamed}
 use Rattle.sheet_page.proofs.picture.write_picture.Goals as goal
 
@@ -14,7 +15,7 @@ returns g c =
     let row = c.args.row.now in
     let full = c.args.full in
     let bars = length c.args.values.now.names in
-    let bar_of = bar c.args.values.now full row in
+    let bar_of = bar c.args.values.now full (settled row c.args.behind.now) in
     renamed (wrapped (codes "svg") (picture_attributes bars) (picture_title row.round
     ∷ each bar_of (places bars) ∷ quota_line (scaled full row.quota) bars ∷ []))
     (later c.write_start.ensures (later

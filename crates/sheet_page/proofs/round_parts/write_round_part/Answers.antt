@@ -1,12 +1,15 @@
-use Rattle.std.proofs.Common.{◌≡◌, ◌∙◌, ap, sym, subst, [], ◌∷◌}
+use Rattle.std.proofs.Common.{◌≡◌, ◌∙◌, ap, sym, subst, [], ◌∷◌, List}
 use Rattle.std.specs.Prelude.{codes, Some, slice_get}
 use Rattle.std.proofs.lemmas.Option.{get_or_from_slice_get}
+use Rattle.candidate_roll.specs.declared.state.State.{State}
 use Rattle.meek_rule.specs.Row.{Row, blank}
 use Rattle.page_tree.specs.Print.{printed}
 use Rattle.sheet_reader.specs.Values.{SheetList}
 use Rattle.sheet_page.specs.Html.{round_title}
 use Rattle.sheet_page.specs.Iterations.{folded}
 use Rattle.sheet_page.specs.Picture.{round_picture}
+use Rattle.sheet_page.specs.RoundEnds.{settled, settled_at}
+use Rattle.sheet_page.specs.Told.{round_sentences}
 use Rattle.sheet_page.specs.Values.{row_at}
 use Rattle.sheet_page.proofs.Printing.{wrapped}
 use Rattle.sheet_page.proofs.Pens.{later, renamed}
@@ -21,8 +24,9 @@ returns g c =
     subst (λ (w : SheetList). slice_get w.rows last ≡ Some c.get-row.result.now) c.values.view_is c.get-row.ensures in
     let row = get_or_from_slice_get v.rows last c.get-row.result.now (blank 0) at in
     let title = ap (λ (r : Row). printed (round_title r.round)) (c.row.view_is ∙ sym row) in
-    let picture = ap (λ (r : Row). printed (round_picture v full r)) (sym row) in
-    renamed (wrapped (codes "section") [] (round_title (row_at v.rows last).round
-    ∷ round_picture v full (row_at v.rows last) ∷ folded v last ∷ []))
-    (later c.open.ensures (later (renamed title c.write_title.ensures)
-    (later (renamed picture c.write_round_picture.ensures) (later c.write_folded.ensures c.close.ensures))))
+    let picture = ap (λ (r : Row). printed (round_picture v full (settled r c.states_behind.result.now))) (sym row)
+    ∙ ap (λ (s : List State). printed (round_picture v full (settled (row_at v.rows last) s))) c.states_behind.ensures.states in
+    renamed (wrapped (codes "section") [] (round_title (row_at v.rows last).round ∷ round_sentences v last
+    ∷ round_picture v full (settled_at v last) ∷ folded v last ∷ []))
+    (later c.open.ensures (later (renamed title c.write_title.ensures) (later c.write_round_sentences.ensures
+    (later (renamed picture c.write_round_picture.ensures) (later c.write_folded.ensures c.close.ensures)))))

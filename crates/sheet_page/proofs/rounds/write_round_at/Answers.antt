@@ -1,12 +1,13 @@
 use Rattle.std.proofs.Common.{◌≡◌, ◌∙◌, ap, sym, subst, Bool, List}
 use Rattle.std.specs.Prelude.{if◌then◌else◌, Some, slice_get}
 use Rattle.std.proofs.lemmas.Option.{get_or_from_slice_get}
+use Rattle.candidate_roll.specs.declared.state.State.{State}
 use Rattle.meek_rule.specs.Row.{Row, blank}
 use Rattle.page_tree.specs.Print.{printed}
 use Rattle.page_tree.specs.Trees.{Nothing}
 use Rattle.sheet_reader.specs.Values.{SheetList}
 use Rattle.sheet_page.specs.Values.{row_at}
-use Rattle.sheet_page.specs.RoundEnds.{ends_round}
+use Rattle.sheet_page.specs.RoundEnds.{ends_round, settled, settled_at}
 use Rattle.sheet_page.specs.Html.{round_row}
 use Rattle.sheet_page.proofs.Pens.{nothing, renamed}
 use Rattle.sheet_page.proofs.rounds.write_round_at.Goals as goal
@@ -19,8 +20,10 @@ returns-then-ends_round g c =
     let ends = ap (λ (l : List Row). ends_round l i) (sym rows) ∙ sym c.ends_round.ensures ∙ c.if-ends_round.true in
     let at = subst (λ (w : SheetList). slice_get w.rows i ≡ Some c.get.result.now) c.values.view_is c.get.ensures in
     let row = get_or_from_slice_get v.rows i c.get.result.now (blank 0) at in
-    renamed (ap (λ (r : Row). printed (round_row v r)) (sym row)
-    ∙ sym (ap (λ (b : Bool). printed (if b then round_row v (row_at v.rows i) else Nothing)) ends)) c.write_round_row.ensures
+    let behind = c.states_behind.ensures.states in
+    renamed (ap (λ (r : Row). printed (round_row v (settled r c.states_behind.result.now))) (sym row)
+    ∙ ap (λ (s : List State). printed (round_row v (settled (row_at v.rows i) s))) behind
+    ∙ sym (ap (λ (b : Bool). printed (if b then round_row v (settled_at v i) else Nothing)) ends)) c.write_round_row.ensures
 
 pub returns-else-ends_round : goal.returns-else-ends_round
 returns-else-ends_round g c =
@@ -28,4 +31,4 @@ returns-else-ends_round g c =
     let i = c.args.i in
     let rows = c.items.ensures ∙ ap (λ (w : SheetList). w.rows) c.values.view_is in
     let ends = ap (λ (l : List Row). ends_round l i) (sym rows) ∙ sym c.ends_round.ensures ∙ c.if-ends_round.false in
-    renamed (sym (ap (λ (b : Bool). printed (if b then round_row v (row_at v.rows i) else Nothing)) ends)) (nothing _ _)
+    renamed (sym (ap (λ (b : Bool). printed (if b then round_row v (settled_at v i) else Nothing)) ends)) (nothing _ _)

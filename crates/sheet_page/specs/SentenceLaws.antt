@@ -1,0 +1,45 @@
+-- What every page says of the decisions of its sheet.
+use Rattle.std.specs.Prelude.{◌≡◌, ℕ, if◌then◌else◌, List, [], ◌∷◌, ◌++◌, codes, length, map, nat_eq}
+use Rattle.std.specs.List.{flat_map}
+use Rattle.meek_rule.specs.Row.{Row}
+use Rattle.sheet_reader.specs.Values.{SheetList}
+use Rattle.sheet_words.specs.Lines.{at_end, joined, sentences_of}
+use Rattle.sheet_words.specs.Sentences.{outcome, sentences_at_end}
+use Rattle.sheet_page.specs.Html.{page}
+use Rattle.sheet_page.specs.PageLaws.{below}
+use Rattle.sheet_page.specs.PageReading.{along, texts_along}
+use Rattle.sheet_page.specs.Values.{places}
+
+-- an iteration before the first of the rounds
+abbrev pub onto : Row → (rounds : List (List Row)) → List (List Row)
+onto row [] = (row ∷ []) ∷ []
+onto row (round ∷ rounds) = (row ∷ round) ∷ rounds
+
+-- the iterations of each round: a round goes on as long as its number stays
+abbrev pub rounds_of : List Row → List (List Row)
+rounds_of [] = []
+rounds_of (row ∷ []) = (row ∷ []) ∷ []
+rounds_of (row ∷ next ∷ rows) =
+    if nat_eq row.round next.round then onto row (rounds_of (next ∷ rows)) else (row ∷ []) ∷ rounds_of (next ∷ rows)
+
+-- what the items of each part of a page say
+abbrev pub items_of : SheetList → List (List (List ℕ))
+items_of v = map (texts_along (codes "ul" ∷ codes "li" ∷ [])) (along (below []) (page v))
+
+-- the lines of what the iterations of a round decided
+abbrev pub lines_of : SheetList → (round : List Row) → List (List ℕ)
+lines_of v round = map joined (flat_map (sentences_of v) round)
+
+-- the lines of the end, and of what became of each candidate
+abbrev pub last_lines : SheetList → List (List ℕ)
+last_lines v = map joined (map at_end (sentences_at_end v) ++ map (outcome v) (places (length v.names)))
+
+-- The part of each round has the sentences of its iterations, each once and in their order; the part of the result has those of
+-- the end, and what became of each candidate; and no other part has any. A round has the iterations that stand one behind
+-- another, and together the rounds have all.
+pub record SaysItsDecisions (v : SheetList) : Type 0 where
+  pub items : items_of v ≡ [] ∷ last_lines v ∷ [] ∷ map (lines_of v) (rounds_of v.rows)
+  pub whole : flat_map (λ round. round) (rounds_of v.rows) ≡ v.rows
+
+abbrev pub PagesSayTheirDecisions : Type 0
+PagesSayTheirDecisions = (v : SheetList) → SaysItsDecisions v
