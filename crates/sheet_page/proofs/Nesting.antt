@@ -211,10 +211,12 @@ items_tested sentences =
 
 told_tested : (v : SheetList) (last : ℕ) → tested (round_sentences v last) ≡ true
 told_tested v last =
-    tested_el (codes "ul") [] (each (sentences_at v last) (places (last + 1)) ∷ []) refl refl refl
-    (tested_each (sentences_at v last) (places (last + 1)) (λ i.
-    tested_if (is_of_round v.rows last i) (each item (sentences_of v (row_at v.rows i)))
-    (items_tested (sentences_of v (row_at v.rows i)))), tt)
+    tested_el (codes "ul") [] (each (sentences_at v last) (places (last + 1)) ∷ []) refl refl refl (
+      tested_each (sentences_at v last) (places (last + 1)) (λ i.
+          tested_if (is_of_round v.rows last i) (each item (sentences_of v (row_at v.rows i)))
+          (items_tested (sentences_of v (row_at v.rows i)))),
+      tt,
+    )
 
 result_tested : (v : SheetList) → tested (result_part v) ≡ true
 result_tested v =
