@@ -1,34 +1,43 @@
 -- Inputs of the form that the words ask for.
-use Rattle.std.proofs.Common.{◌≡◌, ◌∙◌, refl, ap, subst, ℕ, ◌≤◌, List, length, Option, Some, None, arith}
-use Rattle.std.specs.Option.{option_and_then}
+use Rattle.std.proofs.Common.{◌≡◌, ◌∙◌, refl, sym, ap, subst, ℕ, ◌≤◌, List, length, Option, Some, None, arith}
+use Rattle.std.specs.Option.{option_and_then, option_map}
 use Rattle.plain_ballots.specs.declared.limits.TheConstants.{MOST_CANDIDATES}
 use Rattle.ballot_table.specs.Imported.{IsTableStop}
 use Rattle.ballot_table.specs.declared.layout.Layout.{Layout as TableLayout}
 use Rattle.ballot_table.specs.declared.layout.Layout.TheVariants as table
 use Rattle.ballot_table.specs.declared.table_stop.TableStop.{TableStop}
 use Rattle.ballot_table.specs.declared.table_stop.TableStop.TheVariants as stops
+use Rattle.preflib_text.specs.Stops.{IsPrefStop}
+use Rattle.preflib_text.specs.declared.pref_fault.PrefFault.{PrefFault}
+use Rattle.preflib_text.specs.declared.pref_stop.PrefStop.{PrefStop}
+use Rattle.preflib_text.specs.declared.pref_stop.PrefStop.TheVariants as pref
 use Rattle.import_words.specs.Asks.{AreEnough}
+use Rattle.import_words.specs.declared.asked.Asked.{Asked}
 use Rattle.import_words.specs.declared.layout.Layout.{Layout}
 use Rattle.import_words.specs.declared.layout.Layout.TheVariants as words
 use Rattle.blt_import.specs.declared.read_stop.ReadStop.{ReadStop}
 use Rattle.blt_import.specs.declared.read_stop.ReadStop.TheVariants as stop
 use Rattle.blt_import.specs.Faults.{fault_of}
-use Rattle.blt_import.specs.Forms.{layout_of, named_for}
-use Rattle.blt_import.specs.Owed.{IsReadStop}
+use Rattle.blt_import.specs.declared.form.Form.{Form}
+use Rattle.blt_import.specs.declared.form.Form.TheVariants.{Table, Preflib}
+use Rattle.blt_import.specs.declared.import_fault.ImportFault.TheVariants as fault
+use Rattle.blt_import.specs.Forms.{form_by, layout_of, named_for, HasFew}
+use Rattle.blt_import.specs.Owed.{IsReadStop, stop_of_text, withdrawn_in}
 
--- the words name not too many candidates, where they name any
-pub few_named : (l : Layout) (t : TableLayout) (names : List (List ℕ)) → layout_of l ≡ Some t → AreEnough l names
-    → length (named_for t names) ≤ MOST_CANDIDATES
-few_named words.Ranks t names is enough =
-    let same : table.Ranks ≡ t = cc is in
-    subst (λ (k : TableLayout). length (named_for k names) ≤ MOST_CANDIDATES) same (omega arith)
-few_named words.Choices t names is enough =
-    let same : table.Choices ≡ t = cc is in
-    subst (λ (k : TableLayout). length (named_for k names) ≤ MOST_CANDIDATES) same (enough refl).1
-few_named words.List t names is enough =
-    let same : table.List ≡ t = cc is in
-    subst (λ (k : TableLayout). length (named_for k names) ≤ MOST_CANDIDATES) same (enough refl).1
-few_named words.Preflib t names is enough = absurd (cc is)
+-- a form withdraws those whom the words withdraw
+pub withdrawn_by : (asked : Asked) (layout : Option TableLayout) → withdrawn_in (form_by asked layout) ≡ asked.roll.withdrawn
+withdrawn_by asked None = refl
+withdrawn_by asked (Some layout) = refl
+
+-- what stopped the reading of a text of PrefLib stopped that of the input
+pub text_stop : (first : Option PrefFault) (found : PrefStop) (result : ReadStop) → IsPrefStop first found
+    → result ≡ stop_of_text found → IsReadStop (option_map (λ why. fault.Preflib why) first) result
+text_stop first (pref.Fault why) (stop.Fault f) is read =
+    let same : f ≡ fault.Preflib why = cc in
+    ap (option_map (λ (w : PrefFault). fault.Preflib w)) is ∙ ap (λ g. Some g) (sym same)
+text_stop first (pref.Fault why) stop.NoMemory is read = tt
+text_stop first pref.NoMemory stop.NoMemory is read = tt
+text_stop first pref.NoMemory (stop.Fault f) is read = absurd (cc read)
 
 -- what stopped the reading of a table stopped that of the input
 pub table_stop : (first : Option TableStop) (found : TableStop) (result : ReadStop) → IsTableStop first found

@@ -1,9 +1,13 @@
--- How tables are refused. 10 ends a line.
+-- How inputs are refused. 10 ends a line.
 use Rattle.std.specs.Prelude.{ℕ, List, [], ◌∷◌, ◌++◌, Option, Some, None, codes, decimal}
 use Rattle.ballot_table.specs.declared.table_kind.TableKind.{TableKind}
 use Rattle.ballot_table.specs.declared.table_kind.TableKind.TheVariants as table
 use Rattle.ballot_table.specs.declared.table_stop.TableStop.{TableStop}
 use Rattle.ballot_table.specs.declared.table_stop.TableStop.TheVariants as stop
+use Rattle.preflib_text.specs.declared.pref_fault.PrefFault.{PrefFault}
+use Rattle.preflib_text.specs.declared.pref_fault.PrefFault.TheVariants as pref_fault
+use Rattle.preflib_text.specs.declared.pref_kind.PrefKind.{PrefKind}
+use Rattle.preflib_text.specs.declared.pref_kind.PrefKind.TheVariants as pref
 use Rattle.table_text.specs.declared.text_kind.TextKind.{TextKind}
 use Rattle.table_text.specs.declared.text_kind.TextKind.TheVariants as text
 use Rattle.tool_edge.specs.Refusals.{Refusals, fault_line, too_long}
@@ -47,16 +51,35 @@ table_word table.SkippedRank = codes "SkippedRank"
 table_word table.EqualRank = codes "EqualRank"
 table_word table.Repeated = codes "Repeated"
 
+abbrev pub pref_word : PrefKind → List ℕ
+pref_word pref.BadByte = codes "BadByte"
+pref_word pref.EmptyLine = codes "EmptyLine"
+pref_word pref.BadHeader = codes "BadHeader"
+pref_word pref.BadNumber = codes "BadNumber"
+pref_word pref.NameExpected = codes "NameExpected"
+pref_word pref.BadName = codes "BadName"
+pref_word pref.TooLongName = codes "TooLongName"
+pref_word pref.BadWithdrawn = codes "BadWithdrawn"
+pref_word pref.NoSuchCandidate = codes "NoSuchCandidate"
+pref_word pref.Repeated = codes "Repeated"
+pref_word pref.TooManyBallots = codes "TooManyBallots"
+pref_word pref.EqualRank = codes "EqualRank"
+pref_word pref.WrongTotal = codes "WrongTotal"
+
 -- a fault of the words, at its place among its like
 abbrev pub word_line : (word : List ℕ) → (place : ℕ) → List ℕ
 word_line word place = codes "refused " ++ word ++ codes " at " ++ decimal place ++ 10 ∷ []
 
--- a fault at a byte, in a field of a record
+-- a fault at a byte, in a field of a record or in a line of a text
 abbrev pub record_line : (word : List ℕ) → (at row column : ℕ) → List ℕ
 record_line word at row column =
     codes "refused " ++ word ++ codes " at " ++ decimal at ++ codes " row " ++ decimal row ++ codes " column "
     ++ decimal column
     ++ 10 ∷ []
+
+abbrev pub pref_line : PrefFault → List ℕ
+pref_line (pref_fault.Line kind at row column) = record_line (pref_word kind) at row column
+pref_line (pref_fault.Word kind place) = word_line (pref_word kind) place
 
 -- An input that is too long has the line of every tool.
 abbrev pub refusal_line : ImportFault → List ℕ
@@ -64,6 +87,7 @@ refusal_line (fault.TooLong most) = fault_line (too_long most)
 refusal_line (fault.Text why) = record_line (text_word why.kind) why.at why.row why.column
 refusal_line (fault.Word kind place) = word_line (table_word kind) place
 refusal_line (fault.Record kind at row column) = record_line (table_word kind) at row column
+refusal_line (fault.Preflib why) = pref_line why
 
 abbrev pub import_refusals : Refusals ImportFault
 import_refusals = record { line = refusal_line; too_long = λ most. fault.TooLong most }

@@ -1,11 +1,17 @@
 -- What is owed for an input that says ballots.
 use Rattle.std.specs.Prelude.{◌≡◌, ℕ, List, length, Option, Some, None, ⊤}
-use Rattle.std.specs.Option.{option_and_then}
+use Rattle.std.specs.Option.{option_and_then, option_map}
 use Rattle.plain_ballots.specs.Ballots.{plain}
 use Rattle.candidate_roll.specs.Roll.{RollList, withdrawn_marks}
 use Rattle.ballot_table.specs.Imported.{IsImported, refusal}
 use Rattle.ballot_table.specs.declared.imported.Imported.{Imported}
+use Rattle.preflib_text.specs.Imported.{IsImported as IsImportedText}
+use Rattle.preflib_text.specs.Refusals.{fault_of_text}
+use Rattle.preflib_text.specs.declared.imported.Imported.{Imported as ImportedText}
+use Rattle.preflib_text.specs.declared.pref_stop.PrefStop.{PrefStop}
+use Rattle.preflib_text.specs.declared.pref_stop.PrefStop.TheVariants as pref
 use Rattle.blt_writer.specs.Text.{IsBltText}
+use Rattle.import_words.specs.Asks.{Asks}
 use Rattle.import_words.specs.declared.asked.Asked.{Asked}
 use Rattle.import_words.specs.declared.output.Output.{Output}
 use Rattle.import_words.specs.declared.output.Output.TheVariants.{Blt, Report}
@@ -17,46 +23,56 @@ use Rattle.tool_edge.specs.Finishing.{Finishes}
 use Rattle.tool_edge.specs.Streams.{Writing, NothingWritten}
 use Rattle.tool_edge.specs.Tool.{Tool, no_history}
 use Rattle.blt_import.specs.declared.import_fault.ImportFault.{ImportFault}
+use Rattle.blt_import.specs.declared.import_fault.ImportFault.TheVariants as fault
 use Rattle.blt_import.specs.declared.form.Form.{Form}
-use Rattle.blt_import.specs.declared.form.Form.TheVariants.{Table}
+use Rattle.blt_import.specs.declared.form.Form.TheVariants.{Table, Preflib}
 use Rattle.blt_import.specs.declared.read.Read.{Read}
 use Rattle.blt_import.specs.declared.read_stop.ReadStop.{ReadStop}
 use Rattle.blt_import.specs.declared.read_stop.ReadStop.TheVariants as stop
-use Rattle.blt_import.specs.Words.{TakesInput}
-use Rattle.blt_import.specs.Forms.{form_of}
+use Rattle.blt_import.specs.Forms.{form_of, pref_asked}
 use Rattle.blt_import.specs.Faults.{fault_of, import_refusals, refusal_line}
-use Rattle.blt_import.specs.Report.{report_text}
+use Rattle.blt_import.specs.Report.{report_text, tally_of_orders}
 
--- the election of the words, with the names of a table
-abbrev pub roll_of : RollWords → (names : List (List ℕ)) → RollList
-roll_of words names = record {
+-- the election of the words, with the names and the title that were read
+abbrev pub roll_of : RollWords → (names : List (List ℕ)) → (title : List ℕ) → RollList
+roll_of words names title = record {
   seats = words.seats;
   names = names;
-  title = words.title;
+  title = title;
   withdrawn = withdrawn_marks (length names) words.withdrawn;
 }
 
--- What an input says of its form: the names of its candidates, its ballots, and what became of them.
+-- What an input says of its form: the names of its candidates, its title, its ballots, and what became of them. A
+-- table has the title of the words, and a text of PrefLib has its own where they give none.
 abbrev pub Says : Form → (input : List ℕ) → Read → Type 0
-Says (Table asked) input read =
-    (table : Imported) × IsImported asked input table × (read.names ≡ table.names) × (read.ballots ≡ table.ballots)
+Says (Table form) input read =
+    (table : Imported) × IsImported form.table input table × (read.names ≡ table.names) × (read.title ≡ form.title)
+    × (read.ballots ≡ table.ballots)
     × (read.tally ≡ table.tally)
+Says (Preflib form) input read =
+    (text : ImportedText) × IsImportedText (pref_asked form) input text × (read.names ≡ text.names)
+    × (read.title ≡ text.title)
+    × (read.ballots ≡ text.ballots)
+    × (read.tally ≡ tally_of_orders text.tally)
 
 -- the first fault of an input of its form
 abbrev pub fault_in : Form → (input : List ℕ) → Option ImportFault
-fault_in (Table asked) input = option_and_then fault_of (refusal asked input)
+fault_in (Table form) input = option_and_then fault_of (refusal form.table input)
+fault_in (Preflib form) input = option_map (λ why. fault.Preflib why) (fault_of_text (pref_asked form) input)
 
 -- an input of its form has no fault
 abbrev pub HasNoFault : Form → (input : List ℕ) → Type 0
-HasNoFault (Table asked) input = refusal asked input ≡ None
+HasNoFault (Table form) input = refusal form.table input ≡ None
+HasNoFault (Preflib form) input = fault_of_text (pref_asked form) input ≡ None
 
 -- whom the words of a form withdraw
 abbrev pub withdrawn_in : Form → List ℕ
-withdrawn_in (Table asked) = asked.withdrawn
+withdrawn_in (Table form) = form.table.withdrawn
+withdrawn_in (Preflib form) = form.withdrawn
 
 -- What is written: the canonical text of the ballots that are read, under the roll of the words; or the report on them.
 abbrev pub IsTextOf : Output → RollWords → Read → (bytes : List ℕ) → Type 0
-IsTextOf Blt words read bytes = IsBltText (plain read.ballots.lines) (roll_of words read.names) bytes
+IsTextOf Blt words read bytes = IsBltText (plain read.ballots.lines) (roll_of words read.names read.title) bytes
 IsTextOf Report words read bytes = bytes ≡ report_text read.tally
 
 -- it is all that is written
@@ -64,24 +80,18 @@ abbrev pub IsDoneWith : Output → RollWords → Read → End ImportFault → (b
 IsDoneWith output words read end bytes = (end ≡ Done) × IsTextOf output words read bytes
 
 -- the words ask for a form of which the input has no fault
-pub record IsSoundInput (asked : Asked) (input : List ℕ) : Type 0 where
-  pub form : Form
-  pub is_form : form_of asked ≡ Some form
-  pub sound : HasNoFault form input
+abbrev pub IsSoundInput : Asked → (input : List ℕ) → Type 0
+IsSoundInput asked input = HasNoFault (form_of asked) input
 
 -- this is the first fault of the input, of the form that the words ask for
-pub record IsRefusedInput (asked : Asked) (input : List ℕ) (fault : ImportFault) : Type 0 where
-  pub form : Form
-  pub is_form : form_of asked ≡ Some form
-  pub first : fault_in form input ≡ Some fault
+abbrev pub IsRefusedInput : Asked → (input : List ℕ) → ImportFault → Type 0
+IsRefusedInput asked input first = fault_in (form_of asked) input ≡ Some first
 
 -- the text that is asked for, of what the input says without a fault
 pub record OwesText (asked : Asked) (input bytes : List ℕ) : Type 0 where
-  pub form : Form
-  pub is_form : form_of asked ≡ Some form
-  pub sound : HasNoFault form input
+  pub sound : HasNoFault (form_of asked) input
   pub read : Read
-  pub says : Says form input read
+  pub says : Says (form_of asked) input read
   pub text : IsTextOf asked.output asked.roll read bytes
 
 -- ---- the tool
@@ -89,7 +99,7 @@ pub record OwesText (asked : Asked) (input bytes : List ℕ) : Type 0 where
 -- a tool that takes words and an input of the form that they ask for, and writes what they ask for
 abbrev pub import_tool : Tool Asked (Unit {0}) ImportFault
 import_tool = record {
-  Takes = TakesInput;
+  Takes = Asks;
   limit = λ asked. Some FILE_LIMIT;
   Accepts = IsSoundInput;
   Refuses = IsRefusedInput;
@@ -104,6 +114,11 @@ import_tool = record {
 abbrev pub Refuses : ReadStop → End ImportFault → Writing → Type 0
 Refuses (stop.Fault fault) end sink = Finishes (BadInput fault) (refusal_line fault) end sink
 Refuses stop.NoMemory end sink = (end ≡ NoMemory) × NothingWritten sink
+
+-- what stops the reading of a text of PrefLib stops that of the input
+abbrev pub stop_of_text : PrefStop → ReadStop
+stop_of_text (pref.Fault why) = stop.Fault (fault.Preflib why)
+stop_of_text pref.NoMemory = stop.NoMemory
 
 -- what stopped the reading is the first fault; or memory is wanted
 abbrev pub IsReadStop : Option ImportFault → ReadStop → Type 0

@@ -1,16 +1,17 @@
-// Why a table is refused.
+// Why an input is refused.
 ghost use Rattle.std.specs.Prelude.{◌≡◌, ◌≤◌, length};
-ghost use Rattle.blt_import.specs.Faults.{fault_of, import_refusals, record_line, word_line};
+ghost use Rattle.blt_import.specs.Faults.{fault_of, import_refusals, pref_line, record_line, word_line};
 
-use crate::kinds::{table_word, text_word};
+use crate::kinds::{pref_word, table_word, text_word};
 use ballot_table::{TableKind, TableStop};
 use blt_reader::InputFault;
 use line_text::Line;
+use preflib_text::PrefFault;
 use table_text::TextFault;
 use tool_edge::Fault;
 
-/// Why an input that should be a table is refused, and where: the byte from 0, the record and the field
-/// from 1.
+/// Why an input that should be a table or a text of PrefLib is refused, and where: the byte from 0, the record and the
+/// field from 1.
 #[derive(Clone, Copy, Debug, PartialEq, Eq)]
 pub enum ImportFault {
     /// It has more bytes than so many, the most that are read.
@@ -29,6 +30,8 @@ pub enum ImportFault {
         row: u32,
         column: u32,
     },
+    /// It is no text of PrefLib: the line and the byte of the line from 1.
+    Preflib(PrefFault),
 }
 
 impl ImportFault {
@@ -61,21 +64,39 @@ impl Fault for ImportFault {
     fn line(&self) -> Line {
         match *self {
             ImportFault::TooLong(most) => InputFault::too_long(most).line(),
-            ImportFault::Text(fault) => {
-                record_line(text_word(fault.kind), fault.at, fault.row, fault.column)
-            }
+            ImportFault::Text(fault) => record_line(
+                text_word(fault.kind),
+                fault.at as u64,
+                u64::from(fault.row),
+                u64::from(fault.column),
+            ),
             ImportFault::Word { kind, place } => word_line(table_word(kind), place),
             ImportFault::Record {
                 kind,
                 at,
                 row,
                 column,
-            } => record_line(table_word(kind), at, row, column),
+            } => record_line(table_word(kind), at as u64, u64::from(row), u64::from(column)),
+            ImportFault::Preflib(fault) => pref_line(fault),
         }
     }
 
     fn too_long(most: usize) -> ImportFault {
         ImportFault::TooLong(most)
+    }
+}
+
+fn pref_line(fault: PrefFault) -> Line
+    ensures { result ≡ pref_line fault }
+{
+    match fault {
+        PrefFault::Line {
+            kind,
+            at,
+            row,
+            column,
+        } => record_line(pref_word(kind), at as u64, row as u64, column as u64),
+        PrefFault::Word { kind, place } => word_line(pref_word(kind), place),
     }
 }
 
@@ -93,8 +114,8 @@ fn word_line(word: &[u8], place: usize) -> Line
     line
 }
 
-/// The line of a fault at a byte, in a field of a record.
-fn record_line(word: &[u8], at: usize, row: u32, column: u32) -> Line
+/// The line of a fault at a byte, in a field of a record or in a line of a text.
+fn record_line(word: &[u8], at: u64, row: u64, column: u64) -> Line
     requires { length word.now ≤ 20 }
     ensures { result ≡ record_line word.now at row column }
 {
@@ -102,11 +123,11 @@ fn record_line(word: &[u8], at: usize, row: u32, column: u32) -> Line
     line.push_bytes(b"refused ");
     line.push_bytes(word);
     line.push_bytes(b" at ");
-    line.push_count(at as u64);
+    line.push_count(at);
     line.push_bytes(b" row ");
-    line.push_count(u64::from(row));
+    line.push_count(row);
     line.push_bytes(b" column ");
-    line.push_count(u64::from(column));
+    line.push_count(column);
     line.push_bytes(b"\n");
     line
 }

@@ -3,7 +3,7 @@ ghost use Rattle.blt_import.specs.Laws.{TablesHaveOneText};
 
 use blt_writer::one_bag_has_one_text;
 
-/// A table has one text at most as its ballot file, and one as its report.
+/// An input has one text at most as its ballot file, and one as its report.
 pub fn tables_have_one_text()
     ensures { TablesHaveOneText }
 {

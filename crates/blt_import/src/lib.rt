@@ -1,20 +1,20 @@
-//! Tables of ballots as ballot files, and reports on them: [`import`] reads an input of the form that the words describe,
-//! and writes the canonical text of the ballots that it says, or what became of them in numbers. Any other input is refused
-//! with an [`ImportFault`]. [`tables_have_one_text`] says that there is one text at most.
-//!
-//! Served are tables of each layout. Words that ask for a text of PrefLib's are refused.
+//! Tables of ballots and texts of PrefLib as ballot files, and reports on them: [`import`] reads an input of the form that
+//! the words describe, and writes the canonical text of the ballots that it says, or what became of them in numbers. Any
+//! other input is refused with an [`ImportFault`]. [`tables_have_one_text`] says that there is one text at most.
 #![tactic(auto)]
 
 mod form;
 mod import_fault;
 mod kinds;
 mod laws;
+mod pref_form;
 mod read;
 mod read_stop;
 mod report;
 mod run;
+mod table_form;
 mod tables;
-mod takes;
+mod titles;
 mod writing;
 
 pub use import_fault::ImportFault;

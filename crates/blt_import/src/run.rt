@@ -6,16 +6,14 @@ ghost use Rattle.tool_edge.specs.Streams.{reading, writing};
 ghost use Rattle.tool_edge.specs.Tool.{IsOwedFor, IsRun, no_history};
 ghost use Rattle.import_words.specs.Asks.{AreEnough};
 ghost use Rattle.blt_import.specs.Owed.{import_tool, Refuses};
-ghost use Rattle.blt_import.specs.Words.{IsRead};
 
 use crate::ImportFault;
 use crate::form::Form;
 use crate::read_stop::ReadStop;
 use crate::report::report;
-use crate::takes::takes_input;
 use crate::writing::write_ballots;
 use byte_edge::{Sink, Source};
-use import_words::{Asked, Output, words_ask_one_thing};
+use import_words::{Asked, Output, read_import_words, words_ask_one_thing};
 use std::alloc::Global;
 use std::thread::Threads;
 use tool_edge::{End, FILE_LIMIT, finish, open, refuse};
@@ -35,7 +33,7 @@ pub fn import<R: Threads + Sync, S: Source, K: Sink>(
         result no_history }
 {
     words_ask_one_thing();
-    let asked = takes_input(alloc, words);
+    let asked = read_import_words(alloc, words);
     let opened = match open(alloc, asked, FILE_LIMIT, source, sink) {
         Ok(opened) => opened,
         Err(end) => return end,
@@ -52,7 +50,6 @@ fn import_input<R: Threads + Sync, K: Sink>(
     sink: &mut K,
 ) -> End<ImportFault>
     requires short { length input.now ≤ FILE_LIMIT }
-    requires read { IsRead asked.now.layout }
     requires enough { AreEnough asked.now.layout asked.now.roll.candidates }
     ensures { FinishesOwed (IsOwedFor import_tool asked.now input.now no_history) result
         (writing K.written K.faults sink.old sink.new) }

@@ -89,7 +89,7 @@ fn texts_of(alloc: Global, labels: &[Label]) -> Result<Texts, NoMemory>
     Ok(texts)
 }
 
-fn numbers_of(alloc: Global, typed: &[u32]) -> Result<Numbers, NoMemory>
+pub(crate) fn numbers_of(alloc: Global, typed: &[u32]) -> Result<Numbers, NoMemory>
     ensures { IfOk result (λ numbers. numbers ≡ typed.now) }
 {
     let mut numbers = Numbers::new(alloc);

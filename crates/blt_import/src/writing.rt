@@ -32,10 +32,12 @@ pub(crate) fn write_ballots<R: Threads + Sync, K: Sink>(
 {
     every_bag_has_a_text();
     one_bag_has_one_text();
-    let Read { names, ballots, .. } = read;
-    let Ok(title) = words.title.copy(alloc) else {
-        return End::NoMemory;
-    };
+    let Read {
+        names,
+        title,
+        ballots,
+        ..
+    } = read;
     let withdrawn = words.withdrawn.items();
     let Ok(roll) = Roll::try_new(alloc, words.seats, names, title, withdrawn) else {
         return End::NoMemory;

@@ -1,4 +1,4 @@
-// Whole runs over memory: tables of ranks and of lists as ballot files, reports, and words that are not served.
+// Whole runs over memory: tables of ranks and of lists as ballot files, reports, and words that ask for nothing.
 use crate::import_runs::{gives, no_words, refuses};
 use std::process::Abort;
 use std::test::Fail;
@@ -94,9 +94,9 @@ fn reports_count_ballots(rt: HostRuntime) -> Result<(), Fail> {
     gives(&rt, rt.alloc(), words, table, dropped)
 }
 
-// Words of no form, of a layout that hasn't them, and of a text of PrefLib's.
+// Words of no form, or of a layout that hasn't them.
 #[test]
-fn words_that_are_not_served_are_refused(rt: HostRuntime) -> Result<(), Fail> {
+fn words_that_ask_for_nothing_are_refused(rt: HostRuntime) -> Result<(), Fail> {
     for words in [
         "",
         "--layout|ranks",
@@ -106,7 +106,8 @@ fn words_that_are_not_served_are_refused(rt: HostRuntime) -> Result<(), Fail> {
         "--layout|choices|--seats|1",
         "--layout=ranks|--seats|1",
         "--layout|choices|--seats|1|--candidate|Ann|--over|Ann",
-        "--layout|preflib|--seats|1",
+        "--layout|preflib|--seats|1|--repeated|cut",
+        "--layout|preflib|--seats|1|--weight|n",
     ] {
         no_words(&rt, rt.alloc(), words)?;
     }

@@ -10,7 +10,7 @@ returns g c =
     let w = g.K.Sink.written in
     let f = g.K.Sink.faults in
     let says = text_of_read c.every_bag_has_a_text.ensures c.one_bag_has_one_text.ensures c.args.words.now c.args.read _ _ _ _
-    text.text c.in-Ok-begin.ensures.ballots (c.in-Ok-begin.ensures.roll ∙ c.in-Ok-try_new.ensures.ok) c.in-Ok.ensures
+    text.text c.in-Ok-begin.ensures.ballots (c.in-Ok-begin.ensures.roll ∙ c.in-Ok.ensures.ok) refl
     c.items-withdrawn.ensures text.is in
     inr (
       Done,
