@@ -1,27 +1,20 @@
 -- Inputs of the form that the words ask for.
-use Rattle.std.proofs.Common.{◌≡◌, ◌∙◌, refl, sym, ap, subst, ℕ, ◌≤◌, List, length, Option, Some, None, arith}
+use Rattle.std.proofs.Common.{◌≡◌, ◌∙◌, refl, sym, ap, Option, Some, None}
 use Rattle.std.specs.Option.{option_and_then, option_map}
-use Rattle.plain_ballots.specs.declared.limits.TheConstants.{MOST_CANDIDATES}
 use Rattle.ballot_table.specs.Imported.{IsTableStop}
 use Rattle.ballot_table.specs.declared.layout.Layout.{Layout as TableLayout}
-use Rattle.ballot_table.specs.declared.layout.Layout.TheVariants as table
 use Rattle.ballot_table.specs.declared.table_stop.TableStop.{TableStop}
 use Rattle.ballot_table.specs.declared.table_stop.TableStop.TheVariants as stops
 use Rattle.preflib_text.specs.Stops.{IsPrefStop}
 use Rattle.preflib_text.specs.declared.pref_fault.PrefFault.{PrefFault}
 use Rattle.preflib_text.specs.declared.pref_stop.PrefStop.{PrefStop}
 use Rattle.preflib_text.specs.declared.pref_stop.PrefStop.TheVariants as pref
-use Rattle.import_words.specs.Asks.{AreEnough}
 use Rattle.import_words.specs.declared.asked.Asked.{Asked}
-use Rattle.import_words.specs.declared.layout.Layout.{Layout}
-use Rattle.import_words.specs.declared.layout.Layout.TheVariants as words
 use Rattle.blt_import.specs.declared.read_stop.ReadStop.{ReadStop}
 use Rattle.blt_import.specs.declared.read_stop.ReadStop.TheVariants as stop
 use Rattle.blt_import.specs.Faults.{fault_of}
-use Rattle.blt_import.specs.declared.form.Form.{Form}
-use Rattle.blt_import.specs.declared.form.Form.TheVariants.{Table, Preflib}
 use Rattle.blt_import.specs.declared.import_fault.ImportFault.TheVariants as fault
-use Rattle.blt_import.specs.Forms.{form_by, layout_of, named_for, HasFew}
+use Rattle.blt_import.specs.Forms.{form_by}
 use Rattle.blt_import.specs.Owed.{IsReadStop, stop_of_text, withdrawn_in}
 
 -- a form withdraws those whom the words withdraw

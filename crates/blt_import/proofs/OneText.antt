@@ -16,7 +16,6 @@ use Rattle.ballot_table.specs.Table.{ballots, rows_of}
 use Rattle.preflib_text.specs.declared.tally.Tally.{Tally as OrderTally}
 use Rattle.blt_writer.specs.Laws.{OneBagHasOneText}
 use Rattle.blt_writer.specs.Text.{IsBltText}
-use Rattle.import_words.specs.declared.asked.Asked.{Asked}
 use Rattle.import_words.specs.declared.output.Output.{Output}
 use Rattle.import_words.specs.declared.output.Output.TheVariants.{Blt, Report}
 use Rattle.import_words.specs.declared.roll_words.RollWords.{RollWords}
@@ -24,7 +23,7 @@ use Rattle.blt_import.specs.Laws.{TablesHaveOneText}
 use Rattle.blt_import.specs.declared.form.Form.{Form}
 use Rattle.blt_import.specs.declared.form.Form.TheVariants.{Table, Preflib}
 use Rattle.blt_import.specs.declared.read.Read.{Read}
-use Rattle.blt_import.specs.Owed.{IsTextOf, OwesText, Says, roll_of}
+use Rattle.blt_import.specs.Owed.{IsTextOf, Says, roll_of}
 use Rattle.blt_import.specs.Forms.{form_of}
 use Rattle.blt_import.specs.Report.{report_text, tally_of_orders}
 

@@ -15,7 +15,7 @@ use Rattle.tool_edge.specs.declared.end.End.{End}
 use Rattle.tool_edge.specs.declared.end.End.TheVariants.{Done, BadInput}
 use Rattle.tool_edge.specs.declared.opening.TheConstants.{FILE_LIMIT}
 use Rattle.tool_edge.specs.Streams.{Writing, writing}
-use Rattle.tool_edge.specs.Finishing.{Finishes, FinishesOwed, Wrote}
+use Rattle.tool_edge.specs.Finishing.{FinishesOwed, Wrote}
 use Rattle.tool_edge.specs.Tool.{IsOwedFor, IsSound, no_history}
 use Rattle.blt_import.specs.declared.import_fault.ImportFault.{ImportFault}
 use Rattle.blt_import.specs.declared.form.Form.{Form}
@@ -25,9 +25,9 @@ use Rattle.blt_import.specs.declared.read.Read.{Read}
 use Rattle.blt_import.specs.declared.read_stop.ReadStop.{ReadStop}
 use Rattle.blt_import.specs.declared.read_stop.ReadStop.TheVariants as stop
 use Rattle.blt_import.specs.Faults.{fault_of, refusal_line}
-use Rattle.blt_import.specs.Forms.{form_of, pref_asked}
-use Rattle.blt_import.specs.Owed.{HasNoFault, IsDoneWith, IsReadStop, IsRefusedInput, IsSoundInput, Refuses, Says}
-use Rattle.blt_import.specs.Owed.{OwesText, fault_in, import_tool, roll_of}
+use Rattle.blt_import.specs.Forms.{form_of}
+use Rattle.blt_import.specs.Owed.{HasNoFault, IsDoneWith, IsReadStop, Refuses, Says}
+use Rattle.blt_import.specs.Owed.{fault_in, import_tool, roll_of}
 
 -- what was written, as a tool's end takes it
 pub wrote_text :
@@ -70,28 +70,28 @@ text_of_read every once words read listed roll title withdrawn text moved is tit
 -- ---- a whole input
 
 module _ (asked : Asked) (input : List ℕ) (end : End ImportFault) (sink : Writing) (short : length input ≤ FILE_LIMIT) where
-    abbrev Ended : Type 0
-    Ended = FinishesOwed (IsOwedFor import_tool asked input no_history) end sink
+  abbrev Ended : Type 0
+  Ended = FinishesOwed (IsOwedFor import_tool asked input no_history) end sink
 
-    -- the text of an input without a fault is owed
-    pub read_owed :
-        (read : Read) → HasNoFault (form_of asked) input → Says (form_of asked) input read
-        → FinishesOwed (IsDoneWith asked.output asked.roll read) end sink
-        → Ended
-    read_owed read sound says (inl nothing) = inl nothing
-    read_owed read sound says (inr (due, bytes, (done, text), finishes)) =
-        let owes : IsOwedFor import_tool asked input no_history Done bytes = (
-          short,
-          record { sound = sound; read = read; says = says; text = text },
-        ) in
-        let owed = subst (λ (e : End ImportFault). IsOwedFor import_tool asked input no_history e bytes) (sym done) owes in
-        inr (due, bytes, owed, finishes)
+  -- the text of an input without a fault is owed
+  pub read_owed :
+      (read : Read) → HasNoFault (form_of asked) input → Says (form_of asked) input read
+      → FinishesOwed (IsDoneWith asked.output asked.roll read) end sink
+      → Ended
+  read_owed read sound says (inl nothing) = inl nothing
+  read_owed read sound says (inr (due, bytes, (done, text), finishes)) =
+      let owes : IsOwedFor import_tool asked input no_history Done bytes = (
+        short,
+        record { sound = sound; read = read; says = says; text = text },
+      ) in
+      let owed = subst (λ (e : End ImportFault). IsOwedFor import_tool asked input no_history e bytes) (sym done) owes in
+      inr (due, bytes, owed, finishes)
 
-    -- a fault is owed its line
-    pub refusal_owed : (found : ReadStop) → IsReadStop (fault_in (form_of asked) input) found → Refuses found end sink → Ended
-    refusal_owed (stop.Fault fault) first finishes =
-        inr (BadInput fault, refusal_line fault, (inr (short, first), refl, refl), finishes)
-    refusal_owed stop.NoMemory first nothing = inl nothing
+  -- a fault is owed its line
+  pub refusal_owed : (found : ReadStop) → IsReadStop (fault_in (form_of asked) input) found → Refuses found end sink → Ended
+  refusal_owed (stop.Fault fault) first finishes =
+      inr (BadInput fault, refusal_line fault, (inr (short, first), refl, refl), finishes)
+  refusal_owed stop.NoMemory first nothing = inl nothing
 
 -- ---- the whole run
 

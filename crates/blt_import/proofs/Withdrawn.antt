@@ -1,6 +1,6 @@
 -- A table without a fault has all candidates whom the words withdraw.
 use Rattle.std.proofs.Common.{◌≡◌, ◌∙◌, refl, sym, ap, subst, ℕ, ◌≤◌, Bool, true, false, cond, Option, Some, None}
-use Rattle.std.proofs.Common.{List, [], ◌∷◌, length, map, All, arith}
+use Rattle.std.proofs.Common.{List, ◌∷◌, length, map, All, arith}
 use Rattle.std.specs.Prelude.{◌==◌, ◌||◌, nat_lt, position, Ok}
 use Rattle.std.specs.List.{filter_map, position_or_len, slice_get, zip}
 use Rattle.std.specs.Option.{option_map, option_or}

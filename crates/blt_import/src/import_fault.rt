@@ -76,7 +76,12 @@ impl Fault for ImportFault {
                 at,
                 row,
                 column,
-            } => record_line(table_word(kind), at as u64, u64::from(row), u64::from(column)),
+            } => record_line(
+                table_word(kind),
+                at as u64,
+                u64::from(row),
+                u64::from(column),
+            ),
             ImportFault::Preflib(fault) => pref_line(fault),
         }
     }

@@ -1,4 +1,4 @@
-//! Tables of ballots as ballot files, as a program.
+//! Tables of ballots and texts of PrefLib as ballot files, as a program.
 #![tactic(auto)]
 
 use blt_import::{ImportFault, import};

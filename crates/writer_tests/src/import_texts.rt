@@ -16,27 +16,17 @@ fn orders_stand_for_ballots(rt: HostRuntime) -> Result<(), Fail> {
     let alloc = rt.alloc();
     let text = format!(in alloc; "# TITLE: Town\n{}# NUMBER VOTERS: 5\n3: 2,1\n2: 3\n", HEAD)?;
     let file = format!(in alloc; "3 1\n3 2 1 0\n2 3 0\n0\n{}\"Town\"\n", THREE)?;
-    gives(
-        &rt,
-        alloc,
-        (TEXTS, ""),
-        text.as_bytes(),
-        file.as_bytes(),
-    )?;
+    gives(&rt, alloc, (TEXTS, ""), text.as_bytes(), file.as_bytes())?;
     let report = b"rows 2\ndropped 0\nballots 5\nempty 0\nclosed 0\npassed 0\ncut 0\n";
-    gives(
-        &rt,
-        alloc,
-        (TEXTS, "--as|report"),
-        text.as_bytes(),
-        report,
-    )
+    gives(&rt, alloc, (TEXTS, "--as|report"), text.as_bytes(), report)
 }
 
 #[test]
 fn metadata_that_say_nothing_here_are_passed_over(rt: HostRuntime) -> Result<(), Fail> {
-    let text = b"# FILE NAME: board.soi\n# TITLE: Board\n# DATA TYPE: soi\n# NUMBER ALTERNATIVES: 3\n# NUMBER VOTERS: 9\n# NUMBER UNIQUE ORDERS: 3\n# ALTERNATIVE NAME 1: Ann Archer\n# ALTERNATIVE NAME 2: Ben Baker\n# ALTERNATIVE NAME 3: Cid Carter\n4: 1,2,3\n3: 2,1\n2: 3\n";
-    let file = b"3 1\n4 1 2 3 0\n3 2 1 0\n2 3 0\n0\n\"Ann Archer\"\n\"Ben Baker\"\n\"Cid Carter\"\n\"Board\"\n";
+    let text =
+        b"# FILE NAME: board.soi\n# TITLE: Board\n# DATA TYPE: soi\n# NUMBER ALTERNATIVES: 3\n# NUMBER VOTERS: 9\n# NUMBER UNIQUE ORDERS: 3\n# ALTERNATIVE NAME 1: Ann Archer\n# ALTERNATIVE NAME 2: Ben Baker\n# ALTERNATIVE NAME 3: Cid Carter\n4: 1,2,3\n3: 2,1\n2: 3\n";
+    let file =
+        b"3 1\n4 1 2 3 0\n3 2 1 0\n2 3 0\n0\n\"Ann Archer\"\n\"Ben Baker\"\n\"Cid Carter\"\n\"Board\"\n";
     gives(&rt, rt.alloc(), (TEXTS, ""), text, file)
 }
 
@@ -95,7 +85,8 @@ fn voters_are_as_many_as_ballots(rt: HostRuntime) -> Result<(), Fail> {
 #[test]
 fn candidates_are_named_and_known(rt: HostRuntime) -> Result<(), Fail> {
     let alloc = rt.alloc();
-    let text = b"# NUMBER ALTERNATIVES: 3\n# ALTERNATIVE NAME 1: Ann\n# ALTERNATIVE NAME 2: Ben\n3: 2\n";
+    let text =
+        b"# NUMBER ALTERNATIVES: 3\n# ALTERNATIVE NAME 1: Ann\n# ALTERNATIVE NAME 2: Ben\n3: 2\n";
     let line = b"refused NameExpected at 77 row 4 column 1\n";
     refuses(&rt, alloc, (TEXTS, ""), text, line)?;
     let text = format!(in alloc; "{}3: 2,4\n", HEAD)?;
