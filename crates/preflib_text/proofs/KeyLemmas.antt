@@ -13,7 +13,7 @@ pub few_capped : (o : Option ℕ) → option_map_or is_few (option_map capped o)
 few_capped None = refl
 few_capped (Some n) = few_number n
 
-few_most : (n : ℕ) → is_few n ≡ true → n ≤ MOST_CANDIDATES
+pub few_most : (n : ℕ) → is_few n ≡ true → n ≤ MOST_CANDIDATES
 few_most n is = grind (arith, nat_tests)
 
 small_capped : (n : ℕ) → n ≤ MOST_CANDIDATES → capped n ≡ n

@@ -23,3 +23,10 @@ mod ReadItems
 mod WithinLemmas
 mod CountLemmas
 mod CountingLaws
+mod NumberLemmas
+mod FewLemmas
+mod FeedLemmas
+mod WrittenLines
+mod WrittenOrders
+mod WrittenTexts
+mod WrittenHeads

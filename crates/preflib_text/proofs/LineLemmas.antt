@@ -11,7 +11,7 @@ abbrev pub is_feed : ℕ → Bool
 is_feed b = eqb b 10
 
 -- a split has a first part
-some_part : (xs : List ℕ) → (q : List ℕ) × (qs : List (List ℕ)) × (slice_split is_feed xs ≡ q ∷ qs)
+pub some_part : (xs : List ℕ) → (q : List ℕ) × (qs : List (List ℕ)) × (slice_split is_feed xs ≡ q ∷ qs)
 some_part [] = ([], [], refl)
 some_part (x ∷ xs) =
     let rest = some_part xs in
@@ -32,14 +32,14 @@ one_part (x ∷ xs) is =
       | false ↦ λ all. ap (onto_first x) (one_part xs (omega (arith, all)))
     ]) is
 
-first_of_two : (row at : ℕ) (piece other : List ℕ) (others : List (List ℕ))
+pub first_of_two : (row at : ℕ) (piece other : List ℕ) (others : List (List ℕ))
     → lines_of row at (piece ∷ other ∷ others)
     ≡ record { row = row; at = at; bytes = without_return piece }
     ∷ lines_of (row + 1) (at + length piece + 1) (other ∷ others)
 first_of_two row at [] other others = refl
 first_of_two row at (b ∷ bs) other others = refl
 
-first_line : (row at : ℕ) (piece xs : List ℕ)
+pub first_line : (row at : ℕ) (piece xs : List ℕ)
     → lines_of row at (piece ∷ slice_split is_feed xs)
     ≡ record { row = row; at = at; bytes = without_return piece }
     ∷ lines_of (row + 1) (at + length piece + 1) (slice_split is_feed xs)

@@ -55,19 +55,19 @@ module _ (bytes : List ℕ) where
       ∙ ap (λ k. place i End ∷ filter_map (part_at bytes) (range_with_len (i + 1) k)) none
 
   module _ (i b : ℕ) (rest : List ℕ) (is : drop i bytes ≡ b ∷ rest) where
-    inside : i < length bytes
+    pub inside : i < length bytes
     inside =
         let short : length bytes - i ≡ length (b ∷ rest) = sym (length-drop i bytes) ∙ ap length is in omega (arith, short)
 
-    behind : drop (i + 1) bytes ≡ rest
+    pub behind : drop (i + 1) bytes ≡ rest
     behind = sym (drop-drop 1 i bytes) ∙ ap (drop 1) is
 
-    byte : slice_index bytes i ≡ b
+    pub byte : slice_index bytes i ≡ b
     byte =
         ap (λ k. get_or bytes k 0) (omega arith) ∙ sym (get_or-drop i bytes 0 0) ∙ ap (λ xs. get_or xs 0 0) is
 
     -- what is read behind the byte ends in it
-    ends_more : ends_in_digit (take (i + 1) bytes) ≡ is_digit b
+    pub ends_more : ends_in_digit (take (i + 1) bytes) ≡ is_digit b
     ends_more =
         ap ends_in_digit (take_more bytes i 0 inside)
         ∙ ap (λ o. option_map_or is_digit o false) (last_push None (take i bytes) (get_or bytes i 0))
@@ -82,7 +82,7 @@ module _ (bytes : List ℕ) where
         ∙ ap (λ xs. cons_option (option_map (place i) (part_between (take i bytes) xs)) (parts_from bytes (i + 1))) is
         ∙ ap (λ p. cons_option (option_map (place i) p) (parts_from bytes (i + 1))) part
 
-    over_blank : is_blank b ≡ true → parts_from bytes i ≡ parts_from bytes (i + 1)
+    pub over_blank : is_blank b ≡ true → parts_from bytes i ≡ parts_from bytes (i + 1)
     over_blank blank = begun None (if_true (is_blank b) None _ blank)
 
     over_digit : is_digit b ≡ true → ends_in_digit (take i bytes) ≡ true → parts_from bytes i ≡ parts_from bytes (i + 1)
@@ -98,7 +98,7 @@ module _ (bytes : List ℕ) where
         (if_false (is_blank b) None _ (digit_not_blank b digit) ∙ if_true (is_digit b) _ _ digit
         ∙ if_false (ends_in_digit (take i bytes)) None _ ends)
 
-    at_sign : is_blank b ≡ false → is_digit b ≡ false
+    pub at_sign : is_blank b ≡ false → is_digit b ≡ false
         → parts_from bytes i ≡ place i (sign i b) ∷ parts_from bytes (i + 1)
     at_sign blank digit =
         let bound = inside in

@@ -18,7 +18,9 @@ pub mod Stops
 pub mod Counting
 pub mod Imported
 pub mod Laws
+pub mod Written
 pub mod Worked
 pub mod WorkedHeads
 pub mod WorkedOrders
 pub mod WorkedTallies
+pub mod WorkedWritten

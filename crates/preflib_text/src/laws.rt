@@ -1,5 +1,6 @@
 // What holds of every text. Each law is the contract of a function with nothing to do.
 ghost use Rattle.preflib_text.specs.Laws.{FaultOrBallots, NoOrderIsClosed, TalliesCountBallots, TreatmentsOnlyMend};
+ghost use Rattle.preflib_text.specs.Written.{OrdersSayBallots, OrdersSayRankings, WrittenOrdersSayBallots};
 
 /// A text has a fault, or it says ballots, and not both.
 pub fn fault_or_ballots()
@@ -19,3 +20,13 @@ pub fn tallies_count_ballots()
     ensures counts { TalliesCountBallots }
     ensures none_closed { NoOrderIsClosed }
 {}
+
+/// A text whose orders are written from ballots that each rank somebody says just these, each ranking as often as its
+/// count says: by its lines, and by its bytes. So a text and tables of the same rankings agree.
+pub fn orders_say_rankings()
+    ensures counted { OrdersSayBallots }
+    ensures single { OrdersSayRankings }
+    ensures texts { WrittenOrdersSayBallots }
+{
+    ballot_marks::rankings_of_marks();
+}

@@ -30,11 +30,13 @@ mod tally;
 mod worked;
 
 pub use imported::Imported;
-pub use laws::{fault_or_ballots, tallies_count_ballots, texts_are_only_mended};
+pub use laws::{
+    fault_or_ballots, orders_say_rankings, tallies_count_ballots, texts_are_only_mended,
+};
 pub use pref_asked::PrefAsked;
 pub use pref_fault::PrefFault;
 pub use pref_kind::PrefKind;
 pub use pref_stop::PrefStop;
 pub use reader::read_preflib;
 pub use tally::Tally;
-pub use worked::worked_orders;
+pub use worked::{worked_orders, worked_rankings};
