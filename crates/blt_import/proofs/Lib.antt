@@ -1,5 +1,6 @@
 mod Owing
 mod OneText
+mod AnyOrder
 mod Withdrawn
 mod WordLemmas
 mod FormLemmas

@@ -45,10 +45,10 @@ module _ (asked : TableAsked) where
       tally_of asked.treatment asked.empty (map texts_in below)
       (rows_of (asked_of asked) asked.empty (columns (asked_of asked) (texts_in head)) (map texts_in below))
 
-one_byte : (m n : ℕ) (r : Result ℕ TextFault) → r ≡ Ok m → r ≡ Ok n → m ≡ n
+pub one_byte : (m n : ℕ) (r : Result ℕ TextFault) → r ≡ Ok m → r ≡ Ok n → m ≡ n
 one_byte m n r one other = let same = sym one ∙ other in cc
 
-one_some : {X : Type 0} (x y : X) → Some x ≡ Some y → x ≡ y
+pub one_some : {X : Type 0} (x y : X) → Some x ≡ Some y → x ≡ y
 one_some x y same = cc
 
 -- what is read of an input is one thing, but for how its ballots stand in lines

@@ -18,5 +18,5 @@ mod titles;
 mod writing;
 
 pub use import_fault::ImportFault;
-pub use laws::tables_have_one_text;
+pub use laws::{records_have_one_text, tables_have_one_text};
 pub use run::import;
