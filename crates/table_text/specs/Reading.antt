@@ -53,6 +53,11 @@ field_text (b ∷ bytes) = if b == 34 then unquoted false bytes else b ∷ bytes
 abbrev pub texts_of : List Row → List (List (List ℕ))
 texts_of rows = map (λ row. map (λ field. field_text field.bytes) row.fields) rows
 
+-- a quoted field
+abbrev pub begins_with_quote : List ℕ → Bool
+begins_with_quote [] = false
+begins_with_quote (b ∷ bytes) = b == 34
+
 -- ---- one byte
 
 -- what of a field was read: nothing, bytes without a quote in front, an open quote and bytes, a quote within quotes; or

@@ -14,6 +14,7 @@ pub(crate) struct Flaw {
 }
 
 /// The place behind the field that begins at a place.
+#[inline]
 pub(crate) fn field_stop(bytes: &[u8], separator: u8, at: usize) -> Result<usize, Flaw>
     requires { at ≤ length bytes.now }
     ensures after { IfOk result (λ stop. at ≤ stop) }
@@ -30,6 +31,7 @@ pub(crate) fn field_stop(bytes: &[u8], separator: u8, at: usize) -> Result<usize
 }
 
 // The same of a field that begins with no quote.
+#[inline]
 fn plain_stop(bytes: &[u8], separator: u8, at: usize) -> Result<usize, Flaw>
     requires { at ≤ length bytes.now }
     ensures after { IfOk result (λ stop. at ≤ stop) }

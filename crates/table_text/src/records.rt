@@ -1,11 +1,11 @@
 // The records of a text.
-ghost use Rattle.std.specs.Prelude.{◌≡◌, ◌≢◌, ◌≤◌, [], length, slice_range, All, IfOk, OnOk, OnErr, Ok, Err};
-ghost use Rattle.table_text.specs.Reading.{field_text, read_text};
+ghost use Rattle.std.specs.Prelude.{◌≡◌, ◌≢◌, ◌≤◌, ◌↔◌, [], length, slice_range, true, All, IfOk, IfSome, IsNone, OnOk, OnErr, Ok, Err};
+ghost use Rattle.table_text.specs.Reading.{begins_with_quote, field_text, read_text};
 ghost use Rattle.table_text.specs.Reader.{IsCellOf, IsEnded, LineEnds, GivesFrom, Gives};
 
 use crate::mark::FEED;
 use crate::record::{next_count, record_end};
-use crate::text::put_text;
+use crate::text::{put_text, without_quotes};
 use crate::{Cell, Cells, NoMemory, Step, TextFault, TextKind, TextStop};
 use std::marker::Model;
 
@@ -127,6 +127,16 @@ impl<'a> Records<'a> {
         self.at = at;
         self.row = row;
         Ok(step)
+    }
+
+    /// The text of a field that stands in the bytes as it is: one without quotes, which is its own text.
+    #[inline]
+    pub fn standing(&self, cell: Cell) -> Option<&'a [u8]>
+        requires { IsCellOf self.now.bytes cell }
+        ensures text { IfSome result (λ text. text.now ≡ field_text (slice_range self.now.bytes cell.at cell.stop)) }
+        ensures quoted { IsNone result ↔ (begins_with_quote (slice_range self.now.bytes cell.at cell.stop) ≡ true) }
+    {
+        without_quotes(&self.bytes[cell.at..cell.stop])
     }
 
     /// The text of a field: its bytes without its quotes, with one quote for each two. It is then all that is

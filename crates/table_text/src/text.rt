@@ -1,9 +1,21 @@
 // The text of a field.
-ghost use Rattle.std.specs.Prelude.{◌≡◌, [], ◌∷◌, ◌++◌, false, OnOk};
-ghost use Rattle.table_text.specs.Reading.{unquoted, field_text};
+ghost use Rattle.std.specs.Prelude.{◌≡◌, ◌↔◌, [], ◌∷◌, ◌++◌, false, true, OnOk, IfSome, IsNone};
+ghost use Rattle.table_text.specs.Reading.{begins_with_quote, unquoted, field_text};
 
 use crate::NoMemory;
 use crate::mark::QUOTE;
+
+/// The text of a field, from the field's bytes, where it begins without a quote.
+#[inline]
+pub(crate) fn without_quotes(bytes: &[u8]) -> Option<&[u8]>
+    ensures text { IfSome result (λ text. text.now ≡ field_text bytes.now) }
+    ensures quoted { IsNone result ↔ (begins_with_quote bytes.now ≡ true) }
+{
+    match bytes {
+        [b'"', ..] => None,
+        _ => Some(bytes),
+    }
+}
 
 /// Puts the text of a field into an emptied list, from the field's bytes with its quotes.
 pub(crate) fn put_text(bytes: &[u8], into: &mut Vec<u8>) -> Result<(), NoMemory>
