@@ -10,8 +10,7 @@ use Rattle.std.proofs.lemmas.List.Elements.{filter_map-append}
 use Rattle.plain_ballots.specs.declared.limits.TheConstants.{MOST_CANDIDATES}
 use Rattle.ballot_table.specs.declared.held.Held.{Held}
 use Rattle.ballot_table.specs.declared.held.Held.TheVariants.{Nobody}
-use Rattle.ballot_table.specs.declared.holders.Holders.{Holders}
-use Rattle.ballot_table.specs.Held.{IsHolding, held_by, with_holder}
+use Rattle.ballot_table.specs.Held.{HolderList, IsHolding, held_by, with_holder}
 use Rattle.ballot_table.specs.Rows.{holder, holders}
 
 pub enumerate_push : {X : Type 0} (n : ℕ) (xs : List X) (x : X)
@@ -62,12 +61,12 @@ the_holder : (rank c r : ℕ) → r ≡ rank → holder rank (c, Some r) ≡ Som
 the_holder rank c r same = grind arith
 
 -- nobody has a rank before the first candidate
-pub none_held : (holders_are : Holders) → holders_are.candidates ≡ 0 → length holders_are.held ≡ MOST_CANDIDATES
+pub none_held : (holders_are : HolderList) → holders_are.candidates ≡ 0 → length holders_are.held ≡ MOST_CANDIDATES
     → ((k : ℕ) → k < MOST_CANDIDATES → get_or holders_are.held k Nobody ≡ Nobody) → IsHolding [] holders_are
 none_held holders_are zero size each = record { candidates = zero; size = size; each = each }
 
 -- the next candidate has none of the ranks
-pub put_none : (ranks : List (Option ℕ)) (q : Option ℕ) (old new : Holders) → IsHolding ranks old
+pub put_none : (ranks : List (Option ℕ)) (q : Option ℕ) (old new : HolderList) → IsHolding ranks old
     → new.candidates ≡ old.candidates + 1 → new.held ≡ old.held
     → ((r : ℕ) → q ≡ Some r → 1 ≤ r → r ≤ MOST_CANDIDATES → ⊥) → IsHolding (ranks ++ q ∷ []) new
 put_none ranks q old new is counted same none = record {
@@ -84,7 +83,7 @@ put_none ranks q old new is counted same none = record {
 }
 
 -- the next candidate has a rank
-module _ (ranks : List (Option ℕ)) (r at : ℕ) (old new : Holders) (is : IsHolding ranks old)
+module _ (ranks : List (Option ℕ)) (r at : ℕ) (old new : HolderList) (is : IsHolding ranks old)
     (counted : new.candidates ≡ old.candidates + 1) (at_is : at + 1 ≡ r) (inside : at < MOST_CANDIDATES)
     (set_is : new.held ≡ set old.held at (with_holder (get_or old.held at Nobody) new.candidates))
   where

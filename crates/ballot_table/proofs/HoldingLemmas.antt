@@ -7,8 +7,7 @@ use Rattle.plain_ballots.specs.declared.limits.TheConstants.{MOST_CANDIDATES}
 use Rattle.ballot_marks.specs.declared.says.Says.{Says}
 use Rattle.ballot_table.specs.declared.held.Held.{Held}
 use Rattle.ballot_table.specs.declared.held.Held.TheVariants.{Nobody}
-use Rattle.ballot_table.specs.declared.holders.Holders.{Holders}
-use Rattle.ballot_table.specs.Held.{IsHolding, held_by, says_held}
+use Rattle.ballot_table.specs.Held.{HolderList, IsHolding, held_by, says_held}
 use Rattle.ballot_table.specs.Rows.{holders, said_by_holders, said_up_to}
 
 -- what the holders of a rank say
@@ -43,6 +42,6 @@ module _ (most : ℕ) (ranks : List (Option ℕ)) (held : List Held) (size : len
         ∙ sym (length-map-range_with_len (λ rank. said_by_holders (holders rank ranks)) 1 most))
         said_each
 
-pub holding_said : (ranks : List (Option ℕ)) (h : Holders) → IsHolding ranks h
+pub holding_said : (ranks : List (Option ℕ)) (h : HolderList) → IsHolding ranks h
     → map says_held h.held ≡ said_up_to MOST_CANDIDATES ranks
 holding_said ranks h is = said_by_all MOST_CANDIDATES ranks h.held is.size is.each

@@ -24,3 +24,6 @@ mod RowLemmas
 mod TableLemmas
 mod TallyLemmas
 mod WithinLemmas
+mod GrowingLemmas
+mod FreeLemmas
+mod SheetLemmas

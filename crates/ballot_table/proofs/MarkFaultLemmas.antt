@@ -2,7 +2,7 @@
 use Rattle.std.proofs.Common.{◌≡◌, ℕ, ◌+◌, ◌-◌, ◌<◌, ◌≤◌, Bool, true, false, cond, List, [], ◌∷◌, map, length}
 use Rattle.std.proofs.Common.{Option, Some, None, All, get_or, refl, ap, sym, ◌∙◌, subst, arith, zip, suc, zero, sum_by}
 use Rattle.std.specs.List.{filter_map, enumerate_from, slice_get, prefix_len, find}
-use Rattle.std.specs.Option.{option_map, option_or, unwrap_or}
+use Rattle.std.specs.Option.{option_map, unwrap_or}
 use Rattle.std.proofs.lemmas.List.{length-map}
 use Rattle.std.proofs.lemmas.List.Folds.{length-prefix_len}
 use Rattle.std.proofs.lemmas.List.FromFn.{length-enumerate_from, length-map-range_with_len}
@@ -19,22 +19,20 @@ use Rattle.ballot_marks.specs.Ballot.{Judged, judged, effective, end_way, ranked
 use Rattle.ballot_marks.specs.Marks.{SaysOneOf}
 use Rattle.ballot_marks.specs.Ways.{goes_on, ends}
 use Rattle.ballot_table.specs.declared.column.Column.{Column}
-use Rattle.ballot_table.specs.declared.fault.Fault.{Fault}
 use Rattle.ballot_table.specs.declared.held.Held.{Held}
 use Rattle.ballot_table.specs.declared.held.Held.TheVariants.{Nobody}
-use Rattle.ballot_table.specs.declared.holders.Holders.{Holders}
 use Rattle.ballot_table.specs.declared.layout.Layout.{Layout}
 use Rattle.ballot_table.specs.declared.layout.Layout.TheVariants as layout
 use Rattle.ballot_table.specs.declared.row_cells.RowCells.{RowCells}
 use Rattle.ballot_table.specs.Asked.{Asked}
 use Rattle.ballot_table.specs.Cells.{Cell}
 use Rattle.ballot_table.specs.Faults.{sound}
-use Rattle.ballot_table.specs.Finding.{candidates_at, candidates_in, among, AreTaken, IsSaidBy}
+use Rattle.ballot_table.specs.Finding.{candidates_at, candidates_in, AreTaken, IsSaidBy}
 use Rattle.ballot_table.specs.Held.{IsHolding, held_by, held_refused}
 use Rattle.ballot_table.specs.JudgedRows.{refused_at}
 use Rattle.ballot_table.specs.Refusals.{kind_of, place_of, is_candidate, is_rank, refused_holder, refused_column, reason_of, mark_fault}
 use Rattle.ballot_table.specs.Rows.{said_of, said_by_holders, said_up_to, by_rank, marks_of, ranks_of, cells_of, holders, said_in, said_at, says_of}
-use Rattle.ballot_table.specs.Said.{SaidList, IsSaying, rank_at}
+use Rattle.ballot_table.specs.Said.{IsSaying, rank_at}
 use Rattle.ballot_table.proofs.FaultLemmas.{not_refused}
 use Rattle.ballot_table.proofs.HoldingLemmas.{holding_said}
 use Rattle.ballot_table.proofs.WithinLemmas.{cells_within, marks_one_of, row_within}

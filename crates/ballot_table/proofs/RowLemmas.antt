@@ -21,7 +21,7 @@ use Rattle.ballot_table.specs.Faults.{fault_of, first_fault, sound}
 use Rattle.ballot_table.specs.Held.{IsHolding}
 use Rattle.ballot_table.specs.Finding.{IsTaken, AreTaken, candidates_at}
 use Rattle.ballot_table.specs.Rows.{weight_in, cells_of, ranks_of, rank_cell, says_of}
-use Rattle.ballot_table.specs.Said.{SaidList, IsSaying}
+use Rattle.ballot_table.specs.Said.{IsSaying}
 use Rattle.ballot_table.specs.Texts.{number, parts}
 
 abbrev pub Pair : Type 0

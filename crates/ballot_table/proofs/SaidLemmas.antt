@@ -1,8 +1,8 @@
 -- What the ranks of a row say, one rank after another.
-use Rattle.std.proofs.Common.{◌≡◌, ℕ, ◌+◌, ◌-◌, List, [], ◌∷◌, ◌++◌, map, length, option_to_list}
-use Rattle.std.proofs.Common.{Option, Some, None, refl, ap, sym, ◌∙◌, arith}
+use Rattle.std.proofs.Common.{◌≡◌, ℕ, zero, suc, ◌+◌, ◌-◌, List, [], ◌∷◌, ◌++◌, map, length, option_to_list}
+use Rattle.std.proofs.Common.{Option, Some, None, replicate, refl, ap, sym, ◌∙◌, arith, append_assoc}
 use Rattle.std.specs.List.{filter_map, enumerate_from, cons_option}
-use Rattle.std.proofs.lemmas.List.{append-nil, length-append, map-append}
+use Rattle.std.proofs.lemmas.List.{append-nil, length-append, length-replicate, map-append}
 use Rattle.std.proofs.lemmas.List.Elements.{filter_map-append}
 use Rattle.ballot_marks.specs.declared.mark.Mark.{Mark}
 use Rattle.ballot_marks.specs.declared.says.Says.{Says}
@@ -41,6 +41,26 @@ said_none says old new is count last ranks marks =
     let same : by_rank says ≡ by_rank (says ++ None ∷ []) = sym (said_more says None ∙ append-nil (by_rank says)) in
     record {
       count = count ∙ ap (λ (n : ℕ). n + 1) is.count ∙ sym (length-append says (None ∷ []));
+      last = last ∙ is.last ∙ ap (last_behind 0) same;
+      ranks = ranks ∙ is.ranks ∙ ap (map (λ (s : ℕ × Says). s.0)) same;
+      marks = marks ∙ is.marks ∙ ap marks_of same;
+    }
+
+-- so many blank ranks
+by_rank_blanks : (says : List (Option Says)) (n : ℕ) → by_rank (says ++ replicate n None) ≡ by_rank says
+by_rank_blanks says zero = ap by_rank (append-nil says)
+by_rank_blanks says (suc n) =
+    ap by_rank (sym (append_assoc says (None ∷ []) (replicate n None)))
+    ∙ by_rank_blanks (says ++ None ∷ []) n ∙ said_more says None ∙ append-nil (by_rank says)
+
+pub said_blanks : (says : List (Option Says)) (n : ℕ) (old new : SaidList) → IsSaying says old → new.count ≡ old.count + n
+    → new.last ≡ old.last → new.ranks ≡ old.ranks → new.marks ≡ old.marks → IsSaying (says ++ replicate n None) new
+said_blanks says n old new is count last ranks marks =
+    let same : by_rank says ≡ by_rank (says ++ replicate n None) = sym (by_rank_blanks says n) in
+    record {
+      count =
+          count ∙ ap (λ (m : ℕ). m + n) is.count
+          ∙ sym (length-append says (replicate n None) ∙ ap (λ (m : ℕ). length says + m) (length-replicate n None));
       last = last ∙ is.last ∙ ap (last_behind 0) same;
       ranks = ranks ∙ is.ranks ∙ ap (map (λ (s : ℕ × Says). s.0)) same;
       marks = marks ∙ is.marks ∙ ap marks_of same;

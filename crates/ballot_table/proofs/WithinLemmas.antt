@@ -1,5 +1,5 @@
 -- The marks of a row say its candidates.
-use Rattle.std.proofs.Common.{◌≡◌, ℕ, zero, suc, ◌+◌, ◌<◌, ◌≤◌, Bool, true, false, cond, eqb, List, [], ◌∷◌, ◌++◌}
+use Rattle.std.proofs.Common.{◌≡◌, ℕ, zero, suc, ◌+◌, ◌<◌, ◌≤◌, Bool, true, false, cond, eqb, List, [], ◌∷◌}
 use Rattle.std.proofs.Common.{Option, Some, None, Result, Ok, Err, All, map, length, refl, ap, sym, ◌∙◌, subst, arith, inl, inr}
 use Rattle.std.specs.Bool.{⊤}
 use Rattle.std.specs.List.{filter_map, enumerate_from, cons_option, position_or_len, range_with_len, slice_get}
@@ -19,7 +19,7 @@ use Rattle.ballot_table.specs.declared.table_kind.TableKind.{TableKind}
 use Rattle.ballot_table.specs.declared.table_kind.TableKind.TheVariants.{NoSuchCandidate}
 use Rattle.plain_ballots.specs.declared.limits.TheConstants.{MOST_CANDIDATES}
 use Rattle.ballot_table.specs.Asked.{Asked}
-use Rattle.ballot_table.specs.Cells.{Cell, Nothing, Counts, Ranked, Said, Listed, cell_of, as_cell, counted, rank_in}
+use Rattle.ballot_table.specs.Cells.{Cell, Counts, Ranked, Said, Listed, cell_of, as_cell, counted, rank_in}
 use Rattle.ballot_table.specs.Cells.{says_in, some_or, one_of, all_of, all_or, fault_one, is_blank}
 use Rattle.ballot_table.specs.Faults.{sound}
 use Rattle.ballot_table.specs.Finding.{among}

@@ -1,6 +1,6 @@
 -- What the code finds of a head and of the cells of a row.
 use Rattle.std.specs.Prelude.{◌≡◌, ◌≤◌, ◌+◌, if◌then◌else◌, length, map, ◌++◌, ◌∷◌, ℕ, List, [], sum_by}
-use Rattle.std.specs.Prelude.{Option, Some, None, Result, ⊤}
+use Rattle.std.specs.Prelude.{Option, Some, None, ⊤}
 use Rattle.std.specs.Option.{option_or, unwrap_or}
 use Rattle.plain_ballots.specs.declared.limits.TheConstants.{MOST_CANDIDATES}
 use Rattle.ballot_marks.specs.declared.says.Says.{Says}

@@ -1,5 +1,5 @@
 -- Who has each rank of a row, as far as a ballot depends on it.
-use Rattle.std.specs.Prelude.{◌≡◌, ◌<◌, ◌+◌, ℕ, List, [], ◌∷◌, length, Option, Some, None}
+use Rattle.std.specs.Prelude.{◌≡◌, ◌<◌, ◌≤◌, ◌+◌, ℕ, List, [], ◌∷◌, length, Option, Some, None}
 use Rattle.std.specs.List.{slice_index_or}
 use Rattle.plain_ballots.specs.declared.limits.TheConstants.{MOST_CANDIDATES}
 use Rattle.ballot_marks.specs.declared.says.Says.{Says}
@@ -7,7 +7,6 @@ use Rattle.ballot_marks.specs.declared.says.Says.TheVariants.{One as says_one, O
 use Rattle.ballot_marks.specs.declared.why.Why.{Why}
 use Rattle.ballot_marks.specs.declared.why.Why.TheVariants.{SkippedRank, EqualRank, Repeated}
 use Rattle.ballot_table.specs.declared.held.Held.{Held}
-use Rattle.ballot_table.specs.declared.holders.Holders.{Holders}
 use Rattle.ballot_table.specs.declared.held.Held.TheVariants.{Nobody, One, More}
 use Rattle.ballot_table.specs.Rows.{holders}
 
@@ -40,8 +39,17 @@ held_by [] = Nobody
 held_by (c ∷ []) = One c
 held_by (c ∷ d ∷ others) = More c d
 
+-- so many candidates, and who has each rank
+pub record HolderList : Type 0 where
+  pub candidates : ℕ
+  pub held : List Held
+
+-- Nobody has a rank behind so many.
+abbrev pub IsFreeFrom : ℕ → List Held → Type 0
+IsFreeFrom used held = (k : ℕ) → used ≤ k → k < length held → slice_index_or held k Nobody ≡ Nobody
+
 -- The candidates in number order have these ranks: whoever has each rank is held at it.
-pub record IsHolding (ranks : List (Option ℕ)) (holders_are : Holders) : Type 0 where
+pub record IsHolding (ranks : List (Option ℕ)) (holders_are : HolderList) : Type 0 where
   pub candidates : holders_are.candidates ≡ length ranks
   pub size : length holders_are.held ≡ MOST_CANDIDATES
   pub each : (k : ℕ) → k < MOST_CANDIDATES → slice_index_or holders_are.held k Nobody ≡ held_by (holders (k + 1) ranks)

@@ -14,6 +14,7 @@ pub mod JudgedRows
 pub mod Report
 pub mod Imported
 pub mod Sheets
+pub mod Growing
 pub mod Left
 pub mod Laws
 pub mod Layouts

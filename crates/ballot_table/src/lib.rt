@@ -12,6 +12,8 @@ mod column;
 mod edges;
 mod empty;
 mod fault;
+mod field;
+mod growing;
 mod head;
 mod held;
 mod holders;

@@ -27,21 +27,27 @@ pub fn read_table(alloc: Global, asked: &TableAsked, bytes: &[u8]) -> Result<Imp
         Err(stop) => return Err(stop),
     };
     let mut sheet = Sheet::new(alloc, bytes, separator);
-    let place = match sheet.next(alloc) {
+    let place = match sheet.next() {
         Ok(Some(place)) => place,
         Ok(None) => return Err(TableStop::NoMemory),
         Err(stop) => return Err(stop),
     };
-    let head = match Head::read(alloc, asked, sheet.texts()) {
+    let Ok(texts) = sheet.texts(alloc) else {
+        return Err(TableStop::NoMemory);
+    };
+    let head = match Head::read(alloc, asked, texts.items()) {
         Ok(head) => head,
         Err(RecordStop::Fault(fault)) => return Err(sheet.stop_at(place, fault)),
         Err(RecordStop::NoMemory) => return Err(TableStop::NoMemory),
     };
-    let Ok(names) = names(alloc, asked, sheet.texts()) else {
+    let Ok(names) = names(alloc, asked, texts.items()) else {
         return Err(TableStop::NoMemory);
     };
     match read_rows(alloc, asked, &head, &mut sheet) {
-        Ok(taken) => Ok(taken.imported(names)),
+        Ok(taken) => match taken.imported(names) {
+            Ok(imported) => Ok(imported),
+            Err(_) => Err(TableStop::NoMemory),
+        },
         Err(stop) => Err(stop),
     }
 }
@@ -78,7 +84,7 @@ fn read_rows(
 {
     let mut taken = Rows::new(alloc, head.candidates);
     'rows: loop {
-        match sheet.next(alloc) {
+        match sheet.next() {
             Ok(Some(place)) => {
                 let columns = head.columns.as_slice();
                 match taken.take(alloc, asked, columns, sheet, place) {

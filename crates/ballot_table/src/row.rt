@@ -7,12 +7,13 @@ ghost use Rattle.ballot_table.specs.Finding.{candidates_at, candidates_in};
 ghost use Rattle.ballot_table.specs.JudgedRows.{IsRowStop, IsJudged, IsJudgedRow, HasNoFault};
 ghost use Rattle.ballot_table.specs.JudgedRows.{cells_fault, refused_at, row_there};
 ghost use Rattle.ballot_table.specs.Refusals.{kind_of, place_of, is_candidate, is_rank, whole_fault};
-ghost use Rattle.ballot_table.specs.Rows.{all_blank, row_of, weight_at};
+ghost use Rattle.ballot_table.specs.Rows.{row_of, weight_at};
 
 use crate::fault::Fault;
 use crate::record_stop::RecordStop;
 use crate::row_cells::RowCells;
-use crate::{Column, Empty, Layout, TableAsked, TableKind, Text};
+use crate::sheet::Sheet;
+use crate::{Column, Empty, Layout, TableAsked, TableKind};
 use ballot_marks::{TreatStop, Treated, Why, treat};
 use std::alloc::Global;
 
@@ -31,28 +32,28 @@ pub(crate) fn read_row(
     asked: &TableAsked,
     room: u32,
     columns: &[Column],
-    texts: &[Text],
+    sheet: &Sheet<'_>,
     cells: &mut RowCells,
 ) -> Result<Option<JudgedRow>, RecordStop>
     requires names { length asked.now.candidates ≤ MOST_CANDIDATES }
     requires room { room ≤ MOST_BALLOTS }
     requires few { sum_by candidates_at columns.now ≤ MOST_CANDIDATES }
-    ensures stop { IfErr result (IsRowStop (whole_fault (asked_of asked.now) asked.now.treatment asked.now.empty room columns.now texts.now)) }
-    ensures sound { OnOk result (whole_fault (asked_of asked.now) asked.now.treatment asked.now.empty room columns.now texts.now ≡ None) }
-    ensures row { IfOk result (IsJudged (candidates_in (asked_of asked.now) columns.now) asked.now.treatment (weight_at columns.now texts.now)
-        (row_of (asked_of asked.now) asked.now.empty room columns.now texts.now)) }
+    ensures stop { IfErr result (IsRowStop (whole_fault (asked_of asked.now) asked.now.treatment asked.now.empty room columns.now sheet.now.texts)) }
+    ensures sound { OnOk result (whole_fault (asked_of asked.now) asked.now.treatment asked.now.empty room columns.now sheet.now.texts ≡ None) }
+    ensures row { IfOk result (IsJudged (candidates_in (asked_of asked.now) columns.now) asked.now.treatment (weight_at columns.now sheet.now.texts)
+        (row_of (asked_of asked.now) asked.now.empty room columns.now sheet.now.texts)) }
 {
-    if texts.len() != columns.len() {
-        return Err(RecordStop::Fault(unequal(texts.len(), columns.len())));
+    if sheet.len() != columns.len() {
+        return Err(RecordStop::Fault(unequal(sheet.len(), columns.len())));
     }
-    if are_blank(texts) {
+    if sheet.is_blank(alloc)? {
         match asked.empty {
             Empty::Refuse => return Err(RecordStop::Fault(empty_row())),
             Empty::Drop => return Ok(None),
             Empty::Keep => {}
         }
     }
-    let row = judge_cells(alloc, asked, room, columns, texts, cells)?;
+    let row = judge_cells(alloc, asked, room, columns, sheet, cells)?;
     Ok(Some(row))
 }
 
@@ -62,19 +63,19 @@ fn judge_cells(
     asked: &TableAsked,
     room: u32,
     columns: &[Column],
-    texts: &[Text],
+    sheet: &Sheet<'_>,
     cells: &mut RowCells,
 ) -> Result<JudgedRow, RecordStop>
     requires names { length asked.now.candidates ≤ MOST_CANDIDATES }
     requires room { room ≤ MOST_BALLOTS }
     requires few { sum_by candidates_at columns.now ≤ MOST_CANDIDATES }
-    requires texts { length texts.now ≡ length columns.now }
-    ensures stop { IfErr result (IsRowStop (cells_fault (asked_of asked.now) asked.now.treatment room columns.now texts.now)) }
-    ensures sound { OnOk result (HasNoFault (asked_of asked.now) asked.now.treatment room columns.now texts.now) }
-    ensures row { IfOk result (IsJudgedRow (candidates_in (asked_of asked.now) columns.now) asked.now.treatment (weight_at columns.now texts.now)
-        (row_there (asked_of asked.now) room columns.now texts.now)) }
+    requires texts { length sheet.now.texts ≡ length columns.now }
+    ensures stop { IfErr result (IsRowStop (cells_fault (asked_of asked.now) asked.now.treatment room columns.now sheet.now.texts)) }
+    ensures sound { OnOk result (HasNoFault (asked_of asked.now) asked.now.treatment room columns.now sheet.now.texts) }
+    ensures row { IfOk result (IsJudgedRow (candidates_in (asked_of asked.now) columns.now) asked.now.treatment (weight_at columns.now sheet.now.texts)
+        (row_there (asked_of asked.now) room columns.now sheet.now.texts)) }
 {
-    cells.read(asked, room, columns, texts)?;
+    cells.read(alloc, asked, room, columns, sheet)?;
     cells.say(asked.layout)?;
     let candidates = asked.among(cells.holders.candidates());
     match treat(alloc, cells.said.marks(), &asked.treatment, candidates) {
@@ -171,12 +172,6 @@ fn is_rank(rank: u32, column: Column) -> bool
         Column::List => true,
         Column::Weight | Column::PassedOver | Column::Candidate(_) => false,
     }
-}
-
-fn are_blank(texts: &[Text]) -> bool
-    ensures { result ≡ all_blank texts.now }
-{
-    texts.iter().all(|text| text.is_empty())
 }
 
 fn unequal(fields: usize, columns: usize) -> Fault

@@ -18,7 +18,8 @@ use crate::holders::Holders;
 use crate::numeral::{Numeral, numeral_in};
 use crate::record_stop::RecordStop;
 use crate::said_ranks::SaidRanks;
-use crate::{Column, Layout, TableAsked, TableKind, Text};
+use crate::sheet::Sheet;
+use crate::{Column, Layout, TableAsked, TableKind};
 use plain_ballots::NoMemory;
 use std::alloc::Global;
 
@@ -48,29 +49,31 @@ impl RowCells {
         ensures saying { IsSaying [] self.new.said }
     {
         self.count = None;
-        self.holders = Holders::new();
+        self.holders.clear();
         self.said.clear();
     }
 
     /// Reads the cells of a row for which so many more ballots have room, or gives the first fault of one.
     pub fn read(
         &mut self,
+        alloc: Global,
         asked: &TableAsked,
         room: u32,
         columns: &[Column],
-        texts: &[Text],
+        sheet: &Sheet<'_>,
     ) -> Result<(), RecordStop>
         requires names { length asked.now.candidates ≤ MOST_CANDIDATES }
         requires room { room ≤ MOST_BALLOTS }
         requires few { sum_by candidates_at columns.now ≤ MOST_CANDIDATES }
-        requires texts { length texts.now ≡ length columns.now }
-        ensures stop { IfErr result (IsRowStop (first_fault (cells_of (asked_of asked.now) room columns.now texts.now))) }
-        ensures sound { OnOk result (first_fault (cells_of (asked_of asked.now) room columns.now texts.now) ≡ None) }
-        ensures taken { OnOk result (AreTaken (asked_of asked.now) room columns.now texts.now self.new) }
+        requires texts { length sheet.now.texts ≡ length columns.now }
+        ensures stop { IfErr result (IsRowStop (first_fault (cells_of (asked_of asked.now) room columns.now sheet.now.texts))) }
+        ensures sound { OnOk result (first_fault (cells_of (asked_of asked.now) room columns.now sheet.now.texts) ≡ None) }
+        ensures taken { OnOk result (AreTaken (asked_of asked.now) room columns.now sheet.now.texts self.new) }
     {
         self.clear();
         for (at, column) in columns.iter().enumerate() {
-            match self.take(asked, room, *column, texts[at].bytes()) {
+            let field = sheet.field(alloc, at)?;
+            match self.take(asked, room, *column, field.text()) {
                 Ok(()) => {}
                 Err(CellStop::Fault(kind)) => return Err(RecordStop::Fault(Fault {
                     kind,

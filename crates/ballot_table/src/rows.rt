@@ -1,5 +1,5 @@
 // The rows of a table, one after another.
-ghost use Rattle.std.specs.Prelude.{◌≡◌, ◌≤◌, ◌-◌, ◌++◌, None, Err, [], length, sum_by, replicate, OnOk, OnErr, IfErr};
+ghost use Rattle.std.specs.Prelude.{◌≡◌, ◌≤◌, ◌-◌, ◌++◌, None, Err, [], length, sum_by, replicate, OnOk, OnErr, IfOk, IfErr};
 ghost use Rattle.std.specs.Option.{option_map};
 ghost use Rattle.plain_ballots.specs.declared.limits.TheConstants.{MOST_BALLOTS, MOST_CANDIDATES};
 ghost use Rattle.plain_ballots.specs.Ballots.{plain};
@@ -13,13 +13,14 @@ ghost use Rattle.ballot_table.specs.Refusals.{whole_fault};
 ghost use Rattle.ballot_table.specs.Rows.{row_of, weight_at};
 ghost use Rattle.ballot_table.specs.Sheets.{row_at};
 
+use crate::growing::GrowingBallots;
 use crate::record_stop::RecordStop;
 use crate::row::{JudgedRow, read_row};
 use crate::row_cells::RowCells;
 use crate::sheet::{Place, Sheet};
 use crate::{Column, Imported, TableAsked, TableStop, Tally};
 use candidate_roll::Names;
-use plain_ballots::{BallotLine, Ballots, LineStop, MOST_BALLOTS};
+use plain_ballots::{BallotLine, MOST_BALLOTS, NoMemory};
 use std::alloc::Global;
 
 /// What the rows of a table have come to so far.
@@ -27,7 +28,7 @@ use std::alloc::Global;
 pub(crate) struct Rows {
     /// So many more ballots have room.
     pub room: u32,
-    pub ballots: Ballots,
+    pub ballots: GrowingBallots,
     pub tally: Tally,
     cells: RowCells,
 }
@@ -41,7 +42,7 @@ impl Rows {
     {
         Rows {
             room: MOST_BALLOTS,
-            ballots: Ballots::new(alloc, candidates),
+            ballots: GrowingBallots::new(alloc, candidates),
             tally: Tally::new(),
             cells: RowCells::new(alloc),
         }
@@ -71,14 +72,7 @@ impl Rows {
         ensures tallied { OnOk result (self.new.tally ≡ plus (of_row asked.now.treatment
             (row_of (asked_of asked.now) asked.now.empty self.old.room columns.now sheet.now.texts)) self.old.tally) }
     {
-        match read_row(
-            alloc,
-            asked,
-            self.room,
-            columns,
-            sheet.texts(),
-            &mut self.cells,
-        ) {
+        match read_row(alloc, asked, self.room, columns, sheet, &mut self.cells) {
             Ok(Some(row)) => {
                 self.room = self.room.saturating_sub(row.weight);
                 let Ok(tally) = self.tally.with(&row) else {
@@ -100,20 +94,23 @@ impl Rows {
     }
 
     /// All that was read of a table of these candidates.
-    pub fn imported(self, names: Names) -> Imported
-        ensures { result ≡ record { names = names; ballots = self.ballots; tally = self.tally } }
+    pub fn imported(self, names: Names) -> Result<Imported, NoMemory>
+        ensures { IfOk result (λ imported. imported ≡ record { names = names; ballots = self.ballots; tally = self.tally }) }
     {
         let Rows { ballots, tally, .. } = self;
-        Imported {
-            names,
-            ballots,
-            tally,
+        match ballots.finish() {
+            Ok(ballots) => Ok(Imported {
+                names,
+                ballots,
+                tally,
+            }),
+            Err(_) => Err(NoMemory),
         }
     }
 }
 
-/// Adds a row's ballots as one line, where it stands for any.
-fn push_row(ballots: &mut Ballots, row: JudgedRow) -> Result<(), TableStop>
+/// Adds a row's ballots, where it stands for any.
+fn push_row(ballots: &mut GrowingBallots, row: JudgedRow) -> Result<(), TableStop>
     requires { IsRanking ballots.old.candidates row.treated.ranking }
     ensures added { OnOk result (plain ballots.new.lines ≡ plain ballots.old.lines ++ replicate row.count row.treated.ranking) }
     ensures candidates { OnOk result (ballots.new.candidates ≡ ballots.old.candidates) }
@@ -126,8 +123,8 @@ fn push_row(ballots: &mut Ballots, row: JudgedRow) -> Result<(), TableStop>
         count: row.count,
         ranking: row.treated.ranking,
     };
-    match ballots.push_line(line) {
+    match ballots.push(line) {
         Ok(()) => Ok(()),
-        Err(LineStop::TooMany(_)) | Err(LineStop::NoMemory(_)) => Err(TableStop::NoMemory),
+        Err(_) => Err(TableStop::NoMemory),
     }
 }

@@ -1,5 +1,5 @@
 // What the ranks of a row say.
-ghost use Rattle.std.specs.Prelude.{◌≡◌, ◌<◌, [], ◌∷◌, ◌++◌, List, Option, Some, OnOk, slice_get};
+ghost use Rattle.std.specs.Prelude.{◌≡◌, ◌<◌, [], ◌∷◌, ◌++◌, List, Option, Some, None, OnOk, replicate, slice_get};
 ghost use Rattle.std.specs.Option.{unwrap_or};
 ghost use Rattle.ballot_marks.specs.declared.says.Says.{Says};
 ghost use Rattle.ballot_table.specs.Said.{IsSaying};
@@ -65,6 +65,17 @@ impl SaidRanks {
                 Ok(())
             }
         }
+    }
+
+    /// So many more ranks are blank.
+    pub fn push_blanks(&mut self, more: usize) -> Result<(), NoMemory>
+        ensures { OnOk result ((before : List (Option Says)) → IsSaying before self.old → IsSaying (before ++ replicate more None) self.new) }
+    {
+        if more > (u32::MAX - self.count) as usize {
+            return Err(NoMemory);
+        }
+        self.count += more as u32;
+        Ok(())
     }
 
     /// The next rank says this.

@@ -1,17 +1,20 @@
 // The records of a table with their texts.
-ghost use Rattle.std.specs.Prelude.{◌≡◌, min, map, slice_range, All, OnOk, IfOk};
+ghost use Rattle.std.specs.Prelude.{◌≡◌, ◌<◌, [], length, min, slice_range, IfOk};
+ghost use Rattle.std.specs.List.{slice_index_or};
 ghost use Rattle.table_text.specs.Reading.{field_text, read_text};
-ghost use Rattle.table_text.specs.Reader.{IsCellOf, fields_at};
+ghost use Rattle.table_text.specs.Reader.{IsCellOf};
 ghost use Rattle.table_text.specs.declared.text_fault.TheConstants.{MAX_COUNT};
 ghost use Rattle.ballot_table.specs.Imported.{byte_at, stop_at, is_of_words};
-ghost use Rattle.ballot_table.specs.Sheets.{row_at, Turns};
+ghost use Rattle.ballot_table.specs.Rows.{all_blank, is_empty};
+ghost use Rattle.ballot_table.specs.Sheets.{row_at, text_of, Turns};
 ghost use Rattle.ballot_table.specs.Texts.{trimmed};
 
-use crate::edges::trimmed;
 use crate::fault::Fault;
+use crate::field::Field;
 use crate::{TableKind, TableStop, Text, Texts};
 use plain_ballots::NoMemory;
 use std::alloc::Global;
+use std::marker::Model;
 use table_text::{Cell, Cells, MAX_COUNT, Records, Step, TextStop};
 
 /// Where a record stands: its bytes and its number.
@@ -27,8 +30,22 @@ pub(crate) struct Place {
 pub(crate) struct Sheet<'a> {
     records: Records<'a>,
     cells: Cells,
-    field: Vec<u8>,
-    texts: Texts,
+}
+
+impl<'a> Model for Sheet<'a> {
+    ghost use Rattle.std.specs.Prelude.{All};
+    ghost use Rattle.table_text.specs.Reader.{IsCellOf};
+    ghost use Rattle.ballot_table.specs.Sheets.{Opened, texts_at};
+
+    ghost Value = { Opened };
+
+    ghost view = { λ s. record {
+      records = s.records;
+      cells = s.cells;
+      texts = texts_at s.records.bytes s.cells;
+    } };
+
+    ghost invariant = { λ s. All (IsCellOf s.records.bytes) s.cells };
 }
 
 impl<'a> Sheet<'a> {
@@ -38,38 +55,67 @@ impl<'a> Sheet<'a> {
         Sheet {
             records: Records::new(bytes, separator),
             cells: Cells::new(alloc),
-            field: Vec::new(alloc),
-            texts: Texts::new(alloc),
         }
     }
 
-    /// The place of the next record, if there is one; its texts are then those of this sheet.
-    pub fn next(&mut self, alloc: Global) -> Result<Option<Place>, TableStop>
+    /// The place of the next record, if there is one; its fields are then those of this sheet.
+    pub fn next(&mut self) -> Result<Option<Place>, TableStop>
         ensures { Turns self.old result self.new }
     {
         match self.records.next(&mut self.cells) {
             Ok(Step::End) => Ok(None),
-            Ok(Step::Record { at, end, row }) => {
-                match read_texts(
-                    alloc,
-                    &self.records,
-                    self.cells.items(),
-                    &mut self.field,
-                    &mut self.texts,
-                ) {
-                    Ok(()) => Ok(Some(Place { at, end, row })),
-                    Err(_) => Err(TableStop::NoMemory),
-                }
-            }
+            Ok(Step::Record { at, end, row }) => Ok(Some(Place { at, end, row })),
             Err(TextStop::Fault(fault)) => Err(TableStop::Text(fault)),
             Err(TextStop::NoMemory) => Err(TableStop::NoMemory),
         }
     }
 
-    pub fn texts(&self) -> &[Text]
-        ensures { result.now ≡ self.now.texts }
+    /// How many fields the record has.
+    pub fn len(&self) -> usize
+        ensures { result ≡ length self.now.texts }
     {
-        self.texts.items()
+        self.cells.len()
+    }
+
+    /// The field at a place, from 0. It takes memory only where it has quotes.
+    #[inline]
+    pub fn field(&self, alloc: Global, at: usize) -> Result<Field<'_>, NoMemory>
+        requires { at < length self.now.texts }
+        ensures { IfOk result (λ field. text_of field ≡ slice_index_or self.now.texts at []) }
+    {
+        let cell = self.cells.items()[at];
+        match self.records.standing(cell) {
+            Some(bytes) => Ok(Field::Standing(bytes)),
+            None => match unquoted(alloc, &self.records, cell) {
+                Ok(field) => Ok(field),
+                Err(_) => Err(NoMemory),
+            },
+        }
+    }
+
+    /// Whether all fields are blank.
+    pub fn is_blank(&self, alloc: Global) -> Result<bool, NoMemory>
+        ensures { IfOk result (λ blank. blank ≡ all_blank self.now.texts) }
+    {
+        for at in 0..self.len() {
+            let field = self.field(alloc, at)?;
+            if !is_empty(field.text()) {
+                return Ok(false);
+            }
+        }
+        Ok(true)
+    }
+
+    /// Copies of the texts of all fields.
+    pub fn texts(&self, alloc: Global) -> Result<Texts, NoMemory>
+        ensures { IfOk result (λ texts. texts ≡ self.now.texts) }
+    {
+        let mut texts = Texts::new(alloc);
+        for at in 0..self.len() {
+            let field = self.field(alloc, at)?;
+            texts.push(Text::new(alloc, field.text())?)?;
+        }
+        Ok(texts)
     }
 
     /// A fault of the record that stands at a place, at its byte.
@@ -120,36 +166,20 @@ fn column(place: usize) -> u32
     }
 }
 
-// The texts of a record's fields.
-fn read_texts(
-    alloc: Global,
-    records: &Records<'_>,
-    cells: &[Cell],
-    field: &mut Vec<u8>,
-    texts: &mut Texts,
-) -> Result<(), NoMemory>
-    requires { All (IsCellOf records.now.bytes) cells.now }
-    ensures { OnOk result (texts.new ≡ map (λ f. trimmed (field_text f.bytes)) (fields_at records.now.bytes cells.now)) }
+fn is_empty(text: &[u8]) -> bool
+    ensures { result ≡ is_empty text.now }
 {
-    texts.clear();
-    for cell in cells {
-        let text = text_of(alloc, records, *cell, field)?;
-        texts.push(text)?;
-    }
-    Ok(())
+    text.is_empty()
 }
 
-fn text_of(
-    alloc: Global,
-    records: &Records<'_>,
-    cell: Cell,
-    field: &mut Vec<u8>,
-) -> Result<Text, NoMemory>
+// A field with quotes.
+fn unquoted<'f>(alloc: Global, records: &Records<'_>, cell: Cell) -> Result<Field<'f>, NoMemory>
     requires { IsCellOf records.now.bytes cell }
-    ensures { IfOk result (λ text. text ≡ trimmed (field_text (slice_range records.now.bytes cell.at cell.stop))) }
+    ensures { IfOk result (λ field. text_of field ≡ trimmed (field_text (slice_range records.now.bytes cell.at cell.stop))) }
 {
-    if records.text(cell, field).is_err() {
-        return Err(NoMemory);
+    let mut bytes = Vec::new(alloc);
+    match records.text(cell, &mut bytes) {
+        Ok(()) => Ok(Field::Unquoted(bytes)),
+        Err(_) => Err(NoMemory),
     }
-    Text::new(alloc, trimmed(field.as_slice()))
 }

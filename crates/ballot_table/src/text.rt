@@ -1,7 +1,6 @@
 // The text of a field or a word.
 ghost use Rattle.std.specs.Prelude.{◌≡◌, IfOk};
 ghost use Rattle.std.specs.Str.{bytes_eq};
-ghost use Rattle.ballot_table.specs.Rows.{is_empty};
 
 use plain_ballots::NoMemory;
 use std::alloc::Global;
@@ -35,12 +34,6 @@ impl Text {
         ensures { result.now ≡ self.now }
     {
         self.bytes.as_slice()
-    }
-
-    pub(crate) fn is_empty(&self) -> bool
-        ensures { result ≡ is_empty self.now }
-    {
-        self.bytes().is_empty()
     }
 
     pub(crate) fn is(&self, other: &[u8]) -> bool

@@ -40,12 +40,6 @@ impl Texts {
         }
     }
 
-    pub(crate) fn clear(&mut self)
-        ensures { self.new ≡ [] }
-    {
-        self.list.clear();
-    }
-
     pub fn len(&self) -> usize
         ensures { result ≡ length self.now }
     {

@@ -23,21 +23,24 @@ pub(crate) const RETURN: u8 = b'\r';
 
 pub(crate) const TAB: u8 = b'\t';
 
-/// What the byte at a place does outside quotes. Most bytes belong to a field, which two comparisons tell.
+/// What the byte at a place does outside quotes. Two comparisons tell most bytes.
 #[inline(always)]
 pub(crate) fn mark_at(bytes: &[u8], separator: u8, at: usize) -> Mark
     requires { at < length bytes.now }
     ensures { result ≡ mark separator (slice_index bytes.now at) (drop (at + 1) bytes.now) }
 {
     let b = bytes[at];
-    if b > QUOTE && b != separator {
-        Mark::Inner
+    if b <= QUOTE {
+        low_mark_at(bytes, separator, at)
+    } else if b == separator {
+        Mark::Parts
     } else {
-        seldom_mark_at(bytes, separator, at)
+        Mark::Inner
     }
 }
 
-fn seldom_mark_at(bytes: &[u8], separator: u8, at: usize) -> Mark
+// The same of a byte that may be any.
+fn low_mark_at(bytes: &[u8], separator: u8, at: usize) -> Mark
     requires { at < length bytes.now }
     ensures { result ≡ mark separator (slice_index bytes.now at) (drop (at + 1) bytes.now) }
 {

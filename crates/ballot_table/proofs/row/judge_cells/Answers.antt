@@ -9,15 +9,14 @@ use Rattle.ballot_table.specs.Faults.{sound}
 use Rattle.ballot_table.specs.Finding.{among, candidates_in}
 use Rattle.ballot_table.specs.Refusals.{mark_fault}
 use Rattle.ballot_table.specs.Rows.{cells_of}
-use Rattle.ballot_table.specs.declared.fault.Fault.{Fault}
-use Rattle.ballot_table.specs.declared.holders.Holders.{Holders}
+use Rattle.ballot_table.specs.Held.{HolderList}
 use Rattle.ballot_table.proofs.MarkFaultLemmas.{IsFound, mark_fault_is, no_mark_fault, said_found, same_marks, taken_within}
 use Rattle.ballot_table.proofs.row.judge_cells.Goals as goal
 use Rattle.ballot_table.proofs.row.judge_cells.Goals.{In_ok-say}
 
 -- what is found of the cells, and among how many candidates
 found : (c : In_ok-say)
-    → IsFound c.args.asked.now.layout (sound (cells_of (asked_of c.args.asked.now) c.args.room c.args.columns.now c.args.texts.now))
+    → IsFound c.args.asked.now.layout (sound (cells_of (asked_of c.args.asked.now) c.args.room c.args.columns.now c.args.sheet.now.texts))
     c.say.new.self
 found c =
     let read = c.in_ok-read.ensures.taken in
@@ -28,7 +27,7 @@ counted : (c : In_ok-say) (n holding : ℕ) → n ≡ among c.args.asked.now.lay
     → holding ≡ c.say.new.self.holders.candidates → n ≡ candidates_in (asked_of c.args.asked.now) c.args.columns.now
 counted c n holding is held =
     is ∙ ap (among c.args.asked.now.layout (length c.args.asked.now.candidates))
-    (held ∙ ap (λ (h : Holders). h.candidates) c.in_ok-say.ensures.holders ∙ c.in_ok-read.ensures.taken.candidates)
+    (held ∙ ap (λ (h : HolderList). h.candidates) c.in_ok-say.ensures.holders ∙ c.in_ok-read.ensures.taken.candidates)
 
 pub treat-requires-clause-candidates : goal.treat-requires-clause-candidates
 treat-requires-clause-candidates c =
@@ -37,7 +36,7 @@ treat-requires-clause-candidates c =
     subst (λ (n : ℕ). All (λ (m : Mark). SaysOneOf n m.says) c.marks.result.now) (sym n_is)
     (subst (λ (ms : List Mark). All (λ (m : Mark). SaysOneOf (candidates_in (asked_of c.args.asked.now) c.args.columns.now) m.says) ms)
     (sym c.marks.ensures)
-    (taken_within (asked_of c.args.asked.now) c.args.room c.args.columns.now c.args.texts.now c.read.new.self c.say.new.self
+    (taken_within (asked_of c.args.asked.now) c.args.room c.args.columns.now c.args.sheet.now.texts c.read.new.self c.say.new.self
     c.in_ok-read.ensures.taken (found at)))
 
 pub returns-in-Ok-clause-sound : goal.returns-in-Ok-clause-sound
@@ -46,7 +45,7 @@ returns-in-Ok-clause-sound c =
     record {
       cells = c.in_ok-read.ensures.sound;
       marks =
-          no_mark_fault (asked_of c.args.asked.now) t c.args.room c.args.columns.now c.args.texts.now c.say.new.self
+          no_mark_fault (asked_of c.args.asked.now) t c.args.room c.args.columns.now c.args.sheet.now.texts c.say.new.self
           (found (goal.at.returns-in-Ok-clause-sound c).In_ok-say) c.in-Ok.treated.ranking
           (ap (ranked t) (sym c.marks.ensures) ∙ c.in-Ok.ensures.ranked);
     }
@@ -58,7 +57,7 @@ returns-in-Ok-clause-row c =
     let read = c.in_ok-read.ensures.taken in
     let count = c.in_ok-say.ensures.count in
     let marks = c.marks.ensures
-    ∙ same_marks (asked_of c.args.asked.now) t c.args.room c.args.columns.now c.args.texts.now c.say.new.self (found at) in
+    ∙ same_marks (asked_of c.args.asked.now) t c.args.room c.args.columns.now c.args.sheet.now.texts c.say.new.self (found at) in
     let n_is = counted at c.among-candidates.result c.candidates.result c.among-candidates.ensures c.candidates.ensures in
     record {
       weight_is = c.unwrap_or.ensures ∙ ap (λ o. unwrap_or o 0) count ∙ read.weight;
@@ -78,7 +77,7 @@ returns-in-Err-Refused-clause-stop c =
     let why = c.in-Err-Refused.why in
     let stop = rw c.in-Err-Refused.field-0-is at c.in-Err-Refused.ensures.stop in
     let refused = subst (λ (ms : List Mark). IsRefusedAt t ms place why) c.marks.ensures stop in
-    ap (λ o. option_or o (mark_fault a t c.args.room c.args.columns.now c.args.texts.now)) c.in_ok-read.ensures.sound
-    ∙ mark_fault_is a t c.args.room c.args.columns.now c.args.texts.now c.say.new.self
+    ap (λ o. option_or o (mark_fault a t c.args.room c.args.columns.now c.args.sheet.now.texts)) c.in_ok-read.ensures.sound
+    ∙ mark_fault_is a t c.args.room c.args.columns.now c.args.sheet.now.texts c.say.new.self
     (found (goal.at.returns-in-Err-Refused-clause-stop c).In_ok-say) place why refused
     ∙ (λ i. Some (record { kind = sym c.kind_of.ensures i; place = sym c.refused_column.ensures i }))

@@ -11,7 +11,7 @@ pub returns-in-Drop-clause-row : goal.returns-in-Drop-clause-row
 returns-in-Drop-clause-row c =
     let n = candidates_in (asked_of c.args.asked.now) c.args.columns.now in
     let t = c.args.asked.now.treatment in
-    subst (λ (e : Empty). IsJudged n t (weight_at c.args.columns.now c.args.texts.now)
-    (row_of (asked_of c.args.asked.now) e c.args.room c.args.columns.now c.args.texts.now) None) (sym c.in-Drop.is)
-    (dropped_row n t (asked_of c.args.asked.now) c.args.room c.args.columns.now c.args.texts.now
-    (sym c.are_blank.ensures ∙ c.if-are_blank.true))
+    subst (λ (e : Empty). IsJudged n t (weight_at c.args.columns.now c.args.sheet.now.texts)
+    (row_of (asked_of c.args.asked.now) e c.args.room c.args.columns.now c.args.sheet.now.texts) None) (sym c.in-Drop.is)
+    (dropped_row n t (asked_of c.args.asked.now) c.args.room c.args.columns.now c.args.sheet.now.texts
+    (sym c.in_ok-is_blank.ensures ∙ c.if-branch.true))

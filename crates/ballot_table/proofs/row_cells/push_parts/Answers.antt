@@ -1,4 +1,4 @@
-use Rattle.std.proofs.Common.{◌≡◌, ◌<◌, ◌==◌, ◌++◌, ◌∷◌, [], get_or, ap, rules, tests, length, map, take, arith, ◌∙◌, refl, sym, subst}
+use Rattle.std.proofs.Common.{◌≡◌, ◌<◌, ◌==◌, ◌∷◌, [], get_or, ap, rules, tests, length, map, take, arith, ◌∙◌, refl, sym, subst}
 use Rattle.std.proofs.Common.{List, ℕ, None}
 use Rattle.std.specs.Borrow.{Bor}
 use Rattle.std.specs.Slice.Iter as slice

@@ -8,6 +8,6 @@ use Rattle.ballot_table.proofs.row_cells.RowCells.read.Given as goal
 -- the cells so far are read, and the candidates counted
 abbrev pub invariant-loop-at : goal.invariant-loop-at
 invariant-loop-at l = record {
-  reading : IsReading (asked_of l.asked) l.room (zip l.columns l.texts) (drop l.at (zip l.columns l.texts)) l.at l.self;
+  reading : IsReading (asked_of l.asked) l.room (zip l.columns l.sheet.texts) (drop l.at (zip l.columns l.sheet.texts)) l.at l.self;
   candidates : l.self.holders.candidates + sum_by candidates_at (drop l.at l.columns) ≡ sum_by candidates_at l.columns;
 }

@@ -1,4 +1,4 @@
-use Rattle.std.proofs.Common.{◌≡◌, ℕ, List, Some, None, sym, ap, ◌∙◌}
+use Rattle.std.proofs.Common.{◌≡◌, Some, None, sym, ap, ◌∙◌}
 use Rattle.std.specs.Option.{option_map}
 use Rattle.ballot_table.specs.Imported.{stop_at}
 use Rattle.ballot_table.specs.Asked.{asked_of}
@@ -13,13 +13,10 @@ returns-in-Err-Fault-clause-stop c =
     let row = row_at c.args.sheet.now c.args.place in
     let is = rw c.in-Err-Fault.field-0-is at c.in-Err-Fault.ensures.stop in
     is_stop _ c.stop_at.result
-    (ap (λ (ts : List (List ℕ)). option_map (stop_at row)
-    (whole_fault (asked_of a) a.treatment a.empty c.args.self.now.room c.args.columns.now ts)) (sym c.texts.ensures)
-    ∙ ap (option_map (stop_at row)) is ∙ ap Some (sym c.stop_at.ensures))
+    (ap (option_map (stop_at row)) is ∙ ap Some (sym c.stop_at.ensures))
 
 pub returns-in-Ok-clause-sound : goal.returns-in-Ok-clause-sound
 returns-in-Ok-clause-sound c =
     let a = c.args.asked.now in
-    let fault = λ (ts : List (List ℕ)). whole_fault (asked_of a) a.treatment a.empty c.args.self.now.room c.args.columns.now ts in
-    on_done (fault c.args.sheet.now.texts ≡ None) c.push_row.result
-    (sym (ap fault c.texts.ensures) ∙ c.in-Ok-Some.ensures.sound)
+    on_done (whole_fault (asked_of a) a.treatment a.empty c.args.self.now.room c.args.columns.now c.args.sheet.now.texts ≡ None)
+    c.push_row.result c.in-Ok-Some.ensures.sound

@@ -1,7 +1,7 @@
 use Rattle.std.proofs.Common.{map, take}
 use Rattle.ballot_table.specs.Held.{says_held}
 use Rattle.ballot_table.specs.Said.{IsSaying}
-use Rattle.ballot_table.proofs.holders.say.Given as goal
+use Rattle.ballot_table.proofs.holders.say_each.Given as goal
 
 -- the ranks so far are said
 abbrev pub invariant-loop-held : goal.invariant-loop-held
