@@ -6,6 +6,7 @@ use ballot_table::{
 use candidate_roll::{Name, Names};
 use plain_ballots::MOST_CANDIDATES;
 use std::alloc::Global;
+use std::process::Abort;
 use std::test::Fail;
 
 /// Texts with bars between them, or none.
@@ -42,11 +43,23 @@ pub(crate) fn plainly(alloc: Global) -> TableAsked {
     }
 }
 
-pub(crate) fn weighed(alloc: Global) -> Result<TableAsked, Fail> {
+/// Nothing is asked but the layout, and how skipped and equal ranks are treated.
+pub(crate) fn treated(alloc: Global, skipped: Option<u32>, equal: Treat) -> TableAsked {
     let mut asked = plainly(alloc);
-    asked.labels = texts_of(alloc, "n")?;
-    asked.weight = Some(Text::new(alloc, b"n")?);
-    Ok(asked)
+    asked.treatment.skipped = skipped;
+    asked.treatment.equal = equal;
+    asked
+}
+
+/// The same with a column of weights.
+pub(crate) fn weighed(alloc: Global, asked: TableAsked) -> Result<TableAsked, Fail> {
+    let labels = texts_of(alloc, "n")?;
+    let weight = Text::new(alloc, b"n")?;
+    Ok(TableAsked {
+        labels,
+        weight: Some(weight),
+        ..asked
+    })
 }
 
 /// A table of these candidates, with bars between them.
@@ -88,18 +101,51 @@ pub(crate) fn lines_of(alloc: Global, asked: &TableAsked, bytes: &[u8]) -> Resul
     }
 }
 
-pub(crate) fn refused(kind: TableKind, at: usize, row: u32, column: u32) -> Option<TableStop> {
-    Some(TableStop::Record {
-        kind,
-        at,
-        row,
-        column,
-    })
-}
-
 pub(crate) fn stop_of(alloc: Global, asked: &TableAsked, bytes: &[u8]) -> Option<TableStop> {
     match read(alloc, asked, bytes) {
         Ok(_) => None,
         Err(stop) => Some(stop),
+    }
+}
+
+/// Each table has these lines.
+pub(crate) fn are_read(
+    rt: &impl Abort,
+    alloc: Global,
+    asked: &TableAsked,
+    cases: &[(&[u8], &str)],
+) -> Result<(), Fail> {
+    for (bytes, lines) in cases {
+        let said = lines_of(alloc, asked, bytes)?;
+        assert_eq!(rt; said.as_str(), *lines);
+    }
+    Ok(())
+}
+
+pub(crate) fn is_refused(
+    rt: &impl Abort,
+    alloc: Global,
+    asked: &TableAsked,
+    bytes: &[u8],
+    stop: TableStop,
+) {
+    assert_eq!(rt; stop_of(alloc, asked, bytes), Some(stop));
+}
+
+/// Each table is refused for a record: why, at which byte, and in which row and column.
+pub(crate) fn are_refused(
+    rt: &impl Abort,
+    alloc: Global,
+    asked: &TableAsked,
+    cases: &[(&[u8], TableKind, usize, u32, u32)],
+) {
+    for (bytes, kind, at, row, column) in cases {
+        let stop = TableStop::Record {
+            kind: *kind,
+            at: *at,
+            row: *row,
+            column: *column,
+        };
+        is_refused(rt, alloc, asked, bytes, stop);
     }
 }

@@ -29,107 +29,97 @@ fn refusal(rt: &impl Abort, alloc: Global, bytes: &[u8]) -> Option<TextStop> {
     None
 }
 
-fn fault(kind: TextKind, at: usize, row: u32, column: u32) -> Option<TextStop> {
-    Some(TextStop::Fault(TextFault {
-        kind,
-        at,
-        row,
-        column,
-    }))
+/// Each text is refused: why, at which byte, and in which row and column.
+fn are_refused(rt: &impl Abort, alloc: Global, cases: &[(&[u8], TextKind, usize, u32, u32)]) {
+    for (bytes, kind, at, row, column) in cases {
+        let fault = TextFault {
+            kind: *kind,
+            at: *at,
+            row: *row,
+            column: *column,
+        };
+        assert_eq!(rt; refusal(rt, alloc, bytes), Some(TextStop::Fault(fault)));
+    }
 }
 
 #[test]
 fn refused_as_they_are_told(rt: HostRuntime) {
-    let alloc = rt.alloc();
-    assert_eq!(rt; refusal(&rt, alloc, b""), fault(TextKind::Ended, 0, 1, 1));
-    assert_eq!(rt;
-        refusal(&rt, alloc, b"Ann,Ben\n1,\"2"),
-        fault(TextKind::Ended, 12, 2, 2)
-    );
-    assert_eq!(rt;
-        refusal(&rt, alloc, b"Ann,Ben\n1,\"2\"x\n"),
-        fault(TextKind::BadQuote, 13, 2, 2)
-    );
-    assert_eq!(rt;
-        refusal(&rt, alloc, b"Ann,B\"en\n"),
-        fault(TextKind::BadQuote, 5, 1, 2)
-    );
-    assert_eq!(rt;
-        refusal(&rt, alloc, b"Ann,Ben\r1,2\r"),
-        fault(TextKind::BadByte, 7, 1, 2)
-    );
-    assert_eq!(rt;
-        refusal(&rt, alloc, b"Ann,Ben\n1,2\n\n"),
-        fault(TextKind::EmptyLine, 12, 3, 1)
-    );
-    assert_eq!(rt;
-        refusal(&rt, alloc, b"Ann;Ben,jr\n"),
-        fault(TextKind::UnclearSeparator, 7, 1, 2)
-    );
-    assert_eq!(rt;
-        refusal(&rt, alloc, &[0xFF, 0xFE, 0x41, 0]),
-        fault(TextKind::BadByte, 3, 1, 1)
+    are_refused(
+        &rt,
+        rt.alloc(),
+        &[
+            (b"", TextKind::Ended, 0, 1, 1),
+            (b"Ann,Ben\n1,\"2", TextKind::Ended, 12, 2, 2),
+            (b"Ann,Ben\n1,\"2\"x\n", TextKind::BadQuote, 13, 2, 2),
+            (b"Ann,B\"en\n", TextKind::BadQuote, 5, 1, 2),
+            (b"Ann,Ben\r1,2\r", TextKind::BadByte, 7, 1, 2),
+            (b"Ann,Ben\n1,2\n\n", TextKind::EmptyLine, 12, 3, 1),
+            (b"Ann;Ben,jr\n", TextKind::UnclearSeparator, 7, 1, 2),
+            (&[0xFF, 0xFE, 0x41, 0], TextKind::BadByte, 3, 1, 1),
+        ],
     );
 }
 
 #[test]
 fn refused_at_their_row_and_column(rt: HostRuntime) {
-    let alloc = rt.alloc();
-    assert_eq!(rt;
-        refusal(&rt, alloc, b"\xEF\xBB\xBF"),
-        fault(TextKind::Ended, 3, 1, 1)
+    are_refused(
+        &rt,
+        rt.alloc(),
+        &[
+            (b"\xEF\xBB\xBF", TextKind::Ended, 3, 1, 1),
+            (b"a\r\n\r\nb", TextKind::EmptyLine, 3, 2, 1),
+            (b"\n", TextKind::EmptyLine, 0, 1, 1),
+            (b"a,\"b\x01\"\n", TextKind::BadByte, 4, 1, 2),
+            (b"a,\"b\"\x01\n", TextKind::BadByte, 5, 1, 2),
+            (b"a,\"b\"\rc\n", TextKind::BadByte, 5, 1, 2),
+            (b"a\tb\n1\t2\tx\x1F", TextKind::BadByte, 9, 2, 3),
+            (b"a,b\tc,d\n", TextKind::UnclearSeparator, 3, 1, 2),
+            (b"a\n\"b\nc", TextKind::Ended, 6, 2, 1),
+        ],
     );
-    assert_eq!(rt;
-        refusal(&rt, alloc, b"a\r\n\r\nb"),
-        fault(TextKind::EmptyLine, 3, 2, 1)
-    );
-    assert_eq!(rt;
-        refusal(&rt, alloc, b"\n"),
-        fault(TextKind::EmptyLine, 0, 1, 1)
-    );
-    assert_eq!(rt;
-        refusal(&rt, alloc, b"a,\"b\x01\"\n"),
-        fault(TextKind::BadByte, 4, 1, 2)
-    );
-    assert_eq!(rt;
-        refusal(&rt, alloc, b"a,\"b\"\x01\n"),
-        fault(TextKind::BadByte, 5, 1, 2)
-    );
-    assert_eq!(rt;
-        refusal(&rt, alloc, b"a,\"b\"\rc\n"),
-        fault(TextKind::BadByte, 5, 1, 2)
-    );
-    assert_eq!(rt;
-        refusal(&rt, alloc, b"a\tb\n1\t2\tx\x1F"),
-        fault(TextKind::BadByte, 9, 2, 3)
-    );
-    assert_eq!(rt;
-        refusal(&rt, alloc, b"a,b\tc,d\n"),
-        fault(TextKind::UnclearSeparator, 3, 1, 2)
-    );
-    assert_eq!(rt;
-        refusal(&rt, alloc, b"a\n\"b\nc"),
-        fault(TextKind::Ended, 6, 2, 1)
-    );
+}
+
+/// No text is refused.
+fn are_accepted(rt: &impl Abort, alloc: Global, texts: &[&[u8]]) {
+    for bytes in texts {
+        assert_eq!(rt; refusal(rt, alloc, bytes), None);
+    }
 }
 
 #[test]
 fn accepted(rt: HostRuntime) {
-    let alloc = rt.alloc();
-    assert_eq!(rt; refusal(&rt, alloc, b"Ann,Ben\n1\n"), None);
-    assert_eq!(rt; refusal(&rt, alloc, b"Ann,Ben\n1,2,\n"), None);
-    assert_eq!(rt; refusal(&rt, alloc, b"Ann,Ben\r\n\"1\",\"2\"\r\n"), None);
-    assert_eq!(rt; refusal(&rt, alloc, b"\"\"\n,\n"), None);
+    are_accepted(
+        &rt,
+        rt.alloc(),
+        &[
+            b"Ann,Ben\n1\n",
+            b"Ann,Ben\n1,2,\n",
+            b"Ann,Ben\r\n\"1\",\"2\"\r\n",
+            b"\"\"\n,\n",
+        ],
+    );
+}
+
+/// The head of each text shows its separator.
+fn show_separators(rt: &impl Abort, cases: &[(&[u8], u8)]) {
+    for (bytes, separator) in cases {
+        assert_eq!(rt; find_separator(bytes), Ok(*separator));
+    }
 }
 
 #[test]
 fn with_a_separator_of_their_head(rt: HostRuntime) {
-    assert_eq!(rt; find_separator(b"Ann,Ben\n1;2\n"), Ok(b','));
-    assert_eq!(rt; find_separator(b"Ann;Ben;Cid\n1,2,3,4,5\n"), Ok(b';'));
-    assert_eq!(rt; find_separator(b"Ann\tBen"), Ok(b'\t'));
-    assert_eq!(rt; find_separator(b"\"Ann,\nBen\";Cid\n"), Ok(b';'));
-    assert_eq!(rt; find_separator(b"Ann\r1;2"), Ok(b','));
-    assert_eq!(rt; find_separator(b""), Ok(b','));
+    show_separators(
+        &rt,
+        &[
+            (b"Ann,Ben\n1;2\n", b','),
+            (b"Ann;Ben;Cid\n1,2,3,4,5\n", b';'),
+            (b"Ann\tBen", b'\t'),
+            (b"\"Ann,\nBen\";Cid\n", b';'),
+            (b"Ann\r1;2", b','),
+            (b"", b','),
+        ],
+    );
 }
 
 /// The next record stands there, and its fields have these texts.
@@ -155,46 +145,59 @@ fn record(at: usize, end: usize, row: u32) -> Step {
     Step::Record { at, end, row }
 }
 
-#[test]
-fn read_with_their_texts(rt: HostRuntime) -> Result<(), Fail> {
-    let alloc = rt.alloc();
-    let bytes = b"\xEF\xBB\xBFName,\"Ann, \"\"A\"\"\"\r\n1,\"\"\r\n\"x\ny\", 2 \n,";
+/// The records of a text behind its head stand so, with these texts, and there are no others.
+fn are_read(
+    rt: &impl Abort,
+    alloc: Global,
+    bytes: &[u8],
+    due: &[(usize, usize, u32, &[&[u8]])],
+) -> Result<(), Fail> {
     let mut records = Records::new(bytes, b',');
-    has_texts(
-        &rt,
-        alloc,
-        &mut records,
-        record(3, 20, 1),
-        &[b"Name", b"Ann, \"A\""],
-    )?;
-    has_texts(&rt, alloc, &mut records, record(22, 26, 2), &[b"1", b""])?;
-    has_texts(
-        &rt,
-        alloc,
-        &mut records,
-        record(28, 37, 3),
-        &[b"x\ny", b" 2 "],
-    )?;
-    has_texts(&rt, alloc, &mut records, record(38, 39, 4), &[b"", b""])?;
+    for (at, end, row, texts) in due {
+        has_texts(rt, alloc, &mut records, record(*at, *end, *row), texts)?;
+    }
     let mut cells = Cells::new(alloc);
     assert_eq!(rt; records.next(&mut cells), Ok(Step::End));
     Ok(())
 }
 
 #[test]
+fn read_with_their_texts(rt: HostRuntime) -> Result<(), Fail> {
+    are_read(
+        &rt,
+        rt.alloc(),
+        b"\xEF\xBB\xBFName,\"Ann, \"\"A\"\"\"\r\n1,\"\"\r\n\"x\ny\", 2 \n,",
+        &[
+            (3, 20, 1, &[b"Name", b"Ann, \"A\""]),
+            (22, 26, 2, &[b"1", b""]),
+            (28, 37, 3, &[b"x\ny", b" 2 "]),
+            (38, 39, 4, &[b"", b""]),
+        ],
+    )
+}
+
+/// The next record stands there, and its fields do.
+fn has_cells(rt: &impl Abort, alloc: Global, records: &mut Records, step: Step, due: &[Cell]) {
+    let mut cells = Cells::new(alloc);
+    assert_eq!(rt; records.next(&mut cells), Ok(step));
+    assert_eq!(rt; cells.items(), due);
+}
+
+#[test]
 fn stand_where_their_bytes_do(rt: HostRuntime) {
-    let mut cells = Cells::new(rt.alloc());
     let mut records = Records::new(b"Ann;Ben,jr\n1;\"2\"\n", b';');
-    assert_eq!(rt; records.next(&mut cells), Ok(record(0, 10, 1)));
-    assert_eq!(rt;
-        cells.items(),
-        [Cell { at: 0, stop: 3 }, Cell { at: 4, stop: 10 }].as_slice()
-    );
-    assert_eq!(rt; records.next(&mut cells), Ok(record(11, 16, 2)));
-    assert_eq!(rt;
-        cells.items(),
-        [Cell { at: 11, stop: 12 }, Cell { at: 13, stop: 16 }].as_slice()
-    );
+    for (step, due) in &[
+        (
+            record(0, 10, 1),
+            [Cell { at: 0, stop: 3 }, Cell { at: 4, stop: 10 }],
+        ),
+        (
+            record(11, 16, 2),
+            [Cell { at: 11, stop: 12 }, Cell { at: 13, stop: 16 }],
+        ),
+    ] {
+        has_cells(&rt, rt.alloc(), &mut records, *step, due);
+    }
 }
 
 /// How long the text of the first field of a text is, which is its only record's only one.
@@ -208,15 +211,17 @@ fn only_text_len(rt: &impl Abort, alloc: Global, bytes: &[u8]) -> Result<usize, 
     Ok(text.len())
 }
 
+/// So many quotes.
+fn quotes(alloc: Global, len: usize) -> Result<Vec<u8>, Fail> {
+    Ok(vec![in alloc; b'"'; len]?)
+}
+
 #[test]
 fn of_quotes_alone(rt: HostRuntime) -> Result<(), Fail> {
-    let alloc = rt.alloc();
-    let even = vec![in alloc; b'"'; 65_536]?;
-    assert_eq!(rt; only_text_len(&rt, alloc, &even)?, 32_767);
-    let odd = vec![in alloc; b'"'; 65_535]?;
-    assert_eq!(rt;
-        refusal(&rt, alloc, &odd),
-        fault(TextKind::Ended, 65_535, 1, 1)
-    );
+    let even = quotes(rt.alloc(), 65_536)?;
+    assert_eq!(rt; only_text_len(&rt, rt.alloc(), &even)?, 32_767);
+    let odd = quotes(rt.alloc(), 65_535)?;
+    let ended = (odd.as_slice(), TextKind::Ended, 65_535, 1, 1);
+    are_refused(&rt, rt.alloc(), &[ended]);
     Ok(())
 }

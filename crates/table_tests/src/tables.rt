@@ -1,174 +1,276 @@
 // Tests of ballot_table: tables with a column for each candidate.
-use crate::asked::{lines_of, plainly, read, refused, stop_of, texts_of, weighed};
+use crate::asked::{are_read, are_refused, is_refused, plainly, read, texts_of, treated, weighed};
 use ballot_marks::{Treat, Treatment};
-use ballot_table::{TableKind, TableStop, Text};
+use ballot_table::{Numbers, TableAsked, TableKind, TableStop, Text};
+use std::alloc::Global;
 use std::process::Abort;
 use std::test::Fail;
 use table_text::{TextFault, TextKind};
 
 #[test]
 fn stand_for_their_ballots(rt: HostRuntime) -> Result<(), Fail> {
-    let alloc = rt.alloc();
-    let asked = plainly(alloc);
-    let lines = lines_of(alloc, &asked, b"Ann,Ben,Cid\n1,2,3\n,1,\n2,,1\n")?;
-    assert_eq!(rt; lines.as_str(), "1 [1, 2, 3]|1 [2]|1 [3, 1]|");
-    let lines = lines_of(
-        alloc,
+    let asked = plainly(rt.alloc());
+    are_read(
+        &rt,
+        rt.alloc(),
         &asked,
-        b"a,b,c,d,e,f,g,h,i,j,k\n1,2,3,4,5,6,7,8,9,10,11\n",
-    )?;
-    assert_eq!(rt; lines.as_str(), "1 [1, 2, 3, 4, 5, 6, 7, 8, 9, 10, 11]|");
+        &[
+            (
+                b"Ann,Ben,Cid\n1,2,3\n,1,\n2,,1\n",
+                "1 [1, 2, 3]|1 [2]|1 [3, 1]|",
+            ),
+            (
+                b"a,b,c,d,e,f,g,h,i,j,k\n1,2,3,4,5,6,7,8,9,10,11\n",
+                "1 [1, 2, 3, 4, 5, 6, 7, 8, 9, 10, 11]|",
+            ),
+        ],
+    )
+}
+
+/// Candidates in brackets, and ranks in words.
+fn in_words(alloc: Global) -> Result<TableAsked, Fail> {
+    let labels = texts_of(alloc, "Timestamp")?;
+    let ranks = texts_of(alloc, "1st choice|2nd choice")?;
+    Ok(TableAsked {
+        bracketed: true,
+        labels,
+        ranks,
+        ..plainly(alloc)
+    })
+}
+
+/// A table has two candidates, of whom the second has this name.
+fn names_two(
+    rt: &impl Abort,
+    alloc: Global,
+    asked: &TableAsked,
+    bytes: &[u8],
+    second: &[u8],
+) -> Result<(), Fail> {
+    let imported = read(alloc, asked, bytes)?;
+    assert_eq!(rt; imported.names.len(), 2);
+    assert_eq!(rt; imported.names.items()[1].bytes(), second);
     Ok(())
 }
 
 #[test]
 fn in_brackets_and_words(rt: HostRuntime) -> Result<(), Fail> {
-    let alloc = rt.alloc();
-    let mut asked = plainly(alloc);
-    asked.bracketed = true;
-    asked.labels = texts_of(alloc, "Timestamp")?;
-    asked.ranks = texts_of(alloc, "1st choice|2nd choice")?;
     let bytes =
         b"\xEF\xBB\xBF\"Timestamp\",\"Your vote [1 to 2], please [Ann]\",\"Your vote [1 to 2], please [Ben, jr]\"\r\n\"2026/05/01 9:00\",\"1st choice\",\"2nd choice\"\r\n\"2026/05/01 9:01\",\"\",\"1st choice\"\r\n";
-    let imported = read(alloc, &asked, bytes)?;
-    assert_eq!(rt; imported.names.len(), 2);
-    assert_eq!(rt; imported.names.items()[1].bytes(), b"Ben, jr".as_slice());
-    let lines = lines_of(alloc, &asked, bytes)?;
-    assert_eq!(rt; lines.as_str(), "1 [1, 2]|1 [2]|");
-    Ok(())
+    let asked = in_words(rt.alloc())?;
+    names_two(&rt, rt.alloc(), &asked, bytes, b"Ben, jr")?;
+    are_read(&rt, rt.alloc(), &asked, &[(bytes, "1 [1, 2]|1 [2]|")])
+}
+
+/// A table has these lines where skipped and equal ranks are treated so.
+fn is_read_by(
+    rt: &impl Abort,
+    alloc: Global,
+    treatment: (Option<u32>, Treat),
+    bytes: &[u8],
+    lines: &str,
+) -> Result<(), Fail> {
+    let asked = treated(alloc, treatment.0, treatment.1);
+    are_read(rt, alloc, &asked, &[(bytes, lines)])
 }
 
 #[test]
 fn by_treatments(rt: HostRuntime) -> Result<(), Fail> {
-    let alloc = rt.alloc();
-    let mut asked = plainly(alloc);
-    let equal = b"Ann,Ben,Cid,Dee\n1,2,2,3\n";
-    assert_eq!(rt;
-        stop_of(alloc, &asked, equal),
-        refused(TableKind::EqualRank, 20, 2, 3)
-    );
-    asked.treatment.equal = Treat::Cut;
-    assert_eq!(rt; lines_of(alloc, &asked, equal)?.as_str(), "1 [1]|");
-    asked.treatment.equal = Treat::Pass;
-    assert_eq!(rt; lines_of(alloc, &asked, equal)?.as_str(), "1 [1, 4]|");
-    assert_eq!(rt;
-        stop_of(alloc, &asked, b"Ann,Ben,Cid,Dee\n1,2,2,4\n"),
-        refused(TableKind::SkippedRank, 22, 2, 4)
-    );
-    let mut asked = plainly(alloc);
-    assert_eq!(rt;
-        stop_of(alloc, &asked, b"Ann,Ben,Cid\n1,3,\n"),
-        refused(TableKind::SkippedRank, 14, 2, 2)
-    );
-    asked.treatment.skipped = Some(Treatment::CLOSE);
-    let far = b"Ann,Ben,Cid\n5,3,\n";
-    let less_far = b"Ann,Ben,Cid\n5,2,\n";
-    assert_eq!(rt; lines_of(alloc, &asked, far)?.as_str(), "1 [2, 1]|");
-    asked.treatment.skipped = Some(1);
-    assert_eq!(rt; lines_of(alloc, &asked, less_far)?.as_str(), "1 [2]|");
-    asked.treatment.skipped = Some(0);
-    assert_eq!(rt; lines_of(alloc, &asked, less_far)?.as_str(), "1 []|");
+    let refuse = Treat::Refuse;
+    for (skipped, equal, bytes, lines) in &[
+        (
+            None,
+            Treat::Cut,
+            b"Ann,Ben,Cid,Dee\n1,2,2,3\n".as_slice(),
+            "1 [1]|",
+        ),
+        (
+            None,
+            Treat::Pass,
+            b"Ann,Ben,Cid,Dee\n1,2,2,3\n",
+            "1 [1, 4]|",
+        ),
+        (
+            Some(Treatment::CLOSE),
+            refuse,
+            b"Ann,Ben,Cid\n5,3,\n",
+            "1 [2, 1]|",
+        ),
+        (Some(1), refuse, b"Ann,Ben,Cid\n5,2,\n", "1 [2]|"),
+        (Some(0), refuse, b"Ann,Ben,Cid\n5,2,\n", "1 []|"),
+    ] {
+        is_read_by(&rt, rt.alloc(), (*skipped, *equal), bytes, lines)?;
+    }
     Ok(())
 }
 
 #[test]
-fn refused_for_their_form(rt: HostRuntime) -> Result<(), Fail> {
+fn refused_by_treatments(rt: HostRuntime) {
+    for (equal, bytes, kind, at, row, column) in &[
+        (
+            Treat::Refuse,
+            b"Ann,Ben,Cid,Dee\n1,2,2,3\n".as_slice(),
+            TableKind::EqualRank,
+            20,
+            2,
+            3,
+        ),
+        (
+            Treat::Pass,
+            b"Ann,Ben,Cid,Dee\n1,2,2,4\n",
+            TableKind::SkippedRank,
+            22,
+            2,
+            4,
+        ),
+        (
+            Treat::Refuse,
+            b"Ann,Ben,Cid\n1,3,\n",
+            TableKind::SkippedRank,
+            14,
+            2,
+            2,
+        ),
+    ] {
+        let asked = treated(rt.alloc(), None, *equal);
+        are_refused(
+            &rt,
+            rt.alloc(),
+            &asked,
+            &[(bytes, *kind, *at, *row, *column)],
+        );
+    }
+}
+
+#[test]
+fn refused_as_texts(rt: HostRuntime) {
+    let asked = plainly(rt.alloc());
+    for (bytes, at, row, column) in &[(b"".as_slice(), 0, 1, 1), (b"Ann,Ben\n1,\"2", 12, 2, 2)] {
+        let fault = TextFault {
+            kind: TextKind::Ended,
+            at: *at,
+            row: *row,
+            column: *column,
+        };
+        is_refused(&rt, rt.alloc(), &asked, bytes, TableStop::Text(fault));
+    }
+}
+
+#[test]
+fn refused_for_their_form(rt: HostRuntime) {
+    let asked = plainly(rt.alloc());
+    are_refused(
+        &rt,
+        rt.alloc(),
+        &asked,
+        &[
+            (b"Ann,Ben\n1\n", TableKind::UnequalRow, 9, 2, 2),
+            (b"Ann,Ben\n1,2,\n", TableKind::UnequalRow, 12, 2, 3),
+            (b"Ann,Ben\n1,0\n", TableKind::BadRank, 10, 2, 2),
+            (b"Ann,Ben\n1.0,2\n", TableKind::BadRank, 8, 2, 1),
+        ],
+    );
+}
+
+#[test]
+fn refused_for_their_head(rt: HostRuntime) {
+    let asked = plainly(rt.alloc());
+    are_refused(
+        &rt,
+        rt.alloc(),
+        &asked,
+        &[
+            (b"Ann,,Cid\n", TableKind::NameExpected, 4, 1, 2),
+            (b"Ann, Ann \n", TableKind::RepeatedColumn, 4, 1, 2),
+            (b"Ann,\"B\"\"n\"\n", TableKind::BadName, 4, 1, 2),
+        ],
+    );
+}
+
+/// Candidates 1 and 3 are withdrawn.
+fn two_withdrawn(alloc: Global) -> Result<TableAsked, Fail> {
+    let mut withdrawn = Numbers::new(alloc);
+    withdrawn.push(1)?;
+    withdrawn.push(3)?;
+    Ok(TableAsked {
+        withdrawn,
+        ..plainly(alloc)
+    })
+}
+
+/// A column of ids, and one of weights.
+fn with_ids_and_weights(alloc: Global) -> Result<TableAsked, Fail> {
+    let labels = texts_of(alloc, "Id|n")?;
+    let weight = Text::new(alloc, b"n")?;
+    Ok(TableAsked {
+        labels,
+        weight: Some(weight),
+        ..plainly(alloc)
+    })
+}
+
+#[test]
+fn refused_for_words_that_their_head_does_not_meet(rt: HostRuntime) -> Result<(), Fail> {
     let alloc = rt.alloc();
-    let asked = plainly(alloc);
-    let ended = TextFault {
-        kind: TextKind::Ended,
-        at: 0,
-        row: 1,
-        column: 1,
-    };
-    assert_eq!(rt; stop_of(alloc, &asked, b""), Some(TableStop::Text(ended)));
-    let ended = TextFault {
-        kind: TextKind::Ended,
-        at: 12,
-        row: 2,
-        column: 2,
-    };
-    assert_eq!(rt;
-        stop_of(alloc, &asked, b"Ann,Ben\n1,\"2"),
-        Some(TableStop::Text(ended))
-    );
-    assert_eq!(rt;
-        stop_of(alloc, &asked, b"Ann,Ben\n1\n"),
-        refused(TableKind::UnequalRow, 9, 2, 2)
-    );
-    assert_eq!(rt;
-        stop_of(alloc, &asked, b"Ann,Ben\n1,2,\n"),
-        refused(TableKind::UnequalRow, 12, 2, 3)
-    );
-    assert_eq!(rt;
-        stop_of(alloc, &asked, b"Ann,Ben\n1,0\n"),
-        refused(TableKind::BadRank, 10, 2, 2)
-    );
-    assert_eq!(rt;
-        stop_of(alloc, &asked, b"Ann,Ben\n1.0,2\n"),
-        refused(TableKind::BadRank, 8, 2, 1)
-    );
+    let place = 2;
+    let kind = TableKind::BadWithdrawn;
+    let word = TableStop::Word { kind, place };
+    is_refused(&rt, alloc, &two_withdrawn(alloc)?, b"Ann,Ben\n", word);
+    let kind = TableKind::NoColumn;
+    let word = TableStop::Word { kind, place };
+    is_refused(&rt, alloc, &with_ids_and_weights(alloc)?, b"Ann,Id\n", word);
+    Ok(())
+}
+
+/// A column of ids.
+fn with_ids(alloc: Global) -> Result<TableAsked, Fail> {
+    let labels = texts_of(alloc, "Id")?;
+    Ok(TableAsked {
+        labels,
+        ..plainly(alloc)
+    })
+}
+
+#[test]
+fn refused_without_a_candidate(rt: HostRuntime) -> Result<(), Fail> {
+    let asked = with_ids(rt.alloc())?;
+    let case = (b"Id\n".as_slice(), TableKind::ColumnExpected, 2, 1, 2);
+    are_refused(&rt, rt.alloc(), &asked, &[case]);
     Ok(())
 }
 
 #[test]
-fn refused_for_their_head(rt: HostRuntime) -> Result<(), Fail> {
-    let alloc = rt.alloc();
-    let mut asked = plainly(alloc);
-    assert_eq!(rt;
-        stop_of(alloc, &asked, b"Ann,,Cid\n"),
-        refused(TableKind::NameExpected, 4, 1, 2)
+fn refused_for_their_weights(rt: HostRuntime) -> Result<(), Fail> {
+    let asked = weighed(rt.alloc(), plainly(rt.alloc()))?;
+    are_refused(
+        &rt,
+        rt.alloc(),
+        &asked,
+        &[
+            (
+                b"n,Ann\n999999999,1\n1,1\n",
+                TableKind::TooManyBallots,
+                18,
+                3,
+                1,
+            ),
+            (b"n,Ann\n,1\n", TableKind::BadWeight, 6, 2, 1),
+        ],
     );
-    assert_eq!(rt;
-        stop_of(alloc, &asked, b"Ann, Ann \n"),
-        refused(TableKind::RepeatedColumn, 4, 1, 2)
-    );
-    assert_eq!(rt;
-        stop_of(alloc, &asked, b"Ann,\"B\"\"n\"\n"),
-        refused(TableKind::BadName, 4, 1, 2)
-    );
-    asked.withdrawn.push(1)?;
-    asked.withdrawn.push(3)?;
-    let word = TableStop::Word {
-        kind: TableKind::BadWithdrawn,
-        place: 2,
-    };
-    assert_eq!(rt; stop_of(alloc, &asked, b"Ann,Ben\n"), Some(word));
-    let mut asked = plainly(alloc);
-    asked.labels = texts_of(alloc, "Id")?;
-    assert_eq!(rt;
-        stop_of(alloc, &asked, b"Id\n"),
-        refused(TableKind::ColumnExpected, 2, 1, 2)
-    );
-    asked.labels = texts_of(alloc, "Id|n")?;
-    asked.weight = Some(Text::new(alloc, b"n")?);
-    let word = TableStop::Word {
-        kind: TableKind::NoColumn,
-        place: 2,
-    };
-    assert_eq!(rt; stop_of(alloc, &asked, b"Ann,Id\n"), Some(word));
     Ok(())
 }
 
 #[test]
 fn with_weights(rt: HostRuntime) -> Result<(), Fail> {
     let alloc = rt.alloc();
-    let mut asked = weighed(alloc)?;
-    assert_eq!(rt;
-        stop_of(alloc, &asked, b"n,Ann\n999999999,1\n1,1\n"),
-        refused(TableKind::TooManyBallots, 18, 3, 1)
-    );
-    assert_eq!(rt;
-        stop_of(alloc, &asked, b"n,Ann\n,1\n"),
-        refused(TableKind::BadWeight, 6, 2, 1)
-    );
-    asked.treatment.skipped = Some(Treatment::CLOSE);
-    asked.treatment.equal = Treat::Cut;
-    let lines = lines_of(
+    let asked = weighed(alloc, treated(alloc, Some(Treatment::CLOSE), Treat::Cut))?;
+    are_read(
+        &rt,
         alloc,
         &asked,
-        b"n,Ann,Ben,Cid\n2,3,1,\n3,1,1,\n4,,,1\n0,1,2,\n",
-    )?;
-    assert_eq!(rt; lines.as_str(), "2 [2, 1]|3 []|4 [3]|");
-    Ok(())
+        &[(
+            b"n,Ann,Ben,Cid\n2,3,1,\n3,1,1,\n4,,,1\n0,1,2,\n",
+            "2 [2, 1]|3 []|4 [3]|",
+        )],
+    )
 }

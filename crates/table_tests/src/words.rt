@@ -1,11 +1,13 @@
 // Tests of import_words: what words ask for, and words that are refused.
 use ballot_marks::{Treat, Treatment};
-use candidate_roll::Name;
+use candidate_roll::Names;
 use import_words::{
-    Asked, EmptyRows, HeadNames, Label, Layout, Output, Separator, read_import_words,
+    Asked, CellWords, EmptyRows, HeadNames, Labels, Layout, Output, RollWords, Separator,
+    TableWords, read_import_words,
 };
 use meek_words::WordsStop;
 use std::alloc::Global;
+use std::process::Abort;
 use std::test::Fail;
 
 /// Puts the words of a text behind others, with a bar between each two.
@@ -47,20 +49,99 @@ fn is_bad(alloc: Global, text: &str) -> Result<bool, Fail> {
     }
 }
 
-fn says(labels: &[Label], at: usize, text: &str) -> bool {
-    at < labels.len() && labels[at].bytes() == text.as_bytes()
-}
-
-fn is_named(names: &[Name<200>], at: usize, text: &str) -> bool {
-    at < names.len() && names[at].bytes() == text.as_bytes()
-}
-
-fn treatment(skipped: Option<u32>, equal: Treat, repeated: Treat) -> Treatment {
-    Treatment {
-        skipped,
-        equal,
-        repeated,
+/// The labels are these.
+fn look_at_labels(rt: &impl Abort, labels: &Labels, texts: &[&str]) {
+    assert_eq!(rt; labels.len(), texts.len());
+    for (label, text) in labels.items().iter().zip(texts) {
+        assert!(rt; label.bytes() == text.as_bytes(), "at {text}");
     }
+}
+
+/// The names are these.
+fn look_at_names(rt: &impl Abort, names: &Names, texts: &[&str]) {
+    assert_eq!(rt; names.len(), texts.len());
+    for (name, text) in names.items().iter().zip(texts) {
+        assert!(rt; name.bytes() == text.as_bytes(), "at {text}");
+    }
+}
+
+/// So many seats, this title, and these numbers of withdrawn candidates.
+fn look_at_roll(rt: &impl Abort, roll: &RollWords, seats: u32, title: &str, withdrawn: &[u32]) {
+    assert_eq!(rt; roll.seats, seats);
+    assert!(rt; roll.title.bytes() == title.as_bytes());
+    assert_eq!(rt; roll.withdrawn.items(), withdrawn);
+}
+
+/// The names are said so, and the fields have this separator between them; these columns are passed over,
+/// and with the weight's these are named.
+fn look_at_table(
+    rt: &impl Abort,
+    table: &TableWords,
+    names: HeadNames,
+    separator: Option<Separator>,
+    ignored: &[&str],
+    columns: &[&str],
+) {
+    assert_eq!(rt; table.names, names);
+    assert_eq!(rt; table.separator, separator);
+    look_at_labels(rt, &table.ignored, ignored);
+    look_at_labels(rt, &table.columns, columns);
+}
+
+/// These texts are blank cells, stand for too many marks, and are ranks.
+fn look_at_cells(
+    rt: &impl Abort,
+    cells: &CellWords,
+    blanks: &[&str],
+    overs: &[&str],
+    ranks: &[&str],
+) {
+    look_at_labels(rt, &cells.blanks, blanks);
+    look_at_labels(rt, &cells.overs, overs);
+    look_at_labels(rt, &cells.ranks, ranks);
+}
+
+/// A table of this layout is written as this, its empty rows and its marks are treated so.
+fn look_at_rest(
+    rt: &impl Abort,
+    asked: &Asked,
+    layout: Layout,
+    output: Output,
+    empty: EmptyRows,
+    treatment: Treatment,
+) {
+    assert_eq!(rt; asked.layout, layout);
+    assert_eq!(rt; asked.output, output);
+    assert_eq!(rt; asked.empty, empty);
+    assert_eq!(rt; asked.treatment, treatment);
+}
+
+/// What each option of a table of ranks asks for.
+fn look_at_ranks(rt: &impl Abort, asked: &Asked) {
+    let treatment = Treatment {
+        skipped: Some(3),
+        equal: Treat::Cut,
+        repeated: Treat::Refuse,
+    };
+    look_at_rest(
+        rt,
+        asked,
+        Layout::Ranks,
+        Output::Report,
+        EmptyRows::Keep,
+        treatment,
+    );
+    look_at_roll(rt, &asked.roll, 7, "Club", &[2, 1]);
+    look_at_names(rt, &asked.roll.candidates, &[]);
+    look_at_table(
+        rt,
+        &asked.table,
+        HeadNames::Bracketed,
+        Some(Separator::Tab),
+        &["Timestamp"],
+        &["Timestamp", "n"],
+    );
+    look_at_cells(rt, &asked.cells, &["-"], &[], &["1st choice", "2nd choice"]);
 }
 
 #[test]
@@ -73,28 +154,35 @@ fn each_option_of_ranks(rt: HostRuntime) -> Result<(), Fail> {
             "--as|report|--empty|keep|--separator|tab|--skipped|3|--equal|cut",
         ],
     )?;
-    assert_eq!(rt; asked.layout, Layout::Ranks);
-    assert_eq!(rt; asked.output, Output::Report);
-    assert_eq!(rt; asked.empty, EmptyRows::Keep);
-    assert_eq!(rt;
-        asked.treatment,
-        treatment(Some(3), Treat::Cut, Treat::Refuse)
-    );
-    assert_eq!(rt; asked.roll.seats, 7);
-    assert!(rt; asked.roll.title.bytes() == "Club".as_bytes());
-    assert_eq!(rt; asked.roll.withdrawn.items(), [2, 1].as_slice());
-    assert_eq!(rt; asked.roll.candidates.len(), 0);
-    assert_eq!(rt; asked.table.names, HeadNames::Bracketed);
-    assert_eq!(rt; asked.table.separator, Some(Separator::Tab));
-    assert!(rt; says(asked.table.ignored.items(), 0, "Timestamp"));
-    assert!(rt; says(asked.table.columns.items(), 0, "Timestamp"));
-    assert!(rt; says(asked.table.columns.items(), 1, "n"));
-    assert_eq!(rt; asked.cells.overs.len(), 0);
-    assert!(rt; says(asked.cells.blanks.items(), 0, "-"));
-    assert_eq!(rt; asked.cells.ranks.len(), 2);
-    assert!(rt; says(asked.cells.ranks.items(), 0, "1st choice"));
-    assert!(rt; says(asked.cells.ranks.items(), 1, "2nd choice"));
+    look_at_ranks(&rt, &asked);
     Ok(())
+}
+
+/// What each option of a table of choices asks for.
+fn look_at_choices(rt: &impl Abort, asked: &Asked) {
+    let treatment = Treatment {
+        skipped: Some(u32::MAX),
+        equal: Treat::Pass,
+        repeated: Treat::Cut,
+    };
+    look_at_rest(
+        rt,
+        asked,
+        Layout::Choices,
+        Output::Blt,
+        EmptyRows::LeaveOut,
+        treatment,
+    );
+    look_at_names(rt, &asked.roll.candidates, &["Smith; John", "Doe"]);
+    look_at_table(
+        rt,
+        &asked.table,
+        HeadNames::Whole,
+        None,
+        &["id", "--seats"],
+        &["n", "id", "--seats"],
+    );
+    look_at_cells(rt, &asked.cells, &["undervote"], &["overvote"], &[]);
 }
 
 #[test]
@@ -107,36 +195,27 @@ fn each_option_of_choices(rt: HostRuntime) -> Result<(), Fail> {
             "--empty|drop|--ignore|--seats",
         ],
     )?;
-    assert_eq!(rt; asked.layout, Layout::Choices);
-    assert_eq!(rt; asked.output, Output::Blt);
-    assert_eq!(rt; asked.empty, EmptyRows::LeaveOut);
-    assert_eq!(rt;
-        asked.treatment,
-        treatment(Some(u32::MAX), Treat::Pass, Treat::Cut)
-    );
-    assert_eq!(rt; asked.roll.candidates.len(), 2);
-    assert!(rt; is_named(asked.roll.candidates.items(), 0, "Smith; John"));
-    assert!(rt; is_named(asked.roll.candidates.items(), 1, "Doe"));
-    assert_eq!(rt; asked.table.separator, None);
-    assert!(rt; says(asked.table.ignored.items(), 0, "id"));
-    assert!(rt; says(asked.table.ignored.items(), 1, "--seats"));
-    assert!(rt; says(asked.table.columns.items(), 0, "n"));
-    assert!(rt; says(asked.table.columns.items(), 1, "id"));
-    assert!(rt; says(asked.table.columns.items(), 2, "--seats"));
-    assert!(rt; says(asked.cells.overs.items(), 0, "overvote"));
+    look_at_choices(&rt, &asked);
     Ok(())
+}
+
+/// What is asked for where only a layout and seats are said.
+fn look_at_plain_words(rt: &impl Abort, asked: &Asked) {
+    let treatment = Treatment {
+        skipped: None,
+        equal: Treat::Refuse,
+        repeated: Treat::Refuse,
+    };
+    assert_eq!(rt; asked.treatment, treatment);
+    assert_eq!(rt; asked.empty, EmptyRows::Refuse);
+    assert_eq!(rt; asked.table.names, HeadNames::Whole);
+    assert_eq!(rt; asked.roll.title.bytes().len(), 0);
 }
 
 #[test]
 fn nothing_but_a_layout_and_seats(rt: HostRuntime) -> Result<(), Fail> {
     let asked = read(rt.alloc(), &["--layout|preflib|--seats|1"])?;
-    assert_eq!(rt;
-        asked.treatment,
-        treatment(None, Treat::Refuse, Treat::Refuse)
-    );
-    assert_eq!(rt; asked.empty, EmptyRows::Refuse);
-    assert_eq!(rt; asked.table.names, HeadNames::Whole);
-    assert_eq!(rt; asked.roll.title.bytes().len(), 0);
+    look_at_plain_words(&rt, &asked);
     Ok(())
 }
 
@@ -149,57 +228,68 @@ fn no_words_are_refused(rt: HostRuntime) -> Result<(), Fail> {
     }
 }
 
+/// All these words are refused.
+fn are_bad(rt: &impl Abort, alloc: Global, texts: &[&str]) -> Result<(), Fail> {
+    for text in texts {
+        assert!(rt; is_bad(alloc, text)?, "at {text}");
+    }
+    Ok(())
+}
+
 #[test]
 fn refused_by_the_table_of_options(rt: HostRuntime) -> Result<(), Fail> {
-    let alloc = rt.alloc();
-    assert!(rt; is_bad(alloc, "--layout|ranks")?);
-    assert!(rt; is_bad(alloc, "--layout|ranks|--seats|1|--candidate|Ann")?);
-    assert!(rt; is_bad(alloc, "--layout|ranks|--seats|1|--seats|1")?);
-    assert!(rt; is_bad(alloc, "--layout|preflib|--seats|1|--skipped|close")?);
-    assert!(rt; is_bad(alloc, "--layout|choices|--seats|1")?);
-    assert!(rt; is_bad(alloc, "--layout=ranks|--seats|1")?);
-    assert!(rt;
-        is_bad(
-            alloc,
-            "--layout|choices|--seats|1|--candidate|Ann|--over|Ann"
-        )?
-    );
-    assert!(rt;
-        is_bad(
-            alloc,
-            "--layout|list|--seats|1|--candidate|Ann|--names|whole"
-        )?
-    );
-    Ok(())
+    are_bad(
+        &rt,
+        rt.alloc(),
+        &[
+            "--layout|ranks",
+            "--layout|ranks|--seats|1|--candidate|Ann",
+            "--layout|ranks|--seats|1|--seats|1",
+            "--layout|preflib|--seats|1|--skipped|close",
+            "--layout|choices|--seats|1",
+            "--layout=ranks|--seats|1",
+            "--layout|choices|--seats|1|--candidate|Ann|--over|Ann",
+            "--layout|list|--seats|1|--candidate|Ann|--names|whole",
+        ],
+    )
 }
 
 #[test]
 fn refused_by_the_values(rt: HostRuntime) -> Result<(), Fail> {
-    let alloc = rt.alloc();
-    assert!(rt; is_bad(alloc, "--layout|ranks|--seats|1|--title|")?);
-    assert!(rt; is_bad(alloc, "--layout|ranks|--seats|1|--title")?);
-    assert!(rt; is_bad(alloc, "--layout|ranks|--seats|1|--title|a\"b")?);
-    assert!(rt; is_bad(alloc, "--layout|ranks|--seats|251")?);
-    assert!(rt; is_bad(alloc, "--layout|ranks|--seats|0")?);
-    assert!(rt; is_bad(alloc, "--layout|ranks|--seats|1,2")?);
-    assert!(rt; is_bad(alloc, "--layout|ranks|--seats|1|--withdrawn|1,,2")?);
-    assert!(rt; is_bad(alloc, "--layout|ranks|--seats|1|--skipped|10")?);
-    Ok(())
+    are_bad(
+        &rt,
+        rt.alloc(),
+        &[
+            "--layout|ranks|--seats|1|--title|",
+            "--layout|ranks|--seats|1|--title",
+            "--layout|ranks|--seats|1|--title|a\"b",
+            "--layout|ranks|--seats|251",
+            "--layout|ranks|--seats|0",
+            "--layout|ranks|--seats|1,2",
+            "--layout|ranks|--seats|1|--withdrawn|1,,2",
+            "--layout|ranks|--seats|1|--skipped|10",
+        ],
+    )
 }
 
 #[test]
 fn refused_by_the_labels(rt: HostRuntime) -> Result<(), Fail> {
-    let alloc = rt.alloc();
-    assert!(rt; is_bad(alloc, "--layout|ranks|--seats|1|--ignore|a ")?);
-    assert!(rt; is_bad(alloc, "--layout|ranks|--seats|1|--ranks|a,,b")?);
-    assert!(rt; is_bad(alloc, "--layout|ranks|--seats|1|--ranks|a,b,a")?);
-    assert!(rt; is_bad(alloc, "--layout|ranks|--seats|1|--weight|a|--ignore|a")?);
-    assert!(rt;
-        is_bad(
-            alloc,
-            "--layout|list|--seats|1|--candidate|A|--blank|b|--over|b"
-        )?
-    );
-    assert!(rt; !is_bad(alloc, "--layout|ranks|--seats|1|--weight|a|--blank|a")?);
+    are_bad(
+        &rt,
+        rt.alloc(),
+        &[
+            "--layout|ranks|--seats|1|--ignore|a ",
+            "--layout|ranks|--seats|1|--ranks|a,,b",
+            "--layout|ranks|--seats|1|--ranks|a,b,a",
+            "--layout|ranks|--seats|1|--weight|a|--ignore|a",
+            "--layout|list|--seats|1|--candidate|A|--blank|b|--over|b",
+        ],
+    )
+}
+
+#[test]
+fn a_label_may_stand_in_a_cell(rt: HostRuntime) -> Result<(), Fail> {
+    let words = "--layout|ranks|--seats|1|--weight|a|--blank|a";
+    assert!(rt; !is_bad(rt.alloc(), words)?);
     Ok(())
 }
