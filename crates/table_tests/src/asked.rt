@@ -108,35 +108,48 @@ pub(crate) fn stop_of(alloc: Global, asked: &TableAsked, bytes: &[u8]) -> Option
     }
 }
 
-/// Each table has these lines.
-pub(crate) fn are_read(
-    rt: &impl Abort,
-    alloc: Global,
-    asked: &TableAsked,
-    cases: &[(&[u8], &str)],
-) -> Result<(), Fail> {
-    for (bytes, lines) in cases {
-        let said = lines_of(alloc, asked, bytes)?;
-        assert_eq!(rt; said.as_str(), *lines);
-    }
-    Ok(())
-}
-
-pub(crate) fn is_refused(
+/// The table has these lines.
+fn is_read(
     rt: &impl Abort,
     alloc: Global,
     asked: &TableAsked,
     bytes: &[u8],
-    stop: TableStop,
-) {
-    assert_eq!(rt; stop_of(alloc, asked, bytes), Some(stop));
+    lines: &str,
+) -> Result<(), Fail> {
+    let said = lines_of(alloc, asked, bytes)?;
+    assert_eq!(rt; said.as_str(), lines);
+    Ok(())
 }
 
-/// Each table is refused for a record: why, at which byte, and in which row and column.
+/// Each table has these lines where this is asked.
+pub(crate) fn are_read(
+    rt: &impl Abort,
+    alloc: Global,
+    asked: TableAsked,
+    cases: &[(&[u8], &str)],
+) -> Result<(), Fail> {
+    for (bytes, lines) in cases {
+        is_read(rt, alloc, &asked, bytes, lines)?;
+    }
+    Ok(())
+}
+
+/// The table is refused by this stop where this is asked.
+pub(crate) fn is_refused(
+    rt: &impl Abort,
+    alloc: Global,
+    asked: TableAsked,
+    bytes: &[u8],
+    stop: TableStop,
+) {
+    assert_eq!(rt; stop_of(alloc, &asked, bytes), Some(stop));
+}
+
+/// Each table is refused for a record where this is asked: why, at which byte, and in which row and column.
 pub(crate) fn are_refused(
     rt: &impl Abort,
     alloc: Global,
-    asked: &TableAsked,
+    asked: TableAsked,
     cases: &[(&[u8], TableKind, usize, u32, u32)],
 ) {
     for (bytes, kind, at, row, column) in cases {
@@ -146,6 +159,6 @@ pub(crate) fn are_refused(
             row: *row,
             column: *column,
         };
-        is_refused(rt, alloc, asked, bytes, stop);
+        assert_eq!(rt; stop_of(alloc, &asked, bytes), Some(stop));
     }
 }

@@ -28,19 +28,14 @@ const MACHINE: &[u8] =
 #[test]
 fn with_a_column_for_each_rank(rt: HostRuntime) -> Result<(), Fail> {
     let asked = of_a_machine(rt.alloc(), Treat::Cut)?;
-    are_read(
-        &rt,
-        rt.alloc(),
-        &asked,
-        &[(MACHINE, "2 [2, 1]|1 [2]|1 []|")],
-    )
+    are_read(&rt, rt.alloc(), asked, &[(MACHINE, "2 [2, 1]|1 [2]|1 []|")])
 }
 
 #[test]
 fn with_two_candidates_at_a_rank(rt: HostRuntime) -> Result<(), Fail> {
     let asked = of_a_machine(rt.alloc(), Treat::Refuse)?;
     let case = (MACHINE, TableKind::EqualRank, 43, 3, 4);
-    are_refused(&rt, rt.alloc(), &asked, &[case]);
+    are_refused(&rt, rt.alloc(), asked, &[case]);
     Ok(())
 }
 
@@ -50,7 +45,7 @@ fn with_ranks_that_are_refused(rt: HostRuntime) -> Result<(), Fail> {
     are_refused(
         &rt,
         rt.alloc(),
-        &asked,
+        asked,
         &[
             (b"r1,r2,r3\nBen,Ben,Ann\n", TableKind::Repeated, 13, 2, 2),
             (b"r1,r2\nAnn,ben\n", TableKind::NoSuchCandidate, 10, 2, 2),
@@ -73,7 +68,7 @@ fn with_lists(rt: HostRuntime) -> Result<(), Fail> {
     are_read(
         &rt,
         rt.alloc(),
-        &asked,
+        asked,
         &[
             (b"Id,Order\n1,Ben;Ann;\n2,Ann\n3,\n", "1 [2, 1]|1 [1]|1 []|"),
             (b"Id,Order\n1,\" Ben ; Ann\"\n", "1 [2, 1]|"),
@@ -87,7 +82,7 @@ fn with_lists_that_are_refused(rt: HostRuntime) -> Result<(), Fail> {
     are_refused(
         &rt,
         rt.alloc(),
-        &asked,
+        asked,
         &[
             (b"Id,Order\n1,Ben;Ben\n", TableKind::Repeated, 11, 2, 2),
             (b"Id,Order\n1,Ben;;Ann\n", TableKind::SkippedRank, 11, 2, 2),

@@ -1,7 +1,7 @@
 // Tests of ballot_table: tables with a column for each candidate.
 use crate::asked::{are_read, are_refused, is_refused, plainly, read, texts_of, treated, weighed};
 use ballot_marks::{Treat, Treatment};
-use ballot_table::{Numbers, TableAsked, TableKind, TableStop, Text};
+use ballot_table::{Imported, Numbers, TableAsked, TableKind, TableStop, Text};
 use std::alloc::Global;
 use std::process::Abort;
 use std::test::Fail;
@@ -13,7 +13,7 @@ fn stand_for_their_ballots(rt: HostRuntime) -> Result<(), Fail> {
     are_read(
         &rt,
         rt.alloc(),
-        &asked,
+        asked,
         &[
             (
                 b"Ann,Ben,Cid\n1,2,3\n,1,\n2,,1\n",
@@ -39,17 +39,19 @@ fn in_words(alloc: Global) -> Result<TableAsked, Fail> {
     })
 }
 
+/// What a table says where candidates stand in brackets and ranks in words.
+fn read_in_words(alloc: Global, bytes: &[u8]) -> Result<Imported, Fail> {
+    let asked = in_words(alloc)?;
+    let imported = read(alloc, &asked, bytes)?;
+    Ok(imported)
+}
+
 /// A table has two candidates, of whom the second has this name.
-fn names_two(
-    rt: &impl Abort,
-    alloc: Global,
-    asked: &TableAsked,
-    bytes: &[u8],
-    second: &[u8],
-) -> Result<(), Fail> {
-    let imported = read(alloc, asked, bytes)?;
-    assert_eq!(rt; imported.names.len(), 2);
-    assert_eq!(rt; imported.names.items()[1].bytes(), second);
+fn names_two(rt: &impl Abort, alloc: Global, bytes: &[u8], second: &[u8]) -> Result<(), Fail> {
+    let imported = read_in_words(alloc, bytes)?;
+    let names = imported.names.items();
+    assert_eq!(rt; names.len(), 2);
+    assert_eq!(rt; names[1].bytes(), second);
     Ok(())
 }
 
@@ -57,9 +59,9 @@ fn names_two(
 fn in_brackets_and_words(rt: HostRuntime) -> Result<(), Fail> {
     let bytes =
         b"\xEF\xBB\xBF\"Timestamp\",\"Your vote [1 to 2], please [Ann]\",\"Your vote [1 to 2], please [Ben, jr]\"\r\n\"2026/05/01 9:00\",\"1st choice\",\"2nd choice\"\r\n\"2026/05/01 9:01\",\"\",\"1st choice\"\r\n";
+    names_two(&rt, rt.alloc(), bytes, b"Ben, jr")?;
     let asked = in_words(rt.alloc())?;
-    names_two(&rt, rt.alloc(), &asked, bytes, b"Ben, jr")?;
-    are_read(&rt, rt.alloc(), &asked, &[(bytes, "1 [1, 2]|1 [2]|")])
+    are_read(&rt, rt.alloc(), asked, &[(bytes, "1 [1, 2]|1 [2]|")])
 }
 
 /// A table has these lines where skipped and equal ranks are treated so.
@@ -71,7 +73,7 @@ fn is_read_by(
     lines: &str,
 ) -> Result<(), Fail> {
     let asked = treated(alloc, treatment.0, treatment.1);
-    are_read(rt, alloc, &asked, &[(bytes, lines)])
+    are_read(rt, alloc, asked, &[(bytes, lines)])
 }
 
 #[test]
@@ -136,7 +138,7 @@ fn refused_by_treatments(rt: HostRuntime) {
         are_refused(
             &rt,
             rt.alloc(),
-            &asked,
+            asked,
             &[(bytes, *kind, *at, *row, *column)],
         );
     }
@@ -144,7 +146,6 @@ fn refused_by_treatments(rt: HostRuntime) {
 
 #[test]
 fn refused_as_texts(rt: HostRuntime) {
-    let asked = plainly(rt.alloc());
     for (bytes, at, row, column) in &[(b"".as_slice(), 0, 1, 1), (b"Ann,Ben\n1,\"2", 12, 2, 2)] {
         let fault = TextFault {
             kind: TextKind::Ended,
@@ -152,7 +153,8 @@ fn refused_as_texts(rt: HostRuntime) {
             row: *row,
             column: *column,
         };
-        is_refused(&rt, rt.alloc(), &asked, bytes, TableStop::Text(fault));
+        let asked = plainly(rt.alloc());
+        is_refused(&rt, rt.alloc(), asked, bytes, TableStop::Text(fault));
     }
 }
 
@@ -162,7 +164,7 @@ fn refused_for_their_form(rt: HostRuntime) {
     are_refused(
         &rt,
         rt.alloc(),
-        &asked,
+        asked,
         &[
             (b"Ann,Ben\n1\n", TableKind::UnequalRow, 9, 2, 2),
             (b"Ann,Ben\n1,2,\n", TableKind::UnequalRow, 12, 2, 3),
@@ -178,7 +180,7 @@ fn refused_for_their_head(rt: HostRuntime) {
     are_refused(
         &rt,
         rt.alloc(),
-        &asked,
+        asked,
         &[
             (b"Ann,,Cid\n", TableKind::NameExpected, 4, 1, 2),
             (b"Ann, Ann \n", TableKind::RepeatedColumn, 4, 1, 2),
@@ -187,11 +189,17 @@ fn refused_for_their_head(rt: HostRuntime) {
     );
 }
 
+fn numbers_of(alloc: Global, list: &[u32]) -> Result<Numbers, Fail> {
+    let mut numbers = Numbers::new(alloc);
+    for number in list {
+        numbers.push(*number)?;
+    }
+    Ok(numbers)
+}
+
 /// Candidates 1 and 3 are withdrawn.
 fn two_withdrawn(alloc: Global) -> Result<TableAsked, Fail> {
-    let mut withdrawn = Numbers::new(alloc);
-    withdrawn.push(1)?;
-    withdrawn.push(3)?;
+    let withdrawn = numbers_of(alloc, &[1, 3])?;
     Ok(TableAsked {
         withdrawn,
         ..plainly(alloc)
@@ -215,10 +223,10 @@ fn refused_for_words_that_their_head_does_not_meet(rt: HostRuntime) -> Result<()
     let place = 2;
     let kind = TableKind::BadWithdrawn;
     let word = TableStop::Word { kind, place };
-    is_refused(&rt, alloc, &two_withdrawn(alloc)?, b"Ann,Ben\n", word);
+    is_refused(&rt, alloc, two_withdrawn(alloc)?, b"Ann,Ben\n", word);
     let kind = TableKind::NoColumn;
     let word = TableStop::Word { kind, place };
-    is_refused(&rt, alloc, &with_ids_and_weights(alloc)?, b"Ann,Id\n", word);
+    is_refused(&rt, alloc, with_ids_and_weights(alloc)?, b"Ann,Id\n", word);
     Ok(())
 }
 
@@ -235,7 +243,7 @@ fn with_ids(alloc: Global) -> Result<TableAsked, Fail> {
 fn refused_without_a_candidate(rt: HostRuntime) -> Result<(), Fail> {
     let asked = with_ids(rt.alloc())?;
     let case = (b"Id\n".as_slice(), TableKind::ColumnExpected, 2, 1, 2);
-    are_refused(&rt, rt.alloc(), &asked, &[case]);
+    are_refused(&rt, rt.alloc(), asked, &[case]);
     Ok(())
 }
 
@@ -245,7 +253,7 @@ fn refused_for_their_weights(rt: HostRuntime) -> Result<(), Fail> {
     are_refused(
         &rt,
         rt.alloc(),
-        &asked,
+        asked,
         &[
             (
                 b"n,Ann\n999999999,1\n1,1\n",
@@ -267,7 +275,7 @@ fn with_weights(rt: HostRuntime) -> Result<(), Fail> {
     are_read(
         &rt,
         alloc,
-        &asked,
+        asked,
         &[(
             b"n,Ann,Ben,Cid\n2,3,1,\n3,1,1,\n4,,,1\n0,1,2,\n",
             "2 [2, 1]|3 []|4 [3]|",

@@ -40,8 +40,8 @@ fn read(alloc: Global, texts: &[&str]) -> Result<Asked, Fail> {
 }
 
 /// Whether words are refused.
-fn is_bad(alloc: Global, text: &str) -> Result<bool, Fail> {
-    let words = words_of(alloc, &[text])?;
+fn is_bad(alloc: Global, texts: &[&str]) -> Result<bool, Fail> {
+    let words = words_of(alloc, texts)?;
     match read_import_words(alloc, words.as_slice()) {
         Ok(_) => Ok(false),
         Err(WordsStop::BadWords) => Ok(true),
@@ -206,10 +206,16 @@ fn look_at_plain_words(rt: &impl Abort, asked: &Asked) {
         equal: Treat::Refuse,
         repeated: Treat::Refuse,
     };
-    assert_eq!(rt; asked.treatment, treatment);
-    assert_eq!(rt; asked.empty, EmptyRows::Refuse);
-    assert_eq!(rt; asked.table.names, HeadNames::Whole);
-    assert_eq!(rt; asked.roll.title.bytes().len(), 0);
+    look_at_rest(
+        rt,
+        asked,
+        Layout::Preflib,
+        Output::Blt,
+        EmptyRows::Refuse,
+        treatment,
+    );
+    look_at_roll(rt, &asked.roll, 1, "", &[]);
+    look_at_table(rt, &asked.table, HeadNames::Whole, None, &[], &[]);
 }
 
 #[test]
@@ -221,17 +227,14 @@ fn nothing_but_a_layout_and_seats(rt: HostRuntime) -> Result<(), Fail> {
 
 #[test]
 fn no_words_are_refused(rt: HostRuntime) -> Result<(), Fail> {
-    let words: Vec<String> = Vec::new(rt.alloc());
-    match read_import_words(rt.alloc(), words.as_slice()) {
-        Err(WordsStop::BadWords) => Ok(()),
-        _ => Err(Fail::from("no words are words")),
-    }
+    assert!(rt; is_bad(rt.alloc(), &[])?);
+    Ok(())
 }
 
 /// All these words are refused.
 fn are_bad(rt: &impl Abort, alloc: Global, texts: &[&str]) -> Result<(), Fail> {
     for text in texts {
-        assert!(rt; is_bad(alloc, text)?, "at {text}");
+        assert!(rt; is_bad(alloc, &[*text])?, "at {text}");
     }
     Ok(())
 }
@@ -290,6 +293,6 @@ fn refused_by_the_labels(rt: HostRuntime) -> Result<(), Fail> {
 #[test]
 fn a_label_may_stand_in_a_cell(rt: HostRuntime) -> Result<(), Fail> {
     let words = "--layout|ranks|--seats|1|--weight|a|--blank|a";
-    assert!(rt; !is_bad(rt.alloc(), words)?);
+    assert!(rt; !is_bad(rt.alloc(), &[words])?);
     Ok(())
 }
