@@ -36,44 +36,44 @@ fn lines_of(alloc: Global, imported: &Imported) -> Result<String, Fail> {
     Ok(text)
 }
 
-fn stop_of(read: Result<Imported, PrefStop>) -> Option<PrefStop> {
-    match read {
-        Ok(_) => None,
-        Err(stop) => Some(stop),
+/// A text has these lines of ballots, and this became of its orders.
+fn come_to(
+    rt: &impl Abort,
+    alloc: Global,
+    imported: &Imported,
+    lines: &str,
+    tally: Tally,
+) -> Result<(), Fail> {
+    let said = lines_of(alloc, imported)?;
+    assert_eq!(rt; said.as_str(), lines);
+    assert_eq!(rt; imported.tally, tally);
+    Ok(())
+}
+
+/// The candidates have these names, and the election this title.
+fn are_named(rt: &impl Abort, imported: &Imported, names: &[&str], title: &str) {
+    assert_eq!(rt; imported.names.len(), names.len());
+    for (name, due) in imported.names.items().iter().zip(names) {
+        assert!(rt; name.bytes() == due.as_bytes(), "not {due}");
     }
+    assert_eq!(rt; imported.ballots.candidates() as usize, names.len());
+    assert_eq!(rt; imported.title.bytes(), title.as_bytes());
 }
 
-fn refused(kind: PrefKind, at: usize, row: usize, column: usize) -> Option<PrefStop> {
-    Some(PrefStop::Fault(PrefFault::Line {
-        kind,
-        at,
-        row,
-        column,
-    }))
-}
-
-fn refused_word(place: usize) -> Option<PrefStop> {
-    Some(PrefStop::Fault(PrefFault::Word {
-        kind: PrefKind::BadWithdrawn,
-        place,
-    }))
-}
-
-#[test]
-fn say_their_ballots(rt: HostRuntime) -> Result<(), Fail> {
-    let alloc = rt.alloc();
+/// A title, three candidates and two orders, of three voters and of two.
+fn five_voters(alloc: Global) -> Result<Imported, Fail> {
     let text = format!(in alloc;
         "# TITLE: Town\n{}# NUMBER VOTERS: 5\n3: 2,1\n2: 3\n",
         THREE
     )?;
     let imported = read_preflib(alloc, &plainly(Treat::Refuse), text.as_bytes())?;
-    assert_eq!(rt; imported.names.len(), 3);
-    assert_eq!(rt; imported.names.items()[0].bytes(), b"Ann".as_slice());
-    assert_eq!(rt; imported.names.items()[1].bytes(), b"Ben".as_slice());
-    assert_eq!(rt; imported.names.items()[2].bytes(), b"Cid".as_slice());
-    assert_eq!(rt; imported.title.bytes(), b"Town".as_slice());
-    assert_eq!(rt; imported.ballots.candidates(), 3);
-    assert_eq!(rt; lines_of(alloc, &imported)?.as_str(), "3 [2, 1]|2 [3]|");
+    Ok(imported)
+}
+
+#[test]
+fn say_their_ballots(rt: HostRuntime) -> Result<(), Fail> {
+    let imported = five_voters(rt.alloc())?;
+    are_named(&rt, &imported, &["Ann", "Ben", "Cid"], "Town");
     let tally = Tally {
         orders: 2,
         ballots: 5,
@@ -81,13 +81,11 @@ fn say_their_ballots(rt: HostRuntime) -> Result<(), Fail> {
         passed: 0,
         cut: 0,
     };
-    assert_eq!(rt; imported.tally, tally);
-    Ok(())
+    come_to(&rt, rt.alloc(), &imported, "3 [2, 1]|2 [3]|", tally)
 }
 
-#[test]
-fn have_the_title_of_the_words(rt: HostRuntime) -> Result<(), Fail> {
-    let alloc = rt.alloc();
+/// No orders, under a title that the words say in place of the text's.
+fn titled_by_the_words(alloc: Global) -> Result<Imported, Fail> {
     let text = format!(in alloc; "# TITLE: Town\n{}", THREE)?;
     let title = Name::try_new(alloc, b"T")?;
     let asked = PrefAsked {
@@ -96,6 +94,12 @@ fn have_the_title_of_the_words(rt: HostRuntime) -> Result<(), Fail> {
         equal: Treat::Refuse,
     };
     let imported = read_preflib(alloc, &asked, text.as_bytes())?;
+    Ok(imported)
+}
+
+#[test]
+fn have_the_title_of_the_words(rt: HostRuntime) -> Result<(), Fail> {
+    let imported = titled_by_the_words(rt.alloc())?;
     assert_eq!(rt; imported.title.bytes(), b"T".as_slice());
     assert_eq!(rt; imported.ballots.total(), 0);
     Ok(())
@@ -103,108 +107,156 @@ fn have_the_title_of_the_words(rt: HostRuntime) -> Result<(), Fail> {
 
 #[test]
 fn name_candidates_by_number(rt: HostRuntime) -> Result<(), Fail> {
-    let alloc = rt.alloc();
     let text =
         b"\xEF\xBB\xBF# NUMBER ALTERNATIVES: 2\r\n# ALTERNATIVE NAME 2: Ben\r\n# ALTERNATIVE NAME 1: Ann\r\n2: 1\r\n1: {2}, 1";
-    let imported = read_preflib(alloc, &plainly(Treat::Refuse), text)?;
-    assert_eq!(rt; imported.names.items()[0].bytes(), b"Ann".as_slice());
-    assert_eq!(rt; imported.names.items()[1].bytes(), b"Ben".as_slice());
-    assert_eq!(rt; imported.title.bytes(), b"".as_slice());
-    assert_eq!(rt; lines_of(alloc, &imported)?.as_str(), "2 [1]|1 [2, 1]|");
-    Ok(())
+    let imported = read_preflib(rt.alloc(), &plainly(Treat::Refuse), text)?;
+    are_named(&rt, &imported, &["Ann", "Ben"], "");
+    let tally = Tally {
+        orders: 2,
+        ballots: 3,
+        empty: 0,
+        passed: 0,
+        cut: 0,
+    };
+    come_to(&rt, rt.alloc(), &imported, "2 [1]|1 [2, 1]|", tally)
+}
+
+/// Orders of six ballots that rank two candidates equally.
+const EQUAL: &str = "3: 2,{1,3}\n1: {1,2},3\n2: 1\n";
+
+/// What they come to where equal ranks are treated so.
+fn equals_come_to(
+    rt: &impl Abort,
+    alloc: Global,
+    equal: Treat,
+    lines: &str,
+    tally: Tally,
+) -> Result<(), Fail> {
+    let imported = read(alloc, equal, EQUAL)?;
+    come_to(rt, alloc, &imported, lines, tally)
 }
 
 #[test]
 fn by_treatments(rt: HostRuntime) -> Result<(), Fail> {
-    let alloc = rt.alloc();
-    let equal = "3: 2,{1,3}\n1: {1,2},3\n2: 1\n";
-    assert_eq!(rt;
-        stop_of(read(alloc, Treat::Refuse, equal)),
-        refused(PrefKind::EqualRank, 108, 5, 6)
-    );
-    let imported = read(alloc, Treat::Cut, equal)?;
-    assert_eq!(rt; lines_of(alloc, &imported)?.as_str(), "3 [2]|1 []|2 [1]|");
-    let tally = Tally {
-        orders: 3,
-        ballots: 6,
-        empty: 1,
-        passed: 0,
-        cut: 4,
-    };
-    assert_eq!(rt; imported.tally, tally);
-    let imported = read(alloc, Treat::Pass, equal)?;
-    assert_eq!(rt; lines_of(alloc, &imported)?.as_str(), "3 [2]|1 [3]|2 [1]|");
-    let tally = Tally {
-        orders: 3,
-        ballots: 6,
-        empty: 0,
-        passed: 4,
-        cut: 0,
-    };
-    assert_eq!(rt; imported.tally, tally);
+    for (equal, lines, empty, passed, cut) in &[
+        (Treat::Cut, "3 [2]|1 []|2 [1]|", 1, 0, 4),
+        (Treat::Pass, "3 [2]|1 [3]|2 [1]|", 0, 4, 0),
+    ] {
+        let tally = Tally {
+            orders: 3,
+            ballots: 6,
+            empty: *empty,
+            passed: *passed,
+            cut: *cut,
+        };
+        equals_come_to(&rt, rt.alloc(), *equal, lines, tally)?;
+    }
     Ok(())
 }
 
-#[test]
-fn refused_for_their_orders(rt: HostRuntime) -> Result<(), Fail> {
-    let alloc = rt.alloc();
-    let refuse = Treat::Refuse;
-    assert_eq!(rt;
-        stop_of(read(alloc, refuse, "3: 2,4\n")),
-        refused(PrefKind::NoSuchCandidate, 108, 5, 6)
-    );
-    assert_eq!(rt;
-        stop_of(read(alloc, refuse, "3: {1\n")),
-        refused(PrefKind::BadNumber, 108, 5, 6)
-    );
-    assert_eq!(rt;
-        stop_of(read(alloc, refuse, "3: 2\n# TITLE: Town\n")),
-        refused(PrefKind::BadNumber, 108, 6, 1)
-    );
-    let short = "# NUMBER VOTERS: 9\n3: 2,1\n";
-    assert_eq!(rt;
-        stop_of(read(alloc, refuse, short)),
-        refused(PrefKind::WrongTotal, 129, 7, 1)
-    );
-    Ok(())
+fn stop_of(read: Result<Imported, PrefStop>) -> Option<PrefStop> {
+    match read {
+        Ok(_) => None,
+        Err(stop) => Some(stop),
+    }
+}
+
+/// A line of a text is refused: why, at which byte, and in which row and column.
+type Refused<'a> = (&'a str, PrefKind, usize, usize, usize);
+
+/// The stop is said of a line.
+fn is_refused(rt: &impl Abort, stop: Option<PrefStop>, refused: &Refused) {
+    let (_, kind, at, row, column) = refused;
+    let fault = PrefFault::Line {
+        kind: *kind,
+        at: *at,
+        row: *row,
+        column: *column,
+    };
+    assert_eq!(rt; stop, Some(PrefStop::Fault(fault)));
+}
+
+/// Lines behind three candidates are refused.
+fn lines_are_refused(rt: &impl Abort, alloc: Global, cases: &[Refused]) {
+    for case in cases {
+        let stop = stop_of(read(alloc, Treat::Refuse, case.0));
+        is_refused(rt, stop, case);
+    }
 }
 
 #[test]
-fn refused_for_their_metadata(rt: HostRuntime) -> Result<(), Fail> {
-    let alloc = rt.alloc();
-    let asked = plainly(Treat::Refuse);
-    let again = "# ALTERNATIVE NAME 2: Dee\n";
-    assert_eq!(rt;
-        stop_of(read(alloc, Treat::Refuse, again)),
-        refused(PrefKind::Repeated, 125, 5, 23)
+fn refused_for_their_orders(rt: HostRuntime) {
+    lines_are_refused(
+        &rt,
+        rt.alloc(),
+        &[
+            (EQUAL, PrefKind::EqualRank, 108, 5, 6),
+            ("3: 2,4\n", PrefKind::NoSuchCandidate, 108, 5, 6),
+            ("3: {1\n", PrefKind::BadNumber, 108, 5, 6),
+            ("3: 2\n# TITLE: Town\n", PrefKind::BadNumber, 108, 6, 1),
+            (
+                "# NUMBER VOTERS: 9\n3: 2,1\n",
+                PrefKind::WrongTotal,
+                129,
+                7,
+                1,
+            ),
+            (
+                "# ALTERNATIVE NAME 2: Dee\n",
+                PrefKind::Repeated,
+                125,
+                5,
+                23,
+            ),
+        ],
     );
-    let two =
-        b"# NUMBER ALTERNATIVES: 3\n# ALTERNATIVE NAME 1: Ann\n# ALTERNATIVE NAME 2: Ben\n3: 2\n";
-    assert_eq!(rt;
-        stop_of(read_preflib(alloc, &asked, two)),
-        refused(PrefKind::NameExpected, 77, 4, 1)
+}
+
+/// Whole texts are refused.
+fn texts_are_refused(rt: &impl Abort, alloc: Global, cases: &[Refused]) {
+    for case in cases {
+        let stop = stop_of(read_preflib(alloc, &plainly(Treat::Refuse), case.0.as_bytes()));
+        is_refused(rt, stop, case);
+    }
+}
+
+#[test]
+fn refused_for_their_metadata(rt: HostRuntime) {
+    texts_are_refused(
+        &rt,
+        rt.alloc(),
+        &[
+            (
+                "# NUMBER ALTERNATIVES: 3\n# ALTERNATIVE NAME 1: Ann\n# ALTERNATIVE NAME 2: Ben\n3: 2\n",
+                PrefKind::NameExpected,
+                77,
+                4,
+                1,
+            ),
+            ("", PrefKind::BadHeader, 0, 1, 1),
+        ],
     );
-    assert_eq!(rt;
-        stop_of(read_preflib(alloc, &asked, b"")),
-        refused(PrefKind::BadHeader, 0, 1, 1)
-    );
-    let above = PrefAsked {
+}
+
+/// These numbers of withdrawn candidates are refused, at the one in this place.
+fn is_refused_word(rt: &impl Abort, alloc: Global, withdrawn: &[u32], place: usize) {
+    let asked = PrefAsked {
         title: None,
-        withdrawn: &[3, 4],
+        withdrawn,
         equal: Treat::Refuse,
     };
-    assert_eq!(rt;
-        stop_of(read_preflib(alloc, &above, THREE.as_bytes())),
-        refused_word(2)
-    );
-    let zero = PrefAsked {
-        title: None,
-        withdrawn: &[0],
-        equal: Treat::Refuse,
+    let fault = PrefFault::Word {
+        kind: PrefKind::BadWithdrawn,
+        place,
     };
     assert_eq!(rt;
-        stop_of(read_preflib(alloc, &zero, THREE.as_bytes())),
-        refused_word(1)
+        stop_of(read_preflib(alloc, &asked, THREE.as_bytes())),
+        Some(PrefStop::Fault(fault))
     );
-    Ok(())
+}
+
+#[test]
+fn refused_for_the_withdrawn(rt: HostRuntime) {
+    is_refused_word(&rt, rt.alloc(), &[3, 4], 2);
+    is_refused_word(&rt, rt.alloc(), &[0], 1);
 }
