@@ -53,8 +53,7 @@ fn a_copy_has_the_same_lines(rt: HostRuntime) -> Result<(), Fail> {
     let copy = copy_of_three(rt.alloc())?;
     assert_eq!(rt; sums(&copy), (2, 3, 1));
     for line in copy.lines() {
-        assert_eq!(rt; line.count, 3);
-        assert_eq!(rt; line.ranking.ranks(), [1, 2].as_slice());
+        assert_eq!(rt; (line.count, line.ranking.ranks()), (3, [1, 2].as_slice()));
     }
     Ok(())
 }

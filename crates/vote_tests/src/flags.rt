@@ -33,8 +33,8 @@ fn taken_over(alloc: Global) -> Result<Flags, NoMemory> {
 #[test]
 fn a_mark_is_set(rt: HostRuntime) -> Result<(), NoMemory> {
     let flags = second_set(rt.alloc())?;
-    assert_eq!(rt; flags.items(), [false, true, false].as_slice());
-    assert_eq!(rt; (*flags.get(1), flags.len()), (true, 3));
+    let said = (flags.items(), *flags.get(1), flags.len());
+    assert_eq!(rt; said, ([false, true, false].as_slice(), true, 3));
     Ok(())
 }
 

@@ -49,8 +49,9 @@ fn first_of(alloc: Global, order: &[u32], with_the_first: bool) -> Result<u32, F
 
 #[test]
 fn the_tied_candidate_who_stands_first(rt: HostRuntime) -> Result<(), Fail> {
-    assert_eq!(rt; first_of(rt.alloc(), &[1, 2, 3], false)?, 2);
-    assert_eq!(rt; first_of(rt.alloc(), &[3, 2, 1], true)?, 2);
+    let alone = first_of(rt.alloc(), &[1, 2, 3], false)?;
+    let of_two = first_of(rt.alloc(), &[3, 2, 1], true)?;
+    assert_eq!(rt; (alone, of_two), (2, 2));
     Ok(())
 }
 

@@ -25,18 +25,18 @@ fn two_withdrawn(rt: &impl Abort, alloc: Global) -> Result<Roll, Fail> {
 /// Three candidates for one seat, of whom these are withdrawn.
 fn look_at_roll(rt: &impl Abort, roll: &Roll, withdrawn: (bool, bool, bool)) {
     assert_eq!(rt; roll.candidates(), 3);
-    assert_eq!(rt; roll.seats(), 1);
-    assert_eq!(rt; roll.name(1).bytes(), b"Ann".as_slice());
-    assert_eq!(rt; roll.name(3).bytes(), b"Cid".as_slice());
-    assert_eq!(rt; roll.title().bytes(), b"Sample".as_slice());
-    assert_eq!(rt;
-        (
-            roll.is_withdrawn(1),
-            roll.is_withdrawn(2),
-            roll.is_withdrawn(3)
-        ),
-        withdrawn
+    let texts = [
+        roll.name(1).bytes(),
+        roll.name(3).bytes(),
+        roll.title().bytes(),
+    ];
+    let of_roll = (
+        roll.is_withdrawn(1),
+        roll.is_withdrawn(2),
+        roll.is_withdrawn(3),
     );
+    let due = [b"Ann".as_slice(), b"Cid", b"Sample"];
+    assert_eq!(rt; (roll.seats(), texts, of_roll), (1, due, withdrawn));
 }
 
 #[test]

@@ -26,7 +26,8 @@ fn taken_over(alloc: Global) -> Result<States, NoMemory>
 #[test]
 fn states_are_set_and_taken_over(rt: HostRuntime) -> Result<(), NoMemory> {
     let states = taken_over(rt.alloc())?;
-    assert_eq!(rt; states.items(), [State::Hopeful, State::Elected].as_slice());
-    assert_eq!(rt; (states.len(), *states.get(1)), (2, State::Elected));
+    let said = (states.items(), states.len(), *states.get(1));
+    let due = [State::Hopeful, State::Elected];
+    assert_eq!(rt; said, (due.as_slice(), 2, State::Elected));
     Ok(())
 }
