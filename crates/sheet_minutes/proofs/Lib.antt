@@ -1,0 +1,8 @@
+mod Growing
+mod Ranges
+mod Cuts
+mod Ends
+mod Measures
+mod Texts
+mod Fitting
+mod Taming

@@ -1,0 +1,11 @@
+use Rattle.piece_text.proofs.Written.{later, stops}
+use Rattle.sheet_minutes.proofs.result.write_result.Goals as goal
+
+pub returns-in_err-write_bytes : goal.returns-in_err-write_bytes
+returns-in_err-write_bytes g c = stops _ _ c.from_residual.ensures.0 c.in_err-write_bytes.ensures
+
+pub returns-in_err-write_end : goal.returns-in_err-write_end
+returns-in_err-write_end g c = later _ _ _ c.in_ok-write_bytes.ensures (stops _ _ c.from_residual-in_err-write_end.ensures.0 c.in_err-write_end.ensures)
+
+pub returns : goal.returns
+returns g c = later _ _ _ c.in_ok-write_bytes.ensures (later _ _ _ c.in_ok-write_end.ensures c.write_outcomes.ensures)

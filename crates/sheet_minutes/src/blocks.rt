@@ -1,0 +1,53 @@
+// The blocks of the table.
+ghost use Rattle.std.specs.Prelude.{◌≡◌, ◌-◌, ◌<◌, ◌≤◌, drop, length, take};
+ghost use Rattle.std.specs.List.{flat_map};
+ghost use Rattle.piece_text.specs.Writing.{Writes};
+ghost use Rattle.sheet_reader.specs.Form.{IsPrintable};
+ghost use Rattle.sheet_minutes.specs.Rounds.{rounds_in};
+ghost use Rattle.sheet_minutes.specs.Table.{block_text, blocks, width_of};
+
+use crate::block::write_block;
+use crate::columns::{MARK_COLUMNS, ROUND_COLUMNS};
+use crate::rounds::ends_round;
+use crate::widths::width_of;
+use byte_edge::{Failed, Sink};
+use meek_rule::Row;
+use sheet_reader::SheetValues;
+
+/// Writes the blocks, each with as many rounds as the columns have room for.
+pub(crate) fn write_blocks<K: Sink>(values: &SheetValues, sink: &mut K) -> Result<(), Failed>
+    requires printable { IsPrintable 9 values.now }
+    ensures { Writes K.written K.faults sink.old sink.new
+        (flat_map (block_text values.now (width_of values.now)) (blocks values.now)) result }
+{
+    let width = width_of(values);
+    let size = ROUND_COLUMNS / (width + MARK_COLUMNS);
+    let mut first = 0;
+    while first < values.rows.len() {
+        let end = block_end(values.rows.items(), first, size);
+        write_block(values, width, first, end, sink)?;
+        first = end;
+    }
+    Ok(())
+}
+
+/// The place behind so many rounds, from the iteration at `first` on, or behind all.
+fn block_end(rows: &[Row<9>], first: usize, size: usize) -> usize
+    requires inside { first < length rows.now }
+    requires some { 0 < size }
+    ensures later { first < result }
+    ensures within { result ≤ length rows.now }
+    ensures block { rounds_in rows.now first (result - first) ≡ take size (rounds_in rows.now first (length rows.now - first)) }
+    ensures rest { rounds_in rows.now result (length rows.now - result) ≡ drop size (rounds_in rows.now first (length rows.now - first)) }
+{
+    let mut count = 0;
+    for i in first..rows.len() {
+        if ends_round(rows, i) {
+            count += 1;
+            if count == size {
+                return i + 1;
+            }
+        }
+    }
+    rows.len()
+}

@@ -1,0 +1,33 @@
+//! A sheet as a text for a terminal, a mail or the minutes: the title, the result, a table of the rounds of
+//! at most 80 columns, and what each round decided, in sentences.
+//!
+//! [`write_minutes`] writes the text of a sheet's values, and takes no memory. [`tables_fit`] says what holds
+//! of every table, [`texts_are_tame`] that no control character of a name is written, and
+//! [`worked_minutes`] has texts worked by hand.
+#![tactic(auto)]
+
+mod block;
+mod blocks;
+mod cell;
+mod columns;
+mod decisions;
+mod entry;
+mod heading;
+mod label;
+mod laws;
+mod line;
+mod minutes;
+mod name;
+mod piece;
+mod pieces;
+mod plain;
+mod result;
+mod rounds;
+mod spoken;
+mod table;
+mod widths;
+mod worked;
+
+pub use laws::{tables_fit, texts_are_tame};
+pub use minutes::write_minutes;
+pub use worked::worked_minutes;
