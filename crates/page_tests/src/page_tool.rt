@@ -1,4 +1,5 @@
 // Whole runs over memory: sheets worked by hand, and texts that are none.
+mod minutes;
 mod order;
 mod rounds;
 mod stretches;

@@ -26,6 +26,8 @@ fn takes_a_format_or_nothing(rt: HostRuntime) -> Result<(), Fail> {
         ("--as pdf", Err(WordsStop::BadWords)),
         ("--as csv", Ok(Format::Csv)),
         ("--as json", Ok(Format::Json)),
+        ("--as text", Ok(Format::Text)),
+        ("--as TEXT", Err(WordsStop::BadWords)),
         ("--as", Err(WordsStop::BadWords)),
         ("--as xml", Err(WordsStop::BadWords)),
         ("--as=csv", Err(WordsStop::BadWords)),

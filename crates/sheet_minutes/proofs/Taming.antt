@@ -1,5 +1,5 @@
 -- No control character is written of a text.
-use Rattle.std.proofs.Common.{◌≡◌, sym, subst, refl, ℕ, zero, suc, Bool, true, false, All, List, [], ◌∷◌, get_or, length, map}
+use Rattle.std.proofs.Common.{◌≡◌, sym, subst, refl, ℕ, zero, suc, Bool, true, false, All, List, [], ◌∷◌, get_or, map}
 use Rattle.std.specs.Prelude.{if◌then◌else◌, slice_index_or}
 use Rattle.std.specs.Char.{is_control}
 use Rattle.std.specs.List.{range_with_len}
@@ -7,7 +7,7 @@ use Rattle.std.proofs.lemmas.List.Elements.{All-map}
 use Rattle.bstr.specs.Utf8.{lossy_chars, replacement}
 use Rattle.bstr.proofs.lemmas.EncodeLemmas.{lossy_chars-encode}
 use Rattle.sheet_minutes.specs.declared.columns.TheConstants.{NAME_COLUMNS}
-use Rattle.sheet_minutes.specs.Columns.{columns, name_columns, plain, tamed}
+use Rattle.sheet_minutes.specs.Columns.{columns, name_columns, tamed}
 use Rattle.sheet_minutes.specs.Laws.{TextsAreTame}
 use Rattle.sheet_minutes.proofs.Texts.{columns_scalars, name_scalars}
 

@@ -12,7 +12,7 @@ use Rattle.tool_edge.specs.Finishing.{Finishes, FinishesOwed, Wrote}
 use Rattle.tool_edge.specs.Tool.{IsOwedFor, IsSound, no_history}
 use Rattle.tool_edge.specs.declared.opening.TheConstants.{FILE_LIMIT}
 use Rattle.sheet_page.specs.declared.format.Format.{Format}
-use Rattle.sheet_page.specs.declared.format.Format.TheVariants.{Html, Csv, Json}
+use Rattle.sheet_page.specs.declared.format.Format.TheVariants.{Html, Csv, Json, Text}
 use Rattle.sheet_input.specs.declared.sheet_fault.SheetFault.{SheetFault}
 use Rattle.sheet_input.specs.declared.sheet_fault.SheetFault.TheVariants.{Malformed}
 use Rattle.sheet_input.specs.Sheets.{IsMalformed, malformed_line}
@@ -52,16 +52,38 @@ html_not_json same =
     let first : 104 ≡ 106 = first_byte 104 106 (codes "tml") (codes "son") same in
     omega (arith, first)
 
+html_not_text : codes "html" ≡ codes "text" → ⊥
+html_not_text same =
+    let first : 104 ≡ 116 = first_byte 104 116 (codes "tml") (codes "ext") same in
+    omega (arith, first)
+
+csv_not_text : codes "csv" ≡ codes "text" → ⊥
+csv_not_text same =
+    let first : 99 ≡ 116 = first_byte 99 116 (codes "sv") (codes "ext") same in
+    omega (arith, first)
+
+json_not_text : codes "json" ≡ codes "text" → ⊥
+json_not_text same =
+    let first : 106 ≡ 116 = first_byte 106 116 (codes "son") (codes "ext") same in
+    omega (arith, first)
+
 same_format : (one other : Format) → name_of one ≡ name_of other → one ≡ other
 same_format Html Html same = refl
 same_format Html Csv same = cc
 same_format Html Json same = absurd (html_not_json same)
+same_format Html Text same = absurd (html_not_text same)
 same_format Csv Html same = cc
 same_format Csv Csv same = refl
 same_format Csv Json same = cc
+same_format Csv Text same = absurd (csv_not_text same)
 same_format Json Html same = absurd (html_not_json (sym same))
 same_format Json Csv same = cc
 same_format Json Json same = refl
+same_format Json Text same = absurd (json_not_text same)
+same_format Text Html same = absurd (html_not_text (sym same))
+same_format Text Csv same = absurd (csv_not_text (sym same))
+same_format Text Json same = absurd (json_not_text (sym same))
+same_format Text Text same = refl
 
 second_word : (a b c d : Word) → a ∷ b ∷ [] ≡ c ∷ d ∷ [] → b ≡ d
 second_word a b c d same = cc

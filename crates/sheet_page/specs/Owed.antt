@@ -6,8 +6,9 @@ use Rattle.sheet_reader.specs.Values.{SheetList}
 use Rattle.tool_edge.specs.Tool.{Tool, no_history}
 use Rattle.sheet_input.specs.declared.sheet_fault.SheetFault.{SheetFault}
 use Rattle.sheet_input.specs.Sheets.{IsSheetText, IsRefusedSheet, sheet_refusals}
+use Rattle.sheet_minutes.specs.Minutes.{minutes_text}
 use Rattle.sheet_page.specs.declared.format.Format.{Format}
-use Rattle.sheet_page.specs.declared.format.Format.TheVariants.{Html, Csv, Json}
+use Rattle.sheet_page.specs.declared.format.Format.TheVariants.{Html, Csv, Json, Text}
 use Rattle.sheet_page.specs.Words.{TakesFormat}
 use Rattle.sheet_page.specs.Csv.{csv_of}
 use Rattle.sheet_page.specs.Json.{json_of}
@@ -18,6 +19,7 @@ abbrev pub shown_as : Format → SheetList → List ℕ
 shown_as Html v = html_of v
 shown_as Csv v = csv_of v
 shown_as Json v = json_of v
+shown_as Text v = minutes_text v
 
 -- what is written of these values
 abbrev pub OwesShown : Format → (input bytes : List ℕ) → Type 0

@@ -7,4 +7,6 @@ pub enum Format {
     Csv,
     /// All values, for programs.
     Json,
+    /// A text for a terminal, a mail or the minutes.
+    Text,
 }

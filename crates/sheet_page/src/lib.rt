@@ -1,5 +1,5 @@
-//! A sheet shown to people and to programs: as a page of its own, as a table for spreadsheets, or as
-//! JSON.
+//! A sheet shown to people and to programs: as a page of its own, as a table for spreadsheets, as
+//! JSON, or as a text for a terminal, a mail or the minutes.
 //!
 //! [`page`] is the whole tool: [`takes_format`] reads the words, `read_sheet` the values, and what is
 //! written is a function of these values. What is no sheet is refused with a `SheetFault` of sheet_input.

@@ -15,6 +15,7 @@ use crate::json::write_json;
 use crate::{Format, takes_format};
 use byte_edge::{Failed, Sink, Source};
 use sheet_input::SheetFault;
+use sheet_minutes::write_minutes;
 use sheet_reader::{SheetStop, SheetValues, read_sheet};
 use std::alloc::Global;
 use tool_edge::{End, FILE_LIMIT, close, open, refuse};
@@ -72,5 +73,6 @@ fn write_values<K: Sink>(format: Format, values: &SheetValues, sink: &mut K) -> 
         Format::Html => write_html(values, sink),
         Format::Csv => write_csv(values, sink),
         Format::Json => write_json(values, sink),
+        Format::Text => write_minutes(values, sink),
     }
 }

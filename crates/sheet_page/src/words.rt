@@ -34,6 +34,7 @@ fn format_of(name: &str) -> Option<Format>
         "html" => Some(Format::Html),
         "csv" => Some(Format::Csv),
         "json" => Some(Format::Json),
+        "text" => Some(Format::Text),
         _ => None,
     }
 }
