@@ -1,6 +1,7 @@
 -- Pages have well named elements, so they nest.
 use Rattle.std.proofs.Common.{◌≡◌, refl, ℕ, ◌+◌, List, [], ◌∷◌, Bool, true, false, length, map, arith}
 use Rattle.std.specs.Prelude.{◌&&◌, not, if◌then◌else◌, codes}
+use Rattle.std.specs.Char.{is_ascii}
 use Rattle.std.specs.List.{list_all}
 use Rattle.std.proofs.lemmas.Bool.{and_parts}
 use Rattle.std.proofs.lemmas.List.Elements.{All-nil, All-cons}
@@ -11,8 +12,8 @@ use Rattle.page_tree.specs.Trees.{is_name_byte, IsName, AreNamed, IsWellNamed}
 use Rattle.sheet_reader.specs.Values.{SheetList}
 use Rattle.sheet_words.specs.Lines.{at_end, sentences_of}
 use Rattle.sheet_words.specs.Sentences.{outcome, sentences_at_end}
-use Rattle.sheet_page.specs.Told.{end_list, item, outcome_list, result_part, result_title, round_sentences, sentences_at}
-use Rattle.sheet_page.specs.Trees.{all, at, each, el, words}
+use Rattle.sheet_page.specs.Told.{end_list, item, outcome_list, result_part, result_title, round_sentences, sentences_at, spoken}
+use Rattle.sheet_page.specs.Trees.{all, at, each, el, isolated, words}
 use Rattle.sheet_page.specs.Values.{places, name_at, row_at}
 use Rattle.sheet_page.specs.RoundEnds.{ends_round, settled_at}
 use Rattle.sheet_page.specs.Stretches.{is_of_round}
@@ -24,7 +25,8 @@ use Rattle.sheet_page.specs.Html.{in_round, at_end as seat_at_end, elected_item,
 use Rattle.sheet_page.specs.Html.{elected_list, elected_title, elected_part, name_cell, head_cells, head_row}
 use Rattle.sheet_page.specs.Html.{vote_cell, round_cells, round_row, round_at, rounds_table, rounds_title}
 use Rattle.sheet_page.specs.Html.{rounds_part, round_title, round_part, part_at, round_parts, heading, body}
-use Rattle.sheet_page.specs.Html.{head, page}
+use Rattle.sheet_page.specs.Html.{content, head, page, link_at, link_list, link_to, links, part_attributes, part_name}
+use Rattle.sheet_page.specs.Html.{round_link, words_explained}
 
 -- ---- names, tested
 
@@ -130,10 +132,10 @@ elected_tested : (v : SheetList) → tested (elected_part v) ≡ true
 elected_tested v = tested_el (codes "section") [] (elected_title ∷ elected_list v ∷ []) refl refl refl (refl, (list, tt))
   where
     item : (row : Row) (p : ℕ) → tested (elected_item v row p) ≡ true
-    item row p = tested_if (mark_at row.elected p) (in_round (name_at v p) row.round) refl
+    item row p = tested_if (mark_at row.elected p) (in_round (name_at v p) (p + 1) row.round) refl
 
     seated : (p : ℕ) → tested (seated_item v p) ≡ true
-    seated p = tested_if (is_seated v p) (seat_at_end (name_at v p)) refl
+    seated p = tested_if (is_seated v p) (seat_at_end (name_at v p) (p + 1)) refl
 
     list : tested (elected_list v) ≡ true
     list =
@@ -144,7 +146,9 @@ elected_tested v = tested_el (codes "section") [] (elected_title ∷ elected_lis
         )
 
 rounds_tested : (v : SheetList) → tested (rounds_part v) ≡ true
-rounds_tested v = tested_el (codes "section") [] (rounds_title ∷ rounds_table v ∷ []) refl refl refl (refl, (table, tt))
+rounds_tested v =
+    tested_el (codes "section") [] (rounds_title ∷ rounds_table v ∷ words_explained ∷ []) refl refl refl
+    (refl, (table, (refl, tt)))
   where
     row_tested : (row : Row) → tested (round_row v row) ≡ true
     row_tested row =
@@ -201,13 +205,20 @@ folded_tested v last =
           ),
         )
 
-words_tested : (texts : List (List ℕ)) → Tested (map words texts)
-words_tested [] = tt
-words_tested (text ∷ texts) = (refl, words_tested texts)
+spoken_tested : (text : List ℕ) → tested (spoken text) ≡ true
+spoken_tested text = by (list_all is_ascii text)
+  where
+    by : (b : Bool) → tested (if b then words text else isolated text) ≡ true
+    by true = refl
+    by false = refl
+
+texts_tested : (texts : List (List ℕ)) → Tested (map spoken texts)
+texts_tested [] = tt
+texts_tested (text ∷ texts) = (spoken_tested text, texts_tested texts)
 
 items_tested : (sentences : List (List (List ℕ))) → tested (each item sentences) ≡ true
 items_tested sentences =
-    tested_each item sentences (λ texts. tested_el (codes "li") [] (map words texts) refl refl refl (words_tested texts))
+    tested_each item sentences (λ texts. tested_el (codes "li") [] (map spoken texts) refl refl refl (texts_tested texts))
 
 told_tested : (v : SheetList) (last : ℕ) → tested (round_sentences v last) ≡ true
 told_tested v last =
@@ -235,9 +246,21 @@ parts_tested v full =
     part : (last : ℕ) → tested (round_part v full last) ≡ true
     part last =
         let row = settled_at v last in
-        tested_el (codes "section") []
+        tested_el (codes "section") (part_attributes (part_name last))
         (round_title row.round ∷ round_sentences v last ∷ round_picture v full row ∷ folded v last ∷ []) refl refl refl
         (refl, (told_tested v last, (picture_tested v full row, (folded_tested v last, tt))))
+
+links_tested : (v : SheetList) → tested (links v) ≡ true
+links_tested v =
+    tested_el (codes "nav") (at (codes "aria-label") (codes "Rounds") ∷ []) (link_list v ∷ []) refl refl refl (list, tt)
+  where
+    list : tested (link_list v) ≡ true
+    list =
+        tested_el (codes "ul") [] (each (link_at v) (places (length v.rows)) ∷ []) refl refl refl (
+          tested_each (link_at v) (places (length v.rows)) (λ i.
+              tested_if (ends_round v.rows i) (round_link (link_to i) (row_at v.rows i).round) refl),
+          tt,
+        )
 
 -- every page
 pub well_named : (v : SheetList) → IsWellNamed (page v)
@@ -245,8 +268,12 @@ well_named v =
     sound (page v) (tested_el (codes "html") (at (codes "lang") (codes "en") ∷ []) (head v ∷ body v ∷ []) refl
     refl refl (refl, (whole, tt)))
   where
+    parts : tested (content v) ≡ true
+    parts =
+        tested_el (codes "main") []
+        (heading v ∷ links v ∷ elected_part v ∷ result_part v ∷ rounds_part v ∷ round_parts v (full_of v.rows) ∷ [])
+        refl refl refl
+        (refl, (links_tested v, (elected_tested v, (result_tested v, (rounds_tested v, (parts_tested v (full_of v.rows), tt))))))
+
     whole : tested (body v) ≡ true
-    whole =
-        tested_el (codes "body") []
-        (heading v ∷ elected_part v ∷ result_part v ∷ rounds_part v ∷ round_parts v (full_of v.rows) ∷ []) refl refl refl
-        (refl, (elected_tested v, (result_tested v, (rounds_tested v, (parts_tested v (full_of v.rows), tt)))))
+    whole = tested_el (codes "body") [] (content v ∷ []) refl refl refl (parts, tt)

@@ -93,7 +93,7 @@ head_cells_of v row =
     let ps = places (length v.names) in
     ap (λ l. iteration_text row ∷ l) (
     standings (codes "th") v row
-    ∙ (λ j. flat_map (λ p. append-nil (name_at v p) j ∷ []) ps)
+    ∙ (λ j. flat_map (λ p. (append-nil (name_at v p ++ []) ∙ append-nil (name_at v p)) j ∷ []) ps)
     ∙ flat_map_single (name_at v) ps
     ∙ sym (fill_by_all (name_at v) v.names (length v.names) [] refl (λ k below. refl)))
 

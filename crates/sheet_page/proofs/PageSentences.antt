@@ -2,7 +2,8 @@
 use Rattle.std.proofs.Common.{◌≡◌, ◌∙◌, refl, sym, ap, ℕ, ◌+◌, Bool, true, false, List, [], ◌∷◌, ◌++◌, map, length}
 use Rattle.std.proofs.Common.{append-nil}
 use Rattle.std.specs.Prelude.{if◌then◌else◌, codes}
-use Rattle.std.specs.List.{flat_map}
+use Rattle.std.specs.Char.{is_ascii}
+use Rattle.std.specs.List.{flat_map, list_all}
 use Rattle.std.proofs.lemmas.List.{map-append}
 use Rattle.std.proofs.lemmas.List.Concat.{flat_map_single}
 use Rattle.meek_rule.specs.Row.{Row}
@@ -13,8 +14,8 @@ use Rattle.sheet_words.specs.Sentences.{outcome, sentences_at_end}
 use Rattle.sheet_page.specs.PageReading.{text_in, along, texts_along}
 use Rattle.sheet_page.specs.SentenceLaws.{items_of, last_lines, lines_of, rounds_of}
 use Rattle.sheet_page.specs.Stretches.{is_of_round}
-use Rattle.sheet_page.specs.Told.{end_list, item, outcome_list, result_title, sentences_at}
-use Rattle.sheet_page.specs.Trees.{all, each, words}
+use Rattle.sheet_page.specs.Told.{end_list, item, outcome_list, result_title, sentences_at, spoken}
+use Rattle.sheet_page.specs.Trees.{all, each, isolated, words}
 use Rattle.sheet_page.specs.Values.{places, row_at}
 use Rattle.sheet_page.proofs.PageRounds.{round_by_round}
 use Rattle.sheet_page.proofs.PageTexts.{in_page_at}
@@ -25,9 +26,14 @@ use Rattle.sheet_page.proofs.WholeRounds.{of_round}
 abbrev listed : Trees → List (List ℕ)
 listed = found text_in (codes "li") []
 
-item_text : (texts : List (List ℕ)) → text_in (all (map words texts)) ≡ joined texts
+item_text : (texts : List (List ℕ)) → text_in (all (map spoken texts)) ≡ joined texts
 item_text [] = refl
-item_text (text ∷ texts) = ap (λ l. text ++ l) (item_text texts)
+item_text (text ∷ texts) = by (list_all is_ascii text) ∙ ap (λ l. text ++ l) (item_text texts)
+  where
+    by : (b : Bool) → text_in (followed (if b then words text else isolated text) (all (map spoken texts)))
+        ≡ text ++ text_in (all (map spoken texts))
+    by true = refl
+    by false = ap (λ l. l ++ text_in (all (map spoken texts))) (append-nil text)
 
 item_texts : (sentences : List (List (List ℕ))) → listed (each item sentences) ≡ map joined sentences
 item_texts sentences =

@@ -1,10 +1,10 @@
 -- What stands on a page of its sheet.
-use Rattle.std.proofs.Common.{◌≡◌, ◌∙◌, refl, sym, ap, ℕ, List, [], ◌∷◌, ◌++◌}
-use Rattle.std.proofs.Common.{map, length, append-nil}
+use Rattle.std.proofs.Common.{◌≡◌, ◌∙◌, refl, sym, ap, ℕ, ◌+◌, Bool, true, false, List, [], ◌∷◌, ◌++◌}
+use Rattle.std.proofs.Common.{map, length, append-nil, append_assoc}
 use Rattle.std.specs.Prelude.{if◌then◌else◌, codes, decimal, slice_index}
 use Rattle.std.specs.List.{filter, flat_map}
+use Rattle.std.proofs.lemmas.List.{map-append}
 use Rattle.std.proofs.lemmas.List.Concat.{flat_map_single}
-use Rattle.std.proofs.lemmas.List.FromFn.{fill_by_all}
 use Rattle.candidate_roll.specs.State.{state_at}
 use Rattle.fixed_place.specs.Text.{text_of}
 use Rattle.lot_order.specs.Flags.{mark_at}
@@ -13,10 +13,10 @@ use Rattle.page_tree.specs.Trees.{Trees, Nothing, followed}
 use Rattle.sheet_text.specs.Lines.{state_word}
 use Rattle.sheet_reader.specs.Values.{SheetList}
 use Rattle.sheet_page.specs.Html.{elected_item, elected_in, in_round, at_end, is_seated, seated_item}
-use Rattle.sheet_page.specs.Html.{elected_part, rounds_part}
+use Rattle.sheet_page.specs.Html.{elected_part, rounds_part, link_at, link_to, round_link}
 use Rattle.sheet_page.specs.Html.{head_cells, head_row, name_cell, round_cells, vote_cell, round_at}
 use Rattle.sheet_page.specs.Html.{round_row, round_part, part_at, round_parts, page}
-use Rattle.sheet_page.specs.PageLaws.{below, elected_line, seated_line, marked_lines, ends_of, vote_text}
+use Rattle.sheet_page.specs.PageLaws.{below, called_text, elected_line, seated_line, marked_lines, ends_of, vote_text}
 use Rattle.sheet_page.specs.PageLaws.{round_texts, cells_of}
 use Rattle.sheet_page.specs.PageReading.{text_in, along, texts_along}
 use Rattle.sheet_page.specs.Picture.{full_of}
@@ -58,8 +58,8 @@ module _ {X : Type 0} (h : Trees → X) (path : List (List ℕ)) (v : SheetList)
       let full = full_of v.rows in
       let rounds = followed (rounds_part v) (followed (round_parts v full) Nothing) in
       let parts = followed (elected_part v) (followed (result_part v) rounds) in
-      ap (map h) (append-nil (along (codes "section" ∷ path) parts ++ [])
-      ∙ append-nil (along (codes "section" ∷ path) parts))
+      let them = along (codes "section" ∷ path) parts in
+      ap (map h) (append-nil ((them ++ []) ++ []) ∙ append-nil (them ++ []) ∙ append-nil them)
       ∙ found_followed h (codes "section") path (elected_part v) (followed (result_part v) rounds)
       ∙ ap (λ l. in_parts (elected_part v) ++ l) (
       found_followed h (codes "section") path (result_part v) rounds
@@ -82,6 +82,15 @@ module _ {X : Type 0} (h : Trees → X) (path : List (List ℕ)) (v : SheetList)
 abbrev items : Trees → List (List ℕ)
 items = found text_in (codes "li") []
 
+-- a candidate with its number, and what stands behind it
+called_apart : (name : List ℕ) (number : ℕ) (behind : List ℕ)
+    → (name ++ []) ++ (codes " (" ++ (decimal number ++ (codes ")" ++ behind)))
+    ≡ (name ++ (codes " (" ++ (decimal number ++ codes ")"))) ++ behind
+called_apart name number behind =
+    ap (λ l. l ++ (codes " (" ++ (decimal number ++ (codes ")" ++ behind)))) (append-nil name)
+    ∙ ap (λ l. name ++ (codes " (" ++ l)) (sym (append_assoc (decimal number) (codes ")") behind))
+    ∙ sym (append_assoc name (codes " (" ++ (decimal number ++ codes ")")) behind)
+
 -- the items of an iteration
 marked : (v : SheetList) (row : Row) → items (elected_in v row) ≡ marked_lines v row
 marked v row =
@@ -91,17 +100,22 @@ marked v row =
   where
     here : (p : ℕ) → items (elected_item v row p) ≡ (if mark_at row.elected p then elected_line v row.round p ∷ [] else [])
     here p =
-        found_if text_in (codes "li") [] (mark_at row.elected p) (in_round (name_at v p) row.round)
-        ∙ ap (λ l. if mark_at row.elected p then (name_at v p ++ (codes ": elected in round " ++ l)) ∷ [] else [])
-        (append-nil (decimal row.round))
+        found_if text_in (codes "li") [] (mark_at row.elected p) (in_round (name_at v p) (p + 1) row.round)
+        ∙ ap (λ l. if mark_at row.elected p then l ∷ [] else [])
+        (called_apart (name_at v p) (p + 1) (codes ": elected in round " ++ (decimal row.round ++ [])))
 
 left_seats : (v : SheetList) → items (each (seated_item v) (places (length v.names)))
     ≡ map (seated_line v) (filter (is_seated v) (places (length v.names)))
 left_seats v =
     found_each text_in (codes "li") [] (seated_item v) (places (length v.names))
-    ∙ (λ j. flat_map (λ p. found_if text_in (codes "li") [] (is_seated v p) (at_end (name_at v p)) j)
-    (places (length v.names)))
+    ∙ (λ j. flat_map (λ p. here p j) (places (length v.names)))
     ∙ picked (is_seated v) (seated_line v) (places (length v.names))
+  where
+    here : (p : ℕ) → items (seated_item v p) ≡ (if is_seated v p then seated_line v p ∷ [] else [])
+    here p =
+        found_if text_in (codes "li") [] (is_seated v p) (at_end (name_at v p) (p + 1))
+        ∙ ap (λ l. if is_seated v p then l ∷ [] else [])
+        (called_apart (name_at v p) (p + 1) (codes ": elected at the end, to a seat that was left"))
 
 pub elected_items : (v : SheetList) →
     texts_along (below (codes "ol" ∷ codes "li" ∷ [])) (page v)
@@ -120,6 +134,49 @@ elected_items v =
     ∙ ap (λ l. l ++ items (followed seats Nothing))
     (found_each text_in (codes "li") [] (elected_in v) v.rows ∙ (λ j. flat_map (λ row. marked v row j) v.rows))
     ∙ ap (λ l. marks ++ l) (ap items (behind_nothing seats) ∙ left_seats v)
+
+-- ---- links to rounds
+
+-- the link to a round, if it ends at this place
+link_said : (v : SheetList) (i : ℕ)
+    → items (link_at v i) ≡ (if ends_round v.rows i then (codes "Round " ++ decimal (settled_at v i).round) ∷ [] else [])
+link_said v i =
+    let number = decimal (row_at v.rows i).round in
+    found_if text_in (codes "li") [] (ends_round v.rows i) (round_link (link_to i) (row_at v.rows i).round)
+    ∙ ap (λ l. if ends_round v.rows i then (codes "Round " ++ l) ∷ [] else []) (append-nil (number ++ []) ∙ append-nil number)
+
+pub round_links : (v : SheetList) →
+    texts_along (codes "html" ∷ codes "body" ∷ codes "main" ∷ codes "nav" ∷ codes "ul" ∷ codes "li" ∷ []) (page v)
+    ≡ map (λ row. codes "Round " ++ decimal row.round) (ends_of v)
+round_links v =
+    let path = codes "ul" ∷ codes "li" ∷ [] in
+    let links = each (link_at v) (places (length v.rows)) in
+    let first = along (codes "li" ∷ []) (followed links Nothing) in
+    let rest = followed (round_parts v (full_of v.rows)) Nothing in
+    let behind = along (codes "nav" ∷ path) rest in
+    let them = (first ++ []) ++ behind in
+    ap (map text_in) (append-nil ((them ++ []) ++ []) ∙ append-nil (them ++ []) ∙ append-nil them)
+    ∙ map-append text_in (first ++ []) behind
+    ∙ ap (λ l. map text_in (first ++ []) ++ l) (ap (found text_in (codes "nav") path) (behind_nothing (round_parts v (full_of v.rows)))
+    ∙ found_each text_in (codes "nav") path (part_at v (full_of v.rows)) (places (length v.rows))
+    ∙ (λ j. flat_map (λ i. none i j) (places (length v.rows)))
+    ∙ no_parts (places (length v.rows)))
+    ∙ append-nil (map text_in (first ++ []))
+    ∙ ap (map text_in) (append-nil first)
+    ∙ ap items (behind_nothing links)
+    ∙ found_each text_in (codes "li") [] (link_at v) (places (length v.rows))
+    ∙ (λ j. flat_map (λ i. link_said v i j) (places (length v.rows)))
+    ∙ at_ends (λ row. (codes "Round " ++ decimal row.round) ∷ []) v.rows v.last
+    ∙ flat_map_single (λ (row : Row). codes "Round " ++ decimal row.round) (ends_of v)
+  where
+    either : (b : Bool) → (if b then [] else []) ≡ no_part {X = Bool} {Y = List ℕ} b
+    either true = refl
+    either false = refl
+
+    none : (i : ℕ) → found text_in (codes "nav") (codes "ul" ∷ codes "li" ∷ []) (part_at v (full_of v.rows) i) ≡ no_part {X = ℕ} {Y = List ℕ} i
+    none i =
+        found_if text_in (codes "nav") (codes "ul" ∷ codes "li" ∷ []) (ends_round v.rows i) (round_part v (full_of v.rows) i)
+        ∙ either (ends_round v.rows i)
 
 -- ---- titles of rounds
 
@@ -199,7 +256,7 @@ module _ (name : List ℕ) (tree : ℕ → Trees) (ps : List ℕ) where
 
 pub table_heads : (v : SheetList) →
     cells_of (codes "th") v
-    ≡ (codes "Round" ∷ codes "Quota" ∷ codes "On no candidate" ∷ v.names)
+    ≡ (codes "Round" ∷ codes "Quota" ∷ codes "On no candidate" ∷ map (called_text v) (places (length v.names)))
     ∷ map (λ row. decimal row.round ∷ []) (ends_of v)
 table_heads v =
     let ps = places (length v.names) in
@@ -208,8 +265,8 @@ table_heads v =
     ∙ ap (λ l. l ∷ []) (append-nil (decimal row.round)))
     ∙ ap (λ l. (codes "Round" ∷ codes "Quota" ∷ codes "On no candidate" ∷ l)
     ∷ map (λ (row : Row). decimal row.round ∷ []) (ends_of v))
-    (one_each (codes "th") (name_cell v) ps (name_at v) (λ p. ap (λ l. l ∷ []) (append-nil (name_at v p)))
-    ∙ sym (fill_by_all (name_at v) v.names (length v.names) [] refl (λ k below. refl)))
+    (one_each (codes "th") (name_cell v) ps (called_text v) (λ p.
+    ap (λ l. (l ++ (codes " (" ++ (decimal (p + 1) ++ codes ")"))) ∷ []) (append-nil (name_at v p))))
 
 vote_said : (row : Row) (p : ℕ) → texts_along (codes "td" ∷ []) (vote_cell row p) ≡ vote_text row p ∷ []
 vote_said row p =

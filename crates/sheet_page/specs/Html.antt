@@ -1,5 +1,5 @@
 -- A sheet as a page.
-use Rattle.std.specs.Prelude.{ℕ, ◌&&◌, not, Bool, if◌then◌else◌, List, [], ◌∷◌, ◌++◌, length, codes, decimal, slice_index}
+use Rattle.std.specs.Prelude.{ℕ, ◌+◌, ◌&&◌, not, Bool, if◌then◌else◌, List, [], ◌∷◌, ◌++◌, length, codes, decimal, slice_index}
 use Rattle.std.specs.List.{list_any}
 use Rattle.candidate_roll.specs.State.{state_at}
 use Rattle.candidate_roll.specs.declared.state.State.TheVariants.{Elected}
@@ -7,7 +7,7 @@ use Rattle.fixed_place.specs.Text.{text_of}
 use Rattle.lot_order.specs.Flags.{mark_at}
 use Rattle.meek_rule.specs.Row.{Row}
 use Rattle.meek_rule.specs.Situation.{is_elected}
-use Rattle.page_tree.specs.Trees.{Trees, Nothing}
+use Rattle.page_tree.specs.Trees.{Attribute, Trees, Nothing}
 use Rattle.page_tree.specs.Print.{printed}
 use Rattle.sheet_text.specs.Lines.{state_word}
 use Rattle.sheet_reader.specs.Values.{SheetList}
@@ -16,20 +16,22 @@ use Rattle.sheet_page.specs.Picture.{full_of, round_picture}
 use Rattle.sheet_page.specs.RoundEnds.{ends_round, left_over, settled_at}
 use Rattle.sheet_page.specs.Style.{style}
 use Rattle.sheet_page.specs.Told.{result_part, round_sentences}
-use Rattle.sheet_page.specs.Trees.{all, each, el, void, words, at}
+use Rattle.sheet_page.specs.Trees.{all, candidate, each, el, void, words, at}
 use Rattle.sheet_page.specs.Values.{places, name_at, row_at}
 
 -- ---- who is elected
 
-abbrev pub in_round : (name : List ℕ) → (round : ℕ) → Trees
-in_round name round = el (codes "li") [] (words name ∷ words (codes ": elected in round ") ∷ words (decimal round) ∷ [])
+abbrev pub in_round : (name : List ℕ) → (number round : ℕ) → Trees
+in_round name number round =
+    el (codes "li") [] (candidate name number (words (codes ": elected in round ") ∷ words (decimal round) ∷ []))
 
-abbrev pub at_end : (name : List ℕ) → Trees
-at_end name = el (codes "li") [] (words name ∷ words (codes ": elected at the end, to a seat that was left") ∷ [])
+abbrev pub at_end : (name : List ℕ) → (number : ℕ) → Trees
+at_end name number =
+    el (codes "li") [] (candidate name number (words (codes ": elected at the end, to a seat that was left") ∷ []))
 
 -- a candidate, if an iteration elected it
 abbrev pub elected_item : SheetList → Row → (p : ℕ) → Trees
-elected_item v row p = if mark_at row.elected p then in_round (name_at v p) row.round else Nothing
+elected_item v row p = if mark_at row.elected p then in_round (name_at v p) (p + 1) row.round else Nothing
 
 -- who was elected in an iteration
 abbrev pub elected_in : SheetList → Row → Trees
@@ -44,7 +46,7 @@ abbrev pub is_seated : SheetList → (p : ℕ) → Bool
 is_seated v p = is_elected (state_at v.last p) && not (was_elected v.rows p)
 
 abbrev pub seated_item : SheetList → (p : ℕ) → Trees
-seated_item v p = if is_seated v p then at_end (name_at v p) else Nothing
+seated_item v p = if is_seated v p then at_end (name_at v p) (p + 1) else Nothing
 
 -- the elected, in their order
 abbrev pub elected_list : SheetList → Trees
@@ -58,11 +60,11 @@ elected_part v = el (codes "section") [] (elected_title ∷ elected_list v ∷ [
 
 -- ---- the table of rounds
 
-abbrev pub head_cell : List ℕ → Trees
-head_cell text = el (codes "th") [] (words text ∷ [])
+abbrev pub head_cell : (name : List ℕ) → (number : ℕ) → Trees
+head_cell name number = el (codes "th") [] (candidate name number [])
 
 abbrev pub name_cell : SheetList → (p : ℕ) → Trees
-name_cell v p = head_cell (name_at v p)
+name_cell v p = head_cell (name_at v p) (p + 1)
 
 abbrev pub head_cells : Trees
 head_cells =
@@ -102,8 +104,51 @@ rounds_table v = el (codes "table") [] (head_row v ∷ each (round_at v) (places
 abbrev pub rounds_title : Trees
 rounds_title = el (codes "h2") [] (words (codes "Votes at the end of each round") ∷ [])
 
+-- a word, and what it means
+abbrev pub meaning : (word meant : List ℕ) → List Trees → List Trees
+meaning word meant behind = el (codes "dt") [] (words word ∷ []) ∷ el (codes "dd") [] (words meant ∷ []) ∷ behind
+
+-- the words of a count that a reader may not know
+abbrev pub words_explained : Trees
+words_explained =
+    el (codes "dl") [] (
+    meaning (codes "Hopeful") (codes "neither elected nor defeated so far.") (
+    meaning (codes "Keep value")
+    (codes "the part of each vote which reaches a candidate that the candidate keeps. The rest goes on to the next on the ballot. It is 1 for the hopeful; for the elected it falls until each keeps a quota.") (
+    meaning (codes "On no candidate")
+    (codes "the votes that nobody keeps, since their ballots rank no further candidate who could, and what rounding leaves.") [])))
+
 abbrev pub rounds_part : SheetList → Trees
-rounds_part v = el (codes "section") [] (rounds_title ∷ rounds_table v ∷ [])
+rounds_part v = el (codes "section") [] (rounds_title ∷ rounds_table v ∷ words_explained ∷ [])
+
+-- ---- links to the rounds
+
+-- the name of the part of the round that ends at a place: no two parts have one name, though two rounds may have one number
+abbrev pub part_name : (last : ℕ) → List ℕ
+part_name last = codes "i" ++ decimal (last + 1)
+
+abbrev pub part_attributes : (name : List ℕ) → List Attribute
+part_attributes name = at (codes "id") name ∷ []
+
+-- where the link to this part leads; 35 is `#`
+abbrev pub link_to : (last : ℕ) → List ℕ
+link_to last = 35 ∷ part_name last
+
+abbrev pub round_link : (target : List ℕ) → (round : ℕ) → Trees
+round_link target round =
+    el (codes "li") [] (
+    el (codes "a") (at (codes "href") target ∷ []) (words (codes "Round ") ∷ words (decimal round) ∷ []) ∷ []
+    )
+
+-- the link to a round, if it ends at this place
+abbrev pub link_at : SheetList → (i : ℕ) → Trees
+link_at v i = if ends_round v.rows i then round_link (link_to i) (row_at v.rows i).round else Nothing
+
+abbrev pub link_list : SheetList → Trees
+link_list v = el (codes "ul") [] (each (link_at v) (places (length v.rows)) ∷ [])
+
+abbrev pub links : SheetList → Trees
+links v = el (codes "nav") (at (codes "aria-label") (codes "Rounds") ∷ []) (link_list v ∷ [])
 
 -- ---- each round
 
@@ -113,7 +158,7 @@ round_title round = el (codes "h2") [] (words (codes "Round ") ∷ words (decima
 -- the part of the round that ends at a place
 abbrev pub round_part : SheetList → (full last : ℕ) → Trees
 round_part v full last =
-    el (codes "section") [] (
+    el (codes "section") (part_attributes (part_name last)) (
     round_title (row_at v.rows last).round ∷ round_sentences v last ∷ round_picture v full (settled_at v last)
     ∷ folded v last ∷ []
     )
@@ -137,8 +182,15 @@ heading v =
     ) ∷ []
     )
 
+-- what a page is for
+abbrev pub content : SheetList → Trees
+content v =
+    el (codes "main") [] (
+    heading v ∷ links v ∷ elected_part v ∷ result_part v ∷ rounds_part v ∷ round_parts v (full_of v.rows) ∷ []
+    )
+
 abbrev pub body : SheetList → Trees
-body v = el (codes "body") [] (heading v ∷ elected_part v ∷ result_part v ∷ rounds_part v ∷ round_parts v (full_of v.rows) ∷ [])
+body v = el (codes "body") [] (content v ∷ [])
 
 -- the title for the window, and how the page looks
 abbrev pub window_title : List ℕ → Trees

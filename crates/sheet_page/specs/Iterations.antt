@@ -7,14 +7,14 @@ use Rattle.page_tree.specs.Trees.{Trees, Nothing}
 use Rattle.sheet_text.specs.Lines.{state_word}
 use Rattle.sheet_reader.specs.Values.{SheetList}
 use Rattle.sheet_page.specs.Stretches.{is_of_round}
-use Rattle.sheet_page.specs.Trees.{each, el, words, at}
+use Rattle.sheet_page.specs.Trees.{each, el, isolated, words, at}
 use Rattle.sheet_page.specs.Values.{places, name_at, row_at, step_word}
 
 -- a candidate in an iteration: its state and keep value before it, and its vote in it
 abbrev pub standing : (name state : List ℕ) → (keep vote : ℕ) → Trees
 standing name state keep vote =
     el (codes "tr") [] (
-    el (codes "th") [] (words name ∷ []) ∷ el (codes "td") [] (words state ∷ [])
+    el (codes "th") [] (isolated name ∷ []) ∷ el (codes "td") [] (words state ∷ [])
     ∷ el (codes "td") [] (words (text_of 9 keep) ∷ []) ∷ el (codes "td") [] (words (text_of 9 vote) ∷ []) ∷ []
     )
 

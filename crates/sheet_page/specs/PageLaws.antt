@@ -1,5 +1,5 @@
 -- What every page shows of its sheet.
-use Rattle.std.specs.Prelude.{◌≡◌, ◌↔◌, ℕ, ◌<◌, true, false, if◌then◌else◌, List, [], ◌∷◌, ◌++◌, length, map, codes, decimal, nat_eq, slice_index}
+use Rattle.std.specs.Prelude.{◌≡◌, ◌↔◌, ℕ, ◌+◌, ◌<◌, true, false, if◌then◌else◌, List, [], ◌∷◌, ◌++◌, length, map, codes, decimal, nat_eq, slice_index}
 use Rattle.std.specs.List.{filter, flat_map}
 use Rattle.candidate_roll.specs.State.{state_at}
 use Rattle.candidate_roll.specs.declared.state.State.{State}
@@ -17,15 +17,19 @@ use Rattle.sheet_page.specs.Values.{places, name_at, row_at, step_word}
 
 -- a path below the parts of a page
 abbrev pub below : (path : List (List ℕ)) → List (List ℕ)
-below path = codes "html" ∷ codes "body" ∷ codes "section" ∷ path
+below path = codes "html" ∷ codes "body" ∷ codes "main" ∷ codes "section" ∷ path
 
 -- ---- who is elected
 
+-- a candidate's name, and its number in brackets
+abbrev pub called_text : SheetList → (p : ℕ) → List ℕ
+called_text v p = name_at v p ++ (codes " (" ++ (decimal (p + 1) ++ codes ")"))
+
 abbrev pub elected_line : SheetList → (round p : ℕ) → List ℕ
-elected_line v round p = name_at v p ++ (codes ": elected in round " ++ decimal round)
+elected_line v round p = joined (called_text v p ∷ codes ": elected in round " ∷ decimal round ∷ [])
 
 abbrev pub seated_line : SheetList → (p : ℕ) → List ℕ
-seated_line v p = name_at v p ++ codes ": elected at the end, to a seat that was left"
+seated_line v p = joined (called_text v p ∷ codes ": elected at the end, to a seat that was left" ∷ [])
 
 -- a line for each candidate that an iteration marks as elected, in the order of their numbers
 abbrev pub marked_lines : SheetList → Row → List (List ℕ)
@@ -71,16 +75,20 @@ round_texts v row =
 abbrev pub cells_of : (name : List ℕ) → SheetList → List (List (List ℕ))
 cells_of name v = map (texts_along (name ∷ [])) (along (below (codes "table" ∷ codes "tr" ∷ [])) (page v))
 
--- what stands over a candidate's bar: its state, vote and name
+-- what stands over a candidate's bar: its state, vote, name and number
 abbrev pub label_text : SheetList → Row → (p : ℕ) → List ℕ
 label_text v row p =
     joined (
-    state_word (state_at row.states p) ∷ codes " " ∷ text_of 9 (slice_index row.votes p) ∷ codes " " ∷ name_at v p ∷ []
+    state_word (state_at row.states p) ∷ codes " " ∷ text_of 9 (slice_index row.votes p) ∷ codes " " ∷ called_text v p ∷ []
     )
 
 -- A page has a part with a title for each round, with a label for each candidate and its iterations within the part; and the
--- table has a row for each round, below a row of all names. Both stand in the order of the rounds, and there is no other.
+-- table has a row for each round, below a row of all candidates, and there is a link to each round. All stand in the order of
+-- the rounds, and there is no other.
 pub record HasItsRounds (v : SheetList) : Type 0 where
+  pub links :
+      texts_along (codes "html" ∷ codes "body" ∷ codes "main" ∷ codes "nav" ∷ codes "ul" ∷ codes "li" ∷ []) (page v)
+      ≡ map (λ row. codes "Round " ++ decimal row.round) (ends_of v)
   pub titles :
       texts_along (below (codes "h2" ∷ [])) (page v)
       ≡ codes "Elected" ∷ codes "Result" ∷ codes "Votes at the end of each round"
@@ -93,7 +101,7 @@ pub record HasItsRounds (v : SheetList) : Type 0 where
       ≡ flat_map (λ row. map (label_text v row) (places (length v.names))) (ends_of v)
   pub heads :
       cells_of (codes "th") v
-      ≡ (codes "Round" ∷ codes "Quota" ∷ codes "On no candidate" ∷ v.names)
+      ≡ (codes "Round" ∷ codes "Quota" ∷ codes "On no candidate" ∷ map (called_text v) (places (length v.names)))
       ∷ map (λ row. decimal row.round ∷ []) (ends_of v)
   pub cells : cells_of (codes "td") v ≡ [] ∷ map (round_texts v) (ends_of v)
 

@@ -29,10 +29,15 @@ scaled full x = if nat_eq full 0 then 0 else min width (x * width / full)
 
 -- ---- the bars, each below its label
 
-abbrev pub label : (y : ℕ) → (name state : List ℕ) → (vote : ℕ) → Trees
-label y name state vote =
+-- a name in a picture, set apart from what stands around it by the style of its kind of element
+abbrev pub name_within : (name : List ℕ) → Trees
+name_within name = el (codes "tspan") [] (words name ∷ [])
+
+abbrev pub label : (y : ℕ) → (name : List ℕ) → (number : ℕ) → (state : List ℕ) → (vote : ℕ) → Trees
+label y name number state vote =
     el (codes "text") (at (codes "class") state ∷ at (codes "y") (decimal y) ∷ []) (
-    words state ∷ words (codes " ") ∷ words (text_of 9 vote) ∷ words (codes " ") ∷ words name ∷ []
+    words state ∷ words (codes " ") ∷ words (text_of 9 vote) ∷ words (codes " ") ∷ name_within name
+    ∷ words (codes " (") ∷ words (decimal number) ∷ words (codes ")") ∷ []
     )
 
 abbrev pub rectangle : (y length : ℕ) → (state : List ℕ) → Trees
@@ -44,7 +49,7 @@ rectangle y length state =
 
 -- a candidate's vote at the end of a round, and what it is behind it
 abbrev pub label_at : SheetList → Row → (p : ℕ) → Trees
-label_at v row p = label (p * 36 + 16) (name_at v p) (state_word (state_at row.states p)) (slice_index row.votes p)
+label_at v row p = label (p * 36 + 16) (name_at v p) (p + 1) (state_word (state_at row.states p)) (slice_index row.votes p)
 
 abbrev pub rectangle_at : (full : ℕ) → Row → (p : ℕ) → Trees
 rectangle_at full row p = rectangle (p * 36 + 21) (scaled full (slice_index row.votes p)) (state_word (state_at row.states p))
@@ -62,11 +67,13 @@ picture_title round =
     ∷ words (codes ": a bar for each candidate, and the quota as a line. The table above has the numbers.") ∷ []
     )
 
--- the quota as a line over so many bars
+-- The quota as a line down over so many bars. It begins at the first bar, below its label, and is broken so that no label is
+-- struck out: 16 points over a bar, and 20 left open for the next label.
 abbrev pub quota_line : (x bars : ℕ) → Trees
 quota_line x bars =
     el (codes "line") (
-    at (codes "x1") (decimal x) ∷ at (codes "x2") (decimal x) ∷ at (codes "y2") (decimal (bars * 36)) ∷ []
+    at (codes "x1") (decimal x) ∷ at (codes "x2") (decimal x) ∷ at (codes "y1") (codes "20")
+    ∷ at (codes "y2") (decimal (bars * 36)) ∷ at (codes "stroke-dasharray") (codes "16 20") ∷ []
     ) []
 
 -- the part of the plane that is seen, with room for so many bars

@@ -1,5 +1,5 @@
 -- Trees of a page, put together from lists.
-use Rattle.std.specs.Prelude.{ℕ, List, [], ◌∷◌, map}
+use Rattle.std.specs.Prelude.{ℕ, List, [], ◌∷◌, codes, decimal, map}
 use Rattle.std.specs.List.{flat_map}
 use Rattle.page_tree.specs.Trees.{Attribute, Trees, Nothing, Text, Element, Void, followed}
 use Rattle.page_tree.specs.Print.{printed}
@@ -27,6 +27,14 @@ void name attributes = Void name attributes Nothing
 
 abbrev pub words : List ℕ → Trees
 words text = Text text Nothing
+
+-- a name, set apart from what stands around it: letters that are written from right to left, and signs of direction, move nothing outside it
+abbrev pub isolated : (name : List ℕ) → Trees
+isolated name = el (codes "bdi") [] (words name ∷ [])
+
+-- a candidate: its name, and its number in brackets
+abbrev pub candidate : (name : List ℕ) → (number : ℕ) → List Trees → List Trees
+candidate name number behind = isolated name ∷ words (codes " (") ∷ words (decimal number) ∷ words (codes ")") ∷ behind
 
 abbrev pub at : (name value : List ℕ) → Attribute
 at name value = record { name = name; value = value }

@@ -75,7 +75,14 @@ fn write_label_at<K: Sink>(
 {
     let state = state_word(*behind.get(p));
     let name = values.names.get(p).bytes();
-    write_label(pen, p as u64 * 36 + 16, name, state, *row.votes.get(p));
+    write_label(
+        pen,
+        p as u64 * 36 + 16,
+        name,
+        p as u64 + 1,
+        state,
+        *row.votes.get(p),
+    );
 }
 
 /// The bar of the candidate at a place.
@@ -97,15 +104,16 @@ fn write_rectangle_at<K: Sink>(
     write_rectangle(pen, p as u64 * 36 + 21, length, state);
 }
 
-/// State, vote and name, so many points down.
+/// State, vote, name and number, so many points down.
 fn write_label<'x, K: Sink>(
     pen: &mut Pen<'_, K>,
     y: u64,
     name: &'x [u8],
+    number: u64,
     state: &'x [u8],
     vote: Amount<9>,
 )
-    ensures { Prints K.Sink pen.old pen.new (printed (label y name.now state.now vote)) }
+    ensures { Prints K.Sink pen.old pen.new (printed (label y name.now number state.now vote)) }
 {
     pen.write(&[
         Piece::Begin(b"text"),
@@ -116,7 +124,12 @@ fn write_label<'x, K: Sink>(
         Piece::Text(Cell::Bytes(b" ")),
         Piece::Text(Cell::Amount(vote)),
         Piece::Text(Cell::Bytes(b" ")),
+        Piece::Start(b"tspan"),
         Piece::Text(Cell::Bytes(name)),
+        Piece::End(b"tspan"),
+        Piece::Text(Cell::Bytes(b" (")),
+        Piece::Text(Cell::Count(number)),
+        Piece::Text(Cell::Bytes(b")")),
         Piece::End(b"text"),
     ]);
 }

@@ -81,17 +81,22 @@ fn write_elected_item<K: Sink>(pen: &mut Pen<'_, K>, values: &SheetValues, row: 
     ensures { Prints K.Sink pen.old pen.new (printed (elected_item values.now row.now p)) }
 {
     if *row.elected.get(p) {
-        write_in_round(pen, values.names.get(p).bytes(), row.round);
+        write_in_round(pen, values.names.get(p).bytes(), p as u64 + 1, row.round);
     }
 }
 
 /// Somebody whom an iteration elected.
-fn write_in_round<K: Sink>(pen: &mut Pen<'_, K>, name: &[u8], round: u32)
-    ensures { Prints K.Sink pen.old pen.new (printed (in_round name.now round)) }
+fn write_in_round<K: Sink>(pen: &mut Pen<'_, K>, name: &[u8], number: u64, round: u32)
+    ensures { Prints K.Sink pen.old pen.new (printed (in_round name.now number round)) }
 {
     pen.write(&[
         Piece::Start(b"li"),
+        Piece::Start(b"bdi"),
         Piece::Text(Cell::Bytes(name)),
+        Piece::End(b"bdi"),
+        Piece::Text(Cell::Bytes(b" (")),
+        Piece::Text(Cell::Count(number)),
+        Piece::Text(Cell::Bytes(b")")),
         Piece::Text(Cell::Bytes(b": elected in round ")),
         Piece::Text(Cell::Count(round as u64)),
         Piece::End(b"li"),
@@ -116,17 +121,22 @@ fn write_seated_item<K: Sink>(pen: &mut Pen<'_, K>, values: &SheetValues, p: usi
     ensures { Prints K.Sink pen.old pen.new (printed (seated_item values.now p)) }
 {
     if is_seated(values, p) {
-        write_at_end(pen, values.names.get(p).bytes());
+        write_at_end(pen, values.names.get(p).bytes(), p as u64 + 1);
     }
 }
 
 /// Somebody who is elected to a seat that was left.
-fn write_at_end<K: Sink>(pen: &mut Pen<'_, K>, name: &[u8])
-    ensures { Prints K.Sink pen.old pen.new (printed (at_end name.now)) }
+fn write_at_end<K: Sink>(pen: &mut Pen<'_, K>, name: &[u8], number: u64)
+    ensures { Prints K.Sink pen.old pen.new (printed (at_end name.now number)) }
 {
     pen.write(&[
         Piece::Start(b"li"),
+        Piece::Start(b"bdi"),
         Piece::Text(Cell::Bytes(name)),
+        Piece::End(b"bdi"),
+        Piece::Text(Cell::Bytes(b" (")),
+        Piece::Text(Cell::Count(number)),
+        Piece::Text(Cell::Bytes(b")")),
         Piece::Text(Cell::Bytes(b": elected at the end, to a seat that was left")),
         Piece::End(b"li"),
     ]);

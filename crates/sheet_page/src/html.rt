@@ -2,11 +2,12 @@
 ghost use Rattle.page_tree.specs.Print.{printed};
 ghost use Rattle.piece_text.specs.Writing.{Writes};
 ghost use Rattle.sheet_reader.specs.Form.{IsPrintable};
-ghost use Rattle.sheet_page.specs.Html.{body, head, heading, html_of, page, style_part, window_title};
+ghost use Rattle.sheet_page.specs.Html.{body, content, head, heading, html_of, page, style_part, window_title};
 ghost use Rattle.sheet_page.specs.Prints.{Prints};
 
 use crate::cell::Cell;
 use crate::elected::write_elected;
+use crate::links::write_links;
 use crate::pen::Pen;
 use crate::piece::Piece;
 use crate::round_parts::write_round_parts;
@@ -104,12 +105,23 @@ fn write_body<K: Sink>(pen: &mut Pen<'_, K>, values: &SheetValues)
     ensures { Prints K.Sink pen.old pen.new (printed (body values.now)) }
 {
     pen.open(b"body");
+    write_content(pen, values);
+    pen.close(b"body");
+}
+
+/// What a page is for.
+fn write_content<K: Sink>(pen: &mut Pen<'_, K>, values: &SheetValues)
+    requires printable { IsPrintable 9 values.now }
+    ensures { Prints K.Sink pen.old pen.new (printed (content values.now)) }
+{
+    pen.open(b"main");
     write_heading(pen, values);
+    write_links(pen, values);
     write_elected(pen, values);
     write_result(pen, values);
     write_rounds(pen, values);
     write_round_parts(pen, values, sheet_full(values));
-    pen.close(b"body");
+    pen.close(b"main");
 }
 
 /// The title of the election, and the numbers of seats and ballots.

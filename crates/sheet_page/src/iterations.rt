@@ -187,7 +187,9 @@ fn write_standing<'x, K: Sink>(
     pen.write(&[
         Piece::Start(b"tr"),
         Piece::Start(b"th"),
+        Piece::Start(b"bdi"),
         Piece::Text(Cell::Bytes(name)),
+        Piece::End(b"bdi"),
         Piece::End(b"th"),
         Piece::Start(b"td"),
         Piece::Text(Cell::Bytes(state)),

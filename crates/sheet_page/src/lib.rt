@@ -16,6 +16,7 @@ mod iterations;
 mod json;
 mod json_text;
 mod laws;
+mod links;
 mod pen;
 mod picture;
 mod piece;

@@ -152,7 +152,9 @@ fn write_quota_line<K: Sink>(pen: &mut Pen<'_, K>, x: u64, bars: usize)
         Piece::Begin(b"line"),
         Piece::With(b"x1", Cell::Count(x)),
         Piece::With(b"x2", Cell::Count(x)),
+        Piece::With(b"y1", Cell::Bytes(b"20")),
         Piece::With(b"y2", Cell::Count(bars as u64 * 36)),
+        Piece::With(b"stroke-dasharray", Cell::Bytes(b"16 20")),
         Piece::Within,
         Piece::End(b"line"),
     ]);

@@ -1,14 +1,15 @@
 // What a page shows of each round.
-ghost use Rattle.std.specs.Prelude.{◌≡◌, ◌<◌, length};
-ghost use Rattle.page_tree.specs.Print.{printed};
+ghost use Rattle.std.specs.Prelude.{◌≡◌, ◌<◌, codes, length};
+ghost use Rattle.page_tree.specs.Print.{opening, printed};
 ghost use Rattle.sheet_reader.specs.Form.{IsPrintable};
-ghost use Rattle.sheet_page.specs.Html.{part_at, round_part, round_title};
+ghost use Rattle.sheet_page.specs.Html.{part_at, part_attributes, part_name, round_part, round_title};
 ghost use Rattle.sheet_page.specs.Prints.{Prints};
 ghost use Rattle.sheet_page.specs.Trees.{print_each};
 ghost use Rattle.sheet_page.specs.Values.{places};
 
 use crate::cell::Cell;
 use crate::iterations::write_folded;
+use crate::links::part_name;
 use crate::pen::Pen;
 use crate::picture::write_round_picture;
 use crate::piece::Piece;
@@ -46,12 +47,32 @@ fn write_round_part<K: Sink>(pen: &mut Pen<'_, K>, values: &SheetValues, full: u
     ensures { Prints K.Sink pen.old pen.new (printed (round_part values.now full last)) }
 {
     let row = values.rows.get(last);
-    pen.open(b"section");
+    write_start(pen, values, last);
     write_title(pen, row.round);
     write_round_sentences(pen, values, last);
     write_round_picture(pen, values, full, row, states_behind(values, last));
     write_folded(pen, values, last);
     pen.close(b"section");
+}
+
+/// The start of the part of the round that ends at a place, with the name of the part.
+fn write_start<K: Sink>(pen: &mut Pen<'_, K>, values: &SheetValues, last: usize)
+    requires place { last < length values.now.rows }
+    ensures { Prints K.Sink pen.old pen.new (opening (codes "section") (part_attributes (part_name last))) }
+{
+    let name = part_name(values, last);
+    write_start_of(pen, name.bytes());
+}
+
+/// The start of a part of this name.
+fn write_start_of<K: Sink>(pen: &mut Pen<'_, K>, name: &[u8])
+    ensures { Prints K.Sink pen.old pen.new (opening (codes "section") (part_attributes name.now)) }
+{
+    pen.write(&[
+        Piece::Begin(b"section"),
+        Piece::With(b"id", Cell::Bytes(name)),
+        Piece::Within,
+    ]);
 }
 
 fn write_title<K: Sink>(pen: &mut Pen<'_, K>, round: u32)

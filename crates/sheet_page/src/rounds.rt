@@ -4,7 +4,7 @@ ghost use Rattle.plain_ballots.specs.declared.limits.TheConstants.{MOST_BALLOTS,
 ghost use Rattle.meek_rule.specs.Row.{HasRoomFor};
 ghost use Rattle.page_tree.specs.Print.{printed};
 ghost use Rattle.sheet_reader.specs.Form.{IsPrintable};
-ghost use Rattle.sheet_page.specs.Html.{head_cell, head_cells, head_row, name_cell, round_at, round_cells, round_row, rounds_part, rounds_table, rounds_title, vote_cell};
+ghost use Rattle.sheet_page.specs.Html.{head_cell, head_cells, head_row, name_cell, round_at, round_cells, round_row, rounds_part, rounds_table, rounds_title, vote_cell, words_explained};
 ghost use Rattle.sheet_page.specs.Prints.{Prints};
 ghost use Rattle.sheet_page.specs.RoundEnds.{ends_round, settled, settled_at, states_behind};
 ghost use Rattle.sheet_page.specs.Trees.{print_each};
@@ -28,6 +28,7 @@ pub(crate) fn write_rounds<K: Sink>(pen: &mut Pen<'_, K>, values: &SheetValues)
     pen.open(b"section");
     write_title(pen);
     write_table(pen, values);
+    write_words(pen);
     pen.close(b"section");
 }
 
@@ -38,6 +39,38 @@ fn write_title<K: Sink>(pen: &mut Pen<'_, K>)
         Piece::Start(b"h2"),
         Piece::Text(Cell::Bytes(b"Votes at the end of each round")),
         Piece::End(b"h2"),
+    ]);
+}
+
+/// The words of a count that a reader may not know.
+fn write_words<K: Sink>(pen: &mut Pen<'_, K>)
+    ensures { Prints K.Sink pen.old pen.new (printed words_explained) }
+{
+    pen.write(&[
+        Piece::Start(b"dl"),
+        Piece::Start(b"dt"),
+        Piece::Text(Cell::Bytes(b"Hopeful")),
+        Piece::End(b"dt"),
+        Piece::Start(b"dd"),
+        Piece::Text(Cell::Bytes(b"neither elected nor defeated so far.")),
+        Piece::End(b"dd"),
+        Piece::Start(b"dt"),
+        Piece::Text(Cell::Bytes(b"Keep value")),
+        Piece::End(b"dt"),
+        Piece::Start(b"dd"),
+        Piece::Text(Cell::Bytes(
+            b"the part of each vote which reaches a candidate that the candidate keeps. The rest goes on to the next on the ballot. It is 1 for the hopeful; for the elected it falls until each keeps a quota.",
+        )),
+        Piece::End(b"dd"),
+        Piece::Start(b"dt"),
+        Piece::Text(Cell::Bytes(b"On no candidate")),
+        Piece::End(b"dt"),
+        Piece::Start(b"dd"),
+        Piece::Text(Cell::Bytes(
+            b"the votes that nobody keeps, since their ballots rank no further candidate who could, and what rounding leaves.",
+        )),
+        Piece::End(b"dd"),
+        Piece::End(b"dl"),
     ]);
 }
 
@@ -53,6 +86,7 @@ fn write_table<K: Sink>(pen: &mut Pen<'_, K>, values: &SheetValues)
 }
 
 fn write_head_row<K: Sink>(pen: &mut Pen<'_, K>, values: &SheetValues)
+    requires few { length values.now.names ≤ MOST_CANDIDATES }
     ensures { Prints K.Sink pen.old pen.new (printed (head_row values.now)) }
 {
     pen.open(b"tr");
@@ -80,6 +114,7 @@ fn write_head_cells<K: Sink>(pen: &mut Pen<'_, K>)
 
 /// The heads of the candidates' columns.
 fn write_name_cells<K: Sink>(pen: &mut Pen<'_, K>, values: &SheetValues)
+    requires few { length values.now.names ≤ MOST_CANDIDATES }
     ensures { Prints K.Sink pen.old pen.new
         (print_each (name_cell values.now) (places (length values.now.names))) }
 {
@@ -90,19 +125,25 @@ fn write_name_cells<K: Sink>(pen: &mut Pen<'_, K>, values: &SheetValues)
 
 /// The head of the column of the candidate at a place.
 fn write_name_cell<K: Sink>(pen: &mut Pen<'_, K>, values: &SheetValues, p: usize)
+    requires few { length values.now.names ≤ MOST_CANDIDATES }
     requires place { p < length values.now.names }
     ensures { Prints K.Sink pen.old pen.new (printed (name_cell values.now p)) }
 {
-    write_name(pen, values.names.get(p).bytes());
+    write_name(pen, values.names.get(p).bytes(), p as u64 + 1);
 }
 
-/// A name as the head of a column.
-fn write_name<K: Sink>(pen: &mut Pen<'_, K>, name: &[u8])
-    ensures { Prints K.Sink pen.old pen.new (printed (head_cell name.now)) }
+/// A name with its number as the head of a column.
+fn write_name<K: Sink>(pen: &mut Pen<'_, K>, name: &[u8], number: u64)
+    ensures { Prints K.Sink pen.old pen.new (printed (head_cell name.now number)) }
 {
     pen.write(&[
         Piece::Start(b"th"),
+        Piece::Start(b"bdi"),
         Piece::Text(Cell::Bytes(name)),
+        Piece::End(b"bdi"),
+        Piece::Text(Cell::Bytes(b" (")),
+        Piece::Text(Cell::Count(number)),
+        Piece::Text(Cell::Bytes(b")")),
         Piece::End(b"th"),
     ]);
 }

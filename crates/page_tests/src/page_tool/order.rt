@@ -20,8 +20,9 @@ result\n1 elected F\n2 elected E\n3 elected D\n4 elected C\n5 elected B\n6 defea
 // By iteration, and by number where there are several; neither votes nor names decide.
 #[test]
 fn the_elected_stand_in_the_order_of_their_iterations(rt: HostRuntime) -> Result<(), Fail> {
-    let list = b"<ol><li>E: elected in round 1</li><li>C: elected in round 1</li>\
-<li>F: elected in round 2</li><li>D: elected at the end, to a seat that was left</li>\
-<li>B: elected at the end, to a seat that was left</li></ol>";
+    let list = b"<ol><li><bdi>E</bdi> (2): elected in round 1</li>\
+<li><bdi>C</bdi> (4): elected in round 1</li><li><bdi>F</bdi> (1): elected in round 2</li>\
+<li><bdi>D</bdi> (3): elected at the end, to a seat that was left</li>\
+<li><bdi>B</bdi> (5): elected at the end, to a seat that was left</li></ol>";
     has(&rt, rt.alloc(), SHEET, list)
 }

@@ -5,4 +5,4 @@ use Rattle.sheet_page.proofs.Pens.{renamed}
 use Rattle.sheet_page.proofs.elected.write_at_end.Goals as goal
 
 pub returns : goal.returns
-returns g c = renamed (leaf (at_end c.args.name.now)) (search rules)
+returns g c = renamed (leaf (at_end c.args.name.now c.args.number)) (search rules)

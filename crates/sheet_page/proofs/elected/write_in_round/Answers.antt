@@ -5,4 +5,4 @@ use Rattle.sheet_page.proofs.Pens.{renamed}
 use Rattle.sheet_page.proofs.elected.write_in_round.Goals as goal
 
 pub returns : goal.returns
-returns g c = renamed (leaf (in_round c.args.name.now c.args.round)) (search rules)
+returns g c = renamed (leaf (in_round c.args.name.now c.args.number c.args.round)) (search rules)

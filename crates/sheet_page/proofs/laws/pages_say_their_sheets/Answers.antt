@@ -3,7 +3,7 @@ use Rattle.sheet_page.proofs.PageIterations.{iteration_heads, iteration_cells}
 use Rattle.sheet_page.proofs.PageLabels.{picture_labels}
 use Rattle.sheet_page.proofs.PageRounds.{rounds_whole}
 use Rattle.sheet_page.proofs.PageSentences.{page_items}
-use Rattle.sheet_page.proofs.PageTexts.{elected_items, round_titles, folded_titles, table_heads, table_cells}
+use Rattle.sheet_page.proofs.PageTexts.{elected_items, round_links, round_titles, folded_titles, table_heads, table_cells}
 use Rattle.sheet_page.proofs.laws.pages_say_their_sheets.Goals as goal
 
 pub returns-clause-elected : goal.returns-clause-elected
@@ -11,6 +11,7 @@ returns-clause-elected c v = record { items = elected_items v; seated = seated_a
 
 pub returns-clause-rounds : goal.returns-clause-rounds
 returns-clause-rounds c v = record {
+  links = round_links v;
   titles = round_titles v;
   folded = folded_titles v;
   labels = picture_labels v;

@@ -5,7 +5,7 @@ use Rattle.candidate_roll.specs.declared.state.State.{State}
 use Rattle.meek_rule.specs.Row.{Row, blank}
 use Rattle.page_tree.specs.Print.{printed}
 use Rattle.sheet_reader.specs.Values.{SheetList}
-use Rattle.sheet_page.specs.Html.{round_title}
+use Rattle.sheet_page.specs.Html.{part_attributes, part_name, round_title}
 use Rattle.sheet_page.specs.Iterations.{folded}
 use Rattle.sheet_page.specs.Picture.{round_picture}
 use Rattle.sheet_page.specs.RoundEnds.{settled, settled_at}
@@ -26,7 +26,7 @@ returns g c =
     let title = ap (λ (r : Row). printed (round_title r.round)) (c.row.view_is ∙ sym row) in
     let picture = ap (λ (r : Row). printed (round_picture v full (settled r c.states_behind.result.now))) (sym row)
     ∙ ap (λ (s : List State). printed (round_picture v full (settled (row_at v.rows last) s))) c.states_behind.ensures.states in
-    renamed (wrapped (codes "section") [] (round_title (row_at v.rows last).round ∷ round_sentences v last
+    renamed (wrapped (codes "section") (part_attributes (part_name last)) (round_title (row_at v.rows last).round ∷ round_sentences v last
     ∷ round_picture v full (settled_at v last) ∷ folded v last ∷ []))
-    (later c.open.ensures (later (renamed title c.write_title.ensures) (later c.write_round_sentences.ensures
+    (later c.write_start.ensures (later (renamed title c.write_title.ensures) (later c.write_round_sentences.ensures
     (later (renamed picture c.write_round_picture.ensures) (later c.write_folded.ensures c.close.ensures)))))

@@ -1,0 +1,115 @@
+// Links to the parts of the rounds.
+ghost use Rattle.std.specs.Prelude.{◌≡◌, ◌<◌, length};
+ghost use Rattle.page_tree.specs.Print.{printed};
+ghost use Rattle.sheet_reader.specs.Form.{IsPrintable};
+ghost use Rattle.sheet_page.specs.Html.{link_at, link_list, link_to, links, part_name, round_link};
+ghost use Rattle.sheet_page.specs.Prints.{Prints};
+ghost use Rattle.sheet_page.specs.Trees.{print_each};
+ghost use Rattle.sheet_page.specs.Values.{places, row_at};
+
+use crate::cell::Cell;
+use crate::pen::Pen;
+use crate::piece::Piece;
+use crate::rounds::ends_round;
+use byte_edge::Sink;
+use line_text::Line;
+use page_tree::Attribute;
+use sheet_reader::SheetValues;
+
+/// Writes a link to the part of each round.
+pub(crate) fn write_links<K: Sink>(pen: &mut Pen<'_, K>, values: &SheetValues)
+    requires printable { IsPrintable 9 values.now }
+    ensures { Prints K.Sink pen.old pen.new (printed (links values.now)) }
+{
+    pen.start(
+        b"nav",
+        &[Attribute {
+            name: b"aria-label",
+            value: b"Rounds",
+        }],
+    );
+    write_link_list(pen, values);
+    pen.close(b"nav");
+}
+
+fn write_link_list<K: Sink>(pen: &mut Pen<'_, K>, values: &SheetValues)
+    requires printable { IsPrintable 9 values.now }
+    ensures { Prints K.Sink pen.old pen.new (printed (link_list values.now)) }
+{
+    pen.open(b"ul");
+    write_each_link(pen, values);
+    pen.close(b"ul");
+}
+
+fn write_each_link<K: Sink>(pen: &mut Pen<'_, K>, values: &SheetValues)
+    requires printable { IsPrintable 9 values.now }
+    ensures { Prints K.Sink pen.old pen.new
+        (print_each (link_at values.now) (places (length values.now.rows))) }
+{
+    for i in 0..values.rows.len() {
+        write_link_at(pen, values, i);
+    }
+}
+
+/// The link to a round, if it ends at this place.
+fn write_link_at<K: Sink>(pen: &mut Pen<'_, K>, values: &SheetValues, i: usize)
+    requires place { i < length values.now.rows }
+    ensures { Prints K.Sink pen.old pen.new (printed (link_at values.now i)) }
+{
+    if ends_round(values.rows.items(), i) {
+        write_link(pen, values, i);
+    }
+}
+
+/// The link to the part of the round that ends at a place.
+fn write_link<K: Sink>(pen: &mut Pen<'_, K>, values: &SheetValues, i: usize)
+    requires place { i < length values.now.rows }
+    ensures { Prints K.Sink pen.old pen.new
+        (printed (round_link (link_to i) (row_at values.now.rows i).round)) }
+{
+    let target = link_to(values, i);
+    let row = values.rows.get(i);
+    write_link_text(pen, target.bytes(), row.round);
+}
+
+/// The number of a round, that leads to this target.
+fn write_link_text<K: Sink>(pen: &mut Pen<'_, K>, target: &[u8], round: u32)
+    ensures { Prints K.Sink pen.old pen.new (printed (round_link target.now round)) }
+{
+    pen.write(&[
+        Piece::Start(b"li"),
+        Piece::Begin(b"a"),
+        Piece::With(b"href", Cell::Bytes(target)),
+        Piece::Within,
+        Piece::Text(Cell::Bytes(b"Round ")),
+        Piece::Text(Cell::Count(round as u64)),
+        Piece::End(b"a"),
+        Piece::End(b"li"),
+    ]);
+}
+
+/// Where the link to the part of the round that ends at a place leads.
+#[tactic(auto, using(line_text::proofs::Lengths::lengths))]
+fn link_to(values: &SheetValues, last: usize) -> Line
+    requires { last < length values.now.rows }
+    ensures { result ≡ link_to last }
+{
+    let _iterations = values.rows.len();
+    let mut line = Line::new();
+    line.push_bytes(b"#i");
+    line.push_count(last as u64 + 1);
+    line
+}
+
+/// The name of the part of the round that ends at a place.
+#[tactic(auto, using(line_text::proofs::Lengths::lengths))]
+pub(crate) fn part_name(values: &SheetValues, last: usize) -> Line
+    requires { last < length values.now.rows }
+    ensures { result ≡ part_name last }
+{
+    let _iterations = values.rows.len();
+    let mut line = Line::new();
+    line.push_bytes(b"i");
+    line.push_count(last as u64 + 1);
+    line
+}
