@@ -3,8 +3,11 @@ mod Printing
 mod Telling
 mod Marks
 mod Peaks
+mod Sums
+mod Parts
 mod RoundPlaces
 mod RisingRounds
+mod Tested
 mod Nesting
 mod Owing
 mod WordLemmas
@@ -26,6 +29,7 @@ mod JsonSheets
 mod WholeRounds
 mod PageWalks
 mod PageTexts
+mod PageTable
 mod PageIterations
 mod PageLabels
 mod PageRounds

@@ -1,130 +1,33 @@
 -- Pages have well named elements, so they nest.
-use Rattle.std.proofs.Common.{◌≡◌, refl, ℕ, ◌+◌, List, [], ◌∷◌, Bool, true, false, length, map, arith}
-use Rattle.std.specs.Prelude.{◌&&◌, not, if◌then◌else◌, codes}
+use Rattle.std.proofs.Common.{◌≡◌, refl, ℕ, ◌+◌, List, [], ◌∷◌, Bool, true, false, length, map}
+use Rattle.std.specs.Prelude.{if◌then◌else◌, codes, nat_eq}
 use Rattle.std.specs.Char.{is_ascii}
 use Rattle.std.specs.List.{list_all}
-use Rattle.std.proofs.lemmas.Bool.{and_parts}
-use Rattle.std.proofs.lemmas.List.Elements.{All-nil, All-cons}
+use Rattle.fixed_place.specs.Text.{text_of}
 use Rattle.lot_order.specs.Flags.{mark_at}
 use Rattle.meek_rule.specs.Row.{Row}
-use Rattle.page_tree.specs.Trees.{Attribute, Trees, Nothing, Text, Element, Void, followed, is_void}
-use Rattle.page_tree.specs.Trees.{is_name_byte, IsName, AreNamed, IsWellNamed}
+use Rattle.page_tree.specs.Trees.{Trees, Nothing, IsWellNamed}
 use Rattle.sheet_reader.specs.Values.{SheetList}
 use Rattle.sheet_words.specs.Lines.{at_end, sentences_of}
 use Rattle.sheet_words.specs.Sentences.{outcome, sentences_at_end}
 use Rattle.sheet_page.specs.Told.{end_list, item, outcome_list, result_part, result_title, round_sentences, sentences_at, spoken}
-use Rattle.sheet_page.specs.Trees.{all, at, each, el, isolated, words}
+use Rattle.sheet_page.specs.Trees.{at, each, el, isolated, words}
+use Rattle.sheet_page.proofs.Tested.{tested, Tested, sound, tested_all, tested_each, tested_el, tested_if}
 use Rattle.sheet_page.specs.Values.{places, name_at, row_at}
-use Rattle.sheet_page.specs.RoundEnds.{ends_round, settled_at}
+use Rattle.sheet_page.specs.RoundEnds.{ends_round, left_over, settled_at}
 use Rattle.sheet_page.specs.Stretches.{is_of_round}
-use Rattle.sheet_page.specs.Picture.{scaled, bar, quota_line, picture_title, picture_attributes, picture}
-use Rattle.sheet_page.specs.Picture.{amounts_of, round_picture, full_of}
-use Rattle.sheet_page.specs.Iterations.{standing_at, iteration_head, iteration, iteration_at, columns}
+use Rattle.sheet_page.specs.Bars.{bars_of, has_bar, rest_count, rest_votes}
+use Rattle.sheet_page.specs.Picture.{scaled, bar, bar_at, quota_line, picture_title, picture_attributes, picture}
+use Rattle.sheet_page.specs.Picture.{amounts_of, amounts_text, rest_part, rest_text, round_picture, full_of}
+use Rattle.sheet_page.specs.Iterations.{concerns, standing_at, standing_of, iteration_head, iteration, iteration_at}
 use Rattle.sheet_page.specs.Iterations.{iterations, summary, folded}
 use Rattle.sheet_page.specs.Html.{in_round, at_end as seat_at_end, elected_item, elected_in, is_seated, seated_item}
-use Rattle.sheet_page.specs.Html.{elected_list, elected_title, elected_part, name_cell, head_cells, head_row}
-use Rattle.sheet_page.specs.Html.{vote_cell, round_cells, round_row, round_at, rounds_table, rounds_title}
-use Rattle.sheet_page.specs.Html.{rounds_part, round_title, round_part, part_at, round_parts, heading, body}
-use Rattle.sheet_page.specs.Html.{content, head, page, link_at, link_list, link_to, links, part_attributes, part_name}
-use Rattle.sheet_page.specs.Html.{round_link, words_explained}
-
--- ---- names, tested
-
-abbrev is_named : List ℕ → Bool
-is_named [] = false
-is_named (b ∷ name) = list_all is_name_byte (b ∷ name)
-
-abbrev all_named : List Attribute → Bool
-all_named [] = true
-all_named (attribute ∷ attributes) = is_named attribute.name && all_named attributes
-
-abbrev tested : Trees → Bool
-tested Nothing = true
-tested (Text text behind) = tested behind
-tested (Element name attributes within behind) =
-    is_named name && (all_named attributes && (not (is_void name) && (tested within && tested behind)))
-tested (Void name attributes behind) = is_named name && (all_named attributes && (is_void name && tested behind))
-
-named : (name : List ℕ) → is_named name ≡ true → IsName name
-named [] is = cc
-named (b ∷ name) is = record { some = omega arith; bytes = is }
-
-attributes_named : (attributes : List Attribute) → all_named attributes ≡ true → AreNamed attributes
-attributes_named [] are = All-nil (λ (a : Attribute). IsName a.name)
-attributes_named (attribute ∷ attributes) are =
-    let both = and_parts (is_named attribute.name) (all_named attributes) are in
-    All-cons (λ (a : Attribute). IsName a.name) attribute attributes (named attribute.name both.0)
-    (attributes_named attributes both.1)
-
-not_void : (b : Bool) → not b ≡ true → b ≡ false
-not_void true is = cc
-not_void false is = refl
-
-sound : (trees : Trees) → tested trees ≡ true → IsWellNamed trees
-sound Nothing is = tt
-sound (Text text behind) is = sound behind is
-sound (Element name attributes within behind) is =
-    let a =
-    and_parts (is_named name)
-    (all_named attributes && (not (is_void name) && (tested within && tested behind))) is in
-    let b = and_parts (all_named attributes) (not (is_void name) && (tested within && tested behind)) a.1 in
-    let c = and_parts (not (is_void name)) (tested within && tested behind) b.1 in
-    let d = and_parts (tested within) (tested behind) c.1 in
-    (named name a.0, attributes_named attributes b.0, not_void (is_void name) c.0, sound within d.0, sound behind d.1)
-sound (Void name attributes behind) is =
-    let a = and_parts (is_named name) (all_named attributes && (is_void name && tested behind)) is in
-    let b = and_parts (all_named attributes) (is_void name && tested behind) a.1 in
-    let c = and_parts (is_void name) (tested behind) b.1 in
-    (named name a.0, attributes_named attributes b.0, c.0, sound behind c.1)
-
--- ---- trees that are put together
-
-both_true : (x y : Bool) → x ≡ true → y ≡ true → (x && y) ≡ true
-both_true true true one other = refl
-both_true true false one other = cc
-both_true false y one other = cc
-
-tested_followed : (trees others : Trees) → tested trees ≡ true → tested others ≡ true → tested (followed trees others) ≡ true
-tested_followed Nothing others one other = other
-tested_followed (Text text behind) others one other = tested_followed behind others one other
-tested_followed (Element name attributes within behind) others one other =
-    let a =
-    and_parts (is_named name)
-    (all_named attributes && (not (is_void name) && (tested within && tested behind))) one in
-    let b = and_parts (all_named attributes) (not (is_void name) && (tested within && tested behind)) a.1 in
-    let c = and_parts (not (is_void name)) (tested within && tested behind) b.1 in
-    let d = and_parts (tested within) (tested behind) c.1 in
-    both_true _ _ a.0 (both_true _ _ b.0 (both_true _ _ c.0 (both_true _ _ d.0 (tested_followed behind others d.1 other))))
-tested_followed (Void name attributes behind) others one other =
-    let a = and_parts (is_named name) (all_named attributes && (is_void name && tested behind)) one in
-    let b = and_parts (all_named attributes) (is_void name && tested behind) a.1 in
-    let c = and_parts (is_void name) (tested behind) b.1 in
-    both_true _ _ a.0 (both_true _ _ b.0 (both_true _ _ c.0 (tested_followed behind others c.1 other)))
-
-abbrev Tested : List Trees → Type 0
-Tested [] = Unit {0}
-Tested (tree ∷ trees) = (tested tree ≡ true) × Tested trees
-
-tested_all : (trees : List Trees) → Tested trees → tested (all trees) ≡ true
-tested_all [] are = refl
-tested_all (tree ∷ trees) are = tested_followed tree (all trees) are.0 (tested_all trees are.1)
-
-tested_each :
-    {X : Type 0} (tree : X → Trees) (items : List X) → ((x : X) → tested (tree x) ≡ true)
-    → tested (each tree items) ≡ true
-tested_each tree [] are = refl
-tested_each tree (x ∷ items) are = tested_followed (tree x) (each tree items) (are x) (tested_each tree items are)
-
-tested_el :
-    (name : List ℕ) (attributes : List Attribute) (trees : List Trees) → is_named name ≡ true
-    → all_named attributes ≡ true → not (is_void name) ≡ true → Tested trees
-    → tested (el name attributes trees) ≡ true
-tested_el name attributes trees is are not_one within =
-    both_true _ _ is (both_true _ _ are (both_true _ _ not_one (both_true _ _ (tested_all trees within) refl)))
-
-tested_if : (b : Bool) (tree : Trees) → tested tree ≡ true → tested (if b then tree else Nothing) ≡ true
-tested_if true tree is = is
-tested_if false tree is = refl
+use Rattle.sheet_page.specs.Html.{elected_list, elected_title, elected_part, rounds_title, words_explained, rounds_part}
+use Rattle.sheet_page.specs.Html.{round_title, round_part, part_at, round_parts, heading, content, body, head, page}
+use Rattle.sheet_page.specs.Links.{link_at, link_list, link_to, links, part_attributes, part_name, round_link}
+use Rattle.sheet_page.specs.RoundTable.{amount_cell, candidate_head, candidate_row, caption, first_head, frame_attributes}
+use Rattle.sheet_page.specs.RoundTable.{head_at, head_row, left_at, left_row, line_head, quota_at, quota_row, round_head}
+use Rattle.sheet_page.specs.RoundTable.{rounds_table, table_body, table_frame, table_head, vote_at, vote_cell}
 
 -- ---- the parts of a page
 
@@ -147,60 +50,97 @@ elected_tested v = tested_el (codes "section") [] (elected_title ∷ elected_lis
 
 rounds_tested : (v : SheetList) → tested (rounds_part v) ≡ true
 rounds_tested v =
-    tested_el (codes "section") [] (rounds_title ∷ rounds_table v ∷ words_explained ∷ []) refl refl refl
-    (refl, (table, (refl, tt)))
+    tested_el (codes "section") [] (rounds_title ∷ table_frame v ∷ words_explained ∷ []) refl refl refl
+    (refl, (frame, (refl, tt)))
   where
-    row_tested : (row : Row) → tested (round_row v row) ≡ true
-    row_tested row =
-        tested_el (codes "tr") []
-        (round_cells v.ballots row ∷ each (vote_cell row) (places (length v.names)) ∷ []) refl refl refl
-        (refl, (tested_each (vote_cell row) (places (length v.names)) (λ p. refl), tt))
+    -- cells, one for each round
+    cells : (tree : ℕ → Trees) → ((i : ℕ) → tested (tree i) ≡ true)
+        → tested (each (λ i. if ends_round v.rows i then tree i else Nothing) (places (length v.rows))) ≡ true
+    cells tree are =
+        tested_each (λ i. if ends_round v.rows i then tree i else Nothing) (places (length v.rows))
+        (λ i. tested_if (ends_round v.rows i) (tree i) (are i))
 
-    first : tested (head_row v) ≡ true
+    first : tested (table_head v) ≡ true
     first =
-        tested_el (codes "tr") [] (head_cells ∷ each (name_cell v) (places (length v.names)) ∷ []) refl refl refl
-        (refl, (tested_each (name_cell v) (places (length v.names)) (λ p. refl), tt))
+        tested_el (codes "thead") [] (head_row v ∷ []) refl refl refl (
+          tested_el (codes "tr") [] (first_head ∷ each (head_at v) (places (length v.rows)) ∷ []) refl refl refl
+              (refl, (cells (λ i. round_head (link_to i) (row_at v.rows i).round) (λ i. refl), tt)),
+          tt,
+        )
 
-    table : tested (rounds_table v) ≡ true
-    table =
-        tested_el (codes "table") [] (head_row v ∷ each (round_at v) (places (length v.rows)) ∷ []) refl refl refl (
-          first,
-          (
-            tested_each (round_at v) (places (length v.rows)) (λ i.
-                tested_if (ends_round v.rows i) (round_row v (settled_at v i))
-                (row_tested (settled_at v i))),
-            tt,
-          ),
+    quotas : tested (quota_row v) ≡ true
+    quotas =
+        tested_el (codes "tr") [] (line_head (codes "Quota") ∷ each (quota_at v) (places (length v.rows)) ∷ []) refl refl refl
+        (refl, (cells (λ i. amount_cell (row_at v.rows i).quota) (λ i. refl), tt))
+
+    left : tested (left_row v) ≡ true
+    left =
+        tested_el (codes "tr") [] (line_head (codes "On no candidate") ∷ each (left_at v) (places (length v.rows)) ∷ []) refl refl refl
+        (refl, (cells (λ i. amount_cell (left_over v.ballots (row_at v.rows i))) (λ i. refl), tt))
+
+    one : (p : ℕ) → tested (candidate_row v p) ≡ true
+    one p =
+        tested_el (codes "tr") []
+        (candidate_head (name_at v p) (p + 1) ∷ each (vote_at v p) (places (length v.rows)) ∷ []) refl refl refl
+        (refl, (cells (λ i. vote_cell (settled_at v i) p) (λ i. refl), tt))
+
+    lines : tested (table_body v) ≡ true
+    lines =
+        tested_el (codes "tbody") []
+        (quota_row v ∷ left_row v ∷ each (candidate_row v) (places (length v.names)) ∷ []) refl refl refl
+        (quotas, (left, (tested_each (candidate_row v) (places (length v.names)) one, tt)))
+
+    frame : tested (table_frame v) ≡ true
+    frame =
+        tested_el (codes "div") frame_attributes (rounds_table v ∷ []) refl refl refl (
+          tested_el (codes "table") [] (caption ∷ table_head v ∷ table_body v ∷ []) refl refl refl
+              (refl, (first, (lines, tt))),
+          tt,
         )
 
 picture_tested : (v : SheetList) (full : ℕ) (row : Row) → tested (round_picture v full row) ≡ true
-picture_tested v full row = tested_all (amounts_of v.ballots row ∷ picture v full row ∷ []) (refl, (drawn, tt))
+picture_tested v full row =
+    tested_all (amounts_of v.ballots row ∷ picture v full row ∷ []) (said, (drawn, tt))
   where
     drawn : tested (picture v full row) ≡ true
     drawn =
-        tested_el (codes "svg") (picture_attributes (length v.names)) (picture_title row.round
-        ∷ each (bar v full row) (places (length v.names))
-        ∷ quota_line (scaled full row.quota) (length v.names) ∷ []) refl refl refl
-        (refl, (tested_each (bar v full row) (places (length v.names)) (λ p. refl), (refl, tt)))
+        tested_el (codes "svg") (picture_attributes (bars_of row)) (picture_title row.round
+        ∷ each (bar_at v full row) (places (length v.names))
+        ∷ quota_line (scaled full row.quota) (bars_of row) ∷ []) refl refl refl (
+          refl,
+          (tested_each (bar_at v full row) (places (length v.names)) (λ p. tested_if (has_bar row p) (bar v full row p) refl), (refl, tt)),
+        )
+
+    said : tested (amounts_of v.ballots row) ≡ true
+    said =
+        tested_el (codes "p") [] (amounts_text row.quota (left_over v.ballots row) ∷ rest_part row ∷ []) refl refl refl
+        (refl, (rest, tt))
+      where
+        rest : tested (rest_part row) ≡ true
+        rest = by (nat_eq (rest_count row) 0)
+          where
+            by : (b : Bool) → tested (if b then Nothing else rest_text (rest_count row) (text_of 9 (rest_votes row))) ≡ true
+            by true = refl
+            by false = refl
 
 folded_tested : (v : SheetList) (last : ℕ) → tested (folded v last) ≡ true
 folded_tested v last =
-    tested_el (codes "details") [] (summary (row_at v.rows last).round ∷ iterations v last ∷ []) refl refl refl
-    (refl, (table, tt))
+    tested_el (codes "details") [] (summary (row_at v.rows last).round ∷ iterations v last ∷ []) refl refl refl (
+      refl,
+      (
+        tested_each (iteration_at v last) (places (last + 1))
+            (λ i. tested_if (is_of_round v.rows last i) (iteration v (row_at v.rows i)) (one (row_at v.rows i))),
+        tt,
+      ),
+    )
   where
     one : (row : Row) → tested (iteration v row) ≡ true
     one row =
-        tested_el (codes "tbody") []
-        (iteration_head row ∷ each (standing_at v row) (places (length v.names)) ∷ []) refl refl refl
-        (refl, (tested_each (standing_at v row) (places (length v.names)) (λ p. refl), tt))
-
-    table : tested (iterations v last) ≡ true
-    table =
-        tested_el (codes "table") [] (columns ∷ each (iteration_at v last) (places (last + 1)) ∷ []) refl refl refl (
+        tested_el (codes "dl") [] (iteration_head row ∷ each (standing_at row) (places (length v.names)) ∷ []) refl refl refl (
           refl,
           (
-            tested_each (iteration_at v last) (places (last + 1))
-                (λ i. tested_if (is_of_round v.rows last i) (iteration v (row_at v.rows i)) (one (row_at v.rows i))),
+            tested_each (standing_at row) (places (length v.names))
+                (λ p. tested_if (concerns row p) (standing_of row p) refl),
             tt,
           ),
         )

@@ -1,58 +1,100 @@
--- The labels of the pictures on a page.
-use Rattle.std.proofs.Common.{◌≡◌, ◌∙◌, sym, ap, ℕ, ◌+◌, List, [], ◌∷◌, ◌++◌, map, length, append-nil}
-use Rattle.std.specs.Prelude.{codes, decimal, slice_index}
-use Rattle.std.specs.List.{flat_map}
+-- The labels of the pictures on a page, and what is said of amounts beside them.
+use Rattle.std.proofs.Common.{◌≡◌, ◌∙◌, refl, sym, ap, ℕ, ◌+◌, Bool, true, false, List, [], ◌∷◌, ◌++◌, map, length, append-nil}
+use Rattle.std.specs.Prelude.{if◌then◌else◌, codes, decimal, nat_eq, slice_index}
+use Rattle.std.specs.List.{filter, flat_map}
 use Rattle.std.proofs.lemmas.List.Concat.{flat_map_single}
 use Rattle.candidate_roll.specs.State.{state_at}
 use Rattle.fixed_place.specs.Text.{text_of}
 use Rattle.meek_rule.specs.Row.{Row}
-use Rattle.sheet_text.specs.Lines.{state_word}
 use Rattle.page_tree.specs.Trees.{Trees, Nothing, followed}
+use Rattle.sheet_text.specs.Lines.{state_word}
 use Rattle.sheet_reader.specs.Values.{SheetList}
+use Rattle.sheet_page.specs.Bars.{bars_of, has_bar, rest_count, rest_votes}
 use Rattle.sheet_page.specs.Html.{page}
-use Rattle.sheet_page.specs.PageLaws.{below, called_text, label_text, ends_of}
+use Rattle.sheet_page.specs.Json.{joined}
+use Rattle.sheet_page.specs.PageLaws.{below, amounts_line, rest_line, called_text, label_text, ends_of}
 use Rattle.sheet_page.specs.PageReading.{text_in, along, texts_along}
-use Rattle.sheet_page.specs.Picture.{bar, quota_line, scaled}
-use Rattle.sheet_page.specs.RoundEnds.{settled_at}
+use Rattle.sheet_page.specs.Picture.{bar, bar_at, quota_line, rest_part, rest_text, scaled}
+use Rattle.sheet_page.specs.RoundEnds.{left_over, settled_at}
 use Rattle.sheet_page.specs.Trees.{each}
 use Rattle.sheet_page.specs.Values.{places, name_at}
 use Rattle.sheet_page.proofs.PageTexts.{in_page}
-use Rattle.sheet_page.proofs.PageWalks.{found, found_followed, found_each}
+use Rattle.sheet_page.proofs.PageWalks.{picked, found, found_followed, found_each, found_if}
 
 abbrev labels : Trees → List (List ℕ)
 labels = found text_in (codes "text") []
 
+-- what stands over a bar
+said : (v : SheetList) (full : ℕ) (row : Row) (p : ℕ) → labels (bar v full row p) ≡ label_text v row p ∷ []
+said v full row p =
+    let front = λ (l : List ℕ).
+    state_word (state_at row.states p) ++ (codes " " ++ (text_of 9 (slice_index row.votes p) ++ (codes " " ++ l))) in
+    ap (λ l. front (l ++ (codes " (" ++ (decimal (p + 1) ++ codes ")"))) ∷ []) (append-nil (name_at v p))
+    ∙ ap (λ l. front l ∷ []) (sym (append-nil (called_text v p)))
+
 -- the bars of a round, and the line of its quota
 bars : (v : SheetList) (full : ℕ) (row : Row) →
-    labels (followed (each (bar v full row) (places (length v.names)))
-    (followed (quota_line (scaled full row.quota) (length v.names)) Nothing))
-    ≡ map (label_text v row) (places (length v.names))
+    labels (followed (each (bar_at v full row) (places (length v.names)))
+    (followed (quota_line (scaled full row.quota) (bars_of row)) Nothing))
+    ≡ map (label_text v row) (filter (has_bar row) (places (length v.names)))
 bars v full row =
-    let line = followed (quota_line (scaled full row.quota) (length v.names)) Nothing in
-    found_followed text_in (codes "text") [] (each (bar v full row) (places (length v.names))) line
-    ∙ append-nil (labels (each (bar v full row) (places (length v.names))))
-    ∙ found_each text_in (codes "text") [] (bar v full row) (places (length v.names))
-    ∙ (λ j. flat_map (λ p. said p j) (places (length v.names)))
-    ∙ flat_map_single (label_text v row) (places (length v.names))
+    let line = followed (quota_line (scaled full row.quota) (bars_of row)) Nothing in
+    found_followed text_in (codes "text") [] (each (bar_at v full row) (places (length v.names))) line
+    ∙ append-nil (labels (each (bar_at v full row) (places (length v.names))))
+    ∙ found_each text_in (codes "text") [] (bar_at v full row) (places (length v.names))
+    ∙ (λ j. flat_map (λ p. here p j) (places (length v.names)))
+    ∙ picked (has_bar row) (label_text v row) (places (length v.names))
   where
-    said : (p : ℕ) → labels (bar v full row p) ≡ label_text v row p ∷ []
-    said p =
-        let front = λ (l : List ℕ).
-        state_word (state_at row.states p) ++ (codes " " ++ (text_of 9 (slice_index row.votes p) ++ (codes " " ++ l))) in
-        ap (λ l. front (l ++ (codes " (" ++ (decimal (p + 1) ++ codes ")"))) ∷ []) (append-nil (name_at v p))
-        ∙ ap (λ l. front l ∷ []) (sym (append-nil (called_text v p)))
+    here : (p : ℕ) → labels (bar_at v full row p) ≡ (if has_bar row p then label_text v row p ∷ [] else [])
+    here p =
+        found_if text_in (codes "text") [] (has_bar row p) (bar v full row p)
+        ∙ ap (λ l. if has_bar row p then l else []) (said v full row p)
 
 pub picture_labels : (v : SheetList) →
     texts_along (below (codes "svg" ∷ codes "text" ∷ [])) (page v)
-    ≡ flat_map (λ row. map (label_text v row) (places (length v.names))) (ends_of v)
+    ≡ flat_map (λ row. map (label_text v row) (filter (has_bar row) (places (length v.names)))) (ends_of v)
 picture_labels v =
-    in_page text_in (codes "svg" ∷ codes "text" ∷ []) v (λ row. map (label_text v row) (places (length v.names))) here
+    in_page text_in (codes "svg" ∷ codes "text" ∷ []) v
+    (λ row. map (label_text v row) (filter (has_bar row) (places (length v.names)))) here
   where
     here : (full i : ℕ) →
-        map text_in ((along (codes "text" ∷ []) (followed (each (bar v full (settled_at v i)) (places (length v.names)))
-        (followed (quota_line (scaled full (settled_at v i).quota) (length v.names)) Nothing)) ++ []) ++ [])
-        ≡ map (label_text v (settled_at v i)) (places (length v.names))
+        map text_in ((along (codes "text" ∷ []) (followed (each (bar_at v full (settled_at v i)) (places (length v.names)))
+        (followed (quota_line (scaled full (settled_at v i).quota) (bars_of (settled_at v i))) Nothing)) ++ []) ++ [])
+        ≡ map (label_text v (settled_at v i)) (filter (has_bar (settled_at v i)) (places (length v.names)))
     here full i =
-        let them = along (codes "text" ∷ []) (followed (each (bar v full (settled_at v i)) (places (length v.names)))
-        (followed (quota_line (scaled full (settled_at v i).quota) (length v.names)) Nothing)) in
-        ap (map text_in) (append-nil (them ++ []) ∙ append-nil them) ∙ bars v full (settled_at v i)
+        let row = settled_at v i in
+        let them = along (codes "text" ∷ []) (followed (each (bar_at v full row) (places (length v.names)))
+        (followed (quota_line (scaled full row.quota) (bars_of row)) Nothing)) in
+        ap (map text_in) (append-nil (them ++ []) ∙ append-nil them) ∙ bars v full row
+
+-- ---- what is said of amounts
+
+abbrev said_of : Row → List ℕ
+said_of row =
+    joined (
+    codes " With fewer votes and without a bar: " ∷ decimal (rest_count row) ∷ codes ". Their votes together: "
+    ∷ text_of 9 (rest_votes row) ∷ codes "." ∷ []
+    )
+
+rest_said : (row : Row) → text_in (followed (rest_part row) Nothing) ≡ rest_line row ++ []
+rest_said row = either (nat_eq (rest_count row) 0)
+  where
+    either : (b : Bool) → text_in (followed (if b then Nothing else rest_text (rest_count row) (text_of 9 (rest_votes row))) Nothing)
+        ≡ (if b then [] else said_of row) ++ []
+    either true = refl
+    either false = sym (append-nil (said_of row))
+
+pub amount_texts : (v : SheetList) → texts_along (below (codes "p" ∷ [])) (page v) ≡ map (amounts_line v) (ends_of v)
+amount_texts v =
+    in_page text_in (codes "p" ∷ []) v (λ row. amounts_line v row ∷ []) (λ full i. here i)
+    ∙ flat_map_single (amounts_line v) (ends_of v)
+  where
+    here : (i : ℕ) →
+        (codes "Quota " ++ (text_of 9 (settled_at v i).quota ++ (codes ": the broken line. On no candidate: "
+        ++ (text_of 9 (left_over v.ballots (settled_at v i)) ++ (codes "."
+        ++ text_in (followed (rest_part (settled_at v i)) Nothing)))))) ∷ []
+        ≡ amounts_line v (settled_at v i) ∷ []
+    here i =
+        let row = settled_at v i in
+        ap (λ l. (codes "Quota " ++ (text_of 9 row.quota ++ (codes ": the broken line. On no candidate: "
+        ++ (text_of 9 (left_over v.ballots row) ++ (codes "." ++ l))))) ∷ []) (rest_said row)

@@ -1,5 +1,5 @@
 -- Rounds, place by place and as lists of their iterations.
-use Rattle.std.proofs.Common.{◌≡◌, ◌∙◌, refl, sym, ap, ℕ, ◌+◌, ◌-◌, ◌<◌, ◌≤◌, ◌&&◌, not, Bool, true, false, zero, suc}
+use Rattle.std.proofs.Common.{◌≡◌, ◌∙◌, refl, sym, ap, ℕ, ◌+◌, ◌-◌, ◌&&◌, not, Bool, true, false, zero, suc}
 use Rattle.std.proofs.Common.{List, [], ◌∷◌, ◌++◌, map, length, append-nil, append_assoc, eq-eqb, arith}
 use Rattle.std.specs.Prelude.{if◌then◌else◌, nat_eq}
 use Rattle.std.specs.List.{flat_map, list_all, range_with_len}

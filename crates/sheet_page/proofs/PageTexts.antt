@@ -1,28 +1,26 @@
 -- What stands on a page of its sheet.
 use Rattle.std.proofs.Common.{◌≡◌, ◌∙◌, refl, sym, ap, ℕ, ◌+◌, Bool, true, false, List, [], ◌∷◌, ◌++◌}
 use Rattle.std.proofs.Common.{map, length, append-nil, append_assoc}
-use Rattle.std.specs.Prelude.{if◌then◌else◌, codes, decimal, slice_index}
+use Rattle.std.specs.Prelude.{if◌then◌else◌, codes, decimal}
 use Rattle.std.specs.List.{filter, flat_map}
 use Rattle.std.proofs.lemmas.List.{map-append}
 use Rattle.std.proofs.lemmas.List.Concat.{flat_map_single}
-use Rattle.candidate_roll.specs.State.{state_at}
-use Rattle.fixed_place.specs.Text.{text_of}
 use Rattle.lot_order.specs.Flags.{mark_at}
 use Rattle.meek_rule.specs.Row.{Row}
 use Rattle.page_tree.specs.Trees.{Trees, Nothing, followed}
-use Rattle.sheet_text.specs.Lines.{state_word}
 use Rattle.sheet_reader.specs.Values.{SheetList}
 use Rattle.sheet_page.specs.Html.{elected_item, elected_in, in_round, at_end, is_seated, seated_item}
-use Rattle.sheet_page.specs.Html.{elected_part, rounds_part, link_at, link_to, round_link}
-use Rattle.sheet_page.specs.Html.{head_cells, head_row, name_cell, round_cells, vote_cell, round_at}
-use Rattle.sheet_page.specs.Html.{round_row, round_part, part_at, round_parts, page}
-use Rattle.sheet_page.specs.PageLaws.{below, called_text, elected_line, seated_line, marked_lines, ends_of, vote_text}
-use Rattle.sheet_page.specs.PageLaws.{round_texts, cells_of}
+use Rattle.sheet_page.specs.Html.{elected_part, rounds_part}
+use Rattle.sheet_page.specs.Iterations.{iteration, iteration_at, iterations}
+use Rattle.sheet_page.specs.Links.{link_at, link_to, round_link}
+use Rattle.sheet_page.specs.Html.{round_part, part_at, round_parts, page}
+use Rattle.sheet_page.specs.PageLaws.{below, elected_line, seated_line, marked_lines, ends_of}
 use Rattle.sheet_page.specs.PageReading.{text_in, along, texts_along}
 use Rattle.sheet_page.specs.Picture.{full_of}
-use Rattle.sheet_page.specs.RoundEnds.{ends_round, left_over, settled_at}
+use Rattle.sheet_page.specs.RoundEnds.{ends_round, settled_at}
+use Rattle.sheet_page.specs.Stretches.{is_of_round}
 use Rattle.sheet_page.specs.Told.{result_part}
-use Rattle.sheet_page.specs.Trees.{all, each}
+use Rattle.sheet_page.specs.Trees.{each}
 use Rattle.sheet_page.specs.Values.{places, name_at, row_at}
 use Rattle.sheet_page.proofs.PageWalks.{no_part, no_parts, picked, behind_nothing, found, found_followed}
 use Rattle.sheet_page.proofs.PageWalks.{found_each, found_if}
@@ -83,7 +81,7 @@ abbrev items : Trees → List (List ℕ)
 items = found text_in (codes "li") []
 
 -- a candidate with its number, and what stands behind it
-called_apart : (name : List ℕ) (number : ℕ) (behind : List ℕ)
+pub called_apart : (name : List ℕ) (number : ℕ) (behind : List ℕ)
     → (name ++ []) ++ (codes " (" ++ (decimal number ++ (codes ")" ++ behind)))
     ≡ (name ++ (codes " (" ++ (decimal number ++ codes ")"))) ++ behind
 called_apart name number behind =
@@ -195,90 +193,28 @@ pub folded_titles : (v : SheetList) →
     ≡ map (λ row. codes "Iterations of round " ++ decimal row.round) (ends_of v)
 folded_titles v =
     in_page text_in (codes "details" ∷ codes "summary" ∷ []) v
-    (λ row. (codes "Iterations of round " ++ decimal row.round) ∷ [])
-    (λ full i. ap (λ l. (codes "Iterations of round " ++ l) ∷ []) (append-nil (decimal (row_at v.rows i).round)))
+    (λ row. (codes "Iterations of round " ++ decimal row.round) ∷ []) (λ full i. here i)
     ∙ flat_map_single (λ (row : Row). codes "Iterations of round " ++ decimal row.round) (ends_of v)
+  where
+    either : (b : Bool) → (if b then [] else []) ≡ no_part {X = Bool} {Y = List ℕ} b
+    either true = refl
+    either false = refl
 
--- ---- the table of rounds
+    none : (last i : ℕ) → found text_in (codes "summary") [] (iteration_at v last i) ≡ no_part {X = ℕ} {Y = List ℕ} i
+    none last i =
+        found_if text_in (codes "summary") [] (is_of_round v.rows last i) (iteration v (row_at v.rows i))
+        ∙ either (is_of_round v.rows last i)
 
--- what stands in the first row, and in the row of a round
-abbrev head_within : SheetList → Trees
-head_within v = all (head_cells ∷ each (name_cell v) (places (length v.names)) ∷ [])
-
-abbrev row_within : SheetList → Row → Trees
-row_within v row = all (round_cells v.ballots row ∷ each (vote_cell row) (places (length v.names)) ∷ [])
-
-module _ {X : Type 0} (h : Trees → X) (v : SheetList) (g : Row → X) (is : (row : Row) → h (row_within v row) ≡ g row) where
-  rows_at : found h (codes "tr") [] (each (round_at v) (places (length v.rows))) ≡ map g (ends_of v)
-  rows_at =
-      found_each h (codes "tr") [] (round_at v) (places (length v.rows))
-      ∙ (λ j. flat_map (λ i. here i j) (places (length v.rows)))
-      ∙ at_ends (λ row. g row ∷ []) v.rows v.last
-      ∙ flat_map_single g (ends_of v)
-    where
-      here :
-          (i : ℕ)
-          → found h (codes "tr") [] (round_at v i)
-          ≡ (if ends_round v.rows i then g (settled_at v i) ∷ [] else [])
-      here i =
-          found_if h (codes "tr") [] (ends_round v.rows i) (round_row v (settled_at v i))
-          ∙ ap (λ x. if ends_round v.rows i then x ∷ [] else []) (is (settled_at v i))
-
-  pub table_rows :
-      map h (along (below (codes "table" ∷ codes "tr" ∷ [])) (page v)) ≡ h (head_within v) ∷ map g (ends_of v)
-  table_rows =
-      let rows = each (round_at v) (places (length v.rows)) in
-      let table = followed (head_row v) (followed rows Nothing) in
-      in_page h (codes "table" ∷ codes "tr" ∷ []) v no_part (λ full i. refl)
-      ∙ ap (λ l. in_parts h (codes "table" ∷ codes "tr" ∷ []) v (rounds_part v) ++ l) (no_parts (ends_of v))
-      ∙ append-nil (in_parts h (codes "table" ∷ codes "tr" ∷ []) v (rounds_part v))
-      ∙ ap (map h) (append-nil (along (codes "tr" ∷ []) table ++ []) ∙ append-nil (along (codes "tr" ∷ []) table))
-      ∙ ap (λ l. h (head_within v) ∷ l) (ap (found h (codes "tr") []) (behind_nothing rows) ∙ rows_at)
-
--- the cells that stand in each of these trees, one in each or none
-module _ (name : List ℕ) (tree : ℕ → Trees) (ps : List ℕ) where
-  pub one_each : (text : ℕ → List ℕ) → ((p : ℕ) → texts_along (name ∷ []) (tree p) ≡ text p ∷ [])
-      → texts_along (name ∷ []) (followed (each tree ps) Nothing) ≡ map text ps
-  one_each text is =
-      ap (texts_along (name ∷ [])) (behind_nothing (each tree ps))
-      ∙ found_each text_in name [] tree ps
-      ∙ (λ j. flat_map (λ p. is p j) ps)
-      ∙ flat_map_single text ps
-
-  none_each :
-      ((p : ℕ) → texts_along (name ∷ []) (tree p) ≡ [])
-      → texts_along (name ∷ []) (followed (each tree ps) Nothing) ≡ []
-  none_each is =
-      ap (texts_along (name ∷ [])) (behind_nothing (each tree ps))
-      ∙ found_each text_in name [] tree ps
-      ∙ (λ j. flat_map (λ p. is p j) ps)
-      ∙ no_parts ps
-
-pub table_heads : (v : SheetList) →
-    cells_of (codes "th") v
-    ≡ (codes "Round" ∷ codes "Quota" ∷ codes "On no candidate" ∷ map (called_text v) (places (length v.names)))
-    ∷ map (λ row. decimal row.round ∷ []) (ends_of v)
-table_heads v =
-    let ps = places (length v.names) in
-    table_rows (texts_along (codes "th" ∷ [])) v (λ row. decimal row.round ∷ [])
-    (λ row. ap (λ l. (decimal row.round ++ []) ∷ l) (none_each (codes "th") (vote_cell row) ps (λ p. refl))
-    ∙ ap (λ l. l ∷ []) (append-nil (decimal row.round)))
-    ∙ ap (λ l. (codes "Round" ∷ codes "Quota" ∷ codes "On no candidate" ∷ l)
-    ∷ map (λ (row : Row). decimal row.round ∷ []) (ends_of v))
-    (one_each (codes "th") (name_cell v) ps (called_text v) (λ p.
-    ap (λ l. (l ++ (codes " (" ++ (decimal (p + 1) ++ codes ")"))) ∷ []) (append-nil (name_at v p))))
-
-vote_said : (row : Row) (p : ℕ) → texts_along (codes "td" ∷ []) (vote_cell row p) ≡ vote_text row p ∷ []
-vote_said row p =
-    let word = state_word (state_at row.states p) in
-    ap (λ l. (text_of 9 (slice_index row.votes p) ++ (codes " " ++ l)) ∷ []) (append-nil (word ++ []) ∙ append-nil word)
-
-pub table_cells : (v : SheetList) → cells_of (codes "td") v ≡ [] ∷ map (round_texts v) (ends_of v)
-table_cells v =
-    let ps = places (length v.names) in
-    table_rows (texts_along (codes "td" ∷ [])) v (round_texts v)
-    (λ row. ap (λ l. (text_of 9 row.quota ++ []) ∷ (text_of 9 (left_over v.ballots row) ++ []) ∷ l)
-    (one_each (codes "td") (vote_cell row) ps (vote_text row) (vote_said row))
-    ∙ ap (λ l. l ∷ (text_of 9 (left_over v.ballots row) ++ []) ∷ map (vote_text row) ps) (append-nil (text_of 9 row.quota))
-    ∙ ap (λ l. text_of 9 row.quota ∷ l ∷ map (vote_text row) ps) (append-nil (text_of 9 (left_over v.ballots row))))
-    ∙ ap (λ l. l ∷ map (round_texts v) (ends_of v)) (none_each (codes "td") (name_cell v) ps (λ p. refl))
+    here : (i : ℕ) →
+        (codes "Iterations of round " ++ (decimal (row_at v.rows i).round ++ []))
+        ∷ map text_in ((along (codes "summary" ∷ []) (followed (iterations v i) Nothing) ++ []) ++ [])
+        ≡ (codes "Iterations of round " ++ decimal (row_at v.rows i).round) ∷ []
+    here i =
+        let title = codes "Iterations of round " ++ (decimal (row_at v.rows i).round ++ []) in
+        let them = along (codes "summary" ∷ []) (followed (iterations v i) Nothing) in
+        ap (λ l. title ∷ map text_in l) (append-nil (them ++ []) ∙ append-nil them)
+        ∙ ap (λ l. title ∷ l) (ap (found text_in (codes "summary") []) (behind_nothing (iterations v i))
+        ∙ found_each text_in (codes "summary") [] (iteration_at v i) (places (i + 1))
+        ∙ (λ j. flat_map (λ k. none i k j) (places (i + 1)))
+        ∙ no_parts (places (i + 1)))
+        ∙ ap (λ l. (codes "Iterations of round " ++ l) ∷ []) (append-nil (decimal (row_at v.rows i).round))

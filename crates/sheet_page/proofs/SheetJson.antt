@@ -1,25 +1,22 @@
 -- The JSON of a sheet as a text of what it says.
-use Rattle.std.proofs.Common.{◌≡◌, ◌∙◌, refl, sym, ap, ℕ, ◌+◌, Bool, true, false, List, [], ◌∷◌, ◌++◌, length}
+use Rattle.std.proofs.Common.{◌≡◌, ◌∙◌, refl, sym, ap, ℕ, List, [], ◌∷◌, ◌++◌, length}
 use Rattle.std.proofs.Common.{arith, ◌≤◌}
 use Rattle.std.proofs.Common.{map, append_assoc}
-use Rattle.std.specs.Prelude.{codes, decimal, slice_index}
+use Rattle.std.specs.Prelude.{codes, decimal}
 use Rattle.std.specs.List.{flat_map}
 use Rattle.std.proofs.lemmas.List.Elements.{All-get_or}
-use Rattle.candidate_roll.specs.State.{state_at}
-use Rattle.lot_order.specs.Flags.{mark_at}
 use Rattle.meek_rule.specs.Row.{Row, blank}
 use Rattle.plain_ballots.specs.declared.limits.TheConstants.{MOST_CANDIDATES}
 use Rattle.fixed_place.specs.Text.{text_of}
-use Rattle.sheet_text.specs.Lines.{state_word}
 use Rattle.sheet_reader.specs.Form.{IsPrintable, IsPrintableRow}
 use Rattle.sheet_reader.specs.Values.{SheetList}
-use Rattle.sheet_page.specs.Json.{amount, comma_at, truth, candidate_json, won_json, lost_json, standing_json}
+use Rattle.sheet_page.specs.Json.{amount, comma_at, candidate_json, standing_json}
 use Rattle.sheet_page.specs.Json.{iteration_json, iteration_at, json_of}
-use Rattle.sheet_page.specs.JsonGrammar.{Truth, IsTextOf, closed}
+use Rattle.sheet_page.specs.JsonGrammar.{IsTextOf, closed}
 use Rattle.sheet_page.specs.JsonText.{string_text}
 use Rattle.sheet_page.specs.JsonValues.{array, candidate_value, standing_value, iteration_value}
 use Rattle.sheet_page.specs.JsonValues.{iteration_value_at, sheet_value}
-use Rattle.sheet_page.specs.Values.{places, name_at, row_at, step_word, defeats}
+use Rattle.sheet_page.specs.Values.{places, row_at, step_word}
 use Rattle.sheet_page.proofs.JsonParts.{onto, joined-onto, onto-append, said-text, list-written, are-items}
 use Rattle.sheet_page.proofs.CandidateJson.{member, members, candidate_pieces, candidate-written, candidate-is}
 use Rattle.sheet_page.proofs.CandidateJson.{standing_pieces, standing-written, standing-is}

@@ -1,19 +1,18 @@
 -- A sheet as a page.
-use Rattle.std.specs.Prelude.{ℕ, ◌+◌, ◌&&◌, not, Bool, if◌then◌else◌, List, [], ◌∷◌, ◌++◌, length, codes, decimal, slice_index}
+use Rattle.std.specs.Prelude.{ℕ, ◌+◌, ◌&&◌, not, Bool, if◌then◌else◌, List, [], ◌∷◌, ◌++◌, length, codes, decimal}
 use Rattle.std.specs.List.{list_any}
 use Rattle.candidate_roll.specs.State.{state_at}
-use Rattle.candidate_roll.specs.declared.state.State.TheVariants.{Elected}
-use Rattle.fixed_place.specs.Text.{text_of}
 use Rattle.lot_order.specs.Flags.{mark_at}
 use Rattle.meek_rule.specs.Row.{Row}
 use Rattle.meek_rule.specs.Situation.{is_elected}
-use Rattle.page_tree.specs.Trees.{Attribute, Trees, Nothing}
+use Rattle.page_tree.specs.Trees.{Trees, Nothing}
 use Rattle.page_tree.specs.Print.{printed}
-use Rattle.sheet_text.specs.Lines.{state_word}
 use Rattle.sheet_reader.specs.Values.{SheetList}
 use Rattle.sheet_page.specs.Iterations.{folded}
+use Rattle.sheet_page.specs.Links.{links, part_attributes, part_name}
 use Rattle.sheet_page.specs.Picture.{full_of, round_picture}
-use Rattle.sheet_page.specs.RoundEnds.{ends_round, left_over, settled_at}
+use Rattle.sheet_page.specs.RoundEnds.{ends_round, settled_at}
+use Rattle.sheet_page.specs.RoundTable.{table_frame}
 use Rattle.sheet_page.specs.Style.{style}
 use Rattle.sheet_page.specs.Told.{result_part, round_sentences}
 use Rattle.sheet_page.specs.Trees.{all, candidate, each, el, void, words, at}
@@ -58,48 +57,7 @@ elected_title = el (codes "h2") [] (words (codes "Elected") ∷ [])
 abbrev pub elected_part : SheetList → Trees
 elected_part v = el (codes "section") [] (elected_title ∷ elected_list v ∷ [])
 
--- ---- the table of rounds
-
-abbrev pub head_cell : (name : List ℕ) → (number : ℕ) → Trees
-head_cell name number = el (codes "th") [] (candidate name number [])
-
-abbrev pub name_cell : SheetList → (p : ℕ) → Trees
-name_cell v p = head_cell (name_at v p) (p + 1)
-
-abbrev pub head_cells : Trees
-head_cells =
-    all (
-    el (codes "th") [] (words (codes "Round") ∷ []) ∷ el (codes "th") [] (words (codes "Quota") ∷ [])
-    ∷ el (codes "th") [] (words (codes "On no candidate") ∷ []) ∷ []
-    )
-
-abbrev pub head_row : SheetList → Trees
-head_row v = el (codes "tr") [] (head_cells ∷ each (name_cell v) (places (length v.names)) ∷ [])
-
--- a candidate's vote at the end of a round, and what it is behind it
-abbrev pub vote_cell : Row → (p : ℕ) → Trees
-vote_cell row p =
-    el (codes "td") [] (
-    words (text_of 9 (slice_index row.votes p)) ∷ words (codes " ")
-    ∷ el (codes "small") [] (words (state_word (state_at row.states p)) ∷ []) ∷ []
-    )
-
-abbrev pub round_cells : (ballots : ℕ) → Row → Trees
-round_cells ballots row =
-    all (
-    el (codes "th") [] (words (decimal row.round) ∷ []) ∷ el (codes "td") [] (words (text_of 9 row.quota) ∷ [])
-    ∷ el (codes "td") [] (words (text_of 9 (left_over ballots row)) ∷ []) ∷ []
-    )
-
-abbrev pub round_row : SheetList → Row → Trees
-round_row v row = el (codes "tr") [] (round_cells v.ballots row ∷ each (vote_cell row) (places (length v.names)) ∷ [])
-
--- a round, if it ends at this place
-abbrev pub round_at : SheetList → (i : ℕ) → Trees
-round_at v i = if ends_round v.rows i then round_row v (settled_at v i) else Nothing
-
-abbrev pub rounds_table : SheetList → Trees
-rounds_table v = el (codes "table") [] (head_row v ∷ each (round_at v) (places (length v.rows)) ∷ [])
+-- ---- the votes of all rounds
 
 abbrev pub rounds_title : Trees
 rounds_title = el (codes "h2") [] (words (codes "Votes at the end of each round") ∷ [])
@@ -116,39 +74,12 @@ words_explained =
     meaning (codes "Keep value")
     (codes "the part of each vote which reaches a candidate that the candidate keeps. The rest goes on to the next on the ballot. It is 1 for the hopeful; for the elected it falls until each keeps a quota.") (
     meaning (codes "On no candidate")
-    (codes "the votes that nobody keeps, since their ballots rank no further candidate who could, and what rounding leaves.") [])))
+    (codes "the votes that nobody keeps, since their ballots rank no further candidate who could, and what rounding leaves.") (
+    meaning (codes "In the iterations")
+    (codes "each candidate by its number, with its vote; one of whom nothing else is said is hopeful and keeps 1. Who is defeated or withdrawn and has no vote is left out.") []))))
 
 abbrev pub rounds_part : SheetList → Trees
-rounds_part v = el (codes "section") [] (rounds_title ∷ rounds_table v ∷ words_explained ∷ [])
-
--- ---- links to the rounds
-
--- the name of the part of the round that ends at a place: no two parts have one name, though two rounds may have one number
-abbrev pub part_name : (last : ℕ) → List ℕ
-part_name last = codes "i" ++ decimal (last + 1)
-
-abbrev pub part_attributes : (name : List ℕ) → List Attribute
-part_attributes name = at (codes "id") name ∷ []
-
--- where the link to this part leads; 35 is `#`
-abbrev pub link_to : (last : ℕ) → List ℕ
-link_to last = 35 ∷ part_name last
-
-abbrev pub round_link : (target : List ℕ) → (round : ℕ) → Trees
-round_link target round =
-    el (codes "li") [] (
-    el (codes "a") (at (codes "href") target ∷ []) (words (codes "Round ") ∷ words (decimal round) ∷ []) ∷ []
-    )
-
--- the link to a round, if it ends at this place
-abbrev pub link_at : SheetList → (i : ℕ) → Trees
-link_at v i = if ends_round v.rows i then round_link (link_to i) (row_at v.rows i).round else Nothing
-
-abbrev pub link_list : SheetList → Trees
-link_list v = el (codes "ul") [] (each (link_at v) (places (length v.rows)) ∷ [])
-
-abbrev pub links : SheetList → Trees
-links v = el (codes "nav") (at (codes "aria-label") (codes "Rounds") ∷ []) (link_list v ∷ [])
+rounds_part v = el (codes "section") [] (rounds_title ∷ table_frame v ∷ words_explained ∷ [])
 
 -- ---- each round
 

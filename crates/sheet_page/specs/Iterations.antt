@@ -1,59 +1,79 @@
--- The iterations of a round, folded away.
-use Rattle.std.specs.Prelude.{ℕ, ◌+◌, List, if◌then◌else◌, [], ◌∷◌, length, codes, decimal, slice_index}
+-- The iterations of a round, folded away: each with the candidates that it concerns, by their numbers.
+use Rattle.std.specs.Prelude.{ℕ, ◌+◌, ◌&&◌, not, Bool, true, false, nat_eq, List, if◌then◌else◌, [], ◌∷◌, ◌++◌, length, codes, decimal, slice_index}
 use Rattle.candidate_roll.specs.State.{state_at}
+use Rattle.candidate_roll.specs.declared.state.State.{State}
+use Rattle.candidate_roll.specs.declared.state.State.TheVariants.{Hopeful, Elected, Defeated, Withdrawn}
 use Rattle.fixed_place.specs.Text.{text_of}
 use Rattle.meek_rule.specs.Row.{Row}
 use Rattle.page_tree.specs.Trees.{Trees, Nothing}
-use Rattle.sheet_text.specs.Lines.{state_word}
 use Rattle.sheet_reader.specs.Values.{SheetList}
 use Rattle.sheet_page.specs.Stretches.{is_of_round}
-use Rattle.sheet_page.specs.Trees.{each, el, isolated, words, at}
-use Rattle.sheet_page.specs.Values.{places, name_at, row_at, step_word}
+use Rattle.sheet_page.specs.Trees.{each, el, words}
+use Rattle.sheet_page.specs.Values.{places, row_at, step_word}
 
--- a candidate in an iteration: its state and keep value before it, and its vote in it
-abbrev pub standing : (name state : List ℕ) → (keep vote : ℕ) → Trees
-standing name state keep vote =
-    el (codes "tr") [] (
-    el (codes "th") [] (isolated name ∷ []) ∷ el (codes "td") [] (words state ∷ [])
-    ∷ el (codes "td") [] (words (text_of 9 keep) ∷ []) ∷ el (codes "td") [] (words (text_of 9 vote) ∷ []) ∷ []
+-- ---- a candidate in an iteration
+
+-- is out of the count
+abbrev pub is_out : State → Bool
+is_out Hopeful = false
+is_out Elected = false
+is_out Defeated = true
+is_out Withdrawn = true
+
+-- An iteration concerns a candidate, but for one who is out of the count, keeps nothing and has no vote.
+abbrev pub concerns : Row → (p : ℕ) → Bool
+concerns row p =
+    not (is_out (state_at row.states p) && nat_eq (slice_index row.keeps p) 0 && nat_eq (slice_index row.votes p) 0)
+
+-- the state before an iteration, where it is not hopeful
+abbrev pub state_note : State → List ℕ
+state_note Hopeful = []
+state_note Elected = codes " elected"
+state_note Defeated = codes " defeated"
+state_note Withdrawn = codes " withdrawn"
+
+-- the keep value before an iteration, where it is not 1
+abbrev pub keep_note : (keep : ℕ) → List ℕ
+keep_note keep = if nat_eq keep 1000000000 then [] else codes ", keeps " ++ text_of 9 keep
+
+abbrev pub standing : (number : ℕ) → (state keep : List ℕ) → (vote : ℕ) → Trees
+standing number state keep vote =
+    el (codes "dd") [] (
+    words (decimal number) ∷ words state ∷ words keep ∷ words (codes ": ") ∷ words (text_of 9 vote) ∷ []
     )
 
-abbrev pub standing_at : SheetList → Row → (p : ℕ) → Trees
-standing_at v row p =
-    standing (name_at v p) (state_word (state_at row.states p)) (slice_index row.keeps p) (slice_index row.votes p)
+-- a candidate's number, its state and keep value before an iteration, and its vote in it
+abbrev pub standing_of : Row → (p : ℕ) → Trees
+standing_of row p =
+    standing (p + 1) (state_note (state_at row.states p)) (keep_note (slice_index row.keeps p)) (slice_index row.votes p)
+
+abbrev pub standing_at : Row → (p : ℕ) → Trees
+standing_at row p = if concerns row p then standing_of row p else Nothing
+
+-- ---- an iteration
 
 -- the number and the amounts of an iteration, and its step
 abbrev pub iteration_line : (iteration total quota surplus : ℕ) → (step : List ℕ) → Trees
 iteration_line iteration total quota surplus step =
-    el (codes "tr") [] (
-    el (codes "th") (at (codes "colspan") (codes "4") ∷ []) (
+    el (codes "dt") [] (
     words (codes "Iteration ") ∷ words (decimal iteration) ∷ words (codes ": total ") ∷ words (text_of 9 total)
     ∷ words (codes ", quota ") ∷ words (text_of 9 quota) ∷ words (codes ", surplus ") ∷ words (text_of 9 surplus)
     ∷ words (codes ", step ") ∷ words step ∷ []
-    ) ∷ []
     )
 
 abbrev pub iteration_head : Row → Trees
 iteration_head row = iteration_line row.iteration row.total row.quota row.surplus (step_word row.step)
 
 abbrev pub iteration : SheetList → Row → Trees
-iteration v row =
-    el (codes "tbody") [] (iteration_head row ∷ each (standing_at v row) (places (length v.names)) ∷ [])
+iteration v row = el (codes "dl") [] (iteration_head row ∷ each (standing_at row) (places (length v.names)) ∷ [])
 
 -- the iteration at a place, if it is of the round that ends at the last
 abbrev pub iteration_at : SheetList → (last i : ℕ) → Trees
 iteration_at v last i = if is_of_round v.rows last i then iteration v (row_at v.rows i) else Nothing
 
-abbrev pub columns : Trees
-columns =
-    el (codes "tr") [] (
-    el (codes "th") [] (words (codes "Candidate") ∷ []) ∷ el (codes "th") [] (words (codes "State before") ∷ [])
-    ∷ el (codes "th") [] (words (codes "Keep value") ∷ []) ∷ el (codes "th") [] (words (codes "Vote") ∷ []) ∷ []
-    )
-
 -- the iterations of the round that ends at a place
 abbrev pub iterations : SheetList → (last : ℕ) → Trees
-iterations v last = el (codes "table") [] (columns ∷ each (iteration_at v last) (places (last + 1)) ∷ [])
+iterations v last = each (iteration_at v last) (places (last + 1))
 
 abbrev pub summary : (round : ℕ) → Trees
 summary round = el (codes "summary") [] (words (codes "Iterations of round ") ∷ words (decimal round) ∷ [])

@@ -13,9 +13,12 @@ pub mod Trees
 pub mod Style
 pub mod RoundEnds
 pub mod Stretches
+pub mod Bars
 pub mod Picture
 pub mod Iterations
 pub mod Told
+pub mod Links
+pub mod RoundTable
 pub mod Html
 pub mod Laws
 pub mod PageReading

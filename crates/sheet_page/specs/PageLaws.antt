@@ -9,7 +9,9 @@ use Rattle.lot_order.specs.Flags.{mark_at}
 use Rattle.meek_rule.specs.Row.{Row}
 use Rattle.sheet_text.specs.Lines.{state_word}
 use Rattle.sheet_reader.specs.Values.{SheetList}
+use Rattle.sheet_page.specs.Bars.{has_bar, rest_count, rest_votes}
 use Rattle.sheet_page.specs.Html.{is_seated, page}
+use Rattle.sheet_page.specs.Iterations.{concerns, keep_note, state_note}
 use Rattle.sheet_page.specs.Json.{joined}
 use Rattle.sheet_page.specs.PageReading.{along, texts_along}
 use Rattle.sheet_page.specs.RoundEnds.{left_over, settled}
@@ -66,14 +68,14 @@ ends_of v = round_ends v.rows v.last
 abbrev pub vote_text : Row → (p : ℕ) → List ℕ
 vote_text row p = text_of 9 (slice_index row.votes p) ++ (codes " " ++ state_word (state_at row.states p))
 
--- the cells of a round: its quota, the votes on no candidate, and each candidate
-abbrev pub round_texts : SheetList → Row → List (List ℕ)
-round_texts v row =
-    text_of 9 row.quota ∷ text_of 9 (left_over v.ballots row) ∷ map (vote_text row) (places (length v.names))
+-- the cells of a candidate: its vote and state at the end of each round
+abbrev pub line_texts : SheetList → (p : ℕ) → List (List ℕ)
+line_texts v p = map (λ row. vote_text row p) (ends_of v)
 
--- what the cells of this name say, in each row of the table of rounds
+-- what the cells of this name say, in each line below the head of the table of rounds
 abbrev pub cells_of : (name : List ℕ) → SheetList → List (List (List ℕ))
-cells_of name v = map (texts_along (name ∷ [])) (along (below (codes "table" ∷ codes "tr" ∷ [])) (page v))
+cells_of name v =
+    map (texts_along (name ∷ [])) (along (below (codes "div" ∷ codes "table" ∷ codes "tbody" ∷ codes "tr" ∷ [])) (page v))
 
 -- what stands over a candidate's bar: its state, vote, name and number
 abbrev pub label_text : SheetList → Row → (p : ℕ) → List ℕ
@@ -82,9 +84,26 @@ label_text v row p =
     state_word (state_at row.states p) ∷ codes " " ∷ text_of 9 (slice_index row.votes p) ∷ codes " " ∷ called_text v p ∷ []
     )
 
--- A page has a part with a title for each round, with a label for each candidate and its iterations within the part; and the
--- table has a row for each round, below a row of all candidates, and there is a link to each round. All stand in the order of
--- the rounds, and there is no other.
+-- what is said of those who stand and have no bar, if there are any
+abbrev pub rest_line : Row → List ℕ
+rest_line row =
+    if nat_eq (rest_count row) 0 then [] else
+    joined (
+    codes " With fewer votes and without a bar: " ∷ decimal (rest_count row) ∷ codes ". Their votes together: "
+    ∷ text_of 9 (rest_votes row) ∷ codes "." ∷ []
+    )
+
+-- what is said of the amounts of a round
+abbrev pub amounts_line : SheetList → Row → List ℕ
+amounts_line v row =
+    joined (
+    codes "Quota " ∷ text_of 9 row.quota ∷ codes ": the broken line. On no candidate: "
+    ∷ text_of 9 (left_over v.ballots row) ∷ codes "." ∷ rest_line row ∷ []
+    )
+
+-- A page has a part with a title for each round, with a label for each candidate who has a bar and its iterations within the part; and the
+-- table has a column for each round below its number, and a line for the quota, for what is on no candidate, and for each
+-- candidate; and there is a link to each round. All stand in the order of the rounds, and there is no other.
 pub record HasItsRounds (v : SheetList) : Type 0 where
   pub links :
       texts_along (codes "html" ∷ codes "body" ∷ codes "main" ∷ codes "nav" ∷ codes "ul" ∷ codes "li" ∷ []) (page v)
@@ -98,12 +117,19 @@ pub record HasItsRounds (v : SheetList) : Type 0 where
       ≡ map (λ row. codes "Iterations of round " ++ decimal row.round) (ends_of v)
   pub labels :
       texts_along (below (codes "svg" ∷ codes "text" ∷ [])) (page v)
-      ≡ flat_map (λ row. map (label_text v row) (places (length v.names))) (ends_of v)
+      ≡ flat_map (λ row. map (label_text v row) (filter (has_bar row) (places (length v.names)))) (ends_of v)
+  pub amounts : texts_along (below (codes "p" ∷ [])) (page v) ≡ map (amounts_line v) (ends_of v)
+  pub columns :
+      texts_along (below (codes "div" ∷ codes "table" ∷ codes "thead" ∷ codes "tr" ∷ codes "th" ∷ [])) (page v)
+      ≡ codes "Candidate" ∷ map (λ row. decimal row.round) (ends_of v)
   pub heads :
       cells_of (codes "th") v
-      ≡ (codes "Round" ∷ codes "Quota" ∷ codes "On no candidate" ∷ map (called_text v) (places (length v.names)))
-      ∷ map (λ row. decimal row.round ∷ []) (ends_of v)
-  pub cells : cells_of (codes "td") v ≡ [] ∷ map (round_texts v) (ends_of v)
+      ≡ (codes "Quota" ∷ []) ∷ (codes "On no candidate" ∷ [])
+      ∷ map (λ p. called_text v p ∷ []) (places (length v.names))
+  pub cells :
+      cells_of (codes "td") v
+      ≡ map (λ row. text_of 9 row.quota) (ends_of v) ∷ map (λ row. text_of 9 (left_over v.ballots row)) (ends_of v)
+      ∷ map (line_texts v) (places (length v.names))
 
 abbrev pub PagesHaveTheirRounds : Type 0
 PagesHaveTheirRounds = (v : SheetList) → HasItsRounds v
@@ -118,23 +144,28 @@ iteration_text row =
     ∷ codes ", surplus " ∷ text_of 9 row.surplus ∷ codes ", step " ∷ step_word row.step ∷ []
     )
 
--- a candidate's state and keep value before an iteration, and its vote in it
-abbrev pub standing_texts : Row → (p : ℕ) → List (List ℕ)
-standing_texts row p =
-    state_word (state_at row.states p) ∷ text_of 9 (slice_index row.keeps p) ∷ text_of 9 (slice_index row.votes p) ∷ []
+-- a candidate's number, its state and keep value before an iteration, and its vote in it
+abbrev pub standing_text : Row → (p : ℕ) → List ℕ
+standing_text row p =
+    joined (
+    decimal (p + 1) ∷ state_note (state_at row.states p) ∷ keep_note (slice_index row.keeps p) ∷ codes ": "
+    ∷ text_of 9 (slice_index row.votes p) ∷ []
+    )
 
--- what the cells of this name say, in each iteration that a page has in its parts
+-- what the elements of this name say, in each iteration that a page has in its parts
 abbrev pub iterations_of : (name : List ℕ) → SheetList → List (List (List ℕ))
-iterations_of name v =
-    map (texts_along (codes "tr" ∷ name ∷ []))
-    (along (below (codes "details" ∷ codes "table" ∷ codes "tbody" ∷ [])) (page v))
+iterations_of name v = map (texts_along (name ∷ [])) (along (below (codes "details" ∷ codes "dl" ∷ [])) (page v))
 
--- The parts of a page together have each iteration of the sheet once, in their order: its amounts, and below them the name,
--- the state, the keep value and the vote of each candidate.
+-- The parts of a page together have each iteration of the sheet once, in their order: its amounts, and below them, by rising
+-- numbers, each candidate that it concerns. Whoever has a vote or keeps anything is among them.
 pub record HasItsIterations (v : SheetList) : Type 0 where
-  pub heads : iterations_of (codes "th") v ≡ map (λ row. iteration_text row ∷ v.names) v.rows
-  pub cells :
-      iterations_of (codes "td") v ≡ map (λ row. flat_map (standing_texts row) (places (length v.names))) v.rows
+  pub heads : iterations_of (codes "dt") v ≡ map (λ row. iteration_text row ∷ []) v.rows
+  pub candidates :
+      iterations_of (codes "dd") v
+      ≡ map (λ row. map (standing_text row) (filter (concerns row) (places (length v.names)))) v.rows
+  pub left_out :
+      (row : Row) (p : ℕ)
+      → concerns row p ≡ false → (slice_index row.votes p ≡ 0) × (slice_index row.keeps p ≡ 0)
 
 abbrev pub PagesHaveTheirIterations : Type 0
 PagesHaveTheirIterations = (v : SheetList) → HasItsIterations v

@@ -3,9 +3,10 @@ use Rattle.std.specs.Prelude.{ℕ, ◌+◌, ◌*◌, ◌/◌, max, min, if◌the
 use Rattle.candidate_roll.specs.State.{state_at}
 use Rattle.fixed_place.specs.Text.{text_of}
 use Rattle.meek_rule.specs.Row.{Row}
-use Rattle.page_tree.specs.Trees.{Attribute, Trees}
+use Rattle.page_tree.specs.Trees.{Attribute, Trees, Nothing}
 use Rattle.sheet_text.specs.Lines.{state_word}
 use Rattle.sheet_reader.specs.Values.{SheetList}
+use Rattle.sheet_page.specs.Bars.{bars_before, bars_of, has_bar, rest_count, rest_votes}
 use Rattle.sheet_page.specs.RoundEnds.{left_over}
 use Rattle.sheet_page.specs.Trees.{all, each, el, words, at}
 use Rattle.sheet_page.specs.Values.{places, name_at}
@@ -49,13 +50,17 @@ rectangle y length state =
 
 -- a candidate's vote at the end of a round, and what it is behind it
 abbrev pub label_at : SheetList → Row → (p : ℕ) → Trees
-label_at v row p = label (p * 36 + 16) (name_at v p) (p + 1) (state_word (state_at row.states p)) (slice_index row.votes p)
+label_at v row p = label (bars_before row p * 36 + 16) (name_at v p) (p + 1) (state_word (state_at row.states p)) (slice_index row.votes p)
 
 abbrev pub rectangle_at : (full : ℕ) → Row → (p : ℕ) → Trees
-rectangle_at full row p = rectangle (p * 36 + 21) (scaled full (slice_index row.votes p)) (state_word (state_at row.states p))
+rectangle_at full row p = rectangle (bars_before row p * 36 + 21) (scaled full (slice_index row.votes p)) (state_word (state_at row.states p))
 
 abbrev pub bar : SheetList → (full : ℕ) → Row → (p : ℕ) → Trees
 bar v full row p = all (label_at v row p ∷ rectangle_at full row p ∷ [])
+
+-- the bar of a candidate, if it has one
+abbrev pub bar_at : SheetList → (full : ℕ) → Row → (p : ℕ) → Trees
+bar_at v full row p = if has_bar row p then bar v full row p else Nothing
 
 -- ---- the whole picture
 
@@ -64,7 +69,8 @@ abbrev pub picture_title : (round : ℕ) → Trees
 picture_title round =
     el (codes "title") [] (
     words (codes "Votes at the end of round ") ∷ words (decimal round)
-    ∷ words (codes ": a bar for each candidate, and the quota as a line. The table above has the numbers.") ∷ []
+    ∷ words (codes ": a bar for each candidate who stands in it, of more than 24 for those with the most votes, and the quota as a line. The table above has the numbers.")
+    ∷ []
     )
 
 -- The quota as a line down over so many bars. It begins at the first bar, below its label, and is broken so that no label is
@@ -88,21 +94,35 @@ picture_attributes bars = attributes_of (view_box bars)
 
 abbrev pub picture : SheetList → (full : ℕ) → Row → Trees
 picture v full row =
-    el (codes "svg") (picture_attributes (length v.names)) (
-    picture_title row.round ∷ each (bar v full row) (places (length v.names))
-    ∷ quota_line (scaled full row.quota) (length v.names) ∷ []
+    el (codes "svg") (picture_attributes (bars_of row)) (
+    picture_title row.round ∷ each (bar_at v full row) (places (length v.names))
+    ∷ quota_line (scaled full row.quota) (bars_of row) ∷ []
     )
+
+-- ---- what is said of the amounts of a round
 
 -- the quota, and what is left on no candidate
 abbrev pub amounts_text : (quota left : ℕ) → Trees
 amounts_text quota left =
-    el (codes "p") [] (
+    all (
     words (codes "Quota ") ∷ words (text_of 9 quota) ∷ words (codes ": the broken line. On no candidate: ")
     ∷ words (text_of 9 left) ∷ words (codes ".") ∷ []
     )
 
+-- how many stand and have no bar, and their votes together
+abbrev pub rest_text : (count : ℕ) → (votes : List ℕ) → Trees
+rest_text count votes =
+    all (
+    words (codes " With fewer votes and without a bar: ") ∷ words (decimal count)
+    ∷ words (codes ". Their votes together: ") ∷ words votes ∷ words (codes ".") ∷ []
+    )
+
+-- of these, if there are any
+abbrev pub rest_part : Row → Trees
+rest_part row = if nat_eq (rest_count row) 0 then Nothing else rest_text (rest_count row) (text_of 9 (rest_votes row))
+
 abbrev pub amounts_of : (ballots : ℕ) → Row → Trees
-amounts_of ballots row = amounts_text row.quota (left_over ballots row)
+amounts_of ballots row = el (codes "p") [] (amounts_text row.quota (left_over ballots row) ∷ rest_part row ∷ [])
 
 abbrev pub round_picture : SheetList → (full : ℕ) → Row → Trees
 round_picture v full row = all (amounts_of v.ballots row ∷ picture v full row ∷ [])

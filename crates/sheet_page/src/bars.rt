@@ -4,7 +4,7 @@ ghost use Rattle.plain_ballots.specs.declared.limits.TheConstants.{MOST_CANDIDAT
 ghost use Rattle.meek_rule.specs.Row.{HasRoomFor};
 ghost use Rattle.page_tree.specs.Print.{printed};
 ghost use Rattle.sheet_reader.specs.Form.{IsPrintable};
-ghost use Rattle.sheet_page.specs.Picture.{bar, label, label_at, rectangle, rectangle_at};
+ghost use Rattle.sheet_page.specs.Picture.{bar, bar_at, label, label_at, rectangle, rectangle_at};
 ghost use Rattle.sheet_page.specs.RoundEnds.{settled};
 ghost use Rattle.sheet_page.specs.Prints.{Prints};
 ghost use Rattle.sheet_page.specs.Trees.{print_each};
@@ -13,6 +13,7 @@ ghost use Rattle.sheet_page.specs.Values.{places};
 use crate::cell::Cell;
 use crate::pen::Pen;
 use crate::piece::Piece;
+use crate::ranks::{bars_before, has_bar};
 use crate::values::state_word;
 use crate::widths::scaled;
 use byte_edge::Sink;
@@ -33,9 +34,29 @@ pub(crate) fn write_bars<K: Sink>(
     requires room { HasRoomFor (length values.now.names) row.now }
     requires states { length behind.now ≡ length values.now.names }
     ensures { Prints K.Sink pen.old pen.new
-        (print_each (bar values.now full (settled row.now behind.now)) (places (length values.now.names))) }
+        (print_each (bar_at values.now full (settled row.now behind.now)) (places (length values.now.names))) }
 {
     for p in 0..values.names.len() {
+        write_bar_at(pen, values, full, row, behind, p);
+    }
+}
+
+/// The bar of the candidate at a place, if it has one.
+fn write_bar_at<K: Sink>(
+    pen: &mut Pen<'_, K>,
+    values: &SheetValues,
+    full: u64,
+    row: &Row<9>,
+    behind: &States,
+    p: usize,
+)
+    requires printable { IsPrintable 9 values.now }
+    requires room { HasRoomFor (length values.now.names) row.now }
+    requires states { length behind.now ≡ length values.now.names }
+    requires place { p < length values.now.names }
+    ensures { Prints K.Sink pen.old pen.new (printed (bar_at values.now full (settled row.now behind.now) p)) }
+{
+    if has_bar(row, p) {
         write_bar(pen, values, full, row, behind, p);
     }
 }
@@ -77,7 +98,7 @@ fn write_label_at<K: Sink>(
     let name = values.names.get(p).bytes();
     write_label(
         pen,
-        p as u64 * 36 + 16,
+        bars_before(row, p) as u64 * 36 + 16,
         name,
         p as u64 + 1,
         state,
@@ -101,7 +122,7 @@ fn write_rectangle_at<K: Sink>(
 {
     let state = state_word(*behind.get(p));
     let length = scaled(full, *row.votes.get(p));
-    write_rectangle(pen, p as u64 * 36 + 21, length, state);
+    write_rectangle(pen, bars_before(row, p) as u64 * 36 + 21, length, state);
 }
 
 /// State, vote, name and number, so many points down.

@@ -1,9 +1,10 @@
 // The iterations of a round, folded away.
-ghost use Rattle.std.specs.Prelude.{◌+◌, ◌<◌, length};
+ghost use Rattle.std.specs.Prelude.{◌≡◌, ◌+◌, ◌<◌, ◌≤◌, length};
+ghost use Rattle.plain_ballots.specs.declared.limits.TheConstants.{MOST_CANDIDATES};
 ghost use Rattle.meek_rule.specs.Row.{HasRoomFor};
 ghost use Rattle.page_tree.specs.Print.{printed};
 ghost use Rattle.sheet_reader.specs.Form.{IsPrintable};
-ghost use Rattle.sheet_page.specs.Iterations.{columns, folded, iteration, iteration_at, iteration_head, iteration_line, iterations, standing, standing_at, summary};
+ghost use Rattle.sheet_page.specs.Iterations.{concerns, folded, is_out, iteration, iteration_at, iteration_head, iteration_line, keep_note, standing, standing_at, standing_of, state_note, summary};
 ghost use Rattle.sheet_page.specs.Prints.{Prints};
 ghost use Rattle.sheet_page.specs.Trees.{print_each};
 ghost use Rattle.sheet_page.specs.Values.{places, row_at};
@@ -11,12 +12,18 @@ ghost use Rattle.sheet_page.specs.Values.{places, row_at};
 use crate::cell::Cell;
 use crate::pen::Pen;
 use crate::piece::Piece;
+use crate::ranks::is_nothing;
 use crate::stretches::first_of;
-use crate::values::{kept_of_one, state_word, step_word};
+use crate::values::{kept_of_one, step_word};
 use byte_edge::Sink;
+use candidate_roll::State;
 use fixed_place::Amount;
+use line_text::Line;
 use meek_rule::Row;
 use sheet_reader::SheetValues;
+
+/// A keep value of 1, in units.
+const WHOLE: u64 = 1_000_000_000;
 
 /// The iterations of the round that ends at a place.
 pub(crate) fn write_folded<K: Sink>(pen: &mut Pen<'_, K>, values: &SheetValues, last: usize)
@@ -27,7 +34,7 @@ pub(crate) fn write_folded<K: Sink>(pen: &mut Pen<'_, K>, values: &SheetValues, 
     let row = values.rows.get(last);
     pen.open(b"details");
     write_summary(pen, row.round);
-    write_iterations(pen, values, last);
+    write_iterations_of(pen, values, last);
     pen.close(b"details");
 }
 
@@ -40,39 +47,6 @@ fn write_summary<K: Sink>(pen: &mut Pen<'_, K>, round: u32)
         Piece::Text(Cell::Bytes(b"Iterations of round ")),
         Piece::Text(Cell::Count(round as u64)),
         Piece::End(b"summary"),
-    ]);
-}
-
-/// The table of the iterations of the round that ends at a place.
-fn write_iterations<K: Sink>(pen: &mut Pen<'_, K>, values: &SheetValues, last: usize)
-    requires printable { IsPrintable 9 values.now }
-    requires place { last < length values.now.rows }
-    ensures { Prints K.Sink pen.old pen.new (printed (iterations values.now last)) }
-{
-    pen.open(b"table");
-    write_columns(pen);
-    write_iterations_of(pen, values, last);
-    pen.close(b"table");
-}
-
-fn write_columns<K: Sink>(pen: &mut Pen<'_, K>)
-    ensures { Prints K.Sink pen.old pen.new (printed columns) }
-{
-    pen.write(&[
-        Piece::Start(b"tr"),
-        Piece::Start(b"th"),
-        Piece::Text(Cell::Bytes(b"Candidate")),
-        Piece::End(b"th"),
-        Piece::Start(b"th"),
-        Piece::Text(Cell::Bytes(b"State before")),
-        Piece::End(b"th"),
-        Piece::Start(b"th"),
-        Piece::Text(Cell::Bytes(b"Keep value")),
-        Piece::End(b"th"),
-        Piece::Start(b"th"),
-        Piece::Text(Cell::Bytes(b"Vote")),
-        Piece::End(b"th"),
-        Piece::End(b"tr"),
     ]);
 }
 
@@ -97,16 +71,16 @@ fn write_iteration_at<K: Sink>(pen: &mut Pen<'_, K>, values: &SheetValues, i: us
     write_iteration(pen, values, values.rows.get(i));
 }
 
-/// An iteration: a line of its own, and a line for each candidate.
+/// An iteration: a line of its own, and the candidates that it concerns.
 fn write_iteration<K: Sink>(pen: &mut Pen<'_, K>, values: &SheetValues, row: &Row<9>)
     requires printable { IsPrintable 9 values.now }
     requires room { HasRoomFor (length values.now.names) row.now }
     ensures { Prints K.Sink pen.old pen.new (printed (iteration values.now row.now)) }
 {
-    pen.open(b"tbody");
+    pen.open(b"dl");
     write_iteration_head(pen, row);
     write_standings(pen, values, row);
-    pen.close(b"tbody");
+    pen.close(b"dl");
 }
 
 /// The line of an iteration.
@@ -117,7 +91,7 @@ fn write_iteration_head<K: Sink>(pen: &mut Pen<'_, K>, row: &Row<9>)
     write_iteration_line(pen, row.iteration, row.total, row.quota, row.surplus, step);
 }
 
-/// Number, amounts and step of an iteration, over all four columns.
+/// Number, amounts and step of an iteration.
 fn write_iteration_line<K: Sink>(
     pen: &mut Pen<'_, K>,
     iteration: u64,
@@ -130,10 +104,7 @@ fn write_iteration_line<K: Sink>(
         (printed (iteration_line iteration total quota surplus step.now)) }
 {
     pen.write(&[
-        Piece::Start(b"tr"),
-        Piece::Begin(b"th"),
-        Piece::With(b"colspan", Cell::Bytes(b"4")),
-        Piece::Within,
+        Piece::Start(b"dt"),
         Piece::Text(Cell::Bytes(b"Iteration ")),
         Piece::Text(Cell::Count(iteration)),
         Piece::Text(Cell::Bytes(b": total ")),
@@ -144,62 +115,111 @@ fn write_iteration_line<K: Sink>(
         Piece::Text(Cell::Amount(surplus)),
         Piece::Text(Cell::Bytes(b", step ")),
         Piece::Text(Cell::Bytes(step)),
-        Piece::End(b"th"),
-        Piece::End(b"tr"),
+        Piece::End(b"dt"),
     ]);
 }
 
-/// All candidates in an iteration.
+/// The candidates that an iteration concerns.
 fn write_standings<K: Sink>(pen: &mut Pen<'_, K>, values: &SheetValues, row: &Row<9>)
     requires printable { IsPrintable 9 values.now }
     requires room { HasRoomFor (length values.now.names) row.now }
     ensures { Prints K.Sink pen.old pen.new
-        (print_each (standing_at values.now row.now) (places (length values.now.names))) }
+        (print_each (standing_at row.now) (places (length values.now.names))) }
 {
     for p in 0..values.names.len() {
-        write_standing_at(pen, values, row, p);
+        write_standing_at(pen, row, p);
     }
 }
 
-/// The candidate at a place in an iteration.
-fn write_standing_at<K: Sink>(pen: &mut Pen<'_, K>, values: &SheetValues, row: &Row<9>, p: usize)
-    requires printable { IsPrintable 9 values.now }
-    requires room { HasRoomFor (length values.now.names) row.now }
-    requires place { p < length values.now.names }
-    ensures { Prints K.Sink pen.old pen.new (printed (standing_at values.now row.now p)) }
+/// The candidate at a place, if the iteration concerns it.
+fn write_standing_at<K: Sink>(pen: &mut Pen<'_, K>, row: &Row<9>, p: usize)
+    requires room { HasRoomFor (length row.now.states) row.now }
+    requires few { length row.now.states ≤ MOST_CANDIDATES }
+    requires place { p < length row.now.states }
+    ensures { Prints K.Sink pen.old pen.new (printed (standing_at row.now p)) }
 {
-    let state = state_word(*row.states.get(p));
-    let name = values.names.get(p).bytes();
-    let keep = kept_of_one(*row.keeps.get(p));
-    write_standing(pen, name, state, keep, *row.votes.get(p));
+    if concerns(row, p) {
+        write_standing_of(pen, row, p);
+    }
 }
 
-/// A candidate in an iteration.
+/// Whether an iteration concerns the candidate at a place: it does not where the candidate is out of the count,
+/// keeps nothing and has no vote.
+fn concerns(row: &Row<9>, p: usize) -> bool
+    requires room { HasRoomFor (length row.now.states) row.now }
+    requires place { p < length row.now.states }
+    ensures { result ≡ concerns row.now p }
+{
+    let keep = *row.keeps.get(p);
+    let vote = *row.votes.get(p);
+    !(is_out(*row.states.get(p)) && is_nothing(keep.units()) && is_nothing(vote.units()))
+}
+
+fn is_out(state: State) -> bool
+    ensures { result ≡ is_out state }
+{
+    match state {
+        State::Hopeful => false,
+        State::Elected => false,
+        State::Defeated => true,
+        State::Withdrawn => true,
+    }
+}
+
+/// A candidate's number, its state and keep value before an iteration, and its vote in it.
+fn write_standing_of<K: Sink>(pen: &mut Pen<'_, K>, row: &Row<9>, p: usize)
+    requires room { HasRoomFor (length row.now.states) row.now }
+    requires few { length row.now.states ≤ MOST_CANDIDATES }
+    requires place { p < length row.now.states }
+    ensures { Prints K.Sink pen.old pen.new (printed (standing_of row.now p)) }
+{
+    let state = state_note(*row.states.get(p));
+    let keep = keep_note(kept_of_one(*row.keeps.get(p)));
+    write_standing(pen, p as u64 + 1, state, keep.bytes(), *row.votes.get(p));
+}
+
+/// The state before an iteration, where it is not hopeful.
+fn state_note(state: State) -> &'static [u8]
+    ensures { result.now ≡ state_note state }
+{
+    match state {
+        State::Hopeful => b"",
+        State::Elected => b" elected",
+        State::Defeated => b" defeated",
+        State::Withdrawn => b" withdrawn",
+    }
+}
+
+/// The keep value before an iteration, where it is not 1.
+#[tactic(auto, using(line_text::proofs::Lengths::lengths))]
+fn keep_note(keep: Amount<9>) -> Line
+    ensures { result ≡ keep_note keep }
+{
+    let mut line = Line::new();
+    if keep.units() == WHOLE {
+        return line;
+    }
+    line.push_bytes(b", keeps ");
+    line.push_amount(keep);
+    line
+}
+
 fn write_standing<'x, K: Sink>(
     pen: &mut Pen<'_, K>,
-    name: &'x [u8],
+    number: u64,
     state: &'x [u8],
-    keep: Amount<9>,
+    keep: &'x [u8],
     vote: Amount<9>,
 )
-    ensures { Prints K.Sink pen.old pen.new (printed (standing name.now state.now keep vote)) }
+    ensures { Prints K.Sink pen.old pen.new (printed (standing number state.now keep.now vote)) }
 {
     pen.write(&[
-        Piece::Start(b"tr"),
-        Piece::Start(b"th"),
-        Piece::Start(b"bdi"),
-        Piece::Text(Cell::Bytes(name)),
-        Piece::End(b"bdi"),
-        Piece::End(b"th"),
-        Piece::Start(b"td"),
+        Piece::Start(b"dd"),
+        Piece::Text(Cell::Count(number)),
         Piece::Text(Cell::Bytes(state)),
-        Piece::End(b"td"),
-        Piece::Start(b"td"),
-        Piece::Text(Cell::Amount(keep)),
-        Piece::End(b"td"),
-        Piece::Start(b"td"),
+        Piece::Text(Cell::Bytes(keep)),
+        Piece::Text(Cell::Bytes(b": ")),
         Piece::Text(Cell::Amount(vote)),
-        Piece::End(b"td"),
-        Piece::End(b"tr"),
+        Piece::End(b"dd"),
     ]);
 }

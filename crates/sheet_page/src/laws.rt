@@ -14,8 +14,9 @@ pub fn pages_nest()
 }
 
 /// A page lists each candidate that an iteration elected, with its round, and each that took a seat at the
-/// end; it has a part and a row of the table for each round, in the parts each iteration once, and with it
-/// the sentences of what it decided. The call does nothing.
+/// end; it has a link, a part and a column of the table for each round, and a line of the table for each
+/// candidate; in the parts each iteration once, with the candidates that it concerns, and the sentences of
+/// what it decided. The call does nothing.
 pub fn pages_say_their_sheets()
     ensures elected { PagesListTheirElected }
     ensures rounds { PagesHaveTheirRounds }

@@ -2,7 +2,7 @@
 ghost use Rattle.std.specs.Prelude.{◌≡◌, ◌<◌, length};
 ghost use Rattle.page_tree.specs.Print.{printed};
 ghost use Rattle.sheet_reader.specs.Form.{IsPrintable};
-ghost use Rattle.sheet_page.specs.Html.{link_at, link_list, link_to, links, part_name, round_link};
+ghost use Rattle.sheet_page.specs.Links.{link_at, link_list, link_to, links, part_name, round_link};
 ghost use Rattle.sheet_page.specs.Prints.{Prints};
 ghost use Rattle.sheet_page.specs.Trees.{print_each};
 ghost use Rattle.sheet_page.specs.Values.{places, row_at};
@@ -90,7 +90,7 @@ fn write_link_text<K: Sink>(pen: &mut Pen<'_, K>, target: &[u8], round: u32)
 
 /// Where the link to the part of the round that ends at a place leads.
 #[tactic(auto, using(line_text::proofs::Lengths::lengths))]
-fn link_to(values: &SheetValues, last: usize) -> Line
+pub(crate) fn link_to(values: &SheetValues, last: usize) -> Line
     requires { last < length values.now.rows }
     ensures { result ≡ link_to last }
 {

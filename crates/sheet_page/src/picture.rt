@@ -4,14 +4,16 @@ ghost use Rattle.plain_ballots.specs.declared.limits.TheConstants.{MOST_CANDIDAT
 ghost use Rattle.meek_rule.specs.Row.{HasRoomFor};
 ghost use Rattle.page_tree.specs.Print.{opening, printed};
 ghost use Rattle.sheet_reader.specs.Form.{IsPrintable};
-ghost use Rattle.sheet_page.specs.Picture.{amounts_of, amounts_text, attributes_of, picture, picture_attributes, picture_title, quota_line, round_picture, scaled, view_box};
-ghost use Rattle.sheet_page.specs.RoundEnds.{settled};
+ghost use Rattle.sheet_page.specs.Bars.{bars_of};
+ghost use Rattle.sheet_page.specs.Picture.{amounts_of, amounts_text, attributes_of, picture, picture_attributes, picture_title, quota_line, rest_part, rest_text, round_picture, scaled, view_box};
+ghost use Rattle.sheet_page.specs.RoundEnds.{left_over, settled};
 ghost use Rattle.sheet_page.specs.Prints.{Prints};
 
 use crate::bars::write_bars;
-use crate::cell::Cell;
+use crate::cell::{Cell, units_text};
 use crate::pen::Pen;
 use crate::piece::Piece;
+use crate::ranks::{bars_of, is_nothing, rest_count, rest_votes};
 use crate::rounds::left_over;
 use crate::widths::scaled;
 use byte_edge::Sink;
@@ -40,10 +42,23 @@ pub(crate) fn write_round_picture<K: Sink>(
     write_picture(pen, values, full, row, behind);
 }
 
-/// The quota of a round, and the votes on no candidate.
+/// What is said of the amounts of a round.
 fn write_amounts<K: Sink>(pen: &mut Pen<'_, K>, values: &SheetValues, row: &Row<9>)
-    requires { IsPrintable 9 values.now }
+    requires printable { IsPrintable 9 values.now }
+    requires room { HasRoomFor (length values.now.names) row.now }
     ensures { Prints K.Sink pen.old pen.new (printed (amounts_of values.now.ballots row.now)) }
+{
+    pen.open(b"p");
+    write_quota_and_left(pen, values, row);
+    write_rest(pen, row);
+    pen.close(b"p");
+}
+
+/// The quota of a round, and the votes on no candidate.
+fn write_quota_and_left<K: Sink>(pen: &mut Pen<'_, K>, values: &SheetValues, row: &Row<9>)
+    requires { IsPrintable 9 values.now }
+    ensures { Prints K.Sink pen.old pen.new
+        (printed (amounts_text row.now.quota (left_over values.now.ballots row.now))) }
 {
     let left = left_over(values.ballots, row.total);
     write_amounts_text(pen, row.quota, left);
@@ -54,13 +69,11 @@ fn write_amounts_text<K: Sink>(pen: &mut Pen<'_, K>, quota: Amount<9>, left: Amo
     ensures { Prints K.Sink pen.old pen.new (printed (amounts_text quota left)) }
 {
     pen.write(&[
-        Piece::Start(b"p"),
         Piece::Text(Cell::Bytes(b"Quota ")),
         Piece::Text(Cell::Amount(quota)),
         Piece::Text(Cell::Bytes(b": the broken line. On no candidate: ")),
         Piece::Text(Cell::Amount(left)),
         Piece::Text(Cell::Bytes(b".")),
-        Piece::End(b"p"),
     ]);
 }
 
@@ -78,20 +91,20 @@ fn write_picture<K: Sink>(
     ensures { Prints K.Sink pen.old pen.new
         (printed (picture values.now full (settled row.now behind.now))) }
 {
-    write_start(pen, values);
+    write_start(pen, row);
     write_title(pen, row.round);
     write_bars(pen, values, full, row, behind);
-    write_quota(pen, values, full, row);
+    write_quota(pen, full, row);
     pen.close(b"svg");
 }
 
-/// The start of the picture, with room for the bars of all candidates.
-fn write_start<K: Sink>(pen: &mut Pen<'_, K>, values: &SheetValues)
-    requires few { length values.now.names ≤ MOST_CANDIDATES }
+/// The start of the picture, with room for its bars.
+fn write_start<K: Sink>(pen: &mut Pen<'_, K>, row: &Row<9>)
+    requires room { HasRoomFor (length row.now.states) row.now }
     ensures { Prints K.Sink pen.old pen.new
-        (opening (codes "svg") (picture_attributes (length values.now.names))) }
+        (opening (codes "svg") (picture_attributes (bars_of row.now))) }
 {
-    let view = view_box(values.names.len());
+    let view = view_box(bars_of(row));
     write_start_of(pen, view.bytes());
 }
 
@@ -128,19 +141,19 @@ fn write_title<K: Sink>(pen: &mut Pen<'_, K>, round: u32)
         Piece::Text(Cell::Bytes(b"Votes at the end of round ")),
         Piece::Text(Cell::Count(round as u64)),
         Piece::Text(Cell::Bytes(
-            b": a bar for each candidate, and the quota as a line. The table above has the numbers.",
+            b": a bar for each candidate who stands in it, of more than 24 for those with the most votes, and the quota as a line. The table above has the numbers.",
         )),
         Piece::End(b"title"),
     ]);
 }
 
 /// The quota of a round as a line; `full` units have the whole width.
-fn write_quota<K: Sink>(pen: &mut Pen<'_, K>, values: &SheetValues, full: u64, row: &Row<9>)
-    requires few { length values.now.names ≤ MOST_CANDIDATES }
+fn write_quota<K: Sink>(pen: &mut Pen<'_, K>, full: u64, row: &Row<9>)
+    requires room { HasRoomFor (length row.now.states) row.now }
     ensures { Prints K.Sink pen.old pen.new
-        (printed (quota_line (scaled full row.now.quota) (length values.now.names))) }
+        (printed (quota_line (scaled full row.now.quota) (bars_of row.now))) }
 {
-    write_quota_line(pen, scaled(full, row.quota), values.names.len());
+    write_quota_line(pen, scaled(full, row.quota), bars_of(row));
 }
 
 /// A line down over so many bars, so many points from the left.
@@ -157,5 +170,31 @@ fn write_quota_line<K: Sink>(pen: &mut Pen<'_, K>, x: u64, bars: usize)
         Piece::With(b"stroke-dasharray", Cell::Bytes(b"16 20")),
         Piece::Within,
         Piece::End(b"line"),
+    ]);
+}
+
+/// How many stand and have no bar, and their votes together, if there are any.
+fn write_rest<K: Sink>(pen: &mut Pen<'_, K>, row: &Row<9>)
+    requires room { HasRoomFor (length row.now.states) row.now }
+    requires few { length row.now.votes ≤ MOST_CANDIDATES }
+    ensures { Prints K.Sink pen.old pen.new (printed (rest_part row.now)) }
+{
+    let count = rest_count(row) as u64;
+    if is_nothing(count) {
+        return;
+    }
+    let votes = units_text(rest_votes(row));
+    write_rest_text(pen, count, votes.bytes());
+}
+
+fn write_rest_text<K: Sink>(pen: &mut Pen<'_, K>, count: u64, votes: &[u8])
+    ensures { Prints K.Sink pen.old pen.new (printed (rest_text count votes.now)) }
+{
+    pen.write(&[
+        Piece::Text(Cell::Bytes(b" With fewer votes and without a bar: ")),
+        Piece::Text(Cell::Count(count)),
+        Piece::Text(Cell::Bytes(b". Their votes together: ")),
+        Piece::Text(Cell::Bytes(votes)),
+        Piece::Text(Cell::Bytes(b".")),
     ]);
 }

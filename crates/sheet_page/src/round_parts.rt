@@ -2,7 +2,8 @@
 ghost use Rattle.std.specs.Prelude.{◌≡◌, ◌<◌, codes, length};
 ghost use Rattle.page_tree.specs.Print.{opening, printed};
 ghost use Rattle.sheet_reader.specs.Form.{IsPrintable};
-ghost use Rattle.sheet_page.specs.Html.{part_at, part_attributes, part_name, round_part, round_title};
+ghost use Rattle.sheet_page.specs.Html.{part_at, round_part, round_title};
+ghost use Rattle.sheet_page.specs.Links.{part_attributes, part_name};
 ghost use Rattle.sheet_page.specs.Prints.{Prints};
 ghost use Rattle.sheet_page.specs.Trees.{print_each};
 ghost use Rattle.sheet_page.specs.Values.{places};

@@ -18,17 +18,23 @@ result\n1 elected Ann\n2 defeated Ben\n3 defeated Cid\nend\n";
 
 // Of the six votes one is on nobody from round 2 on. Ben is defeated at the end.
 #[test]
-fn each_round_has_its_row(rt: HostRuntime) -> Result<(), Fail> {
-    let rows = b"<tr><th>1</th><td>3.000000001</td><td>0.000000000</td>\
-<td>3.000000000 <small>hopeful</small></td><td>2.000000000 <small>hopeful</small></td>\
-<td>1.000000000 <small>defeated</small></td></tr>\
-<tr><th>2</th><td>2.500000001</td><td>1.000000000</td>\
-<td>3.000000000 <small>elected</small></td><td>2.000000000 <small>hopeful</small></td>\
-<td>0.000000000 <small>defeated</small></td></tr>\
-<tr><th>3</th><td>2.500000001</td><td>1.000000000</td>\
-<td>3.000000000 <small>elected</small></td><td>2.000000000 <small>defeated</small></td>\
-<td>0.000000000 <small>defeated</small></td></tr></table>";
-    has(&rt, rt.alloc(), THREE, rows)?;
+fn each_round_has_its_column(rt: HostRuntime) -> Result<(), Fail> {
+    let heads =
+        b"<thead><tr><th scope=\"col\">Candidate</th><th scope=\"col\"><a href=\"#i1\">1</a></th>\
+<th scope=\"col\"><a href=\"#i2\">2</a></th><th scope=\"col\"><a href=\"#i3\">3</a></th></tr></thead>";
+    has(&rt, rt.alloc(), THREE, heads)?;
+    let lines = b"<tbody><tr><th scope=\"row\">Quota</th><td>3.00<small>0000001</small></td>\
+<td>2.50<small>0000001</small></td><td>2.50<small>0000001</small></td></tr>\
+<tr><th scope=\"row\">On no candidate</th><td>0.00<small>0000000</small></td>\
+<td>1.00<small>0000000</small></td><td>1.00<small>0000000</small></td></tr>\
+<tr><th scope=\"row\"><bdi>Ann</bdi> (1)</th><td>3.00<small>0000000</small> <em>hopeful</em></td>\
+<td>3.00<small>0000000</small> <em>elected</em></td><td>3.00<small>0000000</small> <em>elected</em></td></tr>\
+<tr><th scope=\"row\"><bdi>Ben</bdi> (2)</th><td>2.00<small>0000000</small> <em>hopeful</em></td>\
+<td>2.00<small>0000000</small> <em>hopeful</em></td><td>2.00<small>0000000</small> <em>defeated</em></td></tr>\
+<tr><th scope=\"row\"><bdi>Cid</bdi> (3)</th><td>1.00<small>0000000</small> <em>defeated</em></td>\
+<td>0.00<small>0000000</small> <em>defeated</em></td><td>0.00<small>0000000</small> <em>defeated</em></td></tr>\
+</tbody></table></div>";
+    has(&rt, rt.alloc(), THREE, lines)?;
     has(&rt, rt.alloc(), THREE, b"<h2>Round 3</h2>")
 }
 

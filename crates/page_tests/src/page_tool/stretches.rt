@@ -20,28 +20,22 @@ total 9.000000000\nquota 4.500000001\nsurplus 0.000000000\nstep iterate\n\
 result\n1 elected A\nend\n";
 
 // What the three parts fold away, worked by hand.
-const FIRST: &[u8] =
-    b"<details><summary>Iterations of round 1</summary><table><tr><th>Candidate</th>\
-<th>State before</th><th>Keep value</th><th>Vote</th></tr>\
-<tbody><tr><th colspan=\"4\">Iteration 1: total 9.000000000, quota 4.500000001, surplus 0.000000000, \
-step iterate</th></tr><tr><th><bdi>A</bdi></th><td>hopeful</td><td>1.000000000</td><td>1.000000000</td></tr></tbody>\
-<tbody><tr><th colspan=\"4\">Iteration 2: total 9.000000000, quota 4.500000001, surplus 0.000000000, \
-step iterate</th></tr><tr><th><bdi>A</bdi></th><td>hopeful</td><td>1.000000000</td><td>2.000000000</td></tr></tbody>\
-</table></details></section><section id=\"i3\"><h2>Round 2</h2>";
+const FIRST: &[u8] = b"<details><summary>Iterations of round 1</summary>\
+<dl><dt>Iteration 1: total 9.000000000, quota 4.500000001, surplus 0.000000000, step iterate</dt>\
+<dd>1: 1.000000000</dd></dl>\
+<dl><dt>Iteration 2: total 9.000000000, quota 4.500000001, surplus 0.000000000, step iterate</dt>\
+<dd>1: 2.000000000</dd></dl>\
+</details></section><section id=\"i3\"><h2>Round 2</h2>";
 
-const SECOND: &[u8] =
-    b"<details><summary>Iterations of round 2</summary><table><tr><th>Candidate</th>\
-<th>State before</th><th>Keep value</th><th>Vote</th></tr>\
-<tbody><tr><th colspan=\"4\">Iteration 1: total 9.000000000, quota 4.500000001, surplus 0.000000000, \
-step iterate</th></tr><tr><th><bdi>A</bdi></th><td>hopeful</td><td>1.000000000</td><td>3.000000000</td></tr></tbody>\
-</table></details></section><section id=\"i4\"><h2>Round 1</h2>";
+const SECOND: &[u8] = b"<details><summary>Iterations of round 2</summary>\
+<dl><dt>Iteration 1: total 9.000000000, quota 4.500000001, surplus 0.000000000, step iterate</dt>\
+<dd>1: 3.000000000</dd></dl>\
+</details></section><section id=\"i4\"><h2>Round 1</h2>";
 
-const THIRD: &[u8] =
-    b"<details><summary>Iterations of round 1</summary><table><tr><th>Candidate</th>\
-<th>State before</th><th>Keep value</th><th>Vote</th></tr>\
-<tbody><tr><th colspan=\"4\">Iteration 1: total 9.000000000, quota 4.500000001, surplus 0.000000000, \
-step iterate</th></tr><tr><th><bdi>A</bdi></th><td>hopeful</td><td>1.000000000</td><td>4.000000000</td></tr></tbody>\
-</table></details></section></main></body></html>\n";
+const THIRD: &[u8] = b"<details><summary>Iterations of round 1</summary>\
+<dl><dt>Iteration 1: total 9.000000000, quota 4.500000001, surplus 0.000000000, step iterate</dt>\
+<dd>1: 4.000000000</dd></dl>\
+</details></section></main></body></html>\n";
 
 #[test]
 fn a_round_has_the_iterations_that_follow_one_another(rt: HostRuntime) -> Result<(), Fail> {

@@ -55,7 +55,8 @@ votes are tied: their votes are no further apart than the surplus of 0.000000000
 /// No vote reaches the quota: it has the whole width, 400, and each bar its part of it.
 #[test]
 fn a_quota_above_all_votes_has_the_whole_width(rt: HostRuntime) -> Result<(), Fail> {
-    let line = b"<line x1=\"400\" x2=\"400\" y1=\"20\" y2=\"108\" stroke-dasharray=\"16 20\"></line>";
+    let line =
+        b"<line x1=\"400\" x2=\"400\" y1=\"20\" y2=\"108\" stroke-dasharray=\"16 20\"></line>";
     has(&rt, rt.alloc(), TIE, line)?;
     let bar = b"<rect class=\"hopeful\" y=\"21\" width=\"0\" height=\"12\"></rect>";
     has(&rt, rt.alloc(), TIE, bar)

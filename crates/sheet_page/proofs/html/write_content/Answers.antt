@@ -2,7 +2,8 @@ use Rattle.std.proofs.Common.{◌∙◌, ap, ℕ, length, [], ◌∷◌}
 use Rattle.std.specs.Prelude.{codes}
 use Rattle.page_tree.specs.Print.{printed}
 use Rattle.sheet_page.specs.Values.{places}
-use Rattle.sheet_page.specs.Html.{elected_part, heading, links, part_at, round_parts, rounds_part}
+use Rattle.sheet_page.specs.Html.{elected_part, heading, part_at, round_parts, rounds_part}
+use Rattle.sheet_page.specs.Links.{links}
 use Rattle.sheet_page.specs.Told.{result_part}
 use Rattle.sheet_page.specs.Picture.{full_of}
 use Rattle.sheet_page.proofs.Printing.{wrapped, printed-each}

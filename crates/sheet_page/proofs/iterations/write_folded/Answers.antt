@@ -1,12 +1,12 @@
-use Rattle.std.proofs.Common.{◌≡◌, ◌∙◌, ap, sym, subst, [], ◌∷◌}
+use Rattle.std.proofs.Common.{◌≡◌, ◌∙◌, ◌+◌, ap, sym, subst, [], ◌∷◌}
 use Rattle.std.specs.Prelude.{codes, Some, slice_get}
 use Rattle.std.proofs.lemmas.Option.{get_or_from_slice_get}
 use Rattle.meek_rule.specs.Row.{Row, blank}
 use Rattle.page_tree.specs.Print.{printed}
 use Rattle.sheet_reader.specs.Values.{SheetList}
-use Rattle.sheet_page.specs.Iterations.{iterations, summary}
-use Rattle.sheet_page.specs.Values.{row_at}
-use Rattle.sheet_page.proofs.Printing.{wrapped}
+use Rattle.sheet_page.specs.Iterations.{iteration_at, iterations, summary}
+use Rattle.sheet_page.specs.Values.{places, row_at}
+use Rattle.sheet_page.proofs.Printing.{wrapped, printed-each}
 use Rattle.sheet_page.proofs.Pens.{later, renamed}
 use Rattle.sheet_page.proofs.iterations.write_folded.Goals as goal
 
@@ -20,4 +20,4 @@ returns g c =
     let title = ap (λ (r : Row). printed (summary r.round)) (c.row.view_is ∙ sym row) in
     renamed (wrapped (codes "details") [] (summary (row_at v.rows last).round ∷ iterations v last ∷ []))
     (later c.open.ensures (later (renamed title c.write_summary.ensures)
-    (later c.write_iterations.ensures c.close.ensures)))
+    (later (renamed (printed-each (iteration_at v last) (places (last + 1))) c.write_iterations_of.ensures) c.close.ensures)))

@@ -9,8 +9,8 @@ use Rattle.sheet_page.proofs.iterations.write_iteration.Goals as goal
 
 pub returns : goal.returns
 returns g c =
-    let at = standing_at c.args.values.now c.args.row.now in
+    let at = standing_at c.args.row.now in
     let all = places (length c.args.values.now.names) in
-    renamed (wrapped (codes "tbody") [] (iteration_head c.args.row.now ∷ each at all ∷ []))
+    renamed (wrapped (codes "dl") [] (iteration_head c.args.row.now ∷ each at all ∷ []))
     (later c.open.ensures (later c.write_iteration_head.ensures
     (later (renamed (printed-each at all) c.write_standings.ensures) c.close.ensures)))

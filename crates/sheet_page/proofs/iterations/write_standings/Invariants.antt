@@ -7,4 +7,4 @@ use Rattle.sheet_page.proofs.iterations.write_standings.Given as goal
 abbrev pub invariant-loop-p : goal.invariant-loop-p
 invariant-loop-p g l =
     Prints g.K.Sink l.initial.pen l.pen
-    (print_each (standing_at l.fn.values l.fn.row) (places l.p))
+    (print_each (standing_at l.fn.row) (places l.p))

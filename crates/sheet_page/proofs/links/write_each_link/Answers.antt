@@ -1,5 +1,5 @@
 use Rattle.page_tree.specs.Print.{printed}
-use Rattle.sheet_page.specs.Html.{link_at}
+use Rattle.sheet_page.specs.Links.{link_at}
 use Rattle.sheet_page.proofs.Pens.{nothing, place_more}
 use Rattle.sheet_page.proofs.links.write_each_link.Goals as goal
 

@@ -1,4 +1,4 @@
-use Rattle.sheet_page.specs.Html.{link_at}
+use Rattle.sheet_page.specs.Links.{link_at}
 use Rattle.sheet_page.specs.Prints.{Prints}
 use Rattle.sheet_page.specs.Trees.{print_each}
 use Rattle.sheet_page.specs.Values.{places}

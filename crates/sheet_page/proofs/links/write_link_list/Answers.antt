@@ -2,7 +2,7 @@ use Rattle.std.proofs.Common.{length, [], ◌∷◌}
 use Rattle.std.specs.Prelude.{codes}
 use Rattle.sheet_page.specs.Trees.{each}
 use Rattle.sheet_page.specs.Values.{places}
-use Rattle.sheet_page.specs.Html.{link_at}
+use Rattle.sheet_page.specs.Links.{link_at}
 use Rattle.sheet_page.proofs.Printing.{wrapped, printed-each}
 use Rattle.sheet_page.proofs.Pens.{later, renamed}
 use Rattle.sheet_page.proofs.links.write_link_list.Goals as goal

@@ -1,7 +1,7 @@
 use Rattle.std.proofs.Common.{[], ◌∷◌}
 use Rattle.std.specs.Prelude.{codes}
 use Rattle.sheet_page.specs.Trees.{at}
-use Rattle.sheet_page.specs.Html.{link_list}
+use Rattle.sheet_page.specs.Links.{link_list}
 use Rattle.sheet_page.proofs.Printing.{wrapped}
 use Rattle.sheet_page.proofs.Pens.{later, renamed}
 use Rattle.sheet_page.proofs.links.write_links.Goals as goal

@@ -5,7 +5,8 @@ use Rattle.candidate_roll.specs.declared.state.State.{State}
 use Rattle.meek_rule.specs.Row.{Row, blank}
 use Rattle.page_tree.specs.Print.{printed}
 use Rattle.sheet_reader.specs.Values.{SheetList}
-use Rattle.sheet_page.specs.Html.{part_attributes, part_name, round_title}
+use Rattle.sheet_page.specs.Html.{round_title}
+use Rattle.sheet_page.specs.Links.{part_attributes, part_name}
 use Rattle.sheet_page.specs.Iterations.{folded}
 use Rattle.sheet_page.specs.Picture.{round_picture}
 use Rattle.sheet_page.specs.RoundEnds.{settled, settled_at}

@@ -1,6 +1,6 @@
 use Rattle.std.proofs.Common.{rules, ◌∙◌, append-nil, []}
 use Rattle.std.specs.Prelude.{codes}
-use Rattle.sheet_page.specs.Html.{part_attributes}
+use Rattle.sheet_page.specs.Links.{part_attributes}
 use Rattle.sheet_page.proofs.Printing.{joined-started}
 use Rattle.sheet_page.proofs.Pens.{renamed}
 use Rattle.sheet_page.proofs.round_parts.write_start_of.Goals as goal

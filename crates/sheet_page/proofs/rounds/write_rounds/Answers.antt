@@ -1,11 +1,12 @@
 use Rattle.std.proofs.Common.{[], ◌∷◌}
 use Rattle.std.specs.Prelude.{codes}
-use Rattle.sheet_page.specs.Html.{rounds_table, rounds_title, words_explained}
+use Rattle.sheet_page.specs.Html.{rounds_title, words_explained}
+use Rattle.sheet_page.specs.RoundTable.{table_frame}
 use Rattle.sheet_page.proofs.Printing.{wrapped}
 use Rattle.sheet_page.proofs.Pens.{later, renamed}
 use Rattle.sheet_page.proofs.rounds.write_rounds.Goals as goal
 
 pub returns : goal.returns
 returns g c =
-    renamed (wrapped (codes "section") ([]) (rounds_title ∷ rounds_table c.args.values.now ∷ words_explained ∷ []))
-    (later c.open.ensures (later c.write_title.ensures (later c.write_table.ensures (later c.write_words.ensures c.close.ensures))))
+    renamed (wrapped (codes "section") ([]) (rounds_title ∷ table_frame c.args.values.now ∷ words_explained ∷ []))
+    (later c.open.ensures (later c.write_title.ensures (later c.write_frame.ensures (later c.write_words.ensures c.close.ensures))))

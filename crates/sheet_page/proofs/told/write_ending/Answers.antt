@@ -1,10 +1,9 @@
-use Rattle.std.proofs.Common.{[], ◌∷◌, length, map}
+use Rattle.std.proofs.Common.{[], ◌∷◌, map}
 use Rattle.std.specs.Prelude.{codes}
 use Rattle.sheet_words.specs.Lines.{at_end}
-use Rattle.sheet_words.specs.Sentences.{outcome, sentences_at_end}
+use Rattle.sheet_words.specs.Sentences.{sentences_at_end}
 use Rattle.sheet_page.specs.Told.{item}
 use Rattle.sheet_page.specs.Trees.{each}
-use Rattle.sheet_page.specs.Values.{places}
 use Rattle.sheet_page.proofs.Printing.{wrapped}
 use Rattle.sheet_page.proofs.Pens.{later, renamed}
 use Rattle.sheet_page.proofs.Telling.{told_items}

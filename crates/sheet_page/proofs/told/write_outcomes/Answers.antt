@@ -1,7 +1,6 @@
 use Rattle.std.proofs.Common.{[], ◌∷◌, length, map}
 use Rattle.std.specs.Prelude.{codes}
-use Rattle.sheet_words.specs.Lines.{at_end}
-use Rattle.sheet_words.specs.Sentences.{outcome, sentences_at_end}
+use Rattle.sheet_words.specs.Sentences.{outcome}
 use Rattle.sheet_page.specs.Told.{item}
 use Rattle.sheet_page.specs.Trees.{each}
 use Rattle.sheet_page.specs.Values.{places}

@@ -1,0 +1,185 @@
+-- The table of votes on a page.
+use Rattle.std.proofs.Common.{◌≡◌, ◌∙◌, refl, sym, ap, ℕ, ◌+◌, ◌-◌, Bool, true, false, List, [], ◌∷◌, ◌++◌}
+use Rattle.std.proofs.Common.{map, length, take, drop, append-nil, append_assoc}
+use Rattle.std.specs.Prelude.{if◌then◌else◌, codes, decimal, slice_index}
+use Rattle.std.specs.List.{flat_map}
+use Rattle.std.proofs.lemmas.List.{take-append-drop}
+use Rattle.std.proofs.lemmas.List.Concat.{flat_map_single}
+use Rattle.candidate_roll.specs.State.{state_at}
+use Rattle.fixed_place.specs.Text.{text_of}
+use Rattle.meek_rule.specs.Row.{Row}
+use Rattle.page_tree.specs.Trees.{Trees, Nothing, followed}
+use Rattle.sheet_text.specs.Lines.{state_word}
+use Rattle.sheet_reader.specs.Values.{SheetList}
+use Rattle.sheet_page.specs.Html.{page, rounds_part}
+use Rattle.sheet_page.specs.Links.{link_to}
+use Rattle.sheet_page.specs.PageLaws.{below, called_text, cells_of, ends_of, line_texts, vote_text}
+use Rattle.sheet_page.specs.PageReading.{text_in, along, texts_along}
+use Rattle.sheet_page.specs.RoundEnds.{ends_round, left_over, settled_at}
+use Rattle.sheet_page.specs.RoundTable.{amount_cell, candidate_head, candidate_row, first_head, head_at, left_at, left_row, line_head}
+use Rattle.sheet_page.specs.RoundTable.{quota_at, quota_row, round_head, vote_at, vote_cell}
+use Rattle.sheet_page.specs.Trees.{all, each}
+use Rattle.sheet_page.specs.Values.{places, name_at, row_at}
+use Rattle.sheet_page.proofs.PageTexts.{in_page, in_parts}
+use Rattle.sheet_page.proofs.PageWalks.{no_part, no_parts, behind_nothing, found, found_each, found_if, at_ends}
+
+-- ---- cells, one for each round
+
+module _ (name : List ℕ) (v : SheetList) (cell : ℕ → Trees) where
+  abbrev cell_at : ℕ → Trees
+  cell_at i = if ends_round v.rows i then cell i else Nothing
+
+  abbrev cells : Trees
+  cells = followed (each cell_at (places (length v.rows))) Nothing
+
+  cells_found : texts_along (name ∷ []) cells ≡ flat_map (λ i. found text_in name [] (cell_at i)) (places (length v.rows))
+  cells_found =
+      ap (found text_in name []) (behind_nothing (each cell_at (places (length v.rows))))
+      ∙ found_each text_in name [] cell_at (places (length v.rows))
+
+  -- a cell of this name has what is said of its round
+  in_cells : (g : Row → List ℕ) → ((i : ℕ) → texts_along (name ∷ []) (cell i) ≡ g (settled_at v i) ∷ [])
+      → texts_along (name ∷ []) cells ≡ map g (ends_of v)
+  in_cells g is =
+      cells_found
+      ∙ (λ j. flat_map (λ i. here i j) (places (length v.rows)))
+      ∙ at_ends (λ row. g row ∷ []) v.rows v.last
+      ∙ flat_map_single g (ends_of v)
+    where
+      here : (i : ℕ) → found text_in name [] (cell_at i) ≡ (if ends_round v.rows i then g (settled_at v i) ∷ [] else [])
+      here i =
+          found_if text_in name [] (ends_round v.rows i) (cell i)
+          ∙ ap (λ l. if ends_round v.rows i then l else []) (is i)
+
+  -- no cell has this name
+  no_cells : ((i : ℕ) → texts_along (name ∷ []) (cell i) ≡ []) → texts_along (name ∷ []) cells ≡ []
+  no_cells is =
+      cells_found
+      ∙ (λ j. flat_map (λ i. here i j) (places (length v.rows)))
+      ∙ no_parts (places (length v.rows))
+    where
+      either : (b : Bool) → (if b then [] else []) ≡ no_part {X = Bool} {Y = List ℕ} b
+      either true = refl
+      either false = refl
+
+      here : (i : ℕ) → found text_in name [] (cell_at i) ≡ no_part {X = ℕ} {Y = List ℕ} i
+      here i =
+          found_if text_in name [] (ends_round v.rows i) (cell i)
+          ∙ ap (λ l. if ends_round v.rows i then l else []) (is i)
+          ∙ either (ends_round v.rows i)
+
+-- ---- amounts
+
+-- both parts of a text, and what stands behind it
+two_parts : (text : List ℕ) (n : ℕ) (behind : List ℕ) → take n text ++ ((drop n text ++ []) ++ behind) ≡ text ++ behind
+two_parts text n behind =
+    ap (λ l. take n text ++ (l ++ behind)) (append-nil (drop n text))
+    ∙ sym (append_assoc (take n text) (drop n text) behind)
+    ∙ ap (λ l. l ++ behind) (take-append-drop n text)
+
+amount_said : (amount : ℕ) → texts_along (codes "td" ∷ []) (amount_cell amount) ≡ text_of 9 amount ∷ []
+amount_said amount =
+    let text = text_of 9 amount in
+    ap (λ l. l ∷ []) (two_parts text (length text - 7) [] ∙ append-nil text)
+
+vote_said : (row : Row) (p : ℕ) → texts_along (codes "td" ∷ []) (vote_cell row p) ≡ vote_text row p ∷ []
+vote_said row p =
+    let text = text_of 9 (slice_index row.votes p) in
+    let word = state_word (state_at row.states p) in
+    ap (λ l. l ∷ []) (two_parts text (length text - 7) (codes " " ++ ((word ++ []) ++ []))
+    ∙ ap (λ l. text ++ (codes " " ++ l)) (append-nil (word ++ []) ∙ append-nil word))
+
+-- ---- the lines
+
+-- what stands in the lines of the quotas, of what is left, and of a candidate
+abbrev quotas_within : SheetList → Trees
+quotas_within v = all (line_head (codes "Quota") ∷ each (quota_at v) (places (length v.rows)) ∷ [])
+
+abbrev left_within : SheetList → Trees
+left_within v = all (line_head (codes "On no candidate") ∷ each (left_at v) (places (length v.rows)) ∷ [])
+
+abbrev votes_within : SheetList → (p : ℕ) → Trees
+votes_within v p = all (candidate_head (name_at v p) (p + 1) ∷ each (vote_at v p) (places (length v.rows)) ∷ [])
+
+table_lines : {X : Type 0} (h : Trees → X) (v : SheetList) →
+    map h (along (below (codes "div" ∷ codes "table" ∷ codes "tbody" ∷ codes "tr" ∷ [])) (page v))
+    ≡ h (quotas_within v) ∷ h (left_within v) ∷ map (λ p. h (votes_within v p)) (places (length v.names))
+table_lines h v =
+    let path = codes "div" ∷ codes "table" ∷ codes "tbody" ∷ codes "tr" ∷ [] in
+    let lines = each (candidate_row v) (places (length v.names)) in
+    let them = along (codes "tr" ∷ []) (followed (quota_row v) (followed (left_row v) (followed lines Nothing))) in
+    in_page h path v no_part (λ full i. refl)
+    ∙ ap (λ l. in_parts h path v (rounds_part v) ++ l) (no_parts (ends_of v))
+    ∙ append-nil (in_parts h path v (rounds_part v))
+    ∙ ap (map h) (append-nil (((them ++ []) ++ []) ++ []) ∙ append-nil ((them ++ []) ++ []) ∙ append-nil (them ++ [])
+    ∙ append-nil them)
+    ∙ ap (λ l. h (quotas_within v) ∷ h (left_within v) ∷ l) (ap (found h (codes "tr") []) (behind_nothing lines)
+    ∙ found_each h (codes "tr") [] (candidate_row v) (places (length v.names))
+    ∙ flat_map_single (λ p. h (votes_within v p)) (places (length v.names)))
+
+pub table_heads : (v : SheetList) →
+    cells_of (codes "th") v
+    ≡ (codes "Quota" ∷ []) ∷ (codes "On no candidate" ∷ []) ∷ map (λ p. called_text v p ∷ []) (places (length v.names))
+table_heads v =
+    let th = codes "th" in
+    let h = texts_along (th ∷ []) in
+    let names = λ (k : ℕ). called_text v k ∷ [] in
+    table_lines h v
+    ∙ ap (λ l. (codes "Quota" ∷ l) ∷ h (left_within v) ∷ map (λ p. h (votes_within v p)) (places (length v.names)))
+    (no_cells th v (λ i. amount_cell (row_at v.rows i).quota) (λ i. refl))
+    ∙ ap (λ l. (codes "Quota" ∷ []) ∷ (codes "On no candidate" ∷ l) ∷ map (λ p. h (votes_within v p)) (places (length v.names)))
+    (no_cells th v (λ i. amount_cell (left_over v.ballots (row_at v.rows i))) (λ i. refl))
+    ∙ (λ j. (codes "Quota" ∷ []) ∷ (codes "On no candidate" ∷ []) ∷ map (λ p. name p j) (places (length v.names)))
+  where
+    name : (p : ℕ) → texts_along (codes "th" ∷ []) (votes_within v p) ≡ called_text v p ∷ []
+    name p =
+        let behind = codes " (" ++ (decimal (p + 1) ++ codes ")") in
+        ap (λ l. ((name_at v p ++ []) ++ behind) ∷ l)
+        (no_cells (codes "th") v (λ i. vote_cell (settled_at v i) p) (λ i. refl))
+        ∙ ap (λ l. (l ++ behind) ∷ []) (append-nil (name_at v p))
+
+pub table_cells : (v : SheetList) →
+    cells_of (codes "td") v
+    ≡ map (λ row. text_of 9 row.quota) (ends_of v) ∷ map (λ row. text_of 9 (left_over v.ballots row)) (ends_of v)
+    ∷ map (line_texts v) (places (length v.names))
+table_cells v =
+    let td = codes "td" in
+    let h = texts_along (td ∷ []) in
+    let quotas = map (λ (row : Row). text_of 9 row.quota) (ends_of v) in
+    let left = map (λ (row : Row). text_of 9 (left_over v.ballots row)) (ends_of v) in
+    table_lines h v
+    ∙ ap (λ l. l ∷ h (left_within v) ∷ map (λ p. h (votes_within v p)) (places (length v.names)))
+    (in_cells td v (λ i. amount_cell (row_at v.rows i).quota) (λ row. text_of 9 row.quota)
+    (λ i. amount_said (row_at v.rows i).quota))
+    ∙ ap (λ l. quotas ∷ l ∷ map (λ p. h (votes_within v p)) (places (length v.names)))
+    (in_cells td v (λ i. amount_cell (left_over v.ballots (row_at v.rows i))) (λ row. text_of 9 (left_over v.ballots row))
+    (λ i. amount_said (left_over v.ballots (row_at v.rows i))))
+    ∙ (λ j. quotas ∷ left ∷ map (λ p. votes p j) (places (length v.names)))
+  where
+    votes : (p : ℕ) → texts_along (codes "td" ∷ []) (votes_within v p) ≡ line_texts v p
+    votes p =
+        in_cells (codes "td") v (λ i. vote_cell (settled_at v i) p) (λ row. vote_text row p)
+        (λ i. vote_said (settled_at v i) p)
+
+-- ---- the head
+
+pub table_columns : (v : SheetList) →
+    texts_along (below (codes "div" ∷ codes "table" ∷ codes "thead" ∷ codes "tr" ∷ codes "th" ∷ [])) (page v)
+    ≡ codes "Candidate" ∷ map (λ row. decimal row.round) (ends_of v)
+table_columns v =
+    let path = codes "div" ∷ codes "table" ∷ codes "thead" ∷ codes "tr" ∷ codes "th" ∷ [] in
+    let heads = followed (each (head_at v) (places (length v.rows))) Nothing in
+    let them = along (codes "th" ∷ []) (followed first_head heads) in
+    in_page text_in path v no_part (λ full i. refl)
+    ∙ ap (λ l. in_parts text_in path v (rounds_part v) ++ l) (no_parts (ends_of v))
+    ∙ append-nil (in_parts text_in path v (rounds_part v))
+    ∙ ap (map text_in) (append-nil ((((them ++ []) ++ []) ++ []) ++ []) ∙ append-nil (((them ++ []) ++ []) ++ [])
+    ∙ append-nil ((them ++ []) ++ []) ∙ append-nil (them ++ []) ∙ append-nil them)
+    ∙ ap (λ l. codes "Candidate" ∷ l)
+    (in_cells (codes "th") v (λ i. round_head (link_to i) (row_at v.rows i).round) (λ row. decimal row.round) number)
+  where
+    number : (i : ℕ) → texts_along (codes "th" ∷ []) (round_head (link_to i) (row_at v.rows i).round)
+        ≡ decimal (settled_at v i).round ∷ []
+    number i =
+        let digits = decimal (row_at v.rows i).round in
+        ap (λ l. l ∷ []) (append-nil (digits ++ []) ∙ append-nil digits)

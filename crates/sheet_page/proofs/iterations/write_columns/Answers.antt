@@ -1,8 +1,0 @@
-use Rattle.std.proofs.Common.{rules}
-use Rattle.sheet_page.specs.Iterations.{columns}
-use Rattle.sheet_page.proofs.Printing.{leaf}
-use Rattle.sheet_page.proofs.Pens.{renamed}
-use Rattle.sheet_page.proofs.iterations.write_columns.Goals as goal
-
-pub returns : goal.returns
-returns g c = renamed (leaf (columns)) (search rules)

@@ -1,0 +1,14 @@
+use Rattle.std.proofs.Common.{[], ◌∷◌}
+use Rattle.std.specs.Prelude.{codes}
+use Rattle.sheet_page.specs.Picture.{amounts_text, rest_part}
+use Rattle.sheet_page.specs.RoundEnds.{left_over}
+use Rattle.sheet_page.proofs.Printing.{wrapped}
+use Rattle.sheet_page.proofs.Pens.{later, renamed}
+use Rattle.sheet_page.proofs.picture.write_amounts.Goals as goal
+
+pub returns : goal.returns
+returns g c =
+    let row = c.args.row.now in
+    renamed (wrapped (codes "p") []
+    (amounts_text row.quota (left_over c.args.values.now.ballots row) ∷ rest_part row ∷ []))
+    (later c.open.ensures (later c.write_quota_and_left.ensures (later c.write_rest.ensures c.close.ensures)))

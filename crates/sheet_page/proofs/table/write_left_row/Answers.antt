@@ -1,0 +1,17 @@
+use Rattle.std.proofs.Common.{length, [], ◌∷◌}
+use Rattle.std.specs.Prelude.{codes}
+use Rattle.sheet_page.specs.Trees.{each}
+use Rattle.sheet_page.specs.Values.{places}
+use Rattle.sheet_page.specs.RoundTable.{left_at, line_head}
+use Rattle.sheet_page.proofs.Printing.{wrapped, printed-each}
+use Rattle.sheet_page.proofs.Pens.{later, renamed}
+use Rattle.sheet_page.proofs.table.write_left_row.Goals as goal
+
+pub returns : goal.returns
+returns g c =
+    let v = c.args.values.now in
+    let all = places (length v.rows) in
+    renamed (wrapped (codes "tr") [] (line_head (codes "On no candidate") ∷ each (left_at v) all ∷ []))
+    (later c.open.ensures
+    (later c.write_line_head.ensures
+    (later (renamed (printed-each (left_at v) all) c.write_lefts.ensures) c.close.ensures)))

@@ -1,0 +1,10 @@
+use Rattle.sheet_page.specs.RoundTable.{quota_at}
+use Rattle.sheet_page.specs.Prints.{Prints}
+use Rattle.sheet_page.specs.Trees.{print_each}
+use Rattle.sheet_page.specs.Values.{places}
+use Rattle.sheet_page.proofs.table.write_quotas.Given as goal
+
+abbrev pub invariant-loop-i : goal.invariant-loop-i
+invariant-loop-i g l =
+    Prints g.K.Sink l.initial.pen l.pen
+    (print_each (quota_at l.fn.values) (places l.i))

@@ -1,0 +1,397 @@
+// The table of votes: a line for each candidate, and a column for each round.
+ghost use Rattle.std.specs.Prelude.{◌≡◌, ◌<◌, ◌≤◌, ◌+◌, codes, length};
+ghost use Rattle.plain_ballots.specs.declared.limits.TheConstants.{MOST_CANDIDATES};
+ghost use Rattle.meek_rule.specs.Row.{HasRoomFor};
+ghost use Rattle.page_tree.specs.Print.{opening, printed};
+ghost use Rattle.sheet_reader.specs.Form.{IsPrintable};
+ghost use Rattle.sheet_page.specs.Links.{link_to};
+ghost use Rattle.sheet_page.specs.Prints.{Prints};
+ghost use Rattle.sheet_page.specs.RoundEnds.{left_over, settled};
+ghost use Rattle.sheet_page.specs.RoundTable.{amount_cell, candidate_head, candidate_row, caption, figure_cell, first_head, frame_attributes, head_at, head_row, left_at, left_row, line_head, main_digits, other_digits, quota_at, quota_row, round_head, rounds_table, standing_cell, table_body, table_frame, table_head, vote_at, vote_cell};
+ghost use Rattle.sheet_page.specs.Trees.{print_each};
+ghost use Rattle.sheet_page.specs.Values.{name_at, places, row_at};
+
+use crate::cell::{Cell, amount_text};
+use crate::links::link_to;
+use crate::pen::Pen;
+use crate::piece::Piece;
+use crate::rounds::{ends_round, left_over, states_behind};
+use crate::values::state_word;
+use byte_edge::Sink;
+use candidate_roll::States;
+use fixed_place::Amount;
+use meek_rule::Row;
+use sheet_reader::SheetValues;
+
+/// Writes the table of votes in a frame.
+pub(crate) fn write_frame<K: Sink>(pen: &mut Pen<'_, K>, values: &SheetValues)
+    requires printable { IsPrintable 9 values.now }
+    ensures { Prints K.Sink pen.old pen.new (printed (table_frame values.now)) }
+{
+    write_frame_start(pen);
+    write_table(pen, values);
+    pen.close(b"div");
+}
+
+fn write_frame_start<K: Sink>(pen: &mut Pen<'_, K>)
+    ensures { Prints K.Sink pen.old pen.new (opening (codes "div") frame_attributes) }
+{
+    pen.write(&[
+        Piece::Begin(b"div"),
+        Piece::With(b"tabindex", Cell::Bytes(b"0")),
+        Piece::With(b"role", Cell::Bytes(b"region")),
+        Piece::With(
+            b"aria-label",
+            Cell::Bytes(b"Votes at the end of each round"),
+        ),
+        Piece::Within,
+    ]);
+}
+
+fn write_table<K: Sink>(pen: &mut Pen<'_, K>, values: &SheetValues)
+    requires printable { IsPrintable 9 values.now }
+    ensures { Prints K.Sink pen.old pen.new (printed (rounds_table values.now)) }
+{
+    pen.open(b"table");
+    write_caption(pen);
+    write_head(pen, values);
+    write_body(pen, values);
+    pen.close(b"table");
+}
+
+fn write_caption<K: Sink>(pen: &mut Pen<'_, K>)
+    ensures { Prints K.Sink pen.old pen.new (printed caption) }
+{
+    pen.write(&[
+        Piece::Start(b"caption"),
+        Piece::Text(Cell::Bytes(
+            b"A line for each candidate, a column for each round: its vote at the end of the round, and what it is behind it. The digits from the third behind the point on are smaller.",
+        )),
+        Piece::End(b"caption"),
+    ]);
+}
+
+/// The head of the table.
+fn write_head<K: Sink>(pen: &mut Pen<'_, K>, values: &SheetValues)
+    ensures { Prints K.Sink pen.old pen.new (printed (table_head values.now)) }
+{
+    pen.open(b"thead");
+    write_head_row(pen, values);
+    pen.close(b"thead");
+}
+
+fn write_head_row<K: Sink>(pen: &mut Pen<'_, K>, values: &SheetValues)
+    ensures { Prints K.Sink pen.old pen.new (printed (head_row values.now)) }
+{
+    pen.open(b"tr");
+    write_first_head(pen);
+    write_round_heads(pen, values);
+    pen.close(b"tr");
+}
+
+fn write_first_head<K: Sink>(pen: &mut Pen<'_, K>)
+    ensures { Prints K.Sink pen.old pen.new (printed first_head) }
+{
+    pen.write(&[
+        Piece::Begin(b"th"),
+        Piece::With(b"scope", Cell::Bytes(b"col")),
+        Piece::Within,
+        Piece::Text(Cell::Bytes(b"Candidate")),
+        Piece::End(b"th"),
+    ]);
+}
+
+/// The numbers of all rounds.
+fn write_round_heads<K: Sink>(pen: &mut Pen<'_, K>, values: &SheetValues)
+    ensures { Prints K.Sink pen.old pen.new
+        (print_each (head_at values.now) (places (length values.now.rows))) }
+{
+    for i in 0..values.rows.len() {
+        write_head_at(pen, values, i);
+    }
+}
+
+/// The number of a round, if it ends at this place.
+fn write_head_at<K: Sink>(pen: &mut Pen<'_, K>, values: &SheetValues, i: usize)
+    requires place { i < length values.now.rows }
+    ensures { Prints K.Sink pen.old pen.new (printed (head_at values.now i)) }
+{
+    if ends_round(values.rows.items(), i) {
+        write_round_head(pen, values, i);
+    }
+}
+
+/// The number of the round that ends at a place.
+fn write_round_head<K: Sink>(pen: &mut Pen<'_, K>, values: &SheetValues, i: usize)
+    requires place { i < length values.now.rows }
+    ensures { Prints K.Sink pen.old pen.new
+        (printed (round_head (link_to i) (row_at values.now.rows i).round)) }
+{
+    let target = link_to(values, i);
+    let row = values.rows.get(i);
+    write_number_to(pen, target.bytes(), row.round);
+}
+
+/// The number of a round, that leads to this target.
+fn write_number_to<K: Sink>(pen: &mut Pen<'_, K>, target: &[u8], round: u32)
+    ensures { Prints K.Sink pen.old pen.new (printed (round_head target.now round)) }
+{
+    pen.write(&[
+        Piece::Begin(b"th"),
+        Piece::With(b"scope", Cell::Bytes(b"col")),
+        Piece::Within,
+        Piece::Begin(b"a"),
+        Piece::With(b"href", Cell::Bytes(target)),
+        Piece::Within,
+        Piece::Text(Cell::Count(round as u64)),
+        Piece::End(b"a"),
+        Piece::End(b"th"),
+    ]);
+}
+
+/// The lines below the head.
+fn write_body<K: Sink>(pen: &mut Pen<'_, K>, values: &SheetValues)
+    requires printable { IsPrintable 9 values.now }
+    ensures { Prints K.Sink pen.old pen.new (printed (table_body values.now)) }
+{
+    pen.open(b"tbody");
+    write_quota_row(pen, values);
+    write_left_row(pen, values);
+    write_candidate_rows(pen, values);
+    pen.close(b"tbody");
+}
+
+/// What a line is of.
+fn write_line_head<K: Sink>(pen: &mut Pen<'_, K>, text: &[u8])
+    ensures { Prints K.Sink pen.old pen.new (printed (line_head text.now)) }
+{
+    pen.write(&[
+        Piece::Begin(b"th"),
+        Piece::With(b"scope", Cell::Bytes(b"row")),
+        Piece::Within,
+        Piece::Text(Cell::Bytes(text)),
+        Piece::End(b"th"),
+    ]);
+}
+
+/// The quotas of all rounds.
+fn write_quota_row<K: Sink>(pen: &mut Pen<'_, K>, values: &SheetValues)
+    ensures { Prints K.Sink pen.old pen.new (printed (quota_row values.now)) }
+{
+    pen.open(b"tr");
+    write_line_head(pen, b"Quota");
+    write_quotas(pen, values);
+    pen.close(b"tr");
+}
+
+fn write_quotas<K: Sink>(pen: &mut Pen<'_, K>, values: &SheetValues)
+    ensures { Prints K.Sink pen.old pen.new
+        (print_each (quota_at values.now) (places (length values.now.rows))) }
+{
+    for i in 0..values.rows.len() {
+        write_quota_at(pen, values, i);
+    }
+}
+
+/// The quota of a round, if it ends at this place.
+fn write_quota_at<K: Sink>(pen: &mut Pen<'_, K>, values: &SheetValues, i: usize)
+    requires place { i < length values.now.rows }
+    ensures { Prints K.Sink pen.old pen.new (printed (quota_at values.now i)) }
+{
+    if ends_round(values.rows.items(), i) {
+        let row = values.rows.get(i);
+        write_amount(pen, row.quota);
+    }
+}
+
+/// What is left on no candidate at the end of each round.
+fn write_left_row<K: Sink>(pen: &mut Pen<'_, K>, values: &SheetValues)
+    requires printable { IsPrintable 9 values.now }
+    ensures { Prints K.Sink pen.old pen.new (printed (left_row values.now)) }
+{
+    pen.open(b"tr");
+    write_line_head(pen, b"On no candidate");
+    write_lefts(pen, values);
+    pen.close(b"tr");
+}
+
+fn write_lefts<K: Sink>(pen: &mut Pen<'_, K>, values: &SheetValues)
+    requires printable { IsPrintable 9 values.now }
+    ensures { Prints K.Sink pen.old pen.new
+        (print_each (left_at values.now) (places (length values.now.rows))) }
+{
+    for i in 0..values.rows.len() {
+        write_left_at(pen, values, i);
+    }
+}
+
+/// What is left on no candidate at the end of a round, if it ends at this place.
+fn write_left_at<K: Sink>(pen: &mut Pen<'_, K>, values: &SheetValues, i: usize)
+    requires printable { IsPrintable 9 values.now }
+    requires place { i < length values.now.rows }
+    ensures { Prints K.Sink pen.old pen.new (printed (left_at values.now i)) }
+{
+    if ends_round(values.rows.items(), i) {
+        write_left(pen, values, values.rows.get(i));
+    }
+}
+
+/// What an iteration leaves on no candidate.
+fn write_left<K: Sink>(pen: &mut Pen<'_, K>, values: &SheetValues, row: &Row<9>)
+    requires { IsPrintable 9 values.now }
+    ensures { Prints K.Sink pen.old pen.new (printed (amount_cell (left_over values.now.ballots row.now))) }
+{
+    write_amount(pen, left_over(values.ballots, row.total));
+}
+
+/// The lines of all candidates.
+fn write_candidate_rows<K: Sink>(pen: &mut Pen<'_, K>, values: &SheetValues)
+    requires printable { IsPrintable 9 values.now }
+    ensures { Prints K.Sink pen.old pen.new
+        (print_each (candidate_row values.now) (places (length values.now.names))) }
+{
+    for p in 0..values.names.len() {
+        write_candidate_row(pen, values, p);
+    }
+}
+
+/// A candidate at the end of each round.
+fn write_candidate_row<K: Sink>(pen: &mut Pen<'_, K>, values: &SheetValues, p: usize)
+    requires printable { IsPrintable 9 values.now }
+    requires place { p < length values.now.names }
+    ensures { Prints K.Sink pen.old pen.new (printed (candidate_row values.now p)) }
+{
+    pen.open(b"tr");
+    write_candidate_at(pen, values, p);
+    write_votes(pen, values, p);
+    pen.close(b"tr");
+}
+
+/// The head of the line of the candidate at a place.
+fn write_candidate_at<K: Sink>(pen: &mut Pen<'_, K>, values: &SheetValues, p: usize)
+    requires few { length values.now.names ≤ MOST_CANDIDATES }
+    requires place { p < length values.now.names }
+    ensures { Prints K.Sink pen.old pen.new (printed (candidate_head (name_at values.now p) (p + 1))) }
+{
+    write_candidate(pen, values.names.get(p).bytes(), p as u64 + 1);
+}
+
+/// A name with its number as the head of a line.
+fn write_candidate<K: Sink>(pen: &mut Pen<'_, K>, name: &[u8], number: u64)
+    ensures { Prints K.Sink pen.old pen.new (printed (candidate_head name.now number)) }
+{
+    pen.write(&[
+        Piece::Begin(b"th"),
+        Piece::With(b"scope", Cell::Bytes(b"row")),
+        Piece::Within,
+        Piece::Start(b"bdi"),
+        Piece::Text(Cell::Bytes(name)),
+        Piece::End(b"bdi"),
+        Piece::Text(Cell::Bytes(b" (")),
+        Piece::Text(Cell::Count(number)),
+        Piece::Text(Cell::Bytes(b")")),
+        Piece::End(b"th"),
+    ]);
+}
+
+/// A candidate's vote and state at the end of each round.
+fn write_votes<K: Sink>(pen: &mut Pen<'_, K>, values: &SheetValues, p: usize)
+    requires printable { IsPrintable 9 values.now }
+    requires place { p < length values.now.names }
+    ensures { Prints K.Sink pen.old pen.new
+        (print_each (vote_at values.now p) (places (length values.now.rows))) }
+{
+    for i in 0..values.rows.len() {
+        write_vote_at(pen, values, p, i);
+    }
+}
+
+/// A candidate's vote and state at the end of a round, if it ends at this place.
+fn write_vote_at<K: Sink>(pen: &mut Pen<'_, K>, values: &SheetValues, p: usize, i: usize)
+    requires printable { IsPrintable 9 values.now }
+    requires candidate { p < length values.now.names }
+    requires place { i < length values.now.rows }
+    ensures { Prints K.Sink pen.old pen.new (printed (vote_at values.now p i)) }
+{
+    if ends_round(values.rows.items(), i) {
+        write_vote(pen, values.rows.get(i), states_behind(values, i), p);
+    }
+}
+
+/// A candidate's vote in the last iteration of a round, and what it is behind it.
+fn write_vote<K: Sink>(pen: &mut Pen<'_, K>, row: &Row<9>, behind: &States, p: usize)
+    requires room { HasRoomFor (length row.now.states) row.now }
+    requires few { length row.now.states ≤ MOST_CANDIDATES }
+    requires states { length behind.now ≡ length row.now.states }
+    requires place { p < length row.now.states }
+    ensures { Prints K.Sink pen.old pen.new (printed (vote_cell (settled row.now behind.now) p)) }
+{
+    let text = amount_text(*row.votes.get(p));
+    let state = state_word(*behind.get(p));
+    write_standing(
+        pen,
+        main_digits(text.bytes()),
+        other_digits(text.bytes()),
+        state,
+    );
+}
+
+/// An amount as a cell.
+fn write_amount<K: Sink>(pen: &mut Pen<'_, K>, amount: Amount<9>)
+    ensures { Prints K.Sink pen.old pen.new (printed (amount_cell amount)) }
+{
+    let text = amount_text(amount);
+    write_figure(pen, main_digits(text.bytes()), other_digits(text.bytes()));
+}
+
+/// The text of an amount without its last seven digits.
+fn main_digits(text: &[u8]) -> &[u8]
+    ensures { result.now ≡ main_digits text.now }
+{
+    let end = text.len().saturating_sub(7);
+    &text[..end]
+}
+
+/// The last seven digits of the text of an amount.
+fn other_digits(text: &[u8]) -> &[u8]
+    ensures { result.now ≡ other_digits text.now }
+{
+    let start = text.len().saturating_sub(7);
+    &text[start..]
+}
+
+fn write_figure<'x, K: Sink>(pen: &mut Pen<'_, K>, main: &'x [u8], other: &'x [u8])
+    ensures { Prints K.Sink pen.old pen.new (printed (figure_cell main.now other.now)) }
+{
+    pen.write(&[
+        Piece::Start(b"td"),
+        Piece::Text(Cell::Bytes(main)),
+        Piece::Start(b"small"),
+        Piece::Text(Cell::Bytes(other)),
+        Piece::End(b"small"),
+        Piece::End(b"td"),
+    ]);
+}
+
+/// Votes, and a state.
+fn write_standing<'x, K: Sink>(
+    pen: &mut Pen<'_, K>,
+    main: &'x [u8],
+    other: &'x [u8],
+    state: &'x [u8],
+)
+    ensures { Prints K.Sink pen.old pen.new (printed (standing_cell main.now other.now state.now)) }
+{
+    pen.write(&[
+        Piece::Start(b"td"),
+        Piece::Text(Cell::Bytes(main)),
+        Piece::Start(b"small"),
+        Piece::Text(Cell::Bytes(other)),
+        Piece::End(b"small"),
+        Piece::Text(Cell::Bytes(b" ")),
+        Piece::Start(b"em"),
+        Piece::Text(Cell::Bytes(state)),
+        Piece::End(b"em"),
+        Piece::End(b"td"),
+    ]);
+}
