@@ -3,9 +3,7 @@ ghost use Rattle.std.specs.Prelude.{◌<◌, ◌≤◌};
 
 use crate::elections::{Election, TEN_FOUR_THREE, ballots_of, begin, omega_of, roll_and_lots};
 use byte_edge::MemorySink;
-use candidate_roll::Roll;
 use fixed_place::Omega;
-use lot_order::Lots;
 use sheet_text::write_sheet;
 use std::alloc::Global;
 use std::process::Abort;
@@ -20,24 +18,7 @@ pub(crate) fn sink_of(alloc: Global, chunk: usize, failing: &[u64]) -> Result<Me
     Ok(MemorySink::with_room(alloc, 10_000, chunk, failing)?)
 }
 
-/// Counts the ballots of an election, and says whether its sheet was written whole.
-fn write_by<const P: usize>(
-    rt: &impl Abort,
-    alloc: Global,
-    roll: &Roll,
-    lots: &Lots,
-    election: &Election,
-    omega: Omega,
-    sink: &mut MemorySink,
-) -> Result<bool, Fail>
-    requires { (6 ≤ P) × (P ≤ 9) }
-{
-    let ballots = ballots_of(alloc, roll.candidates(), election.lines)?;
-    let mut count = begin::<P>(rt, alloc, roll, lots, ballots, omega)?;
-    Ok(write_sheet(&mut count, sink).is_ok())
-}
-
-/// Writes the sheet of an election, and says whether it was written whole.
+/// Counts an election's ballots and writes its sheet, and says whether it was written whole.
 fn write<const P: usize>(
     rt: &impl Abort,
     alloc: Global,
@@ -48,7 +29,9 @@ fn write<const P: usize>(
     requires { (6 ≤ P) × (P ≤ 9) }
 {
     let (roll, lots) = roll_and_lots(alloc, election)?;
-    write_by::<P>(rt, alloc, &roll, &lots, election, omega, sink)
+    let ballots = ballots_of(alloc, roll.candidates(), election.lines)?;
+    let mut count = begin::<P>(rt, alloc, &roll, &lots, ballots, omega)?;
+    Ok(write_sheet(&mut count, sink).is_ok())
 }
 
 /// The sheet of an election, or what is written of it until a write fails, is this text.
