@@ -1,0 +1,12 @@
+mod Lists
+mod Own
+mod Fronts
+mod Nearest
+mod OneShard
+mod Freezing
+mod Replaying
+mod Rooms
+mod LineCuts
+mod Taking
+mod Putting
+mod Way

@@ -1,0 +1,4 @@
+pub mod Calls
+pub mod Replay
+pub mod Saying
+pub mod Nearest

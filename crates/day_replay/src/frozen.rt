@@ -1,0 +1,46 @@
+// What stood after a freeze.
+ghost use Rattle.std.specs.Prelude.{◌≡◌};
+
+use frozen_plan::Plans;
+use std::marker::Model;
+
+/// What stood after a freeze, as plans of so many candidates, who was struck until then, and the freeze's
+/// place in the history.
+#[derive(Debug, Drop)]
+pub struct Frozen {
+    pub(crate) at: u64,
+    pub(crate) candidates: u32,
+    pub(crate) plans: Plans,
+    pub(crate) struck: Vec<u32>,
+}
+
+impl Model for Frozen {
+    ghost use Rattle.shard_office.specs.Versions.{VersionState};
+
+    ghost Value = { VersionState };
+
+    ghost view = { λ f. record { at = f.at; candidates = f.candidates; plans = f.plans; struck = f.struck.items } };
+}
+
+impl Frozen {
+    /// The place of the freeze in the history: how many calls there were, itself included.
+    pub fn at(&self) -> u64
+        ensures { result ≡ self.now.at }
+    {
+        self.at
+    }
+
+    /// The candidates struck before the freeze, each once, in the order of their first strikes.
+    pub fn struck(&self) -> &[u32]
+        ensures { result.now ≡ self.now.struck }
+    {
+        self.struck.as_slice()
+    }
+
+    /// The ballots that stood.
+    pub fn into_plans(self) -> Plans
+        ensures { result ≡ self.plans }
+    {
+        self.plans
+    }
+}
