@@ -10,3 +10,4 @@ mod LineCuts
 mod Taking
 mod Putting
 mod Way
+mod Stands

@@ -1,11 +1,12 @@
 // What stood after a freeze.
-ghost use Rattle.std.specs.Prelude.{◌≡◌};
+ghost use Rattle.std.specs.Prelude.{◌≡◌, ◌≤◌, All, length};
+ghost use Rattle.frozen_plan.specs.Plan.{all_ballots};
 
 use frozen_plan::Plans;
 use std::marker::Model;
 
 /// What stood after a freeze, as plans of so many candidates, who was struck until then, and the freeze's
-/// place in the history.
+/// place in the history. Its ballots are at most 999,900,000, few enough for a count.
 #[derive(Debug, Drop)]
 pub struct Frozen {
     pub(crate) at: u64,
@@ -15,11 +16,16 @@ pub struct Frozen {
 }
 
 impl Model for Frozen {
+    ghost use Rattle.std.specs.Prelude.{◌≡◌, ◌≤◌, All, length};
+    ghost use Rattle.frozen_plan.specs.Plan.{all_ballots};
     ghost use Rattle.shard_office.specs.Versions.{VersionState};
 
     ghost Value = { VersionState };
 
     ghost view = { λ f. record { at = f.at; candidates = f.candidates; plans = f.plans; struck = f.struck.items } };
+
+    ghost invariant = { λ f. All (λ plan. plan.candidates ≡ f.candidates) f.plans × (length (all_ballots f.plans) ≤ 999900000)
+        × All (λ c. (1 ≤ c) × (c ≤ f.candidates)) f.struck.items };
 }
 
 impl Frozen {
@@ -32,14 +38,17 @@ impl Frozen {
 
     /// The candidates struck before the freeze, each once, in the order of their first strikes.
     pub fn struck(&self) -> &[u32]
-        ensures { result.now ≡ self.now.struck }
+        ensures struck { result.now ≡ self.now.struck }
+        ensures candidates { All (λ c. (1 ≤ c) × (c ≤ self.now.candidates)) result.now }
     {
         self.struck.as_slice()
     }
 
     /// The ballots that stood.
     pub fn into_plans(self) -> Plans
-        ensures { result ≡ self.plans }
+        ensures plans { result ≡ self.plans }
+        ensures candidates { All (λ plan. plan.candidates ≡ self.candidates) result }
+        ensures few { length (all_ballots result) ≤ 999900000 }
     {
         self.plans
     }

@@ -160,7 +160,10 @@ fn enter<L: Ledger>(
 }
 
 /// What stands in a book, for a freeze whose mark is the next.
+#[tactic(auto, using(crate::proofs::Stands::few_ballots, crate::proofs::Stands::one_plan, crate::proofs::Stands::struck_in_range))]
 fn stand(alloc: Global, book: &ShardBook, register: &Register) -> Result<Frozen, NoMemory>
+    requires of_shard { AreOfShard book.now.candidates 1 1 book.now.entries }
+    requires candidates { register.now.candidates ≡ book.now.candidates }
     ensures { IfOk result (IsStanding book.now register.now) }
 {
     let trie = book.trie();
@@ -169,10 +172,11 @@ fn stand(alloc: Global, book: &ShardBook, register: &Register) -> Result<Frozen,
     if plans.push(plan).is_err() {
         return Err(NoMemory);
     }
+    let struck = Vec::from_slice(alloc, register.struck())?;
     Ok(Frozen {
         at: register.marks().len() as u64 + 1,
         candidates: trie.candidates(),
         plans,
-        struck: register.struck().to_vec(alloc)?,
+        struck,
     })
 }

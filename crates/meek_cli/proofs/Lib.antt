@@ -5,7 +5,7 @@ mod Rooms
 mod WritingBytes
 mod DueTexts
 mod DayOffice
-mod DaySheets
+pub mod DaySheets
 mod FrozenPlans
 mod DayEnding
 mod MadeTexts

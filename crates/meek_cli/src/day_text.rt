@@ -14,12 +14,12 @@ use meek_rule::Spread;
 use std::alloc::Global;
 use team_run::write_entries;
 
-/// The text of a day: the lines of these answered calls, and then the sheets of their freezes, at these
-/// places.
+/// The text of a day: the lines of these answered calls, and then the sheets of their freezes, which stand
+/// at these places of the history.
 #[derive(Drop)]
-pub(crate) struct DayText<'a> {
-    pub(crate) history: &'a History,
-    pub(crate) places: &'a [u64],
+pub struct DayText<'a> {
+    pub history: &'a History,
+    pub places: &'a [u64],
 }
 
 impl<'a, const P: usize> CountText<P> for DayText<'a> {

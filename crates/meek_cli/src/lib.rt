@@ -1,5 +1,6 @@
 //! The count office as a program: [`meek`] does what its words ask for, over a source and a sink, and
-//! says how that ended as an [`Outcome`].
+//! says how that ended as an [`Outcome`]. [`DayText`] is what a day writes of its counts, for whoever has a
+//! history of its own.
 #![tactic(auto)]
 
 mod closing;
@@ -24,6 +25,7 @@ mod trial;
 mod turns;
 mod work;
 
+pub use day_text::DayText;
 use no_memory::NoMemory;
 pub use outcome::Outcome;
 pub use run::meek;

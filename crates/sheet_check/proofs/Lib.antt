@@ -1,5 +1,5 @@
-mod Differences
-mod FirstDifferences
+pub mod Differences
+pub mod FirstDifferences
 mod Verdicts
 mod Ends
 mod Splits

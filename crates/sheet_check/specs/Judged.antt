@@ -6,13 +6,11 @@ use Rattle.sheet_reader.specs.Values.{SheetList}
 use Rattle.sheet_reader.specs.Form.{HasForm}
 use Rattle.sheet_check.specs.declared.verdict.Verdict.{Verdict}
 use Rattle.sheet_check.specs.declared.verdict.Verdict.TheVariants.{True, False, Malformed}
-use Rattle.sheet_check.specs.Difference.{IsFirstDifference}
+use Rattle.sheet_check.specs.Comparison.{IsCompared}
 
 -- no first difference: the text is the sheet; else the first line in which it differs from the sheet
 abbrev pub Compares : (places omega : ℕ) → List (List ℕ) → RollList → (lots : List ℕ) → (bytes : List ℕ) → Option ℕ → Type 0
-Compares places omega ballots roll lots bytes None = IsSheet places omega ballots roll lots bytes
-Compares places omega ballots roll lots bytes (Some n) =
-    (text : List ℕ) × IsSheet places omega ballots roll lots text × IsFirstDifference bytes text n
+Compares places omega ballots roll lots = IsCompared (IsSheet places omega ballots roll lots)
 
 -- The verdict on a text: whether it has the form of a sheet, whether it is the sheet of this election, and else in
 -- which line it first differs from it.

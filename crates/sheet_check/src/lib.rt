@@ -2,8 +2,8 @@
 //! with the text as it comes.
 //!
 //! [`judge`] gives the verdict on a text, an election and its lots; [`verdicts_are_unique`] says that
-//! each text has one. [`check`] is the whole tool, over an input that is a sheet and behind it a ballot
-//! file.
+//! each text has one. [`Comparing`] is the sink that compares, for any text. [`check`] is the whole tool,
+//! over an input that is a sheet and behind it a ballot file.
 #![tactic(auto)]
 
 mod comparing;
@@ -15,6 +15,7 @@ mod tool;
 mod verdict;
 mod verdict_line;
 
+pub use comparing::Comparing;
 pub use judging::judge;
 pub use laws::verdicts_are_unique;
 pub use no_memory::NoMemory;
