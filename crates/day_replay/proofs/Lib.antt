@@ -1,5 +1,5 @@
-mod Lists
-mod Own
+pub mod Lists
+pub mod Own
 mod Fronts
 mod Nearest
 mod OneShard

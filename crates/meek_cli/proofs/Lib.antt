@@ -6,7 +6,7 @@ mod WritingBytes
 mod DueTexts
 mod DayOffice
 pub mod DaySheets
-mod FrozenPlans
+pub mod FrozenPlans
 mod DayEnding
 mod MadeTexts
 mod MadeHead

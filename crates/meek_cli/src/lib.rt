@@ -1,6 +1,6 @@
 //! The count office as a program: [`meek`] does what its words ask for, over a source and a sink, and
-//! says how that ended as an [`Outcome`]. [`DayText`] is what a day writes of its counts, for whoever has a
-//! history of its own.
+//! says how that ended as an [`Outcome`]. [`DayText`] is what a day writes of its counts, by its [`Terms`],
+//! for whoever has a history of its own.
 #![tactic(auto)]
 
 mod closing;
@@ -29,4 +29,5 @@ pub use day_text::DayText;
 use no_memory::NoMemory;
 pub use outcome::Outcome;
 pub use run::meek;
+pub use terms::Terms;
 pub use tool_edge::End as Status;

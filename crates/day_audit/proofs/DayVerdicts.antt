@@ -1,0 +1,130 @@
+-- The history that is nearest to a text gives its verdict.
+use Rattle.std.proofs.Common.{◌≡◌, ◌⊎◌, inl, inr, ℕ, zero, suc, ◌+◌, ◌==◌, ◌<◌, ◌≤◌, List, [], ◌∷◌, ◌++◌, length, take, drop, get_or, filter}
+use Rattle.std.proofs.Common.{refl, sym, ap, ◌∙◌, subst, arith}
+use Rattle.std.specs.Prelude.{slice_get, Option, Some, None, unwrap_or}
+use Rattle.std.proofs.lemmas.Bool.{cases_lt}
+use Rattle.std.proofs.lemmas.List.{append-nil, append_assoc, length-append, take_all, take_at, take-append-drop}
+use Rattle.std.proofs.lemmas.Option.{slice_get-get_or}
+use Rattle.batch_core.specs.declared.entry.Entry.{Entry}
+use Rattle.batch_core.specs.Histories.{own_calls}
+use Rattle.day_reader.specs.declared.day.Day.{Day}
+use Rattle.team_run.specs.EntryText.{entry_line, ended, entries_text}
+use Rattle.sheet_check.specs.Comparison.{IsCompared}
+use Rattle.sheet_check.specs.Difference.{IsFirstDifference, line_at}
+use Rattle.meek_cli.specs.DayHistory.{IsHistoryOf, clerk_freeze}
+use Rattle.meek_cli.specs.DayText.{terms_of, IsDayText}
+use Rattle.day_replay.specs.Nearest.{BeginsAs, IsNearest}
+use Rattle.day_replay.proofs.Lists.{got_ahead, got_behind}
+use Rattle.day_replay.proofs.Own.{none_by}
+use Rattle.day_audit.specs.declared.day_verdict.DayVerdict.{DayVerdict}
+use Rattle.day_audit.specs.declared.day_verdict.DayVerdict.TheVariants.{True, False}
+use Rattle.day_audit.specs.Judged.{IsTextOf, BeginAlike, IsFalseAt, IsDayVerdict}
+use Rattle.day_audit.specs.Laws.{EachTextHasOneVerdict}
+use Rattle.day_audit.proofs.DayLines.{line_of_a_call}
+use Rattle.day_audit.proofs.DayTexts.{AreTerms, one_text}
+
+-- an item of a front stands there in the list
+in_front : (xs : List Entry) (n k : ℕ) → k < n → slice_get (take n xs) k ≡ slice_get xs k
+in_front [] zero k below = absurd (omega (arith, below))
+in_front [] (suc n) k below = refl
+in_front (x ∷ xs) zero k below = absurd (omega (arith, below))
+in_front (x ∷ xs) (suc n) zero below = refl
+in_front (x ∷ xs) (suc n) (suc k) below = in_front xs n k (omega (arith, below))
+
+module _ (day : Day) (are : AreTerms (terms_of day)) where
+  -- the line of a history's call in its text
+  call_line :
+      (history : List Entry) (text : List ℕ) (k : ℕ) (e : Entry) → IsDayText (terms_of day) history text
+      → slice_get history k ≡ Some e → line_at k text ≡ ended (entry_line (k + 1) e)
+  call_line history text k e (sheets, is, whole) at =
+      let place : 1 + k ≡ k + 1 = omega arith in
+      ap (line_at k) whole ∙ (line_of_a_call 1 history sheets k e at ∙ ap (λ (n : ℕ). ended (entry_line n e)) place)
+
+  -- behind the clerk's call there is none
+  nothing_behind :
+      (history other : List Entry) (e : Entry) (rest : List Entry) → IsHistoryOf day.scripts history
+      → IsHistoryOf day.scripts other → history ≡ other ++ e ∷ rest → ⊥
+  nothing_behind history other e rest is also whole =
+      let mine = is.ends.before in
+      let its = also.ends.before in
+      let front : history ≡ its ++ clerk_freeze ∷ (e ∷ rest) =
+      whole ∙ (ap (λ (l : List Entry). l ++ e ∷ rest) also.ends.last ∙ append_assoc its (clerk_freeze ∷ []) (e ∷ rest)) in
+      let behind : List Entry = clerk_freeze ∷ (e ∷ rest) in
+      let some : length behind ≡ suc (suc (length rest)) = refl in
+      let one : length history ≡ length mine + 1 = ap length is.ends.last ∙ length-append mine (clerk_freeze ∷ []) in
+      let many : length history ≡ length its + length behind = ap length front ∙ length-append its behind in
+      let before : length its < length mine = omega (arith, one, many, some) in
+      none_by 0 mine (length its) clerk_freeze is.ends.no_other
+      (sym (got_ahead mine (clerk_freeze ∷ []) (length its) before)
+      ∙ (ap (λ (l : List Entry). slice_get l (length its)) (sym is.ends.last ∙ front) ∙ got_behind its clerk_freeze (e ∷ rest))) refl
+
+  -- a history whose front another one is, is that one
+  no_more : (history other : List Entry) → IsHistoryOf day.scripts history → IsHistoryOf day.scripts other
+      → other ≡ take (length other) history → history ≡ other
+  no_more history other is also front = by (drop (length other) history) refl
+    where
+      parts : history ≡ other ++ drop (length other) history
+      parts = sym (take-append-drop (length other) history) ∙ ap (λ (l : List Entry). l ++ drop (length other) history) (sym front)
+      by : (rest : List Entry) → drop (length other) history ≡ rest → history ≡ other
+      by [] none = parts ∙ (ap (λ (l : List Entry). other ++ l) none ∙ append-nil other)
+      by (e ∷ rest) some = absurd (nothing_behind history other e rest is also (parts ∙ ap (λ (l : List Entry). other ++ l) some))
+
+  module _ (text nearest : List ℕ) (history : List Entry) (is : IsHistoryOf day.scripts history)
+      (near : IsNearest day.scripts text history) (of : IsDayText (terms_of day) history nearest) where
+    -- no other history's text goes longer with the text
+    goes_as_long :
+        (n : ℕ) (other : List ℕ) (its : List Entry) → IsHistoryOf day.scripts its → IsDayText (terms_of day) its other
+        → BeginAlike n text other → BeginAlike n text nearest
+    goes_as_long n other its also whose alike = by (cases_lt (length its) n)
+      where
+        begins : (m : ℕ) → m ≤ n → BeginsAs m text its
+        begins m few k e below at = alike k (omega (arith, few, below)) ∙ call_line its other k e whose at
+        by : (length its < n) ⊎ (n ≤ length its) → BeginAlike n text nearest
+        by (inl short) =
+            let front : its ≡ take (length its) history =
+            sym (take_all (length its) its (omega arith)) ∙ near its (length its) also (omega arith) (begins (length its) (omega (arith, short))) in
+            let same = no_more history its is also front in
+            let texts : other ≡ nearest =
+            one_text (terms_of day) its other nearest are whose (subst (λ (h : List Entry). IsDayText (terms_of day) h nearest) same of) in
+            subst (λ (t : List ℕ). BeginAlike n text t) texts alike
+        by (inr long) = λ k below.
+            let e = get_or its k clerk_freeze in
+            let at : slice_get its k ≡ Some e = slice_get-get_or its k clerk_freeze (omega (arith, below, long)) in
+            let fronts = near its n also long (begins n (omega arith)) in
+            let there : slice_get history k ≡ Some e =
+            sym (in_front history n k below) ∙ (ap (λ (l : List Entry). slice_get l k) (sym fronts) ∙ (in_front its n k below ∙ at)) in
+            alike k below ∙ (call_line its other k e whose at ∙ sym (call_line history nearest k e of there))
+
+    pub false_at : (n : ℕ) → IsFirstDifference text nearest n → IsFalseAt day text n
+    false_at n differs = record {
+      nearest = nearest;
+      lawful = (history, is, of);
+      differs = differs;
+      no_longer = λ other lawful alike.
+          let same = goes_as_long n other lawful.0 lawful.1 lawful.2 alike in
+          differs.differs (same differs.line (let number = differs.number in omega (arith, number)));
+    }
+
+-- two verdicts on one text
+module _ (day : Day) (text : List ℕ) where
+  itself : (n : ℕ) → IsTextOf day text → IsFalseAt day text n → ⊥
+  itself n is wrong = wrong.no_longer text is (λ k below. refl)
+
+  earlier : (n m : ℕ) → IsFalseAt day text n → IsFalseAt day text m → n < m → ⊥
+  earlier n m one other before =
+      one.no_longer other.nearest other.lawful (λ k below. other.differs.same_before k
+      (let number = other.differs.number in omega (arith, number, below, before)))
+
+  one_line : (n m : ℕ) → IsFalseAt day text n → IsFalseAt day text m → n ≡ m
+  one_line n m one other = by (cases_lt n m) (cases_lt m n)
+    where
+      by : (n < m) ⊎ (m ≤ n) → (m < n) ⊎ (n ≤ m) → n ≡ m
+      by (inl before) second = absurd (earlier n m one other before)
+      by (inr le) (inl before) = absurd (earlier m n other one before)
+      by (inr le) (inr ge) = omega (arith, le, ge)
+
+pub one_verdict : EachTextHasOneVerdict
+one_verdict day text True True p q = refl
+one_verdict day text True (False n) p q = absurd (itself day text n p q)
+one_verdict day text (False n) True p q = absurd (itself day text n q p)
+one_verdict day text (False n) (False m) p q = ap (λ (k : ℕ). False k) (one_line day text n m p q)

@@ -1,0 +1,3 @@
+mod DayLines
+mod DayTexts
+mod DayVerdicts
