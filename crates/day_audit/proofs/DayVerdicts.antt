@@ -65,6 +65,7 @@ module _ (day : Day) (are : AreTerms (terms_of day)) where
     where
       parts : history ≡ other ++ drop (length other) history
       parts = sym (take-append-drop (length other) history) ∙ ap (λ (l : List Entry). l ++ drop (length other) history) (sym front)
+
       by : (rest : List Entry) → drop (length other) history ≡ rest → history ≡ other
       by [] none = parts ∙ (ap (λ (l : List Entry). other ++ l) none ∙ append-nil other)
       by (e ∷ rest) some = absurd (nothing_behind history other e rest is also (parts ∙ ap (λ (l : List Entry). other ++ l) some))
@@ -79,6 +80,7 @@ module _ (day : Day) (are : AreTerms (terms_of day)) where
       where
         begins : (m : ℕ) → m ≤ n → BeginsAs m text its
         begins m few k e below at = alike k (omega (arith, few, below)) ∙ call_line its other k e whose at
+
         by : (length its < n) ⊎ (n ≤ length its) → BeginAlike n text nearest
         by (inl short) =
             let front : its ≡ take (length its) history =

@@ -1,3 +1,5 @@
 mod DayLines
 mod DayTexts
 mod DayVerdicts
+mod Splits
+mod Audits

@@ -1,2 +1,4 @@
 pub mod Judged
 pub mod Laws
+pub mod Input
+pub mod Audit

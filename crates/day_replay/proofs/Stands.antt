@@ -23,9 +23,13 @@ pub few_ballots :
     → AreOfShard candidates 1 1 es → length (all_ballots plans) ≤ 999900000
 few_ballots plans plan candidates es ballots one are moved of =
     let all : all_ballots plans ≡ ballots = ap all_ballots one ∙ (append-nil (plan_ballots plan.rows) ∙ are) in
-    omega (arith, ap length all, length_permutation ballots (plain (standing (after_all empty es))) moved,
-    length-plain (standing (after_all empty es)),
-    standing_total candidates (after_all empty es) (kept_all candidates es of.lawful))
+    omega (
+      arith,
+      ap length all,
+      length_permutation ballots (plain (standing (after_all empty es))) moved,
+      length-plain (standing (after_all empty es)),
+      standing_total candidates (after_all empty es) (kept_all candidates es of.lawful),
+    )
 
 -- what holds of a push that was no failure
 on_ok : {T E P : Type 0} (r : Result T E) → false ≡ is_err r → OnOk r P → P

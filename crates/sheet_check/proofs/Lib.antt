@@ -1,6 +1,6 @@
 pub mod Differences
 pub mod FirstDifferences
 mod Verdicts
-mod Ends
+pub mod Ends
 mod Splits
 mod Audits

@@ -19,5 +19,6 @@ pub use comparing::Comparing;
 pub use judging::judge;
 pub use laws::verdicts_are_unique;
 pub use no_memory::NoMemory;
+pub use split::has_end_at;
 pub use tool::check;
 pub use verdict::Verdict;

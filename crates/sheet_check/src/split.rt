@@ -17,8 +17,8 @@ pub(crate) fn split(input: &[u8]) -> Option<(&[u8], &[u8])>
     None
 }
 
-/// Whether a line `end` stands at this place.
-fn has_end_at(input: &[u8], at: usize) -> bool
+/// Whether a line `end`, with its line feed, stands at this place of an input.
+pub fn has_end_at(input: &[u8], at: usize) -> bool
     requires { at < length input.now }
     ensures { MatchBool result (HasEndAt input.now at) (¬ (HasEndAt input.now at)) }
 {

@@ -1,0 +1,111 @@
+-- What is accepted is not refused, and what is answered is owed.
+use Rattle.std.proofs.Common.{◌≡◌, ℕ, ◌≤◌, List, length, true, refl, sym, ◌∙◌, ap, subst, inl, inr}
+use Rattle.std.specs.Prelude.{Ok, Err}
+use Rattle.input_text.specs.declared.input_fault.InputFault.{InputFault}
+use Rattle.input_text.specs.declared.input_stop.InputStop.{InputStop}
+use Rattle.input_text.specs.declared.input_stop.InputStop.TheVariants.{Fault, NoMemory as NoInputRead}
+use Rattle.input_text.specs.Reads.{OnFault}
+use Rattle.input_text.specs.Scan.{scan}
+use Rattle.day_reader.specs.declared.day.Day.{Day}
+use Rattle.day_reader.specs.Said.{IsDayRefusal, said_by, AcceptsDays, RefusesByTheRule}
+use Rattle.tool_edge.specs.declared.end.End.{End}
+use Rattle.tool_edge.specs.declared.end.End.TheVariants.{BadInput, Done}
+use Rattle.tool_edge.specs.Streams.{Writing}
+use Rattle.tool_edge.specs.Refusals.{fault_line}
+use Rattle.tool_edge.specs.Finishing.{Finishes, FinishesOwed, RefusesInput}
+use Rattle.tool_edge.specs.Tool.{IsOwedFor, IsSound, no_history}
+use Rattle.meek_cli.specs.Owed.{SaysDay}
+use Rattle.day_audit.specs.declared.audit_limit.TheConstants.{AUDIT_LIMIT}
+use Rattle.day_audit.specs.Input.{IsDaySplit}
+use Rattle.day_audit.specs.Audit.{IsAudit, EndsInText, IsRefusedAudit, IsOwedVerdict, audits_days}
+use Rattle.day_audit.proofs.Splits.{file_once}
+
+-- ---- soundness
+
+-- a file that says a day is not refused
+not_both :
+    AcceptsDays → RefusesByTheRule → (file : List ℕ) (day : Day) (fault : InputFault) → SaysDay file day
+    → IsDayRefusal (scan file true) fault → ⊥
+not_both days refusals file day fault says refused =
+    let read : said_by (scan file true) ≡ Ok day = (days (scan file true) day).1 says in
+    let stopped : said_by (scan file true) ≡ Err fault = (refusals (scan file true) fault).1 refused in
+    cc
+
+-- and a file is refused once
+refused_alike :
+    RefusesByTheRule → (file : List ℕ) (fault other : InputFault) → IsDayRefusal (scan file true) fault
+    → IsDayRefusal (scan file true) other → fault ≡ other
+refused_alike refusals file fault other refused again =
+    let stopped : said_by (scan file true) ≡ Err fault = (refusals (scan file true) fault).1 refused in
+    let restopped : said_by (scan file true) ≡ Err other = (refusals (scan file true) other).1 again in
+    cc
+
+not_refused :
+    AcceptsDays → RefusesByTheRule → (input : List ℕ) (fault : InputFault) → IsAudit input → IsRefusedAudit input fault → ⊥
+not_refused days refusals input fault (text, file, split, says) (inl ends) = ends.no_end split.at split.ends
+not_refused days refusals input fault (text, file, split, (day, says)) (inr (other_text, other, other_split, refused)) =
+    not_both days refusals file day fault says
+    (subst (λ (f : List ℕ). IsDayRefusal (scan f true) fault) (file_once input text file other_text other split other_split) refused)
+
+refused_once :
+    RefusesByTheRule → (input : List ℕ) (fault other : InputFault) → IsRefusedAudit input fault → IsRefusedAudit input other
+    → fault ≡ other
+refused_once refusals input fault other (inl ends) (inl again) = ends.fault_is ∙ sym again.fault_is
+refused_once refusals input fault other (inl ends) (inr (text, file, split, refused)) = absurd (ends.no_end split.at split.ends)
+refused_once refusals input fault other (inr (text, file, split, refused)) (inl ends) = absurd (ends.no_end split.at split.ends)
+refused_once refusals input fault other (inr (text, file, split, refused)) (inr (again, twice, split_again, refused_again)) =
+    refused_alike refusals file fault other refused
+    (subst (λ (f : List ℕ). IsDayRefusal (scan f true) other) (file_once input text file again twice split split_again) refused_again)
+
+pub sound : AcceptsDays → RefusesByTheRule → IsSound audits_days
+sound days refusals = record {
+  one = λ words asked other taken again. refl;
+  either = λ asked. not_refused days refusals;
+  once = λ asked. refused_once refusals;
+  owed = λ asked input history bytes owes. (owes.text, owes.file, owes.split, (owes.day, owes.says));
+}
+
+-- ---- the whole input
+
+-- No text ends.
+pub ended_early :
+    (input : List ℕ) (fault : InputFault) (end : End InputFault) (sink : Writing) → length input ≤ AUDIT_LIMIT
+    → EndsInText input fault → Finishes (BadInput fault) (fault_line fault) end sink
+    → FinishesOwed (IsOwedFor audits_days (tt {0}) input no_history) end sink
+ended_early input fault end sink short ends finishes =
+    inr (BadInput fault, fault_line fault, (inr (short, inl ends), refl, refl), finishes)
+
+-- The day file is refused.
+pub refused_behind :
+    (input text file : List ℕ) (stop : InputStop) (end : End InputFault) (sink : Writing) → length input ≤ AUDIT_LIMIT
+    → IsDaySplit input text file → OnFault stop (IsDayRefusal (scan file true)) → RefusesInput stop end sink
+    → FinishesOwed (IsOwedFor audits_days (tt {0}) input no_history) end sink
+refused_behind input text file (Fault fault) end sink short split why finishes =
+    inr (BadInput fault, fault_line fault, (inr (short, inr (text, file, split, why)), refl, refl), finishes)
+refused_behind input text file NoInputRead end sink short split why nothing = inl nothing
+
+-- The verdict on the text is what is owed for the input.
+pub judged :
+    (input text file : List ℕ) (day : Day) (end : End InputFault) (sink : Writing) → length input ≤ AUDIT_LIMIT
+    → IsDaySplit input text file → SaysDay file day → FinishesOwed (IsOwedVerdict day text) end sink
+    → FinishesOwed (IsOwedFor audits_days (tt {0}) input no_history) end sink
+judged input text file day end sink short split says (inl nothing) = inl nothing
+judged input text file day end sink short split says (inr (due, bytes, (done, (verdict, right, line)), finishes)) =
+    inr (
+      due,
+      bytes,
+      subst (λ (d : End InputFault). IsOwedFor audits_days (tt {0}) input no_history d bytes) (sym done) (
+        short,
+        record {
+          text = text;
+          file = file;
+          split = split;
+          day = day;
+          says = says;
+          verdict = verdict;
+          right = right;
+          line = line;
+        },
+      ),
+      finishes,
+    )

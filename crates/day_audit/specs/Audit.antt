@@ -1,0 +1,66 @@
+-- What the auditor accepts, refuses and writes.
+use Rattle.std.specs.Prelude.{◌≡◌, ◌⊎◌, ℕ, List, [], ◌∷◌, ◌++◌, length, codes, decimal, Some, true}
+use Rattle.input_text.specs.declared.fault_kind.FaultKind.TheVariants.{Ended}
+use Rattle.input_text.specs.declared.input_fault.InputFault.{InputFault}
+use Rattle.input_text.specs.Scan.{scan}
+use Rattle.day_reader.specs.declared.day.Day.{Day}
+use Rattle.day_reader.specs.Said.{IsDayRefusal}
+use Rattle.tool_edge.specs.Refusals.{file_refusals}
+use Rattle.tool_edge.specs.declared.end.End.{End}
+use Rattle.tool_edge.specs.declared.end.End.TheVariants.{Done}
+use Rattle.tool_edge.specs.Words.{TakesNothing}
+use Rattle.tool_edge.specs.Tool.{Tool, no_history}
+use Rattle.meek_cli.specs.Owed.{SaysDay}
+use Rattle.day_audit.specs.declared.audit_limit.TheConstants.{AUDIT_LIMIT}
+use Rattle.day_audit.specs.declared.day_verdict.DayVerdict.{DayVerdict}
+use Rattle.day_audit.specs.declared.day_verdict.DayVerdict.TheVariants.{True, False}
+use Rattle.day_audit.specs.Judged.{IsDayVerdict}
+use Rattle.day_audit.specs.Input.{HasNoLastEnd, IsDaySplit}
+
+-- The input is a text and a day file.
+abbrev pub IsAudit : (input : List ℕ) → Type 0
+IsAudit input = (text : List ℕ) × (file : List ℕ) × IsDaySplit input text file × ((day : Day) × SaysDay file day)
+
+-- No line ends a text, so that the input has ended too early.
+pub record EndsInText (input : List ℕ) (fault : InputFault) : Type 0 where
+  pub no_end : HasNoLastEnd input
+  pub fault_is : fault ≡ record { kind = Ended; at = length input }
+
+-- Nothing ends a text, or the day file behind it is refused, at its place in the file.
+abbrev pub IsRefusedAudit : (input : List ℕ) → InputFault → Type 0
+IsRefusedAudit input fault =
+    EndsInText input fault
+    ⊎ ((text : List ℕ) × (file : List ℕ) × IsDaySplit input text file × IsDayRefusal (scan file true) fault)
+
+-- the line of a verdict
+abbrev pub verdict_line : DayVerdict → List ℕ
+verdict_line True = codes "day true" ++ 10 ∷ []
+verdict_line (False n) = codes "day false at line " ++ decimal n ++ 10 ∷ []
+
+-- the line of the verdict on the input's text by the day of the input's file
+pub record OwesAudit (input bytes : List ℕ) : Type 0 where
+  pub text : List ℕ
+  pub file : List ℕ
+  pub split : IsDaySplit input text file
+  pub day : Day
+  pub says : SaysDay file day
+  pub verdict : DayVerdict
+  pub right : IsDayVerdict day text verdict
+  pub line : bytes ≡ verdict_line verdict
+
+-- The tool, which takes no words.
+abbrev pub audits_days : Tool (Unit {0}) (Unit {0}) InputFault
+audits_days = record {
+  Takes = TakesNothing;
+  limit = λ asked. Some AUDIT_LIMIT;
+  Accepts = λ asked input. IsAudit input;
+  Refuses = λ asked input fault. IsRefusedAudit input fault;
+  refusals = file_refusals;
+  Owes = λ asked input history bytes. OwesAudit input bytes;
+  no_calls = no_history;
+}
+
+-- the line of the verdict on a text by a day, with the end of a run that is done
+abbrev pub IsOwedVerdict : Day → (text : List ℕ) → End InputFault → (bytes : List ℕ) → Type 0
+IsOwedVerdict day text due bytes =
+    (due ≡ Done) × ((verdict : DayVerdict) × IsDayVerdict day text verdict × (bytes ≡ verdict_line verdict))

@@ -1,0 +1,85 @@
+// The tool that audits the text of a day.
+ghost use Rattle.std.specs.Prelude.{◌≡◌, ◌≤◌, map, length};
+ghost use Rattle.day_reader.specs.Said.{AreScripts};
+ghost use Rattle.std.specs.String.{string_bytes};
+ghost use Rattle.tool_edge.specs.Finishing.{FinishesOwed};
+ghost use Rattle.tool_edge.specs.Streams.{reading, writing};
+ghost use Rattle.tool_edge.specs.Tool.{IsOwedFor, IsRun, no_history};
+ghost use Rattle.day_audit.specs.declared.audit_limit.TheConstants.{AUDIT_LIMIT};
+ghost use Rattle.day_audit.specs.Audit.{audits_days, IsOwedVerdict};
+
+use crate::split::split;
+use crate::verdict_line::verdict_line;
+use crate::{AUDIT_LIMIT, judge};
+use blt_reader::{FaultKind, InputFault};
+use byte_edge::{Sink, Source};
+use day_reader::{Day, accepts_days, read_day, refuses_by_the_rule};
+use std::alloc::Global;
+use std::thread::Threads;
+use tool_edge::{End, Opened, finish, open, refuse, refuse_input, takes_nothing};
+
+/// Audits the text of a day at the front of the input by the day file behind it, and writes the verdict.
+pub fn audit<R: Threads + Sync, S: Source, K: Sink>(
+    rt: &R,
+    alloc: Global,
+    words: &[String],
+    source: &mut S,
+    sink: &mut K,
+) -> End
+    ensures { IsRun audits_days (map string_bytes words.now)
+        (reading S.left S.faults source.old source.new) (writing K.written K.faults sink.old sink.new) result no_history }
+{
+    accepts_days();
+    refuses_by_the_rule();
+    let asked = takes_nothing(words);
+    let Opened { input, .. } = match open(alloc, asked, AUDIT_LIMIT, source, sink) {
+        Ok(opened) => opened,
+        Err(end) => return end,
+    };
+    audit_input(rt, alloc, input.as_slice(), sink)
+}
+
+/// Audits the whole input.
+#[tactic(auto, using(crate::proofs::Audits::ended_early, crate::proofs::Audits::refused_behind, crate::proofs::Audits::judged))]
+fn audit_input<R: Threads + Sync, K: Sink>(rt: &R, alloc: Global, input: &[u8], sink: &mut K) -> End
+    requires { length input.now ≤ AUDIT_LIMIT }
+    ensures { FinishesOwed (IsOwedFor audits_days (tt {0}) input.now no_history) result
+        (writing K.written K.faults sink.old sink.new) }
+{
+    let Some((text, file)) = split(input) else {
+        return refuse(sink, ended(input.len()));
+    };
+    match read_day(alloc, file) {
+        Ok(day) => write_verdict(rt, alloc, text, day, sink),
+        Err(stop) => refuse_input(sink, stop),
+    }
+}
+
+/// The fault of an input in which no text ends.
+fn ended(len: usize) -> InputFault
+    ensures { result ≡ record { kind = FaultKind.Ended; at = len } }
+{
+    InputFault {
+        kind: FaultKind::Ended,
+        at: len,
+    }
+}
+
+/// Judges a text that is held to be the text of a day, and writes the verdict.
+fn write_verdict<R: Threads + Sync, K: Sink>(
+    rt: &R,
+    alloc: Global,
+    text: &[u8],
+    day: Day,
+    sink: &mut K,
+) -> End
+    requires scripts { AreScripts (length day.roll.names) day.scripts }
+    requires lots { length day.lots ≡ length day.roll.names }
+    requires places { (6 ≤ day.places) × (day.places ≤ 9) }
+    ensures { FinishesOwed (IsOwedVerdict day text.now) result (writing K.written K.faults sink.old sink.new) }
+{
+    match judge(rt, alloc, text, day) {
+        Ok(verdict) => finish(sink, End::Done, verdict_line(verdict).bytes()),
+        Err(_) => End::NoMemory,
+    }
+}
