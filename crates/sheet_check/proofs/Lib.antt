@@ -1,5 +1,5 @@
 pub mod Differences
-pub mod FirstDifferences
+mod FirstDifferences
 mod Verdicts
 pub mod Ends
 mod Splits
