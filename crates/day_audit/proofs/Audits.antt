@@ -1,5 +1,5 @@
 -- What is accepted is not refused, and what is answered is owed.
-use Rattle.std.proofs.Common.{◌≡◌, ℕ, ◌≤◌, List, length, true, refl, sym, ◌∙◌, ap, subst, inl, inr}
+use Rattle.std.proofs.Common.{◌≡◌, ℕ, ◌≤◌, List, length, true, refl, sym, ◌∙◌, subst, inl, inr}
 use Rattle.std.specs.Prelude.{Ok, Err}
 use Rattle.input_text.specs.declared.input_fault.InputFault.{InputFault}
 use Rattle.input_text.specs.declared.input_stop.InputStop.{InputStop}
@@ -9,7 +9,7 @@ use Rattle.input_text.specs.Scan.{scan}
 use Rattle.day_reader.specs.declared.day.Day.{Day}
 use Rattle.day_reader.specs.Said.{IsDayRefusal, said_by, AcceptsDays, RefusesByTheRule}
 use Rattle.tool_edge.specs.declared.end.End.{End}
-use Rattle.tool_edge.specs.declared.end.End.TheVariants.{BadInput, Done}
+use Rattle.tool_edge.specs.declared.end.End.TheVariants.{BadInput}
 use Rattle.tool_edge.specs.Streams.{Writing}
 use Rattle.tool_edge.specs.Refusals.{fault_line}
 use Rattle.tool_edge.specs.Finishing.{Finishes, FinishesOwed, RefusesInput}

@@ -1,6 +1,6 @@
 -- The lines of a history's text; 10 is the line feed.
-use Rattle.std.proofs.Common.{◌≡◌, ◌≢◌, ℕ, zero, suc, ◌+◌, ◌/◌, ◌%◌, ◌==◌, ◌<◌, Bool, true, false, cond, List, [], ◌∷◌, ◌++◌, map}
-use Rattle.std.proofs.Common.{refl, sym, ap, ◌∙◌, subst, arith}
+use Rattle.std.proofs.Common.{◌≡◌, ◌≢◌, ℕ, zero, suc, ◌+◌, ◌/◌, ◌%◌, ◌==◌, Bool, true, false, cond, List, [], ◌∷◌, ◌++◌, map}
+use Rattle.std.proofs.Common.{refl, ap, ◌∙◌, arith}
 use Rattle.std.specs.Prelude.{decimal, codes, slice_get, Option, Some, unwrap_or, nat_lt}
 use Rattle.std.specs.List.{enumerate_from, flat_map}
 use Rattle.std.specs.Fmt.{digits, digits_onto, digit_glyph}
@@ -52,7 +52,8 @@ digits_none (suc k) n acc none =
     by :
         (t : Bool) → NoFeed (digit_glyph false (n % 10) ∷ acc)
         → NoFeed (digits_onto k 10 false (n / 10) (digit_glyph false (n % 10) ∷ acc))
-        → NoFeed (cond t (digit_glyph false (n % 10) ∷ acc) (digits_onto k 10 false (n / 10) (digit_glyph false (n % 10) ∷ acc)))
+        → NoFeed (cond t (digit_glyph false (n % 10) ∷ acc)
+        (digits_onto k 10 false (n / 10) (digit_glyph false (n % 10) ∷ acc)))
     by true here more = here
     by false here more = more
 
@@ -74,9 +75,11 @@ caller_none caller = by (caller == 0)
 call_none : (call : Call) → NoFeed (call_text call)
 call_none (Change (Enter batch ballots)) = numbered (codes "enter ") batch refl
 call_none (Change (Correct batch revision ballots)) =
-    both (codes "correct " ++ decimal batch) (32 ∷ decimal revision) (numbered (codes "correct ") batch refl) (number revision)
+    both (codes "correct " ++ decimal batch) (32 ∷ decimal revision) (numbered (codes "correct ") batch refl)
+    (number revision)
 call_none (Change (Withdraw batch revision)) =
-    both (codes "withdraw " ++ decimal batch) (32 ∷ decimal revision) (numbered (codes "withdraw ") batch refl) (number revision)
+    both (codes "withdraw " ++ decimal batch) (32 ∷ decimal revision)
+    (numbered (codes "withdraw ") batch refl) (number revision)
 call_none Freeze = refl
 call_none (Strike candidate) = numbered (codes "strike ") candidate refl
 
@@ -101,7 +104,9 @@ entry_none n e =
     (reply_none e.reply)
 
 -- a line with its line feed at the front of a text
-line_first : (line rest : List ℕ) → NoFeed line → (first_line (ended line ++ rest) ≡ ended line) × (behind_line (ended line ++ rest) ≡ rest)
+line_first :
+    (line rest : List ℕ) → NoFeed line
+    → (first_line (ended line ++ rest) ≡ ended line) × (behind_line (ended line ++ rest) ≡ rest)
 line_first [] rest none = (refl, refl)
 line_first (b ∷ line) rest none = by (b == 10) none (line_first line rest)
   where
@@ -122,11 +127,18 @@ line_of_a_call n [] more k e at = absurd (cc)
 line_of_a_call n (x ∷ xs) more zero e at =
     let same : x ≡ e = ap (λ (o : Option Entry). unwrap_or o e) at in
     let here : n ≡ n + 0 = omega arith in
-    ap first_line (append_assoc (ended (entry_line n x)) (flat_map ended (map (λ (x : ℕ × Entry). entry_line x.0 x.1) (enumerate_from (n + 1) xs))) more)
-    ∙ ((line_first (entry_line n x) (flat_map ended (map (λ (x : ℕ × Entry). entry_line x.0 x.1) (enumerate_from (n + 1) xs)) ++ more) (entry_none n x)).0
+    ap first_line (append_assoc (ended (entry_line n x))
+    (flat_map ended (map (λ (x : ℕ × Entry). entry_line x.0 x.1) (enumerate_from (n + 1) xs))) more)
+    ∙
+    ((line_first (entry_line n x)
+    (flat_map ended (map (λ (x : ℕ × Entry). entry_line x.0 x.1) (enumerate_from (n + 1) xs)) ++ more)
+    (entry_none n x)).0
     ∙ (λ i. ended (entry_line (here i) (same i))))
 line_of_a_call n (x ∷ xs) more (suc k) e at =
     let there : n + 1 + k ≡ n + suc k = omega arith in
-    ap (λ (l : List ℕ). line_at k (behind_line l)) (append_assoc (ended (entry_line n x)) (flat_map ended (map (λ (x : ℕ × Entry). entry_line x.0 x.1) (enumerate_from (n + 1) xs))) more)
-    ∙ (ap (line_at k) (line_first (entry_line n x) (flat_map ended (map (λ (x : ℕ × Entry). entry_line x.0 x.1) (enumerate_from (n + 1) xs)) ++ more) (entry_none n x)).1
+    ap (λ (l : List ℕ). line_at k (behind_line l)) (append_assoc (ended (entry_line n x))
+    (flat_map ended (map (λ (x : ℕ × Entry). entry_line x.0 x.1) (enumerate_from (n + 1) xs))) more)
+    ∙ (ap (line_at k) (line_first (entry_line n x) (flat_map ended
+    (map (λ (x : ℕ × Entry). entry_line x.0 x.1) (enumerate_from (n + 1) xs)) ++ more)
+    (entry_none n x)).1
     ∙ (line_of_a_call (n + 1) xs more k e at ∙ ap (λ (j : ℕ). ended (entry_line j e)) there))

@@ -1,24 +1,21 @@
 -- The history that is nearest to a text gives its verdict.
-use Rattle.std.proofs.Common.{◌≡◌, ◌⊎◌, inl, inr, ℕ, zero, suc, ◌+◌, ◌==◌, ◌<◌, ◌≤◌, List, [], ◌∷◌, ◌++◌, length, take, drop, get_or, filter}
+use Rattle.std.proofs.Common.{◌≡◌, ◌⊎◌, inl, inr, ℕ, zero, suc, ◌+◌, ◌<◌, ◌≤◌, List, [], ◌∷◌, ◌++◌, length, take, drop, get_or}
 use Rattle.std.proofs.Common.{refl, sym, ap, ◌∙◌, subst, arith}
-use Rattle.std.specs.Prelude.{slice_get, Option, Some, None, unwrap_or}
+use Rattle.std.specs.Prelude.{slice_get, Some}
 use Rattle.std.proofs.lemmas.Bool.{cases_lt}
-use Rattle.std.proofs.lemmas.List.{append-nil, append_assoc, length-append, take_all, take_at, take-append-drop}
+use Rattle.std.proofs.lemmas.List.{append-nil, append_assoc, length-append, take_all, take-append-drop}
 use Rattle.std.proofs.lemmas.Option.{slice_get-get_or}
 use Rattle.batch_core.specs.declared.entry.Entry.{Entry}
-use Rattle.batch_core.specs.Histories.{own_calls}
 use Rattle.day_reader.specs.declared.day.Day.{Day}
-use Rattle.team_run.specs.EntryText.{entry_line, ended, entries_text}
-use Rattle.sheet_check.specs.Comparison.{IsCompared}
+use Rattle.team_run.specs.EntryText.{entry_line, ended}
 use Rattle.sheet_check.specs.Difference.{IsFirstDifference, line_at}
 use Rattle.meek_cli.specs.DayHistory.{IsHistoryOf, clerk_freeze}
 use Rattle.meek_cli.specs.DayText.{terms_of, IsDayText}
 use Rattle.day_replay.specs.Nearest.{BeginsAs, IsNearest}
 use Rattle.day_replay.proofs.Lists.{got_ahead, got_behind}
 use Rattle.day_replay.proofs.Own.{none_by}
-use Rattle.day_audit.specs.declared.day_verdict.DayVerdict.{DayVerdict}
 use Rattle.day_audit.specs.declared.day_verdict.DayVerdict.TheVariants.{True, False}
-use Rattle.day_audit.specs.Judged.{IsTextOf, BeginAlike, IsFalseAt, IsDayVerdict}
+use Rattle.day_audit.specs.Judged.{IsTextOf, BeginAlike, IsFalseAt}
 use Rattle.day_audit.specs.Laws.{EachTextHasOneVerdict}
 use Rattle.day_audit.proofs.DayLines.{line_of_a_call}
 use Rattle.day_audit.proofs.DayTexts.{AreTerms, one_text}

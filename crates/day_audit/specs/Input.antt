@@ -1,6 +1,6 @@
 -- An input that is the text of a day and behind it a day file. A text ends with the line `end` of its last sheet; 10 is
 -- the line feed.
-use Rattle.std.specs.Prelude.{◌≡◌, ◌⊎◌, ℕ, ◌+◌, ◌<◌, List, [], ◌∷◌, ◌++◌, take, drop, codes}
+use Rattle.std.specs.Prelude.{◌≡◌, ℕ, ◌+◌, ◌<◌, List, take, drop, codes}
 use Rattle.sheet_check.specs.Input.{HasEndAt}
 
 -- the line of a further sheet begins there

@@ -1,7 +1,7 @@
 -- Lists, by their fronts.
-use Rattle.std.proofs.Common.{◌≡◌, ℕ, zero, suc, ◌+◌, ◌<◌, ◌≤◌, List, [], ◌∷◌, ◌++◌, length, take, drop}
+use Rattle.std.proofs.Common.{◌≡◌, ℕ, zero, suc, ◌<◌, List, [], ◌∷◌, ◌++◌, length, take, drop}
 use Rattle.std.proofs.Common.{refl, sym, ap, ◌∙◌, arith}
-use Rattle.std.specs.Prelude.{slice_get, Option, Some, None, unwrap_or}
+use Rattle.std.specs.Prelude.{slice_get, Option, Some, unwrap_or}
 
 module _ {X : Type 0} where
   pub inside : (xs : List X) (n : ℕ) (x : X) → slice_get xs n ≡ Some x → n < length xs

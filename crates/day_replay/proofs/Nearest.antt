@@ -1,14 +1,14 @@
 -- The history that was made along the lines of a text is the nearest to it.
-use Rattle.std.proofs.Common.{◌≡◌, ◌⊎◌, inl, inr, ℕ, zero, suc, ◌+◌, ◌==◌, ◌<◌, ◌≤◌, ◌^◌, Bool, true, false, cond, List, [], ◌∷◌, ◌++◌}
-use Rattle.std.proofs.Common.{length, take, drop, get_or, refl, sym, ap, ◌∙◌, subst, arith, filter, map}
-use Rattle.std.specs.Prelude.{All, slice_get, slice_index_or, Option, Some, unwrap_or}
+use Rattle.std.proofs.Common.{◌≡◌, ◌⊎◌, inl, inr, ℕ, zero, suc, ◌+◌, ◌==◌, ◌<◌, ◌≤◌, Bool, true, false, cond}
+use Rattle.std.proofs.Common.{List, [], ◌∷◌, ◌++◌}
+use Rattle.std.proofs.Common.{length, take, drop, get_or, refl, sym, ap, ◌∙◌, subst, arith, filter}
+use Rattle.std.specs.Prelude.{All, slice_get, Option, Some, unwrap_or}
 use Rattle.std.specs.List.{flat_map}
 use Rattle.std.proofs.lemmas.Bool.{eqb-true, ne_eqb, cases_lt}
 use Rattle.std.proofs.lemmas.List.{append-nil, append_assoc, append_cancel_left, take_at, take-take, length-append}
 use Rattle.std.proofs.lemmas.Option.{slice_get-get_or}
 use Rattle.std.proofs.lemmas.List.Elements.{All-head, All-tail}
 use Rattle.batch_core.specs.declared.call.Call.{Call}
-use Rattle.batch_core.specs.declared.reply.Reply.{Reply}
 use Rattle.batch_core.specs.declared.entry.Entry.{Entry}
 use Rattle.batch_core.specs.Histories.{IsLegal, own_calls, after_all}
 use Rattle.batch_core.specs.Book.{empty, reply}
@@ -16,14 +16,14 @@ use Rattle.batch_core.specs.Laws.{AnswersEachCall}
 use Rattle.day_reader.specs.declared.script.Script.{Script}
 use Rattle.team_run.specs.Teams.{calls_of}
 use Rattle.team_run.specs.Endings.{calls_in}
-use Rattle.team_run.specs.EntryText.{entry_line, ended, caller_text, call_text, reply_text}
+use Rattle.team_run.specs.EntryText.{entry_line, ended, call_text, reply_text}
 use Rattle.sheet_check.specs.Difference.{line_at}
 use Rattle.meek_cli.specs.DayHistory.{IsHistoryOf, clerk_freeze}
-use Rattle.day_replay.specs.Calls.{left_of, IsUnderWay}
-use Rattle.day_replay.specs.Saying.{call_front, Says}
-use Rattle.day_replay.specs.Nearest.{BeginsAs, IsNearest, HasSaid, HasFollowed}
+use Rattle.day_replay.specs.Calls.{IsUnderWay}
+use Rattle.day_replay.specs.Saying.{Says}
+use Rattle.day_replay.specs.Nearest.{IsNearest, HasFollowed}
 use Rattle.day_replay.proofs.Lists.{inside, parted, got_behind, got_ahead, same_fronts}
-use Rattle.day_replay.proofs.Own.{own_append, own_first, calls_around, none_by}
+use Rattle.day_replay.proofs.Own.{own_append, calls_around, none_by}
 use Rattle.day_replay.proofs.Fronts.{same_caller}
 
 -- the line of an answered call names its caller
@@ -45,7 +45,8 @@ team_small (s ∷ ss) team c cs all is =
   where
     by :
         (b : Bool) → s.team == team ≡ b
-        → flat_map (λ (x : Script). x.calls) (cond b (s ∷ filter (λ x. x.team == team) ss) (filter (λ x. x.team == team) ss)) ≡ c ∷ cs
+        → flat_map (λ (x : Script). x.calls)
+        (cond b (s ∷ filter (λ x. x.team == team) ss) (filter (λ x. x.team == team) ss)) ≡ c ∷ cs
         → (calls_in ss team ≡ c ∷ cs → team ≤ 16) → team ≤ 16
     by true same there others =
         let here = All-head IsNumbered s ss all in
@@ -96,8 +97,13 @@ module _ (scripts : List Script) (numbers : All IsNumbered scripts) (replies : A
       append_cancel_left (calls_of (own_calls a.caller (take n one)))
       (a.call ∷ calls_of (own_calls a.caller (drop (suc n) one)))
       (b.call ∷ calls_of (own_calls b.caller (drop (suc n) other)))
-      (sym mine ∙ (ap (calls_in scripts) caller ∙ (theirs ∙ ap (λ (l : List Call). l ++ b.call ∷ calls_of (own_calls b.caller (drop (suc n) other))) before))) in
-      let call : a.call ≡ b.call = ap (λ (o : Option Call). unwrap_or o a.call) (ap (λ (l : List Call). slice_get l 0) tails) in
+      (sym mine
+      ∙ (ap (calls_in scripts) caller
+      ∙ (theirs
+      ∙ ap (λ (l : List Call). l ++ b.call
+      ∷ calls_of (own_calls b.caller (drop (suc n) other))) before))) in
+      let call : a.call ≡ b.call =
+      ap (λ (o : Option Call). unwrap_or o a.call) (ap (λ (l : List Call). slice_get l 0) tails) in
       let here = replies (take n one) (drop (suc n) one) a (subst IsLegal p is.legal) in
       let far = replies (take n other) (drop (suc n) other) b (subst IsLegal q others.legal) in
       let answer : a.reply ≡ b.reply = here ∙ ((λ i. reply (after_all empty (sym same i)) (call i)) ∙ sym far) in
@@ -109,7 +115,8 @@ module _ (scripts : List Script) (numbers : All IsNumbered scripts) (replies : A
       → e.caller ≡ 0 → (n + 1 ≡ length history) × (e ≡ clerk_freeze)
   clerk_is_last history n e is at clerk =
       let before = is.ends.before in
-      let there : slice_get (before ++ clerk_freeze ∷ []) n ≡ Some e = subst (λ (l : List Entry). slice_get l n ≡ Some e) is.ends.last at in
+      let there : slice_get (before ++ clerk_freeze ∷ []) n ≡ Some e =
+      subst (λ (l : List Entry). slice_get l n ≡ Some e) is.ends.last at in
       let long : length history ≡ length before + 1 = ap length is.ends.last ∙ length-append before (clerk_freeze ∷ []) in
       let below = inside history n e at in
       cases (cases_lt n (length before)) below there long
@@ -119,11 +126,13 @@ module _ (scripts : List Script) (numbers : All IsNumbered scripts) (replies : A
           → slice_get (is.ends.before ++ clerk_freeze ∷ []) n ≡ Some e → length history ≡ length is.ends.before + 1
           → (n + 1 ≡ length history) × (e ≡ clerk_freeze)
       cases (inl ahead) below there long =
-          absurd (none_by 0 is.ends.before n e is.ends.no_other (sym (got_ahead is.ends.before (clerk_freeze ∷ []) n ahead) ∙ there) clerk)
+          absurd (none_by 0 is.ends.before n e is.ends.no_other
+          (sym (got_ahead is.ends.before (clerk_freeze ∷ []) n ahead) ∙ there) clerk)
       cases (inr behind) below there long =
           let end : n ≡ length is.ends.before = omega (arith, behind, below, long) in
           let got : Some clerk_freeze ≡ Some e =
-          sym (got_behind is.ends.before clerk_freeze []) ∙ (ap (slice_get (is.ends.before ++ clerk_freeze ∷ [])) (sym end) ∙ there) in
+          sym (got_behind is.ends.before clerk_freeze [])
+          ∙ (ap (slice_get (is.ends.before ++ clerk_freeze ∷ [])) (sym end) ∙ there) in
           (omega (arith, long, end), sym (ap (λ (o : Option Entry). unwrap_or o e) got))
 
   -- Along the lines of a text the calls of any history are those that were made.
@@ -156,7 +165,9 @@ module _ (scripts : List Script) (numbers : All IsNumbered scripts) (replies : A
         -- who is named has no calls left
         named : 1 ≤ e.caller → ⊥
         named some =
-            let none = followed.stops e.caller some (says_its_caller (length front + 1) e (line_at (length front) text) line) in
+            let none =
+            followed.stops e.caller some
+            (says_its_caller (length front + 1) e (line_at (length front) text) line) in
             let all : calls_of (own_calls e.caller front) ≡ calls_in scripts e.caller =
             sym (append-nil (calls_of (own_calls e.caller front)))
             ∙ (ap (λ (l : List Call). calls_of (own_calls e.caller front) ++ l) (sym none) ∙ way.each e.caller some) in
@@ -182,7 +193,8 @@ module _ (scripts : List Script) (numbers : All IsNumbered scripts) (replies : A
             sym (take_at before (clerk_freeze ∷ []) (length front) long)
             ∙ (ap (take (length front)) (sym others.ends.last) ∙ same) in
             let not_theirs : own_calls g.caller (clerk_freeze ∷ []) ≡ [] =
-            ap (λ (b : Bool). cond b (clerk_freeze ∷ []) []) (ne_eqb 0 g.caller (λ zero_is. absurd (omega (arith, some, zero_is)))) in
+            ap (λ (b : Bool). cond b (clerk_freeze ∷ []) [])
+            (ne_eqb 0 g.caller (λ zero_is. absurd (omega (arith, some, zero_is)))) in
             let own : own_calls g.caller other ≡ own_calls g.caller front =
             ap (own_calls g.caller) (others.ends.last ∙ ap (λ (l : List Entry). l ++ clerk_freeze ∷ []) before_is)
             ∙ (own_append g.caller front (clerk_freeze ∷ [])
@@ -198,7 +210,8 @@ module _ (scripts : List Script) (numbers : All IsNumbered scripts) (replies : A
             let none : own_calls 0 history ≡ [] =
             ap (own_calls 0) (there ∙ append-nil front) ∙ way.no_clerk in
             let end : slice_get history (length is.ends.before) ≡ Some clerk_freeze =
-            ap (λ (l : List Entry). slice_get l (length is.ends.before)) is.ends.last ∙ got_behind is.ends.before clerk_freeze [] in
+            ap (λ (l : List Entry). slice_get l (length is.ends.before)) is.ends.last
+            ∙ got_behind is.ends.before clerk_freeze [] in
             absurd (none_by 0 history (length is.ends.before) clerk_freeze none end refl)
         clerks last (g ∷ later) there =
             let got : slice_get history (length front) ≡ Some g =
@@ -217,7 +230,9 @@ module _ (scripts : List Script) (numbers : All IsNumbered scripts) (replies : A
         let same = nearest other n others (omega (arith, within)) (λ k e below at. begins k e (omega (arith, below)) at) in
         cases (cases_lt n (length front)) same
       where
-        cases : (n < length front) ⊎ (length front ≤ n) → take n other ≡ take n history → take (suc n) other ≡ take (suc n) history
+        cases :
+            (n < length front) ⊎ (length front ≤ n) → take n other ≡ take n history
+            → take (suc n) other ≡ take (suc n) history
         cases (inl below) same =
             let e = get_or other n clerk_freeze in
             let at : slice_get other n ≡ Some e = slice_get-get_or other n clerk_freeze within in

@@ -1,7 +1,8 @@
 -- The calls of a script are put before those that its team has.
-use Rattle.std.proofs.Common.{◌≡◌, ◌≢◌, ◌⊎◌, inl, inr, ⊎_elim, ℕ, ◌+◌, ◌-◌, ◌==◌, ◌<◌, ◌≤◌, Bool, true, false, cond, List, [], ◌∷◌, ◌++◌, length, get_or, set, filter}
-use Rattle.std.proofs.Common.{refl, sym, ap, ◌∙◌, subst, arith}
-use Rattle.std.specs.Prelude.{All, Some, reverse}
+use Rattle.std.proofs.Common.{◌≡◌, ⊎_elim, ℕ, ◌-◌, ◌==◌, ◌<◌, ◌≤◌, Bool, true, false, cond, List, [], ◌∷◌}
+use Rattle.std.proofs.Common.{◌++◌, length, get_or, set, filter}
+use Rattle.std.proofs.Common.{refl, sym, ap, ◌∙◌, arith}
+use Rattle.std.specs.Prelude.{All, reverse}
 use Rattle.std.specs.List.{flat_map}
 use Rattle.std.proofs.lemmas.Bool.{cases_eq, eq-eqb, ne_eqb}
 use Rattle.std.proofs.lemmas.List.{append-nil, append_assoc, length-set, get_or-set_same, get_or-set_other, get_or_default}
@@ -14,7 +15,10 @@ use Rattle.day_replay.specs.Calls.{left_of}
 calls_of_all : List Script → List Call
 calls_of_all scripts = flat_map (λ (s : Script). s.calls) scripts
 
-all_append : (xs ys : List Script) → flat_map (λ (s : Script). s.calls) (xs ++ ys) ≡ flat_map (λ (s : Script). s.calls) xs ++ flat_map (λ (s : Script). s.calls) ys
+all_append :
+    (xs ys : List Script)
+    → flat_map (λ (s : Script). s.calls) (xs ++ ys)
+    ≡ flat_map (λ (s : Script). s.calls) xs ++ flat_map (λ (s : Script). s.calls) ys
 all_append [] ys = refl
 all_append (x ∷ xs) ys =
     ap (λ (l : List Call). x.calls ++ l) (all_append xs ys)
@@ -25,7 +29,8 @@ calls_more :
     (scripts : List Script) (script : Script) (team : ℕ)
     → calls_in (scripts ++ script ∷ []) team ≡ calls_in scripts team ++ cond (script.team == team) script.calls []
 calls_more scripts script team =
-    ap (λ (l : List Script). flat_map (λ (s : Script). s.calls) l) (filter-append (λ (s : Script). s.team == team) scripts (script ∷ []))
+    ap (λ (l : List Script). flat_map (λ (s : Script). s.calls) l)
+    (filter-append (λ (s : Script). s.team == team) scripts (script ∷ []))
     ∙ (all_append (filter (λ (s : Script). s.team == team) scripts) (cond (script.team == team) (script ∷ []) [])
     ∙ ap (λ (l : List Call). calls_in scripts team ++ l) (one (script.team == team)))
   where
@@ -41,18 +46,24 @@ module _ (all scripts rest : List Script) (script : Script) (left : List (List C
   below = omega (arith, some, few, teams)
 
   -- what each team has
-  has : (team : ℕ) → 1 ≤ team → left_of (set left (script.team - 1) now) team ≡ cond (script.team == team) script.calls [] ++ left_of left team
+  has :
+      (team : ℕ) → 1 ≤ team
+      → left_of (set left (script.team - 1) now) team
+      ≡ cond (script.team == team) script.calls [] ++ left_of left team
   has team from =
       ⊎_elim
       (λ same. (
       ap (λ (k : ℕ). reverse (get_or (set left (script.team - 1) now) (k - 1) [])) (sym same)
       ∙ (ap reverse (get_or-set_same left (script.team - 1) now [] below)
       ∙ (put
-      ∙ (ap (λ (l : List Call). script.calls ++ reverse l) (read ∙ (get_or_default left (script.team - 1) list [] below ∙ ap (λ (k : ℕ). get_or left (k - 1) []) same))
+      ∙ (ap (λ (l : List Call). script.calls ++ reverse l) (read
+      ∙ (get_or_default left (script.team - 1) list [] below
+      ∙ ap (λ (k : ℕ). get_or left (k - 1) []) same))
       ∙ ap (λ (b : Bool). cond b script.calls [] ++ left_of left team) (sym (eq-eqb script.team team same))))))
       )
       (λ other. (
-      ap reverse (get_or-set_other left (script.team - 1) (team - 1) now [] (λ equal. other (omega (arith, equal, from, some))))
+      ap reverse (get_or-set_other left (script.team - 1) (team - 1) now []
+      (λ equal. other (omega (arith, equal, from, some))))
       ∙ ap (λ (b : Bool). cond b script.calls [] ++ left_of left team) (sym (ne_eqb script.team team other))
       ))
       (cases_eq script.team team)
@@ -65,7 +76,8 @@ module _ (all scripts rest : List Script) (script : Script) (left : List (List C
     λ team from.
         ap (λ (l : List Call). calls_in rest team ++ l) (has team from)
         ∙ (sym (append_assoc (calls_in rest team) (cond (script.team == team) script.calls []) (left_of left team))
-        ∙ (ap (λ (l : List Call). l ++ left_of left team) (sym (calls_more rest script team) ∙ ap (λ (l : List Script). calls_in l team) (sym parts))
+        ∙ (ap (λ (l : List Call). l ++ left_of left team)
+        (sym (calls_more rest script team) ∙ ap (λ (l : List Script). calls_in l team) (sym parts))
         ∙ before team from)),
   )
 
@@ -73,7 +85,8 @@ module _ (all scripts rest : List Script) (script : Script) (left : List (List C
 
 module _ (P : Call → Type 0) where
   kept_if :
-      (b : Bool) (script : Script) (rest : List Script) → All P script.calls → All P (flat_map (λ (s : Script). s.calls) rest)
+      (b : Bool) (script : Script) (rest : List Script) → All P script.calls
+      → All P (flat_map (λ (s : Script). s.calls) rest)
       → All P (flat_map (λ (s : Script). s.calls) (cond b (script ∷ rest) rest))
   kept_if true script rest here others = All-append P script.calls (flat_map (λ (s : Script). s.calls) rest) here others
   kept_if false script rest here others = others

@@ -1,19 +1,18 @@
 -- Calls answered one after another.
-use Rattle.std.proofs.Common.{◌≡◌, ℕ, ◌+◌, ◌≤◌, List, [], ◌∷◌, ◌++◌, length, refl, sym, ap, ◌∙◌, subst, arith}
-use Rattle.std.specs.Prelude.{All, Bool, true, false, IsPermutation}
+use Rattle.std.proofs.Common.{◌≡◌, ℕ, ◌+◌, List, [], ◌∷◌, ◌++◌, length, refl, sym, ap, ◌∙◌, subst, arith}
+use Rattle.std.specs.Prelude.{IsPermutation}
 use Rattle.std.proofs.lemmas.List.{length-append}
 use Rattle.plain_ballots.specs.Ballots.{plain}
 use Rattle.batch_core.specs.declared.change.Change.{Change}
-use Rattle.batch_core.specs.declared.call.Call.{Call}
 use Rattle.batch_core.specs.declared.call.Call.TheVariants.{Change as Changes, Freeze as FreezeCall, Strike as StrikeCall}
 use Rattle.batch_core.specs.declared.entry.Entry.{Entry}
-use Rattle.batch_core.specs.Book.{empty, reply, standing}
+use Rattle.batch_core.specs.Book.{empty, standing}
 use Rattle.batch_core.specs.Histories.{IsLegal, after_all}
 use Rattle.batch_core.specs.Laws.{AnswersEachCall}
 use Rattle.call_register.specs.declared.mark.Mark.{Mark}
 use Rattle.call_register.specs.declared.mark.Mark.TheVariants.{Shard, Freeze, Strike}
 use Rattle.call_register.specs.Marks.{struck_by}
-use Rattle.call_register.specs.Weaving.{weave, freeze_entry, strike_entry, MatchEntries}
+use Rattle.call_register.specs.Weaving.{weave, freeze_entry, strike_entry}
 use Rattle.call_register.specs.Woven.{AreOfShards}
 use Rattle.call_register.proofs.Standing.{woven_legal}
 use Rattle.call_register.proofs.Sights.{call_adds, freeze_adds, strike_adds}

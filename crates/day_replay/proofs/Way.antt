@@ -1,13 +1,13 @@
 -- A day under way, call by call.
-use Rattle.std.proofs.Common.{◌≡◌, ◌≢◌, ◌⊎◌, inl, inr, ⊎_elim, ℕ, zero, suc, ◌+◌, ◌==◌, ◌<◌, ◌≤◌, Bool, true, false, cond, List, [], ◌∷◌, ◌++◌, length}
+use Rattle.std.proofs.Common.{◌≡◌, ◌⊎◌, inl, inr, ⊎_elim, ℕ, suc, ◌+◌, ◌==◌, ◌<◌, ◌≤◌, Bool, true, false, cond, List, [], ◌∷◌, ◌++◌, length}
 use Rattle.std.proofs.Common.{refl, sym, ap, ◌∙◌, subst, arith}
-use Rattle.std.specs.Prelude.{All, slice_get, Some, Option, unwrap_or}
+use Rattle.std.specs.Prelude.{slice_get, Some, Option, unwrap_or}
 use Rattle.std.proofs.lemmas.Bool.{cases_eq, cases_lt, eq-eqb, ne_eqb}
-use Rattle.std.proofs.lemmas.List.{append-nil, append_assoc, map-append, length-append}
+use Rattle.std.proofs.lemmas.List.{append_assoc, map-append, length-append}
 use Rattle.batch_core.specs.declared.call.Call.{Call}
 use Rattle.batch_core.specs.declared.call.Call.TheVariants.{Freeze}
 use Rattle.batch_core.specs.declared.entry.Entry.{Entry}
-use Rattle.batch_core.specs.Histories.{IsLegal, own_calls}
+use Rattle.batch_core.specs.Histories.{own_calls}
 use Rattle.batch_core.specs.Laws.{GrowsByAnAnswer}
 use Rattle.day_reader.specs.declared.script.Script.{Script}
 use Rattle.team_run.specs.Teams.{calls_of}
@@ -17,7 +17,7 @@ use Rattle.meek_cli.specs.DayHistory.{clerk_freeze, IsHistoryOf}
 use Rattle.day_replay.specs.Calls.{left_of, IsTaken, IsUnderWay, HasCalled}
 use Rattle.day_replay.specs.Replay.{answered}
 use Rattle.day_replay.specs.Saying.{Says}
-use Rattle.day_replay.specs.Nearest.{HasSaid, HasFollowed}
+use Rattle.day_replay.specs.Nearest.{HasSaid}
 use Rattle.day_replay.proofs.Lists.{inside, got_behind, got_ahead}
 use Rattle.day_replay.proofs.Own.{own_append}
 

@@ -1,4 +1,4 @@
-use Rattle.std.proofs.Common.{All, ℕ, List, Some, Result, ◌≡◌, map, sym, ap, ◌∙◌, subst}
+use Rattle.std.proofs.Common.{Some, Result, map, sym, ap, ◌∙◌, subst}
 use Rattle.byte_edge.specs.declared.failed.Failed.{Failed}
 use Rattle.lane_sheet.proofs.Sheets.{written_as}
 use Rattle.meek_cli.specs.DayText.{IsDayText}

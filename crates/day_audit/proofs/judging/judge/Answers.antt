@@ -1,4 +1,4 @@
-use Rattle.std.proofs.Common.{◌≡◌, ◌≤◌, ℕ, List, Option, Some, ◌∙◌, subst}
+use Rattle.std.proofs.Common.{◌≤◌, ℕ, Option, subst}
 use Rattle.fixed_place.specs.declared.omega.TheConstants.{MOST_OMEGA}
 use Rattle.sheet_check.specs.Comparison.{IsCompared}
 use Rattle.meek_cli.specs.DayText.{terms_of, IsDayText}

@@ -1,4 +1,4 @@
-use Rattle.std.proofs.Common.{◌≡◌, ◌⊎◌, inl, inr, ⊎_elim, [], length, ℕ, zero, suc, ◌+◌, ◌<◌, ◌≤◌, List, ◌∷◌, ◌++◌, sym, ap, ◌∙◌, subst, arith}
+use Rattle.std.proofs.Common.{◌≡◌, ⊎_elim, [], ℕ, zero, suc, ◌+◌, List, ◌∷◌, ◌++◌, sym, ap, ◌∙◌, subst, arith}
 use Rattle.std.specs.Prelude.{decimal, codes}
 use Rattle.std.proofs.lemmas.Bool.{cases_lt}
 use Rattle.day_replay.specs.Calls.{left_of}
@@ -8,19 +8,26 @@ use Rattle.day_replay.proofs.Taking.{none_beyond}
 use Rattle.day_replay.proofs.lines.team_said.Goals as goal
 
 -- what stands in the front
-front_of : (n : ℕ) (empty number front : List ℕ) → empty ≡ [] → number ≡ empty ++ decimal n → front ≡ number ++ codes " team " → front ≡ decimal n ++ codes " team "
-front_of n empty number front none first then = then ∙ ap (λ (l : List ℕ). l ++ codes " team ") (first ∙ ap (λ (l : List ℕ). l ++ decimal n) none)
+front_of :
+    (n : ℕ) (empty number front : List ℕ) → empty ≡ [] → number ≡ empty ++ decimal n
+    → front ≡ number ++ codes " team " → front ≡ decimal n ++ codes " team "
+front_of n empty number front none first then =
+    then ∙ ap (λ (l : List ℕ). l ++ codes " team ") (first ∙ ap (λ (l : List ℕ). l ++ decimal n) none)
 
 pub returns-in_default : goal.returns-in_default
 returns-in_default c zero some says = absurd (omega (arith, some))
 returns-in_default c (suc team) some says =
     absurd (no_front c.args.n team c.args.line.now c.bytes.result.now
-    (c.bytes.ensures.value ∙ front_of c.args.n c.new-front.result c.push_count.new.self c.push_bytes.new.self c.new-front.ensures c.push_count.ensures c.push_bytes.ensures) c.in_default.ensures says)
+    (c.bytes.ensures.value
+    ∙ front_of c.args.n c.new-front.result c.push_count.new.self c.push_bytes.new.self
+    c.new-front.ensures c.push_count.ensures c.push_bytes.ensures) c.in_default.ensures says)
   where
     no_front :
-        (n team : ℕ) (line front : List ℕ) → front ≡ decimal n ++ codes " team " → ((rest : List ℕ) → line ≡ front ++ rest → ⊥)
+        (n team : ℕ) (line front : List ℕ) → front ≡ decimal n ++ codes " team "
+        → ((rest : List ℕ) → line ≡ front ++ rest → ⊥)
         → Says n (suc team) line → ⊥
-    no_front n team line front is none says = none ((decimal (suc team) ++ 32 ∷ []) ++ says.0) (team_line n team line front says is)
+    no_front n team line front is none says =
+        none ((decimal (suc team) ++ 32 ∷ []) ++ says.0) (team_line n team line front says is)
 
 pub returns : goal.returns
 returns c team some says =
@@ -38,7 +45,9 @@ loop-place-preserved c (suc team) some few says =
     (c.is_next.ensures.other c.if-is_next.false
     (subst (λ (t : ℕ). BeginsWith t c.in-Some.rest.now) (sym same)
     (says_begins c.args.n team c.args.line.now c.bytes.result.now c.in-Some.rest.now
-    (c.bytes.ensures.value ∙ front_of c.args.n c.new-front.result c.push_count.new.self c.push_bytes.new.self c.new-front.ensures c.push_count.ensures c.push_bytes.ensures) c.in-Some.ensures says))))
+    (c.bytes.ensures.value
+    ∙ front_of c.args.n c.new-front.result c.push_count.new.self c.push_bytes.new.self
+    c.new-front.ensures c.push_count.ensures c.push_bytes.ensures) c.in-Some.ensures says))))
     (cases_lt team c.loop-place.place)
 
 pub returns-then-is_next : goal.returns-then-is_next
@@ -49,6 +58,9 @@ returns-then-is_next c =
       omega (arith, c.loop-place-test.true),
       subst (λ (t : ℕ). Says c.args.n t c.args.line.now) same
           (begins_says c.args.n c.loop-place.place c.args.line.now c.bytes.result.now c.in-Some.rest.now
-          (c.bytes.ensures.value ∙ front_of c.args.n c.new-front.result c.push_count.new.self c.push_bytes.new.self c.new-front.ensures c.push_count.ensures c.push_bytes.ensures) c.in-Some.ensures (subst (λ (t : ℕ). BeginsWith t c.in-Some.rest.now) (sym same) named.0)),
+          (c.bytes.ensures.value
+          ∙ front_of c.args.n c.new-front.result c.push_count.new.self c.push_bytes.new.self
+          c.new-front.ensures c.push_count.ensures c.push_bytes.ensures) c.in-Some.ensures
+          (subst (λ (t : ℕ). BeginsWith t c.in-Some.rest.now) (sym same) named.0)),
       named.1,
     )

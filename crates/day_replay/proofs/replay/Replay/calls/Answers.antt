@@ -1,4 +1,4 @@
-use Rattle.std.proofs.Common.{rules, ◌≡◌, ◌<◌, ◌≤◌, ◌^◌, [], IfOk, OnOk, length, ℕ, ◌+◌, ◌-◌, List, ◌∷◌, ◌++◌, refl, sym, ap, ◌∙◌, subst, arith}
+use Rattle.std.proofs.Common.{length, sym, ap, ◌∙◌}
 use Rattle.day_replay.specs.Replay.{ReplayState}
 use Rattle.day_replay.proofs.OneShard.{of_one_shard}
 use Rattle.day_replay.proofs.Freezing.{as_long}
