@@ -20,8 +20,8 @@ values_are :
     (v : SheetList) (is : IsSheetOfCount rule omega ballots roll lots text v)
     → v ≡ values_of roll (length ballots) is.sheet.0 is.sheet.1
 values_are forms says rule units ballots roll lots text v is =
-    says text v _ is.values
-    (forms rule units ballots roll lots text is.sheet.0 is.sheet.1 is.election is.names is.sheet is.sheet.2)
+    says 9 text v _ is.election.places_from is.election.places_to is.values
+    (forms rule 9 units ballots roll lots text is.sheet.0 is.sheet.1 is.election is.names is.sheet is.sheet.2)
 
 pub promises : CoalitionsAreSeated → SheetsHaveTheForm → FormSaysItsValues → PromisesHold
 promises seated forms says rule units ballots coalition others roll lots text v members k is moved =

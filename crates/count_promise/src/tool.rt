@@ -42,7 +42,7 @@ fn tell<K: Sink>(alloc: Global, input: &[u8], sink: &mut K) -> End<SheetFault>
     ensures { FinishesOwed (IsOwedFor promises (tt {0}) input.now no_history) result
         (writing K.written K.faults sink.old sink.new) }
 {
-    match read_sheet(alloc, input) {
+    match read_sheet::<9>(alloc, input) {
         Ok(values) => tell_values(alloc, &values, sink),
         Err(SheetStop::Malformed) => refuse(sink, SheetFault::Malformed),
         Err(SheetStop::NoMemory) => End::NoMemory,

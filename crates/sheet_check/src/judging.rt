@@ -46,7 +46,7 @@ fn has_form(alloc: Global, bytes: &[u8]) -> Result<bool, NoMemory>
         ((values : SheetList) × HasForm 9 bytes.now values)
         ((values : SheetList) → ¬ (HasForm 9 bytes.now values))) }
 {
-    match check_form(alloc, bytes) {
+    match check_form::<9>(alloc, bytes) {
         Ok(()) => Ok(true),
         Err(SheetStop::Malformed) => Ok(false),
         Err(SheetStop::NoMemory) => Err(NoMemory),

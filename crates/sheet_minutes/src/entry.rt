@@ -1,6 +1,6 @@
-/// What a line of the table is about.
+/// What a line of a table of rounds is about.
 #[derive(Clone, Copy, Debug, PartialEq, Eq)]
-pub(crate) enum Entry {
+pub enum Entry {
     /// The numbers of the rounds.
     Round,
     Quota,

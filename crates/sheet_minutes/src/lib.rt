@@ -3,7 +3,9 @@
 //!
 //! [`write_minutes`] writes the text of a sheet's values, and takes no memory. [`tables_fit`] says what holds
 //! of every table, [`texts_are_tame`] that no control character of a name is written, and
-//! [`worked_minutes`] has texts worked by hand.
+//! [`worked_minutes`] has texts worked by hand. What a table of rounds has in its lines and columns is said
+//! here once, also for other texts: [`ends_round`] where a column is, [`states_behind`] and [`left_over`]
+//! what stands in it, and [`Entry`] what a line is about.
 #![tactic(auto)]
 
 mod block;
@@ -28,6 +30,8 @@ mod table;
 mod widths;
 mod worked;
 
+pub use entry::Entry;
 pub use laws::{tables_fit, texts_are_tame};
 pub use minutes::write_minutes;
+pub use rounds::{ends_round, left_over, states_behind};
 pub use worked::worked_minutes;

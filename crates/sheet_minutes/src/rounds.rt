@@ -9,16 +9,16 @@ use fixed_place::Amount;
 use meek_rule::Row;
 use sheet_reader::SheetValues;
 
-/// What of so many ballots is left on no candidate.
-pub(crate) fn left_over(ballots: u64, total: Amount<9>) -> Amount<9>
+/// What of so many ballots is left on no candidate, in votes: nothing, where the total is more.
+pub fn left_over(ballots: u64, total: Amount<9>) -> Amount<9>
     requires { ballots ≤ MOST_BALLOTS }
     ensures { result ≡ ballots * 1000000000 - total }
 {
     Amount::from_units((ballots * 1_000_000_000).saturating_sub(total.units()))
 }
 
-/// Whether an iteration is the last of its round.
-pub(crate) fn ends_round(rows: &[Row<9>], i: usize) -> bool
+/// Whether the iteration at a place is the last of its round.
+pub fn ends_round(rows: &[Row<9>], i: usize) -> bool
     requires { i < length rows.now }
     ensures { result ≡ ends_round rows.now i }
 {
@@ -31,7 +31,7 @@ pub(crate) fn ends_round(rows: &[Row<9>], i: usize) -> bool
 }
 
 /// What the candidates are behind the iteration at a place: as before the next one, or as in the end.
-pub(crate) fn states_behind(values: &SheetValues, i: usize) -> &States
+pub fn states_behind(values: &SheetValues, i: usize) -> &States
     requires printable { IsPrintable 9 values.now }
     requires place { i < length values.now.rows }
     ensures states { result.now ≡ states_behind values.now i }

@@ -14,10 +14,11 @@ use Rattle.page_tree.specs.Escaping.{readable, escaped}
 use Rattle.sheet_text.specs.Lines.{state_word}
 use Rattle.sheet_reader.specs.Form.{IsPrintable, IsPrintableRow}
 use Rattle.sheet_reader.specs.Values.{SheetList}
+use Rattle.sheet_minutes.specs.Rounds.{row_at}
 use Rattle.sheet_page.specs.Json.{comma_at, joined, candidate_json, iteration_at, iteration_json, json_of}
 use Rattle.sheet_page.specs.JsonText.{escape, string_text}
 use Rattle.sheet_page.specs.Laws.{HaveOneJson, JsonSaysItsSheet}
-use Rattle.sheet_page.specs.Values.{places, name_at, row_at}
+use Rattle.sheet_page.specs.Values.{places, name_at}
 use Rattle.sheet_page.proofs.JsonParts.{joined-onto}
 use Rattle.sheet_page.proofs.JsonRows.{letter, states_shown, iterations_cut}
 use Rattle.sheet_page.proofs.JsonTwins.{Twin, Bytes, Numbers, Strings, AreOne, twins_cut, lists_cut}

@@ -10,8 +10,8 @@ use Rattle.lot_order.specs.Flags.{mark_at}
 use Rattle.meek_rule.specs.Row.{Row}
 use Rattle.sheet_reader.specs.Values.{SheetList}
 use Rattle.meek_rule.specs.Situation.{is_elected}
+use Rattle.sheet_minutes.specs.Rounds.{row_at}
 use Rattle.sheet_page.specs.Html.{is_seated, was_elected}
-use Rattle.sheet_page.specs.Values.{row_at}
 
 elected_is : (state : State) → is_elected state ≡ true → state ≡ Elected
 elected_is Hopeful is = cc

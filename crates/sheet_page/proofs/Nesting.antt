@@ -10,11 +10,14 @@ use Rattle.page_tree.specs.Trees.{Trees, Nothing, IsWellNamed}
 use Rattle.sheet_reader.specs.Values.{SheetList}
 use Rattle.sheet_words.specs.Lines.{at_end, sentences_of}
 use Rattle.sheet_words.specs.Sentences.{outcome, sentences_at_end}
+use Rattle.sheet_minutes.specs.declared.entry.Entry.{Entry}
+use Rattle.sheet_minutes.specs.declared.entry.Entry.TheVariants.{Round, Quota, LeftOver, Candidate}
+use Rattle.sheet_minutes.specs.Rounds.{ends_round, left_over, row_at}
 use Rattle.sheet_page.specs.Told.{end_list, item, outcome_list, result_part, result_title, round_sentences, sentences_at, spoken}
 use Rattle.sheet_page.specs.Trees.{at, each, el, isolated, words}
 use Rattle.sheet_page.proofs.Tested.{tested, Tested, sound, tested_all, tested_each, tested_el, tested_if}
-use Rattle.sheet_page.specs.Values.{places, name_at, row_at}
-use Rattle.sheet_page.specs.RoundEnds.{ends_round, left_over, settled_at}
+use Rattle.sheet_page.specs.Values.{places, name_at}
+use Rattle.sheet_page.specs.RoundEnds.{settled_at}
 use Rattle.sheet_page.specs.Stretches.{is_of_round}
 use Rattle.sheet_page.specs.Bars.{bars_of, has_bar, rest_count, rest_votes}
 use Rattle.sheet_page.specs.Picture.{scaled, bar, bar_at, quota_line, picture_title, picture_attributes, picture}
@@ -26,8 +29,8 @@ use Rattle.sheet_page.specs.Html.{elected_list, elected_title, elected_part, rou
 use Rattle.sheet_page.specs.Html.{round_title, round_part, part_at, round_parts, heading, content, body, head, page}
 use Rattle.sheet_page.specs.Links.{link_at, link_list, link_to, links, part_attributes, part_name, round_link}
 use Rattle.sheet_page.specs.RoundTable.{amount_cell, candidate_head, candidate_row, caption, first_head, frame_attributes}
-use Rattle.sheet_page.specs.RoundTable.{head_at, head_row, left_at, left_row, line_head, quota_at, quota_row, round_head}
-use Rattle.sheet_page.specs.RoundTable.{rounds_table, table_body, table_frame, table_head, vote_at, vote_cell}
+use Rattle.sheet_page.specs.RoundTable.{cell_at, cells, head_row, left_row, line_head, quota_row, round_cell}
+use Rattle.sheet_page.specs.RoundTable.{rounds_table, table_body, table_frame, table_head}
 
 -- ---- the parts of a page
 
@@ -53,36 +56,37 @@ rounds_tested v =
     tested_el (codes "section") [] (rounds_title ∷ table_frame v ∷ words_explained ∷ []) refl refl refl
     (refl, (frame, (refl, tt)))
   where
-    -- cells, one for each round
-    cells : (tree : ℕ → Trees) → ((i : ℕ) → tested (tree i) ≡ true)
-        → tested (each (λ i. if ends_round v.rows i then tree i else Nothing) (places (length v.rows))) ≡ true
-    cells tree are =
-        tested_each (λ i. if ends_round v.rows i then tree i else Nothing) (places (length v.rows))
-        (λ i. tested_if (ends_round v.rows i) (tree i) (are i))
+    said : (entry : Entry) (i : ℕ) → tested (round_cell v entry i) ≡ true
+    said Round i = refl
+    said Quota i = refl
+    said LeftOver i = refl
+    said (Candidate p) i = refl
+
+    -- what a line says of the rounds
+    line : (entry : Entry) → tested (cells v entry) ≡ true
+    line entry =
+        tested_each (cell_at v entry) (places (length v.rows))
+        (λ i. tested_if (ends_round v.rows i) (round_cell v entry i) (said entry i))
 
     first : tested (table_head v) ≡ true
     first =
         tested_el (codes "thead") [] (head_row v ∷ []) refl refl refl (
-          tested_el (codes "tr") [] (first_head ∷ each (head_at v) (places (length v.rows)) ∷ []) refl refl refl
-              (refl, (cells (λ i. round_head (link_to i) (row_at v.rows i).round) (λ i. refl), tt)),
+          tested_el (codes "tr") [] (first_head ∷ cells v Round ∷ []) refl refl refl (refl, (line Round, tt)),
           tt,
         )
 
     quotas : tested (quota_row v) ≡ true
-    quotas =
-        tested_el (codes "tr") [] (line_head (codes "Quota") ∷ each (quota_at v) (places (length v.rows)) ∷ []) refl refl refl
-        (refl, (cells (λ i. amount_cell (row_at v.rows i).quota) (λ i. refl), tt))
+    quotas = tested_el (codes "tr") [] (line_head (codes "Quota") ∷ cells v Quota ∷ []) refl refl refl (refl, (line Quota, tt))
 
     left : tested (left_row v) ≡ true
     left =
-        tested_el (codes "tr") [] (line_head (codes "On no candidate") ∷ each (left_at v) (places (length v.rows)) ∷ []) refl refl refl
-        (refl, (cells (λ i. amount_cell (left_over v.ballots (row_at v.rows i))) (λ i. refl), tt))
+        tested_el (codes "tr") [] (line_head (codes "On no candidate") ∷ cells v LeftOver ∷ []) refl refl refl
+        (refl, (line LeftOver, tt))
 
     one : (p : ℕ) → tested (candidate_row v p) ≡ true
     one p =
-        tested_el (codes "tr") []
-        (candidate_head (name_at v p) (p + 1) ∷ each (vote_at v p) (places (length v.rows)) ∷ []) refl refl refl
-        (refl, (cells (λ i. vote_cell (settled_at v i) p) (λ i. refl), tt))
+        tested_el (codes "tr") [] (candidate_head (name_at v p) (p + 1) ∷ cells v (Candidate p) ∷ []) refl refl refl
+        (refl, (line (Candidate p), tt))
 
     lines : tested (table_body v) ≡ true
     lines =

@@ -12,13 +12,14 @@ use Rattle.candidate_roll.specs.State.{state_at}
 use Rattle.meek_rule.specs.Row.{Row, blank}
 use Rattle.page_tree.specs.Trees.{Trees, Nothing, followed}
 use Rattle.sheet_reader.specs.Values.{SheetList}
+use Rattle.sheet_minutes.specs.Rounds.{row_at}
 use Rattle.sheet_page.specs.Html.{page}
 use Rattle.sheet_page.specs.Iterations.{concerns, is_out, standing_at, standing_of, iteration_head, iteration, iteration_at}
 use Rattle.sheet_page.specs.PageLaws.{below, iteration_text, standing_text, iterations_of}
 use Rattle.sheet_page.specs.PageReading.{text_in, along, texts_along}
 use Rattle.sheet_page.specs.Stretches.{is_of_round}
 use Rattle.sheet_page.specs.Trees.{all, each}
-use Rattle.sheet_page.specs.Values.{places, row_at}
+use Rattle.sheet_page.specs.Values.{places}
 use Rattle.sheet_page.proofs.PageTexts.{in_page_at}
 use Rattle.sheet_page.proofs.PageWalks.{no_part, no_parts, picked, behind_nothing, found, found_each, found_if}
 use Rattle.sheet_page.proofs.WholeRounds.{of_round, all_rounds}

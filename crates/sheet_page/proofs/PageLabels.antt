@@ -9,13 +9,14 @@ use Rattle.meek_rule.specs.Row.{Row}
 use Rattle.page_tree.specs.Trees.{Trees, Nothing, followed}
 use Rattle.sheet_text.specs.Lines.{state_word}
 use Rattle.sheet_reader.specs.Values.{SheetList}
+use Rattle.sheet_minutes.specs.Rounds.{left_over}
 use Rattle.sheet_page.specs.Bars.{bars_of, has_bar, rest_count, rest_votes}
 use Rattle.sheet_page.specs.Html.{page}
 use Rattle.sheet_page.specs.Json.{joined}
 use Rattle.sheet_page.specs.PageLaws.{below, amounts_line, rest_line, called_text, label_text, ends_of}
 use Rattle.sheet_page.specs.PageReading.{text_in, along, texts_along}
 use Rattle.sheet_page.specs.Picture.{bar, bar_at, quota_line, rest_part, rest_text, scaled}
-use Rattle.sheet_page.specs.RoundEnds.{left_over, settled_at}
+use Rattle.sheet_page.specs.RoundEnds.{settled_at}
 use Rattle.sheet_page.specs.Trees.{each}
 use Rattle.sheet_page.specs.Values.{places, name_at}
 use Rattle.sheet_page.proofs.PageTexts.{in_page}

@@ -4,10 +4,10 @@ use Rattle.std.proofs.Common.{List, [], ◌∷◌, ◌++◌, map, length, append
 use Rattle.std.specs.Prelude.{if◌then◌else◌, nat_eq}
 use Rattle.std.specs.List.{flat_map, list_all, range_with_len}
 use Rattle.meek_rule.specs.Row.{Row}
-use Rattle.sheet_page.specs.RoundEnds.{ends_round}
+use Rattle.sheet_minutes.specs.Rounds.{ends_round, row_at}
 use Rattle.sheet_page.specs.SentenceLaws.{onto, rounds_of}
 use Rattle.sheet_page.specs.Stretches.{have_one_number, is_of_round}
-use Rattle.sheet_page.specs.Values.{places, row_at}
+use Rattle.sheet_page.specs.Values.{places}
 use Rattle.sheet_page.proofs.PageWalks.{shifted, ends_behind, first_ends}
 use Rattle.sheet_page.proofs.RoundPlaces.{number_of}
 use Rattle.sheet_page.proofs.WholeRounds.{of_round}

@@ -10,12 +10,13 @@ use Rattle.page_tree.specs.Trees.{Trees, Nothing, followed}
 use Rattle.sheet_reader.specs.Values.{SheetList}
 use Rattle.sheet_words.specs.Lines.{at_end, joined, sentences_of}
 use Rattle.sheet_words.specs.Sentences.{outcome, sentences_at_end}
+use Rattle.sheet_minutes.specs.Rounds.{row_at}
 use Rattle.sheet_page.specs.PageReading.{text_in, along, texts_along}
 use Rattle.sheet_page.specs.SentenceLaws.{items_of, last_lines, lines_of, rounds_of}
 use Rattle.sheet_page.specs.Stretches.{is_of_round}
 use Rattle.sheet_page.specs.Told.{end_list, item, outcome_list, result_title, sentences_at, spoken}
 use Rattle.sheet_page.specs.Trees.{all, each, isolated, words}
-use Rattle.sheet_page.specs.Values.{places, row_at}
+use Rattle.sheet_page.specs.Values.{places}
 use Rattle.sheet_page.proofs.PageRounds.{round_by_round}
 use Rattle.sheet_page.proofs.PageTexts.{in_page_at}
 use Rattle.sheet_page.proofs.PageWalks.{behind_nothing, found, found_each, found_if}

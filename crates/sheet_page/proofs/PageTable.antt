@@ -11,48 +11,49 @@ use Rattle.meek_rule.specs.Row.{Row}
 use Rattle.page_tree.specs.Trees.{Trees, Nothing, followed}
 use Rattle.sheet_text.specs.Lines.{state_word}
 use Rattle.sheet_reader.specs.Values.{SheetList}
+use Rattle.sheet_minutes.specs.declared.entry.Entry.{Entry}
+use Rattle.sheet_minutes.specs.declared.entry.Entry.TheVariants.{Round, Quota, LeftOver, Candidate}
+use Rattle.sheet_minutes.specs.Rounds.{ends_round, left_over, row_at}
 use Rattle.sheet_page.specs.Html.{page, rounds_part}
 use Rattle.sheet_page.specs.Links.{link_to}
 use Rattle.sheet_page.specs.PageLaws.{below, called_text, cells_of, ends_of, line_texts, vote_text}
 use Rattle.sheet_page.specs.PageReading.{text_in, along, texts_along}
-use Rattle.sheet_page.specs.RoundEnds.{ends_round, left_over, settled_at}
-use Rattle.sheet_page.specs.RoundTable.{amount_cell, candidate_head, candidate_row, first_head, head_at, left_at, left_row, line_head}
-use Rattle.sheet_page.specs.RoundTable.{quota_at, quota_row, round_head, vote_at, vote_cell}
+use Rattle.sheet_page.specs.RoundEnds.{settled_at}
+use Rattle.sheet_page.specs.RoundTable.{amount_cell, candidate_head, candidate_row, cell_at, cells, first_head, left_row, line_head}
+use Rattle.sheet_page.specs.RoundTable.{quota_row, round_cell, round_head, vote_cell}
 use Rattle.sheet_page.specs.Trees.{all, each}
-use Rattle.sheet_page.specs.Values.{places, name_at, row_at}
+use Rattle.sheet_page.specs.Values.{places, name_at}
 use Rattle.sheet_page.proofs.PageTexts.{in_page, in_parts}
 use Rattle.sheet_page.proofs.PageWalks.{no_part, no_parts, behind_nothing, found, found_each, found_if, at_ends}
 
--- ---- cells, one for each round
+-- ---- what a line says of the rounds
 
-module _ (name : List ℕ) (v : SheetList) (cell : ℕ → Trees) where
-  abbrev cell_at : ℕ → Trees
-  cell_at i = if ends_round v.rows i then cell i else Nothing
+module _ (name : List ℕ) (v : SheetList) (entry : Entry) where
+  -- the cells of a line, behind its head
+  abbrev behind : Trees
+  behind = followed (cells v entry) Nothing
 
-  abbrev cells : Trees
-  cells = followed (each cell_at (places (length v.rows))) Nothing
-
-  cells_found : texts_along (name ∷ []) cells ≡ flat_map (λ i. found text_in name [] (cell_at i)) (places (length v.rows))
+  cells_found : texts_along (name ∷ []) behind ≡ flat_map (λ i. found text_in name [] (cell_at v entry i)) (places (length v.rows))
   cells_found =
-      ap (found text_in name []) (behind_nothing (each cell_at (places (length v.rows))))
-      ∙ found_each text_in name [] cell_at (places (length v.rows))
+      ap (found text_in name []) (behind_nothing (cells v entry))
+      ∙ found_each text_in name [] (cell_at v entry) (places (length v.rows))
 
   -- a cell of this name has what is said of its round
-  in_cells : (g : Row → List ℕ) → ((i : ℕ) → texts_along (name ∷ []) (cell i) ≡ g (settled_at v i) ∷ [])
-      → texts_along (name ∷ []) cells ≡ map g (ends_of v)
+  in_cells : (g : Row → List ℕ) → ((i : ℕ) → texts_along (name ∷ []) (round_cell v entry i) ≡ g (settled_at v i) ∷ [])
+      → texts_along (name ∷ []) behind ≡ map g (ends_of v)
   in_cells g is =
       cells_found
       ∙ (λ j. flat_map (λ i. here i j) (places (length v.rows)))
       ∙ at_ends (λ row. g row ∷ []) v.rows v.last
       ∙ flat_map_single g (ends_of v)
     where
-      here : (i : ℕ) → found text_in name [] (cell_at i) ≡ (if ends_round v.rows i then g (settled_at v i) ∷ [] else [])
+      here : (i : ℕ) → found text_in name [] (cell_at v entry i) ≡ (if ends_round v.rows i then g (settled_at v i) ∷ [] else [])
       here i =
-          found_if text_in name [] (ends_round v.rows i) (cell i)
+          found_if text_in name [] (ends_round v.rows i) (round_cell v entry i)
           ∙ ap (λ l. if ends_round v.rows i then l else []) (is i)
 
   -- no cell has this name
-  no_cells : ((i : ℕ) → texts_along (name ∷ []) (cell i) ≡ []) → texts_along (name ∷ []) cells ≡ []
+  no_cells : ((i : ℕ) → texts_along (name ∷ []) (round_cell v entry i) ≡ []) → texts_along (name ∷ []) behind ≡ []
   no_cells is =
       cells_found
       ∙ (λ j. flat_map (λ i. here i j) (places (length v.rows)))
@@ -62,9 +63,9 @@ module _ (name : List ℕ) (v : SheetList) (cell : ℕ → Trees) where
       either true = refl
       either false = refl
 
-      here : (i : ℕ) → found text_in name [] (cell_at i) ≡ no_part {X = ℕ} {Y = List ℕ} i
+      here : (i : ℕ) → found text_in name [] (cell_at v entry i) ≡ no_part {X = ℕ} {Y = List ℕ} i
       here i =
-          found_if text_in name [] (ends_round v.rows i) (cell i)
+          found_if text_in name [] (ends_round v.rows i) (round_cell v entry i)
           ∙ ap (λ l. if ends_round v.rows i then l else []) (is i)
           ∙ either (ends_round v.rows i)
 
@@ -93,13 +94,13 @@ vote_said row p =
 
 -- what stands in the lines of the quotas, of what is left, and of a candidate
 abbrev quotas_within : SheetList → Trees
-quotas_within v = all (line_head (codes "Quota") ∷ each (quota_at v) (places (length v.rows)) ∷ [])
+quotas_within v = all (line_head (codes "Quota") ∷ cells v Quota ∷ [])
 
 abbrev left_within : SheetList → Trees
-left_within v = all (line_head (codes "On no candidate") ∷ each (left_at v) (places (length v.rows)) ∷ [])
+left_within v = all (line_head (codes "On no candidate") ∷ cells v LeftOver ∷ [])
 
 abbrev votes_within : SheetList → (p : ℕ) → Trees
-votes_within v p = all (candidate_head (name_at v p) (p + 1) ∷ each (vote_at v p) (places (length v.rows)) ∷ [])
+votes_within v p = all (candidate_head (name_at v p) (p + 1) ∷ cells v (Candidate p) ∷ [])
 
 table_lines : {X : Type 0} (h : Trees → X) (v : SheetList) →
     map h (along (below (codes "div" ∷ codes "table" ∷ codes "tbody" ∷ codes "tr" ∷ [])) (page v))
@@ -126,16 +127,16 @@ table_heads v =
     let names = λ (k : ℕ). called_text v k ∷ [] in
     table_lines h v
     ∙ ap (λ l. (codes "Quota" ∷ l) ∷ h (left_within v) ∷ map (λ p. h (votes_within v p)) (places (length v.names)))
-    (no_cells th v (λ i. amount_cell (row_at v.rows i).quota) (λ i. refl))
+    (no_cells th v Quota (λ i. refl))
     ∙ ap (λ l. (codes "Quota" ∷ []) ∷ (codes "On no candidate" ∷ l) ∷ map (λ p. h (votes_within v p)) (places (length v.names)))
-    (no_cells th v (λ i. amount_cell (left_over v.ballots (row_at v.rows i))) (λ i. refl))
+    (no_cells th v LeftOver (λ i. refl))
     ∙ (λ j. (codes "Quota" ∷ []) ∷ (codes "On no candidate" ∷ []) ∷ map (λ p. name p j) (places (length v.names)))
   where
     name : (p : ℕ) → texts_along (codes "th" ∷ []) (votes_within v p) ≡ called_text v p ∷ []
     name p =
         let behind = codes " (" ++ (decimal (p + 1) ++ codes ")") in
         ap (λ l. ((name_at v p ++ []) ++ behind) ∷ l)
-        (no_cells (codes "th") v (λ i. vote_cell (settled_at v i) p) (λ i. refl))
+        (no_cells (codes "th") v (Candidate p) (λ i. refl))
         ∙ ap (λ l. (l ++ behind) ∷ []) (append-nil (name_at v p))
 
 pub table_cells : (v : SheetList) →
@@ -149,17 +150,15 @@ table_cells v =
     let left = map (λ (row : Row). text_of 9 (left_over v.ballots row)) (ends_of v) in
     table_lines h v
     ∙ ap (λ l. l ∷ h (left_within v) ∷ map (λ p. h (votes_within v p)) (places (length v.names)))
-    (in_cells td v (λ i. amount_cell (row_at v.rows i).quota) (λ row. text_of 9 row.quota)
-    (λ i. amount_said (row_at v.rows i).quota))
+    (in_cells td v Quota (λ row. text_of 9 row.quota) (λ i. amount_said (row_at v.rows i).quota))
     ∙ ap (λ l. quotas ∷ l ∷ map (λ p. h (votes_within v p)) (places (length v.names)))
-    (in_cells td v (λ i. amount_cell (left_over v.ballots (row_at v.rows i))) (λ row. text_of 9 (left_over v.ballots row))
+    (in_cells td v LeftOver (λ row. text_of 9 (left_over v.ballots row))
     (λ i. amount_said (left_over v.ballots (row_at v.rows i))))
     ∙ (λ j. quotas ∷ left ∷ map (λ p. votes p j) (places (length v.names)))
   where
     votes : (p : ℕ) → texts_along (codes "td" ∷ []) (votes_within v p) ≡ line_texts v p
     votes p =
-        in_cells (codes "td") v (λ i. vote_cell (settled_at v i) p) (λ row. vote_text row p)
-        (λ i. vote_said (settled_at v i) p)
+        in_cells (codes "td") v (Candidate p) (λ row. vote_text row p) (λ i. vote_said (settled_at v i) p)
 
 -- ---- the head
 
@@ -168,7 +167,7 @@ pub table_columns : (v : SheetList) →
     ≡ codes "Candidate" ∷ map (λ row. decimal row.round) (ends_of v)
 table_columns v =
     let path = codes "div" ∷ codes "table" ∷ codes "thead" ∷ codes "tr" ∷ codes "th" ∷ [] in
-    let heads = followed (each (head_at v) (places (length v.rows))) Nothing in
+    let heads = followed (cells v Round) Nothing in
     let them = along (codes "th" ∷ []) (followed first_head heads) in
     in_page text_in path v no_part (λ full i. refl)
     ∙ ap (λ l. in_parts text_in path v (rounds_part v) ++ l) (no_parts (ends_of v))
@@ -176,7 +175,7 @@ table_columns v =
     ∙ ap (map text_in) (append-nil ((((them ++ []) ++ []) ++ []) ++ []) ∙ append-nil (((them ++ []) ++ []) ++ [])
     ∙ append-nil ((them ++ []) ++ []) ∙ append-nil (them ++ []) ∙ append-nil them)
     ∙ ap (λ l. codes "Candidate" ∷ l)
-    (in_cells (codes "th") v (λ i. round_head (link_to i) (row_at v.rows i).round) (λ row. decimal row.round) number)
+    (in_cells (codes "th") v Round (λ row. decimal row.round) number)
   where
     number : (i : ℕ) → texts_along (codes "th" ∷ []) (round_head (link_to i) (row_at v.rows i).round)
         ≡ decimal (settled_at v i).round ∷ []

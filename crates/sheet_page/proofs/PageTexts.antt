@@ -9,6 +9,7 @@ use Rattle.lot_order.specs.Flags.{mark_at}
 use Rattle.meek_rule.specs.Row.{Row}
 use Rattle.page_tree.specs.Trees.{Trees, Nothing, followed}
 use Rattle.sheet_reader.specs.Values.{SheetList}
+use Rattle.sheet_minutes.specs.Rounds.{ends_round, row_at}
 use Rattle.sheet_page.specs.Html.{elected_item, elected_in, in_round, at_end, is_seated, seated_item}
 use Rattle.sheet_page.specs.Html.{elected_part, rounds_part}
 use Rattle.sheet_page.specs.Iterations.{iteration, iteration_at, iterations}
@@ -17,11 +18,11 @@ use Rattle.sheet_page.specs.Html.{round_part, part_at, round_parts, page}
 use Rattle.sheet_page.specs.PageLaws.{below, elected_line, seated_line, marked_lines, ends_of}
 use Rattle.sheet_page.specs.PageReading.{text_in, along, texts_along}
 use Rattle.sheet_page.specs.Picture.{full_of}
-use Rattle.sheet_page.specs.RoundEnds.{ends_round, settled_at}
+use Rattle.sheet_page.specs.RoundEnds.{settled_at}
 use Rattle.sheet_page.specs.Stretches.{is_of_round}
 use Rattle.sheet_page.specs.Told.{result_part}
 use Rattle.sheet_page.specs.Trees.{each}
-use Rattle.sheet_page.specs.Values.{places, name_at, row_at}
+use Rattle.sheet_page.specs.Values.{places, name_at}
 use Rattle.sheet_page.proofs.PageWalks.{no_part, no_parts, picked, behind_nothing, found, found_followed}
 use Rattle.sheet_page.proofs.PageWalks.{found_each, found_if}
 use Rattle.sheet_page.proofs.PageWalks.{at_ends}

@@ -10,11 +10,12 @@ use Rattle.std.proofs.lemmas.List.Concat.{flat_map-append}
 use Rattle.candidate_roll.specs.declared.state.State.{State}
 use Rattle.meek_rule.specs.Row.{Row}
 use Rattle.page_tree.specs.Trees.{Trees, Nothing, Text, Element, Void, followed}
+use Rattle.sheet_minutes.specs.Rounds.{ends_round, row_at}
 use Rattle.sheet_page.specs.PageLaws.{round_ends}
 use Rattle.sheet_page.specs.PageReading.{children, along}
-use Rattle.sheet_page.specs.RoundEnds.{ends_round, settled}
+use Rattle.sheet_page.specs.RoundEnds.{settled}
 use Rattle.sheet_page.specs.Trees.{each}
-use Rattle.sheet_page.specs.Values.{places, row_at}
+use Rattle.sheet_page.specs.Values.{places}
 
 -- ---- lists
 

@@ -2,10 +2,9 @@
 use Rattle.std.proofs.Common.{◌≡◌, ◌∙◌, refl, sym, ap, ℕ, zero, suc, ◌+◌, ◌-◌, ◌<◌, ◌≤◌, ◌||◌, not, List, length}
 use Rattle.std.proofs.Common.{Bool, true, false, nat_eq, arith, eq-eqb, ne_eqb}
 use Rattle.meek_rule.specs.Row.{Row}
+use Rattle.sheet_minutes.specs.Rounds.{ends_round, row_at}
 use Rattle.sheet_page.specs.Laws.{NeverFall, RisingRoundsAreWhole}
-use Rattle.sheet_page.specs.RoundEnds.{ends_round}
 use Rattle.sheet_page.specs.Stretches.{is_of_round}
-use Rattle.sheet_page.specs.Values.{row_at}
 use Rattle.sheet_page.proofs.RoundPlaces.{is_of, number_of}
 
 abbrev number : List Row → ℕ → ℕ

@@ -7,7 +7,8 @@ use Rattle.std.proofs.lemmas.List.{get_or_default}
 use Rattle.std.proofs.lemmas.List.Folds.{list_all_at}
 use Rattle.std.proofs.lemmas.List.FromFn.{length-range_with_len, get_or-range_with_len}
 use Rattle.meek_rule.specs.Row.{Row, blank}
-use Rattle.sheet_page.specs.Values.{places, row_at}
+use Rattle.sheet_minutes.specs.Rounds.{row_at}
+use Rattle.sheet_page.specs.Values.{places}
 use Rattle.sheet_page.specs.Stretches.{have_one_number, is_of_round}
 
 -- a test of all places of a range

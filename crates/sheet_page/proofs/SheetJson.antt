@@ -10,13 +10,14 @@ use Rattle.plain_ballots.specs.declared.limits.TheConstants.{MOST_CANDIDATES}
 use Rattle.fixed_place.specs.Text.{text_of}
 use Rattle.sheet_reader.specs.Form.{IsPrintable, IsPrintableRow}
 use Rattle.sheet_reader.specs.Values.{SheetList}
+use Rattle.sheet_minutes.specs.Rounds.{row_at}
 use Rattle.sheet_page.specs.Json.{amount, comma_at, candidate_json, standing_json}
 use Rattle.sheet_page.specs.Json.{iteration_json, iteration_at, json_of}
 use Rattle.sheet_page.specs.JsonGrammar.{IsTextOf, closed}
 use Rattle.sheet_page.specs.JsonText.{string_text}
 use Rattle.sheet_page.specs.JsonValues.{array, candidate_value, standing_value, iteration_value}
 use Rattle.sheet_page.specs.JsonValues.{iteration_value_at, sheet_value}
-use Rattle.sheet_page.specs.Values.{places, row_at, step_word}
+use Rattle.sheet_page.specs.Values.{places, step_word}
 use Rattle.sheet_page.proofs.JsonParts.{onto, joined-onto, onto-append, said-text, list-written, are-items}
 use Rattle.sheet_page.proofs.CandidateJson.{member, members, candidate_pieces, candidate-written, candidate-is}
 use Rattle.sheet_page.proofs.CandidateJson.{standing_pieces, standing-written, standing-is}

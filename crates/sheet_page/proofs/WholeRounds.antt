@@ -6,9 +6,9 @@ use Rattle.std.specs.List.{flat_map, range_with_len}
 use Rattle.std.proofs.lemmas.Bool.{cases_Bool}
 use Rattle.std.proofs.lemmas.Bool.Decides.{eqb_tells}
 use Rattle.meek_rule.specs.Row.{Row}
-use Rattle.sheet_page.specs.RoundEnds.{ends_round}
+use Rattle.sheet_minutes.specs.Rounds.{ends_round, row_at}
 use Rattle.sheet_page.specs.Stretches.{is_of_round}
-use Rattle.sheet_page.specs.Values.{places, row_at}
+use Rattle.sheet_page.specs.Values.{places}
 use Rattle.sheet_page.proofs.RoundPlaces.{is_of, is_before}
 
 -- ---- ranges

@@ -8,15 +8,16 @@ use Rattle.meek_rule.specs.Situation.{is_elected}
 use Rattle.page_tree.specs.Trees.{Trees, Nothing}
 use Rattle.page_tree.specs.Print.{printed}
 use Rattle.sheet_reader.specs.Values.{SheetList}
+use Rattle.sheet_minutes.specs.Rounds.{ends_round, row_at}
 use Rattle.sheet_page.specs.Iterations.{folded}
 use Rattle.sheet_page.specs.Links.{links, part_attributes, part_name}
 use Rattle.sheet_page.specs.Picture.{full_of, round_picture}
-use Rattle.sheet_page.specs.RoundEnds.{ends_round, settled_at}
+use Rattle.sheet_page.specs.RoundEnds.{settled_at}
 use Rattle.sheet_page.specs.RoundTable.{table_frame}
 use Rattle.sheet_page.specs.Style.{style}
 use Rattle.sheet_page.specs.Told.{result_part, round_sentences}
 use Rattle.sheet_page.specs.Trees.{all, candidate, each, el, void, words, at}
-use Rattle.sheet_page.specs.Values.{places, name_at, row_at}
+use Rattle.sheet_page.specs.Values.{places, name_at}
 
 -- ---- who is elected
 

@@ -7,9 +7,10 @@ use Rattle.fixed_place.specs.Text.{text_of}
 use Rattle.meek_rule.specs.Row.{Row}
 use Rattle.page_tree.specs.Trees.{Trees, Nothing}
 use Rattle.sheet_reader.specs.Values.{SheetList}
+use Rattle.sheet_minutes.specs.Rounds.{row_at}
 use Rattle.sheet_page.specs.Stretches.{is_of_round}
 use Rattle.sheet_page.specs.Trees.{each, el, words}
-use Rattle.sheet_page.specs.Values.{places, row_at, step_word}
+use Rattle.sheet_page.specs.Values.{places, step_word}
 
 -- ---- a candidate in an iteration
 

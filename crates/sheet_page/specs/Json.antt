@@ -7,8 +7,9 @@ use Rattle.lot_order.specs.Flags.{mark_at}
 use Rattle.meek_rule.specs.Row.{Row}
 use Rattle.sheet_text.specs.Lines.{state_word}
 use Rattle.sheet_reader.specs.Values.{SheetList}
+use Rattle.sheet_minutes.specs.Rounds.{row_at}
 use Rattle.sheet_page.specs.JsonText.{string_text}
-use Rattle.sheet_page.specs.Values.{places, name_at, row_at, step_word, defeats}
+use Rattle.sheet_page.specs.Values.{places, name_at, step_word, defeats}
 
 -- parts one behind another
 abbrev pub joined : List (List ℕ) → List ℕ

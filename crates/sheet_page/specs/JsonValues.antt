@@ -7,8 +7,9 @@ use Rattle.meek_rule.specs.Row.{Row}
 use Rattle.page_tree.specs.Escaping.{readable}
 use Rattle.sheet_text.specs.Lines.{state_word}
 use Rattle.sheet_reader.specs.Values.{SheetList}
+use Rattle.sheet_minutes.specs.Rounds.{row_at}
 use Rattle.sheet_page.specs.JsonGrammar.{Json, Items, Members, Text, Whole, Truth, Array, Object, NoItem, Item, NoMember, Member}
-use Rattle.sheet_page.specs.Values.{places, name_at, row_at, step_word, defeats}
+use Rattle.sheet_page.specs.Values.{places, name_at, step_word, defeats}
 
 abbrev pub items_of : List Json → Items
 items_of [] = NoItem

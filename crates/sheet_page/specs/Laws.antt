@@ -7,6 +7,7 @@ use Rattle.page_tree.specs.Print.{printed}
 use Rattle.page_tree.specs.Reading.{nests}
 use Rattle.sheet_reader.specs.Form.{IsPrintable}
 use Rattle.sheet_reader.specs.Values.{SheetList}
+use Rattle.sheet_minutes.specs.Rounds.{ends_round, row_at}
 use Rattle.sheet_page.specs.Csv.{csv_of, csv_records}
 use Rattle.sheet_page.specs.Html.{page}
 use Rattle.sheet_page.specs.Json.{json_of}
@@ -14,9 +15,7 @@ use Rattle.sheet_page.specs.JsonGrammar.{Json, IsTextOf}
 use Rattle.sheet_page.specs.JsonReading.{read_string}
 use Rattle.sheet_page.specs.JsonText.{string_text}
 use Rattle.sheet_page.specs.JsonValues.{sheet_value}
-use Rattle.sheet_page.specs.RoundEnds.{ends_round}
 use Rattle.sheet_page.specs.Stretches.{is_of_round}
-use Rattle.sheet_page.specs.Values.{row_at}
 
 -- elements nest, and each is closed
 abbrev pub PagesNest : Type 0

@@ -2,9 +2,9 @@
 use Rattle.std.specs.Prelude.{ℕ, ◌+◌, if◌then◌else◌, List, [], ◌∷◌, ◌++◌, length, codes, decimal}
 use Rattle.page_tree.specs.Trees.{Attribute, Trees, Nothing}
 use Rattle.sheet_reader.specs.Values.{SheetList}
-use Rattle.sheet_page.specs.RoundEnds.{ends_round}
+use Rattle.sheet_minutes.specs.Rounds.{ends_round, row_at}
 use Rattle.sheet_page.specs.Trees.{each, el, words, at}
-use Rattle.sheet_page.specs.Values.{places, row_at}
+use Rattle.sheet_page.specs.Values.{places}
 
 -- the name of the part of the round that ends at a place: no two parts have one name, though two rounds may have one number
 abbrev pub part_name : (last : ℕ) → List ℕ

@@ -9,13 +9,14 @@ use Rattle.lot_order.specs.Flags.{mark_at}
 use Rattle.meek_rule.specs.Row.{Row}
 use Rattle.sheet_text.specs.Lines.{state_word}
 use Rattle.sheet_reader.specs.Values.{SheetList}
+use Rattle.sheet_minutes.specs.Rounds.{left_over, row_at}
 use Rattle.sheet_page.specs.Bars.{has_bar, rest_count, rest_votes}
 use Rattle.sheet_page.specs.Html.{is_seated, page}
 use Rattle.sheet_page.specs.Iterations.{concerns, keep_note, state_note}
 use Rattle.sheet_page.specs.Json.{joined}
 use Rattle.sheet_page.specs.PageReading.{along, texts_along}
-use Rattle.sheet_page.specs.RoundEnds.{left_over, settled}
-use Rattle.sheet_page.specs.Values.{places, name_at, row_at, step_word}
+use Rattle.sheet_page.specs.RoundEnds.{settled}
+use Rattle.sheet_page.specs.Values.{places, name_at, step_word}
 
 -- a path below the parts of a page
 abbrev pub below : (path : List (List ℕ)) → List (List ℕ)

@@ -6,8 +6,8 @@ use Rattle.meek_rule.specs.Row.{Row}
 use Rattle.page_tree.specs.Trees.{Attribute, Trees, Nothing}
 use Rattle.sheet_text.specs.Lines.{state_word}
 use Rattle.sheet_reader.specs.Values.{SheetList}
+use Rattle.sheet_minutes.specs.Rounds.{left_over}
 use Rattle.sheet_page.specs.Bars.{bars_before, bars_of, has_bar, rest_count, rest_votes}
-use Rattle.sheet_page.specs.RoundEnds.{left_over}
 use Rattle.sheet_page.specs.Trees.{all, each, el, words, at}
 use Rattle.sheet_page.specs.Values.{places, name_at}
 

@@ -6,10 +6,13 @@ use Rattle.meek_rule.specs.Row.{Row}
 use Rattle.page_tree.specs.Trees.{Attribute, Trees, Nothing}
 use Rattle.sheet_text.specs.Lines.{state_word}
 use Rattle.sheet_reader.specs.Values.{SheetList}
+use Rattle.sheet_minutes.specs.declared.entry.Entry.{Entry}
+use Rattle.sheet_minutes.specs.declared.entry.Entry.TheVariants.{Round, Quota, LeftOver, Candidate}
+use Rattle.sheet_minutes.specs.Rounds.{ends_round, left_over, row_at}
 use Rattle.sheet_page.specs.Links.{link_to}
-use Rattle.sheet_page.specs.RoundEnds.{ends_round, left_over, settled_at}
+use Rattle.sheet_page.specs.RoundEnds.{settled_at}
 use Rattle.sheet_page.specs.Trees.{at, candidate, each, el, words}
-use Rattle.sheet_page.specs.Values.{places, name_at, row_at}
+use Rattle.sheet_page.specs.Values.{places, name_at}
 
 -- ---- amounts
 
@@ -41,8 +44,6 @@ vote_cell row p =
     standing_cell (main_digits (text_of 9 (slice_index row.votes p))) (other_digits (text_of 9 (slice_index row.votes p)))
     (state_word (state_at row.states p))
 
--- ---- the head
-
 abbrev pub column_attributes : List Attribute
 column_attributes = at (codes "scope") (codes "col") ∷ []
 
@@ -51,14 +52,28 @@ abbrev pub round_head : (target : List ℕ) → (round : ℕ) → Trees
 round_head target round =
     el (codes "th") column_attributes (el (codes "a") (at (codes "href") target ∷ []) (words (decimal round) ∷ []) ∷ [])
 
-abbrev pub head_at : SheetList → (i : ℕ) → Trees
-head_at v i = if ends_round v.rows i then round_head (link_to i) (row_at v.rows i).round else Nothing
+-- ---- what a line says of the rounds
+
+-- Of the round that ends at a place: its number, its quota, the votes that are left on no candidate, or a candidate's vote and state.
+abbrev pub round_cell : SheetList → Entry → (i : ℕ) → Trees
+round_cell v Round i = round_head (link_to i) (row_at v.rows i).round
+round_cell v Quota i = amount_cell (row_at v.rows i).quota
+round_cell v LeftOver i = amount_cell (left_over v.ballots (row_at v.rows i))
+round_cell v (Candidate p) i = vote_cell (settled_at v i) p
+
+abbrev pub cell_at : SheetList → Entry → (i : ℕ) → Trees
+cell_at v entry i = if ends_round v.rows i then round_cell v entry i else Nothing
+
+abbrev pub cells : SheetList → Entry → Trees
+cells v entry = each (cell_at v entry) (places (length v.rows))
+
+-- ---- the head
 
 abbrev pub first_head : Trees
 first_head = el (codes "th") column_attributes (words (codes "Candidate") ∷ [])
 
 abbrev pub head_row : SheetList → Trees
-head_row v = el (codes "tr") [] (first_head ∷ each (head_at v) (places (length v.rows)) ∷ [])
+head_row v = el (codes "tr") [] (first_head ∷ cells v Round ∷ [])
 
 abbrev pub table_head : SheetList → Trees
 table_head v = el (codes "thead") [] (head_row v ∷ [])
@@ -71,28 +86,17 @@ line_attributes = at (codes "scope") (codes "row") ∷ []
 abbrev pub line_head : (text : List ℕ) → Trees
 line_head text = el (codes "th") line_attributes (words text ∷ [])
 
-abbrev pub quota_at : SheetList → (i : ℕ) → Trees
-quota_at v i = if ends_round v.rows i then amount_cell (row_at v.rows i).quota else Nothing
-
 abbrev pub quota_row : SheetList → Trees
-quota_row v = el (codes "tr") [] (line_head (codes "Quota") ∷ each (quota_at v) (places (length v.rows)) ∷ [])
-
--- the votes that are left on no candidate at the end of a round
-abbrev pub left_at : SheetList → (i : ℕ) → Trees
-left_at v i = if ends_round v.rows i then amount_cell (left_over v.ballots (row_at v.rows i)) else Nothing
+quota_row v = el (codes "tr") [] (line_head (codes "Quota") ∷ cells v Quota ∷ [])
 
 abbrev pub left_row : SheetList → Trees
-left_row v = el (codes "tr") [] (line_head (codes "On no candidate") ∷ each (left_at v) (places (length v.rows)) ∷ [])
+left_row v = el (codes "tr") [] (line_head (codes "On no candidate") ∷ cells v LeftOver ∷ [])
 
 abbrev pub candidate_head : (name : List ℕ) → (number : ℕ) → Trees
 candidate_head name number = el (codes "th") line_attributes (candidate name number [])
 
-abbrev pub vote_at : SheetList → (p i : ℕ) → Trees
-vote_at v p i = if ends_round v.rows i then vote_cell (settled_at v i) p else Nothing
-
 abbrev pub candidate_row : SheetList → (p : ℕ) → Trees
-candidate_row v p =
-    el (codes "tr") [] (candidate_head (name_at v p) (p + 1) ∷ each (vote_at v p) (places (length v.rows)) ∷ [])
+candidate_row v p = el (codes "tr") [] (candidate_head (name_at v p) (p + 1) ∷ cells v (Candidate p) ∷ [])
 
 abbrev pub table_body : SheetList → Trees
 table_body v = el (codes "tbody") [] (quota_row v ∷ left_row v ∷ each (candidate_row v) (places (length v.names)) ∷ [])

@@ -2,7 +2,7 @@
 use Rattle.std.specs.Prelude.{ℕ, ◌+◌, ◌-◌, Bool, List, nat_eq}
 use Rattle.std.specs.List.{list_all, range_with_len}
 use Rattle.meek_rule.specs.Row.{Row}
-use Rattle.sheet_page.specs.Values.{row_at}
+use Rattle.sheet_minutes.specs.Rounds.{row_at}
 
 -- Two iterations have the same round number.
 abbrev pub have_one_number : List Row → (i j : ℕ) → Bool

@@ -8,9 +8,10 @@ use Rattle.sheet_reader.specs.Values.{SheetList}
 use Rattle.sheet_words.specs.Lines.{at_end, sentences_of}
 use Rattle.sheet_words.specs.Manner.{Manner}
 use Rattle.sheet_words.specs.Sentences.{outcome, sentences_at_end}
+use Rattle.sheet_minutes.specs.Rounds.{row_at}
 use Rattle.sheet_page.specs.Stretches.{is_of_round}
 use Rattle.sheet_page.specs.Trees.{each, el, isolated, words}
-use Rattle.sheet_page.specs.Values.{places, row_at}
+use Rattle.sheet_page.specs.Values.{places}
 
 -- A text of a sentence. Only a name can have bytes that are no ASCII, as those of letters that are written from right to left and
 -- of signs of direction: such a text is set apart from what stands around it, so that it moves nothing there.

@@ -1,7 +1,6 @@
 -- The parts of a sheet's values.
 use Rattle.std.specs.Prelude.{ℕ, Bool, false, List, [], codes, nat_eq, slice_index_or}
 use Rattle.std.specs.List.{range_with_len}
-use Rattle.meek_rule.specs.Row.{Row, blank}
 use Rattle.meek_rule.specs.declared.step.Step.{Step}
 use Rattle.meek_rule.specs.declared.step.Step.TheVariants.{Elected, Iterate, Defeat}
 use Rattle.sheet_reader.specs.Values.{SheetList}
@@ -12,9 +11,6 @@ places n = range_with_len 0 n
 
 abbrev pub name_at : SheetList → (p : ℕ) → List ℕ
 name_at v p = slice_index_or v.names p []
-
-abbrev pub row_at : List Row → (i : ℕ) → Row
-row_at rows i = slice_index_or rows i (blank 0)
 
 -- what a step is called
 abbrev pub step_word : Step → List ℕ

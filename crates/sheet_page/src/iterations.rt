@@ -4,10 +4,11 @@ ghost use Rattle.plain_ballots.specs.declared.limits.TheConstants.{MOST_CANDIDAT
 ghost use Rattle.meek_rule.specs.Row.{HasRoomFor};
 ghost use Rattle.page_tree.specs.Print.{printed};
 ghost use Rattle.sheet_reader.specs.Form.{IsPrintable};
+ghost use Rattle.sheet_minutes.specs.Rounds.{row_at};
 ghost use Rattle.sheet_page.specs.Iterations.{concerns, folded, is_out, iteration, iteration_at, iteration_head, iteration_line, keep_note, standing, standing_at, standing_of, state_note, summary};
 ghost use Rattle.sheet_page.specs.Prints.{Prints};
 ghost use Rattle.sheet_page.specs.Trees.{print_each};
-ghost use Rattle.sheet_page.specs.Values.{places, row_at};
+ghost use Rattle.sheet_page.specs.Values.{places};
 
 use crate::cell::Cell;
 use crate::pen::Pen;

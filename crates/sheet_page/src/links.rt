@@ -2,18 +2,19 @@
 ghost use Rattle.std.specs.Prelude.{◌≡◌, ◌<◌, length};
 ghost use Rattle.page_tree.specs.Print.{printed};
 ghost use Rattle.sheet_reader.specs.Form.{IsPrintable};
+ghost use Rattle.sheet_minutes.specs.Rounds.{row_at};
 ghost use Rattle.sheet_page.specs.Links.{link_at, link_list, link_to, links, part_name, round_link};
 ghost use Rattle.sheet_page.specs.Prints.{Prints};
 ghost use Rattle.sheet_page.specs.Trees.{print_each};
-ghost use Rattle.sheet_page.specs.Values.{places, row_at};
+ghost use Rattle.sheet_page.specs.Values.{places};
 
 use crate::cell::Cell;
 use crate::pen::Pen;
 use crate::piece::Piece;
-use crate::rounds::ends_round;
 use byte_edge::Sink;
 use line_text::Line;
 use page_tree::Attribute;
+use sheet_minutes::ends_round;
 use sheet_reader::SheetValues;
 
 /// Writes a link to the part of each round.

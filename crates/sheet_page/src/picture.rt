@@ -4,9 +4,10 @@ ghost use Rattle.plain_ballots.specs.declared.limits.TheConstants.{MOST_CANDIDAT
 ghost use Rattle.meek_rule.specs.Row.{HasRoomFor};
 ghost use Rattle.page_tree.specs.Print.{opening, printed};
 ghost use Rattle.sheet_reader.specs.Form.{IsPrintable};
+ghost use Rattle.sheet_minutes.specs.Rounds.{left_over};
 ghost use Rattle.sheet_page.specs.Bars.{bars_of};
 ghost use Rattle.sheet_page.specs.Picture.{amounts_of, amounts_text, attributes_of, picture, picture_attributes, picture_title, quota_line, rest_part, rest_text, round_picture, scaled, view_box};
-ghost use Rattle.sheet_page.specs.RoundEnds.{left_over, settled};
+ghost use Rattle.sheet_page.specs.RoundEnds.{settled};
 ghost use Rattle.sheet_page.specs.Prints.{Prints};
 
 use crate::bars::write_bars;
@@ -14,13 +15,13 @@ use crate::cell::{Cell, units_text};
 use crate::pen::Pen;
 use crate::piece::Piece;
 use crate::ranks::{bars_of, is_nothing, rest_count, rest_votes};
-use crate::rounds::left_over;
 use crate::widths::scaled;
 use byte_edge::Sink;
 use candidate_roll::States;
 use fixed_place::Amount;
 use line_text::Line;
 use meek_rule::Row;
+use sheet_minutes::left_over;
 use sheet_reader::SheetValues;
 
 /// Writes the quota and the picture of a round, by its last iteration and the states behind it; `full`

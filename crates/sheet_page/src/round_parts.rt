@@ -14,9 +14,9 @@ use crate::links::part_name;
 use crate::pen::Pen;
 use crate::picture::write_round_picture;
 use crate::piece::Piece;
-use crate::rounds::{ends_round, states_behind};
 use crate::told::write_round_sentences;
 use byte_edge::Sink;
+use sheet_minutes::{ends_round, states_behind};
 use sheet_reader::SheetValues;
 
 /// Writes the part of each round; `full` units have the whole width of a picture.

@@ -1,20 +1,14 @@
-// The part of all rounds, and what every round has at its end.
-ghost use Rattle.std.specs.Prelude.{◌≡◌, ◌-◌, ◌*◌, ◌<◌, ◌≤◌, length};
-ghost use Rattle.plain_ballots.specs.declared.limits.TheConstants.{MOST_BALLOTS};
+// The part of all rounds.
 ghost use Rattle.page_tree.specs.Print.{printed};
 ghost use Rattle.sheet_reader.specs.Form.{IsPrintable};
 ghost use Rattle.sheet_page.specs.Html.{rounds_part, rounds_title, words_explained};
 ghost use Rattle.sheet_page.specs.Prints.{Prints};
-ghost use Rattle.sheet_page.specs.RoundEnds.{ends_round, states_behind};
 
 use crate::cell::Cell;
 use crate::pen::Pen;
 use crate::piece::Piece;
 use crate::table::write_frame;
 use byte_edge::Sink;
-use candidate_roll::States;
-use fixed_place::Amount;
-use meek_rule::Row;
 use sheet_reader::SheetValues;
 
 /// The part of a page that has the table of rounds.
@@ -77,40 +71,4 @@ fn write_words<K: Sink>(pen: &mut Pen<'_, K>)
         Piece::End(b"dd"),
         Piece::End(b"dl"),
     ]);
-}
-
-/// What of so many ballots is left on no candidate.
-pub(crate) fn left_over(ballots: u64, total: Amount<9>) -> Amount<9>
-    requires { ballots ≤ MOST_BALLOTS }
-    ensures { result ≡ ballots * 1000000000 - total }
-{
-    Amount::from_units((ballots * 1_000_000_000).saturating_sub(total.units()))
-}
-
-/// Whether an iteration is the last of its round.
-pub(crate) fn ends_round(rows: &[Row<9>], i: usize) -> bool
-    requires { i < length rows.now }
-    ensures { result ≡ ends_round rows.now i }
-{
-    if i + 1 == rows.len() {
-        return true;
-    }
-    let row = &rows[i];
-    let next = &rows[i + 1];
-    row.round != next.round
-}
-
-/// What the candidates are behind the iteration at a place: as before the next one, or as in the end.
-pub(crate) fn states_behind(values: &SheetValues, i: usize) -> &States
-    requires printable { IsPrintable 9 values.now }
-    requires place { i < length values.now.rows }
-    ensures states { result.now ≡ states_behind values.now i }
-    ensures all { length result.now ≡ length values.now.names }
-{
-    let count = values.rows.len();
-    if count == i + 1 {
-        return &values.last;
-    }
-    let next = values.rows.get(i + 1);
-    &next.states
 }

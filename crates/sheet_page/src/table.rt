@@ -4,23 +4,25 @@ ghost use Rattle.plain_ballots.specs.declared.limits.TheConstants.{MOST_CANDIDAT
 ghost use Rattle.meek_rule.specs.Row.{HasRoomFor};
 ghost use Rattle.page_tree.specs.Print.{opening, printed};
 ghost use Rattle.sheet_reader.specs.Form.{IsPrintable};
+ghost use Rattle.sheet_minutes.specs.Table.{IsAbout};
+ghost use Rattle.sheet_minutes.specs.Rounds.{left_over, row_at};
 ghost use Rattle.sheet_page.specs.Links.{link_to};
 ghost use Rattle.sheet_page.specs.Prints.{Prints};
-ghost use Rattle.sheet_page.specs.RoundEnds.{left_over, settled};
-ghost use Rattle.sheet_page.specs.RoundTable.{amount_cell, candidate_head, candidate_row, caption, figure_cell, first_head, frame_attributes, head_at, head_row, left_at, left_row, line_head, main_digits, other_digits, quota_at, quota_row, round_head, rounds_table, standing_cell, table_body, table_frame, table_head, vote_at, vote_cell};
+ghost use Rattle.sheet_page.specs.RoundEnds.{settled};
+ghost use Rattle.sheet_page.specs.RoundTable.{amount_cell, candidate_head, candidate_row, caption, cell_at, figure_cell, first_head, frame_attributes, head_row, left_row, line_head, main_digits, other_digits, quota_row, round_cell, round_head, rounds_table, standing_cell, table_body, table_frame, table_head, vote_cell};
 ghost use Rattle.sheet_page.specs.Trees.{print_each};
-ghost use Rattle.sheet_page.specs.Values.{name_at, places, row_at};
+ghost use Rattle.sheet_page.specs.Values.{name_at, places};
 
 use crate::cell::{Cell, amount_text};
 use crate::links::link_to;
 use crate::pen::Pen;
 use crate::piece::Piece;
-use crate::rounds::{ends_round, left_over, states_behind};
 use crate::values::state_word;
 use byte_edge::Sink;
 use candidate_roll::States;
 use fixed_place::Amount;
 use meek_rule::Row;
+use sheet_minutes::{Entry, ends_round, left_over, states_behind};
 use sheet_reader::SheetValues;
 
 /// Writes the table of votes in a frame.
@@ -73,6 +75,7 @@ fn write_caption<K: Sink>(pen: &mut Pen<'_, K>)
 
 /// The head of the table.
 fn write_head<K: Sink>(pen: &mut Pen<'_, K>, values: &SheetValues)
+    requires printable { IsPrintable 9 values.now }
     ensures { Prints K.Sink pen.old pen.new (printed (table_head values.now)) }
 {
     pen.open(b"thead");
@@ -81,11 +84,12 @@ fn write_head<K: Sink>(pen: &mut Pen<'_, K>, values: &SheetValues)
 }
 
 fn write_head_row<K: Sink>(pen: &mut Pen<'_, K>, values: &SheetValues)
+    requires printable { IsPrintable 9 values.now }
     ensures { Prints K.Sink pen.old pen.new (printed (head_row values.now)) }
 {
     pen.open(b"tr");
     write_first_head(pen);
-    write_round_heads(pen, values);
+    write_cells(pen, values, Entry::Round);
     pen.close(b"tr");
 }
 
@@ -101,23 +105,43 @@ fn write_first_head<K: Sink>(pen: &mut Pen<'_, K>)
     ]);
 }
 
-/// The numbers of all rounds.
-fn write_round_heads<K: Sink>(pen: &mut Pen<'_, K>, values: &SheetValues)
+/// What a line says of each round.
+fn write_cells<K: Sink>(pen: &mut Pen<'_, K>, values: &SheetValues, entry: Entry)
+    requires printable { IsPrintable 9 values.now }
+    requires about { IsAbout (length values.now.names) entry }
     ensures { Prints K.Sink pen.old pen.new
-        (print_each (head_at values.now) (places (length values.now.rows))) }
+        (print_each (cell_at values.now entry) (places (length values.now.rows))) }
 {
     for i in 0..values.rows.len() {
-        write_head_at(pen, values, i);
+        write_cell_at(pen, values, entry, i);
     }
 }
 
-/// The number of a round, if it ends at this place.
-fn write_head_at<K: Sink>(pen: &mut Pen<'_, K>, values: &SheetValues, i: usize)
+/// What a line says of a round, if it ends at this place.
+fn write_cell_at<K: Sink>(pen: &mut Pen<'_, K>, values: &SheetValues, entry: Entry, i: usize)
+    requires printable { IsPrintable 9 values.now }
+    requires about { IsAbout (length values.now.names) entry }
     requires place { i < length values.now.rows }
-    ensures { Prints K.Sink pen.old pen.new (printed (head_at values.now i)) }
+    ensures { Prints K.Sink pen.old pen.new (printed (cell_at values.now entry i)) }
 {
     if ends_round(values.rows.items(), i) {
-        write_round_head(pen, values, i);
+        write_round_cell(pen, values, entry, i);
+    }
+}
+
+/// What a line says of the round that ends at a place.
+fn write_round_cell<K: Sink>(pen: &mut Pen<'_, K>, values: &SheetValues, entry: Entry, i: usize)
+    requires printable { IsPrintable 9 values.now }
+    requires about { IsAbout (length values.now.names) entry }
+    requires place { i < length values.now.rows }
+    ensures { Prints K.Sink pen.old pen.new (printed (round_cell values.now entry i)) }
+{
+    let row = values.rows.get(i);
+    match entry {
+        Entry::Round => write_round_head(pen, values, i),
+        Entry::Quota => write_amount(pen, row.quota),
+        Entry::LeftOver => write_left(pen, values, row),
+        Entry::Candidate(p) => write_vote(pen, row, states_behind(values, i), p),
     }
 }
 
@@ -176,32 +200,13 @@ fn write_line_head<K: Sink>(pen: &mut Pen<'_, K>, text: &[u8])
 
 /// The quotas of all rounds.
 fn write_quota_row<K: Sink>(pen: &mut Pen<'_, K>, values: &SheetValues)
+    requires printable { IsPrintable 9 values.now }
     ensures { Prints K.Sink pen.old pen.new (printed (quota_row values.now)) }
 {
     pen.open(b"tr");
     write_line_head(pen, b"Quota");
-    write_quotas(pen, values);
+    write_cells(pen, values, Entry::Quota);
     pen.close(b"tr");
-}
-
-fn write_quotas<K: Sink>(pen: &mut Pen<'_, K>, values: &SheetValues)
-    ensures { Prints K.Sink pen.old pen.new
-        (print_each (quota_at values.now) (places (length values.now.rows))) }
-{
-    for i in 0..values.rows.len() {
-        write_quota_at(pen, values, i);
-    }
-}
-
-/// The quota of a round, if it ends at this place.
-fn write_quota_at<K: Sink>(pen: &mut Pen<'_, K>, values: &SheetValues, i: usize)
-    requires place { i < length values.now.rows }
-    ensures { Prints K.Sink pen.old pen.new (printed (quota_at values.now i)) }
-{
-    if ends_round(values.rows.items(), i) {
-        let row = values.rows.get(i);
-        write_amount(pen, row.quota);
-    }
 }
 
 /// What is left on no candidate at the end of each round.
@@ -211,29 +216,8 @@ fn write_left_row<K: Sink>(pen: &mut Pen<'_, K>, values: &SheetValues)
 {
     pen.open(b"tr");
     write_line_head(pen, b"On no candidate");
-    write_lefts(pen, values);
+    write_cells(pen, values, Entry::LeftOver);
     pen.close(b"tr");
-}
-
-fn write_lefts<K: Sink>(pen: &mut Pen<'_, K>, values: &SheetValues)
-    requires printable { IsPrintable 9 values.now }
-    ensures { Prints K.Sink pen.old pen.new
-        (print_each (left_at values.now) (places (length values.now.rows))) }
-{
-    for i in 0..values.rows.len() {
-        write_left_at(pen, values, i);
-    }
-}
-
-/// What is left on no candidate at the end of a round, if it ends at this place.
-fn write_left_at<K: Sink>(pen: &mut Pen<'_, K>, values: &SheetValues, i: usize)
-    requires printable { IsPrintable 9 values.now }
-    requires place { i < length values.now.rows }
-    ensures { Prints K.Sink pen.old pen.new (printed (left_at values.now i)) }
-{
-    if ends_round(values.rows.items(), i) {
-        write_left(pen, values, values.rows.get(i));
-    }
 }
 
 /// What an iteration leaves on no candidate.
@@ -263,7 +247,7 @@ fn write_candidate_row<K: Sink>(pen: &mut Pen<'_, K>, values: &SheetValues, p: u
 {
     pen.open(b"tr");
     write_candidate_at(pen, values, p);
-    write_votes(pen, values, p);
+    write_cells(pen, values, Entry::Candidate(p));
     pen.close(b"tr");
 }
 
@@ -292,30 +276,6 @@ fn write_candidate<K: Sink>(pen: &mut Pen<'_, K>, name: &[u8], number: u64)
         Piece::Text(Cell::Bytes(b")")),
         Piece::End(b"th"),
     ]);
-}
-
-/// A candidate's vote and state at the end of each round.
-fn write_votes<K: Sink>(pen: &mut Pen<'_, K>, values: &SheetValues, p: usize)
-    requires printable { IsPrintable 9 values.now }
-    requires place { p < length values.now.names }
-    ensures { Prints K.Sink pen.old pen.new
-        (print_each (vote_at values.now p) (places (length values.now.rows))) }
-{
-    for i in 0..values.rows.len() {
-        write_vote_at(pen, values, p, i);
-    }
-}
-
-/// A candidate's vote and state at the end of a round, if it ends at this place.
-fn write_vote_at<K: Sink>(pen: &mut Pen<'_, K>, values: &SheetValues, p: usize, i: usize)
-    requires printable { IsPrintable 9 values.now }
-    requires candidate { p < length values.now.names }
-    requires place { i < length values.now.rows }
-    ensures { Prints K.Sink pen.old pen.new (printed (vote_at values.now p i)) }
-{
-    if ends_round(values.rows.items(), i) {
-        write_vote(pen, values.rows.get(i), states_behind(values, i), p);
-    }
 }
 
 /// A candidate's vote in the last iteration of a round, and what it is behind it.

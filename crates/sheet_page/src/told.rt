@@ -4,10 +4,11 @@ ghost use Rattle.page_tree.specs.Print.{printed};
 ghost use Rattle.sheet_reader.specs.Form.{IsPrintable};
 ghost use Rattle.sheet_words.specs.Lines.{at_end, sentences_of};
 ghost use Rattle.sheet_words.specs.Sentences.{outcome, sentences_at_end};
+ghost use Rattle.sheet_minutes.specs.Rounds.{row_at};
 ghost use Rattle.sheet_page.specs.Prints.{Prints};
 ghost use Rattle.sheet_page.specs.Told.{end_list, item, outcome_list, result_part, result_title, round_sentences, sentences_at};
 ghost use Rattle.sheet_page.specs.Trees.{each, print_each};
-ghost use Rattle.sheet_page.specs.Values.{places, row_at};
+ghost use Rattle.sheet_page.specs.Values.{places};
 
 use crate::cell::Cell;
 use crate::items::Items;

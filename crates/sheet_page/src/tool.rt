@@ -47,7 +47,7 @@ fn show<K: Sink>(alloc: Global, format: Format, input: &[u8], sink: &mut K) -> E
     ensures { FinishesOwed (IsOwedFor shows format input.now no_history) result
         (writing K.written K.faults sink.old sink.new) }
 {
-    match read_sheet(alloc, input) {
+    match read_sheet::<9>(alloc, input) {
         Ok(values) => show_values(format, &values, sink),
         Err(SheetStop::Malformed) => refuse(sink, SheetFault::Malformed),
         Err(SheetStop::NoMemory) => End::NoMemory,

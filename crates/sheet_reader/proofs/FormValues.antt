@@ -18,7 +18,7 @@ use Rattle.sheet_reader.proofs.ReadSheet.{behind_counts, behind_title, outcomes_
 use Rattle.sheet_reader.proofs.RowValues.{each_place-at, rows_say}
 use Rattle.sheet_reader.proofs.SheetLines.{form_lines}
 
-number_once : (word : List ℕ) (m n : ℕ) → m ≤ MOST_BALLOTS → n ≤ MOST_BALLOTS → word ++ decimal m ≡ word ++ decimal n → m ≡ n
+pub number_once : (word : List ℕ) (m n : ℕ) → m ≤ MOST_BALLOTS → n ≤ MOST_BALLOTS → word ++ decimal m ≡ word ++ decimal n → m ≡ n
 number_once word m n small few e =
     decimal_injective m n (omega (arith, small)) (omega (arith, few))
     (behind_front word (decimal m) (decimal n) e)
@@ -43,24 +43,24 @@ outcomes_say n states others names called few ls lo ln lc e = (
 
 -- two lists of values of which a text is the sheet are one
 pub form_says : FormSaysItsValues
-form_says bytes v w is also =
+form_says places bytes v w some few is also =
     let n = length v.names in
     let title =
-    heads (codes "title " ++ v.title) (codes "title " ++ w.title) (behind_title v) (behind_title w)
-    (sym (form_lines bytes v is) ∙ form_lines bytes w also) in
+    heads (codes "title " ++ v.title) (codes "title " ++ w.title) (behind_title places v) (behind_title places w)
+    (sym (form_lines places bytes v few is) ∙ form_lines places bytes w few also) in
     let seats = heads (codes "seats " ++ decimal v.seats) (codes "seats " ++ decimal w.seats) _ _ title.1 in
     let candidates =
     heads (codes "candidates " ++ decimal (length v.names))
     (codes "candidates " ++ decimal (length w.names)) _ _ seats.1 in
     let ballots =
     heads (codes "ballots " ++ decimal v.ballots) (codes "ballots " ++ decimal w.ballots)
-    (behind_counts v) (behind_counts w) candidates.1 in
+    (behind_counts places v) (behind_counts places w) candidates.1 in
     let same : n ≡ length w.names =
     number_once (codes "candidates ") n (length w.names) (omega (arith, is.in_range.candidates.1))
     (omega (arith, also.in_range.candidates.1)) candidates.0 in
     let rows =
-    rows_say n v.rows w.rows (outcomes_of v) (outcomes_of w) is.in_range.candidates.1 is.in_range.rows
-    (rows_of n bytes w same also) ballots.1 in
+    rows_say places (some, few) n v.rows w.rows (outcomes_of v) (outcomes_of w) is.in_range.candidates.1 is.in_range.rows
+    (rows_of places n bytes w same also) ballots.1 in
     let lw : length w.last ≡ n = also.in_range.last ∙ sym same in
     let outcomes =
     behind_as_long (each_place n (outcome_line v.last v.names))
@@ -87,6 +87,6 @@ form_says bytes v w is also =
 
 -- what a text was made of is what is read of it
 pub values_are_read : WrittenValuesAreRead
-values_are_read bytes v (Ok w) is read = form_says bytes w v read is
-values_are_read bytes v (Err Malformed) is read = absurd (read v is)
-values_are_read bytes v (Err NoMemory) is read = refl
+values_are_read places bytes v (Ok w) some few is read = form_says places bytes w v some few read is
+values_are_read places bytes v (Err Malformed) some few is read = absurd (read v is)
+values_are_read places bytes v (Err NoMemory) some few is read = refl

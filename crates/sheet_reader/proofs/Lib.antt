@@ -5,6 +5,7 @@ mod FormValues
 mod LineLemmas
 mod LineLists
 mod LineParts
+mod OwnPlaces
 mod Places
 mod ReadRow
 mod ReadRows

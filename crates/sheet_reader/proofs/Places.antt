@@ -23,16 +23,16 @@ apart q p below e = omega (arith, below, e)
 
 -- the candidate at place p was read
 pub standing_more :
-    (p : ℕ) (states : List State) (keeps votes : List ℕ) (states' : List State) (keeps' votes' : List ℕ)
+    (places p : ℕ) (states : List State) (keeps votes : List ℕ) (states' : List State) (keeps' votes' : List ℕ)
     (all left new : List (List ℕ))
-    → p < length states → p < length keeps → p < length votes → all ≡ standing_lines 9 p states keeps votes ++ left
-    → ReadsStanding 9 p states keeps votes states' keeps' votes' left new
-    → all ≡ standing_lines 9 (p + 1) states' keeps' votes' ++ new
-standing_more p states keeps votes states' keeps' votes' all left new s k v read is =
-    read_more (standing_at 9 states keeps votes) (standing_at 9 states' keeps' votes') p all left new
-    (standing_line 9 p is.state is.keep is.vote) before read is.read here
+    → p < length states → p < length keeps → p < length votes → all ≡ standing_lines places p states keeps votes ++ left
+    → ReadsStanding places p states keeps votes states' keeps' votes' left new
+    → all ≡ standing_lines places (p + 1) states' keeps' votes' ++ new
+standing_more places p states keeps votes states' keeps' votes' all left new s k v read is =
+    read_more (standing_at places states keeps votes) (standing_at places states' keeps' votes') p all left new
+    (standing_line places p is.state is.keep is.vote) before read is.read here
   where
-    before : (q : ℕ) → q < p → standing_at 9 states keeps votes q ≡ standing_at 9 states' keeps' votes' q
+    before : (q : ℕ) → q < p → standing_at places states keeps votes q ≡ standing_at places states' keeps' votes' q
     before q below =
         let s' : state_at states q ≡ state_at states' q =
         sym (ap (λ (l : List State). get_or l q Withdrawn) is.states_are
@@ -43,9 +43,9 @@ standing_more p states keeps votes states' keeps' votes' all left new s k v read
         let v' : slice_index votes q ≡ slice_index votes' q =
         sym (ap (λ (l : List ℕ). get_or l q 0) is.votes_are
         ∙ get_or-set_other votes p q is.vote 0 (apart q p below)) in
-        (λ i. standing_line 9 q (s' i) (k' i) (v' i))
+        (λ i. standing_line places q (s' i) (k' i) (v' i))
 
-    here : standing_line 9 p is.state is.keep is.vote ≡ standing_at 9 states' keeps' votes' p
+    here : standing_line places p is.state is.keep is.vote ≡ standing_at places states' keeps' votes' p
     here =
         let s' : is.state ≡ state_at states' p =
         sym (ap (λ (l : List State). get_or l p Withdrawn) is.states_are
@@ -54,22 +54,22 @@ standing_more p states keeps votes states' keeps' votes' all left new s k v read
         sym (ap (λ (l : List ℕ). get_or l p 0) is.keeps_are ∙ get_or-set_same keeps p is.keep 0 k) in
         let v' : is.vote ≡ slice_index votes' p =
         sym (ap (λ (l : List ℕ). get_or l p 0) is.votes_are ∙ get_or-set_same votes p is.vote 0 v) in
-        (λ i. standing_line 9 p (s' i) (k' i) (v' i))
+        (λ i. standing_line places p (s' i) (k' i) (v' i))
 
 -- at the place p there is no candidate's line
 pub no_standings :
-    (n p : ℕ) (states : List State) (keeps votes : List ℕ) (s : List State) (k v : List ℕ)
+    (places n p : ℕ) (states : List State) (keeps votes : List ℕ) (s : List State) (k v : List ℕ)
     (all left rest : List (List ℕ))
-    → p < n → length k ≡ n → length v ≡ n → All (λ keep. keep ≤ scale 9) k → All (λ vote. vote ≤ most 9) v
-    → all ≡ standing_lines 9 p states keeps votes ++ left
-    → ((state : State) (keep vote : ℕ) (rest : List (List ℕ)) → keep ≤ scale 9 → vote ≤ most 9
-    → left ≢ standing_line 9 p state keep vote ∷ rest)
-    → all ≢ standing_lines 9 n s k v ++ rest
-no_standings n p states keeps votes s k v all left rest below lk lv ks vs read none other =
-    let next = next_place (standing_at 9 states keeps votes) (standing_at 9 s k v) p n all left rest below read other in
+    → p < n → length k ≡ n → length v ≡ n → All (λ keep. keep ≤ scale places) k → All (λ vote. vote ≤ most places) v
+    → all ≡ standing_lines places p states keeps votes ++ left
+    → ((state : State) (keep vote : ℕ) (rest : List (List ℕ)) → keep ≤ scale places → vote ≤ most places
+    → left ≢ standing_line places p state keep vote ∷ rest)
+    → all ≢ standing_lines places n s k v ++ rest
+no_standings places n p states keeps votes s k v all left rest below lk lv ks vs read none other =
+    let next = next_place (standing_at places states keeps votes) (standing_at places s k v) p n all left rest below read other in
     none (state_at s p) (slice_index k p) (slice_index v p) next.0
-    (All-get_or (λ keep. keep ≤ scale 9) k p 0 (omega (arith, below, lk)) ks)
-    (All-get_or (λ vote. vote ≤ most 9) v p 0 (omega (arith, below, lv)) vs) next.1
+    (All-get_or (λ keep. keep ≤ scale places) k p 0 (omega (arith, below, lk)) ks)
+    (All-get_or (λ vote. vote ≤ most places) v p 0 (omega (arith, below, lv)) vs) next.1
 
 -- an outcome's line, of its parts
 pub outcome_line_is :

@@ -21,31 +21,31 @@ use Rattle.sheet_reader.proofs.SheetLines.{form_lines}
 abbrev pub outcomes_of : SheetList → List (List ℕ)
 outcomes_of v = each_place (length v.last) (outcome_line v.last v.names) ++ codes "end" ∷ []
 
-abbrev pub behind_counts : SheetList → List (List ℕ)
-behind_counts v = rows_lines 9 v.rows ++ codes "result" ∷ outcomes_of v
+abbrev pub behind_counts : (places : ℕ) → SheetList → List (List ℕ)
+behind_counts places v = rows_lines places v.rows ++ codes "result" ∷ outcomes_of v
 
-abbrev pub behind_title : SheetList → List (List ℕ)
-behind_title v = count_lines v.seats (length v.names) v.ballots ++ behind_counts v
+abbrev pub behind_title : (places : ℕ) → SheetList → List (List ℕ)
+behind_title places v = count_lines v.seats (length v.names) v.ballots ++ behind_counts places v
 
 pub at_title :
-    (bytes : List ℕ) (v : SheetList) (lines : List (List ℕ)) → lines ≡ lines_in bytes → HasForm 9 bytes v
-    → lines ≡ (codes "title " ++ v.title) ∷ behind_title v
-at_title bytes v lines e is = e ∙ form_lines bytes v is
+    (places : ℕ) (bytes : List ℕ) (v : SheetList) (lines : List (List ℕ)) → places ≤ 9 → lines ≡ lines_in bytes
+    → HasForm places bytes v → lines ≡ (codes "title " ++ v.title) ∷ behind_title places v
+at_title places bytes v lines fits e is = e ∙ form_lines places bytes v fits is
 
 -- what stands behind the head that was read
 pub at_rows :
-    (bytes title : List ℕ) (v : SheetList) (seats n ballots : ℕ) (lines new : List (List ℕ))
-    → lines ≡ lines_in bytes → HasForm 9 bytes v
-    → IsFew n → lines ≡ head_lines title seats n ballots ++ new → (n ≡ length v.names) × (new ≡ behind_counts v)
-at_rows bytes title v seats n ballots lines new e is few read =
+    (places : ℕ) (bytes title : List ℕ) (v : SheetList) (seats n ballots : ℕ) (lines new : List (List ℕ)) → places ≤ 9
+    → lines ≡ lines_in bytes → HasForm places bytes v
+    → IsFew n → lines ≡ head_lines title seats n ballots ++ new → (n ≡ length v.names) × (new ≡ behind_counts places v)
+at_rows places bytes title v seats n ballots lines new fits e is few read =
     let zero =
     heads (codes "title " ++ title) (codes "title " ++ v.title) (count_lines seats n ballots ++ new)
-    (behind_title v) (sym read ∙ at_title bytes v lines e is) in
+    (behind_title places v) (sym read ∙ at_title places bytes v lines fits e is) in
     let one = heads (codes "seats " ++ decimal seats) (codes "seats " ++ decimal v.seats) _ _ zero.1 in
     let two = heads (codes "candidates " ++ decimal n) (codes "candidates " ++ decimal (length v.names)) _ _ one.1 in
     let three =
     heads (codes "ballots " ++ decimal ballots) (codes "ballots " ++ decimal v.ballots) new
-    (behind_counts v) two.1 in (
+    (behind_counts places v) two.1 in (
       decimal_injective n (length v.names) (omega (arith, few.1)) (omega (arith, is.in_range.candidates.1))
           (behind_front (codes "candidates ") (decimal n) (decimal (length v.names)) two.0),
       three.1,
@@ -53,41 +53,43 @@ at_rows bytes title v seats n ballots lines new e is few read =
 
 -- the rows of these values have as many candidates as were read
 pub rows_of :
-    (n : ℕ) (bytes : List ℕ) (v : SheetList) → n ≡ length v.names → HasForm 9 bytes v
-    → All (IsPrintableRow 9 n) v.rows
-rows_of n bytes v same is = subst (λ (m : ℕ). All (IsPrintableRow 9 m) v.rows) (sym same) is.in_range.rows
+    (places n : ℕ) (bytes : List ℕ) (v : SheetList) → n ≡ length v.names → HasForm places bytes v
+    → All (IsPrintableRow places n) v.rows
+rows_of places n bytes v same is = subst (λ (m : ℕ). All (IsPrintableRow places m) v.rows) (sym same) is.in_range.rows
 
 pub at_outcomes :
-    (n : ℕ) (bytes : List ℕ) (v : SheetList) (rows : List Row) (l2 l3 : List (List ℕ)) → n ≤ MOST_CANDIDATES
-    → HasForm 9 bytes v → (n ≡ length v.names) × (l2 ≡ behind_counts v)
-    → All (IsPrintableRow 9 n) rows → l2 ≡ rows_lines 9 rows ++ codes "result" ∷ l3
+    (places n : ℕ) (bytes : List ℕ) (v : SheetList) (rows : List Row) (l2 l3 : List (List ℕ))
+    → (6 ≤ places) × (places ≤ 9) → n ≤ MOST_CANDIDATES
+    → HasForm places bytes v → (n ≡ length v.names) × (l2 ≡ behind_counts places v)
+    → All (IsPrintableRow places n) rows → l2 ≡ rows_lines places rows ++ codes "result" ∷ l3
     → l3 ≡ each_place n (outcome_line v.last v.names) ++ codes "end" ∷ []
-at_outcomes n bytes v rows l2 l3 few is at all read =
-    (rows_say n rows v.rows l3 (outcomes_of v) few all (rows_of n bytes v at.0 is) (sym read ∙ at.1)).1
+at_outcomes places n bytes v rows l2 l3 fit few is at all read =
+    (rows_say places fit n rows v.rows l3 (outcomes_of v) few all (rows_of places n bytes v at.0 is) (sym read ∙ at.1)).1
     ∙ ap (λ (k : ℕ). each_place k (outcome_line v.last v.names) ++ codes "end" ∷ []) (is.in_range.last ∙ sym at.0)
 
-module _ (bytes : List ℕ) (lines : List (List ℕ)) (whole : lines ≡ lines_in bytes) where
+module _ (places : ℕ) (fit : (6 ≤ places) × (places ≤ 9)) (bytes : List ℕ) (lines : List (List ℕ))
+    (whole : lines ≡ lines_in bytes) where
   -- where a part is missing, the text has no form
-  pub head_stops : NoHead lines → (v : SheetList) → ¬ (HasForm 9 bytes v)
+  pub head_stops : NoHead lines → (v : SheetList) → ¬ (HasForm places bytes v)
   head_stops none v is =
-      none v.title v.seats (length v.names) v.ballots (behind_counts v) is.in_range.title is.in_range.seats
+      none v.title v.seats (length v.names) v.ballots (behind_counts places v) is.in_range.title is.in_range.seats
       is.in_range.candidates is.in_range.ballots
-      (at_title bytes v lines whole is)
+      (at_title places bytes v lines fit.1 whole is)
 
   module _ (title : List ℕ) (seats n ballots : ℕ) (l1 : List (List ℕ)) (few : IsFew n)
       (head : lines ≡ head_lines title seats n ballots ++ l1) where
-    pub rows_stop : NoRows n l1 → (v : SheetList) → ¬ (HasForm 9 bytes v)
+    pub rows_stop : NoRows places n l1 → (v : SheetList) → ¬ (HasForm places bytes v)
     rows_stop none v is =
-        let at = at_rows bytes title v seats n ballots lines l1 whole is few head in
-        none v.rows (outcomes_of v) (rows_of n bytes v at.0 is) at.1
+        let at = at_rows places bytes title v seats n ballots lines l1 fit.1 whole is few head in
+        none v.rows (outcomes_of v) (rows_of places n bytes v at.0 is) at.1
 
     pub end_stops :
-        (rows : List Row) (l2 : List (List ℕ)) → All (IsPrintableRow 9 n) rows
-        → l1 ≡ rows_lines 9 rows ++ codes "result" ∷ l2
-        → NoEnd n l2 → (v : SheetList) → ¬ (HasForm 9 bytes v)
+        (rows : List Row) (l2 : List (List ℕ)) → All (IsPrintableRow places n) rows
+        → l1 ≡ rows_lines places rows ++ codes "result" ∷ l2
+        → NoEnd n l2 → (v : SheetList) → ¬ (HasForm places bytes v)
     end_stops rows l2 all next none v is =
-        let at = at_rows bytes title v seats n ballots lines l1 whole is few head in
-        none v.last v.names (sym at.0) is.in_range.names (at_outcomes n bytes v rows l1 l2 few.1 is at all next)
+        let at = at_rows places bytes title v seats n ballots lines l1 fit.1 whole is few head in
+        none v.last v.names (sym at.0) is.in_range.names (at_outcomes places n bytes v rows l1 l2 fit few.1 is at all next)
 
 -- ---- where a first part is missing
 

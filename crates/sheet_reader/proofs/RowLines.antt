@@ -130,36 +130,38 @@ row_is places n row rest long =
     (append_assoc (standing_lines places n row.states row.keeps row.votes) behind rest)
 
 -- what stands behind an iteration
-pub behind_row : (n : ℕ) (row other : Row) (rest behind : List (List ℕ)) → length row.states ≡ n → length other.states ≡ n
-    → row_lines 9 row ++ rest ≡ row_lines 9 other ++ behind → rest ≡ behind
-behind_row n row other rest behind p q e =
+pub behind_row :
+    (places n : ℕ) (row other : Row) (rest behind : List (List ℕ)) → length row.states ≡ n → length other.states ≡ n
+    → row_lines places row ++ rest ≡ row_lines places other ++ behind → rest ≡ behind
+behind_row places n row other rest behind p q e =
     let lines =
-    λ (r : Row) (more : List (List ℕ)). standing_lines 9 n r.states r.keeps r.votes
-    ++ (amount_lines_of 9 r.total r.quota r.surplus
+    λ (r : Row) (more : List (List ℕ)). standing_lines places n r.states r.keeps r.votes
+    ++ (amount_lines_of places r.total r.quota r.surplus
     ++ (decision_lines_of r.elected r.capped r.step r.tied ++ more)) in
     let one =
     (heads (number_line_of row.round row.iteration) (number_line_of other.round other.iteration)
     (lines row rest) (lines other behind)
-    (sym (row_is 9 n row rest p) ∙ e ∙ row_is 9 n other behind q)).1 in
+    (sym (row_is places n row rest p) ∙ e ∙ row_is places n other behind q)).1 in
     let two =
-    behind_places (standing_at 9 row.states row.keeps row.votes)
-    (standing_at 9 other.states other.keeps other.votes) n _ _ one in
+    behind_places (standing_at places row.states row.keeps row.votes)
+    (standing_at places other.states other.keeps other.votes) n _ _ one in
     let three =
-    (behind_as_long (amount_lines_of 9 row.total row.quota row.surplus)
-    (amount_lines_of 9 other.total other.quota other.surplus) _ _ refl two).1 in
+    (behind_as_long (amount_lines_of places row.total row.quota row.surplus)
+    (amount_lines_of places other.total other.quota other.surplus) _ _ refl two).1 in
     behind_decision row.elected row.capped row.tied other.elected other.capped other.tied row.step other.step
     rest behind three
 
 -- an iteration does not begin as the result does
-pub row_not_result : (row : Row) (rest more : List (List ℕ)) → row_lines 9 row ++ rest ≢ codes "result" ∷ more
-row_not_result row rest more e =
+pub row_not_result :
+    (places : ℕ) (row : Row) (rest more : List (List ℕ)) → row_lines places row ++ rest ≢ codes "result" ∷ more
+row_not_result places row rest more e =
     let h =
     heads (number_line_of row.round row.iteration) (codes "result") _ more
-    (sym (row_is 9 (length row.states) row rest refl) ∙ e) in
+    (sym (row_is places (length row.states) row rest refl) ∙ e) in
     omega (arith, ap (λ (l : List ℕ). get_or l 1 0) h.0)
 
 -- the iterations of which the first is this one
 pub rows_cons :
-    (row : Row) (rows : List Row) (rest : List (List ℕ))
-    → rows_lines 9 (row ∷ rows) ++ rest ≡ row_lines 9 row ++ (rows_lines 9 rows ++ rest)
-rows_cons row rows rest = append_assoc (row_lines 9 row) (rows_lines 9 rows) rest
+    (places : ℕ) (row : Row) (rows : List Row) (rest : List (List ℕ))
+    → rows_lines places (row ∷ rows) ++ rest ≡ row_lines places row ++ (rows_lines places rows ++ rest)
+rows_cons places row rows rest = append_assoc (row_lines places row) (rows_lines places rows) rest

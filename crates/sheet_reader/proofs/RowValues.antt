@@ -49,10 +49,12 @@ numbers_once round iteration r i small few small' few' e =
       decimal_injective iteration i few few' (behind_front (codes "iteration ") (decimal iteration) (decimal i) parts.1),
     )
 
-amount_once : (word : List ℕ) (u w : ℕ) → u ≤ most 9 → w ≤ most 9 → word ++ text_of 9 u ≡ word ++ text_of 9 w → u ≡ w
-amount_once word u w small small' e =
-    amount_injective 9 u w (omega arith) (omega arith) small small'
-    (behind_front word (text_of 9 u) (text_of 9 w) e)
+amount_once :
+    (places : ℕ) → (6 ≤ places) × (places ≤ 9) → (word : List ℕ) (u w : ℕ) → u ≤ most places → w ≤ most places
+    → word ++ text_of places u ≡ word ++ text_of places w → u ≡ w
+amount_once places fit word u w small small' e =
+    amount_injective places u w fit.0 fit.1 small small'
+    (behind_front word (text_of places u) (text_of places w) e)
 
 -- a line of marks, or that there is none, says who is marked
 marks_say :
@@ -105,10 +107,12 @@ step_says n (Defeat c) (Defeat d) tied marks few lt lm has also e =
     (ap (λ k. Defeat k) parts.0, listed_once tied marks (omega (arith, few, lt)) (lm ∙ sym lt) parts.1)
 
 -- the lines of the candidates say all states, keep values and votes
-standings_say : (n : ℕ) (row other : Row) → n ≤ MOST_CANDIDATES → IsPrintableRow 9 n row → IsPrintableRow 9 n other
-    → standing_lines 9 n row.states row.keeps row.votes ≡ standing_lines 9 n other.states other.keeps other.votes
+standings_say :
+    (places : ℕ) → (6 ≤ places) × (places ≤ 9) → (n : ℕ) (row other : Row) → n ≤ MOST_CANDIDATES
+    → IsPrintableRow places n row → IsPrintableRow places n other
+    → standing_lines places n row.states row.keeps row.votes ≡ standing_lines places n other.states other.keeps other.votes
     → (row.states ≡ other.states) × (row.keeps ≡ other.keeps) × (row.votes ≡ other.votes)
-standings_say n row other few is also e = (
+standings_say places fit n row other few is also e = (
   ext_get_or Withdrawn row.states other.states (is.of_all.states ∙ sym also.of_all.states)
       (λ p below. (at p (omega (arith, below, is.of_all.states))).0),
   ext_get_or 0 row.keeps other.keeps (is.of_all.keeps ∙ sym also.of_all.keeps)
@@ -117,11 +121,11 @@ standings_say n row other few is also e = (
       (λ p below. (at p (omega (arith, below, is.of_all.votes))).2),
 )
   where
-    keep : (r : Row) → IsPrintableRow 9 n r → (p : ℕ) → p < n → slice_index r.keeps p ≤ scale 9
-    keep r is p below = All-get_or (λ keep. keep ≤ scale 9) r.keeps p 0 (omega (arith, below, is.of_all.keeps)) is.keeps
+    keep : (r : Row) → IsPrintableRow places n r → (p : ℕ) → p < n → slice_index r.keeps p ≤ scale places
+    keep r is p below = All-get_or (λ keep. keep ≤ scale places) r.keeps p 0 (omega (arith, below, is.of_all.keeps)) is.keeps
 
-    vote : (r : Row) → IsPrintableRow 9 n r → (p : ℕ) → p < n → slice_index r.votes p ≤ most 9
-    vote r is p below = All-get_or (λ vote. vote ≤ most 9) r.votes p 0 (omega (arith, below, is.of_all.votes)) is.votes
+    vote : (r : Row) → IsPrintableRow places n r → (p : ℕ) → p < n → slice_index r.votes p ≤ most places
+    vote r is p below = All-get_or (λ vote. vote ≤ most places) r.votes p 0 (omega (arith, below, is.of_all.votes)) is.votes
 
     at :
         (p : ℕ) → p < n
@@ -129,37 +133,38 @@ standings_say n row other few is also e = (
         × (slice_index row.keeps p ≡ slice_index other.keeps p)
         × (slice_index row.votes p ≡ slice_index other.votes p)
     at p below =
-        standing_once 9 p (state_at row.states p) (state_at other.states p) (slice_index row.keeps p)
+        standing_once places p (state_at row.states p) (state_at other.states p) (slice_index row.keeps p)
         (slice_index row.votes p) (slice_index other.keeps p) (slice_index other.votes p)
-        (omega arith) (omega arith) (omega (arith, below, few)) (keep row is p below) (vote row is p below)
+        fit.0 fit.1 (omega (arith, below, few)) (keep row is p below) (vote row is p below)
         (keep other also p below) (vote other also p below)
-        (each_place-at (standing_at 9 row.states row.keeps row.votes)
-        (standing_at 9 other.states other.keeps other.votes) n p [] below e)
+        (each_place-at (standing_at places row.states row.keeps row.votes)
+        (standing_at places other.states other.keeps other.votes) n p [] below e)
 
 -- the lines of an iteration say all of it
 pub row_says :
-    (n : ℕ) (row other : Row) (rest behind : List (List ℕ)) → n ≤ MOST_CANDIDATES → IsPrintableRow 9 n row
-    → IsPrintableRow 9 n other
-    → row_lines 9 row ++ rest ≡ row_lines 9 other ++ behind → (row ≡ other) × (rest ≡ behind)
-row_says n row other rest behind few is also e =
+    (places : ℕ) → (6 ≤ places) × (places ≤ 9) → (n : ℕ) (row other : Row) (rest behind : List (List ℕ))
+    → n ≤ MOST_CANDIDATES → IsPrintableRow places n row
+    → IsPrintableRow places n other
+    → row_lines places row ++ rest ≡ row_lines places other ++ behind → (row ≡ other) × (rest ≡ behind)
+row_says places fit n row other rest behind few is also e =
     let one =
     heads (number_line_of row.round row.iteration) (number_line_of other.round other.iteration)
-    (behind_numbers n row rest) (behind_numbers n other behind)
-    (sym (in_parts row rest is.of_all.states refl) ∙ in_parts other behind also.of_all.states e) in
+    (behind_numbers places n row rest) (behind_numbers places n other behind)
+    (sym (in_parts places row rest is.of_all.states refl) ∙ in_parts places other behind also.of_all.states e) in
     let numbers =
     numbers_once row.round row.iteration other.round other.iteration (omega (arith, is.round))
     is.iteration (omega (arith, also.round)) also.iteration one.0 in
     let two =
-    behind_as_long (standing_lines 9 n row.states row.keeps row.votes)
-    (standing_lines 9 n other.states other.keeps other.votes) (behind_standings row rest)
-    (behind_standings other behind)
-    (length-each_place (standing_at 9 row.states row.keeps row.votes) n
-    ∙ sym (length-each_place (standing_at 9 other.states other.keeps other.votes) n)) one.1 in
-    let standings = standings_say n row other few is also two.0 in
-    let total = heads (codes "total " ++ text_of 9 row.total) (codes "total " ++ text_of 9 other.total) _ _ two.1 in
-    let quota = heads (codes "quota " ++ text_of 9 row.quota) (codes "quota " ++ text_of 9 other.quota) _ _ total.1 in
+    behind_as_long (standing_lines places n row.states row.keeps row.votes)
+    (standing_lines places n other.states other.keeps other.votes) (behind_standings places row rest)
+    (behind_standings places other behind)
+    (length-each_place (standing_at places row.states row.keeps row.votes) n
+    ∙ sym (length-each_place (standing_at places other.states other.keeps other.votes) n)) one.1 in
+    let standings = standings_say places fit n row other few is also two.0 in
+    let total = heads (codes "total " ++ text_of places row.total) (codes "total " ++ text_of places other.total) _ _ two.1 in
+    let quota = heads (codes "quota " ++ text_of places row.quota) (codes "quota " ++ text_of places other.quota) _ _ total.1 in
     let surplus =
-    heads (codes "surplus " ++ text_of 9 row.surplus) (codes "surplus " ++ text_of 9 other.surplus)
+    heads (codes "surplus " ++ text_of places row.surplus) (codes "surplus " ++ text_of places other.surplus)
     (behind_amounts row rest) (behind_amounts other behind) quota.1 in
     let decided : marked_lines (codes "elected") row.elected ++
     (marked_lines (codes "capped") row.capped ++ (step_line row.step row.tied ∷ rest))
@@ -188,9 +193,9 @@ row_says n row other rest behind few is also e =
     let step =
     step_says n row.step other.step row.tied other.tied few is.of_all.tied also.of_all.tied is.tied
     also.tied last.0 in
-    let totals = amount_once (codes "total ") row.total other.total is.total also.total total.0 in
-    let quotas = amount_once (codes "quota ") row.quota other.quota is.quota also.quota quota.0 in
-    let surpluses = amount_once (codes "surplus ") row.surplus other.surplus is.surplus also.surplus surplus.0 in (
+    let totals = amount_once places fit (codes "total ") row.total other.total is.total also.total total.0 in
+    let quotas = amount_once places fit (codes "quota ") row.quota other.quota is.quota also.quota quota.0 in
+    let surpluses = amount_once places fit (codes "surplus ") row.surplus other.surplus is.surplus also.surplus surplus.0 in (
       λ i. record {
         round = numbers.0 i;
         iteration = numbers.1 i;
@@ -210,24 +215,25 @@ row_says n row other rest behind few is also e =
 
 -- the lines of all iterations, up to that of the result, say all of them
 pub rows_say :
-    (n : ℕ) (rows others : List Row) (rest behind : List (List ℕ)) → n ≤ MOST_CANDIDATES → All (IsPrintableRow 9 n) rows
-    → All (IsPrintableRow 9 n) others
-    → rows_lines 9 rows ++ codes "result" ∷ rest ≡ rows_lines 9 others ++ codes "result" ∷ behind
+    (places : ℕ) → (6 ≤ places) × (places ≤ 9) → (n : ℕ) (rows others : List Row) (rest behind : List (List ℕ))
+    → n ≤ MOST_CANDIDATES → All (IsPrintableRow places n) rows
+    → All (IsPrintableRow places n) others
+    → rows_lines places rows ++ codes "result" ∷ rest ≡ rows_lines places others ++ codes "result" ∷ behind
     → (rows ≡ others) × (rest ≡ behind)
-rows_say n [] [] rest behind few p q e = (refl, (heads (codes "result") (codes "result") rest behind e).1)
-rows_say n [] (o ∷ others) rest behind few p q e =
-    absurd (row_not_result o (rows_lines 9 others ++ codes "result" ∷ behind) rest
-    (sym (e ∙ rows_cons o others (codes "result" ∷ behind))))
-rows_say n (r ∷ rows) [] rest behind few p q e =
-    absurd (row_not_result r (rows_lines 9 rows ++ codes "result" ∷ rest) behind
-    (sym (rows_cons r rows (codes "result" ∷ rest)) ∙ e))
-rows_say n (r ∷ rows) (o ∷ others) rest behind few p q e =
+rows_say places fit n [] [] rest behind few p q e = (refl, (heads (codes "result") (codes "result") rest behind e).1)
+rows_say places fit n [] (o ∷ others) rest behind few p q e =
+    absurd (row_not_result places o (rows_lines places others ++ codes "result" ∷ behind) rest
+    (sym (e ∙ rows_cons places o others (codes "result" ∷ behind))))
+rows_say places fit n (r ∷ rows) [] rest behind few p q e =
+    absurd (row_not_result places r (rows_lines places rows ++ codes "result" ∷ rest) behind
+    (sym (rows_cons places r rows (codes "result" ∷ rest)) ∙ e))
+rows_say places fit n (r ∷ rows) (o ∷ others) rest behind few p q e =
     let one =
-    row_says n r o (rows_lines 9 rows ++ codes "result" ∷ rest)
-    (rows_lines 9 others ++ codes "result" ∷ behind) few
-    (All-head (IsPrintableRow 9 n) r rows p) (All-head (IsPrintableRow 9 n) o others q)
-    (sym (rows_cons r rows (codes "result" ∷ rest)) ∙ e ∙ rows_cons o others (codes "result" ∷ behind)) in
+    row_says places fit n r o (rows_lines places rows ++ codes "result" ∷ rest)
+    (rows_lines places others ++ codes "result" ∷ behind) few
+    (All-head (IsPrintableRow places n) r rows p) (All-head (IsPrintableRow places n) o others q)
+    (sym (rows_cons places r rows (codes "result" ∷ rest)) ∙ e ∙ rows_cons places o others (codes "result" ∷ behind)) in
     let more =
-    rows_say n rows others rest behind few (All-tail (IsPrintableRow 9 n) r rows p)
-    (All-tail (IsPrintableRow 9 n) o others q) one.1 in
+    rows_say places fit n rows others rest behind few (All-tail (IsPrintableRow places n) r rows p)
+    (All-tail (IsPrintableRow places n) o others q) one.1 in
     ((λ i. one.0 i ∷ more.0 i), more.1)

@@ -82,31 +82,31 @@ step_without n (Defeat c) tied few long has =
     (number c (omega (arith, few, long, has.0, inside tied (c - 1) has.1)))
     (list_without 1 tied (omega (arith, few, long))))
 
-amount : (u : ℕ) → u ≤ most 9 → IsWithout 10 (text_of 9 u)
-amount u small = amount_without 10 9 u (omega arith) (omega arith) small
+amount : (places u : ℕ) → places ≤ 9 → u ≤ most places → IsWithout 10 (text_of places u)
+amount places u few small = amount_without 10 places u (omega arith) few small
 
 standing :
-    (n : ℕ) (row : Row) → n ≤ MOST_CANDIDATES → IsPrintableRow 9 n row → (p : ℕ) → p < n
-    → IsWithout 10 (standing_at 9 row.states row.keeps row.votes p)
-standing n row few is p below =
+    (places n : ℕ) (row : Row) → places ≤ 9 → n ≤ MOST_CANDIDATES → IsPrintableRow places n row → (p : ℕ) → p < n
+    → IsWithout 10 (standing_at places row.states row.keeps row.votes p)
+standing places n row fits few is p below =
     let keep =
-    small_keep 9 _ (All-get_or (λ keep. keep ≤ scale 9) row.keeps p 0
+    small_keep places _ (All-get_or (λ keep. keep ≤ scale places) row.keeps p 0
     (omega (arith, below, is.of_all.keeps)) is.keeps) in
-    let vote = All-get_or (λ vote. vote ≤ most 9) row.votes p 0 (omega (arith, below, is.of_all.votes)) is.votes in
+    let vote = All-get_or (λ vote. vote ≤ most places) row.votes p 0 (omega (arith, below, is.of_all.votes)) is.votes in
     let word = state_word (state_at row.states p) in
     let behind =
-    with_word (text_of 9 (slice_index row.keeps p)) (32 ∷ text_of 9 (slice_index row.votes p))
-    (amount (slice_index row.keeps p) keep) (amount (slice_index row.votes p) vote) in
+    with_word (text_of places (slice_index row.keeps p)) (32 ∷ text_of places (slice_index row.votes p))
+    (amount places (slice_index row.keeps p) fits keep) (amount places (slice_index row.votes p) fits vote) in
     with_word (decimal (p + 1))
-    (32 ∷ (word ++ 32 ∷ (text_of 9 (slice_index row.keeps p) ++ 32 ∷ text_of 9 (slice_index row.votes p))))
+    (32 ∷ (word ++ 32 ∷ (text_of places (slice_index row.keeps p) ++ 32 ∷ text_of places (slice_index row.votes p))))
     (number (p + 1) (omega (arith, below, few)))
-    (with_word word (32 ∷ (text_of 9 (slice_index row.keeps p) ++ 32 ∷ text_of 9 (slice_index row.votes p)))
+    (with_word word (32 ∷ (text_of places (slice_index row.keeps p) ++ 32 ∷ text_of places (slice_index row.votes p)))
     (word_without_end (state_at row.states p)) behind)
 
 decision :
-    (n : ℕ) (row : Row) → n ≤ MOST_CANDIDATES → IsPrintableRow 9 n row
+    (places n : ℕ) (row : Row) → n ≤ MOST_CANDIDATES → IsPrintableRow places n row
     → AreLines (decision_lines_of row.elected row.capped row.step row.tied)
-decision n row few is =
+decision places n row few is =
     lines-append (marked_lines (codes "elected") row.elected)
     (marked_lines (codes "capped") row.capped ++ step_line row.step row.tied ∷ [])
     (marks_lines (codes "elected") row.elected refl (omega (arith, few, is.of_all.elected)))
@@ -115,35 +115,37 @@ decision n row few is =
     (step_without n row.step row.tied few is.of_all.tied is.tied, tt))
 
 row_lines-are :
-    (n : ℕ) (row : Row) (rest : List (List ℕ)) → n ≤ MOST_CANDIDATES → IsPrintableRow 9 n row → AreLines rest
-    → AreLines (row_lines 9 row ++ rest)
-row_lines-are n row rest few is behind =
+    (places n : ℕ) (row : Row) (rest : List (List ℕ)) → places ≤ 9 → n ≤ MOST_CANDIDATES → IsPrintableRow places n row
+    → AreLines rest
+    → AreLines (row_lines places row ++ rest)
+row_lines-are places n row rest fits few is behind =
     let decided = decision_lines_of row.elected row.capped row.step row.tied in
-    let amounts : AreLines (amount_lines_of 9 row.total row.quota row.surplus ++ (decided ++ rest)) = (
-      amount row.total is.total,
+    let amounts : AreLines (amount_lines_of places row.total row.quota row.surplus ++ (decided ++ rest)) = (
+      amount places row.total fits is.total,
       (
-        amount row.quota is.quota,
-        (amount row.surplus is.surplus, lines-append decided rest (decision n row few is) behind),
+        amount places row.quota fits is.quota,
+        (amount places row.surplus fits is.surplus, lines-append decided rest (decision places n row few is) behind),
       ),
     ) in
     let numbers : IsWithout 10 (number_line_of row.round row.iteration) =
     with_word (decimal row.round) (32 ∷ (codes "iteration " ++ decimal row.iteration))
     (number row.round (omega (arith, is.round))) (number row.iteration is.iteration) in
-    subst (λ (ls : List (List ℕ)). AreLines ls) (sym (row_is 9 n row rest is.of_all.states)) (
+    subst (λ (ls : List (List ℕ)). AreLines ls) (sym (row_is places n row rest is.of_all.states)) (
       numbers,
-      lines-append (standing_lines 9 n row.states row.keeps row.votes)
-          (amount_lines_of 9 row.total row.quota row.surplus ++ (decided ++ rest))
-          (lines-places (standing_at 9 row.states row.keeps row.votes) n (standing n row few is)) amounts,
+      lines-append (standing_lines places n row.states row.keeps row.votes)
+          (amount_lines_of places row.total row.quota row.surplus ++ (decided ++ rest))
+          (lines-places (standing_at places row.states row.keeps row.votes) n (standing places n row fits few is)) amounts,
     )
 
 rows-are :
-    (n : ℕ) (rows : List Row) (rest : List (List ℕ)) → n ≤ MOST_CANDIDATES → All (IsPrintableRow 9 n) rows → AreLines rest
-    → AreLines (rows_lines 9 rows ++ rest)
-rows-are n [] rest few all behind = behind
-rows-are n (r ∷ rows) rest few all behind =
-    subst (λ (ls : List (List ℕ)). AreLines ls) (sym (rows_cons r rows rest))
-    (row_lines-are n r (rows_lines 9 rows ++ rest) few (All-head (IsPrintableRow 9 n) r rows all)
-    (rows-are n rows rest few (All-tail (IsPrintableRow 9 n) r rows all) behind))
+    (places n : ℕ) (rows : List Row) (rest : List (List ℕ)) → places ≤ 9 → n ≤ MOST_CANDIDATES
+    → All (IsPrintableRow places n) rows → AreLines rest
+    → AreLines (rows_lines places rows ++ rest)
+rows-are places n [] rest fits few all behind = behind
+rows-are places n (r ∷ rows) rest fits few all behind =
+    subst (λ (ls : List (List ℕ)). AreLines ls) (sym (rows_cons places r rows rest))
+    (row_lines-are places n r (rows_lines places rows ++ rest) fits few (All-head (IsPrintableRow places n) r rows all)
+    (rows-are places n rows rest fits few (All-tail (IsPrintableRow places n) r rows all) behind))
 
 outcome :
     (states : List State) (names : List (List ℕ)) → length names ≤ MOST_CANDIDATES → All (IsName MOST_NAME_BYTES) names → (p : ℕ)
@@ -156,8 +158,8 @@ outcome states names few all p below =
     (with_word word (32 ∷ slice_index_or names p []) (word_without_end (state_at states p))
     (name_without_end (slice_index_or names p []) name.printable)))
 
-sheet_lines-are : (v : SheetList) → IsPrintable 9 v → AreLines (lines_of 9 v)
-sheet_lines-are v is =
+sheet_lines-are : (places : ℕ) (v : SheetList) → places ≤ 9 → IsPrintable places v → AreLines (lines_of places v)
+sheet_lines-are places v fits is =
     let n = length v.names in
     let outcomes : AreLines (each_place (length v.last) (outcome_line v.last v.names)) =
     lines-places (outcome_line v.last v.names) (length v.last)
@@ -172,24 +174,26 @@ sheet_lines-are v is =
         number v.seats (omega (arith, is.seats)),
         (
           number n (omega (arith, is.candidates)),
-          (number v.ballots (omega (arith, is.ballots)), rows-are n v.rows _ is.candidates.1 is.rows result),
+          (number v.ballots (omega (arith, is.ballots)), rows-are places n v.rows _ fits is.candidates.1 is.rows result),
         ),
       ),
     )
 
 -- the lines of a text with the form of a sheet
-pub form_lines : (bytes : List ℕ) (v : SheetList) → HasForm 9 bytes v → lines_in bytes ≡ lines_of 9 v
-form_lines bytes v is =
-    ap (λ (t : List ℕ). lines_in t) is.text ∙ lines_of_text (lines_of 9 v) (sheet_lines-are v is.in_range)
+pub form_lines :
+    (places : ℕ) (bytes : List ℕ) (v : SheetList) → places ≤ 9 → HasForm places bytes v → lines_in bytes ≡ lines_of places v
+form_lines places bytes v fits is =
+    ap (λ (t : List ℕ). lines_in t) is.text ∙ lines_of_text (lines_of places v) (sheet_lines-are places v fits is.in_range)
 
 -- such a text ends with a line feed
-pub form_ends : (bytes : List ℕ) (v : SheetList) → HasForm 9 bytes v → (front : List ℕ) × (bytes ≡ front ++ 10 ∷ [])
+pub form_ends :
+    (places : ℕ) (bytes : List ℕ) (v : SheetList) → HasForm places bytes v → (front : List ℕ) × (bytes ≡ front ++ 10 ∷ [])
 unfolding text_of_lines
-form_ends bytes v is =
-    let rows = rows_lines 9 v.rows in
+form_ends places bytes v is =
+    let rows = rows_lines places v.rows in
     let result = codes "result" ∷ each_place (length v.last) (outcome_line v.last v.names) in
     let before = (codes "title " ++ v.title) ∷ (count_lines v.seats (length v.names) v.ballots ++ (rows ++ result)) in
-    let split : lines_of 9 v ≡ before ++ codes "end" ∷ [] =
+    let split : lines_of places v ≡ before ++ codes "end" ∷ [] =
     ap (λ (ls : List (List ℕ)). (codes "title " ++ v.title)
     ∷ (count_lines v.seats (length v.names) v.ballots ++ ls))
     (sym (append_assoc rows result (codes "end" ∷ []))) in (

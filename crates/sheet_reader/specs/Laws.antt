@@ -1,5 +1,5 @@
--- A sheet that is written is read back.
-use Rattle.std.specs.Prelude.{◌≡◌, ℕ, List, length, All, Result}
+-- A sheet that is written is read back, at each number of places from 6 to 9.
+use Rattle.std.specs.Prelude.{◌≡◌, ◌≢◌, ℕ, ◌≤◌, List, [], length, All, Result}
 use Rattle.candidate_roll.specs.declared.limits.TheConstants.{MOST_NAME_BYTES, MOST_TITLE_BYTES}
 use Rattle.candidate_roll.specs.Name.{IsName}
 use Rattle.candidate_roll.specs.Roll.{RollList}
@@ -17,13 +17,25 @@ use Rattle.sheet_reader.specs.Values.{SheetList}
 -- A text is the sheet of one title, one list of names, of iterations and of last states at most.
 abbrev pub FormSaysItsValues : Type 0
 FormSaysItsValues =
-    (bytes : List ℕ) (values others : SheetList) → HasForm 9 bytes values → HasForm 9 bytes others → values ≡ others
+    (places : ℕ) (bytes : List ℕ) (values others : SheetList) → 6 ≤ places → places ≤ 9
+    → HasForm places bytes values → HasForm places bytes others → values ≡ others
+
+-- Where it is the sheet of iterations it is so at one number of places, since an iteration prints amounts. A text without
+-- any iteration prints none, and is the same sheet at each number of places.
+abbrev pub IterationsSayTheirPlaces : Type 0
+IterationsSayTheirPlaces =
+    (one other : ℕ) (bytes : List ℕ) (values others : SheetList) → 6 ≤ one → one ≤ 9 → 6 ≤ other → other ≤ 9
+    → HasForm one bytes values → HasForm other bytes others → values.rows ≢ [] → one ≡ other
+
+abbrev pub NoIterationSaysNoPlaces : Type 0
+NoIterationSaysNoPlaces =
+    (one other : ℕ) (bytes : List ℕ) (values : SheetList) → HasForm one bytes values → values.rows ≡ [] → HasForm other bytes values
 
 -- So the values that were written into a text are those that are read of it.
 abbrev pub WrittenValuesAreRead : Type 0
 WrittenValuesAreRead =
-    (bytes : List ℕ) (values : SheetList) (result : Result SheetList SheetStop)
-    → HasForm 9 bytes values → Reads bytes result → IsReadAs values result
+    (places : ℕ) (bytes : List ℕ) (values : SheetList) (result : Result SheetList SheetStop) → 6 ≤ places → places ≤ 9
+    → HasForm places bytes values → Reads places bytes result → IsReadAs values result
 
 -- a title and names such as ballot files have
 pub record HasNames (roll : RollList) : Type 0 where
@@ -38,16 +50,17 @@ values_of roll ballots rows last =
 -- The sheet of an election has the form, and it says the iterations and the last states of the election's count.
 abbrev pub SheetsHaveTheForm : Type 0
 SheetsHaveTheForm =
-    (rule : Rule) (omega : ℕ) (ballots : List (List ℕ)) (roll : RollList) (lots text : List ℕ) (rows : List Row) (last : List State)
-    → IsElection 9 omega ballots roll lots → HasNames roll
-    → IsSheetUnder rule 9 omega ballots roll lots text → IsCountUnder rule 9 omega ballots roll lots rows last
-    → HasForm 9 text (values_of roll (length ballots) rows last)
+    (rule : Rule) (places omega : ℕ) (ballots : List (List ℕ)) (roll : RollList) (lots text : List ℕ) (rows : List Row)
+    (last : List State)
+    → IsElection places omega ballots roll lots → HasNames roll
+    → IsSheetUnder rule places omega ballots roll lots text → IsCountUnder rule places omega ballots roll lots rows last
+    → HasForm places text (values_of roll (length ballots) rows last)
 
 -- So a sheet that was written is read back, each amount, state and step of its count as it was.
 abbrev pub SheetsAreReadBack : Type 0
 SheetsAreReadBack =
-    (rule : Rule) (omega : ℕ) (ballots : List (List ℕ)) (roll : RollList) (lots text : List ℕ) (rows : List Row) (last : List State)
-    (result : Result SheetList SheetStop)
-    → IsElection 9 omega ballots roll lots → HasNames roll
-    → IsSheetUnder rule 9 omega ballots roll lots text → IsCountUnder rule 9 omega ballots roll lots rows last
-    → Reads text result → IsReadAs (values_of roll (length ballots) rows last) result
+    (rule : Rule) (places omega : ℕ) (ballots : List (List ℕ)) (roll : RollList) (lots text : List ℕ) (rows : List Row)
+    (last : List State) (result : Result SheetList SheetStop)
+    → IsElection places omega ballots roll lots → HasNames roll
+    → IsSheetUnder rule places omega ballots roll lots text → IsCountUnder rule places omega ballots roll lots rows last
+    → Reads places text result → IsReadAs (values_of roll (length ballots) rows last) result

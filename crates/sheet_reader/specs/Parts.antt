@@ -83,10 +83,11 @@ pub record ReadsStanding (places p : ℕ) (states : List State) (keeps votes : L
   pub votes_are : votes' ≡ slice_set votes p vote
 
 -- no iteration of so many candidates comes next
-abbrev pub NoRow : (n : ℕ) → (lines : List (List ℕ)) → Type 0
-NoRow n lines = (row : Row) (rest : List (List ℕ)) → IsPrintableRow 9 n row → lines ≢ row_lines 9 row ++ rest
+abbrev pub NoRow : (places n : ℕ) → (lines : List (List ℕ)) → Type 0
+NoRow places n lines = (row : Row) (rest : List (List ℕ)) → IsPrintableRow places n row → lines ≢ row_lines places row ++ rest
 
 -- what comes next are not iterations of so many candidates and then the line of the result
-abbrev pub NoRows : (n : ℕ) → (lines : List (List ℕ)) → Type 0
-NoRows n lines =
-    (rows : List Row) (rest : List (List ℕ)) → All (IsPrintableRow 9 n) rows → lines ≢ rows_lines 9 rows ++ codes "result" ∷ rest
+abbrev pub NoRows : (places n : ℕ) → (lines : List (List ℕ)) → Type 0
+NoRows places n lines =
+    (rows : List Row) (rest : List (List ℕ)) → All (IsPrintableRow places n) rows
+    → lines ≢ rows_lines places rows ++ codes "result" ∷ rest

@@ -1,5 +1,5 @@
 // What holds of every sheet that is read.
-ghost use Rattle.sheet_reader.specs.Laws.{FormSaysItsValues, WrittenValuesAreRead, SheetsHaveTheForm, SheetsAreReadBack};
+ghost use Rattle.sheet_reader.specs.Laws.{FormSaysItsValues, IterationsSayTheirPlaces, NoIterationSaysNoPlaces, WrittenValuesAreRead, SheetsHaveTheForm, SheetsAreReadBack};
 
 use meek_count::{counts_are_unique, rows_stay_in_range};
 
@@ -7,6 +7,12 @@ use meek_count::{counts_are_unique, rows_stay_in_range};
 pub fn written_values_are_read()
     ensures values { FormSaysItsValues }
     ensures read { WrittenValuesAreRead }
+{}
+
+/// A text that is the sheet of iterations says its number of places; one without any is a sheet of each.
+pub fn iterations_say_their_places()
+    ensures places { IterationsSayTheirPlaces }
+    ensures none { NoIterationSaysNoPlaces }
 {}
 
 /// The sheet of an election has the form of a sheet, and is read back as the iterations and the last

@@ -1,5 +1,5 @@
 //! A sheet as it is read: [`read_sheet`] gives the values that a text writes, where it is the text of a
-//! sheet at all, and [`check_form`] says whether it is.
+//! sheet of so many places at all, and [`check_form`] says whether it is.
 #![tactic(auto)]
 
 mod cut;
@@ -22,9 +22,9 @@ mod sheet_values;
 mod standing;
 
 pub use form::check_form;
-pub use laws::{sheets_are_read_back, written_values_are_read};
+pub use laws::{iterations_say_their_places, sheets_are_read_back, written_values_are_read};
 pub use push_back::PushBack;
 pub use row_list::RowList;
 pub use sheet::read_sheet;
 pub use sheet_stop::SheetStop;
-pub use sheet_values::SheetValues;
+pub use sheet_values::{SheetValues, SheetValuesAt};

@@ -10,11 +10,11 @@ use std::mem;
 
 /// Iterations in the order in which they were made.
 #[derive(Debug, Drop)]
-pub struct RowList {
-    list: Vec<Row<9>>,
+pub struct RowList<const P: usize> {
+    list: Vec<Row<P>>,
 }
 
-impl Model for RowList {
+impl<const P: usize> Model for RowList<P> {
     ghost use Rattle.std.specs.Prelude.{List};
     ghost use Rattle.meek_rule.specs.Row.{Row};
 
@@ -23,9 +23,9 @@ impl Model for RowList {
     ghost view = { λ rows. rows.list.items };
 }
 
-impl RowList {
+impl<const P: usize> RowList<P> {
     /// No iterations. The allocator serves each later `push`.
-    pub fn new(alloc: Global) -> RowList
+    pub fn new(alloc: Global) -> RowList<P>
         ensures { result ≡ [] }
     {
         RowList {
@@ -34,10 +34,10 @@ impl RowList {
     }
 
     /// Puts an iteration behind the others.
-    pub fn push(&mut self, item: Row<9>) -> Result<(), PushBack<Row<9>>>
-        ensures ok { OnOk result (self.new ≡ self.old ++ item ∷ []) }
+    pub fn push(&mut self, item: Row<P>) -> Result<(), PushBack<Row<P>>>
+        ensures ok { OnOk result (self.new ≡ self.old ++ item.entry ∷ []) }
         ensures refused { OnErr result (self.new ≡ self.old) }
-        ensures handed_back { IfErr result (λ back. back.item ≡ item) }
+        ensures handed_back { IfErr result (λ back. back.item ≡ item.entry) }
     {
         match self.list.push(item) {
             Ok(()) => Ok(()),
@@ -46,7 +46,7 @@ impl RowList {
     }
 
     /// Takes the last iteration out.
-    pub fn pop(&mut self) -> Option<Row<9>>
+    pub fn pop(&mut self) -> Option<Row<P>>
         ensures last { IfSome result (λ item. self.old ≡ self.new ++ item ∷ []) }
         ensures empty { IsNone result ↔ (self.old ≡ []) }
         ensures kept { IfNone result (self.new ≡ self.old) }
@@ -67,13 +67,13 @@ impl RowList {
         self.list.len()
     }
 
-    pub fn items(&self) -> &[Row<9>]
+    pub fn items(&self) -> &[Row<P>]
         ensures { result.now ≡ self.now }
     {
         self.list.as_slice()
     }
 
-    pub fn get(&self, i: usize) -> &Row<9>
+    pub fn get(&self, i: usize) -> &Row<P>
         requires { i < length self.now }
         ensures { slice_get self.now i ≡ Some result.now }
     {
@@ -81,10 +81,10 @@ impl RowList {
     }
 }
 
-impl RowSink for RowList {
+impl<const P: usize> RowSink<P> for RowList<P> {
     ghost takes = { λ before row after. after ≡ before ++ row ∷ [] };
 
-    fn take(&mut self, alloc: Global, row: &mut Row<9>) -> Result<(), NoMemory> {
+    fn take(&mut self, alloc: Global, row: &mut Row<P>) -> Result<(), NoMemory> {
         let next = Row::new(alloc, row.states.len() as u32)?;
         match self.push(mem::replace(row, next)) {
             Ok(()) => Ok(()),

@@ -21,20 +21,25 @@ use line_text::Line;
 use meek_rule::Row;
 
 /// Reads an iteration into a row that has room for all candidates; whether there is one.
-pub(crate) fn read_row(lines: &mut Lines<'_>, line: &mut Line, row: &mut Row<9>) -> bool
+pub(crate) fn read_row<const P: usize>(
+    lines: &mut Lines<'_>,
+    line: &mut Line,
+    row: &mut Row<P>,
+) -> bool
+    requires places { (6 ≤ P) × (P ≤ 9) }
     requires room { HasRoomFor (length row.old.states) row.old }
     requires few { length row.old.states ≤ MOST_CANDIDATES }
     ensures { MatchBool result
-        (IsPrintableRow 9 (length row.old.states) row.new × (lines.old ≡ row_lines 9 row.new ++ lines.new))
-        (NoRow (length row.old.states) lines.old) }
+        (IsPrintableRow P (length row.old.states) row.new × (lines.old ≡ row_lines P row.new ++ lines.new))
+        (NoRow P (length row.old.states) lines.old) }
 {
     let Some((round, iteration)) = read_numbers(lines) else {
         return false;
     };
-    if !read_standings(lines, line, &mut row.states, &mut row.keeps, &mut row.votes) {
+    if !read_standings::<P>(lines, line, &mut row.states, &mut row.keeps, &mut row.votes) {
         return false;
     }
-    let Some((total, quota, surplus)) = read_amounts(lines, line) else {
+    let Some((total, quota, surplus)) = read_amounts::<P>(lines, line) else {
         return false;
     };
     let Some(step) = read_decision(lines, &mut row.elected, &mut row.capped, &mut row.tied) else {
@@ -78,13 +83,14 @@ fn read_numbers(lines: &mut Lines<'_>) -> Option<(u32, u64)>
 }
 
 /// The states, keep values and votes of all candidates.
-fn read_standings(
+fn read_standings<const P: usize>(
     lines: &mut Lines<'_>,
     line: &mut Line,
     states: &mut States,
-    keeps: &mut Keeps<9>,
-    votes: &mut Amounts<9>,
+    keeps: &mut Keeps<P>,
+    votes: &mut Amounts<P>,
 ) -> bool
+    requires places { (6 ≤ P) × (P ≤ 9) }
     requires few { length states.old ≤ MOST_CANDIDATES }
     requires keeps { length keeps.old ≡ length states.old }
     requires votes { length votes.old ≡ length states.old }
@@ -92,14 +98,14 @@ fn read_standings(
     ensures keeps { length keeps.new ≡ length states.old }
     ensures votes { length votes.new ≡ length states.old }
     ensures read { MatchBool result
-        (All (λ keep. keep ≤ scale 9) keeps.new × All (λ vote. vote ≤ most 9) votes.new
-        × (lines.old ≡ standing_lines 9 (length states.old) states.new keeps.new votes.new ++ lines.new))
+        (All (λ keep. keep ≤ scale P) keeps.new × All (λ vote. vote ≤ most P) votes.new
+        × (lines.old ≡ standing_lines P (length states.old) states.new keeps.new votes.new ++ lines.new))
         ((s : List State) (k v : List ℕ) (rest : List (List ℕ)) → length k ≡ length states.old → length v ≡ length states.old
-        → All (λ keep. keep ≤ scale 9) k → All (λ vote. vote ≤ most 9) v
-        → lines.old ≢ standing_lines 9 (length states.old) s k v ++ rest) }
+        → All (λ keep. keep ≤ scale P) k → All (λ vote. vote ≤ most P) v
+        → lines.old ≢ standing_lines P (length states.old) s k v ++ rest) }
 {
     for p in 0..states.len() {
-        if !read_standing_into(lines, line, p, states, keeps, votes) {
+        if !read_standing_into::<P>(lines, line, p, states, keeps, votes) {
             return false;
         }
     }
@@ -108,14 +114,15 @@ fn read_standings(
 }
 
 /// The state, keep value and vote of the candidate at place `p`.
-fn read_standing_into(
+fn read_standing_into<const P: usize>(
     lines: &mut Lines<'_>,
     line: &mut Line,
     p: usize,
     states: &mut States,
-    keeps: &mut Keeps<9>,
-    votes: &mut Amounts<9>,
+    keeps: &mut Keeps<P>,
+    votes: &mut Amounts<P>,
 ) -> bool
+    requires places { (6 ≤ P) × (P ≤ 9) }
     requires few { length states.old ≤ MOST_CANDIDATES }
     requires place { p < length states.old }
     requires keeps { length keeps.old ≡ length states.old }
@@ -124,13 +131,13 @@ fn read_standing_into(
     ensures keeps { length keeps.new ≡ length states.old }
     ensures votes { length votes.new ≡ length states.old }
     ensures read { MatchBool result
-        (ReadsStanding 9 p states.old keeps.old votes.old states.new keeps.new votes.new lines.old lines.new)
-        ((s : State) (k v : ℕ) (rest : List (List ℕ)) → k ≤ scale 9 → v ≤ most 9 → lines.old ≢ standing_line 9 p s k v ∷ rest) }
+        (ReadsStanding P p states.old keeps.old votes.old states.new keeps.new votes.new lines.old lines.new)
+        ((s : State) (k v : ℕ) (rest : List (List ℕ)) → k ≤ scale P → v ≤ most P → lines.old ≢ standing_line P p s k v ∷ rest) }
 {
     let Some(text) = lines.next() else {
         return false;
     };
-    let Some(standing) = read_standing::<9>(line, text, p) else {
+    let Some(standing) = read_standing::<P>(line, text, p) else {
         return false;
     };
     states.set(p, standing.state);
@@ -140,35 +147,44 @@ fn read_standing_into(
 }
 
 /// The total of the votes, the quota and the surplus.
-fn read_amounts(lines: &mut Lines<'_>, line: &mut Line) -> Option<(Amount<9>, Amount<9>, Amount<9>)>
+fn read_amounts<const P: usize>(
+    lines: &mut Lines<'_>,
+    line: &mut Line,
+) -> Option<(Amount<P>, Amount<P>, Amount<P>)>
+    requires places { (6 ≤ P) × (P ≤ 9) }
     ensures { MatchOption result
-        ((total quota surplus : ℕ) (rest : List (List ℕ)) → total ≤ most 9 → quota ≤ most 9 → surplus ≤ most 9
-        → lines.old ≢ amount_lines_of 9 total quota surplus ++ rest)
-        (λ a. (a.0 ≤ most 9) × (a.1 ≤ most 9) × (a.2 ≤ most 9)
-        × (lines.old ≡ amount_lines_of 9 a.0 a.1 a.2 ++ lines.new)) }
+        ((total quota surplus : ℕ) (rest : List (List ℕ)) → total ≤ most P → quota ≤ most P → surplus ≤ most P
+        → lines.old ≢ amount_lines_of P total quota surplus ++ rest)
+        (λ a. (a.0 ≤ most P) × (a.1 ≤ most P) × (a.2 ≤ most P)
+        × (lines.old ≡ amount_lines_of P a.0 a.1 a.2 ++ lines.new)) }
 {
-    let Some(total) = read_amount(lines, line, b"total ") else {
+    let Some(total) = read_amount::<P>(lines, line, b"total ") else {
         return None;
     };
-    let Some(quota) = read_amount(lines, line, b"quota ") else {
+    let Some(quota) = read_amount::<P>(lines, line, b"quota ") else {
         return None;
     };
-    let Some(surplus) = read_amount(lines, line, b"surplus ") else {
+    let Some(surplus) = read_amount::<P>(lines, line, b"surplus ") else {
         return None;
     };
     Some((total, quota, surplus))
 }
 
 /// A line of a word, which brings its space, and an amount.
-fn read_amount(lines: &mut Lines<'_>, line: &mut Line, word: &[u8]) -> Option<Amount<9>>
+fn read_amount<const P: usize>(
+    lines: &mut Lines<'_>,
+    line: &mut Line,
+    word: &[u8],
+) -> Option<Amount<P>>
+    requires places { (6 ≤ P) × (P ≤ 9) }
     ensures { MatchOption result
-        ((u : ℕ) (rest : List (List ℕ)) → u ≤ most 9 → lines.old ≢ (word.now ++ text_of 9 u) ∷ rest)
-        (λ a. (a ≤ most 9) × (lines.old ≡ (word.now ++ text_of 9 a) ∷ lines.new)) }
+        ((u : ℕ) (rest : List (List ℕ)) → u ≤ most P → lines.old ≢ (word.now ++ text_of P u) ∷ rest)
+        (λ a. (a ≤ most P) × (lines.old ≡ (word.now ++ text_of P a) ∷ lines.new)) }
 {
     let Some(text) = lines.next_after(word) else {
         return None;
     };
-    let Some(units) = read_units::<9>(line, text) else {
+    let Some(units) = read_units::<P>(line, text) else {
         return None;
     };
     Some(Amount::from_units(units))

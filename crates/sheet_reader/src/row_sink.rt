@@ -7,13 +7,14 @@ use meek_rule::{NoMemory, Row};
 use std::alloc::Global;
 
 /// What iterations are handed to, one after another, as they are read.
-pub(crate) trait RowSink {
+pub(crate) trait RowSink<const P: usize> {
     /// what taking an iteration makes of it
     ghost takes: { Self → Iteration → Self → Type 0 };
 
     /// Takes the iteration that stands in the row. The next one is read into what it leaves there, which
     /// has as much room.
-    fn take(&mut self, alloc: Global, row: &mut Row<9>) -> Result<(), NoMemory>
+    fn take(&mut self, alloc: Global, row: &mut Row<P>) -> Result<(), NoMemory>
+        requires places { (6 ≤ P) × (P ≤ 9) }
         requires room { HasRoomFor (length row.old.states) row.old }
         requires few { length row.old.states ≤ MOST_CANDIDATES }
         ensures taken { OnOk result (takes self.old row.old self.new) }
@@ -24,10 +25,10 @@ pub(crate) trait RowSink {
 #[derive(Drop)]
 pub(crate) struct KeepNone;
 
-impl RowSink for KeepNone {
+impl<const P: usize> RowSink<P> for KeepNone {
     ghost takes = { λ _ _ _. ⊤ };
 
-    fn take(&mut self, _: Global, _: &mut Row<9>) -> Result<(), NoMemory> {
+    fn take(&mut self, _: Global, _: &mut Row<P>) -> Result<(), NoMemory> {
         Ok(())
     }
 }

@@ -29,14 +29,15 @@ pub(crate) struct SheetParts {
     pub last: States,
 }
 
-/// Reads a sheet from its title to its end, at nine places, and hands on each iteration.
-pub(crate) fn read_parts<K: RowSink>(
+/// Reads a sheet of `P` places from its title to its end, and hands on each iteration.
+pub(crate) fn read_parts<const P: usize, K: RowSink<P>>(
     alloc: Global,
     bytes: &[u8],
     sink: &mut K,
 ) -> Result<SheetParts, SheetStop>
+    requires places { (6 ≤ P) × (P ≤ 9) }
     ensures { MatchResult result
-        (λ parts. (rows : List Iteration) × FoldsTo K.takes sink.old rows sink.new × HasForm 9 bytes.now (record {
+        (λ parts. (rows : List Iteration) × FoldsTo K.takes sink.old rows sink.new × HasForm P bytes.now (record {
           title = parts.title;
           seats = parts.seats;
           ballots = parts.ballots;
@@ -44,14 +45,14 @@ pub(crate) fn read_parts<K: RowSink>(
           rows = rows;
           last = parts.last;
         }))
-        (λ stop. Stops stop ((values : SheetList) → ¬ (HasForm 9 bytes.now values))) }
+        (λ stop. Stops stop ((values : SheetList) → ¬ (HasForm P bytes.now values))) }
 {
     if !is_ended(bytes) {
         return Err(SheetStop::Malformed);
     }
     let mut lines = Lines::new(bytes);
     let head = read_head(alloc, &mut lines)?;
-    read_rows(alloc, &mut lines, head.candidates, sink)?;
+    read_rows::<P, K>(alloc, &mut lines, head.candidates, sink)?;
     let (last, names) = read_end(alloc, &mut lines, head.candidates as usize)?;
     Ok(SheetParts {
         title: head.title,
@@ -63,24 +64,25 @@ pub(crate) fn read_parts<K: RowSink>(
 }
 
 /// Hands on all iterations of so many candidates, up to the line of the result.
-fn read_rows<K: RowSink>(
+fn read_rows<const P: usize, K: RowSink<P>>(
     alloc: Global,
     lines: &mut Lines<'_>,
     candidates: u32,
     sink: &mut K,
 ) -> Result<(), SheetStop>
+    requires places { (6 ≤ P) × (P ≤ 9) }
     requires few { candidates ≤ MOST_CANDIDATES }
     ensures { MatchResult result
         (λ _. (rows : List Iteration) × FoldsTo K.takes sink.old rows sink.new
-        × All (IsPrintableRow 9 candidates) rows × (lines.old ≡ rows_lines 9 rows ++ codes "result" ∷ lines.new))
-        (λ stop. Stops stop (NoRows candidates lines.old)) }
+        × All (IsPrintableRow P candidates) rows × (lines.old ≡ rows_lines P rows ++ codes "result" ∷ lines.new))
+        (λ stop. Stops stop (NoRows P candidates lines.old)) }
 {
     let mut line = Line::new();
-    let Ok(mut row) = Row::new(alloc, candidates) else {
+    let Ok(mut row) = Row::<P>::new(alloc, candidates) else {
         return Err(SheetStop::NoMemory);
     };
     while !lines.skips(b"result") {
-        if !read_row(lines, &mut line, &mut row) {
+        if !read_row::<P>(lines, &mut line, &mut row) {
             return Err(SheetStop::Malformed);
         }
         let Ok(()) = sink.take(alloc, &mut row) else {

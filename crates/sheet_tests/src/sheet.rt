@@ -9,7 +9,7 @@ use std::test::Fail;
 
 #[test]
 fn the_sample_sheet_says_its_election(rt: HostRuntime) -> Result<(), Fail> {
-    let values = read_sheet(rt.alloc(), SHEET)?;
+    let values = read_sheet::<9>(rt.alloc(), SHEET)?;
     let head = (values.seats, values.ballots, values.names.len());
     assert_eq!(rt;
         (values.title.bytes(), head),
@@ -27,7 +27,7 @@ fn the_sample_sheet_says_its_election(rt: HostRuntime) -> Result<(), Fail> {
 
 #[test]
 fn the_sample_sheet_says_its_last_iteration(rt: HostRuntime) -> Result<(), Fail> {
-    let rows = read_sheet(rt.alloc(), SHEET)?.rows;
+    let rows = read_sheet::<9>(rt.alloc(), SHEET)?.rows;
     let row = rows.items().get(2).ok_or("no third row")?;
     let turn = (rows.len(), row.round, row.iteration, row.step);
     assert_eq!(rt; turn, (3, 2, 2, Step::Defeat(3)));
@@ -42,8 +42,8 @@ fn the_sample_sheet_says_its_last_iteration(rt: HostRuntime) -> Result<(), Fail>
 
 /// Both readers of sheets take this text, or refuse it as malformed.
 fn is_taken(alloc: Global, text: &[u8]) -> Result<bool, SheetStop> {
-    let checked = check_form(alloc, text);
-    match read_sheet(alloc, text) {
+    let checked = check_form::<9>(alloc, text);
+    match read_sheet::<9>(alloc, text) {
         Ok(_) => checked.and(Ok(true)),
         Err(stop) => match checked {
             Err(SheetStop::Malformed) if stop == SheetStop::Malformed => Ok(false),

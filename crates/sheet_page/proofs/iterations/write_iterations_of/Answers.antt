@@ -4,7 +4,7 @@ use Rattle.meek_rule.specs.Row.{Row}
 use Rattle.page_tree.specs.Print.{printed}
 use Rattle.page_tree.specs.Trees.{Nothing}
 use Rattle.sheet_reader.specs.Values.{SheetList}
-use Rattle.sheet_page.specs.Values.{row_at}
+use Rattle.sheet_minutes.specs.Rounds.{row_at}
 use Rattle.sheet_page.specs.Stretches.{is_of_round}
 use Rattle.sheet_page.specs.Iterations.{iteration, iteration_at}
 use Rattle.sheet_page.proofs.Pens.{nothing, place_more, renamed}

@@ -4,9 +4,8 @@ use Rattle.meek_rule.specs.Row.{Row}
 use Rattle.page_tree.specs.Print.{printed}
 use Rattle.page_tree.specs.Trees.{Nothing}
 use Rattle.sheet_reader.specs.Values.{SheetList}
-use Rattle.sheet_page.specs.RoundEnds.{ends_round}
+use Rattle.sheet_minutes.specs.Rounds.{ends_round, row_at}
 use Rattle.sheet_page.specs.Links.{link_to, round_link}
-use Rattle.sheet_page.specs.Values.{row_at}
 use Rattle.sheet_page.proofs.Pens.{nothing, renamed}
 use Rattle.sheet_page.proofs.links.write_link_at.Goals as goal
 

@@ -1,7 +1,7 @@
 use Rattle.std.proofs.Common.{[], ◌∷◌}
 use Rattle.std.specs.Prelude.{codes}
+use Rattle.sheet_minutes.specs.Rounds.{left_over}
 use Rattle.sheet_page.specs.Picture.{amounts_text, rest_part}
-use Rattle.sheet_page.specs.RoundEnds.{left_over}
 use Rattle.sheet_page.proofs.Printing.{wrapped}
 use Rattle.sheet_page.proofs.Pens.{later, renamed}
 use Rattle.sheet_page.proofs.picture.write_amounts.Goals as goal

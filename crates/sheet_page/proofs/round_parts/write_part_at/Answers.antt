@@ -4,7 +4,7 @@ use Rattle.meek_rule.specs.Row.{Row}
 use Rattle.page_tree.specs.Print.{printed}
 use Rattle.page_tree.specs.Trees.{Nothing}
 use Rattle.sheet_reader.specs.Values.{SheetList}
-use Rattle.sheet_page.specs.RoundEnds.{ends_round}
+use Rattle.sheet_minutes.specs.Rounds.{ends_round}
 use Rattle.sheet_page.specs.Html.{round_part}
 use Rattle.sheet_page.proofs.Pens.{renamed}
 use Rattle.sheet_page.proofs.round_parts.write_part_at.Goals as goal

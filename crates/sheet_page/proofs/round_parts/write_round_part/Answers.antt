@@ -5,13 +5,13 @@ use Rattle.candidate_roll.specs.declared.state.State.{State}
 use Rattle.meek_rule.specs.Row.{Row, blank}
 use Rattle.page_tree.specs.Print.{printed}
 use Rattle.sheet_reader.specs.Values.{SheetList}
+use Rattle.sheet_minutes.specs.Rounds.{row_at}
 use Rattle.sheet_page.specs.Html.{round_title}
 use Rattle.sheet_page.specs.Links.{part_attributes, part_name}
 use Rattle.sheet_page.specs.Iterations.{folded}
 use Rattle.sheet_page.specs.Picture.{round_picture}
 use Rattle.sheet_page.specs.RoundEnds.{settled, settled_at}
 use Rattle.sheet_page.specs.Told.{round_sentences}
-use Rattle.sheet_page.specs.Values.{row_at}
 use Rattle.sheet_page.proofs.Printing.{wrapped}
 use Rattle.sheet_page.proofs.Pens.{later, renamed}
 use Rattle.sheet_page.proofs.round_parts.write_round_part.Goals as goal

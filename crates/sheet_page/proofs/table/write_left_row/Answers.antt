@@ -1,8 +1,8 @@
 use Rattle.std.proofs.Common.{length, [], ◌∷◌}
 use Rattle.std.specs.Prelude.{codes}
-use Rattle.sheet_page.specs.Trees.{each}
+use Rattle.sheet_minutes.specs.declared.entry.Entry.TheVariants.{LeftOver}
 use Rattle.sheet_page.specs.Values.{places}
-use Rattle.sheet_page.specs.RoundTable.{left_at, line_head}
+use Rattle.sheet_page.specs.RoundTable.{cell_at, cells, line_head}
 use Rattle.sheet_page.proofs.Printing.{wrapped, printed-each}
 use Rattle.sheet_page.proofs.Pens.{later, renamed}
 use Rattle.sheet_page.proofs.table.write_left_row.Goals as goal
@@ -10,8 +10,7 @@ use Rattle.sheet_page.proofs.table.write_left_row.Goals as goal
 pub returns : goal.returns
 returns g c =
     let v = c.args.values.now in
-    let all = places (length v.rows) in
-    renamed (wrapped (codes "tr") [] (line_head (codes "On no candidate") ∷ each (left_at v) all ∷ []))
+    renamed (wrapped (codes "tr") [] (line_head (codes "On no candidate") ∷ cells v LeftOver ∷ []))
     (later c.open.ensures
     (later c.write_line_head.ensures
-    (later (renamed (printed-each (left_at v) all) c.write_lefts.ensures) c.close.ensures)))
+    (later (renamed (printed-each (cell_at v LeftOver) (places (length v.rows))) c.write_cells.ensures) c.close.ensures)))

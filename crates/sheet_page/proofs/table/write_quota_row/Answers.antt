@@ -1,8 +1,8 @@
 use Rattle.std.proofs.Common.{length, [], ◌∷◌}
 use Rattle.std.specs.Prelude.{codes}
-use Rattle.sheet_page.specs.Trees.{each}
+use Rattle.sheet_minutes.specs.declared.entry.Entry.TheVariants.{Quota}
 use Rattle.sheet_page.specs.Values.{places}
-use Rattle.sheet_page.specs.RoundTable.{line_head, quota_at}
+use Rattle.sheet_page.specs.RoundTable.{cell_at, cells, line_head}
 use Rattle.sheet_page.proofs.Printing.{wrapped, printed-each}
 use Rattle.sheet_page.proofs.Pens.{later, renamed}
 use Rattle.sheet_page.proofs.table.write_quota_row.Goals as goal
@@ -10,8 +10,7 @@ use Rattle.sheet_page.proofs.table.write_quota_row.Goals as goal
 pub returns : goal.returns
 returns g c =
     let v = c.args.values.now in
-    let all = places (length v.rows) in
-    renamed (wrapped (codes "tr") [] (line_head (codes "Quota") ∷ each (quota_at v) all ∷ []))
+    renamed (wrapped (codes "tr") [] (line_head (codes "Quota") ∷ cells v Quota ∷ []))
     (later c.open.ensures
     (later c.write_line_head.ensures
-    (later (renamed (printed-each (quota_at v) all) c.write_quotas.ensures) c.close.ensures)))
+    (later (renamed (printed-each (cell_at v Quota) (places (length v.rows))) c.write_cells.ensures) c.close.ensures)))

@@ -6,28 +6,28 @@ use Rattle.sheet_reader.proofs.ReadRow.{in_parts, of_parts, behind_three}
 use Rattle.sheet_reader.proofs.row_reader.read_row.Goals as goal
 
 pub returns-in_default : goal.returns-in_default
-returns-in_default c row rest is e =
-    c.in_default.ensures row.round row.iteration _ is.round is.iteration (in_parts row rest is.of_all.states e)
+returns-in_default g c row rest is e =
+    c.in_default.ensures row.round row.iteration _ is.round is.iteration (in_parts g.row.P row rest is.of_all.states e)
 
 pub returns-then-not-read_standings : goal.returns-then-not-read_standings
-returns-then-not-read_standings c row rest is e =
+returns-then-not-read_standings g c row rest is e =
     let all = sym (ap (λ (r : Row). length r.states) c.row.view_is) in
-    let at_standings = (heads _ _ _ _ (sym c.in-Some.ensures.2 ∙ in_parts row rest (is.of_all.states ∙ all) e)).1 in
+    let at_standings = (heads _ _ _ _ (sym c.in-Some.ensures.2 ∙ in_parts g.row.P row rest (is.of_all.states ∙ all) e)).1 in
     c.if-not-read_standings.ensures.read row.states row.keeps row.votes _ (is.of_all.keeps ∙ all)
     (is.of_all.votes ∙ all) is.keeps is.votes at_standings
 
 pub returns-in_default-read_amounts : goal.returns-in_default-read_amounts
-returns-in_default-read_amounts c row rest is e =
+returns-in_default-read_amounts g c row rest is e =
     let all = sym (ap (λ (r : Row). length r.states) c.row.view_is) in
-    let at_standings = (heads _ _ _ _ (sym c.in-Some.ensures.2 ∙ in_parts row rest (is.of_all.states ∙ all) e)).1 in
+    let at_standings = (heads _ _ _ _ (sym c.in-Some.ensures.2 ∙ in_parts g.row.P row rest (is.of_all.states ∙ all) e)).1 in
     let at_amounts = behind_places _ _ _ _ _ (sym c.if-not-read_standings.ensures.read.2 ∙ at_standings) in
     c.in_default-read_amounts.ensures row.total row.quota row.surplus _ is.total is.quota is.surplus at_amounts
 
 pub returns-in_default-read_decision : goal.returns-in_default-read_decision
-returns-in_default-read_decision c row rest is e =
+returns-in_default-read_decision g c row rest is e =
     let all = sym (ap (λ (r : Row). length r.states) c.row.view_is) in
     let marked = sym (ap (λ (r : Row). length r.tied) c.row.view_is ∙ c.requires.room.tied) in
-    let at_standings = (heads _ _ _ _ (sym c.in-Some.ensures.2 ∙ in_parts row rest (is.of_all.states ∙ all) e)).1 in
+    let at_standings = (heads _ _ _ _ (sym c.in-Some.ensures.2 ∙ in_parts g.row.P row rest (is.of_all.states ∙ all) e)).1 in
     let at_amounts = behind_places _ _ _ _ _ (sym c.if-not-read_standings.ensures.read.2 ∙ at_standings) in
     let at_decision = behind_three (sym c.in-Some-read_amounts.ensures.3 ∙ at_amounts) in
     c.in_default-read_decision.ensures.read row.elected row.capped row.tied row.step rest
@@ -35,14 +35,14 @@ returns-in_default-read_decision c row rest is e =
     (subst (λ (j : ℕ). HasTiedFor j row.step row.tied) marked is.tied) at_decision
 
 pub returns : goal.returns
-returns c =
+returns g c =
     let all = ap (λ (r : Row). length r.states) c.row.view_is in
     let marked = ap (λ (r : Row). length r.tied) c.row.view_is ∙ c.requires.room.tied in
     let numbers = c.in-Some.ensures in
     let standings = c.if-not-read_standings.ensures.read in
     let amounts = c.in-Some-read_amounts.ensures in
     let decision = c.in-Some-read_decision.ensures.read in
-    of_parts _ (record {
+    of_parts g.row.P _ (record {
       of_all = record {
         states = c.read_standings.ensures.states ∙ all;
         keeps = c.read_standings.ensures.keeps ∙ all;

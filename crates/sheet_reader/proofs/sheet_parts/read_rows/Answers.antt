@@ -19,6 +19,6 @@ loop-alloc-preserved g c =
           subst (λ (k : ℕ). HasRoomFor k c.take.new.row) (read.0.of_all.states ∙ before.room.states)
           c.in-Ok-take.ensures.room;
       so_far =
-          one_more before.so_far (subst (λ (k : ℕ). IsPrintableRow 9 k c.read_row.new.row) before.room.states read.0)
+          one_more before.so_far (subst (λ (k : ℕ). IsPrintableRow g.row.P k c.read_row.new.row) before.room.states read.0)
           (sym c.loop-alloc-test.ensures.0 ∙ read.1) c.in-Ok-take.ensures.taken;
     }

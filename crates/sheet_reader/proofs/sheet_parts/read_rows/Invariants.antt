@@ -6,7 +6,7 @@ use Rattle.sheet_reader.proofs.sheet_parts.read_rows.Given as goal
 abbrev pub invariant-loop-alloc : goal.invariant-loop-alloc
 invariant-loop-alloc g l = record {
   room : HasRoomFor l.candidates l.row;
-  so_far : AreReadUpTo g.K.RowSink.takes l.candidates l.fn.lines l.lines l.fn.sink l.sink;
+  so_far : AreReadUpTo g.K.RowSink.takes g.row.P l.candidates l.fn.lines l.lines l.fn.sink l.sink;
 }
 
 abbrev pub decreases-loop-alloc : goal.decreases-loop-alloc
