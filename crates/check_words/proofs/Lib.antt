@@ -1,0 +1,4 @@
+mod NumberLemmas
+mod OneLemmas
+mod PairLemmas
+mod WorkedLemmas
