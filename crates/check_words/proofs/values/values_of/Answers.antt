@@ -5,7 +5,9 @@ use Rattle.check_words.proofs.values.values_of.Goals as goal
 pub returns-in_default-clause-none : goal.returns-in_default-clause-none
 returns-in_default-clause-none c asked asks =
     no_pair (map string_bytes c.args.words.now) (map string_bytes c.loop-rest.rest.now) c.loop-rest.values
-    c.loop-rest.invariant (some_words string_bytes c.loop-rest.rest.now (grind (arith, c.is_empty.ensures, c.loop-rest-test))) c.in_default.ensures.none asked asks
+    c.loop-rest.invariant
+    (some_words string_bytes c.loop-rest.rest.now (grind (arith, c.is_empty.ensures, c.loop-rest-test)))
+    c.in_default.ensures.none asked asks
 
 pub returns-in_default-with-clause-none : goal.returns-in_default-with-clause-none
 returns-in_default-with-clause-none c asked asks =
