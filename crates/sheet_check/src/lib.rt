@@ -1,24 +1,32 @@
 //! Whether a text is the sheet of an election: the count is run again, and what it writes is compared
 //! with the text as it comes.
 //!
-//! [`judge`] gives the verdict on a text, an election and its lots; [`verdicts_are_unique`] says that
-//! each text has one. [`Comparing`] is the sink that compares, for any text. [`check`] is the whole tool,
-//! over an input that is a sheet and behind it a ballot file.
+//! [`judge`] gives the verdict on a text and an election by the [`Terms`] of a count, at the text's own number of
+//! places; [`verdicts_are_unique`] says that each text has one, and [`sheets_are_true`] that the verdict on a sheet is
+//! that it is true. [`Comparing`] is the sink that compares, for any text. [`check`] is the whole tool, over an input
+//! that is a sheet and behind it a ballot file, of at most [`AUDIT_LIMIT`] bytes.
 #![tactic(auto)]
 
+mod audit_limit;
+mod behind;
 mod comparing;
+mod counting;
 mod judging;
 mod laws;
 mod no_memory;
+mod own_places;
 mod split;
+mod terms;
 mod tool;
 mod verdict;
 mod verdict_line;
 
+pub use audit_limit::AUDIT_LIMIT;
 pub use comparing::Comparing;
 pub use judging::judge;
-pub use laws::verdicts_are_unique;
+pub use laws::{sheets_are_true, verdicts_are_unique};
 pub use no_memory::NoMemory;
 pub use split::has_end_at;
+pub use terms::Terms;
 pub use tool::check;
 pub use verdict::Verdict;

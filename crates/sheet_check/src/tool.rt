@@ -1,27 +1,29 @@
 // The tool that checks a sheet.
 ghost use Rattle.std.specs.Prelude.{◌≡◌, ◌≤◌, map, length, take};
 ghost use Rattle.std.specs.String.{string_bytes};
-ghost use Rattle.tool_edge.specs.declared.opening.TheConstants.{FILE_LIMIT};
 ghost use Rattle.tool_edge.specs.Finishing.{FinishesOwed};
 ghost use Rattle.tool_edge.specs.Streams.{reading, writing};
 ghost use Rattle.tool_edge.specs.Tool.{IsOwedFor, IsRun, no_history};
 ghost use Rattle.blt_reader.specs.Election.{poll};
 ghost use Rattle.sheet_check.specs.Audit.{audits, IsOwedVerdict};
+ghost use Rattle.sheet_check.specs.declared.audit_limit.TheConstants.{AUDIT_LIMIT};
 
-use crate::judge;
+use crate::behind::read_file_behind;
 use crate::split::split;
 use crate::verdict_line::verdict_line;
-use blt_reader::{FaultKind, InputFault};
+use crate::{AUDIT_LIMIT, Terms, judge};
+use blt_reader::{Election, FaultKind, InputFault};
 use byte_edge::{Sink, Source};
+use check_words::{Asked, read_check_words, words_ask_one_thing};
 use std::alloc::Global;
 use std::thread::Threads;
 use tool_edge::{
-    Contest, End, FILE_LIMIT, Opened, contests_are_not_refused, contests_are_refused_once,
-    files_are_not_refused, finish, open, refuse, refuse_input, takes_lots, words_have_one_order,
+    Contest, End, Opened, contests_are_not_refused, contests_are_refused_once,
+    files_are_not_refused, finish, open, refuse, refuse_input,
 };
 
-/// Checks the sheet at the front of the input against the ballot file behind it, counted with the lots
-/// of the words, and writes the verdict.
+/// Checks the sheet at the front of the input against the ballot file behind it, counted with the lots, the rule and the
+/// omega of the words at the sheet's own places, and writes the verdict.
 pub fn check<R: Threads + Sync, S: Source, K: Sink>(
     rt: &R,
     alloc: Global,
@@ -32,16 +34,16 @@ pub fn check<R: Threads + Sync, S: Source, K: Sink>(
     ensures { IsRun audits (map string_bytes words.now)
         (reading S.left S.faults source.old source.new) (writing K.written K.faults sink.old sink.new) result no_history }
 {
-    words_have_one_order();
+    words_ask_one_thing();
     files_are_not_refused();
     contests_are_not_refused();
     contests_are_refused_once();
-    let asked = takes_lots(alloc, words);
-    let Opened { asked: lots, input } = match open(alloc, asked, FILE_LIMIT, source, sink) {
+    let asked = read_check_words(alloc, words);
+    let Opened { asked, input } = match open(alloc, asked, AUDIT_LIMIT, source, sink) {
         Ok(opened) => opened,
         Err(end) => return end,
     };
-    check_input(rt, alloc, lots.items(), input, sink)
+    check_input(rt, alloc, asked, input, sink)
 }
 
 /// Checks the whole input. The bytes of the ballot file are let go before anything is made of the ballots.
@@ -49,22 +51,27 @@ pub fn check<R: Threads + Sync, S: Source, K: Sink>(
 fn check_input<R: Threads + Sync, K: Sink>(
     rt: &R,
     alloc: Global,
-    lots: &[u32],
+    asked: Asked,
     mut input: Vec<u8>,
     sink: &mut K,
 ) -> End
-    requires { length input.items ≤ FILE_LIMIT }
-    ensures { FinishesOwed (IsOwedFor audits lots.now input.items no_history) result
+    requires { length input.items ≤ AUDIT_LIMIT }
+    ensures { FinishesOwed (IsOwedFor audits asked input.items no_history) result
         (writing K.written K.faults sink.old sink.new) }
 {
     let Some((sheet, file)) = split(input.as_slice()) else {
         return refuse(sink, ended(input.len()));
     };
     let len = sheet.len();
-    match Contest::read_behind(alloc, len, lots, file) {
-        Ok(contest) => {
+    match read_file_behind(alloc, len, asked.lots.items(), file) {
+        Ok(Contest { election, lots }) => {
             keep_front(&mut input, len);
-            write_verdict(rt, alloc, input.as_slice(), contest, sink)
+            let terms = Terms {
+                lots,
+                rule: asked.rule,
+                omega: asked.omega,
+            };
+            write_verdict(rt, alloc, input.as_slice(), election, &terms, sink)
         }
         Err(stop) => refuse_input(sink, stop),
     }
@@ -88,21 +95,21 @@ fn ended(len: usize) -> InputFault
     }
 }
 
-/// Judges a text that is held to be the sheet of a contest, and writes the verdict.
+/// Judges a text that is held to be the sheet of an election by these terms, and writes the verdict.
 fn write_verdict<R: Threads + Sync, K: Sink>(
     rt: &R,
     alloc: Global,
     sheet: &[u8],
-    contest: Contest,
+    election: Election,
+    terms: &Terms,
     sink: &mut K,
 ) -> End
-    requires lots_of_all { length contest.lots ≡ length contest.election.roll.names }
-    requires ballots_of_all { contest.election.ballots.candidates ≡ length contest.election.roll.names }
-    ensures { FinishesOwed (IsOwedVerdict (poll contest.election) contest.lots sheet.now) result
+    requires lots_of_all { length terms.now.lots ≡ length election.roll.names }
+    requires ballots_of_all { election.ballots.candidates ≡ length election.roll.names }
+    ensures { FinishesOwed (IsOwedVerdict (poll election) terms.now sheet.now) result
         (writing K.written K.faults sink.old sink.new) }
 {
-    let Contest { election, lots } = contest;
-    match judge(rt, alloc, sheet, election, &lots) {
+    match judge(rt, alloc, sheet, election, terms) {
         Ok(verdict) => finish(sink, End::Done, verdict_line(verdict).bytes()),
         Err(_) => End::NoMemory,
     }
