@@ -31,7 +31,7 @@ fn end_of<R: Threads + Sync>(
 
 /// A check of a text with a file behind it ends so, and writes this; the writes and flushes with these
 /// numbers fail.
-fn ends<R: Threads + Sync + Abort>(
+pub(crate) fn ends<R: Threads + Sync + Abort>(
     rt: &R,
     alloc: Global,
     words: &str,
@@ -155,25 +155,27 @@ fn a_refusal_has_its_place_in_the_whole(rt: HostRuntime) -> Result<(), Fail> {
     Ok(())
 }
 
-/// How a check of so many spaces ends that writes into this sink.
+/// How a check of a text with so many spaces behind it ends that writes into this sink.
 fn end_of_spaces<R: Threads + Sync>(
     rt: &R,
     alloc: Global,
-    len: usize,
+    (text, len): (&[u8], usize),
     sink: &mut MemorySink,
 ) -> Result<End, Fail> {
     let words = words_of(alloc, "--lots 1")?;
-    let mut source = CalmSource::new(vec![in alloc; b' '; len]?);
+    let mut input = text.to_vec(alloc)?;
+    input.resize(text.len().saturating_add(len), b' ')?;
+    let mut source = CalmSource::new(input);
     Ok(check(rt, alloc, words.as_slice(), &mut source, sink))
 }
 
-// A sheet and its file have one byte more than they may have together. The line says how many these are.
+// A ballot file has one byte more than it may have. The sheet before it, of four bytes, is no part of it.
 #[test]
-fn an_input_has_at_most_67108864_bytes(rt: HostRuntime) -> Result<(), Fail> {
+fn a_ballot_file_has_at_most_67108864_bytes(rt: HostRuntime) -> Result<(), Fail> {
     let mut sink = sink_of(rt.alloc(), 100, 100, &[])?;
-    let found = end_of_spaces(&rt, rt.alloc(), 67_108_865, &mut sink)?;
-    let end = End::BadInput(InputFault::new(FaultKind::TooLong, 67_108_864));
-    let line = b"refused TooLong at 67108864\n".as_slice();
+    let found = end_of_spaces(&rt, rt.alloc(), (b"end\n", 67_108_865), &mut sink)?;
+    let end = End::BadInput(InputFault::new(FaultKind::TooLong, 67_108_868));
+    let line = b"refused TooLong at 67108868\n".as_slice();
     assert_eq!(rt; (found, sink.bytes()), (end, line));
     Ok(())
 }

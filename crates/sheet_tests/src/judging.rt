@@ -1,8 +1,10 @@
 // Tests of sheet_check: judging.
 use blt_reader::read_blt;
+use check_words::CountRule;
+use fixed_place::Omega;
 use lot_order::Lots;
 use sample_runs::{FILE, sheet};
-use sheet_check::{Verdict, judge};
+use sheet_check::{Terms, Verdict, judge};
 use std::alloc::Global;
 use std::process::Abort;
 use std::test::Fail;
@@ -11,11 +13,15 @@ use std::thread::Threads;
 /// The verdict on a text that is held to be the sheet of the sample election.
 fn verdict_on<R: Threads + Sync>(rt: &R, alloc: Global, text: &[u8]) -> Result<Verdict, Fail> {
     let election = read_blt(alloc, FILE)?;
-    let lots = Lots::try_new(alloc, &[1, 2, 3, 4], 4)?;
+    let terms = Terms {
+        lots: Lots::try_new(alloc, &[1, 2, 3, 4], 4)?,
+        rule: CountRule::Meek,
+        omega: Omega::usual(),
+    };
     if election.roll.candidates() != 4 || election.ballots.candidates() != 4 {
         return Err(Fail::from("the sample has four candidates"));
     }
-    Ok(judge(rt, alloc, text, election, &lots)?)
+    Ok(judge(rt, alloc, text, election, &terms)?)
 }
 
 #[test]

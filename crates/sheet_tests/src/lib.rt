@@ -2,6 +2,8 @@
 #![tactic(auto)]
 
 #[cfg(test)]
+mod check_terms;
+#[cfg(test)]
 mod check_tool;
 #[cfg(test)]
 mod judging;
