@@ -15,7 +15,7 @@ use Rattle.tool_edge.specs.Refusals.{fault_line}
 use Rattle.tool_edge.specs.Finishing.{Finishes, FinishesOwed, RefusesInput}
 use Rattle.tool_edge.specs.Tool.{IsOwedFor, IsSound, no_history}
 use Rattle.meek_cli.specs.Owed.{SaysDay}
-use Rattle.day_audit.specs.declared.audit_limit.TheConstants.{AUDIT_LIMIT}
+use Rattle.sheet_check.specs.declared.audit_limit.TheConstants.{AUDIT_LIMIT}
 use Rattle.day_audit.specs.Input.{IsDaySplit}
 use Rattle.day_audit.specs.Audit.{IsAudit, EndsInText, IsRefusedAudit, IsOwedVerdict, audits_days}
 use Rattle.day_audit.proofs.Splits.{file_once}

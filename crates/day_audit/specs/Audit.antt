@@ -11,7 +11,7 @@ use Rattle.tool_edge.specs.declared.end.End.TheVariants.{Done}
 use Rattle.tool_edge.specs.Words.{TakesNothing}
 use Rattle.tool_edge.specs.Tool.{Tool, no_history}
 use Rattle.meek_cli.specs.Owed.{SaysDay}
-use Rattle.day_audit.specs.declared.audit_limit.TheConstants.{AUDIT_LIMIT}
+use Rattle.sheet_check.specs.declared.audit_limit.TheConstants.{AUDIT_LIMIT}
 use Rattle.day_audit.specs.declared.day_verdict.DayVerdict.{DayVerdict}
 use Rattle.day_audit.specs.declared.day_verdict.DayVerdict.TheVariants.{True, False}
 use Rattle.day_audit.specs.Judged.{IsDayVerdict}

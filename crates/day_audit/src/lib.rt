@@ -5,7 +5,6 @@
 //! text has one. [`audit`] is the whole tool, over an input that is a text and behind it a day file.
 #![tactic(auto)]
 
-mod audit_limit;
 mod comparing;
 mod day_verdict;
 mod frozen_sheets;
@@ -16,7 +15,6 @@ mod split;
 mod tool;
 mod verdict_line;
 
-pub use audit_limit::AUDIT_LIMIT;
 pub use day_verdict::DayVerdict;
 pub use judging::judge;
 pub use laws::day_verdicts_are_unique;

@@ -5,15 +5,16 @@ ghost use Rattle.std.specs.String.{string_bytes};
 ghost use Rattle.tool_edge.specs.Finishing.{FinishesOwed};
 ghost use Rattle.tool_edge.specs.Streams.{reading, writing};
 ghost use Rattle.tool_edge.specs.Tool.{IsOwedFor, IsRun, no_history};
-ghost use Rattle.day_audit.specs.declared.audit_limit.TheConstants.{AUDIT_LIMIT};
+ghost use Rattle.sheet_check.specs.declared.audit_limit.TheConstants.{AUDIT_LIMIT};
 ghost use Rattle.day_audit.specs.Audit.{audits_days, IsOwedVerdict};
 
 use crate::split::split;
 use crate::verdict_line::verdict_line;
-use crate::{AUDIT_LIMIT, judge};
+use crate::judge;
 use blt_reader::{FaultKind, InputFault};
 use byte_edge::{Sink, Source};
 use day_reader::{Day, accepts_days, read_day, refuses_by_the_rule};
+use sheet_check::AUDIT_LIMIT;
 use std::alloc::Global;
 use std::thread::Threads;
 use tool_edge::{End, Opened, finish, open, refuse, refuse_input, takes_nothing};

@@ -2,7 +2,7 @@ use Rattle.std.proofs.Common.{refl, map}
 use Rattle.std.specs.Prelude.{Some, string_bytes}
 use Rattle.tool_edge.specs.Streams.{reading, writing}
 use Rattle.tool_edge.proofs.Running.{stopped, worked_on}
-use Rattle.day_audit.specs.declared.audit_limit.TheConstants.{AUDIT_LIMIT}
+use Rattle.sheet_check.specs.declared.audit_limit.TheConstants.{AUDIT_LIMIT}
 use Rattle.day_audit.specs.Audit.{audits_days}
 use Rattle.day_audit.proofs.Audits.{sound}
 use Rattle.day_audit.proofs.tool.audit.Goals as goal
