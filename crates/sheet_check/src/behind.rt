@@ -14,8 +14,8 @@ use lot_order::Lots;
 use std::alloc::Global;
 use tool_edge::{Contest, FILE_LIMIT, lots_stop};
 
-/// Reads a ballot file that stands behind so many bytes, and takes these lots for it. A fault of the file has its place in
-/// the whole.
+/// Reads a ballot file that stands behind so many bytes, and takes these lots for it. A fault of the file
+/// has its place in the whole.
 pub(crate) fn read_file_behind(
     alloc: Global,
     before: usize,

@@ -22,8 +22,8 @@ use std::alloc::Global;
 use std::thread::Threads;
 use warren_spread::WarrenSpread;
 
-/// Counts an election by these terms at `P` places, and writes its sheet. One worker counts; the ballots are let go before
-/// the count begins, and all memory is taken before the first byte.
+/// Counts an election by these terms at `P` places, and writes its sheet. One worker counts; the ballots
+/// are let go before the count begins, and all memory is taken before the first byte.
 pub(crate) fn write_sheet_by<const P: usize, R: Threads + Sync, K: Sink>(
     rt: &R,
     alloc: Global,

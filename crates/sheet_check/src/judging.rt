@@ -11,9 +11,9 @@ use blt_reader::Election;
 use std::alloc::Global;
 use std::thread::Threads;
 
-/// The verdict on a text that is held to be the sheet of an election by these terms, whose lots are of its candidates.
-/// The count is run again, at the text's own places, by one worker; what it writes is compared with the text as it
-/// comes, and kept nowhere. The ballots are let go before the count begins.
+/// The verdict on a text that is held to be the sheet of an election by these terms, whose lots are of its
+/// candidates. The count is run again, at the text's own places, by one worker; what it writes is compared
+/// with the text as it comes, and kept nowhere. The ballots are let go before the count begins.
 pub fn judge<R: Threads + Sync>(
     rt: &R,
     alloc: Global,
@@ -59,8 +59,8 @@ fn difference_at<R: Threads + Sync>(
     at_places!(6 7 8 9)
 }
 
-/// The first line in which a text differs from the sheet of an election at `P` places, none where it is the sheet. The
-/// count ends where the first difference is found.
+/// The first line in which a text differs from the sheet of an election at `P` places, none where it is
+/// the sheet. The count ends where the first difference is found.
 fn first_difference<const P: usize, R: Threads + Sync>(
     rt: &R,
     alloc: Global,

@@ -6,8 +6,9 @@ use crate::NoMemory;
 use sheet_reader::{SheetStop, check_form};
 use std::alloc::Global;
 
-/// The places of a text: the greatest number, from 6 to 9, at which it has the form of a sheet; none where it has it at
-/// none. A text has its first amount looked at four times at most, since its digits tell the number of places.
+/// The places of a text: the greatest number, from 6 to 9, at which it has the form of a sheet; none where
+/// it has it at none. At each number but its own a text is given up at its first amount, so that one
+/// reading at most goes further.
 pub(crate) fn own_places(alloc: Global, bytes: &[u8]) -> Result<Option<u32>, NoMemory>
     ensures { IfOk result (λ found. MatchOption found (IsMalformed bytes.now) (HasOwnPlaces bytes.now)) }
 {

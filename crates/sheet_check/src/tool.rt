@@ -22,8 +22,8 @@ use tool_edge::{
     files_are_not_refused, finish, open, refuse, refuse_input,
 };
 
-/// Checks the sheet at the front of the input against the ballot file behind it, counted with the lots, the rule and the
-/// omega of the words at the sheet's own places, and writes the verdict.
+/// Checks the sheet at the front of the input against the ballot file behind it, counted with the lots,
+/// the rule and the omega of the words at the sheet's own places, and writes the verdict.
 pub fn check<R: Threads + Sync, S: Source, K: Sink>(
     rt: &R,
     alloc: Global,

@@ -1,5 +1,6 @@
-// Tests of sheet_check: sheets at other places, by the other rule and with another omega. Each sheet, and the line in which
-// one is false by other words, was worked from docs/RULE.md by tools/second_counter, a program apart from this one.
+// Tests of sheet_check: sheets at other places, by the other rule and with another omega. Each sheet, and
+// the line in which one is false by other words, was worked from docs/RULE.md by tools/second_counter, a
+// program apart from this one.
 use crate::check_tool::ends;
 use sample_runs::{AT_OMEGA, FILE};
 use std::alloc::Global;
@@ -41,7 +42,8 @@ round 2 iteration 3\n1 hopeful 1.000000 3.638885\n2 hopeful 1.000000 3.049983\n\
 surplus 0.450014\nelected 1\nstep elected\n\
 result\n1 elected Ann\n2 defeated Ben\n3 elected Cid\n4 elected Dee\nend\n";
 
-/// The sheet of the second election of [`AT_OMEGA`] with an omega of 1,001 units: its surplus of 1,000 is below that.
+/// The sheet of the second election of [`AT_OMEGA`] with an omega of 1,001 units: its surplus of 1,000 is
+/// below that.
 const AT_1001: &[u8] = b"title T\nseats 2\ncandidates 3\nballots 1560\n\
 round 1 iteration 1\n1 hopeful 1.000000000 1003.000000000\n2 hopeful 1.000000000 520.000000000\n\
 3 hopeful 1.000000000 37.000000000\ntotal 1560.000000000\nquota 520.000000001\nsurplus 482.999999999\n\
@@ -73,7 +75,8 @@ fn gets<R: Threads + Sync + Abort>(
     Ok(())
 }
 
-// The sheet's last surplus is of 2 units, so an omega of 2 has it transferred once more, and one of 3 has not.
+// The sheet's last surplus is of 2 units, so an omega of 2 has it transferred once more, and one of 3 has
+// not.
 #[test]
 fn a_sheet_is_judged_at_its_own_places(rt: HostRuntime) -> Result<(), Fail> {
     let lines: [(&str, &[u8]); 4] = [
@@ -128,8 +131,8 @@ fn a_sheet_without_an_iteration_is_true_by_each_rule_and_omega(
     gets(&rt, rt.alloc(), ALONE, lines.as_slice())
 }
 
-/// A sheet of one candidate and one iteration, in which amounts have these digits behind the point, but for the surplus,
-/// which has those.
+/// A sheet of one candidate and one iteration, in which amounts have these digits behind the point, but
+/// for the surplus, which has those.
 fn with_digits(alloc: Global, digits: &str, others: &str) -> Result<String, Fail> {
     let text = format!(in alloc;
         "title T\nseats 1\ncandidates 1\nballots 1\nround 1 iteration 1\n1 elected 1.{digits} 1.{digits}\n\
@@ -138,8 +141,8 @@ total 1.{digits}\nquota 1.{digits}\nsurplus 0.{others}\nstep iterate\nresult\n1 
     Ok(text)
 }
 
-// Digits behind the point of all amounts but the surplus, of the surplus, and the line. Where the text has the form of a
-// sheet, its title is not that of the sample election.
+// Digits behind the point of all amounts but the surplus, of the surplus, and the line. Where the text
+// has the form of a sheet, its title is not that of the sample election.
 const DIGITS: [(&str, &str, &[u8]); 8] = [
     ("00000", "00000", b"sheet malformed\n"),
     ("000000", "000000", b"sheet false at line 1\n"),

@@ -97,8 +97,8 @@ fn a_sheet_is_checked_at_the_omega_of_all_files(rt: HostRuntime) -> Result<(), F
     Ok(())
 }
 
-// The line `end` that stands alone is a sheet of four bytes, and a second one is of the file. A byte order mark before
-// it makes it another line.
+// The line `end` that stands alone is a sheet of four bytes, and a second one is of the file. A byte
+// order mark before it makes it another line.
 const REFUSED: [(&[u8], &[u8], FaultKind, usize, &[u8]); 7] = [
     (b"", b"", FaultKind::Ended, 0, b"refused Ended at 0\n"),
     (b"end", b"", FaultKind::Ended, 3, b"refused Ended at 3\n"),
