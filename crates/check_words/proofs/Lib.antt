@@ -2,3 +2,4 @@ mod NumberLemmas
 mod OneLemmas
 mod PairLemmas
 mod WorkedLemmas
+mod LotsAlone

@@ -1,5 +1,5 @@
 // What holds of words, whoever reads them.
-ghost use Rattle.check_words.specs.Laws.{AskOneThing};
+ghost use Rattle.check_words.specs.Laws.{AskOneThing, LotsAloneAskForTheUsual};
 
 use meek_words::words_have_one_lot_list;
 
@@ -9,3 +9,8 @@ pub fn words_ask_one_thing()
 {
     words_have_one_lot_list();
 }
+
+/// Words that are a list of lots and nothing else ask for Meek's rule and the usual omega.
+pub fn lots_alone_ask_for_the_usual()
+    ensures { LotsAloneAskForTheUsual }
+{}

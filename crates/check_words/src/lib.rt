@@ -14,6 +14,6 @@ mod worked;
 
 pub use asked::Asked;
 pub use count_rule::CountRule;
-pub use laws::words_ask_one_thing;
+pub use laws::{lots_alone_ask_for_the_usual, words_ask_one_thing};
 pub use words::read_check_words;
 pub use worked::worked_words;
