@@ -2,6 +2,6 @@
 ghost use Rattle.day_audit.specs.Laws.{EachTextHasOneVerdict};
 
 /// Each text has one verdict.
-pub fn day_verdicts_are_unique()
+pub fn verdicts_are_unique()
     ensures { EachTextHasOneVerdict }
 {}

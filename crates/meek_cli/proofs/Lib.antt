@@ -15,7 +15,12 @@ mod MadeDays
 mod StandingBatches
 mod StandingWalk
 mod HistoryCalls
+mod OwnBatches
+mod AsMany
+mod Separate
+pub mod TermsLemmas
+mod MadeSummaries
 mod LastFreeze
 mod CountingOut
 mod TrialEnding
-mod SummaryText
+mod SummaryLines

@@ -1,0 +1,28 @@
+-- Words that are an option and a number.
+use Rattle.std.proofs.Common.{◌≡◌, ℕ, List, [], ◌∷◌, length, get_or, refl, sym, subst, ap, ◌∙◌, arith}
+use Rattle.std.specs.Prelude.{codes, Result, Ok, Err, IfOk}
+use Rattle.meek_trial.specs.declared.day.TheConstants.{MOST_TRIAL}
+use Rattle.meek_words.specs.Numerals.{Word, IsNumeralUpTo}
+use Rattle.meek_words.specs.declared.words_stop.WordsStop.{WordsStop}
+use Rattle.meek_words.specs.declared.words_stop.WordsStop.TheVariants.{BadWords, NoMemory}
+use Rattle.number_word.specs.Number.{Says}
+use Rattle.tool_edge.specs.Words.{IsAsked}
+use Rattle.day_audit.specs.declared.audit_asked.AuditAsked.{AuditAsked}
+use Rattle.day_audit.specs.declared.audit_asked.AuditAsked.TheVariants.{Day, Trial}
+use Rattle.day_audit.specs.Words.{TakesAudit, MayBeAsked}
+
+-- words ask for one thing
+pub ask_one : (words : List Word) (one other : AuditAsked) → TakesAudit words one → TakesAudit words other → one ≡ other
+ask_one words Day Day is too = refl
+ask_one words Day (Trial n) is too = absurd (omega (arith, ap length (sym is ∙ too.1)))
+ask_one words (Trial n) Day is too = absurd (omega (arith, ap length (sym is ∙ too.1)))
+ask_one words (Trial n) (Trial m) is too = ?
+
+-- what words ask for can be asked
+pub may_be : (words : List Word) (asked : AuditAsked) → TakesAudit words asked → MayBeAsked asked
+may_be words Day is = tt
+may_be words (Trial n) is =
+    let value = is.2.1 in
+    let least = is.2.0.least in
+    let most = is.2.0.most in
+    (omega (arith, value, least), omega (arith, value, most))
