@@ -14,9 +14,9 @@ use Rattle.meek_cli.specs.DayText.{terms_of, IsDayText}
 use Rattle.day_replay.specs.Nearest.{BeginsAs, IsNearest}
 use Rattle.day_replay.proofs.Lists.{got_ahead, got_behind}
 use Rattle.day_replay.proofs.Own.{none_by}
+use Rattle.day_audit.specs.declared.day_verdict.DayVerdict.{DayVerdict}
 use Rattle.day_audit.specs.declared.day_verdict.DayVerdict.TheVariants.{True, False}
-use Rattle.day_audit.specs.Judged.{IsTextOf, BeginAlike, IsFalseAt}
-use Rattle.day_audit.specs.Laws.{EachTextHasOneVerdict}
+use Rattle.day_audit.specs.Judged.{IsTextOf, BeginAlike, IsFalseAt, IsVerdict}
 use Rattle.day_audit.proofs.DayLines.{line_of_a_call}
 use Rattle.meek_cli.proofs.TermsLemmas.{AreTerms}
 use Rattle.day_audit.proofs.DayTexts.{one_text}
@@ -123,7 +123,9 @@ module _ (IsLawful : List ℕ → Type 0) (text : List ℕ) where
       by (inr le) (inl before) = absurd (earlier m n other one before)
       by (inr le) (inr ge) = omega (arith, le, ge)
 
-pub one_verdict : EachTextHasOneVerdict
+pub one_verdict :
+    (IsLawful : List ℕ → Type 0) (text : List ℕ) (one other : DayVerdict) → IsVerdict IsLawful text one
+    → IsVerdict IsLawful text other → one ≡ other
 one_verdict IsLawful text True True p q = refl
 one_verdict IsLawful text True (False n) p q = absurd (itself IsLawful text n p q)
 one_verdict IsLawful text (False n) True p q = absurd (itself IsLawful text n q p)

@@ -1,5 +1,6 @@
 // A text judged as the summary of a made day.
 ghost use Rattle.std.specs.Prelude.{◌≡◌, ◌≤◌, ◌++◌, ◌∷◌, [], List, IfOk, IfSome, IfNone, length};
+ghost use Rattle.day_reader.specs.Said.{AreScripts};
 ghost use Rattle.meek_trial.specs.declared.day.TheConstants.{MOST_TRIAL};
 ghost use Rattle.sheet_check.specs.Comparison.{IsCompared};
 ghost use Rattle.shard_office.specs.Versions.{VersionState};
@@ -63,6 +64,7 @@ fn summary_difference<R: Threads + Sync>(
     followed: Followed,
 ) -> Result<Option<u64>, NoMemory>
     requires terms { terms.now ≡ terms_of (made_day number) }
+    requires scripts { AreScripts (length terms.now.roll.names) (made_day number).scripts }
     requires history { IsHistoryOf (made_day number).scripts followed.history }
     requires frozen { AreFrozen (length terms.now.roll.names) followed.history followed.frozen.items }
     ensures { IfOk result (IsCompared (IsSummary number terms.now followed.history) text.now) }

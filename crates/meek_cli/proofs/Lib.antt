@@ -14,13 +14,13 @@ mod MadeCalls
 mod MadeDays
 mod StandingBatches
 mod StandingWalk
-mod HistoryCalls
+pub mod HistoryCalls
 mod OwnBatches
 mod AsMany
 mod Separate
 pub mod TermsLemmas
 mod MadeSummaries
-mod LastFreeze
+pub mod LastFreeze
 mod CountingOut
-mod TrialEnding
+pub mod TrialEnding
 mod SummaryLines
