@@ -1,4 +1,3 @@
-mod NumberLemmas
 mod OneLemmas
 mod PairLemmas
 mod WorkedLemmas

@@ -1,13 +1,13 @@
 // What the value of each option says.
-ghost use Rattle.std.specs.Prelude.{◌≡◌, ◌≤◌, ◌∷◌, [], ℕ, List, IfOk, IfSome, IfNone};
-ghost use Rattle.fixed_place.specs.declared.omega.TheConstants.{MOST_OMEGA};
+ghost use Rattle.std.specs.Prelude.{◌≡◌, ℕ, List, IfOk};
 ghost use Rattle.check_words.specs.Asks.{AreLots, IsRule, IsOmega, SaysOmega};
 ghost use Rattle.check_words.specs.Values.{words_in};
 ghost use Rattle.check_words.specs.declared.count_rule.CountRule.{CountRule};
 
 use crate::CountRule;
-use fixed_place::Omega;
+use fixed_place::{MOST_OMEGA, Omega};
 use meek_words::{LotWords, WordsStop, read_lots};
+use number_word::read_number;
 use std::alloc::Global;
 
 pub(crate) fn lots(alloc: Global, value: Option<&str>) -> Result<LotWords, WordsStop>
@@ -44,28 +44,16 @@ pub(crate) fn omega(alloc: Global, value: Option<&str>) -> Result<Omega, WordsSt
     }
 }
 
-/// The omega whose units a word writes, which is read as a list of just one number.
+/// The omega whose units a word writes.
 fn omega_of(alloc: Global, word: &str) -> Result<Omega, WordsStop>
     ensures accepted { IfOk result (SaysOmega word.now) }
     ensures refused { result ≡ Err WordsStop.BadWords → (units : ℕ) → ¬ (SaysOmega word.now units) }
 {
-    match read_lots(alloc, word.as_bytes()) {
-        Ok(numbers) => match only_omega(numbers.items()) {
+    match read_number(alloc, word, MOST_OMEGA) {
+        Ok(units) => match Omega::new(units) {
             Some(omega) => Ok(omega),
-            None => Err(WordsStop::BadWords),
+            None => unreachable!(),
         },
         Err(stop) => Err(stop),
-    }
-}
-
-/// The omega of the only number.
-fn only_omega(numbers: &[u32]) -> Option<Omega>
-    ensures only { IfSome result (λ units. numbers.now ≡ units ∷ []) }
-    ensures range { IfSome result (λ units. (1 ≤ units) × (units ≤ MOST_OMEGA)) }
-    ensures none { IfNone result ((n : ℕ) → numbers.now ≡ n ∷ [] → 1 ≤ n → n ≤ MOST_OMEGA → ⊥) }
-{
-    match numbers {
-        [units] => Omega::new(*units),
-        _ => None,
     }
 }

@@ -6,7 +6,7 @@ use Rattle.input_text.specs.declared.input_stop.InputStop.{InputStop}
 use Rattle.input_text.specs.declared.input_stop.InputStop.TheVariants.{Fault, NoMemory as NoInputRead}
 use Rattle.input_text.specs.Reads.{OnFault}
 use Rattle.input_text.specs.Scan.{scan}
-use Rattle.day_reader.specs.declared.day.Day.{Day}
+use Rattle.day_reader.specs.declared.day.Day.{Day as DayFile}
 use Rattle.day_reader.specs.Said.{IsDayRefusal, said_by, AcceptsDays, RefusesByTheRule}
 use Rattle.tool_edge.specs.declared.end.End.{End}
 use Rattle.tool_edge.specs.declared.end.End.TheVariants.{BadInput}
@@ -17,14 +17,18 @@ use Rattle.tool_edge.specs.Tool.{IsOwedFor, IsSound, no_history}
 use Rattle.meek_cli.specs.Owed.{SaysDay}
 use Rattle.sheet_check.specs.declared.audit_limit.TheConstants.{AUDIT_LIMIT}
 use Rattle.day_audit.specs.Input.{IsDaySplit}
-use Rattle.day_audit.specs.Audit.{IsAudit, EndsInText, IsRefusedAudit, IsOwedVerdict, audits_days}
+use Rattle.day_audit.specs.declared.audit_asked.AuditAsked.{AuditAsked}
+use Rattle.day_audit.specs.declared.audit_asked.AuditAsked.TheVariants.{Day, Trial}
+use Rattle.day_audit.specs.Audit.{Accepts, Refuses, Owes, IsAudit, EndsInText, IsRefusedAudit, IsOwedLine, audits_days}
+use Rattle.day_audit.specs.Judged.{IsDayVerdict, IsTrialVerdict}
 use Rattle.day_audit.proofs.Splits.{file_once}
+use Rattle.day_audit.proofs.WordLemmas.{ask_one}
 
 -- ---- soundness
 
 -- a file that says a day is not refused
 not_both :
-    AcceptsDays → RefusesByTheRule → (file : List ℕ) (day : Day) (fault : InputFault) → SaysDay file day
+    AcceptsDays → RefusesByTheRule → (file : List ℕ) (day : DayFile) (fault : InputFault) → SaysDay file day
     → IsDayRefusal (scan file true) fault → ⊥
 not_both days refusals file day fault says refused =
     let read : said_by (scan file true) ≡ Ok day = (days (scan file true) day).1 says in
@@ -57,13 +61,27 @@ refused_once refusals input fault other (inr (text, file, split, refused)) (inr 
     refused_alike refusals file fault other refused
     (subst (λ (f : List ℕ). IsDayRefusal (scan f true) other) (file_once input text file again twice split split_again) refused_again)
 
-pub sound : AcceptsDays → RefusesByTheRule → IsSound audits_days
-sound days refusals = record {
-  one = λ words asked other taken again. refl;
-  either = λ asked. not_refused days refusals;
-  once = λ asked. refused_once refusals;
-  owed = λ asked input history bytes owes. (owes.text, owes.file, owes.split, (owes.day, owes.says));
-}
+module _ (days : AcceptsDays) (refusals : RefusesByTheRule) where
+  either_of : (asked : AuditAsked) (input : List ℕ) (fault : InputFault) → Accepts asked input → Refuses asked input fault → ⊥
+  either_of Day input fault accepted refused = not_refused days refusals input fault accepted refused
+  either_of (Trial number) input fault accepted refused = refused
+
+  once_of : (asked : AuditAsked) (input : List ℕ) (fault other : InputFault) → Refuses asked input fault
+      → Refuses asked input other → fault ≡ other
+  once_of Day input fault other refused again = refused_once refusals input fault other refused again
+  once_of (Trial number) input fault other refused again = absurd refused
+
+  owed_of : (asked : AuditAsked) (input bytes : List ℕ) → Owes asked input bytes → Accepts asked input
+  owed_of Day input bytes owes = (owes.text, owes.file, owes.split, (owes.day, owes.says))
+  owed_of (Trial number) input bytes owes = tt
+
+  pub sound : IsSound audits_days
+  sound = record {
+    one = ask_one;
+    either = either_of;
+    once = once_of;
+    owed = λ asked input history bytes owes. owed_of asked input bytes owes;
+  }
 
 -- ---- the whole input
 
@@ -71,7 +89,7 @@ sound days refusals = record {
 pub ended_early :
     (input : List ℕ) (fault : InputFault) (end : End InputFault) (sink : Writing) → length input ≤ AUDIT_LIMIT
     → EndsInText input fault → Finishes (BadInput fault) (fault_line fault) end sink
-    → FinishesOwed (IsOwedFor audits_days (tt {0}) input no_history) end sink
+    → FinishesOwed (IsOwedFor audits_days Day input no_history) end sink
 ended_early input fault end sink short ends finishes =
     inr (BadInput fault, fault_line fault, (inr (short, inl ends), refl, refl), finishes)
 
@@ -79,22 +97,22 @@ ended_early input fault end sink short ends finishes =
 pub refused_behind :
     (input text file : List ℕ) (stop : InputStop) (end : End InputFault) (sink : Writing) → length input ≤ AUDIT_LIMIT
     → IsDaySplit input text file → OnFault stop (IsDayRefusal (scan file true)) → RefusesInput stop end sink
-    → FinishesOwed (IsOwedFor audits_days (tt {0}) input no_history) end sink
+    → FinishesOwed (IsOwedFor audits_days Day input no_history) end sink
 refused_behind input text file (Fault fault) end sink short split why finishes =
     inr (BadInput fault, fault_line fault, (inr (short, inr (text, file, split, why)), refl, refl), finishes)
 refused_behind input text file NoInputRead end sink short split why nothing = inl nothing
 
 -- The verdict on the text is what is owed for the input.
 pub judged :
-    (input text file : List ℕ) (day : Day) (end : End InputFault) (sink : Writing) → length input ≤ AUDIT_LIMIT
-    → IsDaySplit input text file → SaysDay file day → FinishesOwed (IsOwedVerdict day text) end sink
-    → FinishesOwed (IsOwedFor audits_days (tt {0}) input no_history) end sink
+    (input text file : List ℕ) (day : DayFile) (end : End InputFault) (sink : Writing) → length input ≤ AUDIT_LIMIT
+    → IsDaySplit input text file → SaysDay file day → FinishesOwed (IsOwedLine Day (IsDayVerdict day text)) end sink
+    → FinishesOwed (IsOwedFor audits_days Day input no_history) end sink
 judged input text file day end sink short split says (inl nothing) = inl nothing
 judged input text file day end sink short split says (inr (due, bytes, (done, (verdict, right, line)), finishes)) =
     inr (
       due,
       bytes,
-      subst (λ (d : End InputFault). IsOwedFor audits_days (tt {0}) input no_history d bytes) (sym done) (
+      subst (λ (d : End InputFault). IsOwedFor audits_days Day input no_history d bytes) (sym done) (
         short,
         record {
           text = text;
@@ -107,5 +125,20 @@ judged input text file day end sink short split says (inr (due, bytes, (done, (v
           line = line;
         },
       ),
+      finishes,
+    )
+
+-- And that on an input that is held to be a summary.
+pub judged_trial :
+    (number : ℕ) (input : List ℕ) (end : End InputFault) (sink : Writing) → length input ≤ AUDIT_LIMIT
+    → FinishesOwed (IsOwedLine (Trial number) (IsTrialVerdict number input)) end sink
+    → FinishesOwed (IsOwedFor audits_days (Trial number) input no_history) end sink
+judged_trial number input end sink short (inl nothing) = inl nothing
+judged_trial number input end sink short (inr (due, bytes, (done, (verdict, right, line)), finishes)) =
+    inr (
+      due,
+      bytes,
+      subst (λ (d : End InputFault). IsOwedFor audits_days (Trial number) input no_history d bytes) (sym done)
+          (short, (verdict, right, line)),
       finishes,
     )

@@ -17,27 +17,8 @@ use Rattle.batch_core.specs.declared.entry.Entry.{Entry}
 use Rattle.batch_core.specs.Histories.{standing_after, struck_after}
 use Rattle.team_run.specs.EntryText.{entries_text}
 use Rattle.meek_cli.specs.declared.terms.Terms.{Terms}
+use Rattle.meek_cli.proofs.TermsLemmas.{AreTerms, still_a_roll}
 use Rattle.meek_cli.specs.DayText.{roll_with, freeze_places, sheet_line, AreSheets, IsDayText}
-
--- what a day file's roll, lots and omega are
-pub record AreTerms (terms : Terms) : Type 0 where
-  pub some_omega : 1 ≤ terms.omega
-  pub small_omega : terms.omega ≤ MOST_OMEGA
-  pub roll : IsRoll terms.roll
-  pub order : IsOrder terms.lots
-  pub lots_of_all : length terms.lots ≡ length terms.roll.names
-
-still_a_roll : (roll : RollList) (struck : List ℕ) → IsRoll roll → IsRoll (roll_with roll struck)
-still_a_roll roll struck is = record {
-  some_seat = is.some_seat;
-  few_seats = is.few_seats;
-  some_candidate = is.some_candidate;
-  few_candidates = is.few_candidates;
-  same_length = length-marks roll.withdrawn struck ∙ is.same_length;
-}
-  where
-    length-marks : (withdrawn : List Bool) (struck : List ℕ) → length (marks_with withdrawn struck) ≡ length withdrawn
-    length-marks withdrawn struck = length-map-range_with_len _ 0 (length withdrawn)
 
 one_sheet :
     (places omega : ℕ) (ballots : List (List ℕ)) (roll : RollList) (lots a b : List ℕ) → 1 ≤ omega → omega ≤ MOST_OMEGA

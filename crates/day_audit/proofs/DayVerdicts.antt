@@ -14,11 +14,12 @@ use Rattle.meek_cli.specs.DayText.{terms_of, IsDayText}
 use Rattle.day_replay.specs.Nearest.{BeginsAs, IsNearest}
 use Rattle.day_replay.proofs.Lists.{got_ahead, got_behind}
 use Rattle.day_replay.proofs.Own.{none_by}
+use Rattle.day_audit.specs.declared.day_verdict.DayVerdict.{DayVerdict}
 use Rattle.day_audit.specs.declared.day_verdict.DayVerdict.TheVariants.{True, False}
-use Rattle.day_audit.specs.Judged.{IsTextOf, BeginAlike, IsFalseAt}
-use Rattle.day_audit.specs.Laws.{EachTextHasOneVerdict}
+use Rattle.day_audit.specs.Judged.{IsTextOf, BeginAlike, IsFalseAt, IsVerdict}
 use Rattle.day_audit.proofs.DayLines.{line_of_a_call}
-use Rattle.day_audit.proofs.DayTexts.{AreTerms, one_text}
+use Rattle.meek_cli.proofs.TermsLemmas.{AreTerms}
+use Rattle.day_audit.proofs.DayTexts.{one_text}
 
 -- an item of a front stands there in the list
 in_front : (xs : List Entry) (n k : ℕ) → k < n → slice_get (take n xs) k ≡ slice_get xs k
@@ -94,7 +95,7 @@ module _ (day : Day) (are : AreTerms (terms_of day)) where
             sym (in_front history n k below) ∙ (ap (λ (l : List Entry). slice_get l k) (sym fronts) ∙ (in_front its n k below ∙ at)) in
             alike k below ∙ (call_line its other k e whose at ∙ sym (call_line history nearest k e of there))
 
-    pub false_at : (n : ℕ) → IsFirstDifference text nearest n → IsFalseAt day text n
+    pub false_at : (n : ℕ) → IsFirstDifference text nearest n → IsFalseAt (IsTextOf day) text n
     false_at n differs = record {
       nearest = nearest;
       lawful = (history, is, of);
@@ -105,16 +106,16 @@ module _ (day : Day) (are : AreTerms (terms_of day)) where
     }
 
 -- two verdicts on one text
-module _ (day : Day) (text : List ℕ) where
-  itself : (n : ℕ) → IsTextOf day text → IsFalseAt day text n → ⊥
+module _ (IsLawful : List ℕ → Type 0) (text : List ℕ) where
+  itself : (n : ℕ) → IsLawful text → IsFalseAt IsLawful text n → ⊥
   itself n is wrong = wrong.no_longer text is (λ k below. refl)
 
-  earlier : (n m : ℕ) → IsFalseAt day text n → IsFalseAt day text m → n < m → ⊥
+  earlier : (n m : ℕ) → IsFalseAt IsLawful text n → IsFalseAt IsLawful text m → n < m → ⊥
   earlier n m one other before =
       one.no_longer other.nearest other.lawful (λ k below. other.differs.same_before k
       (let number = other.differs.number in omega (arith, number, below, before)))
 
-  one_line : (n m : ℕ) → IsFalseAt day text n → IsFalseAt day text m → n ≡ m
+  one_line : (n m : ℕ) → IsFalseAt IsLawful text n → IsFalseAt IsLawful text m → n ≡ m
   one_line n m one other = by (cases_lt n m) (cases_lt m n)
     where
       by : (n < m) ⊎ (m ≤ n) → (m < n) ⊎ (n ≤ m) → n ≡ m
@@ -122,8 +123,10 @@ module _ (day : Day) (text : List ℕ) where
       by (inr le) (inl before) = absurd (earlier m n other one before)
       by (inr le) (inr ge) = omega (arith, le, ge)
 
-pub one_verdict : EachTextHasOneVerdict
-one_verdict day text True True p q = refl
-one_verdict day text True (False n) p q = absurd (itself day text n p q)
-one_verdict day text (False n) True p q = absurd (itself day text n q p)
-one_verdict day text (False n) (False m) p q = ap (λ (k : ℕ). False k) (one_line day text n m p q)
+pub one_verdict :
+    (IsLawful : List ℕ → Type 0) (text : List ℕ) (one other : DayVerdict) → IsVerdict IsLawful text one
+    → IsVerdict IsLawful text other → one ≡ other
+one_verdict IsLawful text True True p q = refl
+one_verdict IsLawful text True (False n) p q = absurd (itself IsLawful text n p q)
+one_verdict IsLawful text (False n) True p q = absurd (itself IsLawful text n q p)
+one_verdict IsLawful text (False n) (False m) p q = ap (λ (k : ℕ). False k) (one_line IsLawful text n m p q)

@@ -1,5 +1,7 @@
 mod DayLines
 mod DayTexts
 mod DayVerdicts
+mod TrialVerdicts
+mod WordLemmas
 mod Splits
 mod Audits

@@ -8,13 +8,15 @@ use Rattle.day_reader.specs.Said.{IsDayRefusal}
 use Rattle.tool_edge.specs.Refusals.{file_refusals}
 use Rattle.tool_edge.specs.declared.end.End.{End}
 use Rattle.tool_edge.specs.declared.end.End.TheVariants.{Done}
-use Rattle.tool_edge.specs.Words.{TakesNothing}
 use Rattle.tool_edge.specs.Tool.{Tool, no_history}
 use Rattle.meek_cli.specs.Owed.{SaysDay}
 use Rattle.sheet_check.specs.declared.audit_limit.TheConstants.{AUDIT_LIMIT}
+use Rattle.day_audit.specs.declared.audit_asked.AuditAsked.{AuditAsked}
+use Rattle.day_audit.specs.declared.audit_asked.AuditAsked.TheVariants as of
 use Rattle.day_audit.specs.declared.day_verdict.DayVerdict.{DayVerdict}
 use Rattle.day_audit.specs.declared.day_verdict.DayVerdict.TheVariants.{True, False}
-use Rattle.day_audit.specs.Judged.{IsDayVerdict}
+use Rattle.day_audit.specs.Judged.{IsDayVerdict, IsTrialVerdict}
+use Rattle.day_audit.specs.Words.{TakesAudit}
 use Rattle.day_audit.specs.Input.{HasNoLastEnd, IsDaySplit}
 
 -- The input is a text and a day file.
@@ -32,10 +34,14 @@ IsRefusedAudit input fault =
     EndsInText input fault
     ⊎ ((text : List ℕ) × (file : List ℕ) × IsDaySplit input text file × IsDayRefusal (scan file true) fault)
 
--- the line of a verdict
-abbrev pub verdict_line : DayVerdict → List ℕ
-verdict_line True = codes "day true" ++ 10 ∷ []
-verdict_line (False n) = codes "day false at line " ++ decimal n ++ 10 ∷ []
+-- the line of a verdict on what was audited
+abbrev pub subject : AuditAsked → List ℕ
+subject of.Day = codes "day"
+subject (of.Trial number) = codes "trial"
+
+abbrev pub verdict_line : AuditAsked → DayVerdict → List ℕ
+verdict_line asked True = subject asked ++ (codes " true" ++ 10 ∷ [])
+verdict_line asked (False n) = subject asked ++ (codes " false at line " ++ (decimal n ++ 10 ∷ []))
 
 -- the line of the verdict on the input's text by the day of the input's file
 pub record OwesAudit (input bytes : List ℕ) : Type 0 where
@@ -46,21 +52,37 @@ pub record OwesAudit (input bytes : List ℕ) : Type 0 where
   pub says : SaysDay file day
   pub verdict : DayVerdict
   pub right : IsDayVerdict day text verdict
-  pub line : bytes ≡ verdict_line verdict
+  pub line : bytes ≡ verdict_line of.Day verdict
 
--- The tool, which takes no words.
-abbrev pub audits_days : Tool (Unit {0}) (Unit {0}) InputFault
+-- the line of a verdict, with the end of a run that is done
+abbrev pub IsOwedLine : AuditAsked → (DayVerdict → Type 0) → End InputFault → (bytes : List ℕ) → Type 0
+IsOwedLine asked IsRight due bytes =
+    (due ≡ Done) × ((verdict : DayVerdict) × IsRight verdict × (bytes ≡ verdict_line asked verdict))
+
+-- ---- by what is asked
+
+-- a text and a day file; or any text, which is then held to be a summary
+abbrev pub Accepts : AuditAsked → (input : List ℕ) → Type 0
+Accepts of.Day input = IsAudit input
+Accepts (of.Trial number) input = Unit {0}
+
+abbrev pub Refuses : AuditAsked → (input : List ℕ) → InputFault → Type 0
+Refuses of.Day input fault = IsRefusedAudit input fault
+Refuses (of.Trial number) input fault = ⊥
+
+abbrev pub Owes : AuditAsked → (input bytes : List ℕ) → Type 0
+Owes of.Day input bytes = OwesAudit input bytes
+Owes (of.Trial number) input bytes =
+    (verdict : DayVerdict) × IsTrialVerdict number input verdict × (bytes ≡ verdict_line (of.Trial number) verdict)
+
+-- The tool.
+abbrev pub audits_days : Tool AuditAsked (Unit {0}) InputFault
 audits_days = record {
-  Takes = TakesNothing;
+  Takes = TakesAudit;
   limit = λ asked. Some AUDIT_LIMIT;
-  Accepts = λ asked input. IsAudit input;
-  Refuses = λ asked input fault. IsRefusedAudit input fault;
+  Accepts = Accepts;
+  Refuses = Refuses;
   refusals = file_refusals;
-  Owes = λ asked input history bytes. OwesAudit input bytes;
+  Owes = λ asked input history. Owes asked input;
   no_calls = no_history;
 }
-
--- the line of the verdict on a text by a day, with the end of a run that is done
-abbrev pub IsOwedVerdict : Day → (text : List ℕ) → End InputFault → (bytes : List ℕ) → Type 0
-IsOwedVerdict day text due bytes =
-    (due ≡ Done) × ((verdict : DayVerdict) × IsDayVerdict day text verdict × (bytes ≡ verdict_line verdict))

@@ -15,8 +15,21 @@ use sheet_text::sheets_are_unique;
 use std::alloc::Global;
 use std::thread::Threads;
 
+/// Those who count for an audit: one worker, with one plan of all ballots.
+pub(crate) fn crew_of<R>(rt: &R, alloc: Global) -> Crew<'_, R, FreeGate>
+    ensures { result.workers ≡ 1 }
+{
+    Crew {
+        rt,
+        alloc,
+        gate: &FreeGate,
+        shards: 1,
+        workers: 1,
+    }
+}
+
 /// The first line in which a text differs from the text of this history, counted at so many places, none
-/// where it is that text. One worker counts, and what it writes is kept nowhere; the count ends where the first
+/// where it is that text. What is counted is kept nowhere; the count ends where the first
 /// difference is found.
 pub(crate) fn first_difference<const P: usize, R: Threads + Sync>(
     rt: &R,
@@ -37,13 +50,7 @@ pub(crate) fn first_difference<const P: usize, R: Threads + Sync>(
     let rolls = rolls_of(alloc, &terms.roll, frozen.as_slice())?;
     let places = places_of(alloc, frozen.as_slice())?;
     let plans = plans_of(alloc, frozen, terms.roll.candidates())?;
-    let crew = Crew {
-        rt,
-        alloc,
-        gate: &FreeGate,
-        shards: 1,
-        workers: 1,
-    };
+    let crew = crew_of(rt, alloc);
     let polls = Polls {
         rolls: rolls.as_slice(),
         lots: &terms.lots,

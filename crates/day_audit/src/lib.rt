@@ -1,10 +1,12 @@
 //! Whether a text is that of a day: its calls are made again, along its own lines, and what such a day
 //! writes is compared with the text as it comes.
 //!
-//! [`judge`] gives the verdict on a text and the day of a file; [`day_verdicts_are_unique`] says that each
-//! text has one. [`audit`] is the whole tool, over an input that is a text and behind it a day file.
+//! [`judge`] gives the verdict on a text and the day of a file, and [`judge_trial`] that on a text that is held to be
+//! the summary of a made day; [`verdicts_are_unique`] says that each text has one. [`audit`] is the whole tool, over
+//! an input that is a text and behind it a day file, or a summary.
 #![tactic(auto)]
 
+mod audit_asked;
 mod comparing;
 mod day_verdict;
 mod frozen_sheets;
@@ -13,10 +15,14 @@ mod laws;
 mod no_memory;
 mod split;
 mod tool;
+mod trial_judging;
 mod verdict_line;
+mod words;
 
+pub use audit_asked::AuditAsked;
 pub use day_verdict::DayVerdict;
 pub use judging::judge;
-pub use laws::day_verdicts_are_unique;
+pub use laws::verdicts_are_unique;
 pub use no_memory::NoMemory;
 pub use tool::audit;
+pub use trial_judging::judge_trial;

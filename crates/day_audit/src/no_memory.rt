@@ -33,3 +33,9 @@ impl From<lane_sheet::NoMemory> for NoMemory {
         NoMemory
     }
 }
+
+impl From<meek_cli::NoMemory> for NoMemory {
+    fn from(_: meek_cli::NoMemory) -> NoMemory {
+        NoMemory
+    }
+}

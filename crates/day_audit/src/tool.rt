@@ -6,20 +6,25 @@ ghost use Rattle.tool_edge.specs.Finishing.{FinishesOwed};
 ghost use Rattle.tool_edge.specs.Streams.{reading, writing};
 ghost use Rattle.tool_edge.specs.Tool.{IsOwedFor, IsRun, no_history};
 ghost use Rattle.sheet_check.specs.declared.audit_limit.TheConstants.{AUDIT_LIMIT};
-ghost use Rattle.day_audit.specs.Audit.{audits_days, IsOwedVerdict};
+ghost use Rattle.meek_trial.specs.declared.day.TheConstants.{MOST_TRIAL};
+ghost use Rattle.day_audit.specs.Audit.{audits_days, IsOwedLine};
+ghost use Rattle.day_audit.specs.Judged.{IsDayVerdict};
+ghost use Rattle.day_audit.specs.Words.{MayBeAsked};
 
 use crate::split::split;
 use crate::verdict_line::verdict_line;
-use crate::judge;
+use crate::words::takes_audit;
+use crate::{AuditAsked, judge, judge_trial};
 use blt_reader::{FaultKind, InputFault};
 use byte_edge::{Sink, Source};
 use day_reader::{Day, accepts_days, read_day, refuses_by_the_rule};
 use sheet_check::AUDIT_LIMIT;
 use std::alloc::Global;
 use std::thread::Threads;
-use tool_edge::{End, Opened, finish, open, refuse, refuse_input, takes_nothing};
+use tool_edge::{End, Opened, finish, open, refuse, refuse_input};
 
-/// Audits the text of a day at the front of the input by the day file behind it, and writes the verdict.
+/// Audits the text of a day at the front of the input by the day file behind it, or an input that is the summary of a
+/// made day, and writes the verdict.
 pub fn audit<R: Threads + Sync, S: Source, K: Sink>(
     rt: &R,
     alloc: Global,
@@ -32,26 +37,45 @@ pub fn audit<R: Threads + Sync, S: Source, K: Sink>(
 {
     accepts_days();
     refuses_by_the_rule();
-    let asked = takes_nothing(words);
-    let Opened { input, .. } = match open(alloc, asked, AUDIT_LIMIT, source, sink) {
+    let asked = takes_audit(alloc, words);
+    let Opened { asked, input } = match open(alloc, asked, AUDIT_LIMIT, source, sink) {
         Ok(opened) => opened,
         Err(end) => return end,
     };
-    audit_input(rt, alloc, input.as_slice(), sink)
+    audit_input(rt, alloc, asked, input.as_slice(), sink)
 }
 
 /// Audits the whole input.
+fn audit_input<R: Threads + Sync, K: Sink>(
+    rt: &R,
+    alloc: Global,
+    asked: AuditAsked,
+    input: &[u8],
+    sink: &mut K,
+) -> End
+    requires asked { MayBeAsked asked }
+    requires short { length input.now ≤ AUDIT_LIMIT }
+    ensures { FinishesOwed (IsOwedFor audits_days asked input.now no_history) result
+        (writing K.written K.faults sink.old sink.new) }
+{
+    match asked {
+        AuditAsked::Day => audit_day(rt, alloc, input, sink),
+        AuditAsked::Trial(number) => audit_trial(rt, alloc, input, number, sink),
+    }
+}
+
+/// Audits the text of a day, with its file behind it.
 #[tactic(auto, using(crate::proofs::Audits::ended_early, crate::proofs::Audits::refused_behind, crate::proofs::Audits::judged))]
-fn audit_input<R: Threads + Sync, K: Sink>(rt: &R, alloc: Global, input: &[u8], sink: &mut K) -> End
+fn audit_day<R: Threads + Sync, K: Sink>(rt: &R, alloc: Global, input: &[u8], sink: &mut K) -> End
     requires { length input.now ≤ AUDIT_LIMIT }
-    ensures { FinishesOwed (IsOwedFor audits_days (tt {0}) input.now no_history) result
+    ensures { FinishesOwed (IsOwedFor audits_days AuditAsked.Day input.now no_history) result
         (writing K.written K.faults sink.old sink.new) }
 {
     let Some((text, file)) = split(input) else {
         return refuse(sink, ended(input.len()));
     };
     match read_day(alloc, file) {
-        Ok(day) => write_verdict(rt, alloc, text, day, sink),
+        Ok(day) => judge_day(rt, alloc, text, day, sink),
         Err(stop) => refuse_input(sink, stop),
     }
 }
@@ -67,7 +91,7 @@ fn ended(len: usize) -> InputFault
 }
 
 /// Judges a text that is held to be the text of a day, and writes the verdict.
-fn write_verdict<R: Threads + Sync, K: Sink>(
+fn judge_day<R: Threads + Sync, K: Sink>(
     rt: &R,
     alloc: Global,
     text: &[u8],
@@ -77,10 +101,39 @@ fn write_verdict<R: Threads + Sync, K: Sink>(
     requires scripts { AreScripts (length day.roll.names) day.scripts }
     requires lots { length day.lots ≡ length day.roll.names }
     requires places { (6 ≤ day.places) × (day.places ≤ 9) }
-    ensures { FinishesOwed (IsOwedVerdict day text.now) result (writing K.written K.faults sink.old sink.new) }
+    ensures { FinishesOwed (IsOwedLine AuditAsked.Day (IsDayVerdict day text.now)) result
+        (writing K.written K.faults sink.old sink.new) }
 {
     match judge(rt, alloc, text, day) {
-        Ok(verdict) => finish(sink, End::Done, verdict_line(verdict).bytes()),
+        Ok(verdict) => finish(
+            sink,
+            End::Done,
+            verdict_line(AuditAsked::Day, verdict).bytes(),
+        ),
+        Err(_) => End::NoMemory,
+    }
+}
+
+/// Judges an input that is held to be the summary of a made day, and writes the verdict.
+#[tactic(auto, using(crate::proofs::Audits::judged_trial))]
+fn audit_trial<R: Threads + Sync, K: Sink>(
+    rt: &R,
+    alloc: Global,
+    input: &[u8],
+    number: u32,
+    sink: &mut K,
+) -> End
+    requires number { (1 ≤ number) × (number ≤ MOST_TRIAL) }
+    requires short { length input.now ≤ AUDIT_LIMIT }
+    ensures { FinishesOwed (IsOwedFor audits_days (AuditAsked.Trial number) input.now no_history) result
+        (writing K.written K.faults sink.old sink.new) }
+{
+    match judge_trial(rt, alloc, input, number) {
+        Ok(verdict) => finish(
+            sink,
+            End::Done,
+            verdict_line(AuditAsked::Trial(number), verdict).bytes(),
+        ),
         Err(_) => End::NoMemory,
     }
 }

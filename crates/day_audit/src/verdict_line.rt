@@ -1,28 +1,41 @@
 // The line of a verdict.
-ghost use Rattle.std.specs.Prelude.{◌≡◌, []};
-ghost use Rattle.day_audit.specs.Audit.{verdict_line};
+ghost use Rattle.std.specs.Prelude.{◌≡◌, ◌≤◌, ◌++◌, ◌∷◌, [], codes, decimal, length};
+ghost use Rattle.day_audit.specs.Audit.{subject, verdict_line};
 
-use crate::DayVerdict;
+use crate::{AuditAsked, DayVerdict};
 use line_text::Line;
 
-/// Puts the line of a verdict together.
-pub(crate) fn verdict_line(verdict: DayVerdict) -> Line
-    ensures { result ≡ verdict_line verdict }
+/// Puts the line of a verdict on what was audited together.
+pub(crate) fn verdict_line(asked: AuditAsked, verdict: DayVerdict) -> Line
+    ensures { result ≡ verdict_line asked verdict }
 {
-    let mut line = Line::new();
+    let mut line = begun(asked);
     match verdict {
-        DayVerdict::True => line.push_bytes(b"day true\n"),
+        DayVerdict::True => line.push_bytes(b" true\n"),
         DayVerdict::False(n) => push_false(&mut line, n),
     }
     line
 }
 
-/// Writes into an empty line that a text is false at the line of this number.
-fn push_false(line: &mut Line, n: u64)
-    requires { line.old ≡ [] }
-    ensures { line.new ≡ verdict_line (DayVerdict.False n) }
+/// A line that begins with what was audited.
+fn begun(asked: AuditAsked) -> Line
+    ensures begins { result ≡ subject asked }
+    ensures short { length result ≤ 5 }
 {
-    line.push_bytes(b"day false at line ");
+    let mut line = Line::new();
+    match asked {
+        AuditAsked::Day => line.push_bytes(b"day"),
+        AuditAsked::Trial(_) => line.push_bytes(b"trial"),
+    }
+    line
+}
+
+/// Writes on that a text is false at the line of this number.
+fn push_false(line: &mut Line, n: u64)
+    requires { length line.old ≤ 5 }
+    ensures { line.new ≡ line.old ++ (codes " false at line " ++ (decimal n ++ 10 ∷ [])) }
+{
+    line.push_bytes(b" false at line ");
     line.push_count(n);
     line.push_bytes(b"\n");
 }

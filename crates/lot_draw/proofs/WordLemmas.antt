@@ -4,7 +4,6 @@ use Rattle.std.specs.Prelude.{codes, Result, Ok, Err, IfOk}
 use Rattle.std.specs.Borrow.{Bor}
 use Rattle.meek_words.specs.Numerals.{Word, IsNumeralUpTo, IsLotList, number_of}
 use Rattle.lot_draw.specs.Words.{Asked, AreOptions, Says, TakesDraw}
-use Rattle.lot_draw.proofs.OneNumber.{list-of_one, one-of_list}
 
 -- a list of four elements
 pub four_items :
@@ -64,30 +63,6 @@ neither first value second other not_one not_other asked takes =
       | inl same ↦ not_one (ap (λ (ws : List Word). get_or ws 0 []) same, ap (λ (ws : List Word). get_or ws 2 []) same)
       | inr same ↦ not_other (ap (λ (ws : List Word). get_or ws 0 []) same, ap (λ (ws : List Word). get_or ws 2 []) same)
     ]
-
--- what one number of a list says
-pub numeral_taken :
-    (bytes word : Word) (lots items : List ℕ) (n : ℕ) → bytes ≡ word → IsLotList bytes lots → items ≡ lots
-    → length items ≡ 1 → get_or items 0 0 ≡ n → 1 ≤ n → n ≤ 250
-    → IsNumeralUpTo 250 word × (n ≡ number_of word)
-numeral_taken bytes word lots items n same list are one is some few =
-    let read = one-of_list word lots (subst (λ (w : Word). IsLotList w lots) same list) (sym (ap length are) ∙ one) in
-    let value : n ≡ number_of word = sym is ∙ ap (λ (l : List ℕ). get_or l 0 0) are ∙ read.1 in
-    (record { numeral = read.0; least = omega (arith, value, some); most = omega (arith, value, few) }, value)
-
--- a numeral is not refused as a list
-pub numeral_listed : (bytes word : Word) → bytes ≡ word → IsNumeralUpTo 250 word → IsLotList bytes (number_of word ∷ [])
-numeral_listed bytes word same numeral =
-    subst (λ (w : Word). IsLotList w (number_of word ∷ [])) (sym same) (list-of_one word numeral.numeral)
-
--- nor as its only number
-pub numeral_only :
-    (word : Word) (lots items : List ℕ) → lots ≡ number_of word ∷ [] → items ≡ lots → IsNumeralUpTo 250 word
-    → (length items ≡ 1 → 1 ≤ get_or items 0 0 → get_or items 0 0 ≤ 250 → ⊥) → ⊥
-numeral_only word lots items one are numeral none =
-    let is : items ≡ number_of word ∷ [] = are ∙ one in
-    let value : get_or items 0 0 ≡ number_of word = ap (λ (l : List ℕ). get_or l 0 0) is in
-    none (ap length is) (omega (arith, value, numeral.least)) (omega (arith, value, numeral.most))
 
 pub four_alike :
     (a b c d a' b' c' d' : Word) → a ≡ a' → b ≡ b' → c ≡ c' → d ≡ d'

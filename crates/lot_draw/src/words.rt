@@ -1,11 +1,10 @@
 // The words that ask for a draw.
-ghost use Rattle.std.specs.Prelude.{◌≡◌, ◌↔◌, ◌≤◌, ℕ, List, IsTrue, IfOk, IfNone, IfSome, length, map, slice_index};
+ghost use Rattle.std.specs.Prelude.{◌≡◌, ◌↔◌, ℕ, IsTrue, IfOk, map};
 ghost use Rattle.std.specs.String.{string_bytes};
-ghost use Rattle.plain_ballots.specs.declared.limits.TheConstants.{MOST_CANDIDATES};
-ghost use Rattle.meek_words.specs.Numerals.{IsNumeralUpTo, Word, number_of};
 ghost use Rattle.lot_draw.specs.Words.{Asked, IsSeed, Says, TakesDraw};
 
-use meek_words::{WordsStop, read_lots};
+use meek_words::WordsStop;
+use number_word::read_number;
 use plain_ballots::MOST_CANDIDATES;
 use std::alloc::Global;
 
@@ -47,7 +46,7 @@ fn asked<'a>(alloc: Global, seed: &'a str, number: &str) -> Result<(&'a str, u32
     if !is_seed(seed) {
         return Err(WordsStop::BadWords);
     }
-    match candidates_of(alloc, number) {
+    match read_number(alloc, number, MOST_CANDIDATES) {
         Ok(candidates) => Ok((seed, candidates)),
         Err(stop) => Err(stop),
     }
@@ -57,38 +56,4 @@ fn is_seed(word: &str) -> bool
     ensures { IsTrue result ↔ IsSeed word.now }
 {
     !word.is_empty() && word.len() <= LONGEST_SEED
-}
-
-/// The number of candidates that a word writes, which is read as a list of just one.
-fn candidates_of(alloc: Global, word: &str) -> Result<u32, WordsStop>
-    ensures taken { IfOk result (λ n. IsNumeralUpTo MOST_CANDIDATES word.now × (n ≡ number_of word.now)) }
-    ensures refused { result ≡ Err WordsStop.BadWords → ¬ (IsNumeralUpTo MOST_CANDIDATES word.now) }
-{
-    match read_lots(alloc, word.as_bytes()) {
-        Ok(numbers) => match only_one(numbers.items()) {
-            Some(number) => Ok(number),
-            None => Err(WordsStop::BadWords),
-        },
-        Err(stop) => Err(stop),
-    }
-}
-
-/// The only number, if there is just one and it may be a number of candidates.
-fn only_one(numbers: &[u32]) -> Option<u32>
-    ensures only { IfSome result (λ n. (length numbers.now ≡ 1) × (slice_index numbers.now 0 ≡ n)) }
-    ensures range { IfSome result (λ n. (1 ≤ n) × (n ≤ MOST_CANDIDATES)) }
-    ensures none { IfNone result (length numbers.now ≡ 1
-        → 1 ≤ slice_index numbers.now 0 → slice_index numbers.now 0 ≤ MOST_CANDIDATES → ⊥) }
-{
-    if numbers.len() != 1 {
-        return None;
-    }
-    let number = numbers[0];
-    if number == 0 {
-        return None;
-    }
-    if number > MOST_CANDIDATES {
-        return None;
-    }
-    Some(number)
 }

@@ -14,8 +14,13 @@ mod MadeCalls
 mod MadeDays
 mod StandingBatches
 mod StandingWalk
-mod HistoryCalls
-mod LastFreeze
+pub mod HistoryCalls
+mod OwnBatches
+mod AsMany
+mod Separate
+pub mod TermsLemmas
+mod MadeSummaries
+pub mod LastFreeze
 mod CountingOut
-mod TrialEnding
-mod SummaryText
+pub mod TrialEnding
+mod SummaryLines

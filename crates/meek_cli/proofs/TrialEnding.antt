@@ -30,7 +30,7 @@ use Rattle.meek_cli.specs.CountedOut.{IsCountedOut}
 use Rattle.meek_cli.specs.DayText.{roll_with, terms_of}
 use Rattle.meek_cli.specs.MadeDay.{made_day}
 use Rattle.tool_edge.specs.Streams.{Writing}
-use Rattle.meek_cli.specs.Summary.{standing_batches, summary_of, summary_lines, IsSummary, IsSummaryDue, IsOnlySummary}
+use Rattle.meek_cli.specs.Summary.{standing_batches, summary_of, summary_lines, IsSummary, IsSummaryDue, IsOnlySummary, AreLastStanding}
 use Rattle.meek_cli.specs.Run.{PlaysTrial, WritesOwed}
 use Rattle.meek_cli.specs.DayHistory.{IsHistoryOf}
 use Rattle.meek_cli.proofs.LastFreeze.{IsClerks}
@@ -94,34 +94,45 @@ in_order number places omega history one other roll lots text leaves same (rows,
 only_one : (one other : CountDue) → one ∷ [] ≡ other ∷ [] → other ≡ one
 only_one one other same = cc
 
--- the summary of the clerk's version is that of what stands after all calls
+-- the summary of what stands after all calls
 pub sums_up :
-    (number n : ℕ) (terms : Terms) (history : List Entry) (version : VersionState) (roll : RollList)
-    (text : List ℕ) → terms.places ≡ 9 → OrderOfBallotsChangesNothing → IsClerks n history version
-    → roll ≡ roll_with terms.roll version.struck
-    → IsOnlySummary number 9 history (due_of terms.omega terms.lots roll (all_ballots version.plans) ∷ []) text
+    (number : ℕ) (terms : Terms) (history : List Entry) (roll : RollList) (plans : List PlanRows) (text : List ℕ)
+    → terms.places ≡ 9 → OrderOfBallotsChangesNothing → AreLastStanding terms history roll plans
+    → IsOnlySummary number 9 history (due_of terms.omega terms.lots roll (all_ballots plans) ∷ []) text
     → IsSummary number terms history text
-sums_up number n terms history version roll text nine leaves clerks of_roll (due, only, is) =
+sums_up number terms history roll plans text nine leaves stand (due, only, is) =
     let of : CountDue → Type 0 = λ d. IsSummaryDue number 9 history d text in
-    let given = due_of terms.omega terms.lots roll (all_ballots version.plans) in
-    let of_given = subst of (only_one given due only) is in
-    let of_version =
-    subst (λ (r : RollList). of (due_of terms.omega terms.lots r (all_ballots version.plans)))
-    (of_roll ∙ ap (roll_with terms.roll) clerks.stands.struck) of_given in
-    let stands =
-    in_order number 9 terms.omega history (all_ballots version.plans) (plain (standing_after history version.at))
-    (roll_with terms.roll (struck_after history version.at)) terms.lots text leaves
-    clerks.stands.ballots of_version in
-    subst (λ (p : ℕ). IsSummaryDue number p history
-    (due_of terms.omega terms.lots (roll_with terms.roll (struck_after history (length history)))
-    (plain (standing_after history (length history)))) text) (sym nine)
-    (subst (λ (k : ℕ). of
-    (due_of terms.omega terms.lots (roll_with terms.roll (struck_after history k))
-    (plain (standing_after history k)))) clerks.at stands)
+    let given = due_of terms.omega terms.lots roll (all_ballots plans) in
+    let of_roll =
+    subst (λ (r : RollList). of (due_of terms.omega terms.lots r (all_ballots plans))) stand.roll_is
+    (subst of (only_one given due only) is) in
+    let standing = plain (standing_after history (length history)) in
+    let struck = roll_with terms.roll (struck_after history (length history)) in
+    subst (λ (p : ℕ). IsSummaryDue number p history (due_of terms.omega terms.lots struck standing) text) (sym nine)
+    (in_order number 9 terms.omega history (all_ballots plans) standing struck terms.lots text leaves stand.ballots of_roll)
+
+-- what the clerk's version has stands after all calls
+pub stands_last :
+    (n : ℕ) (terms : Terms) (history : List Entry) (version : VersionState) (roll : RollList) (plans : List PlanRows)
+    → n ≡ length terms.roll.names → IsClerks n history version → roll ≡ roll_with terms.roll version.struck
+    → plans ≡ version.plans → All (λ p. p.candidates ≡ version.candidates) plans → length (all_ballots plans) ≤ 999900000
+    → AreLastStanding terms history roll plans
+stands_last n terms history version roll plans names is of_roll of_plans of_all few = record {
+  roll_is =
+      of_roll
+      ∙ ap (roll_with terms.roll) (is.stands.struck ∙ ap (struck_after history) is.at);
+  ballots =
+      subst (λ (p : List PlanRows). IsPermutation (all_ballots p) (plain (standing_after history (length history)))) (sym of_plans)
+      (subst (λ (k : ℕ). IsPermutation (all_ballots version.plans) (plain (standing_after history k))) is.at is.stands.ballots);
+  counted = record {
+    candidates_are = subst (λ (k : ℕ). All (λ (p : PlanRows). p.candidates ≡ k) plans) (is.candidates ∙ names) of_all;
+    few_ballots = omega (arith, few);
+  };
+}
 
 -- ---- what is counted
 
--- the roll of the clerk's sheet is of the candidates of the made day's lots
+-- the roll of the count is of the candidates of the made day's lots
 pub one_roll :
     (number : ℕ) (terms : Terms) (roll : RollList) (rolls : List RollList) (struck : List ℕ)
     → terms ≡ terms_of (made_day number) → roll ≡ roll_with terms.roll struck → rolls ≡ roll ∷ []
@@ -134,10 +145,15 @@ one_roll number terms roll rolls struck made of_roll only =
     (All-cons Of roll [] (ap (λ (r : RollList). length r.names) of_roll ∙ (names ∙ sym lots)) (All-nil Of))
 
 pub one_list :
-    (n : ℕ) (plans : List PlanRows) (lists : List (List PlanRows)) → lists ≡ plans ∷ [] → CanBeCounted n plans
-    → All (CanBeCounted n) lists
-one_list n plans lists only counted =
-    subst (All (CanBeCounted n)) (sym only) (All-cons (CanBeCounted n) plans [] counted (All-nil (CanBeCounted n)))
+    (number : ℕ) (terms : Terms) (plans : List PlanRows) (lists : List (List PlanRows))
+    → terms ≡ terms_of (made_day number) → lists ≡ plans ∷ [] → CanBeCounted (length terms.roll.names) plans
+    → All (CanBeCounted (length terms.lots)) lists
+one_list number terms plans lists made only counted =
+    let lots : length terms.lots ≡ 12 = ap (λ (t : Terms). length t.lots) made in
+    let names : length terms.roll.names ≡ 12 = ap (λ (t : Terms). length t.roll.names) made in
+    let n = length terms.lots in
+    subst (All (CanBeCounted n)) (sym only)
+    (All-cons (CanBeCounted n) plans [] (subst (λ (k : ℕ). CanBeCounted k plans) (names ∙ sym lots) counted) (All-nil (CanBeCounted n)))
 
 -- the made day has 12 candidates
 pub twelve :

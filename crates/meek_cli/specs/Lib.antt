@@ -11,3 +11,4 @@ pub mod Sharing
 pub mod MadeDay
 pub mod CountedOut
 pub mod Standing
+pub mod Laws

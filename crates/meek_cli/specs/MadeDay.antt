@@ -13,6 +13,7 @@ use Rattle.batch_core.specs.declared.call.Call.TheVariants.{Change}
 use Rattle.day_reader.specs.declared.script.Script.{Script}
 use Rattle.day_reader.specs.declared.day.Day.{Day}
 use Rattle.day_reader.specs.Day.{IsDay, by_number}
+use Rattle.meek_trial.specs.declared.day.TheConstants.{MOST_TRIAL}
 use Rattle.meek_trial.specs.Draws.{drawn, ranking}
 use Rattle.meek_trial.specs.Trial.{draws_before, revision, first, title, trial_day}
 
@@ -73,4 +74,4 @@ made_day number = record {
 
 -- The text of a made day is the file of its day.
 abbrev pub MadeDaysAreDays : Type 0
-MadeDaysAreDays = (number : ℕ) → 1 ≤ number → number ≤ 1000 → IsAccepted IsDay (scan (trial_day number) true) (made_day number)
+MadeDaysAreDays = (number : ℕ) → 1 ≤ number → number ≤ MOST_TRIAL → IsAccepted IsDay (scan (trial_day number) true) (made_day number)

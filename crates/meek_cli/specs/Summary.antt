@@ -1,14 +1,17 @@
 -- The summary of a made day: what stands in the end, and what its count came to.
-use Rattle.std.specs.Prelude.{◌≡◌, ℕ, ◌≤◌, Bool, false, List, [], ◌∷◌, ◌++◌, length, map, count_by, codes, decimal, Option, Some, None}
+use Rattle.std.specs.Prelude.{◌≡◌, ℕ, ◌≤◌, Bool, false, List, [], ◌∷◌, ◌++◌, length, map, count_by, codes, decimal, Option, Some, None, IsPermutation}
 use Rattle.std.specs.Option.{is_some}
 use Rattle.std.specs.List.{range_with_len}
 use Rattle.plain_ballots.specs.Ballots.{plain}
+use Rattle.candidate_roll.specs.Roll.{RollList}
 use Rattle.candidate_roll.specs.declared.state.State.{State}
+use Rattle.frozen_plan.specs.Plan.{PlanRows, all_ballots}
 use Rattle.meek_rule.specs.Situation.{is_elected}
 use Rattle.meek_rule.specs.Row.{Row}
 use Rattle.meek_count.specs.Rows.{IsCount}
 use Rattle.sheet_text.specs.Lines.{text_of_lines, listed}
 use Rattle.lane_sheet.specs.Due.{CountDue, due_of}
+use Rattle.lane_sheet.specs.Plans.{CanBeCounted}
 use Rattle.batch_core.specs.declared.batch.Batch.{Batch}
 use Rattle.batch_core.specs.declared.entry.Entry.{Entry}
 use Rattle.batch_core.specs.Book.{BookState, empty, last_batch}
@@ -83,3 +86,10 @@ IsSummary number terms history text =
     let n = length history in
     IsSummaryDue number terms.places history
     (due_of terms.omega terms.lots (roll_with terms.roll (struck_after history n)) (plain (standing_after history n))) text
+
+-- The plans are of what stands after all calls of a history, and the roll is the one with all who were struck withdrawn
+-- besides.
+pub record AreLastStanding (terms : Terms) (history : List Entry) (roll : RollList) (plans : List PlanRows) : Type 0 where
+  pub roll_is : roll ≡ roll_with terms.roll (struck_after history (length history))
+  pub ballots : IsPermutation (all_ballots plans) (plain (standing_after history (length history)))
+  pub counted : CanBeCounted (length terms.roll.names) plans

@@ -1,6 +1,7 @@
 -- The work that words ask for. How many shards and workers it is shared among makes no difference to what is owed.
 use Rattle.std.specs.Prelude.{ℕ, ◌≤◌, List, Option, Some, None}
 use Rattle.tool_edge.specs.declared.opening.TheConstants.{DAY_LIMIT, FILE_LIMIT}
+use Rattle.meek_trial.specs.declared.day.TheConstants.{MOST_TRIAL}
 use Rattle.meek_words.specs.Forms.{HasForm}
 use Rattle.meek_words.specs.declared.command.Command.TheVariants.{Count as CountWords, Day as DayWords, Trial as TrialWords}
 use Rattle.meek_cli.specs.declared.work.Work.{Work}
@@ -20,5 +21,5 @@ limit_of (Trial number) = None
 
 -- a trial's number is from 1 to 1,000
 abbrev pub IsNumbered : Work → Type 0
-IsNumbered (Trial number) = (1 ≤ number) × (number ≤ 1000)
+IsNumbered (Trial number) = (1 ≤ number) × (number ≤ MOST_TRIAL)
 IsNumbered other = Unit {0}

@@ -3,7 +3,7 @@ use std::alloc::{AllocError, AllocFailed};
 
 /// Want of memory.
 #[derive(Clone, Copy, Debug, Drop)]
-pub(crate) struct NoMemory;
+pub struct NoMemory;
 
 impl From<AllocError> for NoMemory {
     fn from(_: AllocError) -> NoMemory {

@@ -20,9 +20,9 @@ use std::alloc::Global;
 
 /// The summary of the made day of this number whose calls are these.
 #[derive(Drop)]
-pub(crate) struct SummaryText<'a> {
-    pub(crate) number: u32,
-    pub(crate) history: &'a History,
+pub struct SummaryText<'a> {
+    pub number: u32,
+    pub history: &'a History,
 }
 
 impl<'a> CountText<9> for SummaryText<'a> {

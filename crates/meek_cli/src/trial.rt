@@ -1,12 +1,9 @@
 // A trial: a day that is made from a number is played, and its summary is written.
 ghost use Rattle.std.specs.Prelude.{◌≡◌, ◌≤◌, ◌++◌, ◌∷◌, [], List, length, true, IfOk};
-ghost use Rattle.input_text.specs.Scan.{scan};
-ghost use Rattle.input_text.specs.Refusal.{IsAccepted};
-ghost use Rattle.day_reader.specs.Day.{IsDay};
 ghost use Rattle.day_reader.specs.Said.{AreScripts};
 ghost use Rattle.batch_core.specs.Histories.{IsLegal};
 ghost use Rattle.shard_office.specs.Versions.{VersionState};
-ghost use Rattle.meek_trial.specs.Trial.{trial_day};
+ghost use Rattle.meek_trial.specs.declared.day.TheConstants.{MOST_TRIAL};
 ghost use Rattle.lane_sheet.specs.Due.{WritesOrWants};
 ghost use Rattle.tool_edge.specs.Streams.{writing};
 ghost use Rattle.meek_cli.specs.MadeDay.{made_day};
@@ -20,21 +17,15 @@ ghost use Rattle.meek_cli.specs.Run.{FinishesTrial, PlaysTrial};
 use crate::closing::end;
 use crate::day::answer;
 use crate::hands::Hands;
-use crate::made_days::made_days_are_days;
+use crate::made_days::read_made_day;
 use crate::played_day::PlayedDay;
 use crate::summary_text::SummaryText;
+use crate::summing::sum_up;
 use crate::terms::Terms;
 use crate::{NoMemory, Outcome, Status};
-use blt_reader::BltStop;
 use byte_edge::{Failed, Gate, Sink};
-use call_register::History;
-use day_reader::{Day, accepts_days, read_day};
-use lane_sheet::{Polls, write_in_lanes};
-use meek_count::counts_are_unique;
-use meek_trial::make_day;
+use day_reader::Day;
 use shard_office::Version;
-use std::alloc::Global;
-use std::slice;
 use std::sync::Wait;
 use std::thread::Threads;
 use team_run::Versions;
@@ -45,32 +36,13 @@ pub(crate) fn play_trial<R: Threads + Wait + Sync, G: Gate + Sync, K: Sink>(
     number: u32,
     sink: &mut K,
 ) -> Outcome
-    requires { (1 ≤ number) × (number ≤ 1000) }
+    requires { (1 ≤ number) × (number ≤ MOST_TRIAL) }
     ensures { FinishesTrial number result.status result.history
         (writing K.written K.faults sink.old sink.new) }
 {
     match read_made_day(hands.alloc, number) {
         Ok(day) => play(hands, number, day, sink),
         Err(_) => Outcome::without_calls(hands.alloc, Status::NoMemory),
-    }
-}
-
-/// Makes the day of a number, and reads it.
-fn read_made_day(alloc: Global, number: u32) -> Result<Day, NoMemory>
-    requires { (1 ≤ number) × (number ≤ 1000) }
-    ensures says { IfOk result (IsAccepted IsDay (scan (trial_day number) true)) }
-    ensures made { IfOk result (λ day. day ≡ made_day number) }
-    ensures scripts { IfOk result (λ day. AreScripts (length day.roll.names) day.scripts) }
-{
-    made_days_are_days();
-    accepts_days();
-    let Ok(text) = make_day(alloc, number) else {
-        return Err(NoMemory);
-    };
-    match read_day(alloc, text.as_slice()) {
-        Ok(day) => Ok(day),
-        Err(BltStop::Fault(_)) => unreachable!(),
-        Err(BltStop::NoMemory) => Err(NoMemory),
     }
 }
 
@@ -94,45 +66,36 @@ fn play<R: Threads + Wait + Sync, G: Gate + Sync, K: Sink>(
         history,
         versions,
     } = played;
-    let wrote = sum_up(hands, number, &terms, &history, versions, sink);
+    let text = SummaryText {
+        number,
+        history: &history,
+    };
+    let wrote = sum_up_last(hands, &text, &terms, versions, sink);
     match end(sink, wrote) {
         Status::NoMemory => Outcome::without_calls(hands.alloc, Status::NoMemory),
         status => Outcome { status, history },
     }
 }
 
-/// Counts what stood at the clerk's freeze in lanes, and writes the summary. All memory is taken before
-/// the first byte.
-fn sum_up<R: Threads + Sync, G: Gate + Sync, K: Sink>(
+/// Counts what stood at the clerk's freeze, and writes the summary. All memory is taken before the first byte.
+fn sum_up_last<R: Threads + Sync, G: Gate + Sync, K: Sink>(
     hands: &Hands<'_, R, G>,
-    number: u32,
+    text: &SummaryText<'_>,
     terms: &Terms,
-    history: &History,
     versions: Versions,
     sink: &mut K,
 ) -> Result<Result<(), Failed>, NoMemory>
-    requires terms { terms.now ≡ terms_of (made_day number) }
-    requires legal { IsLegal history.now }
-    requires ends { EndsWithTheClerk history.now }
-    requires numbers { HaveNumbers history.now }
-    requires frozen { AreFrozen (length terms.now.roll.names) history.now versions }
-    ensures { WritesOrWants (IsSummary number terms.now history.now)
+    requires terms { terms.now ≡ terms_of (made_day text.now.number) }
+    requires legal { IsLegal text.now.history.now }
+    requires ends { EndsWithTheClerk text.now.history.now }
+    requires numbers { HaveNumbers text.now.history.now }
+    requires frozen { AreFrozen (length terms.now.roll.names) text.now.history.now versions }
+    ensures { WritesOrWants (IsSummary text.now.number terms.now text.now.history.now)
         K.written K.faults sink.old sink.new result }
 {
-    // The count of a version's ballots is that of the ballots that stand, in whatever order.
-    counts_are_unique();
     let version = last_of(versions);
     let roll = terms.roll.with_struck(hands.alloc, version.struck())?;
-    let plans = vec![in hands.alloc; version.into_plans()]?;
-    let polls = Polls {
-        rolls: slice::from_ref(&roll),
-        lots: &terms.lots,
-        omega: terms.omega,
-    };
-    let text = SummaryText { number, history };
-    let crew = hands.crew();
-    let wrote = write_in_lanes::<9, R, G, SummaryText<'_>, K>(&crew, plans, &polls, &text, sink)?;
-    Ok(wrote)
+    sum_up(&hands.crew(), text, terms, &roll, version.into_plans(), sink)
 }
 
 /// The version of the last freeze.

@@ -1,5 +1,6 @@
 // The text of a day.
 ghost use Rattle.std.specs.Prelude.{◌≡◌, ◌+◌, ◌≤◌, ◌++◌, OnOk, IfOk};
+ghost use Rattle.meek_trial.specs.declared.day.TheConstants.{MOST_TRIAL};
 ghost use Rattle.meek_trial.specs.Trial.{entering, correcting, withdrawing, batch, batches, draws_before, first, one_team, teams, head, title_line, trial_day};
 
 use crate::NoMemory;
@@ -9,12 +10,15 @@ use crate::text::{push_number, put, put_line, put_numbered};
 use line_text::Line;
 use std::alloc::Global;
 
+/// The greatest number that a day is made from.
+pub const MOST_TRIAL: u32 = 1000;
+
 /// A day of ballot entry made from a number: twelve candidates, four seats, and four teams, each of
 /// which enters as many batches as the number says. Every batch has 190 ballots in forty lines; every
 /// third batch is corrected, and every seventh is withdrawn.
 #[tactic(auto, unfolding(crate::specs::Trial::trial_day))]
 pub fn make_day(alloc: Global, number: u32) -> Result<Vec<u8>, NoMemory>
-    requires { (1 ≤ number) × (number ≤ 1000) }
+    requires { (1 ≤ number) × (number ≤ MOST_TRIAL) }
     ensures { IfOk result (λ text. text.items ≡ trial_day number) }
 {
     let mut text = Vec::new(alloc);
@@ -48,7 +52,7 @@ fn put_title(text: &mut Vec<u8>, number: u64) -> Result<(), NoMemory>
 }
 
 fn put_teams(text: &mut Vec<u8>, number: u64) -> Result<(), NoMemory>
-    requires { number ≤ 1000 }
+    requires { number ≤ MOST_TRIAL }
     ensures { OnOk result (text.new.items ≡ text.old.items ++ teams number 4) }
 {
     let mut draws = Draws::new(number);
@@ -59,7 +63,7 @@ fn put_teams(text: &mut Vec<u8>, number: u64) -> Result<(), NoMemory>
 }
 
 fn put_team(text: &mut Vec<u8>, draws: &mut Draws, number: u64, team: u64) -> Result<(), NoMemory>
-    requires number { number ≤ 1000 }
+    requires number { number ≤ MOST_TRIAL }
     requires team { (1 ≤ team) × (team ≤ 4) }
     requires draws { draws.old ≡ record { number = number; taken = draws_before (first number team) } }
     ensures text { OnOk result (text.new.items ≡ text.old.items ++ one_team number team) }
@@ -75,7 +79,7 @@ fn put_batches(
     number: u64,
     team: u64,
 ) -> Result<(), NoMemory>
-    requires number { number ≤ 1000 }
+    requires number { number ≤ MOST_TRIAL }
     requires team { (1 ≤ team) × (team ≤ 4) }
     requires draws { draws.old ≡ record { number = number; taken = draws_before (first number team) } }
     ensures text { OnOk result (text.new.items ≡ text.old.items ++ batches number team number) }

@@ -7,5 +7,5 @@ mod draws;
 mod no_memory;
 mod text;
 
-pub use day::make_day;
+pub use day::{MOST_TRIAL, make_day};
 pub use no_memory::NoMemory;

@@ -10,18 +10,18 @@ use Rattle.day_audit.proofs.tool.audit.Goals as goal
 pub returns-in-Err : goal.returns-in-Err
 returns-in-Err g c =
     stopped audits_days (Some AUDIT_LIMIT) (λ asked. refl) (map string_bytes c.args.words.now)
-    c.takes_nothing-asked.result c.in-Err.end
+    c.takes_audit-asked.result c.in-Err.end
     (reading g.S.Source.left g.S.Source.faults c.args.source.now c.open.new.source)
     (writing g.K.Sink.written g.K.Sink.faults c.args.sink.now c.open.new.sink)
-    (sound c.accepts_days.ensures c.refuses_by_the_rule.ensures) c.takes_nothing-asked.ensures
+    (sound c.accepts_days.ensures c.refuses_by_the_rule.ensures) c.takes_audit-asked.ensures
     c.in-Err.ensures.stopped
 
 pub returns : goal.returns
 returns g c =
     worked_on audits_days g.K.Sink.written g.K.Sink.faults c.args.sink.now c.open.new.sink c.audit_input.new.sink
-    (map string_bytes c.args.words.now) c.takes_nothing-asked.result (tt {0}) (tt {0})
+    (map string_bytes c.args.words.now) c.takes_audit-asked.result c.in-Ok.opened.asked c.in-Ok.opened.asked
     c.in-Ok.opened.input.items _ c.audit_input.result
     (reading g.S.Source.left g.S.Source.faults c.args.source.now c.open.new.source)
-    (sound c.accepts_days.ensures c.refuses_by_the_rule.ensures) c.takes_nothing-asked.ensures
+    (sound c.accepts_days.ensures c.refuses_by_the_rule.ensures) c.takes_audit-asked.ensures
     c.in-Ok.ensures.asked
     c.in-Ok.ensures.input c.in-Ok.ensures.untouched refl c.as_slice.ensures.value c.audit_input.ensures

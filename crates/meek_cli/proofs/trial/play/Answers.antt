@@ -6,8 +6,8 @@ use Rattle.meek_cli.proofs.HistoryCalls.{have_numbers}
 use Rattle.meek_cli.proofs.TrialEnding.{played_trial}
 use Rattle.meek_cli.proofs.trial.play.Goals as goal
 
-pub sum_up-wrote-requires-clause-numbers : goal.sum_up-wrote-requires-clause-numbers
-sum_up-wrote-requires-clause-numbers g c κs within =
+pub sum_up_last-wrote-requires-clause-numbers : goal.sum_up_last-wrote-requires-clause-numbers
+sum_up_last-wrote-requires-clause-numbers g c κs within =
     have_numbers (length c.args.day.roll.names) c.args.day.scripts c.in-Ok.played.history c.requires.scripts
     c.in-Ok.ensures.history
 
@@ -18,7 +18,7 @@ returns g c =
     let terms = c.in-Ok.played.terms in
     let history = c.in-Ok.played.history in
     let wrote =
-    ended w f c.args.sink.now c.sum_up-wrote.new.sink c.end.new.sink (IsSummary c.args.number terms history)
-    c.sum_up-wrote.result c.end.result c.sum_up-wrote.ensures c.end.ensures in
+    ended w f c.args.sink.now c.sum_up_last-wrote.new.sink c.end.new.sink (IsSummary c.args.number terms history)
+    c.sum_up_last-wrote.result c.end.result c.sum_up_last-wrote.ensures c.end.ensures in
     played_trial c.args.number c.args.day terms history c.end.result (writing w f c.args.sink.now c.end.new.sink)
     c.in-Ok.ensures.terms c.in-Ok.ensures.history c.in_default-end.not-NoMemory wrote

@@ -1,4 +1,4 @@
-use Rattle.meek_cli.proofs.SummaryText.{seven_lines}
+use Rattle.meek_cli.proofs.SummaryLines.{seven_lines}
 use Rattle.meek_cli.proofs.summary.Summary.text.Goals as goal
 
 pub returns : goal.returns
