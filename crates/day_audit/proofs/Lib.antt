@@ -1,5 +1,6 @@
-mod DayLines
+pub mod DayLines
 mod DayTexts
+pub mod DayEnds
 mod DayVerdicts
-mod Splits
-mod Audits
+pub mod Splits
+pub mod Audits

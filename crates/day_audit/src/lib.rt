@@ -2,7 +2,8 @@
 //! writes is compared with the text as it comes.
 //!
 //! [`judge`] gives the verdict on a text and the day of a file; [`day_verdicts_are_unique`] says that each
-//! text has one. [`audit`] is the whole tool, over an input that is a text and behind it a day file.
+//! text has one. [`audit`] is the whole tool, over an input that is a text and behind it a day file, which
+//! [`split`] cuts; [`verdict_line`] is what it writes.
 #![tactic(auto)]
 
 mod audit_limit;
@@ -21,4 +22,6 @@ pub use day_verdict::DayVerdict;
 pub use judging::judge;
 pub use laws::day_verdicts_are_unique;
 pub use no_memory::NoMemory;
+pub use split::split;
 pub use tool::audit;
+pub use verdict_line::verdict_line;

@@ -6,7 +6,7 @@ use crate::DayVerdict;
 use line_text::Line;
 
 /// Puts the line of a verdict together.
-pub(crate) fn verdict_line(verdict: DayVerdict) -> Line
+pub fn verdict_line(verdict: DayVerdict) -> Line
     ensures { result ≡ verdict_line verdict }
 {
     let mut line = Line::new();

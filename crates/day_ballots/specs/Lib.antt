@@ -1,0 +1,4 @@
+pub mod Words
+pub mod Along
+pub mod Found
+pub mod Ballots
