@@ -3,7 +3,7 @@
 //!
 //! [`judge`] gives the verdict on a text and the day of a file; [`day_verdicts_are_unique`] says that each
 //! text has one. [`audit`] is the whole tool, over an input that is a text and behind it a day file, which
-//! [`split`] cuts; [`verdict_line`] is what it writes.
+//! [`text_and_file`] cuts.
 #![tactic(auto)]
 
 mod audit_limit;
@@ -22,6 +22,5 @@ pub use day_verdict::DayVerdict;
 pub use judging::judge;
 pub use laws::day_verdicts_are_unique;
 pub use no_memory::NoMemory;
-pub use split::split;
+pub use split::text_and_file;
 pub use tool::audit;
-pub use verdict_line::verdict_line;

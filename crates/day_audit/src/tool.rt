@@ -8,8 +8,7 @@ ghost use Rattle.tool_edge.specs.Tool.{IsOwedFor, IsRun, no_history};
 ghost use Rattle.day_audit.specs.declared.audit_limit.TheConstants.{AUDIT_LIMIT};
 ghost use Rattle.day_audit.specs.Audit.{audits_days, IsOwedVerdict};
 
-use crate::split::split;
-use crate::verdict_line::verdict_line;
+use crate::split::text_and_file;
 use crate::{AUDIT_LIMIT, judge};
 use blt_reader::{FaultKind, InputFault};
 use byte_edge::{Sink, Source};
@@ -46,7 +45,7 @@ fn audit_input<R: Threads + Sync, K: Sink>(rt: &R, alloc: Global, input: &[u8], 
     ensures { FinishesOwed (IsOwedFor audits_days (tt {0}) input.now no_history) result
         (writing K.written K.faults sink.old sink.new) }
 {
-    let Some((text, file)) = split(input) else {
+    let Some((text, file)) = text_and_file(input) else {
         return refuse(sink, ended(input.len()));
     };
     match read_day(alloc, file) {
@@ -79,7 +78,7 @@ fn write_verdict<R: Threads + Sync, K: Sink>(
     ensures { FinishesOwed (IsOwedVerdict day text.now) result (writing K.written K.faults sink.old sink.new) }
 {
     match judge(rt, alloc, text, day) {
-        Ok(verdict) => finish(sink, End::Done, verdict_line(verdict).bytes()),
+        Ok(verdict) => finish(sink, End::Done, verdict.line().bytes()),
         Err(_) => End::NoMemory,
     }
 }

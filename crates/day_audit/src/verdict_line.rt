@@ -5,16 +5,18 @@ ghost use Rattle.day_audit.specs.Audit.{verdict_line};
 use crate::DayVerdict;
 use line_text::Line;
 
-/// Puts the line of a verdict together.
-pub fn verdict_line(verdict: DayVerdict) -> Line
-    ensures { result ≡ verdict_line verdict }
-{
-    let mut line = Line::new();
-    match verdict {
-        DayVerdict::True => line.push_bytes(b"day true\n"),
-        DayVerdict::False(n) => push_false(&mut line, n),
+impl DayVerdict {
+    /// The line that says it.
+    pub fn line(self) -> Line
+        ensures { result ≡ verdict_line self }
+    {
+        let mut line = Line::new();
+        match self {
+            DayVerdict::True => line.push_bytes(b"day true\n"),
+            DayVerdict::False(n) => push_false(&mut line, n),
+        }
+        line
     }
-    line
 }
 
 /// Writes into an empty line that a text is false at the line of this number.
