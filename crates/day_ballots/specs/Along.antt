@@ -1,9 +1,9 @@
 -- How far the calls of a day go along the lines of a text. Lines and calls are numbered from 1.
-use Rattle.std.specs.Prelude.{◌≡◌, ℕ, ◌+◌, ◌<◌, ◌≤◌, List, length, Contains}
+use Rattle.std.specs.Prelude.{◌≡◌, ℕ, ◌+◌, ◌-◌, ◌<◌, ◌≤◌, true, List, length, slice_get, Some}
 use Rattle.batch_core.specs.declared.entry.Entry.{Entry}
 use Rattle.day_reader.specs.declared.day.Day.{Day}
+use Rattle.day_reader.specs.Call.{is_freeze}
 use Rattle.meek_cli.specs.DayHistory.{IsHistoryOf}
-use Rattle.meek_cli.specs.DayText.{freeze_places}
 use Rattle.day_replay.specs.Nearest.{BeginsAs}
 
 -- The calls of the day's teams can be answered as this history, and the first n lines of the text are those of its
@@ -12,10 +12,17 @@ pub record GoesAlong (day : Day) (text : List ℕ) (n : ℕ) (history : List Ent
   pub calls : IsHistoryOf day.scripts history
   pub lines : BeginsAs n text history
 
+-- The n-th call is a freeze.
+pub record IsFreezeAt (history : List Entry) (n : ℕ) : Type 0 where
+  pub some : 1 ≤ n
+  pub entry : Entry
+  pub there : slice_get history (n - 1) ≡ Some entry
+  pub freezes : is_freeze entry.call ≡ true
+
 -- Line n is that of a freeze of a history that goes along so far.
 pub record IsAtFreeze (day : Day) (text : List ℕ) (n : ℕ) (history : List Entry) : Type 0 where
   pub along : GoesAlong day text n history
-  pub freeze : Contains (freeze_places history) n
+  pub freeze : IsFreezeAt history n
 
 -- Line n is the first that is false: some history has the lines before it and one more call, and no such history has
 -- this line too.

@@ -2,3 +2,4 @@ pub mod Words
 pub mod Along
 pub mod Found
 pub mod Ballots
+pub mod Laws

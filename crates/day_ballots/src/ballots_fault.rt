@@ -3,7 +3,7 @@ ghost use Rattle.std.specs.Prelude.{◌≡◌, ◌++◌, ◌∷◌, [], codes, d
 ghost use Rattle.day_ballots.specs.Ballots.{ballots_refusals, refusal_line};
 
 use blt_reader::InputFault;
-use day_audit::{DayVerdict, verdict_line};
+use day_audit::DayVerdict;
 use line_text::Line;
 use tool_edge::Fault;
 
@@ -24,7 +24,7 @@ impl Fault for BallotsFault {
     fn line(&self) -> Line {
         match self {
             BallotsFault::File(fault) => fault.line(),
-            BallotsFault::False(line) => verdict_line(DayVerdict::False(*line)),
+            BallotsFault::False(line) => DayVerdict::False(*line).line(),
             BallotsFault::NoFreeze(line) => no_freeze_line(*line),
         }
     }

@@ -14,9 +14,11 @@ pub(crate) fn first_other(text: &[u8], history: &History, at: u64) -> Option<u64
     ensures { MatchOption result (BeginsAs at text.now history.now) (IsFirstOther at text.now history.now) }
 {
     let calls = history.entries().items().len() as u64;
-    match first_difference(text, history) {
-        Some(line) if line <= at && line <= calls => Some(line),
-        _ => None,
+    let line = first_difference(text, history)?;
+    if line <= at && line <= calls {
+        Some(line)
+    } else {
+        None
     }
 }
 

@@ -11,7 +11,7 @@ use crate::writing::write_at;
 use crate::{BallotsFault, takes_line};
 use blt_reader::{BltStop, FaultKind, InputFault};
 use byte_edge::{Sink, Source};
-use day_audit::{AUDIT_LIMIT, split};
+use day_audit::{AUDIT_LIMIT, text_and_file};
 use day_reader::{accepts_days, read_day, refuses_by_the_rule};
 use std::alloc::Global;
 use tool_edge::{End, Opened, open, refuse};
@@ -43,7 +43,7 @@ fn write_ballots<K: Sink>(alloc: Global, at: u32, input: &[u8], sink: &mut K) ->
     ensures { FinishesOwed (IsOwedFor exports_freezes at input.now no_history) result
         (writing K.written K.faults sink.old sink.new) }
 {
-    let Some((text, file)) = split(input) else {
+    let Some((text, file)) = text_and_file(input) else {
         return refuse(sink, BallotsFault::File(ended(input.len())));
     };
     match read_day(alloc, file) {
