@@ -20,22 +20,24 @@ team 1\nenter 1\n4 1 2 0\n3 2 0\n0\nfreeze\n\
 team 2\nenter 1\n9 3 0\n0\ncorrect 1 1\n4 1 2 0\n3 2 0\n2 3 2 0\n0\nstrike 1\nend\n";
 
 // Team 1 comes first: its batch stands at its freeze, and nobody is struck.
-const FIRST: &[u8] = b"1 team 1 enter 1 entered\n2 team 1 freeze frozen\n3 team 2 enter 1 exists 1\n\
+const FIRST: &[u8] =
+    b"1 team 1 enter 1 entered\n2 team 1 freeze frozen\n3 team 2 enter 1 exists 1\n\
 4 team 2 correct 1 1 corrected 2\n5 team 2 strike 1 struck\n6 clerk freeze frozen\n";
 
 // Team 2 comes first: its batch stands at team 1's freeze.
-const SECOND: &[u8] = b"1 team 2 enter 1 entered\n2 team 1 enter 1 exists 1\n3 team 1 freeze frozen\n\
+const SECOND: &[u8] =
+    b"1 team 2 enter 1 entered\n2 team 1 enter 1 exists 1\n3 team 1 freeze frozen\n\
 4 team 2 correct 1 1 corrected 2\n5 team 2 strike 1 struck\n6 clerk freeze frozen\n";
 
 // Team 2 has made all its calls when team 1 freezes.
-const THIRD: &[u8] = b"1 team 2 enter 1 entered\n2 team 2 correct 1 1 corrected 2\n3 team 2 strike 1 struck\n\
+const THIRD: &[u8] =
+    b"1 team 2 enter 1 entered\n2 team 2 correct 1 1 corrected 2\n3 team 2 strike 1 struck\n\
 4 team 1 enter 1 exists 2\n5 team 1 freeze frozen\n6 clerk freeze frozen\n";
 
 // What stands behind the calls is not judged.
 const SHEETS: &[u8] = b"sheet 2\nend\nsheet 6\nend\n";
 
-const OF_TEAM_1: &[u8] =
-    b"3 1\n4 1 2 0\n3 2 0\n0\n\"Ann\"\n\"Ben\"\n\"Cid\"\n\"Two teams\"\n";
+const OF_TEAM_1: &[u8] = b"3 1\n4 1 2 0\n3 2 0\n0\n\"Ann\"\n\"Ben\"\n\"Cid\"\n\"Two teams\"\n";
 
 const OF_TEAM_2: &[u8] = b"3 1\n9 3 0\n0\n\"Ann\"\n\"Ben\"\n\"Cid\"\n\"Two teams\"\n";
 
@@ -87,7 +89,8 @@ fn the_ballots_are_those_of_the_freeze(rt: HostRuntime) -> Result<(), Fail> {
 }
 
 // The reply of line 3 is another than any history gives.
-const FALSE_AT_3: &[u8] = b"1 team 1 enter 1 entered\n2 team 1 freeze frozen\n3 team 2 enter 1 entered\n\
+const FALSE_AT_3: &[u8] =
+    b"1 team 1 enter 1 entered\n2 team 1 freeze frozen\n3 team 2 enter 1 entered\n\
 4 team 2 correct 1 1 corrected 2\n5 team 2 strike 1 struck\n6 clerk freeze frozen\n";
 
 // The words, the calls, the line that is false or no freeze, and what is written.
@@ -115,7 +118,13 @@ const FALSE: [(&str, &[u8], u64, &[u8]); 5] = [
 fn nothing_is_written_of_a_text_that_is_false_so_far(rt: HostRuntime) -> Result<(), Fail> {
     for (words, calls, line, written) in FALSE {
         let end = End::BadInput(BallotsFault::False(line));
-        ends(&rt, rt.alloc(), words, &[calls, SHEETS, DAY], (end, written))?;
+        ends(
+            &rt,
+            rt.alloc(),
+            words,
+            &[calls, SHEETS, DAY],
+            (end, written),
+        )?;
     }
     // A line behind the one that is asked for may be false.
     let pieces = [FALSE_AT_3, SHEETS, DAY];
@@ -139,7 +148,13 @@ const NO_FREEZE: [(&str, &[u8], u64, &[u8]); 4] = [
 fn a_line_that_is_no_freeze_is_refused(rt: HostRuntime) -> Result<(), Fail> {
     for (words, calls, line, written) in NO_FREEZE {
         let end = End::BadInput(BallotsFault::NoFreeze(line));
-        ends(&rt, rt.alloc(), words, &[calls, SHEETS, DAY], (end, written))?;
+        ends(
+            &rt,
+            rt.alloc(),
+            words,
+            &[calls, SHEETS, DAY],
+            (end, written),
+        )?;
     }
     Ok(())
 }
