@@ -1,5 +1,7 @@
-//! Tests of the tool that audits the text of a day.
+//! Tests of the tools that audit the text of a day and write the ballots of its freezes.
 #![tactic(auto)]
 
 #[cfg(test)]
 mod audit_tool;
+#[cfg(test)]
+mod ballots_tool;

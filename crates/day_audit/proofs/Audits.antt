@@ -35,6 +35,13 @@ not_both days refusals file day fault says refused =
     let stopped : said_by (scan file true) ≡ Err fault = (refusals (scan file true) fault).1 refused in
     cc
 
+-- it says one day
+pub one_day : AcceptsDays → (file : List ℕ) (day other : Day) → SaysDay file day → SaysDay file other → day ≡ other
+one_day days file day other says also =
+    let read : said_by (scan file true) ≡ Ok day = (days (scan file true) day).1 says in
+    let again : said_by (scan file true) ≡ Ok other = (days (scan file true) other).1 also in
+    cc
+
 -- and a file is refused once
 refused_alike :
     RefusesByTheRule → (file : List ℕ) (fault other : InputFault) → IsDayRefusal (scan file true) fault
@@ -44,14 +51,14 @@ refused_alike refusals file fault other refused again =
     let restopped : said_by (scan file true) ≡ Err other = (refusals (scan file true) other).1 again in
     cc
 
-not_refused :
+pub not_refused :
     AcceptsDays → RefusesByTheRule → (input : List ℕ) (fault : InputFault) → IsAudit input → IsRefusedAudit input fault → ⊥
 not_refused days refusals input fault (text, file, split, says) (inl ends) = ends.no_end split.at split.ends
 not_refused days refusals input fault (text, file, split, (day, says)) (inr (other_text, other, other_split, refused)) =
     not_both days refusals file day fault says
     (subst (λ (f : List ℕ). IsDayRefusal (scan f true) fault) (file_once input text file other_text other split other_split) refused)
 
-refused_once :
+pub refused_once :
     RefusesByTheRule → (input : List ℕ) (fault other : InputFault) → IsRefusedAudit input fault → IsRefusedAudit input other
     → fault ≡ other
 refused_once refusals input fault other (inl ends) (inl again) = ends.fault_is ∙ sym again.fault_is

@@ -1,9 +1,9 @@
 -- The history that is nearest to a text gives its verdict.
-use Rattle.std.proofs.Common.{◌≡◌, ◌⊎◌, inl, inr, ℕ, zero, suc, ◌+◌, ◌<◌, ◌≤◌, List, [], ◌∷◌, ◌++◌, length, take, drop, get_or}
+use Rattle.std.proofs.Common.{◌≡◌, ◌⊎◌, inl, inr, ℕ, ◌+◌, ◌<◌, ◌≤◌, List, length, take, get_or}
 use Rattle.std.proofs.Common.{refl, sym, ap, ◌∙◌, subst, arith}
 use Rattle.std.specs.Prelude.{slice_get, Some}
 use Rattle.std.proofs.lemmas.Bool.{cases_lt}
-use Rattle.std.proofs.lemmas.List.{append-nil, append_assoc, length-append, take_all, take-append-drop}
+use Rattle.std.proofs.lemmas.List.{take_all}
 use Rattle.std.proofs.lemmas.Option.{slice_get-get_or}
 use Rattle.batch_core.specs.declared.entry.Entry.{Entry}
 use Rattle.day_reader.specs.declared.day.Day.{Day}
@@ -12,22 +12,13 @@ use Rattle.sheet_check.specs.Difference.{IsFirstDifference, line_at}
 use Rattle.meek_cli.specs.DayHistory.{IsHistoryOf, clerk_freeze}
 use Rattle.meek_cli.specs.DayText.{terms_of, IsDayText}
 use Rattle.day_replay.specs.Nearest.{BeginsAs, IsNearest}
-use Rattle.day_replay.proofs.Lists.{got_ahead, got_behind}
-use Rattle.day_replay.proofs.Own.{none_by}
 use Rattle.day_audit.specs.declared.day_verdict.DayVerdict.{DayVerdict}
 use Rattle.day_audit.specs.declared.day_verdict.DayVerdict.TheVariants.{True, False}
 use Rattle.day_audit.specs.Judged.{IsTextOf, BeginAlike, IsFalseAt, IsVerdict}
+use Rattle.day_audit.proofs.DayEnds.{in_front, no_more}
 use Rattle.day_audit.proofs.DayLines.{line_of_a_call}
 use Rattle.meek_cli.proofs.TermsLemmas.{AreTerms}
 use Rattle.day_audit.proofs.DayTexts.{one_text}
-
--- an item of a front stands there in the list
-in_front : (xs : List Entry) (n k : ℕ) → k < n → slice_get (take n xs) k ≡ slice_get xs k
-in_front [] zero k below = absurd (omega (arith, below))
-in_front [] (suc n) k below = refl
-in_front (x ∷ xs) zero k below = absurd (omega (arith, below))
-in_front (x ∷ xs) (suc n) zero below = refl
-in_front (x ∷ xs) (suc n) (suc k) below = in_front xs n k (omega (arith, below))
 
 module _ (day : Day) (are : AreTerms (terms_of day)) where
   -- the line of a history's call in its text
@@ -37,36 +28,6 @@ module _ (day : Day) (are : AreTerms (terms_of day)) where
   call_line history text k e (sheets, is, whole) at =
       let place : 1 + k ≡ k + 1 = omega arith in
       ap (line_at k) whole ∙ (line_of_a_call 1 history sheets k e at ∙ ap (λ (n : ℕ). ended (entry_line n e)) place)
-
-  -- behind the clerk's call there is none
-  nothing_behind :
-      (history other : List Entry) (e : Entry) (rest : List Entry) → IsHistoryOf day.scripts history
-      → IsHistoryOf day.scripts other → history ≡ other ++ e ∷ rest → ⊥
-  nothing_behind history other e rest is also whole =
-      let mine = is.ends.before in
-      let its = also.ends.before in
-      let front : history ≡ its ++ clerk_freeze ∷ (e ∷ rest) =
-      whole ∙ (ap (λ (l : List Entry). l ++ e ∷ rest) also.ends.last ∙ append_assoc its (clerk_freeze ∷ []) (e ∷ rest)) in
-      let behind : List Entry = clerk_freeze ∷ (e ∷ rest) in
-      let some : length behind ≡ suc (suc (length rest)) = refl in
-      let one : length history ≡ length mine + 1 = ap length is.ends.last ∙ length-append mine (clerk_freeze ∷ []) in
-      let many : length history ≡ length its + length behind = ap length front ∙ length-append its behind in
-      let before : length its < length mine = omega (arith, one, many, some) in
-      none_by 0 mine (length its) clerk_freeze is.ends.no_other
-      (sym (got_ahead mine (clerk_freeze ∷ []) (length its) before)
-      ∙ (ap (λ (l : List Entry). slice_get l (length its)) (sym is.ends.last ∙ front) ∙ got_behind its clerk_freeze (e ∷ rest))) refl
-
-  -- a history whose front another one is, is that one
-  no_more : (history other : List Entry) → IsHistoryOf day.scripts history → IsHistoryOf day.scripts other
-      → other ≡ take (length other) history → history ≡ other
-  no_more history other is also front = by (drop (length other) history) refl
-    where
-      parts : history ≡ other ++ drop (length other) history
-      parts = sym (take-append-drop (length other) history) ∙ ap (λ (l : List Entry). l ++ drop (length other) history) (sym front)
-
-      by : (rest : List Entry) → drop (length other) history ≡ rest → history ≡ other
-      by [] none = parts ∙ (ap (λ (l : List Entry). other ++ l) none ∙ append-nil other)
-      by (e ∷ rest) some = absurd (nothing_behind history other e rest is also (parts ∙ ap (λ (l : List Entry). other ++ l) some))
 
   module _ (text nearest : List ℕ) (history : List Entry) (is : IsHistoryOf day.scripts history)
       (near : IsNearest day.scripts text history) (of : IsDayText (terms_of day) history nearest) where
@@ -83,7 +44,7 @@ module _ (day : Day) (are : AreTerms (terms_of day)) where
         by (inl short) =
             let front : its ≡ take (length its) history =
             sym (take_all (length its) its (omega arith)) ∙ near its (length its) also (omega arith) (begins (length its) (omega (arith, short))) in
-            let same = no_more history its is also front in
+            let same = no_more day.scripts history its is also front in
             let texts : other ≡ nearest =
             one_text (terms_of day) its other nearest are whose (subst (λ (h : List Entry). IsDayText (terms_of day) h nearest) same of) in
             subst (λ (t : List ℕ). BeginAlike n text t) texts alike

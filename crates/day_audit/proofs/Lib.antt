@@ -1,7 +1,8 @@
-mod DayLines
+pub mod DayLines
 mod DayTexts
+pub mod DayEnds
 mod DayVerdicts
 mod TrialVerdicts
 mod WordLemmas
-mod Splits
-mod Audits
+pub mod Splits
+pub mod Audits

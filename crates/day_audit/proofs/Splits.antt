@@ -31,7 +31,15 @@ same_place input text file other_text other one again =
       ]
     ]
 
--- so the file behind the text is one
+-- so the text is one
+pub text_once :
+    (input text file other_text other : List ℕ) → IsDaySplit input text file → IsDaySplit input other_text other
+    → text ≡ other_text
+text_once input text file other_text other one again =
+    one.text_is
+    ∙ (ap (λ (at : ℕ). take (at + 4) input) (same_place input text file other_text other one again) ∙ sym again.text_is)
+
+-- and so is the file behind it
 pub file_once :
     (input text file other_text other : List ℕ) → IsDaySplit input text file → IsDaySplit input other_text other → other ≡ file
 file_once input text file other_text other one again =

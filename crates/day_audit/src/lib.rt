@@ -3,7 +3,7 @@
 //!
 //! [`judge`] gives the verdict on a text and the day of a file, and [`judge_trial`] that on a text that is held to be
 //! the summary of a made day; [`verdicts_are_unique`] says that each text has one. [`audit`] is the whole tool, over
-//! an input that is a text and behind it a day file, or a summary.
+//! an input that is a text and behind it a day file, which [`text_and_file`] cuts, or a summary.
 #![tactic(auto)]
 
 mod audit_asked;
@@ -24,5 +24,6 @@ pub use day_verdict::DayVerdict;
 pub use judging::judge;
 pub use laws::verdicts_are_unique;
 pub use no_memory::NoMemory;
+pub use split::text_and_file;
 pub use tool::audit;
 pub use trial_judging::judge_trial;

@@ -8,7 +8,7 @@ use sheet_check::has_end_at;
 /// The bytes up to and including the first line `end` behind which no further sheet begins, and those behind
 /// it; none where there is no such line.
 #[tactic(auto, using(crate::proofs::Splits::nowhere, crate::proofs::Splits::split_at_end, crate::proofs::Splits::last_fits))]
-pub(crate) fn split(input: &[u8]) -> Option<(&[u8], &[u8])>
+pub fn text_and_file(input: &[u8]) -> Option<(&[u8], &[u8])>
     ensures { MatchOption result (HasNoLastEnd input.now) (λ parts. IsDaySplit input.now parts.0.now parts.1.now) }
 {
     for at in 0..input.len() {

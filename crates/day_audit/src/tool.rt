@@ -11,8 +11,7 @@ ghost use Rattle.day_audit.specs.Audit.{audits_days, IsOwedLine};
 ghost use Rattle.day_audit.specs.Judged.{IsDayVerdict};
 ghost use Rattle.day_audit.specs.Words.{MayBeAsked};
 
-use crate::split::split;
-use crate::verdict_line::verdict_line;
+use crate::split::text_and_file;
 use crate::words::takes_audit;
 use crate::{AuditAsked, judge, judge_trial};
 use blt_reader::{FaultKind, InputFault};
@@ -71,7 +70,7 @@ fn audit_day<R: Threads + Sync, K: Sink>(rt: &R, alloc: Global, input: &[u8], si
     ensures { FinishesOwed (IsOwedFor audits_days AuditAsked.Day input.now no_history) result
         (writing K.written K.faults sink.old sink.new) }
 {
-    let Some((text, file)) = split(input) else {
+    let Some((text, file)) = text_and_file(input) else {
         return refuse(sink, ended(input.len()));
     };
     match read_day(alloc, file) {
@@ -105,11 +104,7 @@ fn judge_day<R: Threads + Sync, K: Sink>(
         (writing K.written K.faults sink.old sink.new) }
 {
     match judge(rt, alloc, text, day) {
-        Ok(verdict) => finish(
-            sink,
-            End::Done,
-            verdict_line(AuditAsked::Day, verdict).bytes(),
-        ),
+        Ok(verdict) => finish(sink, End::Done, verdict.line(AuditAsked::Day).bytes()),
         Err(_) => End::NoMemory,
     }
 }
@@ -129,11 +124,7 @@ fn audit_trial<R: Threads + Sync, K: Sink>(
         (writing K.written K.faults sink.old sink.new) }
 {
     match judge_trial(rt, alloc, input, number) {
-        Ok(verdict) => finish(
-            sink,
-            End::Done,
-            verdict_line(AuditAsked::Trial(number), verdict).bytes(),
-        ),
+        Ok(verdict) => finish(sink, End::Done, verdict.line(AuditAsked::Trial(number)).bytes()),
         Err(_) => End::NoMemory,
     }
 }

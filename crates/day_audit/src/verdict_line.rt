@@ -5,16 +5,18 @@ ghost use Rattle.day_audit.specs.Audit.{subject, verdict_line};
 use crate::{AuditAsked, DayVerdict};
 use line_text::Line;
 
-/// Puts the line of a verdict on what was audited together.
-pub(crate) fn verdict_line(asked: AuditAsked, verdict: DayVerdict) -> Line
-    ensures { result ≡ verdict_line asked verdict }
-{
-    let mut line = begun(asked);
-    match verdict {
-        DayVerdict::True => line.push_bytes(b" true\n"),
-        DayVerdict::False(n) => push_false(&mut line, n),
+impl DayVerdict {
+    /// The line that says it of what was audited.
+    pub fn line(self, asked: AuditAsked) -> Line
+        ensures { result ≡ verdict_line asked self }
+    {
+        let mut line = begun(asked);
+        match self {
+            DayVerdict::True => line.push_bytes(b" true\n"),
+            DayVerdict::False(n) => push_false(&mut line, n),
+        }
+        line
     }
-    line
 }
 
 /// A line that begins with what was audited.

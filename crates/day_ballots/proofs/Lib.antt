@@ -1,0 +1,10 @@
+mod WordLemmas
+mod FreezePlaces
+mod CallLines
+mod Refusing
+mod Sound
+mod FoundLemmas
+mod Owing
+mod Names
+mod Ranked
+mod Counted

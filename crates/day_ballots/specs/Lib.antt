@@ -1,0 +1,5 @@
+pub mod Words
+pub mod Along
+pub mod Found
+pub mod Ballots
+pub mod Laws

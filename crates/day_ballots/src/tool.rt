@@ -1,0 +1,65 @@
+// The tool that writes the ballots of a freeze.
+ghost use Rattle.std.specs.Prelude.{◌≡◌, ◌≤◌, map, length};
+ghost use Rattle.std.specs.String.{string_bytes};
+ghost use Rattle.tool_edge.specs.Finishing.{FinishesOwed};
+ghost use Rattle.tool_edge.specs.Streams.{reading, writing};
+ghost use Rattle.tool_edge.specs.Tool.{IsOwedFor, IsRun, no_history};
+ghost use Rattle.sheet_check.specs.declared.audit_limit.TheConstants.{AUDIT_LIMIT};
+ghost use Rattle.day_ballots.specs.Ballots.{exports_freezes};
+
+use crate::writing::write_at;
+use crate::{BallotsFault, takes_line};
+use blt_reader::{BltStop, FaultKind, InputFault};
+use byte_edge::{Sink, Source};
+use day_audit::text_and_file;
+use day_reader::{accepts_days, read_day, refuses_by_the_rule};
+use sheet_check::AUDIT_LIMIT;
+use std::alloc::Global;
+use tool_edge::{End, Opened, open, refuse};
+
+/// Writes the canonical ballot file of what stands at the freeze of a line: the input is the text of a day, and
+/// behind it the day file. The candidates struck by then are withdrawn in it besides. Sheets are not compared.
+pub fn ballots<S: Source, K: Sink>(
+    alloc: Global,
+    words: &[String],
+    source: &mut S,
+    sink: &mut K,
+) -> End<BallotsFault>
+    ensures { IsRun exports_freezes (map string_bytes words.now)
+        (reading S.left S.faults source.old source.new) (writing K.written K.faults sink.old sink.new) result no_history }
+{
+    accepts_days();
+    refuses_by_the_rule();
+    let asked = takes_line(alloc, words);
+    let Opened { asked: at, input } = match open(alloc, asked, AUDIT_LIMIT, source, sink) {
+        Ok(opened) => opened,
+        Err(end) => return end,
+    };
+    write_ballots(alloc, at, input.as_slice(), sink)
+}
+
+/// Writes the ballots of a line of the input's text.
+fn write_ballots<K: Sink>(alloc: Global, at: u32, input: &[u8], sink: &mut K) -> End<BallotsFault>
+    requires { length input.now ≤ AUDIT_LIMIT }
+    ensures { FinishesOwed (IsOwedFor exports_freezes at input.now no_history) result
+        (writing K.written K.faults sink.old sink.new) }
+{
+    let Some((text, file)) = text_and_file(input) else {
+        return refuse(sink, BallotsFault::File(ended(input.len())));
+    };
+    match read_day(alloc, file) {
+        Ok(day) => write_at(alloc, at, text, day, sink),
+        Err(BltStop::Fault(fault)) => refuse(sink, BallotsFault::File(fault)),
+        Err(BltStop::NoMemory) => End::NoMemory,
+    }
+}
+
+/// The fault of an input in which no text ends.
+fn ended(len: usize) -> InputFault
+    ensures { result ≡ record { kind = FaultKind.Ended; at = len } }
+{
+    InputFault {
+        kind: FaultKind::Ended,
+        at: len,
+    }
+}

@@ -1,0 +1,58 @@
+// The ballot file of what stood at a freeze.
+ghost use Rattle.std.specs.Prelude.{◌≡◌, length};
+ghost use Rattle.day_reader.specs.Said.{AreScripts};
+ghost use Rattle.tool_edge.specs.Finishing.{FinishesOwed};
+ghost use Rattle.tool_edge.specs.Streams.{writing};
+ghost use Rattle.day_ballots.specs.Ballots.{IsOwedAtLine, IsOwedFile};
+
+use crate::BallotsFault;
+use crate::finding::find;
+use blt_writer::{Export, write_blt};
+use byte_edge::Sink;
+use candidate_roll::Roll;
+use day_reader::Day;
+use day_replay::{Frozen, follow};
+use std::alloc::Global;
+use tool_edge::{End, close, refuse};
+
+/// Writes the file of what stands at the freeze of a line of a text, or why there is none. The day's calls are
+/// made again in the order that the text's lines say.
+pub(crate) fn write_at<K: Sink>(
+    alloc: Global,
+    at: u32,
+    text: &[u8],
+    day: Day,
+    sink: &mut K,
+) -> End<BallotsFault>
+    requires scripts { AreScripts (length day.roll.names) day.scripts }
+    ensures { FinishesOwed (IsOwedAtLine day text.now at) result (writing K.written K.faults sink.old sink.new) }
+{
+    let Day { roll, scripts, .. } = day;
+    let Ok(followed) = follow(alloc, roll.candidates(), scripts, text) else {
+        return End::NoMemory;
+    };
+    match find(text, followed, at as u64) {
+        Ok(frozen) => write_frozen(alloc, &roll, frozen, sink),
+        Err(fault) => refuse(sink, fault),
+    }
+}
+
+/// Writes the file of what stood. All memory is taken before the first byte.
+fn write_frozen<K: Sink>(
+    alloc: Global,
+    roll: &Roll,
+    frozen: Frozen,
+    sink: &mut K,
+) -> End<BallotsFault>
+    requires { frozen.candidates ≡ length roll.now.names }
+    ensures { FinishesOwed (IsOwedFile roll.now frozen) result (writing K.written K.faults sink.old sink.new) }
+{
+    let Ok(roll) = roll.with_struck(alloc, frozen.struck()) else {
+        return End::NoMemory;
+    };
+    let Ok(mut export) = Export::begin(alloc, &roll, frozen.into_plans()) else {
+        return End::NoMemory;
+    };
+    let wrote = write_blt(&mut export, sink);
+    close(sink, wrote)
+}
