@@ -10,7 +10,6 @@ mod RisingRounds
 mod Tested
 mod Nesting
 mod Owing
-mod WordLemmas
 mod CsvLemmas
 mod JsonReads
 mod JsonTwins
