@@ -31,6 +31,8 @@ mod PageTexts
 mod PageTable
 mod PageIterations
 mod PageLabels
+mod BarCounts
+mod PageBars
 mod PageRounds
 mod PageSentences
 mod LeftSeats
