@@ -1,4 +1,5 @@
 mod Each
+mod Marks
 mod Counting
 mod Repeats
 mod LineItems
@@ -6,5 +7,6 @@ mod Texts
 mod Told
 mod NameLaws
 mod CountLaws
+mod PlaceLaws
 mod Firsts
 mod Owing

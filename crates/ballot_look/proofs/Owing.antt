@@ -61,7 +61,7 @@ sound either once = record {
 -- The text of this election is owed for the file that says it.
 pub look_owed :
     (input : List ℕ) (poll : Poll) (end : End InputFault) (sink : Writing) → length input ≤ FILE_LIMIT → SaysPoll input poll
-    → FinishesOwed (IsLookOf poll) end sink → FinishesOwed (IsOwedFor look_tool (tt {0}) input no_history) end sink
+    → FinishesOwed (IsLookOf input poll) end sink → FinishesOwed (IsOwedFor look_tool (tt {0}) input no_history) end sink
 look_owed input poll end sink short says (inl nothing) = inl nothing
 look_owed input poll end sink short says (inr (due, bytes, look, finishes)) =
     inr (

@@ -8,11 +8,11 @@ use Rattle.ballot_look.specs.Lines.{candidate_lines, count_line, for_later, only
 
 -- ---- lists
 
-front_none : (xs ys : List ℕ) → xs ++ ys ≡ [] → xs ≡ []
+pub front_none : (xs ys : List ℕ) → xs ++ ys ≡ [] → xs ≡ []
 front_none [] ys none = refl
 front_none (x ∷ xs) ys none = absurd (cc)
 
-back_none : (xs ys : List ℕ) → xs ++ ys ≡ [] → ys ≡ []
+pub back_none : (xs ys : List ℕ) → xs ++ ys ≡ [] → ys ≡ []
 back_none [] ys none = none
 back_none (x ∷ xs) ys none = absurd (cc)
 

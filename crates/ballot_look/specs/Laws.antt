@@ -1,11 +1,14 @@
 -- What holds of all files: which of them want no look, and what first preferences come to.
-use Rattle.std.specs.Prelude.{◌≡◌, ◌≢◌, ◌↔◌, ◌<◌, ◌≤◌, ◌+◌, ℕ, Bool, false, List, [], length, sum_by, All, Contains}
+use Rattle.std.specs.Prelude.{◌≡◌, ◌≢◌, ◌↔◌, ◌<◌, ◌≤◌, ◌+◌, ℕ, Bool, true, false, List, [], ◌∷◌, ◌++◌, length, sum_by, drop, All, Contains}
 use Rattle.std.specs.List.{range_with_len}
 use Rattle.std.specs.Str.{IsUtf8, chars}
 use Rattle.plain_ballots.specs.declared.ballot_line.BallotLine.{BallotLine}
 use Rattle.plain_ballots.specs.Ballots.{ballot_count, plain}
 use Rattle.plain_ballots.specs.Ranking.{IsRanking}
 use Rattle.candidate_roll.specs.Roll.{RollList}
+use Rattle.input_text.specs.Token.{Placed}
+use Rattle.ballot_look.specs.Breaks.{break_lines, further_lines, goes_on, strings, tokens_of}
+use Rattle.ballot_look.specs.Places.{line_at}
 use Rattle.ballot_look.specs.Counts.{has_first, how_many, is_empty, ranks_withdrawn, is_ranked}
 use Rattle.ballot_look.specs.Names.{is_directional, name_of, plainly, running}
 use Rattle.ballot_look.specs.Lines.{directional_lines, enough_seats_lines, like_name_lines, many_seats_lines, one_name_lines, other_bytes_lines, unranked_lines, withdrawn_lines}
@@ -69,3 +72,19 @@ FirstsAreAll =
     (candidates : ℕ) (lines : List BallotLine) → All (λ line. IsRanking candidates line.ranking) lines
     → sum_by (λ c. how_many (has_first c) lines) (range_with_len 1 candidates) + how_many is_empty lines
     ≡ ballot_count lines
+
+-- Nobody is warned of a line break exactly where, behind the numbers of candidates and seats, each count and each candidate
+-- of a ballot stands on one line with what is next.
+abbrev pub BreaksAreTold : Type 0
+BreaksAreTold =
+    (input : List ℕ)
+    → (break_lines input ≡ [])
+    ↔ ((front : List Placed) (token next : Placed) (behind : List Placed)
+    → drop 2 (tokens_of input) ≡ front ++ token ∷ next ∷ behind → goes_on token.item ≡ true
+    → line_at input token.at ≡ line_at input next.at)
+
+-- Nobody is warned of strings exactly where there are not more than the names and the title.
+abbrev pub FurtherAreTold : Type 0
+FurtherAreTold =
+    (input : List ℕ) (candidates : ℕ)
+    → (further_lines input candidates ≡ []) ↔ (length (strings (tokens_of input)) ≤ candidates + 1)

@@ -1,6 +1,8 @@
 pub mod Counts
 pub mod Names
 pub mod Lines
+pub mod Places
+pub mod Breaks
 pub mod Tally
 pub mod Doubts
 pub mod Said

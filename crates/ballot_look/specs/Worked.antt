@@ -1,9 +1,12 @@
 -- What is said of ballot files, worked by hand.
 use Rattle.std.specs.Prelude.{◌≡◌, ℕ, Bool, true, false, List, [], ◌∷◌, ◌++◌, codes, map}
+use Rattle.std.specs.List.{range_with_len}
 use Rattle.plain_ballots.specs.declared.ballot_line.BallotLine.{BallotLine}
 use Rattle.blt_reader.specs.Poll.{Poll}
+use Rattle.ballot_look.specs.Breaks.{place_warnings}
 use Rattle.ballot_look.specs.Lines.{look_text}
 use Rattle.ballot_look.specs.Names.{is_directional}
+use Rattle.ballot_look.specs.Places.{column_at, line_at}
 
 abbrev pub line_of : (count : ℕ) → (ranking : List ℕ) → BallotLine
 line_of count ranking = record { count = count; ranking = ranking }
@@ -54,3 +57,27 @@ Marks =
     map is_directional
     (0x200D ∷ 0x200E ∷ 0x200F ∷ 0x2010 ∷ 0x2029 ∷ 0x202A ∷ 0x202E ∷ 0x202F ∷ 0x2065 ∷ 0x2066 ∷ 0x2069 ∷ 0x206A ∷ [])
     ≡ false ∷ true ∷ true ∷ false ∷ false ∷ true ∷ true ∷ false ∷ false ∷ true ∷ true ∷ false ∷ []
+
+-- Three lines in eight bytes: a carriage return with a line feed behind it ends one line, a line feed with a carriage return
+-- behind it ends two.
+pub record Places : Type 0 where
+  pub lines :
+      map (line_at (codes "a\r\nb\n\rc")) (range_with_len 0 8) ≡ 1 ∷ 1 ∷ 2 ∷ 2 ∷ 2 ∷ 3 ∷ 4 ∷ 4 ∷ []
+  pub columns :
+      map (column_at (codes "a\r\nb\n\rc")) (range_with_len 0 8) ≡ 1 ∷ 2 ∷ 1 ∷ 1 ∷ 2 ∷ 1 ∷ 1 ∷ 2 ∷ []
+
+-- Five ballots without their 0, on the second line, and four with a line break before the last candidate, on the fifth;
+-- behind the title two strings on one line. The numbers of candidates and of seats stand on lines of their own, a comment
+-- stands between a ballot and its line break, and a line is empty.
+abbrev pub PartedFile : Type 0
+PartedFile =
+    place_warnings
+    (codes "3\n1 5 1 # five\r\n2 3 0\n\n 4 2\n 3 0\n0\n\"A\" \"B\"\n\"C\"\n\"T\"\n \"x\" \"y z\"\n") 3
+    ≡ codes "look line ends within a ballot 2 5\nlook line ends within a ballot 5 4\nlook string behind the title 11 2\nlook string behind the title 11 6\n"
+
+-- A byte order mark counts in columns, and carriage returns alone end lines. A candidate is parted from the 0 behind it. The
+-- title and the withdrawn stand on lines of their own, as they may.
+abbrev pub OldFile : Type 0
+OldFile =
+    place_warnings (239 ∷ 187 ∷ 191 ∷ codes "2 1\r-1\r-1 7 2\r0\r3 0\r0\r\"A\"\r\"B\"\r\"T\"") 2
+    ≡ codes "look line ends within a ballot 3 6\n"

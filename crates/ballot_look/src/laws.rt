@@ -1,5 +1,5 @@
 // What holds of all files.
-ghost use Rattle.ballot_look.specs.Laws.{FirstsAreAll, LikeNamesAreTold, MarksAreTold, OneNameIsTold, OtherBytesAreTold, SeatsAreTold, UnrankedAreTold, WithdrawnAreTold};
+ghost use Rattle.ballot_look.specs.Laws.{BreaksAreTold, FirstsAreAll, FurtherAreTold, LikeNamesAreTold, MarksAreTold, OneNameIsTold, OtherBytesAreTold, SeatsAreTold, UnrankedAreTold, WithdrawnAreTold};
 
 /// There is no line of a kind exactly where nothing of that kind wants a look; and the first preferences
 /// of all candidates are those ballots that rank somebody. The call does nothing.
@@ -11,5 +11,7 @@ pub fn looks_are_owed()
     ensures seats { SeatsAreTold }
     ensures unranked { UnrankedAreTold }
     ensures withdrawn { WithdrawnAreTold }
+    ensures breaks { BreaksAreTold }
+    ensures further { FurtherAreTold }
     ensures firsts { FirstsAreAll }
 {}

@@ -1,13 +1,16 @@
 //! What a ballot file says, before anything is counted: [`look`] reads a ballot file from a source and writes
 //! to a sink what was read, a fact a line, and behind it a line for each thing that wants a look before a count:
-//! names that are easily mistaken, seats for everybody, candidates on no ballot.
+//! names that are easily mistaken, seats for everybody, candidates on no ballot, a ballot that goes over a line
+//! break, strings behind the title.
 #![tactic(auto)]
 
+mod breaks;
 mod doubt;
 mod laws;
 mod likeness;
 mod lines;
 mod looking;
+mod mark;
 mod names;
 mod no_memory;
 mod run;

@@ -1,9 +1,11 @@
 // One pass over the ballots of a file, and the text of what was read.
 ghost use Rattle.std.specs.Prelude.{◌≡◌, ◌≤◌, ◌++◌, length, IfOk, OnOk};
+ghost use Rattle.ballot_look.specs.Breaks.{place_warnings};
 ghost use Rattle.ballot_look.specs.Lines.{ballots_text, count_text, count_warnings, facts_text, name_warnings, roll_text, text_of};
 ghost use Rattle.ballot_look.specs.Looked.{IsLooked, figures_of};
 ghost use Rattle.ballot_look.specs.Tally.{was_ranked};
 
+use crate::breaks::push_places;
 use crate::doubt::Doubt;
 use crate::likeness::Likeness;
 use crate::lines::{push_firsts, push_mean, push_withdrawn};
@@ -48,8 +50,25 @@ pub(crate) fn looked_at(alloc: Global, roll: &Roll, ballots: &Ballots) -> Result
     })
 }
 
+/// The text of what was read, and of what of the places in the file wants a look.
+pub(crate) fn whole_text(
+    alloc: Global,
+    input: &[u8],
+    roll: &Roll,
+    looked: &Looked,
+) -> Result<Text, NoMemory>
+    requires firsts { length looked.now.tally.firsts ≡ length roll.now.names }
+    requires ranked { length looked.now.tally.ranked ≡ length roll.now.names }
+    ensures { IfOk result (λ text. text ≡ text_of roll.now (figures_of looked.now)
+        ++ place_warnings input.now (length roll.now.names)) }
+{
+    let mut text = text_of(alloc, roll, looked)?;
+    push_places(&mut text, input, roll.candidates())?;
+    Ok(text)
+}
+
 /// The text of what was read.
-pub(crate) fn text_of(alloc: Global, roll: &Roll, looked: &Looked) -> Result<Text, NoMemory>
+fn text_of(alloc: Global, roll: &Roll, looked: &Looked) -> Result<Text, NoMemory>
     requires firsts { length looked.now.tally.firsts ≡ length roll.now.names }
     requires ranked { length looked.now.tally.ranked ≡ length roll.now.names }
     ensures { IfOk result (λ text. text ≡ text_of roll.now (figures_of looked.now)) }

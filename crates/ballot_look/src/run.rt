@@ -7,7 +7,7 @@ ghost use Rattle.tool_edge.specs.Tool.{IsOwedFor, IsRun, no_history};
 ghost use Rattle.blt_reader.specs.Election.{poll};
 ghost use Rattle.ballot_look.specs.Owed.{IsLookOf, look_tool};
 
-use crate::looking::{looked_at, text_of};
+use crate::looking::{looked_at, whole_text};
 use blt_reader::{Election, read_blt};
 use byte_edge::{Sink, Source};
 use std::alloc::Global;
@@ -45,21 +45,21 @@ fn tell<K: Sink>(alloc: Global, input: &[u8], sink: &mut K) -> End
         (writing K.written K.faults sink.old sink.new) }
 {
     match read_blt(alloc, input) {
-        Ok(election) => tell_election(alloc, &election, sink),
+        Ok(election) => tell_election(alloc, input, &election, sink),
         Err(stop) => refuse_input(sink, stop),
     }
 }
 
-/// Says what was read of a file of this election.
-fn tell_election<K: Sink>(alloc: Global, election: &Election, sink: &mut K) -> End
+/// Says what was read of the file of this election.
+fn tell_election<K: Sink>(alloc: Global, input: &[u8], election: &Election, sink: &mut K) -> End
     requires { election.now.ballots.candidates ≡ length election.now.roll.names }
-    ensures { FinishesOwed (IsLookOf (poll election.now)) result
+    ensures { FinishesOwed (IsLookOf input.now (poll election.now)) result
         (writing K.written K.faults sink.old sink.new) }
 {
     let Ok(looked) = looked_at(alloc, &election.roll, &election.ballots) else {
         return End::NoMemory;
     };
-    match text_of(alloc, &election.roll, &looked) {
+    match whole_text(alloc, input, &election.roll, &looked) {
         Ok(text) => finish(sink, End::Done, text.bytes()),
         Err(_) => End::NoMemory,
     }

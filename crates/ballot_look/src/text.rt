@@ -71,13 +71,13 @@ impl Text {
     }
 
     /// Appends a line of words and two numbers.
-    pub(crate) fn push_pair_line(&mut self, words: &[u8], c: u32, d: u32) -> Result<(), NoMemory>
+    pub(crate) fn push_pair_line(&mut self, words: &[u8], c: u64, d: u64) -> Result<(), NoMemory>
         ensures { OnOk result (self.new ≡ self.old ++ pair_line words.now c d) }
     {
         self.push(words)?;
-        self.push_count(u64::from(c))?;
+        self.push_count(c)?;
         self.push(b" ")?;
-        self.push_count(u64::from(d))?;
+        self.push_count(d)?;
         self.push(b"\n")
     }
 }

@@ -111,7 +111,7 @@ fn push_pair(
     if !are_like(alloc, roll, likeness, c, d)? {
         return Ok(());
     }
-    text.push_pair_line(likeness.words(), c, d)
+    text.push_pair_line(likeness.words(), u64::from(c), u64::from(d))
 }
 
 fn are_like(

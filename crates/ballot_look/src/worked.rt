@@ -1,5 +1,5 @@
 // Files worked by hand.
-ghost use Rattle.ballot_look.specs.Worked.{Marks, NoBallots, OddCounts, OddNames, QuietFile};
+ghost use Rattle.ballot_look.specs.Worked.{Marks, NoBallots, OddCounts, OddNames, OldFile, PartedFile, Places, QuietFile};
 
 /// What is said of these files, to the byte. The call does nothing.
 pub fn worked_looks()
@@ -8,4 +8,7 @@ pub fn worked_looks()
     ensures names { OddNames }
     ensures counts { OddCounts }
     ensures marks { Marks }
+    ensures places { Places }
+    ensures parted { PartedFile }
+    ensures old { OldFile }
 {}

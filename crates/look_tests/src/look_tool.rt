@@ -53,10 +53,33 @@ look ballots with withdrawn candidates 8\n";
 
 // Seven papers, of which five lost the 0 at the end of their line: what is left are five ballots for 1 and then 2.
 #[test]
-fn a_missing_zero_shows_in_the_numbers(rt: HostRuntime) -> Result<(), Fail> {
+fn a_missing_zero_wants_a_look(rt: HostRuntime) -> Result<(), Fail> {
     let file = b"3 1\n5 1\n2 3 0\n0\n\"Ann\"\n\"Ben\"\n\"Cid\"\n\"Board\"\n";
     let text = b"ballots 5\nlines 1\nempty 0\ncandidates 3\nseats 1\nwithdrawn none\ntitle Board\n\
-first 1 5 Ann\nfirst 2 0 Ben\nfirst 3 0 Cid\nmean 3.00\nequal 0\n";
+first 1 5 Ann\nfirst 2 0 Ben\nfirst 3 0 Cid\nmean 3.00\nequal 0\nlook line ends within a ballot 2 3\n";
+    says(&rt, rt.alloc(), file, text)
+}
+
+// Each token on a line of its own, lines that end with a carriage return, a line feed or both, and a byte order mark:
+// the count and the candidate of the one ballot are parted from what is next, in lines 4 and 5; nobody is elsewhere.
+#[test]
+fn lines_end_in_three_ways(rt: HostRuntime) -> Result<(), Fail> {
+    let file = b"\xef\xbb\xbf2\r\n1\r-2\n1\r\n 1\n\r0\r0\r\n\"A\"\n\"B\"\r\"T\"";
+    let text = b"ballots 1\nlines 1\nempty 0\ncandidates 2\nseats 1\nwithdrawn 2\ntitle T\n\
+first 1 1 A\nfirst 2 0 B\nmean 1.00\nequal 0\nlook a seat for everybody who runs\nlook on no ballot 2\n\
+look line ends within a ballot 4 1\nlook line ends within a ballot 5 2\n";
+    says(&rt, rt.alloc(), file, text)
+}
+
+// Four names of three candidates: the fourth is the title, and the title and a remark behind it are not kept. The
+// lines of the file are counted through its comment and its empty line.
+#[test]
+fn strings_behind_the_title_want_a_look(rt: HostRuntime) -> Result<(), Fail> {
+    let file =
+        b"# one more\n3 1\n4 1 2 3 0\n0\n\n\"Ann\" \"Ben\"\n\"Cid\" \"Dee\" \"Board\"\n\t\"two lines\"\n";
+    let text = b"ballots 4\nlines 1\nempty 0\ncandidates 3\nseats 1\nwithdrawn none\ntitle Dee\n\
+first 1 4 Ann\nfirst 2 0 Ben\nfirst 3 0 Cid\nmean 3.00\nequal 0\n\
+look string behind the title 7 13\nlook string behind the title 8 2\n";
     says(&rt, rt.alloc(), file, text)
 }
 

@@ -126,6 +126,18 @@ fn a_table_of_a_sheet_without_iterations_is_its_head(rt: HostRuntime) -> Result<
     is_shown(&rt, rt.alloc(), "--as csv", ONE, head)
 }
 
+// U+FEFF in UTF-8 is EF BB BF.
+#[test]
+fn a_marked_table_is_the_table_behind_a_byte_order_mark(rt: HostRuntime) -> Result<(), Fail> {
+    for words in ["--as csv --mark", "--mark --as csv"] {
+        let mut marked = Vec::new(rt.alloc());
+        marked.extend_from_slice(b"\xEF\xBB\xBF")?;
+        marked.extend_from_slice(SAMPLE_CSV)?;
+        is_shown(&rt, rt.alloc(), words, SHEET, marked.as_slice())?;
+    }
+    Ok(())
+}
+
 #[test]
 fn json_of_a_sheet_without_iterations(rt: HostRuntime) -> Result<(), Fail> {
     let text =

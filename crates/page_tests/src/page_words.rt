@@ -34,6 +34,14 @@ fn takes_a_format_or_nothing(rt: HostRuntime) -> Result<(), Fail> {
         ("csv", Err(WordsStop::BadWords)),
         ("as csv", Err(WordsStop::BadWords)),
         ("--as csv csv", Err(WordsStop::BadWords)),
+        ("--as csv --mark", Ok(Format::MarkedCsv)),
+        ("--mark --as csv", Ok(Format::MarkedCsv)),
+        ("--as --mark csv", Err(WordsStop::BadWords)),
+        ("--mark", Err(WordsStop::BadWords)),
+        ("--mark csv", Err(WordsStop::BadWords)),
+        ("--as html --mark", Err(WordsStop::BadWords)),
+        ("--mark --as json", Err(WordsStop::BadWords)),
+        ("--as csv --mark --mark", Err(WordsStop::BadWords)),
     ];
     for (text, format) in cases {
         asks(&rt, rt.alloc(), text, format)?;

@@ -10,7 +10,6 @@ mod RisingRounds
 mod Tested
 mod Nesting
 mod Owing
-mod WordLemmas
 mod CsvLemmas
 mod JsonReads
 mod JsonTwins
@@ -32,6 +31,8 @@ mod PageTexts
 mod PageTable
 mod PageIterations
 mod PageLabels
+mod BarCounts
+mod PageBars
 mod PageRounds
 mod PageSentences
 mod LeftSeats

@@ -12,12 +12,12 @@ use Rattle.tool_edge.specs.Finishing.{Finishes, FinishesOwed, Wrote}
 use Rattle.tool_edge.specs.Tool.{IsOwedFor, IsSound, no_history}
 use Rattle.tool_edge.specs.declared.opening.TheConstants.{FILE_LIMIT}
 use Rattle.sheet_page.specs.declared.format.Format.{Format}
-use Rattle.sheet_page.specs.declared.format.Format.TheVariants.{Html, Csv, Json, Text}
+use Rattle.sheet_page.specs.declared.format.Format.TheVariants.{Html, Csv, MarkedCsv, Json, Text}
 use Rattle.sheet_input.specs.declared.sheet_fault.SheetFault.{SheetFault}
 use Rattle.sheet_input.specs.declared.sheet_fault.SheetFault.TheVariants.{Malformed}
 use Rattle.sheet_input.specs.Sheets.{IsMalformed, malformed_line}
 use Rattle.sheet_input.proofs.Refused.{not_refused, refused_once}
-use Rattle.sheet_page.specs.Words.{TakesFormat, name_of}
+use Rattle.sheet_page.specs.Words.{TakesFormat, mark_first, words_of}
 use Rattle.sheet_page.specs.Owed.{shown_as, shows}
 
 -- what was written, as a tool's end takes it
@@ -67,35 +67,76 @@ json_not_text same =
     let first : 106 ≡ 116 = first_byte 106 116 (codes "son") (codes "ext") same in
     omega (arith, first)
 
-same_format : (one other : Format) → name_of one ≡ name_of other → one ≡ other
+-- names of formats that are behind `--as`, and nothing behind them
+unlike : (a b : Word) → (a ≡ b → ⊥) → codes "--as" ∷ a ∷ [] ≡ codes "--as" ∷ b ∷ [] → ⊥
+unlike a b apart same = apart (second a b same)
+  where
+    second : (a b : Word) → codes "--as" ∷ a ∷ [] ≡ codes "--as" ∷ b ∷ [] → a ≡ b
+    second a b same = cc
+
+same_format : (one other : Format) → words_of one ≡ words_of other → one ≡ other
 same_format Html Html same = refl
 same_format Html Csv same = cc
-same_format Html Json same = absurd (html_not_json same)
-same_format Html Text same = absurd (html_not_text same)
+same_format Html MarkedCsv same = cc
+same_format Html Json same = absurd (unlike (codes "html") (codes "json") html_not_json same)
+same_format Html Text same = absurd (unlike (codes "html") (codes "text") html_not_text same)
 same_format Csv Html same = cc
 same_format Csv Csv same = refl
+same_format Csv MarkedCsv same = cc
 same_format Csv Json same = cc
-same_format Csv Text same = absurd (csv_not_text same)
-same_format Json Html same = absurd (html_not_json (sym same))
+same_format Csv Text same = absurd (unlike (codes "csv") (codes "text") csv_not_text same)
+same_format MarkedCsv Html same = cc
+same_format MarkedCsv Csv same = cc
+same_format MarkedCsv MarkedCsv same = refl
+same_format MarkedCsv Json same = cc
+same_format MarkedCsv Text same = cc
+same_format Json Html same = absurd (unlike (codes "html") (codes "json") html_not_json (sym same))
 same_format Json Csv same = cc
+same_format Json MarkedCsv same = cc
 same_format Json Json same = refl
-same_format Json Text same = absurd (json_not_text same)
-same_format Text Html same = absurd (html_not_text (sym same))
-same_format Text Csv same = absurd (csv_not_text (sym same))
-same_format Text Json same = absurd (json_not_text (sym same))
+same_format Json Text same = absurd (unlike (codes "json") (codes "text") json_not_text same)
+same_format Text Html same = absurd (unlike (codes "html") (codes "text") html_not_text (sym same))
+same_format Text Csv same = absurd (unlike (codes "csv") (codes "text") csv_not_text (sym same))
+same_format Text MarkedCsv same = cc
+same_format Text Json same = absurd (unlike (codes "json") (codes "text") json_not_text (sym same))
 same_format Text Text same = refl
 
-second_word : (a b c d : Word) → a ∷ b ∷ [] ≡ c ∷ d ∷ [] → b ≡ d
-second_word a b c d same = cc
+-- words for a format are some
+not_none : (format : Format) (words : List Word) → words ≡ [] → words ≡ words_of format → ⊥
+not_none Html words none some = cc
+not_none Csv words none some = cc
+not_none MarkedCsv words none some = cc
+not_none Json words none some = cc
+not_none Text words none some = cc
 
-no_words : (words : List Word) (a b : Word) → words ≡ [] → words ≡ a ∷ b ∷ [] → ⊥
-no_words words a b none some = cc
+-- and begin with `--as`, unless the mark stands first: 97 and 109 are the letters behind the hyphens
+third_letter : (a b : ℕ) (front other : List ℕ) (words more : List Word)
+    → (45 ∷ 45 ∷ a ∷ front) ∷ words ≡ (45 ∷ 45 ∷ b ∷ other) ∷ more → a ≡ b
+third_letter a b front other words more same = cc
+
+not_first : (words : List Word) (name : Word) (behind : List Word) → words ≡ mark_first → words ≡ codes "--as" ∷ name ∷ behind → ⊥
+not_first words name behind first some =
+    let same : 109 ≡ 97 =
+    third_letter 109 97 (codes "ark") (codes "s") (codes "--as" ∷ codes "csv" ∷ []) (name ∷ behind) (sym first ∙ some) in
+    omega (arith, same)
+
+not_mark_first : (format : Format) (words : List Word) → words ≡ mark_first → words ≡ words_of format → ⊥
+not_mark_first Html words first some = not_first words _ _ first some
+not_mark_first Csv words first some = not_first words _ _ first some
+not_mark_first MarkedCsv words first some = not_first words _ _ first some
+not_mark_first Json words first some = not_first words _ _ first some
+not_mark_first Text words first some = not_first words _ _ first some
 
 one_format : (words : List Word) (one other : Format) → TakesFormat words one → TakesFormat words other → one ≡ other
 one_format words one other (inl none) (inl nothing) = none.1 ∙ sym nothing.1
-one_format words one other (inl none) (inr taken) = absurd (no_words words _ _ none.0 taken)
-one_format words one other (inr taken) (inl none) = absurd (no_words words _ _ none.0 taken)
-one_format words one other (inr taken) (inr again) = same_format one other (second_word _ _ _ _ (sym taken ∙ again))
+one_format words one other (inl none) (inr (inl first)) = absurd (cc (none.0, first.0))
+one_format words one other (inl none) (inr (inr taken)) = absurd (not_none other words none.0 taken)
+one_format words one other (inr (inl first)) (inl none) = absurd (cc (none.0, first.0))
+one_format words one other (inr (inl first)) (inr (inl again)) = first.1 ∙ sym again.1
+one_format words one other (inr (inl first)) (inr (inr taken)) = absurd (not_mark_first other words first.0 taken)
+one_format words one other (inr (inr taken)) (inl none) = absurd (not_none one words none.0 taken)
+one_format words one other (inr (inr taken)) (inr (inl first)) = absurd (not_mark_first one words first.0 taken)
+one_format words one other (inr (inr taken)) (inr (inr again)) = same_format one other (sym taken ∙ again)
 
 pub sound : IsSound shows
 sound = record {

@@ -40,3 +40,7 @@ csv_records v = csv_head ∷ flat_map (row_records v) v.rows
 
 abbrev pub csv_of : SheetList → List ℕ
 csv_of v = csv_text (csv_records v)
+
+-- the table behind a byte order mark, by which spreadsheets know that it is UTF-8
+abbrev pub marked_csv_of : SheetList → List ℕ
+marked_csv_of v = 0xEF ∷ 0xBB ∷ 0xBF ∷ csv_of v

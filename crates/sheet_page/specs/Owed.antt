@@ -8,9 +8,9 @@ use Rattle.sheet_input.specs.declared.sheet_fault.SheetFault.{SheetFault}
 use Rattle.sheet_input.specs.Sheets.{IsSheetText, IsRefusedSheet, sheet_refusals}
 use Rattle.sheet_minutes.specs.Minutes.{minutes_text}
 use Rattle.sheet_page.specs.declared.format.Format.{Format}
-use Rattle.sheet_page.specs.declared.format.Format.TheVariants.{Html, Csv, Json, Text}
+use Rattle.sheet_page.specs.declared.format.Format.TheVariants.{Html, Csv, MarkedCsv, Json, Text}
 use Rattle.sheet_page.specs.Words.{TakesFormat}
-use Rattle.sheet_page.specs.Csv.{csv_of}
+use Rattle.sheet_page.specs.Csv.{csv_of, marked_csv_of}
 use Rattle.sheet_page.specs.Json.{json_of}
 use Rattle.sheet_page.specs.Html.{html_of}
 
@@ -18,6 +18,7 @@ use Rattle.sheet_page.specs.Html.{html_of}
 abbrev pub shown_as : Format → SheetList → List ℕ
 shown_as Html v = html_of v
 shown_as Csv v = csv_of v
+shown_as MarkedCsv v = marked_csv_of v
 shown_as Json v = json_of v
 shown_as Text v = minutes_text v
 

@@ -1,5 +1,5 @@
 -- What every page shows of its sheet.
-use Rattle.std.specs.Prelude.{◌≡◌, ◌↔◌, ℕ, ◌+◌, ◌<◌, true, false, if◌then◌else◌, List, [], ◌∷◌, ◌++◌, length, map, codes, decimal, nat_eq, slice_index}
+use Rattle.std.specs.Prelude.{◌≡◌, ◌↔◌, ℕ, ◌+◌, ◌<◌, ◌≤◌, All, true, false, if◌then◌else◌, List, [], ◌∷◌, ◌++◌, length, map, codes, decimal, nat_eq, slice_index}
 use Rattle.std.specs.List.{filter, flat_map}
 use Rattle.candidate_roll.specs.State.{state_at}
 use Rattle.candidate_roll.specs.declared.state.State.{State}
@@ -8,13 +8,15 @@ use Rattle.fixed_place.specs.Text.{text_of}
 use Rattle.lot_order.specs.Flags.{mark_at}
 use Rattle.meek_rule.specs.Row.{Row}
 use Rattle.sheet_text.specs.Lines.{state_word}
+use Rattle.page_tree.specs.Trees.{Trees}
+use Rattle.sheet_reader.specs.Form.{IsPrintable}
 use Rattle.sheet_reader.specs.Values.{SheetList}
 use Rattle.sheet_minutes.specs.Rounds.{left_over, row_at}
 use Rattle.sheet_page.specs.Bars.{has_bar, rest_count, rest_votes}
 use Rattle.sheet_page.specs.Html.{is_seated, page}
 use Rattle.sheet_page.specs.Iterations.{concerns, keep_note, state_note}
 use Rattle.sheet_page.specs.Json.{joined}
-use Rattle.sheet_page.specs.PageReading.{along, texts_along}
+use Rattle.sheet_page.specs.PageReading.{along, children, texts_along}
 use Rattle.sheet_page.specs.RoundEnds.{settled}
 use Rattle.sheet_page.specs.Values.{places, name_at, step_word}
 
@@ -170,3 +172,17 @@ pub record HasItsIterations (v : SheetList) : Type 0 where
 
 abbrev pub PagesHaveTheirIterations : Type 0
 PagesHaveTheirIterations = (v : SheetList) → HasItsIterations v
+
+-- ---- pictures
+
+-- what stands within each picture of a page
+abbrev pub pictures_of : SheetList → List Trees
+pictures_of v = along (below (codes "svg" ∷ [])) (page v)
+
+-- how many bars stand in a picture
+abbrev pub bar_count : (picture : Trees) → ℕ
+bar_count picture = length (children (codes "rect") picture)
+
+-- No picture of a sheet's page has more than 24 bars, whoever stands and with what votes.
+abbrev pub PicturesAreSmall : Type 0
+PicturesAreSmall = (v : SheetList) → IsPrintable 9 v → All (λ picture. bar_count picture ≤ 24) (pictures_of v)

@@ -6,7 +6,7 @@ ghost use Rattle.csv_text.specs.Csv.{record_text};
 ghost use Rattle.meek_rule.specs.Row.{HasRoomFor};
 ghost use Rattle.piece_text.specs.Writing.{Writes};
 ghost use Rattle.sheet_reader.specs.Form.{IsPrintable};
-ghost use Rattle.sheet_page.specs.Csv.{csv_head, csv_of, csv_record, yes_or_no};
+ghost use Rattle.sheet_page.specs.Csv.{csv_head, csv_of, csv_record, marked_csv_of, yes_or_no};
 ghost use Rattle.sheet_page.specs.Prints.{Prints};
 ghost use Rattle.sheet_page.specs.Values.{places};
 
@@ -15,6 +15,7 @@ use crate::pen::Pen;
 use crate::values::{defeats, kept_of_one, state_word, step_word};
 use byte_edge::{Failed, Sink};
 use meek_rule::Row;
+use piece_text::write_bytes;
 use sheet_reader::SheetValues;
 
 /// Writes the values of a sheet as a table for spreadsheets: a head line, and a line for each candidate
@@ -29,6 +30,15 @@ pub(crate) fn write_csv<K: Sink>(values: &SheetValues, sink: &mut K) -> Result<(
         write_row(&mut pen, values, row);
     }
     pen.end()
+}
+
+/// Writes the same table behind a byte order mark.
+pub(crate) fn write_marked_csv<K: Sink>(values: &SheetValues, sink: &mut K) -> Result<(), Failed>
+    requires { IsPrintable 9 values.now }
+    ensures { Writes K.written K.faults sink.old sink.new (marked_csv_of values.now) result }
+{
+    write_bytes(b"\xEF\xBB\xBF", sink)?;
+    write_csv(values, sink)
 }
 
 /// The names of the columns.

@@ -5,6 +5,8 @@ pub enum Format {
     Html,
     /// A table of all iterations, for spreadsheets.
     Csv,
+    /// The same table behind a byte order mark, which tells spreadsheets that it is UTF-8.
+    MarkedCsv,
     /// All values, for programs.
     Json,
     /// A text for a terminal, a mail or the minutes.

@@ -1,5 +1,5 @@
 // What holds of every page, of every round, of every table and of all JSON.
-ghost use Rattle.sheet_page.specs.PageLaws.{PagesHaveTheirIterations, PagesHaveTheirRounds, PagesListTheirElected};
+ghost use Rattle.sheet_page.specs.PageLaws.{PagesHaveTheirIterations, PagesHaveTheirRounds, PagesListTheirElected, PicturesAreSmall};
 ghost use Rattle.sheet_page.specs.SentenceLaws.{PagesSayTheirDecisions};
 ghost use Rattle.sheet_page.specs.Laws.{JsonSaysItsSheet, PagesNest, RisingRoundsAreWhole, SheetsAreJson, StringsAreReadBack, TablesAreReadBack, TablesSayTheirSheets, TextsSayOneThing};
 
@@ -22,6 +22,12 @@ pub fn pages_say_their_sheets()
     ensures rounds { PagesHaveTheirRounds }
     ensures iterations { PagesHaveTheirIterations }
     ensures decisions { PagesSayTheirDecisions }
+{}
+
+/// No picture of a page has more than 24 bars: of more candidates who stand in a round those with the fewest
+/// votes have none, and are summed in words. The call does nothing.
+pub fn pictures_are_small()
+    ensures { PicturesAreSmall }
 {}
 
 /// Where the numbers of rounds never fall, as in every count, the part of a round has all iterations of

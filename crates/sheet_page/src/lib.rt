@@ -35,8 +35,8 @@ mod worked;
 
 pub use format::Format;
 pub use laws::{
-    pages_nest, pages_say_their_sheets, rising_rounds_are_whole, sheets_are_json,
-    strings_are_read_back, tables_are_read_back,
+    pages_nest, pages_say_their_sheets, pictures_are_small, rising_rounds_are_whole,
+    sheets_are_json, strings_are_read_back, tables_are_read_back,
 };
 pub use tool::page;
 pub use words::takes_format;

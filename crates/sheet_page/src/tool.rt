@@ -9,7 +9,7 @@ ghost use Rattle.piece_text.specs.Writing.{Writes};
 ghost use Rattle.sheet_reader.specs.Form.{IsPrintable};
 ghost use Rattle.sheet_page.specs.Owed.{shown_as, shows};
 
-use crate::csv::write_csv;
+use crate::csv::{write_csv, write_marked_csv};
 use crate::html::write_html;
 use crate::json::write_json;
 use crate::{Format, takes_format};
@@ -72,6 +72,7 @@ fn write_values<K: Sink>(format: Format, values: &SheetValues, sink: &mut K) -> 
     match format {
         Format::Html => write_html(values, sink),
         Format::Csv => write_csv(values, sink),
+        Format::MarkedCsv => write_marked_csv(values, sink),
         Format::Json => write_json(values, sink),
         Format::Text => write_minutes(values, sink),
     }

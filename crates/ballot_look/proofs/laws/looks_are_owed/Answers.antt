@@ -1,6 +1,7 @@
 use Rattle.ballot_look.proofs.CountLaws as counts
 use Rattle.ballot_look.proofs.Firsts as firsts
 use Rattle.ballot_look.proofs.NameLaws as names
+use Rattle.ballot_look.proofs.PlaceLaws as places
 use Rattle.ballot_look.proofs.laws.looks_are_owed.Goals as goal
 
 pub returns-clause-one_name : goal.returns-clause-one_name
@@ -23,6 +24,12 @@ returns-clause-unranked c = counts.unranked
 
 pub returns-clause-withdrawn : goal.returns-clause-withdrawn
 returns-clause-withdrawn c = counts.withdrawn
+
+pub returns-clause-breaks : goal.returns-clause-breaks
+returns-clause-breaks c = places.breaks
+
+pub returns-clause-further : goal.returns-clause-further
+returns-clause-further c = places.further
 
 pub returns-clause-firsts : goal.returns-clause-firsts
 returns-clause-firsts c = firsts.firsts

@@ -2,6 +2,7 @@ use lib.Utf8.{encode}
 use Rattle.std.proofs.Common.{refl}
 use Rattle.std.specs.Fmt.{digits}
 use Rattle.std.specs.Str.{chars, is_utf8}
+use Rattle.input_text.specs.Scan.{cut, minus_piece, number_piece, piece, string_piece}
 use Rattle.ballot_look.proofs.worked.worked_looks.Goals as goal
 
 pub returns-clause-quiet : goal.returns-clause-quiet
@@ -22,3 +23,14 @@ returns-clause-counts c = refl
 
 pub returns-clause-marks : goal.returns-clause-marks
 returns-clause-marks c = refl
+
+pub returns-clause-places : goal.returns-clause-places
+returns-clause-places c = record { lines = refl; columns = refl }
+
+pub returns-clause-parted : goal.returns-clause-parted
+unfolding digits cut piece number_piece minus_piece string_piece
+returns-clause-parted c = refl
+
+pub returns-clause-old : goal.returns-clause-old
+unfolding digits cut piece number_piece minus_piece string_piece
+returns-clause-old c = refl

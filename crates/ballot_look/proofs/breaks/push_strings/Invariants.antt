@@ -1,0 +1,16 @@
+use Rattle.std.proofs.Common.{◌≡◌, ◌++◌, length}
+use Rattle.ballot_look.specs.Breaks.{string_lines, strings}
+use Rattle.ballot_look.specs.Places.{IsMark}
+use Rattle.ballot_look.proofs.breaks.push_strings.Given as goal
+
+abbrev pub invariant-loop-token : goal.invariant-loop-token
+invariant-loop-token l = record {
+  bytes : l.tokens.bytes ≡ l.input;
+  mark : IsMark l.input l.mark;
+  text :
+      l.text ++ string_lines l.input (strings l.tokens.rest.tokens)
+      ≡ l.fn.text ++ string_lines l.input (strings l.fn.tokens.rest.tokens);
+}
+
+abbrev pub decreases-loop-token : goal.decreases-loop-token
+decreases-loop-token l = length (strings l.tokens.rest.tokens)
