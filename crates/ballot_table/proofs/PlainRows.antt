@@ -11,7 +11,8 @@ use Rattle.ballot_marks.specs.declared.mark.Mark.{Mark}
 use Rattle.ballot_marks.specs.declared.says.Says.{Says}
 use Rattle.ballot_marks.specs.declared.treated.Treated.{Treated}
 use Rattle.ballot_marks.specs.declared.treatment.Treatment.{Treatment}
-use Rattle.ballot_marks.specs.Ballot.{effective, end_way, is_closed, is_cut, is_passed, judged, ranked, ranks_of as ranks_ranked}
+use Rattle.ballot_marks.specs.Ballot.{effective, end_way, is_closed, is_cut, is_passed, judged, ranked}
+use Rattle.ballot_marks.specs.Ballot.{ranks_of as ranks_ranked}
 use Rattle.ballot_marks.specs.Laws.{IsPlain, PlainMarksAreRanked, TreatmentsOnlyMend, strict}
 use Rattle.ballot_marks.specs.Marks.{plain_mark}
 use Rattle.table_text.specs.Short.{short_number}
@@ -26,7 +27,8 @@ use Rattle.ballot_table.specs.Faults.{sound}
 use Rattle.ballot_table.specs.Finding.{among, candidates_at, candidates_in}
 use Rattle.ballot_table.specs.JudgedRows.{HasNoFault, IsJudgedRow, row_there}
 use Rattle.ballot_table.specs.PlainRows.{HasPlainRanks, IsPlaced, IsPlainRow, rank_or_none}
-use Rattle.ballot_table.specs.Rows.{by_rank, cells_of, marks_of, ranks_of, said_at, said_in, said_up_to, weight_at, weight_in}
+use Rattle.ballot_table.specs.Rows.{by_rank, cells_of, marks_of, ranks_of, said_at, said_in, said_up_to}
+use Rattle.ballot_table.specs.Rows.{weight_at, weight_in}
 use Rattle.ballot_table.proofs.FaultLemmas.{not_refused}
 use Rattle.ballot_table.proofs.PlacedLemmas.{placed_rank, placed_say}
 use Rattle.ballot_table.proofs.SayingLemmas.{plain_marks, plainly}
@@ -91,7 +93,8 @@ module _ (asked : Asked) (plain : HasPlainRanks asked) (room : ℕ) where
 
 -- ---- a row
 
-module _ (asked : Asked) (plain : HasPlainRanks asked) (columns : List Column) (texts : List (List ℕ)) (placed : List ℕ) (last : ℕ)
+module _ (asked : Asked) (plain : HasPlainRanks asked) (columns : List Column) (texts : List (List ℕ))
+    (placed : List ℕ) (last : ℕ)
     (is : IsPlaced columns texts placed last) (long : length texts ≡ length columns)
     (some : All (λ c. c ≢ 0) (between 1 (last + 1) placed))
   where
@@ -129,7 +132,8 @@ module _ (asked : Asked) (plain : HasPlainRanks asked) (columns : List Column) (
 -- ---- what a plain row comes to
 
 module _ (ranked_as_they_stand : PlainMarksAreRanked) (only_mended : TreatmentsOnlyMend) (asked : Asked) (t : Treatment)
-    (room : ℕ) (columns : List Column) (texts : List (List ℕ)) (ranking : List ℕ) (is : IsPlainRow asked columns texts ranking)
+    (room : ℕ) (columns : List Column) (texts : List (List ℕ)) (ranking : List ℕ)
+    (is : IsPlainRow asked columns texts ranking)
   where
     comes_to : IsPlain t (map plain_mark ranking) ranking
     comes_to = only_mended t (map plain_mark ranking) ranking (ranked_as_they_stand strict ranking is.sound.different)
@@ -150,7 +154,8 @@ module _ (ranked_as_they_stand : PlainMarksAreRanked) (only_mended : TreatmentsO
 
     pub plain_is_judged : (judged_row : JudgedRow) → judged_row.weight ≡ 0 → judged_row.count ≡ 1
         → judged_row.treated ≡ record { ranking = ranking; closed = false; passed = false; cut = false }
-        → IsJudgedRow (candidates_in asked columns) t (weight_at columns texts) (row_there asked room columns texts) judged_row
+        → IsJudgedRow (candidates_in asked columns) t (weight_at columns texts)
+        (row_there asked room columns texts) judged_row
     plain_is_judged row weight count treated =
         record {
           weight_is = weight ∙ sym is.weight;

@@ -1,5 +1,6 @@
 -- Short numbers in fields, and the ranks that they are.
-use Rattle.std.proofs.Common.{◌≡◌, ℕ, ◌+◌, ◌-◌, ◌*◌, ◌<◌, ◌≤◌, ◌==◌, ◌&&◌, ◌||◌, Bool, true, false, cond, leb, nat_lt, List, [], ◌∷◌}
+use Rattle.std.proofs.Common.{◌≡◌, ℕ, ◌+◌, ◌-◌, ◌*◌, ◌<◌, ◌≤◌, ◌==◌, ◌&&◌, ◌||◌, Bool, true, false, cond, leb}
+use Rattle.std.proofs.Common.{nat_lt, List, [], ◌∷◌}
 use Rattle.std.proofs.Common.{length, take, drop, Option, Some, None, Result, Ok, refl, ap, sym, ◌∙◌, arith}
 use Rattle.std.proofs.lemmas.Bool.{ne_eqb, le-leb, lt-ltb, leb-true, and_from, and_parts}
 use Rattle.std.specs.List.{prefix_len, suffix_len}

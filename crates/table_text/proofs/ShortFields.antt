@@ -109,7 +109,7 @@ module _ (s : ℕ) (bytes : List ℕ) (at : ℕ) (long : at + 2 < length bytes) 
     two_there : IsDigit a → IsDigit b → get_or bytes (at + 1 + 1) 0 ≡ s → Is (at + 1 + 1) ((a - 48) * 10 + (b - 48))
     two_there is next ends =
         field_is (at + 1 + 1) ((a - 48) * 10 + (b - 48)) (omega arith) (omega (arith, long))
-          (λ e. omega (arith, e, is.least)) ends
+        (λ e. omega (arith, e, is.least)) ends
         (one_more (at + 1) (omega arith) (omega (arith, long)) next
         (one_more at (omega arith) (omega (arith, long)) is (over_none s bytes at Plain)))
         (ap (λ (l : List ℕ). number_or_none (short_number l))

@@ -9,7 +9,8 @@ new-requires c =
     let plain = c.if-not-has_plain_ranks.ensures.0 refl in
     let some = c.if-not-are_held.ensures.0 refl in
     let is =
-    is_plain_row (asked_of c.args.asked.now) plain c.args.columns.now c.args.sheet.now.texts c.place_each.new.placed c.in-Some.last
+    is_plain_row (asked_of c.args.asked.now) plain c.args.columns.now c.args.sheet.now.texts
+    c.place_each.new.placed c.in-Some.last
     c.in-Some.ensures c.requires.texts some in
     record { positive = λ k d inside. (is.sound.numbers k d inside).0; different = is.sound.different }
 
@@ -19,5 +20,6 @@ returns c =
     let some = c.if-not-are_held.ensures.0 refl in
     subst (λ (ranking : List ℕ). IsPlainRow (asked_of c.args.asked.now) c.args.columns.now c.args.sheet.now.texts ranking)
     (sym c.in_ok-ranking.ensures)
-    (is_plain_row (asked_of c.args.asked.now) plain c.args.columns.now c.args.sheet.now.texts c.place_each.new.placed c.in-Some.last
+    (is_plain_row (asked_of c.args.asked.now) plain c.args.columns.now c.args.sheet.now.texts
+    c.place_each.new.placed c.in-Some.last
     c.in-Some.ensures c.requires.texts some)

@@ -15,6 +15,8 @@ returns-then-number-lt-NO_NUMBER-clause-number c =
     let cell : Cell = get_or c.items.result.now c.args.at none in
     let texts = ap (λ (o : Opened). o.texts) c.self.view_is in
     let inside = subst (λ (ts : List (List ℕ)). c.args.at < length ts) (sym texts) c.requires in
-    ap short_number (sym (text_at bytes cells c.items.result.now c.args.at none c.items.ensures inside ∙ ap (λ (ts : List (List ℕ)). get_or ts c.args.at []) texts))
-    ∙ number_is (slice_range bytes cell.at cell.stop) cell.number (cell_at bytes cells c.items.result.now c.args.at none c.items.ensures inside c.self.invariant).number
+    ap short_number (sym (text_at bytes cells c.items.result.now c.args.at none c.items.ensures inside
+    ∙ ap (λ (ts : List (List ℕ)). get_or ts c.args.at []) texts))
+    ∙ number_is (slice_range bytes cell.at cell.stop) cell.number
+    (cell_at bytes cells c.items.result.now c.args.at none c.items.ensures inside c.self.invariant).number
     c.if-number-lt-NO_NUMBER.true
