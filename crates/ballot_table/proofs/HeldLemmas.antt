@@ -22,7 +22,7 @@ enumerate_push n (y ∷ ys) x =
     ∙ ap (λ k. enumerate_from (n + 1) ys ++ (k, x) ∷ []) (omega arith))
 
 -- one more candidate
-holders_more : (rank : ℕ) (ranks : List (Option ℕ)) (q : Option ℕ)
+pub holders_more : (rank : ℕ) (ranks : List (Option ℕ)) (q : Option ℕ)
     → holders rank (ranks ++ q ∷ []) ≡ holders rank ranks ++ option_to_list (holder rank (1 + length ranks, q))
 holders_more rank ranks q =
     ap (filter_map (holder rank)) (enumerate_push 1 ranks q)
@@ -53,11 +53,11 @@ held_some cs None c is = absurd (cc is)
 held_some cs (Some d) c is = held_more cs d ∙ ap (with_holder (held_by cs)) (cc is)
 
 -- a rank that isn't a candidate's
-no_holder : (rank c : ℕ) (q : Option ℕ) → ((r : ℕ) → q ≡ Some r → r ≡ rank → ⊥) → holder rank (c, q) ≡ None
+pub no_holder : (rank c : ℕ) (q : Option ℕ) → ((r : ℕ) → q ≡ Some r → r ≡ rank → ⊥) → holder rank (c, q) ≡ None
 no_holder rank c None other = refl
 no_holder rank c (Some r) other = grind (arith, other r refl)
 
-the_holder : (rank c r : ℕ) → r ≡ rank → holder rank (c, Some r) ≡ Some c
+pub the_holder : (rank c r : ℕ) → r ≡ rank → holder rank (c, Some r) ≡ Some c
 the_holder rank c r same = grind arith
 
 -- nobody has a rank before the first candidate

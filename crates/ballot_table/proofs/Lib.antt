@@ -27,3 +27,6 @@ mod WithinLemmas
 mod GrowingLemmas
 mod FreeLemmas
 mod SheetLemmas
+mod ShortTexts
+mod PlacedLemmas
+mod PlainRows

@@ -68,7 +68,7 @@ marked behind (c ∷ ranks) =
     ap (λ (k : ℕ). record { skipped = k; says = One c } ∷ more) none
     ∙ ap (λ (ms : List Mark). plain_mark c ∷ ms) (marked (behind + 1) ranks)
 
-plain_marks : (ranks : List ℕ) (j : ℕ) → marks_of (by_rank (plainly ranks j)) ≡ map plain_mark ranks
+pub plain_marks : (ranks : List ℕ) (j : ℕ) → marks_of (by_rank (plainly ranks j)) ≡ map plain_mark ranks
 plain_marks ranks j =
     ap marks_of (said_ranks _ (λ rank. refl) (λ rank s. refl) 0 j ranks) ∙ marked 0 ranks
 

@@ -1,11 +1,11 @@
 -- The fields of a record, and their texts.
 use Rattle.std.proofs.Common.{◌≡◌, ℕ, ◌<◌, List, [], length, get_or}
-use Rattle.std.proofs.Common.{ap, sym, ◌∙◌, arith}
+use Rattle.std.proofs.Common.{All, ap, sym, ◌∙◌, subst, arith}
 use Rattle.std.proofs.lemmas.List.{get_or-map, length-map}
 use Rattle.std.specs.Prelude.{slice_range}
 use Rattle.table_text.specs.declared.cell.Cell.{Cell}
 use Rattle.table_text.specs.Reading.{Field, field_text}
-use Rattle.table_text.specs.Reader.{field_at, fields_at}
+use Rattle.table_text.specs.Reader.{IsCellOf, field_at, fields_at}
 use Rattle.ballot_table.specs.Sheets.{texts_at}
 use Rattle.ballot_table.specs.Texts.{trimmed}
 
@@ -27,3 +27,10 @@ text_at bytes cells items at other same inside =
     ap (λ (cs : List Cell). text (field_at bytes (get_or cs at other))) same
     ∙ ap text (sym (get_or-map (field_at bytes) cells at other (field_at bytes other) (inside_cells bytes cells at inside)))
     ∙ sym (get_or-map text (fields_at bytes cells) at (field_at bytes other) [] (omega (arith, inside, texts)))
+
+-- the cell at a place
+pub cell_at : (bytes : List ℕ) (cells items : List Cell) (at : ℕ) (other : Cell) → items ≡ cells
+    → at < length (texts_at bytes cells) → All (IsCellOf bytes) cells → IsCellOf bytes (get_or items at other)
+cell_at bytes cells items at other same inside all =
+    subst (λ (cs : List Cell). IsCellOf bytes (get_or cs at other)) (sym same)
+    (all at other (inside_cells bytes cells at inside))

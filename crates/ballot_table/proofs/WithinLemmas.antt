@@ -62,7 +62,7 @@ marks_one_of n says all = marks_within n 0 (by_rank says) (said_within n 1 says 
 -- ---- ranks of candidates
 
 -- the holders of a rank are among so many candidates from one on
-abbrev IsFrom : (from n : ℕ) → ℕ → Type 0
+abbrev pub IsFrom : (from n : ℕ) → ℕ → Type 0
 IsFrom from n c = (from ≤ c) × (c < from + n)
 
 wider : (from n : ℕ) (cs : List ℕ) → All (IsFrom (from + 1) n) cs → All (IsFrom from (n + 1)) cs
@@ -81,7 +81,7 @@ with_holder_first rank from n (Some r) cs all = by_test (eqb r rank)
     by_test true = All-cons (IsFrom from (n + 1)) from cs (omega arith, omega arith) all
     by_test false = all
 
-holders_from : (rank from : ℕ) (ranks : List (Option ℕ))
+pub holders_from : (rank from : ℕ) (ranks : List (Option ℕ))
     → All (IsFrom from (length ranks)) (filter_map (holder rank) (enumerate_from from ranks))
 holders_from rank from [] = All-nil (IsFrom from 0)
 holders_from rank from (q ∷ qs) =

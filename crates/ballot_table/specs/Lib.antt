@@ -21,3 +21,4 @@ pub mod Layouts
 pub mod Worked
 pub mod WorkedTexts
 pub mod WorkedReports
+pub mod PlainRows

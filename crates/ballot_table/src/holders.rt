@@ -107,7 +107,8 @@ impl Holders {
     }
 }
 
-fn greater(a: usize, b: usize) -> usize
+/// The greater of two numbers.
+pub(crate) fn greater(a: usize, b: usize) -> usize
     ensures one { a ≤ result }
     ensures other { b ≤ result }
     ensures least { (n : ℕ) → a ≤ n → b ≤ n → result ≤ n }

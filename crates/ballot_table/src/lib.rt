@@ -22,6 +22,7 @@ mod laws;
 mod layout;
 mod numbers;
 mod numeral;
+mod plain_row;
 mod reader;
 mod record_stop;
 mod row;

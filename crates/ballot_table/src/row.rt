@@ -1,5 +1,5 @@
 // A row of a table.
-ghost use Rattle.std.specs.Prelude.{◌≡◌, ◌<◌, ◌≤◌, ◌+◌, min, position, None, length, sum_by, OnOk};
+ghost use Rattle.std.specs.Prelude.{◌≡◌, ◌<◌, ◌≤◌, ◌+◌, min, position, None, false, length, sum_by, OnOk};
 ghost use Rattle.std.specs.Prelude.{IfOk, IfErr, IfSome};
 ghost use Rattle.plain_ballots.specs.declared.limits.TheConstants.{MOST_BALLOTS, MOST_CANDIDATES};
 ghost use Rattle.ballot_table.specs.Asked.{asked_of};
@@ -10,11 +10,13 @@ ghost use Rattle.ballot_table.specs.Refusals.{kind_of, place_of, is_candidate, i
 ghost use Rattle.ballot_table.specs.Rows.{row_of, weight_at};
 
 use crate::fault::Fault;
+use crate::plain_row::plain_ranking;
 use crate::record_stop::RecordStop;
 use crate::row_cells::RowCells;
 use crate::sheet::Sheet;
 use crate::{Column, Empty, Layout, TableAsked, TableKind};
-use ballot_marks::{TreatStop, Treated, Why, treat};
+use ballot_marks::{TreatStop, Treated, Why, rankings_of_marks, treat, treatments_only_mend};
+use plain_ballots::Ranking;
 use std::alloc::Global;
 
 /// What a row comes to: the number of ballots that it stands for, and their ranking.
@@ -53,8 +55,54 @@ pub(crate) fn read_row(
             Empty::Keep => {}
         }
     }
-    let row = judge_cells(alloc, asked, room, columns, sheet, cells)?;
+    let row = judge(alloc, asked, room, columns, sheet, cells)?;
     Ok(Some(row))
+}
+
+// What a row comes to that isn't dropped: what is plain in one pass, and any other cell by cell.
+fn judge(
+    alloc: Global,
+    asked: &TableAsked,
+    room: u32,
+    columns: &[Column],
+    sheet: &Sheet<'_>,
+    cells: &mut RowCells,
+) -> Result<JudgedRow, RecordStop>
+    requires names { length asked.now.candidates ≤ MOST_CANDIDATES }
+    requires room { room ≤ MOST_BALLOTS }
+    requires few { sum_by candidates_at columns.now ≤ MOST_CANDIDATES }
+    requires texts { length sheet.now.texts ≡ length columns.now }
+    ensures stop { IfErr result (IsRowStop (cells_fault (asked_of asked.now) asked.now.treatment room columns.now sheet.now.texts)) }
+    ensures sound { OnOk result (HasNoFault (asked_of asked.now) asked.now.treatment room columns.now sheet.now.texts) }
+    ensures row { IfOk result (IsJudgedRow (candidates_in (asked_of asked.now) columns.now) asked.now.treatment (weight_at columns.now sheet.now.texts)
+        (row_there (asked_of asked.now) room columns.now sheet.now.texts)) }
+{
+    rankings_of_marks();
+    treatments_only_mend();
+    match plain_ranking(alloc, asked, columns, sheet)? {
+        Some(ranking) => Ok(plain_row(ranking)),
+        None => judge_cells(alloc, asked, room, columns, sheet, cells),
+    }
+}
+
+// One ballot of a ranking that its marks say plainly.
+fn plain_row(ranking: Ranking) -> JudgedRow
+    ensures { result ≡ record {
+      weight = 0;
+      count = 1;
+      treated = record { ranking = ranking; closed = false; passed = false; cut = false };
+    } }
+{
+    JudgedRow {
+        weight: 0,
+        count: 1,
+        treated: Treated {
+            ranking,
+            closed: false,
+            passed: false,
+            cut: false,
+        },
+    }
 }
 
 // What the cells of a row come to.

@@ -1,8 +1,10 @@
 // The records of a table with their texts.
-ghost use Rattle.std.specs.Prelude.{◌≡◌, ◌<◌, [], length, min, slice_range, IfOk};
+ghost use Rattle.std.specs.Prelude.{◌≡◌, ◌<◌, [], length, min, slice_range, IfOk, IfSome, Some};
 ghost use Rattle.std.specs.List.{slice_index_or};
 ghost use Rattle.table_text.specs.Reading.{field_text, read_text};
 ghost use Rattle.table_text.specs.Reader.{IsCellOf};
+ghost use Rattle.table_text.specs.Short.{short_number};
+ghost use Rattle.table_text.specs.declared.short.TheConstants.{NO_NUMBER};
 ghost use Rattle.table_text.specs.declared.text_fault.TheConstants.{MAX_COUNT};
 ghost use Rattle.ballot_table.specs.Imported.{byte_at, stop_at, is_of_words};
 ghost use Rattle.ballot_table.specs.Rows.{all_blank, is_empty};
@@ -15,7 +17,7 @@ use crate::{TableKind, TableStop, Text, Texts};
 use plain_ballots::NoMemory;
 use std::alloc::Global;
 use std::marker::Model;
-use table_text::{Cell, Cells, MAX_COUNT, Records, Step, TextStop};
+use table_text::{Cell, Cells, MAX_COUNT, NO_NUMBER, Records, Step, TextStop};
 
 /// Where a record stands: its bytes and its number.
 #[derive(Clone, Copy, Debug, PartialEq, Eq)]
@@ -90,6 +92,21 @@ impl<'a> Sheet<'a> {
                 Ok(field) => Ok(field),
                 Err(_) => Err(NoMemory),
             },
+        }
+    }
+
+    /// The short number that the field at a place is, if it is written as one.
+    #[inline(always)]
+    pub fn number(&self, at: usize) -> Option<u32>
+        requires { at < length self.now.texts }
+        ensures number { IfSome result (λ number. short_number (slice_index_or self.now.texts at []) ≡ Some number) }
+        ensures short { IfSome result (λ number. number < NO_NUMBER) }
+    {
+        let number = self.cells.items()[at].number;
+        if number < NO_NUMBER {
+            Some(number)
+        } else {
+            None
         }
     }
 

@@ -1,10 +1,11 @@
 // What the words say of a table.
-ghost use Rattle.std.specs.Prelude.{◌≡◌, ◌≤◌, length};
+ghost use Rattle.std.specs.Prelude.{◌≡◌, ◌≤◌, ◌↔◌, length, IsTrue};
 ghost use Rattle.plain_ballots.specs.declared.limits.TheConstants.{MOST_CANDIDATES};
 ghost use Rattle.ballot_table.specs.Cells.{is_blank, rank_in, says_in};
 ghost use Rattle.ballot_table.specs.Finding.{among};
 ghost use Rattle.ballot_table.specs.Head.{name_of, labelled};
 ghost use Rattle.ballot_table.specs.Asked.{asked_of};
+ghost use Rattle.ballot_table.specs.PlainRows.{HasPlainRanks};
 ghost use Rattle.ballot_table.specs.Texts.{is_in, number_in};
 
 use crate::among::{is_in, name_in, number_in};
@@ -72,6 +73,16 @@ impl TableAsked {
         ensures { result ≡ is_blank (asked_of self.now) text.now }
     {
         text.is_empty() || is_in(self.blank.items(), text)
+    }
+
+    /// Whether ranks are numbers in a column for each candidate, and no text but the empty one is blank.
+    pub(crate) fn has_plain_ranks(&self) -> bool
+        ensures { IsTrue result ↔ HasPlainRanks (asked_of self.now) }
+    {
+        match self.layout {
+            Layout::Ranks => self.ranks.len() == 0 && self.blank.len() == 0,
+            Layout::Choices | Layout::List => false,
+        }
     }
 
     /// The rank in the cell of a candidate, if it isn't blank.

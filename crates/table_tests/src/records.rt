@@ -2,7 +2,9 @@
 use std::alloc::Global;
 use std::process::Abort;
 use std::test::Fail;
-use table_text::{Cell, Cells, Records, Step, TextFault, TextKind, TextStop, find_separator};
+use table_text::{
+    Cell, Cells, NO_NUMBER, Records, Step, TextFault, TextKind, TextStop, find_separator,
+};
 
 /// Why a text is refused, if it is: by its head, or by the first record that is none. The end and a fault are
 /// answered again.
@@ -176,6 +178,10 @@ fn read_with_their_texts(rt: HostRuntime) -> Result<(), Fail> {
     )
 }
 
+fn cell(at: usize, stop: usize, number: u32) -> Cell {
+    Cell { at, stop, number }
+}
+
 /// The next record stands there, and its fields do.
 fn has_cells(rt: &impl Abort, alloc: Global, records: &mut Records, step: Step, due: &[Cell]) {
     let mut cells = Cells::new(alloc);
@@ -189,15 +195,49 @@ fn stand_where_their_bytes_do(rt: HostRuntime) {
     for (step, due) in &[
         (
             record(0, 10, 1),
-            [Cell { at: 0, stop: 3 }, Cell { at: 4, stop: 10 }],
+            [cell(0, 3, NO_NUMBER), cell(4, 10, NO_NUMBER)],
         ),
         (
             record(11, 16, 2),
-            [Cell { at: 11, stop: 12 }, Cell { at: 13, stop: 16 }],
+            [cell(11, 12, 1), cell(13, 16, NO_NUMBER)],
         ),
     ] {
         has_cells(&rt, rt.alloc(), &mut records, *step, due);
     }
+}
+
+/// The fields of the only record of a text have these numbers.
+fn are_numbered(rt: &impl Abort, alloc: Global, bytes: &[u8], separator: u8, due: &[u32]) {
+    let mut cells = Cells::new(alloc);
+    let mut records = Records::new(bytes, separator);
+    assert!(rt; records.next(&mut cells).is_ok());
+    assert_eq!(rt; cells.len(), due.len());
+    for (cell, number) in cells.items().iter().zip(due) {
+        assert_eq!(rt; cell.number, *number);
+    }
+}
+
+#[test]
+fn numbered_where_their_fields_are_short(rt: HostRuntime) {
+    are_numbered(
+        &rt,
+        rt.alloc(),
+        b"7,40,,99,10,1,,23",
+        b',',
+        &[7, 40, 0, 99, 10, 1, 0, 23],
+    );
+    are_numbered(&rt, rt.alloc(), b"12\t\t5\r\n", b'\t', &[12, 0, 5]);
+}
+
+#[test]
+fn not_numbered_where_they_are_anything_else(rt: HostRuntime) {
+    are_numbered(
+        &rt,
+        rt.alloc(),
+        b"0,07,100, 1,1 ,\"5\",-3,1a,a1,x\n",
+        b',',
+        &[NO_NUMBER; 10],
+    );
 }
 
 /// How long the text of the first field of a text is, which is its only record's only one.

@@ -11,3 +11,4 @@ mod SpelledRecords
 mod Backward
 mod ReadSteps
 mod ReadBack
+mod ShortFields

@@ -1,6 +1,7 @@
 pub mod Spelling
 pub mod Reading
 pub mod Separator
+pub mod Short
 pub mod Reader
 pub mod Laws
 pub mod Worked

@@ -8,7 +8,8 @@ use Rattle.table_text.specs.declared.step.Step.{Step}
 use Rattle.table_text.specs.declared.step.Step.TheVariants as step
 use Rattle.table_text.specs.declared.text_stop.TextStop.{TextStop}
 use Rattle.table_text.specs.declared.text_stop.TextStop.TheVariants as stop
-use Rattle.table_text.specs.Reading.{Field, AtEnd, AtFault, Reading, ends, with_row, Part, Plain, mark, Stand, is_empty, next_count, fields_with_last, with_record, fault, read, left}
+use Rattle.table_text.specs.Short.{number_or_none, short_number}
+use Rattle.table_text.specs.Reading.{Field, AtEnd, AtFault, Reading, ends, with_row, Part, Front, Plain, mark, Stand, is_empty, next_count, fields_with_last, with_record, fault, read, left}
 
 -- the whole text, and what is still to come of it
 pub record Reader : Type 0 where
@@ -22,10 +23,11 @@ field_at bytes cell = record { at = cell.at; bytes = slice_range bytes cell.at c
 abbrev pub fields_at : List ℕ → List Cell → List Field
 fields_at bytes cells = map (field_at bytes) cells
 
--- It stands within these bytes.
+-- It stands within these bytes, with its number.
 pub record IsCellOf (bytes : List ℕ) (cell : Cell) : Type 0 where
   pub ordered : cell.at ≤ cell.stop
   pub inside : cell.stop ≤ length bytes
+  pub number : cell.number ≡ number_or_none (short_number (slice_range bytes cell.at cell.stop))
 
 -- What was still to come was this answer, and then the rest. An end and a fault stay, and want of memory takes nothing.
 abbrev pub Gives : Reader → Result Step TextStop → List Cell → Reader → Type 0
@@ -67,6 +69,13 @@ HasFlaw separator bytes first at flaw =
     (row start : ℕ) (fields : List Field)
     → read separator (in_field row start fields at [] first) at (drop at bytes)
     ≡ fault (in_field row start fields at [] first) flaw.kind flaw.at
+
+-- A field stands there that begins at a place.
+pub record IsFieldAt (separator : ℕ) (bytes : List ℕ) (at : ℕ) (cell : Cell) : Type 0 where
+  pub begins : cell.at ≡ at
+  pub stands : IsCellOf bytes cell
+  pub parted : IsParted separator bytes cell.stop
+  pub over : GoesOver separator bytes Front at cell.stop Plain
 
 -- ---- a record
 

@@ -1,10 +1,11 @@
 // One field of a record.
 ghost use Rattle.std.specs.Prelude.{◌≡◌, ◌<◌, ◌≤◌, length, slice_index, IfOk, IfErr};
 ghost use Rattle.table_text.specs.Reading.{Front, Plain};
-ghost use Rattle.table_text.specs.Reader.{IsParted, GoesOver, HasFlaw};
+ghost use Rattle.table_text.specs.Reader.{IsParted, IsFieldAt, GoesOver, HasFlaw};
 
-use crate::TextKind;
 use crate::mark::{Mark, QUOTE, is_text, mark_at};
+use crate::short::{number_of, short_cell};
+use crate::{Cell, TextKind};
 
 /// What is wrong with a field, and at which byte.
 #[derive(Clone, Copy, Debug, PartialEq, Eq)]
@@ -13,9 +14,38 @@ pub(crate) struct Flaw {
     pub at: usize,
 }
 
-/// The place behind the field that begins at a place.
+/// The field that begins at a place.
+#[inline(always)]
+pub(crate) fn cell_at(bytes: &[u8], separator: u8, at: usize) -> Result<Cell, Flaw>
+    requires { at ≤ length bytes.now }
+    ensures field { IfOk result (IsFieldAt separator bytes.now at) }
+    ensures flaw { IfErr result (HasFlaw separator bytes.now Front at) }
+{
+    match short_cell(bytes, separator, at) {
+        Some(cell) => Ok(cell),
+        None => any_cell(bytes, separator, at),
+    }
+}
+
+// The same, whatever the field is.
+fn any_cell(bytes: &[u8], separator: u8, at: usize) -> Result<Cell, Flaw>
+    requires { at ≤ length bytes.now }
+    ensures field { IfOk result (IsFieldAt separator bytes.now at) }
+    ensures flaw { IfErr result (HasFlaw separator bytes.now Front at) }
+{
+    match field_stop(bytes, separator, at) {
+        Ok(stop) => Ok(Cell {
+            at,
+            stop,
+            number: number_of(&bytes[at..stop]),
+        }),
+        Err(flaw) => Err(flaw),
+    }
+}
+
+// The place behind the field that begins at a place.
 #[inline]
-pub(crate) fn field_stop(bytes: &[u8], separator: u8, at: usize) -> Result<usize, Flaw>
+fn field_stop(bytes: &[u8], separator: u8, at: usize) -> Result<usize, Flaw>
     requires { at ≤ length bytes.now }
     ensures after { IfOk result (λ stop. at ≤ stop) }
     ensures inside { IfOk result (λ stop. stop ≤ length bytes.now) }

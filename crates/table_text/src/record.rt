@@ -3,8 +3,8 @@ ghost use Rattle.std.specs.Prelude.{◌≡◌, ◌≤◌, length, All, IfOk, IfE
 ghost use Rattle.table_text.specs.Reading.{next_count};
 ghost use Rattle.table_text.specs.Reader.{IsCellOf, EndsAt, IsEnded, IsBroken};
 
-use crate::field::{Flaw, field_stop};
-use crate::{Cell, Cells, MAX_COUNT, TextFault, TextStop};
+use crate::field::{Flaw, cell_at};
+use crate::{Cells, MAX_COUNT, TextFault, TextStop};
 
 /// The place behind the record that begins at a place. The places of its fields are then in `cells`.
 pub(crate) fn record_end(
@@ -25,15 +25,15 @@ pub(crate) fn record_end(
     cells.clear();
     let mut at = start;
     loop {
-        let stop = match field_stop(bytes, separator, at) {
-            Ok(stop) => stop,
+        let cell = match cell_at(bytes, separator, at) {
+            Ok(cell) => cell,
             Err(flaw) => return Err(TextStop::Fault(fault(flaw, row, cells.len()))),
         };
-        cells.push(Cell { at, stop })?;
-        if stop == bytes.len() || bytes[stop] != separator {
-            return Ok(stop);
+        cells.push(cell)?;
+        if cell.stop == bytes.len() || bytes[cell.stop] != separator {
+            return Ok(cell.stop);
         }
-        at = stop + 1;
+        at = cell.stop + 1;
     }
 }
 

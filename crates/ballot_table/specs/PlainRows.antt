@@ -1,0 +1,50 @@
+-- Rows of ranks that are plain: each of the first ranks has one candidate, in short numbers.
+use Rattle.std.specs.Prelude.{◌≡◌, ◌<◌, ◌≤◌, ◌==◌, if◌then◌else◌, ℕ, List, [], ◌∷◌, length, map, All, Option, Some, None}
+use Rattle.std.specs.List.{slice_index_or}
+use Rattle.plain_ballots.specs.Ranking.{IsRanking}
+use Rattle.ballot_marks.specs.Marks.{plain_mark}
+use Rattle.table_text.specs.Short.{short_number}
+use Rattle.table_text.specs.declared.short.TheConstants.{NO_NUMBER}
+use Rattle.ballot_table.specs.declared.column.Column.{Column}
+use Rattle.ballot_table.specs.declared.layout.Layout.TheVariants as layout
+use Rattle.ballot_table.specs.Asked.{Asked}
+use Rattle.ballot_table.specs.Faults.{first_fault}
+use Rattle.ballot_table.specs.Finding.{candidates_at, candidates_in}
+use Rattle.ballot_table.specs.Rows.{ballots_in, cells_of, holders, marks_of, said_in, weight_at}
+
+-- Ranks are numbers in a column for each candidate, and no text but the empty one is blank.
+pub record HasPlainRanks (asked : Asked) : Type 0 where
+  pub layout_is : asked.layout ≡ layout.Ranks
+  pub no_ranks : asked.ranks ≡ []
+  pub no_blank : asked.blank ≡ []
+
+-- the rank that a short number is
+abbrev pub rank_or_none : ℕ → Option ℕ
+rank_or_none n = if n == 0 then None else Some n
+
+-- who has a rank, where that is a candidate's number or 0
+abbrev pub one_or_none : ℕ → List ℕ
+one_or_none c = if c == 0 then [] else c ∷ []
+
+-- The candidates with these numbers stand at their ranks, nobody at the same as another, and nobody behind a last one.
+pub record ArePlaced (numbers placed : List ℕ) (last : ℕ) : Type 0 where
+  pub size : length placed ≡ NO_NUMBER
+  pub none : slice_index_or placed 0 0 ≡ 0
+  pub each : (rank : ℕ) → 1 ≤ rank → holders rank (map rank_or_none numbers) ≡ one_or_none (slice_index_or placed rank 0)
+  pub behind : (rank : ℕ) → last < rank → slice_index_or placed rank 0 ≡ 0
+  pub inside : last < NO_NUMBER
+
+-- Each of the columns is a candidate's, and the texts are the short numbers of candidates who are placed so.
+pub record IsPlaced (columns : List Column) (texts : List (List ℕ)) (placed : List ℕ) (last : ℕ) : Type 0 where
+  pub numbers : List ℕ
+  pub columns_are : All (λ column. candidates_at column ≡ 1) columns
+  pub texts_are : map short_number texts ≡ map Some numbers
+  pub are_placed : ArePlaced numbers placed last
+
+-- A row of one ballot without a fault, whose marks say this ranking plainly.
+pub record IsPlainRow (asked : Asked) (columns : List Column) (texts : List (List ℕ)) (ranking : List ℕ) : Type 0 where
+  pub weight : weight_at columns texts ≡ 0
+  pub one : ballots_in columns texts ≡ 1
+  pub fault : (room : ℕ) → first_fault (cells_of asked room columns texts) ≡ None
+  pub marks : (room : ℕ) → marks_of (said_in asked room columns texts) ≡ map plain_mark ranking
+  pub sound : IsRanking (candidates_in asked columns) ranking
