@@ -8,7 +8,6 @@ use Rattle.input_text.specs.declared.input_stop.InputStop.{InputStop}
 use Rattle.input_text.specs.declared.input_stop.InputStop.TheVariants.{Fault, NoMemory as NoInputRead}
 use Rattle.blt_reader.specs.declared.election.Election.{Election}
 use Rattle.blt_reader.specs.Election.{poll}
-use Rattle.tool_edge.specs.declared.contest.Contest.{Contest}
 use Rattle.tool_edge.specs.declared.end.End.{End}
 use Rattle.tool_edge.specs.declared.end.End.TheVariants.{BadInput}
 use Rattle.tool_edge.specs.declared.opening.TheConstants.{FILE_LIMIT}

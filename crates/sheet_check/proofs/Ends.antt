@@ -1,7 +1,7 @@
 -- Where a line `end` stands.
-use Rattle.std.proofs.Common.{◌≡◌, ◌≢◌, ℕ, ◌+◌, ◌-◌, ◌<◌, ◌≤◌, List, [], ◌∷◌, ◌++◌, length, take, drop, refl}
-use Rattle.std.proofs.Common.{ap, arith, inl, inr, length-take, length-drop}
-use Rattle.std.specs.Prelude.{codes, slice_index}
+use Rattle.std.proofs.Common.{◌≡◌, ℕ, ◌+◌, ◌<◌, ◌≤◌, List, [], ◌∷◌, ◌++◌, length, take, drop, refl}
+use Rattle.std.proofs.Common.{ap, arith, length-take, length-drop}
+use Rattle.std.specs.Prelude.{codes}
 use Rattle.sheet_check.specs.Input.{HasEndAt, HasNoEnd, IsSplit}
 
 -- the line fits into the input

@@ -4,18 +4,16 @@ use Rattle.std.specs.Prelude.{◌≢◌}
 use Rattle.candidate_roll.specs.Roll.{RollList}
 use Rattle.candidate_roll.specs.declared.state.State.{State}
 use Rattle.meek_rule.specs.Row.{Row}
-use Rattle.meek_count.specs.Laws.{IsElection}
 use Rattle.meek_count.specs.Rows.{IsCountUnder}
 use Rattle.sheet_text.specs.Lines.{text_of_lines}
 use Rattle.sheet_text.specs.Sheet.{sheet_lines}
 use Rattle.sheet_reader.specs.Form.{HasForm}
-use Rattle.sheet_reader.specs.Laws.{HasNames, values_of}
+use Rattle.sheet_reader.specs.Laws.{values_of}
 use Rattle.sheet_reader.specs.Laws.{IterationsSayTheirPlaces, NoIterationSaysNoPlaces, SheetsHaveTheForm}
-use Rattle.sheet_check.specs.declared.terms.Terms.{Terms}
 use Rattle.sheet_check.specs.declared.verdict.Verdict.TheVariants.{True}
 use Rattle.sheet_check.specs.Judged.{HasOwnPlaces, IsForm, IsVerdict}
 use Rattle.sheet_check.specs.Laws.{SheetsAreTrue}
-use Rattle.sheet_check.specs.Terms.{rule_of, IsSheetBy}
+use Rattle.sheet_check.specs.Terms.{rule_of}
 use Rattle.sheet_check.proofs.OwnPlaces.{none_above_nine}
 
 not_empty : (row : Row) (rows : List Row) → row ∷ rows ≢ []

@@ -3,7 +3,6 @@ use Rattle.std.proofs.Common.{◌≡◌, ℕ, ◌≤◌, List, refl, sym, ◌∙
 use Rattle.candidate_roll.specs.Roll.{RollList}
 use Rattle.meek_count.specs.Laws.{IsElection}
 use Rattle.sheet_text.specs.Laws.{EachElectionHasOneSheet}
-use Rattle.sheet_check.specs.declared.terms.Terms.{Terms}
 use Rattle.sheet_check.specs.declared.verdict.Verdict.{Verdict}
 use Rattle.sheet_check.specs.declared.verdict.Verdict.TheVariants.{True, False, Malformed}
 use Rattle.sheet_check.specs.Difference.{IsFirstDifference}

@@ -1,5 +1,5 @@
 -- What the checker accepts, refuses and writes.
-use Rattle.std.specs.Prelude.{◌≡◌, ◌⊎◌, ℕ, ◌≤◌, List, [], ◌∷◌, ◌++◌, length, codes, decimal, Some, Result, Ok, Err}
+use Rattle.std.specs.Prelude.{◌≡◌, ◌⊎◌, ℕ, ◌≤◌, List, [], ◌∷◌, ◌++◌, length, codes, decimal, Some}
 use Rattle.check_words.specs.Asks.{Asks}
 use Rattle.check_words.specs.declared.asked.Asked.{Asked}
 use Rattle.plain_ballots.specs.Ballots.{plain}

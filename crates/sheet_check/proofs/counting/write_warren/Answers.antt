@@ -1,4 +1,4 @@
-use Rattle.std.proofs.Common.{ap, ◌∙◌, sym, subst, List, ℕ}
+use Rattle.std.proofs.Common.{ap, sym, subst, List, ℕ}
 use Rattle.std.specs.Prelude.{IsPermutation}
 use Rattle.plain_ballots.specs.Ballots.{plain}
 use Rattle.meek_rule.specs.Rule.{Warren}
