@@ -56,17 +56,21 @@ pub not_refused :
 not_refused days refusals input fault (text, file, split, says) (inl ends) = ends.no_end split.at split.ends
 not_refused days refusals input fault (text, file, split, (day, says)) (inr (other_text, other, other_split, refused)) =
     not_both days refusals file day fault says
-    (subst (λ (f : List ℕ). IsDayRefusal (scan f true) fault) (file_once input text file other_text other split other_split) refused)
+    (subst (λ (f : List ℕ). IsDayRefusal (scan f true) fault)
+      (file_once input text file other_text other split other_split) refused)
 
 pub refused_once :
     RefusesByTheRule → (input : List ℕ) (fault other : InputFault) → IsRefusedAudit input fault → IsRefusedAudit input other
     → fault ≡ other
 refused_once refusals input fault other (inl ends) (inl again) = ends.fault_is ∙ sym again.fault_is
-refused_once refusals input fault other (inl ends) (inr (text, file, split, refused)) = absurd (ends.no_end split.at split.ends)
-refused_once refusals input fault other (inr (text, file, split, refused)) (inl ends) = absurd (ends.no_end split.at split.ends)
+refused_once refusals input fault other (inl ends) (inr (text, file, split, refused)) =
+    absurd (ends.no_end split.at split.ends)
+refused_once refusals input fault other (inr (text, file, split, refused)) (inl ends) =
+    absurd (ends.no_end split.at split.ends)
 refused_once refusals input fault other (inr (text, file, split, refused)) (inr (again, twice, split_again, refused_again)) =
     refused_alike refusals file fault other refused
-    (subst (λ (f : List ℕ). IsDayRefusal (scan f true) other) (file_once input text file again twice split split_again) refused_again)
+    (subst (λ (f : List ℕ). IsDayRefusal (scan f true) other)
+      (file_once input text file again twice split split_again) refused_again)
 
 module _ (days : AcceptsDays) (refusals : RefusesByTheRule) where
   either_of : (asked : AuditAsked) (input : List ℕ) (fault : InputFault) → Accepts asked input → Refuses asked input fault → ⊥

@@ -34,7 +34,8 @@ module _ (scripts : List Script) where
       let before : length its < length mine = omega (arith, one, many, some) in
       none_by 0 mine (length its) clerk_freeze is.ends.no_other
       (sym (got_ahead mine (clerk_freeze ∷ []) (length its) before)
-      ∙ (ap (λ (l : List Entry). slice_get l (length its)) (sym is.ends.last ∙ front) ∙ got_behind its clerk_freeze (e ∷ rest))) refl
+      ∙ (ap (λ (l : List Entry). slice_get l (length its)) (sym is.ends.last ∙ front)
+            ∙ got_behind its clerk_freeze (e ∷ rest))) refl
 
   -- a history whose front another one is, is that one
   pub no_more : (history other : List Entry) → IsHistoryOf scripts history → IsHistoryOf scripts other
@@ -42,8 +43,12 @@ module _ (scripts : List Script) where
   no_more history other is also front = by (drop (length other) history) refl
     where
       parts : history ≡ other ++ drop (length other) history
-      parts = sym (take-append-drop (length other) history) ∙ ap (λ (l : List Entry). l ++ drop (length other) history) (sym front)
+      parts =
+          sym (take-append-drop (length other) history)
+          ∙ ap (λ (l : List Entry). l ++ drop (length other) history) (sym front)
 
       by : (rest : List Entry) → drop (length other) history ≡ rest → history ≡ other
       by [] none = parts ∙ (ap (λ (l : List Entry). other ++ l) none ∙ append-nil other)
-      by (e ∷ rest) some = absurd (nothing_behind history other e rest is also (parts ∙ ap (λ (l : List Entry). other ++ l) some))
+      by (e ∷ rest) some =
+          absurd
+            (nothing_behind history other e rest is also (parts ∙ ap (λ (l : List Entry). other ++ l) some))

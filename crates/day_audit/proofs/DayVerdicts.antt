@@ -43,17 +43,20 @@ module _ (day : Day) (are : AreTerms (terms_of day)) where
         by : (length its < n) ⊎ (n ≤ length its) → BeginAlike n text nearest
         by (inl short) =
             let front : its ≡ take (length its) history =
-            sym (take_all (length its) its (omega arith)) ∙ near its (length its) also (omega arith) (begins (length its) (omega (arith, short))) in
+            sym (take_all (length its) its (omega arith))
+            ∙ near its (length its) also (omega arith) (begins (length its) (omega (arith, short))) in
             let same = no_more day.scripts history its is also front in
             let texts : other ≡ nearest =
-            one_text (terms_of day) its other nearest are whose (subst (λ (h : List Entry). IsDayText (terms_of day) h nearest) same of) in
+            one_text (terms_of day) its other nearest are whose
+              (subst (λ (h : List Entry). IsDayText (terms_of day) h nearest) same of) in
             subst (λ (t : List ℕ). BeginAlike n text t) texts alike
         by (inr long) = λ k below.
             let e = get_or its k clerk_freeze in
             let at : slice_get its k ≡ Some e = slice_get-get_or its k clerk_freeze (omega (arith, below, long)) in
             let fronts = near its n also long (begins n (omega arith)) in
             let there : slice_get history k ≡ Some e =
-            sym (in_front history n k below) ∙ (ap (λ (l : List Entry). slice_get l k) (sym fronts) ∙ (in_front its n k below ∙ at)) in
+            sym (in_front history n k below)
+            ∙ (ap (λ (l : List Entry). slice_get l k) (sym fronts) ∙ (in_front its n k below ∙ at)) in
             alike k below ∙ (call_line its other k e whose at ∙ sym (call_line history nearest k e of there))
 
     pub false_at : (n : ℕ) → IsFirstDifference text nearest n → IsFalseAt (IsTextOf day) text n

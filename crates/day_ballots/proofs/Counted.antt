@@ -1,5 +1,6 @@
 -- What is written for a freeze is read as the ballots that stand there.
-use Rattle.std.proofs.Common.{◌≡◌, ℕ, zero, suc, ◌+◌, ◌==◌, ◌≤◌, List, [], ◌∷◌, ◌++◌, length, refl, sym, ap, ◌∙◌, subst, arith, true}
+use Rattle.std.proofs.Common.{◌≡◌, ℕ, zero, suc, ◌==◌, List, [], ◌∷◌, ◌++◌, length, sym, ap}
+use Rattle.std.proofs.Common.{◌∙◌, subst, arith, true}
 use Rattle.std.specs.Prelude.{◌↔◌, All}
 use Rattle.std.proofs.lemmas.List.Elements.{All-nil, All-cons}
 use Rattle.plain_ballots.specs.Ballots.{plain}
@@ -29,7 +30,8 @@ use Rattle.day_ballots.specs.Laws.{FreezesAreCounted}
 use Rattle.day_ballots.proofs.Names.{named_roll}
 use Rattle.day_ballots.proofs.Ranked.{all_calls, in_scripts, rankings, not_too_many}
 
-module _ (file : List ℕ) (day : Day) (history : List Entry) (says : SaysDay file day) (is : IsHistoryOf day.scripts history) where
+module _ (file : List ℕ) (day : Day) (history : List Entry) (says : SaysDay file day)
+    (is : IsHistoryOf day.scripts history) where
   day_is : IsDay (items_of (scan file true).tokens) day
   day_is = says.file
 
@@ -42,10 +44,12 @@ module _ (file : List ℕ) (day : Day) (history : List Entry) (says : SaysDay fi
       clerk : calls_of (own_calls 0 history) ≡ Freeze ∷ []
       clerk =
           ap (λ (l : List Entry). calls_of (own_calls 0 l)) is.ends.last
-          ∙ ap calls_of (filter-append (λ (e : Entry). e.caller == 0) is.ends.before (clerk_freeze ∷ []) ∙ ap (λ (l : List Entry). l ++ clerk_freeze ∷ []) is.ends.no_other)
+          ∙ ap calls_of (filter-append (λ (e : Entry). e.caller == 0) is.ends.before (clerk_freeze ∷ [])
+                ∙ ap (λ (l : List Entry). l ++ clerk_freeze ∷ []) is.ends.no_other)
   of_caller (suc caller) =
       subst (λ (calls : List Call). All (IsCall (length day.roll.names)) calls)
-      (ap (λ (scripts : List Script). calls_in scripts (suc caller)) (sym day_is.scripts) ∙ sym (is.whole (suc caller) (omega arith)))
+      (ap (λ (scripts : List Script). calls_in scripts (suc caller)) (sym day_is.scripts)
+        ∙ sym (is.whole (suc caller) (omega arith)))
       (in_scripts (length day.roll.names) day_is.teams (suc caller) day_is.teams_are.calls)
 
   calls : All (λ e. IsCall (length day.roll.names) e.call) history
@@ -73,7 +77,8 @@ module _ (file : List ℕ) (day : Day) (history : List Entry) (says : SaysDay fi
       let said = says_ballots reads n bytes written in (
         said,
         λ sheet. subst
-            (λ (r : RollList). IsSheet day.places day.omega (plain said.poll.lines) r day.lots sheet ↔ IsSheetAfter (terms_of day) history n sheet)
+            (λ (r : RollList). IsSheet day.places day.omega (plain said.poll.lines) r day.lots sheet
+              ↔ IsSheetAfter (terms_of day) history n sheet)
             (sym said.roll_is)
             (leaves Meek day.places day.omega (plain said.poll.lines) (plain (standing_after history n))
             (roll_with day.roll (struck_after history n)) day.lots sheet said.ballots_are),
@@ -82,5 +87,7 @@ module _ (file : List ℕ) (day : Day) (history : List Entry) (says : SaysDay fi
 -- whatever is owed for a freeze
 pub freezes_counted : TextsAreRead → OrderOfBallotsLeavesTheSheet → FreezesAreCounted
 freezes_counted reads leaves n input bytes owes =
-    let is = counted owes.says.file owes.day owes.history owes.says.day_is owes.at.along.calls reads leaves n bytes owes.file in
+    let is =
+        counted owes.says.file owes.day owes.history owes.says.day_is owes.at.along.calls reads leaves n bytes
+          owes.file in
     record { says = is.0; sheets = is.1 }

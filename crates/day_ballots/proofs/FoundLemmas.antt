@@ -1,6 +1,7 @@
 -- What is found by the history that goes with a text for as long as any does is what stands there.
-use Rattle.std.proofs.Common.{◌≡◌, ◌⊎◌, ℕ, ◌+◌, ◌-◌, ◌<◌, ◌≤◌, List, length, take, refl, sym, ap, ◌∙◌, subst, arith, inl, inr}
-use Rattle.std.specs.Prelude.{slice_get, Some, IsPermutation, All}
+use Rattle.std.proofs.Common.{◌≡◌, ◌⊎◌, ℕ, ◌-◌, ◌<◌, ◌≤◌, List, length, take, refl, sym, ap, ◌∙◌, subst}
+use Rattle.std.proofs.Common.{arith, inl, inr}
+use Rattle.std.specs.Prelude.{slice_get, Some, IsPermutation}
 use Rattle.std.proofs.lemmas.Bool.{cases_lt}
 use Rattle.std.proofs.lemmas.List.{take_all, take-take}
 use Rattle.std.proofs.lemmas.List.Elements.{All-contains}
@@ -46,7 +47,8 @@ module _ (day : Day) (text : List ℕ) (history : List Entry) (is : IsHistoryOf 
   -- ---- what stands at a freeze
 
   stands_here : (n : ℕ) (version : VersionState) → IsFound n text history versions version → StandsIn version history
-  stands_here n version found = All-contains (λ (v : VersionState). StandsIn v history) versions version frozen.stand found.one
+  stands_here n version found =
+      All-contains (λ (v : VersionState). StandsIn v history) versions version frozen.stand found.one
 
   pub file_at :
       (n : ℕ) (version : VersionState) (bytes : List ℕ) → IsFound n text history versions version
@@ -54,15 +56,19 @@ module _ (day : Day) (text : List ℕ) (history : List Entry) (is : IsHistoryOf 
   file_at n version bytes found written =
       let stands = stands_here n version found in
       let in_order =
-      text_moved (all_ballots version.plans) (plain (standing_after history version.at)) (roll_with day.roll version.struck) bytes
+      text_moved (all_ballots version.plans) (plain (standing_after history version.at))
+        (roll_with day.roll version.struck) bytes
       stands.ballots written in
       let struck =
-      subst (λ (l : List ℕ). IsBltText (plain (standing_after history version.at)) (roll_with day.roll l) bytes) stands.struck in_order in
+      subst
+        (λ (l : List ℕ). IsBltText (plain (standing_after history version.at)) (roll_with day.roll l) bytes)
+        stands.struck in_order in
       let freeze : IsFreezeAt history version.at =
       record { some = stands.some; entry = _; there = stands.freeze.1; freezes = refl } in (
         history,
         record { along = goes n found.lines; freeze = subst (IsFreezeAt history) found.at freeze },
-        subst (λ (k : ℕ). IsBltText (plain (standing_after history k)) (roll_with day.roll (struck_after history k)) bytes) found.at struck,
+        subst (λ (k : ℕ). IsBltText (plain (standing_after history k))
+              (roll_with day.roll (struck_after history k)) bytes) found.at struck,
       )
 
   -- ---- why there is none

@@ -1,13 +1,13 @@
 -- The places of a history's freezes.
-use Rattle.std.proofs.Common.{◌≡◌, ℕ, zero, suc, ◌+◌, ◌-◌, ◌<◌, ◌≤◌, Bool, true, false, cond, List, [], ◌∷◌, length, map, filter}
-use Rattle.std.proofs.Common.{refl, sym, ap, ◌∙◌, subst, arith, get_or}
-use Rattle.std.specs.Prelude.{◌≢◌, All, Contains, slice_get, slice_index_or, Option, Some, unwrap_or}
+use Rattle.std.proofs.Common.{◌≡◌, ℕ, zero, suc, ◌+◌, ◌-◌, ◌≤◌, Bool, true, false, cond, List, [], ◌∷◌}
+use Rattle.std.proofs.Common.{length, map, filter}
+use Rattle.std.proofs.Common.{ap, ◌∙◌, subst, arith}
+use Rattle.std.specs.Prelude.{◌≢◌, All, slice_get, Option, Some, unwrap_or}
 use Rattle.std.specs.List.{enumerate_from}
 use Rattle.std.proofs.lemmas.List.Elements.{All-head, All-tail, All-map}
 use Rattle.batch_core.specs.declared.entry.Entry.{Entry}
 use Rattle.day_reader.specs.Call.{is_freeze}
 use Rattle.shard_office.specs.Versions.{VersionState}
-use Rattle.meek_cli.specs.DayText.{freeze_places}
 use Rattle.meek_cli.specs.Frozen.{AreFrozen}
 use Rattle.day_replay.proofs.Lists.{inside}
 use Rattle.day_ballots.specs.Along.{IsFreezeAt}
@@ -27,7 +27,8 @@ not_all_other n place zero (x ∷ xs) e at freezes same none =
     let later : List (ℕ × Entry) = filter (λ y. is_freeze y.1.call) (enumerate_from (place + 1) xs) in
     let shown : places_from place (x ∷ xs) ≡ place ∷ map (λ y. y.0) later =
     ap (λ (b : Bool). map (λ (y : ℕ × Entry). y.0) (cond b ((place, x) ∷ later) later)) here in
-    All-head (λ (m : ℕ). m ≢ n) place (map (λ y. y.0) later) (subst (All (λ (m : ℕ). m ≢ n)) shown none) (omega (arith, same))
+    All-head (λ (m : ℕ). m ≢ n) place (map (λ y. y.0) later) (subst (All (λ (m : ℕ). m ≢ n)) shown none)
+      (omega (arith, same))
 not_all_other n place (suc k) (x ∷ xs) e at freezes same none =
     by (is_freeze x.call) none (not_all_other n (place + 1) k xs e at freezes (omega (arith, same)))
   where
@@ -47,7 +48,8 @@ pub no_freeze :
 no_freeze candidates n history versions frozen none at =
     let some = at.some in
     not_all_other n 1 (n - 1) history at.entry at.there at.freezes (omega (arith, some))
-    (subst (All (λ (m : ℕ). m ≢ n)) frozen.places (All-map (λ (m : ℕ). m ≢ n) (λ (version : VersionState). version.at) versions none))
+    (subst (All (λ (m : ℕ). m ≢ n)) frozen.places
+      (All-map (λ (m : ℕ). m ≢ n) (λ (version : VersionState). version.at) versions none))
 
 -- a freeze is one of the calls
 pub within : (history : List Entry) (n : ℕ) → IsFreezeAt history n → n ≤ length history

@@ -1,6 +1,7 @@
 -- The names of a day file can be printed: what stands in its strings was cut so.
-use Rattle.std.proofs.Common.{◌≡◌, ◌≢◌, ℕ, ◌+◌, ◌-◌, ◌≤◌, ◌==◌, ◌&&◌, zero, suc, List, [], ◌∷◌, ◌++◌, length, drop, take, map}
-use Rattle.std.proofs.Common.{Bool, true, false, cond, not, refl, sym, ap, ◌∙◌, subst, arith, nat_le}
+use Rattle.std.proofs.Common.{◌≡◌, ℕ, ◌+◌, ◌-◌, ◌==◌, ◌&&◌, zero, suc, List, [], ◌∷◌, ◌++◌, length}
+use Rattle.std.proofs.Common.{drop, take, map}
+use Rattle.std.proofs.Common.{Bool, true, false, cond, not, refl, ap, ◌∙◌, subst, arith, nat_le}
 use Rattle.std.specs.Prelude.{All}
 use Rattle.std.specs.List.{prefix_len, take_while}
 use Rattle.std.specs.Char.{is_ascii_digit, is_ascii_lowercase}
@@ -8,10 +9,9 @@ use Rattle.std.proofs.lemmas.Bool.{and_parts}
 use Rattle.std.proofs.lemmas.Bool.Decides.{nat_tests}
 use Rattle.std.proofs.lemmas.List.Elements.{All-nil, All-cons}
 use Rattle.std.proofs.lemmas.List.FromFn.{length-map-range_with_len}
-use Rattle.candidate_roll.specs.declared.limits.TheConstants.{MOST_NAME_BYTES, MOST_TITLE_BYTES}
-use Rattle.candidate_roll.specs.Name.{IsName, IsPrintable}
-use Rattle.candidate_roll.specs.Roll.{RollList, IsRoll, withdrawn_marks, marks_with}
-use Rattle.input_text.specs.Token.{Item, Number, Minus, Text, Word, Placed, Scan}
+use Rattle.candidate_roll.specs.Name.{IsPrintable}
+use Rattle.candidate_roll.specs.Roll.{marks_with}
+use Rattle.input_text.specs.Token.{Item, Number, Minus, Text, Word, Scan}
 use Rattle.input_text.specs.Refusal.{items_of}
 use Rattle.input_text.specs.Scan.{is_separator, is_in_line, is_in_string, number, may_follow, Piece, Gap}
 use Rattle.input_text.specs.Scan.{Lexeme, Wrong, Unclosed, number_piece, minus_piece, closed_by, string_piece}
@@ -56,7 +56,8 @@ front_printed (b ∷ bytes) = by (is_in_string b) refl (front_printed bytes)
     by true is rest =
         let n = prefix_len is_in_string bytes in
         let more : suc n ≡ 1 + n = omega arith in
-        subst (λ (k : ℕ). All IsPrintable (take k (b ∷ bytes))) more (All-cons IsPrintable b (take n bytes) (printed b is) rest)
+        subst (λ (k : ℕ). All IsPrintable (take k (b ∷ bytes))) more
+          (All-cons IsPrintable b (take n bytes) (printed b is) rest)
     by false is rest = All-nil IsPrintable
 
 number_plain : (bytes : List ℕ) → IsPlainPiece (number_piece bytes)
@@ -81,15 +82,19 @@ minus_plain behind =
     let after = may_follow (drop n behind) in
     either_plain (n == 0) (Wrong 0) (cond after found (Wrong (n + 1))) tt (either_plain after found (Wrong (n + 1)) tt tt)
 
-closed_plain : (behind : List ℕ) (n : ℕ) (rest : List ℕ) → All IsPrintable (take n behind) → IsPlainPiece (closed_by behind n rest)
+closed_plain :
+    (behind : List ℕ) (n : ℕ) (rest : List ℕ) → All IsPrintable (take n behind)
+    → IsPlainPiece (closed_by behind n rest)
 closed_plain behind n [] can = tt
 closed_plain behind n (b ∷ rest) can =
-    either_plain (b == 34) _ (Wrong (n + 1)) (either_plain (may_follow rest) (Lexeme (Text (take n behind)) (n + 2)) (Wrong (n + 2)) can tt) tt
+    either_plain (b == 34) _ (Wrong (n + 1))
+      (either_plain (may_follow rest) (Lexeme (Text (take n behind)) (n + 2)) (Wrong (n + 2)) can tt) tt
 
 string_plain : (behind : List ℕ) → IsPlainPiece (string_piece behind)
 unfolding string_piece
 string_plain behind =
-    closed_plain behind (prefix_len is_in_string behind) (drop (prefix_len is_in_string behind) behind) (front_printed behind)
+    closed_plain behind (prefix_len is_in_string behind) (drop (prefix_len is_in_string behind) behind)
+      (front_printed behind)
 
 piece_plain : (letters : Bool) (b : ℕ) (behind : List ℕ) → IsPlainPiece (piece letters (b ∷ behind))
 unfolding piece
@@ -149,7 +154,9 @@ named most items poll struck are file =
     let roll = poll.roll in
     let spelled = first_part file.front (map Text file.further) (subst ArePlain file.spelled are) in
     let head = opening (length roll.names) roll.seats front.withdrawn in
-    let behind = last_part (ballots poll.lines) (map Text roll.names ++ Text roll.title ∷ []) (last_part head _ (subst ArePlain front.spelled spelled)) in
+    let behind =
+        last_part (ballots poll.lines) (map Text roll.names ++ Text roll.title ∷ [])
+          (last_part head _ (subst ArePlain front.spelled spelled)) in
     let names = each_name roll.names (first_part (map Text roll.names) (Text roll.title ∷ []) behind) in
     let title = last_part (map Text roll.names) (Text roll.title ∷ []) behind in
     let marks = ap length front.marks ∙ length-map-range_with_len _ 0 (length roll.names) in

@@ -1,5 +1,5 @@
 -- What a run over an input, a text or what stood at a freeze owes.
-use Rattle.std.proofs.Common.{◌≡◌, ℕ, ◌≤◌, List, length, true, refl, sym, ◌∙◌, subst, inl, inr}
+use Rattle.std.proofs.Common.{◌≡◌, ℕ, ◌≤◌, List, length, true, refl, sym, ap, ◌∙◌, subst, inl, inr}
 use Rattle.std.specs.Prelude.{Option, Result, Ok, Err, IsPermutation}
 use Rattle.piece_text.specs.Writing.{Writes}
 use Rattle.input_text.specs.declared.input_fault.InputFault.{InputFault}
@@ -67,7 +67,9 @@ at_line n input text file day end sink short split says (inr (due, bytes, owed, 
     said : Says input text day
     said = record { file = file; split = split; day_is = says }
 
-    by : (due : End BallotsFault) → IsOwedAtLine day text n due bytes → IsOwedFor exports_freezes n input no_history due bytes
+    by :
+        (due : End BallotsFault) → IsOwedAtLine day text n due bytes
+        → IsOwedFor exports_freezes n input no_history due bytes
     by Done (history, at, written) =
         (short, record { text = text; day = day; says = said; history = history; at = at; file = written })
     by (BadInput (File fault)) (none, line) = absurd none
@@ -110,11 +112,11 @@ module _ (day : Day) (text : List ℕ) (history : List Entry) (candidates : ℕ)
 -- ---- what stood
 
 pub file_of :
-    (roll new : RollList) (version : VersionState) (plans : List PlanRows) (export : Exported) (bytes : List ℕ)
-    → new ≡ roll_with roll version.struck → plans ≡ version.plans → export.roll ≡ new
+    (roll new : RollList) (version : VersionState) (struck : List ℕ) (plans : List PlanRows) (export : Exported)
+    (bytes : List ℕ) → new ≡ roll_with roll struck → struck ≡ version.struck → plans ≡ version.plans → export.roll ≡ new
     → IsPermutation export.ballots (all_ballots plans) → IsBltText export.ballots export.roll bytes
     → IsOwedFile roll version Done bytes
-file_of roll new version plans export bytes of_roll of_plans named moved written =
+file_of roll new version struck plans export bytes of_roll of_struck of_plans named moved written =
     let by_plans : IsPermutation export.ballots (all_ballots version.plans) =
     subst (λ (p : List PlanRows). IsPermutation export.ballots (all_ballots p)) of_plans moved in (
       refl,
@@ -123,7 +125,7 @@ file_of roll new version plans export bytes of_roll of_plans named moved written
     )
   where
     of_named : export.roll ≡ roll_with roll version.struck
-    of_named = named ∙ of_roll
+    of_named = named ∙ (of_roll ∙ ap (λ (l : List ℕ). roll_with roll l) of_struck)
 
 -- what was written, as the end of a run takes it
 pub wrote_text :

@@ -1,13 +1,15 @@
 -- The ballots of a day's batches are rankings, and not too many.
-use Rattle.std.proofs.Common.{◌≡◌, ◌⊎◌, ℕ, zero, suc, ◌+◌, ◌≤◌, ◌==◌, Bool, true, false, cond, List, [], ◌∷◌, ◌++◌, length, map, filter, take}
-use Rattle.std.proofs.Common.{refl, sym, ap, ◌∙◌, subst, arith, inl, inr, Option, Some, None, replicate}
+use Rattle.std.proofs.Common.{◌≡◌, ℕ, suc, ◌≤◌, ◌==◌, Bool, true, false, cond, List, [], ◌∷◌}
+use Rattle.std.proofs.Common.{length, filter, take}
+use Rattle.std.proofs.Common.{refl, ap, subst, arith, Option, replicate}
 use Rattle.std.specs.Prelude.{◌<◌, All, slice_index_or}
 use Rattle.std.specs.List.{flat_map, range_with_len}
-use Rattle.std.proofs.lemmas.Bool.{eq-eqb, eqb-true}
-use Rattle.std.proofs.lemmas.List.Elements.{All-nil, All-cons, All-head, All-tail, All-append, All-replicate, All-filter, All-take, All-weaker}
+use Rattle.std.proofs.lemmas.Bool.{eq-eqb}
+use Rattle.std.proofs.lemmas.List.Elements.{All-nil, All-cons, All-head, All-tail, All-append, All-replicate}
+use Rattle.std.proofs.lemmas.List.Elements.{All-filter, All-take}
 use Rattle.plain_ballots.specs.declared.limits.TheConstants.{MOST_CANDIDATES}
 use Rattle.plain_ballots.specs.declared.ballot_line.BallotLine.{BallotLine}
-use Rattle.plain_ballots.specs.Ballots.{BallotList, plain}
+use Rattle.plain_ballots.specs.Ballots.{plain}
 use Rattle.plain_ballots.specs.Ranking.{IsRanking}
 use Rattle.plain_ballots.proofs.PlainLemmas.{length-plain}
 use Rattle.batch_core.specs.declared.batch.Batch.{Batch}
@@ -18,7 +20,8 @@ use Rattle.batch_core.specs.declared.change.Change.TheVariants.{Enter, Correct, 
 use Rattle.batch_core.specs.declared.entry.Entry.{Entry}
 use Rattle.batch_core.specs.declared.reply.Reply.{Reply}
 use Rattle.batch_core.specs.declared.reply.Reply.TheVariants as replies
-use Rattle.batch_core.specs.Book.{BookState, empty, after, batch_of, ballots_of, change_reply, change_after, ballot_lines, lines_of, standing, last_batch}
+use Rattle.batch_core.specs.Book.{BookState, empty, after, batch_of, ballots_of, change_reply, change_after}
+use Rattle.batch_core.specs.Book.{ballot_lines, lines_of, standing, last_batch}
 use Rattle.batch_core.specs.Histories.{after_all, own_calls, standing_after}
 use Rattle.batch_core.specs.Lawful.{MayStep}
 use Rattle.batch_core.proofs.LawfulLemmas.{standing_total_after}
@@ -34,7 +37,8 @@ module _ {X Y : Type 0} (P : Y → Type 0) (f : X → List Y) where
   all_flat : (xs : List X) → ((k : ℕ) (d : X) → k < length xs → All P (f (slice_index_or xs k d))) → All P (flat_map f xs)
   all_flat [] each = All-nil P
   all_flat (x ∷ xs) each =
-      All-append P (f x) (flat_map f xs) (each 0 x (omega arith)) (all_flat xs (λ k d inside. each (suc k) d (omega (arith, inside))))
+      All-append P (f x) (flat_map f xs) (each 0 x (omega arith))
+        (all_flat xs (λ k d inside. each (suc k) d (omega (arith, inside))))
 
 -- ---- the calls of a history
 
@@ -43,7 +47,9 @@ module _ (candidates : ℕ) where
   Are calls = All (IsCall candidates) calls
 
   -- Where the calls of each caller are calls of so many candidates, all are.
-  pub all_calls : (history : List Entry) → ((caller : ℕ) → Are (calls_of (own_calls caller history))) → All (λ e. IsCall candidates e.call) history
+  pub all_calls :
+      (history : List Entry) → ((caller : ℕ) → Are (calls_of (own_calls caller history)))
+      → All (λ e. IsCall candidates e.call) history
   all_calls [] each = All-nil (λ (e : Entry). IsCall candidates e.call)
   all_calls (e ∷ es) each =
       All-cons (λ (e : Entry). IsCall candidates e.call) e es
@@ -63,8 +69,10 @@ module _ (candidates : ℕ) where
   numbered : (teams : List Script) → All (λ s. Are s.calls) teams → All (λ s. Are s.calls) (by_number teams)
   unfolding by_number
   numbered teams are =
-      all_flat (λ (s : Script). Are s.calls) (λ number. filter (λ (s : Script). s.team == number) teams) (range_with_len 1 16)
-      (λ k d inside. All-filter (λ (s : Script). s.team == slice_index_or (range_with_len 1 16) k d) (λ (s : Script). Are s.calls) teams are)
+      all_flat (λ (s : Script). Are s.calls) (λ number. filter (λ (s : Script). s.team == number) teams)
+        (range_with_len 1 16)
+      (λ k d inside. All-filter (λ (s : Script). s.team == slice_index_or (range_with_len 1 16) k d)
+        (λ (s : Script). Are s.calls) teams are)
 
   pub in_scripts : (teams : List Script) (team : ℕ) → All (λ s. Are s.calls) teams → Are (calls_in (by_number teams) team)
   in_scripts teams team are =
@@ -89,7 +97,8 @@ module _ (candidates : ℕ) where
       → AreRanked (lines_of kept) → AreRanked (lines_of (change_after kept change answer))
   left_by kept change replies.Entered new old = new
   left_by kept change (replies.Corrected revision) new old = new
-  left_by kept change (replies.Withdrawn revision) new old = All-nil (λ (line : BallotLine). IsRanking candidates line.ranking)
+  left_by kept change (replies.Withdrawn revision) new old =
+      All-nil (λ (line : BallotLine). IsRanking candidates line.ranking)
   left_by kept change replies.Frozen new old = old
   left_by kept change (replies.Exists revision) new old = old
   left_by kept change replies.Unknown new old = old
@@ -108,13 +117,18 @@ module _ (candidates : ℕ) where
       kept : Option Batch
       kept = book.batches (batch_of change)
 
-      by : (b : Bool) → AreRanked (lines_of (cond b (change_after kept change (change_reply kept change)) (book.batches number)))
+      by :
+          (b : Bool)
+          → AreRanked
+              (lines_of (cond b (change_after kept change (change_reply kept change)) (book.batches number)))
       by true = left_by kept change (change_reply kept change) (brought change is) (keeps (batch_of change))
       by false = keeps number
   keeps_call book Freeze is keeps number = keeps number
   keeps_call book (Strike candidate) is keeps number = keeps number
 
-  keeps_all : (book : BookState) (es : List Entry) → All (λ e. IsCall candidates e.call) es → Keeps book → Keeps (after_all book es)
+  keeps_all :
+      (book : BookState) (es : List Entry) → All (λ e. IsCall candidates e.call) es → Keeps book
+      → Keeps (after_all book es)
   keeps_all book [] are keeps = keeps
   keeps_all book (e ∷ es) are keeps =
       let P = λ (f : Entry). IsCall candidates f.call in

@@ -1,12 +1,12 @@
 -- At a line of a text there is something to write, or one reason why not.
-use Rattle.std.proofs.Common.{◌≡◌, ◌⊎◌, ℕ, ◌+◌, ◌<◌, ◌≤◌, List, length, sym, ap, ◌∙◌, subst, arith, inl, inr}
+use Rattle.std.proofs.Common.{◌≡◌, ◌⊎◌, ℕ, ◌<◌, ◌≤◌, List, sym, ap, ◌∙◌, arith, inl, inr}
 use Rattle.std.proofs.lemmas.Bool.{cases_lt}
 use Rattle.batch_core.specs.declared.entry.Entry.{Entry}
 use Rattle.day_reader.specs.declared.day.Day.{Day}
 use Rattle.day_replay.specs.Nearest.{BeginsAs}
 use Rattle.day_ballots.specs.declared.ballots_fault.BallotsFault.{BallotsFault}
 use Rattle.day_ballots.specs.declared.ballots_fault.BallotsFault.TheVariants.{File, False, NoFreeze}
-use Rattle.day_ballots.specs.Along.{GoesAlong, IsAtFreeze, IsFalseCall, HasNoFreeze}
+use Rattle.day_ballots.specs.Along.{GoesAlong, IsAtFreeze, IsFalseCall}
 use Rattle.day_ballots.specs.Ballots.{IsNoneAt}
 use Rattle.day_ballots.proofs.FreezePlaces.{within}
 
@@ -21,7 +21,9 @@ module _ (day : Day) (text : List ℕ) where
       record { calls = along.calls; lines = begins_less text history n k few along.lines }
 
   -- A freeze behind lawful lines is written.
-  pub not_none : (n : ℕ) (history : List Entry) (fault : BallotsFault) → IsAtFreeze day text n history → ¬ IsNoneAt day text n fault
+  pub not_none :
+      (n : ℕ) (history : List Entry) (fault : BallotsFault) → IsAtFreeze day text n history
+      → ¬ IsNoneAt day text n fault
   not_none n history (File fault) at none = none
   not_none n history (False line) at (few, false) =
       let inside = within history n at.freeze in
@@ -44,7 +46,9 @@ module _ (day : Day) (text : List ℕ) where
       by (inr le) (inl before) = absurd (later other one again first before)
       by (inr le) (inr ge) = omega (arith, le, ge)
 
-  pub none_once : (n : ℕ) (fault other : BallotsFault) → IsNoneAt day text n fault → IsNoneAt day text n other → fault ≡ other
+  pub none_once :
+      (n : ℕ) (fault other : BallotsFault) → IsNoneAt day text n fault → IsNoneAt day text n other
+      → fault ≡ other
   none_once n (File fault) other none also = absurd none
   none_once n (False line) (File fault) none also = absurd also
   none_once n (False line) (False again) (few, none) (some, also) = ap False (one_false line again none also)

@@ -38,17 +38,23 @@ module _ (days : AcceptsDays) (refusals : RefusesByTheRule) where
       not_none day text n history (NoFreeze line) at (none_here n input text other day again (NoFreeze line) says also none)
 
   -- a text that is said is not refused as an audit refuses it
-  said : {P : Type 0} (input text : List ℕ) (day : Day) (fault : InputFault) → Says input text day → IsRefusedAt 0 input (File fault) → P
-  said input text day fault says refused = absurd (not_refused days refusals input fault (says_audit input text day says) refused)
+  said :
+      {P : Type 0} (input text : List ℕ) (day : Day) (fault : InputFault) → Says input text day
+      → IsRefusedAt 0 input (File fault) → P
+  said input text day fault says refused =
+      absurd (not_refused days refusals input fault (says_audit input text day says) refused)
 
-  once : (n : ℕ) (input : List ℕ) (fault other : BallotsFault) → IsRefusedAt n input fault → IsRefusedAt n input other → fault ≡ other
+  once :
+      (n : ℕ) (input : List ℕ) (fault other : BallotsFault) → IsRefusedAt n input fault
+      → IsRefusedAt n input other → fault ≡ other
   once n input (File fault) (File other) refused again = ap File (refused_once refusals input fault other refused again)
   once n input (File fault) (False line) refused (text, day, says, none) = said input text day fault says refused
   once n input (File fault) (NoFreeze line) refused (text, day, says, none) = said input text day fault says refused
   once n input (False line) (File fault) (text, day, says, none) refused = said input text day fault says refused
   once n input (NoFreeze line) (File fault) (text, day, says, none) refused = said input text day fault says refused
   once n input (False line) (False more) (text, day, says, none) (other, again, also, more_none) =
-      none_once day text n (False line) (False more) none (none_here n input text other day again (False more) says also more_none)
+      none_once day text n (False line) (False more) none
+        (none_here n input text other day again (False more) says also more_none)
   once n input (False line) (NoFreeze more) (text, day, says, none) (other, again, also, more_none) =
       none_once day text n (False line) (NoFreeze more) none
       (none_here n input text other day again (NoFreeze more) says also more_none)

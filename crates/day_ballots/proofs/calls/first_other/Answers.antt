@@ -1,11 +1,13 @@
 use Rattle.std.proofs.Common.{◌≡◌, ◌∙◌, arith, ap, length}
 use Rattle.day_ballots.proofs.CallLines.{is_other, is_behind, no_difference}
 use Rattle.day_ballots.proofs.calls.first_other.Goals as goal
-use Rattle.day_ballots.proofs.calls.first_other.Goals.{else-line-at-via-then-line-at+else-line-calls, else-line-at-via-else-line-at}
+use Rattle.day_ballots.proofs.calls.first_other.Goals.{else-line-at-via-then-line-at+else-line-calls}
+use Rattle.day_ballots.proofs.calls.first_other.Goals.{else-line-at-via-else-line-at}
 
 pub returns-in_err-line : goal.returns-in_err-line
 returns-in_err-line c =
-    no_difference c.args.text.now c.args.history.now c.args.at c.from_residual.result c.from_residual.ensures c.in_err-line.ensures
+    no_difference c.args.text.now c.args.history.now c.args.at c.from_residual.result c.from_residual.ensures
+      c.in_err-line.ensures
 
 pub returns-then-line-calls : goal.returns-then-line-calls
 returns-then-line-calls c =

@@ -1,4 +1,4 @@
-use Rattle.std.proofs.Common.{◌≡◌, ◌≢◌, ℕ, ◌<◌, get_or}
+use Rattle.std.proofs.Common.{◌≢◌, ℕ, ◌<◌, get_or}
 use Rattle.shard_office.specs.Versions.{VersionState}
 use Rattle.day_ballots.proofs.freezes.place_of.Given as goal
 

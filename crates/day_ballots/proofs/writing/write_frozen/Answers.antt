@@ -1,5 +1,4 @@
-use Rattle.std.proofs.Common.{◌∙◌, ap, inr, List, ℕ}
-use Rattle.meek_cli.specs.DayText.{roll_with}
+use Rattle.std.proofs.Common.{inr}
 use Rattle.tool_edge.specs.declared.end.End.TheVariants.{Done}
 use Rattle.tool_edge.proofs.Ending.{closed}
 use Rattle.day_ballots.proofs.Owing.{file_of, wrote_text}
@@ -14,8 +13,10 @@ returns g c =
     inr (
       Done,
       text.text,
-      file_of c.args.roll.now _ c.args.frozen c.into_plans.result c.in-Ok-begin.export text.text
-          (c.in-Ok.ensures ∙ ap (λ (l : List ℕ). roll_with c.args.roll.now l) c.struck.ensures.struck) c.into_plans.ensures.plans c.in-Ok-begin.ensures.roll c.in-Ok-begin.ensures.ballots text.is,
+      file_of c.args.roll.now c.in-Ok.roll c.args.frozen c.struck.result.now c.into_plans.result c.in-Ok-begin.export
+          text.text
+          c.in-Ok.ensures c.struck.ensures.struck c.into_plans.ensures.plans c.in-Ok-begin.ensures.roll
+            c.in-Ok-begin.ensures.ballots text.is,
       closed w f c.args.sink.now c.write_blt-wrote.new.sink c.close.new.sink text.text
           c.write_blt-wrote.result c.close.result
           (wrote_text w f c.args.sink.now c.write_blt-wrote.new.sink text.text c.write_blt-wrote.result text.writes)
