@@ -221,8 +221,43 @@ fn an_input_is_refused_at_its_place(rt: HostRuntime) -> Result<(), Fail> {
     Ok(())
 }
 
+// The first day's summary is that of its made ballots, which a second counter counted.
+const FIRST_DAY: &[u8] = b"trial 1\ncalls 6\nbatches 4\nballots 760\nrounds 10\niterations 20\n";
+
+// Words, what stands behind the first six lines, and the verdict.
+const SUMMARIES: [(&str, &[u8], &[u8]); 6] = [
+    ("--trial 1", b"elected 2 4 10 12\n", b"trial true\n"),
+    ("--trial 000000001", b"elected 2 4 10 12\n", b"trial true\n"),
+    ("--trial 1", b"elected 2 4 10 11\n", b"trial false at line 7\n"),
+    ("--trial 1", b"", b"trial false at line 7\n"),
+    ("--trial 1", b"elected 2 4 10 12\n\n", b"trial false at line 8\n"),
+    ("--trial 2", b"elected 2 4 10 12\n", b"trial false at line 1\n"),
+];
+
 #[test]
-fn no_words_are_taken(rt: HostRuntime) -> Result<(), Fail> {
-    let due = (End::BadWords, b"refused BadWords\n".as_slice());
-    ends(&rt, rt.alloc(), "--lots 1", &[b"end\n", TWO_TEAMS], due)
+fn a_summary_is_that_of_its_made_day(rt: HostRuntime) -> Result<(), Fail> {
+    for (words, last, verdict) in SUMMARIES {
+        ends(&rt, rt.alloc(), words, &[FIRST_DAY, last], (End::Done, verdict))?;
+    }
+    let due = (End::Done, b"trial false at line 1\n".as_slice());
+    ends(&rt, rt.alloc(), "--trial 1", &[b""], due)
+}
+
+const OTHER_WORDS: [&str; 7] = [
+    "--lots 1",
+    "--trial",
+    "--trial 0",
+    "--trial 1001",
+    "--trial 0000000001",
+    "1",
+    "--trial 1 2",
+];
+
+#[test]
+fn other_words_are_not_taken(rt: HostRuntime) -> Result<(), Fail> {
+    for words in OTHER_WORDS {
+        let due = (End::BadWords, b"refused BadWords\n".as_slice());
+        ends(&rt, rt.alloc(), words, &[b"end\n", TWO_TEAMS], due)?;
+    }
+    Ok(())
 }
