@@ -36,7 +36,7 @@ not_both days refusals file day fault says refused =
     cc
 
 -- it says one day
-pub one_day : AcceptsDays → (file : List ℕ) (day other : Day) → SaysDay file day → SaysDay file other → day ≡ other
+pub one_day : AcceptsDays → (file : List ℕ) (day other : DayFile) → SaysDay file day → SaysDay file other → day ≡ other
 one_day days file day other says also =
     let read : said_by (scan file true) ≡ Ok day = (days (scan file true) day).1 says in
     let again : said_by (scan file true) ≡ Ok other = (days (scan file true) other).1 also in
