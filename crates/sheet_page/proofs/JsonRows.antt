@@ -22,6 +22,8 @@ use Rattle.page_tree.specs.Escaping.{readable}
 use Rattle.sheet_text.specs.Lines.{state_word}
 use Rattle.sheet_reader.specs.Form.{IsPrintableRow}
 use Rattle.sheet_reader.specs.Values.{SheetList}
+use Rattle.plain_ballots.specs.declared.limits.TheConstants.{MOST_CANDIDATES}
+use Rattle.sheet_words.specs.Facts.{by_lots, last_seats}
 use Rattle.sheet_page.specs.Csv.{csv_record, yes_or_no}
 use Rattle.sheet_page.specs.Json.{comma_at, truth, vote_json, won_json, lost_json, amounts_json}
 use Rattle.sheet_page.specs.Json.{standing_json, iteration_json}
@@ -32,7 +34,7 @@ use Rattle.sheet_page.proofs.JsonParts.{onto, joined-onto}
 use Rattle.sheet_page.proofs.JsonTwins.{Twin, Bytes, Numbers, Strings, Truths, AreOne, twins_cut, lists_cut}
 use Rattle.sheet_page.proofs.RowFields.{HaveOneText, row_says, keep_at, vote_at}
 use Rattle.sheet_page.proofs.CandidateJson.{vote_parts, won_parts}
-use Rattle.sheet_page.proofs.SheetJson.{amounts_parts}
+use Rattle.sheet_page.proofs.SheetJson.{amounts_parts, last_few}
 
 -- ---- texts of ASCII are written as they are
 
@@ -127,32 +129,35 @@ no_bracket row (suc p) rest others e = omega (arith, ap letter e)
 
 -- ---- two iterations
 
-abbrev amounts : (i : ℕ) → Row → Row → List Twin
-amounts i row other =
+abbrev amounts : (seats chairs i : ℕ) → Row → Row → List Twin
+amounts seats chairs i row other =
     Bytes (comma_at i) ∷ Bytes (codes "{\"round\":") ∷ Numbers row.round other.round ∷ Bytes (codes "\"iteration\":")
     ∷ Numbers row.iteration other.iteration ∷ Bytes (codes "\"total\":")
     ∷ Strings (text_of 9 row.total) (text_of 9 other.total)
     ∷ Bytes (codes ",\"quota\":") ∷ Strings (text_of 9 row.quota) (text_of 9 other.quota) ∷ Bytes (codes ",\"surplus\":")
     ∷ Strings (text_of 9 row.surplus) (text_of 9 other.surplus) ∷ Bytes (codes ",\"step\":")
-    ∷ Strings (step_word row.step) (step_word other.step) ∷ Bytes (codes ",\"candidates\":[") ∷ []
+    ∷ Strings (step_word row.step) (step_word other.step) ∷ Bytes (codes ",\"by_lots\":")
+    ∷ Truths (by_lots row) (by_lots other) ∷ Bytes (codes ",\"last_seats\":")
+    ∷ Numbers (last_seats seats row) (last_seats chairs other) ∷ Bytes (codes "\"candidates\":[") ∷ []
 
-iteration_onto : (i : ℕ) (row : Row) (rest : List ℕ) →
-    iteration_json i row ++ rest
-    ≡ onto (amounts_parts i row) (flat_map (standing_json row) (places (length row.states)) ++ 93 ∷ 125 ∷ rest)
-iteration_onto i row rest =
+iteration_onto : (seats i : ℕ) (row : Row) (rest : List ℕ) →
+    iteration_json seats i row ++ rest
+    ≡ onto (amounts_parts seats i row) (flat_map (standing_json row) (places (length row.states)) ++ 93 ∷ 125 ∷ rest)
+iteration_onto seats i row rest =
     let items = flat_map (standing_json row) (places (length row.states)) in
-    append_assoc (amounts_json i row) (items ++ codes "]}") rest
-    ∙ joined-onto (amounts_parts i row) ((items ++ codes "]}") ++ rest)
-    ∙ ap (onto (amounts_parts i row)) (append_assoc items (codes "]}") rest)
+    append_assoc (amounts_json i row (truth (by_lots row)) (last_seats seats row)) (items ++ codes "]}") rest
+    ∙ joined-onto (amounts_parts seats i row) ((items ++ codes "]}") ++ rest)
+    ∙ ap (onto (amounts_parts seats i row)) (append_assoc items (codes "]}") rest)
 
 -- a sheet whose names do not matter
 abbrev nobody : SheetList
 nobody = record { title = []; seats = 0; ballots = 0; names = []; rows = []; last = [] }
 
 -- iterations that say the same of themselves and of each candidate
-one_row : (n i : ℕ) (row other : Row) → 1 ≤ n → IsPrintableRow 9 n row → IsPrintableRow 9 n other
-    → AreOne (amounts i row other) → ((p : ℕ) → p < n → AreOne (standings row other p)) → row ≡ other
-one_row n i row other some is also (round, (iteration, (total, (quota, (surplus, (step, end)))))) same =
+one_row : (n seats chairs i : ℕ) (row other : Row) → 1 ≤ n → IsPrintableRow 9 n row → IsPrintableRow 9 n other
+    → AreOne (amounts seats chairs i row other) → ((p : ℕ) → p < n → AreOne (standings row other p)) → row ≡ other
+one_row n seats chairs i row other some is also
+    (round, (iteration, (total, (quota, (surplus, (step, (lots, (last, end)))))))) same =
     row_says nobody nobody n row other some is also texts
   where
     texts : HaveOneText nobody nobody n row other
@@ -178,17 +183,24 @@ one_row n i row other some is also (round, (iteration, (total, (quota, (surplus,
             ∷ steps j ∷ []
 
 pub iterations_cut :
-    (n i : ℕ) (row other : Row) (rest others : List ℕ) → 1 ≤ n → IsPrintableRow 9 n row
-    → IsPrintableRow 9 n other
-    → iteration_json i row ++ rest ≡ iteration_json i other ++ others → (row ≡ other) × (rest ≡ others)
-iterations_cut n i row other rest others some is also e =
-    let head = twins_cut (amounts i row other) (flat_map (standing_json row) (places (length row.states)) ++ 93 ∷ 125 ∷ rest)
-    (flat_map (standing_json other) (places (length other.states)) ++ 93 ∷ 125 ∷ others)
-    (omega (arith, is.round), omega (arith, also.round), (is.iteration, also.iteration, tt))
-    (sym (iteration_onto i row rest) ∙ e ∙ iteration_onto i other others) in
+    (n seats chairs i : ℕ) (row other : Row) (rest others : List ℕ) → 1 ≤ n → seats ≤ MOST_CANDIDATES
+    → chairs ≤ MOST_CANDIDATES → IsPrintableRow 9 n row → IsPrintableRow 9 n other
+    → iteration_json seats i row ++ rest ≡ iteration_json chairs i other ++ others → (row ≡ other) × (rest ≡ others)
+iterations_cut n seats chairs i row other rest others some low few is also e =
+    let head = twins_cut (amounts seats chairs i row other) (flat_map (standing_json row) (places (length row.states)) ++ 93 ∷ 125 ∷ rest)
+    (flat_map (standing_json other) (places (length other.states)) ++ 93 ∷ 125 ∷ others) (
+      omega (arith, is.round),
+      omega (arith, also.round),
+      (
+        is.iteration,
+        also.iteration,
+        (omega (arith, low, last_few seats row), omega (arith, few, last_few chairs other), tt),
+      ),
+    )
+    (sym (iteration_onto seats i row rest) ∙ e ∙ iteration_onto chairs i other others) in
     let items = lists_cut (standing_json row) (standing_json other) (λ p. AreOne (standings row other p))
     (length row.states) (length other.states) (no_bracket row) (no_bracket other)
     (λ p r s low high. standings_cut row other p r s) (125 ∷ rest) (125 ∷ others) head.1 in (
-      one_row n i row other some is also head.0 (λ p below. items.1 p (omega (arith, below, is.of_all.states))),
+      one_row n seats chairs i row other some is also head.0 (λ p below. items.1 p (omega (arith, below, is.of_all.states))),
       (heads 125 125 rest others items.2).1,
     )

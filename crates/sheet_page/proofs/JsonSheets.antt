@@ -76,8 +76,8 @@ module _ (v w : SheetList) (is : IsPrintable 9 v) (also : IsPrintable 9 w) where
       (All-get_or (IsPrintableRow 9 (length w.names)) w.rows i (blank 0) below also.rows) in
       let items = lists_cut (iteration_at v) (iteration_at w) (λ i. row_at v.rows i ≡ row_at w.rows i)
       (length v.rows) (length w.rows) (none_ended v) (none_ended w)
-      (λ i rest others low high. iterations_cut (length v.names) i (row_at v.rows i) (row_at w.rows i) rest others
-      is.candidates.0 (All-get_or (IsPrintableRow 9 (length v.names)) v.rows i (blank 0) low is.rows) (fit i high))
+      (λ i rest others low high. iterations_cut (length v.names) v.seats w.seats i (row_at v.rows i) (row_at w.rows i)
+      rest others is.candidates.0 is.seats.1 also.seats.1 (All-get_or (IsPrintableRow 9 (length v.names)) v.rows i (blank 0) low is.rows) (fit i high))
       (125 ∷ 10 ∷ []) (125 ∷ 10 ∷ []) e in
       ext_get_or (blank 0) v.rows w.rows items.0 items.1
 
@@ -136,7 +136,7 @@ json_with title seats ballots n name last rows =
     )
     ++ (flat_map (candidate_with name last) (places n)
     ++ (codes "],\"iterations\":["
-    ++ (flat_map (λ i. iteration_json i (row_at rows i)) (places (length rows)) ++ (codes "]}" ++ 10 ∷ []))))
+    ++ (flat_map (λ i. iteration_json seats i (row_at rows i)) (places (length rows)) ++ (codes "]}" ++ 10 ∷ []))))
 
 one_json : (v w : SheetList) → HaveOneJson v w → json_of v ≡ json_of w
 one_json v w alike =

@@ -1,8 +1,8 @@
 -- The JSON of a sheet as a text of what it says.
 use Rattle.std.proofs.Common.{◌≡◌, ◌∙◌, refl, sym, ap, ℕ, List, [], ◌∷◌, ◌++◌, length}
-use Rattle.std.proofs.Common.{arith, ◌≤◌}
+use Rattle.std.proofs.Common.{arith, ◌≤◌, ◌-◌, Bool, true, false}
 use Rattle.std.proofs.Common.{map, append_assoc}
-use Rattle.std.specs.Prelude.{codes, decimal}
+use Rattle.std.specs.Prelude.{codes, decimal, if◌then◌else◌}
 use Rattle.std.specs.List.{flat_map}
 use Rattle.std.proofs.lemmas.List.Elements.{All-get_or}
 use Rattle.meek_rule.specs.Row.{Row, blank}
@@ -11,7 +11,9 @@ use Rattle.fixed_place.specs.Text.{text_of}
 use Rattle.sheet_reader.specs.Form.{IsPrintable, IsPrintableRow}
 use Rattle.sheet_reader.specs.Values.{SheetList}
 use Rattle.sheet_minutes.specs.Rounds.{row_at}
-use Rattle.sheet_page.specs.Json.{amount, comma_at, candidate_json, standing_json}
+use Rattle.meek_rule.specs.Situation.{elected_count}
+use Rattle.sheet_words.specs.Facts.{by_lots, chooses, last_seats}
+use Rattle.sheet_page.specs.Json.{amount, comma_at, candidate_json, standing_json, truth}
 use Rattle.sheet_page.specs.Json.{iteration_json, iteration_at, json_of}
 use Rattle.sheet_page.specs.JsonGrammar.{IsTextOf, closed}
 use Rattle.sheet_page.specs.JsonText.{string_text}
@@ -20,31 +22,34 @@ use Rattle.sheet_page.specs.JsonValues.{iteration_value_at, sheet_value}
 use Rattle.sheet_page.specs.Values.{places, step_word}
 use Rattle.sheet_page.proofs.JsonParts.{onto, joined-onto, onto-append, said-text, list-written, are-items}
 use Rattle.sheet_page.proofs.CandidateJson.{member, members, candidate_pieces, candidate-written, candidate-is}
-use Rattle.sheet_page.proofs.CandidateJson.{standing_pieces, standing-written, standing-is}
+use Rattle.sheet_page.proofs.CandidateJson.{standing_pieces, standing-written, standing-is, truth-text}
 
 -- ---- an iteration
 
 abbrev standings_text : Row → List ℕ
 standings_text row = 91 ∷ closed (map (λ p. members (standing_pieces row p)) (places (length row.states))) 93
 
-abbrev iteration_pieces : Row → List (List ℕ)
-iteration_pieces row =
+abbrev iteration_pieces : (seats : ℕ) → Row → List (List ℕ)
+iteration_pieces seats row =
     member (codes "\"round\"") (decimal row.round) ∷ member (codes "\"iteration\"") (decimal row.iteration)
     ∷ member (codes "\"total\"") (amount row.total) ∷ member (codes "\"quota\"") (amount row.quota)
     ∷ member (codes "\"surplus\"") (amount row.surplus) ∷ member (codes "\"step\"") (string_text (step_word row.step))
+    ∷ member (codes "\"by_lots\"") (truth (by_lots row)) ∷ member (codes "\"last_seats\"") (decimal (last_seats seats row))
     ∷ member (codes "\"candidates\"") (standings_text row) ∷ []
 
-abbrev pub amounts_parts : (i : ℕ) → Row → List (List ℕ)
-amounts_parts i row =
+abbrev pub amounts_parts : (seats i : ℕ) → Row → List (List ℕ)
+amounts_parts seats i row =
     comma_at i ∷ codes "{\"round\":" ∷ decimal row.round ∷ codes ",\"iteration\":" ∷ decimal row.iteration
     ∷ codes ",\"total\":" ∷ amount row.total ∷ codes ",\"quota\":" ∷ amount row.quota ∷ codes ",\"surplus\":"
     ∷ amount row.surplus
-    ∷ codes ",\"step\":" ∷ string_text (step_word row.step) ∷ codes ",\"candidates\":[" ∷ []
+    ∷ codes ",\"step\":" ∷ string_text (step_word row.step) ∷ codes ",\"by_lots\":" ∷ truth (by_lots row)
+    ∷ codes ",\"last_seats\":" ∷ decimal (last_seats seats row) ∷ codes ",\"candidates\":[" ∷ []
 
-iteration-written : (i : ℕ) (row : Row) → iteration_json i row ≡ comma_at i ++ members (iteration_pieces row)
-iteration-written i row =
-    joined-onto (amounts_parts i row) (flat_map (standing_json row) (places (length row.states)) ++ codes "]}")
-    ∙ ap (onto (amounts_parts i row))
+iteration-written :
+    (seats i : ℕ) (row : Row) → iteration_json seats i row ≡ comma_at i ++ members (iteration_pieces seats row)
+iteration-written seats i row =
+    joined-onto (amounts_parts seats i row) (flat_map (standing_json row) (places (length row.states)) ++ codes "]}")
+    ∙ ap (onto (amounts_parts seats i row))
     (list-written (standing_json row) (λ p. members (standing_pieces row p)) (standing-written row) (125 ∷ [])
     (length row.states))
 
@@ -58,11 +63,19 @@ standings-are row few = (
       (λ p below. standing-is row p (omega (arith, few, below))),
 )
 
+-- a text of seats that are at most so many
+pub last_few : (seats : ℕ) (row : Row) → last_seats seats row ≤ seats
+last_few seats row = by (chooses row)
+  where
+    by : (b : Bool) → (if b then seats - elected_count row.states else 0) ≤ seats
+    by true = omega arith
+    by false = omega arith
+
 iteration-is :
-    (n : ℕ) (row : Row) → n ≤ MOST_CANDIDATES → IsPrintableRow 9 n row
-    → IsTextOf (iteration_value row) (members (iteration_pieces row))
-iteration-is n row few is = (
-  iteration_pieces row,
+    (n seats : ℕ) (row : Row) → n ≤ MOST_CANDIDATES → seats ≤ MOST_CANDIDATES → IsPrintableRow 9 n row
+    → IsTextOf (iteration_value seats row) (members (iteration_pieces seats row))
+iteration-is n seats row few low is = (
+  iteration_pieces seats row,
   refl,
   (
     (codes "\"round\"", decimal row.round, refl, refl, (omega (arith, is.round), refl)),
@@ -77,14 +90,26 @@ iteration-is n row few is = (
             (
               (codes "\"step\"", string_text (step_word row.step), refl, refl, said-text (step_word row.step)),
               (
+                (codes "\"by_lots\"", truth (by_lots row), refl, refl, truth-text (by_lots row)),
                 (
-                  codes "\"candidates\"",
-                  standings_text row,
-                  refl,
-                  refl,
-                  standings-are row (omega (arith, few, is.of_all.states)),
+                  (
+                    codes "\"last_seats\"",
+                    decimal (last_seats seats row),
+                    refl,
+                    refl,
+                    (omega (arith, low, last_few seats row), refl),
+                  ),
+                  (
+                    (
+                      codes "\"candidates\"",
+                      standings_text row,
+                      refl,
+                      refl,
+                      standings-are row (omega (arith, few, is.of_all.states)),
+                    ),
+                    refl,
+                  ),
                 ),
-                refl,
               ),
             ),
           ),
@@ -100,7 +125,7 @@ abbrev candidates_text : SheetList → List ℕ
 candidates_text v = 91 ∷ closed (map (λ p. members (candidate_pieces v p)) (places (length v.names))) 93
 
 abbrev iterations_text : SheetList → List ℕ
-iterations_text v = 91 ∷ closed (map (λ i. members (iteration_pieces (row_at v.rows i))) (places (length v.rows))) 93
+iterations_text v = 91 ∷ closed (map (λ i. members (iteration_pieces v.seats (row_at v.rows i))) (places (length v.rows))) 93
 
 abbrev sheet_pieces : SheetList → List (List ℕ)
 sheet_pieces v =
@@ -122,11 +147,11 @@ written-onto : (v : SheetList) (more : List ℕ) →
     members (sheet_pieces v) ++ more
     ≡ onto (head_parts v) (closed (map (λ p. members (candidate_pieces v p)) (places (length v.names))) 93
     ++ (codes ",\"iterations\":["
-    ++ (closed (map (λ i. members (iteration_pieces (row_at v.rows i))) (places (length v.rows))) 93
+    ++ (closed (map (λ i. members (iteration_pieces v.seats (row_at v.rows i))) (places (length v.rows))) 93
     ++ 125 ∷ more)))
 written-onto v more =
     let candidates = closed (map (λ p. members (candidate_pieces v p)) (places (length v.names))) 93 in
-    let iterations = closed (map (λ i. members (iteration_pieces (row_at v.rows i))) (places (length v.rows))) 93 in
+    let iterations = closed (map (λ i. members (iteration_pieces v.seats (row_at v.rows i))) (places (length v.rows))) 93 in
     let behind = codes ",\"iterations\":[" ++ (iterations ++ 125 ∷ []) in
     onto-append (head_parts v) (candidates ++ behind) more
     ∙ ap (onto (head_parts v)) (append_assoc candidates behind more
@@ -141,8 +166,8 @@ sheet-written v =
     ∙ ap (onto head) (list-written (candidate_json v) (λ p. members (candidate_pieces v p)) (candidate-written v)
     (codes ",\"iterations\":[" ++ iterations) (length v.names)
     ∙ ap (λ (l : List ℕ). candidates ++ (codes ",\"iterations\":[" ++ l))
-    (list-written (iteration_at v) (λ i. members (iteration_pieces (row_at v.rows i)))
-    (λ i. iteration-written i (row_at v.rows i)) (125 ∷ 10 ∷ []) (length v.rows)))
+    (list-written (iteration_at v) (λ i. members (iteration_pieces v.seats (row_at v.rows i)))
+    (λ i. iteration-written v.seats i (row_at v.rows i)) (125 ∷ 10 ∷ []) (length v.rows)))
     ∙ sym (written-onto v (10 ∷ []))
 
 candidates-are :
@@ -159,10 +184,10 @@ iterations-are :
     (v : SheetList) → IsPrintable 9 v
     → IsTextOf (array (map (iteration_value_at v) (places (length v.rows)))) (iterations_text v)
 iterations-are v is = (
-  map (λ i. members (iteration_pieces (row_at v.rows i))) (places (length v.rows)),
+  map (λ i. members (iteration_pieces v.seats (row_at v.rows i))) (places (length v.rows)),
   refl,
-  are-items (iteration_value_at v) (λ i. members (iteration_pieces (row_at v.rows i))) (length v.rows)
-      (λ i below. iteration-is (length v.names) (row_at v.rows i) is.candidates.1
+  are-items (iteration_value_at v) (λ i. members (iteration_pieces v.seats (row_at v.rows i))) (length v.rows)
+      (λ i below. iteration-is (length v.names) v.seats (row_at v.rows i) is.candidates.1 is.seats.1
       (All-get_or (IsPrintableRow 9 (length v.names)) v.rows i (blank 0) below is.rows)),
 )
 

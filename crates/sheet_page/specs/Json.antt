@@ -8,6 +8,7 @@ use Rattle.meek_rule.specs.Row.{Row}
 use Rattle.sheet_text.specs.Lines.{state_word}
 use Rattle.sheet_reader.specs.Values.{SheetList}
 use Rattle.sheet_minutes.specs.Rounds.{row_at}
+use Rattle.sheet_words.specs.Facts.{by_lots, last_seats}
 use Rattle.sheet_page.specs.JsonText.{string_text}
 use Rattle.sheet_page.specs.Values.{places, name_at, step_word, defeats}
 
@@ -57,21 +58,24 @@ standing_json row p =
     ++ (won_json (truth (mark_at row.elected p)) (truth (mark_at row.capped p))
     ++ lost_json (truth (mark_at row.tied p)) (truth (defeats row.step (p + 1))))
 
--- the numbers and amounts of an iteration, and its step
-abbrev pub amounts_json : (i : ℕ) → Row → List ℕ
-amounts_json i row =
+-- the numbers and amounts of an iteration, its step, and what its sentences say of lots and of the last seats
+abbrev pub amounts_json : (i : ℕ) → Row → (lots : List ℕ) → (seats : ℕ) → List ℕ
+amounts_json i row lots seats =
     joined (
     comma_at i ∷ codes "{\"round\":" ∷ decimal row.round ∷ codes ",\"iteration\":" ∷ decimal row.iteration
     ∷ codes ",\"total\":" ∷ amount row.total ∷ codes ",\"quota\":" ∷ amount row.quota ∷ codes ",\"surplus\":" ∷ amount row.surplus
-    ∷ codes ",\"step\":" ∷ string_text (step_word row.step) ∷ codes ",\"candidates\":[" ∷ []
+    ∷ codes ",\"step\":" ∷ string_text (step_word row.step) ∷ codes ",\"by_lots\":" ∷ lots ∷ codes ",\"last_seats\":" ∷ decimal seats
+    ∷ codes ",\"candidates\":[" ∷ []
     )
 
--- an iteration
-abbrev pub iteration_json : (i : ℕ) → Row → List ℕ
-iteration_json i row = amounts_json i row ++ (flat_map (standing_json row) (places (length row.states)) ++ codes "]}")
+-- an iteration of a count for so many seats
+abbrev pub iteration_json : (seats i : ℕ) → Row → List ℕ
+iteration_json seats i row =
+    amounts_json i row (truth (by_lots row)) (last_seats seats row)
+    ++ (flat_map (standing_json row) (places (length row.states)) ++ codes "]}")
 
 abbrev pub iteration_at : SheetList → (i : ℕ) → List ℕ
-iteration_at v i = iteration_json i (row_at v.rows i)
+iteration_at v i = iteration_json v.seats i (row_at v.rows i)
 
 -- the title, and the numbers of seats and ballots
 abbrev pub head_json : SheetList → List ℕ

@@ -8,6 +8,7 @@ use Rattle.page_tree.specs.Escaping.{readable}
 use Rattle.sheet_text.specs.Lines.{state_word}
 use Rattle.sheet_reader.specs.Values.{SheetList}
 use Rattle.sheet_minutes.specs.Rounds.{row_at}
+use Rattle.sheet_words.specs.Facts.{by_lots, last_seats}
 use Rattle.sheet_page.specs.JsonGrammar.{Json, Items, Members, Text, Whole, Truth, Array, Object, NoItem, Item, NoMember, Member}
 use Rattle.sheet_page.specs.Values.{places, name_at, step_word, defeats}
 
@@ -49,18 +50,19 @@ standing_value row p =
     ∷ (codes "tied", Truth (mark_at row.tied p)) ∷ (codes "defeated", Truth (defeats row.step (p + 1))) ∷ []
     )
 
--- an iteration
-abbrev pub iteration_value : Row → Json
-iteration_value row =
+-- an iteration of a count for so many seats; whether the lots decided in it, and how many seats were left where more had the quota
+abbrev pub iteration_value : (seats : ℕ) → Row → Json
+iteration_value seats row =
     object (
     (codes "round", Whole row.round) ∷ (codes "iteration", Whole row.iteration) ∷ (codes "total", said_amount row.total)
     ∷ (codes "quota", said_amount row.quota) ∷ (codes "surplus", said_amount row.surplus) ∷ (codes "step", said (step_word row.step))
+    ∷ (codes "by_lots", Truth (by_lots row)) ∷ (codes "last_seats", Whole (last_seats seats row))
     ∷ (codes "candidates", array (map (standing_value row) (places (length row.states)))) ∷ []
     )
 
 -- the iteration at a place
 abbrev pub iteration_value_at : SheetList → (i : ℕ) → Json
-iteration_value_at v i = iteration_value (row_at v.rows i)
+iteration_value_at v i = iteration_value v.seats (row_at v.rows i)
 
 -- the whole sheet
 abbrev pub sheet_value : SheetList → Json

@@ -16,6 +16,7 @@ use crate::values::{defeats, kept_of_one, state_word, step_word};
 use byte_edge::{Failed, Sink};
 use meek_rule::Row;
 use sheet_reader::SheetValues;
+use sheet_words::{is_by_lots, last_seats};
 
 /// Writes the values of a sheet as JSON, in one line.
 pub(crate) fn write_json<K: Sink>(values: &SheetValues, sink: &mut K) -> Result<(), Failed>
@@ -85,24 +86,33 @@ fn write_iterations<K: Sink>(pen: &mut Pen<'_, K>, values: &SheetValues)
         (flat_map (iteration_at values.now) (places (length values.now.rows))) }
 {
     for i in 0..values.rows.len() {
-        write_iteration(pen, i, values.rows.get(i));
+        write_iteration(pen, values.seats, i, values.rows.get(i));
     }
 }
 
 /// An iteration, behind a comma if it isn't the first.
-fn write_iteration<K: Sink>(pen: &mut Pen<'_, K>, i: usize, row: &Row<9>)
+fn write_iteration<K: Sink>(pen: &mut Pen<'_, K>, seats: u32, i: usize, row: &Row<9>)
     requires room { HasRoomFor (length row.now.states) row.now }
     requires few { length row.now.states ≤ MOST_CANDIDATES }
-    ensures { Prints K.Sink pen.old pen.new (iteration_json i row.now) }
+    ensures { Prints K.Sink pen.old pen.new (iteration_json seats i row.now) }
 {
-    write_amounts(pen, i, row);
+    let lots = truth(is_by_lots(row));
+    let last = last_seats(seats, row);
+    write_amounts(pen, i, row, lots, u64::from(last));
     write_standings(pen, row);
     pen.piece(&Piece::Raw(b"]}"));
 }
 
-/// Numbers, amounts and step of an iteration, up to its list of candidates.
-fn write_amounts<K: Sink>(pen: &mut Pen<'_, K>, i: usize, row: &Row<9>)
-    ensures { Prints K.Sink pen.old pen.new (amounts_json i row.now) }
+/// Numbers, amounts and step of an iteration, whether the lots decided and the last seats, up to its list of
+/// candidates.
+fn write_amounts<'x, K: Sink>(
+    pen: &mut Pen<'_, K>,
+    i: usize,
+    row: &'x Row<9>,
+    lots: &'x [u8],
+    seats: u64,
+)
+    ensures { Prints K.Sink pen.old pen.new (amounts_json i row.now lots.now seats) }
 {
     pen.write(&[
         Piece::Raw(comma_at(i)),
@@ -118,6 +128,10 @@ fn write_amounts<K: Sink>(pen: &mut Pen<'_, K>, i: usize, row: &Row<9>)
         Piece::Quoted(Cell::Amount(row.surplus)),
         Piece::Raw(b",\"step\":"),
         Piece::Quoted(Cell::Bytes(step_word(row.step))),
+        Piece::Raw(b",\"by_lots\":"),
+        Piece::Raw(lots),
+        Piece::Raw(b",\"last_seats\":"),
+        Piece::Number(seats),
         Piece::Raw(b",\"candidates\":["),
     ]);
 }

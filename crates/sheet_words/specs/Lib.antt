@@ -1,6 +1,7 @@
 pub mod Groups
 pub mod Phrases
 pub mod Sentences
+pub mod Facts
 pub mod Lines
 pub mod Manner
 pub mod Parts

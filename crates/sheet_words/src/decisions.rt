@@ -120,7 +120,7 @@ fn write_defeat_of<V: Voice, K: Sink>(
 }
 
 /// Whether two or more are tied for a defeat.
-fn has_tie(row: &Row<9>) -> bool
+pub(crate) fn has_tie(row: &Row<9>) -> bool
     requires room { HasRoomFor (length row.now.states) row.now }
     ensures { result ≡ has_tie row.now }
 {
