@@ -228,16 +228,34 @@ const FIRST_DAY: &[u8] = b"trial 1\ncalls 6\nbatches 4\nballots 760\nrounds 10\n
 const SUMMARIES: [(&str, &[u8], &[u8]); 6] = [
     ("--trial 1", b"elected 2 4 10 12\n", b"trial true\n"),
     ("--trial 000000001", b"elected 2 4 10 12\n", b"trial true\n"),
-    ("--trial 1", b"elected 2 4 10 11\n", b"trial false at line 7\n"),
+    (
+        "--trial 1",
+        b"elected 2 4 10 11\n",
+        b"trial false at line 7\n",
+    ),
     ("--trial 1", b"", b"trial false at line 7\n"),
-    ("--trial 1", b"elected 2 4 10 12\n\n", b"trial false at line 8\n"),
-    ("--trial 2", b"elected 2 4 10 12\n", b"trial false at line 1\n"),
+    (
+        "--trial 1",
+        b"elected 2 4 10 12\n\n",
+        b"trial false at line 8\n",
+    ),
+    (
+        "--trial 2",
+        b"elected 2 4 10 12\n",
+        b"trial false at line 1\n",
+    ),
 ];
 
 #[test]
 fn a_summary_is_that_of_its_made_day(rt: HostRuntime) -> Result<(), Fail> {
     for (words, last, verdict) in SUMMARIES {
-        ends(&rt, rt.alloc(), words, &[FIRST_DAY, last], (End::Done, verdict))?;
+        ends(
+            &rt,
+            rt.alloc(),
+            words,
+            &[FIRST_DAY, last],
+            (End::Done, verdict),
+        )?;
     }
     let due = (End::Done, b"trial false at line 1\n".as_slice());
     ends(&rt, rt.alloc(), "--trial 1", &[b""], due)

@@ -124,7 +124,11 @@ fn audit_trial<R: Threads + Sync, K: Sink>(
         (writing K.written K.faults sink.old sink.new) }
 {
     match judge_trial(rt, alloc, input, number) {
-        Ok(verdict) => finish(sink, End::Done, verdict.line(AuditAsked::Trial(number)).bytes()),
+        Ok(verdict) => finish(
+            sink,
+            End::Done,
+            verdict.line(AuditAsked::Trial(number)).bytes(),
+        ),
         Err(_) => End::NoMemory,
     }
 }

@@ -77,7 +77,14 @@ fn summary_difference<R: Threads + Sync>(
         history: &history,
     };
     let mut sink = Comparing::new(text);
-    match sum_up(&crew_of(rt, alloc), &summary, terms, &roll, version.into_plans(), &mut sink)? {
+    match sum_up(
+        &crew_of(rt, alloc),
+        &summary,
+        terms,
+        &roll,
+        version.into_plans(),
+        &mut sink,
+    )? {
         Ok(()) => Ok(sink.difference_from_whole()),
         Err(_) => Ok(Some(sink.difference_from_front())),
     }

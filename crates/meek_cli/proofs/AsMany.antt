@@ -1,5 +1,6 @@
 -- Lists in which each caller has as many calls have as many calls in all.
-use Rattle.std.proofs.Common.{◌≡◌, ◌≢◌, ℕ, zero, suc, ◌+◌, ◌<◌, ◌≤◌, ◌==◌, Bool, true, false, cond, List, [], ◌∷◌, length, filter}
+use Rattle.std.proofs.Common.{◌≡◌, ◌≢◌, ℕ, zero, suc, ◌+◌, ◌<◌, ◌≤◌, ◌==◌, Bool, true, false, cond, List, []}
+use Rattle.std.proofs.Common.{◌∷◌, length, filter}
 use Rattle.std.proofs.Common.{All, refl, sym, ap, ◌∙◌, subst, ⊎_elim, ne_eqb, arith}
 use Rattle.std.proofs.lemmas.Bool.{eq-eqb}
 use Rattle.std.proofs.lemmas.Bool.Decides.{eqb_tells}
@@ -58,7 +59,9 @@ bounded n [] most = All-nil (λ (x : Entry). x.caller < n)
 bounded n (e ∷ es) most =
     All-cons (λ (x : Entry). x.caller < n) e es (omega (arith, most)) (bounded n es (omega (arith, most)))
 
-counted_alike : (n : ℕ) (one other : List Entry) → ((caller : ℕ) → length (own_calls caller one) ≡ length (own_calls caller other))
+counted_alike :
+    (n : ℕ) (one other : List Entry)
+    → ((caller : ℕ) → length (own_calls caller one) ≡ length (own_calls caller other))
     → counted n one ≡ counted n other
 counted_alike zero one other alike = refl
 counted_alike (suc n) one other alike = omega (arith, alike n, counted_alike n one other alike)

@@ -34,14 +34,16 @@ module _ (P : ℕ → Call → Type 0) where
   all_callers (e ∷ es) each =
       let own = own_calls e.caller es in
       let here : All (P e.caller) (e.call ∷ calls_of own) =
-      subst (λ (b : Bool). All (P e.caller) (calls_of (cond b (e ∷ own) own))) (eq-eqb e.caller e.caller refl) (each e.caller) in
+      subst (λ (b : Bool). All (P e.caller) (calls_of (cond b (e ∷ own) own))) (eq-eqb e.caller e.caller refl)
+      (each e.caller) in
       All-cons (λ (x : Entry). P x.caller x.call) e es (All-head (P e.caller) e.call (calls_of own) here)
       (all_callers es (λ caller. own_rest caller (e.caller == caller) e (own_calls caller es) (each caller)))
 
   taken_if : (team : ℕ) (taken : Bool) (s : Script) (rest : List Script) → (taken ≡ true → All (P team) s.calls)
       → All (P team) (flat_map (λ s. s.calls) rest)
       → All (P team) (flat_map (λ s. s.calls) (cond taken (s ∷ rest) rest))
-  taken_if team true s rest here others = All-append (P team) s.calls (flat_map (λ (s : Script). s.calls) rest) (here refl) others
+  taken_if team true s rest here others =
+      All-append (P team) s.calls (flat_map (λ (s : Script). s.calls) rest) (here refl) others
   taken_if team false s rest here others = others
 
   of_team : (s : Script) (team : ℕ) → All (P s.team) s.calls → (s.team == team) ≡ true → All (P team) s.calls
@@ -52,7 +54,9 @@ module _ (P : ℕ → Call → Type 0) where
       (eqb_tells s.team team)
 
   -- what holds of the calls of all scripts holds of those of one team
-  one_script : (scripts : List Script) (team : ℕ) → All (λ s. All (P s.team) s.calls) scripts → All (P team) (calls_in scripts team)
+  one_script :
+      (scripts : List Script) (team : ℕ) → All (λ s. All (P s.team) s.calls) scripts
+      → All (P team) (calls_in scripts team)
   one_script [] team all = All-nil (P team)
   one_script (s ∷ ss) team all =
       taken_if team (s.team == team) s (filter (λ (s : Script). s.team == team) ss)
@@ -82,7 +86,8 @@ pub same_calls :
     (scripts : List Script) (one other : List Entry) → IsHistoryOf scripts one → IsHistoryOf scripts other
     → (caller : ℕ) → calls_of (own_calls caller one) ≡ calls_of (own_calls caller other)
 same_calls scripts one other is too zero = ap calls_of (clerks_own one is.ends ∙ sym (clerks_own other too.ends))
-same_calls scripts one other is too (suc caller) = is.whole (suc caller) (omega arith) ∙ sym (too.whole (suc caller) (omega arith))
+same_calls scripts one other is too (suc caller) =
+    is.whole (suc caller) (omega arith) ∙ sym (too.whole (suc caller) (omega arith))
 
 -- a call of a day file is of a batch with a number
 numbered : (candidates : ℕ) (call : Call) → IsAnswerable candidates call → HasNumber call
@@ -102,4 +107,5 @@ pub have_numbers :
     (candidates : ℕ) (scripts : List Script) (history : List Entry) → AreScripts candidates scripts
     → IsHistoryOf scripts history → HaveNumbers history
 have_numbers candidates scripts history are is =
-    all_callers (λ caller. HasNumber) history (each_caller (λ caller. HasNumber) scripts history is (all_numbered candidates scripts are.calls) tt)
+    all_callers (λ caller. HasNumber) history
+    (each_caller (λ caller. HasNumber) scripts history is (all_numbered candidates scripts are.calls) tt)

@@ -1,10 +1,12 @@
 -- A made day has one summary, since each of its batches is called by one team alone.
-use Rattle.std.proofs.Common.{◌≡◌, ℕ, zero, suc, ◌+◌, ◌-◌, ◌*◌, ◌/◌, ◌%◌, ◌==◌, ◌<◌, ◌≤◌, Bool, true, false, cond, List, [], ◌∷◌, ◌++◌, length, map, filter, get_or, take, All}
+use Rattle.std.proofs.Common.{◌≡◌, ℕ, zero, suc, ◌+◌, ◌-◌, ◌*◌, ◌/◌, ◌%◌, ◌==◌, ◌<◌, ◌≤◌, Bool, true, false}
+use Rattle.std.proofs.Common.{cond, List, [], ◌∷◌, ◌++◌, length, map, filter, get_or, take, All}
 use Rattle.std.proofs.Common.{refl, sym, ap, ◌∙◌, subst, arith}
 use Rattle.std.specs.List.{range_with_len, flat_map}
 use Rattle.std.proofs.lemmas.Nat.{div-mul-add}
 use Rattle.std.proofs.lemmas.List.{take_all, length-map}
-use Rattle.std.proofs.lemmas.List.FromFn.{length-map-range_with_len, length-range_with_len, get_or-range_with_len, get_or-map-range_with_len}
+use Rattle.std.proofs.lemmas.List.FromFn.{length-map-range_with_len, length-range_with_len}
+use Rattle.std.proofs.lemmas.List.FromFn.{get_or-range_with_len, get_or-map-range_with_len}
 use Rattle.std.proofs.lemmas.List.Elements.{All-nil, All-cons, All-head, All-tail, All-append, All-map, All-weaker}
 use Rattle.fixed_place.specs.Rounding.{scale}
 use Rattle.fixed_place.proofs.RoundingLemmas.{scale_pos}
@@ -28,7 +30,8 @@ use Rattle.day_reader.specs.declared.script.Script.{Script}
 use Rattle.day_reader.specs.Day.{by_number}
 use Rattle.meek_trial.specs.Trial.{draws_before, first, revision}
 use Rattle.meek_cli.specs.Laws.{IsOfOwn, AreSeparate, EachMadeDayHasOneSummary}
-use Rattle.meek_cli.specs.MadeDay.{drawn_ballots, corrections, withdrawals, batch_calls, team_calls, team_script, team_scripts, made_day, trial_lots}
+use Rattle.meek_cli.specs.MadeDay.{drawn_ballots, corrections, withdrawals, batch_calls, team_calls}
+use Rattle.meek_cli.specs.MadeDay.{team_script, team_scripts, made_day, trial_lots}
 use Rattle.lane_sheet.specs.Due.{CountDue, due_of}
 use Rattle.meek_cli.specs.declared.summary.Summary.{Summary}
 use Rattle.meek_cli.specs.declared.terms.Terms.{Terms}
@@ -51,20 +54,28 @@ its_own number team r some few =
     omega (arith, cut, some)
 
 module _ (number team b : ℕ) (own : team_of number b ≡ team) where
-  correction_own : (third : Bool) (k : ℕ) → All (IsOfOwn (team_of number) team) (cond third (Change (Correct b 1 (drawn_ballots number k)) ∷ []) [])
+  correction_own :
+      (third : Bool) (k : ℕ)
+      → All (IsOfOwn (team_of number) team)
+      (cond third (Change (Correct b 1 (drawn_ballots number k)) ∷ []) [])
   correction_own false k = All-nil (IsOfOwn (team_of number) team)
   correction_own true k =
-      All-cons (IsOfOwn (team_of number) team) (Change (Correct b 1 (drawn_ballots number k))) [] own (All-nil (IsOfOwn (team_of number) team))
+      All-cons (IsOfOwn (team_of number) team) (Change (Correct b 1 (drawn_ballots number k))) [] own
+      (All-nil (IsOfOwn (team_of number) team))
 
-  withdrawal_own : (seventh : Bool) → All (IsOfOwn (team_of number) team) (cond seventh (Change (Withdraw b (revision b)) ∷ []) [])
+  withdrawal_own :
+      (seventh : Bool)
+      → All (IsOfOwn (team_of number) team) (cond seventh (Change (Withdraw b (revision b)) ∷ []) [])
   withdrawal_own false = All-nil (IsOfOwn (team_of number) team)
   withdrawal_own true =
-      All-cons (IsOfOwn (team_of number) team) (Change (Withdraw b (revision b))) [] own (All-nil (IsOfOwn (team_of number) team))
+      All-cons (IsOfOwn (team_of number) team) (Change (Withdraw b (revision b))) [] own
+      (All-nil (IsOfOwn (team_of number) team))
 
   batch_own : All (IsOfOwn (team_of number) team) (batch_calls number b)
   batch_own =
       let k = draws_before b in
-      All-append (IsOfOwn (team_of number) team) (Change (Enter b (drawn_ballots number k)) ∷ corrections number b) (withdrawals b)
+      All-append (IsOfOwn (team_of number) team)
+      (Change (Enter b (drawn_ballots number k)) ∷ corrections number b) (withdrawals b)
       (All-cons (IsOfOwn (team_of number) team) (Change (Enter b (drawn_ballots number k))) (corrections number b)
       own (correction_own (b % 3 == 0) (k + 40)))
       (withdrawal_own (b % 7 == 0))
@@ -133,7 +144,9 @@ due_after terms n history =
 abbrev due_in_book : Terms → BookState → CountDue
 due_in_book terms book = due_of terms.omega terms.lots (roll_with terms.roll book.struck) (plain (standing book))
 
-in_book : (terms : Terms) (history : List Entry) → due_after terms (length history) history ≡ due_in_book terms (after_all empty history)
+in_book :
+    (terms : Terms) (history : List Entry)
+    → due_after terms (length history) history ≡ due_in_book terms (after_all empty history)
 in_book terms history =
     ap (λ (h : List Entry). due_in_book terms (after_all empty h)) (take_all (length history) history (omega arith))
 
@@ -148,7 +161,8 @@ module _ (number : ℕ) (terms : Terms) (are : AreTerms terms) where
       let due = due_in_book terms (after_all empty one) in
       let roll = still_a_roll terms.roll (after_all empty one).struck are.roll in
       let same =
-      rows-unique Meek s due.ballots due.lots (opening s due.omega due.roll.seats due.roll.withdrawn) rows others last end (scale_pos terms.places)
+      rows-unique Meek s due.ballots due.lots (opening s due.omega due.roll.seats due.roll.withdrawn) rows
+      others last end (scale_pos terms.places)
       (valid-opening_of_roll s due.omega due.roll are.some_omega are.small_omega roll) are.order
       (are.lots_of_all ∙ sym (length-opening s due.omega due.roll roll)) count again in
       text

@@ -42,7 +42,8 @@ here book batch (Strike candidate) is = refl
 here book batch (Changes change) is =
     ⊎_elim
     (λ (same : ((batch == batch_of change) ≡ true) × (batch ≡ batch_of change)).
-    ap (λ (t : Bool). cond t (change_after (book.batches (batch_of change)) change (change_reply (book.batches (batch_of change)) change)) (book.batches batch)) is
+    ap (λ (t : Bool). cond t (change_after (book.batches (batch_of change)) change
+    (change_reply (book.batches (batch_of change)) change)) (book.batches batch)) is
     ∙ ap (λ (b : ℕ). kept_after (book.batches b) (Changes change)) (sym same.1))
     (λ (other : ((batch == batch_of change) ≡ false) × (batch ≢ batch_of change)). absurd (cc))
     (eqb_tells batch (batch_of change))
@@ -52,7 +53,8 @@ elsewhere : (book : BookState) (batch : ℕ) (call : Call) → is_of batch call 
 elsewhere book batch Freeze is = refl
 elsewhere book batch (Strike candidate) is = refl
 elsewhere book batch (Changes change) is =
-    ap (λ (t : Bool). cond t (change_after (book.batches (batch_of change)) change (change_reply (book.batches (batch_of change)) change)) (book.batches batch)) is
+    ap (λ (t : Bool). cond t (change_after (book.batches (batch_of change)) change
+    (change_reply (book.batches (batch_of change)) change)) (book.batches batch)) is
 
 one_more : (batch : ℕ) (kept : Option Batch) (of : Bool) (call : Call) (rest : List Call) (then' : Option Batch)
     → (of ≡ true → then' ≡ kept_after kept call) → (of ≡ false → then' ≡ kept)
@@ -84,7 +86,9 @@ both batch call false true all mine implies is rest =
     rest ∙ ap (λ (t : Bool). cond t (call ∷ of_batch batch mine) (of_batch batch mine)) is
 both batch call false false all mine implies is rest = rest
 
-mapped : (own : Bool) (e : Entry) (es : List Entry) → calls_of (cond own (e ∷ es) es) ≡ cond own (e.call ∷ calls_of es) (calls_of es)
+mapped :
+    (own : Bool) (e : Entry) (es : List Entry)
+    → calls_of (cond own (e ∷ es) es) ≡ cond own (e.call ∷ calls_of es) (calls_of es)
 mapped true e es = refl
 mapped false e es = refl
 

@@ -43,7 +43,9 @@ nobody_struck book (e ∷ es) all =
     ∙ struck_after_call book e.call (All-head (λ (x : Entry). StrikesNobody x.call) e es all)
 
 -- a call of a batch is by its team, or by the clerk, who calls no batch
-its_team : (team_of : ℕ → ℕ) (batch team : ℕ) (call : Call) → IsOfOwn team_of team call → is_of batch call ≡ true → team ≡ team_of batch
+its_team :
+    (team_of : ℕ → ℕ) (batch team : ℕ) (call : Call) → IsOfOwn team_of team call → is_of batch call ≡ true
+    → team ≡ team_of batch
 its_team team_of batch team (Change change) is of =
     ⊎_elim
     (λ (same : ((batch == batch_of change) ≡ true) × (batch ≡ batch_of change)). sym is ∙ ap team_of (sym same.1))
@@ -74,7 +76,8 @@ module _ (team_of : ℕ → ℕ) (scripts : List Script) (separate : AreSeparate
     batch_alike : (batch : ℕ) → (after_all empty one).batches batch ≡ (after_all empty other).batches batch
     batch_alike batch =
         kept batch empty one
-        ∙ (ap (kept_by None) (by_its_team one is batch ∙ (ap (of_batch batch) (same (team_of batch)) ∙ sym (by_its_team other too batch)))
+        ∙ (ap (kept_by None) (by_its_team one is batch
+        ∙ (ap (of_batch batch) (same (team_of batch)) ∙ sym (by_its_team other too batch)))
         ∙ sym (kept batch empty other))
 
     length_alike : (caller : ℕ) → length (own_calls caller one) ≡ length (own_calls caller other)
@@ -89,5 +92,7 @@ module _ (team_of : ℕ → ℕ) (scripts : List Script) (separate : AreSeparate
     alike = λ i. let book : BookState = record { batches = λ batch. batch_alike batch i; struck = struck_alike i } in book
 
 pub end_alike : SeparateTeamsEndAlike
-end_alike team_of scripts one other separate is too =
-    (as_many one other (length_alike team_of scripts separate one other is too), alike team_of scripts separate one other is too)
+end_alike team_of scripts one other separate is too = (
+  as_many one other (length_alike team_of scripts separate one other is too),
+  alike team_of scripts separate one other is too,
+)

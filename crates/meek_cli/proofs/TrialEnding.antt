@@ -30,7 +30,8 @@ use Rattle.meek_cli.specs.CountedOut.{IsCountedOut}
 use Rattle.meek_cli.specs.DayText.{roll_with, terms_of}
 use Rattle.meek_cli.specs.MadeDay.{made_day}
 use Rattle.tool_edge.specs.Streams.{Writing}
-use Rattle.meek_cli.specs.Summary.{standing_batches, summary_of, summary_lines, IsSummary, IsSummaryDue, IsOnlySummary, AreLastStanding}
+use Rattle.meek_cli.specs.Summary.{standing_batches, summary_of, summary_lines, IsSummary, IsSummaryDue}
+use Rattle.meek_cli.specs.Summary.{IsOnlySummary, AreLastStanding}
 use Rattle.meek_cli.specs.Run.{PlaysTrial, WritesOwed}
 use Rattle.meek_cli.specs.DayHistory.{IsHistoryOf}
 use Rattle.meek_cli.proofs.LastFreeze.{IsClerks}
@@ -122,8 +123,10 @@ stands_last n terms history version roll plans names is of_roll of_plans of_all 
       of_roll
       ∙ ap (roll_with terms.roll) (is.stands.struck ∙ ap (struck_after history) is.at);
   ballots =
-      subst (λ (p : List PlanRows). IsPermutation (all_ballots p) (plain (standing_after history (length history)))) (sym of_plans)
-      (subst (λ (k : ℕ). IsPermutation (all_ballots version.plans) (plain (standing_after history k))) is.at is.stands.ballots);
+      subst (λ (p : List PlanRows). IsPermutation (all_ballots p)
+      (plain (standing_after history (length history)))) (sym of_plans)
+      (subst (λ (k : ℕ). IsPermutation (all_ballots version.plans) (plain (standing_after history k))) is.at
+      is.stands.ballots);
   counted = record {
     candidates_are = subst (λ (k : ℕ). All (λ (p : PlanRows). p.candidates ≡ k) plans) (is.candidates ∙ names) of_all;
     few_ballots = omega (arith, few);
@@ -153,7 +156,8 @@ one_list number terms plans lists made only counted =
     let names : length terms.roll.names ≡ 12 = ap (λ (t : Terms). length t.roll.names) made in
     let n = length terms.lots in
     subst (All (CanBeCounted n)) (sym only)
-    (All-cons (CanBeCounted n) plans [] (subst (λ (k : ℕ). CanBeCounted k plans) (names ∙ sym lots) counted) (All-nil (CanBeCounted n)))
+    (All-cons (CanBeCounted n) plans [] (subst (λ (k : ℕ). CanBeCounted k plans) (names ∙ sym lots) counted)
+    (All-nil (CanBeCounted n)))
 
 -- the made day has 12 candidates
 pub twelve :

@@ -95,7 +95,14 @@ fn sum_up_last<R: Threads + Sync, G: Gate + Sync, K: Sink>(
 {
     let version = last_of(versions);
     let roll = terms.roll.with_struck(hands.alloc, version.struck())?;
-    sum_up(&hands.crew(), text, terms, &roll, version.into_plans(), sink)
+    sum_up(
+        &hands.crew(),
+        text,
+        terms,
+        &roll,
+        version.into_plans(),
+        sink,
+    )
 }
 
 /// The version of the last freeze.

@@ -38,7 +38,8 @@ module _ (greatest : ℕ) (word bytes : Word) (same : bytes ≡ word) where
   said numbers slice n list all only least most =
       let one =
       numeral_of_one word n
-      (subst (λ (w : Word). IsLotList w (n ∷ [])) same (subst (λ (ns : List ℕ). IsLotList bytes ns) (sym all ∙ only) list)) in
+      (subst (λ (w : Word). IsLotList w (n ∷ [])) same
+      (subst (λ (ns : List ℕ). IsLotList bytes ns) (sym all ∙ only) list)) in
       (record { numeral = one.0; least = omega (arith, one.1, least); most = omega (arith, one.1, most) }, one.1)
 
   -- where no list is the word's, it writes no number

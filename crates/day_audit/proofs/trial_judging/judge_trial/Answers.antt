@@ -24,12 +24,13 @@ summary_difference-requires-clause-history g c κs within =
 pub returns-in-None : goal.returns-in-None
 returns-in-None g c =
     let history = c.in_ok-followed.followed.history in
-    let made = c.in_ok-roll.ensures.made in
-    (
+    let made = c.in_ok-roll.ensures.made in (
       history,
-      subst (λ (ss : List Script). IsHistoryOf ss history) (ap (λ (d : Day). d.scripts) made) c.in_ok-followed.ensures.history,
+      subst (λ (ss : List Script). IsHistoryOf ss history) (ap (λ (d : Day). d.scripts) made)
+          c.in_ok-followed.ensures.history,
       subst (λ (t : Terms). IsSummary c.args.number t history c.args.text.now) (ap terms_of made)
-          (subst (λ (o : Option ℕ). IsCompared (IsSummary c.args.number (terms_of c.in_ok-roll.field-0) history) c.args.text.now o)
+          (subst (λ (o : Option ℕ). IsCompared
+          (IsSummary c.args.number (terms_of c.in_ok-roll.field-0) history) c.args.text.now o)
           c.in-None.is c.in_ok-summary_difference.ensures),
     )
 
@@ -41,5 +42,6 @@ returns g c =
     subst (λ (o : Option ℕ). IsCompared (IsSummary c.args.number (terms_of c.in_ok-roll.field-0) history) c.args.text.now o)
     c.in-Some.is c.in_ok-summary_difference.ensures in
     false_summary c.args.number c.in-Some.n c.args.text.now differs.0 history c.made_days_have_one_summary.ensures
-    (subst (λ (ss : List Script). IsHistoryOf ss history) (ap (λ (d : Day). d.scripts) made) c.in_ok-followed.ensures.history)
+    (subst (λ (ss : List Script). IsHistoryOf ss history) (ap (λ (d : Day). d.scripts) made)
+    c.in_ok-followed.ensures.history)
     (subst (λ (t : Terms). IsSummary c.args.number t history differs.0) (ap terms_of made) differs.1) differs.2

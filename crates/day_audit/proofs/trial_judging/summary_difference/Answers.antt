@@ -33,7 +33,8 @@ sum_up-requires-clause-stands g c κs within =
     let is =
     clerks (length c.args.terms.now.roll.names) c.args.followed.history c.args.followed.frozen.items last.0
     c.last_of-version.result c.requires.frozen c.requires.history.ends last.1 in
-    stands_last _ c.args.terms.now c.args.followed.history c.last_of-version.result c.in_ok-roll.roll c.into_plans.result refl is
+    stands_last _ c.args.terms.now c.args.followed.history c.last_of-version.result c.in_ok-roll.roll
+    c.into_plans.result refl is
     (c.in_ok-roll.ensures ∙ ap (roll_with c.args.terms.now.roll) c.struck.ensures.struck) c.into_plans.ensures.plans
     c.into_plans.ensures.candidates c.into_plans.ensures.few
 

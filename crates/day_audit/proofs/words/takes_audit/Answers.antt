@@ -13,8 +13,7 @@ returns-in-Ok c =
     let items =
     two_items c.args.words.now c.option-item.result c.number-item.result two c.option-item.is c.number-item.is in
     let option : string_bytes c.option-item.result ≡ codes "--trial" =
-    sym c.as_str.ensures.value ∙ alike c.as_str.result.now (codes "--trial") (sym c.ne.ensures ∙ c.if-ne.false) in
-    (
+    sym c.as_str.ensures.value ∙ alike c.as_str.result.now (codes "--trial") (sym c.ne.ensures ∙ c.if-ne.false) in (
       string_bytes c.number-item.result,
       ap (map string_bytes) items ∙ ap (λ (w : Word). w ∷ string_bytes c.number-item.result ∷ []) option,
       subst (λ (w : Word). Says MOST_TRIAL w c.in-Ok.number) c.as_str-2.ensures.value c.in-Ok.ensures.taken,
