@@ -16,7 +16,7 @@ use Rattle.meek_cli.specs.Owed.{SaysDay}
 use Rattle.meek_cli.specs.DayText.{roll_with}
 use Rattle.sheet_check.specs.declared.audit_limit.TheConstants.{AUDIT_LIMIT}
 use Rattle.day_audit.specs.declared.audit_asked.AuditAsked.TheVariants.{Day as OfDay}
-use Rattle.day_audit.specs.declared.day_verdict.DayVerdict.TheVariants.{False as IsFalse}
+use Rattle.day_audit.specs.declared.day_verdict.DayVerdict.TheVariants.{False as NotTrueAt}
 use Rattle.day_audit.specs.Audit.{verdict_line, IsRefusedAudit}
 use Rattle.day_audit.specs.Input.{IsDaySplit}
 use Rattle.day_ballots.specs.declared.ballots_fault.BallotsFault.{BallotsFault}
@@ -47,7 +47,7 @@ IsNoneAt day text n (NoFreeze line) = (line ≡ n) × HasNoFreeze day text n
 -- A false line has the line of an audit's verdict.
 abbrev pub refusal_line : BallotsFault → List ℕ
 refusal_line (File fault) = fault_line fault
-refusal_line (False line) = verdict_line OfDay (IsFalse line)
+refusal_line (False line) = verdict_line OfDay (NotTrueAt line)
 refusal_line (NoFreeze line) = codes "refused NoFreeze at " ++ decimal line ++ 10 ∷ []
 
 abbrev pub ballots_refusals : Refusals BallotsFault
