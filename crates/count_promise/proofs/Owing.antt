@@ -7,7 +7,7 @@ use Rattle.tool_edge.specs.declared.end.End.TheVariants.{BadInput}
 use Rattle.tool_edge.specs.Streams.{Writing}
 use Rattle.tool_edge.specs.Finishing.{Finishes, FinishesOwed}
 use Rattle.tool_edge.specs.Tool.{IsOwedFor, IsSound, no_history}
-use Rattle.tool_edge.specs.declared.opening.TheConstants.{FILE_LIMIT}
+use Rattle.sheet_input.specs.declared.sheet_limit.TheConstants.{SHEET_LIMIT}
 use Rattle.sheet_input.specs.declared.sheet_fault.SheetFault.{SheetFault}
 use Rattle.sheet_input.specs.declared.sheet_fault.SheetFault.TheVariants.{Malformed}
 use Rattle.sheet_input.specs.Sheets.{IsMalformed, malformed_line}
@@ -15,7 +15,7 @@ use Rattle.sheet_input.proofs.Refused.{not_refused, refused_once}
 use Rattle.count_promise.specs.Owed.{IsPromised, promises}
 
 pub promise_owed :
-    (input : List ℕ) (v : SheetList) (end : End SheetFault) (sink : Writing) → length input ≤ FILE_LIMIT
+    (input : List ℕ) (v : SheetList) (end : End SheetFault) (sink : Writing) → length input ≤ SHEET_LIMIT
     → HasForm 9 input v
     → FinishesOwed (IsPromised v) end sink → FinishesOwed (IsOwedFor promises (tt {0}) input no_history) end sink
 promise_owed input v end sink short form (inl nothing) = inl nothing
@@ -29,7 +29,7 @@ promise_owed input v end sink short form (inr (due, bytes, promised, finishes)) 
     )
 
 pub malformed_owed :
-    (input : List ℕ) (end : End SheetFault) (sink : Writing) → length input ≤ FILE_LIMIT → IsMalformed input
+    (input : List ℕ) (end : End SheetFault) (sink : Writing) → length input ≤ SHEET_LIMIT → IsMalformed input
     → Finishes (BadInput Malformed) malformed_line end sink
     → FinishesOwed (IsOwedFor promises (tt {0}) input no_history) end sink
 malformed_owed input end sink short none finishes =

@@ -1,6 +1,6 @@
 -- What is owed for a sheet.
 use Rattle.std.specs.Prelude.{◌≡◌, ℕ, List, Some}
-use Rattle.tool_edge.specs.declared.opening.TheConstants.{FILE_LIMIT}
+use Rattle.sheet_input.specs.declared.sheet_limit.TheConstants.{SHEET_LIMIT}
 use Rattle.sheet_reader.specs.Form.{HasForm}
 use Rattle.sheet_reader.specs.Values.{SheetList}
 use Rattle.tool_edge.specs.declared.end.End.{End}
@@ -23,7 +23,7 @@ IsPromised v due bytes = (due ≡ Done) × (bytes ≡ promise_text v)
 abbrev pub promises : Tool (Unit {0}) (Unit {0}) SheetFault
 promises = record {
   Takes = TakesNothing;
-  limit = λ asked. Some FILE_LIMIT;
+  limit = λ asked. Some SHEET_LIMIT;
   Accepts = λ asked. IsSheetText;
   Refuses = λ asked. IsRefusedSheet;
   refusals = sheet_refusals;

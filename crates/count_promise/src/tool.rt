@@ -1,7 +1,7 @@
 // The tool that says what a count promises.
 ghost use Rattle.std.specs.Prelude.{◌≤◌, map, length};
 ghost use Rattle.std.specs.String.{string_bytes};
-ghost use Rattle.tool_edge.specs.declared.opening.TheConstants.{FILE_LIMIT};
+ghost use Rattle.sheet_input.specs.declared.sheet_limit.TheConstants.{SHEET_LIMIT};
 ghost use Rattle.tool_edge.specs.Finishing.{FinishesOwed};
 ghost use Rattle.tool_edge.specs.Streams.{reading, writing};
 ghost use Rattle.tool_edge.specs.Tool.{IsOwedFor, IsRun, no_history};
@@ -10,10 +10,10 @@ ghost use Rattle.count_promise.specs.Owed.{IsPromised, promises};
 
 use crate::promise_of;
 use byte_edge::{Sink, Source};
-use sheet_input::SheetFault;
+use sheet_input::{SHEET_LIMIT, SheetFault};
 use sheet_reader::{SheetStop, SheetValues, read_sheet};
 use std::alloc::Global;
-use tool_edge::{End, FILE_LIMIT, finish, open, refuse, takes_nothing};
+use tool_edge::{End, finish, open, refuse, takes_nothing};
 
 /// Says what the count promises whose sheet the source gives. An input that is no sheet is refused by a
 /// line that says so. No words are taken. All memory is taken before the first byte.
@@ -28,7 +28,7 @@ pub fn promise<S: Source, K: Sink>(
         result no_history }
 {
     let asked = takes_nothing(words);
-    let opened = match open(alloc, asked, FILE_LIMIT, source, sink) {
+    let opened = match open(alloc, asked, SHEET_LIMIT, source, sink) {
         Ok(opened) => opened,
         Err(end) => return end,
     };
@@ -38,7 +38,7 @@ pub fn promise<S: Source, K: Sink>(
 /// Judges the whole input, and says what it promises.
 #[tactic(auto, using(crate::proofs::Owing::promise_owed, crate::proofs::Owing::malformed_owed))]
 fn tell<K: Sink>(alloc: Global, input: &[u8], sink: &mut K) -> End<SheetFault>
-    requires { length input.now ≤ FILE_LIMIT }
+    requires { length input.now ≤ SHEET_LIMIT }
     ensures { FinishesOwed (IsOwedFor promises (tt {0}) input.now no_history) result
         (writing K.written K.faults sink.old sink.new) }
 {

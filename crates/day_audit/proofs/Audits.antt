@@ -15,7 +15,7 @@ use Rattle.tool_edge.specs.Refusals.{fault_line}
 use Rattle.tool_edge.specs.Finishing.{Finishes, FinishesOwed, RefusesInput}
 use Rattle.tool_edge.specs.Tool.{IsOwedFor, IsSound, no_history}
 use Rattle.meek_cli.specs.Owed.{SaysDay}
-use Rattle.sheet_check.specs.declared.audit_limit.TheConstants.{AUDIT_LIMIT}
+use Rattle.sheet_input.specs.declared.sheet_limit.TheConstants.{SHEET_LIMIT}
 use Rattle.day_audit.specs.Input.{IsDaySplit}
 use Rattle.day_audit.specs.declared.audit_asked.AuditAsked.{AuditAsked}
 use Rattle.day_audit.specs.declared.audit_asked.AuditAsked.TheVariants.{Day, Trial}
@@ -100,7 +100,7 @@ module _ (days : AcceptsDays) (refusals : RefusesByTheRule) where
 
 -- No text ends.
 pub ended_early :
-    (input : List ℕ) (fault : InputFault) (end : End InputFault) (sink : Writing) → length input ≤ AUDIT_LIMIT
+    (input : List ℕ) (fault : InputFault) (end : End InputFault) (sink : Writing) → length input ≤ SHEET_LIMIT
     → EndsInText input fault → Finishes (BadInput fault) (fault_line fault) end sink
     → FinishesOwed (IsOwedFor audits_days Day input no_history) end sink
 ended_early input fault end sink short ends finishes =
@@ -108,7 +108,7 @@ ended_early input fault end sink short ends finishes =
 
 -- The day file is refused.
 pub refused_behind :
-    (input text file : List ℕ) (stop : InputStop) (end : End InputFault) (sink : Writing) → length input ≤ AUDIT_LIMIT
+    (input text file : List ℕ) (stop : InputStop) (end : End InputFault) (sink : Writing) → length input ≤ SHEET_LIMIT
     → IsDaySplit input text file → OnFault stop (IsDayRefusal (scan file true)) → RefusesInput stop end sink
     → FinishesOwed (IsOwedFor audits_days Day input no_history) end sink
 refused_behind input text file (Fault fault) end sink short split why finishes =
@@ -117,7 +117,7 @@ refused_behind input text file NoInputRead end sink short split why nothing = in
 
 -- The verdict on the text is what is owed for the input.
 pub judged :
-    (input text file : List ℕ) (day : DayFile) (end : End InputFault) (sink : Writing) → length input ≤ AUDIT_LIMIT
+    (input text file : List ℕ) (day : DayFile) (end : End InputFault) (sink : Writing) → length input ≤ SHEET_LIMIT
     → IsDaySplit input text file → SaysDay file day → FinishesOwed (IsOwedLine Day (IsDayVerdict day text)) end sink
     → FinishesOwed (IsOwedFor audits_days Day input no_history) end sink
 judged input text file day end sink short split says (inl nothing) = inl nothing
@@ -143,7 +143,7 @@ judged input text file day end sink short split says (inr (due, bytes, (done, (v
 
 -- And that on an input that is held to be a summary.
 pub judged_trial :
-    (number : ℕ) (input : List ℕ) (end : End InputFault) (sink : Writing) → length input ≤ AUDIT_LIMIT
+    (number : ℕ) (input : List ℕ) (end : End InputFault) (sink : Writing) → length input ≤ SHEET_LIMIT
     → FinishesOwed (IsOwedLine (Trial number) (IsTrialVerdict number input)) end sink
     → FinishesOwed (IsOwedFor audits_days (Trial number) input no_history) end sink
 judged_trial number input end sink short (inl nothing) = inl nothing

@@ -10,7 +10,7 @@ use Rattle.tool_edge.specs.declared.end.End.{End}
 use Rattle.tool_edge.specs.declared.end.End.TheVariants.{Done}
 use Rattle.tool_edge.specs.Tool.{Tool, no_history}
 use Rattle.meek_cli.specs.Owed.{SaysDay}
-use Rattle.sheet_check.specs.declared.audit_limit.TheConstants.{AUDIT_LIMIT}
+use Rattle.sheet_input.specs.declared.sheet_limit.TheConstants.{SHEET_LIMIT}
 use Rattle.day_audit.specs.declared.audit_asked.AuditAsked.{AuditAsked}
 use Rattle.day_audit.specs.declared.audit_asked.AuditAsked.TheVariants as of
 use Rattle.day_audit.specs.declared.day_verdict.DayVerdict.{DayVerdict}
@@ -79,7 +79,7 @@ Owes (of.Trial number) input bytes =
 abbrev pub audits_days : Tool AuditAsked (Unit {0}) InputFault
 audits_days = record {
   Takes = TakesAudit;
-  limit = λ asked. Some AUDIT_LIMIT;
+  limit = λ asked. Some SHEET_LIMIT;
   Accepts = Accepts;
   Refuses = Refuses;
   refusals = file_refusals;

@@ -5,7 +5,7 @@ ghost use Rattle.std.specs.String.{string_bytes};
 ghost use Rattle.tool_edge.specs.Finishing.{FinishesOwed};
 ghost use Rattle.tool_edge.specs.Streams.{reading, writing};
 ghost use Rattle.tool_edge.specs.Tool.{IsOwedFor, IsRun, no_history};
-ghost use Rattle.sheet_check.specs.declared.audit_limit.TheConstants.{AUDIT_LIMIT};
+ghost use Rattle.sheet_input.specs.declared.sheet_limit.TheConstants.{SHEET_LIMIT};
 ghost use Rattle.meek_trial.specs.declared.day.TheConstants.{MOST_TRIAL};
 ghost use Rattle.day_audit.specs.Audit.{audits_days, IsOwedLine};
 ghost use Rattle.day_audit.specs.Judged.{IsDayVerdict};
@@ -17,7 +17,7 @@ use crate::{AuditAsked, judge, judge_trial};
 use blt_reader::{FaultKind, InputFault};
 use byte_edge::{Sink, Source};
 use day_reader::{Day, accepts_days, read_day, refuses_by_the_rule};
-use sheet_check::AUDIT_LIMIT;
+use sheet_input::SHEET_LIMIT;
 use std::alloc::Global;
 use std::thread::Threads;
 use tool_edge::{End, Opened, finish, open, refuse, refuse_input};
@@ -37,7 +37,7 @@ pub fn audit<R: Threads + Sync, S: Source, K: Sink>(
     accepts_days();
     refuses_by_the_rule();
     let asked = takes_audit(alloc, words);
-    let Opened { asked, input } = match open(alloc, asked, AUDIT_LIMIT, source, sink) {
+    let Opened { asked, input } = match open(alloc, asked, SHEET_LIMIT, source, sink) {
         Ok(opened) => opened,
         Err(end) => return end,
     };
@@ -53,7 +53,7 @@ fn audit_input<R: Threads + Sync, K: Sink>(
     sink: &mut K,
 ) -> End
     requires asked { MayBeAsked asked }
-    requires short { length input.now ≤ AUDIT_LIMIT }
+    requires short { length input.now ≤ SHEET_LIMIT }
     ensures { FinishesOwed (IsOwedFor audits_days asked input.now no_history) result
         (writing K.written K.faults sink.old sink.new) }
 {
@@ -66,7 +66,7 @@ fn audit_input<R: Threads + Sync, K: Sink>(
 /// Audits the text of a day, with its file behind it.
 #[tactic(auto, using(crate::proofs::Audits::ended_early, crate::proofs::Audits::refused_behind, crate::proofs::Audits::judged))]
 fn audit_day<R: Threads + Sync, K: Sink>(rt: &R, alloc: Global, input: &[u8], sink: &mut K) -> End
-    requires { length input.now ≤ AUDIT_LIMIT }
+    requires { length input.now ≤ SHEET_LIMIT }
     ensures { FinishesOwed (IsOwedFor audits_days AuditAsked.Day input.now no_history) result
         (writing K.written K.faults sink.old sink.new) }
 {
@@ -119,7 +119,7 @@ fn audit_trial<R: Threads + Sync, K: Sink>(
     sink: &mut K,
 ) -> End
     requires number { (1 ≤ number) × (number ≤ MOST_TRIAL) }
-    requires short { length input.now ≤ AUDIT_LIMIT }
+    requires short { length input.now ≤ SHEET_LIMIT }
     ensures { FinishesOwed (IsOwedFor audits_days (AuditAsked.Trial number) input.now no_history) result
         (writing K.written K.faults sink.old sink.new) }
 {

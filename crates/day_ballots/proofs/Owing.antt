@@ -22,7 +22,7 @@ use Rattle.meek_cli.specs.DayText.{roll_with}
 use Rattle.meek_cli.specs.Frozen.{AreFrozen}
 use Rattle.meek_cli.specs.Owed.{SaysDay}
 use Rattle.day_replay.specs.Nearest.{IsNearest}
-use Rattle.sheet_check.specs.declared.audit_limit.TheConstants.{AUDIT_LIMIT}
+use Rattle.sheet_input.specs.declared.sheet_limit.TheConstants.{SHEET_LIMIT}
 use Rattle.day_audit.specs.Audit.{EndsInText}
 use Rattle.day_audit.specs.Input.{IsDaySplit}
 use Rattle.day_ballots.specs.declared.ballots_fault.BallotsFault.{BallotsFault}
@@ -35,7 +35,7 @@ use Rattle.day_ballots.proofs.FoundLemmas.{file_at, none_at, text_moved}
 
 -- No text ends.
 pub ended_early :
-    (n : ℕ) (input : List ℕ) (fault : InputFault) (end : End BallotsFault) (sink : Writing) → length input ≤ AUDIT_LIMIT
+    (n : ℕ) (input : List ℕ) (fault : InputFault) (end : End BallotsFault) (sink : Writing) → length input ≤ SHEET_LIMIT
     → EndsInText input fault → Finishes (BadInput (File fault)) (refusal_line (File fault)) end sink
     → FinishesOwed (IsOwedFor exports_freezes n input no_history) end sink
 ended_early n input fault end sink short ends finishes =
@@ -44,7 +44,7 @@ ended_early n input fault end sink short ends finishes =
 -- The day file is refused.
 pub refused_behind :
     (n : ℕ) (input text file : List ℕ) (fault : InputFault) (end : End BallotsFault) (sink : Writing)
-    → length input ≤ AUDIT_LIMIT → IsDaySplit input text file → IsDayRefusal (scan file true) fault
+    → length input ≤ SHEET_LIMIT → IsDaySplit input text file → IsDayRefusal (scan file true) fault
     → Finishes (BadInput (File fault)) (refusal_line (File fault)) end sink
     → FinishesOwed (IsOwedFor exports_freezes n input no_history) end sink
 refused_behind n input text file fault end sink short split why finishes =
@@ -57,7 +57,7 @@ refused_behind n input text file fault end sink short split why finishes =
 
 -- What is owed at a line of the text is owed for the input.
 pub at_line :
-    (n : ℕ) (input text file : List ℕ) (day : Day) (end : End BallotsFault) (sink : Writing) → length input ≤ AUDIT_LIMIT
+    (n : ℕ) (input text file : List ℕ) (day : Day) (end : End BallotsFault) (sink : Writing) → length input ≤ SHEET_LIMIT
     → IsDaySplit input text file → SaysDay file day → FinishesOwed (IsOwedAtLine day text n) end sink
     → FinishesOwed (IsOwedFor exports_freezes n input no_history) end sink
 at_line n input text file day end sink short split says (inl nothing) = inl nothing

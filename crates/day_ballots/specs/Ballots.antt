@@ -14,7 +14,7 @@ use Rattle.tool_edge.specs.declared.end.End.TheVariants.{Done, BadInput}
 use Rattle.tool_edge.specs.Tool.{Tool, no_history}
 use Rattle.meek_cli.specs.Owed.{SaysDay}
 use Rattle.meek_cli.specs.DayText.{roll_with}
-use Rattle.sheet_check.specs.declared.audit_limit.TheConstants.{AUDIT_LIMIT}
+use Rattle.sheet_input.specs.declared.sheet_limit.TheConstants.{SHEET_LIMIT}
 use Rattle.day_audit.specs.declared.audit_asked.AuditAsked.TheVariants.{Day as OfDay}
 use Rattle.day_audit.specs.declared.day_verdict.DayVerdict.TheVariants.{False as NotTrueAt}
 use Rattle.day_audit.specs.Audit.{verdict_line, IsRefusedAudit}
@@ -84,7 +84,7 @@ pub record OwesBallots (n : ℕ) (input bytes : List ℕ) : Type 0 where
 abbrev pub exports_freezes : Tool ℕ (Unit {0}) BallotsFault
 exports_freezes = record {
   Takes = TakesLine;
-  limit = λ n. Some AUDIT_LIMIT;
+  limit = λ n. Some SHEET_LIMIT;
   Accepts = HasFreezeAt;
   Refuses = IsRefusedAt;
   refusals = ballots_refusals;

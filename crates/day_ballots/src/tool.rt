@@ -4,7 +4,7 @@ ghost use Rattle.std.specs.String.{string_bytes};
 ghost use Rattle.tool_edge.specs.Finishing.{FinishesOwed};
 ghost use Rattle.tool_edge.specs.Streams.{reading, writing};
 ghost use Rattle.tool_edge.specs.Tool.{IsOwedFor, IsRun, no_history};
-ghost use Rattle.sheet_check.specs.declared.audit_limit.TheConstants.{AUDIT_LIMIT};
+ghost use Rattle.sheet_input.specs.declared.sheet_limit.TheConstants.{SHEET_LIMIT};
 ghost use Rattle.day_ballots.specs.Ballots.{exports_freezes};
 
 use crate::writing::write_at;
@@ -13,7 +13,7 @@ use blt_reader::{BltStop, FaultKind, InputFault};
 use byte_edge::{Sink, Source};
 use day_audit::text_and_file;
 use day_reader::{accepts_days, read_day, refuses_by_the_rule};
-use sheet_check::AUDIT_LIMIT;
+use sheet_input::SHEET_LIMIT;
 use std::alloc::Global;
 use tool_edge::{End, Opened, open, refuse};
 
@@ -31,7 +31,7 @@ pub fn ballots<S: Source, K: Sink>(
     accepts_days();
     refuses_by_the_rule();
     let asked = takes_line(alloc, words);
-    let Opened { asked: at, input } = match open(alloc, asked, AUDIT_LIMIT, source, sink) {
+    let Opened { asked: at, input } = match open(alloc, asked, SHEET_LIMIT, source, sink) {
         Ok(opened) => opened,
         Err(end) => return end,
     };
@@ -40,7 +40,7 @@ pub fn ballots<S: Source, K: Sink>(
 
 /// Writes the ballots of a line of the input's text.
 fn write_ballots<K: Sink>(alloc: Global, at: u32, input: &[u8], sink: &mut K) -> End<BallotsFault>
-    requires { length input.now ≤ AUDIT_LIMIT }
+    requires { length input.now ≤ SHEET_LIMIT }
     ensures { FinishesOwed (IsOwedFor exports_freezes at input.now no_history) result
         (writing K.written K.faults sink.old sink.new) }
 {

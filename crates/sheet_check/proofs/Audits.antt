@@ -18,7 +18,7 @@ use Rattle.tool_edge.specs.Finishing.{Finishes, FinishesOwed, RefusesInput}
 use Rattle.tool_edge.specs.Tool.{IsOwedFor, IsSound, no_history}
 use Rattle.tool_edge.specs.Tools.{IsContestFile, FilesAreNotRefused}
 use Rattle.tool_edge.specs.Tools.{ContestsAreNotRefused, ContestsAreRefusedOnce}
-use Rattle.sheet_check.specs.declared.audit_limit.TheConstants.{AUDIT_LIMIT}
+use Rattle.sheet_input.specs.declared.sheet_limit.TheConstants.{SHEET_LIMIT}
 use Rattle.sheet_check.specs.declared.terms.Terms.{Terms}
 use Rattle.sheet_check.specs.Input.{IsSplit}
 use Rattle.sheet_check.specs.Behind.{IsShortContest, IsRefusedFileBehind, ReadsFileBehind}
@@ -107,7 +107,7 @@ sound one files either once = record {
 -- No line is `end`.
 pub ended_early :
     (asked : Asked) (input : List ℕ) (fault : InputFault) (end : End InputFault) (sink : Writing)
-    → length input ≤ AUDIT_LIMIT
+    → length input ≤ SHEET_LIMIT
     → EndsInSheet input fault → Finishes (BadInput fault) (fault_line fault) end sink
     → FinishesOwed (IsOwedFor audits asked input no_history) end sink
 ended_early asked input fault end sink short ends finishes =
@@ -116,7 +116,7 @@ ended_early asked input fault end sink short ends finishes =
 -- What stands behind the sheet is refused.
 pub refused_behind :
     (asked : Asked) (input sheet file : List ℕ) (before : ℕ) (stop : InputStop) (end : End InputFault) (sink : Writing)
-    → length input ≤ AUDIT_LIMIT
+    → length input ≤ SHEET_LIMIT
     → IsSplit input sheet file → before ≡ length sheet → ReadsFileBehind before asked.lots file (Err stop)
     → RefusesInput stop end sink → FinishesOwed (IsOwedFor audits asked input no_history) end sink
 refused_behind asked input sheet file before (Fault fault) end sink short split same why finishes =
@@ -126,7 +126,7 @@ refused_behind asked input sheet file before NoInputRead end sink short split sa
 
 owed_for_input :
     (asked : Asked) (input sheet file : List ℕ) (election : Election) (terms : Terms) (due : End InputFault) (bytes : List ℕ)
-    → length input ≤ AUDIT_LIMIT
+    → length input ≤ SHEET_LIMIT
     → IsSplit input sheet file → length file ≤ FILE_LIMIT
     → IsContest asked.lots file (record { election = election; lots = terms.lots }) → terms ≡ terms_of asked
     → IsOwedVerdict (poll election) terms sheet due bytes → IsOwedFor audits asked input no_history due bytes
@@ -147,7 +147,7 @@ owed_for_input asked input sheet file election terms due bytes short split fits 
 -- The verdict on the sheet is what is owed for the input.
 judged :
     (asked : Asked) (input sheet file : List ℕ) (election : Election) (terms : Terms) (end : End InputFault) (sink : Writing)
-    → length input ≤ AUDIT_LIMIT
+    → length input ≤ SHEET_LIMIT
     → IsSplit input sheet file → length file ≤ FILE_LIMIT
     → IsContest asked.lots file (record { election = election; lots = terms.lots }) → terms ≡ terms_of asked
     → FinishesOwed (IsOwedVerdict (poll election) terms sheet) end sink
@@ -159,7 +159,7 @@ judged asked input sheet file election terms end sink short split fits is same (
 -- The same where the verdict is on what is left of the input without its file.
 pub judged_front :
     (asked : Asked) (input sheet file front lots : List ℕ) (election : Election) (terms : Terms) (end : End InputFault)
-    (sink : Writing) → length input ≤ AUDIT_LIMIT
+    (sink : Writing) → length input ≤ SHEET_LIMIT
     → IsSplit input sheet file → front ≡ take (length sheet) input → length file ≤ FILE_LIMIT
     → IsContest asked.lots file (record { election = election; lots = lots })
     → terms ≡ record { lots = lots; rule = asked.rule; omega = asked.omega }

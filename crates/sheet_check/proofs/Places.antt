@@ -15,7 +15,7 @@ use Rattle.input_text.specs.Scan.{word_piece, piece, beginning, cut, mark_len, s
 use Rattle.blt_reader.specs.Said.{of_a_file, IsFileRefusal}
 use Rattle.input_text.specs.Reads.{OnFault}
 use Rattle.tool_edge.specs.Contest.{IsRefusedFile}
-use Rattle.sheet_check.specs.declared.audit_limit.TheConstants.{AUDIT_LIMIT}
+use Rattle.sheet_input.specs.declared.sheet_limit.TheConstants.{SHEET_LIMIT}
 
 -- ---- one piece
 
@@ -148,7 +148,7 @@ file_refusal_near file fault refused =
 
 -- so there is room for its place in the whole
 pub room_for_place :
-    (before : ℕ) (file : List ℕ) (stop : InputStop) → before + length file ≤ AUDIT_LIMIT
-    → OnFault stop (λ fault. IsRefusedFile file fault) → OnFault stop (λ fault. before + fault.at ≤ AUDIT_LIMIT + 2)
+    (before : ℕ) (file : List ℕ) (stop : InputStop) → before + length file ≤ SHEET_LIMIT
+    → OnFault stop (λ fault. IsRefusedFile file fault) → OnFault stop (λ fault. before + fault.at ≤ SHEET_LIMIT + 2)
 room_for_place before file (Fault fault) short refused = omega (arith, short, file_refusal_near file fault refused)
 room_for_place before file NoMemory short refused = tt

@@ -12,7 +12,7 @@ use Rattle.tool_edge.specs.declared.end.End.TheVariants.{Done}
 use Rattle.tool_edge.specs.Refusals.{file_refusals}
 use Rattle.tool_edge.specs.Contest.{SaysContest}
 use Rattle.tool_edge.specs.Tool.{Tool, no_history}
-use Rattle.sheet_check.specs.declared.audit_limit.TheConstants.{AUDIT_LIMIT}
+use Rattle.sheet_input.specs.declared.sheet_limit.TheConstants.{SHEET_LIMIT}
 use Rattle.sheet_check.specs.declared.terms.Terms.{Terms}
 use Rattle.sheet_check.specs.declared.verdict.Verdict.{Verdict}
 use Rattle.sheet_check.specs.declared.verdict.Verdict.TheVariants.{True, False, Malformed}
@@ -73,7 +73,7 @@ pub record OwesAudit (asked : Asked) (input bytes : List ℕ) : Type 0 where
 abbrev pub audits : Tool Asked (Unit {0}) InputFault
 audits = record {
   Takes = Asks;
-  limit = λ asked. Some AUDIT_LIMIT;
+  limit = λ asked. Some SHEET_LIMIT;
   Accepts = λ asked. IsAudit asked.lots;
   Refuses = λ asked. IsRefusedAudit asked.lots;
   refusals = file_refusals;

@@ -7,7 +7,7 @@ ghost use Rattle.tool_edge.specs.Contest.{behind, lots_stop, stop_behind};
 ghost use Rattle.tool_edge.specs.Refusals.{too_long};
 ghost use Rattle.tool_edge.specs.declared.opening.TheConstants.{FILE_LIMIT};
 ghost use Rattle.sheet_check.specs.Behind.{ReadsFileBehind};
-ghost use Rattle.sheet_check.specs.declared.audit_limit.TheConstants.{AUDIT_LIMIT};
+ghost use Rattle.sheet_input.specs.declared.sheet_limit.TheConstants.{SHEET_LIMIT};
 
 use blt_reader::{BltStop, Election, FaultKind, InputFault, read_blt};
 use lot_order::Lots;
@@ -22,7 +22,7 @@ pub(crate) fn read_file_behind(
     lots: &[u32],
     file: &[u8],
 ) -> Result<Contest, BltStop>
-    requires { before + length file.now ≤ AUDIT_LIMIT }
+    requires { before + length file.now ≤ SHEET_LIMIT }
     ensures { ReadsFileBehind before lots.now file.now result }
 {
     if file.len() > FILE_LIMIT {
@@ -53,7 +53,7 @@ fn with_lots(alloc: Global, election: Election, lots: &[u32]) -> Result<Contest,
 
 /// The fault of a ballot file behind so many bytes that is too long: the first byte too many.
 fn too_long_behind(before: usize) -> BltStop
-    requires { before ≤ AUDIT_LIMIT }
+    requires { before ≤ SHEET_LIMIT }
     ensures { result ≡ BltStop.Fault (behind before (too_long FILE_LIMIT)) }
 {
     BltStop::refused(FaultKind::TooLong, before + FILE_LIMIT)
@@ -61,7 +61,7 @@ fn too_long_behind(before: usize) -> BltStop
 
 /// A fault of what stands behind so many bytes gets its place in the whole.
 fn stop_behind(before: usize, stop: BltStop) -> BltStop
-    requires { OnFault stop (λ fault. before + fault.at ≤ AUDIT_LIMIT + 2) }
+    requires { OnFault stop (λ fault. before + fault.at ≤ SHEET_LIMIT + 2) }
     ensures { result ≡ stop_behind before stop }
 {
     match stop {

@@ -4,11 +4,9 @@
 //! [`judge`] gives the verdict on a text and an election by the [`Terms`] of a count, at the text's own
 //! number of places; [`verdicts_are_unique`] says that each text has one, and [`sheets_are_true`] that the
 //! verdict on a sheet is that it is true. [`Comparing`] is the sink that compares, for any text. [`check`]
-//! is the whole tool, over an input that is a sheet and behind it a ballot file, of at most
-//! [`AUDIT_LIMIT`] bytes.
+//! is the whole tool, over an input that is a sheet and behind it a ballot file.
 #![tactic(auto)]
 
-mod audit_limit;
 mod behind;
 mod comparing;
 mod counting;
@@ -22,7 +20,6 @@ mod tool;
 mod verdict;
 mod verdict_line;
 
-pub use audit_limit::AUDIT_LIMIT;
 pub use comparing::Comparing;
 pub use judging::judge;
 pub use laws::{sheets_are_true, verdicts_are_unique};

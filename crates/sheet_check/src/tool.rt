@@ -6,15 +6,16 @@ ghost use Rattle.tool_edge.specs.Streams.{reading, writing};
 ghost use Rattle.tool_edge.specs.Tool.{IsOwedFor, IsRun, no_history};
 ghost use Rattle.blt_reader.specs.Election.{poll};
 ghost use Rattle.sheet_check.specs.Audit.{audits, IsOwedVerdict};
-ghost use Rattle.sheet_check.specs.declared.audit_limit.TheConstants.{AUDIT_LIMIT};
+ghost use Rattle.sheet_input.specs.declared.sheet_limit.TheConstants.{SHEET_LIMIT};
 
 use crate::behind::read_file_behind;
 use crate::split::split;
 use crate::verdict_line::verdict_line;
-use crate::{AUDIT_LIMIT, Terms, judge};
+use crate::{Terms, judge};
 use blt_reader::{Election, FaultKind, InputFault};
 use byte_edge::{Sink, Source};
 use check_words::{Asked, read_check_words, words_ask_one_thing};
+use sheet_input::SHEET_LIMIT;
 use std::alloc::Global;
 use std::thread::Threads;
 use tool_edge::{
@@ -39,7 +40,7 @@ pub fn check<R: Threads + Sync, S: Source, K: Sink>(
     contests_are_not_refused();
     contests_are_refused_once();
     let asked = read_check_words(alloc, words);
-    let Opened { asked, input } = match open(alloc, asked, AUDIT_LIMIT, source, sink) {
+    let Opened { asked, input } = match open(alloc, asked, SHEET_LIMIT, source, sink) {
         Ok(opened) => opened,
         Err(end) => return end,
     };
@@ -55,7 +56,7 @@ fn check_input<R: Threads + Sync, K: Sink>(
     mut input: Vec<u8>,
     sink: &mut K,
 ) -> End
-    requires { length input.items ≤ AUDIT_LIMIT }
+    requires { length input.items ≤ SHEET_LIMIT }
     ensures { FinishesOwed (IsOwedFor audits asked input.items no_history) result
         (writing K.written K.faults sink.old sink.new) }
 {

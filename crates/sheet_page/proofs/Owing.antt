@@ -10,7 +10,7 @@ use Rattle.tool_edge.specs.declared.end.End.TheVariants.{Done, BadInput}
 use Rattle.tool_edge.specs.Streams.{Writing, writing}
 use Rattle.tool_edge.specs.Finishing.{Finishes, FinishesOwed, Wrote}
 use Rattle.tool_edge.specs.Tool.{IsOwedFor, IsSound, no_history}
-use Rattle.tool_edge.specs.declared.opening.TheConstants.{FILE_LIMIT}
+use Rattle.sheet_input.specs.declared.sheet_limit.TheConstants.{SHEET_LIMIT}
 use Rattle.sheet_page.specs.declared.format.Format.{Format}
 use Rattle.sheet_page.specs.declared.format.Format.TheVariants.{Html, Csv, MarkedCsv, Json, Text}
 use Rattle.sheet_input.specs.declared.sheet_fault.SheetFault.{SheetFault}
@@ -30,14 +30,14 @@ wrote_text w f a b text (Err stop) wrote = (wrote.rose, wrote.part)
 -- ---- the whole input
 
 pub values_owed :
-    (format : Format) (input : List ℕ) (v : SheetList) (end : End SheetFault) (sink : Writing) → length input ≤ FILE_LIMIT
+    (format : Format) (input : List ℕ) (v : SheetList) (end : End SheetFault) (sink : Writing) → length input ≤ SHEET_LIMIT
     → HasForm 9 input v → Finishes Done (shown_as format v) end sink
     → FinishesOwed (IsOwedFor shows format input no_history) end sink
 values_owed format input v end sink short form finishes =
     inr (Done, shown_as format v, (short, (v, form, refl)), finishes)
 
 pub malformed_owed :
-    (format : Format) (input : List ℕ) (end : End SheetFault) (sink : Writing) → length input ≤ FILE_LIMIT → IsMalformed input
+    (format : Format) (input : List ℕ) (end : End SheetFault) (sink : Writing) → length input ≤ SHEET_LIMIT → IsMalformed input
     → Finishes (BadInput Malformed) malformed_line end sink → FinishesOwed (IsOwedFor shows format input no_history) end sink
 malformed_owed format input end sink short none finishes =
     inr (BadInput Malformed, malformed_line, (inr (short, none), refl, refl), finishes)

@@ -1,6 +1,6 @@
 -- What is owed for a sheet.
 use Rattle.std.specs.Prelude.{◌≡◌, ℕ, List, Some}
-use Rattle.tool_edge.specs.declared.opening.TheConstants.{FILE_LIMIT}
+use Rattle.sheet_input.specs.declared.sheet_limit.TheConstants.{SHEET_LIMIT}
 use Rattle.sheet_reader.specs.Form.{HasForm}
 use Rattle.sheet_reader.specs.Values.{SheetList}
 use Rattle.tool_edge.specs.Tool.{Tool, no_history}
@@ -32,7 +32,7 @@ OwesShown format input bytes = (v : SheetList) × HasForm 9 input v × (bytes �
 abbrev pub shows : Tool Format (Unit {0}) SheetFault
 shows = record {
   Takes = TakesFormat;
-  limit = λ format. Some FILE_LIMIT;
+  limit = λ format. Some SHEET_LIMIT;
   Accepts = λ format. IsSheetText;
   Refuses = λ format. IsRefusedSheet;
   refusals = sheet_refusals;

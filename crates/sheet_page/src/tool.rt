@@ -1,7 +1,7 @@
 // The tool that shows a sheet.
 ghost use Rattle.std.specs.Prelude.{◌≤◌, map, length};
 ghost use Rattle.std.specs.String.{string_bytes};
-ghost use Rattle.tool_edge.specs.declared.opening.TheConstants.{FILE_LIMIT};
+ghost use Rattle.sheet_input.specs.declared.sheet_limit.TheConstants.{SHEET_LIMIT};
 ghost use Rattle.tool_edge.specs.Finishing.{Finishes, FinishesOwed};
 ghost use Rattle.tool_edge.specs.Streams.{reading, writing};
 ghost use Rattle.tool_edge.specs.Tool.{IsOwedFor, IsRun, no_history};
@@ -14,11 +14,11 @@ use crate::html::write_html;
 use crate::json::write_json;
 use crate::{Format, takes_format};
 use byte_edge::{Failed, Sink, Source};
-use sheet_input::SheetFault;
+use sheet_input::{SHEET_LIMIT, SheetFault};
 use sheet_minutes::write_minutes;
 use sheet_reader::{SheetStop, SheetValues, read_sheet};
 use std::alloc::Global;
-use tool_edge::{End, FILE_LIMIT, close, open, refuse};
+use tool_edge::{End, close, open, refuse};
 
 /// Shows the sheet that the source gives, in the format that the words ask for. An input that is no sheet
 /// is refused by a line that says so. All memory is taken before the first byte.
@@ -33,7 +33,7 @@ pub fn page<S: Source, K: Sink>(
         result no_history }
 {
     let asked = takes_format(words);
-    let opened = match open(alloc, asked, FILE_LIMIT, source, sink) {
+    let opened = match open(alloc, asked, SHEET_LIMIT, source, sink) {
         Ok(opened) => opened,
         Err(end) => return end,
     };
@@ -43,7 +43,7 @@ pub fn page<S: Source, K: Sink>(
 /// Shows the whole input.
 #[tactic(auto, using(crate::proofs::Owing::values_owed, crate::proofs::Owing::malformed_owed))]
 fn show<K: Sink>(alloc: Global, format: Format, input: &[u8], sink: &mut K) -> End<SheetFault>
-    requires { length input.now ≤ FILE_LIMIT }
+    requires { length input.now ≤ SHEET_LIMIT }
     ensures { FinishesOwed (IsOwedFor shows format input.now no_history) result
         (writing K.written K.faults sink.old sink.new) }
 {

@@ -2,7 +2,7 @@ use Rattle.std.proofs.Common.{refl, map}
 use Rattle.std.specs.Prelude.{Some}
 use Rattle.std.specs.String.{string_bytes}
 use Rattle.tool_edge.specs.Streams.{reading, writing}
-use Rattle.tool_edge.specs.declared.opening.TheConstants.{FILE_LIMIT}
+use Rattle.sheet_input.specs.declared.sheet_limit.TheConstants.{SHEET_LIMIT}
 use Rattle.tool_edge.proofs.Running.{stopped, worked_on}
 use Rattle.count_promise.specs.Owed.{promises}
 use Rattle.count_promise.proofs.Owing.{sound}
@@ -10,7 +10,7 @@ use Rattle.count_promise.proofs.tool.promise.Goals as goal
 
 pub returns-in-Err : goal.returns-in-Err
 returns-in-Err g c =
-    stopped promises (Some FILE_LIMIT) (λ asked. refl) (map string_bytes c.args.words.now)
+    stopped promises (Some SHEET_LIMIT) (λ asked. refl) (map string_bytes c.args.words.now)
     c.takes_nothing-asked.result c.in-Err.end
     (reading g.S.Source.left g.S.Source.faults c.args.source.now c.open.new.source)
     (writing g.K.Sink.written g.K.Sink.faults c.args.sink.now c.open.new.sink)

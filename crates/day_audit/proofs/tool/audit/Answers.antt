@@ -2,14 +2,14 @@ use Rattle.std.proofs.Common.{refl, map}
 use Rattle.std.specs.Prelude.{Some, string_bytes}
 use Rattle.tool_edge.specs.Streams.{reading, writing}
 use Rattle.tool_edge.proofs.Running.{stopped, worked_on}
-use Rattle.sheet_check.specs.declared.audit_limit.TheConstants.{AUDIT_LIMIT}
+use Rattle.sheet_input.specs.declared.sheet_limit.TheConstants.{SHEET_LIMIT}
 use Rattle.day_audit.specs.Audit.{audits_days}
 use Rattle.day_audit.proofs.Audits.{sound}
 use Rattle.day_audit.proofs.tool.audit.Goals as goal
 
 pub returns-in-Err : goal.returns-in-Err
 returns-in-Err g c =
-    stopped audits_days (Some AUDIT_LIMIT) (λ asked. refl) (map string_bytes c.args.words.now)
+    stopped audits_days (Some SHEET_LIMIT) (λ asked. refl) (map string_bytes c.args.words.now)
     c.takes_audit-asked.result c.in-Err.end
     (reading g.S.Source.left g.S.Source.faults c.args.source.now c.open.new.source)
     (writing g.K.Sink.written g.K.Sink.faults c.args.sink.now c.open.new.sink)

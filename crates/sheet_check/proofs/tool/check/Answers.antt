@@ -4,7 +4,7 @@ use Rattle.std.specs.String.{string_bytes}
 use Rattle.tool_edge.specs.Streams.{reading, writing}
 use Rattle.tool_edge.proofs.Running.{stopped, worked_on}
 use Rattle.sheet_check.specs.Audit.{audits}
-use Rattle.sheet_check.specs.declared.audit_limit.TheConstants.{AUDIT_LIMIT}
+use Rattle.sheet_input.specs.declared.sheet_limit.TheConstants.{SHEET_LIMIT}
 use Rattle.sheet_check.proofs.Audits.{sound}
 use Rattle.sheet_check.proofs.Words.{asked_by}
 use Rattle.sheet_check.proofs.tool.check.Goals as goal
@@ -14,7 +14,7 @@ returns-in-Err g c =
     let words = map string_bytes c.args.words.now in
     let asked = asked_by words c.read_check_words-asked.result c.read_check_words-asked.ensures.accepted
     c.read_check_words-asked.ensures.refused in
-    stopped audits (Some AUDIT_LIMIT) (λ asked. refl) words c.read_check_words-asked.result c.in-Err.end
+    stopped audits (Some SHEET_LIMIT) (λ asked. refl) words c.read_check_words-asked.result c.in-Err.end
     (reading g.S.Source.left g.S.Source.faults c.args.source.now c.open.new.source)
     (writing g.K.Sink.written g.K.Sink.faults c.args.sink.now c.open.new.sink)
     (sound c.words_ask_one_thing.ensures c.files_are_not_refused.ensures c.contests_are_not_refused.ensures

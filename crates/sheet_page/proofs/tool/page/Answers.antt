@@ -2,7 +2,7 @@ use Rattle.std.proofs.Common.{refl, map}
 use Rattle.std.specs.Prelude.{Some}
 use Rattle.std.specs.String.{string_bytes}
 use Rattle.tool_edge.specs.Streams.{reading, writing}
-use Rattle.tool_edge.specs.declared.opening.TheConstants.{FILE_LIMIT}
+use Rattle.sheet_input.specs.declared.sheet_limit.TheConstants.{SHEET_LIMIT}
 use Rattle.tool_edge.proofs.Running.{stopped, worked_on}
 use Rattle.sheet_page.specs.Owed.{shows}
 use Rattle.sheet_page.proofs.Owing.{sound}
@@ -10,7 +10,7 @@ use Rattle.sheet_page.proofs.tool.page.Goals as goal
 
 pub returns-in-Err : goal.returns-in-Err
 returns-in-Err g c =
-    stopped shows (Some FILE_LIMIT) (λ format. refl) (map string_bytes c.args.words.now)
+    stopped shows (Some SHEET_LIMIT) (λ format. refl) (map string_bytes c.args.words.now)
     c.takes_format-asked.result c.in-Err.end
     (reading g.S.Source.left g.S.Source.faults c.args.source.now c.open.new.source)
     (writing g.K.Sink.written g.K.Sink.faults c.args.sink.now c.open.new.sink)
