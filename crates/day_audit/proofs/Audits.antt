@@ -53,7 +53,7 @@ not_refused days refusals input fault (text, file, split, says) (inl ends) = end
 not_refused days refusals input fault (text, file, split, (day, says)) (inr (other_text, other, other_split, refused)) =
     not_both days refusals file day fault says
     (subst (λ (f : List ℕ). IsDayRefusal (scan f true) fault)
-      (file_once input text file other_text other split other_split) refused)
+    (file_once input text file other_text other split other_split) refused)
 
 pub refused_once :
     RefusesByTheRule → (input : List ℕ) (fault other : InputFault) → IsRefusedAudit input fault → IsRefusedAudit input other
@@ -66,7 +66,7 @@ refused_once refusals input fault other (inr (text, file, split, refused)) (inl 
 refused_once refusals input fault other (inr (text, file, split, refused)) (inr (again, twice, split_again, refused_again)) =
     refused_alike refusals file fault other refused
     (subst (λ (f : List ℕ). IsDayRefusal (scan f true) other)
-      (file_once input text file again twice split split_again) refused_again)
+    (file_once input text file again twice split split_again) refused_again)
 
 pub sound : AcceptsDays → RefusesByTheRule → IsSound audits_days
 sound days refusals = record {

@@ -35,7 +35,7 @@ module _ (scripts : List Script) where
       none_by 0 mine (length its) clerk_freeze is.ends.no_other
       (sym (got_ahead mine (clerk_freeze ∷ []) (length its) before)
       ∙ (ap (λ (l : List Entry). slice_get l (length its)) (sym is.ends.last ∙ front)
-            ∙ got_behind its clerk_freeze (e ∷ rest))) refl
+      ∙ got_behind its clerk_freeze (e ∷ rest))) refl
 
   -- a history whose front another one is, is that one
   pub no_more : (history other : List Entry) → IsHistoryOf scripts history → IsHistoryOf scripts other
@@ -51,4 +51,4 @@ module _ (scripts : List Script) where
       by [] none = parts ∙ (ap (λ (l : List Entry). other ++ l) none ∙ append-nil other)
       by (e ∷ rest) some =
           absurd
-            (nothing_behind history other e rest is also (parts ∙ ap (λ (l : List Entry). other ++ l) some))
+          (nothing_behind history other e rest is also (parts ∙ ap (λ (l : List Entry). other ++ l) some))

@@ -44,7 +44,7 @@ one_sheet :
     → IsRoll roll → IsOrder lots → length lots ≡ length roll.names → IsSheet places omega ballots roll lots a
     → IsSheet places omega ballots roll lots b → a ≡ b
 one_sheet places omega' ballots roll lots a b some small is order of_all (rows, last, count, text)
-  (others, end, again, other) =
+    (others, end, again, other) =
     let s = scale places in
     let same =
     rows-unique Meek s ballots lots (opening s omega' roll.seats roll.withdrawn) rows others last end (scale_pos places)
@@ -53,15 +53,15 @@ one_sheet places omega' ballots roll lots a b some small is order of_all (rows, 
 
 same_sheets :
     (terms : Terms) (history : List Entry) (places : List ℕ) (a b : List ℕ) → AreTerms terms
-      → AreSheets terms history places a
+    → AreSheets terms history places a
     → AreSheets terms history places b → a ≡ b
 same_sheets terms history [] a b are one other = one ∙ sym other
 same_sheets terms history (n ∷ places) a b are (sheet, others, is, more, whole) (again, rest, also, further, all) =
     let first =
     one_sheet terms.places terms.omega (plain (standing_after history n))
-      (roll_with terms.roll (struck_after history n)) terms.lots
+    (roll_with terms.roll (struck_after history n)) terms.lots
     sheet again are.some_omega are.small_omega (still_a_roll terms.roll (struck_after history n) are.roll)
-      are.order are.lots_of_all is also in
+    are.order are.lots_of_all is also in
     let later = same_sheets terms history places others rest are more further in
     whole ∙ ((λ i. ended (sheet_line n) ++ (first i ++ later i)) ∙ sym all)
 
@@ -71,5 +71,5 @@ pub one_text :
 one_text terms history a b are (sheets, is, whole) (others, also, all) =
     whole
     ∙ (ap (λ (l : List ℕ). entries_text history ++ l)
-          (same_sheets terms history (freeze_places history) sheets others are is also)
+    (same_sheets terms history (freeze_places history) sheets others are is also)
     ∙ sym all)

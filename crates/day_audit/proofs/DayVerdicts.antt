@@ -47,7 +47,7 @@ module _ (day : Day) (are : AreTerms (terms_of day)) where
             let same = no_more day.scripts history its is also front in
             let texts : other ≡ nearest =
             one_text (terms_of day) its other nearest are whose
-              (subst (λ (h : List Entry). IsDayText (terms_of day) h nearest) same of) in
+            (subst (λ (h : List Entry). IsDayText (terms_of day) h nearest) same of) in
             subst (λ (t : List ℕ). BeginAlike n text t) texts alike
         by (inr long) = λ k below.
             let e = get_or its k clerk_freeze in

@@ -42,7 +42,7 @@ text_once input text file other_text other one again =
 -- and so is the file behind it
 pub file_once :
     (input text file other_text other : List ℕ) → IsDaySplit input text file
-      → IsDaySplit input other_text other → other ≡ file
+    → IsDaySplit input other_text other → other ≡ file
 file_once input text file other_text other one again =
     again.file_is
     ∙ (ap (λ (at : ℕ). drop (at + 4) input) (sym (same_place input text file other_text other one again)) ∙ sym one.file_is)

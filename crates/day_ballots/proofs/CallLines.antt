@@ -90,10 +90,12 @@ pub compared_lines :
     → CountsFault start.faults end.faults r → Tells end r found
     → IsCompared (λ lines. lines ≡ entries_text history) text found
 compared_lines text history start end r found starts all front faults tells =
-    compared (λ lines. lines ≡ entries_text history) text start end r found starts
-    (entries_text history, refl,
-          wrote (λ c. Some (told c)) (λ c. c.faults) start end (entries_text history) r all front faults)
-      tells
+    compared (λ lines. lines ≡ entries_text history) text start end r found starts (
+      entries_text history,
+      refl,
+      wrote (λ c. Some (told c)) (λ c. c.faults) start end (entries_text history) r all front faults,
+    )
+    tells
 
 -- ---- the first of the calls whose line is another
 

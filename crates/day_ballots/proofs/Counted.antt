@@ -45,11 +45,11 @@ module _ (file : List ℕ) (day : Day) (history : List Entry) (says : SaysDay fi
       clerk =
           ap (λ (l : List Entry). calls_of (own_calls 0 l)) is.ends.last
           ∙ ap calls_of (filter-append (λ (e : Entry). e.caller == 0) is.ends.before (clerk_freeze ∷ [])
-                ∙ ap (λ (l : List Entry). l ++ clerk_freeze ∷ []) is.ends.no_other)
+          ∙ ap (λ (l : List Entry). l ++ clerk_freeze ∷ []) is.ends.no_other)
   of_caller (suc caller) =
       subst (λ (calls : List Call). All (IsCall (length day.roll.names)) calls)
       (ap (λ (scripts : List Script). calls_in scripts (suc caller)) (sym day_is.scripts)
-        ∙ sym (is.whole (suc caller) (omega arith)))
+      ∙ sym (is.whole (suc caller) (omega arith)))
       (in_scripts (length day.roll.names) day_is.teams (suc caller) day_is.teams_are.calls)
 
   calls : All (λ e. IsCall (length day.roll.names) e.call) history
@@ -78,7 +78,7 @@ module _ (file : List ℕ) (day : Day) (history : List Entry) (says : SaysDay fi
         said,
         λ sheet. subst
             (λ (r : RollList). IsSheet day.places day.omega (plain said.poll.lines) r day.lots sheet
-              ↔ IsSheetAfter (terms_of day) history n sheet)
+            ↔ IsSheetAfter (terms_of day) history n sheet)
             (sym said.roll_is)
             (leaves Meek day.places day.omega (plain said.poll.lines) (plain (standing_after history n))
             (roll_with day.roll (struck_after history n)) day.lots sheet said.ballots_are),
@@ -88,6 +88,6 @@ module _ (file : List ℕ) (day : Day) (history : List Entry) (says : SaysDay fi
 pub freezes_counted : TextsAreRead → OrderOfBallotsLeavesTheSheet → FreezesAreCounted
 freezes_counted reads leaves n input bytes owes =
     let is =
-        counted owes.says.file owes.day owes.history owes.says.day_is owes.at.along.calls reads leaves n bytes
-          owes.file in
+    counted owes.says.file owes.day owes.history owes.says.day_is owes.at.along.calls reads leaves n bytes
+    owes.file in
     record { says = is.0; sheets = is.1 }

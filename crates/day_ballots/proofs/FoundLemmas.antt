@@ -57,18 +57,18 @@ module _ (day : Day) (text : List ℕ) (history : List Entry) (is : IsHistoryOf 
       let stands = stands_here n version found in
       let in_order =
       text_moved (all_ballots version.plans) (plain (standing_after history version.at))
-        (roll_with day.roll version.struck) bytes
+      (roll_with day.roll version.struck) bytes
       stands.ballots written in
       let struck =
       subst
-        (λ (l : List ℕ). IsBltText (plain (standing_after history version.at)) (roll_with day.roll l) bytes)
-        stands.struck in_order in
+      (λ (l : List ℕ). IsBltText (plain (standing_after history version.at)) (roll_with day.roll l) bytes)
+      stands.struck in_order in
       let freeze : IsFreezeAt history version.at =
       record { some = stands.some; entry = _; there = stands.freeze.1; freezes = refl } in (
         history,
         record { along = goes n found.lines; freeze = subst (IsFreezeAt history) found.at freeze },
         subst (λ (k : ℕ). IsBltText (plain (standing_after history k))
-              (roll_with day.roll (struck_after history k)) bytes) found.at struck,
+            (roll_with day.roll (struck_after history k)) bytes) found.at struck,
       )
 
   -- ---- why there is none

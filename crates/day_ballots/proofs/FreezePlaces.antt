@@ -28,7 +28,7 @@ not_all_other n place zero (x ∷ xs) e at freezes same none =
     let shown : places_from place (x ∷ xs) ≡ place ∷ map (λ y. y.0) later =
     ap (λ (b : Bool). map (λ (y : ℕ × Entry). y.0) (cond b ((place, x) ∷ later) later)) here in
     All-head (λ (m : ℕ). m ≢ n) place (map (λ y. y.0) later) (subst (All (λ (m : ℕ). m ≢ n)) shown none)
-      (omega (arith, same))
+    (omega (arith, same))
 not_all_other n place (suc k) (x ∷ xs) e at freezes same none =
     by (is_freeze x.call) none (not_all_other n (place + 1) k xs e at freezes (omega (arith, same)))
   where
@@ -49,7 +49,7 @@ no_freeze candidates n history versions frozen none at =
     let some = at.some in
     not_all_other n 1 (n - 1) history at.entry at.there at.freezes (omega (arith, some))
     (subst (All (λ (m : ℕ). m ≢ n)) frozen.places
-      (All-map (λ (m : ℕ). m ≢ n) (λ (version : VersionState). version.at) versions none))
+    (All-map (λ (m : ℕ). m ≢ n) (λ (version : VersionState). version.at) versions none))
 
 -- a freeze is one of the calls
 pub within : (history : List Entry) (n : ℕ) → IsFreezeAt history n → n ≤ length history

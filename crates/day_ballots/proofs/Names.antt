@@ -57,7 +57,7 @@ front_printed (b ∷ bytes) = by (is_in_string b) refl (front_printed bytes)
         let n = prefix_len is_in_string bytes in
         let more : suc n ≡ 1 + n = omega arith in
         subst (λ (k : ℕ). All IsPrintable (take k (b ∷ bytes))) more
-          (All-cons IsPrintable b (take n bytes) (printed b is) rest)
+        (All-cons IsPrintable b (take n bytes) (printed b is) rest)
     by false is rest = All-nil IsPrintable
 
 number_plain : (bytes : List ℕ) → IsPlainPiece (number_piece bytes)
@@ -88,13 +88,13 @@ closed_plain :
 closed_plain behind n [] can = tt
 closed_plain behind n (b ∷ rest) can =
     either_plain (b == 34) _ (Wrong (n + 1))
-      (either_plain (may_follow rest) (Lexeme (Text (take n behind)) (n + 2)) (Wrong (n + 2)) can tt) tt
+    (either_plain (may_follow rest) (Lexeme (Text (take n behind)) (n + 2)) (Wrong (n + 2)) can tt) tt
 
 string_plain : (behind : List ℕ) → IsPlainPiece (string_piece behind)
 unfolding string_piece
 string_plain behind =
     closed_plain behind (prefix_len is_in_string behind) (drop (prefix_len is_in_string behind) behind)
-      (front_printed behind)
+    (front_printed behind)
 
 piece_plain : (letters : Bool) (b : ℕ) (behind : List ℕ) → IsPlainPiece (piece letters (b ∷ behind))
 unfolding piece
@@ -155,8 +155,8 @@ named most items poll struck are file =
     let spelled = first_part file.front (map Text file.further) (subst ArePlain file.spelled are) in
     let head = opening (length roll.names) roll.seats front.withdrawn in
     let behind =
-        last_part (ballots poll.lines) (map Text roll.names ++ Text roll.title ∷ [])
-          (last_part head _ (subst ArePlain front.spelled spelled)) in
+    last_part (ballots poll.lines) (map Text roll.names ++ Text roll.title ∷ [])
+    (last_part head _ (subst ArePlain front.spelled spelled)) in
     let names = each_name roll.names (first_part (map Text roll.names) (Text roll.title ∷ []) behind) in
     let title = last_part (map Text roll.names) (Text roll.title ∷ []) behind in
     let marks = ap length front.marks ∙ length-map-range_with_len _ 0 (length roll.names) in

@@ -38,7 +38,7 @@ module _ {X Y : Type 0} (P : Y → Type 0) (f : X → List Y) where
   all_flat [] each = All-nil P
   all_flat (x ∷ xs) each =
       All-append P (f x) (flat_map f xs) (each 0 x (omega arith))
-        (all_flat xs (λ k d inside. each (suc k) d (omega (arith, inside))))
+      (all_flat xs (λ k d inside. each (suc k) d (omega (arith, inside))))
 
 -- ---- the calls of a history
 
@@ -70,9 +70,9 @@ module _ (candidates : ℕ) where
   unfolding by_number
   numbered teams are =
       all_flat (λ (s : Script). Are s.calls) (λ number. filter (λ (s : Script). s.team == number) teams)
-        (range_with_len 1 16)
+      (range_with_len 1 16)
       (λ k d inside. All-filter (λ (s : Script). s.team == slice_index_or (range_with_len 1 16) k d)
-        (λ (s : Script). Are s.calls) teams are)
+      (λ (s : Script). Are s.calls) teams are)
 
   pub in_scripts : (teams : List Script) (team : ℕ) → All (λ s. Are s.calls) teams → Are (calls_in (by_number teams) team)
   in_scripts teams team are =
@@ -120,7 +120,7 @@ module _ (candidates : ℕ) where
       by :
           (b : Bool)
           → AreRanked
-              (lines_of (cond b (change_after kept change (change_reply kept change)) (book.batches number)))
+          (lines_of (cond b (change_after kept change (change_reply kept change)) (book.batches number)))
       by true = left_by kept change (change_reply kept change) (brought change is) (keeps (batch_of change))
       by false = keeps number
   keeps_call book Freeze is keeps number = keeps number

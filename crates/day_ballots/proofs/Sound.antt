@@ -54,7 +54,7 @@ module _ (days : AcceptsDays) (refusals : RefusesByTheRule) where
   once n input (NoFreeze line) (File fault) (text, day, says, none) refused = said input text day fault says refused
   once n input (False line) (False more) (text, day, says, none) (other, again, also, more_none) =
       none_once day text n (False line) (False more) none
-        (none_here n input text other day again (False more) says also more_none)
+      (none_here n input text other day again (False more) says also more_none)
   once n input (False line) (NoFreeze more) (text, day, says, none) (other, again, also, more_none) =
       none_once day text n (False line) (NoFreeze more) none
       (none_here n input text other day again (NoFreeze more) says also more_none)

@@ -7,7 +7,7 @@ use Rattle.day_ballots.proofs.calls.first_other.Goals.{else-line-at-via-else-lin
 pub returns-in_err-line : goal.returns-in_err-line
 returns-in_err-line c =
     no_difference c.args.text.now c.args.history.now c.args.at c.from_residual.result c.from_residual.ensures
-      c.in_err-line.ensures
+    c.in_err-line.ensures
 
 pub returns-then-line-calls : goal.returns-then-line-calls
 returns-then-line-calls c =

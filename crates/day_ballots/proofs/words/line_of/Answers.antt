@@ -11,7 +11,7 @@ returns-in-Some-clause-taken c =
 pub returns-in-Ok-clause-refused : goal.returns-in-Ok-clause-refused
 returns-in-Ok-clause-refused c _ at says =
     no_line (string_bytes c.args.word.now) c.as_bytes.result.now c.in-Ok.numbers c.items.result.now at
-      c.as_bytes.ensures.value
+    c.as_bytes.ensures.value
     c.items.ensures c.in-Ok.ensures.one c.in-None.ensures.none says
 
 pub returns-clause-refused : goal.returns-clause-refused

@@ -16,7 +16,7 @@ returns g c =
       file_of c.args.roll.now c.in-Ok.roll c.args.frozen c.struck.result.now c.into_plans.result c.in-Ok-begin.export
           text.text
           c.in-Ok.ensures c.struck.ensures.struck c.into_plans.ensures.plans c.in-Ok-begin.ensures.roll
-            c.in-Ok-begin.ensures.ballots text.is,
+          c.in-Ok-begin.ensures.ballots text.is,
       closed w f c.args.sink.now c.write_blt-wrote.new.sink c.close.new.sink text.text
           c.write_blt-wrote.result c.close.result
           (wrote_text w f c.args.sink.now c.write_blt-wrote.new.sink text.text c.write_blt-wrote.result text.writes)
