@@ -5,7 +5,8 @@ use Rattle.std.specs.Prelude.{◌==◌, ◌&&◌, not, codes}
 use Rattle.std.proofs.lemmas.Bool.{and_right, eqb-true, eq-eqb, not-false}
 use Rattle.std.proofs.lemmas.List.{drop_all, length-drop}
 use Rattle.input_text.specs.Token.{Placed}
-use Rattle.ballot_look.specs.Breaks.{goes_on, is_parted, parted_from, parted_lines, place_line, string_lines, strings, tokens_of}
+use Rattle.ballot_look.specs.Breaks.{goes_on, is_parted, parted_from, parted_lines, place_line, string_lines}
+use Rattle.ballot_look.specs.Breaks.{strings, tokens_of}
 use Rattle.ballot_look.specs.Lines.{only_if}
 use Rattle.ballot_look.specs.Places.{line_at}
 use Rattle.ballot_look.specs.Laws.{BreaksAreTold, FurtherAreTold}
@@ -33,7 +34,9 @@ module _ (input : List ℕ) where
   alone token (f ∷ []) a b behind is on = absurd (cc)
   alone token (f ∷ g ∷ front) a b behind is on = absurd (cc)
 
-  parted_none : (token : Placed) (tokens : List Placed) → parted_from input token tokens ≡ [] → AreTogether input (token ∷ tokens)
+  parted_none :
+      (token : Placed) (tokens : List Placed) → parted_from input token tokens ≡ []
+      → AreTogether input (token ∷ tokens)
   parted_none token [] none front a b behind is on = alone token front a b behind is on
   parted_none token (next ∷ tokens) none [] a b behind is on =
       let first : token ≡ a = cc in
@@ -49,7 +52,9 @@ module _ (input : List ℕ) where
       let rest : next ∷ tokens ≡ front ++ a ∷ b ∷ behind = cc in
       parted_none next tokens (back_none _ (parted_from input next tokens) none) front a b behind rest on
 
-  none_parted : (token : Placed) (tokens : List Placed) → AreTogether input (token ∷ tokens) → parted_from input token tokens ≡ []
+  none_parted :
+      (token : Placed) (tokens : List Placed) → AreTogether input (token ∷ tokens)
+      → parted_from input token tokens ≡ []
   none_parted token [] together = refl
   none_parted token (next ∷ tokens) together =
       ap (λ (l : List ℕ). l ++ parted_from input next tokens)

@@ -15,5 +15,6 @@ returns c =
     ∙ (ap (drop {A = Placed} 1)
     (c.pass_strings.ensures.rest ∙ ap (λ (r : Reader). drop n (strings r.rest.tokens)) c.new-tokens.ensures)
     ∙ drop-drop 1 n (strings (tokens_of input))) in
-    subst (λ (l : List Placed). OnOk c.push_strings.result (c.push_strings.new.text ≡ c.args.text.now ++ string_lines input l))
+    subst (λ (l : List Placed). OnOk c.push_strings.result
+    (c.push_strings.new.text ≡ c.args.text.now ++ string_lines input l))
     behind c.push_strings.ensures
