@@ -6,6 +6,12 @@ use Rattle.std.proofs.Common.{ap, sym, ◌∙◌, subst}
 use Rattle.std.proofs.Common.{inl, inr, arith}
 use Rattle.std.specs.List.{between, filter_map, enumerate_from, cons_option, range_with_len}
 use Rattle.std.specs.Option.{option_to_list}
+use Rattle.std.proofs.Common.{◌&&◌, ◌↔◌, not}
+use Rattle.std.specs.Bool.{IsTrue}
+use Rattle.std.proofs.Math.Seq.{get_or-append_seam}
+use Rattle.std.proofs.lemmas.List.{get_or_append_left, length-append}
+use Rattle.std.proofs.lemmas.List.Elements.{All-push}
+use Rattle.std.proofs.lemmas.Bool.{and_from, and_parts, false≢true}
 use Rattle.std.proofs.lemmas.Bool.{cases_eq, eq-eqb, eqb-true, ne_eqb}
 use Rattle.std.proofs.lemmas.Bool.Decides.{leb_tells}
 use Rattle.std.proofs.lemmas.List.{append-nil, drop_more, get_or_default, get_or_past, get_or-set_same}
@@ -269,3 +275,23 @@ module _ (numbers placed : List ℕ) (last : ℕ) (is : ArePlaced numbers placed
           let equal : 1 + i ≡ 1 + j = cc both in
           omega (arith, equal, before);
     }
+
+-- ---- ranks that somebody has
+
+abbrev pub IsHeld : ℕ → Type 0
+IsHeld c = c ≢ 0
+
+-- with one rank more
+pub held_more : (held : Bool) (ranks : List ℕ) (c : ℕ) → (IsTrue held ↔ All IsHeld ranks)
+    → IsTrue (held && not (c == 0)) ↔ All IsHeld (ranks ++ c ∷ [])
+held_more held ranks c is = (
+  λ both.
+      let parts = and_parts held (not (c == 0)) both in
+      All-push IsHeld ranks c (is.0 parts.0) (λ zeroth. false≢true (ap not (sym (eq-eqb c 0 zeroth)) ∙ parts.1)),
+  λ all.
+      let long = length-append ranks (c ∷ []) in
+      let front : All IsHeld ranks =
+      λ k d inside. subst IsHeld (get_or_append_left ranks (c ∷ []) d k inside) (all k d (omega (arith, inside, long))) in
+      let last = subst IsHeld (get_or-append_seam ranks c [] 0) (all (length ranks) 0 (omega (arith, long))) in
+      and_from held (not (c == 0)) (is.1 front) (ap not (ne_eqb c 0 last)),
+)

@@ -91,9 +91,13 @@ fn put(placed: &mut [u32; RANKS], rank: usize, candidate: u32) -> bool
     before == 0
 }
 
-/// Whether somebody has each of some ranks.
+/// Whether somebody has each of some ranks. All are looked at, several at once.
 fn are_held(ranks: &[u32]) -> bool
     ensures { IsTrue result ↔ All (λ c. c ≢ 0) ranks.now }
 {
-    ranks.iter().all(|c| *c != 0)
+    let mut are_held = true;
+    for c in ranks {
+        are_held &= *c != 0;
+    }
+    are_held
 }
