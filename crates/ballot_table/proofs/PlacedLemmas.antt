@@ -276,22 +276,26 @@ module _ (numbers placed : List ℕ) (last : ℕ) (is : ArePlaced numbers placed
           omega (arith, equal, before);
     }
 
--- ---- ranks that somebody has
+-- ---- each of some
+
+-- with one more, which is such a one where a test says so
+module _ {X : Type 0} (P : X → Type 0) (xs : List X) (x : X) (d : X) where
+  pub each_more : (are is : Bool) → (IsTrue are ↔ All P xs) → (IsTrue is ↔ P x) → IsTrue (are && is) ↔ All P (xs ++ x ∷ [])
+  each_more are is so_far here = (
+    λ both. let parts = and_parts are is both in All-push P xs x (so_far.0 parts.0) (here.0 parts.1),
+    λ all.
+        let long = length-append xs (x ∷ []) in
+        let front : All P xs =
+        λ k e inside. subst P (get_or_append_left xs (x ∷ []) e k inside) (all k e (omega (arith, inside, long))) in
+        let last = subst P (get_or-append_seam xs x [] d) (all (length xs) d (omega (arith, long))) in
+        and_from are is (so_far.1 front) (here.1 last),
+  )
 
 abbrev pub IsHeld : ℕ → Type 0
 IsHeld c = c ≢ 0
 
--- with one rank more
-pub held_more : (held : Bool) (ranks : List ℕ) (c : ℕ) → (IsTrue held ↔ All IsHeld ranks)
-    → IsTrue (held && not (c == 0)) ↔ All IsHeld (ranks ++ c ∷ [])
-held_more held ranks c is = (
-  λ both.
-      let parts = and_parts held (not (c == 0)) both in
-      All-push IsHeld ranks c (is.0 parts.0) (λ zeroth. false≢true (ap not (sym (eq-eqb c 0 zeroth)) ∙ parts.1)),
-  λ all.
-      let long = length-append ranks (c ∷ []) in
-      let front : All IsHeld ranks =
-      λ k d inside. subst IsHeld (get_or_append_left ranks (c ∷ []) d k inside) (all k d (omega (arith, inside, long))) in
-      let last = subst IsHeld (get_or-append_seam ranks c [] 0) (all (length ranks) 0 (omega (arith, long))) in
-      and_from held (not (c == 0)) (is.1 front) (ap not (ne_eqb c 0 last)),
+pub some_held : (c : ℕ) → IsTrue (not (c == 0)) ↔ IsHeld c
+some_held c = (
+  λ some zeroth. false≢true (ap not (sym (eq-eqb c 0 zeroth)) ∙ some),
+  λ other. ap not (ne_eqb c 0 other),
 )

@@ -44,11 +44,15 @@ pub(crate) fn plain_ranking(
     Ok(Some(ranking))
 }
 
-/// Whether each column is a candidate's.
+/// Whether each column is a candidate's. All are looked at, several at once.
 fn are_candidates(columns: &[Column]) -> bool
     ensures { IsTrue result ↔ All (λ column. candidates_at column ≡ 1) columns.now }
 {
-    columns.iter().all(|column| is_candidate(*column))
+    let mut are_candidates = true;
+    for column in columns {
+        are_candidates &= is_candidate(*column);
+    }
+    are_candidates
 }
 
 fn is_candidate(column: Column) -> bool
