@@ -6,6 +6,12 @@ use Rattle.std.proofs.Common.{ap, sym, ◌∙◌, subst}
 use Rattle.std.proofs.Common.{inl, inr, arith}
 use Rattle.std.specs.List.{between, filter_map, enumerate_from, cons_option, range_with_len}
 use Rattle.std.specs.Option.{option_to_list}
+use Rattle.std.proofs.Common.{◌&&◌, ◌↔◌, not}
+use Rattle.std.specs.Bool.{IsTrue}
+use Rattle.std.proofs.Math.Seq.{get_or-append_seam}
+use Rattle.std.proofs.lemmas.List.{get_or_append_left, length-append}
+use Rattle.std.proofs.lemmas.List.Elements.{All-push}
+use Rattle.std.proofs.lemmas.Bool.{and_from, and_parts, false≢true}
 use Rattle.std.proofs.lemmas.Bool.{cases_eq, eq-eqb, eqb-true, ne_eqb}
 use Rattle.std.proofs.lemmas.Bool.Decides.{leb_tells}
 use Rattle.std.proofs.lemmas.List.{append-nil, drop_more, get_or_default, get_or_past, get_or-set_same}
@@ -269,3 +275,27 @@ module _ (numbers placed : List ℕ) (last : ℕ) (is : ArePlaced numbers placed
           let equal : 1 + i ≡ 1 + j = cc both in
           omega (arith, equal, before);
     }
+
+-- ---- each of some
+
+-- with one more, which is such a one where a test says so
+module _ {X : Type 0} (P : X → Type 0) (xs : List X) (x : X) (d : X) where
+  pub each_more : (are is : Bool) → (IsTrue are ↔ All P xs) → (IsTrue is ↔ P x) → IsTrue (are && is) ↔ All P (xs ++ x ∷ [])
+  each_more are is so_far here = (
+    λ both. let parts = and_parts are is both in All-push P xs x (so_far.0 parts.0) (here.0 parts.1),
+    λ all.
+        let long = length-append xs (x ∷ []) in
+        let front : All P xs =
+        λ k e inside. subst P (get_or_append_left xs (x ∷ []) e k inside) (all k e (omega (arith, inside, long))) in
+        let last = subst P (get_or-append_seam xs x [] d) (all (length xs) d (omega (arith, long))) in
+        and_from are is (so_far.1 front) (here.1 last),
+  )
+
+abbrev pub IsHeld : ℕ → Type 0
+IsHeld c = c ≢ 0
+
+pub some_held : (c : ℕ) → IsTrue (not (c == 0)) ↔ IsHeld c
+some_held c = (
+  λ some zeroth. false≢true (ap not (sym (eq-eqb c 0 zeroth)) ∙ some),
+  λ other. ap not (ne_eqb c 0 other),
+)

@@ -15,6 +15,7 @@ use Rattle.ballot_marks.specs.Ballot.{effective, end_way, is_closed, is_cut, is_
 use Rattle.ballot_marks.specs.Ballot.{ranks_of as ranks_ranked}
 use Rattle.ballot_marks.specs.Laws.{IsPlain, PlainMarksAreRanked, TreatmentsOnlyMend, strict}
 use Rattle.ballot_marks.specs.Marks.{plain_mark}
+use Rattle.table_text.specs.declared.cell.Cell.{Cell as Place}
 use Rattle.table_text.specs.Short.{short_number}
 use Rattle.ballot_table.specs.declared.column.Column.{Column}
 use Rattle.ballot_table.specs.declared.column.Column.TheVariants as column
@@ -26,7 +27,7 @@ use Rattle.ballot_table.specs.Cells.{Cell, Ranked, as_cell, cell_of, fault_one, 
 use Rattle.ballot_table.specs.Faults.{sound}
 use Rattle.ballot_table.specs.Finding.{among, candidates_at, candidates_in}
 use Rattle.ballot_table.specs.JudgedRows.{HasNoFault, IsJudgedRow, row_there}
-use Rattle.ballot_table.specs.PlainRows.{HasPlainRanks, IsPlaced, IsPlainRow, rank_or_none}
+use Rattle.ballot_table.specs.PlainRows.{AreNumbered, HasPlainRanks, IsPlaced, IsPlainRow, numbers_of, rank_or_none}
 use Rattle.ballot_table.specs.Rows.{by_rank, cells_of, marks_of, ranks_of, said_at, said_in, said_up_to}
 use Rattle.ballot_table.specs.Rows.{weight_at, weight_in}
 use Rattle.ballot_table.proofs.FaultLemmas.{not_refused}
@@ -94,22 +95,25 @@ module _ (asked : Asked) (plain : HasPlainRanks asked) (room : ℕ) where
 -- ---- a row
 
 module _ (asked : Asked) (plain : HasPlainRanks asked) (columns : List Column) (texts : List (List ℕ))
-    (placed : List ℕ) (last : ℕ)
-    (is : IsPlaced columns texts placed last) (long : length texts ≡ length columns)
+    (fields : List Place) (placed : List ℕ) (last : ℕ) (are : All IsCandidates columns)
+    (numbered : AreNumbered fields texts) (is : IsPlaced fields placed last) (long : length texts ≡ length columns)
     (some : All (λ c. c ≢ 0) (between 1 (last + 1) placed))
   where
     abbrev ranking : List ℕ
     ranking = between 1 (last + 1) placed
 
-    come : (room : ℕ) → ComeTo asked plain room columns texts is.numbers
-    come room = come_to asked plain room columns texts is.numbers long is.columns_are is.texts_are
+    abbrev numbers : List ℕ
+    numbers = numbers_of fields
 
-    says : said_up_to MOST_CANDIDATES (map rank_or_none is.numbers) ≡ plainly ranking (MOST_CANDIDATES - last)
+    come : (room : ℕ) → ComeTo asked plain room columns texts numbers
+    come room = come_to asked plain room columns texts numbers long are (numbered.numbers is.short)
+
+    says : said_up_to MOST_CANDIDATES (map rank_or_none numbers) ≡ plainly ranking (MOST_CANDIDATES - last)
     says =
         let inside = is.are_placed.inside in
         let same : last + 1 - 1 ≡ last = omega arith in
         let nonzero = subst (λ (k : ℕ). All (λ c. c ≢ 0) (take k (drop 1 placed))) same some in
-        placed_say is.numbers placed last is.are_placed (MOST_CANDIDATES - last) (omega (arith, inside)) nonzero
+        placed_say numbers placed last is.are_placed (MOST_CANDIDATES - last) (omega (arith, inside)) nonzero
         ∙ ap (λ (k : ℕ). plainly (take k (drop 1 placed)) (MOST_CANDIDATES - last)) (sym same)
 
     pub is_plain_row : IsPlainRow asked columns texts ranking
@@ -126,7 +130,7 @@ module _ (asked : Asked) (plain : HasPlainRanks asked) (columns : List Column) (
           subst (λ (n : ℕ). IsRanking n ranking)
           (sym (ap (λ (l : Layout). among l (length asked.candidates) (sum_by candidates_at columns)) plain.layout_is
           ∙ (come 0).counted))
-          (placed_rank is.numbers placed last is.are_placed some);
+          (placed_rank numbers placed last is.are_placed some);
     }
 
 -- ---- what a plain row comes to

@@ -1,10 +1,14 @@
 -- Short numbers in fields, and the ranks that they are.
 use Rattle.std.proofs.Common.{◌≡◌, ℕ, ◌+◌, ◌-◌, ◌*◌, ◌<◌, ◌≤◌, ◌==◌, ◌&&◌, ◌||◌, Bool, true, false, cond, leb}
-use Rattle.std.proofs.Common.{nat_lt, List, [], ◌∷◌}
+use Rattle.std.proofs.Common.{nat_lt, List, [], ◌∷◌, All, map, suc}
 use Rattle.std.proofs.Common.{length, take, drop, Option, Some, None, Result, Ok, refl, ap, sym, ◌∙◌, arith}
 use Rattle.std.proofs.lemmas.Bool.{ne_eqb, le-leb, lt-ltb, leb-true, and_from, and_parts}
+use Rattle.std.proofs.lemmas.List.Elements.{All-head, All-tail}
 use Rattle.std.specs.List.{prefix_len, suffix_len}
+use Rattle.std.specs.Prelude.{slice_range}
 use Rattle.plain_ballots.specs.declared.limits.TheConstants.{MOST_CANDIDATES}
+use Rattle.table_text.specs.declared.cell.Cell.{Cell}
+use Rattle.table_text.specs.Reader.{IsCellOf}
 use Rattle.table_text.specs.Reading.{field_text, unquoted}
 use Rattle.table_text.specs.Short.{IsDigit, is_first, number_or_none, short_number}
 use Rattle.table_text.specs.declared.short.TheConstants.{NO_NUMBER}
@@ -12,7 +16,9 @@ use Rattle.ballot_table.specs.declared.table_kind.TableKind.{TableKind}
 use Rattle.ballot_table.specs.declared.table_kind.TableKind.TheVariants.{BadRank}
 use Rattle.ballot_table.specs.Asked.{Asked}
 use Rattle.ballot_table.specs.Cells.{in_range, rank_in, rank_number, some_or}
-use Rattle.ballot_table.specs.PlainRows.{HasPlainRanks, rank_or_none}
+use Rattle.ballot_table.specs.PlainRows.{AreNumbered, HasPlainRanks, rank_or_none}
+use Rattle.ballot_table.specs.Rows.{is_empty}
+use Rattle.ballot_table.specs.Sheets.{texts_at}
 use Rattle.ballot_table.specs.Texts.{are_digits, is_digit, is_edge, is_in, trimmed, value}
 
 -- ---- digits
@@ -102,6 +108,51 @@ number_is bytes n is few =
     by_option : (o : Option ℕ) → n ≡ number_or_none o → o ≡ Some n
     by_option None same = absurd (omega (arith, same, few))
     by_option (Some k) same = ap Some (sym same)
+
+-- a short number is 0 where its text is empty
+module _ (n : ℕ) where
+  zero_by : (digits : List ℕ) (t : Bool) (value : ℕ) → 1 ≤ value → cond t (Some value) None ≡ Some n → (n == 0) ≡ false
+  zero_by digits false value some is = absurd (cc is)
+  zero_by digits true value some is = let same : value ≡ n = cc is in ne_eqb n 0 (λ e. omega (arith, e, same, some))
+
+  one_some : (a : ℕ) (t : Bool) → is_first a ≡ t → cond t (Some (a - 48)) None ≡ Some n → (n == 0) ≡ false
+  one_some a false first is = absurd (cc is)
+  one_some a true first is =
+      let least = (first_is a first).least in
+      zero_by (a ∷ []) true (a - 48) (omega (arith, least)) is
+
+  two_some : (a b : ℕ) (t : Bool) → (is_first a && is_digit b) ≡ t → cond t (Some ((a - 48) * 10 + (b - 48))) None ≡ Some n
+      → (n == 0) ≡ false
+  two_some a b false both is = absurd (cc is)
+  two_some a b true both is =
+      let least = (first_is a (and_parts (is_first a) (is_digit b) both).0).least in
+      zero_by (a ∷ b ∷ []) true ((a - 48) * 10 + (b - 48)) (omega (arith, least)) is
+
+  pub zero_is_empty : (text : List ℕ) → short_number text ≡ Some n → (n == 0) ≡ is_empty text
+  zero_is_empty [] is = let zero : 0 ≡ n = cc is in sym (ap (λ (k : ℕ). k == 0) zero)
+  zero_is_empty (a ∷ []) is = one_some a (is_first a) refl is
+  zero_is_empty (a ∷ b ∷ []) is = two_some a b (is_first a && is_digit b) refl is
+  zero_is_empty (a ∷ b ∷ c ∷ text) is = absurd (cc is)
+
+-- cells have the numbers of their texts
+pub are_numbered :
+    (bytes : List ℕ) (cells : List Cell) → All (IsCellOf bytes) cells
+    → AreNumbered cells (texts_at bytes cells)
+are_numbered bytes [] all = record { as_many = refl; numbers = λ short. refl }
+are_numbered bytes (cell ∷ cells) all =
+    let rest = are_numbered bytes cells (All-tail (IsCellOf bytes) cell cells all) in
+    let more = rest.as_many in
+    record {
+      as_many = ap suc more;
+      numbers = λ short.
+          let here =
+          number_is (slice_range bytes cell.at cell.stop) cell.number
+          (All-head (IsCellOf bytes) cell cells all).number
+          (All-head (λ c. c.number < NO_NUMBER) cell cells short) in
+          ap (λ (o : Option ℕ). o ∷ map short_number (texts_at bytes cells)) here
+          ∙ ap (λ (l : List (Option ℕ)). Some cell.number ∷ l)
+          (rest.numbers (All-tail (λ c. c.number < NO_NUMBER) cell cells short));
+    }
 
 -- ---- the rank of a short number
 

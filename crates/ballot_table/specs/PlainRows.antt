@@ -3,13 +3,14 @@ use Rattle.std.specs.Prelude.{◌≡◌, ◌<◌, ◌≤◌, ◌==◌, if◌then
 use Rattle.std.specs.List.{slice_index_or}
 use Rattle.plain_ballots.specs.Ranking.{IsRanking}
 use Rattle.ballot_marks.specs.Marks.{plain_mark}
+use Rattle.table_text.specs.declared.cell.Cell.{Cell}
 use Rattle.table_text.specs.Short.{short_number}
 use Rattle.table_text.specs.declared.short.TheConstants.{NO_NUMBER}
 use Rattle.ballot_table.specs.declared.column.Column.{Column}
 use Rattle.ballot_table.specs.declared.layout.Layout.TheVariants as layout
 use Rattle.ballot_table.specs.Asked.{Asked}
 use Rattle.ballot_table.specs.Faults.{first_fault}
-use Rattle.ballot_table.specs.Finding.{candidates_at, candidates_in}
+use Rattle.ballot_table.specs.Finding.{candidates_in}
 use Rattle.ballot_table.specs.Rows.{ballots_in, cells_of, holders, marks_of, said_in, weight_at}
 
 -- Ranks are numbers in a column for each candidate, and no text but the empty one is blank.
@@ -34,12 +35,18 @@ pub record ArePlaced (numbers placed : List ℕ) (last : ℕ) : Type 0 where
   pub behind : (rank : ℕ) → last < rank → slice_index_or placed rank 0 ≡ 0
   pub inside : last < NO_NUMBER
 
--- Each of the columns is a candidate's, and the texts are the short numbers of candidates who are placed so.
-pub record IsPlaced (columns : List Column) (texts : List (List ℕ)) (placed : List ℕ) (last : ℕ) : Type 0 where
-  pub numbers : List ℕ
-  pub columns_are : All (λ column. candidates_at column ≡ 1) columns
-  pub texts_are : map short_number texts ≡ map Some numbers
-  pub are_placed : ArePlaced numbers placed last
+abbrev pub numbers_of : List Cell → List ℕ
+numbers_of cells = map (λ cell. cell.number) cells
+
+-- Each of the cells has a short number, and the candidates with these numbers are placed so.
+pub record IsPlaced (cells : List Cell) (placed : List ℕ) (last : ℕ) : Type 0 where
+  pub short : All (λ cell. cell.number < NO_NUMBER) cells
+  pub are_placed : ArePlaced (numbers_of cells) placed last
+
+-- Where each of the cells has a short number, their texts are these.
+pub record AreNumbered (cells : List Cell) (texts : List (List ℕ)) : Type 0 where
+  pub as_many : length texts ≡ length cells
+  pub numbers : All (λ cell. cell.number < NO_NUMBER) cells → map short_number texts ≡ map Some (numbers_of cells)
 
 -- A row of one ballot without a fault, whose marks say this ranking plainly.
 pub record IsPlainRow (asked : Asked) (columns : List Column) (texts : List (List ℕ)) (ranking : List ℕ) : Type 0 where

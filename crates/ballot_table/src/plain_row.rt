@@ -13,7 +13,7 @@ use crate::sheet::Sheet;
 use crate::{Column, TableAsked};
 use plain_ballots::{MOST_CANDIDATES, NoMemory, Ranking};
 use std::alloc::Global;
-use table_text::NO_NUMBER;
+use table_text::{Cell, NO_NUMBER};
 
 /// No short number is as great, and no rank of a plain row.
 const RANKS: usize = NO_NUMBER as usize;
@@ -29,11 +29,11 @@ pub(crate) fn plain_ranking(
     requires texts { length sheet.now.texts ≡ length columns.now }
     ensures { IfOk result (λ found. IfSome found (IsPlainRow (asked_of asked.now) columns.now sheet.now.texts)) }
 {
-    if !asked.has_plain_ranks() {
+    if !asked.has_plain_ranks() || !are_candidates(columns) {
         return Ok(None);
     }
     let mut placed = [0u32; RANKS];
-    let Some(last) = place_each(columns, sheet, &mut placed) else {
+    let Some(last) = place_each(sheet.cells(), &mut placed) else {
         return Ok(None);
     };
     let ranks = &placed[1..last + 1];
@@ -44,22 +44,38 @@ pub(crate) fn plain_ranking(
     Ok(Some(ranking))
 }
 
-/// Puts the candidate of each column at its rank, and gives the last rank that one has.
-fn place_each(columns: &[Column], sheet: &Sheet<'_>, placed: &mut [u32; RANKS]) -> Option<usize>
-    requires texts { length sheet.now.texts ≡ length columns.now }
-    requires free { All (λ c. c ≡ 0) placed.old }
-    ensures { IfSome result (IsPlaced columns.now sheet.now.texts placed.new) }
+/// Whether each column is a candidate's. All are looked at, several at once.
+fn are_candidates(columns: &[Column]) -> bool
+    ensures { IsTrue result ↔ All (λ column. candidates_at column ≡ 1) columns.now }
 {
-    if columns.len() > MOST_CANDIDATES as usize {
+    let mut are_candidates = true;
+    for column in columns {
+        are_candidates &= is_candidate(*column);
+    }
+    are_candidates
+}
+
+fn is_candidate(column: Column) -> bool
+    ensures { IsTrue result ↔ (candidates_at column ≡ 1) }
+{
+    match column {
+        Column::Candidate(_) => true,
+        Column::Weight | Column::PassedOver | Column::Rank(_) | Column::List => false,
+    }
+}
+
+/// Puts the candidate of each cell at its rank, and gives the last rank that one has.
+fn place_each(cells: &[Cell], placed: &mut [u32; RANKS]) -> Option<usize>
+    requires { All (λ c. c ≡ 0) placed.old }
+    ensures { IfSome result (IsPlaced cells.now placed.new) }
+{
+    if cells.len() > MOST_CANDIDATES as usize {
         return None;
     }
     let mut last = 0;
-    for (at, column) in columns.iter().enumerate() {
-        let Column::Candidate(_) = *column else {
-            return None;
-        };
-        let rank = sheet.number(at)? as usize;
-        if !put(placed, rank, at as u32 + 1) {
+    for (at, cell) in cells.iter().enumerate() {
+        let rank = cell.number as usize;
+        if rank >= RANKS || !put(placed, rank, at as u32 + 1) {
             return None;
         }
         last = greater(last, rank);
@@ -79,9 +95,13 @@ fn put(placed: &mut [u32; RANKS], rank: usize, candidate: u32) -> bool
     before == 0
 }
 
-/// Whether somebody has each of some ranks.
+/// Whether somebody has each of some ranks. All are looked at, several at once.
 fn are_held(ranks: &[u32]) -> bool
     ensures { IsTrue result ↔ All (λ c. c ≢ 0) ranks.now }
 {
-    ranks.iter().all(|c| *c != 0)
+    let mut are_held = true;
+    for c in ranks {
+        are_held &= *c != 0;
+    }
+    are_held
 }

@@ -7,6 +7,7 @@ ghost use Rattle.table_text.specs.Short.{short_number};
 ghost use Rattle.table_text.specs.declared.short.TheConstants.{NO_NUMBER};
 ghost use Rattle.table_text.specs.declared.text_fault.TheConstants.{MAX_COUNT};
 ghost use Rattle.ballot_table.specs.Imported.{byte_at, stop_at, is_of_words};
+ghost use Rattle.ballot_table.specs.PlainRows.{AreNumbered};
 ghost use Rattle.ballot_table.specs.Rows.{all_blank, is_empty};
 ghost use Rattle.ballot_table.specs.Sheets.{row_at, text_of, Turns};
 ghost use Rattle.ballot_table.specs.Texts.{trimmed};
@@ -97,7 +98,7 @@ impl<'a> Sheet<'a> {
 
     /// The short number that the field at a place is, if it is written as one.
     #[inline(always)]
-    pub fn number(&self, at: usize) -> Option<u32>
+    fn number(&self, at: usize) -> Option<u32>
         requires { at < length self.now.texts }
         ensures number { IfSome result (λ number. short_number (slice_index_or self.now.texts at []) ≡ Some number) }
         ensures short { IfSome result (λ number. number < NO_NUMBER) }
@@ -110,13 +111,35 @@ impl<'a> Sheet<'a> {
         }
     }
 
+    /// Where the fields stand, and the short numbers that they are.
+    #[inline]
+    pub fn cells(&self) -> &[Cell]
+        ensures { AreNumbered result.now self.now.texts }
+    {
+        self.cells.items()
+    }
+
+    /// Whether the field at a place is blank.
+    #[inline]
+    fn is_blank_at(&self, alloc: Global, at: usize) -> Result<bool, NoMemory>
+        requires { at < length self.now.texts }
+        ensures { IfOk result (λ blank. blank ≡ is_empty (slice_index_or self.now.texts at [])) }
+    {
+        match self.number(at) {
+            Some(number) => Ok(number == 0),
+            None => {
+                let field = self.field(alloc, at)?;
+                Ok(is_empty(field.text()))
+            }
+        }
+    }
+
     /// Whether all fields are blank.
     pub fn is_blank(&self, alloc: Global) -> Result<bool, NoMemory>
         ensures { IfOk result (λ blank. blank ≡ all_blank self.now.texts) }
     {
         for at in 0..self.len() {
-            let field = self.field(alloc, at)?;
-            if !is_empty(field.text()) {
+            if !self.is_blank_at(alloc, at)? {
                 return Ok(false);
             }
         }

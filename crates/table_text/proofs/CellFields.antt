@@ -9,15 +9,9 @@ use Rattle.table_text.specs.declared.field.Flaw.{Flaw}
 use Rattle.table_text.specs.declared.mark.Mark.{Mark}
 use Rattle.table_text.specs.Reading.{Field, AtFault, ends, Front, Plain, by_mark, Stand, next_count}
 use Rattle.table_text.specs.Reading.{left, moved, read}
-use Rattle.table_text.specs.Reader.{in_field, field_at, fields_at, GoesOver, HasFlaw, EndsAt, IsFieldAt}
+use Rattle.table_text.specs.Reader.{IsBegun, in_field, field_at, fields_at, GoesOver, HasFlaw, EndsAt, IsFieldAt}
 use Rattle.table_text.proofs.Marks.{parts_at}
 use Rattle.table_text.proofs.Over.{read_more}
-
--- The record that begins at a place has these fields, and the next one begins at the other place.
-abbrev pub IsBegun : (separator : ℕ) → List ℕ → (row start : ℕ) → List Cell → (at : ℕ) → Type 0
-IsBegun s bytes row start cells at =
-    left s bytes row start
-    ≡ read s (in_field row start (fields_at bytes cells) at [] Front) at (drop at bytes)
 
 module _ (s : ℕ) (bytes : List ℕ) (row start : ℕ) (cells : List Cell) (cell : Cell) (at : ℕ) (is : IsFieldAt s bytes at cell)
     (begun_there : IsBegun s bytes row start cells at) where

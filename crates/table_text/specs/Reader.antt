@@ -89,6 +89,17 @@ pub record EndsAt (separator : ℕ) (bytes : List ℕ) (row start : ℕ) (cells 
   pub end_is : stand.from + length stand.bytes ≡ end
   pub same : left separator bytes row start ≡ read separator stand end (drop end bytes)
 
+-- The record that begins at a place has these fields, and the next one of them begins at the other place.
+abbrev pub IsBegun : (separator : ℕ) → List ℕ → (row start : ℕ) → List Cell → (at : ℕ) → Type 0
+IsBegun separator bytes row start cells at =
+    left separator bytes row start
+    ≡ read separator (in_field row start (fields_at bytes cells) at [] Front) at (drop at bytes)
+
+-- Whichever record it is, its next fields are in these cells too, from the one place up to the other.
+abbrev pub GoesOn : (separator : ℕ) → List ℕ → (old new : List Cell) → (at next : ℕ) → Type 0
+GoesOn separator bytes old new at next =
+    (row start : ℕ) → IsBegun separator bytes row start old at → IsBegun separator bytes row start new next
+
 -- The text ends there, or a line does.
 abbrev pub ends_line : Mark → Bool
 ends_line marks.Feeds = true

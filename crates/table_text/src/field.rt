@@ -4,7 +4,7 @@ ghost use Rattle.table_text.specs.Reading.{Front, Plain};
 ghost use Rattle.table_text.specs.Reader.{IsParted, IsFieldAt, GoesOver, HasFlaw};
 
 use crate::mark::{Mark, QUOTE, is_text, mark_at};
-use crate::short::{number_of, short_cell};
+use crate::short::number_of;
 use crate::{Cell, TextKind};
 
 /// What is wrong with a field, and at which byte.
@@ -14,21 +14,8 @@ pub(crate) struct Flaw {
     pub at: usize,
 }
 
-/// The field that begins at a place.
-#[inline(always)]
-pub(crate) fn cell_at(bytes: &[u8], separator: u8, at: usize) -> Result<Cell, Flaw>
-    requires { at ≤ length bytes.now }
-    ensures field { IfOk result (IsFieldAt separator bytes.now at) }
-    ensures flaw { IfErr result (HasFlaw separator bytes.now Front at) }
-{
-    match short_cell(bytes, separator, at) {
-        Some(cell) => Ok(cell),
-        None => any_cell(bytes, separator, at),
-    }
-}
-
-// The same, whatever the field is.
-fn any_cell(bytes: &[u8], separator: u8, at: usize) -> Result<Cell, Flaw>
+/// The field that begins at a place, whatever it is.
+pub(crate) fn any_cell(bytes: &[u8], separator: u8, at: usize) -> Result<Cell, Flaw>
     requires { at ≤ length bytes.now }
     ensures field { IfOk result (IsFieldAt separator bytes.now at) }
     ensures flaw { IfErr result (HasFlaw separator bytes.now Front at) }

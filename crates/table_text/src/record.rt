@@ -1,10 +1,11 @@
 // One record.
 ghost use Rattle.std.specs.Prelude.{◌≡◌, ◌≤◌, length, All, IfOk, IfErr};
 ghost use Rattle.table_text.specs.Reading.{next_count};
-ghost use Rattle.table_text.specs.Reader.{IsCellOf, EndsAt, IsEnded, IsBroken};
+ghost use Rattle.table_text.specs.Reader.{IsCellOf, GoesOn, EndsAt, IsEnded, IsBroken};
 
-use crate::field::{Flaw, cell_at};
-use crate::{Cells, MAX_COUNT, TextFault, TextStop};
+use crate::field::{Flaw, any_cell};
+use crate::short::short_cell;
+use crate::{Cells, MAX_COUNT, NoMemory, TextFault, TextStop};
 
 /// The place behind the record that begins at a place. The places of its fields are then in `cells`.
 pub(crate) fn record_end(
@@ -25,7 +26,8 @@ pub(crate) fn record_end(
     cells.clear();
     let mut at = start;
     loop {
-        let cell = match cell_at(bytes, separator, at) {
+        at = short_cells(bytes, separator, at, cells)?;
+        let cell = match any_cell(bytes, separator, at) {
             Ok(cell) => cell,
             Err(flaw) => return Err(TextStop::Fault(fault(flaw, row, cells.len()))),
         };
@@ -35,6 +37,29 @@ pub(crate) fn record_end(
         }
         at = cell.stop + 1;
     }
+}
+
+/// Puts the places of the next fields behind the others, as long as they are short numbers with a separator behind them, and
+/// gives the place of the field behind them.
+fn short_cells(
+    bytes: &[u8],
+    separator: u8,
+    start: usize,
+    cells: &mut Cells,
+) -> Result<usize, NoMemory>
+    requires inside { start ≤ length bytes.now }
+    requires cells { All (IsCellOf bytes.now) cells.old }
+    ensures after { IfOk result (λ next. start ≤ next) }
+    ensures inside { IfOk result (λ next. next ≤ length bytes.now) }
+    ensures cells { All (IsCellOf bytes.now) cells.new }
+    ensures on { IfOk result (GoesOn separator bytes.now cells.old cells.new start) }
+{
+    let mut at = start;
+    while let Some(cell) = short_cell(bytes, separator, at) {
+        cells.push(cell)?;
+        at = cell.stop + 1;
+    }
+    Ok(at)
 }
 
 // The fault of a field behind so many others of its record.

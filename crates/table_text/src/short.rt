@@ -1,5 +1,5 @@
 // Fields that are short numbers.
-ghost use Rattle.std.specs.Prelude.{◌≡◌, ◌≤◌, ◌↔◌, length, IfSome, IsTrue};
+ghost use Rattle.std.specs.Prelude.{◌≡◌, ◌<◌, ◌≤◌, ◌↔◌, length, slice_index, IfSome, IsTrue};
 ghost use Rattle.table_text.specs.Short.{AreDigits, IsDigit, is_first, number_or_none, short_number};
 ghost use Rattle.table_text.specs.Reader.{IsFieldAt};
 
@@ -26,7 +26,9 @@ pub(crate) fn number_of(bytes: &[u8]) -> u32
 #[inline(always)]
 pub(crate) fn short_cell(bytes: &[u8], separator: u8, at: usize) -> Option<Cell>
     requires { at ≤ length bytes.now }
-    ensures { IfSome result (IsFieldAt separator bytes.now at) }
+    ensures field { IfSome result (IsFieldAt separator bytes.now at) }
+    ensures inside { IfSome result (λ cell. cell.stop < length bytes.now) }
+    ensures parts { IfSome result (λ cell. slice_index bytes.now cell.stop ≡ separator) }
 {
     if bytes.len() - at <= 2 || !stands_apart(separator) || bytes[at] == b'0' {
         return None;
@@ -45,13 +47,13 @@ pub(crate) fn short_cell(bytes: &[u8], separator: u8, at: usize) -> Option<Cell>
 fn front(a: u8, b: u8) -> (usize, u32)
     ensures { AreDigits a b result }
 {
-    let first = u32::from(is_digit(a));
-    let second = first * u32::from(is_digit(b));
-    let tens = u32::from(a.saturating_sub(b'0'));
-    let ones = u32::from(b.saturating_sub(b'0'));
+    let tens = a.wrapping_sub(b'0');
+    let ones = b.wrapping_sub(b'0');
+    let first = u32::from(tens <= 9);
+    let second = first * u32::from(ones <= 9);
     (
         (first + second) as usize,
-        tens * first + (tens * 9 + ones) * second,
+        u32::from(tens) * first + (u32::from(tens) * 9 + u32::from(ones)) * second,
     )
 }
 

@@ -4,4 +4,4 @@ use Rattle.ballot_table.proofs.plain_row.place_each.Given as goal
 
 -- the candidates so far are placed
 abbrev pub invariant-loop-at : goal.invariant-loop-at
-invariant-loop-at l = IsPlaced (take l.at l.columns) (take l.at l.sheet.texts) l.placed l.last
+invariant-loop-at l = IsPlaced (take l.at l.cells) l.placed l.last

@@ -7,19 +7,20 @@ use Rattle.ballot_table.proofs.plain_row.plain_ranking.Goals as goal
 pub new-requires : goal.new-requires
 new-requires c =
     let plain = c.if-not-has_plain_ranks.ensures.0 refl in
+    let are = c.if-not-are_candidates.ensures.0 refl in
     let some = c.if-not-are_held.ensures.0 refl in
     let is =
-    is_plain_row (asked_of c.args.asked.now) plain c.args.columns.now c.args.sheet.now.texts
-    c.place_each.new.placed c.in-Some.last
-    c.in-Some.ensures c.requires.texts some in
+    is_plain_row (asked_of c.args.asked.now) plain c.args.columns.now c.args.sheet.now.texts c.cells.result.now
+    c.place_each.new.placed c.in-Some.last are c.cells.ensures c.in-Some.ensures c.requires.texts some in
     record { positive = λ k d inside. (is.sound.numbers k d inside).0; different = is.sound.different }
 
 pub returns : goal.returns
 returns c =
     let plain = c.if-not-has_plain_ranks.ensures.0 refl in
+    let are = c.if-not-are_candidates.ensures.0 refl in
     let some = c.if-not-are_held.ensures.0 refl in
-    subst (λ (ranking : List ℕ). IsPlainRow (asked_of c.args.asked.now) c.args.columns.now c.args.sheet.now.texts ranking)
+    subst
+    (λ (ranking : List ℕ). IsPlainRow (asked_of c.args.asked.now) c.args.columns.now c.args.sheet.now.texts ranking)
     (sym c.in_ok-ranking.ensures)
-    (is_plain_row (asked_of c.args.asked.now) plain c.args.columns.now c.args.sheet.now.texts
-    c.place_each.new.placed c.in-Some.last
-    c.in-Some.ensures c.requires.texts some)
+    (is_plain_row (asked_of c.args.asked.now) plain c.args.columns.now c.args.sheet.now.texts c.cells.result.now
+    c.place_each.new.placed c.in-Some.last are c.cells.ensures c.in-Some.ensures c.requires.texts some)
