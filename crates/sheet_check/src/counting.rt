@@ -11,10 +11,8 @@ use blt_reader::Election;
 use byte_edge::{Failed, FreeGate, Sink};
 use candidate_roll::Roll;
 use check_words::CountRule;
-use fixed_place::Omega;
 use frozen_plan::Plans;
 use lane_sheet::{Crew, write_sheet_in_lanes};
-use lot_order::Lots;
 use meek_count::Count;
 use plain_ballots::Ballots;
 use sheet_text::{sheets_are_unique, write_sheet};
@@ -39,12 +37,8 @@ pub(crate) fn write_sheet_by<const P: usize, R: Threads + Sync, K: Sink>(
 {
     let Election { roll, ballots } = election;
     match terms.rule {
-        CountRule::Meek => {
-            write_meek::<P, R, K>(rt, alloc, ballots, &roll, &terms.lots, terms.omega, sink)
-        }
-        CountRule::Warren => {
-            write_warren::<P, K>(alloc, ballots, &roll, &terms.lots, terms.omega, sink)
-        }
+        CountRule::Meek => write_meek::<P, R, K>(rt, alloc, ballots, &roll, terms, sink),
+        CountRule::Warren => write_warren::<P, K>(alloc, ballots, &roll, terms, sink),
     }
 }
 
@@ -54,14 +48,13 @@ fn write_meek<const P: usize, R: Threads + Sync, K: Sink>(
     alloc: Global,
     ballots: Ballots,
     roll: &Roll,
-    lots: &Lots,
-    omega: Omega,
+    terms: &Terms,
     sink: &mut K,
 ) -> Result<Result<(), Failed>, NoMemory>
     requires places { (6 ≤ P) × (P ≤ 9) }
-    requires lots_of_all { length lots.now ≡ length roll.now.names }
+    requires lots_of_all { length terms.now.lots ≡ length roll.now.names }
     requires ballots_of_all { ballots.candidates ≡ length roll.now.names }
-    ensures { WritesOrWants (IsSheet P omega (plain ballots.lines) roll.now lots.now)
+    ensures { WritesOrWants (IsSheet P terms.now.omega (plain ballots.lines) roll.now terms.now.lots)
         K.written K.faults sink.old sink.new result }
 {
     let crew = Crew {
@@ -71,7 +64,14 @@ fn write_meek<const P: usize, R: Threads + Sync, K: Sink>(
         shards: 1,
         workers: 1,
     };
-    let wrote = write_sheet_in_lanes::<P, R, FreeGate, K>(&crew, ballots, roll, lots, omega, sink)?;
+    let wrote = write_sheet_in_lanes::<P, R, FreeGate, K>(
+        &crew,
+        ballots,
+        roll,
+        &terms.lots,
+        terms.omega,
+        sink,
+    )?;
     Ok(wrote)
 }
 
@@ -80,14 +80,13 @@ fn write_warren<const P: usize, K: Sink>(
     alloc: Global,
     ballots: Ballots,
     roll: &Roll,
-    lots: &Lots,
-    omega: Omega,
+    terms: &Terms,
     sink: &mut K,
 ) -> Result<Result<(), Failed>, NoMemory>
     requires places { (6 ≤ P) × (P ≤ 9) }
-    requires lots_of_all { length lots.now ≡ length roll.now.names }
+    requires lots_of_all { length terms.now.lots ≡ length roll.now.names }
     requires ballots_of_all { ballots.candidates ≡ length roll.now.names }
-    ensures { WritesOrWants (IsSheetUnder Warren P omega (plain ballots.lines) roll.now lots.now)
+    ensures { WritesOrWants (IsSheetUnder Warren P terms.now.omega (plain ballots.lines) roll.now terms.now.lots)
         K.written K.faults sink.old sink.new result }
 {
     // The sheet of the plan's ballots is that of the ballots.
@@ -95,6 +94,7 @@ fn write_warren<const P: usize, K: Sink>(
     let candidates = roll.candidates();
     let plans = Plans::dealt(alloc, ballots, 1)?;
     let spread = WarrenSpread::begin(alloc, plans, candidates)?;
+    let (lots, omega) = (&terms.lots, terms.omega);
     let mut count = Count::<'_, P, WarrenSpread>::begin(alloc, roll, lots, spread, omega)?;
     Ok(write_sheet(&mut count, sink))
 }
