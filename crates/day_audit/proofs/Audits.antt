@@ -22,6 +22,7 @@ use Rattle.day_audit.specs.declared.audit_asked.AuditAsked.TheVariants.{Day, Tri
 use Rattle.day_audit.specs.Audit.{Accepts, Refuses, Owes, IsAudit, EndsInText, IsRefusedAudit, IsOwedLine, audits_days}
 use Rattle.day_audit.specs.Judged.{IsDayVerdict, IsTrialVerdict}
 use Rattle.day_audit.proofs.Splits.{file_once}
+use Rattle.number_option.specs.Taken.{HaveOneNumber}
 use Rattle.day_audit.proofs.WordLemmas.{ask_one}
 
 -- ---- soundness
@@ -72,7 +73,7 @@ refused_once refusals input fault other (inr (text, file, split, refused)) (inr 
     (subst (λ (f : List ℕ). IsDayRefusal (scan f true) other)
     (file_once input text file again twice split split_again) refused_again)
 
-module _ (days : AcceptsDays) (refusals : RefusesByTheRule) where
+module _ (days : AcceptsDays) (refusals : RefusesByTheRule) (numbers : HaveOneNumber) where
   either_of :
       (asked : AuditAsked) (input : List ℕ) (fault : InputFault) → Accepts asked input
       → Refuses asked input fault → ⊥
@@ -90,7 +91,7 @@ module _ (days : AcceptsDays) (refusals : RefusesByTheRule) where
 
   pub sound : IsSound audits_days
   sound = record {
-    one = ask_one;
+    one = ask_one numbers;
     either = either_of;
     once = once_of;
     owed = λ asked input history bytes owes. owed_of asked input bytes owes;

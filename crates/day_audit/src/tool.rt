@@ -17,6 +17,7 @@ use crate::{AuditAsked, judge, judge_trial};
 use blt_reader::{FaultKind, InputFault};
 use byte_edge::{Sink, Source};
 use day_reader::{Day, accepts_days, read_day, refuses_by_the_rule};
+use number_option::words_have_one_number;
 use sheet_input::SHEET_LIMIT;
 use std::alloc::Global;
 use std::thread::Threads;
@@ -36,6 +37,7 @@ pub fn audit<R: Threads + Sync, S: Source, K: Sink>(
 {
     accepts_days();
     refuses_by_the_rule();
+    words_have_one_number();
     let asked = takes_audit(alloc, words);
     let Opened { asked, input } = match open(alloc, asked, SHEET_LIMIT, source, sink) {
         Ok(opened) => opened,

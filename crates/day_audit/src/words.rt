@@ -6,7 +6,7 @@ ghost use Rattle.day_audit.specs.Words.{TakesAudit};
 use crate::AuditAsked;
 use meek_trial::MOST_TRIAL;
 use meek_words::WordsStop;
-use number_word::read_number;
+use number_option::takes_number;
 use std::alloc::Global;
 
 /// What words ask for: no words, or just `--trial` and the number of a made day.
@@ -16,13 +16,7 @@ pub(crate) fn takes_audit(alloc: Global, words: &[String]) -> Result<AuditAsked,
     if words.is_empty() {
         return Ok(AuditAsked::Day);
     }
-    let [option, number] = words else {
-        return Err(WordsStop::BadWords);
-    };
-    if option.as_str() != "--trial" {
-        return Err(WordsStop::BadWords);
-    }
-    match read_number(alloc, number.as_str(), MOST_TRIAL) {
+    match takes_number(alloc, words, "--trial", MOST_TRIAL) {
         Ok(number) => Ok(AuditAsked::Trial(number)),
         Err(stop) => Err(stop),
     }
