@@ -36,3 +36,10 @@ pub none_asked :
     → (asked : AuditAsked) → ¬ TakesAudit words asked
 none_asked words some none Day is = some is
 none_asked words some none (Trial n) is = none n is
+
+-- and so does what was read of them
+pub refused_asked :
+    (words : List Word) (stop : WordsStop) → ¬ (words ≡ [])
+    → IsAsked (TakesNumber (codes "--trial") MOST_TRIAL) words (Err stop) → IsAsked TakesAudit words (Err stop)
+refused_asked words BadWords some none = λ asked. none_asked words some none asked
+refused_asked words NoMemory some none = tt

@@ -1,4 +1,3 @@
-mod WordLemmas
 mod FreezePlaces
 mod CallLines
 mod Refusing

@@ -1,5 +1,6 @@
 -- What is accepted is not refused, and what is refused is so with one fault.
 use Rattle.std.proofs.Common.{◌≡◌, ℕ, List, sym, ap, subst}
+use Rattle.std.specs.Prelude.{codes}
 use Rattle.input_text.specs.declared.input_fault.InputFault.{InputFault}
 use Rattle.day_reader.specs.declared.day.Day.{Day}
 use Rattle.day_reader.specs.Said.{AcceptsDays, RefusesByTheRule}
@@ -11,7 +12,8 @@ use Rattle.day_audit.proofs.Audits.{one_day, not_refused, refused_once}
 use Rattle.day_ballots.specs.declared.ballots_fault.BallotsFault.{BallotsFault}
 use Rattle.day_ballots.specs.declared.ballots_fault.BallotsFault.TheVariants.{File, False, NoFreeze}
 use Rattle.day_ballots.specs.Ballots.{Says, IsNoneAt, HasFreezeAt, IsRefusedAt, exports_freezes}
-use Rattle.day_ballots.proofs.WordLemmas.{one_line}
+use Rattle.number_option.specs.Taken.{HaveOneNumber}
+use Rattle.day_ballots.specs.declared.words.TheConstants.{LAST_LINE}
 use Rattle.day_ballots.proofs.Refusing.{not_none, none_once}
 
 module _ (days : AcceptsDays) (refusals : RefusesByTheRule) where
@@ -65,9 +67,9 @@ module _ (days : AcceptsDays) (refusals : RefusesByTheRule) where
       none_once day text n (NoFreeze line) (NoFreeze more) none
       (none_here n input text other day again (NoFreeze more) says also more_none)
 
-  pub sound : IsSound exports_freezes
-  sound = record {
-    one = one_line;
+  pub sound : HaveOneNumber → IsSound exports_freezes
+  sound numbers = record {
+    one = numbers (codes "--at") LAST_LINE;
     either = either;
     once = once;
     owed = λ n input history bytes owes. (owes.text, owes.day, owes.says, (owes.history, owes.at));

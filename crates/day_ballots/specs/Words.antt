@@ -1,13 +1,9 @@
 -- The words that ask for the ballots of a freeze.
-use Rattle.std.specs.Prelude.{◌≡◌, ◌≤◌, ℕ, List, [], ◌∷◌, codes}
-use Rattle.meek_words.specs.Numerals.{Word, IsNumeral, number_of}
+use Rattle.std.specs.Prelude.{ℕ, List, codes}
+use Rattle.meek_words.specs.Numerals.{Word}
+use Rattle.number_option.specs.Taken.{TakesNumber}
+use Rattle.day_ballots.specs.declared.words.TheConstants.{LAST_LINE}
 
--- 1 to 9 digits, which write the number of a line; lines are numbered from 1
-pub record SaysLine (word : Word) (at : ℕ) : Type 0 where
-  pub numeral : IsNumeral word
-  pub value : at ≡ number_of word
-  pub some : 1 ≤ at
-
--- just two words, `--at` and the number of a line
+-- just `--at` and the number of a line, of 1 to 9 digits; lines are numbered from 1
 abbrev pub TakesLine : List Word → ℕ → Type 0
-TakesLine words at = (word : Word) × (words ≡ codes "--at" ∷ word ∷ []) × SaysLine word at
+TakesLine words at = TakesNumber (codes "--at") LAST_LINE words at

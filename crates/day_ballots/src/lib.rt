@@ -18,4 +18,4 @@ mod writing;
 pub use ballots_fault::BallotsFault;
 pub use laws::freezes_are_counted;
 pub use tool::ballots;
-pub use words::takes_line;
+pub use words::{LAST_LINE, takes_line};

@@ -13,6 +13,7 @@ use blt_reader::{BltStop, FaultKind, InputFault};
 use byte_edge::{Sink, Source};
 use day_audit::text_and_file;
 use day_reader::{accepts_days, read_day, refuses_by_the_rule};
+use number_option::words_have_one_number;
 use sheet_input::SHEET_LIMIT;
 use std::alloc::Global;
 use tool_edge::{End, Opened, open, refuse};
@@ -30,6 +31,7 @@ pub fn ballots<S: Source, K: Sink>(
 {
     accepts_days();
     refuses_by_the_rule();
+    words_have_one_number();
     let asked = takes_line(alloc, words);
     let Opened { asked: at, input } = match open(alloc, asked, SHEET_LIMIT, source, sink) {
         Ok(opened) => opened,

@@ -13,7 +13,7 @@ returns-in-Err g c =
     c.takes_line-asked.result c.in-Err.end
     (reading g.S.Source.left g.S.Source.faults c.args.source.now c.open.new.source)
     (writing g.K.Sink.written g.K.Sink.faults c.args.sink.now c.open.new.sink)
-    (sound c.accepts_days.ensures c.refuses_by_the_rule.ensures) c.takes_line-asked.ensures
+    (sound c.accepts_days.ensures c.refuses_by_the_rule.ensures c.words_have_one_number.ensures) c.takes_line-asked.ensures
     c.in-Err.ensures.stopped
 
 pub returns : goal.returns
@@ -22,6 +22,6 @@ returns g c =
     (map string_bytes c.args.words.now) c.takes_line-asked.result c.in-Ok.opened.asked c.in-Ok.opened.asked
     c.in-Ok.opened.input.items _ c.write_ballots.result
     (reading g.S.Source.left g.S.Source.faults c.args.source.now c.open.new.source)
-    (sound c.accepts_days.ensures c.refuses_by_the_rule.ensures) c.takes_line-asked.ensures
+    (sound c.accepts_days.ensures c.refuses_by_the_rule.ensures c.words_have_one_number.ensures) c.takes_line-asked.ensures
     c.in-Ok.ensures.asked
     c.in-Ok.ensures.input c.in-Ok.ensures.untouched refl c.as_slice.ensures.value c.write_ballots.ensures
