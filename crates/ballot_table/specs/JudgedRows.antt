@@ -1,5 +1,5 @@
 -- What the code finds of a row.
-use Rattle.std.specs.Prelude.{◌≡◌, ℕ, ◌-◌, List, Option, Some, None, ⊤}
+use Rattle.std.specs.Prelude.{◌≡◌, ℕ, ◌-◌, List, Option, Some, None, Result, Ok, Err, ⊤}
 use Rattle.std.specs.List.{slice_get, slice_index_or}
 use Rattle.std.specs.Option.{option_or, unwrap_or}
 use Rattle.plain_ballots.specs.Ranking.{IsRanking}
@@ -18,8 +18,9 @@ use Rattle.ballot_table.specs.declared.row_cells.RowCells.{RowCells}
 use Rattle.ballot_table.specs.Held.{held_refused}
 use Rattle.ballot_table.specs.Asked.{Asked}
 use Rattle.ballot_table.specs.Faults.{first_fault}
+use Rattle.ballot_table.specs.Finding.{candidates_in}
 use Rattle.ballot_table.specs.Refusals.{place_of, is_candidate, is_rank, mark_fault}
-use Rattle.ballot_table.specs.Rows.{Row, ballots_in, cells_of, marks_of, said_in}
+use Rattle.ballot_table.specs.Rows.{Row, ballots_in, cells_of, marks_of, said_in, weight_at}
 
 -- The column at which the mark at a place, from 0, is refused, by what is found of a row's cells.
 abbrev pub refused_at : Layout → List Column → RowCells → (place : ℕ) → Why → ℕ
@@ -63,6 +64,20 @@ pub record IsJudgedRow (n : ℕ) (treatment : Treatment) (weight : ℕ) (row : R
   pub passed_is : judged.treated.passed ≡ is_passed treatment row.marks
   pub cut_is : judged.treated.cut ≡ is_cut treatment row.marks
   pub sound : IsRanking n judged.treated.ranking
+
+-- A row that isn't dropped has no fault, and is judged.
+pub record IsSoundRow (asked : Asked) (treatment : Treatment) (room : ℕ) (columns : List Column) (texts : List (List ℕ))
+    (judged : JudgedRow) : Type 0
+  where
+    pub no_fault : HasNoFault asked treatment room columns texts
+    pub is_judged :
+        IsJudgedRow (candidates_in asked columns) treatment (weight_at columns texts) (row_there asked room columns texts)
+        judged
+
+-- It is judged so, or refused for its first fault; or memory is wanted.
+abbrev pub Judges : Asked → Treatment → ℕ → List Column → List (List ℕ) → Result JudgedRow RecordStop → Type 0
+Judges asked treatment room columns texts (Ok judged) = IsSoundRow asked treatment room columns texts judged
+Judges asked treatment room columns texts (Err stop) = IsRowStop (cells_fault asked treatment room columns texts) stop
 
 -- a row is judged, or it is dropped
 abbrev pub IsJudged : ℕ → Treatment → (weight : ℕ) → Option Row → Option JudgedRow → Type 0

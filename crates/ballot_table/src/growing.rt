@@ -39,6 +39,7 @@ impl GrowingBallots {
     }
 
     /// Adds the ballots of a line.
+    #[inline(always)]
     pub fn push(&mut self, line: BallotLine) -> Result<(), NoMemory>
         requires ranking { IsRanking self.old.candidates line.ranking }
         requires counted { 1 ≤ line.count }
@@ -81,6 +82,7 @@ impl GrowingBallots {
 }
 
 // Whether two lines are of equal ballots, which one line can count.
+#[inline(always)]
 fn is_same(one: &BallotLine, other: &BallotLine) -> bool
     ensures same { IsTrue result → one.now.ranking ≡ other.now.ranking }
     ensures room { IsTrue result → one.now.count + other.now.count < 2 ^ 32 }
@@ -88,6 +90,7 @@ fn is_same(one: &BallotLine, other: &BallotLine) -> bool
     one.ranking.ranks() == other.ranking.ranks() && one.count <= u32::MAX - other.count
 }
 
+#[inline]
 fn push_line(ballots: &mut Ballots, line: BallotLine) -> Result<(), NoMemory>
     requires ranking { IsRanking ballots.old.candidates line.ranking }
     requires counted { 1 ≤ line.count }

@@ -9,6 +9,7 @@ mod among;
 mod brackets;
 mod cell_stop;
 mod column;
+mod columns;
 mod edges;
 mod empty;
 mod fault;

@@ -5,12 +5,12 @@ ghost use Rattle.plain_ballots.specs.declared.limits.TheConstants.{MOST_CANDIDAT
 ghost use Rattle.plain_ballots.specs.Ranking.{AreRanks};
 ghost use Rattle.table_text.specs.declared.short.TheConstants.{NO_NUMBER};
 ghost use Rattle.ballot_table.specs.Asked.{asked_of};
-ghost use Rattle.ballot_table.specs.Finding.{candidates_at};
 ghost use Rattle.ballot_table.specs.PlainRows.{IsPlaced, IsPlainRow};
 
+use crate::TableAsked;
+use crate::columns::Columns;
 use crate::holders::greater;
 use crate::sheet::Sheet;
-use crate::{Column, TableAsked};
 use plain_ballots::{MOST_CANDIDATES, NoMemory, Ranking};
 use std::alloc::Global;
 use table_text::{Cell, NO_NUMBER};
@@ -20,16 +20,17 @@ const RANKS: usize = NO_NUMBER as usize;
 
 /// The ranking of a row of ranks that is plain: each of its columns is a candidate's, each of its cells is empty or a short
 /// number, and each of the first ranks has one candidate. It is found in one pass, and of any other row nothing is said.
+#[inline(always)]
 pub(crate) fn plain_ranking(
     alloc: Global,
     asked: &TableAsked,
-    columns: &[Column],
+    columns: &Columns<'_>,
     sheet: &Sheet<'_>,
 ) -> Result<Option<Ranking>, NoMemory>
     requires texts { length sheet.now.texts ≡ length columns.now }
     ensures { IfOk result (λ found. IfSome found (IsPlainRow (asked_of asked.now) columns.now sheet.now.texts)) }
 {
-    if !asked.has_plain_ranks() || !are_candidates(columns) {
+    if !asked.has_plain_ranks() || !columns.are_candidates() {
         return Ok(None);
     }
     let mut placed = [0u32; RANKS];
@@ -42,26 +43,6 @@ pub(crate) fn plain_ranking(
     }
     let ranking = Ranking::new(alloc, ranks)?;
     Ok(Some(ranking))
-}
-
-/// Whether each column is a candidate's. All are looked at, several at once.
-fn are_candidates(columns: &[Column]) -> bool
-    ensures { IsTrue result ↔ All (λ column. candidates_at column ≡ 1) columns.now }
-{
-    let mut are_candidates = true;
-    for column in columns {
-        are_candidates &= is_candidate(*column);
-    }
-    are_candidates
-}
-
-fn is_candidate(column: Column) -> bool
-    ensures { IsTrue result ↔ (candidates_at column ≡ 1) }
-{
-    match column {
-        Column::Candidate(_) => true,
-        Column::Weight | Column::PassedOver | Column::Rank(_) | Column::List => false,
-    }
 }
 
 /// Puts the candidate of each cell at its rank, and gives the last rank that one has.

@@ -7,6 +7,7 @@ ghost use Rattle.ballot_table.specs.Left.{stop_left, ballots_left, tally_left};
 ghost use Rattle.ballot_table.specs.Asked.{asked_of};
 ghost use Rattle.ballot_table.specs.Finding.{candidates_at, candidates_in};
 
+use crate::columns::Columns;
 use crate::head::{Head, names};
 use crate::record_stop::RecordStop;
 use crate::rows::Rows;
@@ -82,16 +83,14 @@ fn read_rows(
         ≡ Some (plain taken.ballots.lines)) }
     ensures tally { IfOk result (λ taken. taken.tally ≡ tally_left asked.now head.now.columns.items MOST_BALLOTS sheet.old.records.rest.rows) }
 {
+    let columns = Columns::new(head.columns.as_slice());
     let mut taken = Rows::new(alloc, head.candidates);
     'rows: loop {
         match sheet.next() {
-            Ok(Some(place)) => {
-                let columns = head.columns.as_slice();
-                match taken.take(alloc, asked, columns, sheet, place) {
-                    Ok(()) => {}
-                    Err(stop) => return Err(stop),
-                }
-            }
+            Ok(Some(place)) => match taken.take(alloc, asked, &columns, sheet, place) {
+                Ok(()) => {}
+                Err(stop) => return Err(stop),
+            },
             Ok(None) => return Ok(taken),
             Err(stop) => return Err(stop),
         }

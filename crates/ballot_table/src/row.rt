@@ -4,11 +4,12 @@ ghost use Rattle.std.specs.Prelude.{IfOk, IfErr, IfSome};
 ghost use Rattle.plain_ballots.specs.declared.limits.TheConstants.{MOST_BALLOTS, MOST_CANDIDATES};
 ghost use Rattle.ballot_table.specs.Asked.{asked_of};
 ghost use Rattle.ballot_table.specs.Finding.{candidates_at, candidates_in};
-ghost use Rattle.ballot_table.specs.JudgedRows.{IsRowStop, IsJudged, IsJudgedRow, HasNoFault};
-ghost use Rattle.ballot_table.specs.JudgedRows.{cells_fault, refused_at, row_there};
+ghost use Rattle.ballot_table.specs.JudgedRows.{IsRowStop, IsJudged, Judges};
+ghost use Rattle.ballot_table.specs.JudgedRows.{refused_at};
 ghost use Rattle.ballot_table.specs.Refusals.{kind_of, place_of, is_candidate, is_rank, whole_fault};
 ghost use Rattle.ballot_table.specs.Rows.{row_of, weight_at};
 
+use crate::columns::Columns;
 use crate::fault::Fault;
 use crate::plain_row::plain_ranking;
 use crate::record_stop::RecordStop;
@@ -29,11 +30,12 @@ pub(crate) struct JudgedRow {
 }
 
 /// What a row comes to, if it isn't dropped; so many more ballots have room.
+#[inline(always)]
 pub(crate) fn read_row(
     alloc: Global,
     asked: &TableAsked,
     room: u32,
-    columns: &[Column],
+    columns: &Columns<'_>,
     sheet: &Sheet<'_>,
     cells: &mut RowCells,
 ) -> Result<Option<JudgedRow>, RecordStop>
@@ -60,11 +62,12 @@ pub(crate) fn read_row(
 }
 
 // What a row comes to that isn't dropped: what is plain in one pass, and any other cell by cell.
+#[inline(always)]
 fn judge(
     alloc: Global,
     asked: &TableAsked,
     room: u32,
-    columns: &[Column],
+    columns: &Columns<'_>,
     sheet: &Sheet<'_>,
     cells: &mut RowCells,
 ) -> Result<JudgedRow, RecordStop>
@@ -72,20 +75,18 @@ fn judge(
     requires room { room ≤ MOST_BALLOTS }
     requires few { sum_by candidates_at columns.now ≤ MOST_CANDIDATES }
     requires texts { length sheet.now.texts ≡ length columns.now }
-    ensures stop { IfErr result (IsRowStop (cells_fault (asked_of asked.now) asked.now.treatment room columns.now sheet.now.texts)) }
-    ensures sound { OnOk result (HasNoFault (asked_of asked.now) asked.now.treatment room columns.now sheet.now.texts) }
-    ensures row { IfOk result (IsJudgedRow (candidates_in (asked_of asked.now) columns.now) asked.now.treatment (weight_at columns.now sheet.now.texts)
-        (row_there (asked_of asked.now) room columns.now sheet.now.texts)) }
+    ensures { Judges (asked_of asked.now) asked.now.treatment room columns.now sheet.now.texts result }
 {
     rankings_of_marks();
     treatments_only_mend();
     match plain_ranking(alloc, asked, columns, sheet)? {
         Some(ranking) => Ok(plain_row(ranking)),
-        None => judge_cells(alloc, asked, room, columns, sheet, cells),
+        None => judge_cells(alloc, asked, room, columns.items(), sheet, cells),
     }
 }
 
 // One ballot of a ranking that its marks say plainly.
+#[inline(always)]
 fn plain_row(ranking: Ranking) -> JudgedRow
     ensures { result ≡ record {
       weight = 0;
@@ -106,6 +107,7 @@ fn plain_row(ranking: Ranking) -> JudgedRow
 }
 
 // What the cells of a row come to.
+#[inline(never)]
 fn judge_cells(
     alloc: Global,
     asked: &TableAsked,
@@ -118,10 +120,7 @@ fn judge_cells(
     requires room { room ≤ MOST_BALLOTS }
     requires few { sum_by candidates_at columns.now ≤ MOST_CANDIDATES }
     requires texts { length sheet.now.texts ≡ length columns.now }
-    ensures stop { IfErr result (IsRowStop (cells_fault (asked_of asked.now) asked.now.treatment room columns.now sheet.now.texts)) }
-    ensures sound { OnOk result (HasNoFault (asked_of asked.now) asked.now.treatment room columns.now sheet.now.texts) }
-    ensures row { IfOk result (IsJudgedRow (candidates_in (asked_of asked.now) columns.now) asked.now.treatment (weight_at columns.now sheet.now.texts)
-        (row_there (asked_of asked.now) room columns.now sheet.now.texts)) }
+    ensures { Judges (asked_of asked.now) asked.now.treatment room columns.now sheet.now.texts result }
 {
     cells.read(alloc, asked, room, columns, sheet)?;
     cells.say(asked.layout)?;

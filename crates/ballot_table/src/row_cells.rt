@@ -34,7 +34,11 @@ pub(crate) struct RowCells {
 
 impl RowCells {
     /// No cell yet.
-    pub fn new(alloc: Global) -> RowCells {
+    pub fn new(alloc: Global) -> RowCells
+        ensures count { result.count ≡ None }
+        ensures holding { IsHolding [] result.holders }
+        ensures saying { IsSaying [] result.said }
+    {
         RowCells {
             count: None,
             holders: Holders::new(),

@@ -13,12 +13,13 @@ ghost use Rattle.ballot_table.specs.Refusals.{whole_fault};
 ghost use Rattle.ballot_table.specs.Rows.{row_of, weight_at};
 ghost use Rattle.ballot_table.specs.Sheets.{row_at};
 
+use crate::columns::Columns;
 use crate::growing::GrowingBallots;
 use crate::record_stop::RecordStop;
 use crate::row::{JudgedRow, read_row};
 use crate::row_cells::RowCells;
 use crate::sheet::{Place, Sheet};
-use crate::{Column, Imported, TableAsked, TableStop, Tally};
+use crate::{Imported, TableAsked, TableStop, Tally};
 use candidate_roll::Names;
 use plain_ballots::{BallotLine, MOST_BALLOTS, NoMemory};
 use std::alloc::Global;
@@ -49,11 +50,12 @@ impl Rows {
     }
 
     /// Adds the ballots of the row at a place of a sheet.
+    #[inline(always)]
     pub fn take(
         &mut self,
         alloc: Global,
         asked: &TableAsked,
-        columns: &[Column],
+        columns: &Columns<'_>,
         sheet: &Sheet<'_>,
         place: Place,
     ) -> Result<(), TableStop>
@@ -110,6 +112,7 @@ impl Rows {
 }
 
 /// Adds a row's ballots, where it stands for any.
+#[inline(always)]
 fn push_row(ballots: &mut GrowingBallots, row: JudgedRow) -> Result<(), TableStop>
     requires { IsRanking ballots.old.candidates row.treated.ranking }
     ensures added { OnOk result (plain ballots.new.lines ≡ plain ballots.old.lines ++ replicate row.count row.treated.ranking) }

@@ -62,6 +62,7 @@ impl<'a> Sheet<'a> {
     }
 
     /// The place of the next record, if there is one; its fields are then those of this sheet.
+    #[inline]
     pub fn next(&mut self) -> Result<Option<Place>, TableStop>
         ensures { Turns self.old result self.new }
     {

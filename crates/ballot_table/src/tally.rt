@@ -51,6 +51,7 @@ impl Tally {
     }
 
     /// One more row, which isn't.
+    #[inline(always)]
     pub(crate) fn with(self, row: &JudgedRow) -> Result<Tally, NoMemory>
         ensures { IfOk result (IsTallied row.now self) }
     {
@@ -75,6 +76,7 @@ fn is_nobody(ranking: &[u32]) -> bool
 }
 
 /// A number with so many more, if they are counted. There is no room for more than 18,446,744,073,709,551,615.
+#[inline(always)]
 fn more(number: u64, counted: bool, count: u32) -> Result<u64, NoMemory>
     ensures { IfOk result (λ sum. sum ≡ number + (if counted then count else 0)) }
 {

@@ -8,7 +8,7 @@ use Rattle.std.specs.Prelude.{slice_range}
 use Rattle.table_text.specs.declared.mark.Mark.TheVariants as marks
 use Rattle.table_text.specs.Reading.{begins_with_feed, mark, Plain, by_mark}
 use Rattle.table_text.specs.Reader.{IsFieldAt, GoesOver, closes}
-use Rattle.table_text.specs.Short.{AreDigits, IsDigit, is_digit, is_first, number_or_none, short_number}
+use Rattle.table_text.specs.Short.{AreDigits, IsDigit, IsFirst, is_first, number_or_none, short_number}
 use Rattle.table_text.proofs.Marks.{chosen}
 use Rattle.table_text.proofs.Over.{not_quoted_at, over_from_front, over_more, over_none}
 
@@ -41,29 +41,24 @@ separator_closes s b rest no_quote same =
 
 -- ---- numbers
 
-one_digit : (a : ℕ) → IsDigit a → (a ≡ 48 → ⊥) → number_or_none (short_number (a ∷ [])) ≡ a - 48
-one_digit a is unlike =
-    ap (λ (b : Bool). number_or_none (cond b (Some (a - 48)) None)) (first a is unlike)
-  where
-    first : (a : ℕ) → IsDigit a → (a ≡ 48 → ⊥) → is_first a ≡ true
-    first a is unlike =
-        and_from (leb 49 a) (leb a 57) (le-leb 49 a (omega (arith, is.least, unlike))) (le-leb a 57 is.most)
+first_digit : (a : ℕ) → IsFirst a → IsDigit a
+first_digit a is = record { least = omega (arith, is.least); most = is.most }
 
-two_digits : (a b : ℕ) → IsDigit a → (a ≡ 48 → ⊥) → IsDigit b
-    → number_or_none (short_number (a ∷ b ∷ [])) ≡ (a - 48) * 10 + (b - 48)
-two_digits a b is unlike next =
-    ap (λ (t : Bool). number_or_none (cond t (Some ((a - 48) * 10 + (b - 48))) None)) (both a b is unlike next)
-  where
-    both : (a b : ℕ) → IsDigit a → (a ≡ 48 → ⊥) → IsDigit b → (is_first a && is_digit b) ≡ true
-    both a b is unlike next =
-        and_from (leb 49 a && leb a 57) (leb 48 b && leb b 57)
-        (and_from (leb 49 a) (leb a 57) (le-leb 49 a (omega (arith, is.least, unlike))) (le-leb a 57 is.most))
-        (and_from (leb 48 b) (leb b 57) (le-leb 48 b next.least) (le-leb b 57 next.most))
+is_first_by : (a : ℕ) → IsFirst a → is_first a ≡ true
+is_first_by a is = and_from (leb 49 a) (leb a 57) (le-leb 49 a is.least) (le-leb a 57 is.most)
+
+one_digit : (a : ℕ) → IsFirst a → number_or_none (short_number (a ∷ [])) ≡ a - 48
+one_digit a is = ap (λ (b : Bool). number_or_none (cond b (Some (a - 48)) None)) (is_first_by a is)
+
+two_digits : (a b : ℕ) → IsFirst a → IsDigit b → number_or_none (short_number (a ∷ b ∷ [])) ≡ (a - 48) * 10 + (b - 48)
+two_digits a b is next =
+    ap (λ (t : Bool). number_or_none (cond t (Some ((a - 48) * 10 + (b - 48))) None))
+    (and_from (is_first a) (leb 48 b && leb b 57) (is_first_by a is)
+    (and_from (leb 48 b) (leb b 57) (le-leb 48 b next.least) (le-leb b 57 next.most)))
 
 -- ---- fields
 
 module _ (s : ℕ) (bytes : List ℕ) (at : ℕ) (long : at + 2 < length bytes) (no_quote : s ≡ 34 → ⊥) (no_digit : IsDigit s → ⊥)
-    (no_zero : get_or bytes at 0 ≡ 48 → ⊥)
   where
     abbrev a : ℕ
     a = get_or bytes at 0
@@ -100,21 +95,21 @@ module _ (s : ℕ) (bytes : List ℕ) (at : ℕ) (long : at + 2 < length bytes) 
         field_is at 0 (omega arith) (omega (arith, long)) (λ e. no_quote (sym ends ∙ e)) ends (over_none s bytes at Plain)
         (ap (λ (l : List ℕ). number_or_none (short_number l)) (between_none bytes at))
 
-    one_there : IsDigit a → b ≡ s → Is (at + 1) (a - 48)
+    one_there : IsFirst a → b ≡ s → Is (at + 1) (a - 48)
     one_there is ends =
         field_is (at + 1) (a - 48) (omega arith) (omega (arith, long)) (λ e. omega (arith, e, is.least)) ends
-        (one_more at (omega arith) (omega (arith, long)) is (over_none s bytes at Plain))
-        (ap (λ (l : List ℕ). number_or_none (short_number l)) first_is ∙ one_digit a is no_zero)
+        (one_more at (omega arith) (omega (arith, long)) (first_digit a is) (over_none s bytes at Plain))
+        (ap (λ (l : List ℕ). number_or_none (short_number l)) first_is ∙ one_digit a is)
 
-    two_there : IsDigit a → IsDigit b → get_or bytes (at + 1 + 1) 0 ≡ s → Is (at + 1 + 1) ((a - 48) * 10 + (b - 48))
+    two_there : IsFirst a → IsDigit b → get_or bytes (at + 1 + 1) 0 ≡ s → Is (at + 1 + 1) ((a - 48) * 10 + (b - 48))
     two_there is next ends =
         field_is (at + 1 + 1) ((a - 48) * 10 + (b - 48)) (omega arith) (omega (arith, long))
         (λ e. omega (arith, e, is.least)) ends
         (one_more (at + 1) (omega arith) (omega (arith, long)) next
-        (one_more at (omega arith) (omega (arith, long)) is (over_none s bytes at Plain)))
+        (one_more at (omega arith) (omega (arith, long)) (first_digit a is) (over_none s bytes at Plain)))
         (ap (λ (l : List ℕ). number_or_none (short_number l))
         (between_more bytes at (at + 1) 0 (omega arith) (omega (arith, long)) ∙ ap (λ (l : List ℕ). l ++ b ∷ []) first_is)
-        ∙ two_digits a b is no_zero next)
+        ∙ two_digits a b is next)
 
     same_field :
         (stop stop_is number number_is : ℕ) → stop_is ≡ stop → number_is ≡ number → Is stop_is number_is

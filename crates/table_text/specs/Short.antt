@@ -27,7 +27,17 @@ pub record IsDigit (b : ℕ) : Type 0 where
   pub least : 48 ≤ b
   pub most : b ≤ 57
 
--- no digit; or one, and its number; or two, and theirs
+-- a digit that is no 0
+pub record IsFirst (b : ℕ) : Type 0 where
+  pub least : 49 ≤ b
+  pub most : b ≤ 57
+
+-- neither a digit nor the quote
+pub record StandsApart (separator : ℕ) : Type 0 where
+  pub no_quote : ¬ (separator ≡ 34)
+  pub no_digit : ¬ IsDigit separator
+
+-- no number; or one of one digit; or one of two
 pub record IsNone (found : ℕ × ℕ) : Type 0 where
   pub digits : found.0 ≡ 0
   pub number : found.1 ≡ 0
@@ -35,12 +45,12 @@ pub record IsNone (found : ℕ × ℕ) : Type 0 where
 pub record IsOne (a : ℕ) (found : ℕ × ℕ) : Type 0 where
   pub digits : found.0 ≡ 1
   pub number : found.1 ≡ a - 48
-  pub first : IsDigit a
+  pub first : IsFirst a
 
 pub record AreTwo (a b : ℕ) (found : ℕ × ℕ) : Type 0 where
   pub digits : found.0 ≡ 2
   pub number : found.1 ≡ (a - 48) * 10 + (b - 48)
-  pub first : IsDigit a
+  pub first : IsFirst a
   pub second : IsDigit b
 
 abbrev pub AreDigits : (a b : ℕ) → ℕ × ℕ → Type 0

@@ -4,10 +4,11 @@ ghost use Rattle.table_text.specs.Reading.{next_count};
 ghost use Rattle.table_text.specs.Reader.{IsCellOf, GoesOn, EndsAt, IsEnded, IsBroken};
 
 use crate::field::{Flaw, any_cell};
-use crate::short::short_cell;
+use crate::short::{short_cell, stands_apart};
 use crate::{Cells, MAX_COUNT, NoMemory, TextFault, TextStop};
 
 /// The place behind the record that begins at a place. The places of its fields are then in `cells`.
+#[inline]
 pub(crate) fn record_end(
     bytes: &[u8],
     separator: u8,
@@ -55,7 +56,14 @@ fn short_cells(
     ensures on { IfOk result (GoesOn separator bytes.now cells.old cells.new start) }
 {
     let mut at = start;
-    while let Some(cell) = short_cell(bytes, separator, at) {
+    if !stands_apart(separator) {
+        return Ok(at);
+    }
+    let limit = bytes.len().saturating_sub(2);
+    while at < limit {
+        let Some(cell) = short_cell(bytes, separator, at) else {
+            return Ok(at);
+        };
         cells.push(cell)?;
         at = cell.stop + 1;
     }

@@ -31,6 +31,7 @@ impl<'a> Model for Records<'a> {
 }
 
 // What comes from a place on, with the place and the row of what is to come behind it.
+#[inline(always)]
 fn next_from(
     bytes: &[u8],
     separator: u8,
@@ -84,6 +85,7 @@ fn refused(kind: TextKind, at: usize, row: u32) -> TextStop
 }
 
 // The place behind the line end of a record that ends at a place.
+#[inline(always)]
 fn behind_line(bytes: &[u8], separator: u8, end: usize) -> usize
     requires inside { end ≤ length bytes.now }
     requires ended { IsEnded separator bytes.now end }
@@ -118,6 +120,7 @@ impl<'a> Records<'a> {
     }
 
     /// The next record, with the places of its fields in `cells`. An end and a fault are answered again.
+    #[inline]
     pub fn next(&mut self, cells: &mut Cells) -> Result<Step, TextStop>
         ensures bytes { self.new.bytes ≡ self.old.bytes }
         ensures cells { All (IsCellOf self.old.bytes) cells.new }

@@ -1,6 +1,6 @@
 // Fields that are short numbers.
-ghost use Rattle.std.specs.Prelude.{◌≡◌, ◌<◌, ◌≤◌, ◌↔◌, length, slice_index, IfSome, IsTrue};
-ghost use Rattle.table_text.specs.Short.{AreDigits, IsDigit, is_first, number_or_none, short_number};
+ghost use Rattle.std.specs.Prelude.{◌≡◌, ◌<◌, ◌+◌, ◌↔◌, length, slice_index, IfSome, IsTrue};
+ghost use Rattle.table_text.specs.Short.{AreDigits, IsDigit, StandsApart, is_first, number_or_none, short_number};
 ghost use Rattle.table_text.specs.Reader.{IsFieldAt};
 
 use crate::Cell;
@@ -25,14 +25,12 @@ pub(crate) fn number_of(bytes: &[u8]) -> u32
 /// ranks are. How many digits it has decides no branch: whoever runs over such a table can't foresee it.
 #[inline(always)]
 pub(crate) fn short_cell(bytes: &[u8], separator: u8, at: usize) -> Option<Cell>
-    requires { at ≤ length bytes.now }
+    requires long { at + 2 < length bytes.now }
+    requires apart { StandsApart separator }
     ensures field { IfSome result (IsFieldAt separator bytes.now at) }
     ensures inside { IfSome result (λ cell. cell.stop < length bytes.now) }
     ensures parts { IfSome result (λ cell. slice_index bytes.now cell.stop ≡ separator) }
 {
-    if bytes.len() - at <= 2 || !stands_apart(separator) || bytes[at] == b'0' {
-        return None;
-    }
     let (digits, number) = front(bytes[at], bytes[at + 1]);
     let stop = at + digits;
     if bytes[stop] == separator {
@@ -42,24 +40,24 @@ pub(crate) fn short_cell(bytes: &[u8], separator: u8, at: usize) -> Option<Cell>
     }
 }
 
-// How many digits two bytes begin with, and the number that these are.
+// How many digits the short number has with which two bytes begin, and that number. Its first digit is told less one.
 #[inline(always)]
 fn front(a: u8, b: u8) -> (usize, u32)
     ensures { AreDigits a b result }
 {
-    let tens = a.wrapping_sub(b'0');
+    let tens = a.wrapping_sub(b'1');
     let ones = b.wrapping_sub(b'0');
-    let first = u32::from(tens <= 9);
+    let first = u32::from(tens <= 8);
     let second = first * u32::from(ones <= 9);
     (
         (first + second) as usize,
-        u32::from(tens) * first + (u32::from(tens) * 9 + u32::from(ones)) * second,
+        (u32::from(tens) + 1) * first + (u32::from(tens) * 9 + 9 + u32::from(ones)) * second,
     )
 }
 
-// Neither a digit nor the quote.
-fn stands_apart(separator: u8) -> bool
-    ensures { IsTrue result ↔ ((¬ (separator ≡ 34)) × (¬ IsDigit separator)) }
+/// Neither a digit nor the quote.
+pub(crate) fn stands_apart(separator: u8) -> bool
+    ensures { IsTrue result ↔ StandsApart separator }
 {
     separator != QUOTE && !is_digit(separator)
 }

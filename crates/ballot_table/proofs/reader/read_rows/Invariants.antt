@@ -5,7 +5,7 @@ use Rattle.ballot_table.proofs.reader.read_rows.Given as goal
 -- the rows so far are taken in
 abbrev pub invariant-rows : goal.invariant-rows
 invariant-rows l = record {
-  going : IsGoing l.asked l.head.columns.items l.fn.sheet.records.rest l.taken.room l.sheet.records.rest l.taken.ballots l.taken.tally;
+  going : IsGoing l.asked l.columns l.fn.sheet.records.rest l.taken.room l.sheet.records.rest l.taken.ballots l.taken.tally;
   candidates : l.taken.ballots.candidates ≡ l.head.candidates;
 }
 

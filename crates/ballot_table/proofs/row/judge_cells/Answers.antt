@@ -39,38 +39,37 @@ treat-requires-clause-candidates c =
     (taken_within (asked_of c.args.asked.now) c.args.room c.args.columns.now c.args.sheet.now.texts c.read.new.self c.say.new.self
     c.in_ok-read.ensures.taken (found at)))
 
-pub returns-in-Ok-clause-sound : goal.returns-in-Ok-clause-sound
-returns-in-Ok-clause-sound c =
+pub returns-in-Ok : goal.returns-in-Ok
+returns-in-Ok c =
+    let at = (goal.at.returns-in-Ok c).In_ok-say in
+    let a = asked_of c.args.asked.now in
     let t = c.args.asked.now.treatment in
-    record {
-      cells = c.in_ok-read.ensures.sound;
-      marks =
-          no_mark_fault (asked_of c.args.asked.now) t c.args.room c.args.columns.now c.args.sheet.now.texts c.say.new.self
-          (found (goal.at.returns-in-Ok-clause-sound c).In_ok-say) c.in-Ok.treated.ranking
-          (ap (ranked t) (sym c.marks.ensures) ∙ c.in-Ok.ensures.ranked);
-    }
-
-pub returns-in-Ok-clause-row : goal.returns-in-Ok-clause-row
-returns-in-Ok-clause-row c =
-    let at = (goal.at.returns-in-Ok-clause-row c).In_ok-say in
-    let t = c.args.asked.now.treatment in
+    let columns = c.args.columns.now in
+    let texts = c.args.sheet.now.texts in
     let read = c.in_ok-read.ensures.taken in
     let count = c.in_ok-say.ensures.count in
-    let marks = c.marks.ensures
-    ∙ same_marks (asked_of c.args.asked.now) t c.args.room c.args.columns.now c.args.sheet.now.texts c.say.new.self (found at) in
+    let marks = c.marks.ensures ∙ same_marks a t c.args.room columns texts c.say.new.self (found at) in
     let n_is = counted at c.among-candidates.result c.candidates.result c.among-candidates.ensures c.candidates.ensures in
     record {
-      weight_is = c.unwrap_or.ensures ∙ ap (λ o. unwrap_or o 0) count ∙ read.weight;
-      count = c.unwrap_or-in-Ok.ensures ∙ ap (λ o. unwrap_or o 1) count ∙ read.count;
-      ranked_is = sym (ap (ranked t) marks) ∙ c.in-Ok.ensures.ranked;
-      closed_is = c.in-Ok.ensures.closed ∙ ap (is_closed t) marks;
-      passed_is = c.in-Ok.ensures.passed ∙ ap (is_passed t) marks;
-      cut_is = c.in-Ok.ensures.cut ∙ ap (is_cut t) marks;
-      sound = subst (λ (n : ℕ). IsRanking n c.in-Ok.treated.ranking) n_is c.in-Ok.ensures.sound;
+      no_fault = record {
+        cells = c.in_ok-read.ensures.sound;
+        marks =
+            no_mark_fault a t c.args.room columns texts c.say.new.self (found at) c.in-Ok.treated.ranking
+            (ap (ranked t) (sym c.marks.ensures) ∙ c.in-Ok.ensures.ranked);
+      };
+      is_judged = record {
+        weight_is = c.unwrap_or.ensures ∙ ap (λ o. unwrap_or o 0) count ∙ read.weight;
+        count = c.unwrap_or-in-Ok.ensures ∙ ap (λ o. unwrap_or o 1) count ∙ read.count;
+        ranked_is = sym (ap (ranked t) marks) ∙ c.in-Ok.ensures.ranked;
+        closed_is = c.in-Ok.ensures.closed ∙ ap (is_closed t) marks;
+        passed_is = c.in-Ok.ensures.passed ∙ ap (is_passed t) marks;
+        cut_is = c.in-Ok.ensures.cut ∙ ap (is_cut t) marks;
+        sound = subst (λ (n : ℕ). IsRanking n c.in-Ok.treated.ranking) n_is c.in-Ok.ensures.sound;
+      };
     }
 
-pub returns-in-Err-Refused-clause-stop : goal.returns-in-Err-Refused-clause-stop
-returns-in-Err-Refused-clause-stop c =
+pub returns-in-Err-Refused : goal.returns-in-Err-Refused
+returns-in-Err-Refused c =
     let a = asked_of c.args.asked.now in
     let t = c.args.asked.now.treatment in
     let place = c.in-Err-Refused.place in
@@ -79,5 +78,5 @@ returns-in-Err-Refused-clause-stop c =
     let refused = subst (λ (ms : List Mark). IsRefusedAt t ms place why) c.marks.ensures stop in
     ap (λ o. option_or o (mark_fault a t c.args.room c.args.columns.now c.args.sheet.now.texts)) c.in_ok-read.ensures.sound
     ∙ mark_fault_is a t c.args.room c.args.columns.now c.args.sheet.now.texts c.say.new.self
-    (found (goal.at.returns-in-Err-Refused-clause-stop c).In_ok-say) place why refused
+    (found (goal.at.returns-in-Err-Refused c).In_ok-say) place why refused
     ∙ (λ i. Some (record { kind = sym c.kind_of.ensures i; place = sym c.refused_column.ensures i }))

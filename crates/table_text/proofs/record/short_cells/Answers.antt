@@ -5,9 +5,9 @@ use Rattle.table_text.specs.Reader.{GoesOn, IsCellOf}
 use Rattle.table_text.proofs.CellFields.{begun_more}
 use Rattle.table_text.proofs.record.short_cells.Goals as goal
 
-pub loop-cell-preserved : goal.loop-cell-preserved
-loop-cell-preserved c =
-    let l = c.loop-cell in
+pub loop-at-preserved : goal.loop-at-preserved
+loop-at-preserved c =
+    let l = c.loop-at in
     let bytes = c.args.bytes.now in
     let cell = c.in-Some.cell in
     let found = c.in-Some.ensures.field in

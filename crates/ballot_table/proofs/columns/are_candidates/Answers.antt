@@ -5,7 +5,7 @@ use Rattle.ballot_table.specs.declared.column.Column.{Column}
 use Rattle.ballot_table.specs.declared.column.Column.TheVariants.{Weight}
 use Rattle.ballot_table.specs.Finding.{candidates_at}
 use Rattle.ballot_table.proofs.PlacedLemmas.{each_more}
-use Rattle.ballot_table.proofs.plain_row.are_candidates.Goals as goal
+use Rattle.ballot_table.proofs.columns.are_candidates.Goals as goal
 
 abbrev IsCandidates : Column → Type 0
 IsCandidates column = candidates_at column ≡ 1
