@@ -15,7 +15,7 @@ use Rattle.ballot_look.specs.Laws.{SeatsAreTold, UnrankedAreTold, WithdrawnAreTo
 use Rattle.ballot_look.proofs.Told.{candidates_told, not_written, unwritten}
 
 pub seats : SeatsAreTold
-seats roll = (
+seats input roll = (
   (
     λ none. ltb-false (length roll.names) roll.seats (not_written (nat_lt (length roll.names) roll.seats) 108 _ none),
     λ few. unwritten (nat_lt (length roll.names) roll.seats) _ (le-ltb (length roll.names) roll.seats few),
@@ -65,8 +65,8 @@ not_counted test xs none =
     omega (arith, most)
 
 pub unranked : UnrankedAreTold
-unranked candidates lines =
-    let told = candidates_told 108 (codes "ook on no ballot ") candidates (λ c. not (is_ranked lines c)) in (
+unranked input candidates lines =
+    let told = candidates_told input 108 (codes "ook on no ballot") candidates (λ c. not (is_ranked lines c)) in (
       λ none c from below.
           let ballot =
           found (λ b. is_listed b c) (plain lines)
@@ -81,7 +81,7 @@ unranked candidates lines =
     )
 
 pub withdrawn : WithdrawnAreTold
-withdrawn marks lines =
+withdrawn input marks lines =
     let test : List ℕ → Bool = ranks_withdrawn marks in
     let n = how_many test lines in (
       λ none. uncounted test (plain lines)

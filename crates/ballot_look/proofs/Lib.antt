@@ -9,4 +9,7 @@ mod NameLaws
 mod CountLaws
 mod PlaceLaws
 mod Firsts
+mod SiteLemmas
+mod Spelled
+mod TokenLaws
 mod Owing

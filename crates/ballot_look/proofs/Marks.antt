@@ -1,9 +1,9 @@
 -- The line and the column one byte on, and behind the end of a text.
 use Rattle.std.proofs.Common.{◌≡◌, ◌∙◌, ℕ, zero, suc, ◌+◌, ◌-◌, ◌<◌, ◌≤◌, Bool, true, false, cond, List, []}
-use Rattle.std.proofs.Common.{◌∷◌, ◌++◌, length, take, get_or}
+use Rattle.std.proofs.Common.{◌∷◌, ◌++◌, length, take}
 use Rattle.std.proofs.Common.{ap, arith, refl, sym, reverse}
 use Rattle.std.specs.Prelude.{◌==◌, ◌&&◌, ◌||◌, not, if◌then◌else◌, slice_index}
-use Rattle.std.specs.List.{count_by, prefix_len, range_with_len}
+use Rattle.std.specs.List.{prefix_len}
 use Rattle.std.proofs.lemmas.List.{get_or_past, reverse-append, take_all, take_more}
 use Rattle.ballot_look.specs.Places.{column_at, ends_line, is_break, line_at}
 use Rattle.ballot_look.proofs.Each.{count_more}

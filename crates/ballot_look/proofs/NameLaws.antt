@@ -21,8 +21,8 @@ unequal_test : (a b : List ℕ) → a ≢ b → bytes_eq a b ≡ false
 unequal_test a b apart = false_from_ne_true (bytes_eq a b) (λ is. apart ((bytes_eq-Decides a b).0 is))
 
 pub one_name : OneNameIsTold
-one_name roll =
-    let told = pairs_told 108 (codes "ook same name ") (length roll.names) (have_one_name roll.names) in (
+one_name input roll =
+    let told = pairs_told input 108 (codes "ook same name") (length roll.names) (have_one_name roll.names) in (
       λ none c d of other less.
           unequal (name_of roll.names c) (name_of roll.names d) (told.0 none c d of other less),
       λ apart.
@@ -41,8 +41,8 @@ no_likeness false true same = sym (same refl)
 no_likeness false false same = refl
 
 pub like_names : LikeNamesAreTold
-like_names roll =
-    let told = pairs_told 108 (codes "ook similar name ") (length roll.names) (have_like_names roll.names) in
+like_names input roll =
+    let told = pairs_told input 108 (codes "ook similar name") (length roll.names) (have_like_names roll.names) in
     let name : ℕ → List ℕ = name_of roll.names in (
       λ none c d of other less alike.
           (bytes_eq-Decides (name c) (name d)).0
@@ -58,8 +58,8 @@ like_names roll =
     )
 
 pub other_bytes : OtherBytesAreTold
-other_bytes roll =
-    let told = candidates_told 108 (codes "ook name is not UTF-8 ") (length roll.names) (has_other_bytes roll.names) in
+other_bytes input roll =
+    let told = candidates_told input 108 (codes "ook name is not UTF-8") (length roll.names) (has_other_bytes roll.names) in
     let name : ℕ → List ℕ = name_of roll.names in (
       λ none c of. IsUtf8-from_is_utf8 (name c) (not-false (is_utf8 (name c)) (told.0 none c of)),
       λ texts. told.1 (λ c of. not_from_true (is_utf8 (name c)) (is_utf8-from_IsUtf8 (name c) (texts c of))),
@@ -71,9 +71,10 @@ none_of test xs none k d below =
     false_from_ne_true (test _) (λ is. both_ways (list_any test xs) none (list_any_at test xs k d below is))
 
 pub marks : MarksAreTold
-marks roll =
+marks input roll =
     let told =
-    candidates_told 108 (codes "ook name has a directional mark ") (length roll.names) (has_directional roll.names) in
+    candidates_told input 108 (codes "ook name has a directional mark") (length roll.names)
+    (has_directional roll.names) in
     let name : ℕ → List ℕ = name_of roll.names in (
       λ none c of text.
           elim (and_cases (is_utf8 (name c)) (list_any is_directional (chars (name c))) (told.0 none c of)) [

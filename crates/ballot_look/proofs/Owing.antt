@@ -7,14 +7,14 @@ use Rattle.candidate_roll.specs.Roll.{RollList}
 use Rattle.blt_reader.specs.Poll.{Poll}
 use Rattle.tool_edge.specs.Contest.{SaysPoll}
 use Rattle.tool_edge.specs.declared.end.End.{End}
-use Rattle.tool_edge.specs.declared.opening.TheConstants.{FILE_LIMIT}
+use Rattle.sheet_input.specs.declared.sheet_limit.TheConstants.{SHEET_LIMIT}
 use Rattle.tool_edge.specs.Finishing.{FinishesOwed}
 use Rattle.tool_edge.specs.Streams.{Writing}
 use Rattle.tool_edge.specs.Tool.{IsOwedFor, IsSound, no_history}
 use Rattle.tool_edge.specs.Tools.{FilesAreNotRefused, FilesAreRefusedOnce}
 use Rattle.ballot_look.specs.declared.looking.Looked.{Looked}
 use Rattle.ballot_look.specs.Counts.{figures, has_first, how_many, is_ranked}
-use Rattle.ballot_look.specs.Lines.{ballots_text, count_line, enough_seats_lines, first_line, first_lines}
+use Rattle.ballot_look.specs.Lines.{ballots_text, candidate_line, count_line, enough_seats_lines, first_line, first_lines}
 use Rattle.ballot_look.specs.Lines.{many_seats_lines, mean_text, name_warnings, only_if, roll_text, text_line}
 use Rattle.ballot_look.specs.Lines.{text_of, unranked_lines, withdrawn_lines}
 use Rattle.ballot_look.specs.Looked.{IsLooked, figures_of}
@@ -25,9 +25,9 @@ use Rattle.ballot_look.proofs.Each.{each_same}
 
 -- what was counted makes the same text as the lines themselves
 pub looked_text :
-    (roll : RollList) (lines : List BallotLine) (looked : Looked) → IsLooked roll lines looked
-    → text_of roll (figures_of looked) ≡ text_of roll (figures roll.withdrawn lines)
-looked_text roll lines looked is =
+    (input : List ℕ) (roll : RollList) (lines : List BallotLine) (looked : Looked) → IsLooked roll lines looked
+    → text_of input roll (figures_of looked) ≡ text_of input roll (figures roll.withdrawn lines)
+looked_text input roll lines looked is =
     let n = length roll.names in
     let firsts :
     first_lines roll.names (first_of looked.tally)
@@ -36,19 +36,20 @@ looked_text roll lines looked is =
     (λ c. first_line c (how_many (has_first c) lines) (name_of roll.names c)) 1 n
     (λ c from below. ap (λ (k : ℕ). first_line c k (name_of roll.names c))
     (is.tally.firsts c from (omega (arith, below)))) in
-    let unranked : unranked_lines n (was_ranked looked.tally) ≡ unranked_lines n (is_ranked lines) =
-    each_same (λ c. only_if (not (was_ranked looked.tally c)) (count_line (codes "look on no ballot ") c))
-    (λ c. only_if (not (is_ranked lines c)) (count_line (codes "look on no ballot ") c)) 1 n
+    let unranked : unranked_lines input n (was_ranked looked.tally) ≡ unranked_lines input n (is_ranked lines) =
+    each_same (λ c. only_if (not (was_ranked looked.tally c)) (candidate_line input (codes "look on no ballot") c))
+    (λ c. only_if (not (is_ranked lines c)) (candidate_line input (codes "look on no ballot") c)) 1 n
     (λ c from below.
-    ap (λ (b : Bool). only_if (not b) (count_line (codes "look on no ballot ") c))
+    ap (λ (b : Bool). only_if (not b) (candidate_line input (codes "look on no ballot") c))
     (is.tally.ranked c from (omega (arith, below)))) in
     λ i.
     (ballots_text (is.tally.ballots i) (is.lines_are i) (is.tally.empty i)
     ++ roll_text roll
     ++ (firsts i ++ text_line (codes "mean ") (mean_text (is.tally.ranks i) (is.tally.ballots i))
     ++ count_line (codes "equal ") (is.repeats_are i)))
-    ++ name_warnings roll
-    ++ (many_seats_lines roll ++ enough_seats_lines roll ++ unranked i ++ withdrawn_lines (is.tally.of_withdrawn i))
+    ++ name_warnings input roll
+    ++ (many_seats_lines input roll ++ enough_seats_lines input roll ++ unranked i
+    ++ withdrawn_lines input roll.withdrawn (is.tally.of_withdrawn i))
 
 pub sound : FilesAreNotRefused → FilesAreRefusedOnce → IsSound look_tool
 sound either once = record {
@@ -60,7 +61,7 @@ sound either once = record {
 
 -- The text of this election is owed for the file that says it.
 pub look_owed :
-    (input : List ℕ) (poll : Poll) (end : End InputFault) (sink : Writing) → length input ≤ FILE_LIMIT → SaysPoll input poll
+    (input : List ℕ) (poll : Poll) (end : End InputFault) (sink : Writing) → length input ≤ SHEET_LIMIT → SaysPoll input poll
     → FinishesOwed (IsLookOf input poll) end sink → FinishesOwed (IsOwedFor look_tool (tt {0}) input no_history) end sink
 look_owed input poll end sink short says (inl nothing) = inl nothing
 look_owed input poll end sink short says (inr (due, bytes, look, finishes)) =

@@ -1,13 +1,12 @@
 -- Which places in a file want no look.
-use Rattle.std.proofs.Common.{◌≡◌, ◌∙◌, ℕ, zero, suc, ◌+◌, ◌≤◌, Bool, true, false, List, [], ◌∷◌, ◌++◌, length, drop}
+use Rattle.std.proofs.Common.{◌≡◌, ◌∙◌, ℕ, ◌+◌, ◌≤◌, Bool, true, false, List, [], ◌∷◌, ◌++◌, length, drop}
 use Rattle.std.proofs.Common.{ap, arith, refl, sym}
-use Rattle.std.specs.Prelude.{◌==◌, ◌&&◌, not, codes}
-use Rattle.std.proofs.lemmas.Bool.{and_right, eqb-true, eq-eqb, not-false}
+use Rattle.std.specs.Prelude.{◌==◌, ◌&&◌, not}
+use Rattle.std.proofs.lemmas.Bool.{eqb-true, eq-eqb, not-false}
 use Rattle.std.proofs.lemmas.List.{drop_all, length-drop}
 use Rattle.input_text.specs.Token.{Placed}
-use Rattle.ballot_look.specs.Breaks.{goes_on, is_parted, parted_from, parted_lines, place_line, string_lines}
-use Rattle.ballot_look.specs.Breaks.{strings, tokens_of}
-use Rattle.ballot_look.specs.Lines.{only_if}
+use Rattle.ballot_look.specs.Breaks.{is_parted, parted_from, parted_lines, string_lines}
+use Rattle.ballot_look.specs.Sites.{goes_on, strings, tokens_of}
 use Rattle.ballot_look.specs.Places.{line_at}
 use Rattle.ballot_look.specs.Laws.{BreaksAreTold, FurtherAreTold}
 use Rattle.ballot_look.proofs.Told.{back_none, front_none, not_written, unwritten}

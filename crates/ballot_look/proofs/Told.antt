@@ -4,7 +4,7 @@ use Rattle.std.proofs.Common.{ap, arith, refl, inl, inr}
 use Rattle.std.specs.Prelude.{◌↔◌}
 use Rattle.std.specs.List.{flat_map, range_with_len}
 use Rattle.std.proofs.lemmas.Bool.{cases_eq}
-use Rattle.ballot_look.specs.Lines.{candidate_lines, count_line, for_later, only_if, pair_line, pair_lines}
+use Rattle.ballot_look.specs.Lines.{candidate_line, candidate_lines, for_later, only_if, pair_line, pair_lines}
 
 -- ---- lists
 
@@ -47,24 +47,24 @@ unwritten test text is = ap (λ (b : Bool). only_if b text) is
 
 -- No candidate has a line exactly where none passes the test. The words begin with a byte.
 pub candidates_told :
-    (b : ℕ) (words : List ℕ) (n : ℕ) (test : ℕ → Bool)
-    → (candidate_lines (b ∷ words) n test ≡ []) ↔ ((c : ℕ) → (1 ≤ c) × (c ≤ n) → test c ≡ false)
-candidates_told b words n test = (
+    (input : List ℕ) (b : ℕ) (words : List ℕ) (n : ℕ) (test : ℕ → Bool)
+    → (candidate_lines input (b ∷ words) n test ≡ []) ↔ ((c : ℕ) → (1 ≤ c) × (c ≤ n) → test c ≡ false)
+candidates_told input b words n test = (
   λ none c of.
       not_written (test c) b _
-      (each_none (λ c. only_if (test c) (count_line (b ∷ words) c)) 1 n c none of.0 (omega (arith, of.1))),
+      (each_none (λ c. only_if (test c) (candidate_line input (b ∷ words) c)) 1 n c none of.0 (omega (arith, of.1))),
   λ none.
-      none_each (λ c. only_if (test c) (count_line (b ∷ words) c)) 1 n
-      (λ c from below. unwritten (test c) (count_line (b ∷ words) c) (none c (from, omega (arith, below)))),
+      none_each (λ c. only_if (test c) (candidate_line input (b ∷ words) c)) 1 n
+      (λ c from below. unwritten (test c) (candidate_line input (b ∷ words) c) (none c (from, omega (arith, below)))),
 )
 
 -- No pair has a line exactly where none passes the test.
 pub pairs_told :
-    (b : ℕ) (words : List ℕ) (n : ℕ) (test : ℕ → ℕ → Bool)
-    → (pair_lines (b ∷ words) n test ≡ [])
+    (input : List ℕ) (b : ℕ) (words : List ℕ) (n : ℕ) (test : ℕ → ℕ → Bool)
+    → (pair_lines input (b ∷ words) n test ≡ [])
     ↔ ((c d : ℕ) → (1 ≤ c) × (c ≤ n) → (1 ≤ d) × (d ≤ n) → c < d → test c d ≡ false)
-pairs_told b words n test =
-    let line : ℕ → ℕ → List ℕ = λ c d. only_if (test c d) (pair_line (b ∷ words) c d) in
+pairs_told input b words n test =
+    let line : ℕ → ℕ → List ℕ = λ c d. only_if (test c d) (pair_line input (b ∷ words) c d) in
     let lines : ℕ → List ℕ = λ c. for_later n c (line c) in (
       λ none c d of other less.
           not_written (test c d) b _
@@ -76,7 +76,7 @@ pairs_told b words n test =
           (λ c from below.
           none_each (line c) (c + 1) (n - c)
           (λ d later inside.
-          unwritten (test c d) (pair_line (b ∷ words) c d)
+          unwritten (test c d) (pair_line input (b ∷ words) c d)
           (none c d (from, omega (arith, below)) (omega (arith, later), omega (arith, inside, below))
           (omega (arith, later))))),
     )

@@ -9,9 +9,9 @@ use Rattle.ballot_look.specs.Names.{has_directional, has_other_bytes, have_like_
 use Rattle.ballot_look.specs.Tally.{TallyList, was_ranked}
 
 abbrev pub doubt_words : Doubt → List ℕ
-doubt_words OtherBytes = codes "look name is not UTF-8 "
-doubt_words Directional = codes "look name has a directional mark "
-doubt_words Unranked = codes "look on no ballot "
+doubt_words OtherBytes = codes "look name is not UTF-8"
+doubt_words Directional = codes "look name has a directional mark"
+doubt_words Unranked = codes "look on no ballot"
 
 abbrev pub is_doubtful : Doubt → RollList → TallyList → (c : ℕ) → Bool
 is_doubtful OtherBytes roll tally c = has_other_bytes roll.names c
@@ -19,8 +19,8 @@ is_doubtful Directional roll tally c = has_directional roll.names c
 is_doubtful Unranked roll tally c = not (was_ranked tally c)
 
 abbrev pub like_words : Likeness → List ℕ
-like_words Same = codes "look same name "
-like_words Similar = codes "look similar name "
+like_words Same = codes "look same name"
+like_words Similar = codes "look similar name"
 
 abbrev pub are_like : Likeness → (names : List (List ℕ)) → (c d : ℕ) → Bool
 are_like Same names c d = have_one_name names c d

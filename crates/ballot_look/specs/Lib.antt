@@ -1,7 +1,8 @@
 pub mod Counts
 pub mod Names
-pub mod Lines
 pub mod Places
+pub mod Sites
+pub mod Lines
 pub mod Breaks
 pub mod Tally
 pub mod Doubts

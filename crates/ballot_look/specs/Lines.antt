@@ -5,6 +5,8 @@ use Rattle.candidate_roll.specs.Roll.{RollList, is_withdrawn}
 use Rattle.blt_reader.specs.Poll.{Poll}
 use Rattle.ballot_look.specs.Counts.{Figures, figures}
 use Rattle.ballot_look.specs.Names.{has_directional, has_other_bytes, have_like_names, have_one_name, name_of, running}
+use Rattle.ballot_look.specs.Places.{column_at, line_at}
+use Rattle.ballot_look.specs.Sites.{name_at, seats_at, withdrawn_at}
 
 -- a line of words and a number
 abbrev pub count_line : (words : List ℕ) → (n : ℕ) → List ℕ
@@ -14,9 +16,14 @@ count_line words n = words ++ decimal n ++ 10 ∷ []
 abbrev pub text_line : (words text : List ℕ) → List ℕ
 text_line words text = words ++ text ++ 10 ∷ []
 
--- a line of words and two numbers
-abbrev pub pair_line : (words : List ℕ) → (c d : ℕ) → List ℕ
-pair_line words c d = words ++ decimal c ++ 32 ∷ decimal d ++ 10 ∷ []
+-- these numbers, each behind a space
+abbrev pub numbers_text : (numbers : List ℕ) → List ℕ
+numbers_text numbers = flat_map (λ n. 32 ∷ decimal n) numbers
+
+-- a line of words and numbers, of which the last two are the line and the column of a place in the file
+abbrev pub place_line : (input words numbers : List ℕ) → (place : ℕ) → List ℕ
+place_line input words numbers place =
+    words ++ numbers_text (numbers ++ line_at input place ∷ column_at input place ∷ []) ++ 10 ∷ []
 
 -- the text, only where the test holds
 abbrev pub only_if : Bool → (text : List ℕ) → List ℕ
@@ -80,65 +87,85 @@ facts_text roll f = ballots_text f.ballots f.lines f.empty ++ roll_text roll ++ 
 
 -- ---- what wants a look
 
+-- a line on a candidate, with the place of its name
+abbrev pub candidate_line : (input words : List ℕ) → (c : ℕ) → List ℕ
+candidate_line input words c = place_line input words (c ∷ []) (name_at input c)
+
+-- a line on two candidates, with the place of the name of the later one, d
+abbrev pub pair_line : (input words : List ℕ) → (c d : ℕ) → List ℕ
+pair_line input words c d = place_line input words (c ∷ d ∷ []) (name_at input d)
+
 -- a line for each two candidates of whom this holds
-abbrev pub pair_lines : (words : List ℕ) → (candidates : ℕ) → (ℕ → ℕ → Bool) → List ℕ
-pair_lines words candidates test =
-    for_each candidates (λ c. for_later candidates c (λ d. only_if (test c d) (pair_line words c d)))
+abbrev pub pair_lines : (input words : List ℕ) → (candidates : ℕ) → (ℕ → ℕ → Bool) → List ℕ
+pair_lines input words candidates test =
+    for_each candidates (λ c. for_later candidates c (λ d. only_if (test c d) (pair_line input words c d)))
 
 -- a line for each candidate of whom this holds
-abbrev pub candidate_lines : (words : List ℕ) → (candidates : ℕ) → (ℕ → Bool) → List ℕ
-candidate_lines words candidates test = for_each candidates (λ c. only_if (test c) (count_line words c))
+abbrev pub candidate_lines : (input words : List ℕ) → (candidates : ℕ) → (ℕ → Bool) → List ℕ
+candidate_lines input words candidates test =
+    for_each candidates (λ c. only_if (test c) (candidate_line input words c))
 
 -- two candidates of one name
-abbrev pub one_name_lines : RollList → List ℕ
-one_name_lines roll = pair_lines (codes "look same name ") (length roll.names) (have_one_name roll.names)
+abbrev pub one_name_lines : (input : List ℕ) → RollList → List ℕ
+one_name_lines input roll =
+    pair_lines input (codes "look same name") (length roll.names) (have_one_name roll.names)
 
 -- two candidates whose names are alike but for spaces and the case of letters
-abbrev pub like_name_lines : RollList → List ℕ
-like_name_lines roll = pair_lines (codes "look similar name ") (length roll.names) (have_like_names roll.names)
+abbrev pub like_name_lines : (input : List ℕ) → RollList → List ℕ
+like_name_lines input roll =
+    pair_lines input (codes "look similar name") (length roll.names) (have_like_names roll.names)
 
 -- candidates whose name is no UTF-8
-abbrev pub other_bytes_lines : RollList → List ℕ
-other_bytes_lines roll =
-    candidate_lines (codes "look name is not UTF-8 ") (length roll.names) (has_other_bytes roll.names)
+abbrev pub other_bytes_lines : (input : List ℕ) → RollList → List ℕ
+other_bytes_lines input roll =
+    candidate_lines input (codes "look name is not UTF-8") (length roll.names) (has_other_bytes roll.names)
 
 -- candidates whose name has a character that turns the direction of the text
-abbrev pub directional_lines : RollList → List ℕ
-directional_lines roll =
-    candidate_lines (codes "look name has a directional mark ") (length roll.names) (has_directional roll.names)
+abbrev pub directional_lines : (input : List ℕ) → RollList → List ℕ
+directional_lines input roll =
+    candidate_lines input (codes "look name has a directional mark") (length roll.names) (has_directional roll.names)
 
-abbrev pub many_seats_lines : RollList → List ℕ
-many_seats_lines roll =
-    only_if (nat_lt (length roll.names) roll.seats) (codes "look more seats than candidates" ++ 10 ∷ [])
+-- a line on the number of seats, with its place
+abbrev pub seats_line : (input words : List ℕ) → List ℕ
+seats_line input words = place_line input words [] (seats_at input)
 
-abbrev pub enough_seats_lines : RollList → List ℕ
-enough_seats_lines roll =
-    only_if (nat_le (running roll) roll.seats) (codes "look a seat for everybody who runs" ++ 10 ∷ [])
+abbrev pub many_seats_lines : (input : List ℕ) → RollList → List ℕ
+many_seats_lines input roll =
+    only_if (nat_lt (length roll.names) roll.seats) (seats_line input (codes "look more seats than candidates"))
+
+abbrev pub enough_seats_lines : (input : List ℕ) → RollList → List ℕ
+enough_seats_lines input roll =
+    only_if (nat_le (running roll) roll.seats) (seats_line input (codes "look a seat for everybody who runs"))
 
 -- candidates whom no ballot ranks
-abbrev pub unranked_lines : (candidates : ℕ) → (is_ranked : ℕ → Bool) → List ℕ
-unranked_lines candidates is_ranked =
-    candidate_lines (codes "look on no ballot ") candidates (λ c. not (is_ranked c))
+abbrev pub unranked_lines : (input : List ℕ) → (candidates : ℕ) → (is_ranked : ℕ → Bool) → List ℕ
+unranked_lines input candidates is_ranked =
+    candidate_lines input (codes "look on no ballot") candidates (λ c. not (is_ranked c))
 
--- how many ballots rank withdrawn candidates, where there are any
-abbrev pub withdrawn_lines : (ballots : ℕ) → List ℕ
-withdrawn_lines ballots =
-    only_if (not (ballots == 0)) (count_line (codes "look ballots with withdrawn candidates ") ballots)
+-- how many ballots rank withdrawn candidates, where there are any, and where the first of these stands on one
+abbrev pub withdrawn_lines : (input : List ℕ) → (withdrawn : List Bool) → (ballots : ℕ) → List ℕ
+withdrawn_lines input withdrawn ballots =
+    only_if (not (ballots == 0))
+    (place_line input (codes "look ballots with withdrawn candidates") (ballots ∷ []) (withdrawn_at input withdrawn))
 
-abbrev pub name_warnings : RollList → List ℕ
-name_warnings roll = one_name_lines roll ++ like_name_lines roll ++ other_bytes_lines roll ++ directional_lines roll
+abbrev pub name_warnings : (input : List ℕ) → RollList → List ℕ
+name_warnings input roll =
+    one_name_lines input roll ++ like_name_lines input roll ++ other_bytes_lines input roll
+    ++ directional_lines input roll
 
-abbrev pub count_warnings : RollList → (is_ranked : ℕ → Bool) → (of_withdrawn : ℕ) → List ℕ
-count_warnings roll is_ranked of_withdrawn =
-    many_seats_lines roll ++ enough_seats_lines roll ++ unranked_lines (length roll.names) is_ranked
-    ++ withdrawn_lines of_withdrawn
+abbrev pub count_warnings : (input : List ℕ) → RollList → (is_ranked : ℕ → Bool) → (of_withdrawn : ℕ) → List ℕ
+count_warnings input roll is_ranked of_withdrawn =
+    many_seats_lines input roll ++ enough_seats_lines input roll
+    ++ unranked_lines input (length roll.names) is_ranked
+    ++ withdrawn_lines input roll.withdrawn of_withdrawn
 
 -- ---- the whole text
 
--- what is said of a roll and the figures of its ballots
-abbrev pub text_of : RollList → Figures → List ℕ
-text_of roll f = facts_text roll f ++ name_warnings roll ++ count_warnings roll f.is_ranked f.of_withdrawn
+-- what is said of a file's roll and of the figures of its ballots
+abbrev pub text_of : (input : List ℕ) → RollList → Figures → List ℕ
+text_of input roll f =
+    facts_text roll f ++ name_warnings input roll ++ count_warnings input roll f.is_ranked f.of_withdrawn
 
 -- What was read of the file of this election.
-abbrev pub look_text : Poll → List ℕ
-look_text poll = text_of poll.roll (figures poll.roll.withdrawn poll.lines)
+abbrev pub look_text : (input : List ℕ) → Poll → List ℕ
+look_text input poll = text_of input poll.roll (figures poll.roll.withdrawn poll.lines)

@@ -1,5 +1,5 @@
 -- What is owed for a ballot file.
-use Rattle.std.specs.Prelude.{◌≡◌, ℕ, List, ◌++◌, length}
+use Rattle.std.specs.Prelude.{◌≡◌, ℕ, List, ◌++◌, length, Some}
 use Rattle.input_text.specs.declared.input_fault.InputFault.{InputFault}
 use Rattle.blt_reader.specs.Poll.{Poll}
 use Rattle.tool_edge.specs.declared.end.End.{End}
@@ -7,20 +7,22 @@ use Rattle.tool_edge.specs.declared.end.End.TheVariants.{Done}
 use Rattle.tool_edge.specs.Contest.{SaysPoll}
 use Rattle.tool_edge.specs.Tool.{Tool}
 use Rattle.tool_edge.specs.Tools.{over_files}
+use Rattle.sheet_input.specs.declared.sheet_limit.TheConstants.{SHEET_LIMIT}
 use Rattle.ballot_look.specs.Breaks.{place_warnings}
 use Rattle.ballot_look.specs.Lines.{look_text}
 
 -- what is said of an election, and behind it what of the places in its file wants a look
 abbrev pub whole_text : (input : List ℕ) → Poll → List ℕ
-whole_text input poll = look_text poll ++ place_warnings input (length poll.roll.names)
+whole_text input poll = look_text input poll ++ place_warnings input (length poll.roll.names)
 
 -- what was read of the file, and what of it wants a look
 abbrev pub OwesLook : (input bytes : List ℕ) → Type 0
 OwesLook input bytes = (poll : Poll) × SaysPoll input poll × (bytes ≡ whole_text input poll)
 
--- a tool that takes no words and a ballot file, and says what was read
+-- a tool that takes no words and a ballot file, and says what was read; a file may be as long as a sheet, longer than a
+-- count reads
 abbrev pub look_tool : Tool (Unit {0}) (Unit {0}) InputFault
-look_tool = over_files OwesLook
+look_tool = record (over_files OwesLook) { limit = λ asked. Some SHEET_LIMIT }
 
 -- the end and the text for the file of this election
 abbrev pub IsLookOf : (input : List ℕ) → Poll → End InputFault → (bytes : List ℕ) → Type 0

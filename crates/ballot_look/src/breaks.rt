@@ -1,21 +1,26 @@
 // What of the tokens of a file wants a look, each with its line and its column.
-ghost use Rattle.std.specs.Prelude.{◌≡◌, ◌+◌, ◌++◌, ◌∷◌, [], ℕ, List, OnOk, IfOk, IfSome, IfNone, codes, drop};
-ghost use Rattle.input_text.specs.Reader.{placed, said};
-ghost use Rattle.ballot_look.specs.Lines.{only_if};
-ghost use Rattle.ballot_look.specs.Breaks.{break_lines, further_lines, goes_on, is_parted, is_string, parted_from, place_line, place_warnings, string_lines, strings};
+ghost use Rattle.std.specs.Prelude.{◌≡◌, ◌+◌, ◌++◌, [], OnOk, IfOk, IfSome, IfNone, codes, drop};
+ghost use Rattle.input_text.specs.Reader.{placed};
+ghost use Rattle.ballot_look.specs.Lines.{only_if, place_line};
+ghost use Rattle.ballot_look.specs.Breaks.{break_lines, further_lines, is_parted, longer_lines, parted_from, place_warnings, string_lines};
 ghost use Rattle.ballot_look.specs.Places.{IsMarkOf};
+ghost use Rattle.ballot_look.specs.Sites.{strings};
 
 use crate::mark::{Mark, mark_of, start};
 use crate::no_memory::NoMemory;
+use crate::reading::{goes_on, next_string, next_token};
 use crate::text::Text;
-use input_text::{Next, Token, Tokens, What};
+use input_text::{Token, Tokens};
+use tool_edge::FILE_LIMIT;
 
-/// The lines on ballots that a line break parts, and on strings behind the title where so many candidates run.
+/// The lines on ballots that a line break parts, on strings behind the title where so many candidates run, and on a file
+/// that is longer than a count reads.
 pub(crate) fn push_places(text: &mut Text, input: &[u8], candidates: u32) -> Result<(), NoMemory>
     ensures { OnOk result (text.new ≡ text.old ++ place_warnings input.now candidates) }
 {
     push_breaks(text, input)?;
-    push_further(text, input, candidates)
+    push_further(text, input, candidates)?;
+    push_longer(text, input, FILE_LIMIT)
 }
 
 /// The lines on ballots that a line break parts.
@@ -66,24 +71,12 @@ fn push_if_parted(
     requires next { IsMarkOf input.now next.at ahead }
     ensures { OnOk result (text.new ≡ text.old
         ++ only_if (is_parted input.now (placed input.now last) (placed input.now next))
-        (place_line input.now (codes "look line ends within a ballot ") (placed input.now last))) }
+        (place_line input.now (codes "look line ends within a ballot") [] last.at)) }
 {
     if !goes_on(last.what) || mark.line == ahead.line {
         return Ok(());
     }
-    text.push_pair_line(b"look line ends within a ballot ", mark.line, mark.column)
-}
-
-/// Whether a ballot goes on behind a token that says this.
-fn goes_on(what: What) -> bool
-    ensures { (bytes : List ℕ) (at stop : ℕ) → result ≡ goes_on (said bytes at stop what) }
-{
-    match what {
-        What::Number(n) => n != 0,
-        What::Minus(_) => false,
-        What::Text => false,
-        What::Word => false,
-    }
+    text.push_place_line(b"look line ends within a ballot", &[], mark)
 }
 
 /// The lines on strings that are neither the name of one of so many candidates nor the title.
@@ -123,49 +116,19 @@ fn push_strings(text: &mut Text, input: &[u8], tokens: &mut Tokens<'_>) -> Resul
 fn push_string(text: &mut Text, input: &[u8], token: Token, mark: Mark) -> Result<(), NoMemory>
     requires { IsMarkOf input.now token.at mark }
     ensures { OnOk result (text.new ≡ text.old
-        ++ place_line input.now (codes "look string behind the title ") (placed input.now token)) }
+        ++ place_line input.now (codes "look string behind the title") [] token.at) }
 {
-    text.push_pair_line(b"look string behind the title ", mark.line, mark.column)
+    text.push_place_line(b"look string behind the title", &[], mark)
 }
 
-/// The next string, where there is one.
-fn next_string(tokens: &mut Tokens<'_>) -> Option<Token>
-    ensures bytes { tokens.new.bytes ≡ tokens.old.bytes }
-    ensures some { IfSome result (λ token. strings tokens.old.rest.tokens
-        ≡ placed tokens.old.bytes token ∷ strings tokens.new.rest.tokens) }
-    ensures none { IfNone result (strings tokens.old.rest.tokens ≡ []) }
-    ensures rest { strings tokens.new.rest.tokens ≡ drop 1 (strings tokens.old.rest.tokens) }
+/// The line on a file that is longer than a count reads, which are so many bytes.
+#[tactic(auto, unfolding(crate::specs::Breaks::longer_lines))]
+fn push_longer(text: &mut Text, input: &[u8], most: usize) -> Result<(), NoMemory>
+    ensures { OnOk result (text.new ≡ text.old ++ longer_lines most input.now) }
 {
-    while let Some(token) = next_token(tokens) {
-        if is_string(token.what) {
-            return Some(token);
-        }
+    if input.len() <= most {
+        return Ok(());
     }
-    None
-}
-
-fn is_string(what: What) -> bool
-    ensures { (bytes : List ℕ) (at stop : ℕ) → result ≡ is_string (said bytes at stop what) }
-{
-    match what {
-        What::Number(_) => false,
-        What::Minus(_) => false,
-        What::Text => true,
-        What::Word => false,
-    }
-}
-
-/// The next token, where there is one.
-fn next_token(tokens: &mut Tokens<'_>) -> Option<Token>
-    ensures bytes { tokens.new.bytes ≡ tokens.old.bytes }
-    ensures some { IfSome result (λ token. tokens.old.rest.tokens
-        ≡ placed tokens.old.bytes token ∷ tokens.new.rest.tokens) }
-    ensures none { IfNone result (tokens.old.rest.tokens ≡ []) }
-    ensures rest { tokens.new.rest.tokens ≡ drop 1 tokens.old.rest.tokens }
-{
-    match tokens.next() {
-        Next::Token(token) => Some(token),
-        Next::End => None,
-        Next::Fault(_) => None,
-    }
+    let behind = mark_of(input, start(input), most);
+    text.push_place_line(b"look longer than a count reads", &[most as u64], behind)
 }

@@ -19,9 +19,9 @@ impl Doubt {
         ensures { result.now ≡ doubt_words self }
     {
         match self {
-            Doubt::OtherBytes => b"look name is not UTF-8 ",
-            Doubt::Directional => b"look name has a directional mark ",
-            Doubt::Unranked => b"look on no ballot ",
+            Doubt::OtherBytes => b"look name is not UTF-8",
+            Doubt::Directional => b"look name has a directional mark",
+            Doubt::Unranked => b"look on no ballot",
         }
     }
 }

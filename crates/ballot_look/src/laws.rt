@@ -1,5 +1,5 @@
 // What holds of all files.
-ghost use Rattle.ballot_look.specs.Laws.{BreaksAreTold, FirstsAreAll, FurtherAreTold, LikeNamesAreTold, MarksAreTold, OneNameIsTold, OtherBytesAreTold, SeatsAreTold, UnrankedAreTold, WithdrawnAreTold};
+ghost use Rattle.ballot_look.specs.Laws.{BreaksAreTold, FirstsAreAll, FurtherAreTold, LikeNamesAreTold, MarksAreTold, NamesAreFirstStrings, OneNameIsTold, OtherBytesAreTold, RanksAreOfLines, SeatsAreSecond, SeatsAreTold, UnrankedAreTold, WithdrawnAreTold};
 
 /// There is no line of a kind exactly where nothing of that kind wants a look; and the first preferences
 /// of all candidates are those ballots that rank somebody. The call does nothing.
@@ -14,4 +14,12 @@ pub fn looks_are_owed()
     ensures breaks { BreaksAreTold }
     ensures further { FurtherAreTold }
     ensures firsts { FirstsAreAll }
+{}
+
+/// The tokens whose places are told are the number of seats, the names and the withdrawn candidates on the ballots
+/// of the election that a file says. The call does nothing.
+pub fn tokens_are_theirs()
+    ensures seats { SeatsAreSecond }
+    ensures names { NamesAreFirstStrings }
+    ensures ranks { RanksAreOfLines }
 {}

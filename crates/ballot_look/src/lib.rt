@@ -4,6 +4,7 @@
 //! break, strings behind the title.
 #![tactic(auto)]
 
+mod ballot_file;
 mod breaks;
 mod doubt;
 mod laws;
@@ -13,13 +14,15 @@ mod looking;
 mod mark;
 mod names;
 mod no_memory;
+mod reading;
 mod run;
 mod said;
+mod sites;
 mod tally;
 mod text;
 mod warnings;
 mod worked;
 
-pub use laws::looks_are_owed;
+pub use laws::{looks_are_owed, tokens_are_theirs};
 pub use run::look;
 pub use worked::worked_looks;

@@ -17,8 +17,8 @@ impl Likeness {
         ensures { result.now ≡ like_words self }
     {
         match self {
-            Likeness::Same => b"look same name ",
-            Likeness::Similar => b"look similar name ",
+            Likeness::Same => b"look same name",
+            Likeness::Similar => b"look similar name",
         }
     }
 }

@@ -5,6 +5,7 @@ ghost use Rattle.ballot_look.specs.Lines.{ballots_text, count_text, count_warnin
 ghost use Rattle.ballot_look.specs.Looked.{IsLooked, figures_of};
 ghost use Rattle.ballot_look.specs.Tally.{was_ranked};
 
+use crate::ballot_file::BallotFile;
 use crate::breaks::push_places;
 use crate::doubt::Doubt;
 use crate::likeness::Likeness;
@@ -59,24 +60,25 @@ pub(crate) fn whole_text(
 ) -> Result<Text, NoMemory>
     requires firsts { length looked.now.tally.firsts ≡ length roll.now.names }
     requires ranked { length looked.now.tally.ranked ≡ length roll.now.names }
-    ensures { IfOk result (λ text. text ≡ text_of roll.now (figures_of looked.now)
+    ensures { IfOk result (λ text. text ≡ text_of input.now roll.now (figures_of looked.now)
         ++ place_warnings input.now (length roll.now.names)) }
 {
-    let mut text = text_of(alloc, roll, looked)?;
+    let file = BallotFile::new(alloc, input, roll)?;
+    let mut text = text_of(alloc, &file, looked)?;
     push_places(&mut text, input, roll.candidates())?;
     Ok(text)
 }
 
 /// The text of what was read.
-fn text_of(alloc: Global, roll: &Roll, looked: &Looked) -> Result<Text, NoMemory>
-    requires firsts { length looked.now.tally.firsts ≡ length roll.now.names }
-    requires ranked { length looked.now.tally.ranked ≡ length roll.now.names }
-    ensures { IfOk result (λ text. text ≡ text_of roll.now (figures_of looked.now)) }
+fn text_of(alloc: Global, file: &BallotFile<'_>, looked: &Looked) -> Result<Text, NoMemory>
+    requires firsts { length looked.now.tally.firsts ≡ length file.now.roll.names }
+    requires ranked { length looked.now.tally.ranked ≡ length file.now.roll.names }
+    ensures { IfOk result (λ text. text ≡ text_of file.now.input file.now.roll (figures_of looked.now)) }
 {
     let mut text = Text::new(alloc);
-    push_facts(&mut text, roll, looked)?;
-    push_name_warnings(alloc, &mut text, roll, &looked.tally)?;
-    push_count_warnings(&mut text, roll, &looked.tally)?;
+    push_facts(&mut text, file.roll(), looked)?;
+    push_name_warnings(alloc, &mut text, file, &looked.tally)?;
+    push_count_warnings(&mut text, file, &looked.tally)?;
     Ok(text)
 }
 
@@ -124,26 +126,30 @@ fn push_counts(text: &mut Text, roll: &Roll, looked: &Looked) -> Result<(), NoMe
 fn push_name_warnings(
     alloc: Global,
     text: &mut Text,
-    roll: &Roll,
+    file: &BallotFile<'_>,
     tally: &Tally,
 ) -> Result<(), NoMemory>
-    requires { length tally.now.ranked ≡ length roll.now.names }
-    ensures { OnOk result (text.new ≡ text.old ++ name_warnings roll.now) }
+    requires { length tally.now.ranked ≡ length file.now.roll.names }
+    ensures { OnOk result (text.new ≡ text.old ++ name_warnings file.now.input file.now.roll) }
 {
-    push_pairs(alloc, text, roll, Likeness::Same)?;
-    push_pairs(alloc, text, roll, Likeness::Similar)?;
-    push_doubts(text, roll, tally, Doubt::OtherBytes)?;
-    push_doubts(text, roll, tally, Doubt::Directional)
+    push_pairs(alloc, text, file, Likeness::Same)?;
+    push_pairs(alloc, text, file, Likeness::Similar)?;
+    push_doubts(text, file, tally, Doubt::OtherBytes)?;
+    push_doubts(text, file, tally, Doubt::Directional)
 }
 
 /// What of the seats and the ballots wants a look.
-fn push_count_warnings(text: &mut Text, roll: &Roll, tally: &Tally) -> Result<(), NoMemory>
-    requires { length tally.now.ranked ≡ length roll.now.names }
+fn push_count_warnings(
+    text: &mut Text,
+    file: &BallotFile<'_>,
+    tally: &Tally,
+) -> Result<(), NoMemory>
+    requires { length tally.now.ranked ≡ length file.now.roll.names }
     ensures { OnOk result (text.new ≡ text.old
-        ++ count_warnings roll.now (was_ranked tally.now) tally.now.of_withdrawn) }
+        ++ count_warnings file.now.input file.now.roll (was_ranked tally.now) tally.now.of_withdrawn) }
 {
-    push_many_seats(text, roll)?;
-    push_enough_seats(text, roll)?;
-    push_doubts(text, roll, tally, Doubt::Unranked)?;
-    push_of_withdrawn(text, tally)
+    push_many_seats(text, file)?;
+    push_enough_seats(text, file)?;
+    push_doubts(text, file, tally, Doubt::Unranked)?;
+    push_of_withdrawn(text, file, tally)
 }

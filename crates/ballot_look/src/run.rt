@@ -1,6 +1,6 @@
 // A whole run.
 ghost use Rattle.std.specs.Prelude.{◌≡◌, ◌≤◌, length, map, string_bytes};
-ghost use Rattle.tool_edge.specs.declared.opening.TheConstants.{FILE_LIMIT};
+ghost use Rattle.sheet_input.specs.declared.sheet_limit.TheConstants.{SHEET_LIMIT};
 ghost use Rattle.tool_edge.specs.Finishing.{FinishesOwed};
 ghost use Rattle.tool_edge.specs.Streams.{reading, writing};
 ghost use Rattle.tool_edge.specs.Tool.{IsOwedFor, IsRun, no_history};
@@ -10,10 +10,10 @@ ghost use Rattle.ballot_look.specs.Owed.{IsLookOf, look_tool};
 use crate::looking::{looked_at, whole_text};
 use blt_reader::{Election, read_blt};
 use byte_edge::{Sink, Source};
+use sheet_input::SHEET_LIMIT;
 use std::alloc::Global;
 use tool_edge::{
-    End, FILE_LIMIT, files_are_not_refused, files_are_refused_once, finish, open, refuse_input,
-    takes_nothing,
+    End, files_are_not_refused, files_are_refused_once, finish, open, refuse_input, takes_nothing,
 };
 
 /// Says what stands in the ballot file that the source gives, before anything is counted, and what of it
@@ -31,7 +31,7 @@ pub fn look<S: Source, K: Sink>(
     files_are_not_refused();
     files_are_refused_once();
     let asked = takes_nothing(words);
-    let opened = match open(alloc, asked, FILE_LIMIT, source, sink) {
+    let opened = match open(alloc, asked, SHEET_LIMIT, source, sink) {
         Ok(opened) => opened,
         Err(end) => return end,
     };
@@ -40,7 +40,7 @@ pub fn look<S: Source, K: Sink>(
 
 /// Says what was read of a whole input, or refuses it.
 fn tell<K: Sink>(alloc: Global, input: &[u8], sink: &mut K) -> End
-    requires { length input.now ≤ FILE_LIMIT }
+    requires { length input.now ≤ SHEET_LIMIT }
     ensures { FinishesOwed (IsOwedFor look_tool (tt {0}) input.now no_history) result
         (writing K.written K.faults sink.old sink.new) }
 {

@@ -1,7 +1,9 @@
 // A text under way.
-ghost use Rattle.std.specs.Prelude.{◌≡◌, ◌<◌, [], ◌∷◌, ◌++◌, decimal, OnOk};
-ghost use Rattle.ballot_look.specs.Lines.{count_line, pair_line, text_line};
+ghost use Rattle.std.specs.Prelude.{◌≡◌, ◌<◌, [], ◌∷◌, ◌++◌, ℕ, List, decimal, OnOk};
+ghost use Rattle.ballot_look.specs.Lines.{count_line, numbers_text, place_line, text_line};
+ghost use Rattle.ballot_look.specs.Places.{IsMarkOf};
 
+use crate::mark::Mark;
 use crate::no_memory::NoMemory;
 use itoa::Buffer;
 use std::alloc::Global;
@@ -70,14 +72,36 @@ impl Text {
         self.push(b"\n")
     }
 
-    /// Appends a line of words and two numbers.
-    pub(crate) fn push_pair_line(&mut self, words: &[u8], c: u64, d: u64) -> Result<(), NoMemory>
-        ensures { OnOk result (self.new ≡ self.old ++ pair_line words.now c d) }
+    /// Appends a line of words and numbers, and behind them the line and the column of a mark.
+    pub(crate) fn push_place_line(
+        &mut self,
+        words: &[u8],
+        numbers: &[u64],
+        mark: Mark,
+    ) -> Result<(), NoMemory>
+        ensures { (input : List ℕ) (place : ℕ) → IsMarkOf input place mark
+            → OnOk result (self.new ≡ self.old ++ place_line input words.now numbers.now place) }
     {
         self.push(words)?;
-        self.push_count(c)?;
-        self.push(b" ")?;
-        self.push_count(d)?;
+        self.push_numbers(numbers)?;
+        self.push_numbers(&[mark.line, mark.column])?;
         self.push(b"\n")
+    }
+
+    /// Appends numbers, each behind a space.
+    fn push_numbers(&mut self, numbers: &[u64]) -> Result<(), NoMemory>
+        ensures { OnOk result (self.new ≡ self.old ++ numbers_text numbers.now) }
+    {
+        for n in numbers {
+            self.push_number(*n)?;
+        }
+        Ok(())
+    }
+
+    fn push_number(&mut self, n: u64) -> Result<(), NoMemory>
+        ensures { OnOk result (self.new ≡ self.old ++ 32 ∷ decimal n) }
+    {
+        self.push(b" ")?;
+        self.push_count(n)
     }
 }

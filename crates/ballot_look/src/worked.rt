@@ -1,5 +1,5 @@
 // Files worked by hand.
-ghost use Rattle.ballot_look.specs.Worked.{Marks, NoBallots, OddCounts, OddNames, OldFile, PartedFile, Places, QuietFile};
+ghost use Rattle.ballot_look.specs.Worked.{LongFile, Marks, NoBallots, OddCounts, OddNames, OldFile, PartedFile, Places, QuietFile, Ranks};
 
 /// What is said of these files, to the byte. The call does nothing.
 pub fn worked_looks()
@@ -11,4 +11,6 @@ pub fn worked_looks()
     ensures places { Places }
     ensures parted { PartedFile }
     ensures old { OldFile }
+    ensures longer { LongFile }
+    ensures ranks { Ranks }
 {}

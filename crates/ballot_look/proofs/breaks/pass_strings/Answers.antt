@@ -1,7 +1,7 @@
 use Rattle.std.proofs.Common.{◌∙◌, ap, drop}
 use Rattle.input_text.specs.Token.{Placed}
 use Rattle.std.proofs.lemmas.List.{drop-drop}
-use Rattle.ballot_look.specs.Breaks.{strings}
+use Rattle.ballot_look.specs.Sites.{strings}
 use Rattle.ballot_look.proofs.breaks.pass_strings.Goals as goal
 
 pub loop-preserved : goal.loop-preserved

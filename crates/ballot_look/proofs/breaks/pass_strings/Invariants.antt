@@ -1,5 +1,5 @@
 use Rattle.std.proofs.Common.{◌≡◌, drop}
-use Rattle.ballot_look.specs.Breaks.{strings}
+use Rattle.ballot_look.specs.Sites.{strings}
 use Rattle.ballot_look.proofs.breaks.pass_strings.Given as goal
 
 abbrev pub invariant-loop : goal.invariant-loop

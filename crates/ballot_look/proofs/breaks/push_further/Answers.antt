@@ -3,7 +3,8 @@ use Rattle.std.specs.Prelude.{OnOk}
 use Rattle.input_text.specs.Reader.{Reader}
 use Rattle.input_text.specs.Token.{Placed}
 use Rattle.std.proofs.lemmas.List.{drop-drop}
-use Rattle.ballot_look.specs.Breaks.{string_lines, strings, tokens_of}
+use Rattle.ballot_look.specs.Breaks.{string_lines}
+use Rattle.ballot_look.specs.Sites.{strings, tokens_of}
 use Rattle.ballot_look.proofs.breaks.push_further.Goals as goal
 
 pub returns : goal.returns

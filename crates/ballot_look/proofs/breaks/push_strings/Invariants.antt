@@ -1,5 +1,6 @@
 use Rattle.std.proofs.Common.{◌≡◌, ◌++◌, length}
-use Rattle.ballot_look.specs.Breaks.{string_lines, strings}
+use Rattle.ballot_look.specs.Breaks.{string_lines}
+use Rattle.ballot_look.specs.Sites.{strings}
 use Rattle.ballot_look.specs.Places.{IsMark}
 use Rattle.ballot_look.proofs.breaks.push_strings.Given as goal
 

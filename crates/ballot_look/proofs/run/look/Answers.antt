@@ -1,7 +1,7 @@
 use Rattle.std.proofs.Common.{refl, map}
 use Rattle.std.specs.Prelude.{Some, string_bytes}
 use Rattle.tool_edge.specs.Streams.{reading, writing}
-use Rattle.tool_edge.specs.declared.opening.TheConstants.{FILE_LIMIT}
+use Rattle.sheet_input.specs.declared.sheet_limit.TheConstants.{SHEET_LIMIT}
 use Rattle.tool_edge.proofs.Running.{stopped, worked_on}
 use Rattle.ballot_look.specs.Owed.{look_tool}
 use Rattle.ballot_look.proofs.Owing.{sound}
@@ -9,7 +9,7 @@ use Rattle.ballot_look.proofs.run.look.Goals as goal
 
 pub returns-in-Err : goal.returns-in-Err
 returns-in-Err g c =
-    stopped look_tool (Some FILE_LIMIT) (λ asked. refl) (map string_bytes c.args.words.now)
+    stopped look_tool (Some SHEET_LIMIT) (λ asked. refl) (map string_bytes c.args.words.now)
     c.takes_nothing-asked.result c.in-Err.end
     (reading g.S.Source.left g.S.Source.faults c.args.source.now c.open.new.source)
     (writing g.K.Sink.written g.K.Sink.faults c.args.sink.now c.open.new.sink)

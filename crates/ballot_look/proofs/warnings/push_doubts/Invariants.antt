@@ -5,4 +5,5 @@ use Rattle.ballot_look.proofs.warnings.push_doubts.Given as goal
 
 abbrev pub invariant-loop-p : goal.invariant-loop-p
 invariant-loop-p l =
-    l.text ≡ l.initial.text ++ candidate_lines (doubt_words l.doubt) l.p (is_doubtful l.doubt l.fn.roll l.fn.tally)
+    l.text ≡ l.initial.text
+    ++ candidate_lines l.fn.file.input (doubt_words l.doubt) l.p (is_doubtful l.doubt l.fn.file.roll l.fn.tally)

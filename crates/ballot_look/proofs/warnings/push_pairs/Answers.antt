@@ -6,8 +6,8 @@ use Rattle.ballot_look.proofs.warnings.push_pairs.Goals as goal
 
 pub loop-p-preserved : goal.loop-p-preserved
 loop-p-preserved c =
-    let names = c.args.roll.now.names in
+    let names = c.args.file.now.roll.names in
     each_step
     (λ n. for_later (length names) n
-    (λ d. only_if (are_like c.args.likeness names n d) (pair_line (like_words c.args.likeness) n d))) 1
+    (λ d. only_if (are_like c.args.likeness names n d) (pair_line c.args.file.now.input (like_words c.args.likeness) n d))) 1
     c.loop-p.p (c.loop-p.p + 1) _ _ _ (omega arith) c.loop-p.invariant c.in_ok-push_pairs_of.ensures

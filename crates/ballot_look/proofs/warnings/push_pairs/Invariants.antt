@@ -6,5 +6,5 @@ use Rattle.ballot_look.proofs.warnings.push_pairs.Given as goal
 abbrev pub invariant-loop-p : goal.invariant-loop-p
 invariant-loop-p l =
     l.text ≡ l.initial.text
-    ++ for_each l.p (λ c. for_later (length l.fn.roll.names) c
-    (λ d. only_if (are_like l.likeness l.fn.roll.names c d) (pair_line (like_words l.likeness) c d)))
+    ++ for_each l.p (λ c. for_later (length l.fn.file.roll.names) c
+    (λ d. only_if (are_like l.likeness l.fn.file.roll.names c d) (pair_line l.fn.file.input (like_words l.likeness) c d)))

@@ -7,6 +7,6 @@ use Rattle.ballot_look.proofs.warnings.push_pairs_of.Goals as goal
 pub loop-p-preserved : goal.loop-p-preserved
 loop-p-preserved c =
     each_step
-    (λ d. only_if (are_like c.args.likeness c.args.roll.now.names c.args.c d)
-    (pair_line (like_words c.args.likeness) c.args.c d))
+    (λ d. only_if (are_like c.args.likeness c.args.file.now.roll.names c.args.c d)
+    (pair_line c.args.file.now.input (like_words c.args.likeness) c.args.c d))
     (c.args.c + 1) c.loop-p.p (c.args.c + 1 + c.loop-p.p) _ _ _ (omega arith) c.loop-p.invariant c.in_ok-push_pair.ensures

@@ -7,5 +7,5 @@ use Rattle.ballot_look.proofs.warnings.push_pairs_of.Given as goal
 abbrev pub invariant-loop-p : goal.invariant-loop-p
 invariant-loop-p l =
     l.text ≡ l.initial.text
-    ++ flat_map (λ d. only_if (are_like l.likeness l.fn.roll.names l.c d) (pair_line (like_words l.likeness) l.c d))
-    (range_with_len (l.c + 1) l.p)
+    ++ flat_map (λ d. only_if (are_like l.likeness l.fn.file.roll.names l.c d)
+    (pair_line l.fn.file.input (like_words l.likeness) l.c d)) (range_with_len (l.c + 1) l.p)

@@ -1,7 +1,7 @@
 use Rattle.std.proofs.Common.{◌≡◌}
 use Rattle.input_text.specs.Reads.{tokens_left}
-use Rattle.ballot_look.specs.Breaks.{strings}
-use Rattle.ballot_look.proofs.breaks.next_string.Given as goal
+use Rattle.ballot_look.specs.Sites.{strings}
+use Rattle.ballot_look.proofs.reading.next_string.Given as goal
 
 abbrev pub invariant-loop-token : goal.invariant-loop-token
 invariant-loop-token l = record {
