@@ -6,3 +6,6 @@ mod TrialVerdicts
 mod WordLemmas
 pub mod Splits
 pub mod Audits
+mod WorkedEnds
+mod WorkedVerdicts
+pub mod WorkedWords

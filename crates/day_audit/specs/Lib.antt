@@ -3,3 +3,4 @@ pub mod Judged
 pub mod Laws
 pub mod Input
 pub mod Audit
+pub mod Worked

@@ -18,12 +18,14 @@ mod tool;
 mod trial_judging;
 mod verdict_line;
 mod words;
+mod worked;
 
 pub use audit_asked::AuditAsked;
 pub use day_verdict::DayVerdict;
 pub use judging::judge;
 pub use laws::verdicts_are_unique;
 pub use no_memory::NoMemory;
-pub use split::text_and_file;
+pub use split::{ended, text_and_file};
 pub use tool::audit;
 pub use trial_judging::judge_trial;
+pub use worked::worked_audits;

@@ -3,6 +3,7 @@ ghost use Rattle.std.specs.Prelude.{◌≡◌, ◌<◌, ◌↔◌, IsTrue, Match
 ghost use Rattle.sheet_check.specs.Input.{HasEndAt};
 ghost use Rattle.day_audit.specs.Input.{GoesOn, HasNoLastEnd, IsDaySplit, IsLastEnd};
 
+use blt_reader::{FaultKind, InputFault};
 use sheet_check::has_end_at;
 
 /// The bytes up to and including the first line `end` behind which no further sheet begins, and those behind
@@ -17,6 +18,16 @@ pub fn text_and_file(input: &[u8]) -> Option<(&[u8], &[u8])>
         }
     }
     None
+}
+
+/// The fault of an input in which no text ends.
+pub fn ended(len: usize) -> InputFault
+    ensures { result ≡ record { kind = FaultKind.Ended; at = len } }
+{
+    InputFault {
+        kind: FaultKind::Ended,
+        at: len,
+    }
 }
 
 /// Whether a line `end` stands at this place, and no further sheet behind it.

@@ -11,10 +11,9 @@ ghost use Rattle.day_audit.specs.Audit.{audits_days, IsOwedLine};
 ghost use Rattle.day_audit.specs.Judged.{IsDayVerdict};
 ghost use Rattle.day_audit.specs.Words.{MayBeAsked};
 
-use crate::split::text_and_file;
+use crate::split::{ended, text_and_file};
 use crate::words::takes_audit;
 use crate::{AuditAsked, judge, judge_trial};
-use blt_reader::{FaultKind, InputFault};
 use byte_edge::{Sink, Source};
 use day_reader::{Day, accepts_days, read_day, refuses_by_the_rule};
 use number_option::words_have_one_number;
@@ -78,16 +77,6 @@ fn audit_day<R: Threads + Sync, K: Sink>(rt: &R, alloc: Global, input: &[u8], si
     match read_day(alloc, file) {
         Ok(day) => judge_day(rt, alloc, text, day, sink),
         Err(stop) => refuse_input(sink, stop),
-    }
-}
-
-/// The fault of an input in which no text ends.
-fn ended(len: usize) -> InputFault
-    ensures { result ≡ record { kind = FaultKind.Ended; at = len } }
-{
-    InputFault {
-        kind: FaultKind::Ended,
-        at: len,
     }
 }
 

@@ -1,9 +1,13 @@
 // The line of a verdict.
 ghost use Rattle.std.specs.Prelude.{◌≡◌, ◌≤◌, ◌++◌, ◌∷◌, [], codes, decimal, length};
 ghost use Rattle.day_audit.specs.Audit.{subject, verdict_line};
+ghost use Rattle.day_audit.specs.declared.verdict_line.TheConstants.{LONGEST_SUBJECT};
 
 use crate::{AuditAsked, DayVerdict};
 use line_text::Line;
+
+/// So many bytes has the longer of `day` and `trial`.
+const LONGEST_SUBJECT: usize = 5;
 
 impl DayVerdict {
     /// The line that says it of what was audited.
@@ -22,7 +26,7 @@ impl DayVerdict {
 /// A line that begins with what was audited.
 fn begun(asked: AuditAsked) -> Line
     ensures begins { result ≡ subject asked }
-    ensures short { length result ≤ 5 }
+    ensures short { length result ≤ LONGEST_SUBJECT }
 {
     let mut line = Line::new();
     match asked {
@@ -34,7 +38,7 @@ fn begun(asked: AuditAsked) -> Line
 
 /// Writes on that a text is false at the line of this number.
 fn push_false(line: &mut Line, n: u64)
-    requires { length line.old ≤ 5 }
+    requires { length line.old ≤ LONGEST_SUBJECT }
     ensures { line.new ≡ line.old ++ (codes " false at line " ++ (decimal n ++ 10 ∷ [])) }
 {
     line.push_bytes(b" false at line ");

@@ -7,3 +7,6 @@ mod Owing
 mod Names
 mod Ranked
 mod Counted
+mod OneTeam
+mod WorkedAnswers
+mod WorkedFreezes

@@ -3,3 +3,4 @@ pub mod Along
 pub mod Found
 pub mod Ballots
 pub mod Laws
+pub mod Worked

@@ -13,9 +13,11 @@ mod freezes;
 mod laws;
 mod tool;
 mod words;
+mod worked;
 mod writing;
 
 pub use ballots_fault::BallotsFault;
 pub use laws::freezes_are_counted;
 pub use tool::ballots;
 pub use words::{LAST_LINE, takes_line};
+pub use worked::worked_freezes;

@@ -9,9 +9,9 @@ ghost use Rattle.day_ballots.specs.Ballots.{exports_freezes};
 
 use crate::writing::write_at;
 use crate::{BallotsFault, takes_line};
-use blt_reader::{BltStop, FaultKind, InputFault};
+use blt_reader::BltStop;
 use byte_edge::{Sink, Source};
-use day_audit::text_and_file;
+use day_audit::{ended, text_and_file};
 use day_reader::{accepts_days, read_day, refuses_by_the_rule};
 use number_option::words_have_one_number;
 use sheet_input::SHEET_LIMIT;
@@ -53,15 +53,5 @@ fn write_ballots<K: Sink>(alloc: Global, at: u32, input: &[u8], sink: &mut K) ->
         Ok(day) => write_at(alloc, at, text, day, sink),
         Err(BltStop::Fault(fault)) => refuse(sink, BallotsFault::File(fault)),
         Err(BltStop::NoMemory) => End::NoMemory,
-    }
-}
-
-/// The fault of an input in which no text ends.
-fn ended(len: usize) -> InputFault
-    ensures { result ≡ record { kind = FaultKind.Ended; at = len } }
-{
-    InputFault {
-        kind: FaultKind::Ended,
-        at: len,
     }
 }

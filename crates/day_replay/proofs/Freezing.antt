@@ -5,31 +5,20 @@ use Rattle.std.specs.Prelude.{slice_get, IsPermutation}
 use Rattle.std.specs.List.{enumerate_from}
 use Rattle.std.proofs.lemmas.List.{append-nil, append_assoc, map-append, length-append, take-append-le, take_all}
 use Rattle.std.proofs.lemmas.List.Elements.{All-push, All-weaker}
-use Rattle.std.proofs.lemmas.List.Sorted.{IsPermutation-sym, IsPermutation-trans}
 use Rattle.plain_ballots.specs.Ballots.{plain}
-use Rattle.plain_ballots.specs.declared.ballot_line.BallotLine.{BallotLine}
-use Rattle.plain_ballots.proofs.PlainLemmas.{plain-IsPermutation}
 use Rattle.batch_core.specs.declared.entry.Entry.{Entry}
-use Rattle.batch_core.specs.Book.{empty, standing}
-use Rattle.batch_core.specs.Histories.{after_all, standing_after, struck_after}
-use Rattle.call_register.specs.declared.mark.Mark.{Mark}
-use Rattle.call_register.specs.declared.mark.Mark.TheVariants.{Freeze}
-use Rattle.call_register.specs.Marks.{marks_of, struck_by}
-use Rattle.call_register.specs.Weaving.{weave, freeze_entry, HaveEntries, MatchEntries}
-use Rattle.call_register.specs.Woven.{AreOfShards, IsWoven}
-use Rattle.call_register.proofs.Places.{length_woven}
-use Rattle.call_register.proofs.Standing.{woven_law}
-use Rattle.call_register.proofs.Sights.{freeze_adds}
-use Rattle.call_register.proofs.Steps.{struck-append}
-use Rattle.frozen_plan.specs.Plan.{PlanRows, plan_ballots, all_ballots}
+use Rattle.batch_core.specs.Book.{BookList, BookState, empty, standing, state_of}
+use Rattle.batch_core.specs.Histories.{after_all}
+use Rattle.batch_core.specs.Laws.{LeadsOn}
+use Rattle.call_register.specs.Weaving.{freeze_entry}
+use Rattle.frozen_plan.specs.Plan.{all_ballots}
 use Rattle.day_reader.specs.Call.{is_freeze}
 use Rattle.shard_office.specs.Versions.{VersionState}
 use Rattle.shard_office.specs.Laws.{StandsIn}
 use Rattle.meek_cli.specs.DayText.{freeze_places}
 use Rattle.meek_cli.specs.Frozen.{AreFrozen}
-use Rattle.day_replay.specs.Replay.{one_list}
+use Rattle.day_replay.specs.Replay.{IsStanding}
 use Rattle.day_replay.proofs.Lists.{inside, got_behind, got_ahead}
-use Rattle.day_replay.proofs.OneShard.{fits_freeze}
 
 -- ---- as calls are added
 
@@ -45,7 +34,9 @@ stands_on v history more is =
         got_ahead history more (v.at - 1) (inside history (v.at - 1) (freeze_entry is.freeze.0) is.freeze.1) ∙ is.freeze.1,
       );
       ballots =
-          subst (λ (l : List Entry). IsPermutation (all_ballots v.plans) (plain (standing (after_all empty l)))) (sym front) is.ballots;
+          subst
+          (λ (l : List Entry). IsPermutation (all_ballots v.plans) (plain (standing (after_all empty l))))
+          (sym front) is.ballots;
       struck = is.struck ∙ ap (λ (l : List Entry). (after_all empty l).struck) (sym front);
     }
 
@@ -74,7 +65,8 @@ one_place false place e = refl
 
 places_on :
     (place : ℕ) (history : List Entry) (e : Entry)
-    → places_from place (history ++ e ∷ []) ≡ places_from place history ++ place_if (is_freeze e.call) (place + length history)
+    → places_from place (history ++ e ∷ [])
+    ≡ places_from place history ++ place_if (is_freeze e.call) (place + length history)
 places_on place [] e =
     let here : place ≡ place + 0 = omega arith in
     one_place (is_freeze e.call) place e ∙ ap (place_if (is_freeze e.call)) here
@@ -82,13 +74,15 @@ places_on place (x ∷ xs) e =
     let last = place_if (is_freeze e.call) (place + 1 + length xs) in
     let same : place + 1 + length xs ≡ place + length (x ∷ xs) = omega arith in
     let front = places_from (place + 1) xs in
-    taken_if (is_freeze x.call) (place, x) (freezes_in (enumerate_from (place + 1) (xs ++ e ∷ []))) front last (places_on (place + 1) xs e)
+    taken_if (is_freeze x.call) (place, x) (freezes_in (enumerate_from (place + 1) (xs ++ e ∷ []))) front last
+    (places_on (place + 1) xs e)
     ∙ (sym (append_assoc (places_of (cond (is_freeze x.call) ((place, x) ∷ []) [])) front last)
     ∙ (λ i. sym (kept (is_freeze x.call)) i ++ place_if (is_freeze e.call) (same i)))
   where
     kept :
         (b : Bool)
-        → places_of (cond b ((place, x) ∷ freezes_in (enumerate_from (place + 1) xs)) (freezes_in (enumerate_from (place + 1) xs)))
+        → places_of (cond b ((place, x) ∷ freezes_in (enumerate_from (place + 1) xs))
+        (freezes_in (enumerate_from (place + 1) xs)))
         ≡ places_of (cond b ((place, x) ∷ []) []) ++ places_from (place + 1) xs
     kept true = refl
     kept false = refl
@@ -109,7 +103,8 @@ frozen_on n history versions e are other = record {
 }
 
 pub frozen_more :
-    (n : ℕ) (history : List Entry) (versions : List VersionState) (caller : ℕ) (v : VersionState) → AreFrozen n history versions
+    (n : ℕ) (history : List Entry) (versions : List VersionState) (caller : ℕ) (v : VersionState)
+    → AreFrozen n history versions
     → v.at ≡ 1 + length history → v.candidates ≡ n → StandsIn v (history ++ freeze_entry caller ∷ [])
     → AreFrozen n (history ++ freeze_entry caller ∷ []) (versions ++ v ∷ [])
 frozen_more n history versions caller v are at of is = record {
@@ -118,7 +113,8 @@ frozen_more n history versions caller v are at of is = record {
       ∙ ((λ i. are.places i ++ at i ∷ []) ∙ sym (places_on 1 history (freeze_entry caller)));
   stand =
       All-push (λ (w : VersionState). StandsIn w (history ++ freeze_entry caller ∷ [])) versions v
-      (All-weaker (λ (w : VersionState). StandsIn w history) (λ (w : VersionState). StandsIn w (history ++ freeze_entry caller ∷ []))
+      (All-weaker (λ (w : VersionState). StandsIn w history)
+      (λ (w : VersionState). StandsIn w (history ++ freeze_entry caller ∷ []))
       (λ w stood. stands_on w history (freeze_entry caller ∷ []) stood) versions are.stand)
       is;
   of_all = All-push (λ (w : VersionState). w.candidates ≡ n) versions v are.of_all of;
@@ -126,69 +122,31 @@ frozen_more n history versions caller v are at of is = record {
 
 -- ---- a freeze
 
-module _ (marks : List Mark) (es : List Entry) (are : AreOfShards 1 (one_list es)) (fit : MatchEntries marks (one_list es)) where
-  enough : HaveEntries marks (one_list es)
-  enough s = let f = fit s in omega (arith, f)
+-- what stands in the book of a history stands at the next freeze
+pub stands_now :
+    (leads : LeadsOn) (book : BookList) (history : List Entry) (caller : ℕ) (v : VersionState)
+    → state_of book ≡ after_all empty history → IsStanding book (length history + 1) v
+    → StandsIn v (history ++ freeze_entry caller ∷ [])
+stands_now leads book history caller v led stands = record {
+  some = omega (arith, stands.at_is);
+  inside = omega (arith, stands.at_is, long);
+  freeze = (
+    caller,
+    (let at : v.at - 1 ≡ length history = omega (arith, stands.at_is) in
+        ap (slice_get whole) at ∙ got_behind history (freeze_entry caller) []),
+  );
+  ballots = subst (λ (b : BookState). IsPermutation (all_ballots v.plans) (plain (standing b))) now stands.ballots;
+  struck = stands.struck ∙ ap (λ (b : BookState). b.struck) now;
+}
+  where
+    whole : List Entry
+    whole = history ++ freeze_entry caller ∷ []
 
-  pub as_long : length (weave marks (one_list es)) ≡ length marks
-  as_long = length_woven [] marks (one_list es) enough
+    long : length whole ≡ length history + 1
+    long = length-append history (freeze_entry caller ∷ [])
 
-  -- the plan of all that stands is that of the next freeze
-  pub stands_now :
-      (caller candidates : ℕ) (plan : PlanRows)
-      → IsPermutation (plan_ballots plan.rows) (plain (standing (after_all empty es)))
-      → StandsIn (record { at = length marks + 1; candidates = candidates; plans = plan ∷ []; struck = struck_by marks })
-      (weave marks (one_list es) ++ freeze_entry caller ∷ [])
-  stands_now caller candidates plan of = record {
-    some = omega arith;
-    inside = let one = length-append history (freeze_entry caller ∷ []) in omega (arith, one, as_long);
-    freeze = (
-      caller,
-      (let at : length marks + 1 - 1 ≡ length history = omega (arith, as_long) in
-          ap (slice_get (history ++ freeze_entry caller ∷ [])) at ∙ got_behind history (freeze_entry caller) []),
-    );
-    ballots =
-        subst (λ (l : List (List ℕ)). IsPermutation l (plain (standing_after (history ++ freeze_entry caller ∷ []) (length marks + 1))))
-        (sym (append-nil (plan_ballots plan.rows)))
-        (IsPermutation-trans (plan_ballots plan.rows) (plain all_standing)
-        (plain (standing_after (history ++ freeze_entry caller ∷ []) (length marks + 1))) of
-        (IsPermutation-sym (plain (standing_after (history ++ freeze_entry caller ∷ []) (length marks + 1))) (plain all_standing)
-        (plain-IsPermutation (standing_after (history ++ freeze_entry caller ∷ []) (length marks + 1)) all_standing stands)));
-    struck = sym (subst (λ (h : List Entry). struck_after h (length marks + 1) ≡ struck_by marks) whole struck);
-  }
-    where
-      history : List Entry
-      history = weave marks (one_list es)
-
-      now : List Mark
-      now = marks ++ Freeze caller ∷ []
-
-      whole : weave now (one_list es) ≡ history ++ freeze_entry caller ∷ []
-      whole = freeze_adds caller marks (one_list es)
-
-      fits : MatchEntries now (one_list es)
-      fits = fits_freeze marks es caller fit
-
-      law : IsWoven 1 now (one_list es) (weave now (one_list es))
-      law = woven_law 1 now (one_list es) are fits
-
-      all : take (length marks + 1) now ≡ now
-      all = take_all (length marks + 1) now (let one = length-append marks (Freeze caller ∷ []) in omega (arith, one))
-
-      struck : struck_after (weave now (one_list es)) (length marks + 1) ≡ struck_by marks
-      struck = law.struck (length marks + 1) ∙ (ap struck_by all ∙ struck-append [] marks (Freeze caller ∷ []))
-
-      all_standing : List BallotLine
-      all_standing = standing (after_all empty es)
-
-      of_shard : standing_after es (marks_of 1 (take (length marks + 1) now)) ++ [] ≡ all_standing
-      of_shard =
-          append-nil (standing_after es (marks_of 1 (take (length marks + 1) now)))
-          ∙ (ap (λ (n : ℕ). standing_after es n) (ap (marks_of 1) all ∙ fits 1)
-          ∙ ap (λ (l : List Entry). standing (after_all empty l)) (take_all (length es) es (omega arith)))
-
-      stands : IsPermutation (standing_after (history ++ freeze_entry caller ∷ []) (length marks + 1)) all_standing
-      stands =
-          subst (λ (l : List BallotLine). IsPermutation (standing_after (history ++ freeze_entry caller ∷ []) (length marks + 1)) l) of_shard
-          (subst (λ (h : List Entry). IsPermutation (standing_after h (length marks + 1))
-          (standing_after es (marks_of 1 (take (length marks + 1) now)) ++ [])) whole (law.standing (length marks + 1)))
+    now : state_of book ≡ after_all empty (take v.at whole)
+    now =
+        led
+        ∙ (sym (leads history (freeze_entry caller))
+        ∙ ap (after_all empty) (sym (take_all v.at whole (omega (arith, stands.at_is, long)))))

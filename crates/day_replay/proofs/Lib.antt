@@ -2,7 +2,6 @@ pub mod Lists
 pub mod Own
 mod Fronts
 mod Nearest
-mod OneShard
 mod Freezing
 mod Replaying
 mod Rooms
@@ -11,3 +10,5 @@ mod Taking
 mod Putting
 mod Way
 mod Stands
+mod WorkedLines
+mod WorkedOrders

@@ -1,77 +1,78 @@
 -- What stands for a freeze: few enough ballots, of the candidates of the office.
 use Rattle.std.proofs.Common.{◌≡◌, ℕ, ◌≤◌, Bool, true, false, cond, List, [], ◌∷◌, ◌++◌, length, sym, ap, ◌∙◌, subst, arith}
-use Rattle.std.specs.Prelude.{All, IsPermutation, Result, Ok, Err, OnOk}
-use Rattle.std.specs.Result.{is_err}
-use Rattle.std.proofs.lemmas.List.{append-nil}
-use Rattle.std.proofs.lemmas.List.Elements.{All-nil, All-cons, All-head, All-tail, All-push}
+use Rattle.std.specs.Prelude.{All, IsPermutation}
+use Rattle.std.proofs.lemmas.List.Elements.{All-nil, All-head, All-tail, All-push, All-weaker}
 use Rattle.std.proofs.lemmas.List.Sorted.{length_permutation}
-use Rattle.plain_ballots.specs.Ballots.{plain}
+use Rattle.plain_ballots.specs.declared.ballot_line.BallotLine.{BallotLine}
+use Rattle.plain_ballots.specs.declared.limits.TheConstants.{MOST_CANDIDATES}
+use Rattle.plain_ballots.specs.Ballots.{BallotList, ballot_count, plain}
 use Rattle.plain_ballots.proofs.PlainLemmas.{length-plain}
+use Rattle.batch_core.specs.declared.call.Call.{Call}
+use Rattle.batch_core.specs.declared.call.Call.TheVariants.{Change as Changes, Freeze, Strike}
 use Rattle.batch_core.specs.declared.entry.Entry.{Entry}
-use Rattle.batch_core.specs.Book.{empty, standing, is_struck}
+use Rattle.batch_core.specs.Book.{BookList, BookState, empty, after, is_struck, standing, state_of}
 use Rattle.batch_core.specs.Histories.{after_all}
+use Rattle.batch_core.specs.Lawful.{MayStep, AreLawful}
 use Rattle.batch_core.proofs.LawfulLemmas.{standing_total, kept_all}
-use Rattle.call_register.specs.declared.mark.Mark.{Mark}
-use Rattle.call_register.specs.declared.mark.Mark.TheVariants.{Shard, Freeze, Strike}
-use Rattle.call_register.specs.Marks.{MayMark, struck_from, struck_by}
-use Rattle.frozen_plan.specs.Plan.{PlanRows, plan_ballots, all_ballots}
-use Rattle.shard_book.specs.Shard.{AreOfShard}
+use Rattle.frozen_plan.specs.Plan.{PlanRows, all_ballots}
+use Rattle.day_reader.specs.Said.{IsAnswerable}
+use Rattle.day_replay.specs.declared.limits.TheConstants.{MOST_STANDING}
 
-pub few_ballots :
-    (plans : List PlanRows) (plan : PlanRows) (candidates : ℕ) (es : List Entry) (ballots : List (List ℕ)) → plans ≡ plan ∷ []
-    → plan_ballots plan.rows ≡ ballots → IsPermutation ballots (plain (standing (after_all empty es)))
-    → AreOfShard candidates 1 1 es → length (all_ballots plans) ≤ 999900000
-few_ballots plans plan candidates es ballots one are moved of =
-    let all : all_ballots plans ≡ ballots = ap all_ballots one ∙ (append-nil (plan_ballots plan.rows) ∙ are) in
-    omega (
-      arith,
-      ap length all,
-      length_permutation ballots (plain (standing (after_all empty es))) moved,
-      length-plain (standing (after_all empty es)),
-      standing_total candidates (after_all empty es) (kept_all candidates es of.lawful),
-    )
+-- ---- calls that an office of so many candidates answers
 
--- what holds of a push that was no failure
-on_ok : {T E P : Type 0} (r : Result T E) → false ≡ is_err r → OnOk r P → P
-on_ok (Ok x) none holds = holds
-on_ok (Err e) none holds = absurd (cc)
+pub may_step : (n : ℕ) (asked : Call) → n ≤ MOST_CANDIDATES → IsAnswerable n asked → MayStep n asked
+may_step n (Changes change) most is = is
+may_step n Freeze most is = tt
+may_step n (Strike c) most is = (is.0, omega (arith, is.1, most))
 
--- the only plan
-pub only_plan :
-    {T E : Type 0} (before plans : List PlanRows) (plan : PlanRows) (r : Result T E) → false ≡ is_err r → before ≡ []
-    → OnOk r (plans ≡ before ++ plan ∷ []) → plans ≡ plan ∷ []
-only_plan before plans plan r none empty pushed = on_ok r none pushed ∙ ap (λ (l : List PlanRows). l ++ plan ∷ []) empty
-
-pub one_plan :
-    (plans : List PlanRows) (plan : PlanRows) (candidates : ℕ) → plans ≡ plan ∷ [] → plan.candidates ≡ candidates
-    → All (λ (p : PlanRows). p.candidates ≡ candidates) plans
-one_plan plans plan candidates one of =
-    subst (All (λ (p : PlanRows). p.candidates ≡ candidates)) (sym one)
-    (All-cons (λ (p : PlanRows). p.candidates ≡ candidates) plan [] of (All-nil (λ (p : PlanRows). p.candidates ≡ candidates)))
+-- few enough ballots stand after them
+pub few_stand :
+    (n : ℕ) (book : BookList) (history : List Entry) → n ≤ MOST_CANDIDATES → state_of book ≡ after_all empty history
+    → All (λ e. IsAnswerable n e.call) history → ballot_count (standing (state_of book)) ≤ MOST_STANDING
+few_stand n book history most led answerable =
+    subst (λ (b : BookState). ballot_count (standing b) ≤ MOST_STANDING) (sym led)
+    (standing_total n (after_all empty history) (kept_all n history lawful))
+  where
+    lawful : AreLawful n history
+    lawful =
+        All-weaker (λ (e : Entry). IsAnswerable n e.call) (λ (e : Entry). MayStep n e.call)
+        (λ e is. may_step n e.call most is) history answerable
 
 -- who is struck is one of the candidates
-module _ (shards candidates : ℕ) where
+module _ (n : ℕ) where
   abbrev IsOne : ℕ → Type 0
-  IsOne c = (1 ≤ c) × (c ≤ candidates)
+  IsOne c = (1 ≤ c) × (c ≤ n)
 
   more_if : (b : Bool) (struck : List ℕ) (c : ℕ) → All IsOne struck → IsOne c → All IsOne (cond b struck (struck ++ c ∷ []))
   more_if true struck c all one = all
   more_if false struck c all one = All-push IsOne struck c all one
 
-  all_from : (struck : List ℕ) (marks : List Mark) → All IsOne struck → All (MayMark shards candidates) marks → All IsOne (struck_from struck marks)
-  all_from struck [] all may = all
-  all_from struck (Shard s ∷ marks) all may = all_from struck marks all (All-tail (MayMark shards candidates) (Shard s) marks may)
-  all_from struck (Freeze caller ∷ marks) all may =
-      all_from struck marks all (All-tail (MayMark shards candidates) (Freeze caller) marks may)
-  all_from struck (Strike caller c ∷ marks) all may =
-      all_from (cond (is_struck struck c) struck (struck ++ c ∷ [])) marks
-      (more_if (is_struck struck c) struck c all (All-head (MayMark shards candidates) (Strike caller c) marks may))
-      (All-tail (MayMark shards candidates) (Strike caller c) marks may)
+  after_one :
+      (book : BookState) (asked : Call) → All IsOne book.struck → IsAnswerable n asked
+      → All IsOne (after book asked).struck
+  after_one book (Changes change) all is = all
+  after_one book Freeze all is = all
+  after_one book (Strike c) all is = more_if (is_struck book.struck c) book.struck c all is
 
-pub struck_in_range :
-    (struck : List ℕ) (shards office candidates : ℕ) (marks : List Mark) → struck ≡ struck_by marks
-    → All (MayMark shards office) marks → office ≡ candidates → All (λ c. (1 ≤ c) × (c ≤ candidates)) struck
-struck_in_range struck shards office candidates marks is may same =
-    subst (λ (n : ℕ). All (λ c. (1 ≤ c) × (c ≤ n)) struck) same
-    (subst (All (λ c. (1 ≤ c) × (c ≤ office))) (sym is)
-    (all_from shards office [] marks (All-nil (λ c. (1 ≤ c) × (c ≤ office))) may))
+  after_each :
+      (book : BookState) (es : List Entry) → All IsOne book.struck → All (λ e. IsAnswerable n e.call) es
+      → All IsOne (after_all book es).struck
+  after_each book [] all answerable = all
+  after_each book (e ∷ es) all answerable =
+      let P = λ (x : Entry). IsAnswerable n x.call in
+      after_each (after book e.call) es (after_one book e.call all (All-head P e es answerable)) (All-tail P e es answerable)
+
+  pub struck_in_range :
+      (book : BookList) (history : List Entry) → state_of book ≡ after_all empty history
+      → All (λ e. IsAnswerable n e.call) history → All IsOne book.struck
+  struck_in_range book history led answerable =
+      subst (λ (b : BookState). All IsOne b.struck) (sym led) (after_each empty history (All-nil IsOne) answerable)
+
+-- ---- what is kept of a freeze
+
+-- the plans of ballots are those of as many
+pub few_ballots :
+    (plans : List PlanRows) (lines stood : List BallotLine) → IsPermutation (all_ballots plans) (plain lines) → lines ≡ stood
+    → ballot_count stood ≤ MOST_STANDING → length (all_ballots plans) ≤ MOST_STANDING
+few_ballots plans lines stood are same few =
+    omega (arith, length_permutation (all_ballots plans) (plain lines) are, length-plain lines, ap ballot_count same, few)

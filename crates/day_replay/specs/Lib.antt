@@ -2,3 +2,4 @@ pub mod Calls
 pub mod Replay
 pub mod Saying
 pub mod Nearest
+pub mod Worked

@@ -44,11 +44,11 @@ pub fn follow(
     a_book_answers_a_history();
     a_legal_history_has_the_books_replies();
     let mut left = Left::of(alloc, scripts)?;
-    let mut replay = Replay::new(alloc, candidates)?;
+    let mut replay = Replay::new(alloc, candidates);
     follow_lines(alloc, &mut replay, &mut left, text)?;
     make_the_rest(alloc, &mut replay, &mut left)?;
     replay.freeze(alloc, 0)?;
-    let (history, frozen) = replay.finish(alloc)?;
+    let (history, frozen) = replay.finish();
     Ok(Followed { history, frozen })
 }
 

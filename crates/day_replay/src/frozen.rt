@@ -1,12 +1,13 @@
 // What stood after a freeze.
 ghost use Rattle.std.specs.Prelude.{◌≡◌, ◌≤◌, All, length};
 ghost use Rattle.frozen_plan.specs.Plan.{all_ballots};
+ghost use Rattle.day_replay.specs.declared.limits.TheConstants.{MOST_STANDING};
 
 use frozen_plan::Plans;
 use std::marker::Model;
 
 /// What stood after a freeze, as plans of so many candidates, who was struck until then, and the freeze's
-/// place in the history. Its ballots are at most 999,900,000, few enough for a count.
+/// place in the history. Its ballots are at most [`MOST_STANDING`], few enough for a count.
 #[derive(Debug, Drop)]
 pub struct Frozen {
     pub(crate) at: u64,
@@ -19,12 +20,13 @@ impl Model for Frozen {
     ghost use Rattle.std.specs.Prelude.{◌≡◌, ◌≤◌, All, length};
     ghost use Rattle.frozen_plan.specs.Plan.{all_ballots};
     ghost use Rattle.shard_office.specs.Versions.{VersionState};
+    ghost use Rattle.day_replay.specs.declared.limits.TheConstants.{MOST_STANDING};
 
     ghost Value = { VersionState };
 
     ghost view = { λ f. record { at = f.at; candidates = f.candidates; plans = f.plans; struck = f.struck.items } };
 
-    ghost invariant = { λ f. All (λ plan. plan.candidates ≡ f.candidates) f.plans × (length (all_ballots f.plans) ≤ 999900000)
+    ghost invariant = { λ f. All (λ plan. plan.candidates ≡ f.candidates) f.plans × (length (all_ballots f.plans) ≤ MOST_STANDING)
         × All (λ c. (1 ≤ c) × (c ≤ f.candidates)) f.struck.items };
 }
 
@@ -48,7 +50,7 @@ impl Frozen {
     pub fn into_plans(self) -> Plans
         ensures plans { result ≡ self.plans }
         ensures candidates { All (λ plan. plan.candidates ≡ self.candidates) result }
-        ensures few { length (all_ballots result) ≤ 999900000 }
+        ensures few { length (all_ballots result) ≤ MOST_STANDING }
     {
         self.plans
     }

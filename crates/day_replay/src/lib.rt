@@ -7,10 +7,14 @@
 mod following;
 mod frozen;
 mod left;
+mod limits;
 mod lines;
 mod no_memory;
 mod replay;
+mod worked;
 
 pub use following::{Followed, follow};
 pub use frozen::Frozen;
+pub use limits::MOST_STANDING;
 pub use no_memory::NoMemory;
+pub use worked::worked_calls;

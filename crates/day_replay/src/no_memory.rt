@@ -1,3 +1,4 @@
+use batch_core::StepBack;
 use std::alloc::{AllocError, AllocFailed};
 
 /// Memory ran out.
@@ -16,14 +17,14 @@ impl<T: Drop> From<AllocFailed<T>> for NoMemory {
     }
 }
 
-impl From<call_register::NoMemory> for NoMemory {
-    fn from(_: call_register::NoMemory) -> NoMemory {
+impl From<batch_core::NoMemory> for NoMemory {
+    fn from(_: batch_core::NoMemory) -> NoMemory {
         NoMemory
     }
 }
 
-impl From<shard_book::NoMemory> for NoMemory {
-    fn from(_: shard_book::NoMemory) -> NoMemory {
+impl From<StepBack> for NoMemory {
+    fn from(_: StepBack) -> NoMemory {
         NoMemory
     }
 }

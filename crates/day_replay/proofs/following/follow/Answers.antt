@@ -15,32 +15,32 @@ use Rattle.day_replay.proofs.following.follow.Goals as goal
 pub follow_lines-requires-clause-answerable : goal.follow_lines-requires-clause-answerable
 follow_lines-requires-clause-answerable c team from =
     let calls : List Call = left_of c.in_ok-left.left.teams.items team in
-    subst (λ (n : ℕ). All (IsAnswerable n) calls) (sym (ap (λ (r : ReplayState). r.candidates) c.in_ok-replay.ensures))
+    subst (λ (n : ℕ). All (IsAnswerable n) calls) (sym (ap (λ (r : ReplayState). r.candidates) c.new-replay.ensures))
     (subst (All (IsAnswerable c.args.candidates)) (sym (c.in_ok-left.ensures.calls team from))
     (of_a_team (IsAnswerable c.args.candidates) c.args.scripts team c.requires.scripts.calls))
 
 pub returns-clause-history : goal.returns-clause-history
 returns-clause-history c =
-    let start : IsUnderWay c.args.scripts c.in_ok-left.left.teams.items c.in_ok-replay.replay.history =
-    subst (IsUnderWay c.args.scripts c.in_ok-left.left.teams.items) (sym (ap (λ (r : ReplayState). r.history) c.in_ok-replay.ensures))
+    let start : IsUnderWay c.args.scripts c.in_ok-left.left.teams.items c.new-replay.result.history =
+    subst (IsUnderWay c.args.scripts c.in_ok-left.left.teams.items) (sym (ap (λ (r : ReplayState). r.history) c.new-replay.ensures))
     (begins c.args.scripts c.in_ok-left.left.teams.items c.in_ok-left.ensures.calls) in
     let way = c.in_ok-make_the_rest.ensures.way c.args.scripts (c.in_ok-follow_lines.ensures.way c.args.scripts start) in
-    subst (IsHistoryOf c.args.scripts) (sym (c.in_ok-history.ensures.history ∙ c.in_ok-freeze.ensures.history))
+    subst (IsHistoryOf c.args.scripts) (sym (c.finish-history.ensures.history ∙ c.in_ok-freeze.ensures.history))
     (ends c.a_book_answers_a_history.ensures.legal c.args.scripts c.make_the_rest.new.left.teams.items
     c.make_the_rest.new.replay.history way c.in_ok-make_the_rest.ensures.none)
 
 pub returns-clause-nearest : goal.returns-clause-nearest
 returns-clause-nearest c =
-    let start : IsUnderWay c.args.scripts c.in_ok-left.left.teams.items c.in_ok-replay.replay.history =
-    subst (IsUnderWay c.args.scripts c.in_ok-left.left.teams.items) (sym (ap (λ (r : ReplayState). r.history) c.in_ok-replay.ensures))
+    let start : IsUnderWay c.args.scripts c.in_ok-left.left.teams.items c.new-replay.result.history =
+    subst (IsUnderWay c.args.scripts c.in_ok-left.left.teams.items) (sym (ap (λ (r : ReplayState). r.history) c.new-replay.ensures))
     (begins c.args.scripts c.in_ok-left.left.teams.items c.in_ok-left.ensures.calls) in
     let way = c.in_ok-follow_lines.ensures.way c.args.scripts start in
     let rest = c.in_ok-make_the_rest.ensures.more in
     let front = c.follow_lines.new.replay.history in
-    let goes : c.in_ok-history.history ≡ front ++ (rest.0 ++ clerk_freeze ∷ []) =
-    c.in_ok-history.ensures.history
+    let goes : c.finish-history.result.0 ≡ front ++ (rest.0 ++ clerk_freeze ∷ []) =
+    c.finish-history.ensures.history
     ∙ (c.in_ok-freeze.ensures.history
     ∙ (ap (λ (l : List Entry). l ++ clerk_freeze ∷ []) rest.1 ∙ append_assoc front rest.0 (clerk_freeze ∷ []))) in
     nearest c.args.scripts c.requires.scripts.numbers c.a_legal_history_has_the_books_replies.ensures c.args.text.now
-    c.follow_lines.new.left.teams.items c.in_ok-history.history front (rest.0 ++ clerk_freeze ∷ []) (returns-clause-history c) goes way
+    c.follow_lines.new.left.teams.items c.finish-history.result.0 front (rest.0 ++ clerk_freeze ∷ []) (returns-clause-history c) goes way
     c.in_ok-follow_lines.ensures.followed

@@ -1,25 +1,22 @@
-use Rattle.std.proofs.Common.{◌≡◌, ℕ, List, [], ◌∷◌, sym, ◌∙◌, subst}
-use Rattle.std.specs.Prelude.{IsPermutation}
-use Rattle.day_replay.proofs.Stands.{few_ballots, one_plan, only_plan, struck_in_range}
+use Rattle.std.proofs.Common.{◌≡◌, ℕ, ◌≤◌, List, sym, ap, ◌∙◌, subst}
+use Rattle.std.specs.Prelude.{All}
+use Rattle.batch_core.specs.Book.{standing, state_of}
+use Rattle.plain_ballots.specs.Ballots.{BallotList}
+use Rattle.frozen_plan.specs.Plan.{PlanRows}
+use Rattle.day_replay.proofs.Stands.{few_ballots}
 use Rattle.day_replay.proofs.replay.stand.Goals as goal
-
-moved : {a b : List (List ℕ)} {c : List (List ℕ)} → b ≡ a → IsPermutation a c → IsPermutation b c
-moved {a} {b} {c} same is = subst (λ (l : List (List ℕ)). IsPermutation l c) (sym same) is
 
 pub invariant_of-result : goal.invariant_of-result
 invariant_of-result c =
-    let plan = c.in_ok-plan.plan in
-    let only : c.push.new.self ≡ plan ∷ [] =
-    only_plan c.new-plans.result c.push.new.self plan c.push.result c.if-is_err.ensures.value
-    c.new-plans.ensures c.push.ensures.ok in (
-      one_plan c.push.new.self plan c.candidates.result only
-          (c.in_ok-plan.ensures.candidates ∙ sym c.candidates.ensures.candidates),
-      few_ballots c.push.new.self plan c.args.book.now.candidates c.args.book.now.entries c.trie-trie.result.now.ballots only
-          (c.in_ok-plan.ensures.ballots) (moved c.trie-trie.ensures.ballots c.trie-trie.ensures.standing)
-          c.requires.of_shard,
-      struck_in_range c.in_ok-struck.struck.items c.args.register.now.shards c.args.register.now.candidates
-          c.candidates.result
-          c.args.register.now.marks (c.in_ok-struck.ensures.items ∙ c.struck.ensures) c.marks.ensures.may
-          (c.requires.candidates
-          ∙ (sym c.trie-trie.ensures.candidates ∙ sym c.candidates.ensures.candidates)),
+    let of = c.candidates-candidates.ensures in
+    let read = c.in_ok-ballots.ensures in (
+      subst (λ (n : ℕ). All (λ (plan : PlanRows). plan.candidates ≡ n) c.in_ok-plans.plans) (sym of)
+          c.in_ok-plans.ensures.candidates,
+      few_ballots c.in_ok-plans.plans c.in_ok-ballots.ballots.lines (standing (state_of c.args.book.now))
+          c.in_ok-plans.ensures.ballots
+          (ap (λ (b : BallotList). b.lines) read) c.requires.few,
+      subst (All (λ (x : ℕ). (1 ≤ x) × (x ≤ c.candidates-candidates.result)))
+          (sym (c.in_ok-struck.ensures.items ∙ c.struck.ensures))
+          (subst (λ (n : ℕ). All (λ (x : ℕ). (1 ≤ x) × (x ≤ n)) c.args.book.now.struck)
+          (sym (of ∙ ap (λ (b : BallotList). b.candidates) read)) c.requires.struck),
     )

@@ -1,0 +1,57 @@
+-- Verdicts, and where a text ends, worked by hand.
+use Rattle.std.specs.Prelude.{◌≡◌, ◌⊎◌, ℕ, List, [], ◌∷◌, ◌++◌, codes}
+use Rattle.input_text.specs.declared.fault_kind.FaultKind.TheVariants.{Ended}
+use Rattle.day_audit.specs.declared.audit_asked.AuditAsked.TheVariants.{Day, Trial}
+use Rattle.day_audit.specs.declared.day_verdict.DayVerdict.TheVariants.{True, False}
+use Rattle.day_audit.specs.Audit.{EndsInText, verdict_line}
+use Rattle.day_audit.specs.Input.{HasNoLastEnd, IsDaySplit}
+use Rattle.day_audit.specs.Judged.{IsVerdict}
+use Rattle.day_audit.specs.Words.{TakesAudit}
+
+-- ---- verdicts
+
+-- just two texts are lawful
+abbrev pub IsOneOfTwo : List ℕ → Type 0
+IsOneOfTwo text = (text ≡ codes "1 a\n2 b\n3 c\n") ⊎ (text ≡ codes "1 d\n2 e\n")
+
+pub record WorkedVerdicts : Type 0 where
+  pub one : IsVerdict IsOneOfTwo (codes "1 a\n2 b\n3 c\n") True
+  pub other : IsVerdict IsOneOfTwo (codes "1 d\n2 e\n") True
+  pub neither : ¬ IsVerdict IsOneOfTwo (codes "1 a\n2 e\n") True
+  pub first_line : IsVerdict IsOneOfTwo (codes "1 b\n2 b\n3 c\n") (False 1)
+  pub mixed : IsVerdict IsOneOfTwo (codes "1 a\n2 e\n") (False 2)
+  pub not_the_first : ¬ IsVerdict IsOneOfTwo (codes "1 a\n2 e\n") (False 1)
+  pub ends_early : IsVerdict IsOneOfTwo (codes "1 a\n2 b\n") (False 3)
+  pub goes_on : IsVerdict IsOneOfTwo (codes "1 d\n2 e\n3 c\n") (False 3)
+  pub no_line_feed : IsVerdict IsOneOfTwo (codes "1 d\n2 e") (False 2)
+  pub nothing : IsVerdict IsOneOfTwo [] (False 1)
+  pub of_a_true_text : ¬ IsVerdict IsOneOfTwo (codes "1 d\n2 e\n") (False 3)
+
+pub record WorkedVerdictLines : Type 0 where
+  pub day_true : verdict_line Day True ≡ codes "day true\n"
+  pub day_false : verdict_line Day (False 12) ≡ codes "day false at line 12\n"
+  pub trial_true : verdict_line (Trial 7) True ≡ codes "trial true\n"
+  pub trial_false : verdict_line (Trial 7) (False 3) ≡ codes "trial false at line 3\n"
+
+-- ---- where a text ends
+
+-- two sheets: the first line `end` is not the last one
+abbrev pub two_sheets : List ℕ
+two_sheets = codes "end\nsheet 2\nend\n"
+
+pub record WorkedEnds : Type 0 where
+  pub two : IsDaySplit (two_sheets ++ codes "2 1\n") two_sheets (codes "2 1\n")
+  pub nothing_behind : IsDaySplit (codes "a\nend\n") (codes "a\nend\n") []
+  pub in_a_line : IsDaySplit (codes "x end\nend\nend\n") (codes "x end\nend\n") (codes "end\n")
+  pub goes_on : HasNoLastEnd (codes "end\nsheet 2\n")
+  pub no_line_feed : HasNoLastEnd (codes "end")
+  pub ended : EndsInText (codes "end\nsheet 2\n") (record { kind = Ended; at = 12 })
+
+-- ---- words
+
+pub record WorkedWords : Type 0 where
+  pub none : TakesAudit [] Day
+  pub least : TakesAudit (codes "--trial" ∷ codes "1" ∷ []) (Trial 1)
+  pub greatest : TakesAudit (codes "--trial" ∷ codes "1000" ∷ []) (Trial 1000)
+  pub too_many : ¬ TakesAudit (codes "--trial" ∷ codes "1001" ∷ []) (Trial 1001)
+  pub nought : ¬ TakesAudit (codes "--trial" ∷ codes "0" ∷ []) (Trial 0)
