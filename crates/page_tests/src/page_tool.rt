@@ -3,6 +3,7 @@ mod last_seats;
 mod many;
 mod minutes;
 mod order;
+mod places;
 mod rounds;
 mod stretches;
 mod ties;

@@ -29,12 +29,12 @@ use Rattle.sheet_minutes.proofs.Cuts.{joined}
 use Rattle.sheet_minutes.proofs.Measures.{amounts_small, columns, narrow, some_room, widest_of_all, widest_of_rows}
 use Rattle.sheet_minutes.proofs.Texts.{Reads, amount_ascii, amount_long, columns_read, reads-append, reads-each, reads-name, reads-right}
 
-pub width_narrow : (v : SheetList) → IsPrintable 9 v → width_of v ≤ 20
-width_narrow v fits = narrow v.ballots (length v.names) v.rows fits.ballots fits.rows
+pub width_narrow : (places : ℕ) (v : SheetList) → places ≤ 9 → IsPrintable places v → width_of places v ≤ 20
+width_narrow places v to fits = narrow places v.ballots (length v.names) v.rows to fits.ballots fits.rows
 
 pub rounds_once : RoundsStandOnce
-rounds_once v fits =
-    joined (ROUND_COLUMNS / (width_of v + MARK_COLUMNS)) (rounds_of v.rows) (some_room (width_of v) (width_narrow v fits))
+rounds_once places v from to fits =
+    joined (ROUND_COLUMNS / (width_of places v + MARK_COLUMNS)) (rounds_of v.rows) (some_room (width_of places v) (width_narrow places v to fits))
 
 -- ---- labels
 
@@ -73,8 +73,8 @@ reads-label v few (Candidate p) about =
 
 -- ---- cells
 
-reads-amount : (width a : ℕ) → a ≤ most 9 → columns a ≤ width → Reads (at_right width (text_of 9 a)) width
-reads-amount width a small fits = reads-right width (text_of 9 a) (amount_ascii a small) fits
+reads-amount : (places width a : ℕ) → a ≤ most places → columns places a ≤ width → Reads (at_right width (text_of places a)) width
+reads-amount places width a small fits = reads-right width (text_of places a) (amount_ascii places a small) fits
 
 reads-mark : (state : State) (width : ℕ) (text : List ℕ) → Reads text width → Reads (32 ∷ mark state ∷ 32 ∷ text) (3 + width)
 unfolding encode_utf8
@@ -88,65 +88,66 @@ reads-mark Withdrawn width text reads =
     reads-append (codes " W ") text 3 width (record { chars = codes " W "; scalar = refl; is = refl; many = refl }) reads
 
 -- the amounts of a round in the table
-abbrev amounts : SheetList → (i : ℕ) → List ℕ
-amounts v i = (row_at v.rows i).quota ∷ left_over v.ballots (row_at v.rows i) ∷ (row_at v.rows i).votes
+abbrev amounts : (places : ℕ) → SheetList → (i : ℕ) → List ℕ
+amounts places v i = (row_at v.rows i).quota ∷ left_over places v.ballots (row_at v.rows i) ∷ (row_at v.rows i).votes
 
 -- what is known of the iteration at a place
-record Known (v : SheetList) (i : ℕ) : Type 0 where
-  pub row : IsPrintableRow 9 (length v.names) (row_at v.rows i)
-  pub small : All (λ x. x ≤ most 9) (amounts v i)
-  pub fit : All (λ x. columns x ≤ width_of v) (amounts v i)
+record Known (places : ℕ) (v : SheetList) (i : ℕ) : Type 0 where
+  pub row : IsPrintableRow places (length v.names) (row_at v.rows i)
+  pub small : All (λ x. x ≤ most places) (amounts places v i)
+  pub fit : All (λ x. columns places x ≤ width_of places v) (amounts places v i)
 
-known : (v : SheetList) → IsPrintable 9 v → (i : ℕ) → i < length v.rows → Known v i
-known v fits i below =
+known : (places : ℕ) (v : SheetList) → IsPrintable places v → (i : ℕ) → i < length v.rows → Known places v i
+known places v fits i below =
     let row = fits.rows i (blank 0) below in
-    let wide = widest_of_rows v.ballots v.rows i (blank 0) below in
+    let wide = widest_of_rows places v.ballots v.rows i (blank 0) below in
     record {
       row = row;
-      small = amounts_small v.ballots (length v.names) (row_at v.rows i) fits.ballots row;
-      fit = λ k d inside. let here = widest_of_all (amounts v i) k d inside in omega (arith, here, wide);
+      small = amounts_small places v.ballots (length v.names) (row_at v.rows i) fits.ballots row;
+      fit = λ k d inside. let here = widest_of_all places (amounts places v i) k d inside in omega (arith, here, wide);
     }
 
 -- what holds of a vote holds of those of the amounts
-votes_of : (P : ℕ → Type 0) (v : SheetList) (i : ℕ) → All P (amounts v i) → All P (row_at v.rows i).votes
-votes_of P v i all =
+votes_of : (places : ℕ) (P : ℕ → Type 0) (v : SheetList) (i : ℕ) → All P (amounts places v i) → All P (row_at v.rows i).votes
+votes_of places P v i all =
     let row = row_at v.rows i in
-    let left = left_over v.ballots row in
+    let left = left_over places v.ballots row in
     All-tail P left row.votes (All-tail P row.quota (left ∷ row.votes) all)
 
 reads-cell :
-    (v : SheetList) → IsPrintable 9 v → (entry : Entry) → IsAbout (length v.names) entry → (i : ℕ) → i < length v.rows
-    → Reads (cell v (width_of v) entry i) (width_of v + MARK_COLUMNS)
-reads-cell v fits Round about i below =
-    let own = known v fits i below in
+    (places : ℕ) (v : SheetList) → 6 ≤ places → IsPrintable places v → (entry : Entry) → IsAbout (length v.names) entry
+    → (i : ℕ) → i < length v.rows
+    → Reads (cell places v (width_of places v) entry i) (width_of places v + MARK_COLUMNS)
+reads-cell places v from fits Round about i below =
+    let own = known places v fits i below in
     let round = (row_at v.rows i).round in
     let quota = (row_at v.rows i).quota in
     let small : round < 2 ^ 32 = own.row.round in
     let digits = length-decimal-le 10 round (omega arith) (omega arith) (omega arith) in
-    let some : columns quota ≤ width_of v = own.fit 0 0 (omega arith) in
-    let many = amount_long quota in
-    reads-right (width_of v + MARK_COLUMNS) (decimal round) (IsAscii-decimal round (omega arith)) (omega arith)
-reads-cell v fits Quota about i below =
-    let own = known v fits i below in
+    let some : columns places quota ≤ width_of places v = own.fit 0 0 (omega arith) in
+    let many = amount_long places quota in
+    reads-right (width_of places v + MARK_COLUMNS) (decimal round) (IsAscii-decimal round (omega arith)) (omega arith)
+reads-cell places v from fits Quota about i below =
+    let own = known places v fits i below in
     let quota = (row_at v.rows i).quota in
-    let some : columns quota ≤ width_of v = own.fit 0 0 (omega arith) in
-    reads-amount (width_of v + MARK_COLUMNS) quota (own.small 0 0 (omega arith)) (omega arith)
-reads-cell v fits LeftOver about i below =
-    let own = known v fits i below in
-    let left = left_over v.ballots (row_at v.rows i) in
-    let some : columns left ≤ width_of v = own.fit 1 0 (omega arith) in
-    reads-amount (width_of v + MARK_COLUMNS) left (own.small 1 0 (omega arith)) (omega arith)
-reads-cell v fits (Candidate p) about i below =
-    let own = known v fits i below in
+    let some : columns places quota ≤ width_of places v = own.fit 0 0 (omega arith) in
+    reads-amount places (width_of places v + MARK_COLUMNS) quota (own.small 0 0 (omega arith)) (omega arith)
+reads-cell places v from fits LeftOver about i below =
+    let own = known places v fits i below in
+    let left = left_over places v.ballots (row_at v.rows i) in
+    let some : columns places left ≤ width_of places v = own.fit 1 0 (omega arith) in
+    reads-amount places (width_of places v + MARK_COLUMNS) left (own.small 1 0 (omega arith)) (omega arith)
+reads-cell places v from fits (Candidate p) about i below =
+    let own = known places v fits i below in
     let row = row_at v.rows i in
     let vote = slice_index row.votes p in
     let inside : p < length row.votes = omega (arith, own.row.of_all.votes) in
-    let small = votes_of (λ x. x ≤ most 9) v i own.small p 0 inside in
-    let some = votes_of (λ x. columns x ≤ width_of v) v i own.fit p 0 inside in
-    let whole : 3 + width_of v ≡ width_of v + MARK_COLUMNS = omega arith in
-    subst (λ (k : ℕ). Reads (cell v (width_of v) (Candidate p) i) k) whole
-    (reads-mark (state_at (states_behind v i) p) (width_of v) (at_right (width_of v) (text_of 9 vote))
-    (reads-amount (width_of v) vote small some))
+    let small = votes_of places (λ x. x ≤ most places) v i own.small p 0 inside in
+    let some = votes_of places (λ x. columns places x ≤ width_of places v) v i own.fit p 0 inside in
+    let whole : 3 + width_of places v ≡ width_of places v + MARK_COLUMNS = omega arith in
+    subst (λ (k : ℕ). Reads (cell places v (width_of places v) (Candidate p) i) k) whole
+    (reads-mark (state_at (states_behind v i) p) (width_of places v) (at_right (width_of places v) (text_of places vote))
+    (reads-amount places (width_of places v) vote small some))
 
 -- ---- blocks
 
@@ -191,25 +192,25 @@ room width few narrow_width fits =
     omega arith
 
 line_fits :
-    (v : SheetList) → IsPrintable 9 v → (block : List ℕ)
-    → IsBlock (λ i. i < length v.rows) (ROUND_COLUMNS / (width_of v + MARK_COLUMNS)) block
-    → (entry : Entry) → IsAbout (length v.names) entry → columns_of (line v (width_of v) block entry) ≤ 80
-line_fits v fits block is entry about =
-    let wide = width_of v + MARK_COLUMNS in
-    let text = cell v (width_of v) entry in
-    let cells = reads-each text wide block (λ k d below. reads-cell v fits entry about (slice_index_or block k d) (is.all k d below)) in
+    (places : ℕ) (v : SheetList) → 6 ≤ places → places ≤ 9 → IsPrintable places v → (block : List ℕ)
+    → IsBlock (λ i. i < length v.rows) (ROUND_COLUMNS / (width_of places v + MARK_COLUMNS)) block
+    → (entry : Entry) → IsAbout (length v.names) entry → columns_of (line places v (width_of places v) block entry) ≤ 80
+line_fits places v from to fits block is entry about =
+    let wide = width_of places v + MARK_COLUMNS in
+    let text = cell places v (width_of places v) entry in
+    let cells = reads-each text wide block (λ k d below. reads-cell places v from fits entry about (slice_index_or block k d) (is.all k d below)) in
     let whole = reads-append (label v entry) (flat_map text block) 20 (wide * length block)
     (reads-label v fits.candidates.1 entry about) cells in
-    let read = columns_read (line v (width_of v) block entry) (20 + wide * length block) whole in
-    let few = room (width_of v) (length block) (width_narrow v fits) is.few in
+    let read = columns_read (line places v (width_of places v) block entry) (20 + wide * length block) whole in
+    let few = room (width_of places v) (length block) (width_narrow places v to fits) is.few in
     omega arith
 
 pub tables_fit : TablesFit
-tables_fit v fits =
-    let size = ROUND_COLUMNS / (width_of v + MARK_COLUMNS) in
+tables_fit places v from to fits =
+    let size = ROUND_COLUMNS / (width_of places v + MARK_COLUMNS) in
     let each = cut_fits (λ i. i < length v.rows) (length (rounds_of v.rows)) size (rounds_of v.rows) (rounds_below v.rows) in
     λ k d below.
-    let block = slice_index_or (blocks v) k d in
-    All-map (λ text. columns_of text ≤ 80) (line v (width_of v) block) (entries (length v.names))
-    (λ j e inside. line_fits v fits block (each k d below) (slice_index_or (entries (length v.names)) j e)
+    let block = slice_index_or (blocks places v) k d in
+    All-map (λ text. columns_of text ≤ 80) (line places v (width_of places v) block) (entries (length v.names))
+    (λ j e inside. line_fits places v from to fits block (each k d below) (slice_index_or (entries (length v.names)) j e)
     (about_each (length v.names) j e inside))

@@ -5,6 +5,7 @@ use Rattle.std.specs.Prelude.{decimal, if◌then◌else◌}
 use Rattle.std.specs.Char.{is_control}
 use Rattle.std.specs.List.{flat_map, range_with_len}
 use Rattle.std.specs.Str.{encode_utf8_all, IsAscii}
+use Rattle.std.proofs.Math.Nat.{div-le_of_le-mul}
 use Rattle.std.proofs.lemmas.Bool.{and_from, and_parts}
 use Rattle.std.proofs.lemmas.Fmt.{IsAscii-decimal}
 use Rattle.std.proofs.lemmas.List.{length-replicate, length-drop}
@@ -18,6 +19,7 @@ use Rattle.bstr.proofs.lemmas.EncodeLemmas.{lossy_chars-encode}
 use Rattle.bstr.proofs.lemmas.PieceLemmas.{lossy_chars-nil, lossy_chars-step, piece-bounds}
 use Rattle.bstr.proofs.lemmas.SoundLemmas.{SpellsChar-decoded}
 use Rattle.fixed_place.specs.Rounding.{most, scale}
+use Rattle.fixed_place.proofs.RoundingLemmas.{most_votes}
 use Rattle.fixed_place.specs.Text.{last_digits, text_of}
 use Rattle.sheet_minutes.specs.declared.columns.TheConstants.{NAME_COLUMNS}
 use Rattle.sheet_minutes.specs.Columns.{at_right, columns, name_columns, tamed}
@@ -83,22 +85,26 @@ unfolding last_digits
 digits_ascii zero n = IsAscii-nil
 digits_ascii (suc k) n = IsAscii-push (last_digits k (n / 10)) (48 + n % 10) (digits_ascii k (n / 10)) (omega arith)
 
--- an amount has at least ten columns
-nine : (n : ℕ) → length (last_digits 9 n) ≡ 9
+digits_long : (k n : ℕ) → length (last_digits k n) ≡ k
 unfolding last_digits
-nine n = refl
+digits_long zero n = refl
+digits_long (suc k) n =
+    length-append (last_digits k (n / 10)) ((48 + n % 10) ∷ []) ∙ omega (arith, digits_long k (n / 10))
 
-pub amount_long : (a : ℕ) → 10 ≤ length (text_of 9 a)
-unfolding text_of
-amount_long a =
-    omega (arith, length-append (decimal (a / scale 9)) (46 ∷ last_digits 9 (a % scale 9)), nine (a % scale 9))
+-- an amount has more columns than it has places
 
-pub amount_ascii : (a : ℕ) → a ≤ most 9 → IsAscii (text_of 9 a)
+pub amount_long : (places a : ℕ) → places < length (text_of places a)
 unfolding text_of
-amount_ascii a small =
-    let whole : a / scale 9 < 2 ^ 64 = omega arith in
-    IsAscii-append (decimal (a / scale 9)) (46 ∷ last_digits 9 (a % scale 9)) (IsAscii-decimal (a / scale 9) whole)
-    (IsAscii-cons 46 (last_digits 9 (a % scale 9)) (omega arith) (digits_ascii 9 (a % scale 9)))
+amount_long places a =
+    omega (arith, length-append (decimal (a / scale places)) (46 ∷ last_digits places (a % scale places)), digits_long places (a % scale places))
+
+pub amount_ascii : (places a : ℕ) → a ≤ most places → IsAscii (text_of places a)
+unfolding text_of
+amount_ascii places a small =
+    let few : a / scale places ≤ 1000000000 = div-le_of_le-mul (scale places) (omega (arith, most_votes places, small)) in
+    let whole : a / scale places < 2 ^ 64 = omega (arith, few) in
+    IsAscii-append (decimal (a / scale places)) (46 ∷ last_digits places (a % scale places)) (IsAscii-decimal (a / scale places) whole)
+    (IsAscii-cons 46 (last_digits places (a % scale places)) (omega arith) (digits_ascii places (a % scale places)))
 
 -- a text of ASCII at the right of columns that it fits into
 pub right_ascii : (width : ℕ) (text : List ℕ) → IsAscii text → IsAscii (at_right width text)

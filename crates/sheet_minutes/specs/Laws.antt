@@ -12,7 +12,9 @@ use Rattle.sheet_minutes.specs.Table.{block_lines, blocks, width_of}
 
 -- The blocks one after another have all rounds, each once, in order.
 abbrev pub RoundsStandOnce : Type 0
-RoundsStandOnce = (v : SheetList) → IsPrintable 9 v → flat_map (λ (block : List ℕ). block) (blocks v) ≡ rounds_of v.rows
+RoundsStandOnce =
+    (places : ℕ) (v : SheetList) → 6 ≤ places → places ≤ 9 → IsPrintable places v
+    → flat_map (λ (block : List ℕ). block) (blocks places v) ≡ rounds_of v.rows
 
 -- the columns of a line: its characters, with one for each piece that is no UTF-8
 abbrev pub columns_of : (line : List ℕ) → ℕ
@@ -20,8 +22,9 @@ columns_of line = length (lossy_chars line)
 
 -- No line of a block has more than 80 columns.
 abbrev pub TablesFit : Type 0
-TablesFit = (v : SheetList) → IsPrintable 9 v
-    → All (λ block. All (λ line. columns_of line ≤ 80) (block_lines v (width_of v) block)) (blocks v)
+TablesFit =
+    (places : ℕ) (v : SheetList) → 6 ≤ places → places ≤ 9 → IsPrintable places v
+    → All (λ block. All (λ line. columns_of line ≤ 80) (block_lines places v (width_of places v) block)) (blocks places v)
 
 -- ---- texts
 

@@ -1,8 +1,7 @@
 -- Pieces of what is written.
 use Rattle.std.specs.Prelude.{ℕ, List, decimal}
-use Rattle.fixed_place.specs.Text.{text_of}
 use Rattle.sheet_minutes.specs.declared.piece.Piece.{Piece}
-use Rattle.sheet_minutes.specs.declared.piece.Piece.TheVariants.{Raw, Plain, Count, RightCount, RightVotes}
+use Rattle.sheet_minutes.specs.declared.piece.Piece.TheVariants.{Raw, Plain, Count, RightCount}
 use Rattle.sheet_minutes.specs.Columns.{at_right, plain}
 
 abbrev pub piece_text : Piece → List ℕ
@@ -10,4 +9,3 @@ piece_text (Raw bytes) = bytes.now
 piece_text (Plain text) = plain text.now
 piece_text (Count n) = decimal n
 piece_text (RightCount width n) = at_right width (decimal n)
-piece_text (RightVotes width a) = at_right width (text_of 9 a)

@@ -2,6 +2,7 @@
 use Rattle.std.specs.Prelude.{ℕ, zero, suc, ◌+◌, ◌-◌, ◌*◌, ◌||◌, not, Bool, if◌then◌else◌, List, [], ◌∷◌, drop, length, nat_eq, slice_index_or, take}
 use Rattle.std.specs.List.{filter, range_with_len}
 use Rattle.candidate_roll.specs.declared.state.State.{State}
+use Rattle.fixed_place.specs.Rounding.{scale}
 use Rattle.meek_rule.specs.Row.{Row, blank}
 use Rattle.sheet_reader.specs.Values.{SheetList}
 
@@ -17,8 +18,8 @@ abbrev pub states_behind : SheetList → (i : ℕ) → List State
 states_behind v i = if nat_eq (i + 1) (length v.rows) then v.last else (row_at v.rows (i + 1)).states
 
 -- the votes of so many ballots that are left on no candidate, in units
-abbrev pub left_over : (ballots : ℕ) → Row → ℕ
-left_over ballots row = ballots * 1000000000 - row.total
+abbrev pub left_over : (places ballots : ℕ) → Row → ℕ
+left_over places ballots row = ballots * scale places - row.total
 
 -- the rounds that end within so many iterations, from a place on: the place of the last iteration of each
 abbrev pub rounds_in : List Row → (first count : ℕ) → List ℕ

@@ -18,17 +18,17 @@ use Rattle.sheet_minutes.specs.Rounds.{cut, left_over, rounds_of, row_at, states
 -- ---- how wide a number is
 
 -- the columns of the widest of some amounts
-abbrev pub widest : List ℕ → ℕ
-widest [] = 0
-widest (amount ∷ amounts) = max (length (text_of 9 amount)) (widest amounts)
+abbrev pub widest : (places : ℕ) → List ℕ → ℕ
+widest places [] = 0
+widest places (amount ∷ amounts) = max (length (text_of places amount)) (widest places amounts)
 
 -- the columns of the widest quota, vote or amount left over of some iterations
-abbrev pub widest_of : (ballots : ℕ) → List Row → ℕ
-widest_of ballots [] = 0
-widest_of ballots (row ∷ rows) = max (widest (row.quota ∷ left_over ballots row ∷ row.votes)) (widest_of ballots rows)
+abbrev pub widest_of : (places ballots : ℕ) → List Row → ℕ
+widest_of places ballots [] = 0
+widest_of places ballots (row ∷ rows) = max (widest places (row.quota ∷ left_over places ballots row ∷ row.votes)) (widest_of places ballots rows)
 
-abbrev pub width_of : SheetList → ℕ
-width_of v = widest_of v.ballots v.rows
+abbrev pub width_of : (places : ℕ) → SheetList → ℕ
+width_of places v = widest_of places v.ballots v.rows
 
 -- ---- a line
 
@@ -56,15 +56,15 @@ label v (Candidate p) =
 
 -- What a line says of the round whose last iteration stands at a place: of a candidate what it is behind the round, and its vote at
 -- the end of it. The numbers stand at the right.
-abbrev pub cell : SheetList → (width : ℕ) → Entry → (i : ℕ) → List ℕ
-cell v width Round i = at_right (width + MARK_COLUMNS) (decimal (row_at v.rows i).round)
-cell v width Quota i = at_right (width + MARK_COLUMNS) (text_of 9 (row_at v.rows i).quota)
-cell v width LeftOver i = at_right (width + MARK_COLUMNS) (text_of 9 (left_over v.ballots (row_at v.rows i)))
-cell v width (Candidate p) i =
-    32 ∷ mark (state_at (states_behind v i) p) ∷ 32 ∷ at_right width (text_of 9 (slice_index (row_at v.rows i).votes p))
+abbrev pub cell : (places : ℕ) → SheetList → (width : ℕ) → Entry → (i : ℕ) → List ℕ
+cell places v width Round i = at_right (width + MARK_COLUMNS) (decimal (row_at v.rows i).round)
+cell places v width Quota i = at_right (width + MARK_COLUMNS) (text_of places (row_at v.rows i).quota)
+cell places v width LeftOver i = at_right (width + MARK_COLUMNS) (text_of places (left_over places v.ballots (row_at v.rows i)))
+cell places v width (Candidate p) i =
+    32 ∷ mark (state_at (states_behind v i) p) ∷ 32 ∷ at_right width (text_of places (slice_index (row_at v.rows i).votes p))
 
-abbrev pub line : SheetList → (width : ℕ) → (block : List ℕ) → Entry → List ℕ
-line v width block entry = label v entry ++ flat_map (cell v width entry) block
+abbrev pub line : (places : ℕ) → SheetList → (width : ℕ) → (block : List ℕ) → Entry → List ℕ
+line places v width block entry = label v entry ++ flat_map (cell places v width entry) block
 
 -- ---- blocks
 
@@ -72,16 +72,16 @@ line v width block entry = label v entry ++ flat_map (cell v width entry) block
 abbrev pub entries : (candidates : ℕ) → List Entry
 entries candidates = Round ∷ Quota ∷ LeftOver ∷ map Candidate (range_with_len 0 candidates)
 
-abbrev pub block_lines : SheetList → (width : ℕ) → (block : List ℕ) → List (List ℕ)
-block_lines v width block = map (line v width block) (entries (length v.names))
+abbrev pub block_lines : (places : ℕ) → SheetList → (width : ℕ) → (block : List ℕ) → List (List ℕ)
+block_lines places v width block = map (line places v width block) (entries (length v.names))
 
 -- as many rounds as the columns have room for
-abbrev pub blocks : SheetList → List (List ℕ)
-blocks v = cut (ROUND_COLUMNS / (width_of v + MARK_COLUMNS)) (rounds_of v.rows)
+abbrev pub blocks : (places : ℕ) → SheetList → List (List ℕ)
+blocks places v = cut (ROUND_COLUMNS / (width_of places v + MARK_COLUMNS)) (rounds_of v.rows)
 
 -- an empty line, and a block
-abbrev pub block_text : SheetList → (width : ℕ) → (block : List ℕ) → List ℕ
-block_text v width block = 10 ∷ flat_map ended (block_lines v width block)
+abbrev pub block_text : (places : ℕ) → SheetList → (width : ℕ) → (block : List ℕ) → List ℕ
+block_text places v width block = 10 ∷ flat_map ended (block_lines places v width block)
 
 -- 10 is the line feed that ends a line
 abbrev pub table_head : List ℕ
@@ -89,5 +89,5 @@ table_head =
     10 ∷ codes "Votes at the end of each round"
     ++ (10 ∷ codes "Behind each round: H hopeful, E elected, D defeated, W withdrawn" ++ 10 ∷ [])
 
-abbrev pub table_text : SheetList → List ℕ
-table_text v = table_head ++ flat_map (block_text v (width_of v)) (blocks v)
+abbrev pub table_text : (places : ℕ) → SheetList → List ℕ
+table_text places v = table_head ++ flat_map (block_text places v (width_of places v)) (blocks places v)

@@ -20,7 +20,7 @@ text lines = flat_map ended lines
 -- two candidates with a ballot each and one seat; candidate 2 stands first in the lots
 abbrev pub ATie : Type 0
 ATie =
-    minutes_text tie_sheet
+    minutes_text 9 tie_sheet
     ≡ text (codes "A tie"
     ∷ codes "Seats: 1. Ballots: 2."
     ∷ []
@@ -68,7 +68,7 @@ five_rounds = record {
 -- Four rounds fill a block, and the fifth stands in one of its own.
 abbrev pub FiveRounds : Type 0
 FiveRounds =
-    table_text five_rounds
+    table_text 9 five_rounds
     ≡ text ([]
     ∷ codes "Votes at the end of each round"
     ∷ codes "Behind each round: H hopeful, E elected, D defeated, W withdrawn"
@@ -86,7 +86,7 @@ FiveRounds =
 
 -- without iterations there is no block
 abbrev pub NoRounds : Type 0
-NoRounds = table_text (record five_rounds { rows = [] }) ≡ table_head
+NoRounds = table_text 9 (record five_rounds { rows = [] }) ≡ table_head
 
 -- ---- names
 

@@ -12,22 +12,22 @@ use crate::entry::Entry;
 use crate::line::write_line;
 use byte_edge::{Failed, Sink};
 use piece_text::write_bytes;
-use sheet_reader::SheetValues;
+use sheet_reader::SheetValuesAt;
 
 /// Writes an empty line, and the rounds that end from the iteration at `first` on and before that at `end`.
-pub(crate) fn write_block<K: Sink>(
-    values: &SheetValues,
+pub(crate) fn write_block<const P: usize, K: Sink>(
+    values: &SheetValuesAt<P>,
     width: usize,
     first: usize,
     end: usize,
     sink: &mut K,
 ) -> Result<(), Failed>
-    requires printable { IsPrintable 9 values.now }
+    requires printable { IsPrintable P values.now }
     requires narrow { width ≤ 20 }
     requires from { first ≤ end }
     requires within { end ≤ length values.now.rows }
     ensures { Writes K.written K.faults sink.old sink.new
-        (block_text values.now width (rounds_in values.now.rows first (end - first))) result }
+        (block_text P values.now width (rounds_in values.now.rows first (end - first))) result }
 {
     write_bytes(b"\n", sink)?;
     write_line(values, width, first, end, Entry::Round, sink)?;
@@ -37,19 +37,19 @@ pub(crate) fn write_block<K: Sink>(
 }
 
 /// Writes a line for each candidate.
-fn write_candidates<K: Sink>(
-    values: &SheetValues,
+fn write_candidates<const P: usize, K: Sink>(
+    values: &SheetValuesAt<P>,
     width: usize,
     first: usize,
     end: usize,
     sink: &mut K,
 ) -> Result<(), Failed>
-    requires printable { IsPrintable 9 values.now }
+    requires printable { IsPrintable P values.now }
     requires narrow { width ≤ 20 }
     requires from { first ≤ end }
     requires within { end ≤ length values.now.rows }
     ensures { Writes K.written K.faults sink.old sink.new
-        (flat_map (λ p. ended (line values.now width (rounds_in values.now.rows first (end - first)) (Candidate p)))
+        (flat_map (λ p. ended (line P values.now width (rounds_in values.now.rows first (end - first)) (Candidate p)))
         (range_with_len 0 (length values.now.names))) result }
 {
     for p in 0..values.names.len() {

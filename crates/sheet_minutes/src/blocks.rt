@@ -12,13 +12,17 @@ use crate::rounds::ends_round;
 use crate::widths::width_of;
 use byte_edge::{Failed, Sink};
 use meek_rule::Row;
-use sheet_reader::SheetValues;
+use sheet_reader::SheetValuesAt;
 
 /// Writes the blocks, each with as many rounds as the columns have room for.
-pub(crate) fn write_blocks<K: Sink>(values: &SheetValues, sink: &mut K) -> Result<(), Failed>
-    requires printable { IsPrintable 9 values.now }
+pub(crate) fn write_blocks<const P: usize, K: Sink>(
+    values: &SheetValuesAt<P>,
+    sink: &mut K,
+) -> Result<(), Failed>
+    requires places { (6 ≤ P) × (P ≤ 9) }
+    requires printable { IsPrintable P values.now }
     ensures { Writes K.written K.faults sink.old sink.new
-        (flat_map (block_text values.now (width_of values.now)) (blocks values.now)) result }
+        (flat_map (block_text P values.now (width_of P values.now)) (blocks P values.now)) result }
 {
     let width = width_of(values);
     let size = ROUND_COLUMNS / (width + MARK_COLUMNS);
@@ -32,7 +36,7 @@ pub(crate) fn write_blocks<K: Sink>(values: &SheetValues, sink: &mut K) -> Resul
 }
 
 /// The place behind so many rounds, from the iteration at `first` on, or behind all.
-fn block_end(rows: &[Row<9>], first: usize, size: usize) -> usize
+fn block_end<const P: usize>(rows: &[Row<P>], first: usize, size: usize) -> usize
     requires inside { first < length rows.now }
     requires some { 0 < size }
     ensures later { first < result }

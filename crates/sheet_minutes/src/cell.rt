@@ -13,27 +13,27 @@ ghost use Rattle.sheet_minutes.specs.Table.{IsAbout, cell, mark};
 use crate::columns::MARK_COLUMNS;
 use crate::entry::Entry;
 use crate::piece::Piece;
-use crate::pieces::write_piece;
+use crate::pieces::{write_piece, write_right_votes};
 use crate::rounds::{left_over, states_behind};
 use byte_edge::{Failed, Sink};
 use candidate_roll::{State, States};
 use meek_rule::Row;
 use piece_text::write_bytes;
-use sheet_reader::SheetValues;
+use sheet_reader::SheetValuesAt;
 
 /// Writes what a line says of the round whose last iteration stands at a place.
-pub(crate) fn write_cell<K: Sink>(
-    values: &SheetValues,
+pub(crate) fn write_cell<const P: usize, K: Sink>(
+    values: &SheetValuesAt<P>,
     width: usize,
     entry: Entry,
     i: usize,
     sink: &mut K,
 ) -> Result<(), Failed>
-    requires printable { IsPrintable 9 values.now }
+    requires printable { IsPrintable P values.now }
     requires about { IsAbout (length values.now.names) entry }
     requires narrow { width ≤ 20 }
     requires place { i < length values.now.rows }
-    ensures { Writes K.written K.faults sink.old sink.new (cell values.now width entry i) result }
+    ensures { Writes K.written K.faults sink.old sink.new (cell P values.now width entry i) result }
 {
     let row = values.rows.get(i);
     let wide = width + MARK_COLUMNS;
@@ -45,35 +45,43 @@ pub(crate) fn write_cell<K: Sink>(
     }
 }
 
-fn write_number<K: Sink>(row: &Row<9>, width: usize, sink: &mut K) -> Result<(), Failed>
+fn write_number<const P: usize, K: Sink>(
+    row: &Row<P>,
+    width: usize,
+    sink: &mut K,
+) -> Result<(), Failed>
     ensures { Writes K.written K.faults sink.old sink.new (at_right width (decimal row.now.round)) result }
 {
     write_piece(&Piece::RightCount(width, row.round as u64), sink)
 }
 
-fn write_quota<K: Sink>(row: &Row<9>, width: usize, sink: &mut K) -> Result<(), Failed>
-    ensures { Writes K.written K.faults sink.old sink.new (at_right width (text_of 9 row.now.quota)) result }
+fn write_quota<const P: usize, K: Sink>(
+    row: &Row<P>,
+    width: usize,
+    sink: &mut K,
+) -> Result<(), Failed>
+    ensures { Writes K.written K.faults sink.old sink.new (at_right width (text_of P row.now.quota)) result }
 {
-    write_piece(&Piece::RightVotes(width, row.quota), sink)
+    write_right_votes(width, row.quota, sink)
 }
 
-fn write_left_over<K: Sink>(
+fn write_left_over<const P: usize, K: Sink>(
     ballots: u64,
-    row: &Row<9>,
+    row: &Row<P>,
     width: usize,
     sink: &mut K,
 ) -> Result<(), Failed>
     requires { ballots ≤ MOST_BALLOTS }
     ensures { Writes K.written K.faults sink.old sink.new
-        (at_right width (text_of 9 (left_over ballots row.now))) result }
+        (at_right width (text_of P (left_over P ballots row.now))) result }
 {
     let left = left_over(ballots, row.total);
-    write_piece(&Piece::RightVotes(width, left), sink)
+    write_right_votes(width, left, sink)
 }
 
 /// Writes what the candidate at a place is behind a round, and its vote at the end of it.
-fn write_standing<K: Sink>(
-    row: &Row<9>,
+fn write_standing<const P: usize, K: Sink>(
+    row: &Row<P>,
     behind: &States,
     p: usize,
     width: usize,
@@ -83,11 +91,11 @@ fn write_standing<K: Sink>(
     requires states { length behind.now ≡ length row.now.states }
     requires place { p < length row.now.states }
     ensures { Writes K.written K.faults sink.old sink.new
-        (32 ∷ mark (state_at behind.now p) ∷ 32 ∷ at_right width (text_of 9 (slice_index row.now.votes p))) result }
+        (32 ∷ mark (state_at behind.now p) ∷ 32 ∷ at_right width (text_of P (slice_index row.now.votes p))) result }
 {
     let vote = *row.votes.get(p);
     write_mark(*behind.get(p), sink)?;
-    write_piece(&Piece::RightVotes(width, vote), sink)
+    write_right_votes(width, vote, sink)
 }
 
 /// Writes the mark of a state, between spaces.

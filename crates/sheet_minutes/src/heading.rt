@@ -5,10 +5,13 @@ ghost use Rattle.sheet_minutes.specs.Minutes.{heading};
 use crate::piece::Piece;
 use crate::pieces::write_pieces;
 use byte_edge::{Failed, Sink};
-use sheet_reader::SheetValues;
+use sheet_reader::SheetValuesAt;
 
 /// Writes the title and the numbers of seats and ballots.
-pub(crate) fn write_heading<K: Sink>(values: &SheetValues, sink: &mut K) -> Result<(), Failed>
+pub(crate) fn write_heading<const P: usize, K: Sink>(
+    values: &SheetValuesAt<P>,
+    sink: &mut K,
+) -> Result<(), Failed>
     ensures { Writes K.written K.faults sink.old sink.new (heading values.now) result }
 {
     write_pieces(

@@ -13,14 +13,14 @@ use crate::piece::Piece;
 use crate::pieces::write_piece;
 use byte_edge::{Failed, Sink};
 use piece_text::write_bytes;
-use sheet_reader::SheetValues;
+use sheet_reader::SheetValuesAt;
 
-pub(crate) fn write_label<K: Sink>(
-    values: &SheetValues,
+pub(crate) fn write_label<const P: usize, K: Sink>(
+    values: &SheetValuesAt<P>,
     entry: Entry,
     sink: &mut K,
 ) -> Result<(), Failed>
-    requires printable { IsPrintable 9 values.now }
+    requires printable { IsPrintable P values.now }
     requires about { IsAbout (length values.now.names) entry }
     ensures { Writes K.written K.faults sink.old sink.new (label values.now entry) result }
 {

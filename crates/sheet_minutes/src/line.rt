@@ -13,45 +13,45 @@ use crate::label::write_label;
 use crate::rounds::ends_round;
 use byte_edge::{Failed, Sink};
 use piece_text::write_bytes;
-use sheet_reader::SheetValues;
+use sheet_reader::SheetValuesAt;
 
 /// Writes what a line says of the rounds that end from the iteration at `first` on and before that at `end`.
-pub(crate) fn write_line<K: Sink>(
-    values: &SheetValues,
+pub(crate) fn write_line<const P: usize, K: Sink>(
+    values: &SheetValuesAt<P>,
     width: usize,
     first: usize,
     end: usize,
     entry: Entry,
     sink: &mut K,
 ) -> Result<(), Failed>
-    requires printable { IsPrintable 9 values.now }
+    requires printable { IsPrintable P values.now }
     requires about { IsAbout (length values.now.names) entry }
     requires narrow { width ≤ 20 }
     requires from { first ≤ end }
     requires within { end ≤ length values.now.rows }
     ensures { Writes K.written K.faults sink.old sink.new
-        (ended (line values.now width (rounds_in values.now.rows first (end - first)) entry)) result }
+        (ended (line P values.now width (rounds_in values.now.rows first (end - first)) entry)) result }
 {
     write_label(values, entry, sink)?;
     write_cells(values, width, first, end, entry, sink)?;
     write_bytes(b"\n", sink)
 }
 
-fn write_cells<K: Sink>(
-    values: &SheetValues,
+fn write_cells<const P: usize, K: Sink>(
+    values: &SheetValuesAt<P>,
     width: usize,
     first: usize,
     end: usize,
     entry: Entry,
     sink: &mut K,
 ) -> Result<(), Failed>
-    requires printable { IsPrintable 9 values.now }
+    requires printable { IsPrintable P values.now }
     requires about { IsAbout (length values.now.names) entry }
     requires narrow { width ≤ 20 }
     requires from { first ≤ end }
     requires within { end ≤ length values.now.rows }
     ensures { Writes K.written K.faults sink.old sink.new
-        (flat_map (cell values.now width entry) (rounds_in values.now.rows first (end - first))) result }
+        (flat_map (cell P values.now width entry) (rounds_in values.now.rows first (end - first))) result }
 {
     for i in first..end {
         if ends_round(values.rows.items(), i) {

@@ -1,5 +1,3 @@
-use fixed_place::Amount;
-
 /// A piece of what is written.
 #[derive(Drop)]
 pub(crate) enum Piece<'a> {
@@ -10,6 +8,4 @@ pub(crate) enum Piece<'a> {
     Count(u64),
     /// A whole number at the right of so many columns.
     RightCount(usize, u64),
-    /// Votes at the right of so many columns.
-    RightVotes(usize, Amount<9>),
 }

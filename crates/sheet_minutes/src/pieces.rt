@@ -30,8 +30,18 @@ pub(crate) fn write_piece<K: Sink>(piece: &Piece<'_>, sink: &mut K) -> Result<()
         Piece::Plain(text) => write_plain(*text, sink),
         Piece::Count(n) => write_bytes(count_text(*n).bytes(), sink),
         Piece::RightCount(width, n) => write_right(*width, count_text(*n).bytes(), sink),
-        Piece::RightVotes(width, a) => write_right(*width, votes_text(*a).bytes(), sink),
     }
+}
+
+/// Writes votes at the right of so many columns.
+pub(crate) fn write_right_votes<const P: usize, K: Sink>(
+    width: usize,
+    votes: Amount<P>,
+    sink: &mut K,
+) -> Result<(), Failed>
+    ensures { Writes K.written K.faults sink.old sink.new (at_right width (text_of P votes.entry)) result }
+{
+    write_right(width, votes_text(votes).bytes(), sink)
 }
 
 /// Writes a text at the right of so many columns.
@@ -61,8 +71,8 @@ fn count_text(n: u64) -> Line
 }
 
 #[tactic(auto, using(line_text::proofs::Lengths::lengths))]
-pub(crate) fn votes_text(a: Amount<9>) -> Line
-    ensures { result ≡ text_of 9 a }
+pub(crate) fn votes_text<const P: usize>(a: Amount<P>) -> Line
+    ensures { result ≡ text_of P a.entry }
 {
     let _units = a.units();
     let mut line = Line::new();

@@ -10,20 +10,21 @@ use crate::pieces::votes_text;
 use crate::rounds::left_over;
 use fixed_place::Amount;
 use meek_rule::Row;
-use sheet_reader::SheetValues;
+use sheet_reader::SheetValuesAt;
 
 /// The columns of the widest quota, vote or amount left over.
-pub(crate) fn width_of(values: &SheetValues) -> usize
-    requires { IsPrintable 9 values.now }
-    ensures width { result ≡ width_of values.now }
+pub(crate) fn width_of<const P: usize>(values: &SheetValuesAt<P>) -> usize
+    requires places { (6 ≤ P) × (P ≤ 9) }
+    requires printable { IsPrintable P values.now }
+    ensures width { result ≡ width_of P values.now }
     ensures narrow { result ≤ 20 }
 {
     widest_of(values.ballots, values.rows.items())
 }
 
-fn widest_of(ballots: u64, rows: &[Row<9>]) -> usize
+fn widest_of<const P: usize>(ballots: u64, rows: &[Row<P>]) -> usize
     requires few { ballots ≤ MOST_BALLOTS }
-    ensures { result ≡ widest_of ballots rows.now }
+    ensures { result ≡ widest_of P ballots rows.now }
 {
     let mut most = 0;
     for row in rows {
@@ -33,16 +34,16 @@ fn widest_of(ballots: u64, rows: &[Row<9>]) -> usize
 }
 
 /// The columns of the widest amount of an iteration.
-fn widest_in(ballots: u64, row: &Row<9>) -> usize
+fn widest_in<const P: usize>(ballots: u64, row: &Row<P>) -> usize
     requires few { ballots ≤ MOST_BALLOTS }
-    ensures { result ≡ widest (row.now.quota ∷ left_over ballots row.now ∷ row.now.votes) }
+    ensures { result ≡ widest P (row.now.quota ∷ left_over P ballots row.now ∷ row.now.votes) }
 {
     let left = columns(left_over(ballots, row.total));
     larger(columns(row.quota), larger(left, widest(row.votes.items())))
 }
 
-fn widest(amounts: &[Amount<9>]) -> usize
-    ensures { result ≡ widest amounts.now }
+fn widest<const P: usize>(amounts: &[Amount<P>]) -> usize
+    ensures { result ≡ widest P amounts.now }
 {
     let mut most = 0;
     for amount in amounts {
@@ -51,8 +52,8 @@ fn widest(amounts: &[Amount<9>]) -> usize
     most
 }
 
-fn columns(amount: Amount<9>) -> usize
-    ensures { result ≡ length (text_of 9 amount) }
+fn columns<const P: usize>(amount: Amount<P>) -> usize
+    ensures { result ≡ length (text_of P amount.entry) }
 {
     votes_text(amount).bytes().len()
 }

@@ -3,9 +3,10 @@ use Rattle.std.proofs.Common.{◌≡◌, ◌∙◌, refl, sym, ap, ℕ, ◌+◌,
 use Rattle.std.proofs.Common.{[], ◌∷◌, ◌++◌, length, arith, length-append, pow-suc}
 use Rattle.std.specs.Prelude.{decimal}
 use Rattle.std.proofs.lemmas.Fmt.{decimal_injective}
-use Rattle.std.proofs.lemmas.Nat.{pow-add, div-add-mod'}
+use Rattle.std.proofs.lemmas.Nat.{div-add-mod'}
 use Rattle.std.proofs.Math.Nat.{div-le_of_le-mul, mod-lt}
 use Rattle.fixed_place.specs.Rounding.{scale, most}
+use Rattle.fixed_place.proofs.RoundingLemmas.{most_votes, scale_pos}
 use Rattle.fixed_place.specs.Text.{text_of, last_digits}
 
 pub heads : {A : Type 0} (a b : A) (xs ys : List A) → a ∷ xs ≡ b ∷ ys → (a ≡ b) × (xs ≡ ys)
@@ -40,30 +41,30 @@ digits_say (suc k) n m below small e =
     (omega (arith, pow-suc 10 k, small)) parts.0 in
     omega (arith, last.0, others)
 
-pub votes_small : (u : ℕ) → u ≤ most 9 → u / scale 9 ≤ 1000000000
-votes_small u small = div-le_of_le-mul (scale 9) (omega (arith, pow-add 10 9 9, small))
+pub votes_small : (places u : ℕ) → u ≤ most places → u / scale places ≤ 1000000000
+votes_small places u small = div-le_of_le-mul (scale places) (omega (arith, most_votes places, small))
 
 -- no two amounts are written alike
-pub amounts_say : (u w : ℕ) → u ≤ most 9 → w ≤ most 9 → text_of 9 u ≡ text_of 9 w → u ≡ w
+pub amounts_say : (places u w : ℕ) → u ≤ most places → w ≤ most places → text_of places u ≡ text_of places w → u ≡ w
 unfolding text_of
-amounts_say u w small few e =
-    let s = scale 9 in
-    let digits = last_digits 9 (u % s) in
-    let others = last_digits 9 (w % s) in
+amounts_say places u w small few e =
+    let s = scale places in
+    let digits = last_digits places (u % s) in
+    let others = last_digits places (w % s) in
     let long : length (decimal (u / s)) ≡ length (decimal (w / s)) =
     omega (
       arith,
       ap (λ (t : List ℕ). length t) e,
       length-append (decimal (u / s)) (46 ∷ digits),
       length-append (decimal (w / s)) (46 ∷ others),
-      length-digits 9 (u % s),
-      length-digits 9 (w % s),
+      length-digits places (u % s),
+      length-digits places (w % s),
     ) in
     let parts = fronts (decimal (u / s)) (decimal (w / s)) (46 ∷ digits) (46 ∷ others) long e in
     let whole =
-    decimal_injective (u / s) (w / s) (omega (arith, votes_small u small))
-    (omega (arith, votes_small w few)) parts.0 in
+    decimal_injective (u / s) (w / s) (omega (arith, votes_small places u small))
+    (omega (arith, votes_small places w few)) parts.0 in
     let rest =
-    digits_say 9 (u % s) (w % s) (mod-lt u (omega arith)) (mod-lt w (omega arith))
+    digits_say places (u % s) (w % s) (mod-lt u (scale_pos places)) (mod-lt w (scale_pos places))
     (heads 46 46 digits others parts.1).1 in
     sym (div-add-mod' u s) ∙ (λ i. whole i * s + rest i) ∙ div-add-mod' w s

@@ -1,5 +1,5 @@
 -- How many candidates can have a bar: those with one come after fewer than 24 others, and no two come after as many.
-use Rattle.std.proofs.Common.{◌≡◌, ◌∙◌, refl, sym, ap, ℕ, zero, suc, ◌+◌, ◌<◌, ◌≤◌, Bool, true, false, cond, List, [], ◌∷◌}
+use Rattle.std.proofs.Common.{◌≡◌, ◌∙◌, refl, sym, ap, ℕ, zero, suc, ◌+◌, ◌<◌, ◌≤◌, Bool, true, false, cond}
 use Rattle.std.proofs.Common.{length, inl, inr, arith}
 use Rattle.std.specs.Prelude.{◌⊎◌, ◌&&◌, ◌||◌, nat_eq, nat_lt, count_by, slice_index}
 use Rattle.std.specs.List.{filter, range_with_len}
@@ -8,7 +8,7 @@ use Rattle.std.proofs.lemmas.Bool.{le-ltb, lt-ltb, ltb-true, or_cases, or_left, 
 use Rattle.std.proofs.lemmas.List.Sums.{length-filter, sum_by-cons}
 use Rattle.meek_rule.specs.Row.{Row}
 use Rattle.sheet_page.specs.Bars.{bars_before, comes_before, has_bar, most_bars, stands}
-use Rattle.sheet_page.specs.Values.{places}
+use Rattle.sheet_page.specs.Values.{all_places}
 
 -- ---- counts over a run of numbers
 
@@ -181,7 +181,7 @@ module _ (row : Row) where
         | inr above ↦ inr (and_from (stands row p) (nat_eq r k) parts.0 (eq-eqb r k (omega (arith, less, above))))
       ]
 
-  one_after : (k n : ℕ) → n ≤ length row.votes → count_by (after_just k) (places n) ≤ 1
+  one_after : (k n : ℕ) → n ≤ length row.votes → count_by (after_just k) (all_places n) ≤ 1
   one_after k n inside =
       count_one (after_just k) 0 n
       (λ x y from less below one two.
@@ -190,7 +190,7 @@ module _ (row : Row) where
       no_two x y less (omega (arith, below, inside)) first.0 second.0
       (eqb-true (bars_before row x) k first.1 ∙ sym (eqb-true (bars_before row y) k second.1)))
 
-  few_after : (k n : ℕ) → n ≤ length row.votes → count_by (after_fewer k) (places n) ≤ k
+  few_after : (k n : ℕ) → n ≤ length row.votes → count_by (after_fewer k) (all_places n) ≤ k
   few_after zero n inside =
       let none = count_none (after_fewer 0) 0 n
       (λ x from below. and_right (stands row x) (nat_lt (bars_before row x) 0) (le-ltb (bars_before row x) 0 (omega arith))) in
@@ -203,5 +203,5 @@ module _ (row : Row) where
         one_after k n inside,
       )
 
-  pub few_bars : (n : ℕ) → n ≤ length row.votes → length (filter (has_bar row) (places n)) ≤ most_bars
-  few_bars n inside = omega (arith, length-filter (has_bar row) (places n), few_after 24 n inside)
+  pub few_bars : (n : ℕ) → n ≤ length row.votes → length (filter (has_bar row) (all_places n)) ≤ most_bars
+  few_bars n inside = omega (arith, length-filter (has_bar row) (all_places n), few_after 24 n inside)

@@ -64,37 +64,37 @@ candidate-is v p few = (
 
 -- ---- a candidate in an iteration
 
-abbrev pub standing_pieces : Row → (p : ℕ) → List (List ℕ)
-standing_pieces row p =
+abbrev pub standing_pieces : (places : ℕ) → Row → (p : ℕ) → List (List ℕ)
+standing_pieces places row p =
     member (codes "\"number\"") (decimal (p + 1))
     ∷ member (codes "\"state\"") (string_text (state_word (state_at row.states p)))
-    ∷ member (codes "\"keep\"") (amount (slice_index row.keeps p))
-    ∷ member (codes "\"vote\"") (amount (slice_index row.votes p))
+    ∷ member (codes "\"keep\"") (amount places (slice_index row.keeps p))
+    ∷ member (codes "\"vote\"") (amount places (slice_index row.votes p))
     ∷ member (codes "\"elected\"") (truth (mark_at row.elected p))
     ∷ member (codes "\"capped\"") (truth (mark_at row.capped p))
     ∷ member (codes "\"tied\"") (truth (mark_at row.tied p))
     ∷ member (codes "\"defeated\"") (truth (defeats row.step (p + 1))) ∷ []
 
-abbrev pub vote_parts : Row → (p : ℕ) → List (List ℕ)
-vote_parts row p =
+abbrev pub vote_parts : (places : ℕ) → Row → (p : ℕ) → List (List ℕ)
+vote_parts places row p =
     comma_at p ∷ codes "{\"number\":" ∷ decimal (p + 1) ∷ codes ",\"state\":"
     ∷ string_text (state_word (state_at row.states p))
-    ∷ codes ",\"keep\":" ∷ amount (slice_index row.keeps p) ∷ codes ",\"vote\":" ∷ amount (slice_index row.votes p) ∷ []
+    ∷ codes ",\"keep\":" ∷ amount places (slice_index row.keeps p) ∷ codes ",\"vote\":" ∷ amount places (slice_index row.votes p) ∷ []
 
 abbrev pub won_parts : (elected capped : List ℕ) → List (List ℕ)
 won_parts elected capped = codes ",\"elected\":" ∷ elected ∷ codes ",\"capped\":" ∷ capped ∷ []
 
-pub standing-written : (row : Row) (p : ℕ) → standing_json row p ≡ comma_at p ++ members (standing_pieces row p)
-standing-written row p =
+pub standing-written : (places : ℕ) (row : Row) (p : ℕ) → standing_json places row p ≡ comma_at p ++ members (standing_pieces places row p)
+standing-written places row p =
     let lost = lost_json (truth (mark_at row.tied p)) (truth (defeats row.step (p + 1))) in
     let elected = truth (mark_at row.elected p) in
     let capped = truth (mark_at row.capped p) in
-    joined-onto (vote_parts row p) (won_json elected capped ++ lost)
-    ∙ ap (onto (vote_parts row p)) (joined-onto (won_parts elected capped) lost)
+    joined-onto (vote_parts places row p) (won_json elected capped ++ lost)
+    ∙ ap (onto (vote_parts places row p)) (joined-onto (won_parts elected capped) lost)
 
-pub standing-is : (row : Row) (p : ℕ) → p < MOST_CANDIDATES → IsTextOf (standing_value row p) (members (standing_pieces row p))
-standing-is row p few = (
-  standing_pieces row p,
+pub standing-is : (places : ℕ) (row : Row) (p : ℕ) → p < MOST_CANDIDATES → IsTextOf (standing_value places row p) (members (standing_pieces places row p))
+standing-is places row p few = (
+  standing_pieces places row p,
   refl,
   (
     (codes "\"number\"", decimal (p + 1), refl, refl, (omega (arith, few), refl)),
@@ -107,9 +107,9 @@ standing-is row p few = (
         said-text (state_word (state_at row.states p)),
       ),
       (
-        (codes "\"keep\"", amount (slice_index row.keeps p), refl, refl, said-text (text_of 9 (slice_index row.keeps p))),
+        (codes "\"keep\"", amount places (slice_index row.keeps p), refl, refl, said-text (text_of places (slice_index row.keeps p))),
         (
-          (codes "\"vote\"", amount (slice_index row.votes p), refl, refl, said-text (text_of 9 (slice_index row.votes p))),
+          (codes "\"vote\"", amount places (slice_index row.votes p), refl, refl, said-text (text_of places (slice_index row.votes p))),
           (
             (codes "\"elected\"", truth (mark_at row.elected p), refl, refl, truth-text (mark_at row.elected p)),
             (

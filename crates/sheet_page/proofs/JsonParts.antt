@@ -8,7 +8,7 @@ use Rattle.sheet_page.specs.JsonGrammar.{Json, IsTextOf, AreItems, closed, other
 use Rattle.sheet_page.specs.JsonReading.{read_string}
 use Rattle.sheet_page.specs.JsonText.{string_text}
 use Rattle.sheet_page.specs.JsonValues.{items_of, said}
-use Rattle.sheet_page.specs.Values.{places}
+use Rattle.sheet_page.specs.Values.{all_places}
 use Rattle.sheet_page.proofs.JsonReads.{strings_read}
 
 -- parts one behind another, and bytes behind them
@@ -50,7 +50,7 @@ module _ (j g : ℕ → List ℕ) (is : (p : ℕ) → j p ≡ comma_at p ++ g p)
       ∙ ap (λ (l : List ℕ). 44 ∷ l) (sym (append_assoc (g a) more rest))
 
   -- the items of a list, with a comma before each but the first
-  pub list-written : (n : ℕ) → flat_map j (places n) ++ 93 ∷ rest ≡ closed (map g (places n)) 93 ++ rest
+  pub list-written : (n : ℕ) → flat_map j (all_places n) ++ 93 ∷ rest ≡ closed (map g (all_places n)) 93 ++ rest
   list-written zero = refl
   list-written (suc n) =
       let more = others_closed (map g (range_with_len 1 n)) 93 in
@@ -71,5 +71,5 @@ are-items-from value text (suc n) a is = (
 
 pub are-items :
     (value : ℕ → Json) (text : ℕ → List ℕ) (n : ℕ) → ((p : ℕ) → p < n → IsTextOf (value p) (text p))
-    → AreItems (items_of (map value (places n))) (map text (places n))
+    → AreItems (items_of (map value (all_places n))) (map text (all_places n))
 are-items value text n is = are-items-from value text n 0 (λ p low high. is p (omega (arith, high)))

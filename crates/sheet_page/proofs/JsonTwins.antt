@@ -11,7 +11,7 @@ use Rattle.page_tree.specs.Escaping.{readable}
 use Rattle.sheet_page.specs.Json.{truth}
 use Rattle.sheet_page.specs.JsonReading.{read_string}
 use Rattle.sheet_page.specs.JsonText.{string_text}
-use Rattle.sheet_page.specs.Values.{places}
+use Rattle.sheet_page.specs.Values.{all_places}
 use Rattle.sheet_page.proofs.AmountTexts.{heads}
 use Rattle.sheet_page.proofs.JsonReads.{strings_read}
 
@@ -171,7 +171,7 @@ module _
       )
 
   pub lists_cut :
-      (rest others : List ℕ) → flat_map f (places most) ++ 93 ∷ rest ≡ flat_map g (places more) ++ 93 ∷ others
+      (rest others : List ℕ) → flat_map f (all_places most) ++ 93 ∷ rest ≡ flat_map g (all_places more) ++ 93 ∷ others
       → (most ≡ more) × ((p : ℕ) → p < most → Says p) × (rest ≡ others)
   lists_cut rest others e =
       let all = from_place 0 most more rest others (omega arith) (omega arith) e in

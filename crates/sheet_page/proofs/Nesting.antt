@@ -6,7 +6,7 @@ use Rattle.std.specs.List.{list_all}
 use Rattle.fixed_place.specs.Text.{text_of}
 use Rattle.lot_order.specs.Flags.{mark_at}
 use Rattle.meek_rule.specs.Row.{Row}
-use Rattle.page_tree.specs.Trees.{Trees, Nothing, IsWellNamed}
+use Rattle.page_tree.specs.Trees.{Nothing, IsWellNamed}
 use Rattle.sheet_reader.specs.Values.{SheetList}
 use Rattle.sheet_words.specs.Lines.{at_end, sentences_of}
 use Rattle.sheet_words.specs.Sentences.{outcome, sentences_at_end}
@@ -16,7 +16,7 @@ use Rattle.sheet_minutes.specs.Rounds.{ends_round, left_over, row_at}
 use Rattle.sheet_page.specs.Told.{end_list, item, outcome_list, result_part, result_title, round_sentences, sentences_at, spoken}
 use Rattle.sheet_page.specs.Trees.{at, each, el, isolated, words}
 use Rattle.sheet_page.proofs.Tested.{tested, Tested, sound, tested_all, tested_each, tested_el, tested_if}
-use Rattle.sheet_page.specs.Values.{places, name_at}
+use Rattle.sheet_page.specs.Values.{all_places, name_at}
 use Rattle.sheet_page.specs.RoundEnds.{settled_at}
 use Rattle.sheet_page.specs.Stretches.{is_of_round}
 use Rattle.sheet_page.specs.Bars.{bars_of, has_bar, rest_count, rest_votes}
@@ -28,7 +28,7 @@ use Rattle.sheet_page.specs.Html.{in_round, at_end as seat_at_end, elected_item,
 use Rattle.sheet_page.specs.Html.{elected_list, elected_title, elected_part, rounds_title, words_explained, rounds_part}
 use Rattle.sheet_page.specs.Html.{round_title, round_part, part_at, round_parts, heading, content, body, head, page}
 use Rattle.sheet_page.specs.Links.{link_at, link_list, link_to, links, part_attributes, part_name, round_link}
-use Rattle.sheet_page.specs.RoundTable.{amount_cell, candidate_head, candidate_row, caption, first_head, frame_attributes}
+use Rattle.sheet_page.specs.RoundTable.{candidate_head, candidate_row, caption, first_head, frame_attributes}
 use Rattle.sheet_page.specs.RoundTable.{cell_at, cells, head_row, left_row, line_head, quota_row, round_cell}
 use Rattle.sheet_page.specs.RoundTable.{rounds_table, table_body, table_frame, table_head}
 
@@ -46,105 +46,105 @@ elected_tested v = tested_el (codes "section") [] (elected_title ∷ elected_lis
     list : tested (elected_list v) ≡ true
     list =
         tested_el (codes "ol") []
-        (each (elected_in v) v.rows ∷ each (seated_item v) (places (length v.names)) ∷ []) refl refl refl (
-          tested_each (elected_in v) v.rows (λ row. tested_each (elected_item v row) (places (length v.names)) (item row)),
-          (tested_each (seated_item v) (places (length v.names)) seated, tt),
+        (each (elected_in v) v.rows ∷ each (seated_item v) (all_places (length v.names)) ∷ []) refl refl refl (
+          tested_each (elected_in v) v.rows (λ row. tested_each (elected_item v row) (all_places (length v.names)) (item row)),
+          (tested_each (seated_item v) (all_places (length v.names)) seated, tt),
         )
 
-rounds_tested : (v : SheetList) → tested (rounds_part v) ≡ true
-rounds_tested v =
-    tested_el (codes "section") [] (rounds_title ∷ table_frame v ∷ words_explained ∷ []) refl refl refl
+rounds_tested : (places : ℕ) (v : SheetList) → tested (rounds_part places v) ≡ true
+rounds_tested places v =
+    tested_el (codes "section") [] (rounds_title ∷ table_frame places v ∷ words_explained ∷ []) refl refl refl
     (refl, (frame, (refl, tt)))
   where
-    said : (entry : Entry) (i : ℕ) → tested (round_cell v entry i) ≡ true
+    said : (entry : Entry) (i : ℕ) → tested (round_cell places v entry i) ≡ true
     said Round i = refl
     said Quota i = refl
     said LeftOver i = refl
     said (Candidate p) i = refl
 
     -- what a line says of the rounds
-    line : (entry : Entry) → tested (cells v entry) ≡ true
+    line : (entry : Entry) → tested (cells places v entry) ≡ true
     line entry =
-        tested_each (cell_at v entry) (places (length v.rows))
-        (λ i. tested_if (ends_round v.rows i) (round_cell v entry i) (said entry i))
+        tested_each (cell_at places v entry) (all_places (length v.rows))
+        (λ i. tested_if (ends_round v.rows i) (round_cell places v entry i) (said entry i))
 
-    first : tested (table_head v) ≡ true
+    first : tested (table_head places v) ≡ true
     first =
-        tested_el (codes "thead") [] (head_row v ∷ []) refl refl refl (
-          tested_el (codes "tr") [] (first_head ∷ cells v Round ∷ []) refl refl refl (refl, (line Round, tt)),
+        tested_el (codes "thead") [] (head_row places v ∷ []) refl refl refl (
+          tested_el (codes "tr") [] (first_head ∷ cells places v Round ∷ []) refl refl refl (refl, (line Round, tt)),
           tt,
         )
 
-    quotas : tested (quota_row v) ≡ true
-    quotas = tested_el (codes "tr") [] (line_head (codes "Quota") ∷ cells v Quota ∷ []) refl refl refl (refl, (line Quota, tt))
+    quotas : tested (quota_row places v) ≡ true
+    quotas = tested_el (codes "tr") [] (line_head (codes "Quota") ∷ cells places v Quota ∷ []) refl refl refl (refl, (line Quota, tt))
 
-    left : tested (left_row v) ≡ true
+    left : tested (left_row places v) ≡ true
     left =
-        tested_el (codes "tr") [] (line_head (codes "On no candidate") ∷ cells v LeftOver ∷ []) refl refl refl
+        tested_el (codes "tr") [] (line_head (codes "On no candidate") ∷ cells places v LeftOver ∷ []) refl refl refl
         (refl, (line LeftOver, tt))
 
-    one : (p : ℕ) → tested (candidate_row v p) ≡ true
+    one : (p : ℕ) → tested (candidate_row places v p) ≡ true
     one p =
-        tested_el (codes "tr") [] (candidate_head (name_at v p) (p + 1) ∷ cells v (Candidate p) ∷ []) refl refl refl
+        tested_el (codes "tr") [] (candidate_head (name_at v p) (p + 1) ∷ cells places v (Candidate p) ∷ []) refl refl refl
         (refl, (line (Candidate p), tt))
 
-    lines : tested (table_body v) ≡ true
+    lines : tested (table_body places v) ≡ true
     lines =
         tested_el (codes "tbody") []
-        (quota_row v ∷ left_row v ∷ each (candidate_row v) (places (length v.names)) ∷ []) refl refl refl
-        (quotas, (left, (tested_each (candidate_row v) (places (length v.names)) one, tt)))
+        (quota_row places v ∷ left_row places v ∷ each (candidate_row places v) (all_places (length v.names)) ∷ []) refl refl refl
+        (quotas, (left, (tested_each (candidate_row places v) (all_places (length v.names)) one, tt)))
 
-    frame : tested (table_frame v) ≡ true
+    frame : tested (table_frame places v) ≡ true
     frame =
-        tested_el (codes "div") frame_attributes (rounds_table v ∷ []) refl refl refl (
-          tested_el (codes "table") [] (caption ∷ table_head v ∷ table_body v ∷ []) refl refl refl
+        tested_el (codes "div") frame_attributes (rounds_table places v ∷ []) refl refl refl (
+          tested_el (codes "table") [] (caption ∷ table_head places v ∷ table_body places v ∷ []) refl refl refl
               (refl, (first, (lines, tt))),
           tt,
         )
 
-picture_tested : (v : SheetList) (full : ℕ) (row : Row) → tested (round_picture v full row) ≡ true
-picture_tested v full row =
-    tested_all (amounts_of v.ballots row ∷ picture v full row ∷ []) (said, (drawn, tt))
+picture_tested : (places : ℕ) (v : SheetList) (full : ℕ) (row : Row) → tested (round_picture places v full row) ≡ true
+picture_tested places v full row =
+    tested_all (amounts_of places v.ballots row ∷ picture places v full row ∷ []) (said, (drawn, tt))
   where
-    drawn : tested (picture v full row) ≡ true
+    drawn : tested (picture places v full row) ≡ true
     drawn =
         tested_el (codes "svg") (picture_attributes (bars_of row)) (picture_title row.round
-        ∷ each (bar_at v full row) (places (length v.names))
+        ∷ each (bar_at places v full row) (all_places (length v.names))
         ∷ quota_line (scaled full row.quota) (bars_of row) ∷ []) refl refl refl (
           refl,
-          (tested_each (bar_at v full row) (places (length v.names)) (λ p. tested_if (has_bar row p) (bar v full row p) refl), (refl, tt)),
+          (tested_each (bar_at places v full row) (all_places (length v.names)) (λ p. tested_if (has_bar row p) (bar places v full row p) refl), (refl, tt)),
         )
 
-    said : tested (amounts_of v.ballots row) ≡ true
+    said : tested (amounts_of places v.ballots row) ≡ true
     said =
-        tested_el (codes "p") [] (amounts_text row.quota (left_over v.ballots row) ∷ rest_part row ∷ []) refl refl refl
+        tested_el (codes "p") [] (amounts_text places row.quota (left_over places v.ballots row) ∷ rest_part places row ∷ []) refl refl refl
         (refl, (rest, tt))
       where
-        rest : tested (rest_part row) ≡ true
+        rest : tested (rest_part places row) ≡ true
         rest = by (nat_eq (rest_count row) 0)
           where
-            by : (b : Bool) → tested (if b then Nothing else rest_text (rest_count row) (text_of 9 (rest_votes row))) ≡ true
+            by : (b : Bool) → tested (if b then Nothing else rest_text (rest_count row) (text_of places (rest_votes row))) ≡ true
             by true = refl
             by false = refl
 
-folded_tested : (v : SheetList) (last : ℕ) → tested (folded v last) ≡ true
-folded_tested v last =
-    tested_el (codes "details") [] (summary (row_at v.rows last).round ∷ iterations v last ∷ []) refl refl refl (
+folded_tested : (places : ℕ) (v : SheetList) (last : ℕ) → tested (folded places v last) ≡ true
+folded_tested places v last =
+    tested_el (codes "details") [] (summary (row_at v.rows last).round ∷ iterations places v last ∷ []) refl refl refl (
       refl,
       (
-        tested_each (iteration_at v last) (places (last + 1))
-            (λ i. tested_if (is_of_round v.rows last i) (iteration v (row_at v.rows i)) (one (row_at v.rows i))),
+        tested_each (iteration_at places v last) (all_places (last + 1))
+            (λ i. tested_if (is_of_round v.rows last i) (iteration places v (row_at v.rows i)) (one (row_at v.rows i))),
         tt,
       ),
     )
   where
-    one : (row : Row) → tested (iteration v row) ≡ true
+    one : (row : Row) → tested (iteration places v row) ≡ true
     one row =
-        tested_el (codes "dl") [] (iteration_head row ∷ each (standing_at row) (places (length v.names)) ∷ []) refl refl refl (
+        tested_el (codes "dl") [] (iteration_head places row ∷ each (standing_at places row) (all_places (length v.names)) ∷ []) refl refl refl (
           refl,
           (
-            tested_each (standing_at row) (places (length v.names))
-                (λ p. tested_if (concerns row p) (standing_of row p) refl),
+            tested_each (standing_at places row) (all_places (length v.names))
+                (λ p. tested_if (concerns row p) (standing_of places row p) refl),
             tt,
           ),
         )
@@ -164,35 +164,35 @@ items_tested : (sentences : List (List (List ℕ))) → tested (each item senten
 items_tested sentences =
     tested_each item sentences (λ texts. tested_el (codes "li") [] (map spoken texts) refl refl refl (texts_tested texts))
 
-told_tested : (v : SheetList) (last : ℕ) → tested (round_sentences v last) ≡ true
-told_tested v last =
-    tested_el (codes "ul") [] (each (sentences_at v last) (places (last + 1)) ∷ []) refl refl refl (
-      tested_each (sentences_at v last) (places (last + 1)) (λ i.
-          tested_if (is_of_round v.rows last i) (each item (sentences_of v (row_at v.rows i)))
-          (items_tested (sentences_of v (row_at v.rows i)))),
+told_tested : (places : ℕ) (v : SheetList) (last : ℕ) → tested (round_sentences places v last) ≡ true
+told_tested places v last =
+    tested_el (codes "ul") [] (each (sentences_at places v last) (all_places (last + 1)) ∷ []) refl refl refl (
+      tested_each (sentences_at places v last) (all_places (last + 1)) (λ i.
+          tested_if (is_of_round v.rows last i) (each item (sentences_of places v (row_at v.rows i)))
+          (items_tested (sentences_of places v (row_at v.rows i)))),
       tt,
     )
 
 result_tested : (v : SheetList) → tested (result_part v) ≡ true
 result_tested v =
     tested_el (codes "section") [] (result_title ∷ end_list v ∷ outcome_list v ∷ []) refl refl refl
-    (refl, (list (map at_end (sentences_at_end v)), (list (map (outcome v) (places (length v.names))), tt)))
+    (refl, (list (map at_end (sentences_at_end v)), (list (map (outcome v) (all_places (length v.names))), tt)))
   where
     list : (sentences : List (List (List ℕ))) → tested (el (codes "ul") [] (each item sentences ∷ [])) ≡ true
     list sentences =
         tested_el (codes "ul") [] (each item sentences ∷ []) refl refl refl (items_tested sentences, tt)
 
-parts_tested : (v : SheetList) (full : ℕ) → tested (round_parts v full) ≡ true
-parts_tested v full =
-    tested_each (part_at v full) (places (length v.rows))
-    (λ i. tested_if (ends_round v.rows i) (round_part v full i) (part i))
+parts_tested : (places : ℕ) (v : SheetList) (full : ℕ) → tested (round_parts places v full) ≡ true
+parts_tested places v full =
+    tested_each (part_at places v full) (all_places (length v.rows))
+    (λ i. tested_if (ends_round v.rows i) (round_part places v full i) (part i))
   where
-    part : (last : ℕ) → tested (round_part v full last) ≡ true
+    part : (last : ℕ) → tested (round_part places v full last) ≡ true
     part last =
         let row = settled_at v last in
         tested_el (codes "section") (part_attributes (part_name last))
-        (round_title row.round ∷ round_sentences v last ∷ round_picture v full row ∷ folded v last ∷ []) refl refl refl
-        (refl, (told_tested v last, (picture_tested v full row, (folded_tested v last, tt))))
+        (round_title row.round ∷ round_sentences places v last ∷ round_picture places v full row ∷ folded places v last ∷ []) refl refl refl
+        (refl, (told_tested places v last, (picture_tested places v full row, (folded_tested places v last, tt))))
 
 links_tested : (v : SheetList) → tested (links v) ≡ true
 links_tested v =
@@ -200,24 +200,24 @@ links_tested v =
   where
     list : tested (link_list v) ≡ true
     list =
-        tested_el (codes "ul") [] (each (link_at v) (places (length v.rows)) ∷ []) refl refl refl (
-          tested_each (link_at v) (places (length v.rows)) (λ i.
+        tested_el (codes "ul") [] (each (link_at v) (all_places (length v.rows)) ∷ []) refl refl refl (
+          tested_each (link_at v) (all_places (length v.rows)) (λ i.
               tested_if (ends_round v.rows i) (round_link (link_to i) (row_at v.rows i).round) refl),
           tt,
         )
 
 -- every page
-pub well_named : (v : SheetList) → IsWellNamed (page v)
-well_named v =
-    sound (page v) (tested_el (codes "html") (at (codes "lang") (codes "en") ∷ []) (head v ∷ body v ∷ []) refl
+pub well_named : (places : ℕ) (v : SheetList) → IsWellNamed (page places v)
+well_named places v =
+    sound (page places v) (tested_el (codes "html") (at (codes "lang") (codes "en") ∷ []) (head v ∷ body places v ∷ []) refl
     refl refl (refl, (whole, tt)))
   where
-    parts : tested (content v) ≡ true
+    parts : tested (content places v) ≡ true
     parts =
         tested_el (codes "main") []
-        (heading v ∷ links v ∷ elected_part v ∷ result_part v ∷ rounds_part v ∷ round_parts v (full_of v.rows) ∷ [])
+        (heading v ∷ links v ∷ elected_part v ∷ result_part v ∷ rounds_part places v ∷ round_parts places v (full_of v.rows) ∷ [])
         refl refl refl
-        (refl, (links_tested v, (elected_tested v, (result_tested v, (rounds_tested v, (parts_tested v (full_of v.rows), tt))))))
+        (refl, (links_tested v, (elected_tested v, (result_tested v, (rounds_tested places v, (parts_tested places v (full_of v.rows), tt))))))
 
-    whole : tested (body v) ≡ true
-    whole = tested_el (codes "body") [] (content v ∷ []) refl refl refl (parts, tt)
+    whole : tested (body places v) ≡ true
+    whole = tested_el (codes "body") [] (content places v ∷ []) refl refl refl (parts, tt)

@@ -1,12 +1,13 @@
 -- What is owed for a sheet, and what is refused.
-use Rattle.std.proofs.Common.{◌≡◌, ◌∙◌, ℕ, ◌≤◌, List, [], ◌∷◌, length, refl, sym, inl, inr, arith}
+use Rattle.std.proofs.Common.{◌≡◌, ◌∙◌, ℕ, ◌+◌, ◌<◌, ◌≤◌, List, [], ◌∷◌, length, refl, sym, subst, inl, inr, arith}
 use Rattle.std.specs.Prelude.{Option, Result, Ok, Err, codes}
+use Rattle.std.proofs.lemmas.Bool.{cases_lt}
 use Rattle.piece_text.specs.Writing.{Writes}
 use Rattle.meek_words.specs.Numerals.{Word}
 use Rattle.sheet_reader.specs.Form.{HasForm}
 use Rattle.sheet_reader.specs.Values.{SheetList}
 use Rattle.tool_edge.specs.declared.end.End.{End}
-use Rattle.tool_edge.specs.declared.end.End.TheVariants.{Done, BadInput}
+use Rattle.tool_edge.specs.declared.end.End.TheVariants.{Done}
 use Rattle.tool_edge.specs.Streams.{Writing, writing}
 use Rattle.tool_edge.specs.Finishing.{Finishes, FinishesOwed, Wrote}
 use Rattle.tool_edge.specs.Tool.{IsOwedFor, IsSound, no_history}
@@ -14,9 +15,8 @@ use Rattle.sheet_input.specs.declared.sheet_limit.TheConstants.{SHEET_LIMIT}
 use Rattle.sheet_page.specs.declared.format.Format.{Format}
 use Rattle.sheet_page.specs.declared.format.Format.TheVariants.{Html, Csv, MarkedCsv, Json, Text}
 use Rattle.sheet_input.specs.declared.sheet_fault.SheetFault.{SheetFault}
-use Rattle.sheet_input.specs.declared.sheet_fault.SheetFault.TheVariants.{Malformed}
-use Rattle.sheet_input.specs.Sheets.{IsMalformed, malformed_line}
-use Rattle.sheet_input.proofs.Refused.{not_refused, refused_once}
+use Rattle.sheet_input.specs.declared.sheet_fault.SheetFault.TheVariants.{TooLong, Malformed}
+use Rattle.sheet_page.specs.Inputs.{IsSheetAt, IsSheetText, IsRefusedSheet}
 use Rattle.sheet_page.specs.Words.{TakesFormat, mark_first, words_of}
 use Rattle.sheet_page.specs.Owed.{shown_as, shows}
 
@@ -30,17 +30,45 @@ wrote_text w f a b text (Err stop) wrote = (wrote.rose, wrote.part)
 -- ---- the whole input
 
 pub values_owed :
-    (format : Format) (input : List ℕ) (v : SheetList) (end : End SheetFault) (sink : Writing) → length input ≤ SHEET_LIMIT
-    → HasForm 9 input v → Finishes Done (shown_as format v) end sink
+    (places : ℕ) (format : Format) (input : List ℕ) (v : SheetList) (end : End SheetFault) (sink : Writing) → length input ≤ SHEET_LIMIT
+    → IsSheetAt input places v → Finishes Done (shown_as places format v) end sink
     → FinishesOwed (IsOwedFor shows format input no_history) end sink
-values_owed format input v end sink short form finishes =
-    inr (Done, shown_as format v, (short, (v, form, refl)), finishes)
+values_owed places format input v end sink short at finishes =
+    inr (Done, shown_as places format v, (short, (places, v, at, refl)), finishes)
 
-pub malformed_owed :
-    (format : Format) (input : List ℕ) (end : End SheetFault) (sink : Writing) → length input ≤ SHEET_LIMIT → IsMalformed input
-    → Finishes (BadInput Malformed) malformed_line end sink → FinishesOwed (IsOwedFor shows format input no_history) end sink
-malformed_owed format input end sink short none finishes =
-    inr (BadInput Malformed, malformed_line, (inr (short, none), refl, refl), finishes)
+-- ---- the places of an input
+
+-- it is a sheet at no number of places above this one
+abbrev pub HasNoneAbove : List ℕ → ℕ → Type 0
+HasNoneAbove input n = (other : ℕ) (w : SheetList) → n < other → other ≤ 9 → ¬ HasForm other input w
+
+pub none_above_nine : (input : List ℕ) → HasNoneAbove input 9
+none_above_nine input other w above few form = omega (arith, above, few)
+
+pub none_above_less :
+    (input : List ℕ) (n : ℕ) → HasNoneAbove input (n + 1) → ((w : SheetList) → ¬ HasForm (n + 1) input w) → HasNoneAbove input n
+none_above_less input n above not other w more few form =
+    elim (cases_lt (n + 1) other) [
+      | inl lt ↦ above other w lt few form
+      | inr le ↦
+          let same : other ≡ n + 1 = omega (arith, more, le) in
+          not w (subst (λ (k : ℕ). HasForm k input w) same form)
+    ]
+
+pub own_at :
+    (input : List ℕ) (n : ℕ) (v : SheetList) → 6 ≤ n → n ≤ 9 → HasForm n input v → HasNoneAbove input n → IsSheetAt input n v
+own_at input n v from few form above = record { from = from; to = few; form = form; greatest = above }
+
+not_refused : (input : List ℕ) (fault : SheetFault) → IsSheetText input → IsRefusedSheet input fault → ⊥
+not_refused input (TooLong most) sheet refused = refused
+not_refused input Malformed sheet refused = refused sheet.0 sheet.1 sheet.2.from sheet.2.to sheet.2.form
+
+refused_once :
+    (input : List ℕ) (fault other : SheetFault) → IsRefusedSheet input fault → IsRefusedSheet input other
+    → fault ≡ other
+refused_once input (TooLong most) other refused again = absurd refused
+refused_once input Malformed (TooLong most) refused again = absurd again
+refused_once input Malformed Malformed refused again = refl
 
 -- ---- the whole run
 
@@ -143,5 +171,5 @@ sound = record {
   one = one_format;
   either = λ format. not_refused;
   once = λ format. refused_once;
-  owed = λ format input history bytes owes. (owes.0, owes.1);
+  owed = λ format input history bytes owes. (owes.0, owes.1, owes.2);
 }

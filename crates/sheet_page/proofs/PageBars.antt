@@ -1,5 +1,5 @@
 -- The bars of the pictures on a page.
-use Rattle.std.proofs.Common.{◌≡◌, ◌∙◌, refl, sym, ap, subst, ℕ, suc, ◌≤◌, Bool, true, false, List, [], ◌∷◌, ◌++◌}
+use Rattle.std.proofs.Common.{◌≡◌, ◌∙◌, refl, sym, ap, subst, ℕ, suc, ◌≤◌, Bool, true, false, List, [], ◌∷◌}
 use Rattle.std.proofs.Common.{map, length, append-nil, arith, All}
 use Rattle.std.specs.Prelude.{if◌then◌else◌, codes, nat_eq}
 use Rattle.std.specs.List.{filter, flat_map}
@@ -8,16 +8,15 @@ use Rattle.std.proofs.lemmas.List.Elements.{All-cons, All-head, All-nil, All-tai
 use Rattle.candidate_roll.specs.declared.state.State.{State}
 use Rattle.meek_rule.specs.Row.{Row}
 use Rattle.page_tree.specs.Trees.{Trees, Nothing, followed}
-use Rattle.sheet_reader.specs.Form.{IsPrintable, IsPrintableRow}
+use Rattle.sheet_reader.specs.Form.{IsPrintableRow}
 use Rattle.sheet_reader.specs.Values.{SheetList}
 use Rattle.sheet_page.specs.Bars.{bars_of, has_bar}
-use Rattle.sheet_page.specs.Html.{page}
-use Rattle.sheet_page.specs.PageLaws.{PicturesAreSmall, bar_count, below, ends_of, pictures_of, round_ends}
+use Rattle.sheet_page.specs.PageLaws.{PicturesAreSmall, bar_count, ends_of, pictures_of, round_ends}
 use Rattle.sheet_page.specs.PageReading.{along, children}
 use Rattle.sheet_page.specs.Picture.{bar, bar_at, quota_line, scaled}
 use Rattle.sheet_page.specs.RoundEnds.{settled, settled_at}
 use Rattle.sheet_page.specs.Trees.{each}
-use Rattle.sheet_page.specs.Values.{places}
+use Rattle.sheet_page.specs.Values.{all_places}
 use Rattle.sheet_page.proofs.BarCounts.{few_bars}
 use Rattle.sheet_page.proofs.PageTexts.{in_page}
 use Rattle.sheet_page.proofs.PageWalks.{picked, found, found_followed, found_each, found_if}
@@ -29,20 +28,20 @@ mark within = 0
 abbrev marks : Trees → List ℕ
 marks = found mark (codes "rect") []
 
-bars_marked : (v : SheetList) (full : ℕ) (row : Row) →
-    marks (followed (each (bar_at v full row) (places (length v.names)))
+bars_marked : (places : ℕ) (v : SheetList) (full : ℕ) (row : Row) →
+    marks (followed (each (bar_at places v full row) (all_places (length v.names)))
     (followed (quota_line (scaled full row.quota) (bars_of row)) Nothing))
-    ≡ map (λ p. 0) (filter (has_bar row) (places (length v.names)))
-bars_marked v full row =
+    ≡ map (λ p. 0) (filter (has_bar row) (all_places (length v.names)))
+bars_marked places v full row =
     let line = followed (quota_line (scaled full row.quota) (bars_of row)) Nothing in
-    found_followed mark (codes "rect") [] (each (bar_at v full row) (places (length v.names))) line
-    ∙ append-nil (marks (each (bar_at v full row) (places (length v.names))))
-    ∙ found_each mark (codes "rect") [] (bar_at v full row) (places (length v.names))
-    ∙ (λ j. flat_map (λ p. here p j) (places (length v.names)))
-    ∙ picked (has_bar row) (λ p. 0) (places (length v.names))
+    found_followed mark (codes "rect") [] (each (bar_at places v full row) (all_places (length v.names))) line
+    ∙ append-nil (marks (each (bar_at places v full row) (all_places (length v.names))))
+    ∙ found_each mark (codes "rect") [] (bar_at places v full row) (all_places (length v.names))
+    ∙ (λ j. flat_map (λ p. here p j) (all_places (length v.names)))
+    ∙ picked (has_bar row) (λ p. 0) (all_places (length v.names))
   where
-    here : (p : ℕ) → marks (bar_at v full row p) ≡ (if has_bar row p then 0 ∷ [] else [])
-    here p = found_if mark (codes "rect") [] (has_bar row p) (bar v full row p)
+    here : (p : ℕ) → marks (bar_at places v full row p) ≡ (if has_bar row p then 0 ∷ [] else [])
+    here p = found_if mark (codes "rect") [] (has_bar row p) (bar places v full row p)
 
 -- as many marks as there are elements
 marked_each : (xs : List Trees) → length (map mark (flat_map (along []) xs)) ≡ length xs
@@ -51,24 +50,24 @@ marked_each (x ∷ xs) = ap suc (marked_each xs)
 
 -- how many of so many candidates have a bar
 abbrev bars : (n : ℕ) → Row → ℕ
-bars n row = length (filter (has_bar row) (places n))
+bars n row = length (filter (has_bar row) (all_places n))
 
-bars_counted : (v : SheetList) (full : ℕ) (row : Row) →
-    length (children (codes "rect") (followed (each (bar_at v full row) (places (length v.names)))
+bars_counted : (places : ℕ) (v : SheetList) (full : ℕ) (row : Row) →
+    length (children (codes "rect") (followed (each (bar_at places v full row) (all_places (length v.names)))
     (followed (quota_line (scaled full row.quota) (bars_of row)) Nothing)))
     ≡ bars (length v.names) row
-bars_counted v full row =
-    let trees = followed (each (bar_at v full row) (places (length v.names)))
+bars_counted places v full row =
+    let trees = followed (each (bar_at places v full row) (all_places (length v.names)))
     (followed (quota_line (scaled full row.quota) (bars_of row)) Nothing) in
     sym (marked_each (children (codes "rect") trees))
-    ∙ (ap (λ (l : List ℕ). length l) (bars_marked v full row)
-    ∙ length-map (filter (has_bar row) (places (length v.names))) (λ p. 0))
+    ∙ (ap (λ (l : List ℕ). length l) (bars_marked places v full row)
+    ∙ length-map (filter (has_bar row) (all_places (length v.names))) (λ p. 0))
 
 -- the bars of the pictures are those of the rounds
-counts : (v : SheetList) → map bar_count (pictures_of v) ≡ flat_map (λ row. bars (length v.names) row ∷ []) (ends_of v)
-counts v =
-    in_page bar_count (codes "svg" ∷ []) v (λ row. bars (length v.names) row ∷ [])
-    (λ full i. ap (λ (k : ℕ). k ∷ []) (bars_counted v full (settled_at v i)))
+counts : (places : ℕ) (v : SheetList) → map bar_count (pictures_of places v) ≡ flat_map (λ row. bars (length v.names) row ∷ []) (ends_of v)
+counts places v =
+    in_page places bar_count (codes "svg" ∷ []) v (λ row. bars (length v.names) row ∷ [])
+    (λ full i. ap (λ (k : ℕ). k ∷ []) (bars_counted places v full (settled_at v i)))
 
 abbrev IsSmall : ℕ → Type 0
 IsSmall k = k ≤ 24
@@ -106,9 +105,9 @@ small_each (x ∷ xs) (y ∷ ys) same all =
     (small_each xs ys tail (All-tail IsSmall y ys all))
 
 pub pictures_small : PicturesAreSmall
-pictures_small v is =
+pictures_small places v is =
     let n = length v.names in
-    small_each (pictures_of v) (of_ends n (ends_of v)) (counts v)
+    small_each (pictures_of places v) (of_ends n (ends_of v)) (counts places v)
     (ends_small n v.rows v.last
-    (All-weaker (IsPrintableRow 9 n) (HasVotes n)
-    (λ (row : Row) (fits : IsPrintableRow 9 n row). omega (arith, fits.of_all.votes)) v.rows is.rows))
+    (All-weaker (IsPrintableRow places n) (HasVotes n)
+    (λ (row : Row) (fits : IsPrintableRow places n row). omega (arith, fits.of_all.votes)) v.rows is.rows))

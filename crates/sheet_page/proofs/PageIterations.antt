@@ -19,17 +19,17 @@ use Rattle.sheet_page.specs.PageLaws.{below, iteration_text, standing_text, iter
 use Rattle.sheet_page.specs.PageReading.{text_in, along, texts_along}
 use Rattle.sheet_page.specs.Stretches.{is_of_round}
 use Rattle.sheet_page.specs.Trees.{all, each}
-use Rattle.sheet_page.specs.Values.{places}
+use Rattle.sheet_page.specs.Values.{all_places}
 use Rattle.sheet_page.proofs.PageTexts.{in_page_at}
 use Rattle.sheet_page.proofs.PageWalks.{no_part, no_parts, picked, behind_nothing, found, found_each, found_if}
 use Rattle.sheet_page.proofs.WholeRounds.{of_round, all_rounds}
 
 -- what stands in an iteration
-abbrev iteration_within : SheetList → Row → Trees
-iteration_within v row = all (iteration_head row ∷ each (standing_at row) (places (length v.names)) ∷ [])
+abbrev iteration_within : (places : ℕ) → SheetList → Row → Trees
+iteration_within places v row = all (iteration_head places row ∷ each (standing_at places row) (all_places (length v.names)) ∷ [])
 
-module _
-    {X : Type 0} (h : Trees → X) (v : SheetList) (g : Row → X) (is : (row : Row) → h (iteration_within v row) ≡ g row) where
+module _ (places : ℕ)
+    {X : Type 0} (h : Trees → X) (v : SheetList) (g : Row → X) (is : (row : Row) → h (iteration_within places v row) ≡ g row) where
   -- an iteration, place by place
   abbrev said : ℕ → List X
   said i = g (row_at v.rows i) ∷ []
@@ -37,39 +37,39 @@ module _
   -- the iterations of the round that ends at a place
   of_part :
       (last : ℕ)
-      → found h (codes "dl") [] (each (iteration_at v last) (places (last + 1)))
+      → found h (codes "dl") [] (each (iteration_at places v last) (all_places (last + 1)))
       ≡ of_round v.rows said last
   of_part last =
-      found_each h (codes "dl") [] (iteration_at v last) (places (last + 1))
-      ∙ (λ j. flat_map (λ i. here i j) (places (last + 1)))
+      found_each h (codes "dl") [] (iteration_at places v last) (all_places (last + 1))
+      ∙ (λ j. flat_map (λ i. here i j) (all_places (last + 1)))
     where
       here :
           (i : ℕ)
-          → found h (codes "dl") [] (iteration_at v last i)
+          → found h (codes "dl") [] (iteration_at places v last i)
           ≡ (if is_of_round v.rows last i then said i else [])
       here i =
-          found_if h (codes "dl") [] (is_of_round v.rows last i) (iteration v (row_at v.rows i))
+          found_if h (codes "dl") [] (is_of_round v.rows last i) (iteration places v (row_at v.rows i))
           ∙ ap (λ x. if is_of_round v.rows last i then x ∷ [] else []) (is (row_at v.rows i))
 
   -- all of them, one behind another
-  row_by_row : flat_map said (places (length v.rows)) ≡ map g v.rows
+  row_by_row : flat_map said (all_places (length v.rows)) ≡ map g v.rows
   row_by_row =
-      flat_map_single (λ i. g (row_at v.rows i)) (places (length v.rows))
+      flat_map_single (λ i. g (row_at v.rows i)) (all_places (length v.rows))
       ∙ sym (fill_by_all (λ i. g (row_at v.rows i)) (map g v.rows) (length v.rows) (g (blank 0)) (length-map v.rows g)
       (λ i below. get_or-map g v.rows i (blank 0) (g (blank 0)) below))
 
-  pub all_iterations : map h (along (below (codes "details" ∷ codes "dl" ∷ [])) (page v)) ≡ map g v.rows
+  pub all_iterations : map h (along (below (codes "details" ∷ codes "dl" ∷ [])) (page places v)) ≡ map g v.rows
   all_iterations =
-      in_page_at h (codes "details" ∷ codes "dl" ∷ []) v (of_round v.rows said) (λ full last. here last)
+      in_page_at places h (codes "details" ∷ codes "dl" ∷ []) v (of_round v.rows said) (λ full last. here last)
       ∙ all_rounds v.rows said
       ∙ row_by_row
     where
       here : (last : ℕ) →
           map h
-          ((along (codes "dl" ∷ []) (followed (each (iteration_at v last) (places (last + 1))) Nothing) ++ []) ++ [])
+          ((along (codes "dl" ∷ []) (followed (each (iteration_at places v last) (all_places (last + 1))) Nothing) ++ []) ++ [])
           ≡ of_round v.rows said last
       here last =
-          let trees = each (iteration_at v last) (places (last + 1)) in
+          let trees = each (iteration_at places v last) (all_places (last + 1)) in
           let them = along (codes "dl" ∷ []) (followed trees Nothing) in
           ap (map h) (append-nil (them ++ []) ∙ append-nil them)
           ∙ ap (found h (codes "dl") []) (behind_nothing trees)
@@ -78,37 +78,37 @@ module _
 -- ---- the candidates of an iteration
 
 -- what the elements of a name say, behind the line of the iteration
-standings : (name : List ℕ) (v : SheetList) (row : Row) →
-    texts_along (name ∷ []) (followed (each (standing_at row) (places (length v.names))) Nothing)
-    ≡ flat_map (λ p. if concerns row p then texts_along (name ∷ []) (standing_of row p) else []) (places (length v.names))
-standings name v row =
-    ap (texts_along (name ∷ [])) (behind_nothing (each (standing_at row) (places (length v.names))))
-    ∙ found_each text_in name [] (standing_at row) (places (length v.names))
-    ∙ (λ j. flat_map (λ p. found_if text_in name [] (concerns row p) (standing_of row p) j) (places (length v.names)))
+standings : (places : ℕ) (name : List ℕ) (v : SheetList) (row : Row) →
+    texts_along (name ∷ []) (followed (each (standing_at places row) (all_places (length v.names))) Nothing)
+    ≡ flat_map (λ p. if concerns row p then texts_along (name ∷ []) (standing_of places row p) else []) (all_places (length v.names))
+standings places name v row =
+    ap (texts_along (name ∷ [])) (behind_nothing (each (standing_at places row) (all_places (length v.names))))
+    ∙ found_each text_in name [] (standing_at places row) (all_places (length v.names))
+    ∙ (λ j. flat_map (λ p. found_if text_in name [] (concerns row p) (standing_of places row p) j) (all_places (length v.names)))
 
-line_of : (v : SheetList) (row : Row) → texts_along (codes "dt" ∷ []) (iteration_within v row) ≡ iteration_text row ∷ []
-line_of v row =
-    ap (λ l. iteration_text row ∷ l) (standings (codes "dt") v row
-    ∙ (λ j. flat_map (λ p. either (concerns row p) j) (places (length v.names)))
-    ∙ no_parts (places (length v.names)))
+line_of : (places : ℕ) (v : SheetList) (row : Row) → texts_along (codes "dt" ∷ []) (iteration_within places v row) ≡ iteration_text places row ∷ []
+line_of places v row =
+    ap (λ l. iteration_text places row ∷ l) (standings places (codes "dt") v row
+    ∙ (λ j. flat_map (λ p. either (concerns row p) j) (all_places (length v.names)))
+    ∙ no_parts (all_places (length v.names)))
   where
     either : (b : Bool) → (if b then [] else []) ≡ no_part {X = Bool} {Y = List ℕ} b
     either true = refl
     either false = refl
 
-concerned : (v : SheetList) (row : Row) → texts_along (codes "dd" ∷ []) (iteration_within v row)
-    ≡ map (standing_text row) (filter (concerns row) (places (length v.names)))
-concerned v row = standings (codes "dd") v row ∙ picked (concerns row) (standing_text row) (places (length v.names))
+concerned : (places : ℕ) (v : SheetList) (row : Row) → texts_along (codes "dd" ∷ []) (iteration_within places v row)
+    ≡ map (standing_text places row) (filter (concerns row) (all_places (length v.names)))
+concerned places v row = standings places (codes "dd") v row ∙ picked (concerns row) (standing_text places row) (all_places (length v.names))
 
-pub iteration_heads : (v : SheetList) → iterations_of (codes "dt") v ≡ map (λ row. iteration_text row ∷ []) v.rows
-iteration_heads v = all_iterations (texts_along (codes "dt" ∷ [])) v (λ row. iteration_text row ∷ []) (line_of v)
+pub iteration_heads : (places : ℕ) (v : SheetList) → iterations_of places (codes "dt") v ≡ map (λ row. iteration_text places row ∷ []) v.rows
+iteration_heads places v = all_iterations places (texts_along (codes "dt" ∷ [])) v (λ row. iteration_text places row ∷ []) (line_of places v)
 
-pub iteration_candidates : (v : SheetList) →
-    iterations_of (codes "dd") v
-    ≡ map (λ row. map (standing_text row) (filter (concerns row) (places (length v.names)))) v.rows
-iteration_candidates v =
-    all_iterations (texts_along (codes "dd" ∷ [])) v
-    (λ row. map (standing_text row) (filter (concerns row) (places (length v.names)))) (concerned v)
+pub iteration_candidates : (places : ℕ) (v : SheetList) →
+    iterations_of places (codes "dd") v
+    ≡ map (λ row. map (standing_text places row) (filter (concerns row) (all_places (length v.names)))) v.rows
+iteration_candidates places v =
+    all_iterations places (texts_along (codes "dd" ∷ [])) v
+    (λ row. map (standing_text places row) (filter (concerns row) (all_places (length v.names)))) (concerned places v)
 
 -- who is left out has no vote and keeps nothing
 pub left_out : (row : Row) (p : ℕ) → concerns row p ≡ false → (slice_index row.votes p ≡ 0) × (slice_index row.keeps p ≡ 0)

@@ -18,7 +18,7 @@ use Rattle.sheet_page.specs.PageReading.{text_in, along, texts_along}
 use Rattle.sheet_page.specs.Picture.{bar, bar_at, quota_line, rest_part, rest_text, scaled}
 use Rattle.sheet_page.specs.RoundEnds.{settled_at}
 use Rattle.sheet_page.specs.Trees.{each}
-use Rattle.sheet_page.specs.Values.{places, name_at}
+use Rattle.sheet_page.specs.Values.{all_places, name_at}
 use Rattle.sheet_page.proofs.PageTexts.{in_page}
 use Rattle.sheet_page.proofs.PageWalks.{picked, found, found_followed, found_each, found_if}
 
@@ -26,76 +26,76 @@ abbrev labels : Trees → List (List ℕ)
 labels = found text_in (codes "text") []
 
 -- what stands over a bar
-said : (v : SheetList) (full : ℕ) (row : Row) (p : ℕ) → labels (bar v full row p) ≡ label_text v row p ∷ []
-said v full row p =
+said : (places : ℕ) (v : SheetList) (full : ℕ) (row : Row) (p : ℕ) → labels (bar places v full row p) ≡ label_text places v row p ∷ []
+said places v full row p =
     let front = λ (l : List ℕ).
-    state_word (state_at row.states p) ++ (codes " " ++ (text_of 9 (slice_index row.votes p) ++ (codes " " ++ l))) in
+    state_word (state_at row.states p) ++ (codes " " ++ (text_of places (slice_index row.votes p) ++ (codes " " ++ l))) in
     ap (λ l. front (l ++ (codes " (" ++ (decimal (p + 1) ++ codes ")"))) ∷ []) (append-nil (name_at v p))
     ∙ ap (λ l. front l ∷ []) (sym (append-nil (called_text v p)))
 
 -- the bars of a round, and the line of its quota
-bars : (v : SheetList) (full : ℕ) (row : Row) →
-    labels (followed (each (bar_at v full row) (places (length v.names)))
+bars : (places : ℕ) (v : SheetList) (full : ℕ) (row : Row) →
+    labels (followed (each (bar_at places v full row) (all_places (length v.names)))
     (followed (quota_line (scaled full row.quota) (bars_of row)) Nothing))
-    ≡ map (label_text v row) (filter (has_bar row) (places (length v.names)))
-bars v full row =
+    ≡ map (label_text places v row) (filter (has_bar row) (all_places (length v.names)))
+bars places v full row =
     let line = followed (quota_line (scaled full row.quota) (bars_of row)) Nothing in
-    found_followed text_in (codes "text") [] (each (bar_at v full row) (places (length v.names))) line
-    ∙ append-nil (labels (each (bar_at v full row) (places (length v.names))))
-    ∙ found_each text_in (codes "text") [] (bar_at v full row) (places (length v.names))
-    ∙ (λ j. flat_map (λ p. here p j) (places (length v.names)))
-    ∙ picked (has_bar row) (label_text v row) (places (length v.names))
+    found_followed text_in (codes "text") [] (each (bar_at places v full row) (all_places (length v.names))) line
+    ∙ append-nil (labels (each (bar_at places v full row) (all_places (length v.names))))
+    ∙ found_each text_in (codes "text") [] (bar_at places v full row) (all_places (length v.names))
+    ∙ (λ j. flat_map (λ p. here p j) (all_places (length v.names)))
+    ∙ picked (has_bar row) (label_text places v row) (all_places (length v.names))
   where
-    here : (p : ℕ) → labels (bar_at v full row p) ≡ (if has_bar row p then label_text v row p ∷ [] else [])
+    here : (p : ℕ) → labels (bar_at places v full row p) ≡ (if has_bar row p then label_text places v row p ∷ [] else [])
     here p =
-        found_if text_in (codes "text") [] (has_bar row p) (bar v full row p)
-        ∙ ap (λ l. if has_bar row p then l else []) (said v full row p)
+        found_if text_in (codes "text") [] (has_bar row p) (bar places v full row p)
+        ∙ ap (λ l. if has_bar row p then l else []) (said places v full row p)
 
-pub picture_labels : (v : SheetList) →
-    texts_along (below (codes "svg" ∷ codes "text" ∷ [])) (page v)
-    ≡ flat_map (λ row. map (label_text v row) (filter (has_bar row) (places (length v.names)))) (ends_of v)
-picture_labels v =
-    in_page text_in (codes "svg" ∷ codes "text" ∷ []) v
-    (λ row. map (label_text v row) (filter (has_bar row) (places (length v.names)))) here
+pub picture_labels : (places : ℕ) (v : SheetList) →
+    texts_along (below (codes "svg" ∷ codes "text" ∷ [])) (page places v)
+    ≡ flat_map (λ row. map (label_text places v row) (filter (has_bar row) (all_places (length v.names)))) (ends_of v)
+picture_labels places v =
+    in_page places text_in (codes "svg" ∷ codes "text" ∷ []) v
+    (λ row. map (label_text places v row) (filter (has_bar row) (all_places (length v.names)))) here
   where
     here : (full i : ℕ) →
-        map text_in ((along (codes "text" ∷ []) (followed (each (bar_at v full (settled_at v i)) (places (length v.names)))
+        map text_in ((along (codes "text" ∷ []) (followed (each (bar_at places v full (settled_at v i)) (all_places (length v.names)))
         (followed (quota_line (scaled full (settled_at v i).quota) (bars_of (settled_at v i))) Nothing)) ++ []) ++ [])
-        ≡ map (label_text v (settled_at v i)) (filter (has_bar (settled_at v i)) (places (length v.names)))
+        ≡ map (label_text places v (settled_at v i)) (filter (has_bar (settled_at v i)) (all_places (length v.names)))
     here full i =
         let row = settled_at v i in
-        let them = along (codes "text" ∷ []) (followed (each (bar_at v full row) (places (length v.names)))
+        let them = along (codes "text" ∷ []) (followed (each (bar_at places v full row) (all_places (length v.names)))
         (followed (quota_line (scaled full row.quota) (bars_of row)) Nothing)) in
-        ap (map text_in) (append-nil (them ++ []) ∙ append-nil them) ∙ bars v full row
+        ap (map text_in) (append-nil (them ++ []) ∙ append-nil them) ∙ bars places v full row
 
 -- ---- what is said of amounts
 
-abbrev said_of : Row → List ℕ
-said_of row =
+abbrev said_of : (places : ℕ) → Row → List ℕ
+said_of places row =
     joined (
     codes " With fewer votes and without a bar: " ∷ decimal (rest_count row) ∷ codes ". Their votes together: "
-    ∷ text_of 9 (rest_votes row) ∷ codes "." ∷ []
+    ∷ text_of places (rest_votes row) ∷ codes "." ∷ []
     )
 
-rest_said : (row : Row) → text_in (followed (rest_part row) Nothing) ≡ rest_line row ++ []
-rest_said row = either (nat_eq (rest_count row) 0)
+rest_said : (places : ℕ) (row : Row) → text_in (followed (rest_part places row) Nothing) ≡ rest_line places row ++ []
+rest_said places row = either (nat_eq (rest_count row) 0)
   where
-    either : (b : Bool) → text_in (followed (if b then Nothing else rest_text (rest_count row) (text_of 9 (rest_votes row))) Nothing)
-        ≡ (if b then [] else said_of row) ++ []
+    either : (b : Bool) → text_in (followed (if b then Nothing else rest_text (rest_count row) (text_of places (rest_votes row))) Nothing)
+        ≡ (if b then [] else said_of places row) ++ []
     either true = refl
-    either false = sym (append-nil (said_of row))
+    either false = sym (append-nil (said_of places row))
 
-pub amount_texts : (v : SheetList) → texts_along (below (codes "p" ∷ [])) (page v) ≡ map (amounts_line v) (ends_of v)
-amount_texts v =
-    in_page text_in (codes "p" ∷ []) v (λ row. amounts_line v row ∷ []) (λ full i. here i)
-    ∙ flat_map_single (amounts_line v) (ends_of v)
+pub amount_texts : (places : ℕ) (v : SheetList) → texts_along (below (codes "p" ∷ [])) (page places v) ≡ map (amounts_line places v) (ends_of v)
+amount_texts places v =
+    in_page places text_in (codes "p" ∷ []) v (λ row. amounts_line places v row ∷ []) (λ full i. here i)
+    ∙ flat_map_single (amounts_line places v) (ends_of v)
   where
     here : (i : ℕ) →
-        (codes "Quota " ++ (text_of 9 (settled_at v i).quota ++ (codes ": the broken line. On no candidate: "
-        ++ (text_of 9 (left_over v.ballots (settled_at v i)) ++ (codes "."
-        ++ text_in (followed (rest_part (settled_at v i)) Nothing)))))) ∷ []
-        ≡ amounts_line v (settled_at v i) ∷ []
+        (codes "Quota " ++ (text_of places (settled_at v i).quota ++ (codes ": the broken line. On no candidate: "
+        ++ (text_of places (left_over places v.ballots (settled_at v i)) ++ (codes "."
+        ++ text_in (followed (rest_part places (settled_at v i)) Nothing)))))) ∷ []
+        ≡ amounts_line places v (settled_at v i) ∷ []
     here i =
         let row = settled_at v i in
-        ap (λ l. (codes "Quota " ++ (text_of 9 row.quota ++ (codes ": the broken line. On no candidate: "
-        ++ (text_of 9 (left_over v.ballots row) ++ (codes "." ++ l))))) ∷ []) (rest_said row)
+        ap (λ l. (codes "Quota " ++ (text_of places row.quota ++ (codes ": the broken line. On no candidate: "
+        ++ (text_of places (left_over places v.ballots row) ++ (codes "." ++ l))))) ∷ []) (rest_said places row)

@@ -7,7 +7,7 @@ use Rattle.meek_rule.specs.Row.{Row}
 use Rattle.sheet_minutes.specs.Rounds.{ends_round, row_at}
 use Rattle.sheet_page.specs.SentenceLaws.{onto, rounds_of}
 use Rattle.sheet_page.specs.Stretches.{have_one_number, is_of_round}
-use Rattle.sheet_page.specs.Values.{places}
+use Rattle.sheet_page.specs.Values.{all_places}
 use Rattle.sheet_page.proofs.PageWalks.{shifted, ends_behind, first_ends}
 use Rattle.sheet_page.proofs.RoundPlaces.{number_of}
 use Rattle.sheet_page.proofs.WholeRounds.{of_round}
@@ -47,7 +47,7 @@ module _ (row : Row) (rows : List Row) (last : ℕ) where
   said_behind f =
       let all = λ (i : ℕ). if is_of_round (row ∷ rows) (suc last) i then f (row_at (row ∷ rows) i) else [] in
       let size : suc last + 1 ≡ suc (last + 1) = omega arith in
-      ap (λ n. flat_map all (places n)) size
+      ap (λ n. flat_map all (all_places n)) size
       ∙ ap (λ l. all 0 ++ l)
       (shifted all (λ i. if is_of_round rows last i then f (row_at rows i) else [])
       (λ i. ap (λ b. if b then f (row_at rows i) else []) (of_same i)) 0 (last + 1))
@@ -151,14 +151,14 @@ module _ {X Y : Type 0} (f : Row → List X) (say : List X → Y) where
         by false = refl
 
   rounds_behind : (x : List X) (row : Row) (rows : List Row)
-      → flat_map (said_at x (row ∷ rows)) (places (length (row ∷ rows))) ≡ map say (fronted x (rounds (row ∷ rows)))
+      → flat_map (said_at x (row ∷ rows)) (all_places (length (row ∷ rows))) ≡ map say (fronted x (rounds (row ∷ rows)))
   rounds_behind x row [] = ap (λ l. l ++ []) (alone x row [])
   rounds_behind x row (next ∷ rows) = by (nat_eq row.round next.round) refl (λ y. rounds_behind y next rows)
     where
       by : (b : Bool) → nat_eq row.round next.round ≡ b
           → ((y : List X)
-          → flat_map (said_at y (next ∷ rows)) (places (length (next ∷ rows))) ≡ map say (fronted y (rounds (next ∷ rows))))
-          → flat_map (said_at x (row ∷ next ∷ rows)) (places (length (row ∷ next ∷ rows)))
+          → flat_map (said_at y (next ∷ rows)) (all_places (length (next ∷ rows))) ≡ map say (fronted y (rounds (next ∷ rows))))
+          → flat_map (said_at x (row ∷ next ∷ rows)) (all_places (length (row ∷ next ∷ rows)))
           ≡ map say (fronted x (map (flat_map f) (if b then onto row (rounds_of (next ∷ rows)) else (row ∷ []) ∷ rounds_of (next ∷ rows))))
       by true is later =
           ap (λ l. said_at x (row ∷ next ∷ rows) 0 ++ l)
@@ -182,11 +182,11 @@ module _ {X Y : Type 0} (f : Row → List X) (say : List X → Y) where
 
   -- what is said of each round, place by place, is said of the rounds as lists
   pub round_by_round : (rows : List Row)
-      → flat_map (λ i. if ends_round rows i then say (has rows i) ∷ [] else []) (places (length rows))
+      → flat_map (λ i. if ends_round rows i then say (has rows i) ∷ [] else []) (all_places (length rows))
       ≡ map say (rounds rows)
   round_by_round [] = refl
   round_by_round (row ∷ rows) =
-      (λ j. flat_map (λ i. same i j) (places (length (row ∷ rows))))
+      (λ j. flat_map (λ i. same i j) (all_places (length (row ∷ rows))))
       ∙ rounds_behind [] row rows ∙ ap (map say) (fronted_none row rows)
     where
       same : (i : ℕ) → (if ends_round (row ∷ rows) i then say (has (row ∷ rows) i) ∷ [] else [])

@@ -16,7 +16,7 @@ use Rattle.sheet_page.specs.SentenceLaws.{items_of, last_lines, lines_of, rounds
 use Rattle.sheet_page.specs.Stretches.{is_of_round}
 use Rattle.sheet_page.specs.Told.{end_list, item, outcome_list, result_title, sentences_at, spoken}
 use Rattle.sheet_page.specs.Trees.{all, each, isolated, words}
-use Rattle.sheet_page.specs.Values.{places}
+use Rattle.sheet_page.specs.Values.{all_places}
 use Rattle.sheet_page.proofs.PageRounds.{round_by_round}
 use Rattle.sheet_page.proofs.PageTexts.{in_page_at}
 use Rattle.sheet_page.proofs.PageWalks.{behind_nothing, found, found_each, found_if}
@@ -53,24 +53,24 @@ map-each s (x ∷ xs) =
 
 -- ---- of a round
 
-abbrev decided : (v : SheetList) (last : ℕ) → List (List (List ℕ))
-decided v last = of_round v.rows (λ i. sentences_of v (row_at v.rows i)) last
+abbrev decided : (places : ℕ) (v : SheetList) (last : ℕ) → List (List (List ℕ))
+decided places v last = of_round v.rows (λ i. sentences_of places v (row_at v.rows i)) last
 
-round_list : (v : SheetList) (last : ℕ) → listed (each (sentences_at v last) (places (last + 1))) ≡ map joined (decided v last)
-round_list v last =
-    found_each text_in (codes "li") [] (sentences_at v last) (places (last + 1))
-    ∙ (λ j. flat_map (λ i. here i j) (places (last + 1)))
-    ∙ map-each (λ i. if is_of_round v.rows last i then sentences_of v (row_at v.rows i) else []) (places (last + 1))
+round_list : (places : ℕ) (v : SheetList) (last : ℕ) → listed (each (sentences_at places v last) (all_places (last + 1))) ≡ map joined (decided places v last)
+round_list places v last =
+    found_each text_in (codes "li") [] (sentences_at places v last) (all_places (last + 1))
+    ∙ (λ j. flat_map (λ i. here i j) (all_places (last + 1)))
+    ∙ map-each (λ i. if is_of_round v.rows last i then sentences_of places v (row_at v.rows i) else []) (all_places (last + 1))
   where
     by : (b : Bool) (sentences : List (List (List ℕ)))
         → (if b then map joined sentences else []) ≡ map joined (if b then sentences else [])
     by true sentences = refl
     by false sentences = refl
 
-    here : (i : ℕ) → listed (sentences_at v last i)
-        ≡ map joined (if is_of_round v.rows last i then sentences_of v (row_at v.rows i) else [])
+    here : (i : ℕ) → listed (sentences_at places v last i)
+        ≡ map joined (if is_of_round v.rows last i then sentences_of places v (row_at v.rows i) else [])
     here i =
-        let them = sentences_of v (row_at v.rows i) in
+        let them = sentences_of places v (row_at v.rows i) in
         found_if text_in (codes "li") [] (is_of_round v.rows last i) (each item them)
         ∙ ap (λ l. if is_of_round v.rows last i then l else []) (item_texts them)
         ∙ by (is_of_round v.rows last i) them
@@ -79,11 +79,11 @@ round_list v last =
 
 end_texts : (v : SheetList) →
     map text_in (along (codes "li" ∷ []) (followed (each item (map at_end (sentences_at_end v))) Nothing)
-    ++ (along (codes "li" ∷ []) (followed (each item (map (outcome v) (places (length v.names)))) Nothing) ++ []))
+    ++ (along (codes "li" ∷ []) (followed (each item (map (outcome v) (all_places (length v.names)))) Nothing) ++ []))
     ≡ last_lines v
 end_texts v =
     let ends = map at_end (sentences_at_end v) in
-    let outcomes = map (outcome v) (places (length v.names)) in
+    let outcomes = map (outcome v) (all_places (length v.names)) in
     let first = along (codes "li" ∷ []) (followed (each item ends) Nothing) in
     let second = along (codes "li" ∷ []) (followed (each item outcomes) Nothing) in
     ap (λ l. map text_in (first ++ l)) (append-nil second)
@@ -101,22 +101,22 @@ result_within v = all (result_title ∷ end_list v ∷ outcome_list v ∷ [])
 abbrev items_in : Trees → List (List ℕ)
 items_in = texts_along (codes "ul" ∷ codes "li" ∷ [])
 
-pub page_items : (v : SheetList) → items_of v ≡ [] ∷ last_lines v ∷ [] ∷ map (lines_of v) (rounds_of v.rows)
-page_items v =
-    in_page_at items_in [] v (λ i. map joined (decided v i) ∷ []) (λ full i. here i)
-    ∙ ap (λ l. [] ∷ items_in (result_within v) ∷ [] ∷ l) (round_by_round (sentences_of v) (map joined) v.rows
-    ∙ sym (map_twice (flat_map (sentences_of v)) (rounds_of v.rows)))
-    ∙ ap (λ l. [] ∷ l ∷ [] ∷ map (lines_of v) (rounds_of v.rows)) (end_texts v)
+pub page_items : (places : ℕ) (v : SheetList) → items_of places v ≡ [] ∷ last_lines v ∷ [] ∷ map (lines_of places v) (rounds_of v.rows)
+page_items places v =
+    in_page_at places items_in [] v (λ i. map joined (decided places v i) ∷ []) (λ full i. here i)
+    ∙ ap (λ l. [] ∷ items_in (result_within v) ∷ [] ∷ l) (round_by_round (sentences_of places v) (map joined) v.rows
+    ∙ sym (map_twice (flat_map (sentences_of places v)) (rounds_of v.rows)))
+    ∙ ap (λ l. [] ∷ l ∷ [] ∷ map (lines_of places v) (rounds_of v.rows)) (end_texts v)
   where
     map_twice : {Y : Type 0} (s : Y → List (List (List ℕ))) (xs : List Y) → map (λ x. map joined (s x)) xs ≡ map (map joined) (map s xs)
     map_twice s [] = refl
     map_twice s (x ∷ xs) = ap (λ l. map joined (s x) ∷ l) (map_twice s xs)
 
     here : (i : ℕ) →
-        map text_in (along (codes "li" ∷ []) (followed (each (sentences_at v i) (places (i + 1))) Nothing) ++ []) ∷ []
-        ≡ map joined (decided v i) ∷ []
+        map text_in (along (codes "li" ∷ []) (followed (each (sentences_at places v i) (all_places (i + 1))) Nothing) ++ []) ∷ []
+        ≡ map joined (decided places v i) ∷ []
     here i =
-        let trees = each (sentences_at v i) (places (i + 1)) in
+        let trees = each (sentences_at places v i) (all_places (i + 1)) in
         ap (λ l. map text_in l ∷ []) (append-nil (along (codes "li" ∷ []) (followed trees Nothing)))
         ∙ ap (λ t. listed t ∷ []) (behind_nothing trees)
-        ∙ ap (λ l. l ∷ []) (round_list v i)
+        ∙ ap (λ l. l ∷ []) (round_list places v i)

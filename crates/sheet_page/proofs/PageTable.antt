@@ -22,50 +22,50 @@ use Rattle.sheet_page.specs.RoundEnds.{settled_at}
 use Rattle.sheet_page.specs.RoundTable.{amount_cell, candidate_head, candidate_row, cell_at, cells, first_head, left_row, line_head}
 use Rattle.sheet_page.specs.RoundTable.{quota_row, round_cell, round_head, vote_cell}
 use Rattle.sheet_page.specs.Trees.{all, each}
-use Rattle.sheet_page.specs.Values.{places, name_at}
+use Rattle.sheet_page.specs.Values.{all_places, name_at}
 use Rattle.sheet_page.proofs.PageTexts.{in_page, in_parts}
 use Rattle.sheet_page.proofs.PageWalks.{no_part, no_parts, behind_nothing, found, found_each, found_if, at_ends}
 
 -- ---- what a line says of the rounds
 
-module _ (name : List ℕ) (v : SheetList) (entry : Entry) where
+module _ (places : ℕ) (name : List ℕ) (v : SheetList) (entry : Entry) where
   -- the cells of a line, behind its head
   abbrev behind : Trees
-  behind = followed (cells v entry) Nothing
+  behind = followed (cells places v entry) Nothing
 
-  cells_found : texts_along (name ∷ []) behind ≡ flat_map (λ i. found text_in name [] (cell_at v entry i)) (places (length v.rows))
+  cells_found : texts_along (name ∷ []) behind ≡ flat_map (λ i. found text_in name [] (cell_at places v entry i)) (all_places (length v.rows))
   cells_found =
-      ap (found text_in name []) (behind_nothing (cells v entry))
-      ∙ found_each text_in name [] (cell_at v entry) (places (length v.rows))
+      ap (found text_in name []) (behind_nothing (cells places v entry))
+      ∙ found_each text_in name [] (cell_at places v entry) (all_places (length v.rows))
 
   -- a cell of this name has what is said of its round
-  in_cells : (g : Row → List ℕ) → ((i : ℕ) → texts_along (name ∷ []) (round_cell v entry i) ≡ g (settled_at v i) ∷ [])
+  in_cells : (g : Row → List ℕ) → ((i : ℕ) → texts_along (name ∷ []) (round_cell places v entry i) ≡ g (settled_at v i) ∷ [])
       → texts_along (name ∷ []) behind ≡ map g (ends_of v)
   in_cells g is =
       cells_found
-      ∙ (λ j. flat_map (λ i. here i j) (places (length v.rows)))
+      ∙ (λ j. flat_map (λ i. here i j) (all_places (length v.rows)))
       ∙ at_ends (λ row. g row ∷ []) v.rows v.last
       ∙ flat_map_single g (ends_of v)
     where
-      here : (i : ℕ) → found text_in name [] (cell_at v entry i) ≡ (if ends_round v.rows i then g (settled_at v i) ∷ [] else [])
+      here : (i : ℕ) → found text_in name [] (cell_at places v entry i) ≡ (if ends_round v.rows i then g (settled_at v i) ∷ [] else [])
       here i =
-          found_if text_in name [] (ends_round v.rows i) (round_cell v entry i)
+          found_if text_in name [] (ends_round v.rows i) (round_cell places v entry i)
           ∙ ap (λ l. if ends_round v.rows i then l else []) (is i)
 
   -- no cell has this name
-  no_cells : ((i : ℕ) → texts_along (name ∷ []) (round_cell v entry i) ≡ []) → texts_along (name ∷ []) behind ≡ []
+  no_cells : ((i : ℕ) → texts_along (name ∷ []) (round_cell places v entry i) ≡ []) → texts_along (name ∷ []) behind ≡ []
   no_cells is =
       cells_found
-      ∙ (λ j. flat_map (λ i. here i j) (places (length v.rows)))
-      ∙ no_parts (places (length v.rows))
+      ∙ (λ j. flat_map (λ i. here i j) (all_places (length v.rows)))
+      ∙ no_parts (all_places (length v.rows))
     where
       either : (b : Bool) → (if b then [] else []) ≡ no_part {X = Bool} {Y = List ℕ} b
       either true = refl
       either false = refl
 
-      here : (i : ℕ) → found text_in name [] (cell_at v entry i) ≡ no_part {X = ℕ} {Y = List ℕ} i
+      here : (i : ℕ) → found text_in name [] (cell_at places v entry i) ≡ no_part {X = ℕ} {Y = List ℕ} i
       here i =
-          found_if text_in name [] (ends_round v.rows i) (round_cell v entry i)
+          found_if text_in name [] (ends_round v.rows i) (round_cell places v entry i)
           ∙ ap (λ l. if ends_round v.rows i then l else []) (is i)
           ∙ either (ends_round v.rows i)
 
@@ -78,104 +78,104 @@ two_parts text n behind =
     ∙ sym (append_assoc (take n text) (drop n text) behind)
     ∙ ap (λ l. l ++ behind) (take-append-drop n text)
 
-amount_said : (amount : ℕ) → texts_along (codes "td" ∷ []) (amount_cell amount) ≡ text_of 9 amount ∷ []
-amount_said amount =
-    let text = text_of 9 amount in
-    ap (λ l. l ∷ []) (two_parts text (length text - 7) [] ∙ append-nil text)
+amount_said : (places amount : ℕ) → texts_along (codes "td" ∷ []) (amount_cell places amount) ≡ text_of places amount ∷ []
+amount_said places amount =
+    let text = text_of places amount in
+    ap (λ l. l ∷ []) (two_parts text (length text - (places - 2)) [] ∙ append-nil text)
 
-vote_said : (row : Row) (p : ℕ) → texts_along (codes "td" ∷ []) (vote_cell row p) ≡ vote_text row p ∷ []
-vote_said row p =
-    let text = text_of 9 (slice_index row.votes p) in
+vote_said : (places : ℕ) (row : Row) (p : ℕ) → texts_along (codes "td" ∷ []) (vote_cell places row p) ≡ vote_text places row p ∷ []
+vote_said places row p =
+    let text = text_of places (slice_index row.votes p) in
     let word = state_word (state_at row.states p) in
-    ap (λ l. l ∷ []) (two_parts text (length text - 7) (codes " " ++ ((word ++ []) ++ []))
+    ap (λ l. l ∷ []) (two_parts text (length text - (places - 2)) (codes " " ++ ((word ++ []) ++ []))
     ∙ ap (λ l. text ++ (codes " " ++ l)) (append-nil (word ++ []) ∙ append-nil word))
 
 -- ---- the lines
 
 -- what stands in the lines of the quotas, of what is left, and of a candidate
-abbrev quotas_within : SheetList → Trees
-quotas_within v = all (line_head (codes "Quota") ∷ cells v Quota ∷ [])
+abbrev quotas_within : (places : ℕ) → SheetList → Trees
+quotas_within places v = all (line_head (codes "Quota") ∷ cells places v Quota ∷ [])
 
-abbrev left_within : SheetList → Trees
-left_within v = all (line_head (codes "On no candidate") ∷ cells v LeftOver ∷ [])
+abbrev left_within : (places : ℕ) → SheetList → Trees
+left_within places v = all (line_head (codes "On no candidate") ∷ cells places v LeftOver ∷ [])
 
-abbrev votes_within : SheetList → (p : ℕ) → Trees
-votes_within v p = all (candidate_head (name_at v p) (p + 1) ∷ cells v (Candidate p) ∷ [])
+abbrev votes_within : (places : ℕ) → SheetList → (p : ℕ) → Trees
+votes_within places v p = all (candidate_head (name_at v p) (p + 1) ∷ cells places v (Candidate p) ∷ [])
 
-table_lines : {X : Type 0} (h : Trees → X) (v : SheetList) →
-    map h (along (below (codes "div" ∷ codes "table" ∷ codes "tbody" ∷ codes "tr" ∷ [])) (page v))
-    ≡ h (quotas_within v) ∷ h (left_within v) ∷ map (λ p. h (votes_within v p)) (places (length v.names))
-table_lines h v =
+table_lines : (places : ℕ) {X : Type 0} (h : Trees → X) (v : SheetList) →
+    map h (along (below (codes "div" ∷ codes "table" ∷ codes "tbody" ∷ codes "tr" ∷ [])) (page places v))
+    ≡ h (quotas_within places v) ∷ h (left_within places v) ∷ map (λ p. h (votes_within places v p)) (all_places (length v.names))
+table_lines places h v =
     let path = codes "div" ∷ codes "table" ∷ codes "tbody" ∷ codes "tr" ∷ [] in
-    let lines = each (candidate_row v) (places (length v.names)) in
-    let them = along (codes "tr" ∷ []) (followed (quota_row v) (followed (left_row v) (followed lines Nothing))) in
-    in_page h path v no_part (λ full i. refl)
-    ∙ ap (λ l. in_parts h path v (rounds_part v) ++ l) (no_parts (ends_of v))
-    ∙ append-nil (in_parts h path v (rounds_part v))
+    let lines = each (candidate_row places v) (all_places (length v.names)) in
+    let them = along (codes "tr" ∷ []) (followed (quota_row places v) (followed (left_row places v) (followed lines Nothing))) in
+    in_page places h path v no_part (λ full i. refl)
+    ∙ ap (λ l. in_parts places h path v (rounds_part places v) ++ l) (no_parts (ends_of v))
+    ∙ append-nil (in_parts places h path v (rounds_part places v))
     ∙ ap (map h) (append-nil (((them ++ []) ++ []) ++ []) ∙ append-nil ((them ++ []) ++ []) ∙ append-nil (them ++ [])
     ∙ append-nil them)
-    ∙ ap (λ l. h (quotas_within v) ∷ h (left_within v) ∷ l) (ap (found h (codes "tr") []) (behind_nothing lines)
-    ∙ found_each h (codes "tr") [] (candidate_row v) (places (length v.names))
-    ∙ flat_map_single (λ p. h (votes_within v p)) (places (length v.names)))
+    ∙ ap (λ l. h (quotas_within places v) ∷ h (left_within places v) ∷ l) (ap (found h (codes "tr") []) (behind_nothing lines)
+    ∙ found_each h (codes "tr") [] (candidate_row places v) (all_places (length v.names))
+    ∙ flat_map_single (λ p. h (votes_within places v p)) (all_places (length v.names)))
 
-pub table_heads : (v : SheetList) →
-    cells_of (codes "th") v
-    ≡ (codes "Quota" ∷ []) ∷ (codes "On no candidate" ∷ []) ∷ map (λ p. called_text v p ∷ []) (places (length v.names))
-table_heads v =
+pub table_heads : (places : ℕ) (v : SheetList) →
+    cells_of places (codes "th") v
+    ≡ (codes "Quota" ∷ []) ∷ (codes "On no candidate" ∷ []) ∷ map (λ p. called_text v p ∷ []) (all_places (length v.names))
+table_heads places v =
     let th = codes "th" in
     let h = texts_along (th ∷ []) in
     let names = λ (k : ℕ). called_text v k ∷ [] in
-    table_lines h v
-    ∙ ap (λ l. (codes "Quota" ∷ l) ∷ h (left_within v) ∷ map (λ p. h (votes_within v p)) (places (length v.names)))
-    (no_cells th v Quota (λ i. refl))
-    ∙ ap (λ l. (codes "Quota" ∷ []) ∷ (codes "On no candidate" ∷ l) ∷ map (λ p. h (votes_within v p)) (places (length v.names)))
-    (no_cells th v LeftOver (λ i. refl))
-    ∙ (λ j. (codes "Quota" ∷ []) ∷ (codes "On no candidate" ∷ []) ∷ map (λ p. name p j) (places (length v.names)))
+    table_lines places h v
+    ∙ ap (λ l. (codes "Quota" ∷ l) ∷ h (left_within places v) ∷ map (λ p. h (votes_within places v p)) (all_places (length v.names)))
+    (no_cells places th v Quota (λ i. refl))
+    ∙ ap (λ l. (codes "Quota" ∷ []) ∷ (codes "On no candidate" ∷ l) ∷ map (λ p. h (votes_within places v p)) (all_places (length v.names)))
+    (no_cells places th v LeftOver (λ i. refl))
+    ∙ (λ j. (codes "Quota" ∷ []) ∷ (codes "On no candidate" ∷ []) ∷ map (λ p. name p j) (all_places (length v.names)))
   where
-    name : (p : ℕ) → texts_along (codes "th" ∷ []) (votes_within v p) ≡ called_text v p ∷ []
+    name : (p : ℕ) → texts_along (codes "th" ∷ []) (votes_within places v p) ≡ called_text v p ∷ []
     name p =
         let behind = codes " (" ++ (decimal (p + 1) ++ codes ")") in
         ap (λ l. ((name_at v p ++ []) ++ behind) ∷ l)
-        (no_cells (codes "th") v (Candidate p) (λ i. refl))
+        (no_cells places (codes "th") v (Candidate p) (λ i. refl))
         ∙ ap (λ l. (l ++ behind) ∷ []) (append-nil (name_at v p))
 
-pub table_cells : (v : SheetList) →
-    cells_of (codes "td") v
-    ≡ map (λ row. text_of 9 row.quota) (ends_of v) ∷ map (λ row. text_of 9 (left_over v.ballots row)) (ends_of v)
-    ∷ map (line_texts v) (places (length v.names))
-table_cells v =
+pub table_cells : (places : ℕ) (v : SheetList) →
+    cells_of places (codes "td") v
+    ≡ map (λ row. text_of places row.quota) (ends_of v) ∷ map (λ row. text_of places (left_over places v.ballots row)) (ends_of v)
+    ∷ map (line_texts places v) (all_places (length v.names))
+table_cells places v =
     let td = codes "td" in
     let h = texts_along (td ∷ []) in
-    let quotas = map (λ (row : Row). text_of 9 row.quota) (ends_of v) in
-    let left = map (λ (row : Row). text_of 9 (left_over v.ballots row)) (ends_of v) in
-    table_lines h v
-    ∙ ap (λ l. l ∷ h (left_within v) ∷ map (λ p. h (votes_within v p)) (places (length v.names)))
-    (in_cells td v Quota (λ row. text_of 9 row.quota) (λ i. amount_said (row_at v.rows i).quota))
-    ∙ ap (λ l. quotas ∷ l ∷ map (λ p. h (votes_within v p)) (places (length v.names)))
-    (in_cells td v LeftOver (λ row. text_of 9 (left_over v.ballots row))
-    (λ i. amount_said (left_over v.ballots (row_at v.rows i))))
-    ∙ (λ j. quotas ∷ left ∷ map (λ p. votes p j) (places (length v.names)))
+    let quotas = map (λ (row : Row). text_of places row.quota) (ends_of v) in
+    let left = map (λ (row : Row). text_of places (left_over places v.ballots row)) (ends_of v) in
+    table_lines places h v
+    ∙ ap (λ l. l ∷ h (left_within places v) ∷ map (λ p. h (votes_within places v p)) (all_places (length v.names)))
+    (in_cells places td v Quota (λ row. text_of places row.quota) (λ i. amount_said places (row_at v.rows i).quota))
+    ∙ ap (λ l. quotas ∷ l ∷ map (λ p. h (votes_within places v p)) (all_places (length v.names)))
+    (in_cells places td v LeftOver (λ row. text_of places (left_over places v.ballots row))
+    (λ i. amount_said places (left_over places v.ballots (row_at v.rows i))))
+    ∙ (λ j. quotas ∷ left ∷ map (λ p. votes p j) (all_places (length v.names)))
   where
-    votes : (p : ℕ) → texts_along (codes "td" ∷ []) (votes_within v p) ≡ line_texts v p
+    votes : (p : ℕ) → texts_along (codes "td" ∷ []) (votes_within places v p) ≡ line_texts places v p
     votes p =
-        in_cells (codes "td") v (Candidate p) (λ row. vote_text row p) (λ i. vote_said (settled_at v i) p)
+        in_cells places (codes "td") v (Candidate p) (λ row. vote_text places row p) (λ i. vote_said places (settled_at v i) p)
 
 -- ---- the head
 
-pub table_columns : (v : SheetList) →
-    texts_along (below (codes "div" ∷ codes "table" ∷ codes "thead" ∷ codes "tr" ∷ codes "th" ∷ [])) (page v)
+pub table_columns : (places : ℕ) (v : SheetList) →
+    texts_along (below (codes "div" ∷ codes "table" ∷ codes "thead" ∷ codes "tr" ∷ codes "th" ∷ [])) (page places v)
     ≡ codes "Candidate" ∷ map (λ row. decimal row.round) (ends_of v)
-table_columns v =
+table_columns places v =
     let path = codes "div" ∷ codes "table" ∷ codes "thead" ∷ codes "tr" ∷ codes "th" ∷ [] in
-    let heads = followed (cells v Round) Nothing in
+    let heads = followed (cells places v Round) Nothing in
     let them = along (codes "th" ∷ []) (followed first_head heads) in
-    in_page text_in path v no_part (λ full i. refl)
-    ∙ ap (λ l. in_parts text_in path v (rounds_part v) ++ l) (no_parts (ends_of v))
-    ∙ append-nil (in_parts text_in path v (rounds_part v))
+    in_page places text_in path v no_part (λ full i. refl)
+    ∙ ap (λ l. in_parts places text_in path v (rounds_part places v) ++ l) (no_parts (ends_of v))
+    ∙ append-nil (in_parts places text_in path v (rounds_part places v))
     ∙ ap (map text_in) (append-nil ((((them ++ []) ++ []) ++ []) ++ []) ∙ append-nil (((them ++ []) ++ []) ++ [])
     ∙ append-nil ((them ++ []) ++ []) ∙ append-nil (them ++ []) ∙ append-nil them)
     ∙ ap (λ l. codes "Candidate" ∷ l)
-    (in_cells (codes "th") v Round (λ row. decimal row.round) number)
+    (in_cells places (codes "th") v Round (λ row. decimal row.round) number)
   where
     number : (i : ℕ) → texts_along (codes "th" ∷ []) (round_head (link_to i) (row_at v.rows i).round)
         ≡ decimal (settled_at v i).round ∷ []

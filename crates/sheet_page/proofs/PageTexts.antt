@@ -22,40 +22,40 @@ use Rattle.sheet_page.specs.RoundEnds.{settled_at}
 use Rattle.sheet_page.specs.Stretches.{is_of_round}
 use Rattle.sheet_page.specs.Told.{result_part}
 use Rattle.sheet_page.specs.Trees.{each}
-use Rattle.sheet_page.specs.Values.{places, name_at}
+use Rattle.sheet_page.specs.Values.{all_places, name_at}
 use Rattle.sheet_page.proofs.PageWalks.{no_part, no_parts, picked, behind_nothing, found, found_followed}
 use Rattle.sheet_page.proofs.PageWalks.{found_each, found_if}
 use Rattle.sheet_page.proofs.PageWalks.{at_ends}
 
 -- ---- the parts of a page
 
-module _ {X : Type 0} (h : Trees → X) (path : List (List ℕ)) (v : SheetList) where
+module _ (places : ℕ) {X : Type 0} (h : Trees → X) (path : List (List ℕ)) (v : SheetList) where
   abbrev pub in_parts : Trees → List X
   in_parts = found h (codes "section") path
 
   -- the parts of rounds, by what a path leads to in the part of the round that ends at each place
   in_rounds :
-      (g : ℕ → List X) → ((full i : ℕ) → in_parts (round_part v full i) ≡ g i)
-      → in_parts (round_parts v (full_of v.rows))
-      ≡ flat_map (λ i. if ends_round v.rows i then g i else []) (places (length v.rows))
+      (g : ℕ → List X) → ((full i : ℕ) → in_parts (round_part places v full i) ≡ g i)
+      → in_parts (round_parts places v (full_of v.rows))
+      ≡ flat_map (λ i. if ends_round v.rows i then g i else []) (all_places (length v.rows))
   in_rounds g is =
-      found_each h (codes "section") path (part_at v (full_of v.rows)) (places (length v.rows))
-      ∙ (λ j. flat_map (λ i. here i j) (places (length v.rows)))
+      found_each h (codes "section") path (part_at places v (full_of v.rows)) (all_places (length v.rows))
+      ∙ (λ j. flat_map (λ i. here i j) (all_places (length v.rows)))
     where
-      here : (i : ℕ) → in_parts (part_at v (full_of v.rows) i) ≡ (if ends_round v.rows i then g i else [])
+      here : (i : ℕ) → in_parts (part_at places v (full_of v.rows) i) ≡ (if ends_round v.rows i then g i else [])
       here i =
-          found_if h (codes "section") path (ends_round v.rows i) (round_part v (full_of v.rows) i)
+          found_if h (codes "section") path (ends_round v.rows i) (round_part places v (full_of v.rows) i)
           ∙ ap (λ l. if ends_round v.rows i then l else []) (is (full_of v.rows) i)
 
   -- a whole page
   pub in_page_at :
-      (g : ℕ → List X) → ((full i : ℕ) → in_parts (round_part v full i) ≡ g i)
-      → map h (along (below path) (page v))
+      (g : ℕ → List X) → ((full i : ℕ) → in_parts (round_part places v full i) ≡ g i)
+      → map h (along (below path) (page places v))
       ≡ in_parts (elected_part v) ++ (in_parts (result_part v)
-      ++ (in_parts (rounds_part v) ++ flat_map (λ i. if ends_round v.rows i then g i else []) (places (length v.rows))))
+      ++ (in_parts (rounds_part places v) ++ flat_map (λ i. if ends_round v.rows i then g i else []) (all_places (length v.rows))))
   in_page_at g is =
       let full = full_of v.rows in
-      let rounds = followed (rounds_part v) (followed (round_parts v full) Nothing) in
+      let rounds = followed (rounds_part places v) (followed (round_parts places v full) Nothing) in
       let parts = followed (elected_part v) (followed (result_part v) rounds) in
       let them = along (codes "section" ∷ path) parts in
       ap (map h) (append-nil ((them ++ []) ++ []) ∙ append-nil (them ++ []) ∙ append-nil them)
@@ -63,17 +63,17 @@ module _ {X : Type 0} (h : Trees → X) (path : List (List ℕ)) (v : SheetList)
       ∙ ap (λ l. in_parts (elected_part v) ++ l) (
       found_followed h (codes "section") path (result_part v) rounds
       ∙ ap (λ l. in_parts (result_part v) ++ l) (
-      found_followed h (codes "section") path (rounds_part v) (followed (round_parts v full) Nothing)
-      ∙ ap (λ l. in_parts (rounds_part v) ++ l) (ap in_parts (behind_nothing (round_parts v full)) ∙ in_rounds g is)))
+      found_followed h (codes "section") path (rounds_part places v) (followed (round_parts places v full) Nothing)
+      ∙ ap (λ l. in_parts (rounds_part places v) ++ l) (ap in_parts (behind_nothing (round_parts places v full)) ∙ in_rounds g is)))
 
   -- where the last iteration of a round says it
   pub in_page :
-      (g : Row → List X) → ((full i : ℕ) → in_parts (round_part v full i) ≡ g (settled_at v i))
-      → map h (along (below path) (page v))
-      ≡ in_parts (elected_part v) ++ (in_parts (result_part v) ++ (in_parts (rounds_part v) ++ flat_map g (ends_of v)))
+      (g : Row → List X) → ((full i : ℕ) → in_parts (round_part places v full i) ≡ g (settled_at v i))
+      → map h (along (below path) (page places v))
+      ≡ in_parts (elected_part v) ++ (in_parts (result_part v) ++ (in_parts (rounds_part places v) ++ flat_map g (ends_of v)))
   in_page g is =
       in_page_at (λ i. g (settled_at v i)) is
-      ∙ ap (λ l. in_parts (elected_part v) ++ (in_parts (result_part v) ++ (in_parts (rounds_part v) ++ l)))
+      ∙ ap (λ l. in_parts (elected_part v) ++ (in_parts (result_part v) ++ (in_parts (rounds_part places v) ++ l)))
       (at_ends g v.rows v.last)
 
 -- ---- who is elected
@@ -93,9 +93,9 @@ called_apart name number behind =
 -- the items of an iteration
 marked : (v : SheetList) (row : Row) → items (elected_in v row) ≡ marked_lines v row
 marked v row =
-    found_each text_in (codes "li") [] (elected_item v row) (places (length v.names))
-    ∙ (λ j. flat_map (λ p. here p j) (places (length v.names)))
-    ∙ picked (mark_at row.elected) (elected_line v row.round) (places (length v.names))
+    found_each text_in (codes "li") [] (elected_item v row) (all_places (length v.names))
+    ∙ (λ j. flat_map (λ p. here p j) (all_places (length v.names)))
+    ∙ picked (mark_at row.elected) (elected_line v row.round) (all_places (length v.names))
   where
     here : (p : ℕ) → items (elected_item v row p) ≡ (if mark_at row.elected p then elected_line v row.round p ∷ [] else [])
     here p =
@@ -103,12 +103,12 @@ marked v row =
         ∙ ap (λ l. if mark_at row.elected p then l ∷ [] else [])
         (called_apart (name_at v p) (p + 1) (codes ": elected in round " ++ (decimal row.round ++ [])))
 
-left_seats : (v : SheetList) → items (each (seated_item v) (places (length v.names)))
-    ≡ map (seated_line v) (filter (is_seated v) (places (length v.names)))
+left_seats : (v : SheetList) → items (each (seated_item v) (all_places (length v.names)))
+    ≡ map (seated_line v) (filter (is_seated v) (all_places (length v.names)))
 left_seats v =
-    found_each text_in (codes "li") [] (seated_item v) (places (length v.names))
-    ∙ (λ j. flat_map (λ p. here p j) (places (length v.names)))
-    ∙ picked (is_seated v) (seated_line v) (places (length v.names))
+    found_each text_in (codes "li") [] (seated_item v) (all_places (length v.names))
+    ∙ (λ j. flat_map (λ p. here p j) (all_places (length v.names)))
+    ∙ picked (is_seated v) (seated_line v) (all_places (length v.names))
   where
     here : (p : ℕ) → items (seated_item v p) ≡ (if is_seated v p then seated_line v p ∷ [] else [])
     here p =
@@ -116,18 +116,18 @@ left_seats v =
         ∙ ap (λ l. if is_seated v p then l ∷ [] else [])
         (called_apart (name_at v p) (p + 1) (codes ": elected at the end, to a seat that was left"))
 
-pub elected_items : (v : SheetList) →
-    texts_along (below (codes "ol" ∷ codes "li" ∷ [])) (page v)
-    ≡ flat_map (marked_lines v) v.rows ++ map (seated_line v) (filter (is_seated v) (places (length v.names)))
-elected_items v =
+pub elected_items : (places : ℕ) (v : SheetList) →
+    texts_along (below (codes "ol" ∷ codes "li" ∷ [])) (page places v)
+    ≡ flat_map (marked_lines v) v.rows ++ map (seated_line v) (filter (is_seated v) (all_places (length v.names)))
+elected_items places v =
     let rows = each (elected_in v) v.rows in
-    let seats = each (seated_item v) (places (length v.names)) in
+    let seats = each (seated_item v) (all_places (length v.names)) in
     let list = followed rows (followed seats Nothing) in
     let marks = flat_map (marked_lines v) v.rows in
-    let left = map (seated_line v) (filter (is_seated v) (places (length v.names))) in
-    in_page text_in (codes "ol" ∷ codes "li" ∷ []) v no_part (λ full i. refl)
-    ∙ ap (λ l. in_parts text_in (codes "ol" ∷ codes "li" ∷ []) v (elected_part v) ++ l) (no_parts (ends_of v))
-    ∙ append-nil (in_parts text_in (codes "ol" ∷ codes "li" ∷ []) v (elected_part v))
+    let left = map (seated_line v) (filter (is_seated v) (all_places (length v.names))) in
+    in_page places text_in (codes "ol" ∷ codes "li" ∷ []) v no_part (λ full i. refl)
+    ∙ ap (λ l. in_parts places text_in (codes "ol" ∷ codes "li" ∷ []) v (elected_part v) ++ l) (no_parts (ends_of v))
+    ∙ append-nil (in_parts places text_in (codes "ol" ∷ codes "li" ∷ []) v (elected_part v))
     ∙ ap (map text_in) (append-nil (along (codes "li" ∷ []) list ++ []) ∙ append-nil (along (codes "li" ∷ []) list))
     ∙ found_followed text_in (codes "li") [] rows (followed seats Nothing)
     ∙ ap (λ l. l ++ items (followed seats Nothing))
@@ -144,27 +144,27 @@ link_said v i =
     found_if text_in (codes "li") [] (ends_round v.rows i) (round_link (link_to i) (row_at v.rows i).round)
     ∙ ap (λ l. if ends_round v.rows i then (codes "Round " ++ l) ∷ [] else []) (append-nil (number ++ []) ∙ append-nil number)
 
-pub round_links : (v : SheetList) →
-    texts_along (codes "html" ∷ codes "body" ∷ codes "main" ∷ codes "nav" ∷ codes "ul" ∷ codes "li" ∷ []) (page v)
+pub round_links : (places : ℕ) (v : SheetList) →
+    texts_along (codes "html" ∷ codes "body" ∷ codes "main" ∷ codes "nav" ∷ codes "ul" ∷ codes "li" ∷ []) (page places v)
     ≡ map (λ row. codes "Round " ++ decimal row.round) (ends_of v)
-round_links v =
+round_links places v =
     let path = codes "ul" ∷ codes "li" ∷ [] in
-    let links = each (link_at v) (places (length v.rows)) in
+    let links = each (link_at v) (all_places (length v.rows)) in
     let first = along (codes "li" ∷ []) (followed links Nothing) in
-    let rest = followed (round_parts v (full_of v.rows)) Nothing in
+    let rest = followed (round_parts places v (full_of v.rows)) Nothing in
     let behind = along (codes "nav" ∷ path) rest in
     let them = (first ++ []) ++ behind in
     ap (map text_in) (append-nil ((them ++ []) ++ []) ∙ append-nil (them ++ []) ∙ append-nil them)
     ∙ map-append text_in (first ++ []) behind
-    ∙ ap (λ l. map text_in (first ++ []) ++ l) (ap (found text_in (codes "nav") path) (behind_nothing (round_parts v (full_of v.rows)))
-    ∙ found_each text_in (codes "nav") path (part_at v (full_of v.rows)) (places (length v.rows))
-    ∙ (λ j. flat_map (λ i. none i j) (places (length v.rows)))
-    ∙ no_parts (places (length v.rows)))
+    ∙ ap (λ l. map text_in (first ++ []) ++ l) (ap (found text_in (codes "nav") path) (behind_nothing (round_parts places v (full_of v.rows)))
+    ∙ found_each text_in (codes "nav") path (part_at places v (full_of v.rows)) (all_places (length v.rows))
+    ∙ (λ j. flat_map (λ i. none i j) (all_places (length v.rows)))
+    ∙ no_parts (all_places (length v.rows)))
     ∙ append-nil (map text_in (first ++ []))
     ∙ ap (map text_in) (append-nil first)
     ∙ ap items (behind_nothing links)
-    ∙ found_each text_in (codes "li") [] (link_at v) (places (length v.rows))
-    ∙ (λ j. flat_map (λ i. link_said v i j) (places (length v.rows)))
+    ∙ found_each text_in (codes "li") [] (link_at v) (all_places (length v.rows))
+    ∙ (λ j. flat_map (λ i. link_said v i j) (all_places (length v.rows)))
     ∙ at_ends (λ row. (codes "Round " ++ decimal row.round) ∷ []) v.rows v.last
     ∙ flat_map_single (λ (row : Row). codes "Round " ++ decimal row.round) (ends_of v)
   where
@@ -172,28 +172,28 @@ round_links v =
     either true = refl
     either false = refl
 
-    none : (i : ℕ) → found text_in (codes "nav") (codes "ul" ∷ codes "li" ∷ []) (part_at v (full_of v.rows) i) ≡ no_part {X = ℕ} {Y = List ℕ} i
+    none : (i : ℕ) → found text_in (codes "nav") (codes "ul" ∷ codes "li" ∷ []) (part_at places v (full_of v.rows) i) ≡ no_part {X = ℕ} {Y = List ℕ} i
     none i =
-        found_if text_in (codes "nav") (codes "ul" ∷ codes "li" ∷ []) (ends_round v.rows i) (round_part v (full_of v.rows) i)
+        found_if text_in (codes "nav") (codes "ul" ∷ codes "li" ∷ []) (ends_round v.rows i) (round_part places v (full_of v.rows) i)
         ∙ either (ends_round v.rows i)
 
 -- ---- titles of rounds
 
-pub round_titles : (v : SheetList) →
-    texts_along (below (codes "h2" ∷ [])) (page v)
+pub round_titles : (places : ℕ) (v : SheetList) →
+    texts_along (below (codes "h2" ∷ [])) (page places v)
     ≡ codes "Elected" ∷ codes "Result" ∷ codes "Votes at the end of each round"
     ∷ map (λ row. codes "Round " ++ decimal row.round) (ends_of v)
-round_titles v =
-    in_page text_in (codes "h2" ∷ []) v (λ row. (codes "Round " ++ decimal row.round) ∷ [])
+round_titles places v =
+    in_page places text_in (codes "h2" ∷ []) v (λ row. (codes "Round " ++ decimal row.round) ∷ [])
     (λ full i. ap (λ l. (codes "Round " ++ l) ∷ []) (append-nil (decimal (row_at v.rows i).round)))
     ∙ ap (λ l. codes "Elected" ∷ codes "Result" ∷ codes "Votes at the end of each round" ∷ l)
     (flat_map_single (λ (row : Row). codes "Round " ++ decimal row.round) (ends_of v))
 
-pub folded_titles : (v : SheetList) →
-    texts_along (below (codes "details" ∷ codes "summary" ∷ [])) (page v)
+pub folded_titles : (places : ℕ) (v : SheetList) →
+    texts_along (below (codes "details" ∷ codes "summary" ∷ [])) (page places v)
     ≡ map (λ row. codes "Iterations of round " ++ decimal row.round) (ends_of v)
-folded_titles v =
-    in_page text_in (codes "details" ∷ codes "summary" ∷ []) v
+folded_titles places v =
+    in_page places text_in (codes "details" ∷ codes "summary" ∷ []) v
     (λ row. (codes "Iterations of round " ++ decimal row.round) ∷ []) (λ full i. here i)
     ∙ flat_map_single (λ (row : Row). codes "Iterations of round " ++ decimal row.round) (ends_of v)
   where
@@ -201,21 +201,21 @@ folded_titles v =
     either true = refl
     either false = refl
 
-    none : (last i : ℕ) → found text_in (codes "summary") [] (iteration_at v last i) ≡ no_part {X = ℕ} {Y = List ℕ} i
+    none : (last i : ℕ) → found text_in (codes "summary") [] (iteration_at places v last i) ≡ no_part {X = ℕ} {Y = List ℕ} i
     none last i =
-        found_if text_in (codes "summary") [] (is_of_round v.rows last i) (iteration v (row_at v.rows i))
+        found_if text_in (codes "summary") [] (is_of_round v.rows last i) (iteration places v (row_at v.rows i))
         ∙ either (is_of_round v.rows last i)
 
     here : (i : ℕ) →
         (codes "Iterations of round " ++ (decimal (row_at v.rows i).round ++ []))
-        ∷ map text_in ((along (codes "summary" ∷ []) (followed (iterations v i) Nothing) ++ []) ++ [])
+        ∷ map text_in ((along (codes "summary" ∷ []) (followed (iterations places v i) Nothing) ++ []) ++ [])
         ≡ (codes "Iterations of round " ++ decimal (row_at v.rows i).round) ∷ []
     here i =
         let title = codes "Iterations of round " ++ (decimal (row_at v.rows i).round ++ []) in
-        let them = along (codes "summary" ∷ []) (followed (iterations v i) Nothing) in
+        let them = along (codes "summary" ∷ []) (followed (iterations places v i) Nothing) in
         ap (λ l. title ∷ map text_in l) (append-nil (them ++ []) ∙ append-nil them)
-        ∙ ap (λ l. title ∷ l) (ap (found text_in (codes "summary") []) (behind_nothing (iterations v i))
-        ∙ found_each text_in (codes "summary") [] (iteration_at v i) (places (i + 1))
-        ∙ (λ j. flat_map (λ k. none i k j) (places (i + 1)))
-        ∙ no_parts (places (i + 1)))
+        ∙ ap (λ l. title ∷ l) (ap (found text_in (codes "summary") []) (behind_nothing (iterations places v i))
+        ∙ found_each text_in (codes "summary") [] (iteration_at places v i) (all_places (i + 1))
+        ∙ (λ j. flat_map (λ k. none i k j) (all_places (i + 1)))
+        ∙ no_parts (all_places (i + 1)))
         ∙ ap (λ l. (codes "Iterations of round " ++ l) ∷ []) (append-nil (decimal (row_at v.rows i).round))

@@ -15,7 +15,7 @@ use Rattle.sheet_page.specs.PageLaws.{round_ends}
 use Rattle.sheet_page.specs.PageReading.{children, along}
 use Rattle.sheet_page.specs.RoundEnds.{settled}
 use Rattle.sheet_page.specs.Trees.{each}
-use Rattle.sheet_page.specs.Values.{places}
+use Rattle.sheet_page.specs.Values.{all_places}
 
 -- ---- lists
 
@@ -140,7 +140,7 @@ abbrev at_end : {X : Type 0} → (Row → List X) → List Row → (last : List 
 at_end g rows last i = if ends_round rows i then g (settled_in rows last i) else []
 
 pub at_ends : {X : Type 0} (g : Row → List X) (rows : List Row) (last : List State)
-    → flat_map (at_end g rows last) (places (length rows))
+    → flat_map (at_end g rows last) (all_places (length rows))
     ≡ flat_map g (round_ends rows last)
 at_ends g [] last = refl
 at_ends g (row ∷ []) last = refl

@@ -13,17 +13,17 @@ use Rattle.piece_text.specs.Writing.{Writes}
 use Rattle.piece_text.proofs.Written.{wrote_nothing, later as written_later, stops}
 use Rattle.sheet_page.specs.declared.pen.Pen.{Pen}
 use Rattle.sheet_page.specs.Prints.{Prints}
-use Rattle.sheet_page.specs.Values.{places}
+use Rattle.sheet_page.specs.Values.{all_places}
 
 -- one place more
-places-more : (g : ℕ → List ℕ) (n : ℕ) → flat_map g (places (n + 1)) ≡ flat_map g (places n) ++ g n
+places-more : (g : ℕ → List ℕ) (n : ℕ) → flat_map g (all_places (n + 1)) ≡ flat_map g (all_places n) ++ g n
 places-more g n =
     let joined = flat_map (λ (l : List ℕ). l) in
-    sym (flat_map-map (λ (l : List ℕ). l) g (places (n + 1)))
+    sym (flat_map-map (λ (l : List ℕ). l) g (all_places (n + 1)))
     ∙ ap joined (map-range_with_len_more g 0 n n (omega arith))
-    ∙ flat_map-append (λ (l : List ℕ). l) (map g (places n)) (g n ∷ [])
-    ∙ ap (λ (l : List ℕ). joined (map g (places n)) ++ l) (append-nil (g n))
-    ∙ ap (λ (l : List ℕ). l ++ g n) (flat_map-map (λ (l : List ℕ). l) g (places n))
+    ∙ flat_map-append (λ (l : List ℕ). l) (map g (all_places n)) (g n ∷ [])
+    ∙ ap (λ (l : List ℕ). joined (map g (all_places n)) ++ l) (append-nil (g n))
+    ∙ ap (λ (l : List ℕ). l ++ g n) (flat_map-map (λ (l : List ℕ). l) g (all_places n))
 
 -- one item more
 items-more :
@@ -36,28 +36,28 @@ items-more g xs i d below =
 
 -- behind bytes that were handed to the sink, what a pen writes
 behind :
-    {S : Type 0} (k : Ghosts S) (a : S) (q r : Pen S) (first second : List ℕ)
+    {places : ℕ} {S : Type 0} (k : Ghosts S) (a : S) (q r : Pen places S) (first second : List ℕ)
     (done : Result (Unit {0}) Failed) → q.done ≡ done → Writes k.written k.faults a q.sink.now first done
     → Prints k q r second
     → Writes k.written k.faults a r.sink.now (first ++ second) r.done
 behind k a q r first second (Ok done) is wrote next =
     written_later r.sink.now second r.done wrote (next.well (rw is refl))
-behind {S} k a q r first second (Err stop) is stopped next =
-    subst (λ (p : Pen S). Writes k.written k.faults a p.sink.now (first ++ second) p.done) (sym (next.failed (rw is refl)))
+behind {places} {S} k a q r first second (Err stop) is stopped next =
+    subst (λ (p : Pen places S). Writes k.written k.faults a p.sink.now (first ++ second) p.done) (sym (next.failed (rw is refl)))
     (subst (λ (s : Result (Unit {0}) Failed). Writes k.written k.faults a q.sink.now (first ++ second) s) (sym is)
     (stops {T = Unit {0}} second (Err stop) refl stopped))
 
 -- one piece of writing behind another
 pub later :
-    {S : Type 0} {k : Ghosts S} {p q r : Pen S} {first second : List ℕ}
+    {places : ℕ} {S : Type 0} {k : Ghosts S} {p q r : Pen places S} {first second : List ℕ}
     → Prints k p q first → Prints k q r second → Prints k p r (first ++ second)
-later {S} {k} {p} {q} {r} {first} {second} one next = record {
+later {places} {S} {k} {p} {q} {r} {first} {second} one next = record {
   same_sink = next.same_sink ∙ one.same_sink;
   well = λ ok. behind k p.sink.now q r first second q.done refl (one.well ok) next;
-  failed = λ err. next.failed (subst (λ (s : Pen S). IsErr s.done) (sym (one.failed err)) err) ∙ one.failed err;
+  failed = λ err. next.failed (subst (λ (s : Pen places S). IsErr s.done) (sym (one.failed err)) err) ∙ one.failed err;
 }
 
-pub nothing : {S : Type 0} (k : Ghosts S) (p : Pen S) → Prints k p p []
+pub nothing : {places : ℕ} {S : Type 0} (k : Ghosts S) (p : Pen places S) → Prints k p p []
 nothing k p = record { same_sink = refl; well = λ ok. none k p.sink.now p.done ok; failed = λ err. refl }
   where
     none :
@@ -68,24 +68,24 @@ nothing k p = record { same_sink = refl; well = λ ok. none k p.sink.now p.done 
 
 -- what was handed to the sink, where the pen was new and all that it wrote is this
 pub ended :
-    {S : Type 0} {k : Ghosts S} {p q : Pen S} {a c : S} {r : Result (Unit {0}) Failed}
+    {places : ℕ} {S : Type 0} {k : Ghosts S} {p q : Pen places S} {a c : S} {r : Result (Unit {0}) Failed}
     {bytes : List ℕ} → p.sink.now ≡ a → p.done ≡ Ok (tt {0}) → Prints k p q bytes → c ≡ q.sink.now → r ≡ q.done
     → Writes k.written k.faults a c bytes r
-ended {S} {k} {p} {q} {a} {c} {r} {bytes} before well wrote after done =
+ended {S = S} {k} {p} {q} {a} {c} {r} {bytes} before well wrote after done =
     subst (λ (s : S). Writes k.written k.faults s c bytes r) before
     (subst (λ (s : S). Writes k.written k.faults p.sink.now s bytes r) (sym after)
     (subst (λ (s : Result (Unit {0}) Failed). Writes k.written k.faults p.sink.now q.sink.now bytes s) (sym done)
     (wrote.well (rw well refl))))
 
 pub place_more :
-    {S : Type 0} {k : Ghosts S} {p q r : Pen S} (g : ℕ → List ℕ) (n : ℕ)
-    → Prints k p q (flat_map g (places n)) → Prints k q r (g n) → Prints k p r (flat_map g (places (n + 1)))
+    {places : ℕ} {S : Type 0} {k : Ghosts S} {p q r : Pen places S} (g : ℕ → List ℕ) (n : ℕ)
+    → Prints k p q (flat_map g (all_places n)) → Prints k q r (g n) → Prints k p r (flat_map g (all_places (n + 1)))
 place_more {k} {p} {r} g n done next =
     subst (λ (l : List ℕ). Prints k p r l) (sym (places-more g n)) (later done next)
 
 -- one item more, which is x
 pub item_more :
-    {S X : Type 0} {k : Ghosts S} {p q r : Pen S} (g : X → List ℕ)
+    {places : ℕ} {S X : Type 0} {k : Ghosts S} {p q r : Pen places S} (g : X → List ℕ)
     (xs : List X) (i : ℕ) (x : X) → x ≡ get_or xs i x → i < length xs
     → Prints k p q (flat_map g (take i xs)) → Prints k q r (g x) → Prints k p r (flat_map g (take (i + 1) xs))
 item_more {k} {p} {q} {r} g xs i x is below done next =
@@ -94,13 +94,13 @@ item_more {k} {p} {q} {r} g xs i x is below done next =
 
 -- all items
 pub items_all :
-    {S X : Type 0} {k : Ghosts S} {p r : Pen S} (g : X → List ℕ) (xs : List X) (i : ℕ)
+    {places : ℕ} {S X : Type 0} {k : Ghosts S} {p r : Pen places S} (g : X → List ℕ) (xs : List X) (i : ℕ)
     → length xs ≤ i → Prints k p r (flat_map g (take i xs)) → Prints k p r (flat_map g xs)
 items_all {X = X} {k} {p} {r} g xs i past done =
     subst (λ (l : List X). Prints k p r (flat_map g l)) (take_all i xs past) done
 
 -- the same bytes by another name
 pub renamed :
-    {S : Type 0} {k : Ghosts S} {p r : Pen S} {bytes others : List ℕ}
+    {places : ℕ} {S : Type 0} {k : Ghosts S} {p r : Pen places S} {bytes others : List ℕ}
     → bytes ≡ others → Prints k p r bytes → Prints k p r others
 renamed {k} {p} {r} same done = subst (λ (l : List ℕ). Prints k p r l) same done

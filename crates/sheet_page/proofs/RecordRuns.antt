@@ -4,7 +4,7 @@ use Rattle.std.proofs.Common.{get_or, map, arith}
 use Rattle.std.specs.Prelude.{decimal}
 use Rattle.std.specs.List.{range_with_len}
 use Rattle.std.proofs.lemmas.Fmt.{decimal_injective}
-use Rattle.sheet_page.specs.Values.{places}
+use Rattle.sheet_page.specs.Values.{all_places}
 use Rattle.sheet_page.proofs.AmountTexts.{heads}
 
 -- the field at a place
@@ -47,8 +47,8 @@ same_runs f g k (suc n) (suc m) rest others nf ng some few small fresh also e =
 -- two iterations with what stands behind them
 pub same_iterations : (f g : ℕ → List (List ℕ)) (n m : ℕ) (rest others : List (List (List ℕ))) → IsNumbered f → IsNumbered g
     → 1 ≤ n → n ≤ 250 → 1 ≤ m → m ≤ 250 → IsFresh rest → IsFresh others
-    → map f (places n) ++ rest ≡ map g (places m) ++ others
-    → (n ≡ m) × (map f (places n) ≡ map g (places m)) × (rest ≡ others)
+    → map f (all_places n) ++ rest ≡ map g (all_places m) ++ others
+    → (n ≡ m) × (map f (all_places n) ≡ map g (all_places m)) × (rest ≡ others)
 same_iterations f g zero m rest others nf ng some few any small fresh also e = absurd (omega (arith, some))
 same_iterations f g (suc n) zero rest others nf ng some few any small fresh also e = absurd (omega (arith, any))
 same_iterations f g (suc n) (suc m) rest others nf ng some few any small fresh also e =

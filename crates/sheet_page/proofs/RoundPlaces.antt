@@ -8,7 +8,7 @@ use Rattle.std.proofs.lemmas.List.Folds.{list_all_at}
 use Rattle.std.proofs.lemmas.List.FromFn.{length-range_with_len, get_or-range_with_len}
 use Rattle.meek_rule.specs.Row.{Row, blank}
 use Rattle.sheet_minutes.specs.Rounds.{row_at}
-use Rattle.sheet_page.specs.Values.{places}
+use Rattle.sheet_page.specs.Values.{all_places}
 use Rattle.sheet_page.specs.Stretches.{have_one_number, is_of_round}
 
 -- a test of all places of a range
@@ -84,7 +84,7 @@ two_numbers rows i j a b one other differ = ne_eqb _ _ (λ e. differ (one ∙ e 
 
 -- ---- places that have nothing
 
-pub nothing_before : (g : ℕ → List ℕ) (n : ℕ) → ((i : ℕ) → i < n → g i ≡ []) → flat_map g (places n) ≡ []
+pub nothing_before : (g : ℕ → List ℕ) (n : ℕ) → ((i : ℕ) → i < n → g i ≡ []) → flat_map g (all_places n) ≡ []
 nothing_before g n none = nowhere 0 n (λ i low high. none i (omega arith))
   where
     nowhere : (a m : ℕ) → ((i : ℕ) → a ≤ i → i < a + m → g i ≡ []) → flat_map g (range_with_len a m) ≡ []

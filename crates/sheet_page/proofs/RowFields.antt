@@ -4,10 +4,10 @@ use Rattle.std.specs.Prelude.{slice_index}
 use Rattle.std.proofs.lemmas.Fmt.{decimal_injective}
 use Rattle.std.proofs.lemmas.List.{ext_get_or}
 use Rattle.std.proofs.lemmas.List.Elements.{All-get_or}
-use Rattle.std.proofs.lemmas.Nat.{pow-add}
 use Rattle.candidate_roll.specs.State.{state_at}
 use Rattle.candidate_roll.specs.declared.state.State.TheVariants.{Withdrawn}
 use Rattle.fixed_place.specs.Rounding.{scale, most}
+use Rattle.line_text.proofs.Lengths.{scale-most}
 use Rattle.lot_order.specs.Flags.{mark_at}
 use Rattle.meek_rule.specs.Row.{Row}
 use Rattle.sheet_reader.specs.Form.{IsPrintableRow}
@@ -19,11 +19,11 @@ use Rattle.sheet_page.proofs.FieldWords.{marks_say, states_say, steps_say}
 use Rattle.sheet_page.proofs.RecordRuns.{field}
 
 -- the records of n candidates in two iterations are the same
-abbrev pub HaveOneText : (v w : SheetList) → (n : ℕ) → Row → Row → Type 0
-HaveOneText v w n row other = (p : ℕ) → p < n → csv_record v row p ≡ csv_record w other p
+abbrev pub HaveOneText : (places : ℕ) (v w : SheetList) → (n : ℕ) → Row → Row → Type 0
+HaveOneText places v w n row other = (p : ℕ) → p < n → csv_record places v row p ≡ csv_record places w other p
 
-keep_small : (keep : ℕ) → keep ≤ scale 9 → keep ≤ most 9
-keep_small keep small = omega (arith, pow-add 10 9 9, small)
+keep_small : (places keep : ℕ) → keep ≤ scale places → keep ≤ most places
+keep_small places keep small = omega (arith, scale-most places, small)
 
 -- the lists of marks of two iterations, at a field
 marked : (n : ℕ) (marks others : List Bool) → length marks ≡ n → length others ≡ n
@@ -32,26 +32,26 @@ marked n marks others long also same =
     ext_get_or false marks others (long ∙ sym also)
     (λ p below. marks_say (mark_at marks p) (mark_at others p) (same p (omega (arith, below, long))))
 
-pub keep_at : (n : ℕ) (row : Row) → IsPrintableRow 9 n row → (p : ℕ) → p < n → slice_index row.keeps p ≤ most 9
-keep_at n row is p below =
-    keep_small (slice_index row.keeps p)
-    (All-get_or (λ keep. keep ≤ scale 9) row.keeps p 0 (omega (arith, below, is.of_all.keeps)) is.keeps)
+pub keep_at : (places n : ℕ) (row : Row) → IsPrintableRow places n row → (p : ℕ) → p < n → slice_index row.keeps p ≤ most places
+keep_at places n row is p below =
+    keep_small places (slice_index row.keeps p)
+    (All-get_or (λ keep. keep ≤ scale places) row.keeps p 0 (omega (arith, below, is.of_all.keeps)) is.keeps)
 
-pub vote_at : (n : ℕ) (row : Row) → IsPrintableRow 9 n row → (p : ℕ) → p < n → slice_index row.votes p ≤ most 9
-vote_at n row is p below = All-get_or (λ vote. vote ≤ most 9) row.votes p 0 (omega (arith, below, is.of_all.votes)) is.votes
+pub vote_at : (places n : ℕ) (row : Row) → IsPrintableRow places n row → (p : ℕ) → p < n → slice_index row.votes p ≤ most places
+vote_at places n row is p below = All-get_or (λ vote. vote ≤ most places) row.votes p 0 (omega (arith, below, is.of_all.votes)) is.votes
 
 pub row_says :
-    (v w : SheetList) (n : ℕ) (row other : Row) → 1 ≤ n → IsPrintableRow 9 n row → IsPrintableRow 9 n other
-    → HaveOneText v w n row other → row ≡ other
-row_says v w n row other some is also same =
+    (places : ℕ) (v w : SheetList) (n : ℕ) (row other : Row) → 1 ≤ n → IsPrintableRow places n row → IsPrintableRow places n other
+    → HaveOneText places v w n row other → row ≡ other
+row_says places v w n row other some is also same =
     let first = same 0 (omega (arith, some)) in
     let round =
     decimal_injective row.round other.round (omega (arith, is.round)) (omega (arith, also.round))
     (ap (field 0) first) in
     let iteration = decimal_injective row.iteration other.iteration is.iteration also.iteration (ap (field 1) first) in
-    let total = amounts_say row.total other.total is.total also.total (ap (field 12) first) in
-    let quota = amounts_say row.quota other.quota is.quota also.quota (ap (field 13) first) in
-    let surplus = amounts_say row.surplus other.surplus is.surplus also.surplus (ap (field 14) first) in
+    let total = amounts_say places row.total other.total is.total also.total (ap (field 12) first) in
+    let quota = amounts_say places row.quota other.quota is.quota also.quota (ap (field 13) first) in
+    let surplus = amounts_say places row.surplus other.surplus is.surplus also.surplus (ap (field 14) first) in
     let elected =
     marked n row.elected other.elected is.of_all.elected also.of_all.elected
     (λ p below. ap (field 8) (same p below)) in
@@ -88,12 +88,12 @@ row_says v w n row other some is also same =
     keeps =
         ext_get_or 0 row.keeps other.keeps (is.of_all.keeps ∙ sym also.of_all.keeps)
         (λ p below. let here : p < n = omega (arith, below, is.of_all.keeps) in
-        amounts_say (slice_index row.keeps p) (slice_index other.keeps p) (keep_at n row is p here)
-        (keep_at n other also p here) (ap (field 6) (same p here)))
+        amounts_say places (slice_index row.keeps p) (slice_index other.keeps p) (keep_at places n row is p here)
+        (keep_at places n other also p here) (ap (field 6) (same p here)))
 
     votes : row.votes ≡ other.votes
     votes =
         ext_get_or 0 row.votes other.votes (is.of_all.votes ∙ sym also.of_all.votes)
         (λ p below. let here : p < n = omega (arith, below, is.of_all.votes) in
-        amounts_say (slice_index row.votes p) (slice_index other.votes p) (vote_at n row is p here)
-        (vote_at n other also p here) (ap (field 7) (same p here)))
+        amounts_say places (slice_index row.votes p) (slice_index other.votes p) (vote_at places n row is p here)
+        (vote_at places n other also p here) (ap (field 7) (same p here)))

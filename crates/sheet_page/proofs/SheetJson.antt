@@ -19,48 +19,48 @@ use Rattle.sheet_page.specs.JsonGrammar.{IsTextOf, closed}
 use Rattle.sheet_page.specs.JsonText.{string_text}
 use Rattle.sheet_page.specs.JsonValues.{array, candidate_value, standing_value, iteration_value}
 use Rattle.sheet_page.specs.JsonValues.{iteration_value_at, sheet_value}
-use Rattle.sheet_page.specs.Values.{places, step_word}
+use Rattle.sheet_page.specs.Values.{all_places, step_word}
 use Rattle.sheet_page.proofs.JsonParts.{onto, joined-onto, onto-append, said-text, list-written, are-items}
 use Rattle.sheet_page.proofs.CandidateJson.{member, members, candidate_pieces, candidate-written, candidate-is}
 use Rattle.sheet_page.proofs.CandidateJson.{standing_pieces, standing-written, standing-is, truth-text}
 
 -- ---- an iteration
 
-abbrev standings_text : Row → List ℕ
-standings_text row = 91 ∷ closed (map (λ p. members (standing_pieces row p)) (places (length row.states))) 93
+abbrev standings_text : (places : ℕ) → Row → List ℕ
+standings_text places row = 91 ∷ closed (map (λ p. members (standing_pieces places row p)) (all_places (length row.states))) 93
 
-abbrev iteration_pieces : (seats : ℕ) → Row → List (List ℕ)
-iteration_pieces seats row =
+abbrev iteration_pieces : (places seats : ℕ) → Row → List (List ℕ)
+iteration_pieces places seats row =
     member (codes "\"round\"") (decimal row.round) ∷ member (codes "\"iteration\"") (decimal row.iteration)
-    ∷ member (codes "\"total\"") (amount row.total) ∷ member (codes "\"quota\"") (amount row.quota)
-    ∷ member (codes "\"surplus\"") (amount row.surplus) ∷ member (codes "\"step\"") (string_text (step_word row.step))
+    ∷ member (codes "\"total\"") (amount places row.total) ∷ member (codes "\"quota\"") (amount places row.quota)
+    ∷ member (codes "\"surplus\"") (amount places row.surplus) ∷ member (codes "\"step\"") (string_text (step_word row.step))
     ∷ member (codes "\"by_lots\"") (truth (by_lots row)) ∷ member (codes "\"last_seats\"") (decimal (last_seats seats row))
-    ∷ member (codes "\"candidates\"") (standings_text row) ∷ []
+    ∷ member (codes "\"candidates\"") (standings_text places row) ∷ []
 
-abbrev pub amounts_parts : (seats i : ℕ) → Row → List (List ℕ)
-amounts_parts seats i row =
+abbrev pub amounts_parts : (places seats i : ℕ) → Row → List (List ℕ)
+amounts_parts places seats i row =
     comma_at i ∷ codes "{\"round\":" ∷ decimal row.round ∷ codes ",\"iteration\":" ∷ decimal row.iteration
-    ∷ codes ",\"total\":" ∷ amount row.total ∷ codes ",\"quota\":" ∷ amount row.quota ∷ codes ",\"surplus\":"
-    ∷ amount row.surplus
+    ∷ codes ",\"total\":" ∷ amount places row.total ∷ codes ",\"quota\":" ∷ amount places row.quota ∷ codes ",\"surplus\":"
+    ∷ amount places row.surplus
     ∷ codes ",\"step\":" ∷ string_text (step_word row.step) ∷ codes ",\"by_lots\":" ∷ truth (by_lots row)
     ∷ codes ",\"last_seats\":" ∷ decimal (last_seats seats row) ∷ codes ",\"candidates\":[" ∷ []
 
 iteration-written :
-    (seats i : ℕ) (row : Row) → iteration_json seats i row ≡ comma_at i ++ members (iteration_pieces seats row)
-iteration-written seats i row =
-    joined-onto (amounts_parts seats i row) (flat_map (standing_json row) (places (length row.states)) ++ codes "]}")
-    ∙ ap (onto (amounts_parts seats i row))
-    (list-written (standing_json row) (λ p. members (standing_pieces row p)) (standing-written row) (125 ∷ [])
+    (places seats i : ℕ) (row : Row) → iteration_json places seats i row ≡ comma_at i ++ members (iteration_pieces places seats row)
+iteration-written places seats i row =
+    joined-onto (amounts_parts places seats i row) (flat_map (standing_json places row) (all_places (length row.states)) ++ codes "]}")
+    ∙ ap (onto (amounts_parts places seats i row))
+    (list-written (standing_json places row) (λ p. members (standing_pieces places row p)) (standing-written places row) (125 ∷ [])
     (length row.states))
 
 standings-are :
-    (row : Row) → length row.states ≤ MOST_CANDIDATES
-    → IsTextOf (array (map (standing_value row) (places (length row.states)))) (standings_text row)
-standings-are row few = (
-  map (λ p. members (standing_pieces row p)) (places (length row.states)),
+    (places : ℕ) (row : Row) → length row.states ≤ MOST_CANDIDATES
+    → IsTextOf (array (map (standing_value places row) (all_places (length row.states)))) (standings_text places row)
+standings-are places row few = (
+  map (λ p. members (standing_pieces places row p)) (all_places (length row.states)),
   refl,
-  are-items (standing_value row) (λ p. members (standing_pieces row p)) (length row.states)
-      (λ p below. standing-is row p (omega (arith, few, below))),
+  are-items (standing_value places row) (λ p. members (standing_pieces places row p)) (length row.states)
+      (λ p below. standing-is places row p (omega (arith, few, below))),
 )
 
 -- a text of seats that are at most so many
@@ -72,21 +72,21 @@ last_few seats row = by (chooses row)
     by false = omega arith
 
 iteration-is :
-    (n seats : ℕ) (row : Row) → n ≤ MOST_CANDIDATES → seats ≤ MOST_CANDIDATES → IsPrintableRow 9 n row
-    → IsTextOf (iteration_value seats row) (members (iteration_pieces seats row))
-iteration-is n seats row few low is = (
-  iteration_pieces seats row,
+    (places n seats : ℕ) (row : Row) → n ≤ MOST_CANDIDATES → seats ≤ MOST_CANDIDATES → IsPrintableRow places n row
+    → IsTextOf (iteration_value places seats row) (members (iteration_pieces places seats row))
+iteration-is places n seats row few low is = (
+  iteration_pieces places seats row,
   refl,
   (
     (codes "\"round\"", decimal row.round, refl, refl, (omega (arith, is.round), refl)),
     (
       (codes "\"iteration\"", decimal row.iteration, refl, refl, (is.iteration, refl)),
       (
-        (codes "\"total\"", amount row.total, refl, refl, said-text (text_of 9 row.total)),
+        (codes "\"total\"", amount places row.total, refl, refl, said-text (text_of places row.total)),
         (
-          (codes "\"quota\"", amount row.quota, refl, refl, said-text (text_of 9 row.quota)),
+          (codes "\"quota\"", amount places row.quota, refl, refl, said-text (text_of places row.quota)),
           (
-            (codes "\"surplus\"", amount row.surplus, refl, refl, said-text (text_of 9 row.surplus)),
+            (codes "\"surplus\"", amount places row.surplus, refl, refl, said-text (text_of places row.surplus)),
             (
               (codes "\"step\"", string_text (step_word row.step), refl, refl, said-text (step_word row.step)),
               (
@@ -102,10 +102,10 @@ iteration-is n seats row few low is = (
                   (
                     (
                       codes "\"candidates\"",
-                      standings_text row,
+                      standings_text places row,
                       refl,
                       refl,
-                      standings-are row (omega (arith, few, is.of_all.states)),
+                      standings-are places row (omega (arith, few, is.of_all.states)),
                     ),
                     refl,
                   ),
@@ -122,16 +122,16 @@ iteration-is n seats row few low is = (
 -- ---- the whole sheet
 
 abbrev candidates_text : SheetList → List ℕ
-candidates_text v = 91 ∷ closed (map (λ p. members (candidate_pieces v p)) (places (length v.names))) 93
+candidates_text v = 91 ∷ closed (map (λ p. members (candidate_pieces v p)) (all_places (length v.names))) 93
 
-abbrev iterations_text : SheetList → List ℕ
-iterations_text v = 91 ∷ closed (map (λ i. members (iteration_pieces v.seats (row_at v.rows i))) (places (length v.rows))) 93
+abbrev iterations_text : (places : ℕ) → SheetList → List ℕ
+iterations_text places v = 91 ∷ closed (map (λ i. members (iteration_pieces places v.seats (row_at v.rows i))) (all_places (length v.rows))) 93
 
-abbrev sheet_pieces : SheetList → List (List ℕ)
-sheet_pieces v =
+abbrev sheet_pieces : (places : ℕ) → SheetList → List (List ℕ)
+sheet_pieces places v =
     member (codes "\"title\"") (string_text v.title) ∷ member (codes "\"seats\"") (decimal v.seats)
     ∷ member (codes "\"ballots\"") (decimal v.ballots) ∷ member (codes "\"candidates\"") (candidates_text v)
-    ∷ member (codes "\"iterations\"") (iterations_text v) ∷ []
+    ∷ member (codes "\"iterations\"") (iterations_text places v) ∷ []
 
 abbrev pub head_parts : SheetList → List (List ℕ)
 head_parts v =
@@ -139,61 +139,61 @@ head_parts v =
     ∷ decimal v.ballots
     ∷ codes ",\"candidates\":[" ∷ []
 
-abbrev pub sheet_text : SheetList → List ℕ
-sheet_text v = members (sheet_pieces v)
+abbrev pub sheet_text : (places : ℕ) → SheetList → List ℕ
+sheet_text places v = members (sheet_pieces places v)
 
 -- the text of a sheet, and bytes behind it
-written-onto : (v : SheetList) (more : List ℕ) →
-    members (sheet_pieces v) ++ more
-    ≡ onto (head_parts v) (closed (map (λ p. members (candidate_pieces v p)) (places (length v.names))) 93
+written-onto : (places : ℕ) (v : SheetList) (more : List ℕ) →
+    members (sheet_pieces places v) ++ more
+    ≡ onto (head_parts v) (closed (map (λ p. members (candidate_pieces v p)) (all_places (length v.names))) 93
     ++ (codes ",\"iterations\":["
-    ++ (closed (map (λ i. members (iteration_pieces v.seats (row_at v.rows i))) (places (length v.rows))) 93
+    ++ (closed (map (λ i. members (iteration_pieces places v.seats (row_at v.rows i))) (all_places (length v.rows))) 93
     ++ 125 ∷ more)))
-written-onto v more =
-    let candidates = closed (map (λ p. members (candidate_pieces v p)) (places (length v.names))) 93 in
-    let iterations = closed (map (λ i. members (iteration_pieces v.seats (row_at v.rows i))) (places (length v.rows))) 93 in
+written-onto places v more =
+    let candidates = closed (map (λ p. members (candidate_pieces v p)) (all_places (length v.names))) 93 in
+    let iterations = closed (map (λ i. members (iteration_pieces places v.seats (row_at v.rows i))) (all_places (length v.rows))) 93 in
     let behind = codes ",\"iterations\":[" ++ (iterations ++ 125 ∷ []) in
     onto-append (head_parts v) (candidates ++ behind) more
     ∙ ap (onto (head_parts v)) (append_assoc candidates behind more
     ∙ ap (λ (l : List ℕ). candidates ++ (codes ",\"iterations\":[" ++ l)) (append_assoc iterations (125 ∷ []) more))
 
-pub sheet-written : (v : SheetList) → json_of v ≡ sheet_text v ++ 10 ∷ []
-sheet-written v =
+pub sheet-written : (places : ℕ) (v : SheetList) → json_of places v ≡ sheet_text places v ++ 10 ∷ []
+sheet-written places v =
     let head = head_parts v in
-    let iterations = flat_map (iteration_at v) (places (length v.rows)) ++ (codes "]}" ++ 10 ∷ []) in
-    let candidates = closed (map (λ p. members (candidate_pieces v p)) (places (length v.names))) 93 in
-    joined-onto head (flat_map (candidate_json v) (places (length v.names)) ++ (codes "],\"iterations\":[" ++ iterations))
+    let iterations = flat_map (iteration_at places v) (all_places (length v.rows)) ++ (codes "]}" ++ 10 ∷ []) in
+    let candidates = closed (map (λ p. members (candidate_pieces v p)) (all_places (length v.names))) 93 in
+    joined-onto head (flat_map (candidate_json v) (all_places (length v.names)) ++ (codes "],\"iterations\":[" ++ iterations))
     ∙ ap (onto head) (list-written (candidate_json v) (λ p. members (candidate_pieces v p)) (candidate-written v)
     (codes ",\"iterations\":[" ++ iterations) (length v.names)
     ∙ ap (λ (l : List ℕ). candidates ++ (codes ",\"iterations\":[" ++ l))
-    (list-written (iteration_at v) (λ i. members (iteration_pieces v.seats (row_at v.rows i)))
-    (λ i. iteration-written v.seats i (row_at v.rows i)) (125 ∷ 10 ∷ []) (length v.rows)))
-    ∙ sym (written-onto v (10 ∷ []))
+    (list-written (iteration_at places v) (λ i. members (iteration_pieces places v.seats (row_at v.rows i)))
+    (λ i. iteration-written places v.seats i (row_at v.rows i)) (125 ∷ 10 ∷ []) (length v.rows)))
+    ∙ sym (written-onto places v (10 ∷ []))
 
 candidates-are :
-    (v : SheetList) → IsPrintable 9 v
-    → IsTextOf (array (map (candidate_value v) (places (length v.names)))) (candidates_text v)
-candidates-are v is = (
-  map (λ p. members (candidate_pieces v p)) (places (length v.names)),
+    (places : ℕ) (v : SheetList) → IsPrintable places v
+    → IsTextOf (array (map (candidate_value v) (all_places (length v.names)))) (candidates_text v)
+candidates-are places v is = (
+  map (λ p. members (candidate_pieces v p)) (all_places (length v.names)),
   refl,
   are-items (candidate_value v) (λ p. members (candidate_pieces v p)) (length v.names)
       (λ p below. candidate-is v p (omega (arith, is.candidates.1, below))),
 )
 
 iterations-are :
-    (v : SheetList) → IsPrintable 9 v
-    → IsTextOf (array (map (iteration_value_at v) (places (length v.rows)))) (iterations_text v)
-iterations-are v is = (
-  map (λ i. members (iteration_pieces v.seats (row_at v.rows i))) (places (length v.rows)),
+    (places : ℕ) (v : SheetList) → IsPrintable places v
+    → IsTextOf (array (map (iteration_value_at places v) (all_places (length v.rows)))) (iterations_text places v)
+iterations-are places v is = (
+  map (λ i. members (iteration_pieces places v.seats (row_at v.rows i))) (all_places (length v.rows)),
   refl,
-  are-items (iteration_value_at v) (λ i. members (iteration_pieces v.seats (row_at v.rows i))) (length v.rows)
-      (λ i below. iteration-is (length v.names) v.seats (row_at v.rows i) is.candidates.1 is.seats.1
-      (All-get_or (IsPrintableRow 9 (length v.names)) v.rows i (blank 0) below is.rows)),
+  are-items (iteration_value_at places v) (λ i. members (iteration_pieces places v.seats (row_at v.rows i))) (length v.rows)
+      (λ i below. iteration-is places (length v.names) v.seats (row_at v.rows i) is.candidates.1 is.seats.1
+      (All-get_or (IsPrintableRow places (length v.names)) v.rows i (blank 0) below is.rows)),
 )
 
-pub sheet-is : (v : SheetList) → IsPrintable 9 v → IsTextOf (sheet_value v) (sheet_text v)
-sheet-is v is = (
-  sheet_pieces v,
+pub sheet-is : (places : ℕ) (v : SheetList) → IsPrintable places v → IsTextOf (sheet_value places v) (sheet_text places v)
+sheet-is places v is = (
+  sheet_pieces places v,
   refl,
   (
     (codes "\"title\"", string_text v.title, refl, refl, said-text v.title),
@@ -202,8 +202,8 @@ sheet-is v is = (
       (
         (codes "\"ballots\"", decimal v.ballots, refl, refl, (omega (arith, is.ballots), refl)),
         (
-          (codes "\"candidates\"", candidates_text v, refl, refl, candidates-are v is),
-          ((codes "\"iterations\"", iterations_text v, refl, refl, iterations-are v is), refl),
+          (codes "\"candidates\"", candidates_text v, refl, refl, candidates-are places v is),
+          ((codes "\"iterations\"", iterations_text places v, refl, refl, iterations-are places v is), refl),
         ),
       ),
     ),

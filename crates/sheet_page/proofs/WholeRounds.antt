@@ -8,7 +8,7 @@ use Rattle.std.proofs.lemmas.Bool.Decides.{eqb_tells}
 use Rattle.meek_rule.specs.Row.{Row}
 use Rattle.sheet_minutes.specs.Rounds.{ends_round, row_at}
 use Rattle.sheet_page.specs.Stretches.{is_of_round}
-use Rattle.sheet_page.specs.Values.{places}
+use Rattle.sheet_page.specs.Values.{all_places}
 use Rattle.sheet_page.proofs.RoundPlaces.{is_of, is_before}
 
 -- ---- ranges
@@ -29,12 +29,12 @@ module _ {X : Type 0} where
       ∙ sym (append_assoc (f a) (flat_map f (range_with_len (a + 1) n)) (flat_map f (range_with_len (a + 1 + n) m)))
       ∙ ap (λ k. flat_map f (range_with_len a (suc n)) ++ flat_map f (range_with_len k m)) next
 
-  one_more : (f : ℕ → List X) (n : ℕ) → flat_map f (places (n + 1)) ≡ flat_map f (places n) ++ f n
+  one_more : (f : ℕ → List X) (n : ℕ) → flat_map f (all_places (n + 1)) ≡ flat_map f (all_places n) ++ f n
   one_more f n =
       let at : 0 + n ≡ n = omega arith in
       in_two f 0 n 1
-      ∙ ap (λ k. flat_map f (places n) ++ (f k ++ [])) at
-      ∙ ap (λ l. flat_map f (places n) ++ l) (append-nil (f n))
+      ∙ ap (λ k. flat_map f (all_places n) ++ (f k ++ [])) at
+      ∙ ap (λ l. flat_map f (all_places n) ++ l) (append-nil (f n))
 
   alike : (f g : ℕ → List X) (a n : ℕ) → ((i : ℕ) → a ≤ i → i < a + n → f i ≡ g i)
       → flat_map f (range_with_len a n) ≡ flat_map g (range_with_len a n)
@@ -54,7 +54,7 @@ module _ {X : Type 0} where
 module _ {X : Type 0} (rows : List Row) (f : ℕ → List X) where
   -- what the iterations of the round that ends at a place have
   abbrev pub of_round : (last : ℕ) → List X
-  of_round last = flat_map (λ i. if is_of_round rows last i then f i else []) (places (last + 1))
+  of_round last = flat_map (λ i. if is_of_round rows last i then f i else []) (all_places (last + 1))
 
   abbrev pub at_last : (i : ℕ) → List X
   at_last i = if ends_round rows i then of_round i else []
@@ -65,7 +65,7 @@ module _ {X : Type 0} (rows : List Row) (f : ℕ → List X) where
     before : start ≤ k
     open_from : (i : ℕ) → start ≤ i → i < k → ends_round rows i ≡ false
     begins : (i : ℕ) → i + 1 ≡ start → ends_round rows i ≡ true
-    said : flat_map at_last (places k) ≡ flat_map f (places start)
+    said : flat_map at_last (all_places k) ≡ flat_map f (all_places start)
 
   one_number :
       (i : ℕ) → i + 1 < length rows → ends_round rows i ≡ false
@@ -103,7 +103,7 @@ module _ {X : Type 0} (rows : List Row) (f : ℕ → List X) where
   whole : (start k : ℕ) → IsCut start k → k < length rows → of_round k ≡ flat_map f (range_with_len start (k + 1 - start))
   whole start k cut within =
       let all : k + 1 ≡ start + (k + 1 - start) = omega (arith, cut.before) in
-      ap (λ n. flat_map (λ i. if is_of_round rows k i then f i else []) (places n)) all
+      ap (λ n. flat_map (λ i. if is_of_round rows k i then f i else []) (all_places n)) all
       ∙ in_two (λ i. if is_of_round rows k i then f i else []) 0 start (k + 1 - start)
       ∙ ap (λ l. l ++ flat_map (λ i. if is_of_round rows k i then f i else []) (range_with_len (0 + start) (k + 1 - start)))
       (none_in (λ i. if is_of_round rows k i then f i else []) 0 start
@@ -137,9 +137,9 @@ module _ {X : Type 0} (rows : List Row) (f : ℕ → List X) where
             begins = λ i is. let e : i ≡ k = omega (arith, is) in ap (ends_round rows) e ∙ ends;
             said =
                 one_more at_last k
-                ∙ ap (λ b. flat_map at_last (places k) ++ (if b then of_round k else [])) ends
+                ∙ ap (λ b. flat_map at_last (all_places k) ++ (if b then of_round k else [])) ends
                 ∙ ap (λ l. l ++ of_round k) cut.said
-                ∙ ap (λ l. flat_map f (places start) ++ l) (whole start k cut within)
+                ∙ ap (λ l. flat_map f (all_places start) ++ l) (whole start k cut within)
                 ∙ joined;
           },
         )
@@ -154,20 +154,20 @@ module _ {X : Type 0} (rows : List Row) (f : ℕ → List X) where
             begins = cut.begins;
             said =
                 one_more at_last k
-                ∙ ap (λ b. flat_map at_last (places k) ++ (if b then of_round k else [])) goes_on
-                ∙ append-nil (flat_map at_last (places k))
+                ∙ ap (λ b. flat_map at_last (all_places k) ++ (if b then of_round k else [])) goes_on
+                ∙ append-nil (flat_map at_last (all_places k))
                 ∙ cut.said;
           },
         )
       ]
     where
-      joined : flat_map f (places start) ++ flat_map f (range_with_len start (k + 1 - start)) ≡ flat_map f (places (k + 1))
+      joined : flat_map f (all_places start) ++ flat_map f (range_with_len start (k + 1 - start)) ≡ flat_map f (all_places (k + 1))
       joined =
           let all : start + (k + 1 - start) ≡ k + 1 = omega (arith, cut.before) in
           let from : start ≡ 0 + start = omega arith in
-          ap (λ a. flat_map f (places start) ++ flat_map f (range_with_len a (k + 1 - start))) from
+          ap (λ a. flat_map f (all_places start) ++ flat_map f (range_with_len a (k + 1 - start))) from
           ∙ sym (in_two f 0 start (k + 1 - start))
-          ∙ ap (λ n. flat_map f (places n)) all
+          ∙ ap (λ n. flat_map f (all_places n)) all
 
   cuts : (k : ℕ) → k ≤ length rows → (start : ℕ) × IsCut start k
   cuts zero within = (
@@ -186,11 +186,11 @@ module _ {X : Type 0} (rows : List Row) (f : ℕ → List X) where
       (next.0, subst (λ n. IsCut next.0 n) same next.1)
 
   -- behind the last iteration every round has ended
-  pub all_rounds : flat_map at_last (places (length rows)) ≡ flat_map f (places (length rows))
+  pub all_rounds : flat_map at_last (all_places (length rows)) ≡ flat_map f (all_places (length rows))
   all_rounds =
       let last = cuts (length rows) (omega arith) in
       elim (eqb_tells last.0 (length rows)) [
-        | inl e ↦ last.1.said ∙ ap (λ n. flat_map f (places n)) e.1
+        | inl e ↦ last.1.said ∙ ap (λ n. flat_map f (all_places n)) e.1
         | inr e ↦ absurd (unended last.0 last.1 (omega (arith, last.1.before, e.1)))
       ]
     where

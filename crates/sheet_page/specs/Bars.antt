@@ -1,7 +1,7 @@
 -- Who has a bar in the picture of a round, and where.
 use Rattle.std.specs.Prelude.{ℕ, ◌-◌, ◌&&◌, ◌||◌, not, min, Bool, nat_eq, nat_lt, if◌then◌else◌, length, count_by, sum_by, slice_index}
 use Rattle.meek_rule.specs.Row.{Row}
-use Rattle.sheet_page.specs.Values.{places}
+use Rattle.sheet_page.specs.Values.{all_places}
 
 -- the most bars of a picture
 abbrev pub most_bars : ℕ
@@ -19,7 +19,7 @@ comes_before row p q =
 
 -- how many come before a candidate: so many bars stand above its own
 abbrev pub bars_before : Row → (p : ℕ) → ℕ
-bars_before row p = count_by (comes_before row p) (places (length row.votes))
+bars_before row p = count_by (comes_before row p) (all_places (length row.votes))
 
 -- Those who stand have a bar, but for those with the least votes where there are too many.
 abbrev pub has_bar : Row → (p : ℕ) → Bool
@@ -27,7 +27,7 @@ has_bar row p = stands row p && nat_lt (bars_before row p) most_bars
 
 -- how many stand, how many bars there are, and how many who stand have none
 abbrev pub standing_count : Row → ℕ
-standing_count row = count_by (stands row) (places (length row.votes))
+standing_count row = count_by (stands row) (all_places (length row.votes))
 
 abbrev pub bars_of : Row → ℕ
 bars_of row = min most_bars (standing_count row)
@@ -41,4 +41,4 @@ rest_vote row p = if stands row p && not (has_bar row p) then slice_index row.vo
 
 -- their votes together
 abbrev pub rest_votes : Row → ℕ
-rest_votes row = sum_by (rest_vote row) (places (length row.votes))
+rest_votes row = sum_by (rest_vote row) (all_places (length row.votes))

@@ -8,7 +8,7 @@ use Rattle.lot_order.specs.Flags.{mark_at}
 use Rattle.meek_rule.specs.Row.{Row}
 use Rattle.sheet_text.specs.Lines.{state_word}
 use Rattle.sheet_reader.specs.Values.{SheetList}
-use Rattle.sheet_page.specs.Values.{places, name_at, step_word, defeats}
+use Rattle.sheet_page.specs.Values.{all_places, name_at, step_word, defeats}
 
 abbrev pub yes_or_no : Bool → List ℕ
 yes_or_no true = codes "yes"
@@ -22,25 +22,25 @@ csv_head =
     ∷ codes "surplus" ∷ codes "step" ∷ []
 
 -- the candidate at a place in an iteration: its state and keep value before it, its vote in it, and what it decided
-abbrev pub csv_record : SheetList → Row → (p : ℕ) → List (List ℕ)
-csv_record v row p =
+abbrev pub csv_record : (places : ℕ) → SheetList → Row → (p : ℕ) → List (List ℕ)
+csv_record places v row p =
     decimal row.round ∷ decimal row.iteration ∷ decimal (p + 1) ∷ name_at v p ∷ state_word (state_at v.last p)
-    ∷ state_word (state_at row.states p) ∷ text_of 9 (slice_index row.keeps p) ∷ text_of 9 (slice_index row.votes p)
+    ∷ state_word (state_at row.states p) ∷ text_of places (slice_index row.keeps p) ∷ text_of places (slice_index row.votes p)
     ∷ yes_or_no (mark_at row.elected p) ∷ yes_or_no (mark_at row.capped p) ∷ yes_or_no (mark_at row.tied p)
-    ∷ yes_or_no (defeats row.step (p + 1)) ∷ text_of 9 row.total ∷ text_of 9 row.quota ∷ text_of 9 row.surplus
+    ∷ yes_or_no (defeats row.step (p + 1)) ∷ text_of places row.total ∷ text_of places row.quota ∷ text_of places row.surplus
     ∷ step_word row.step ∷ []
 
 -- the candidates of an iteration
-abbrev pub row_records : SheetList → Row → List (List (List ℕ))
-row_records v row = map (csv_record v row) (places (length v.names))
+abbrev pub row_records : (places : ℕ) → SheetList → Row → List (List (List ℕ))
+row_records places v row = map (csv_record places v row) (all_places (length v.names))
 
 -- the head, and a record for each candidate of each iteration
-abbrev pub csv_records : SheetList → List (List (List ℕ))
-csv_records v = csv_head ∷ flat_map (row_records v) v.rows
+abbrev pub csv_records : (places : ℕ) → SheetList → List (List (List ℕ))
+csv_records places v = csv_head ∷ flat_map (row_records places v) v.rows
 
-abbrev pub csv_of : SheetList → List ℕ
-csv_of v = csv_text (csv_records v)
+abbrev pub csv_of : (places : ℕ) → SheetList → List ℕ
+csv_of places v = csv_text (csv_records places v)
 
 -- the table behind a byte order mark, by which spreadsheets know that it is UTF-8
-abbrev pub marked_csv_of : SheetList → List ℕ
-marked_csv_of v = 0xEF ∷ 0xBB ∷ 0xBF ∷ csv_of v
+abbrev pub marked_csv_of : (places : ℕ) → SheetList → List ℕ
+marked_csv_of places v = 0xEF ∷ 0xBB ∷ 0xBF ∷ csv_of places v

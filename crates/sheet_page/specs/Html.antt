@@ -17,7 +17,7 @@ use Rattle.sheet_page.specs.RoundTable.{table_frame}
 use Rattle.sheet_page.specs.Style.{style}
 use Rattle.sheet_page.specs.Told.{result_part, round_sentences}
 use Rattle.sheet_page.specs.Trees.{all, candidate, each, el, void, words, at}
-use Rattle.sheet_page.specs.Values.{places, name_at}
+use Rattle.sheet_page.specs.Values.{all_places, name_at}
 
 -- ---- who is elected
 
@@ -35,7 +35,7 @@ elected_item v row p = if mark_at row.elected p then in_round (name_at v p) (p +
 
 -- who was elected in an iteration
 abbrev pub elected_in : SheetList → Row → Trees
-elected_in v row = each (elected_item v row) (places (length v.names))
+elected_in v row = each (elected_item v row) (all_places (length v.names))
 
 -- Some iteration elected the candidate at a place.
 abbrev pub was_elected : List Row → (p : ℕ) → Bool
@@ -50,7 +50,7 @@ seated_item v p = if is_seated v p then at_end (name_at v p) (p + 1) else Nothin
 
 -- the elected, in their order
 abbrev pub elected_list : SheetList → Trees
-elected_list v = el (codes "ol") [] (each (elected_in v) v.rows ∷ each (seated_item v) (places (length v.names)) ∷ [])
+elected_list v = el (codes "ol") [] (each (elected_in v) v.rows ∷ each (seated_item v) (all_places (length v.names)) ∷ [])
 
 abbrev pub elected_title : Trees
 elected_title = el (codes "h2") [] (words (codes "Elected") ∷ [])
@@ -79,8 +79,8 @@ words_explained =
     meaning (codes "In the iterations")
     (codes "each candidate by its number, with its vote; one of whom nothing else is said is hopeful and keeps 1. Who is defeated or withdrawn and has no vote is left out.") []))))
 
-abbrev pub rounds_part : SheetList → Trees
-rounds_part v = el (codes "section") [] (rounds_title ∷ table_frame v ∷ words_explained ∷ [])
+abbrev pub rounds_part : (places : ℕ) → SheetList → Trees
+rounds_part places v = el (codes "section") [] (rounds_title ∷ table_frame places v ∷ words_explained ∷ [])
 
 -- ---- each round
 
@@ -88,19 +88,19 @@ abbrev pub round_title : (round : ℕ) → Trees
 round_title round = el (codes "h2") [] (words (codes "Round ") ∷ words (decimal round) ∷ [])
 
 -- the part of the round that ends at a place
-abbrev pub round_part : SheetList → (full last : ℕ) → Trees
-round_part v full last =
+abbrev pub round_part : (places : ℕ) → SheetList → (full last : ℕ) → Trees
+round_part places v full last =
     el (codes "section") (part_attributes (part_name last)) (
-    round_title (row_at v.rows last).round ∷ round_sentences v last ∷ round_picture v full (settled_at v last)
-    ∷ folded v last ∷ []
+    round_title (row_at v.rows last).round ∷ round_sentences places v last ∷ round_picture places v full (settled_at v last)
+    ∷ folded places v last ∷ []
     )
 
 -- the part of a round, if it ends at this place
-abbrev pub part_at : SheetList → (full i : ℕ) → Trees
-part_at v full i = if ends_round v.rows i then round_part v full i else Nothing
+abbrev pub part_at : (places : ℕ) → SheetList → (full i : ℕ) → Trees
+part_at places v full i = if ends_round v.rows i then round_part places v full i else Nothing
 
-abbrev pub round_parts : SheetList → (full : ℕ) → Trees
-round_parts v full = each (part_at v full) (places (length v.rows))
+abbrev pub round_parts : (places : ℕ) → SheetList → (full : ℕ) → Trees
+round_parts places v full = each (part_at places v full) (all_places (length v.rows))
 
 -- ---- the page
 
@@ -115,14 +115,14 @@ heading v =
     )
 
 -- what a page is for
-abbrev pub content : SheetList → Trees
-content v =
+abbrev pub content : (places : ℕ) → SheetList → Trees
+content places v =
     el (codes "main") [] (
-    heading v ∷ links v ∷ elected_part v ∷ result_part v ∷ rounds_part v ∷ round_parts v (full_of v.rows) ∷ []
+    heading v ∷ links v ∷ elected_part v ∷ result_part v ∷ rounds_part places v ∷ round_parts places v (full_of v.rows) ∷ []
     )
 
-abbrev pub body : SheetList → Trees
-body v = el (codes "body") [] (content v ∷ [])
+abbrev pub body : (places : ℕ) → SheetList → Trees
+body places v = el (codes "body") [] (content places v ∷ [])
 
 -- the title for the window, and how the page looks
 abbrev pub window_title : List ℕ → Trees
@@ -139,9 +139,9 @@ head v =
     ∷ window_title v.title ∷ style_part ∷ []
     )
 
-abbrev pub page : SheetList → Trees
-page v = el (codes "html") (at (codes "lang") (codes "en") ∷ []) (head v ∷ body v ∷ [])
+abbrev pub page : (places : ℕ) → SheetList → Trees
+page places v = el (codes "html") (at (codes "lang") (codes "en") ∷ []) (head v ∷ body places v ∷ [])
 
 -- a page, in one line; 10 is the line feed that ends it
-abbrev pub html_of : SheetList → List ℕ
-html_of v = codes "<!DOCTYPE html>" ++ (printed (page v) ++ 10 ∷ [])
+abbrev pub html_of : (places : ℕ) → SheetList → List ℕ
+html_of places v = codes "<!DOCTYPE html>" ++ (printed (page places v) ++ 10 ∷ [])

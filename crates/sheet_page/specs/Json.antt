@@ -10,7 +10,7 @@ use Rattle.sheet_reader.specs.Values.{SheetList}
 use Rattle.sheet_minutes.specs.Rounds.{row_at}
 use Rattle.sheet_words.specs.Facts.{by_lots, last_seats}
 use Rattle.sheet_page.specs.JsonText.{string_text}
-use Rattle.sheet_page.specs.Values.{places, name_at, step_word, defeats}
+use Rattle.sheet_page.specs.Values.{all_places, name_at, step_word, defeats}
 
 -- parts one behind another
 abbrev pub joined : List (List ℕ) → List ℕ
@@ -26,8 +26,8 @@ comma_at zero = []
 comma_at (suc p) = 44 ∷ []
 
 -- amounts are strings, so that no reader rounds them
-abbrev pub amount : ℕ → List ℕ
-amount units = string_text (text_of 9 units)
+abbrev pub amount : (places : ℕ) → ℕ → List ℕ
+amount places units = string_text (text_of places units)
 
 -- a candidate of the roll, and what became of it
 abbrev pub candidate_json : SheetList → (p : ℕ) → List ℕ
@@ -38,11 +38,11 @@ candidate_json v p =
     )
 
 -- a candidate in an iteration: its state and keep value before it, and its vote in it
-abbrev pub vote_json : Row → (p : ℕ) → List ℕ
-vote_json row p =
+abbrev pub vote_json : (places : ℕ) → Row → (p : ℕ) → List ℕ
+vote_json places row p =
     joined (
     comma_at p ∷ codes "{\"number\":" ∷ decimal (p + 1) ∷ codes ",\"state\":" ∷ string_text (state_word (state_at row.states p))
-    ∷ codes ",\"keep\":" ∷ amount (slice_index row.keeps p) ∷ codes ",\"vote\":" ∷ amount (slice_index row.votes p) ∷ []
+    ∷ codes ",\"keep\":" ∷ amount places (slice_index row.keeps p) ∷ codes ",\"vote\":" ∷ amount places (slice_index row.votes p) ∷ []
     )
 
 -- what an iteration decided of a candidate
@@ -52,30 +52,30 @@ won_json elected capped = joined (codes ",\"elected\":" ∷ elected ∷ codes ",
 abbrev pub lost_json : (tied defeated : List ℕ) → List ℕ
 lost_json tied defeated = joined (codes ",\"tied\":" ∷ tied ∷ codes ",\"defeated\":" ∷ defeated ∷ codes "}" ∷ [])
 
-abbrev pub standing_json : Row → (p : ℕ) → List ℕ
-standing_json row p =
-    vote_json row p
+abbrev pub standing_json : (places : ℕ) → Row → (p : ℕ) → List ℕ
+standing_json places row p =
+    vote_json places row p
     ++ (won_json (truth (mark_at row.elected p)) (truth (mark_at row.capped p))
     ++ lost_json (truth (mark_at row.tied p)) (truth (defeats row.step (p + 1))))
 
 -- the numbers and amounts of an iteration, its step, and what its sentences say of lots and of the last seats
-abbrev pub amounts_json : (i : ℕ) → Row → (lots : List ℕ) → (seats : ℕ) → List ℕ
-amounts_json i row lots seats =
+abbrev pub amounts_json : (places i : ℕ) → Row → (lots : List ℕ) → (seats : ℕ) → List ℕ
+amounts_json places i row lots seats =
     joined (
     comma_at i ∷ codes "{\"round\":" ∷ decimal row.round ∷ codes ",\"iteration\":" ∷ decimal row.iteration
-    ∷ codes ",\"total\":" ∷ amount row.total ∷ codes ",\"quota\":" ∷ amount row.quota ∷ codes ",\"surplus\":" ∷ amount row.surplus
+    ∷ codes ",\"total\":" ∷ amount places row.total ∷ codes ",\"quota\":" ∷ amount places row.quota ∷ codes ",\"surplus\":" ∷ amount places row.surplus
     ∷ codes ",\"step\":" ∷ string_text (step_word row.step) ∷ codes ",\"by_lots\":" ∷ lots ∷ codes ",\"last_seats\":" ∷ decimal seats
     ∷ codes ",\"candidates\":[" ∷ []
     )
 
 -- an iteration of a count for so many seats
-abbrev pub iteration_json : (seats i : ℕ) → Row → List ℕ
-iteration_json seats i row =
-    amounts_json i row (truth (by_lots row)) (last_seats seats row)
-    ++ (flat_map (standing_json row) (places (length row.states)) ++ codes "]}")
+abbrev pub iteration_json : (places seats i : ℕ) → Row → List ℕ
+iteration_json places seats i row =
+    amounts_json places i row (truth (by_lots row)) (last_seats seats row)
+    ++ (flat_map (standing_json places row) (all_places (length row.states)) ++ codes "]}")
 
-abbrev pub iteration_at : SheetList → (i : ℕ) → List ℕ
-iteration_at v i = iteration_json v.seats i (row_at v.rows i)
+abbrev pub iteration_at : (places : ℕ) → SheetList → (i : ℕ) → List ℕ
+iteration_at places v i = iteration_json places v.seats i (row_at v.rows i)
 
 -- the title, and the numbers of seats and ballots
 abbrev pub head_json : SheetList → List ℕ
@@ -85,9 +85,9 @@ head_json v =
     ∷ codes ",\"candidates\":[" ∷ []
     )
 
-abbrev pub json_of : SheetList → List ℕ
-json_of v =
+abbrev pub json_of : (places : ℕ) → SheetList → List ℕ
+json_of places v =
     head_json v
-    ++ (flat_map (candidate_json v) (places (length v.names))
+    ++ (flat_map (candidate_json v) (all_places (length v.names))
     ++ (codes "],\"iterations\":["
-    ++ (flat_map (iteration_at v) (places (length v.rows)) ++ (codes "]}" ++ 10 ∷ []))))
+    ++ (flat_map (iteration_at places v) (all_places (length v.rows)) ++ (codes "]}" ++ 10 ∷ []))))

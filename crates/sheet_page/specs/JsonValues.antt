@@ -10,7 +10,7 @@ use Rattle.sheet_reader.specs.Values.{SheetList}
 use Rattle.sheet_minutes.specs.Rounds.{row_at}
 use Rattle.sheet_words.specs.Facts.{by_lots, last_seats}
 use Rattle.sheet_page.specs.JsonGrammar.{Json, Items, Members, Text, Whole, Truth, Array, Object, NoItem, Item, NoMember, Member}
-use Rattle.sheet_page.specs.Values.{places, name_at, step_word, defeats}
+use Rattle.sheet_page.specs.Values.{all_places, name_at, step_word, defeats}
 
 abbrev pub items_of : List Json → Items
 items_of [] = NoItem
@@ -30,8 +30,8 @@ object members = Object (members_of members)
 abbrev pub said : (text : List ℕ) → Json
 said text = Text (readable text)
 
-abbrev pub said_amount : (units : ℕ) → Json
-said_amount units = said (text_of 9 units)
+abbrev pub said_amount : (places units : ℕ) → Json
+said_amount places units = said (text_of places units)
 
 -- a candidate of the roll, and what became of it
 abbrev pub candidate_value : SheetList → (p : ℕ) → Json
@@ -41,34 +41,34 @@ candidate_value v p =
     )
 
 -- a candidate in an iteration: its state and keep value before it, its vote in it, and what the iteration decided of it
-abbrev pub standing_value : Row → (p : ℕ) → Json
-standing_value row p =
+abbrev pub standing_value : (places : ℕ) → Row → (p : ℕ) → Json
+standing_value places row p =
     object (
     (codes "number", Whole (p + 1)) ∷ (codes "state", said (state_word (state_at row.states p)))
-    ∷ (codes "keep", said_amount (slice_index row.keeps p)) ∷ (codes "vote", said_amount (slice_index row.votes p))
+    ∷ (codes "keep", said_amount places (slice_index row.keeps p)) ∷ (codes "vote", said_amount places (slice_index row.votes p))
     ∷ (codes "elected", Truth (mark_at row.elected p)) ∷ (codes "capped", Truth (mark_at row.capped p))
     ∷ (codes "tied", Truth (mark_at row.tied p)) ∷ (codes "defeated", Truth (defeats row.step (p + 1))) ∷ []
     )
 
 -- an iteration of a count for so many seats; whether the lots decided in it, and how many seats were left where more had the quota
-abbrev pub iteration_value : (seats : ℕ) → Row → Json
-iteration_value seats row =
+abbrev pub iteration_value : (places seats : ℕ) → Row → Json
+iteration_value places seats row =
     object (
-    (codes "round", Whole row.round) ∷ (codes "iteration", Whole row.iteration) ∷ (codes "total", said_amount row.total)
-    ∷ (codes "quota", said_amount row.quota) ∷ (codes "surplus", said_amount row.surplus) ∷ (codes "step", said (step_word row.step))
+    (codes "round", Whole row.round) ∷ (codes "iteration", Whole row.iteration) ∷ (codes "total", said_amount places row.total)
+    ∷ (codes "quota", said_amount places row.quota) ∷ (codes "surplus", said_amount places row.surplus) ∷ (codes "step", said (step_word row.step))
     ∷ (codes "by_lots", Truth (by_lots row)) ∷ (codes "last_seats", Whole (last_seats seats row))
-    ∷ (codes "candidates", array (map (standing_value row) (places (length row.states)))) ∷ []
+    ∷ (codes "candidates", array (map (standing_value places row) (all_places (length row.states)))) ∷ []
     )
 
 -- the iteration at a place
-abbrev pub iteration_value_at : SheetList → (i : ℕ) → Json
-iteration_value_at v i = iteration_value v.seats (row_at v.rows i)
+abbrev pub iteration_value_at : (places : ℕ) → SheetList → (i : ℕ) → Json
+iteration_value_at places v i = iteration_value places v.seats (row_at v.rows i)
 
 -- the whole sheet
-abbrev pub sheet_value : SheetList → Json
-sheet_value v =
+abbrev pub sheet_value : (places : ℕ) → SheetList → Json
+sheet_value places v =
     object (
     (codes "title", said v.title) ∷ (codes "seats", Whole v.seats) ∷ (codes "ballots", Whole v.ballots)
-    ∷ (codes "candidates", array (map (candidate_value v) (places (length v.names))))
-    ∷ (codes "iterations", array (map (iteration_value_at v) (places (length v.rows)))) ∷ []
+    ∷ (codes "candidates", array (map (candidate_value v) (all_places (length v.names))))
+    ∷ (codes "iterations", array (map (iteration_value_at places v) (all_places (length v.rows)))) ∷ []
     )

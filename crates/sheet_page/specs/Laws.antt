@@ -19,7 +19,7 @@ use Rattle.sheet_page.specs.Stretches.{is_of_round}
 
 -- elements nest, and each is closed
 abbrev pub PagesNest : Type 0
-PagesNest = (v : SheetList) → nests (Some []) None (printed (page v)) ≡ true
+PagesNest = (places : ℕ) (v : SheetList) → nests (Some []) None (printed (page places v)) ≡ true
 
 -- ---- the iterations of a round
 
@@ -37,7 +37,7 @@ RisingRoundsAreWhole =
 
 -- Who reads the table of a sheet has its records: the head, and one for each candidate of each iteration.
 abbrev pub TablesAreReadBack : Type 0
-TablesAreReadBack = (v : SheetList) → read [] (Outside []) (csv_of v) ≡ csv_records v
+TablesAreReadBack = (places : ℕ) (v : SheetList) → read [] (Outside []) (csv_of places v) ≡ csv_records places v
 
 -- Two sheets are alike but for title, seats and ballots. Where there is no iteration, who stands and what became of them may differ too.
 pub record HaveOneTable (v w : SheetList) : Type 0 where
@@ -47,7 +47,7 @@ pub record HaveOneTable (v w : SheetList) : Type 0 where
 -- A table says every iteration whole, and where there is one the names and the last states; and nothing else.
 abbrev pub TablesSayTheirSheets : Type 0
 TablesSayTheirSheets =
-    (v w : SheetList) → IsPrintable 9 v → IsPrintable 9 w → (csv_of v ≡ csv_of w) ↔ HaveOneTable v w
+    (places : ℕ) (v w : SheetList) → IsPrintable places v → IsPrintable places w → (csv_of places v ≡ csv_of places w) ↔ HaveOneTable v w
 
 -- ---- JSON
 
@@ -59,7 +59,7 @@ StringsAreReadBack = (text rest : List ℕ) → read_string (string_text text ++
 -- What is written of a sheet is a text of JSON in one line: by the grammar of JSON it is a text of just what the sheet says. 10 is the line feed.
 abbrev pub SheetsAreJson : Type 0
 SheetsAreJson =
-    (v : SheetList) → IsPrintable 9 v → (text : List ℕ) × (json_of v ≡ text ++ 10 ∷ []) × IsTextOf (sheet_value v) text
+    (places : ℕ) (v : SheetList) → IsPrintable places v → (text : List ℕ) × (json_of places v ≡ text ++ 10 ∷ []) × IsTextOf (sheet_value places v) text
 
 -- A text of JSON says one thing, so who reads it by the grammar has just what it says.
 abbrev pub TextsSayOneThing : Type 0
@@ -76,4 +76,4 @@ pub record HaveOneJson (v w : SheetList) : Type 0 where
 
 -- JSON says a sheet whole: no two sheets have one text of JSON, but where only bytes that are no UTF-8 differ.
 abbrev pub JsonSaysItsSheet : Type 0
-JsonSaysItsSheet = (v w : SheetList) → IsPrintable 9 v → IsPrintable 9 w → (json_of v ≡ json_of w) ↔ HaveOneJson v w
+JsonSaysItsSheet = (places : ℕ) (v w : SheetList) → IsPrintable places v → IsPrintable places w → (json_of places v ≡ json_of places w) ↔ HaveOneJson v w

@@ -24,5 +24,6 @@ pub mod Laws
 pub mod PageReading
 pub mod PageLaws
 pub mod SentenceLaws
+pub mod Inputs
 pub mod Owed
 pub mod Worked

@@ -4,7 +4,7 @@ use Rattle.page_tree.specs.Trees.{Attribute, Trees, Nothing}
 use Rattle.sheet_reader.specs.Values.{SheetList}
 use Rattle.sheet_minutes.specs.Rounds.{ends_round, row_at}
 use Rattle.sheet_page.specs.Trees.{each, el, words, at}
-use Rattle.sheet_page.specs.Values.{places}
+use Rattle.sheet_page.specs.Values.{all_places}
 
 -- the name of the part of the round that ends at a place: no two parts have one name, though two rounds may have one number
 abbrev pub part_name : (last : ℕ) → List ℕ
@@ -28,7 +28,7 @@ abbrev pub link_at : SheetList → (i : ℕ) → Trees
 link_at v i = if ends_round v.rows i then round_link (link_to i) (row_at v.rows i).round else Nothing
 
 abbrev pub link_list : SheetList → Trees
-link_list v = el (codes "ul") [] (each (link_at v) (places (length v.rows)) ∷ [])
+link_list v = el (codes "ul") [] (each (link_at v) (all_places (length v.rows)) ∷ [])
 
 abbrev pub links : SheetList → Trees
 links v = el (codes "nav") (at (codes "aria-label") (codes "Rounds") ∷ []) (link_list v ∷ [])

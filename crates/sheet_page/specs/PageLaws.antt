@@ -18,7 +18,7 @@ use Rattle.sheet_page.specs.Iterations.{concerns, keep_note, state_note}
 use Rattle.sheet_page.specs.Json.{joined}
 use Rattle.sheet_page.specs.PageReading.{along, children, texts_along}
 use Rattle.sheet_page.specs.RoundEnds.{settled}
-use Rattle.sheet_page.specs.Values.{places, name_at, step_word}
+use Rattle.sheet_page.specs.Values.{all_places, name_at, step_word}
 
 -- a path below the parts of a page
 abbrev pub below : (path : List (List ℕ)) → List (List ℕ)
@@ -38,20 +38,20 @@ seated_line v p = joined (called_text v p ∷ codes ": elected at the end, to a 
 
 -- a line for each candidate that an iteration marks as elected, in the order of their numbers
 abbrev pub marked_lines : SheetList → Row → List (List ℕ)
-marked_lines v row = map (elected_line v row.round) (filter (mark_at row.elected) (places (length v.names)))
+marked_lines v row = map (elected_line v row.round) (filter (mark_at row.elected) (all_places (length v.names)))
 
 -- The list of a page has an item for each mark of each iteration, and for each candidate that is elected in the end and was
 -- in no iteration; and no other.
-pub record ListsItsElected (v : SheetList) : Type 0 where
+pub record ListsItsElected (places : ℕ) (v : SheetList) : Type 0 where
   pub items :
-      texts_along (below (codes "ol" ∷ codes "li" ∷ [])) (page v)
-      ≡ flat_map (marked_lines v) v.rows ++ map (seated_line v) (filter (is_seated v) (places (length v.names)))
+      texts_along (below (codes "ol" ∷ codes "li" ∷ [])) (page places v)
+      ≡ flat_map (marked_lines v) v.rows ++ map (seated_line v) (filter (is_seated v) (all_places (length v.names)))
   pub seated :
       (p : ℕ) → (is_seated v p ≡ true)
       ↔ ((state_at v.last p ≡ Elected) × ((i : ℕ) → i < length v.rows → mark_at (row_at v.rows i).elected p ≡ false))
 
 abbrev pub PagesListTheirElected : Type 0
-PagesListTheirElected = (v : SheetList) → ListsItsElected v
+PagesListTheirElected = (places : ℕ) (v : SheetList) → ListsItsElected places v
 
 -- ---- rounds
 
@@ -68,116 +68,116 @@ abbrev pub ends_of : SheetList → List Row
 ends_of v = round_ends v.rows v.last
 
 -- a candidate's vote and state
-abbrev pub vote_text : Row → (p : ℕ) → List ℕ
-vote_text row p = text_of 9 (slice_index row.votes p) ++ (codes " " ++ state_word (state_at row.states p))
+abbrev pub vote_text : (places : ℕ) → Row → (p : ℕ) → List ℕ
+vote_text places row p = text_of places (slice_index row.votes p) ++ (codes " " ++ state_word (state_at row.states p))
 
 -- the cells of a candidate: its vote and state at the end of each round
-abbrev pub line_texts : SheetList → (p : ℕ) → List (List ℕ)
-line_texts v p = map (λ row. vote_text row p) (ends_of v)
+abbrev pub line_texts : (places : ℕ) → SheetList → (p : ℕ) → List (List ℕ)
+line_texts places v p = map (λ row. vote_text places row p) (ends_of v)
 
 -- what the cells of this name say, in each line below the head of the table of rounds
-abbrev pub cells_of : (name : List ℕ) → SheetList → List (List (List ℕ))
-cells_of name v =
-    map (texts_along (name ∷ [])) (along (below (codes "div" ∷ codes "table" ∷ codes "tbody" ∷ codes "tr" ∷ [])) (page v))
+abbrev pub cells_of : (places : ℕ) (name : List ℕ) → SheetList → List (List (List ℕ))
+cells_of places name v =
+    map (texts_along (name ∷ [])) (along (below (codes "div" ∷ codes "table" ∷ codes "tbody" ∷ codes "tr" ∷ [])) (page places v))
 
 -- what stands over a candidate's bar: its state, vote, name and number
-abbrev pub label_text : SheetList → Row → (p : ℕ) → List ℕ
-label_text v row p =
+abbrev pub label_text : (places : ℕ) → SheetList → Row → (p : ℕ) → List ℕ
+label_text places v row p =
     joined (
-    state_word (state_at row.states p) ∷ codes " " ∷ text_of 9 (slice_index row.votes p) ∷ codes " " ∷ called_text v p ∷ []
+    state_word (state_at row.states p) ∷ codes " " ∷ text_of places (slice_index row.votes p) ∷ codes " " ∷ called_text v p ∷ []
     )
 
 -- what is said of those who stand and have no bar, if there are any
-abbrev pub rest_line : Row → List ℕ
-rest_line row =
+abbrev pub rest_line : (places : ℕ) → Row → List ℕ
+rest_line places row =
     if nat_eq (rest_count row) 0 then [] else
     joined (
     codes " With fewer votes and without a bar: " ∷ decimal (rest_count row) ∷ codes ". Their votes together: "
-    ∷ text_of 9 (rest_votes row) ∷ codes "." ∷ []
+    ∷ text_of places (rest_votes row) ∷ codes "." ∷ []
     )
 
 -- what is said of the amounts of a round
-abbrev pub amounts_line : SheetList → Row → List ℕ
-amounts_line v row =
+abbrev pub amounts_line : (places : ℕ) → SheetList → Row → List ℕ
+amounts_line places v row =
     joined (
-    codes "Quota " ∷ text_of 9 row.quota ∷ codes ": the broken line. On no candidate: "
-    ∷ text_of 9 (left_over v.ballots row) ∷ codes "." ∷ rest_line row ∷ []
+    codes "Quota " ∷ text_of places row.quota ∷ codes ": the broken line. On no candidate: "
+    ∷ text_of places (left_over places v.ballots row) ∷ codes "." ∷ rest_line places row ∷ []
     )
 
 -- A page has a part with a title for each round, with a label for each candidate who has a bar and its iterations within the part; and the
 -- table has a column for each round below its number, and a line for the quota, for what is on no candidate, and for each
 -- candidate; and there is a link to each round. All stand in the order of the rounds, and there is no other.
-pub record HasItsRounds (v : SheetList) : Type 0 where
+pub record HasItsRounds (places : ℕ) (v : SheetList) : Type 0 where
   pub links :
-      texts_along (codes "html" ∷ codes "body" ∷ codes "main" ∷ codes "nav" ∷ codes "ul" ∷ codes "li" ∷ []) (page v)
+      texts_along (codes "html" ∷ codes "body" ∷ codes "main" ∷ codes "nav" ∷ codes "ul" ∷ codes "li" ∷ []) (page places v)
       ≡ map (λ row. codes "Round " ++ decimal row.round) (ends_of v)
   pub titles :
-      texts_along (below (codes "h2" ∷ [])) (page v)
+      texts_along (below (codes "h2" ∷ [])) (page places v)
       ≡ codes "Elected" ∷ codes "Result" ∷ codes "Votes at the end of each round"
       ∷ map (λ row. codes "Round " ++ decimal row.round) (ends_of v)
   pub folded :
-      texts_along (below (codes "details" ∷ codes "summary" ∷ [])) (page v)
+      texts_along (below (codes "details" ∷ codes "summary" ∷ [])) (page places v)
       ≡ map (λ row. codes "Iterations of round " ++ decimal row.round) (ends_of v)
   pub labels :
-      texts_along (below (codes "svg" ∷ codes "text" ∷ [])) (page v)
-      ≡ flat_map (λ row. map (label_text v row) (filter (has_bar row) (places (length v.names)))) (ends_of v)
-  pub amounts : texts_along (below (codes "p" ∷ [])) (page v) ≡ map (amounts_line v) (ends_of v)
+      texts_along (below (codes "svg" ∷ codes "text" ∷ [])) (page places v)
+      ≡ flat_map (λ row. map (label_text places v row) (filter (has_bar row) (all_places (length v.names)))) (ends_of v)
+  pub amounts : texts_along (below (codes "p" ∷ [])) (page places v) ≡ map (amounts_line places v) (ends_of v)
   pub columns :
-      texts_along (below (codes "div" ∷ codes "table" ∷ codes "thead" ∷ codes "tr" ∷ codes "th" ∷ [])) (page v)
+      texts_along (below (codes "div" ∷ codes "table" ∷ codes "thead" ∷ codes "tr" ∷ codes "th" ∷ [])) (page places v)
       ≡ codes "Candidate" ∷ map (λ row. decimal row.round) (ends_of v)
   pub heads :
-      cells_of (codes "th") v
+      cells_of places (codes "th") v
       ≡ (codes "Quota" ∷ []) ∷ (codes "On no candidate" ∷ [])
-      ∷ map (λ p. called_text v p ∷ []) (places (length v.names))
+      ∷ map (λ p. called_text v p ∷ []) (all_places (length v.names))
   pub cells :
-      cells_of (codes "td") v
-      ≡ map (λ row. text_of 9 row.quota) (ends_of v) ∷ map (λ row. text_of 9 (left_over v.ballots row)) (ends_of v)
-      ∷ map (line_texts v) (places (length v.names))
+      cells_of places (codes "td") v
+      ≡ map (λ row. text_of places row.quota) (ends_of v) ∷ map (λ row. text_of places (left_over places v.ballots row)) (ends_of v)
+      ∷ map (line_texts places v) (all_places (length v.names))
 
 abbrev pub PagesHaveTheirRounds : Type 0
-PagesHaveTheirRounds = (v : SheetList) → HasItsRounds v
+PagesHaveTheirRounds = (places : ℕ) (v : SheetList) → HasItsRounds places v
 
 -- ---- iterations
 
 -- the number and the amounts of an iteration, and its step
-abbrev pub iteration_text : Row → List ℕ
-iteration_text row =
+abbrev pub iteration_text : (places : ℕ) → Row → List ℕ
+iteration_text places row =
     joined (
-    codes "Iteration " ∷ decimal row.iteration ∷ codes ": total " ∷ text_of 9 row.total ∷ codes ", quota " ∷ text_of 9 row.quota
-    ∷ codes ", surplus " ∷ text_of 9 row.surplus ∷ codes ", step " ∷ step_word row.step ∷ []
+    codes "Iteration " ∷ decimal row.iteration ∷ codes ": total " ∷ text_of places row.total ∷ codes ", quota " ∷ text_of places row.quota
+    ∷ codes ", surplus " ∷ text_of places row.surplus ∷ codes ", step " ∷ step_word row.step ∷ []
     )
 
 -- a candidate's number, its state and keep value before an iteration, and its vote in it
-abbrev pub standing_text : Row → (p : ℕ) → List ℕ
-standing_text row p =
+abbrev pub standing_text : (places : ℕ) → Row → (p : ℕ) → List ℕ
+standing_text places row p =
     joined (
-    decimal (p + 1) ∷ state_note (state_at row.states p) ∷ keep_note (slice_index row.keeps p) ∷ codes ": "
-    ∷ text_of 9 (slice_index row.votes p) ∷ []
+    decimal (p + 1) ∷ state_note (state_at row.states p) ∷ keep_note places (slice_index row.keeps p) ∷ codes ": "
+    ∷ text_of places (slice_index row.votes p) ∷ []
     )
 
 -- what the elements of this name say, in each iteration that a page has in its parts
-abbrev pub iterations_of : (name : List ℕ) → SheetList → List (List (List ℕ))
-iterations_of name v = map (texts_along (name ∷ [])) (along (below (codes "details" ∷ codes "dl" ∷ [])) (page v))
+abbrev pub iterations_of : (places : ℕ) (name : List ℕ) → SheetList → List (List (List ℕ))
+iterations_of places name v = map (texts_along (name ∷ [])) (along (below (codes "details" ∷ codes "dl" ∷ [])) (page places v))
 
 -- The parts of a page together have each iteration of the sheet once, in their order: its amounts, and below them, by rising
 -- numbers, each candidate that it concerns. Whoever has a vote or keeps anything is among them.
-pub record HasItsIterations (v : SheetList) : Type 0 where
-  pub heads : iterations_of (codes "dt") v ≡ map (λ row. iteration_text row ∷ []) v.rows
+pub record HasItsIterations (places : ℕ) (v : SheetList) : Type 0 where
+  pub heads : iterations_of places (codes "dt") v ≡ map (λ row. iteration_text places row ∷ []) v.rows
   pub candidates :
-      iterations_of (codes "dd") v
-      ≡ map (λ row. map (standing_text row) (filter (concerns row) (places (length v.names)))) v.rows
+      iterations_of places (codes "dd") v
+      ≡ map (λ row. map (standing_text places row) (filter (concerns row) (all_places (length v.names)))) v.rows
   pub left_out :
       (row : Row) (p : ℕ)
       → concerns row p ≡ false → (slice_index row.votes p ≡ 0) × (slice_index row.keeps p ≡ 0)
 
 abbrev pub PagesHaveTheirIterations : Type 0
-PagesHaveTheirIterations = (v : SheetList) → HasItsIterations v
+PagesHaveTheirIterations = (places : ℕ) (v : SheetList) → HasItsIterations places v
 
 -- ---- pictures
 
 -- what stands within each picture of a page
-abbrev pub pictures_of : SheetList → List Trees
-pictures_of v = along (below (codes "svg" ∷ [])) (page v)
+abbrev pub pictures_of : (places : ℕ) → SheetList → List Trees
+pictures_of places v = along (below (codes "svg" ∷ [])) (page places v)
 
 -- how many bars stand in a picture
 abbrev pub bar_count : (picture : Trees) → ℕ
@@ -185,4 +185,4 @@ bar_count picture = length (children (codes "rect") picture)
 
 -- No picture of a sheet's page has more than 24 bars, whoever stands and with what votes.
 abbrev pub PicturesAreSmall : Type 0
-PicturesAreSmall = (v : SheetList) → IsPrintable 9 v → All (λ picture. bar_count picture ≤ 24) (pictures_of v)
+PicturesAreSmall = (places : ℕ) (v : SheetList) → IsPrintable places v → All (λ picture. bar_count picture ≤ 24) (pictures_of places v)

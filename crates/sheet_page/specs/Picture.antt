@@ -9,7 +9,7 @@ use Rattle.sheet_reader.specs.Values.{SheetList}
 use Rattle.sheet_minutes.specs.Rounds.{left_over}
 use Rattle.sheet_page.specs.Bars.{bars_before, bars_of, has_bar, rest_count, rest_votes}
 use Rattle.sheet_page.specs.Trees.{all, each, el, words, at}
-use Rattle.sheet_page.specs.Values.{places, name_at}
+use Rattle.sheet_page.specs.Values.{all_places, name_at}
 
 -- the greatest of some amounts
 abbrev pub greatest : List ℕ → ℕ
@@ -34,10 +34,10 @@ scaled full x = if nat_eq full 0 then 0 else min width (x * width / full)
 abbrev pub name_within : (name : List ℕ) → Trees
 name_within name = el (codes "tspan") [] (words name ∷ [])
 
-abbrev pub label : (y : ℕ) → (name : List ℕ) → (number : ℕ) → (state : List ℕ) → (vote : ℕ) → Trees
-label y name number state vote =
+abbrev pub label : (places y : ℕ) → (name : List ℕ) → (number : ℕ) → (state : List ℕ) → (vote : ℕ) → Trees
+label places y name number state vote =
     el (codes "text") (at (codes "class") state ∷ at (codes "y") (decimal y) ∷ []) (
-    words state ∷ words (codes " ") ∷ words (text_of 9 vote) ∷ words (codes " ") ∷ name_within name
+    words state ∷ words (codes " ") ∷ words (text_of places vote) ∷ words (codes " ") ∷ name_within name
     ∷ words (codes " (") ∷ words (decimal number) ∷ words (codes ")") ∷ []
     )
 
@@ -49,18 +49,18 @@ rectangle y length state =
     ) []
 
 -- a candidate's vote at the end of a round, and what it is behind it
-abbrev pub label_at : SheetList → Row → (p : ℕ) → Trees
-label_at v row p = label (bars_before row p * 36 + 16) (name_at v p) (p + 1) (state_word (state_at row.states p)) (slice_index row.votes p)
+abbrev pub label_at : (places : ℕ) → SheetList → Row → (p : ℕ) → Trees
+label_at places v row p = label places (bars_before row p * 36 + 16) (name_at v p) (p + 1) (state_word (state_at row.states p)) (slice_index row.votes p)
 
 abbrev pub rectangle_at : (full : ℕ) → Row → (p : ℕ) → Trees
 rectangle_at full row p = rectangle (bars_before row p * 36 + 21) (scaled full (slice_index row.votes p)) (state_word (state_at row.states p))
 
-abbrev pub bar : SheetList → (full : ℕ) → Row → (p : ℕ) → Trees
-bar v full row p = all (label_at v row p ∷ rectangle_at full row p ∷ [])
+abbrev pub bar : (places : ℕ) → SheetList → (full : ℕ) → Row → (p : ℕ) → Trees
+bar places v full row p = all (label_at places v row p ∷ rectangle_at full row p ∷ [])
 
 -- the bar of a candidate, if it has one
-abbrev pub bar_at : SheetList → (full : ℕ) → Row → (p : ℕ) → Trees
-bar_at v full row p = if has_bar row p then bar v full row p else Nothing
+abbrev pub bar_at : (places : ℕ) → SheetList → (full : ℕ) → Row → (p : ℕ) → Trees
+bar_at places v full row p = if has_bar row p then bar places v full row p else Nothing
 
 -- ---- the whole picture
 
@@ -92,21 +92,21 @@ attributes_of view = at (codes "role") (codes "img") ∷ at (codes "viewBox") vi
 abbrev pub picture_attributes : (bars : ℕ) → List Attribute
 picture_attributes bars = attributes_of (view_box bars)
 
-abbrev pub picture : SheetList → (full : ℕ) → Row → Trees
-picture v full row =
+abbrev pub picture : (places : ℕ) → SheetList → (full : ℕ) → Row → Trees
+picture places v full row =
     el (codes "svg") (picture_attributes (bars_of row)) (
-    picture_title row.round ∷ each (bar_at v full row) (places (length v.names))
+    picture_title row.round ∷ each (bar_at places v full row) (all_places (length v.names))
     ∷ quota_line (scaled full row.quota) (bars_of row) ∷ []
     )
 
 -- ---- what is said of the amounts of a round
 
 -- the quota, and what is left on no candidate
-abbrev pub amounts_text : (quota left : ℕ) → Trees
-amounts_text quota left =
+abbrev pub amounts_text : (places quota left : ℕ) → Trees
+amounts_text places quota left =
     all (
-    words (codes "Quota ") ∷ words (text_of 9 quota) ∷ words (codes ": the broken line. On no candidate: ")
-    ∷ words (text_of 9 left) ∷ words (codes ".") ∷ []
+    words (codes "Quota ") ∷ words (text_of places quota) ∷ words (codes ": the broken line. On no candidate: ")
+    ∷ words (text_of places left) ∷ words (codes ".") ∷ []
     )
 
 -- how many stand and have no bar, and their votes together
@@ -118,11 +118,11 @@ rest_text count votes =
     )
 
 -- of these, if there are any
-abbrev pub rest_part : Row → Trees
-rest_part row = if nat_eq (rest_count row) 0 then Nothing else rest_text (rest_count row) (text_of 9 (rest_votes row))
+abbrev pub rest_part : (places : ℕ) → Row → Trees
+rest_part places row = if nat_eq (rest_count row) 0 then Nothing else rest_text (rest_count row) (text_of places (rest_votes row))
 
-abbrev pub amounts_of : (ballots : ℕ) → Row → Trees
-amounts_of ballots row = el (codes "p") [] (amounts_text row.quota (left_over ballots row) ∷ rest_part row ∷ [])
+abbrev pub amounts_of : (places ballots : ℕ) → Row → Trees
+amounts_of places ballots row = el (codes "p") [] (amounts_text places row.quota (left_over places ballots row) ∷ rest_part places row ∷ [])
 
-abbrev pub round_picture : SheetList → (full : ℕ) → Row → Trees
-round_picture v full row = all (amounts_of v.ballots row ∷ picture v full row ∷ [])
+abbrev pub round_picture : (places : ℕ) → SheetList → (full : ℕ) → Row → Trees
+round_picture places v full row = all (amounts_of places v.ballots row ∷ picture places v full row ∷ [])

@@ -6,13 +6,13 @@ use Rattle.sheet_page.specs.declared.piece.Piece.TheVariants.{Raw, Number, Quote
 use Rattle.sheet_page.specs.Cells.{cell_text}
 use Rattle.sheet_page.specs.JsonText.{string_text}
 
-abbrev pub piece_text : Piece → List ℕ
-piece_text (Raw bytes) = bytes.now
-piece_text (Number n) = decimal n
-piece_text (Quoted cell) = string_text (cell_text cell)
-piece_text (Start name) = opening name.now []
-piece_text (End name) = closing name.now
-piece_text (Text cell) = shown (cell_text cell)
-piece_text (Begin name) = 60 ∷ name.now
-piece_text (With name cell) = attribute_text (record { name = name.now; value = cell_text cell })
-piece_text Within = 62 ∷ []
+abbrev pub piece_text : (places : ℕ) → Piece places → List ℕ
+piece_text places (Raw bytes) = bytes.now
+piece_text places (Number n) = decimal n
+piece_text places (Quoted cell) = string_text (cell_text places cell)
+piece_text places (Start name) = opening name.now []
+piece_text places (End name) = closing name.now
+piece_text places (Text cell) = shown (cell_text places cell)
+piece_text places (Begin name) = 60 ∷ name.now
+piece_text places (With name cell) = attribute_text (record { name = name.now; value = cell_text places cell })
+piece_text places Within = 62 ∷ []

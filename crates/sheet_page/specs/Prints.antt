@@ -6,7 +6,7 @@ use Rattle.sheet_page.specs.declared.pen.Pen.{Pen}
 
 -- Where all was well before, the bytes were written, or a front of them and it failed. Behind a failure nothing is done. A pen keeps its sink;
 -- `kind` says what the sink tells: the bytes that it took, and how many faults there were.
-pub record Prints {S : Type 0} (kind : Ghosts S) (old new : Pen S) (bytes : List ℕ) : Type 0 where
+pub record Prints {places : ℕ} {S : Type 0} (kind : Ghosts S) (old new : Pen places S) (bytes : List ℕ) : Type 0 where
   pub same_sink : new.sink.ghost_name ≡ old.sink.ghost_name
   pub well : IsOk old.done → Writes kind.written kind.faults old.sink.now new.sink.now bytes new.done
   pub failed : IsErr old.done → new ≡ old

@@ -12,16 +12,16 @@ use Rattle.sheet_minutes.specs.Rounds.{ends_round, left_over, row_at}
 use Rattle.sheet_page.specs.Links.{link_to}
 use Rattle.sheet_page.specs.RoundEnds.{settled_at}
 use Rattle.sheet_page.specs.Trees.{at, candidate, each, el, words}
-use Rattle.sheet_page.specs.Values.{places, name_at}
+use Rattle.sheet_page.specs.Values.{all_places, name_at}
 
 -- ---- amounts
 
--- The text of an amount in two parts: all but the last seven digits, so that two stand behind the point, and these seven.
-abbrev pub main_digits : (text : List ℕ) → List ℕ
-main_digits text = take (length text - 7) text
+-- The text of an amount in two parts: up to the second digit behind the point, and the other digits.
+abbrev pub main_digits : (places : ℕ) → (text : List ℕ) → List ℕ
+main_digits places text = take (length text - (places - 2)) text
 
-abbrev pub other_digits : (text : List ℕ) → List ℕ
-other_digits text = drop (length text - 7) text
+abbrev pub other_digits : (places : ℕ) → (text : List ℕ) → List ℕ
+other_digits places text = drop (length text - (places - 2)) text
 
 -- an amount, the second part in smaller type, and what stands behind it
 abbrev pub figure : (main other : List ℕ) → List Trees → List Trees
@@ -30,8 +30,8 @@ figure main other behind = words main ∷ el (codes "small") [] (words other ∷
 abbrev pub figure_cell : (main other : List ℕ) → Trees
 figure_cell main other = el (codes "td") [] (figure main other [])
 
-abbrev pub amount_cell : (amount : ℕ) → Trees
-amount_cell amount = figure_cell (main_digits (text_of 9 amount)) (other_digits (text_of 9 amount))
+abbrev pub amount_cell : (places amount : ℕ) → Trees
+amount_cell places amount = figure_cell (main_digits places (text_of places amount)) (other_digits places (text_of places amount))
 
 -- votes, and a state
 abbrev pub standing_cell : (main other state : List ℕ) → Trees
@@ -39,9 +39,9 @@ standing_cell main other state =
     el (codes "td") [] (figure main other (words (codes " ") ∷ el (codes "em") [] (words state ∷ []) ∷ []))
 
 -- a candidate's vote at the end of a round, and what it is behind it
-abbrev pub vote_cell : Row → (p : ℕ) → Trees
-vote_cell row p =
-    standing_cell (main_digits (text_of 9 (slice_index row.votes p))) (other_digits (text_of 9 (slice_index row.votes p)))
+abbrev pub vote_cell : (places : ℕ) → Row → (p : ℕ) → Trees
+vote_cell places row p =
+    standing_cell (main_digits places (text_of places (slice_index row.votes p))) (other_digits places (text_of places (slice_index row.votes p)))
     (state_word (state_at row.states p))
 
 abbrev pub column_attributes : List Attribute
@@ -55,28 +55,28 @@ round_head target round =
 -- ---- what a line says of the rounds
 
 -- Of the round that ends at a place: its number, its quota, the votes that are left on no candidate, or a candidate's vote and state.
-abbrev pub round_cell : SheetList → Entry → (i : ℕ) → Trees
-round_cell v Round i = round_head (link_to i) (row_at v.rows i).round
-round_cell v Quota i = amount_cell (row_at v.rows i).quota
-round_cell v LeftOver i = amount_cell (left_over v.ballots (row_at v.rows i))
-round_cell v (Candidate p) i = vote_cell (settled_at v i) p
+abbrev pub round_cell : (places : ℕ) → SheetList → Entry → (i : ℕ) → Trees
+round_cell places v Round i = round_head (link_to i) (row_at v.rows i).round
+round_cell places v Quota i = amount_cell places (row_at v.rows i).quota
+round_cell places v LeftOver i = amount_cell places (left_over places v.ballots (row_at v.rows i))
+round_cell places v (Candidate p) i = vote_cell places (settled_at v i) p
 
-abbrev pub cell_at : SheetList → Entry → (i : ℕ) → Trees
-cell_at v entry i = if ends_round v.rows i then round_cell v entry i else Nothing
+abbrev pub cell_at : (places : ℕ) → SheetList → Entry → (i : ℕ) → Trees
+cell_at places v entry i = if ends_round v.rows i then round_cell places v entry i else Nothing
 
-abbrev pub cells : SheetList → Entry → Trees
-cells v entry = each (cell_at v entry) (places (length v.rows))
+abbrev pub cells : (places : ℕ) → SheetList → Entry → Trees
+cells places v entry = each (cell_at places v entry) (all_places (length v.rows))
 
 -- ---- the head
 
 abbrev pub first_head : Trees
 first_head = el (codes "th") column_attributes (words (codes "Candidate") ∷ [])
 
-abbrev pub head_row : SheetList → Trees
-head_row v = el (codes "tr") [] (first_head ∷ cells v Round ∷ [])
+abbrev pub head_row : (places : ℕ) → SheetList → Trees
+head_row places v = el (codes "tr") [] (first_head ∷ cells places v Round ∷ [])
 
-abbrev pub table_head : SheetList → Trees
-table_head v = el (codes "thead") [] (head_row v ∷ [])
+abbrev pub table_head : (places : ℕ) → SheetList → Trees
+table_head places v = el (codes "thead") [] (head_row places v ∷ [])
 
 -- ---- the lines
 
@@ -86,20 +86,20 @@ line_attributes = at (codes "scope") (codes "row") ∷ []
 abbrev pub line_head : (text : List ℕ) → Trees
 line_head text = el (codes "th") line_attributes (words text ∷ [])
 
-abbrev pub quota_row : SheetList → Trees
-quota_row v = el (codes "tr") [] (line_head (codes "Quota") ∷ cells v Quota ∷ [])
+abbrev pub quota_row : (places : ℕ) → SheetList → Trees
+quota_row places v = el (codes "tr") [] (line_head (codes "Quota") ∷ cells places v Quota ∷ [])
 
-abbrev pub left_row : SheetList → Trees
-left_row v = el (codes "tr") [] (line_head (codes "On no candidate") ∷ cells v LeftOver ∷ [])
+abbrev pub left_row : (places : ℕ) → SheetList → Trees
+left_row places v = el (codes "tr") [] (line_head (codes "On no candidate") ∷ cells places v LeftOver ∷ [])
 
 abbrev pub candidate_head : (name : List ℕ) → (number : ℕ) → Trees
 candidate_head name number = el (codes "th") line_attributes (candidate name number [])
 
-abbrev pub candidate_row : SheetList → (p : ℕ) → Trees
-candidate_row v p = el (codes "tr") [] (candidate_head (name_at v p) (p + 1) ∷ cells v (Candidate p) ∷ [])
+abbrev pub candidate_row : (places : ℕ) → SheetList → (p : ℕ) → Trees
+candidate_row places v p = el (codes "tr") [] (candidate_head (name_at v p) (p + 1) ∷ cells places v (Candidate p) ∷ [])
 
-abbrev pub table_body : SheetList → Trees
-table_body v = el (codes "tbody") [] (quota_row v ∷ left_row v ∷ each (candidate_row v) (places (length v.names)) ∷ [])
+abbrev pub table_body : (places : ℕ) → SheetList → Trees
+table_body places v = el (codes "tbody") [] (quota_row places v ∷ left_row places v ∷ each (candidate_row places v) (all_places (length v.names)) ∷ [])
 
 -- ---- the whole table
 
@@ -110,8 +110,8 @@ caption =
     ∷ []
     )
 
-abbrev pub rounds_table : SheetList → Trees
-rounds_table v = el (codes "table") [] (caption ∷ table_head v ∷ table_body v ∷ [])
+abbrev pub rounds_table : (places : ℕ) → SheetList → Trees
+rounds_table places v = el (codes "table") [] (caption ∷ table_head places v ∷ table_body places v ∷ [])
 
 -- a frame in which the table moves, also by the keys, while its heads stay
 abbrev pub frame_attributes : List Attribute
@@ -119,5 +119,5 @@ frame_attributes =
     at (codes "tabindex") (codes "0") ∷ at (codes "role") (codes "region")
     ∷ at (codes "aria-label") (codes "Votes at the end of each round") ∷ []
 
-abbrev pub table_frame : SheetList → Trees
-table_frame v = el (codes "div") frame_attributes (rounds_table v ∷ [])
+abbrev pub table_frame : (places : ℕ) → SheetList → Trees
+table_frame places v = el (codes "div") frame_attributes (rounds_table places v ∷ [])

@@ -8,7 +8,7 @@ use Rattle.sheet_words.specs.Sentences.{outcome, sentences_at_end}
 use Rattle.sheet_page.specs.Html.{page}
 use Rattle.sheet_page.specs.PageLaws.{below}
 use Rattle.sheet_page.specs.PageReading.{along, texts_along}
-use Rattle.sheet_page.specs.Values.{places}
+use Rattle.sheet_page.specs.Values.{all_places}
 
 -- an iteration before the first of the rounds
 abbrev pub onto : Row → (rounds : List (List Row)) → List (List Row)
@@ -23,23 +23,23 @@ rounds_of (row ∷ next ∷ rows) =
     if nat_eq row.round next.round then onto row (rounds_of (next ∷ rows)) else (row ∷ []) ∷ rounds_of (next ∷ rows)
 
 -- what the items of each part of a page say
-abbrev pub items_of : SheetList → List (List (List ℕ))
-items_of v = map (texts_along (codes "ul" ∷ codes "li" ∷ [])) (along (below []) (page v))
+abbrev pub items_of : (places : ℕ) → SheetList → List (List (List ℕ))
+items_of places v = map (texts_along (codes "ul" ∷ codes "li" ∷ [])) (along (below []) (page places v))
 
 -- the lines of what the iterations of a round decided
-abbrev pub lines_of : SheetList → (round : List Row) → List (List ℕ)
-lines_of v round = map joined (flat_map (sentences_of v) round)
+abbrev pub lines_of : (places : ℕ) → SheetList → (round : List Row) → List (List ℕ)
+lines_of places v round = map joined (flat_map (sentences_of places v) round)
 
 -- the lines of the end, and of what became of each candidate
 abbrev pub last_lines : SheetList → List (List ℕ)
-last_lines v = map joined (map at_end (sentences_at_end v) ++ map (outcome v) (places (length v.names)))
+last_lines v = map joined (map at_end (sentences_at_end v) ++ map (outcome v) (all_places (length v.names)))
 
 -- The part of each round has the sentences of its iterations, each once and in their order; the part of the result has those of
 -- the end, and what became of each candidate; and no other part has any. A round has the iterations that stand one behind
 -- another, and together the rounds have all.
-pub record SaysItsDecisions (v : SheetList) : Type 0 where
-  pub items : items_of v ≡ [] ∷ last_lines v ∷ [] ∷ map (lines_of v) (rounds_of v.rows)
+pub record SaysItsDecisions (places : ℕ) (v : SheetList) : Type 0 where
+  pub items : items_of places v ≡ [] ∷ last_lines v ∷ [] ∷ map (lines_of places v) (rounds_of v.rows)
   pub whole : flat_map (λ round. round) (rounds_of v.rows) ≡ v.rows
 
 abbrev pub PagesSayTheirDecisions : Type 0
-PagesSayTheirDecisions = (v : SheetList) → SaysItsDecisions v
+PagesSayTheirDecisions = (places : ℕ) (v : SheetList) → SaysItsDecisions places v

@@ -11,7 +11,7 @@ use Rattle.sheet_words.specs.Sentences.{outcome, sentences_at_end}
 use Rattle.sheet_minutes.specs.Rounds.{row_at}
 use Rattle.sheet_page.specs.Stretches.{is_of_round}
 use Rattle.sheet_page.specs.Trees.{each, el, isolated, words}
-use Rattle.sheet_page.specs.Values.{places}
+use Rattle.sheet_page.specs.Values.{all_places}
 
 -- A text of a sentence. Only a name can have bytes that are no ASCII, as those of letters that are written from right to left and
 -- of signs of direction: such a text is set apart from what stands around it, so that it moves nothing there.
@@ -37,12 +37,12 @@ items = record { opening = opening (codes "li") []; voiced = voiced_text; closin
 -- ---- in the part of a round
 
 -- what the iteration at a place decided, if it is of the round that ends at the last
-abbrev pub sentences_at : SheetList → (last i : ℕ) → Trees
-sentences_at v last i = if is_of_round v.rows last i then each item (sentences_of v (row_at v.rows i)) else Nothing
+abbrev pub sentences_at : (places : ℕ) → SheetList → (last i : ℕ) → Trees
+sentences_at places v last i = if is_of_round v.rows last i then each item (sentences_of places v (row_at v.rows i)) else Nothing
 
 -- what the iterations of the round that ends at a place decided
-abbrev pub round_sentences : SheetList → (last : ℕ) → Trees
-round_sentences v last = el (codes "ul") [] (each (sentences_at v last) (places (last + 1)) ∷ [])
+abbrev pub round_sentences : (places : ℕ) → SheetList → (last : ℕ) → Trees
+round_sentences places v last = el (codes "ul") [] (each (sentences_at places v last) (all_places (last + 1)) ∷ [])
 
 -- ---- the result
 
@@ -55,7 +55,7 @@ end_list v = el (codes "ul") [] (each item (map at_end (sentences_at_end v)) ∷
 
 -- what became of each candidate
 abbrev pub outcome_list : SheetList → Trees
-outcome_list v = el (codes "ul") [] (each item (map (outcome v) (places (length v.names))) ∷ [])
+outcome_list v = el (codes "ul") [] (each item (map (outcome v) (all_places (length v.names))) ∷ [])
 
 abbrev pub result_part : SheetList → Trees
 result_part v = el (codes "section") [] (result_title ∷ end_list v ∷ outcome_list v ∷ [])

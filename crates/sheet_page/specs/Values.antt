@@ -6,8 +6,8 @@ use Rattle.meek_rule.specs.declared.step.Step.TheVariants.{Elected, Iterate, Def
 use Rattle.sheet_reader.specs.Values.{SheetList}
 
 -- the places from 0 of a list of this length
-abbrev pub places : ℕ → List ℕ
-places n = range_with_len 0 n
+abbrev pub all_places : ℕ → List ℕ
+all_places n = range_with_len 0 n
 
 abbrev pub name_at : SheetList → (p : ℕ) → List ℕ
 name_at v p = slice_index_or v.names p []

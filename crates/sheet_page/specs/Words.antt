@@ -1,5 +1,5 @@
 -- The words that ask for a page.
-use Rattle.std.specs.Prelude.{◌≡◌, ◌⊎◌, ℕ, List, [], ◌∷◌, codes}
+use Rattle.std.specs.Prelude.{◌≡◌, ◌⊎◌, List, [], ◌∷◌, codes}
 use Rattle.meek_words.specs.Numerals.{Word}
 use Rattle.sheet_page.specs.declared.format.Format.{Format}
 use Rattle.sheet_page.specs.declared.format.Format.TheVariants.{Html, Csv, MarkedCsv, Json, Text}

@@ -8,7 +8,7 @@ ghost use Rattle.sheet_page.specs.Picture.{bar, bar_at, label, label_at, rectang
 ghost use Rattle.sheet_page.specs.RoundEnds.{settled};
 ghost use Rattle.sheet_page.specs.Prints.{Prints};
 ghost use Rattle.sheet_page.specs.Trees.{print_each};
-ghost use Rattle.sheet_page.specs.Values.{places};
+ghost use Rattle.sheet_page.specs.Values.{all_places};
 
 use crate::cell::Cell;
 use crate::pen::Pen;
@@ -20,21 +20,21 @@ use byte_edge::Sink;
 use candidate_roll::States;
 use fixed_place::Amount;
 use meek_rule::Row;
-use sheet_reader::SheetValues;
+use sheet_reader::SheetValuesAt;
 
 /// Writes the bars of a round, a candidate's below the other's; `full` units have the whole width.
-pub(crate) fn write_bars<K: Sink>(
-    pen: &mut Pen<'_, K>,
-    values: &SheetValues,
+pub(crate) fn write_bars<const P: usize, K: Sink>(
+    pen: &mut Pen<'_, P, K>,
+    values: &SheetValuesAt<P>,
     full: u64,
-    row: &Row<9>,
+    row: &Row<P>,
     behind: &States,
 )
-    requires printable { IsPrintable 9 values.now }
+    requires printable { IsPrintable P values.now }
     requires room { HasRoomFor (length values.now.names) row.now }
     requires states { length behind.now ≡ length values.now.names }
     ensures { Prints K.Sink pen.old pen.new
-        (print_each (bar_at values.now full (settled row.now behind.now)) (places (length values.now.names))) }
+        (print_each (bar_at P values.now full (settled row.now behind.now)) (all_places (length values.now.names))) }
 {
     for p in 0..values.names.len() {
         write_bar_at(pen, values, full, row, behind, p);
@@ -42,19 +42,19 @@ pub(crate) fn write_bars<K: Sink>(
 }
 
 /// The bar of the candidate at a place, if it has one.
-fn write_bar_at<K: Sink>(
-    pen: &mut Pen<'_, K>,
-    values: &SheetValues,
+fn write_bar_at<const P: usize, K: Sink>(
+    pen: &mut Pen<'_, P, K>,
+    values: &SheetValuesAt<P>,
     full: u64,
-    row: &Row<9>,
+    row: &Row<P>,
     behind: &States,
     p: usize,
 )
-    requires printable { IsPrintable 9 values.now }
+    requires printable { IsPrintable P values.now }
     requires room { HasRoomFor (length values.now.names) row.now }
     requires states { length behind.now ≡ length values.now.names }
     requires place { p < length values.now.names }
-    ensures { Prints K.Sink pen.old pen.new (printed (bar_at values.now full (settled row.now behind.now) p)) }
+    ensures { Prints K.Sink pen.old pen.new (printed (bar_at P values.now full (settled row.now behind.now) p)) }
 {
     if has_bar(row, p) {
         write_bar(pen, values, full, row, behind, p);
@@ -62,37 +62,37 @@ fn write_bar_at<K: Sink>(
 }
 
 /// A candidate's vote at the end of a round, and what it is behind it.
-fn write_bar<K: Sink>(
-    pen: &mut Pen<'_, K>,
-    values: &SheetValues,
+fn write_bar<const P: usize, K: Sink>(
+    pen: &mut Pen<'_, P, K>,
+    values: &SheetValuesAt<P>,
     full: u64,
-    row: &Row<9>,
+    row: &Row<P>,
     behind: &States,
     p: usize,
 )
-    requires printable { IsPrintable 9 values.now }
+    requires printable { IsPrintable P values.now }
     requires room { HasRoomFor (length values.now.names) row.now }
     requires states { length behind.now ≡ length values.now.names }
     requires place { p < length values.now.names }
-    ensures { Prints K.Sink pen.old pen.new (printed (bar values.now full (settled row.now behind.now) p)) }
+    ensures { Prints K.Sink pen.old pen.new (printed (bar P values.now full (settled row.now behind.now) p)) }
 {
     write_label_at(pen, values, row, behind, p);
     write_rectangle_at(pen, full, row, behind, p);
 }
 
 /// The label of the candidate at a place.
-fn write_label_at<K: Sink>(
-    pen: &mut Pen<'_, K>,
-    values: &SheetValues,
-    row: &Row<9>,
+fn write_label_at<const P: usize, K: Sink>(
+    pen: &mut Pen<'_, P, K>,
+    values: &SheetValuesAt<P>,
+    row: &Row<P>,
     behind: &States,
     p: usize,
 )
-    requires printable { IsPrintable 9 values.now }
+    requires printable { IsPrintable P values.now }
     requires room { HasRoomFor (length values.now.names) row.now }
     requires states { length behind.now ≡ length values.now.names }
     requires place { p < length values.now.names }
-    ensures { Prints K.Sink pen.old pen.new (printed (label_at values.now (settled row.now behind.now) p)) }
+    ensures { Prints K.Sink pen.old pen.new (printed (label_at P values.now (settled row.now behind.now) p)) }
 {
     let state = state_word(*behind.get(p));
     let name = values.names.get(p).bytes();
@@ -107,10 +107,10 @@ fn write_label_at<K: Sink>(
 }
 
 /// The bar of the candidate at a place.
-fn write_rectangle_at<K: Sink>(
-    pen: &mut Pen<'_, K>,
+fn write_rectangle_at<const P: usize, K: Sink>(
+    pen: &mut Pen<'_, P, K>,
     full: u64,
-    row: &Row<9>,
+    row: &Row<P>,
     behind: &States,
     p: usize,
 )
@@ -126,15 +126,15 @@ fn write_rectangle_at<K: Sink>(
 }
 
 /// State, vote, name and number, so many points down.
-fn write_label<'x, K: Sink>(
-    pen: &mut Pen<'_, K>,
+fn write_label<'x, const P: usize, K: Sink>(
+    pen: &mut Pen<'_, P, K>,
     y: u64,
     name: &'x [u8],
     number: u64,
     state: &'x [u8],
-    vote: Amount<9>,
+    vote: Amount<P>,
 )
-    ensures { Prints K.Sink pen.old pen.new (printed (label y name.now number state.now vote)) }
+    ensures { Prints K.Sink pen.old pen.new (printed (label P y name.now number state.now vote.entry)) }
 {
     pen.write(&[
         Piece::Begin(b"text"),
@@ -156,7 +156,12 @@ fn write_label<'x, K: Sink>(
 }
 
 /// A bar, so many points down and so many long.
-fn write_rectangle<K: Sink>(pen: &mut Pen<'_, K>, y: u64, length: u64, state: &[u8])
+fn write_rectangle<const P: usize, K: Sink>(
+    pen: &mut Pen<'_, P, K>,
+    y: u64,
+    length: u64,
+    state: &[u8],
+)
     ensures { Prints K.Sink pen.old pen.new (printed (rectangle y length state.now)) }
 {
     pen.write(&[

@@ -1,16 +1,17 @@
 // A value as text.
-ghost use Rattle.std.specs.Prelude.{◌≡◌, ◌∷◌, ◌^◌, ◌<◌, ◌≤◌, decimal, drop, length};
+ghost use Rattle.std.specs.Prelude.{◌≡◌, ◌∷◌, ◌^◌, ◌+◌, ◌<◌, ◌≤◌, decimal, drop, length};
+ghost use Rattle.fixed_place.specs.Rounding.{scale};
 ghost use Rattle.fixed_place.specs.Text.{last_digits, text_of};
 
-use fixed_place::Amount;
+use fixed_place::{Amount, scale_of};
 use line_text::Line;
 
 /// A value as text: bytes as they are, a whole number, or an amount of votes to the last digit.
 #[derive(Drop)]
-pub(crate) enum Cell<'a> {
+pub(crate) enum Cell<'a, const P: usize> {
     Bytes(&'a [u8]),
     Count(u64),
-    Amount(Amount<9>),
+    Amount(Amount<P>),
 }
 
 #[tactic(auto, using(line_text::proofs::Lengths::lengths))]
@@ -23,8 +24,9 @@ pub(crate) fn count_text(n: u64) -> Line
 }
 
 #[tactic(auto, using(line_text::proofs::Lengths::lengths))]
-pub(crate) fn amount_text(a: Amount<9>) -> Line
-    ensures { result ≡ text_of 9 a }
+pub(crate) fn amount_text<const P: usize>(a: Amount<P>) -> Line
+    ensures text { result ≡ text_of P a.entry }
+    ensures places { (6 ≤ P) × (P ≤ 9) }
 {
     let _units = a.units();
     let mut line = Line::new();
@@ -32,29 +34,30 @@ pub(crate) fn amount_text(a: Amount<9>) -> Line
     line
 }
 
-const VOTE: u128 = 1_000_000_000;
-
-/// So many units as an amount of votes, at nine places; they may be more than any vote.
+/// So many units as an amount of votes; they may be more than any vote.
 #[tactic(auto, using(line_text::proofs::Lengths::lengths), unfolding(fixed_place::specs::Text::text_of))]
-pub(crate) fn units_text(units: u128) -> Line
-    requires { units < 10 ^ 27 }
-    ensures { result ≡ text_of 9 units }
+pub(crate) fn units_text<const P: usize>(units: u128) -> Line
+    requires places { (6 ≤ P) × (P ≤ 9) }
+    requires bound { units < 10 ^ (P + 18) }
+    ensures { result ≡ text_of P units }
 {
-    let digits = digits_text((units % VOTE) as u64);
+    let vote = u128::from(scale_of::<P>());
+    let digits = digits_text::<P>((units % vote) as u64);
     let mut line = Line::new();
-    line.push_count((units / VOTE) as u64);
+    line.push_count((units / vote) as u64);
     line.push_bytes(digits.bytes());
     line
 }
 
 /// The point and the digits of a part of a vote.
 #[tactic(auto, using(line_text::proofs::Lengths::lengths))]
-fn digits_text(units: u64) -> Line
-    requires { units < 10 ^ 9 }
-    ensures digits { result ≡ 46 ∷ last_digits 9 units }
+fn digits_text<const P: usize>(units: u64) -> Line
+    requires places { (6 ≤ P) × (P ≤ 9) }
+    requires part { units < scale P }
+    ensures digits { result ≡ 46 ∷ last_digits P units }
     ensures few { length result ≤ 20 }
 {
-    let text = amount_text(Amount::<9>::from_units(units));
+    let text = amount_text(Amount::<P>::from_units(units));
     let mut line = Line::new();
     line.push_bytes(behind_first(text.bytes()));
     line

@@ -8,7 +8,7 @@ ghost use Rattle.piece_text.specs.Writing.{Writes};
 ghost use Rattle.sheet_reader.specs.Form.{IsPrintable};
 ghost use Rattle.sheet_page.specs.Csv.{csv_head, csv_of, csv_record, marked_csv_of, yes_or_no};
 ghost use Rattle.sheet_page.specs.Prints.{Prints};
-ghost use Rattle.sheet_page.specs.Values.{places};
+ghost use Rattle.sheet_page.specs.Values.{all_places};
 
 use crate::cell::Cell;
 use crate::pen::Pen;
@@ -16,13 +16,16 @@ use crate::values::{defeats, kept_of_one, state_word, step_word};
 use byte_edge::{Failed, Sink};
 use meek_rule::Row;
 use piece_text::write_bytes;
-use sheet_reader::SheetValues;
+use sheet_reader::SheetValuesAt;
 
 /// Writes the values of a sheet as a table for spreadsheets: a head line, and a line for each candidate
 /// of each iteration.
-pub(crate) fn write_csv<K: Sink>(values: &SheetValues, sink: &mut K) -> Result<(), Failed>
-    requires { IsPrintable 9 values.now }
-    ensures { Writes K.written K.faults sink.old sink.new (csv_of values.now) result }
+pub(crate) fn write_csv<const P: usize, K: Sink>(
+    values: &SheetValuesAt<P>,
+    sink: &mut K,
+) -> Result<(), Failed>
+    requires { IsPrintable P values.now }
+    ensures { Writes K.written K.faults sink.old sink.new (csv_of P values.now) result }
 {
     let mut pen = Pen::new(sink);
     write_head(&mut pen);
@@ -33,16 +36,19 @@ pub(crate) fn write_csv<K: Sink>(values: &SheetValues, sink: &mut K) -> Result<(
 }
 
 /// Writes the same table behind a byte order mark.
-pub(crate) fn write_marked_csv<K: Sink>(values: &SheetValues, sink: &mut K) -> Result<(), Failed>
-    requires { IsPrintable 9 values.now }
-    ensures { Writes K.written K.faults sink.old sink.new (marked_csv_of values.now) result }
+pub(crate) fn write_marked_csv<const P: usize, K: Sink>(
+    values: &SheetValuesAt<P>,
+    sink: &mut K,
+) -> Result<(), Failed>
+    requires { IsPrintable P values.now }
+    ensures { Writes K.written K.faults sink.old sink.new (marked_csv_of P values.now) result }
 {
     write_bytes(b"\xEF\xBB\xBF", sink)?;
     write_csv(values, sink)
 }
 
 /// The names of the columns.
-fn write_head<K: Sink>(pen: &mut Pen<'_, K>)
+fn write_head<const P: usize, K: Sink>(pen: &mut Pen<'_, P, K>)
     ensures { Prints K.Sink pen.old pen.new (record_text csv_head) }
 {
     pen.record(
@@ -68,12 +74,16 @@ fn write_head<K: Sink>(pen: &mut Pen<'_, K>)
 }
 
 /// The candidates of an iteration.
-fn write_row<K: Sink>(pen: &mut Pen<'_, K>, values: &SheetValues, row: &Row<9>)
+fn write_row<const P: usize, K: Sink>(
+    pen: &mut Pen<'_, P, K>,
+    values: &SheetValuesAt<P>,
+    row: &Row<P>,
+)
     requires room { HasRoomFor (length values.now.names) row.now }
     requires outcomes { length values.now.last ≡ length values.now.names }
     requires few { length values.now.names ≤ MOST_CANDIDATES }
     ensures { Prints K.Sink pen.old pen.new
-        (flat_map (λ p. record_text (csv_record values.now row.now p)) (places (length values.now.names))) }
+        (flat_map (λ p. record_text (csv_record P values.now row.now p)) (all_places (length values.now.names))) }
 {
     for p in 0..values.names.len() {
         write_line(pen, values, row, p);
@@ -81,12 +91,17 @@ fn write_row<K: Sink>(pen: &mut Pen<'_, K>, values: &SheetValues, row: &Row<9>)
 }
 
 /// The candidate at a place in an iteration.
-fn write_line<K: Sink>(pen: &mut Pen<'_, K>, values: &SheetValues, row: &Row<9>, p: usize)
+fn write_line<const P: usize, K: Sink>(
+    pen: &mut Pen<'_, P, K>,
+    values: &SheetValuesAt<P>,
+    row: &Row<P>,
+    p: usize,
+)
     requires room { HasRoomFor (length values.now.names) row.now }
     requires outcomes { length values.now.last ≡ length values.now.names }
     requires few { length values.now.names ≤ MOST_CANDIDATES }
     requires place { p < length values.now.names }
-    ensures { Prints K.Sink pen.old pen.new (record_text (csv_record values.now row.now p)) }
+    ensures { Prints K.Sink pen.old pen.new (record_text (csv_record P values.now row.now p)) }
 {
     let name = values.names.get(p).bytes();
     let outcome = state_word(*values.last.get(p));

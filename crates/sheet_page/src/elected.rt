@@ -9,7 +9,7 @@ ghost use Rattle.meek_rule.specs.Situation.{is_elected};
 ghost use Rattle.sheet_page.specs.Html.{at_end, elected_in, elected_item, elected_list, elected_part, elected_title, in_round, is_seated, seated_item, was_elected};
 ghost use Rattle.sheet_page.specs.Prints.{Prints};
 ghost use Rattle.sheet_page.specs.Trees.{print_each};
-ghost use Rattle.sheet_page.specs.Values.{places};
+ghost use Rattle.sheet_page.specs.Values.{all_places};
 
 use crate::cell::Cell;
 use crate::pen::Pen;
@@ -17,11 +17,14 @@ use crate::piece::Piece;
 use byte_edge::Sink;
 use candidate_roll::State;
 use meek_rule::Row;
-use sheet_reader::SheetValues;
+use sheet_reader::SheetValuesAt;
 
 /// The part of a page that lists who is elected.
-pub(crate) fn write_elected<K: Sink>(pen: &mut Pen<'_, K>, values: &SheetValues)
-    requires printable { IsPrintable 9 values.now }
+pub(crate) fn write_elected<const P: usize, K: Sink>(
+    pen: &mut Pen<'_, P, K>,
+    values: &SheetValuesAt<P>,
+)
+    requires printable { IsPrintable P values.now }
     ensures { Prints K.Sink pen.old pen.new (printed (elected_part values.now)) }
 {
     pen.open(b"section");
@@ -30,7 +33,7 @@ pub(crate) fn write_elected<K: Sink>(pen: &mut Pen<'_, K>, values: &SheetValues)
     pen.close(b"section");
 }
 
-fn write_title<K: Sink>(pen: &mut Pen<'_, K>)
+fn write_title<const P: usize, K: Sink>(pen: &mut Pen<'_, P, K>)
     ensures { Prints K.Sink pen.old pen.new (printed elected_title) }
 {
     pen.write(&[
@@ -41,8 +44,8 @@ fn write_title<K: Sink>(pen: &mut Pen<'_, K>)
 }
 
 /// All who are elected, each once.
-fn write_list<K: Sink>(pen: &mut Pen<'_, K>, values: &SheetValues)
-    requires printable { IsPrintable 9 values.now }
+fn write_list<const P: usize, K: Sink>(pen: &mut Pen<'_, P, K>, values: &SheetValuesAt<P>)
+    requires printable { IsPrintable P values.now }
     ensures { Prints K.Sink pen.old pen.new (printed (elected_list values.now)) }
 {
     pen.open(b"ol");
@@ -52,8 +55,8 @@ fn write_list<K: Sink>(pen: &mut Pen<'_, K>, values: &SheetValues)
 }
 
 /// Who was elected in the iterations, one after another.
-fn write_elected_rows<K: Sink>(pen: &mut Pen<'_, K>, values: &SheetValues)
-    requires printable { IsPrintable 9 values.now }
+fn write_elected_rows<const P: usize, K: Sink>(pen: &mut Pen<'_, P, K>, values: &SheetValuesAt<P>)
+    requires printable { IsPrintable P values.now }
     ensures { Prints K.Sink pen.old pen.new (print_each (elected_in values.now) values.now.rows) }
 {
     for row in values.rows.items() {
@@ -62,11 +65,15 @@ fn write_elected_rows<K: Sink>(pen: &mut Pen<'_, K>, values: &SheetValues)
 }
 
 /// Whom an iteration elected, by rising numbers.
-fn write_elected_in<K: Sink>(pen: &mut Pen<'_, K>, values: &SheetValues, row: &Row<9>)
+fn write_elected_in<const P: usize, K: Sink>(
+    pen: &mut Pen<'_, P, K>,
+    values: &SheetValuesAt<P>,
+    row: &Row<P>,
+)
     requires room { HasRoomFor (length values.now.names) row.now }
     requires few { length values.now.names ≤ MOST_CANDIDATES }
     ensures { Prints K.Sink pen.old pen.new
-        (print_each (elected_item values.now row.now) (places (length values.now.names))) }
+        (print_each (elected_item values.now row.now) (all_places (length values.now.names))) }
 {
     for p in 0..values.names.len() {
         write_elected_item(pen, values, row, p);
@@ -74,7 +81,12 @@ fn write_elected_in<K: Sink>(pen: &mut Pen<'_, K>, values: &SheetValues, row: &R
 }
 
 /// A candidate, if the iteration elected it.
-fn write_elected_item<K: Sink>(pen: &mut Pen<'_, K>, values: &SheetValues, row: &Row<9>, p: usize)
+fn write_elected_item<const P: usize, K: Sink>(
+    pen: &mut Pen<'_, P, K>,
+    values: &SheetValuesAt<P>,
+    row: &Row<P>,
+    p: usize,
+)
     requires room { HasRoomFor (length values.now.names) row.now }
     requires few { length values.now.names ≤ MOST_CANDIDATES }
     requires place { p < length values.now.names }
@@ -86,7 +98,12 @@ fn write_elected_item<K: Sink>(pen: &mut Pen<'_, K>, values: &SheetValues, row: 
 }
 
 /// Somebody whom an iteration elected.
-fn write_in_round<K: Sink>(pen: &mut Pen<'_, K>, name: &[u8], number: u64, round: u32)
+fn write_in_round<const P: usize, K: Sink>(
+    pen: &mut Pen<'_, P, K>,
+    name: &[u8],
+    number: u64,
+    round: u32,
+)
     ensures { Prints K.Sink pen.old pen.new (printed (in_round name.now number round)) }
 {
     pen.write(&[
@@ -104,10 +121,10 @@ fn write_in_round<K: Sink>(pen: &mut Pen<'_, K>, name: &[u8], number: u64, round
 }
 
 /// Who is elected in the end, and was in no iteration.
-fn write_seated<K: Sink>(pen: &mut Pen<'_, K>, values: &SheetValues)
-    requires printable { IsPrintable 9 values.now }
+fn write_seated<const P: usize, K: Sink>(pen: &mut Pen<'_, P, K>, values: &SheetValuesAt<P>)
+    requires printable { IsPrintable P values.now }
     ensures { Prints K.Sink pen.old pen.new
-        (print_each (seated_item values.now) (places (length values.now.names))) }
+        (print_each (seated_item values.now) (all_places (length values.now.names))) }
 {
     for p in 0..values.names.len() {
         write_seated_item(pen, values, p);
@@ -115,8 +132,12 @@ fn write_seated<K: Sink>(pen: &mut Pen<'_, K>, values: &SheetValues)
 }
 
 /// A candidate, if it is elected in the end and was in no iteration.
-fn write_seated_item<K: Sink>(pen: &mut Pen<'_, K>, values: &SheetValues, p: usize)
-    requires printable { IsPrintable 9 values.now }
+fn write_seated_item<const P: usize, K: Sink>(
+    pen: &mut Pen<'_, P, K>,
+    values: &SheetValuesAt<P>,
+    p: usize,
+)
+    requires printable { IsPrintable P values.now }
     requires place { p < length values.now.names }
     ensures { Prints K.Sink pen.old pen.new (printed (seated_item values.now p)) }
 {
@@ -126,7 +147,7 @@ fn write_seated_item<K: Sink>(pen: &mut Pen<'_, K>, values: &SheetValues, p: usi
 }
 
 /// Somebody who is elected to a seat that was left.
-fn write_at_end<K: Sink>(pen: &mut Pen<'_, K>, name: &[u8], number: u64)
+fn write_at_end<const P: usize, K: Sink>(pen: &mut Pen<'_, P, K>, name: &[u8], number: u64)
     ensures { Prints K.Sink pen.old pen.new (printed (at_end name.now number)) }
 {
     pen.write(&[
@@ -143,8 +164,8 @@ fn write_at_end<K: Sink>(pen: &mut Pen<'_, K>, name: &[u8], number: u64)
 }
 
 /// Whether the candidate at a place is elected in the end, and was in no iteration.
-fn is_seated(values: &SheetValues, p: usize) -> bool
-    requires printable { IsPrintable 9 values.now }
+fn is_seated<const P: usize>(values: &SheetValuesAt<P>, p: usize) -> bool
+    requires printable { IsPrintable P values.now }
     requires place { p < length values.now.names }
     ensures { result ≡ is_seated values.now p }
 {
@@ -152,15 +173,20 @@ fn is_seated(values: &SheetValues, p: usize) -> bool
 }
 
 /// Whether some iteration elected the candidate at a place.
-fn was_elected(rows: &[Row<9>], p: usize) -> bool
+fn was_elected<const P: usize>(rows: &[Row<P>], p: usize) -> bool
     ensures { result ≡ was_elected rows.now p }
 {
-    rows.iter().any(|row| is_marked(row, p))
+    for row in rows {
+        if is_marked(row, p) {
+            return true;
+        }
+    }
+    false
 }
 
 /// Whether an iteration elected the candidate at a place; nobody stands past the end.
 #[tactic(auto, using(crate::proofs::Marks::unmarked))]
-fn is_marked(row: &Row<9>, p: usize) -> bool
+fn is_marked<const P: usize>(row: &Row<P>, p: usize) -> bool
     ensures { result ≡ mark_at row.now.elected p }
 {
     if p < row.elected.len() {

@@ -17,12 +17,15 @@ use crate::told::write_result;
 use crate::widths::sheet_full;
 use byte_edge::{Failed, Sink};
 use page_tree::Attribute;
-use sheet_reader::SheetValues;
+use sheet_reader::SheetValuesAt;
 
 /// Writes the values of a sheet as a page.
-pub(crate) fn write_html<K: Sink>(values: &SheetValues, sink: &mut K) -> Result<(), Failed>
-    requires { IsPrintable 9 values.now }
-    ensures { Writes K.written K.faults sink.old sink.new (html_of values.now) result }
+pub(crate) fn write_html<const P: usize, K: Sink>(
+    values: &SheetValuesAt<P>,
+    sink: &mut K,
+) -> Result<(), Failed>
+    requires { IsPrintable P values.now }
+    ensures { Writes K.written K.faults sink.old sink.new (html_of P values.now) result }
 {
     let mut pen = Pen::new(sink);
     pen.piece(&Piece::Raw(b"<!DOCTYPE html>"));
@@ -32,9 +35,9 @@ pub(crate) fn write_html<K: Sink>(values: &SheetValues, sink: &mut K) -> Result<
 }
 
 /// All behind the line that says that it is HTML.
-fn write_page<K: Sink>(pen: &mut Pen<'_, K>, values: &SheetValues)
-    requires printable { IsPrintable 9 values.now }
-    ensures { Prints K.Sink pen.old pen.new (printed (page values.now)) }
+fn write_page<const P: usize, K: Sink>(pen: &mut Pen<'_, P, K>, values: &SheetValuesAt<P>)
+    requires printable { IsPrintable P values.now }
+    ensures { Prints K.Sink pen.old pen.new (printed (page P values.now)) }
 {
     pen.start(
         b"html",
@@ -49,7 +52,7 @@ fn write_page<K: Sink>(pen: &mut Pen<'_, K>, values: &SheetValues)
 }
 
 /// What a browser reads and doesn't show in the page.
-fn write_head<K: Sink>(pen: &mut Pen<'_, K>, values: &SheetValues)
+fn write_head<const P: usize, K: Sink>(pen: &mut Pen<'_, P, K>, values: &SheetValuesAt<P>)
     ensures { Prints K.Sink pen.old pen.new (printed (head values.now)) }
 {
     pen.open(b"head");
@@ -79,7 +82,7 @@ fn write_head<K: Sink>(pen: &mut Pen<'_, K>, values: &SheetValues)
 }
 
 /// What the window of a browser is called.
-fn write_window_title<K: Sink>(pen: &mut Pen<'_, K>, text: &[u8])
+fn write_window_title<const P: usize, K: Sink>(pen: &mut Pen<'_, P, K>, text: &[u8])
     ensures { Prints K.Sink pen.old pen.new (printed (window_title text.now)) }
 {
     pen.write(&[
@@ -89,7 +92,7 @@ fn write_window_title<K: Sink>(pen: &mut Pen<'_, K>, text: &[u8])
     ]);
 }
 
-fn write_style<K: Sink>(pen: &mut Pen<'_, K>)
+fn write_style<const P: usize, K: Sink>(pen: &mut Pen<'_, P, K>)
     ensures { Prints K.Sink pen.old pen.new (printed style_part) }
 {
     pen.write(&[
@@ -100,9 +103,9 @@ fn write_style<K: Sink>(pen: &mut Pen<'_, K>)
 }
 
 /// What is seen of the page.
-fn write_body<K: Sink>(pen: &mut Pen<'_, K>, values: &SheetValues)
-    requires printable { IsPrintable 9 values.now }
-    ensures { Prints K.Sink pen.old pen.new (printed (body values.now)) }
+fn write_body<const P: usize, K: Sink>(pen: &mut Pen<'_, P, K>, values: &SheetValuesAt<P>)
+    requires printable { IsPrintable P values.now }
+    ensures { Prints K.Sink pen.old pen.new (printed (body P values.now)) }
 {
     pen.open(b"body");
     write_content(pen, values);
@@ -110,9 +113,9 @@ fn write_body<K: Sink>(pen: &mut Pen<'_, K>, values: &SheetValues)
 }
 
 /// What a page is for.
-fn write_content<K: Sink>(pen: &mut Pen<'_, K>, values: &SheetValues)
-    requires printable { IsPrintable 9 values.now }
-    ensures { Prints K.Sink pen.old pen.new (printed (content values.now)) }
+fn write_content<const P: usize, K: Sink>(pen: &mut Pen<'_, P, K>, values: &SheetValuesAt<P>)
+    requires printable { IsPrintable P values.now }
+    ensures { Prints K.Sink pen.old pen.new (printed (content P values.now)) }
 {
     pen.open(b"main");
     write_heading(pen, values);
@@ -125,7 +128,7 @@ fn write_content<K: Sink>(pen: &mut Pen<'_, K>, values: &SheetValues)
 }
 
 /// The title of the election, and the numbers of seats and ballots.
-fn write_heading<K: Sink>(pen: &mut Pen<'_, K>, values: &SheetValues)
+fn write_heading<const P: usize, K: Sink>(pen: &mut Pen<'_, P, K>, values: &SheetValuesAt<P>)
     ensures { Prints K.Sink pen.old pen.new (printed (heading values.now)) }
 {
     pen.write(&[

@@ -8,7 +8,7 @@ ghost use Rattle.sheet_minutes.specs.Rounds.{row_at};
 ghost use Rattle.sheet_page.specs.Iterations.{concerns, folded, is_out, iteration, iteration_at, iteration_head, iteration_line, keep_note, standing, standing_at, standing_of, state_note, summary};
 ghost use Rattle.sheet_page.specs.Prints.{Prints};
 ghost use Rattle.sheet_page.specs.Trees.{print_each};
-ghost use Rattle.sheet_page.specs.Values.{places};
+ghost use Rattle.sheet_page.specs.Values.{all_places};
 
 use crate::cell::Cell;
 use crate::pen::Pen;
@@ -18,19 +18,21 @@ use crate::stretches::first_of;
 use crate::values::{kept_of_one, step_word};
 use byte_edge::Sink;
 use candidate_roll::State;
-use fixed_place::Amount;
+use fixed_place::{Amount, scale_of};
 use line_text::Line;
 use meek_rule::Row;
-use sheet_reader::SheetValues;
+use sheet_reader::SheetValuesAt;
 
 /// A keep value of 1, in units.
-const WHOLE: u64 = 1_000_000_000;
-
 /// The iterations of the round that ends at a place.
-pub(crate) fn write_folded<K: Sink>(pen: &mut Pen<'_, K>, values: &SheetValues, last: usize)
-    requires printable { IsPrintable 9 values.now }
+pub(crate) fn write_folded<const P: usize, K: Sink>(
+    pen: &mut Pen<'_, P, K>,
+    values: &SheetValuesAt<P>,
+    last: usize,
+)
+    requires printable { IsPrintable P values.now }
     requires place { last < length values.now.rows }
-    ensures { Prints K.Sink pen.old pen.new (printed (folded values.now last)) }
+    ensures { Prints K.Sink pen.old pen.new (printed (folded P values.now last)) }
 {
     let row = values.rows.get(last);
     pen.open(b"details");
@@ -40,7 +42,7 @@ pub(crate) fn write_folded<K: Sink>(pen: &mut Pen<'_, K>, values: &SheetValues, 
 }
 
 /// What is seen of iterations that are folded away.
-fn write_summary<K: Sink>(pen: &mut Pen<'_, K>, round: u32)
+fn write_summary<const P: usize, K: Sink>(pen: &mut Pen<'_, P, K>, round: u32)
     ensures { Prints K.Sink pen.old pen.new (printed (summary round)) }
 {
     pen.write(&[
@@ -52,10 +54,14 @@ fn write_summary<K: Sink>(pen: &mut Pen<'_, K>, round: u32)
 }
 
 /// The iterations of the round that ends at a place, from its first one on.
-fn write_iterations_of<K: Sink>(pen: &mut Pen<'_, K>, values: &SheetValues, last: usize)
-    requires printable { IsPrintable 9 values.now }
+fn write_iterations_of<const P: usize, K: Sink>(
+    pen: &mut Pen<'_, P, K>,
+    values: &SheetValuesAt<P>,
+    last: usize,
+)
+    requires printable { IsPrintable P values.now }
     requires place { last < length values.now.rows }
-    ensures { Prints K.Sink pen.old pen.new (print_each (iteration_at values.now last) (places (last + 1))) }
+    ensures { Prints K.Sink pen.old pen.new (print_each (iteration_at P values.now last) (all_places (last + 1))) }
 {
     let first = first_of(values.rows.items(), last);
     for i in first..last + 1 {
@@ -64,19 +70,27 @@ fn write_iterations_of<K: Sink>(pen: &mut Pen<'_, K>, values: &SheetValues, last
 }
 
 /// The iteration at a place.
-fn write_iteration_at<K: Sink>(pen: &mut Pen<'_, K>, values: &SheetValues, i: usize)
-    requires printable { IsPrintable 9 values.now }
+fn write_iteration_at<const P: usize, K: Sink>(
+    pen: &mut Pen<'_, P, K>,
+    values: &SheetValuesAt<P>,
+    i: usize,
+)
+    requires printable { IsPrintable P values.now }
     requires place { i < length values.now.rows }
-    ensures { Prints K.Sink pen.old pen.new (printed (iteration values.now (row_at values.now.rows i))) }
+    ensures { Prints K.Sink pen.old pen.new (printed (iteration P values.now (row_at values.now.rows i))) }
 {
     write_iteration(pen, values, values.rows.get(i));
 }
 
 /// An iteration: a line of its own, and the candidates that it concerns.
-fn write_iteration<K: Sink>(pen: &mut Pen<'_, K>, values: &SheetValues, row: &Row<9>)
-    requires printable { IsPrintable 9 values.now }
+fn write_iteration<const P: usize, K: Sink>(
+    pen: &mut Pen<'_, P, K>,
+    values: &SheetValuesAt<P>,
+    row: &Row<P>,
+)
+    requires printable { IsPrintable P values.now }
     requires room { HasRoomFor (length values.now.names) row.now }
-    ensures { Prints K.Sink pen.old pen.new (printed (iteration values.now row.now)) }
+    ensures { Prints K.Sink pen.old pen.new (printed (iteration P values.now row.now)) }
 {
     pen.open(b"dl");
     write_iteration_head(pen, row);
@@ -85,24 +99,24 @@ fn write_iteration<K: Sink>(pen: &mut Pen<'_, K>, values: &SheetValues, row: &Ro
 }
 
 /// The line of an iteration.
-fn write_iteration_head<K: Sink>(pen: &mut Pen<'_, K>, row: &Row<9>)
-    ensures { Prints K.Sink pen.old pen.new (printed (iteration_head row.now)) }
+fn write_iteration_head<const P: usize, K: Sink>(pen: &mut Pen<'_, P, K>, row: &Row<P>)
+    ensures { Prints K.Sink pen.old pen.new (printed (iteration_head P row.now)) }
 {
     let step = step_word(row.step);
     write_iteration_line(pen, row.iteration, row.total, row.quota, row.surplus, step);
 }
 
 /// Number, amounts and step of an iteration.
-fn write_iteration_line<K: Sink>(
-    pen: &mut Pen<'_, K>,
+fn write_iteration_line<const P: usize, K: Sink>(
+    pen: &mut Pen<'_, P, K>,
     iteration: u64,
-    total: Amount<9>,
-    quota: Amount<9>,
-    surplus: Amount<9>,
+    total: Amount<P>,
+    quota: Amount<P>,
+    surplus: Amount<P>,
     step: &[u8],
 )
     ensures { Prints K.Sink pen.old pen.new
-        (printed (iteration_line iteration total quota surplus step.now)) }
+        (printed (iteration_line P iteration total.entry quota.entry surplus.entry step.now)) }
 {
     pen.write(&[
         Piece::Start(b"dt"),
@@ -121,11 +135,15 @@ fn write_iteration_line<K: Sink>(
 }
 
 /// The candidates that an iteration concerns.
-fn write_standings<K: Sink>(pen: &mut Pen<'_, K>, values: &SheetValues, row: &Row<9>)
-    requires printable { IsPrintable 9 values.now }
+fn write_standings<const P: usize, K: Sink>(
+    pen: &mut Pen<'_, P, K>,
+    values: &SheetValuesAt<P>,
+    row: &Row<P>,
+)
+    requires printable { IsPrintable P values.now }
     requires room { HasRoomFor (length values.now.names) row.now }
     ensures { Prints K.Sink pen.old pen.new
-        (print_each (standing_at row.now) (places (length values.now.names))) }
+        (print_each (standing_at P row.now) (all_places (length values.now.names))) }
 {
     for p in 0..values.names.len() {
         write_standing_at(pen, row, p);
@@ -133,11 +151,11 @@ fn write_standings<K: Sink>(pen: &mut Pen<'_, K>, values: &SheetValues, row: &Ro
 }
 
 /// The candidate at a place, if the iteration concerns it.
-fn write_standing_at<K: Sink>(pen: &mut Pen<'_, K>, row: &Row<9>, p: usize)
+fn write_standing_at<const P: usize, K: Sink>(pen: &mut Pen<'_, P, K>, row: &Row<P>, p: usize)
     requires room { HasRoomFor (length row.now.states) row.now }
     requires few { length row.now.states ≤ MOST_CANDIDATES }
     requires place { p < length row.now.states }
-    ensures { Prints K.Sink pen.old pen.new (printed (standing_at row.now p)) }
+    ensures { Prints K.Sink pen.old pen.new (printed (standing_at P row.now p)) }
 {
     if concerns(row, p) {
         write_standing_of(pen, row, p);
@@ -146,7 +164,7 @@ fn write_standing_at<K: Sink>(pen: &mut Pen<'_, K>, row: &Row<9>, p: usize)
 
 /// Whether an iteration concerns the candidate at a place: it does not where the candidate is out of the count,
 /// keeps nothing and has no vote.
-fn concerns(row: &Row<9>, p: usize) -> bool
+fn concerns<const P: usize>(row: &Row<P>, p: usize) -> bool
     requires room { HasRoomFor (length row.now.states) row.now }
     requires place { p < length row.now.states }
     ensures { result ≡ concerns row.now p }
@@ -168,11 +186,11 @@ fn is_out(state: State) -> bool
 }
 
 /// A candidate's number, its state and keep value before an iteration, and its vote in it.
-fn write_standing_of<K: Sink>(pen: &mut Pen<'_, K>, row: &Row<9>, p: usize)
+fn write_standing_of<const P: usize, K: Sink>(pen: &mut Pen<'_, P, K>, row: &Row<P>, p: usize)
     requires room { HasRoomFor (length row.now.states) row.now }
     requires few { length row.now.states ≤ MOST_CANDIDATES }
     requires place { p < length row.now.states }
-    ensures { Prints K.Sink pen.old pen.new (printed (standing_of row.now p)) }
+    ensures { Prints K.Sink pen.old pen.new (printed (standing_of P row.now p)) }
 {
     let state = state_note(*row.states.get(p));
     let keep = keep_note(kept_of_one(*row.keeps.get(p)));
@@ -193,11 +211,11 @@ fn state_note(state: State) -> &'static [u8]
 
 /// The keep value before an iteration, where it is not 1.
 #[tactic(auto, using(line_text::proofs::Lengths::lengths))]
-fn keep_note(keep: Amount<9>) -> Line
-    ensures { result ≡ keep_note keep }
+fn keep_note<const P: usize>(keep: Amount<P>) -> Line
+    ensures { result ≡ keep_note P keep.entry }
 {
     let mut line = Line::new();
-    if keep.units() == WHOLE {
+    if keep.units() == scale_of::<P>() {
         return line;
     }
     line.push_bytes(b", keeps ");
@@ -205,14 +223,14 @@ fn keep_note(keep: Amount<9>) -> Line
     line
 }
 
-fn write_standing<'x, K: Sink>(
-    pen: &mut Pen<'_, K>,
+fn write_standing<'x, const P: usize, K: Sink>(
+    pen: &mut Pen<'_, P, K>,
     number: u64,
     state: &'x [u8],
     keep: &'x [u8],
-    vote: Amount<9>,
+    vote: Amount<P>,
 )
-    ensures { Prints K.Sink pen.old pen.new (printed (standing number state.now keep.now vote)) }
+    ensures { Prints K.Sink pen.old pen.new (printed (standing P number state.now keep.now vote.entry)) }
 {
     pen.write(&[
         Piece::Start(b"dd"),

@@ -7,7 +7,7 @@ ghost use Rattle.piece_text.specs.Writing.{Writes};
 ghost use Rattle.sheet_reader.specs.Form.{IsPrintable};
 ghost use Rattle.sheet_page.specs.Json.{amounts_json, candidate_json, comma_at, head_json, iteration_at, iteration_json, json_of, lost_json, standing_json, truth, vote_json, won_json};
 ghost use Rattle.sheet_page.specs.Prints.{Prints};
-ghost use Rattle.sheet_page.specs.Values.{places};
+ghost use Rattle.sheet_page.specs.Values.{all_places};
 
 use crate::cell::Cell;
 use crate::pen::Pen;
@@ -15,13 +15,16 @@ use crate::piece::Piece;
 use crate::values::{defeats, kept_of_one, state_word, step_word};
 use byte_edge::{Failed, Sink};
 use meek_rule::Row;
-use sheet_reader::SheetValues;
+use sheet_reader::SheetValuesAt;
 use sheet_words::{is_by_lots, last_seats};
 
 /// Writes the values of a sheet as JSON, in one line.
-pub(crate) fn write_json<K: Sink>(values: &SheetValues, sink: &mut K) -> Result<(), Failed>
-    requires { IsPrintable 9 values.now }
-    ensures { Writes K.written K.faults sink.old sink.new (json_of values.now) result }
+pub(crate) fn write_json<const P: usize, K: Sink>(
+    values: &SheetValuesAt<P>,
+    sink: &mut K,
+) -> Result<(), Failed>
+    requires { IsPrintable P values.now }
+    ensures { Writes K.written K.faults sink.old sink.new (json_of P values.now) result }
 {
     let mut pen = Pen::new(sink);
     write_head(&mut pen, values);
@@ -33,7 +36,7 @@ pub(crate) fn write_json<K: Sink>(values: &SheetValues, sink: &mut K) -> Result<
 }
 
 /// Title and numbers, up to the list of candidates.
-fn write_head<K: Sink>(pen: &mut Pen<'_, K>, values: &SheetValues)
+fn write_head<const P: usize, K: Sink>(pen: &mut Pen<'_, P, K>, values: &SheetValuesAt<P>)
     ensures { Prints K.Sink pen.old pen.new (head_json values.now) }
 {
     pen.write(&[
@@ -48,11 +51,11 @@ fn write_head<K: Sink>(pen: &mut Pen<'_, K>, values: &SheetValues)
 }
 
 /// All candidates of the roll, with what became of them.
-fn write_candidates<K: Sink>(pen: &mut Pen<'_, K>, values: &SheetValues)
+fn write_candidates<const P: usize, K: Sink>(pen: &mut Pen<'_, P, K>, values: &SheetValuesAt<P>)
     requires outcomes { length values.now.last ≡ length values.now.names }
     requires few { length values.now.names ≤ MOST_CANDIDATES }
     ensures { Prints K.Sink pen.old pen.new
-        (flat_map (candidate_json values.now) (places (length values.now.names))) }
+        (flat_map (candidate_json values.now) (all_places (length values.now.names))) }
 {
     for p in 0..values.names.len() {
         write_candidate(pen, values, p);
@@ -60,7 +63,11 @@ fn write_candidates<K: Sink>(pen: &mut Pen<'_, K>, values: &SheetValues)
 }
 
 /// The candidate at a place, and what became of it.
-fn write_candidate<K: Sink>(pen: &mut Pen<'_, K>, values: &SheetValues, p: usize)
+fn write_candidate<const P: usize, K: Sink>(
+    pen: &mut Pen<'_, P, K>,
+    values: &SheetValuesAt<P>,
+    p: usize,
+)
     requires outcomes { length values.now.last ≡ length values.now.names }
     requires few { length values.now.names ≤ MOST_CANDIDATES }
     requires place { p < length values.now.names }
@@ -80,10 +87,10 @@ fn write_candidate<K: Sink>(pen: &mut Pen<'_, K>, values: &SheetValues, p: usize
     ]);
 }
 
-fn write_iterations<K: Sink>(pen: &mut Pen<'_, K>, values: &SheetValues)
-    requires { IsPrintable 9 values.now }
+fn write_iterations<const P: usize, K: Sink>(pen: &mut Pen<'_, P, K>, values: &SheetValuesAt<P>)
+    requires { IsPrintable P values.now }
     ensures { Prints K.Sink pen.old pen.new
-        (flat_map (iteration_at values.now) (places (length values.now.rows))) }
+        (flat_map (iteration_at P values.now) (all_places (length values.now.rows))) }
 {
     for i in 0..values.rows.len() {
         write_iteration(pen, values.seats, i, values.rows.get(i));
@@ -91,10 +98,15 @@ fn write_iterations<K: Sink>(pen: &mut Pen<'_, K>, values: &SheetValues)
 }
 
 /// An iteration, behind a comma if it isn't the first.
-fn write_iteration<K: Sink>(pen: &mut Pen<'_, K>, seats: u32, i: usize, row: &Row<9>)
+fn write_iteration<const P: usize, K: Sink>(
+    pen: &mut Pen<'_, P, K>,
+    seats: u32,
+    i: usize,
+    row: &Row<P>,
+)
     requires room { HasRoomFor (length row.now.states) row.now }
     requires few { length row.now.states ≤ MOST_CANDIDATES }
-    ensures { Prints K.Sink pen.old pen.new (iteration_json seats i row.now) }
+    ensures { Prints K.Sink pen.old pen.new (iteration_json P seats i row.now) }
 {
     let lots = truth(is_by_lots(row));
     let last = last_seats(seats, row);
@@ -105,14 +117,14 @@ fn write_iteration<K: Sink>(pen: &mut Pen<'_, K>, seats: u32, i: usize, row: &Ro
 
 /// Numbers, amounts and step of an iteration, whether the lots decided and the last seats, up to its list of
 /// candidates.
-fn write_amounts<'x, K: Sink>(
-    pen: &mut Pen<'_, K>,
+fn write_amounts<'x, const P: usize, K: Sink>(
+    pen: &mut Pen<'_, P, K>,
     i: usize,
-    row: &'x Row<9>,
+    row: &'x Row<P>,
     lots: &'x [u8],
     seats: u64,
 )
-    ensures { Prints K.Sink pen.old pen.new (amounts_json i row.now lots.now seats) }
+    ensures { Prints K.Sink pen.old pen.new (amounts_json P i row.now lots.now seats) }
 {
     pen.write(&[
         Piece::Raw(comma_at(i)),
@@ -137,11 +149,11 @@ fn write_amounts<'x, K: Sink>(
 }
 
 /// All candidates in an iteration.
-fn write_standings<K: Sink>(pen: &mut Pen<'_, K>, row: &Row<9>)
+fn write_standings<const P: usize, K: Sink>(pen: &mut Pen<'_, P, K>, row: &Row<P>)
     requires room { HasRoomFor (length row.now.states) row.now }
     requires few { length row.now.states ≤ MOST_CANDIDATES }
     ensures { Prints K.Sink pen.old pen.new
-        (flat_map (standing_json row.now) (places (length row.now.states))) }
+        (flat_map (standing_json P row.now) (all_places (length row.now.states))) }
 {
     for p in 0..row.states.len() {
         write_standing(pen, row, p);
@@ -149,11 +161,11 @@ fn write_standings<K: Sink>(pen: &mut Pen<'_, K>, row: &Row<9>)
 }
 
 /// The candidate at a place in an iteration.
-fn write_standing<K: Sink>(pen: &mut Pen<'_, K>, row: &Row<9>, p: usize)
+fn write_standing<const P: usize, K: Sink>(pen: &mut Pen<'_, P, K>, row: &Row<P>, p: usize)
     requires room { HasRoomFor (length row.now.states) row.now }
     requires few { length row.now.states ≤ MOST_CANDIDATES }
     requires place { p < length row.now.states }
-    ensures { Prints K.Sink pen.old pen.new (standing_json row.now p) }
+    ensures { Prints K.Sink pen.old pen.new (standing_json P row.now p) }
 {
     write_vote(pen, row, p);
     let elected = truth(*row.elected.get(p));
@@ -165,11 +177,11 @@ fn write_standing<K: Sink>(pen: &mut Pen<'_, K>, row: &Row<9>, p: usize)
 }
 
 /// Number, state, keep value and vote, up to the marks.
-fn write_vote<K: Sink>(pen: &mut Pen<'_, K>, row: &Row<9>, p: usize)
+fn write_vote<const P: usize, K: Sink>(pen: &mut Pen<'_, P, K>, row: &Row<P>, p: usize)
     requires room { HasRoomFor (length row.now.states) row.now }
     requires place { p < length row.now.states }
     requires few { length row.now.states ≤ MOST_CANDIDATES }
-    ensures { Prints K.Sink pen.old pen.new (vote_json row.now p) }
+    ensures { Prints K.Sink pen.old pen.new (vote_json P row.now p) }
 {
     let state = state_word(*row.states.get(p));
     let keep = kept_of_one(*row.keeps.get(p));
@@ -187,7 +199,11 @@ fn write_vote<K: Sink>(pen: &mut Pen<'_, K>, row: &Row<9>, p: usize)
 }
 
 /// The marks of who is elected and whose keep value is capped.
-fn write_won<'x, K: Sink>(pen: &mut Pen<'_, K>, elected: &'x [u8], capped: &'x [u8])
+fn write_won<'x, const P: usize, K: Sink>(
+    pen: &mut Pen<'_, P, K>,
+    elected: &'x [u8],
+    capped: &'x [u8],
+)
     ensures { Prints K.Sink pen.old pen.new (won_json elected.now capped.now) }
 {
     pen.write(&[
@@ -199,7 +215,11 @@ fn write_won<'x, K: Sink>(pen: &mut Pen<'_, K>, elected: &'x [u8], capped: &'x [
 }
 
 /// The marks of who is tied and who is defeated.
-fn write_lost<'x, K: Sink>(pen: &mut Pen<'_, K>, tied: &'x [u8], defeated: &'x [u8])
+fn write_lost<'x, const P: usize, K: Sink>(
+    pen: &mut Pen<'_, P, K>,
+    tied: &'x [u8],
+    defeated: &'x [u8],
+)
     ensures { Prints K.Sink pen.old pen.new (lost_json tied.now defeated.now) }
 {
     pen.write(&[

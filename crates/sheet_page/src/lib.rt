@@ -8,6 +8,7 @@
 mod bars;
 mod cell;
 mod csv;
+mod digits;
 mod elected;
 mod format;
 mod html;

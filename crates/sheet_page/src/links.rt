@@ -6,7 +6,7 @@ ghost use Rattle.sheet_minutes.specs.Rounds.{row_at};
 ghost use Rattle.sheet_page.specs.Links.{link_at, link_list, link_to, links, part_name, round_link};
 ghost use Rattle.sheet_page.specs.Prints.{Prints};
 ghost use Rattle.sheet_page.specs.Trees.{print_each};
-ghost use Rattle.sheet_page.specs.Values.{places};
+ghost use Rattle.sheet_page.specs.Values.{all_places};
 
 use crate::cell::Cell;
 use crate::pen::Pen;
@@ -15,11 +15,14 @@ use byte_edge::Sink;
 use line_text::Line;
 use page_tree::Attribute;
 use sheet_minutes::ends_round;
-use sheet_reader::SheetValues;
+use sheet_reader::SheetValuesAt;
 
 /// Writes a link to the part of each round.
-pub(crate) fn write_links<K: Sink>(pen: &mut Pen<'_, K>, values: &SheetValues)
-    requires printable { IsPrintable 9 values.now }
+pub(crate) fn write_links<const P: usize, K: Sink>(
+    pen: &mut Pen<'_, P, K>,
+    values: &SheetValuesAt<P>,
+)
+    requires printable { IsPrintable P values.now }
     ensures { Prints K.Sink pen.old pen.new (printed (links values.now)) }
 {
     pen.start(
@@ -33,8 +36,8 @@ pub(crate) fn write_links<K: Sink>(pen: &mut Pen<'_, K>, values: &SheetValues)
     pen.close(b"nav");
 }
 
-fn write_link_list<K: Sink>(pen: &mut Pen<'_, K>, values: &SheetValues)
-    requires printable { IsPrintable 9 values.now }
+fn write_link_list<const P: usize, K: Sink>(pen: &mut Pen<'_, P, K>, values: &SheetValuesAt<P>)
+    requires printable { IsPrintable P values.now }
     ensures { Prints K.Sink pen.old pen.new (printed (link_list values.now)) }
 {
     pen.open(b"ul");
@@ -42,10 +45,10 @@ fn write_link_list<K: Sink>(pen: &mut Pen<'_, K>, values: &SheetValues)
     pen.close(b"ul");
 }
 
-fn write_each_link<K: Sink>(pen: &mut Pen<'_, K>, values: &SheetValues)
-    requires printable { IsPrintable 9 values.now }
+fn write_each_link<const P: usize, K: Sink>(pen: &mut Pen<'_, P, K>, values: &SheetValuesAt<P>)
+    requires printable { IsPrintable P values.now }
     ensures { Prints K.Sink pen.old pen.new
-        (print_each (link_at values.now) (places (length values.now.rows))) }
+        (print_each (link_at values.now) (all_places (length values.now.rows))) }
 {
     for i in 0..values.rows.len() {
         write_link_at(pen, values, i);
@@ -53,7 +56,11 @@ fn write_each_link<K: Sink>(pen: &mut Pen<'_, K>, values: &SheetValues)
 }
 
 /// The link to a round, if it ends at this place.
-fn write_link_at<K: Sink>(pen: &mut Pen<'_, K>, values: &SheetValues, i: usize)
+fn write_link_at<const P: usize, K: Sink>(
+    pen: &mut Pen<'_, P, K>,
+    values: &SheetValuesAt<P>,
+    i: usize,
+)
     requires place { i < length values.now.rows }
     ensures { Prints K.Sink pen.old pen.new (printed (link_at values.now i)) }
 {
@@ -63,7 +70,7 @@ fn write_link_at<K: Sink>(pen: &mut Pen<'_, K>, values: &SheetValues, i: usize)
 }
 
 /// The link to the part of the round that ends at a place.
-fn write_link<K: Sink>(pen: &mut Pen<'_, K>, values: &SheetValues, i: usize)
+fn write_link<const P: usize, K: Sink>(pen: &mut Pen<'_, P, K>, values: &SheetValuesAt<P>, i: usize)
     requires place { i < length values.now.rows }
     ensures { Prints K.Sink pen.old pen.new
         (printed (round_link (link_to i) (row_at values.now.rows i).round)) }
@@ -74,7 +81,7 @@ fn write_link<K: Sink>(pen: &mut Pen<'_, K>, values: &SheetValues, i: usize)
 }
 
 /// The number of a round, that leads to this target.
-fn write_link_text<K: Sink>(pen: &mut Pen<'_, K>, target: &[u8], round: u32)
+fn write_link_text<const P: usize, K: Sink>(pen: &mut Pen<'_, P, K>, target: &[u8], round: u32)
     ensures { Prints K.Sink pen.old pen.new (printed (round_link target.now round)) }
 {
     pen.write(&[
@@ -91,7 +98,7 @@ fn write_link_text<K: Sink>(pen: &mut Pen<'_, K>, target: &[u8], round: u32)
 
 /// Where the link to the part of the round that ends at a place leads.
 #[tactic(auto, using(line_text::proofs::Lengths::lengths))]
-pub(crate) fn link_to(values: &SheetValues, last: usize) -> Line
+pub(crate) fn link_to<const P: usize>(values: &SheetValuesAt<P>, last: usize) -> Line
     requires { last < length values.now.rows }
     ensures { result ≡ link_to last }
 {
@@ -104,7 +111,7 @@ pub(crate) fn link_to(values: &SheetValues, last: usize) -> Line
 
 /// The name of the part of the round that ends at a place.
 #[tactic(auto, using(line_text::proofs::Lengths::lengths))]
-pub(crate) fn part_name(values: &SheetValues, last: usize) -> Line
+pub(crate) fn part_name<const P: usize>(values: &SheetValuesAt<P>, last: usize) -> Line
     requires { last < length values.now.rows }
     ensures { result ≡ part_name last }
 {

@@ -14,7 +14,7 @@ ghost use Rattle.sheet_page.specs.Cells.{cell_text};
 ghost use Rattle.sheet_page.specs.JsonText.{string_text};
 ghost use Rattle.sheet_page.specs.Pieces.{piece_text};
 ghost use Rattle.sheet_page.specs.Prints.{Prints};
-ghost use Rattle.sheet_page.specs.Values.{places};
+ghost use Rattle.sheet_page.specs.Values.{all_places};
 
 use crate::cell::{Cell, amount_text, count_text};
 use crate::json_text::write_string;
@@ -24,19 +24,20 @@ use csv_text::write_field;
 use meek_rule::Row;
 use page_tree::{Attribute, write_end as write_end_tag, write_start, write_text};
 use piece_text::write_bytes;
-use sheet_reader::SheetValues;
+use sheet_reader::SheetValuesAt;
 use sheet_words::{Voice, write_end, write_outcomes, write_sentences_of};
 
-/// Writes pieces to a sink one after another, up to the first failure: behind it nothing more is written.
+/// Writes pieces, with amounts of `P` places, to a sink one after another, up to the first failure: behind it nothing more is
+/// written.
 #[derive(Drop)]
-pub(crate) struct Pen<'s, K> {
+pub(crate) struct Pen<'s, const P: usize, K> {
     sink: &'s mut K,
     done: Result<(), Failed>,
 }
 
-impl<'s, K: Sink> Pen<'s, K> {
+impl<'s, const P: usize, K: Sink> Pen<'s, P, K> {
     /// A pen at a sink, with nothing written yet.
-    pub(crate) fn new(sink: &'s mut K) -> Pen<'s, K>
+    pub(crate) fn new(sink: &'s mut K) -> Pen<'s, P, K>
         ensures same_sink { result.sink.ghost_name ≡ sink.entry.ghost_name }
         ensures before { result.sink.now ≡ sink.old }
         ensures well { result.done ≡ Ok (tt {0}) }
@@ -53,8 +54,8 @@ impl<'s, K: Sink> Pen<'s, K> {
     }
 
     /// Writes some pieces.
-    pub(crate) fn write(&mut self, pieces: &[Piece<'_>])
-        ensures { Prints K.Sink self.old self.new (flat_map piece_text pieces.now) }
+    pub(crate) fn write(&mut self, pieces: &[Piece<'_, P>])
+        ensures { Prints K.Sink self.old self.new (flat_map (piece_text P) pieces.now) }
     {
         for piece in pieces {
             self.piece(piece);
@@ -62,8 +63,8 @@ impl<'s, K: Sink> Pen<'s, K> {
     }
 
     /// Writes a piece, if all before it was written.
-    pub(crate) fn piece(&mut self, piece: &Piece<'_>)
-        ensures { Prints K.Sink self.old self.new (piece_text piece.now) }
+    pub(crate) fn piece(&mut self, piece: &Piece<'_, P>)
+        ensures { Prints K.Sink self.old self.new (piece_text P piece.now) }
     {
         if let Ok(()) = self.done {
             self.done = write_piece(piece, self.sink);
@@ -94,10 +95,10 @@ impl<'s, K: Sink> Pen<'s, K> {
     }
 
     /// Writes what an iteration decided, in the manner of a voice.
-    pub(crate) fn decisions<V: Voice>(&mut self, voice: &V, values: &SheetValues, row: &Row<9>)
+    pub(crate) fn decisions<V: Voice>(&mut self, voice: &V, values: &SheetValuesAt<P>, row: &Row<P>)
         requires few { length values.now.names ≤ MOST_CANDIDATES }
-        requires printable { IsPrintableRow 9 (length values.now.names) row.now }
-        ensures { Prints K.Sink self.old self.new (flat_map (told V.manner) (sentences_of values.now row.now)) }
+        requires printable { IsPrintableRow P (length values.now.names) row.now }
+        ensures { Prints K.Sink self.old self.new (flat_map (told V.manner) (sentences_of P values.now row.now)) }
     {
         if let Ok(()) = self.done {
             self.done = write_sentences_of(voice, values, row, self.sink);
@@ -105,8 +106,8 @@ impl<'s, K: Sink> Pen<'s, K> {
     }
 
     /// Writes why the count ended, and what became of those on whom no iteration decided.
-    pub(crate) fn ending<V: Voice>(&mut self, voice: &V, values: &SheetValues)
-        requires { IsPrintable 9 values.now }
+    pub(crate) fn ending<V: Voice>(&mut self, voice: &V, values: &SheetValuesAt<P>)
+        requires { IsPrintable P values.now }
         ensures { Prints K.Sink self.old self.new
             (flat_map (told V.manner) (map at_end (sentences_at_end values.now))) }
     {
@@ -116,10 +117,10 @@ impl<'s, K: Sink> Pen<'s, K> {
     }
 
     /// Writes what became of each candidate.
-    pub(crate) fn outcomes<V: Voice>(&mut self, voice: &V, values: &SheetValues)
-        requires { IsPrintable 9 values.now }
+    pub(crate) fn outcomes<V: Voice>(&mut self, voice: &V, values: &SheetValuesAt<P>)
+        requires { IsPrintable P values.now }
         ensures { Prints K.Sink self.old self.new
-            (flat_map (told V.manner) (map (outcome values.now) (places (length values.now.names)))) }
+            (flat_map (told V.manner) (map (outcome values.now) (all_places (length values.now.names)))) }
     {
         if let Ok(()) = self.done {
             self.done = write_outcomes(voice, values, self.sink);
@@ -127,8 +128,8 @@ impl<'s, K: Sink> Pen<'s, K> {
     }
 
     /// Writes a record of a spreadsheet, which has at least one field.
-    pub(crate) fn record(&mut self, first: &Cell<'_>, others: &[Cell<'_>])
-        ensures { Prints K.Sink self.old self.new (record_text (map cell_text (first.now ∷ others.now))) }
+    pub(crate) fn record(&mut self, first: &Cell<'_, P>, others: &[Cell<'_, P>])
+        ensures { Prints K.Sink self.old self.new (record_text (map (cell_text P) (first.now ∷ others.now))) }
     {
         self.field(first);
         for other in others {
@@ -138,16 +139,16 @@ impl<'s, K: Sink> Pen<'s, K> {
     }
 
     /// Writes a further field of a record.
-    fn behind_comma(&mut self, cell: &Cell<'_>)
-        ensures { Prints K.Sink self.old self.new (behind_comma (cell_text cell.now)) }
+    fn behind_comma(&mut self, cell: &Cell<'_, P>)
+        ensures { Prints K.Sink self.old self.new (behind_comma (cell_text P cell.now)) }
     {
         self.piece(&Piece::Raw(b","));
         self.field(cell);
     }
 
     /// Writes a field of a record.
-    fn field(&mut self, cell: &Cell<'_>)
-        ensures { Prints K.Sink self.old self.new (field_text (cell_text cell.now)) }
+    fn field(&mut self, cell: &Cell<'_, P>)
+        ensures { Prints K.Sink self.old self.new (field_text (cell_text P cell.now)) }
     {
         if let Ok(()) = self.done {
             self.done = write_cell_field(cell, self.sink);
@@ -155,8 +156,8 @@ impl<'s, K: Sink> Pen<'s, K> {
     }
 }
 
-fn write_piece<K: Sink>(piece: &Piece<'_>, sink: &mut K) -> Result<(), Failed>
-    ensures { Writes K.written K.faults sink.old sink.new (piece_text piece.now) result }
+fn write_piece<const P: usize, K: Sink>(piece: &Piece<'_, P>, sink: &mut K) -> Result<(), Failed>
+    ensures { Writes K.written K.faults sink.old sink.new (piece_text P piece.now) result }
 {
     match piece {
         Piece::Raw(bytes) => write_bytes(*bytes, sink),
@@ -180,9 +181,13 @@ fn write_begin<K: Sink>(name: &[u8], sink: &mut K) -> Result<(), Failed>
 }
 
 /// Writes an attribute behind a space.
-fn write_with<K: Sink>(name: &[u8], cell: &Cell<'_>, sink: &mut K) -> Result<(), Failed>
+fn write_with<const P: usize, K: Sink>(
+    name: &[u8],
+    cell: &Cell<'_, P>,
+    sink: &mut K,
+) -> Result<(), Failed>
     ensures { Writes K.written K.faults sink.old sink.new
-        (attribute_text (record { name = name.now; value = cell_text cell.now })) result }
+        (attribute_text (record { name = name.now; value = cell_text P cell.now })) result }
 {
     write_bytes(b" ", sink)?;
     write_bytes(name, sink)?;
@@ -192,8 +197,8 @@ fn write_with<K: Sink>(name: &[u8], cell: &Cell<'_>, sink: &mut K) -> Result<(),
 }
 
 /// Writes a value as a text of a page.
-fn write_cell_text<K: Sink>(cell: &Cell<'_>, sink: &mut K) -> Result<(), Failed>
-    ensures { Writes K.written K.faults sink.old sink.new (shown (cell_text cell.now)) result }
+fn write_cell_text<const P: usize, K: Sink>(cell: &Cell<'_, P>, sink: &mut K) -> Result<(), Failed>
+    ensures { Writes K.written K.faults sink.old sink.new (shown (cell_text P cell.now)) result }
 {
     match cell {
         Cell::Bytes(bytes) => write_text(*bytes, sink),
@@ -203,8 +208,11 @@ fn write_cell_text<K: Sink>(cell: &Cell<'_>, sink: &mut K) -> Result<(), Failed>
 }
 
 /// Writes a value as a string of JSON.
-fn write_cell_string<K: Sink>(cell: &Cell<'_>, sink: &mut K) -> Result<(), Failed>
-    ensures { Writes K.written K.faults sink.old sink.new (string_text (cell_text cell.now)) result }
+fn write_cell_string<const P: usize, K: Sink>(
+    cell: &Cell<'_, P>,
+    sink: &mut K,
+) -> Result<(), Failed>
+    ensures { Writes K.written K.faults sink.old sink.new (string_text (cell_text P cell.now)) result }
 {
     match cell {
         Cell::Bytes(bytes) => write_string(*bytes, sink),
@@ -214,8 +222,8 @@ fn write_cell_string<K: Sink>(cell: &Cell<'_>, sink: &mut K) -> Result<(), Faile
 }
 
 /// Writes a value as a field of a record.
-fn write_cell_field<K: Sink>(cell: &Cell<'_>, sink: &mut K) -> Result<(), Failed>
-    ensures { Writes K.written K.faults sink.old sink.new (field_text (cell_text cell.now)) result }
+fn write_cell_field<const P: usize, K: Sink>(cell: &Cell<'_, P>, sink: &mut K) -> Result<(), Failed>
+    ensures { Writes K.written K.faults sink.old sink.new (field_text (cell_text P cell.now)) result }
 {
     match cell {
         Cell::Bytes(bytes) => write_field(*bytes, sink),

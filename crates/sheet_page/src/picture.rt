@@ -22,32 +22,36 @@ use fixed_place::Amount;
 use line_text::Line;
 use meek_rule::Row;
 use sheet_minutes::left_over;
-use sheet_reader::SheetValues;
+use sheet_reader::SheetValuesAt;
 
 /// Writes the quota and the picture of a round, by its last iteration and the states behind it; `full`
 /// units have the whole width.
-pub(crate) fn write_round_picture<K: Sink>(
-    pen: &mut Pen<'_, K>,
-    values: &SheetValues,
+pub(crate) fn write_round_picture<const P: usize, K: Sink>(
+    pen: &mut Pen<'_, P, K>,
+    values: &SheetValuesAt<P>,
     full: u64,
-    row: &Row<9>,
+    row: &Row<P>,
     behind: &States,
 )
-    requires printable { IsPrintable 9 values.now }
+    requires printable { IsPrintable P values.now }
     requires room { HasRoomFor (length values.now.names) row.now }
     requires states { length behind.now ≡ length values.now.names }
     ensures { Prints K.Sink pen.old pen.new
-        (printed (round_picture values.now full (settled row.now behind.now))) }
+        (printed (round_picture P values.now full (settled row.now behind.now))) }
 {
     write_amounts(pen, values, row);
     write_picture(pen, values, full, row, behind);
 }
 
 /// What is said of the amounts of a round.
-fn write_amounts<K: Sink>(pen: &mut Pen<'_, K>, values: &SheetValues, row: &Row<9>)
-    requires printable { IsPrintable 9 values.now }
+fn write_amounts<const P: usize, K: Sink>(
+    pen: &mut Pen<'_, P, K>,
+    values: &SheetValuesAt<P>,
+    row: &Row<P>,
+)
+    requires printable { IsPrintable P values.now }
     requires room { HasRoomFor (length values.now.names) row.now }
-    ensures { Prints K.Sink pen.old pen.new (printed (amounts_of values.now.ballots row.now)) }
+    ensures { Prints K.Sink pen.old pen.new (printed (amounts_of P values.now.ballots row.now)) }
 {
     pen.open(b"p");
     write_quota_and_left(pen, values, row);
@@ -56,18 +60,26 @@ fn write_amounts<K: Sink>(pen: &mut Pen<'_, K>, values: &SheetValues, row: &Row<
 }
 
 /// The quota of a round, and the votes on no candidate.
-fn write_quota_and_left<K: Sink>(pen: &mut Pen<'_, K>, values: &SheetValues, row: &Row<9>)
-    requires { IsPrintable 9 values.now }
+fn write_quota_and_left<const P: usize, K: Sink>(
+    pen: &mut Pen<'_, P, K>,
+    values: &SheetValuesAt<P>,
+    row: &Row<P>,
+)
+    requires { IsPrintable P values.now }
     ensures { Prints K.Sink pen.old pen.new
-        (printed (amounts_text row.now.quota (left_over values.now.ballots row.now))) }
+        (printed (amounts_text P row.now.quota (left_over P values.now.ballots row.now))) }
 {
     let left = left_over(values.ballots, row.total);
     write_amounts_text(pen, row.quota, left);
 }
 
 /// Both amounts as a sentence.
-fn write_amounts_text<K: Sink>(pen: &mut Pen<'_, K>, quota: Amount<9>, left: Amount<9>)
-    ensures { Prints K.Sink pen.old pen.new (printed (amounts_text quota left)) }
+fn write_amounts_text<const P: usize, K: Sink>(
+    pen: &mut Pen<'_, P, K>,
+    quota: Amount<P>,
+    left: Amount<P>,
+)
+    ensures { Prints K.Sink pen.old pen.new (printed (amounts_text P quota.entry left.entry)) }
 {
     pen.write(&[
         Piece::Text(Cell::Bytes(b"Quota ")),
@@ -79,18 +91,18 @@ fn write_amounts_text<K: Sink>(pen: &mut Pen<'_, K>, quota: Amount<9>, left: Amo
 }
 
 /// The picture alone; `full` units have its whole width.
-fn write_picture<K: Sink>(
-    pen: &mut Pen<'_, K>,
-    values: &SheetValues,
+fn write_picture<const P: usize, K: Sink>(
+    pen: &mut Pen<'_, P, K>,
+    values: &SheetValuesAt<P>,
     full: u64,
-    row: &Row<9>,
+    row: &Row<P>,
     behind: &States,
 )
-    requires printable { IsPrintable 9 values.now }
+    requires printable { IsPrintable P values.now }
     requires room { HasRoomFor (length values.now.names) row.now }
     requires states { length behind.now ≡ length values.now.names }
     ensures { Prints K.Sink pen.old pen.new
-        (printed (picture values.now full (settled row.now behind.now))) }
+        (printed (picture P values.now full (settled row.now behind.now))) }
 {
     write_start(pen, row);
     write_title(pen, row.round);
@@ -100,7 +112,7 @@ fn write_picture<K: Sink>(
 }
 
 /// The start of the picture, with room for its bars.
-fn write_start<K: Sink>(pen: &mut Pen<'_, K>, row: &Row<9>)
+fn write_start<const P: usize, K: Sink>(pen: &mut Pen<'_, P, K>, row: &Row<P>)
     requires room { HasRoomFor (length row.now.states) row.now }
     ensures { Prints K.Sink pen.old pen.new
         (opening (codes "svg") (picture_attributes (bars_of row.now))) }
@@ -122,7 +134,7 @@ fn view_box(bars: usize) -> Line
 }
 
 /// The start of a picture that shows this part of the plane.
-fn write_start_of<K: Sink>(pen: &mut Pen<'_, K>, view: &[u8])
+fn write_start_of<const P: usize, K: Sink>(pen: &mut Pen<'_, P, K>, view: &[u8])
     ensures { Prints K.Sink pen.old pen.new (opening (codes "svg") (attributes_of view.now)) }
 {
     pen.write(&[
@@ -134,7 +146,7 @@ fn write_start_of<K: Sink>(pen: &mut Pen<'_, K>, view: &[u8])
 }
 
 /// What is told to who doesn't see the picture.
-fn write_title<K: Sink>(pen: &mut Pen<'_, K>, round: u32)
+fn write_title<const P: usize, K: Sink>(pen: &mut Pen<'_, P, K>, round: u32)
     ensures { Prints K.Sink pen.old pen.new (printed (picture_title round)) }
 {
     pen.write(&[
@@ -149,7 +161,7 @@ fn write_title<K: Sink>(pen: &mut Pen<'_, K>, round: u32)
 }
 
 /// The quota of a round as a line; `full` units have the whole width.
-fn write_quota<K: Sink>(pen: &mut Pen<'_, K>, full: u64, row: &Row<9>)
+fn write_quota<const P: usize, K: Sink>(pen: &mut Pen<'_, P, K>, full: u64, row: &Row<P>)
     requires room { HasRoomFor (length row.now.states) row.now }
     ensures { Prints K.Sink pen.old pen.new
         (printed (quota_line (scaled full row.now.quota) (bars_of row.now))) }
@@ -158,7 +170,7 @@ fn write_quota<K: Sink>(pen: &mut Pen<'_, K>, full: u64, row: &Row<9>)
 }
 
 /// A line down over so many bars, so many points from the left.
-fn write_quota_line<K: Sink>(pen: &mut Pen<'_, K>, x: u64, bars: usize)
+fn write_quota_line<const P: usize, K: Sink>(pen: &mut Pen<'_, P, K>, x: u64, bars: usize)
     requires few { bars ≤ MOST_CANDIDATES }
     ensures { Prints K.Sink pen.old pen.new (printed (quota_line x bars)) }
 {
@@ -175,20 +187,22 @@ fn write_quota_line<K: Sink>(pen: &mut Pen<'_, K>, x: u64, bars: usize)
 }
 
 /// How many stand and have no bar, and their votes together, if there are any.
-fn write_rest<K: Sink>(pen: &mut Pen<'_, K>, row: &Row<9>)
+fn write_rest<const P: usize, K: Sink>(pen: &mut Pen<'_, P, K>, row: &Row<P>)
     requires room { HasRoomFor (length row.now.states) row.now }
     requires few { length row.now.votes ≤ MOST_CANDIDATES }
-    ensures { Prints K.Sink pen.old pen.new (printed (rest_part row.now)) }
+    ensures { Prints K.Sink pen.old pen.new (printed (rest_part P row.now)) }
 {
     let count = rest_count(row) as u64;
     if is_nothing(count) {
         return;
     }
-    let votes = units_text(rest_votes(row));
+    // A quota has from 6 to 9 places.
+    let _quota = row.quota.units();
+    let votes = units_text::<P>(rest_votes(row));
     write_rest_text(pen, count, votes.bytes());
 }
 
-fn write_rest_text<K: Sink>(pen: &mut Pen<'_, K>, count: u64, votes: &[u8])
+fn write_rest_text<const P: usize, K: Sink>(pen: &mut Pen<'_, P, K>, count: u64, votes: &[u8])
     ensures { Prints K.Sink pen.old pen.new (printed (rest_text count votes.now)) }
 {
     pen.write(&[

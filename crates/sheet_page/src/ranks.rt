@@ -1,6 +1,7 @@
 // Who has a bar in the picture of a round, and where.
 ghost use Rattle.std.specs.Prelude.{◌≡◌, ◌+◌, ◌*◌, ◌^◌, ◌<◌, ◌≤◌, length, nat_eq};
 ghost use Rattle.plain_ballots.specs.declared.limits.TheConstants.{MOST_CANDIDATES};
+ghost use Rattle.fixed_place.specs.Rounding.{most};
 ghost use Rattle.meek_rule.specs.Row.{HasRoomFor};
 ghost use Rattle.sheet_page.specs.Bars.{bars_before, bars_of, comes_before, has_bar, rest_count, rest_vote, rest_votes, standing_count, stands};
 
@@ -10,7 +11,7 @@ use meek_rule::Row;
 const MOST_BARS: usize = 24;
 
 /// Whether the candidate at a place keeps anything in an iteration.
-fn stands(row: &Row<9>, p: usize) -> bool
+fn stands<const P: usize>(row: &Row<P>, p: usize) -> bool
     requires room { HasRoomFor (length row.now.states) row.now }
     requires place { p < length row.now.states }
     ensures { result ≡ stands row.now p }
@@ -26,7 +27,7 @@ pub(crate) fn is_nothing(units: u64) -> bool
 }
 
 /// Whether the candidate at place `q` stands, and comes before the one at `p`.
-fn comes_before(row: &Row<9>, p: usize, q: usize) -> bool
+fn comes_before<const P: usize>(row: &Row<P>, p: usize, q: usize) -> bool
     requires room { HasRoomFor (length row.now.states) row.now }
     requires place { p < length row.now.states }
     requires other { q < length row.now.states }
@@ -38,7 +39,7 @@ fn comes_before(row: &Row<9>, p: usize, q: usize) -> bool
 }
 
 /// How many come before the candidate at a place.
-pub(crate) fn bars_before(row: &Row<9>, p: usize) -> usize
+pub(crate) fn bars_before<const P: usize>(row: &Row<P>, p: usize) -> usize
     requires room { HasRoomFor (length row.now.states) row.now }
     requires place { p < length row.now.states }
     ensures count { result ≡ bars_before row.now p }
@@ -54,7 +55,7 @@ pub(crate) fn bars_before(row: &Row<9>, p: usize) -> usize
 }
 
 /// Whether the candidate at a place has a bar.
-pub(crate) fn has_bar(row: &Row<9>, p: usize) -> bool
+pub(crate) fn has_bar<const P: usize>(row: &Row<P>, p: usize) -> bool
     requires room { HasRoomFor (length row.now.states) row.now }
     requires place { p < length row.now.states }
     ensures { result ≡ has_bar row.now p }
@@ -63,7 +64,7 @@ pub(crate) fn has_bar(row: &Row<9>, p: usize) -> bool
 }
 
 /// How many candidates stand in a round.
-fn standing_count(row: &Row<9>) -> usize
+fn standing_count<const P: usize>(row: &Row<P>) -> usize
     requires room { HasRoomFor (length row.now.states) row.now }
     ensures count { result ≡ standing_count row.now }
     ensures few { result ≤ length row.now.votes }
@@ -78,7 +79,7 @@ fn standing_count(row: &Row<9>) -> usize
 }
 
 /// How many bars the picture of a round has.
-pub(crate) fn bars_of(row: &Row<9>) -> usize
+pub(crate) fn bars_of<const P: usize>(row: &Row<P>) -> usize
     requires room { HasRoomFor (length row.now.states) row.now }
     ensures count { result ≡ bars_of row.now }
     ensures few { result ≤ 24 }
@@ -87,7 +88,7 @@ pub(crate) fn bars_of(row: &Row<9>) -> usize
 }
 
 /// How many stand and have no bar.
-pub(crate) fn rest_count(row: &Row<9>) -> usize
+pub(crate) fn rest_count<const P: usize>(row: &Row<P>) -> usize
     requires room { HasRoomFor (length row.now.states) row.now }
     ensures { result ≡ rest_count row.now }
 {
@@ -95,10 +96,11 @@ pub(crate) fn rest_count(row: &Row<9>) -> usize
 }
 
 /// The vote of the candidate at a place, in units, if it stands and has no bar.
-fn rest_vote(row: &Row<9>, p: usize) -> u64
+fn rest_vote<const P: usize>(row: &Row<P>, p: usize) -> u64
     requires room { HasRoomFor (length row.now.states) row.now }
     requires place { p < length row.now.states }
-    ensures { result ≡ rest_vote row.now p }
+    ensures vote { result ≡ rest_vote row.now p }
+    ensures bound { result ≤ most P }
 {
     if stands(row, p) && !has_bar(row, p) {
         row.votes.get(p).units()
@@ -108,11 +110,11 @@ fn rest_vote(row: &Row<9>, p: usize) -> u64
 }
 
 /// The votes together, in units, of those who stand and have no bar.
-pub(crate) fn rest_votes(row: &Row<9>) -> u128
+pub(crate) fn rest_votes<const P: usize>(row: &Row<P>) -> u128
     requires room { HasRoomFor (length row.now.states) row.now }
     requires few { length row.now.votes ≤ MOST_CANDIDATES }
     ensures sum { result ≡ rest_votes row.now }
-    ensures bound { result < 10 ^ 27 }
+    ensures bound { result < 10 ^ (P + 18) }
 {
     let mut sum = 0;
     for p in 0..row.votes.len() {

@@ -6,7 +6,7 @@ ghost use Rattle.sheet_page.specs.Html.{part_at, round_part, round_title};
 ghost use Rattle.sheet_page.specs.Links.{part_attributes, part_name};
 ghost use Rattle.sheet_page.specs.Prints.{Prints};
 ghost use Rattle.sheet_page.specs.Trees.{print_each};
-ghost use Rattle.sheet_page.specs.Values.{places};
+ghost use Rattle.sheet_page.specs.Values.{all_places};
 
 use crate::cell::Cell;
 use crate::iterations::write_folded;
@@ -17,13 +17,17 @@ use crate::piece::Piece;
 use crate::told::write_round_sentences;
 use byte_edge::Sink;
 use sheet_minutes::{ends_round, states_behind};
-use sheet_reader::SheetValues;
+use sheet_reader::SheetValuesAt;
 
 /// Writes the part of each round; `full` units have the whole width of a picture.
-pub(crate) fn write_round_parts<K: Sink>(pen: &mut Pen<'_, K>, values: &SheetValues, full: u64)
-    requires printable { IsPrintable 9 values.now }
+pub(crate) fn write_round_parts<const P: usize, K: Sink>(
+    pen: &mut Pen<'_, P, K>,
+    values: &SheetValuesAt<P>,
+    full: u64,
+)
+    requires printable { IsPrintable P values.now }
     ensures { Prints K.Sink pen.old pen.new
-        (print_each (part_at values.now full) (places (length values.now.rows))) }
+        (print_each (part_at P values.now full) (all_places (length values.now.rows))) }
 {
     for i in 0..values.rows.len() {
         write_part_at(pen, values, full, i);
@@ -31,10 +35,15 @@ pub(crate) fn write_round_parts<K: Sink>(pen: &mut Pen<'_, K>, values: &SheetVal
 }
 
 /// The part of a round, if it ends at this place.
-fn write_part_at<K: Sink>(pen: &mut Pen<'_, K>, values: &SheetValues, full: u64, i: usize)
-    requires printable { IsPrintable 9 values.now }
+fn write_part_at<const P: usize, K: Sink>(
+    pen: &mut Pen<'_, P, K>,
+    values: &SheetValuesAt<P>,
+    full: u64,
+    i: usize,
+)
+    requires printable { IsPrintable P values.now }
     requires place { i < length values.now.rows }
-    ensures { Prints K.Sink pen.old pen.new (printed (part_at values.now full i)) }
+    ensures { Prints K.Sink pen.old pen.new (printed (part_at P values.now full i)) }
 {
     if ends_round(values.rows.items(), i) {
         write_round_part(pen, values, full, i);
@@ -42,10 +51,15 @@ fn write_part_at<K: Sink>(pen: &mut Pen<'_, K>, values: &SheetValues, full: u64,
 }
 
 /// The part of the round that ends at a place.
-fn write_round_part<K: Sink>(pen: &mut Pen<'_, K>, values: &SheetValues, full: u64, last: usize)
-    requires printable { IsPrintable 9 values.now }
+fn write_round_part<const P: usize, K: Sink>(
+    pen: &mut Pen<'_, P, K>,
+    values: &SheetValuesAt<P>,
+    full: u64,
+    last: usize,
+)
+    requires printable { IsPrintable P values.now }
     requires place { last < length values.now.rows }
-    ensures { Prints K.Sink pen.old pen.new (printed (round_part values.now full last)) }
+    ensures { Prints K.Sink pen.old pen.new (printed (round_part P values.now full last)) }
 {
     let row = values.rows.get(last);
     write_start(pen, values, last);
@@ -57,7 +71,11 @@ fn write_round_part<K: Sink>(pen: &mut Pen<'_, K>, values: &SheetValues, full: u
 }
 
 /// The start of the part of the round that ends at a place, with the name of the part.
-fn write_start<K: Sink>(pen: &mut Pen<'_, K>, values: &SheetValues, last: usize)
+fn write_start<const P: usize, K: Sink>(
+    pen: &mut Pen<'_, P, K>,
+    values: &SheetValuesAt<P>,
+    last: usize,
+)
     requires place { last < length values.now.rows }
     ensures { Prints K.Sink pen.old pen.new (opening (codes "section") (part_attributes (part_name last))) }
 {
@@ -66,7 +84,7 @@ fn write_start<K: Sink>(pen: &mut Pen<'_, K>, values: &SheetValues, last: usize)
 }
 
 /// The start of a part of this name.
-fn write_start_of<K: Sink>(pen: &mut Pen<'_, K>, name: &[u8])
+fn write_start_of<const P: usize, K: Sink>(pen: &mut Pen<'_, P, K>, name: &[u8])
     ensures { Prints K.Sink pen.old pen.new (opening (codes "section") (part_attributes name.now)) }
 {
     pen.write(&[
@@ -76,7 +94,7 @@ fn write_start_of<K: Sink>(pen: &mut Pen<'_, K>, name: &[u8])
     ]);
 }
 
-fn write_title<K: Sink>(pen: &mut Pen<'_, K>, round: u32)
+fn write_title<const P: usize, K: Sink>(pen: &mut Pen<'_, P, K>, round: u32)
     ensures { Prints K.Sink pen.old pen.new (printed (round_title round)) }
 {
     pen.write(&[

@@ -9,12 +9,15 @@ use crate::pen::Pen;
 use crate::piece::Piece;
 use crate::table::write_frame;
 use byte_edge::Sink;
-use sheet_reader::SheetValues;
+use sheet_reader::SheetValuesAt;
 
 /// The part of a page that has the table of rounds.
-pub(crate) fn write_rounds<K: Sink>(pen: &mut Pen<'_, K>, values: &SheetValues)
-    requires printable { IsPrintable 9 values.now }
-    ensures { Prints K.Sink pen.old pen.new (printed (rounds_part values.now)) }
+pub(crate) fn write_rounds<const P: usize, K: Sink>(
+    pen: &mut Pen<'_, P, K>,
+    values: &SheetValuesAt<P>,
+)
+    requires printable { IsPrintable P values.now }
+    ensures { Prints K.Sink pen.old pen.new (printed (rounds_part P values.now)) }
 {
     pen.open(b"section");
     write_title(pen);
@@ -23,7 +26,7 @@ pub(crate) fn write_rounds<K: Sink>(pen: &mut Pen<'_, K>, values: &SheetValues)
     pen.close(b"section");
 }
 
-fn write_title<K: Sink>(pen: &mut Pen<'_, K>)
+fn write_title<const P: usize, K: Sink>(pen: &mut Pen<'_, P, K>)
     ensures { Prints K.Sink pen.old pen.new (printed rounds_title) }
 {
     pen.write(&[
@@ -34,7 +37,7 @@ fn write_title<K: Sink>(pen: &mut Pen<'_, K>)
 }
 
 /// The words of a count that a reader may not know.
-fn write_words<K: Sink>(pen: &mut Pen<'_, K>)
+fn write_words<const P: usize, K: Sink>(pen: &mut Pen<'_, P, K>)
     ensures { Prints K.Sink pen.old pen.new (printed words_explained) }
 {
     pen.write(&[

@@ -5,7 +5,7 @@ ghost use Rattle.sheet_page.specs.Stretches.{is_of_round};
 use meek_rule::Row;
 
 /// The place of the first iteration of the round that ends at a place.
-pub(crate) fn first_of(rows: &[Row<9>], last: usize) -> usize
+pub(crate) fn first_of<const P: usize>(rows: &[Row<P>], last: usize) -> usize
     requires { last < length rows.now }
     ensures within { result ≤ last }
     ensures of_it { (i : ℕ) → result ≤ i → i ≤ last → is_of_round rows.now last i ≡ true }

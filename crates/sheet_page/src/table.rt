@@ -9,11 +9,12 @@ ghost use Rattle.sheet_minutes.specs.Rounds.{left_over, row_at};
 ghost use Rattle.sheet_page.specs.Links.{link_to};
 ghost use Rattle.sheet_page.specs.Prints.{Prints};
 ghost use Rattle.sheet_page.specs.RoundEnds.{settled};
-ghost use Rattle.sheet_page.specs.RoundTable.{amount_cell, candidate_head, candidate_row, caption, cell_at, figure_cell, first_head, frame_attributes, head_row, left_row, line_head, main_digits, other_digits, quota_row, round_cell, round_head, rounds_table, standing_cell, table_body, table_frame, table_head, vote_cell};
+ghost use Rattle.sheet_page.specs.RoundTable.{amount_cell, candidate_head, candidate_row, caption, cell_at, figure_cell, first_head, frame_attributes, head_row, left_row, line_head, quota_row, round_cell, round_head, rounds_table, standing_cell, table_body, table_frame, table_head, vote_cell};
 ghost use Rattle.sheet_page.specs.Trees.{print_each};
-ghost use Rattle.sheet_page.specs.Values.{name_at, places};
+ghost use Rattle.sheet_page.specs.Values.{name_at, all_places};
 
 use crate::cell::{Cell, amount_text};
+use crate::digits::{main_digits, other_digits};
 use crate::links::link_to;
 use crate::pen::Pen;
 use crate::piece::Piece;
@@ -23,19 +24,22 @@ use candidate_roll::States;
 use fixed_place::Amount;
 use meek_rule::Row;
 use sheet_minutes::{Entry, ends_round, left_over, states_behind};
-use sheet_reader::SheetValues;
+use sheet_reader::SheetValuesAt;
 
 /// Writes the table of votes in a frame.
-pub(crate) fn write_frame<K: Sink>(pen: &mut Pen<'_, K>, values: &SheetValues)
-    requires printable { IsPrintable 9 values.now }
-    ensures { Prints K.Sink pen.old pen.new (printed (table_frame values.now)) }
+pub(crate) fn write_frame<const P: usize, K: Sink>(
+    pen: &mut Pen<'_, P, K>,
+    values: &SheetValuesAt<P>,
+)
+    requires printable { IsPrintable P values.now }
+    ensures { Prints K.Sink pen.old pen.new (printed (table_frame P values.now)) }
 {
     write_frame_start(pen);
     write_table(pen, values);
     pen.close(b"div");
 }
 
-fn write_frame_start<K: Sink>(pen: &mut Pen<'_, K>)
+fn write_frame_start<const P: usize, K: Sink>(pen: &mut Pen<'_, P, K>)
     ensures { Prints K.Sink pen.old pen.new (opening (codes "div") frame_attributes) }
 {
     pen.write(&[
@@ -50,9 +54,9 @@ fn write_frame_start<K: Sink>(pen: &mut Pen<'_, K>)
     ]);
 }
 
-fn write_table<K: Sink>(pen: &mut Pen<'_, K>, values: &SheetValues)
-    requires printable { IsPrintable 9 values.now }
-    ensures { Prints K.Sink pen.old pen.new (printed (rounds_table values.now)) }
+fn write_table<const P: usize, K: Sink>(pen: &mut Pen<'_, P, K>, values: &SheetValuesAt<P>)
+    requires printable { IsPrintable P values.now }
+    ensures { Prints K.Sink pen.old pen.new (printed (rounds_table P values.now)) }
 {
     pen.open(b"table");
     write_caption(pen);
@@ -61,7 +65,7 @@ fn write_table<K: Sink>(pen: &mut Pen<'_, K>, values: &SheetValues)
     pen.close(b"table");
 }
 
-fn write_caption<K: Sink>(pen: &mut Pen<'_, K>)
+fn write_caption<const P: usize, K: Sink>(pen: &mut Pen<'_, P, K>)
     ensures { Prints K.Sink pen.old pen.new (printed caption) }
 {
     pen.write(&[
@@ -74,18 +78,18 @@ fn write_caption<K: Sink>(pen: &mut Pen<'_, K>)
 }
 
 /// The head of the table.
-fn write_head<K: Sink>(pen: &mut Pen<'_, K>, values: &SheetValues)
-    requires printable { IsPrintable 9 values.now }
-    ensures { Prints K.Sink pen.old pen.new (printed (table_head values.now)) }
+fn write_head<const P: usize, K: Sink>(pen: &mut Pen<'_, P, K>, values: &SheetValuesAt<P>)
+    requires printable { IsPrintable P values.now }
+    ensures { Prints K.Sink pen.old pen.new (printed (table_head P values.now)) }
 {
     pen.open(b"thead");
     write_head_row(pen, values);
     pen.close(b"thead");
 }
 
-fn write_head_row<K: Sink>(pen: &mut Pen<'_, K>, values: &SheetValues)
-    requires printable { IsPrintable 9 values.now }
-    ensures { Prints K.Sink pen.old pen.new (printed (head_row values.now)) }
+fn write_head_row<const P: usize, K: Sink>(pen: &mut Pen<'_, P, K>, values: &SheetValuesAt<P>)
+    requires printable { IsPrintable P values.now }
+    ensures { Prints K.Sink pen.old pen.new (printed (head_row P values.now)) }
 {
     pen.open(b"tr");
     write_first_head(pen);
@@ -93,7 +97,7 @@ fn write_head_row<K: Sink>(pen: &mut Pen<'_, K>, values: &SheetValues)
     pen.close(b"tr");
 }
 
-fn write_first_head<K: Sink>(pen: &mut Pen<'_, K>)
+fn write_first_head<const P: usize, K: Sink>(pen: &mut Pen<'_, P, K>)
     ensures { Prints K.Sink pen.old pen.new (printed first_head) }
 {
     pen.write(&[
@@ -106,11 +110,15 @@ fn write_first_head<K: Sink>(pen: &mut Pen<'_, K>)
 }
 
 /// What a line says of each round.
-fn write_cells<K: Sink>(pen: &mut Pen<'_, K>, values: &SheetValues, entry: Entry)
-    requires printable { IsPrintable 9 values.now }
+fn write_cells<const P: usize, K: Sink>(
+    pen: &mut Pen<'_, P, K>,
+    values: &SheetValuesAt<P>,
+    entry: Entry,
+)
+    requires printable { IsPrintable P values.now }
     requires about { IsAbout (length values.now.names) entry }
     ensures { Prints K.Sink pen.old pen.new
-        (print_each (cell_at values.now entry) (places (length values.now.rows))) }
+        (print_each (cell_at P values.now entry) (all_places (length values.now.rows))) }
 {
     for i in 0..values.rows.len() {
         write_cell_at(pen, values, entry, i);
@@ -118,11 +126,16 @@ fn write_cells<K: Sink>(pen: &mut Pen<'_, K>, values: &SheetValues, entry: Entry
 }
 
 /// What a line says of a round, if it ends at this place.
-fn write_cell_at<K: Sink>(pen: &mut Pen<'_, K>, values: &SheetValues, entry: Entry, i: usize)
-    requires printable { IsPrintable 9 values.now }
+fn write_cell_at<const P: usize, K: Sink>(
+    pen: &mut Pen<'_, P, K>,
+    values: &SheetValuesAt<P>,
+    entry: Entry,
+    i: usize,
+)
+    requires printable { IsPrintable P values.now }
     requires about { IsAbout (length values.now.names) entry }
     requires place { i < length values.now.rows }
-    ensures { Prints K.Sink pen.old pen.new (printed (cell_at values.now entry i)) }
+    ensures { Prints K.Sink pen.old pen.new (printed (cell_at P values.now entry i)) }
 {
     if ends_round(values.rows.items(), i) {
         write_round_cell(pen, values, entry, i);
@@ -130,11 +143,16 @@ fn write_cell_at<K: Sink>(pen: &mut Pen<'_, K>, values: &SheetValues, entry: Ent
 }
 
 /// What a line says of the round that ends at a place.
-fn write_round_cell<K: Sink>(pen: &mut Pen<'_, K>, values: &SheetValues, entry: Entry, i: usize)
-    requires printable { IsPrintable 9 values.now }
+fn write_round_cell<const P: usize, K: Sink>(
+    pen: &mut Pen<'_, P, K>,
+    values: &SheetValuesAt<P>,
+    entry: Entry,
+    i: usize,
+)
+    requires printable { IsPrintable P values.now }
     requires about { IsAbout (length values.now.names) entry }
     requires place { i < length values.now.rows }
-    ensures { Prints K.Sink pen.old pen.new (printed (round_cell values.now entry i)) }
+    ensures { Prints K.Sink pen.old pen.new (printed (round_cell P values.now entry i)) }
 {
     let row = values.rows.get(i);
     match entry {
@@ -146,7 +164,11 @@ fn write_round_cell<K: Sink>(pen: &mut Pen<'_, K>, values: &SheetValues, entry: 
 }
 
 /// The number of the round that ends at a place.
-fn write_round_head<K: Sink>(pen: &mut Pen<'_, K>, values: &SheetValues, i: usize)
+fn write_round_head<const P: usize, K: Sink>(
+    pen: &mut Pen<'_, P, K>,
+    values: &SheetValuesAt<P>,
+    i: usize,
+)
     requires place { i < length values.now.rows }
     ensures { Prints K.Sink pen.old pen.new
         (printed (round_head (link_to i) (row_at values.now.rows i).round)) }
@@ -157,7 +179,7 @@ fn write_round_head<K: Sink>(pen: &mut Pen<'_, K>, values: &SheetValues, i: usiz
 }
 
 /// The number of a round, that leads to this target.
-fn write_number_to<K: Sink>(pen: &mut Pen<'_, K>, target: &[u8], round: u32)
+fn write_number_to<const P: usize, K: Sink>(pen: &mut Pen<'_, P, K>, target: &[u8], round: u32)
     ensures { Prints K.Sink pen.old pen.new (printed (round_head target.now round)) }
 {
     pen.write(&[
@@ -174,9 +196,9 @@ fn write_number_to<K: Sink>(pen: &mut Pen<'_, K>, target: &[u8], round: u32)
 }
 
 /// The lines below the head.
-fn write_body<K: Sink>(pen: &mut Pen<'_, K>, values: &SheetValues)
-    requires printable { IsPrintable 9 values.now }
-    ensures { Prints K.Sink pen.old pen.new (printed (table_body values.now)) }
+fn write_body<const P: usize, K: Sink>(pen: &mut Pen<'_, P, K>, values: &SheetValuesAt<P>)
+    requires printable { IsPrintable P values.now }
+    ensures { Prints K.Sink pen.old pen.new (printed (table_body P values.now)) }
 {
     pen.open(b"tbody");
     write_quota_row(pen, values);
@@ -186,7 +208,7 @@ fn write_body<K: Sink>(pen: &mut Pen<'_, K>, values: &SheetValues)
 }
 
 /// What a line is of.
-fn write_line_head<K: Sink>(pen: &mut Pen<'_, K>, text: &[u8])
+fn write_line_head<const P: usize, K: Sink>(pen: &mut Pen<'_, P, K>, text: &[u8])
     ensures { Prints K.Sink pen.old pen.new (printed (line_head text.now)) }
 {
     pen.write(&[
@@ -199,9 +221,9 @@ fn write_line_head<K: Sink>(pen: &mut Pen<'_, K>, text: &[u8])
 }
 
 /// The quotas of all rounds.
-fn write_quota_row<K: Sink>(pen: &mut Pen<'_, K>, values: &SheetValues)
-    requires printable { IsPrintable 9 values.now }
-    ensures { Prints K.Sink pen.old pen.new (printed (quota_row values.now)) }
+fn write_quota_row<const P: usize, K: Sink>(pen: &mut Pen<'_, P, K>, values: &SheetValuesAt<P>)
+    requires printable { IsPrintable P values.now }
+    ensures { Prints K.Sink pen.old pen.new (printed (quota_row P values.now)) }
 {
     pen.open(b"tr");
     write_line_head(pen, b"Quota");
@@ -210,9 +232,9 @@ fn write_quota_row<K: Sink>(pen: &mut Pen<'_, K>, values: &SheetValues)
 }
 
 /// What is left on no candidate at the end of each round.
-fn write_left_row<K: Sink>(pen: &mut Pen<'_, K>, values: &SheetValues)
-    requires printable { IsPrintable 9 values.now }
-    ensures { Prints K.Sink pen.old pen.new (printed (left_row values.now)) }
+fn write_left_row<const P: usize, K: Sink>(pen: &mut Pen<'_, P, K>, values: &SheetValuesAt<P>)
+    requires printable { IsPrintable P values.now }
+    ensures { Prints K.Sink pen.old pen.new (printed (left_row P values.now)) }
 {
     pen.open(b"tr");
     write_line_head(pen, b"On no candidate");
@@ -221,18 +243,22 @@ fn write_left_row<K: Sink>(pen: &mut Pen<'_, K>, values: &SheetValues)
 }
 
 /// What an iteration leaves on no candidate.
-fn write_left<K: Sink>(pen: &mut Pen<'_, K>, values: &SheetValues, row: &Row<9>)
-    requires { IsPrintable 9 values.now }
-    ensures { Prints K.Sink pen.old pen.new (printed (amount_cell (left_over values.now.ballots row.now))) }
+fn write_left<const P: usize, K: Sink>(
+    pen: &mut Pen<'_, P, K>,
+    values: &SheetValuesAt<P>,
+    row: &Row<P>,
+)
+    requires { IsPrintable P values.now }
+    ensures { Prints K.Sink pen.old pen.new (printed (amount_cell P (left_over P values.now.ballots row.now))) }
 {
     write_amount(pen, left_over(values.ballots, row.total));
 }
 
 /// The lines of all candidates.
-fn write_candidate_rows<K: Sink>(pen: &mut Pen<'_, K>, values: &SheetValues)
-    requires printable { IsPrintable 9 values.now }
+fn write_candidate_rows<const P: usize, K: Sink>(pen: &mut Pen<'_, P, K>, values: &SheetValuesAt<P>)
+    requires printable { IsPrintable P values.now }
     ensures { Prints K.Sink pen.old pen.new
-        (print_each (candidate_row values.now) (places (length values.now.names))) }
+        (print_each (candidate_row P values.now) (all_places (length values.now.names))) }
 {
     for p in 0..values.names.len() {
         write_candidate_row(pen, values, p);
@@ -240,10 +266,14 @@ fn write_candidate_rows<K: Sink>(pen: &mut Pen<'_, K>, values: &SheetValues)
 }
 
 /// A candidate at the end of each round.
-fn write_candidate_row<K: Sink>(pen: &mut Pen<'_, K>, values: &SheetValues, p: usize)
-    requires printable { IsPrintable 9 values.now }
+fn write_candidate_row<const P: usize, K: Sink>(
+    pen: &mut Pen<'_, P, K>,
+    values: &SheetValuesAt<P>,
+    p: usize,
+)
+    requires printable { IsPrintable P values.now }
     requires place { p < length values.now.names }
-    ensures { Prints K.Sink pen.old pen.new (printed (candidate_row values.now p)) }
+    ensures { Prints K.Sink pen.old pen.new (printed (candidate_row P values.now p)) }
 {
     pen.open(b"tr");
     write_candidate_at(pen, values, p);
@@ -252,7 +282,11 @@ fn write_candidate_row<K: Sink>(pen: &mut Pen<'_, K>, values: &SheetValues, p: u
 }
 
 /// The head of the line of the candidate at a place.
-fn write_candidate_at<K: Sink>(pen: &mut Pen<'_, K>, values: &SheetValues, p: usize)
+fn write_candidate_at<const P: usize, K: Sink>(
+    pen: &mut Pen<'_, P, K>,
+    values: &SheetValuesAt<P>,
+    p: usize,
+)
     requires few { length values.now.names ≤ MOST_CANDIDATES }
     requires place { p < length values.now.names }
     ensures { Prints K.Sink pen.old pen.new (printed (candidate_head (name_at values.now p) (p + 1))) }
@@ -261,7 +295,7 @@ fn write_candidate_at<K: Sink>(pen: &mut Pen<'_, K>, values: &SheetValues, p: us
 }
 
 /// A name with its number as the head of a line.
-fn write_candidate<K: Sink>(pen: &mut Pen<'_, K>, name: &[u8], number: u64)
+fn write_candidate<const P: usize, K: Sink>(pen: &mut Pen<'_, P, K>, name: &[u8], number: u64)
     ensures { Prints K.Sink pen.old pen.new (printed (candidate_head name.now number)) }
 {
     pen.write(&[
@@ -279,48 +313,45 @@ fn write_candidate<K: Sink>(pen: &mut Pen<'_, K>, name: &[u8], number: u64)
 }
 
 /// A candidate's vote in the last iteration of a round, and what it is behind it.
-fn write_vote<K: Sink>(pen: &mut Pen<'_, K>, row: &Row<9>, behind: &States, p: usize)
+fn write_vote<const P: usize, K: Sink>(
+    pen: &mut Pen<'_, P, K>,
+    row: &Row<P>,
+    behind: &States,
+    p: usize,
+)
     requires room { HasRoomFor (length row.now.states) row.now }
     requires few { length row.now.states ≤ MOST_CANDIDATES }
     requires states { length behind.now ≡ length row.now.states }
     requires place { p < length row.now.states }
-    ensures { Prints K.Sink pen.old pen.new (printed (vote_cell (settled row.now behind.now) p)) }
+    ensures { Prints K.Sink pen.old pen.new (printed (vote_cell P (settled row.now behind.now) p)) }
 {
     let text = amount_text(*row.votes.get(p));
     let state = state_word(*behind.get(p));
     write_standing(
         pen,
-        main_digits(text.bytes()),
-        other_digits(text.bytes()),
+        main_digits::<P>(text.bytes()),
+        other_digits::<P>(text.bytes()),
         state,
     );
 }
 
 /// An amount as a cell.
-fn write_amount<K: Sink>(pen: &mut Pen<'_, K>, amount: Amount<9>)
-    ensures { Prints K.Sink pen.old pen.new (printed (amount_cell amount)) }
+fn write_amount<const P: usize, K: Sink>(pen: &mut Pen<'_, P, K>, amount: Amount<P>)
+    ensures { Prints K.Sink pen.old pen.new (printed (amount_cell P amount.entry)) }
 {
     let text = amount_text(amount);
-    write_figure(pen, main_digits(text.bytes()), other_digits(text.bytes()));
+    write_figure(
+        pen,
+        main_digits::<P>(text.bytes()),
+        other_digits::<P>(text.bytes()),
+    );
 }
 
-/// The text of an amount without its last seven digits.
-fn main_digits(text: &[u8]) -> &[u8]
-    ensures { result.now ≡ main_digits text.now }
-{
-    let end = text.len().saturating_sub(7);
-    &text[..end]
-}
-
-/// The last seven digits of the text of an amount.
-fn other_digits(text: &[u8]) -> &[u8]
-    ensures { result.now ≡ other_digits text.now }
-{
-    let start = text.len().saturating_sub(7);
-    &text[start..]
-}
-
-fn write_figure<'x, K: Sink>(pen: &mut Pen<'_, K>, main: &'x [u8], other: &'x [u8])
+fn write_figure<'x, const P: usize, K: Sink>(
+    pen: &mut Pen<'_, P, K>,
+    main: &'x [u8],
+    other: &'x [u8],
+)
     ensures { Prints K.Sink pen.old pen.new (printed (figure_cell main.now other.now)) }
 {
     pen.write(&[
@@ -334,8 +365,8 @@ fn write_figure<'x, K: Sink>(pen: &mut Pen<'_, K>, main: &'x [u8], other: &'x [u
 }
 
 /// Votes, and a state.
-fn write_standing<'x, K: Sink>(
-    pen: &mut Pen<'_, K>,
+fn write_standing<'x, const P: usize, K: Sink>(
+    pen: &mut Pen<'_, P, K>,
     main: &'x [u8],
     other: &'x [u8],
     state: &'x [u8],

@@ -16,7 +16,7 @@ use crate::{Format, takes_format};
 use byte_edge::{Failed, Sink, Source};
 use sheet_input::{SHEET_LIMIT, SheetFault};
 use sheet_minutes::write_minutes;
-use sheet_reader::{SheetStop, SheetValues, read_sheet};
+use sheet_reader::{SheetStop, SheetValuesAt, read_sheet};
 use std::alloc::Global;
 use tool_edge::{End, close, open, refuse};
 
@@ -40,24 +40,35 @@ pub fn page<S: Source, K: Sink>(
     show(alloc, opened.asked, opened.input.as_slice(), sink)
 }
 
-/// Shows the whole input.
-#[tactic(auto, using(crate::proofs::Owing::values_owed, crate::proofs::Owing::malformed_owed))]
+/// Shows the whole input at its own places: the greatest number, from 6 to 9, at which it is a sheet. At each
+/// number but its own a sheet is given up at its first amount, so that one reading at most goes further.
 fn show<K: Sink>(alloc: Global, format: Format, input: &[u8], sink: &mut K) -> End<SheetFault>
     requires { length input.now ≤ SHEET_LIMIT }
     ensures { FinishesOwed (IsOwedFor shows format input.now no_history) result
         (writing K.written K.faults sink.old sink.new) }
 {
-    match read_sheet::<9>(alloc, input) {
-        Ok(values) => show_values(format, &values, sink),
-        Err(SheetStop::Malformed) => refuse(sink, SheetFault::Malformed),
-        Err(SheetStop::NoMemory) => End::NoMemory,
+    macro_rules! show_at {
+        ($($at:literal)*) => {
+            $(match read_sheet::<$at>(alloc, input) {
+                Ok(values) => return show_values(format, &values, sink),
+                Err(SheetStop::Malformed) => {}
+                Err(SheetStop::NoMemory) => return End::NoMemory,
+            })*
+        };
     }
+    show_at!(9 8 7 6);
+    refuse(sink, SheetFault::Malformed)
 }
 
 /// Shows the values of a sheet.
-fn show_values<K: Sink>(format: Format, values: &SheetValues, sink: &mut K) -> End<SheetFault>
-    requires { IsPrintable 9 values.now }
-    ensures { Finishes End.Done (shown_as format values.now) result
+fn show_values<const P: usize, K: Sink>(
+    format: Format,
+    values: &SheetValuesAt<P>,
+    sink: &mut K,
+) -> End<SheetFault>
+    requires places { (6 ≤ P) × (P ≤ 9) }
+    requires printable { IsPrintable P values.now }
+    ensures { Finishes End.Done (shown_as P format values.now) result
         (writing K.written K.faults sink.old sink.new) }
 {
     let wrote = write_values(format, values, sink);
@@ -65,9 +76,14 @@ fn show_values<K: Sink>(format: Format, values: &SheetValues, sink: &mut K) -> E
 }
 
 /// Writes the values of a sheet.
-fn write_values<K: Sink>(format: Format, values: &SheetValues, sink: &mut K) -> Result<(), Failed>
-    requires { IsPrintable 9 values.now }
-    ensures { Writes K.written K.faults sink.old sink.new (shown_as format values.now) result }
+fn write_values<const P: usize, K: Sink>(
+    format: Format,
+    values: &SheetValuesAt<P>,
+    sink: &mut K,
+) -> Result<(), Failed>
+    requires places { (6 ≤ P) × (P ≤ 9) }
+    requires printable { IsPrintable P values.now }
+    ensures { Writes K.written K.faults sink.old sink.new (shown_as P format values.now) result }
 {
     match format {
         Format::Html => write_html(values, sink),

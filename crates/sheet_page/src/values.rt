@@ -41,8 +41,8 @@ pub(crate) fn defeats(step: Step, candidate: u32) -> bool
 }
 
 /// A keep value as an amount of votes: what it keeps of one vote.
-pub(crate) fn kept_of_one(keep: Keep<9>) -> Amount<9>
-    ensures { result ≡ keep }
+pub(crate) fn kept_of_one<const P: usize>(keep: Keep<P>) -> Amount<P>
+    ensures { result ≡ keep.entry }
 {
     Amount::from_units(keep.units())
 }

@@ -16,7 +16,7 @@ use Rattle.sheet_words.specs.declared.decision.Decision.TheVariants.{Election, A
 use Rattle.sheet_words.specs.declared.decision.Decision.TheVariants.{Defeat as Defeats, Tie, Lot}
 use Rattle.sheet_words.specs.declared.group.Group.{Group}
 use Rattle.sheet_words.specs.declared.group.Group.TheVariants.{Elected as Winners, Capped, LeftOut}
-use Rattle.sheet_words.specs.Groups.{is_in, members, members_from, places}
+use Rattle.sheet_words.specs.Groups.{is_in, members, members_from, all_places}
 use Rattle.sheet_words.specs.Phrases.{called, listing, member, separator, with_votes}
 use Rattle.sheet_words.specs.Sentences.{caps, chosen, decisions_of, defeats_of, elections, has_tie, seated}
 use Rattle.sheet_words.specs.Sentences.{seats_for_them, sentence, with_fewest}
@@ -50,16 +50,16 @@ one_of m v p (x ∷ xs) (suc i) d below names =
     named_behind v p (m x) (flat_map m xs) (one_of m v p xs i d (omega arith) names)
 
 listed :
-    (v : SheetList) (row : Row) (group : Group) (p : ℕ) → p < length row.states → is_in row group p ≡ true
-    → Names v p (listing v row group)
-listed v row group p below is =
+    (places : ℕ) (v : SheetList) (row : Row) (group : Group) (p : ℕ) → p < length row.states → is_in row group p ≡ true
+    → Names v p (listing places v row group)
+listed places v row group p below is =
     let n = length row.states in
-    let at : get_or (places n) p 0 ≡ p = get_or-range_with_len 0 n p 0 below ∙ omega arith in
-    let votes = with_votes (slice_index row.votes p) (separator (members_from row group (p + 1))) in
-    let here : Names v p (member v row group p) =
+    let at : get_or (all_places n) p 0 ≡ p = get_or-range_with_len 0 n p 0 below ∙ omega arith in
+    let votes = with_votes places (slice_index row.votes p) (separator (members_from row group (p + 1))) in
+    let here : Names v p (member places v row group p) =
     ([], votes, ap (λ (b : Bool). if b then called v p ++ votes else []) is) in
-    one_of (member v row group) v p (places n) p 0 (omega (arith, length-range_with_len 0 n))
-    (subst (λ (q : ℕ). Names v p (member v row group q)) (sym at) here)
+    one_of (member places v row group) v p (all_places n) p 0 (omega (arith, length-range_with_len 0 n))
+    (subst (λ (q : ℕ). Names v p (member places v row group q)) (sym at) here)
 
 -- ---- how many sentences
 
@@ -80,11 +80,11 @@ some_member :
     → nat_eq (members row group) 0 ≡ false
 some_member row group p below is =
     let n = length row.states in
-    let at : get_or (places n) p 0 ≡ p = get_or-range_with_len 0 n p 0 below ∙ omega arith in
+    let at : get_or (all_places n) p 0 ≡ p = get_or-range_with_len 0 n p 0 below ∙ omega arith in
     let all : n - 0 ≡ n = omega arith in
     let some : 1 ≤ members row group =
     subst (λ (k : ℕ). 1 ≤ count_by (is_in row group) (range_with_len 0 k)) (sym all)
-    (some_count (is_in row group) (places n) p 0 (omega (arith, length-range_with_len 0 n))
+    (some_count (is_in row group) (all_places n) p 0 (omega (arith, length-range_with_len 0 n))
     (ap (is_in row group) at ∙ is)) in
     ne_eqb (members row group) 0 (λ e. absurd (omega arith))
 
@@ -119,9 +119,9 @@ not_defeated row (Defeat c) = by (has_tie row)
     by false = refl
 
 pub winners :
-    (v : SheetList) (row : Row) (p : ℕ) → p < length row.states → mark_at row.elected p ≡ true
-    → HasOneSentence says_elected v row p
-winners v row p below is = record {
+    (places : ℕ) (v : SheetList) (row : Row) (p : ℕ) → p < length row.states → mark_at row.elected p ≡ true
+    → HasOneSentence places says_elected v row p
+winners places v row p below is = record {
   one =
       let elected =
       one_elected (nat_eq (members row Winners) 0) (nat_eq (members row LeftOut) 0)
@@ -132,12 +132,12 @@ winners v row p below is = record {
   named = named;
 }
   where
-    named : (d : Decision) → says_elected d ≡ true → Names v p (sentence v row d)
-    named Election says = named_before v p (listing v row Winners) (seated row) (listed v row Winners p below is)
+    named : (d : Decision) → says_elected d ≡ true → Names v p (sentence places v row d)
+    named Election says = named_before v p (listing places v row Winners) (seated places row) (listed places v row Winners p below is)
     named Arrival says = absurd (cc)
     named Choice says =
-        named_behind v p (seats_for_them v row) (listing v row Winners ++ chosen row)
-        (named_before v p (listing v row Winners) (chosen row) (listed v row Winners p below is))
+        named_behind v p (seats_for_them v row) (listing places v row Winners ++ chosen row)
+        (named_before v p (listing places v row Winners) (chosen row) (listed places v row Winners p below is))
     named Cap says = absurd (cc)
     named (Defeats c) says = absurd (cc)
     named Tie says = absurd (cc)
@@ -166,8 +166,8 @@ one_defeated c true =
     sum_by-cons test Tie (Lot c ∷ []) ∙ ap (λ (k : ℕ). 0 + k) (one_alone c (Lot c) (eq-eqb c c refl))
 one_defeated c false = one_alone c (Defeats c) (eq-eqb c c refl)
 
-pub losers : (v : SheetList) (row : Row) (c : ℕ) → row.step ≡ Defeat c → HasOneSentence (says_defeated c) v row (c - 1)
-losers v row c is = record {
+pub losers : (places : ℕ) (v : SheetList) (row : Row) (c : ℕ) → row.step ≡ Defeat c → HasOneSentence places (says_defeated c) v row (c - 1)
+losers places v row c is = record {
   one =
       let elected = none_elected c (nat_eq (members row Winners) 0) (nat_eq (members row LeftOut) 0) in
       let capped = none_capped c (nat_eq (members row Capped) 0) in
@@ -177,14 +177,14 @@ losers v row c is = record {
   named = named;
 }
   where
-    named : (d : Decision) → says_defeated c d ≡ true → Names v (c - 1) (sentence v row d)
+    named : (d : Decision) → says_defeated c d ≡ true → Names v (c - 1) (sentence places v row d)
     named Election says = absurd (cc)
     named Arrival says = absurd (cc)
     named Choice says = absurd (cc)
     named Cap says = absurd (cc)
     named (Defeats d) says =
         let same : d ≡ c = eqb-true d c says in
-        ([], with_fewest row d, ap (λ (k : ℕ). called v (k - 1) ++ with_fewest row d) same)
+        ([], with_fewest places row d, ap (λ (k : ℕ). called v (k - 1) ++ with_fewest places row d) same)
     named Tie says = absurd (cc)
     named (Lot d) says =
         let same : d ≡ c = eqb-true d c says in (

@@ -9,7 +9,7 @@ use Rattle.std.proofs.lemmas.List.FromFn.{get_or-range_with_len, length-range_wi
 use Rattle.std.proofs.lemmas.List.Folds.{flat_map-map}
 use Rattle.piece_text.specs.Writing.{Wrote, Stopped, Writes}
 use Rattle.piece_text.proofs.Written.{wrote_nothing, later as written_later, stops as written_stops, wrote_more, stopped_at}
-use Rattle.sheet_words.specs.Groups.{places}
+use Rattle.sheet_words.specs.Groups.{all_places}
 use Rattle.sheet_words.specs.Manner.{Manner, said}
 
 -- texts that stand behind others
@@ -105,18 +105,18 @@ module _ {X : Type 0} (h : X → List ℕ) where
 module _ (h : ℕ → List ℕ) where
   pub place_wrote :
       {S : Type 0} {w : S → Option (List ℕ)} {f : S → ℕ} {a b c : S} (n p : ℕ) → p < n
-      → Wrote w f a b (flat_map h (take p (places n))) → Wrote w f b c (h p)
-      → Wrote w f a c (flat_map h (take (p + 1) (places n)))
+      → Wrote w f a b (flat_map h (take p (all_places n))) → Wrote w f b c (h p)
+      → Wrote w f a c (flat_map h (take (p + 1) (all_places n)))
   place_wrote {w} {f} {a} {b} {c} n p below done next =
-      let at : get_or (places n) p 0 ≡ p = get_or-range_with_len 0 n p 0 below ∙ omega arith in
-      wrote_more h (places n) p 0 (omega (arith, length-range_with_len 0 n)) done
+      let at : get_or (all_places n) p 0 ≡ p = get_or-range_with_len 0 n p 0 below ∙ omega arith in
+      wrote_more h (all_places n) p 0 (omega (arith, length-range_with_len 0 n)) done
       (subst (λ (q : ℕ). Wrote w f b c (h q)) (sym at) next)
 
   pub place_stopped :
       {S T E : Type 0} {w : S → Option (List ℕ)} {f : S → ℕ} {a b c : S} (n p : ℕ) (r : Result T E)
-      → IsErr r → p < n → Wrote w f a b (flat_map h (take p (places n))) → Stopped w f b c (h p)
-      → Writes w f a c (flat_map h (places n)) r
+      → IsErr r → p < n → Wrote w f a b (flat_map h (take p (all_places n))) → Stopped w f b c (h p)
+      → Writes w f a c (flat_map h (all_places n)) r
   place_stopped {w} {f} {a} {b} {c} n p r failed below done next =
-      let at : get_or (places n) p 0 ≡ p = get_or-range_with_len 0 n p 0 below ∙ omega arith in
-      stopped_at h (places n) p 0 r failed (omega (arith, length-range_with_len 0 n)) done
+      let at : get_or (all_places n) p 0 ≡ p = get_or-range_with_len 0 n p 0 below ∙ omega arith in
+      stopped_at h (all_places n) p 0 r failed (omega (arith, length-range_with_len 0 n)) done
       (subst (λ (q : ℕ). Stopped w f b c (h q)) (sym at) next)

@@ -8,8 +8,8 @@ use Rattle.sheet_words.specs.declared.group.Group.{Group}
 use Rattle.sheet_words.specs.declared.group.Group.TheVariants.{Reached, Elected, LeftOut, LeftByLot, Capped, Tied}
 
 -- the places from 0 of a list of this length
-abbrev pub places : ℕ → List ℕ
-places n = range_with_len 0 n
+abbrev pub all_places : ℕ → List ℕ
+all_places n = range_with_len 0 n
 
 -- has the quota
 abbrev pub reaches : Row → (p : ℕ) → Bool
@@ -26,7 +26,7 @@ wins_with row vote p = mark_at row.elected p && nat_eq (slice_index row.votes p)
 -- passed over with as many votes as somebody who is elected: it is the lots that chose
 abbrev pub is_passed_by_lot : Row → (p : ℕ) → Bool
 is_passed_by_lot row p =
-    is_passed_over row p && list_any (wins_with row (slice_index row.votes p)) (places (length row.states))
+    is_passed_over row p && list_any (wins_with row (slice_index row.votes p)) (all_places (length row.states))
 
 -- whom a sentence names
 abbrev pub is_in : Row → Group → (p : ℕ) → Bool

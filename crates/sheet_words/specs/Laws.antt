@@ -42,20 +42,20 @@ says_defeated c Tie = false
 says_defeated c (Lot d) = nat_eq d c
 
 -- Just one sentence of an iteration says this, and every sentence that says it names the candidate at a place.
-pub record HasOneSentence (says : Decision → Bool) (v : SheetList) (row : Row) (p : ℕ) : Type 0 where
+pub record HasOneSentence (places : ℕ) (says : Decision → Bool) (v : SheetList) (row : Row) (p : ℕ) : Type 0 where
   pub one : count_by says (decisions_of row) ≡ 1
-  pub named : (d : Decision) → says d ≡ true → Names v p (sentence v row d)
+  pub named : (d : Decision) → says d ≡ true → Names v p (sentence places v row d)
 
 -- Whoever is elected in an iteration stands in its one sentence on who is elected.
 abbrev pub WinnersHaveOneSentence : Type 0
 WinnersHaveOneSentence =
-    (v : SheetList) (row : Row) (p : ℕ)
-    → p < length row.states → mark_at row.elected p ≡ true → HasOneSentence says_elected v row p
+    (places : ℕ) (v : SheetList) (row : Row) (p : ℕ)
+    → p < length row.states → mark_at row.elected p ≡ true → HasOneSentence places says_elected v row p
 
 -- Whoever is defeated in an iteration stands in its one sentence on who is defeated.
 abbrev pub LosersHaveOneSentence : Type 0
 LosersHaveOneSentence =
-    (v : SheetList) (row : Row) (c : ℕ) → row.step ≡ Defeat c → HasOneSentence (says_defeated c) v row (c - 1)
+    (places : ℕ) (v : SheetList) (row : Row) (c : ℕ) → row.step ≡ Defeat c → HasOneSentence places (says_defeated c) v row (c - 1)
 
 -- ---- of the sheet of a count
 

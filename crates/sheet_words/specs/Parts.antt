@@ -1,10 +1,8 @@
 -- The texts of a sentence, by what stands in them.
 use Rattle.std.specs.Prelude.{ℕ, List, decimal}
-use Rattle.fixed_place.specs.Text.{text_of}
 use Rattle.sheet_words.specs.declared.part.Part.{Part}
-use Rattle.sheet_words.specs.declared.part.Part.TheVariants.{Words, Number, Votes}
+use Rattle.sheet_words.specs.declared.part.Part.TheVariants.{Words, Number}
 
 abbrev pub part_text : Part → List ℕ
 part_text (Words bytes) = bytes.now
 part_text (Number n) = decimal n
-part_text (Votes a) = text_of 9 a

@@ -14,7 +14,7 @@ use Rattle.sheet_reader.specs.Values.{SheetList}
 use Rattle.sheet_words.specs.declared.decision.Decision.{Decision}
 use Rattle.sheet_words.specs.declared.decision.Decision.TheVariants.{Election, Arrival, Choice, Cap, Defeat as Defeats, Tie, Lot}
 use Rattle.sheet_words.specs.declared.group.Group.TheVariants.{Reached, Elected as Winners, LeftOut, LeftByLot, Capped, Tied}
-use Rattle.sheet_words.specs.Groups.{places, members}
+use Rattle.sheet_words.specs.Groups.{all_places, members}
 use Rattle.sheet_words.specs.Phrases.{called, listing, for_one_or_more}
 
 -- ---- the decisions of an iteration
@@ -42,24 +42,24 @@ decisions_of row = elections row ++ (caps row ++ defeats_of row row.step)
 -- ---- their sentences
 
 -- the quota, which so many reached, and what stands behind it
-abbrev pub at_quota : (count quota : ℕ) → (behind : List ℕ) → List (List ℕ)
-at_quota count quota behind =
-    for_one_or_more (codes " reaches the quota of ") (codes " reach the quota of ") count ∷ text_of 9 quota ∷ behind ∷ []
+abbrev pub at_quota : (places count quota : ℕ) → (behind : List ℕ) → List (List ℕ)
+at_quota places count quota behind =
+    for_one_or_more (codes " reaches the quota of ") (codes " reach the quota of ") count ∷ text_of places quota ∷ behind ∷ []
 
 -- who reached the quota, and is elected
-abbrev pub seated : Row → List (List ℕ)
-seated row =
-    at_quota (members row Winners) row.quota (for_one_or_more (codes " and is elected.") (codes " and are elected.") (members row Winners))
+abbrev pub seated : (places : ℕ) → Row → List (List ℕ)
+seated places row =
+    at_quota places (members row Winners) row.quota (for_one_or_more (codes " and is elected.") (codes " and are elected.") (members row Winners))
 
-abbrev pub election : SheetList → Row → List (List ℕ)
-election v row = listing v row Winners ++ seated row
+abbrev pub election : (places : ℕ) → SheetList → Row → List (List ℕ)
+election places v row = listing places v row Winners ++ seated places row
 
 -- who reached the quota, where not all of them are elected
-abbrev pub arrived : Row → List (List ℕ)
-arrived row = at_quota (members row Reached) row.quota (codes ".")
+abbrev pub arrived : (places : ℕ) → Row → List (List ℕ)
+arrived places row = at_quota places (members row Reached) row.quota (codes ".")
 
-abbrev pub arrival : SheetList → Row → List (List ℕ)
-arrival v row = listing v row Reached ++ arrived row
+abbrev pub arrival : (places : ℕ) → SheetList → Row → List (List ℕ)
+arrival places v row = listing places v row Reached ++ arrived places row
 
 -- how those are chosen for whom there are seats: by their votes, and where votes are equal by the lots
 abbrev pub reason : Row → List ℕ
@@ -78,8 +78,8 @@ seats_for_them v row = codes "Seats left for them: " ∷ decimal (seats_left v r
 abbrev pub chosen : Row → List (List ℕ)
 chosen row = for_one_or_more (codes " is elected") (codes " are elected") (members row Winners) ∷ reason row ∷ []
 
-abbrev pub choice : SheetList → Row → List (List ℕ)
-choice v row = seats_for_them v row ++ (listing v row Winners ++ chosen row)
+abbrev pub choice : (places : ℕ) → SheetList → Row → List (List ℕ)
+choice places v row = seats_for_them v row ++ (listing places v row Winners ++ chosen row)
 
 -- whose keep value would have been more than one whole vote
 abbrev pub held : Row → List (List ℕ)
@@ -88,24 +88,24 @@ held row =
     (codes " have their keep values capped at one whole vote.") (members row Capped)
     ∷ []
 
-abbrev pub cap : SheetList → Row → List (List ℕ)
-cap v row = listing v row Capped ++ held row
+abbrev pub cap : (places : ℕ) → SheetList → Row → List (List ℕ)
+cap places v row = listing places v row Capped ++ held row
 
 -- the defeat of candidate c, which nobody is tied with
-abbrev pub with_fewest : Row → (c : ℕ) → List (List ℕ)
-with_fewest row c =
-    codes " has the fewest votes, " ∷ text_of 9 (slice_index row.votes (c - 1)) ∷ codes ", and is defeated." ∷ []
+abbrev pub with_fewest : (places : ℕ) → Row → (c : ℕ) → List (List ℕ)
+with_fewest places row c =
+    codes " has the fewest votes, " ∷ text_of places (slice_index row.votes (c - 1)) ∷ codes ", and is defeated." ∷ []
 
-abbrev pub defeat : SheetList → Row → (c : ℕ) → List (List ℕ)
-defeat v row c = called v (c - 1) ++ with_fewest row c
+abbrev pub defeat : (places : ℕ) → SheetList → Row → (c : ℕ) → List (List ℕ)
+defeat places v row c = called v (c - 1) ++ with_fewest places row c
 
 -- who is tied: whoever has at most the fewest votes and the surplus together
-abbrev pub within_surplus : Row → List (List ℕ)
-within_surplus row =
-    codes " are tied: their votes are no further apart than the surplus of " ∷ text_of 9 row.surplus ∷ codes "." ∷ []
+abbrev pub within_surplus : (places : ℕ) → Row → List (List ℕ)
+within_surplus places row =
+    codes " are tied: their votes are no further apart than the surplus of " ∷ text_of places row.surplus ∷ codes "." ∷ []
 
-abbrev pub tie : SheetList → Row → List (List ℕ)
-tie v row = listing v row Tied ++ within_surplus row
+abbrev pub tie : (places : ℕ) → SheetList → Row → List (List ℕ)
+tie places v row = listing places v row Tied ++ within_surplus places row
 
 -- which of the tied the lots chose; a sheet does not say the order of the others
 abbrev pub lot : SheetList → (c : ℕ) → List (List ℕ)
@@ -113,14 +113,14 @@ lot v c =
     (codes "The lots decide: " ∷ [])
     ++ (called v (c - 1) ++ codes " stands first of them in the lots and is defeated." ∷ [])
 
-abbrev pub sentence : SheetList → Row → Decision → List (List ℕ)
-sentence v row Election = election v row
-sentence v row Arrival = arrival v row
-sentence v row Choice = choice v row
-sentence v row Cap = cap v row
-sentence v row (Defeats c) = defeat v row c
-sentence v row Tie = tie v row
-sentence v row (Lot c) = lot v c
+abbrev pub sentence : (places : ℕ) → SheetList → Row → Decision → List (List ℕ)
+sentence places v row Election = election places v row
+sentence places v row Arrival = arrival places v row
+sentence places v row Choice = choice places v row
+sentence places v row Cap = cap places v row
+sentence places v row (Defeats c) = defeat places v row c
+sentence places v row Tie = tie places v row
+sentence places v row (Lot c) = lot v c
 
 -- the number of one of n candidates
 abbrev pub IsNumber : (n c : ℕ) → Type 0
@@ -158,7 +158,7 @@ takes_seat v p = list_any (λ row. mark_at row.elected p) v.rows
 
 -- the seats that were taken in iterations
 abbrev pub seats_taken : SheetList → ℕ
-seats_taken v = count_by (takes_seat v) (places (length v.names))
+seats_taken v = count_by (takes_seat v) (all_places (length v.names))
 
 -- why the count ends
 abbrev pub ending : SheetList → List ℕ
@@ -176,7 +176,7 @@ late_at v p = if is_open v p then late v p (state_at v.last p) else []
 
 -- all sentences of the end
 abbrev pub sentences_at_end : SheetList → List (List (List ℕ))
-sentences_at_end v = (ending v ∷ []) ∷ flat_map (late_at v) (places (length v.names))
+sentences_at_end v = (ending v ∷ []) ∷ flat_map (late_at v) (all_places (length v.names))
 
 -- ---- the result
 

@@ -55,7 +55,7 @@ tie_sheet = record {
 
 abbrev pub ATie : Type 0
 ATie =
-    decision_lines tie_sheet
+    decision_lines 9 tie_sheet
     ≡ codes "Round 1, iteration 1: Ann Archer (1) with 1.000000000 votes and Ben Baker (2) with 1.000000000 votes are tied: their votes are no further apart than the surplus of 0.000000000."
     ∷ codes "Round 1, iteration 1: The lots decide: Ben Baker (2) stands first of them in the lots and is defeated."
     ∷ codes "End: No more candidates are left than seats."
@@ -95,7 +95,7 @@ winners_sheet = record {
 
 abbrev pub MoreWinnersThanSeats : Type 0
 MoreWinnersThanSeats =
-    decision_lines winners_sheet
+    decision_lines 9 winners_sheet
     ≡ codes "Round 1, iteration 1: Eve Eaton (5) with 38.000000000 votes reaches the quota of 11.000000001 and is elected."
     ∷ codes "Round 2, iteration 2: Cid Carter (3) with 26.999999970 votes reaches the quota of 11.000000001 and is elected."
     ∷ codes "Round 3, iteration 2: Dee Draper (4) has the fewest votes, 4.000000000, and is defeated."
@@ -133,7 +133,7 @@ transfer_sheet = record {
 
 abbrev pub ATransfer : Type 0
 ATransfer =
-    decision_lines transfer_sheet
+    decision_lines 9 transfer_sheet
     ≡ codes "Round 1, iteration 1: Ann Archer (1) with 10.000000000 votes reaches the quota of 5.666666667 and is elected."
     ∷ codes "Round 2, iteration 3: Ben Baker (2) with 4.000000000 votes reaches the quota of 3.740740744 and is elected."
     ∷ codes "End: All seats are taken."
@@ -160,7 +160,7 @@ four rows last = record {
 -- Two of those who have the quota are elected, and one has fewer votes: no lot chooses.
 abbrev pub GreaterVotesFirst : Type 0
 GreaterVotesFirst =
-    decision_lines
+    decision_lines 9
     (four
     (row_of 7 1 (Withdrawn ∷ Hopeful ∷ Hopeful ∷ Hopeful ∷ []) (0 ∷ 4000000000 ∷ 3000000002 ∷ 3000000001 ∷ []) 10000000003 3000000001 1 (two_of 2 3 4) Elected ∷ [])
     (Withdrawn ∷ IsElected ∷ IsElected ∷ Defeated ∷ []))
@@ -178,7 +178,7 @@ GreaterVotesFirst =
 -- Two are elected at once; later both are capped, and then one alone; the last is elected at the end.
 abbrev pub SeveralAtOnce : Type 0
 SeveralAtOnce =
-    decision_lines
+    decision_lines 9
     (record (four
     (row_of 1 1 (Withdrawn ∷ Hopeful ∷ Hopeful ∷ Hopeful ∷ []) (0 ∷ 4000000000 ∷ 3000000000 ∷ 2000000000 ∷ []) 9000000000 2250000001 2499999998 (two_of 2 3 4) Elected
     ∷ record (row_of 2 1 (Withdrawn ∷ IsElected ∷ IsElected ∷ Hopeful ∷ []) (0 ∷ 1000000000 ∷ 500000000 ∷ 2000000000 ∷ []) 3500000000 2250000001 0 (nobody 4) Iterate)

@@ -17,35 +17,35 @@ use crate::members::members;
 use crate::sentences::write_decision;
 use byte_edge::{Failed, Sink};
 use meek_rule::{Row, Step};
-use sheet_reader::SheetValues;
+use sheet_reader::SheetValuesAt;
 
 /// Writes the sentences of an iteration.
-pub fn write_sentences_of<V: Voice, K: Sink>(
+pub fn write_sentences_of<const P: usize, V: Voice, K: Sink>(
     voice: &V,
-    values: &SheetValues,
-    row: &Row<9>,
+    values: &SheetValuesAt<P>,
+    row: &Row<P>,
     sink: &mut K,
 ) -> Result<(), Failed>
     requires few { length values.now.names ≤ MOST_CANDIDATES }
-    requires printable { IsPrintableRow 9 (length values.now.names) row.now }
+    requires printable { IsPrintableRow P (length values.now.names) row.now }
     ensures { Writes K.written K.faults sink.old sink.new
-        (flat_map (told V.manner) (sentences_of values.now row.now)) result }
+        (flat_map (told V.manner) (sentences_of P values.now row.now)) result }
 {
     write_elections(voice, values, row, sink)?;
     write_caps(voice, values, row, sink)?;
     write_defeats(voice, values, row, sink)
 }
 
-fn write_elections<V: Voice, K: Sink>(
+fn write_elections<const P: usize, V: Voice, K: Sink>(
     voice: &V,
-    values: &SheetValues,
-    row: &Row<9>,
+    values: &SheetValuesAt<P>,
+    row: &Row<P>,
     sink: &mut K,
 ) -> Result<(), Failed>
     requires few { length values.now.names ≤ MOST_CANDIDATES }
     requires room { HasRoomFor (length values.now.names) row.now }
     ensures { Writes K.written K.faults sink.old sink.new
-        (flat_map (told V.manner) (map (numbered values.now row.now) (elections row.now))) result }
+        (flat_map (told V.manner) (map (numbered P values.now row.now) (elections row.now))) result }
 {
     if members(row, Group::Elected) == 0 {
         return Ok(());
@@ -63,16 +63,16 @@ fn write_elections<V: Voice, K: Sink>(
     )
 }
 
-fn write_caps<V: Voice, K: Sink>(
+fn write_caps<const P: usize, V: Voice, K: Sink>(
     voice: &V,
-    values: &SheetValues,
-    row: &Row<9>,
+    values: &SheetValuesAt<P>,
+    row: &Row<P>,
     sink: &mut K,
 ) -> Result<(), Failed>
     requires few { length values.now.names ≤ MOST_CANDIDATES }
     requires room { HasRoomFor (length values.now.names) row.now }
     ensures { Writes K.written K.faults sink.old sink.new
-        (flat_map (told V.manner) (map (numbered values.now row.now) (caps row.now))) result }
+        (flat_map (told V.manner) (map (numbered P values.now row.now) (caps row.now))) result }
 {
     if members(row, Group::Capped) == 0 {
         return Ok(());
@@ -80,17 +80,17 @@ fn write_caps<V: Voice, K: Sink>(
     write_one(voice, values, row, Decision::Cap, sink)
 }
 
-fn write_defeats<V: Voice, K: Sink>(
+fn write_defeats<const P: usize, V: Voice, K: Sink>(
     voice: &V,
-    values: &SheetValues,
-    row: &Row<9>,
+    values: &SheetValuesAt<P>,
+    row: &Row<P>,
     sink: &mut K,
 ) -> Result<(), Failed>
     requires few { length values.now.names ≤ MOST_CANDIDATES }
     requires room { HasRoomFor (length values.now.names) row.now }
     requires tied { HasTiedFor (length values.now.names) row.now.step row.now.tied }
     ensures { Writes K.written K.faults sink.old sink.new
-        (flat_map (told V.manner) (map (numbered values.now row.now) (defeats_of row.now row.now.step))) result }
+        (flat_map (told V.manner) (map (numbered P values.now row.now) (defeats_of row.now row.now.step))) result }
 {
     match row.step {
         Step::Elected => Ok(()),
@@ -100,10 +100,10 @@ fn write_defeats<V: Voice, K: Sink>(
 }
 
 /// Writes the defeat of candidate `c`, with the tie that the lots decided, if there is one.
-fn write_defeat_of<V: Voice, K: Sink>(
+fn write_defeat_of<const P: usize, V: Voice, K: Sink>(
     voice: &V,
-    values: &SheetValues,
-    row: &Row<9>,
+    values: &SheetValuesAt<P>,
+    row: &Row<P>,
     c: u32,
     sink: &mut K,
 ) -> Result<(), Failed>
@@ -111,7 +111,7 @@ fn write_defeat_of<V: Voice, K: Sink>(
     requires room { HasRoomFor (length values.now.names) row.now }
     requires named { IsNumber (length values.now.names) c }
     ensures { Writes K.written K.faults sink.old sink.new
-        (flat_map (told V.manner) (map (numbered values.now row.now) (defeats_of row.now (Step.Defeat c)))) result }
+        (flat_map (told V.manner) (map (numbered P values.now row.now) (defeats_of row.now (Step.Defeat c)))) result }
 {
     if has_tie(row) {
         return write_two(voice, values, row, Decision::Tie, Decision::Lot(c), sink);
@@ -120,17 +120,17 @@ fn write_defeat_of<V: Voice, K: Sink>(
 }
 
 /// Whether two or more are tied for a defeat.
-pub(crate) fn has_tie(row: &Row<9>) -> bool
+pub(crate) fn has_tie<const P: usize>(row: &Row<P>) -> bool
     requires room { HasRoomFor (length row.now.states) row.now }
     ensures { result ≡ has_tie row.now }
 {
     2 <= members(row, Group::Tied)
 }
 
-fn write_one<V: Voice, K: Sink>(
+fn write_one<const P: usize, V: Voice, K: Sink>(
     voice: &V,
-    values: &SheetValues,
-    row: &Row<9>,
+    values: &SheetValuesAt<P>,
+    row: &Row<P>,
     decision: Decision,
     sink: &mut K,
 ) -> Result<(), Failed>
@@ -138,15 +138,15 @@ fn write_one<V: Voice, K: Sink>(
     requires room { HasRoomFor (length values.now.names) row.now }
     requires named { IsNamed (length values.now.names) decision }
     ensures { Writes K.written K.faults sink.old sink.new
-        (flat_map (told V.manner) (map (numbered values.now row.now) (decision ∷ []))) result }
+        (flat_map (told V.manner) (map (numbered P values.now row.now) (decision ∷ []))) result }
 {
     write_decision(voice, values, row, decision, sink)
 }
 
-fn write_two<V: Voice, K: Sink>(
+fn write_two<const P: usize, V: Voice, K: Sink>(
     voice: &V,
-    values: &SheetValues,
-    row: &Row<9>,
+    values: &SheetValuesAt<P>,
+    row: &Row<P>,
     first: Decision,
     second: Decision,
     sink: &mut K,
@@ -156,7 +156,7 @@ fn write_two<V: Voice, K: Sink>(
     requires first_named { IsNamed (length values.now.names) first }
     requires second_named { IsNamed (length values.now.names) second }
     ensures { Writes K.written K.faults sink.old sink.new
-        (flat_map (told V.manner) (map (numbered values.now row.now) (first ∷ second ∷ []))) result }
+        (flat_map (told V.manner) (map (numbered P values.now row.now) (first ∷ second ∷ []))) result }
 {
     write_decision(voice, values, row, first, sink)?;
     write_one(voice, values, row, second, sink)

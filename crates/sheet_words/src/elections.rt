@@ -10,84 +10,97 @@ use crate::Voice;
 use crate::group::Group;
 use crate::members::{elected_count, members};
 use crate::part::Part;
-use crate::saying::{for_one_or_more, say_listing, say_parts};
+use crate::saying::{for_one_or_more, say_listing, say_parts, votes_text};
 use byte_edge::{Failed, Sink};
 use fixed_place::Amount;
 use meek_rule::Row;
-use sheet_reader::SheetValues;
+use sheet_reader::SheetValuesAt;
 
-pub(crate) fn say_election<V: Voice, K: Sink>(
+pub(crate) fn say_election<const P: usize, V: Voice, K: Sink>(
     voice: &V,
-    values: &SheetValues,
-    row: &Row<9>,
+    values: &SheetValuesAt<P>,
+    row: &Row<P>,
     sink: &mut K,
 ) -> Result<(), Failed>
     requires room { HasRoomFor (length values.now.names) row.now }
     requires few { length values.now.names ≤ MOST_CANDIDATES }
-    ensures { Writes K.written K.faults sink.old sink.new (said V.manner (election values.now row.now)) result }
+    ensures { Writes K.written K.faults sink.old sink.new (said V.manner (election P values.now row.now)) result }
 {
     say_listing(voice, values, row, Group::Elected, sink)?;
     say_seated(voice, row, sink)
 }
 
-fn say_seated<V: Voice, K: Sink>(voice: &V, row: &Row<9>, sink: &mut K) -> Result<(), Failed>
+fn say_seated<const P: usize, V: Voice, K: Sink>(
+    voice: &V,
+    row: &Row<P>,
+    sink: &mut K,
+) -> Result<(), Failed>
     requires { HasRoomFor (length row.now.states) row.now }
-    ensures { Writes K.written K.faults sink.old sink.new (said V.manner (seated row.now)) result }
+    ensures { Writes K.written K.faults sink.old sink.new (said V.manner (seated P row.now)) result }
 {
     let winners = members(row, Group::Elected);
     let seated = for_one_or_more(b" and is elected.", b" and are elected.", winners);
     say_quota(voice, winners, row.quota, seated, sink)
 }
 
-pub(crate) fn say_arrival<V: Voice, K: Sink>(
+pub(crate) fn say_arrival<const P: usize, V: Voice, K: Sink>(
     voice: &V,
-    values: &SheetValues,
-    row: &Row<9>,
+    values: &SheetValuesAt<P>,
+    row: &Row<P>,
     sink: &mut K,
 ) -> Result<(), Failed>
     requires room { HasRoomFor (length values.now.names) row.now }
     requires few { length values.now.names ≤ MOST_CANDIDATES }
-    ensures { Writes K.written K.faults sink.old sink.new (said V.manner (arrival values.now row.now)) result }
+    ensures { Writes K.written K.faults sink.old sink.new (said V.manner (arrival P values.now row.now)) result }
 {
     say_listing(voice, values, row, Group::Reached, sink)?;
     say_arrived(voice, row, sink)
 }
 
-fn say_arrived<V: Voice, K: Sink>(voice: &V, row: &Row<9>, sink: &mut K) -> Result<(), Failed>
+fn say_arrived<const P: usize, V: Voice, K: Sink>(
+    voice: &V,
+    row: &Row<P>,
+    sink: &mut K,
+) -> Result<(), Failed>
     requires { HasRoomFor (length row.now.states) row.now }
-    ensures { Writes K.written K.faults sink.old sink.new (said V.manner (arrived row.now)) result }
+    ensures { Writes K.written K.faults sink.old sink.new (said V.manner (arrived P row.now)) result }
 {
     say_quota(voice, members(row, Group::Reached), row.quota, b".", sink)
 }
 
 /// Says that so many reached the quota, and what stands behind it.
-fn say_quota<V: Voice, K: Sink>(
+fn say_quota<const P: usize, V: Voice, K: Sink>(
     voice: &V,
     count: usize,
-    quota: Amount<9>,
+    quota: Amount<P>,
     behind: &[u8],
     sink: &mut K,
 ) -> Result<(), Failed>
     ensures { Writes K.written K.faults sink.old sink.new
-        (said V.manner (at_quota count quota behind.now)) result }
+        (said V.manner (at_quota P count quota.entry behind.now)) result }
 {
     let reach = for_one_or_more(b" reaches the quota of ", b" reach the quota of ", count);
+    let votes = votes_text(quota);
     say_parts(
         voice,
-        &[Part::Words(reach), Part::Votes(quota), Part::Words(behind)],
+        &[
+            Part::Words(reach),
+            Part::Words(votes.bytes()),
+            Part::Words(behind),
+        ],
         sink,
     )
 }
 
-pub(crate) fn say_choice<V: Voice, K: Sink>(
+pub(crate) fn say_choice<const P: usize, V: Voice, K: Sink>(
     voice: &V,
-    values: &SheetValues,
-    row: &Row<9>,
+    values: &SheetValuesAt<P>,
+    row: &Row<P>,
     sink: &mut K,
 ) -> Result<(), Failed>
     requires room { HasRoomFor (length values.now.names) row.now }
     requires few { length values.now.names ≤ MOST_CANDIDATES }
-    ensures { Writes K.written K.faults sink.old sink.new (said V.manner (choice values.now row.now)) result }
+    ensures { Writes K.written K.faults sink.old sink.new (said V.manner (choice P values.now row.now)) result }
 {
     say_seats(voice, values, row, sink)?;
     say_listing(voice, values, row, Group::Elected, sink)?;
@@ -95,10 +108,10 @@ pub(crate) fn say_choice<V: Voice, K: Sink>(
 }
 
 /// Says how many seats are left before an iteration.
-fn say_seats<V: Voice, K: Sink>(
+fn say_seats<const P: usize, V: Voice, K: Sink>(
     voice: &V,
-    values: &SheetValues,
-    row: &Row<9>,
+    values: &SheetValuesAt<P>,
+    row: &Row<P>,
     sink: &mut K,
 ) -> Result<(), Failed>
     requires { length row.now.states ≤ MOST_CANDIDATES }
@@ -116,7 +129,11 @@ fn say_seats<V: Voice, K: Sink>(
     )
 }
 
-fn say_chosen<V: Voice, K: Sink>(voice: &V, row: &Row<9>, sink: &mut K) -> Result<(), Failed>
+fn say_chosen<const P: usize, V: Voice, K: Sink>(
+    voice: &V,
+    row: &Row<P>,
+    sink: &mut K,
+) -> Result<(), Failed>
     requires { HasRoomFor (length row.now.states) row.now }
     ensures { Writes K.written K.faults sink.old sink.new (said V.manner (chosen row.now)) result }
 {
@@ -133,7 +150,7 @@ fn say_chosen<V: Voice, K: Sink>(voice: &V, row: &Row<9>, sink: &mut K) -> Resul
 }
 
 /// How those are chosen for whom there are seats.
-fn reason(row: &Row<9>) -> &'static [u8]
+fn reason<const P: usize>(row: &Row<P>) -> &'static [u8]
     requires { HasRoomFor (length row.now.states) row.now }
     ensures { result.now ≡ reason row.now }
 {

@@ -6,7 +6,7 @@ ghost use Rattle.lot_order.specs.Flags.{mark_at};
 ghost use Rattle.meek_rule.specs.Row.{HasRoomFor};
 ghost use Rattle.piece_text.specs.Writing.{Writes};
 ghost use Rattle.sheet_reader.specs.Form.{IsPrintable, IsPrintableRow};
-ghost use Rattle.sheet_words.specs.Groups.{places};
+ghost use Rattle.sheet_words.specs.Groups.{all_places};
 ghost use Rattle.sheet_words.specs.Lines.{at_end};
 ghost use Rattle.sheet_words.specs.Manner.{said, told};
 ghost use Rattle.sheet_words.specs.Phrases.{called};
@@ -18,15 +18,15 @@ use crate::saying::{say_about, say_parts};
 use byte_edge::{Failed, Sink};
 use candidate_roll::State;
 use meek_rule::{Row, Step};
-use sheet_reader::SheetValues;
+use sheet_reader::SheetValuesAt;
 
 /// Writes why the count ends, and what becomes of those on whom no iteration decided.
-pub fn write_end<V: Voice, K: Sink>(
+pub fn write_end<const P: usize, V: Voice, K: Sink>(
     voice: &V,
-    values: &SheetValues,
+    values: &SheetValuesAt<P>,
     sink: &mut K,
 ) -> Result<(), Failed>
-    requires printable { IsPrintable 9 values.now }
+    requires printable { IsPrintable P values.now }
     ensures { Writes K.written K.faults sink.old sink.new
         (flat_map (told V.manner) (map at_end (sentences_at_end values.now))) result }
 {
@@ -34,12 +34,12 @@ pub fn write_end<V: Voice, K: Sink>(
     write_all_late(voice, values, sink)
 }
 
-fn write_ending<V: Voice, K: Sink>(
+fn write_ending<const P: usize, V: Voice, K: Sink>(
     voice: &V,
-    values: &SheetValues,
+    values: &SheetValuesAt<P>,
     sink: &mut K,
 ) -> Result<(), Failed>
-    requires printable { IsPrintable 9 values.now }
+    requires printable { IsPrintable P values.now }
     ensures { Writes K.written K.faults sink.old sink.new
         (told V.manner (at_end (ending values.now ∷ []))) result }
 {
@@ -48,12 +48,12 @@ fn write_ending<V: Voice, K: Sink>(
     voice.end(sink)
 }
 
-fn say_ending<V: Voice, K: Sink>(
+fn say_ending<const P: usize, V: Voice, K: Sink>(
     voice: &V,
-    values: &SheetValues,
+    values: &SheetValuesAt<P>,
     sink: &mut K,
 ) -> Result<(), Failed>
-    requires printable { IsPrintable 9 values.now }
+    requires printable { IsPrintable P values.now }
     ensures { Writes K.written K.faults sink.old sink.new
         (said V.manner (at_end (ending values.now ∷ []))) result }
 {
@@ -65,8 +65,8 @@ fn say_ending<V: Voice, K: Sink>(
 }
 
 /// Why the count ends.
-fn ending(values: &SheetValues) -> &'static [u8]
-    requires printable { IsPrintable 9 values.now }
+fn ending<const P: usize>(values: &SheetValuesAt<P>) -> &'static [u8]
+    requires printable { IsPrintable P values.now }
     ensures { result.now ≡ ending values.now }
 {
     if seats_taken(values) == values.seats as usize {
@@ -77,8 +77,8 @@ fn ending(values: &SheetValues) -> &'static [u8]
 }
 
 /// The seats that were taken in iterations.
-fn seats_taken(values: &SheetValues) -> usize
-    requires printable { IsPrintable 9 values.now }
+fn seats_taken<const P: usize>(values: &SheetValuesAt<P>) -> usize
+    requires printable { IsPrintable P values.now }
     ensures { result ≡ seats_taken values.now }
 {
     let mut count = 0;
@@ -91,16 +91,16 @@ fn seats_taken(values: &SheetValues) -> usize
 }
 
 /// Whether some iteration elected the candidate at a place.
-fn takes_seat(values: &SheetValues, p: usize) -> bool
-    requires printable { IsPrintable 9 values.now }
+fn takes_seat<const P: usize>(values: &SheetValuesAt<P>, p: usize) -> bool
+    requires printable { IsPrintable P values.now }
     requires place { p < length values.now.names }
     ensures { result ≡ takes_seat values.now p }
 {
     elects_in(values.rows.items(), values.names.len(), p)
 }
 
-fn elects_in(rows: &[Row<9>], candidates: usize, p: usize) -> bool
-    requires rows { All (IsPrintableRow 9 candidates) rows.now }
+fn elects_in<const P: usize>(rows: &[Row<P>], candidates: usize, p: usize) -> bool
+    requires rows { All (IsPrintableRow P candidates) rows.now }
     requires place { p < candidates }
     ensures { result ≡ list_any (λ row. mark_at row.elected p) rows.now }
 {
@@ -112,14 +112,14 @@ fn elects_in(rows: &[Row<9>], candidates: usize, p: usize) -> bool
     false
 }
 
-fn write_all_late<V: Voice, K: Sink>(
+fn write_all_late<const P: usize, V: Voice, K: Sink>(
     voice: &V,
-    values: &SheetValues,
+    values: &SheetValuesAt<P>,
     sink: &mut K,
 ) -> Result<(), Failed>
-    requires printable { IsPrintable 9 values.now }
+    requires printable { IsPrintable P values.now }
     ensures { Writes K.written K.faults sink.old sink.new
-        (flat_map (told V.manner) (map at_end (flat_map (late_at values.now) (places (length values.now.names))))) result }
+        (flat_map (told V.manner) (map at_end (flat_map (late_at values.now) (all_places (length values.now.names))))) result }
 {
     for p in 0..values.names.len() {
         write_late_at(voice, values, p, sink)?;
@@ -128,13 +128,13 @@ fn write_all_late<V: Voice, K: Sink>(
 }
 
 /// What becomes of the candidate at a place, if no iteration decided on it.
-fn write_late_at<V: Voice, K: Sink>(
+fn write_late_at<const P: usize, V: Voice, K: Sink>(
     voice: &V,
-    values: &SheetValues,
+    values: &SheetValuesAt<P>,
     p: usize,
     sink: &mut K,
 ) -> Result<(), Failed>
-    requires printable { IsPrintable 9 values.now }
+    requires printable { IsPrintable P values.now }
     requires place { p < length values.now.names }
     ensures { Writes K.written K.faults sink.old sink.new
         (flat_map (told V.manner) (map at_end (late_at values.now p))) result }
@@ -146,9 +146,9 @@ fn write_late_at<V: Voice, K: Sink>(
 }
 
 /// What becomes of a candidate who ends in this state.
-fn write_late<V: Voice, K: Sink>(
+fn write_late<const P: usize, V: Voice, K: Sink>(
     voice: &V,
-    values: &SheetValues,
+    values: &SheetValuesAt<P>,
     p: usize,
     state: State,
     sink: &mut K,
@@ -172,9 +172,9 @@ fn write_late<V: Voice, K: Sink>(
     }
 }
 
-fn write_seat<V: Voice, K: Sink>(
+fn write_seat<const P: usize, V: Voice, K: Sink>(
     voice: &V,
-    values: &SheetValues,
+    values: &SheetValuesAt<P>,
     p: usize,
     words: &[u8],
     sink: &mut K,
@@ -189,9 +189,9 @@ fn write_seat<V: Voice, K: Sink>(
     voice.end(sink)
 }
 
-fn say_seat<V: Voice, K: Sink>(
+fn say_seat<const P: usize, V: Voice, K: Sink>(
     voice: &V,
-    values: &SheetValues,
+    values: &SheetValuesAt<P>,
     p: usize,
     words: &[u8],
     sink: &mut K,
@@ -206,16 +206,16 @@ fn say_seat<V: Voice, K: Sink>(
 }
 
 /// Whether no iteration decided on the candidate at a place.
-fn is_open(values: &SheetValues, p: usize) -> bool
-    requires printable { IsPrintable 9 values.now }
+fn is_open<const P: usize>(values: &SheetValuesAt<P>, p: usize) -> bool
+    requires printable { IsPrintable P values.now }
     requires place { p < length values.now.names }
     ensures { result ≡ is_open values.now p }
 {
     !decides_in(values.rows.items(), values.names.len(), p)
 }
 
-fn decides_in(rows: &[Row<9>], candidates: usize, p: usize) -> bool
-    requires rows { All (IsPrintableRow 9 candidates) rows.now }
+fn decides_in<const P: usize>(rows: &[Row<P>], candidates: usize, p: usize) -> bool
+    requires rows { All (IsPrintableRow P candidates) rows.now }
     requires place { p < candidates }
     requires few { candidates ≤ MOST_CANDIDATES }
     ensures { result ≡ list_any (decides_on p) rows.now }
@@ -229,7 +229,7 @@ fn decides_in(rows: &[Row<9>], candidates: usize, p: usize) -> bool
 }
 
 /// Whether an iteration elects or defeats the candidate at a place.
-fn decides_on(row: &Row<9>, p: usize) -> bool
+fn decides_on<const P: usize>(row: &Row<P>, p: usize) -> bool
     requires room { HasRoomFor (length row.now.states) row.now }
     requires place { p < length row.now.states }
     requires few { length row.now.states ≤ MOST_CANDIDATES }

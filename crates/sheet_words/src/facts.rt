@@ -13,7 +13,7 @@ use meek_rule::{Row, Step};
 
 /// Whether the lots decided in an iteration: who of the tied is defeated, or who of those with equal votes is
 /// elected.
-pub fn is_by_lots(row: &Row<9>) -> bool
+pub fn is_by_lots<const P: usize>(row: &Row<P>) -> bool
     requires { HasRoomFor (length row.now.states) row.now }
     ensures { result ≡ by_lots row.now }
 {
@@ -22,7 +22,7 @@ pub fn is_by_lots(row: &Row<9>) -> bool
 
 /// The seats that were left in an iteration for more candidates with the quota than these; 0 where there were
 /// seats for all of them.
-pub fn last_seats(seats: u32, row: &Row<9>) -> u32
+pub fn last_seats<const P: usize>(seats: u32, row: &Row<P>) -> u32
     requires room { HasRoomFor (length row.now.states) row.now }
     requires few { length row.now.states ≤ MOST_CANDIDATES }
     ensures { result ≡ last_seats seats row.now }
@@ -34,7 +34,7 @@ pub fn last_seats(seats: u32, row: &Row<9>) -> u32
 }
 
 /// Whether the lots chose who of the tied is defeated.
-fn lots_defeat(row: &Row<9>) -> bool
+fn lots_defeat<const P: usize>(row: &Row<P>) -> bool
     requires { HasRoomFor (length row.now.states) row.now }
     ensures { result ≡ list_any is_lot (decisions_of row.now) }
 {
@@ -46,7 +46,7 @@ fn lots_defeat(row: &Row<9>) -> bool
 }
 
 /// Whether more have the quota than seats are left.
-fn chooses(row: &Row<9>) -> bool
+fn chooses<const P: usize>(row: &Row<P>) -> bool
     requires { HasRoomFor (length row.now.states) row.now }
     ensures { result ≡ chooses row.now }
 {

@@ -4,14 +4,14 @@ ghost use Rattle.std.specs.List.{list_any};
 ghost use Rattle.plain_ballots.specs.declared.limits.TheConstants.{MOST_CANDIDATES};
 ghost use Rattle.meek_rule.specs.Row.{HasRoomFor};
 ghost use Rattle.meek_rule.specs.Situation.{elected_count};
-ghost use Rattle.sheet_words.specs.Groups.{is_in, is_passed_by_lot, is_passed_over, members, members_from, places, reaches, wins_with};
+ghost use Rattle.sheet_words.specs.Groups.{is_in, is_passed_by_lot, is_passed_over, members, members_from, all_places, reaches, wins_with};
 
 use crate::group::Group;
 use candidate_roll::{State, States};
 use meek_rule::Row;
 
 /// Whether the candidate at a place is of a group.
-pub(crate) fn is_in(row: &Row<9>, group: Group, p: usize) -> bool
+pub(crate) fn is_in<const P: usize>(row: &Row<P>, group: Group, p: usize) -> bool
     requires room { HasRoomFor (length row.now.states) row.now }
     requires place { p < length row.now.states }
     ensures { result ≡ is_in row.now group p }
@@ -27,7 +27,7 @@ pub(crate) fn is_in(row: &Row<9>, group: Group, p: usize) -> bool
 }
 
 /// How many a group has.
-pub(crate) fn members(row: &Row<9>, group: Group) -> usize
+pub(crate) fn members<const P: usize>(row: &Row<P>, group: Group) -> usize
     requires room { HasRoomFor (length row.now.states) row.now }
     ensures { result ≡ members row.now group }
 {
@@ -35,7 +35,7 @@ pub(crate) fn members(row: &Row<9>, group: Group) -> usize
 }
 
 /// How many of a group stand at a place or behind it.
-pub(crate) fn members_from(row: &Row<9>, group: Group, first: usize) -> usize
+pub(crate) fn members_from<const P: usize>(row: &Row<P>, group: Group, first: usize) -> usize
     requires room { HasRoomFor (length row.now.states) row.now }
     ensures { result ≡ members_from row.now group first }
 {
@@ -49,7 +49,7 @@ pub(crate) fn members_from(row: &Row<9>, group: Group, first: usize) -> usize
 }
 
 /// Whether the candidate at a place has the quota.
-fn reaches(row: &Row<9>, p: usize) -> bool
+fn reaches<const P: usize>(row: &Row<P>, p: usize) -> bool
     requires room { HasRoomFor (length row.now.states) row.now }
     requires place { p < length row.now.states }
     ensures { result ≡ reaches row.now p }
@@ -58,7 +58,7 @@ fn reaches(row: &Row<9>, p: usize) -> bool
 }
 
 /// Whether the candidate at a place has the quota, and is not elected for want of a seat.
-fn is_passed_over(row: &Row<9>, p: usize) -> bool
+fn is_passed_over<const P: usize>(row: &Row<P>, p: usize) -> bool
     requires room { HasRoomFor (length row.now.states) row.now }
     requires place { p < length row.now.states }
     ensures { result ≡ is_passed_over row.now p }
@@ -67,7 +67,7 @@ fn is_passed_over(row: &Row<9>, p: usize) -> bool
 }
 
 /// Whether the candidate at a place is passed over with as many votes as somebody who is elected.
-fn is_passed_by_lot(row: &Row<9>, p: usize) -> bool
+fn is_passed_by_lot<const P: usize>(row: &Row<P>, p: usize) -> bool
     requires room { HasRoomFor (length row.now.states) row.now }
     requires place { p < length row.now.states }
     ensures { result ≡ is_passed_by_lot row.now p }
@@ -76,9 +76,9 @@ fn is_passed_by_lot(row: &Row<9>, p: usize) -> bool
 }
 
 /// Whether somebody is elected with just this vote.
-fn some_winner_with(row: &Row<9>, vote: u64) -> bool
+fn some_winner_with<const P: usize>(row: &Row<P>, vote: u64) -> bool
     requires room { HasRoomFor (length row.now.states) row.now }
-    ensures { result ≡ list_any (wins_with row.now vote) (places (length row.now.states)) }
+    ensures { result ≡ list_any (wins_with row.now vote) (all_places (length row.now.states)) }
 {
     for p in 0..row.states.len() {
         if wins_with(row, vote, p) {
@@ -89,7 +89,7 @@ fn some_winner_with(row: &Row<9>, vote: u64) -> bool
 }
 
 /// Whether the candidate at a place is elected with just this vote.
-fn wins_with(row: &Row<9>, vote: u64, p: usize) -> bool
+fn wins_with<const P: usize>(row: &Row<P>, vote: u64, p: usize) -> bool
     requires room { HasRoomFor (length row.now.states) row.now }
     requires place { p < length row.now.states }
     ensures { result ≡ wins_with row.now vote p }

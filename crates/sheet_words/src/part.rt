@@ -1,11 +1,7 @@
-use fixed_place::Amount;
-
 /// A text of a sentence.
 #[derive(Drop)]
 pub(crate) enum Part<'a> {
-    /// Words, or a name.
+    /// Words, a name, or votes as text.
     Words(&'a [u8]),
     Number(u64),
-    /// Votes to the last digit.
-    Votes(Amount<9>),
 }

@@ -3,7 +3,7 @@ ghost use Rattle.std.specs.Prelude.{◌≡◌, ◌∷◌, ◌<◌, [], codes, le
 ghost use Rattle.std.specs.List.{flat_map};
 ghost use Rattle.piece_text.specs.Writing.{Writes};
 ghost use Rattle.sheet_reader.specs.Form.{IsPrintable};
-ghost use Rattle.sheet_words.specs.Groups.{places};
+ghost use Rattle.sheet_words.specs.Groups.{all_places};
 ghost use Rattle.sheet_words.specs.Lines.{results};
 ghost use Rattle.sheet_words.specs.Manner.{said, told};
 ghost use Rattle.sheet_words.specs.Sentences.{fate, outcome};
@@ -13,15 +13,15 @@ use crate::part::Part;
 use crate::saying::{say_about, say_parts};
 use byte_edge::{Failed, Sink};
 use candidate_roll::State;
-use sheet_reader::SheetValues;
+use sheet_reader::SheetValuesAt;
 
 /// Writes what became of each candidate, below a title.
-pub(crate) fn write_results<V: Voice, K: Sink>(
+pub(crate) fn write_results<const P: usize, V: Voice, K: Sink>(
     voice: &V,
-    values: &SheetValues,
+    values: &SheetValuesAt<P>,
     sink: &mut K,
 ) -> Result<(), Failed>
-    requires printable { IsPrintable 9 values.now }
+    requires printable { IsPrintable P values.now }
     ensures { Writes K.written K.faults sink.old sink.new
         (flat_map (told V.manner) (results values.now)) result }
 {
@@ -44,14 +44,14 @@ fn say_title<V: Voice, K: Sink>(voice: &V, sink: &mut K) -> Result<(), Failed>
 }
 
 /// Writes what became of each candidate, without a title.
-pub fn write_outcomes<V: Voice, K: Sink>(
+pub fn write_outcomes<const P: usize, V: Voice, K: Sink>(
     voice: &V,
-    values: &SheetValues,
+    values: &SheetValuesAt<P>,
     sink: &mut K,
 ) -> Result<(), Failed>
-    requires printable { IsPrintable 9 values.now }
+    requires printable { IsPrintable P values.now }
     ensures { Writes K.written K.faults sink.old sink.new
-        (flat_map (told V.manner) (map (outcome values.now) (places (length values.now.names)))) result }
+        (flat_map (told V.manner) (map (outcome values.now) (all_places (length values.now.names)))) result }
 {
     for p in 0..values.names.len() {
         write_outcome(voice, values, p, sink)?;
@@ -59,13 +59,13 @@ pub fn write_outcomes<V: Voice, K: Sink>(
     Ok(())
 }
 
-fn write_outcome<V: Voice, K: Sink>(
+fn write_outcome<const P: usize, V: Voice, K: Sink>(
     voice: &V,
-    values: &SheetValues,
+    values: &SheetValuesAt<P>,
     p: usize,
     sink: &mut K,
 ) -> Result<(), Failed>
-    requires printable { IsPrintable 9 values.now }
+    requires printable { IsPrintable P values.now }
     requires place { p < length values.now.names }
     ensures { Writes K.written K.faults sink.old sink.new
         (told V.manner (outcome values.now p)) result }
@@ -75,13 +75,13 @@ fn write_outcome<V: Voice, K: Sink>(
     voice.end(sink)
 }
 
-fn say_outcome<V: Voice, K: Sink>(
+fn say_outcome<const P: usize, V: Voice, K: Sink>(
     voice: &V,
-    values: &SheetValues,
+    values: &SheetValuesAt<P>,
     p: usize,
     sink: &mut K,
 ) -> Result<(), Failed>
-    requires printable { IsPrintable 9 values.now }
+    requires printable { IsPrintable P values.now }
     requires place { p < length values.now.names }
     ensures { Writes K.written K.faults sink.old sink.new
         (said V.manner (outcome values.now p)) result }

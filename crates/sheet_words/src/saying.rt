@@ -1,5 +1,5 @@
 // Parts of sentences, as a voice writes them.
-ghost use Rattle.std.specs.Prelude.{◌≡◌, ◌+◌, ◌++◌, ◌∷◌, ◌<◌, ◌≤◌, [], length, decimal, map};
+ghost use Rattle.std.specs.Prelude.{◌≡◌, ◌+◌, ◌++◌, ◌∷◌, ◌<◌, ◌≤◌, [], codes, length, decimal, map};
 ghost use Rattle.plain_ballots.specs.declared.limits.TheConstants.{MOST_CANDIDATES};
 ghost use Rattle.fixed_place.specs.Text.{text_of};
 ghost use Rattle.meek_rule.specs.Row.{HasRoomFor};
@@ -16,7 +16,7 @@ use byte_edge::{Failed, Sink};
 use fixed_place::Amount;
 use line_text::Line;
 use meek_rule::Row;
-use sheet_reader::SheetValues;
+use sheet_reader::SheetValuesAt;
 
 /// Says some texts.
 pub(crate) fn say_parts<V: Voice, K: Sink>(
@@ -39,7 +39,6 @@ fn say_part<V: Voice, K: Sink>(voice: &V, part: &Part<'_>, sink: &mut K) -> Resu
     match part {
         Part::Words(bytes) => voice.say(*bytes, sink),
         Part::Number(n) => voice.say(count_text(*n).bytes(), sink),
-        Part::Votes(a) => voice.say(votes_text(*a).bytes(), sink),
     }
 }
 
@@ -52,9 +51,10 @@ fn count_text(n: u64) -> Line
     line
 }
 
+/// Votes to the last digit.
 #[tactic(auto, using(line_text::proofs::Lengths::lengths))]
-fn votes_text(a: Amount<9>) -> Line
-    ensures { result ≡ text_of 9 a }
+pub(crate) fn votes_text<const P: usize>(a: Amount<P>) -> Line
+    ensures { result ≡ text_of P a.entry }
 {
     let _units = a.units();
     let mut line = Line::new();
@@ -63,9 +63,9 @@ fn votes_text(a: Amount<9>) -> Line
 }
 
 /// Says a candidate: its name, and its number in brackets.
-pub(crate) fn say_called<V: Voice, K: Sink>(
+pub(crate) fn say_called<const P: usize, V: Voice, K: Sink>(
     voice: &V,
-    values: &SheetValues,
+    values: &SheetValuesAt<P>,
     p: usize,
     sink: &mut K,
 ) -> Result<(), Failed>
@@ -79,9 +79,9 @@ pub(crate) fn say_called<V: Voice, K: Sink>(
 }
 
 /// Says a candidate, and something of it.
-pub(crate) fn say_about<V: Voice, K: Sink>(
+pub(crate) fn say_about<const P: usize, V: Voice, K: Sink>(
     voice: &V,
-    values: &SheetValues,
+    values: &SheetValuesAt<P>,
     p: usize,
     words: &[u8],
     sink: &mut K,
@@ -96,17 +96,17 @@ pub(crate) fn say_about<V: Voice, K: Sink>(
 }
 
 /// Says a group by rising number, each with its votes.
-pub(crate) fn say_listing<V: Voice, K: Sink>(
+pub(crate) fn say_listing<const P: usize, V: Voice, K: Sink>(
     voice: &V,
-    values: &SheetValues,
-    row: &Row<9>,
+    values: &SheetValuesAt<P>,
+    row: &Row<P>,
     group: Group,
     sink: &mut K,
 ) -> Result<(), Failed>
     requires room { HasRoomFor (length values.now.names) row.now }
     requires few { length values.now.names ≤ MOST_CANDIDATES }
     ensures { Writes K.written K.faults sink.old sink.new
-        (said V.manner (listing values.now row.now group)) result }
+        (said V.manner (listing P values.now row.now group)) result }
 {
     for p in 0..row.states.len() {
         say_member(voice, values, row, group, p, sink)?;
@@ -115,10 +115,10 @@ pub(crate) fn say_listing<V: Voice, K: Sink>(
 }
 
 /// Says the candidate at a place, if it is of the group, with what stands behind it.
-fn say_member<V: Voice, K: Sink>(
+fn say_member<const P: usize, V: Voice, K: Sink>(
     voice: &V,
-    values: &SheetValues,
-    row: &Row<9>,
+    values: &SheetValuesAt<P>,
+    row: &Row<P>,
     group: Group,
     p: usize,
     sink: &mut K,
@@ -127,7 +127,7 @@ fn say_member<V: Voice, K: Sink>(
     requires few { length values.now.names ≤ MOST_CANDIDATES }
     requires place { p < length values.now.names }
     ensures { Writes K.written K.faults sink.old sink.new
-        (said V.manner (member values.now row.now group p)) result }
+        (said V.manner (member P values.now row.now group p)) result }
 {
     if !is_in(row, group, p) {
         return Ok(());
@@ -159,20 +159,33 @@ fn say_name<V: Voice, K: Sink>(
 }
 
 /// Says a candidate's votes, and what stands behind them.
-fn say_votes<V: Voice, K: Sink>(
+fn say_votes<const P: usize, V: Voice, K: Sink>(
     voice: &V,
-    votes: Amount<9>,
+    votes: Amount<P>,
     behind: &[u8],
     sink: &mut K,
 ) -> Result<(), Failed>
     ensures { Writes K.written K.faults sink.old sink.new
-        (said V.manner (with_votes votes behind.now)) result }
+        (said V.manner (with_votes P votes.entry behind.now)) result }
+{
+    let text = votes_text(votes);
+    say_with_votes(voice, text.bytes(), behind, sink)
+}
+
+fn say_with_votes<'x, V: Voice, K: Sink>(
+    voice: &V,
+    votes: &'x [u8],
+    behind: &'x [u8],
+    sink: &mut K,
+) -> Result<(), Failed>
+    ensures { Writes K.written K.faults sink.old sink.new
+        (said V.manner (codes " with " ∷ votes.now ∷ codes " votes" ∷ behind.now ∷ [])) result }
 {
     say_parts(
         voice,
         &[
             Part::Words(b" with "),
-            Part::Votes(votes),
+            Part::Words(votes),
             Part::Words(b" votes"),
             Part::Words(behind),
         ],

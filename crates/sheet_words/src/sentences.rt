@@ -14,16 +14,16 @@ use crate::elections::{say_arrival, say_choice, say_election};
 use crate::group::Group;
 use crate::members::members;
 use crate::part::Part;
-use crate::saying::{for_one_or_more, say_called, say_listing, say_parts};
+use crate::saying::{for_one_or_more, say_called, say_listing, say_parts, votes_text};
 use byte_edge::{Failed, Sink};
 use meek_rule::Row;
-use sheet_reader::SheetValues;
+use sheet_reader::SheetValuesAt;
 
 /// Writes a decision of an iteration, behind the numbers of it.
-pub(crate) fn write_decision<V: Voice, K: Sink>(
+pub(crate) fn write_decision<const P: usize, V: Voice, K: Sink>(
     voice: &V,
-    values: &SheetValues,
-    row: &Row<9>,
+    values: &SheetValuesAt<P>,
+    row: &Row<P>,
     decision: Decision,
     sink: &mut K,
 ) -> Result<(), Failed>
@@ -31,7 +31,7 @@ pub(crate) fn write_decision<V: Voice, K: Sink>(
     requires few { length values.now.names ≤ MOST_CANDIDATES }
     requires named { IsNamed (length values.now.names) decision }
     ensures { Writes K.written K.faults sink.old sink.new
-        (told V.manner (numbered values.now row.now decision)) result }
+        (told V.manner (numbered P values.now row.now decision)) result }
 {
     voice.begin(sink)?;
     say_numbers(voice, row, sink)?;
@@ -40,7 +40,11 @@ pub(crate) fn write_decision<V: Voice, K: Sink>(
 }
 
 /// Says which iteration of which round it is.
-fn say_numbers<V: Voice, K: Sink>(voice: &V, row: &Row<9>, sink: &mut K) -> Result<(), Failed>
+fn say_numbers<const P: usize, V: Voice, K: Sink>(
+    voice: &V,
+    row: &Row<P>,
+    sink: &mut K,
+) -> Result<(), Failed>
     ensures { Writes K.written K.faults sink.old sink.new
         (said V.manner (numbers row.now)) result }
 {
@@ -57,10 +61,10 @@ fn say_numbers<V: Voice, K: Sink>(voice: &V, row: &Row<9>, sink: &mut K) -> Resu
     )
 }
 
-fn say_decision<V: Voice, K: Sink>(
+fn say_decision<const P: usize, V: Voice, K: Sink>(
     voice: &V,
-    values: &SheetValues,
-    row: &Row<9>,
+    values: &SheetValuesAt<P>,
+    row: &Row<P>,
     decision: Decision,
     sink: &mut K,
 ) -> Result<(), Failed>
@@ -68,7 +72,7 @@ fn say_decision<V: Voice, K: Sink>(
     requires few { length values.now.names ≤ MOST_CANDIDATES }
     requires named { IsNamed (length values.now.names) decision }
     ensures { Writes K.written K.faults sink.old sink.new
-        (said V.manner (sentence values.now row.now decision)) result }
+        (said V.manner (sentence P values.now row.now decision)) result }
 {
     match decision {
         Decision::Election => say_election(voice, values, row, sink),
@@ -81,21 +85,25 @@ fn say_decision<V: Voice, K: Sink>(
     }
 }
 
-fn say_cap<V: Voice, K: Sink>(
+fn say_cap<const P: usize, V: Voice, K: Sink>(
     voice: &V,
-    values: &SheetValues,
-    row: &Row<9>,
+    values: &SheetValuesAt<P>,
+    row: &Row<P>,
     sink: &mut K,
 ) -> Result<(), Failed>
     requires room { HasRoomFor (length values.now.names) row.now }
     requires few { length values.now.names ≤ MOST_CANDIDATES }
-    ensures { Writes K.written K.faults sink.old sink.new (said V.manner (cap values.now row.now)) result }
+    ensures { Writes K.written K.faults sink.old sink.new (said V.manner (cap P values.now row.now)) result }
 {
     say_listing(voice, values, row, Group::Capped, sink)?;
     say_held(voice, row, sink)
 }
 
-fn say_held<V: Voice, K: Sink>(voice: &V, row: &Row<9>, sink: &mut K) -> Result<(), Failed>
+fn say_held<const P: usize, V: Voice, K: Sink>(
+    voice: &V,
+    row: &Row<P>,
+    sink: &mut K,
+) -> Result<(), Failed>
     requires { HasRoomFor (length row.now.states) row.now }
     ensures { Writes K.written K.faults sink.old sink.new (said V.manner (held row.now)) result }
 {
@@ -107,78 +115,80 @@ fn say_held<V: Voice, K: Sink>(voice: &V, row: &Row<9>, sink: &mut K) -> Result<
     say_parts(voice, &[Part::Words(held)], sink)
 }
 
-fn say_defeat<V: Voice, K: Sink>(
+fn say_defeat<const P: usize, V: Voice, K: Sink>(
     voice: &V,
-    values: &SheetValues,
-    row: &Row<9>,
+    values: &SheetValuesAt<P>,
+    row: &Row<P>,
     c: u32,
     sink: &mut K,
 ) -> Result<(), Failed>
     requires room { HasRoomFor (length values.now.names) row.now }
     requires few { length values.now.names ≤ MOST_CANDIDATES }
     requires named { IsNumber (length values.now.names) c }
-    ensures { Writes K.written K.faults sink.old sink.new (said V.manner (defeat values.now row.now c)) result }
+    ensures { Writes K.written K.faults sink.old sink.new (said V.manner (defeat P values.now row.now c)) result }
 {
     say_called(voice, values, c as usize - 1, sink)?;
     say_fewest(voice, row, c, sink)
 }
 
-fn say_fewest<V: Voice, K: Sink>(
+fn say_fewest<const P: usize, V: Voice, K: Sink>(
     voice: &V,
-    row: &Row<9>,
+    row: &Row<P>,
     c: u32,
     sink: &mut K,
 ) -> Result<(), Failed>
     requires room { HasRoomFor (length row.now.states) row.now }
     requires named { IsNumber (length row.now.states) c }
-    ensures { Writes K.written K.faults sink.old sink.new (said V.manner (with_fewest row.now c)) result }
+    ensures { Writes K.written K.faults sink.old sink.new (said V.manner (with_fewest P row.now c)) result }
 {
+    let votes = votes_text(*row.votes.get(c as usize - 1));
     say_parts(
         voice,
         &[
             Part::Words(b" has the fewest votes, "),
-            Part::Votes(*row.votes.get(c as usize - 1)),
+            Part::Words(votes.bytes()),
             Part::Words(b", and is defeated."),
         ],
         sink,
     )
 }
 
-fn say_tie<V: Voice, K: Sink>(
+fn say_tie<const P: usize, V: Voice, K: Sink>(
     voice: &V,
-    values: &SheetValues,
-    row: &Row<9>,
+    values: &SheetValuesAt<P>,
+    row: &Row<P>,
     sink: &mut K,
 ) -> Result<(), Failed>
     requires room { HasRoomFor (length values.now.names) row.now }
     requires few { length values.now.names ≤ MOST_CANDIDATES }
-    ensures { Writes K.written K.faults sink.old sink.new (said V.manner (tie values.now row.now)) result }
+    ensures { Writes K.written K.faults sink.old sink.new (said V.manner (tie P values.now row.now)) result }
 {
     say_listing(voice, values, row, Group::Tied, sink)?;
     say_within_surplus(voice, row, sink)
 }
 
-fn say_within_surplus<V: Voice, K: Sink>(
+fn say_within_surplus<const P: usize, V: Voice, K: Sink>(
     voice: &V,
-    row: &Row<9>,
+    row: &Row<P>,
     sink: &mut K,
 ) -> Result<(), Failed>
-    ensures { Writes K.written K.faults sink.old sink.new (said V.manner (within_surplus row.now)) result }
+    ensures { Writes K.written K.faults sink.old sink.new (said V.manner (within_surplus P row.now)) result }
 {
+    let surplus = votes_text(row.surplus);
     say_parts(
         voice,
         &[
             Part::Words(b" are tied: their votes are no further apart than the surplus of "),
-            Part::Votes(row.surplus),
+            Part::Words(surplus.bytes()),
             Part::Words(b"."),
         ],
         sink,
     )
 }
 
-fn say_lot<V: Voice, K: Sink>(
+fn say_lot<const P: usize, V: Voice, K: Sink>(
     voice: &V,
-    values: &SheetValues,
+    values: &SheetValuesAt<P>,
     c: u32,
     sink: &mut K,
 ) -> Result<(), Failed>

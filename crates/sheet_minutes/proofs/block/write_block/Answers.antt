@@ -11,34 +11,34 @@ use Rattle.sheet_minutes.proofs.block.write_block.Goals as goal
 
 -- the lines of the candidates
 each_line :
-    (v : SheetList) (width : ℕ) (block xs : List ℕ)
-    → flat_map (λ p. ended (line v width block (Candidate p))) xs ≡ flat_map ended (map (line v width block) (map Candidate xs))
-each_line v width block [] = refl
-each_line v width block (p ∷ xs) =
-    ap (λ (l : List ℕ). ended (line v width block (Candidate p)) ++ l) (each_line v width block xs)
+    (places : ℕ) (v : SheetList) (width : ℕ) (block xs : List ℕ)
+    → flat_map (λ p. ended (line places v width block (Candidate p))) xs ≡ flat_map ended (map (line places v width block) (map Candidate xs))
+each_line places v width block [] = refl
+each_line places v width block (p ∷ xs) =
+    ap (λ (l : List ℕ). ended (line places v width block (Candidate p)) ++ l) (each_line places v width block xs)
 
 -- a block, part by part
 parts :
-    (v : SheetList) (width : ℕ) (block : List ℕ)
-    → (10 ∷ []) ++ (ended (line v width block Round) ++ (ended (line v width block Quota) ++ (ended (line v width block LeftOver)
-    ++ flat_map (λ p. ended (line v width block (Candidate p))) (range_with_len 0 (length v.names)))))
-    ≡ block_text v width block
-parts v width block =
-    ap (λ (l : List ℕ). (10 ∷ []) ++ (ended (line v width block Round) ++ (ended (line v width block Quota)
-    ++ (ended (line v width block LeftOver) ++ l)))) (each_line v width block (range_with_len 0 (length v.names)))
+    (places : ℕ) (v : SheetList) (width : ℕ) (block : List ℕ)
+    → (10 ∷ []) ++ (ended (line places v width block Round) ++ (ended (line places v width block Quota) ++ (ended (line places v width block LeftOver)
+    ++ flat_map (λ p. ended (line places v width block (Candidate p))) (range_with_len 0 (length v.names)))))
+    ≡ block_text places v width block
+parts places v width block =
+    ap (λ (l : List ℕ). (10 ∷ []) ++ (ended (line places v width block Round) ++ (ended (line places v width block Quota)
+    ++ (ended (line places v width block LeftOver) ++ l)))) (each_line places v width block (range_with_len 0 (length v.names)))
 
 pub returns-in_err-write_bytes : goal.returns-in_err-write_bytes
 returns-in_err-write_bytes g c =
     subst (λ (l : List ℕ). Writes g.K.Sink.written g.K.Sink.faults c.args.sink.now c.write_bytes.new.sink l
     c.from_residual.result)
-    (parts c.args.values.now c.args.width (rounds_in c.args.values.now.rows c.args.first (c.args.end - c.args.first)))
+    (parts g.row.P c.args.values.now c.args.width (rounds_in c.args.values.now.rows c.args.first (c.args.end - c.args.first)))
     (stops _ _ c.from_residual.ensures.0 c.in_err-write_bytes.ensures)
 
 pub returns-in_err-write_line : goal.returns-in_err-write_line
 returns-in_err-write_line g c =
     subst (λ (l : List ℕ). Writes g.K.Sink.written g.K.Sink.faults c.args.sink.now c.write_line.new.sink l
     c.from_residual-in_err-write_line.result)
-    (parts c.args.values.now c.args.width (rounds_in c.args.values.now.rows c.args.first (c.args.end - c.args.first)))
+    (parts g.row.P c.args.values.now c.args.width (rounds_in c.args.values.now.rows c.args.first (c.args.end - c.args.first)))
     (later _ _ _ c.in_ok-write_bytes.ensures
     (stops _ _ c.from_residual-in_err-write_line.ensures.0 c.in_err-write_line.ensures))
 
@@ -46,7 +46,7 @@ pub returns-in_err-write_line-2 : goal.returns-in_err-write_line-2
 returns-in_err-write_line-2 g c =
     subst (λ (l : List ℕ). Writes g.K.Sink.written g.K.Sink.faults c.args.sink.now c.write_line-2.new.sink l
     c.from_residual-in_err-write_line-2.result)
-    (parts c.args.values.now c.args.width (rounds_in c.args.values.now.rows c.args.first (c.args.end - c.args.first)))
+    (parts g.row.P c.args.values.now c.args.width (rounds_in c.args.values.now.rows c.args.first (c.args.end - c.args.first)))
     (later _ _ _ c.in_ok-write_bytes.ensures
     (later _ _ _ c.in_ok-write_line.ensures
     (stops _ _ c.from_residual-in_err-write_line-2.ensures.0 c.in_err-write_line-2.ensures)))
@@ -55,7 +55,7 @@ pub returns-in_err-write_line-3 : goal.returns-in_err-write_line-3
 returns-in_err-write_line-3 g c =
     subst (λ (l : List ℕ). Writes g.K.Sink.written g.K.Sink.faults c.args.sink.now c.write_line-3.new.sink l
     c.from_residual-in_err-write_line-3.result)
-    (parts c.args.values.now c.args.width (rounds_in c.args.values.now.rows c.args.first (c.args.end - c.args.first)))
+    (parts g.row.P c.args.values.now c.args.width (rounds_in c.args.values.now.rows c.args.first (c.args.end - c.args.first)))
     (later _ _ _ c.in_ok-write_bytes.ensures
     (later _ _ _ c.in_ok-write_line.ensures
     (later _ _ _ c.in_ok-write_line-2.ensures
@@ -65,7 +65,7 @@ pub returns : goal.returns
 returns g c =
     subst (λ (l : List ℕ). Writes g.K.Sink.written g.K.Sink.faults c.args.sink.now c.write_candidates.new.sink l
     c.write_candidates.result)
-    (parts c.args.values.now c.args.width (rounds_in c.args.values.now.rows c.args.first (c.args.end - c.args.first)))
+    (parts g.row.P c.args.values.now c.args.width (rounds_in c.args.values.now.rows c.args.first (c.args.end - c.args.first)))
     (later _ _ _ c.in_ok-write_bytes.ensures
     (later _ _ _ c.in_ok-write_line.ensures
     (later _ _ _ c.in_ok-write_line-2.ensures

@@ -10,5 +10,5 @@ use Rattle.sheet_minutes.proofs.block.write_candidates.Given as goal
 abbrev pub invariant-loop-p : goal.invariant-loop-p
 invariant-loop-p g l =
     Wrote g.K.Sink.written g.K.Sink.faults l.initial.sink l.sink
-    (flat_map (λ p. ended (line l.values l.width (rounds_in l.values.rows l.first (l.end - l.first)) (Candidate p)))
+    (flat_map (λ p. ended (line g.row.P l.values l.width (rounds_in l.values.rows l.first (l.end - l.first)) (Candidate p)))
     (range_with_len 0 l.p))

@@ -5,7 +5,7 @@ use Rattle.sheet_minutes.proofs.blocks.block_end.Goals.{then-ends_round+else-cou
 use Rattle.sheet_minutes.proofs.blocks.block_end.Goals as goal
 
 pub returns-then-count-size-clause-block : goal.returns-then-count-size-clause-block
-returns-then-count-size-clause-block c =
+returns-then-count-size-clause-block g c =
     let rows = c.args.rows.now in
     let i = c.loop-i.i in
     let ends = sym c.ends_round.ensures ∙ c.if-ends_round.true in
@@ -14,7 +14,7 @@ returns-then-count-size-clause-block c =
     full_block rows c.args.first (i + 1) c.args.size (omega arith) (omega arith) full
 
 pub returns-then-count-size-clause-rest : goal.returns-then-count-size-clause-rest
-returns-then-count-size-clause-rest c =
+returns-then-count-size-clause-rest g c =
     let rows = c.args.rows.now in
     let i = c.loop-i.i in
     let ends = sym c.ends_round.ensures ∙ c.if-ends_round.true in
@@ -23,7 +23,7 @@ returns-then-count-size-clause-rest c =
     behind_full rows c.args.first (i + 1) c.args.size (omega arith) (omega arith) full
 
 pub loop-i-preserved : goal.loop-i-preserved
-loop-i-preserved c =
+loop-i-preserved g c =
     let rows = c.args.rows.now in
     let i = c.loop-i.i in
     elim c.if-ends_round.branch [

@@ -14,16 +14,16 @@ use Rattle.sheet_minutes.proofs.blocks.write_blocks.Goals as goal
 
 -- a block and those behind it are the blocks from there on
 next_block :
-    (v : SheetList) (width first end : ℕ) (items : List Row) → items ≡ v.rows → width ≤ 20 → first < length items
+    (places : ℕ) (v : SheetList) (width first end : ℕ) (items : List Row) → items ≡ v.rows → width ≤ 20 → first < length items
     → rounds_in items first (end - first) ≡ take (ROUND_COLUMNS / (width + MARK_COLUMNS)) (rounds_in items first (length items - first))
     → rounds_in items end (length items - end) ≡ drop (ROUND_COLUMNS / (width + MARK_COLUMNS)) (rounds_in items first (length items - first))
-    → block_text v width (rounds_in v.rows first (end - first))
-    ++ flat_map (block_text v width) (cut (ROUND_COLUMNS / (width + MARK_COLUMNS)) (rounds_in v.rows end (length v.rows - end)))
-    ≡ flat_map (block_text v width) (cut (ROUND_COLUMNS / (width + MARK_COLUMNS)) (rounds_in v.rows first (length v.rows - first)))
-next_block v width first end items same narrow below block others =
+    → block_text places v width (rounds_in v.rows first (end - first))
+    ++ flat_map (block_text places v width) (cut (ROUND_COLUMNS / (width + MARK_COLUMNS)) (rounds_in v.rows end (length v.rows - end)))
+    ≡ flat_map (block_text places v width) (cut (ROUND_COLUMNS / (width + MARK_COLUMNS)) (rounds_in v.rows first (length v.rows - first)))
+next_block places v width first end items same narrow below block others =
     let size = ROUND_COLUMNS / (width + MARK_COLUMNS) in
     let rows = v.rows in
-    text-step (block_text v width) size (rounds_in rows first (length rows - first)) (rounds_in rows first (end - first))
+    text-step (block_text places v width) size (rounds_in rows first (length rows - first)) (rounds_in rows first (end - first))
     (rounds_in rows end (length rows - end)) (some_room width narrow)
     (some_round rows first (subst (λ (l : List Row). first < length l) same below))
     (subst (λ (l : List Row). rounds_in l first (end - first) ≡ take size (rounds_in l first (length l - first))) same block)
@@ -38,11 +38,11 @@ returns-in_err-write_block g c =
     let size = ROUND_COLUMNS / (width + MARK_COLUMNS) in
     let now = c.loop-first.invariant.1 in
     let rows = c.items.ensures ∙ ap (λ (w : SheetList). w.rows) c.values.view_is in
-    let step = next_block v width first end c.items.result.now rows c.width_of-width.ensures.narrow (omega (arith, ap length rows))
+    let step = next_block g.row.P v width first end c.items.result.now rows c.width_of-width.ensures.narrow (omega (arith, ap length rows))
     c.block_end-end.ensures.block c.block_end-end.ensures.rest in
-    let block = block_text v width (rounds_in v.rows first (end - first)) in
-    let others = flat_map (block_text v width) (cut size (rounds_in v.rows end (length v.rows - end))) in
-    let whole : (now.0 ++ block) ++ others ≡ flat_map (block_text v (width_of v)) (blocks v) =
+    let block = block_text g.row.P v width (rounds_in v.rows first (end - first)) in
+    let others = flat_map (block_text g.row.P v width) (cut size (rounds_in v.rows end (length v.rows - end))) in
+    let whole : (now.0 ++ block) ++ others ≡ flat_map (block_text g.row.P v (width_of g.row.P v)) (blocks g.row.P v) =
     append_assoc now.0 block others ∙ ap (λ (l : List ℕ). now.0 ++ l) step ∙ now.1 in
     subst (λ (l : List ℕ). Writes g.K.Sink.written g.K.Sink.faults c.args.sink.now c.write_block.new.sink l
     c.from_residual.result) whole
@@ -57,10 +57,10 @@ loop-first-preserved g c =
     let size = ROUND_COLUMNS / (width + MARK_COLUMNS) in
     let now = c.loop-first.invariant.1 in
     let rows = c.items.ensures ∙ ap (λ (w : SheetList). w.rows) c.values.view_is in
-    let step = next_block v width first end c.items.result.now rows c.width_of-width.ensures.narrow (omega (arith, ap length rows))
+    let step = next_block g.row.P v width first end c.items.result.now rows c.width_of-width.ensures.narrow (omega (arith, ap length rows))
     c.block_end-end.ensures.block c.block_end-end.ensures.rest in
-    let block = block_text v width (rounds_in v.rows first (end - first)) in
-    let others = flat_map (block_text v width) (cut size (rounds_in v.rows end (length v.rows - end))) in (
+    let block = block_text g.row.P v width (rounds_in v.rows first (end - first)) in
+    let others = flat_map (block_text g.row.P v width) (cut size (rounds_in v.rows end (length v.rows - end))) in (
       omega (arith, ap length rows, c.block_end-end.ensures.within),
       (
         now.0 ++ block,

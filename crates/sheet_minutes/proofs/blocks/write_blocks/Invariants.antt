@@ -10,8 +10,8 @@ abbrev pub invariant-loop-first : goal.invariant-loop-first
 invariant-loop-first g l =
     (l.first ≤ length l.values.rows)
     × ((done : List ℕ)
-    × (done ++ flat_map (block_text l.values l.width) (cut l.size (rounds_in l.values.rows l.first (length l.values.rows - l.first)))
-    ≡ flat_map (block_text l.values (width_of l.values)) (blocks l.values))
+    × (done ++ flat_map (block_text g.row.P l.values l.width) (cut l.size (rounds_in l.values.rows l.first (length l.values.rows - l.first)))
+    ≡ flat_map (block_text g.row.P l.values (width_of g.row.P l.values)) (blocks g.row.P l.values))
     × Wrote g.K.Sink.written g.K.Sink.faults l.initial.sink l.sink done)
 
 abbrev pub decreases-loop-first : goal.decreases-loop-first

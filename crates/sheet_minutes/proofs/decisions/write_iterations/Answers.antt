@@ -12,14 +12,14 @@ use Rattle.sheet_minutes.specs.Minutes.{spoken}
 use Rattle.sheet_minutes.proofs.decisions.write_iterations.Goals as goal
 
 -- what is written of an iteration
-abbrev decided : SheetList → Row → List ℕ
-decided v row = flat_map (told spoken) (sentences_of v row)
+abbrev decided : (places : ℕ) → SheetList → Row → List ℕ
+decided places v row = flat_map (told spoken) (sentences_of places v row)
 
-nested : (v : SheetList) (rows : List Row) → flat_map (decided v) rows ≡ flat_map (told spoken) (flat_map (sentences_of v) rows)
-nested v [] = refl
-nested v (row ∷ rows) =
-    ap (λ (l : List ℕ). decided v row ++ l) (nested v rows)
-    ∙ sym (flat_map-append (told spoken) (sentences_of v row) (flat_map (sentences_of v) rows))
+nested : (places : ℕ) (v : SheetList) (rows : List Row) → flat_map (decided places v) rows ≡ flat_map (told spoken) (flat_map (sentences_of places v) rows)
+nested places v [] = refl
+nested places v (row ∷ rows) =
+    ap (λ (l : List ℕ). decided places v row ++ l) (nested places v rows)
+    ∙ sym (flat_map-append (told spoken) (sentences_of places v row) (flat_map (sentences_of places v) rows))
 
 pub loop-row-init : goal.loop-row-init
 loop-row-init g c = wrote_nothing _ _ _
@@ -31,9 +31,9 @@ loop-row-preserved g c =
     let row = c.row-item.result in
     let rows = c.items-row-items.ensures ∙ ap (λ (v : SheetList). v.rows) c.values.view_is in
     let is = subst (λ (l : List Row). row ≡ get_or l i row) rows c.row-item.is in
-    wrote_more (decided v) v.rows i row (subst (λ (l : List Row). i < length l) rows c.loop-row-test.true)
+    wrote_more (decided g.row.P v) v.rows i row (subst (λ (l : List Row). i < length l) rows c.loop-row-test.true)
     c.loop-row.invariant
-    (subst (λ (r : Row). Wrote g.K.Sink.written g.K.Sink.faults c.loop-row.sink c.write_sentences_of.new.sink (decided v r))
+    (subst (λ (r : Row). Wrote g.K.Sink.written g.K.Sink.faults c.loop-row.sink c.write_sentences_of.new.sink (decided g.row.P v r))
     is c.in_ok-write_sentences_of.ensures)
 
 pub returns-in_err-write_sentences_of : goal.returns-in_err-write_sentences_of
@@ -44,11 +44,11 @@ returns-in_err-write_sentences_of g c =
     let rows = c.items-row-items.ensures ∙ ap (λ (v : SheetList). v.rows) c.values.view_is in
     let is = subst (λ (l : List Row). row ≡ get_or l i row) rows c.row-item.is in
     subst (λ (l : List ℕ). Writes g.K.Sink.written g.K.Sink.faults c.args.sink.now c.write_sentences_of.new.sink l
-    c.from_residual.result) (nested v v.rows)
-    (stopped_at (decided v) v.rows i row c.from_residual.result c.from_residual.ensures.0
+    c.from_residual.result) (nested g.row.P v v.rows)
+    (stopped_at (decided g.row.P v) v.rows i row c.from_residual.result c.from_residual.ensures.0
     (subst (λ (l : List Row). i < length l) rows c.loop-row-test.true) c.loop-row.invariant
     (subst (λ (r : Row). Stopped g.K.Sink.written g.K.Sink.faults c.loop-row.sink c.write_sentences_of.new.sink
-    (decided v r)) is c.in_err-write_sentences_of.ensures))
+    (decided g.row.P v r)) is c.in_err-write_sentences_of.ensures))
 
 pub returns : goal.returns
 returns g c =
@@ -58,4 +58,4 @@ returns g c =
     take_all c.loop-row.row-index v.rows
     (subst (λ (l : List Row). length l ≤ c.loop-row.row-index) rows c.loop-row-test.false) in
     subst (λ (l : List ℕ). Wrote g.K.Sink.written g.K.Sink.faults c.args.sink.now c.loop-row.sink l)
-    (ap (flat_map (decided v)) past ∙ nested v v.rows) c.loop-row.invariant
+    (ap (flat_map (decided g.row.P v)) past ∙ nested g.row.P v v.rows) c.loop-row.invariant

@@ -9,4 +9,4 @@ use Rattle.sheet_minutes.proofs.decisions.write_iterations.Given as goal
 abbrev pub invariant-loop-row : goal.invariant-loop-row
 invariant-loop-row g l =
     Wrote g.K.Sink.written g.K.Sink.faults l.initial.sink l.sink
-    (flat_map (λ row. flat_map (told spoken) (sentences_of l.values row)) (take l.row-index l.values.rows))
+    (flat_map (λ row. flat_map (told spoken) (sentences_of g.row.P l.values row)) (take l.row-index l.values.rows))

@@ -8,4 +8,4 @@ use Rattle.sheet_minutes.proofs.line.write_cells.Given as goal
 abbrev pub invariant-loop-i : goal.invariant-loop-i
 invariant-loop-i g l =
     Wrote g.K.Sink.written g.K.Sink.faults l.initial.sink l.sink
-    (flat_map (cell l.values l.width l.entry) (rounds_in l.values.rows l.first (l.i - l.first)))
+    (flat_map (cell g.row.P l.values l.width l.entry) (rounds_in l.values.rows l.first (l.i - l.first)))

@@ -9,7 +9,7 @@ use Rattle.sheet_minutes.proofs.line.write_line.Goals as goal
 pub returns-in_err-write_label : goal.returns-in_err-write_label
 returns-in_err-write_label g c =
     let v = c.args.values.now in
-    let cells = flat_map (cell v c.args.width c.args.entry) (rounds_in v.rows c.args.first (c.args.end - c.args.first)) in
+    let cells = flat_map (cell g.row.P v c.args.width c.args.entry) (rounds_in v.rows c.args.first (c.args.end - c.args.first)) in
     subst (λ (l : List ℕ). Writes g.K.Sink.written g.K.Sink.faults c.args.sink.now c.write_label.new.sink l
     c.from_residual.result) (sym (append_assoc (label v c.args.entry) cells (10 ∷ [])))
     (stops _ _ c.from_residual.ensures.0 c.in_err-write_label.ensures)
@@ -17,7 +17,7 @@ returns-in_err-write_label g c =
 pub returns-in_err-write_cells : goal.returns-in_err-write_cells
 returns-in_err-write_cells g c =
     let v = c.args.values.now in
-    let cells = flat_map (cell v c.args.width c.args.entry) (rounds_in v.rows c.args.first (c.args.end - c.args.first)) in
+    let cells = flat_map (cell g.row.P v c.args.width c.args.entry) (rounds_in v.rows c.args.first (c.args.end - c.args.first)) in
     subst (λ (l : List ℕ). Writes g.K.Sink.written g.K.Sink.faults c.args.sink.now c.write_cells.new.sink l
     c.from_residual-in_err-write_cells.result) (sym (append_assoc (label v c.args.entry) cells (10 ∷ [])))
     (later _ _ _ c.in_ok-write_label.ensures
@@ -26,7 +26,7 @@ returns-in_err-write_cells g c =
 pub returns : goal.returns
 returns g c =
     let v = c.args.values.now in
-    let cells = flat_map (cell v c.args.width c.args.entry) (rounds_in v.rows c.args.first (c.args.end - c.args.first)) in
+    let cells = flat_map (cell g.row.P v c.args.width c.args.entry) (rounds_in v.rows c.args.first (c.args.end - c.args.first)) in
     subst (λ (l : List ℕ). Writes g.K.Sink.written g.K.Sink.faults c.args.sink.now c.write_bytes.new.sink l
     c.write_bytes.result) (sym (append_assoc (label v c.args.entry) cells (10 ∷ [])))
     (later _ _ _ c.in_ok-write_label.ensures (later _ _ _ c.in_ok-write_cells.ensures c.write_bytes.ensures))

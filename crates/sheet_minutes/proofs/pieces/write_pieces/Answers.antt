@@ -1,7 +1,7 @@
 use Rattle.std.proofs.Common.{subst, List}
 use Rattle.std.specs.List.{flat_map}
 use Rattle.std.proofs.lemmas.List.{take_all}
-use Rattle.piece_text.specs.Writing.{Wrote, Stopped}
+use Rattle.piece_text.specs.Writing.{Wrote}
 use Rattle.piece_text.proofs.Written.{wrote_nothing, wrote_more, stopped_at}
 use Rattle.sheet_minutes.specs.declared.piece.Piece.{Piece}
 use Rattle.sheet_minutes.specs.Pieces.{piece_text}
@@ -12,17 +12,13 @@ loop-piece-init g c = wrote_nothing _ _ _
 
 pub loop-piece-preserved : goal.loop-piece-preserved
 loop-piece-preserved g c =
-    wrote_more piece_text c.args.pieces.now c.loop-piece.piece-index c.piece-item.result c.loop-piece-test.true
-    c.loop-piece.invariant
-    (subst (λ (p : Piece). Wrote g.K.Sink.written g.K.Sink.faults c.loop-piece.sink c.write_piece.new.sink (piece_text p))
-    c.piece-item.is c.in_ok-write_piece.ensures)
+    wrote_more piece_text c.args.pieces.now c.loop-piece.piece-index _ c.loop-piece-test.true
+    c.loop-piece.invariant c.in_ok-write_piece.ensures
 
 pub returns-in_err-write_piece : goal.returns-in_err-write_piece
 returns-in_err-write_piece g c =
-    stopped_at piece_text c.args.pieces.now c.loop-piece.piece-index c.piece-item.result c.from_residual.result
-    c.from_residual.ensures.0 c.loop-piece-test.true c.loop-piece.invariant
-    (subst (λ (p : Piece). Stopped g.K.Sink.written g.K.Sink.faults c.loop-piece.sink c.write_piece.new.sink (piece_text p))
-    c.piece-item.is c.in_err-write_piece.ensures)
+    stopped_at piece_text c.args.pieces.now c.loop-piece.piece-index _ c.from_residual.result
+    c.from_residual.ensures.0 c.loop-piece-test.true c.loop-piece.invariant c.in_err-write_piece.ensures
 
 pub returns : goal.returns
 returns g c =

@@ -5,9 +5,9 @@ use Rattle.sheet_minutes.proofs.Measures.{widest_of_more}
 use Rattle.sheet_minutes.proofs.widths.widest_of.Goals as goal
 
 pub loop-row-preserved : goal.loop-row-preserved
-loop-row-preserved c =
+loop-row-preserved g c =
     let rows = c.args.rows.now in
     let i = c.loop-row.row-index in
     c.larger-most.ensures ∙ ap (λ (m : ℕ). max m c.widest_in.result) c.loop-row.invariant
-    ∙ ap (λ (x : ℕ). max (widest_of c.args.ballots (take i rows)) x) c.widest_in.ensures
-    ∙ sym (widest_of_more c.args.ballots rows i c.row-item.result c.row-item.is c.loop-row-test.true)
+    ∙ ap (λ (x : ℕ). max (widest_of g.row.P c.args.ballots (take i rows)) x) c.widest_in.ensures
+    ∙ sym (widest_of_more g.row.P c.args.ballots rows i c.row-item.result c.row-item.is c.loop-row-test.true)

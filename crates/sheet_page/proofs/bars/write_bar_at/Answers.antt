@@ -11,10 +11,10 @@ pub returns-then-has_bar : goal.returns-then-has_bar
 returns-then-has_bar g c =
     let row = settled c.args.row.now c.args.behind.now in
     let has = sym c.has_bar.ensures ∙ c.if-has_bar.true in
-    renamed (sym (ap (λ (b : Bool). printed (if b then bar c.args.values.now c.args.full row c.args.p else Nothing)) has)) c.write_bar.ensures
+    renamed (sym (ap (λ (b : Bool). printed (if b then bar g.row.P c.args.values.now c.args.full row c.args.p else Nothing)) has)) c.write_bar.ensures
 
 pub returns-else-has_bar : goal.returns-else-has_bar
 returns-else-has_bar g c =
     let row = settled c.args.row.now c.args.behind.now in
     let has = sym c.has_bar.ensures ∙ c.if-has_bar.false in
-    renamed (sym (ap (λ (b : Bool). printed (if b then bar c.args.values.now c.args.full row c.args.p else Nothing)) has)) (nothing _ _)
+    renamed (sym (ap (λ (b : Bool). printed (if b then bar g.row.P c.args.values.now c.args.full row c.args.p else Nothing)) has)) (nothing _ _)

@@ -9,5 +9,5 @@ loop-p-init g c = nothing _ _
 
 pub loop-p-preserved : goal.loop-p-preserved
 loop-p-preserved g c =
-    place_more (λ p. printed (bar_at c.args.values.now c.args.full (settled c.args.row.now c.args.behind.now) p)) c.loop-p.p
+    place_more (λ p. printed (bar_at g.row.P c.args.values.now c.args.full (settled c.args.row.now c.args.behind.now) p)) c.loop-p.p
     c.loop-p.invariant c.write_bar_at.ensures

@@ -5,4 +5,4 @@ use Rattle.sheet_page.proofs.Pens.{renamed}
 use Rattle.sheet_page.proofs.bars.write_label.Goals as goal
 
 pub returns : goal.returns
-returns g c = renamed (leaf (label c.args.y c.args.name.now c.args.number c.args.state.now c.args.vote)) (search rules)
+returns g c = renamed (leaf (label g.row.P c.args.y c.args.name.now c.args.number c.args.state.now c.args.vote)) (search rules)

@@ -10,7 +10,7 @@ loop-row-init g c = nothing _ _
 
 pub loop-row-preserved : goal.loop-row-preserved
 loop-row-preserved g c =
-    item_more (row_text c.args.values.now) c.args.values.now.rows c.loop-row.row-index c.row-item.result
+    item_more (row_text g.row.P c.args.values.now) c.args.values.now.rows c.loop-row.row-index c.row-item.result
     (subst (λ (l : List Row). c.row-item.result ≡ get_or l c.loop-row.row-index c.row-item.result)
     (c.items-row-items.ensures ∙ ap (λ (v : SheetList). v.rows) c.values.view_is) c.row-item.is)
     (subst (λ (l : List Row). c.loop-row.row-index < length l)
@@ -24,7 +24,7 @@ returns g c =
     (c.items-row-items.ensures ∙ ap (λ (v : SheetList). v.rows) c.values.view_is)
     c.loop-row-test.false in
     let rows =
-    items_all (row_text c.args.values.now) c.args.values.now.rows c.loop-row.row-index past
+    items_all (row_text g.row.P c.args.values.now) c.args.values.now.rows c.loop-row.row-index past
     c.loop-row.invariant in
-    let all = renamed (csv-parts c.args.values.now) (later c.write_head.ensures rows) in
+    let all = renamed (csv-parts g.row.P c.args.values.now) (later c.write_head.ensures rows) in
     ended c.new-pen.ensures.before c.new-pen.ensures.well all (search rules) c.end.ensures.done

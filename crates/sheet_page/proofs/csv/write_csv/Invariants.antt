@@ -7,4 +7,4 @@ use Rattle.sheet_page.proofs.csv.write_csv.Given as goal
 abbrev pub invariant-loop-row : goal.invariant-loop-row
 invariant-loop-row g l =
     Prints g.K.Sink l.initial.pen l.pen
-    (flat_map (row_text l.fn.values) (take l.row-index l.fn.values.rows))
+    (flat_map (row_text g.row.P l.fn.values) (take l.row-index l.fn.values.rows))

@@ -15,16 +15,16 @@ use Rattle.sheet_page.proofs.csv.write_line.Goals as goal
 
 -- the record, field by field
 record_is :
-    (v : SheetList) (row : Row) (p : ℕ) (name outcome state elected capped tied defeated step : List ℕ) (keep vote : ℕ)
+    (places : ℕ) (v : SheetList) (row : Row) (p : ℕ) (name outcome state elected capped tied defeated step : List ℕ) (keep vote : ℕ)
     → name ≡ name_at v p → outcome ≡ state_word (state_at v.last p) → state ≡ state_word (state_at row.states p)
     → keep ≡ slice_index row.keeps p → vote ≡ slice_index row.votes p
     → elected ≡ yes_or_no (mark_at row.elected p) → capped ≡ yes_or_no (mark_at row.capped p)
     → tied ≡ yes_or_no (mark_at row.tied p)
     → defeated ≡ yes_or_no (defeats row.step (p + 1)) → step ≡ step_word row.step
-    → decimal row.round ∷ decimal row.iteration ∷ decimal (p + 1) ∷ name ∷ outcome ∷ state ∷ text_of 9 keep
-    ∷ text_of 9 vote ∷ elected ∷ capped ∷ tied ∷ defeated
-    ∷ text_of 9 row.total ∷ text_of 9 row.quota ∷ text_of 9 row.surplus ∷ step ∷ [] ≡ csv_record v row p
-record_is v row p name outcome state elected capped tied defeated step keep vote is_name is_outcome is_state
+    → decimal row.round ∷ decimal row.iteration ∷ decimal (p + 1) ∷ name ∷ outcome ∷ state ∷ text_of places keep
+    ∷ text_of places vote ∷ elected ∷ capped ∷ tied ∷ defeated
+    ∷ text_of places row.total ∷ text_of places row.quota ∷ text_of places row.surplus ∷ step ∷ [] ≡ csv_record places v row p
+record_is places v row p name outcome state elected capped tied defeated step keep vote is_name is_outcome is_state
     is_keep is_vote is_elected is_capped is_tied is_defeated is_step =
     rw (is_name, is_outcome, is_state, is_keep, is_vote, is_elected, is_capped, is_tied, is_defeated, is_step) refl
 
@@ -57,7 +57,7 @@ returns g c =
       step = r.step;
     } in
     let p = c.args.p in
-    let same = record_is v row p _ _ _ _ _ _ _ _ _ _
+    let same = record_is g.row.P v row p _ _ _ _ _ _ _ _ _ _
     (c.bytes-name.ensures.value ∙ sym (get_or_from_slice_get v.names p c.get.result.now [] c.get.ensures))
     (c.state_word-outcome.ensures ∙ ap state_word c.get-2.ensures.state)
     (c.state_word-state.ensures ∙ ap state_word c.get-3.ensures.state)
@@ -68,5 +68,5 @@ returns g c =
     (c.yes_or_no-tied.ensures ∙ ap yes_or_no c.get-7.ensures.mark)
     (c.yes_or_no-defeated.ensures ∙ ap yes_or_no c.defeats.ensures)
     c.step_word.ensures in
-    renamed (ap record_text (same ∙ ap (λ (w : SheetList). csv_record w row p) c.values.view_is
-    ∙ ap (λ (r : Row). csv_record c.args.values.now r p) c.row.view_is)) c.record.ensures
+    renamed (ap record_text (same ∙ ap (λ (w : SheetList). csv_record g.row.P w row p) c.values.view_is
+    ∙ ap (λ (r : Row). csv_record g.row.P c.args.values.now r p) c.row.view_is)) c.record.ensures

@@ -8,5 +8,5 @@ loop-p-init g c = nothing _ _
 
 pub loop-p-preserved : goal.loop-p-preserved
 loop-p-preserved g c =
-    place_more (λ p. record_text (csv_record c.args.values.now c.args.row.now p)) c.loop-p.p
+    place_more (λ p. record_text (csv_record g.row.P c.args.values.now c.args.row.now p)) c.loop-p.p
     c.loop-p.invariant c.write_line.ensures

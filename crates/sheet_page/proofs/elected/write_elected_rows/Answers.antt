@@ -3,7 +3,7 @@ use Rattle.meek_rule.specs.Row.{Row}
 use Rattle.page_tree.specs.Print.{printed}
 use Rattle.sheet_reader.specs.Values.{SheetList}
 use Rattle.sheet_page.specs.Html.{elected_in, elected_item}
-use Rattle.sheet_page.specs.Values.{places}
+use Rattle.sheet_page.specs.Values.{all_places}
 use Rattle.sheet_page.proofs.Printing.{printed-each}
 use Rattle.sheet_page.proofs.Pens.{nothing, item_more, items_all, renamed}
 use Rattle.sheet_page.proofs.elected.write_elected_rows.Goals as goal
@@ -20,7 +20,7 @@ loop-row-preserved g c =
     (subst (λ (l : List Row). c.loop-row.row-index < length l)
     (c.items-row-items.ensures ∙ ap (λ (v : SheetList). v.rows) c.values.view_is) c.loop-row-test.true)
     c.loop-row.invariant (renamed (printed-each (elected_item c.args.values.now c.row-item.result)
-    (places (length c.args.values.now.names))) c.write_elected_in.ensures)
+    (all_places (length c.args.values.now.names))) c.write_elected_in.ensures)
 
 pub returns : goal.returns
 returns g c =

@@ -1,10 +1,10 @@
 use Rattle.sheet_page.specs.Html.{seated_item}
 use Rattle.sheet_page.specs.Prints.{Prints}
 use Rattle.sheet_page.specs.Trees.{print_each}
-use Rattle.sheet_page.specs.Values.{places}
+use Rattle.sheet_page.specs.Values.{all_places}
 use Rattle.sheet_page.proofs.elected.write_seated.Given as goal
 
 abbrev pub invariant-loop-p : goal.invariant-loop-p
 invariant-loop-p g l =
     Prints g.K.Sink l.initial.pen l.pen
-    (print_each (seated_item l.fn.values) (places l.p))
+    (print_each (seated_item l.fn.values) (all_places l.p))

@@ -7,5 +7,5 @@ use Rattle.sheet_page.proofs.html.write_body.Goals as goal
 
 pub returns : goal.returns
 returns g c =
-    renamed (wrapped (codes "body") [] (content c.args.values.now ∷ []))
+    renamed (wrapped (codes "body") [] (content g.row.P c.args.values.now ∷ []))
     (later c.open.ensures (later c.write_content.ensures c.close.ensures))

@@ -9,5 +9,5 @@ use Rattle.sheet_page.proofs.html.write_page.Goals as goal
 pub returns : goal.returns
 returns g c =
     renamed (wrapped (codes "html") (at (codes "lang") (codes "en") ∷ [])
-    (head c.args.values.now ∷ body c.args.values.now ∷ []))
+    (head c.args.values.now ∷ body g.row.P c.args.values.now ∷ []))
     (later c.start.ensures (later c.write_head.ensures (later c.write_body.ensures c.close.ensures)))

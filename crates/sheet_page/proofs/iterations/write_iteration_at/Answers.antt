@@ -14,4 +14,4 @@ returns g c =
     let i = c.args.i in
     let at = subst (λ (w : SheetList). slice_get w.rows i ≡ Some c.get.result.now) c.values.view_is c.get.ensures in
     let row = get_or_from_slice_get v.rows i c.get.result.now (blank 0) at in
-    renamed (ap (λ (r : Row). printed (iteration v r)) (sym row)) c.write_iteration.ensures
+    renamed (ap (λ (r : Row). printed (iteration g.row.P v r)) (sym row)) c.write_iteration.ensures

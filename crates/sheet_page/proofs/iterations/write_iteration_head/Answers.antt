@@ -9,6 +9,6 @@ pub returns : goal.returns
 returns g c =
     let row = c.row.inside in
     renamed (ap
-    (λ (step : List ℕ). printed (iteration_line row.iteration row.total row.quota row.surplus step))
+    (λ (step : List ℕ). printed (iteration_line g.row.P row.iteration row.total row.quota row.surplus step))
     c.step_word-step.ensures
-    ∙ ap (λ (r : Row). printed (iteration_head r)) c.row.view_is) c.write_iteration_line.ensures
+    ∙ ap (λ (r : Row). printed (iteration_head g.row.P r)) c.row.view_is) c.write_iteration_line.ensures

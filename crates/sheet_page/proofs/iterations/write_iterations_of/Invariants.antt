@@ -1,10 +1,10 @@
 use Rattle.sheet_page.specs.Iterations.{iteration_at}
 use Rattle.sheet_page.specs.Prints.{Prints}
 use Rattle.sheet_page.specs.Trees.{print_each}
-use Rattle.sheet_page.specs.Values.{places}
+use Rattle.sheet_page.specs.Values.{all_places}
 use Rattle.sheet_page.proofs.iterations.write_iterations_of.Given as goal
 
 abbrev pub invariant-loop-i : goal.invariant-loop-i
 invariant-loop-i g l =
     Prints g.K.Sink l.initial.pen l.pen
-    (print_each (iteration_at l.fn.values l.fn.last) (places l.i))
+    (print_each (iteration_at g.row.P l.fn.values l.fn.last) (all_places l.i))

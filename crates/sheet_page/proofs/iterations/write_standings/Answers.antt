@@ -8,5 +8,5 @@ loop-p-init g c = nothing _ _
 
 pub loop-p-preserved : goal.loop-p-preserved
 loop-p-preserved g c =
-    place_more (λ i. printed (standing_at c.args.row.now i)) c.loop-p.p c.loop-p.invariant
+    place_more (λ i. printed (standing_at g.row.P c.args.row.now i)) c.loop-p.p c.loop-p.invariant
     c.write_standing_at.ensures

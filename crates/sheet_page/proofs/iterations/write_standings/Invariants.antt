@@ -1,10 +1,10 @@
 use Rattle.sheet_page.specs.Iterations.{standing_at}
 use Rattle.sheet_page.specs.Prints.{Prints}
 use Rattle.sheet_page.specs.Trees.{print_each}
-use Rattle.sheet_page.specs.Values.{places}
+use Rattle.sheet_page.specs.Values.{all_places}
 use Rattle.sheet_page.proofs.iterations.write_standings.Given as goal
 
 abbrev pub invariant-loop-p : goal.invariant-loop-p
 invariant-loop-p g l =
     Prints g.K.Sink l.initial.pen l.pen
-    (print_each (standing_at l.fn.row) (places l.p))
+    (print_each (standing_at g.row.P l.fn.row) (all_places l.p))

@@ -11,6 +11,6 @@ returns g c =
     let lots : c.truth-lots.result.now ≡ truth (by_lots row) = c.truth-lots.ensures ∙ ap truth c.is_by_lots.ensures in
     let last : c.from.result ≡ last_seats c.args.seats row = c.from.ensures ∙ c.last_seats-last.ensures in
     let amounts =
-    ap (λ (l : List ℕ). amounts_json i row l c.from.result) lots
-    ∙ ap (λ (n : ℕ). amounts_json i row (truth (by_lots row)) n) last in
+    ap (λ (l : List ℕ). amounts_json g.row.P i row l c.from.result) lots
+    ∙ ap (λ (n : ℕ). amounts_json g.row.P i row (truth (by_lots row)) n) last in
     later (renamed amounts c.write_amounts.ensures) (later c.write_standings.ensures c.piece.ensures)

@@ -6,4 +6,4 @@ pub loop-p-init : goal.loop-p-init
 loop-p-init g c = nothing _ _
 
 pub loop-p-preserved : goal.loop-p-preserved
-loop-p-preserved g c = place_more (standing_json c.args.row.now) c.loop-p.p c.loop-p.invariant c.write_standing.ensures
+loop-p-preserved g c = place_more (standing_json g.row.P c.args.row.now) c.loop-p.p c.loop-p.invariant c.write_standing.ensures

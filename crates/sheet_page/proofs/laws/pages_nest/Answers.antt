@@ -3,4 +3,4 @@ use Rattle.sheet_page.proofs.Nesting.{well_named}
 use Rattle.sheet_page.proofs.laws.pages_nest.Goals as goal
 
 pub returns : goal.returns
-returns c v = c.page_laws.ensures.elements (page v) (well_named v)
+returns c places v = c.page_laws.ensures.elements (page places v) (well_named places v)

@@ -4,7 +4,7 @@ use Rattle.sheet_page.proofs.SheetJson.{sheet_text, sheet-written, sheet-is}
 use Rattle.sheet_page.proofs.laws.sheets_are_json.Goals as goal
 
 pub returns-clause-texts : goal.returns-clause-texts
-returns-clause-texts c v is = (sheet_text v, sheet-written v, sheet-is v is)
+returns-clause-texts c places v is = (sheet_text places v, sheet-written places v, sheet-is places v is)
 
 pub returns-clause-one_thing : goal.returns-clause-one_thing
 returns-clause-one_thing c = texts_say

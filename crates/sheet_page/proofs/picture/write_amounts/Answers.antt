@@ -10,5 +10,5 @@ pub returns : goal.returns
 returns g c =
     let row = c.args.row.now in
     renamed (wrapped (codes "p") []
-    (amounts_text row.quota (left_over c.args.values.now.ballots row) ∷ rest_part row ∷ []))
+    (amounts_text g.row.P row.quota (left_over g.row.P c.args.values.now.ballots row) ∷ rest_part g.row.P row ∷ []))
     (later c.open.ensures (later c.write_quota_and_left.ensures (later c.write_rest.ensures c.close.ensures)))

@@ -5,4 +5,4 @@ use Rattle.sheet_page.proofs.Pens.{renamed}
 use Rattle.sheet_page.proofs.picture.write_amounts_text.Goals as goal
 
 pub returns : goal.returns
-returns g c = renamed (leaf (amounts_text c.args.quota c.args.left)) (search rules)
+returns g c = renamed (leaf (amounts_text g.row.P c.args.quota c.args.left)) (search rules)

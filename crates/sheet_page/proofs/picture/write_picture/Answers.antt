@@ -4,7 +4,7 @@ use Rattle.meek_rule.specs.Row.{Row}
 use Rattle.page_tree.specs.Print.{printed}
 use Rattle.sheet_page.specs.Bars.{bars_of}
 use Rattle.sheet_page.specs.Trees.{each}
-use Rattle.sheet_page.specs.Values.{places}
+use Rattle.sheet_page.specs.Values.{all_places}
 use Rattle.sheet_page.specs.Picture.{bar_at, picture_attributes, picture_title, quota_line, scaled}
 use Rattle.sheet_page.proofs.Printing.{wrapped, printed-each}
 use Rattle.sheet_page.specs.RoundEnds.{settled}
@@ -15,8 +15,8 @@ pub returns : goal.returns
 returns g c =
     let row = c.args.row.now in
     let full = c.args.full in
-    let all = places (length c.args.values.now.names) in
-    let bar_of = bar_at c.args.values.now full (settled row c.args.behind.now) in
+    let all = all_places (length c.args.values.now.names) in
+    let bar_of = bar_at g.row.P c.args.values.now full (settled row c.args.behind.now) in
     renamed (wrapped (codes "svg") (picture_attributes (bars_of row)) (picture_title row.round
     ∷ each bar_of all ∷ quota_line (scaled full row.quota) (bars_of row) ∷ []))
     (later c.write_start.ensures (later

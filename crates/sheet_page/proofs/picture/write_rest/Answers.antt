@@ -12,15 +12,15 @@ pub returns-then-is_nothing : goal.returns-then-is_nothing
 returns-then-is_nothing g c =
     let row = c.args.row.now in
     let none = ap (λ (n : ℕ). nat_eq n 0) (sym c.rest_count-count.ensures) ∙ sym c.is_nothing.ensures ∙ c.if-is_nothing.true in
-    renamed (sym (ap (λ (b : Bool). printed (if b then Nothing else rest_text (rest_count row) (text_of 9 (rest_votes row)))) none))
+    renamed (sym (ap (λ (b : Bool). printed (if b then Nothing else rest_text (rest_count row) (text_of g.row.P (rest_votes row)))) none))
     (nothing _ _)
 
 pub returns : goal.returns
 returns g c =
     let row = c.args.row.now in
     let some = ap (λ (n : ℕ). nat_eq n 0) (sym c.rest_count-count.ensures) ∙ sym c.is_nothing.ensures ∙ c.if-is_nothing.false in
-    let votes = c.bytes.ensures.value ∙ c.units_text-votes.ensures ∙ ap (λ (n : ℕ). text_of 9 n) c.rest_votes.ensures.sum in
+    let votes = c.bytes.ensures.value ∙ c.units_text-votes.ensures ∙ ap (λ (n : ℕ). text_of g.row.P n) c.rest_votes.ensures.sum in
     renamed (ap (λ (l : List ℕ). printed (rest_text c.rest_count-count.result l)) votes
-    ∙ ap (λ (n : ℕ). printed (rest_text n (text_of 9 (rest_votes row)))) c.rest_count-count.ensures
-    ∙ sym (ap (λ (b : Bool). printed (if b then Nothing else rest_text (rest_count row) (text_of 9 (rest_votes row)))) some))
+    ∙ ap (λ (n : ℕ). printed (rest_text n (text_of g.row.P (rest_votes row)))) c.rest_count-count.ensures
+    ∙ sym (ap (λ (b : Bool). printed (if b then Nothing else rest_text (rest_count row) (text_of g.row.P (rest_votes row)))) some))
     c.write_rest_text.ensures

@@ -6,6 +6,6 @@ use Rattle.sheet_page.proofs.picture.write_round_picture.Goals as goal
 
 pub returns : goal.returns
 returns g c =
-    renamed (printed-two (amounts_of c.args.values.now.ballots c.args.row.now)
-    (picture c.args.values.now c.args.full (settled c.args.row.now c.args.behind.now)))
+    renamed (printed-two (amounts_of g.row.P c.args.values.now.ballots c.args.row.now)
+    (picture g.row.P c.args.values.now c.args.full (settled c.args.row.now c.args.behind.now)))
     (later c.write_amounts.ensures c.write_picture.ensures)

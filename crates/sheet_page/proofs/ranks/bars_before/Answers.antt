@@ -6,7 +6,7 @@ use Rattle.sheet_page.proofs.ranks.bars_before.Goals.{then-comes_before, else-co
 use Rattle.sheet_page.proofs.ranks.bars_before.Goals as goal
 
 pub loop-q-preserved : goal.loop-q-preserved
-loop-q-preserved c =
+loop-q-preserved g c =
     let size = ap (λ (row : Row). length row.votes) c.row.view_is in
     let n = length c.args.row.now.votes in
     let test = comes_before c.args.row.now c.args.p in
@@ -20,12 +20,12 @@ loop-q-preserved c =
     ]
 
 pub returns-clause-count : goal.returns-clause-count
-returns-clause-count c =
+returns-clause-count g c =
     let size = ap (λ (row : Row). length row.votes) c.row.view_is in
     let past = count_past (comes_before c.args.row.now c.args.p) c.loop-q.q (length c.args.row.now.votes) (omega (arith, size)) in
     omega (arith, past, c.loop-q.invariant.0)
 
 pub returns-clause-few : goal.returns-clause-few
-returns-clause-few c =
+returns-clause-few g c =
     let size = ap (λ (row : Row). length row.votes) c.row.view_is in
     omega (arith, size, c.loop-q.invariant.1)

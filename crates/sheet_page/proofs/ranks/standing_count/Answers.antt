@@ -6,7 +6,7 @@ use Rattle.sheet_page.proofs.ranks.standing_count.Goals.{then-stands, else-stand
 use Rattle.sheet_page.proofs.ranks.standing_count.Goals as goal
 
 pub loop-p-preserved : goal.loop-p-preserved
-loop-p-preserved c =
+loop-p-preserved g c =
     let size = ap (λ (row : Row). length row.votes) c.row.view_is in
     let n = length c.args.row.now.votes in
     let test = stands c.args.row.now in
@@ -20,12 +20,12 @@ loop-p-preserved c =
     ]
 
 pub returns-clause-count : goal.returns-clause-count
-returns-clause-count c =
+returns-clause-count g c =
     let size = ap (λ (row : Row). length row.votes) c.row.view_is in
     let past = count_past (stands c.args.row.now) c.loop-p.p (length c.args.row.now.votes) (omega (arith, size)) in
     omega (arith, past, c.loop-p.invariant.0)
 
 pub returns-clause-few : goal.returns-clause-few
-returns-clause-few c =
+returns-clause-few g c =
     let size = ap (λ (row : Row). length row.votes) c.row.view_is in
     omega (arith, size, c.loop-p.invariant.1)

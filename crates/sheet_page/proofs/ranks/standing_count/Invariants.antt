@@ -5,6 +5,6 @@ use Rattle.sheet_page.specs.Bars.{stands, standing_count}
 use Rattle.sheet_page.proofs.ranks.standing_count.Given as goal
 
 abbrev pub invariant-loop-p : goal.invariant-loop-p
-invariant-loop-p l =
+invariant-loop-p g l =
     (l.count + count_by (stands l.fn.row) (range_with_len l.p (length l.fn.row.votes - l.p)) ≡ standing_count l.fn.row)
     × (l.count ≤ l.p)

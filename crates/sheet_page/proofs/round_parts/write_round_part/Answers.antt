@@ -25,9 +25,9 @@ returns g c =
     subst (λ (w : SheetList). slice_get w.rows last ≡ Some c.get-row.result.now) c.values.view_is c.get-row.ensures in
     let row = get_or_from_slice_get v.rows last c.get-row.result.now (blank 0) at in
     let title = ap (λ (r : Row). printed (round_title r.round)) (c.row.view_is ∙ sym row) in
-    let picture = ap (λ (r : Row). printed (round_picture v full (settled r c.states_behind.result.now))) (sym row)
-    ∙ ap (λ (s : List State). printed (round_picture v full (settled (row_at v.rows last) s))) c.states_behind.ensures.states in
-    renamed (wrapped (codes "section") (part_attributes (part_name last)) (round_title (row_at v.rows last).round ∷ round_sentences v last
-    ∷ round_picture v full (settled_at v last) ∷ folded v last ∷ []))
+    let picture = ap (λ (r : Row). printed (round_picture g.row.P v full (settled r c.states_behind.result.now))) (sym row)
+    ∙ ap (λ (s : List State). printed (round_picture g.row.P v full (settled (row_at v.rows last) s))) c.states_behind.ensures.states in
+    renamed (wrapped (codes "section") (part_attributes (part_name last)) (round_title (row_at v.rows last).round ∷ round_sentences g.row.P v last
+    ∷ round_picture g.row.P v full (settled_at v last) ∷ folded g.row.P v last ∷ []))
     (later c.write_start.ensures (later (renamed title c.write_title.ensures) (later c.write_round_sentences.ensures
     (later (renamed picture c.write_round_picture.ensures) (later c.write_folded.ensures c.close.ensures)))))

@@ -4,10 +4,10 @@ use Rattle.sheet_page.proofs.RoundPlaces.{is_of, is_before, at_last, one_more, r
 use Rattle.sheet_page.proofs.stretches.first_of.Goals as goal
 
 pub loop-i-init : goal.loop-i-init
-loop-i-init c = at_last c.args.rows.now c.args.last
+loop-i-init g c = at_last c.args.rows.now c.args.last
 
 pub loop-i-preserved : goal.loop-i-preserved
-loop-i-preserved c =
+loop-i-preserved g c =
     let rows = c.args.rows.now in
     let last = c.args.last in
     let i = c.loop-i.i in
@@ -18,11 +18,11 @@ loop-i-preserved c =
     one_more rows last i (one_number rows (i - 1) last _ _ here end c.if-row-end.false) c.loop-i.invariant
 
 pub returns-then-row-end-clause-of_it : goal.returns-then-row-end-clause-of_it
-returns-then-row-end-clause-of_it c =
+returns-then-row-end-clause-of_it g c =
     λ i low high. is_of c.args.rows.now c.args.last i high (λ k from to. c.loop-i.invariant k (omega arith) to)
 
 pub returns-then-row-end-clause-before : goal.returns-then-row-end-clause-before
-returns-then-row-end-clause-before c =
+returns-then-row-end-clause-before g c =
     let rows = c.args.rows.now in
     let last = c.args.last in
     let j = c.loop-i.i - 1 in
@@ -34,5 +34,5 @@ returns-then-row-end-clause-before c =
     (two_numbers rows j last _ _ here end c.if-row-end.true)
 
 pub returns-clause-of_it : goal.returns-clause-of_it
-returns-clause-of_it c =
+returns-clause-of_it g c =
     λ i low high. is_of c.args.rows.now c.args.last i high (λ k from to. c.loop-i.invariant k (omega arith) to)

@@ -1,7 +1,7 @@
 use Rattle.std.proofs.Common.{length, [], ◌∷◌}
 use Rattle.std.specs.Prelude.{codes}
 use Rattle.sheet_minutes.specs.declared.entry.Entry.TheVariants.{Round}
-use Rattle.sheet_page.specs.Values.{places}
+use Rattle.sheet_page.specs.Values.{all_places}
 use Rattle.sheet_page.specs.RoundTable.{cell_at, cells, first_head}
 use Rattle.sheet_page.proofs.Printing.{wrapped, printed-each}
 use Rattle.sheet_page.proofs.Pens.{later, renamed}
@@ -10,7 +10,7 @@ use Rattle.sheet_page.proofs.table.write_head_row.Goals as goal
 pub returns : goal.returns
 returns g c =
     let v = c.args.values.now in
-    renamed (wrapped (codes "tr") [] (first_head ∷ cells v Round ∷ []))
+    renamed (wrapped (codes "tr") [] (first_head ∷ cells g.row.P v Round ∷ []))
     (later c.open.ensures
     (later c.write_first_head.ensures
-    (later (renamed (printed-each (cell_at v Round) (places (length v.rows))) c.write_cells.ensures) c.close.ensures)))
+    (later (renamed (printed-each (cell_at g.row.P v Round) (all_places (length v.rows))) c.write_cells.ensures) c.close.ensures)))

@@ -18,9 +18,9 @@ loop-i-init g c =
     let v = c.args.values.now in
     let last = c.args.last in
     let rows = c.items.ensures ∙ ap (λ (w : SheetList). w.rows) c.values.view_is in
-    renamed (sym (nothing_before (λ i. printed (sentences_at v last i)) c.first_of-first.result (λ i below.
+    renamed (sym (nothing_before (λ i. printed (sentences_at g.row.P v last i)) c.first_of-first.result (λ i below.
     let other = ap (λ (l : List Row). is_of_round l last i) (sym rows) ∙ c.first_of-first.ensures.before i below in
-    ap (λ (b : Bool). printed (if b then each item (sentences_of v (row_at v.rows i)) else Nothing)) other))) (nothing _ _)
+    ap (λ (b : Bool). printed (if b then each item (sentences_of g.row.P v (row_at v.rows i)) else Nothing)) other))) (nothing _ _)
 
 pub loop-i-preserved : goal.loop-i-preserved
 loop-i-preserved g c =
@@ -30,6 +30,6 @@ loop-i-preserved g c =
     let rows = c.items.ensures ∙ ap (λ (w : SheetList). w.rows) c.values.view_is in
     let of = ap (λ (l : List Row). is_of_round l last i) (sym rows)
     ∙ c.first_of-first.ensures.of_it i (omega arith) (omega arith) in
-    place_more (λ i. printed (sentences_at v last i)) i c.loop-i.invariant (renamed
-    (sym (ap (λ (b : Bool). printed (if b then each item (sentences_of v (row_at v.rows i)) else Nothing)) of))
+    place_more (λ i. printed (sentences_at g.row.P v last i)) i c.loop-i.invariant (renamed
+    (sym (ap (λ (b : Bool). printed (if b then each item (sentences_of g.row.P v (row_at v.rows i)) else Nothing)) of))
     c.write_sentences_at.ensures)

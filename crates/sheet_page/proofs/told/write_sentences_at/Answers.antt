@@ -17,5 +17,5 @@ returns g c =
     let i = c.args.i in
     let at = subst (λ (w : SheetList). slice_get w.rows i ≡ Some c.get.result.now) c.values.view_is c.get.ensures in
     let row = get_or_from_slice_get v.rows i c.get.result.now (blank 0) at in
-    renamed (told_items (sentences_of v c.get.result.now)
-    ∙ ap (λ (r : Row). printed (each item (sentences_of v r))) (sym row)) c.decisions.ensures
+    renamed (told_items (sentences_of g.row.P v c.get.result.now)
+    ∙ ap (λ (r : Row). printed (each item (sentences_of g.row.P v r))) (sym row)) c.decisions.ensures

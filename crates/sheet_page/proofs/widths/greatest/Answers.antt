@@ -5,7 +5,7 @@ use Rattle.sheet_page.proofs.Peaks.{greatest_more}
 use Rattle.sheet_page.proofs.widths.greatest.Goals as goal
 
 pub loop-amount-preserved : goal.loop-amount-preserved
-loop-amount-preserved c =
+loop-amount-preserved g c =
     let xs = c.args.amounts.now in
     let i = c.loop-amount.amount-index in
     c.larger-most.ensures ∙ ap (λ (m : ℕ). max m c.units.result) c.loop-amount.invariant

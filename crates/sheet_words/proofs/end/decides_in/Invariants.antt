@@ -4,4 +4,4 @@ use Rattle.sheet_words.specs.Sentences.{decides_on}
 use Rattle.sheet_words.proofs.end.decides_in.Given as goal
 
 abbrev pub invariant-loop-row : goal.invariant-loop-row
-invariant-loop-row l = list_any (decides_on l.p) (take l.row-index l.fn.rows) ≡ false
+invariant-loop-row g l = list_any (decides_on l.p) (take l.row-index l.fn.rows) ≡ false

@@ -4,4 +4,4 @@ use Rattle.lot_order.specs.Flags.{mark_at}
 use Rattle.sheet_words.proofs.end.elects_in.Given as goal
 
 abbrev pub invariant-loop-row : goal.invariant-loop-row
-invariant-loop-row l = list_any (λ row. mark_at row.elected l.p) (take l.row-index l.fn.rows) ≡ false
+invariant-loop-row g l = list_any (λ row. mark_at row.elected l.p) (take l.row-index l.fn.rows) ≡ false

@@ -6,7 +6,7 @@ use Rattle.sheet_words.proofs.end.seats_taken.Goals.{then-takes_seat, else-takes
 use Rattle.sheet_words.proofs.end.seats_taken.Goals as goal
 
 pub loop-p-preserved : goal.loop-p-preserved
-loop-p-preserved c =
+loop-p-preserved g c =
     let size = ap (λ (v : SheetList). length v.names) c.values.view_is in
     let n = length c.args.values.now.names in
     let test = takes_seat c.args.values.now in
@@ -20,7 +20,7 @@ loop-p-preserved c =
     ]
 
 pub returns : goal.returns
-returns c =
+returns g c =
     let size = ap (λ (v : SheetList). length v.names) c.values.view_is in
     let past = count_past (takes_seat c.args.values.now) c.loop-p.p (length c.args.values.now.names) (omega (arith, size)) in
     omega (arith, past, c.loop-p.invariant.0)

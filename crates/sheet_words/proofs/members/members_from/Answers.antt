@@ -6,7 +6,7 @@ use Rattle.sheet_words.proofs.members.members_from.Goals.{then-is_in, else-is_in
 use Rattle.sheet_words.proofs.members.members_from.Goals as goal
 
 pub loop-p-preserved : goal.loop-p-preserved
-loop-p-preserved c =
+loop-p-preserved g c =
     let size = ap (λ (row : Row). length row.states) c.row.view_is in
     let n = length c.args.row.now.states in
     let test = is_in c.args.row.now c.args.group in
@@ -20,7 +20,7 @@ loop-p-preserved c =
     ]
 
 pub returns : goal.returns
-returns c =
+returns g c =
     let size = ap (λ (row : Row). length row.states) c.row.view_is in
     let past =
     count_past (is_in c.args.row.now c.args.group) c.loop-p.p (length c.args.row.now.states) (omega (arith, size)) in

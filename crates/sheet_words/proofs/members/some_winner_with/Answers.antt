@@ -5,7 +5,7 @@ use Rattle.sheet_words.proofs.Places.{any_yes, any_no, any_past}
 use Rattle.sheet_words.proofs.members.some_winner_with.Goals as goal
 
 pub loop-p-preserved : goal.loop-p-preserved
-loop-p-preserved c =
+loop-p-preserved g c =
     let size = ap (λ (row : Row). length row.states) c.row.view_is in
     let test = wins_with c.args.row.now c.args.vote in
     sym (any_no test c.loop-p.p (length c.args.row.now.states) (omega (arith, size))
@@ -13,7 +13,7 @@ loop-p-preserved c =
     ∙ c.loop-p.invariant
 
 pub returns-then-wins_with : goal.returns-then-wins_with
-returns-then-wins_with c =
+returns-then-wins_with g c =
     let size = ap (λ (row : Row). length row.states) c.row.view_is in
     let test = wins_with c.args.row.now c.args.vote in
     sym (any_yes test c.loop-p.p (length c.args.row.now.states) (omega (arith, size))
@@ -21,7 +21,7 @@ returns-then-wins_with c =
     ∙ c.loop-p.invariant
 
 pub returns : goal.returns
-returns c =
+returns g c =
     let size = ap (λ (row : Row). length row.states) c.row.view_is in
     let test = wins_with c.args.row.now c.args.vote in
     sym (any_past test c.loop-p.p (length c.args.row.now.states) (omega (arith, size))) ∙ c.loop-p.invariant

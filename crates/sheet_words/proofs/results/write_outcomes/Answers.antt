@@ -6,7 +6,7 @@ use Rattle.std.proofs.lemmas.List.Folds.{flat_map-map}
 use Rattle.piece_text.specs.Writing.{Wrote, Writes}
 use Rattle.piece_text.proofs.Written.{wrote_nothing}
 use Rattle.sheet_reader.specs.Values.{SheetList}
-use Rattle.sheet_words.specs.Groups.{places}
+use Rattle.sheet_words.specs.Groups.{all_places}
 use Rattle.sheet_words.specs.Manner.{told}
 use Rattle.sheet_words.specs.Sentences.{outcome}
 use Rattle.sheet_words.proofs.Written.{place_wrote, place_stopped}
@@ -26,7 +26,7 @@ returns-in_err-write_outcome g c =
     let size = ap (λ (v : SheetList). length v.names) c.values.view_is in
     subst (λ (l : List ℕ). Writes g.K.Sink.written g.K.Sink.faults c.args.sink.now c.write_outcome.new.sink l
     c.from_residual.result)
-    (sym (flat_map-map (told g.V.Voice.manner) (outcome c.args.values.now) (places (length c.args.values.now.names))))
+    (sym (flat_map-map (told g.V.Voice.manner) (outcome c.args.values.now) (all_places (length c.args.values.now.names))))
     (place_stopped (λ p. told g.V.Voice.manner (outcome c.args.values.now p)) (length c.args.values.now.names) c.loop-p.p
     c.from_residual.result c.from_residual.ensures.0 (omega (arith, size)) c.loop-p.invariant c.in_err-write_outcome.ensures)
 
@@ -34,9 +34,9 @@ pub returns : goal.returns
 returns g c =
     let size = ap (λ (v : SheetList). length v.names) c.values.view_is in
     let n = length c.args.values.now.names in
-    let past = take_all c.loop-p.p (places n) (omega (arith, size, length-range_with_len 0 n)) in
+    let past = take_all c.loop-p.p (all_places n) (omega (arith, size, length-range_with_len 0 n)) in
     subst (λ (l : List ℕ). Wrote g.K.Sink.written g.K.Sink.faults c.args.sink.now c.loop-p.sink l)
     (ap (flat_map (λ (p : ℕ). told g.V.Voice.manner (outcome c.args.values.now p))) past
     ∙ sym (flat_map-map (told g.V.Voice.manner) (outcome c.args.values.now)
-    (places (length c.args.values.now.names))))
+    (all_places (length c.args.values.now.names))))
     c.loop-p.invariant

@@ -4,8 +4,8 @@ use Rattle.std.proofs.lemmas.List.{take_all}
 use Rattle.sheet_words.specs.declared.part.Part.{Part}
 use Rattle.sheet_words.specs.Parts.{part_text}
 use Rattle.piece_text.specs.Writing.{Wrote, Writes}
-use Rattle.piece_text.proofs.Written.{wrote_nothing}
-use Rattle.sheet_words.proofs.Written.{item_wrote, item_stopped, said-map}
+use Rattle.piece_text.proofs.Written.{wrote_nothing, wrote_more, stopped_at}
+use Rattle.sheet_words.proofs.Written.{said-map}
 use Rattle.sheet_words.proofs.saying.say_parts.Goals as goal
 
 pub loop-part-init : goal.loop-part-init
@@ -13,17 +13,16 @@ loop-part-init g c = wrote_nothing _ _ _
 
 pub loop-part-preserved : goal.loop-part-preserved
 loop-part-preserved g c =
-    item_wrote (λ part. g.V.Voice.manner.voiced (part_text part)) c.args.parts.now c.loop-part.part-index c.part-item.result
-    c.part-item.is c.loop-part-test.true c.loop-part.invariant c.in_ok-say_part.ensures
+    wrote_more (λ part. g.V.Voice.manner.voiced (part_text part)) c.args.parts.now c.loop-part.part-index _
+    c.loop-part-test.true c.loop-part.invariant c.in_ok-say_part.ensures
 
 pub returns-in_err-say_part : goal.returns-in_err-say_part
 returns-in_err-say_part g c =
     subst (λ (l : List ℕ). Writes g.K.Sink.written g.K.Sink.faults c.args.sink.now c.say_part.new.sink l
     c.from_residual.result)
     (said-map g.V.Voice.manner part_text c.args.parts.now)
-    (item_stopped (λ part. g.V.Voice.manner.voiced (part_text part)) c.args.parts.now c.loop-part.part-index
-    c.part-item.result
-    c.from_residual.result c.part-item.is c.from_residual.ensures.0 c.loop-part-test.true c.loop-part.invariant
+    (stopped_at (λ part. g.V.Voice.manner.voiced (part_text part)) c.args.parts.now c.loop-part.part-index _
+    c.from_residual.result c.from_residual.ensures.0 c.loop-part-test.true c.loop-part.invariant
     c.in_err-say_part.ensures)
 
 pub returns : goal.returns

@@ -12,24 +12,24 @@ use Rattle.sheet_words.proofs.sentences.write_decision.Goals as goal
 
 -- a sentence, part by part
 parts :
-    (m : Manner) (v : SheetList) (row : Row) (d : Decision)
-    → m.opening ++ (said m (numbers row) ++ (said m (sentence v row d) ++ m.closing)) ≡ told m (numbered v row d)
-parts m v row d =
+    (places : ℕ) (m : Manner) (v : SheetList) (row : Row) (d : Decision)
+    → m.opening ++ (said m (numbers row) ++ (said m (sentence places v row d) ++ m.closing)) ≡ told m (numbered places v row d)
+parts places m v row d =
     ap (λ (l : List ℕ). m.opening ++ l)
-    (sym (append_assoc (said m (numbers row)) (said m (sentence v row d)) m.closing)
-    ∙ ap (λ (l : List ℕ). l ++ m.closing) (sym (said-append m (numbers row) (sentence v row d))))
+    (sym (append_assoc (said m (numbers row)) (said m (sentence places v row d)) m.closing)
+    ∙ ap (λ (l : List ℕ). l ++ m.closing) (sym (said-append m (numbers row) (sentence places v row d))))
 
 pub returns-in_err-begin : goal.returns-in_err-begin
 returns-in_err-begin g c =
     subst (λ (l : List ℕ). Writes g.K.Sink.written g.K.Sink.faults c.args.sink.now c.begin.new.sink l c.from_residual.result)
-    (parts g.V.Voice.manner c.args.values.now c.args.row.now c.args.decision)
+    (parts g.row.P g.V.Voice.manner c.args.values.now c.args.row.now c.args.decision)
     (stops _ _ c.from_residual.ensures.0 c.in_err-begin.ensures)
 
 pub returns-in_err-say_numbers : goal.returns-in_err-say_numbers
 returns-in_err-say_numbers g c =
     subst (λ (l : List ℕ). Writes g.K.Sink.written g.K.Sink.faults c.args.sink.now c.say_numbers.new.sink l
     c.from_residual-in_err-say_numbers.result)
-    (parts g.V.Voice.manner c.args.values.now c.args.row.now c.args.decision)
+    (parts g.row.P g.V.Voice.manner c.args.values.now c.args.row.now c.args.decision)
     (later _ _ _ c.in_ok-begin.ensures
     (stops _ _ c.from_residual-in_err-say_numbers.ensures.0 c.in_err-say_numbers.ensures))
 
@@ -37,13 +37,13 @@ pub returns-in_err-say_decision : goal.returns-in_err-say_decision
 returns-in_err-say_decision g c =
     subst (λ (l : List ℕ). Writes g.K.Sink.written g.K.Sink.faults c.args.sink.now c.say_decision.new.sink l
     c.from_residual-in_err-say_decision.result)
-    (parts g.V.Voice.manner c.args.values.now c.args.row.now c.args.decision)
+    (parts g.row.P g.V.Voice.manner c.args.values.now c.args.row.now c.args.decision)
     (later _ _ _ c.in_ok-begin.ensures (later _ _ _ c.in_ok-say_numbers.ensures
     (stops _ _ c.from_residual-in_err-say_decision.ensures.0 c.in_err-say_decision.ensures)))
 
 pub returns : goal.returns
 returns g c =
     subst (λ (l : List ℕ). Writes g.K.Sink.written g.K.Sink.faults c.args.sink.now c.end.new.sink l c.end.result)
-    (parts g.V.Voice.manner c.args.values.now c.args.row.now c.args.decision)
+    (parts g.row.P g.V.Voice.manner c.args.values.now c.args.row.now c.args.decision)
     (later _ _ _ c.in_ok-begin.ensures (later _ _ _ c.in_ok-say_numbers.ensures
     (later _ _ _ c.in_ok-say_decision.ensures c.end.ensures)))

@@ -17,4 +17,4 @@ pub returns : goal.returns
 returns g c =
     subst (λ (l : List ℕ). Writes g.K.Sink.written g.K.Sink.faults c.args.sink.now c.write_sentences.new.sink
     l c.write_sentences.result)
-    (as_lines (sentences c.args.values.now)) c.write_sentences.ensures
+    (as_lines (sentences g.row.P c.args.values.now)) c.write_sentences.ensures

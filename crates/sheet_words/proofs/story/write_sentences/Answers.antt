@@ -11,12 +11,12 @@ use Rattle.sheet_words.proofs.story.write_sentences.Goals as goal
 
 -- the sentences of a count, part by part
 parts :
-    (m : Manner) (v : SheetList)
-    → flat_map (told m) (flat_map (sentences_of v) v.rows)
+    (places : ℕ) (m : Manner) (v : SheetList)
+    → flat_map (told m) (flat_map (sentences_of places v) v.rows)
     ++ (flat_map (told m) (map at_end (sentences_at_end v)) ++ flat_map (told m) (results v))
-    ≡ flat_map (told m) (sentences v)
-parts m v =
-    let front = flat_map (sentences_of v) v.rows in
+    ≡ flat_map (told m) (sentences places v)
+parts places m v =
+    let front = flat_map (sentences_of places v) v.rows in
     let last = map at_end (sentences_at_end v) in
     ap (λ (l : List ℕ). flat_map (told m) front ++ l) (sym (flat_map-append (told m) last (results v)))
     ∙ sym (flat_map-append (told m) front (last ++ results v))
@@ -25,12 +25,12 @@ pub returns-in_err-write_iterations : goal.returns-in_err-write_iterations
 returns-in_err-write_iterations g c =
     subst (λ (l : List ℕ). Writes g.K.Sink.written g.K.Sink.faults c.args.sink.now c.write_iterations.new.sink
     l c.from_residual.result)
-    (parts g.V.Voice.manner c.args.values.now) (stops _ _ c.from_residual.ensures.0 c.in_err-write_iterations.ensures)
+    (parts g.row.P g.V.Voice.manner c.args.values.now) (stops _ _ c.from_residual.ensures.0 c.in_err-write_iterations.ensures)
 
 pub returns-in_err-write_end : goal.returns-in_err-write_end
 returns-in_err-write_end g c =
     subst (λ (l : List ℕ). Writes g.K.Sink.written g.K.Sink.faults c.args.sink.now c.write_end.new.sink l
-    c.from_residual-in_err-write_end.result) (parts g.V.Voice.manner c.args.values.now)
+    c.from_residual-in_err-write_end.result) (parts g.row.P g.V.Voice.manner c.args.values.now)
     (later _ _ _ c.in_ok-write_iterations.ensures
     (stops _ _ c.from_residual-in_err-write_end.ensures.0 c.in_err-write_end.ensures))
 
@@ -38,5 +38,5 @@ pub returns : goal.returns
 returns g c =
     subst (λ (l : List ℕ). Writes g.K.Sink.written g.K.Sink.faults c.args.sink.now c.write_results.new.sink l
     c.write_results.result)
-    (parts g.V.Voice.manner c.args.values.now)
+    (parts g.row.P g.V.Voice.manner c.args.values.now)
     (later _ _ _ c.in_ok-write_iterations.ensures (later _ _ _ c.in_ok-write_end.ensures c.write_results.ensures))

@@ -9,14 +9,14 @@ loop-other-init g c = nothing _ _
 
 pub loop-other-preserved : goal.loop-other-preserved
 loop-other-preserved g c =
-    item_more (λ cell. behind_comma (cell_text cell)) c.args.others.now c.loop-other.other-index
+    item_more (λ cell. behind_comma (cell_text g.row.P cell)) c.args.others.now c.loop-other.other-index
     c.other-item.result c.other-item.is c.loop-other-test.true
     c.loop-other.invariant c.behind_comma.ensures
 
 pub returns : goal.returns
 returns g c =
-    renamed (record-parts (cell_text c.args.first.now) c.args.others.now)
+    renamed (record-parts g.row.P (cell_text g.row.P c.args.first.now) c.args.others.now)
     (later c.field.ensures (later
-    (items_all (λ cell. behind_comma (cell_text cell)) c.args.others.now c.loop-other.other-index
+    (items_all (λ cell. behind_comma (cell_text g.row.P cell)) c.args.others.now c.loop-other.other-index
     c.loop-other-test.false c.loop-other.invariant)
     c.piece.ensures))

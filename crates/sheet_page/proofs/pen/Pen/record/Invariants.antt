@@ -8,4 +8,4 @@ use Rattle.sheet_page.proofs.pen.Pen.record.Given as goal
 abbrev pub invariant-loop-other : goal.invariant-loop-other
 invariant-loop-other g l =
     Prints g.K.Sink l.initial.self l.self
-    (flat_map (λ cell. behind_comma (cell_text cell)) (take l.other-index l.others))
+    (flat_map (λ cell. behind_comma (cell_text g.row.P cell)) (take l.other-index l.others))

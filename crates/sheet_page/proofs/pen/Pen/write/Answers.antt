@@ -7,8 +7,8 @@ loop-piece-init g c = nothing _ _
 
 pub loop-piece-preserved : goal.loop-piece-preserved
 loop-piece-preserved g c =
-    item_more piece_text c.args.pieces.now c.loop-piece.piece-index c.piece-item.result c.piece-item.is
+    item_more (piece_text g.row.P) c.args.pieces.now c.loop-piece.piece-index c.piece-item.result c.piece-item.is
     c.loop-piece-test.true c.loop-piece.invariant c.piece.ensures
 
 pub returns : goal.returns
-returns g c = items_all piece_text c.args.pieces.now c.loop-piece.piece-index c.loop-piece-test.false c.loop-piece.invariant
+returns g c = items_all (piece_text g.row.P) c.args.pieces.now c.loop-piece.piece-index c.loop-piece-test.false c.loop-piece.invariant

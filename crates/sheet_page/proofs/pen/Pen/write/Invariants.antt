@@ -7,4 +7,4 @@ use Rattle.sheet_page.proofs.pen.Pen.write.Given as goal
 abbrev pub invariant-loop-piece : goal.invariant-loop-piece
 invariant-loop-piece g l =
     Prints g.K.Sink l.initial.self l.self
-    (flat_map piece_text (take l.piece-index l.pieces))
+    (flat_map (piece_text g.row.P) (take l.piece-index l.pieces))
