@@ -1,0 +1,14 @@
+pub mod Without
+pub mod Said
+pub mod Values
+pub mod Form
+pub mod Refusal
+pub mod Reading
+pub mod OwnPlaces
+pub mod Parts
+pub mod SheetParts
+pub mod End
+pub mod Laws
+pub mod Written
+pub mod Owed
+pub mod Worked
