@@ -1,5 +1,6 @@
 -- The plain book: what it keeps, how it answers a call, and what it keeps afterwards.
 use Rattle.std.specs.Prelude.{ℕ, ◌+◌, ◌==◌, ◌++◌, ◌∷◌, [], if◌then◌else◌, not, Bool, List, Option, Some, None, is_none, unwrap_or}
+use Rattle.batch_core.specs.declared.limits.TheConstants.{LAST_NUMBER}
 use Rattle.std.specs.List.{flat_map, range_with_len, list_any}
 use Rattle.std.specs.Map.{lookup}
 use Rattle.std.specs.BTreeMap.{is_at}
@@ -55,7 +56,7 @@ abbrev pub refusal : Batch → ℕ → Option Reply
 refusal batch revision =
     if is_none batch.standing then Some (Gone batch.revision)
     else if not (revision == batch.revision) then Some (Stale batch.revision)
-    else if batch.revision == 9999 then Some Spent
+    else if batch.revision == LAST_NUMBER then Some Spent
     else None
 
 -- the reply to a change, by what is kept of its batch
@@ -118,7 +119,7 @@ lines_of (Some batch) = ballot_lines batch.standing
 
 -- the greatest batch number
 unfoldable pub last_batch : ℕ
-last_batch = 9999
+last_batch = LAST_NUMBER
 
 -- the lines of all batches that stand, by rising batch number
 abbrev pub standing : BookState → List BallotLine

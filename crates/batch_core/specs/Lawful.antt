@@ -1,5 +1,6 @@
 -- Which changes and calls a book of so many candidates takes.
 use Rattle.std.specs.Prelude.{◌≡◌, ℕ, ◌≤◌, ⊤, List, All, Option, Some, None}
+use Rattle.batch_core.specs.declared.limits.TheConstants.{LAST_NUMBER, MOST_OF_BATCH}
 use Rattle.plain_ballots.specs.declared.limits.TheConstants.{MOST_CANDIDATES}
 use Rattle.plain_ballots.specs.Ballots.{BallotList, ballot_count}
 use Rattle.batch_core.specs.declared.batch.Batch.{Batch}
@@ -11,11 +12,11 @@ use Rattle.batch_core.specs.declared.entry.Entry.{Entry}
 
 -- batches are numbered from 1 to 9,999, and so are the revisions of a batch
 abbrev pub IsInRange : ℕ → Type 0
-IsInRange n = (1 ≤ n) × (n ≤ 9999)
+IsInRange n = (1 ≤ n) × (n ≤ LAST_NUMBER)
 
 -- ballots of this number of candidates, at most 100,000
 abbrev pub IsOfBatch : ℕ → BallotList → Type 0
-IsOfBatch candidates ballots = (ballots.candidates ≡ candidates) × (ballot_count ballots.lines ≤ 100000)
+IsOfBatch candidates ballots = (ballots.candidates ≡ candidates) × (ballot_count ballots.lines ≤ MOST_OF_BATCH)
 
 -- a change that a book of so many candidates takes
 abbrev pub IsLawful : ℕ → Change → Type 0

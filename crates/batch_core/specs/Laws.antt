@@ -1,5 +1,6 @@
 -- What the definitions of books and histories amount to.
 use Rattle.std.specs.Prelude.{◌≡◌, ◌≢◌, ℕ, ◌≤◌, List, [], ◌∷◌, ◌++◌, length, take, AllPairs, IsPermutation}
+use Rattle.batch_core.specs.declared.limits.TheConstants.{MOST_STANDING}
 use Rattle.std.specs.List.{list_any}
 use Rattle.plain_ballots.specs.Ballots.{ballot_count}
 use Rattle.batch_core.specs.declared.change.Change.{Change}
@@ -62,7 +63,7 @@ EveryBatchIsNumbered =
 abbrev pub FewEnoughToCount : Type 0
 FewEnoughToCount =
     (candidates : ℕ) (history : List Entry) (n : ℕ) → AreLawful candidates history
-    → ballot_count (standing_after history n) ≤ 999900000
+    → ballot_count (standing_after history n) ≤ MOST_STANDING
 
 -- a change takes the lines of its batch out of what stands, and puts in those that the batch has afterwards
 abbrev pub OneBatchIsReplaced : Type 0

@@ -1,12 +1,10 @@
 // A batch that was entered.
 ghost use Rattle.std.specs.Prelude.{◌≡◌, ◌≤◌, Some};
+ghost use Rattle.batch_core.specs.declared.limits.TheConstants.{LAST_NUMBER};
 ghost use Rattle.batch_core.specs.Book.{refusal, change_reply, change_after};
 
-use crate::{Change, Reply};
+use crate::{Change, LAST_NUMBER, Reply};
 use plain_ballots::Ballots;
-
-/// No change raises the revision above this.
-const LAST_REVISION: u32 = 9_999;
 
 /// A batch that was entered: its revision, and its ballots, or none where it is gone.
 #[derive(Debug, Drop)]
@@ -18,7 +16,7 @@ pub(crate) struct Batch {
 impl Batch {
     /// Answers a change of this batch.
     pub(crate) fn change(&mut self, change: Change) -> Reply
-        requires { self.old.revision ≤ 9999 }
+        requires { self.old.revision ≤ LAST_NUMBER }
         ensures answered { result ≡ change_reply (Some self.old) change }
         ensures kept { Some self.new ≡ change_after (Some self.old) change result }
     {
@@ -57,7 +55,7 @@ impl Batch {
         if revision != self.revision {
             return Some(Reply::Stale(self.revision));
         }
-        if self.revision == LAST_REVISION {
+        if self.revision == LAST_NUMBER {
             return Some(Reply::Spent);
         }
         None

@@ -3,15 +3,9 @@ ghost use Rattle.std.specs.Prelude.{◌≡◌, ◌≤◌, ◌↔◌, true, IfOk}
 ghost use Rattle.batch_core.specs.Lawful.{IsLawful, IsInRange, IsOfBatch};
 ghost use Rattle.batch_core.specs.Book.{batch_of};
 
-use crate::NoMemory;
+use crate::{LAST_NUMBER, MOST_OF_BATCH, NoMemory};
 use plain_ballots::Ballots;
 use std::alloc::Global;
-
-/// Batches are numbered from 1 to this, and so are the revisions of a batch.
-const LAST: u32 = 9_999;
-
-/// A batch has at most this many ballots.
-const MOST: u64 = 100_000;
 
 /// A change of one batch of ballots. A correction and a withdrawal name the revision that they are
 /// meant for.
@@ -88,11 +82,11 @@ impl Change {
 fn is_in_range(number: u32) -> bool
     ensures { (result ≡ true) ↔ IsInRange number }
 {
-    1 <= number && number <= LAST
+    1 <= number && number <= LAST_NUMBER
 }
 
 fn is_of_batch(ballots: &Ballots, candidates: u32) -> bool
     ensures { (result ≡ true) ↔ IsOfBatch candidates ballots.now }
 {
-    ballots.candidates() == candidates && ballots.total() <= MOST
+    ballots.candidates() == candidates && ballots.total() <= MOST_OF_BATCH as u64
 }

@@ -10,6 +10,7 @@ mod change;
 mod entries;
 mod entry;
 mod laws;
+mod limits;
 mod no_memory;
 mod push_back;
 mod reply;
@@ -26,6 +27,7 @@ pub use laws::{
     a_book_answers_a_history, a_legal_history_has_the_books_replies,
     lawful_calls_leave_lawful_batches, struck_candidates_are_listed_once,
 };
+pub use limits::{LAST_NUMBER, MOST_OF_BATCH, MOST_STANDING, MOST_TEAMS};
 pub use no_memory::NoMemory;
 pub use push_back::PushBack;
 pub use reply::Reply;

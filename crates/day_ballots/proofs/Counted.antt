@@ -14,7 +14,7 @@ use Rattle.batch_core.specs.declared.call.Call.{Call}
 use Rattle.batch_core.specs.declared.call.Call.TheVariants.{Freeze}
 use Rattle.batch_core.specs.declared.entry.Entry.{Entry}
 use Rattle.batch_core.specs.Histories.{own_calls, standing_after, struck_after}
-use Rattle.blt_writer.specs.Laws.{TextsAreRead, SaysBallots}
+use Rattle.blt_writer.specs.Laws.{IsNamedRoll, TextsAreRead, SaysBallots}
 use Rattle.blt_writer.specs.Text.{IsBltText}
 use Rattle.day_reader.specs.declared.day.Day.{Day}
 use Rattle.day_reader.specs.declared.script.Script.{Script}
@@ -23,12 +23,14 @@ use Rattle.day_reader.specs.Day.{IsDay}
 use Rattle.team_run.specs.Teams.{calls_of}
 use Rattle.team_run.specs.Endings.{calls_in}
 use Rattle.std.proofs.lemmas.List.Elements.{filter-append}
+use Rattle.std.proofs.lemmas.List.FromFn.{length-map-range_with_len}
 use Rattle.meek_cli.specs.DayHistory.{IsHistoryOf, clerk_freeze}
 use Rattle.meek_cli.specs.DayText.{terms_of, roll_with, IsSheetAfter}
 use Rattle.meek_cli.specs.Owed.{SaysDay}
 use Rattle.day_ballots.specs.Laws.{FreezesAreCounted}
-use Rattle.day_ballots.proofs.Names.{named_roll}
-use Rattle.day_ballots.proofs.Ranked.{all_calls, in_scripts, rankings, not_too_many}
+use Rattle.day_reader.proofs.RollNames.{IsPrintedRoll, printed_roll}
+use Rattle.day_reader.proofs.CallRankings.{rankings, not_too_many}
+use Rattle.day_ballots.proofs.Ranked.{all_calls, in_scripts}
 
 module _ (file : List ℕ) (day : Day) (history : List Entry) (says : SaysDay file day)
     (is : IsHistoryOf day.scripts history) where
@@ -55,12 +57,29 @@ module _ (file : List ℕ) (day : Day) (history : List Entry) (says : SaysDay fi
   calls : All (λ e. IsCall (length day.roll.names) e.call) history
   calls = all_calls (length day.roll.names) history of_caller
 
+  -- the roll of the file with some candidates withdrawn besides
+  named_roll : (struck : List ℕ) → IsNamedRoll (roll_with day.roll struck)
+  named_roll struck =
+      let printed = printed_roll file true day day_is in
+      let sound = printed.sound in
+      record {
+        roll_is = record {
+          some_seat = sound.some_seat;
+          few_seats = sound.few_seats;
+          some_candidate = sound.some_candidate;
+          few_candidates = sound.few_candidates;
+          same_length = length-map-range_with_len _ 0 (length day.roll.withdrawn) ∙ sound.same_length;
+        };
+        names = printed.names;
+        title = printed.title;
+      }
+
   says_ballots :
       TextsAreRead → (n : ℕ) (bytes : List ℕ)
       → IsBltText (plain (standing_after history n)) (roll_with day.roll (struck_after history n)) bytes
       → SaysBallots (roll_with day.roll (struck_after history n)) (plain (standing_after history n)) bytes
   says_ballots reads n bytes written =
-      let named = named_roll file true day (struck_after history n) day_is in
+      let named = named_roll (struck_after history n) in
       reads (roll_with day.roll (struck_after history n)) (plain (standing_after history n)) bytes named
       (record {
         rankings = rankings (length day.roll.names) history n calls;

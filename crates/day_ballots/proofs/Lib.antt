@@ -4,7 +4,6 @@ mod Refusing
 mod Sound
 mod FoundLemmas
 mod Owing
-mod Names
 mod Ranked
 mod Counted
 mod OneTeam

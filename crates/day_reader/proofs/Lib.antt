@@ -22,3 +22,5 @@ mod HeadSteps
 mod DaySteps
 mod DayScripts
 mod WorkedFiles
+pub mod RollNames
+pub mod CallRankings

@@ -1,5 +1,6 @@
 -- Calls as a day file says them.
 use Rattle.std.specs.Prelude.{◌≡◌, ℕ, ⊤, List, [], ◌∷◌, Bool, true, false, sum_by, count_by}
+use Rattle.batch_core.specs.declared.limits.TheConstants.{LAST_NUMBER, MOST_OF_BATCH}
 use Rattle.plain_ballots.specs.Ballots.{BallotList}
 use Rattle.batch_core.specs.declared.change.Change.TheVariants.{Enter, Correct, Withdraw}
 use Rattle.batch_core.specs.declared.call.Call.{Call}
@@ -22,13 +23,13 @@ call_items (Strike candidate) = word key.Strike ∷ Number candidate ∷ []
 -- at most 100,000 ballots among so many candidates
 pub record IsBatch (candidates : ℕ) (entered : BallotList) : Type 0 where
   pub candidates_are : entered.candidates ≡ candidates
-  pub lines : AreLines candidates 100000 entered.lines
+  pub lines : AreLines candidates MOST_OF_BATCH entered.lines
 
 -- a call with numbers in range: batches and revisions are numbered from 1 to 9,999
 abbrev pub IsCall : ℕ → Call → Type 0
-IsCall candidates (Change (Enter batch entered)) = IsIn 9999 batch × IsBatch candidates entered
-IsCall candidates (Change (Correct batch revision entered)) = IsIn 9999 batch × IsIn 9999 revision × IsBatch candidates entered
-IsCall candidates (Change (Withdraw batch revision)) = IsIn 9999 batch × IsIn 9999 revision
+IsCall candidates (Change (Enter batch entered)) = IsIn LAST_NUMBER batch × IsBatch candidates entered
+IsCall candidates (Change (Correct batch revision entered)) = IsIn LAST_NUMBER batch × IsIn LAST_NUMBER revision × IsBatch candidates entered
+IsCall candidates (Change (Withdraw batch revision)) = IsIn LAST_NUMBER batch × IsIn LAST_NUMBER revision
 IsCall candidates Freeze = ⊤
 IsCall candidates (Strike candidate) = IsIn candidates candidate
 

@@ -1,5 +1,6 @@
 -- What is expected within a call, and what an item leads to there.
 use Rattle.std.specs.Prelude.{ℕ, List, [], Bool, ◌&&◌, if◌then◌else◌, nat_le, Ok, Err}
+use Rattle.batch_core.specs.declared.limits.TheConstants.{LAST_NUMBER, MOST_OF_BATCH}
 use Rattle.plain_ballots.specs.declared.ballot_line.BallotLine.{BallotLine}
 use Rattle.batch_core.specs.declared.change.Change.TheVariants.{Enter, Correct, Withdraw}
 use Rattle.batch_core.specs.declared.call.Call.{Call}
@@ -25,10 +26,10 @@ abbrev pub as_between : ℕ → ℕ → FaultKind → Item → Judged ℕ
 as_between least most refusal = as_tested (is_between least most) refusal
 
 abbrev pub as_batch : Item → Judged ℕ
-as_batch = as_between 1 9999 BadBatch
+as_batch = as_between 1 LAST_NUMBER BadBatch
 
 abbrev pub as_revision : Item → Judged ℕ
-as_revision = as_between 1 9999 BadRevision
+as_revision = as_between 1 LAST_NUMBER BadRevision
 
 -- ---- a call behind its word
 
@@ -48,7 +49,7 @@ pub data InCall : Type 0 where
 
 -- a batch has at most 100,000 ballots
 abbrev pub of_a_batch : Limit
-of_a_batch = record { most = 100000; refusal = BatchTooLarge }
+of_a_batch = record { most = MOST_OF_BATCH; refusal = BatchTooLarge }
 
 abbrev pub entered : ℕ → ℕ → List BallotLine → Call
 entered candidates batch lines = Change (Enter batch (record { candidates = candidates; lines = lines }))

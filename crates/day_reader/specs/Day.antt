@@ -1,5 +1,6 @@
 -- A day file, as the list of what its tokens say.
 use Rattle.std.specs.Prelude.{◌≡◌, ◌≢◌, ◌≤◌, ◌==◌, ℕ, List, [], ◌∷◌, ◌++◌, length, map, filter, All, AllPairs, Option, Some, None, unwrap_or, ⊤}
+use Rattle.batch_core.specs.declared.limits.TheConstants.{MOST_TEAMS}
 use Rattle.std.specs.List.{flat_map, range_with_len}
 use Rattle.fixed_place.specs.declared.omega.TheConstants.{MOST_OMEGA, USUAL_OMEGA}
 use Rattle.input_text.specs.Token.{Item, Number}
@@ -61,13 +62,13 @@ team_items script = word key.Team ∷ Number script.team ∷ flat_map call_items
 
 -- numbers from 1 to 16, no number twice, calls of so many candidates, and at most eight freezes
 pub record AreTeams (candidates : ℕ) (teams : List Script) : Type 0 where
-  pub numbers : AreDifferent 16 (map (λ script. script.team) teams)
+  pub numbers : AreDifferent MOST_TEAMS (map (λ script. script.team) teams)
   pub calls : All (λ script. All (IsCall candidates) script.calls) teams
   pub few_freezes : freezes teams ≤ 8
 
 -- the teams by rising number
 unfoldable pub by_number : List Script → List Script
-by_number teams = flat_map (λ number. filter (λ script. script.team == number) teams) (range_with_len 1 16)
+by_number teams = flat_map (λ number. filter (λ script. script.team == number) teams) (range_with_len 1 MOST_TEAMS)
 
 -- ---- the file
 

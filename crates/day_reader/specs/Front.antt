@@ -1,5 +1,6 @@
 -- Front parts of a day file, by what is expected behind them.
 use Rattle.std.specs.Prelude.{◌≡◌, ◌<◌, ◌≤◌, ℕ, ⊤, List, [], ◌∷◌, ◌++◌, length, map, Some}
+use Rattle.batch_core.specs.declared.limits.TheConstants.{LAST_NUMBER, MOST_OF_BATCH, MOST_TEAMS}
 use Rattle.std.specs.List.{flat_map}
 use Rattle.candidate_roll.specs.Roll.{RollList}
 use Rattle.input_text.specs.Token.{Item, Number}
@@ -30,10 +31,10 @@ begun_call (CorrectLines batch revision lines) = word key.Correct ∷ Number bat
 begun_call StrikeCandidate = word key.Strike ∷ []
 
 abbrev pub IsBegunCall : ℕ → InCall → Type 0
-IsBegunCall candidates (CorrectRevision batch) = IsIn 9999 batch
-IsBegunCall candidates (WithdrawRevision batch) = IsIn 9999 batch
-IsBegunCall candidates (EnterLines batch lines) = IsIn 9999 batch × AreBegun candidates 100000 lines
-IsBegunCall candidates (CorrectLines batch revision lines) = IsIn 9999 batch × IsIn 9999 revision × AreBegun candidates 100000 lines
+IsBegunCall candidates (CorrectRevision batch) = IsIn LAST_NUMBER batch
+IsBegunCall candidates (WithdrawRevision batch) = IsIn LAST_NUMBER batch
+IsBegunCall candidates (EnterLines batch lines) = IsIn LAST_NUMBER batch × AreBegun candidates MOST_OF_BATCH lines
+IsBegunCall candidates (CorrectLines batch revision lines) = IsIn LAST_NUMBER batch × IsIn LAST_NUMBER revision × AreBegun candidates MOST_OF_BATCH lines
 IsBegunCall candidates expected = ⊤
 
 -- ---- the teams
@@ -45,7 +46,7 @@ begun_teams (InTeam before script) = flat_map team_items before ++ team_items sc
 begun_teams (WithinCall before script expected) = flat_map team_items before ++ (team_items script ++ begun_call expected)
 
 abbrev pub AreBegunTeams : ℕ → InTeams → Type 0
-AreBegunTeams candidates (TeamNumber before) = AreTeams candidates before × (length before < 16)
+AreBegunTeams candidates (TeamNumber before) = AreTeams candidates before × (length before < MOST_TEAMS)
 AreBegunTeams candidates (InTeam before script) = AreTeams candidates (and_team before script)
 AreBegunTeams candidates (WithinCall before script expected) = AreTeams candidates (and_team before script) × IsBegunCall candidates expected
 

@@ -1,5 +1,6 @@
 -- What a day file says, or why it is refused.
 use Rattle.std.specs.Prelude.{◌≡◌, ◌<◌, ◌≤◌, ℕ, List, true, Result, Ok, Err, IsOk, ◌↔◌, All, AllPairs}
+use Rattle.batch_core.specs.declared.limits.TheConstants.{MOST_TEAMS}
 use Rattle.batch_core.specs.declared.call.Call.{Call}
 use Rattle.batch_core.specs.declared.call.Call.TheVariants.{Change, Freeze, Strike}
 use Rattle.batch_core.specs.Lawful.{IsLawful}
@@ -66,7 +67,7 @@ IsAnswerable candidates (Strike candidate) = (1 ≤ candidate) × (candidate ≤
 
 -- teams numbered from 1 to 16 by rising number, with answerable calls and at most eight freezes
 pub record AreScripts (candidates : ℕ) (scripts : List Script) : Type 0 where
-  pub numbers : All (λ script. (1 ≤ script.team) × (script.team ≤ 16)) scripts
+  pub numbers : All (λ script. (1 ≤ script.team) × (script.team ≤ MOST_TEAMS)) scripts
   pub rising : AllPairs (λ one other. one.team < other.team) scripts
   pub calls : All (λ script. All (IsAnswerable candidates) script.calls) scripts
   pub few_freezes : freezes scripts ≤ 8

@@ -1,5 +1,6 @@
 -- What is expected among the teams, and what an item leads to there.
 use Rattle.std.specs.Prelude.{ℕ, List, [], ◌∷◌, ◌++◌, length, Bool, not, ◌&&◌, ◌==◌, if◌then◌else◌, nat_lt, Ok, Err}
+use Rattle.batch_core.specs.declared.limits.TheConstants.{MOST_TEAMS}
 use Rattle.std.specs.List.{list_any}
 use Rattle.batch_core.specs.declared.call.Call.{Call}
 use Rattle.batch_core.specs.declared.call.Call.TheVariants as call
@@ -26,7 +27,7 @@ stands teams number = list_any (λ script. script.team == number) teams
 
 -- a number from 1 to 16 that no team has
 abbrev pub as_team : List Script → Item → Judged ℕ
-as_team before = as_tested (λ n. is_between 1 16 n && not (stands before n)) BadTeam
+as_team before = as_tested (λ n. is_between 1 MOST_TEAMS n && not (stands before n)) BadTeam
 
 abbrev pub no_calls : ℕ → Script
 no_calls number = record { team = number; calls = [] }
@@ -44,7 +45,7 @@ in_team before script Correct = Ok (GoesOn (WithinCall before script CorrectBatc
 in_team before script Withdraw = Ok (GoesOn (WithinCall before script WithdrawBatch))
 in_team before script Strike = Ok (GoesOn (WithinCall before script StrikeCandidate))
 in_team before script Freeze = if nat_lt (freezes (and_team before script)) 8 then Ok (GoesOn (InTeam before (with_call script call.Freeze))) else Err TooManyFreezes
-in_team before script Team = if nat_lt (length (and_team before script)) 16 then Ok (GoesOn (TeamNumber (and_team before script))) else Err BadTeam
+in_team before script Team = if nat_lt (length (and_team before script)) MOST_TEAMS then Ok (GoesOn (TeamNumber (and_team before script))) else Err BadTeam
 in_team before script End = Ok (Ends (and_team before script))
 in_team before script keyword = Err WordExpected
 

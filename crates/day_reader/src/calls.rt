@@ -10,19 +10,13 @@ ghost use Rattle.day_reader.specs.Reads.{ReadsCall, EndsTeam};
 
 use crate::keyword::Keyword;
 use crate::numbers::read_between;
-use batch_core::{Call, Change};
+use batch_core::{Call, Change, LAST_NUMBER, MOST_OF_BATCH};
 use blt_reader::read_lines;
 use input_text::{FaultKind, InputFault, InputStop, Tokens};
 use std::alloc::Global;
 
 /// At most so many freezes stand in a file.
 const MOST_FREEZES: u32 = 8;
-
-/// A batch has at most this many ballots.
-const MOST_BALLOTS: u32 = 100_000;
-
-/// Batches are numbered from 1 to this, and so are the revisions of a batch.
-const LAST: u32 = 9_999;
 
 /// The call that begins with this word at this place. `frozen` counts the freezes up to it.
 #[tactic(auto, using(input_text::proofs::Reading::behind_trans))]
@@ -55,12 +49,12 @@ fn read_enter(alloc: Global, tokens: &mut Tokens<'_>, candidates: u32) -> Result
     ensures no_freeze { IfOk result (λ call. is_freeze call ≡ false) }
     ensures behind { IsBehind tokens.old tokens.new }
 {
-    let batch = read_between(tokens, 1, LAST, FaultKind::BadBatch)?;
+    let batch = read_between(tokens, 1, LAST_NUMBER, FaultKind::BadBatch)?;
     let ballots = read_lines(
         alloc,
         tokens,
         candidates,
-        MOST_BALLOTS,
+        MOST_OF_BATCH,
         FaultKind::BatchTooLarge,
     )?;
     Ok(Call::Change(Change::Enter { batch, ballots }))
@@ -72,13 +66,13 @@ fn read_correct(alloc: Global, tokens: &mut Tokens<'_>, candidates: u32) -> Resu
     ensures no_freeze { IfOk result (λ call. is_freeze call ≡ false) }
     ensures behind { IsBehind tokens.old tokens.new }
 {
-    let batch = read_between(tokens, 1, LAST, FaultKind::BadBatch)?;
-    let revision = read_between(tokens, 1, LAST, FaultKind::BadRevision)?;
+    let batch = read_between(tokens, 1, LAST_NUMBER, FaultKind::BadBatch)?;
+    let revision = read_between(tokens, 1, LAST_NUMBER, FaultKind::BadRevision)?;
     let ballots = read_lines(
         alloc,
         tokens,
         candidates,
-        MOST_BALLOTS,
+        MOST_OF_BATCH,
         FaultKind::BatchTooLarge,
     )?;
     Ok(Call::Change(Change::Correct {
@@ -94,8 +88,8 @@ fn read_withdraw(tokens: &mut Tokens<'_>) -> Result<Call, InputStop>
     ensures no_freeze { IfOk result (λ call. is_freeze call ≡ false) }
     ensures behind { IsBehind tokens.old tokens.new }
 {
-    let batch = read_between(tokens, 1, LAST, FaultKind::BadBatch)?;
-    let revision = read_between(tokens, 1, LAST, FaultKind::BadRevision)?;
+    let batch = read_between(tokens, 1, LAST_NUMBER, FaultKind::BadBatch)?;
+    let revision = read_between(tokens, 1, LAST_NUMBER, FaultKind::BadRevision)?;
     Ok(Call::Change(Change::Withdraw { batch, revision }))
 }
 

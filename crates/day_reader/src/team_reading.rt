@@ -1,5 +1,6 @@
 // The teams of a day.
 ghost use Rattle.std.specs.Prelude.{◌≡◌, ◌<◌, false, [], Ok, OnOk, IfOk, IfErr};
+ghost use Rattle.batch_core.specs.declared.limits.TheConstants.{MOST_TEAMS};
 ghost use Rattle.input_text.specs.Range.{IsIn};
 ghost use Rattle.input_text.specs.declared.input_stop.InputStop.TheVariants as stop;
 ghost use Rattle.input_text.specs.Judged.{reads};
@@ -13,12 +14,9 @@ use crate::keyword::Keyword;
 use crate::teams::Teams;
 use crate::words::next_keyword;
 use crate::{Script, Scripts};
-use batch_core::{Call, Calls};
+use batch_core::{Call, Calls, MOST_TEAMS};
 use input_text::{FaultKind, InputFault, InputStop, Tokens};
 use std::alloc::Global;
-
-/// At most so many teams stand in a file.
-const MOST_TEAMS: usize = 16;
 
 /// All teams by rising number, up to the end. `team_follows` says whether the word of a first one
 /// was taken, or the end.
@@ -81,13 +79,13 @@ fn read_team(
 #[tactic(auto, using(input_text::proofs::Reading::behind_trans))]
 fn read_number(tokens: &mut Tokens<'_>, before: &Teams) -> Result<u32, InputFault>
     ensures number { IfOk result (λ n. Accepts (as_team before.now) tokens.old.rest n tokens.new.rest) }
-    ensures in_range { IfOk result (IsIn 16) }
+    ensures in_range { IfOk result (IsIn MOST_TEAMS) }
     ensures free { IfOk result (λ n. stands before.now n ≡ false) }
     ensures fault { IfErr result (λ fault. Stops (as_team before.now) tokens.old.rest fault tokens.new.rest) }
     ensures behind { IsBehind tokens.old tokens.new }
 {
     let (n, at) = tokens.next_number()?;
-    if n < 1 || n > 16 || before.has(n) {
+    if n < 1 || n > MOST_TEAMS || before.has(n) {
         return Err(InputFault::new(FaultKind::BadTeam, at));
     }
     Ok(n)
@@ -113,7 +111,7 @@ fn read_calls(
         let (keyword, at) = next_keyword(tokens)?;
         match keyword {
             Keyword::Team => {
-                if before.len() >= MOST_TEAMS - 1 {
+                if before.len() >= MOST_TEAMS as usize - 1 {
                     return Err(InputStop::refused(FaultKind::BadTeam, at));
                 }
                 return Ok(true);

@@ -1,5 +1,6 @@
 // Teams that a day file has named.
 ghost use Rattle.std.specs.Prelude.{◌≡◌, ◌<◌, false, [], length, IfOk, IfErr, OnOk};
+ghost use Rattle.batch_core.specs.declared.limits.TheConstants.{MOST_TEAMS};
 ghost use Rattle.input_text.specs.Range.{IsIn};
 ghost use Rattle.input_text.specs.declared.input_stop.InputStop.TheVariants as stop;
 ghost use Rattle.day_reader.specs.Call.{freezes};
@@ -21,6 +22,7 @@ pub(crate) struct Teams {
 
 impl Model for Teams {
     ghost use Rattle.std.specs.Prelude.{◌≡◌, List};
+    ghost use Rattle.batch_core.specs.declared.limits.TheConstants.{MOST_TEAMS};
     ghost use Rattle.day_reader.specs.declared.script.Script.{Script};
     ghost use Rattle.day_reader.specs.Call.{freezes};
     ghost use Rattle.day_reader.specs.Day.{AreDifferent};
@@ -30,7 +32,7 @@ impl Model for Teams {
 
     ghost view = { λ t. t.scripts };
 
-    ghost invariant = { λ t. AreDifferent 16 (team_numbers t.scripts) × (t.frozen ≡ freezes t.scripts) };
+    ghost invariant = { λ t. AreDifferent MOST_TEAMS (team_numbers t.scripts) × (t.frozen ≡ freezes t.scripts) };
 }
 
 impl Teams {
@@ -67,7 +69,7 @@ impl Teams {
 
     /// Adds a team; `frozen` counts the freezes of all teams then.
     pub(crate) fn push(&mut self, script: Script, frozen: u32) -> Result<(), InputStop>
-        requires number { IsIn 16 script.team }
+        requires number { IsIn MOST_TEAMS script.team }
         requires new { stands self.old script.team ≡ false }
         requires counted { frozen ≡ freezes (and_team self.old script) }
         ensures ok { OnOk result (self.new ≡ and_team self.old script) }

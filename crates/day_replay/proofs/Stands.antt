@@ -16,7 +16,7 @@ use Rattle.batch_core.specs.Lawful.{MayStep, AreLawful}
 use Rattle.batch_core.proofs.LawfulLemmas.{standing_total, kept_all}
 use Rattle.frozen_plan.specs.Plan.{PlanRows, all_ballots}
 use Rattle.day_reader.specs.Said.{IsAnswerable}
-use Rattle.day_replay.specs.declared.limits.TheConstants.{MOST_STANDING}
+use Rattle.batch_core.specs.declared.limits.TheConstants.{MOST_STANDING}
 
 -- ---- calls that an office of so many candidates answers
 

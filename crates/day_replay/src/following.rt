@@ -1,5 +1,6 @@
 // A text that is followed, call by call.
 ghost use Rattle.std.specs.Prelude.{◌≡◌, ◌+◌, ◌≤◌, [], ◌++◌, List, ℕ, IfOk, OnOk, length};
+ghost use Rattle.batch_core.specs.declared.limits.TheConstants.{MOST_TEAMS};
 ghost use Rattle.plain_ballots.specs.declared.limits.TheConstants.{MOST_CANDIDATES};
 ghost use Rattle.batch_core.specs.declared.entry.Entry.{Entry};
 ghost use Rattle.day_reader.specs.declared.script.Script.{Script};
@@ -61,10 +62,10 @@ fn follow_lines(
     text: &[u8],
 ) -> Result<(), NoMemory>
     requires begins { replay.old.history ≡ [] }
-    requires teams { length left.old.teams.items ≡ 16 }
+    requires teams { length left.old.teams.items ≡ MOST_TEAMS }
     requires answerable { AreAnswerable replay.old.candidates left.old.teams.items }
     ensures candidates { OnOk result (replay.new.candidates ≡ replay.old.candidates) }
-    ensures teams { OnOk result (length left.new.teams.items ≡ 16) }
+    ensures teams { OnOk result (length left.new.teams.items ≡ MOST_TEAMS) }
     ensures answerable { OnOk result (AreAnswerable replay.new.candidates left.new.teams.items) }
     ensures way { OnOk result ((scripts : List Script) → IsUnderWay scripts left.old.teams.items replay.old.history
         → IsUnderWay scripts left.new.teams.items replay.new.history) }
@@ -82,7 +83,7 @@ fn follow_lines(
 
 /// Makes all calls that are left, one team after the other.
 fn make_the_rest(alloc: Global, replay: &mut Replay, left: &mut Left) -> Result<(), NoMemory>
-    requires teams { length left.old.teams.items ≡ 16 }
+    requires teams { length left.old.teams.items ≡ MOST_TEAMS }
     requires answerable { AreAnswerable replay.old.candidates left.old.teams.items }
     ensures candidates { OnOk result (replay.new.candidates ≡ replay.old.candidates) }
     ensures way { OnOk result ((scripts : List Script) → IsUnderWay scripts left.old.teams.items replay.old.history
@@ -98,12 +99,12 @@ fn make_the_rest(alloc: Global, replay: &mut Replay, left: &mut Left) -> Result<
 
 /// Makes the next call of a team that has calls left.
 fn make(alloc: Global, replay: &mut Replay, left: &mut Left, team: u32) -> Result<(), NoMemory>
-    requires teams { length left.old.teams.items ≡ 16 }
-    requires team { (1 ≤ team) × (team ≤ 16) }
+    requires teams { length left.old.teams.items ≡ MOST_TEAMS }
+    requires team { (1 ≤ team) × (team ≤ MOST_TEAMS) }
     requires some { 1 ≤ length (left_of left.old.teams.items team) }
     requires answerable { AreAnswerable replay.old.candidates left.old.teams.items }
     ensures candidates { OnOk result (replay.new.candidates ≡ replay.old.candidates) }
-    ensures teams { OnOk result (length left.new.teams.items ≡ 16) }
+    ensures teams { OnOk result (length left.new.teams.items ≡ MOST_TEAMS) }
     ensures answerable { OnOk result (AreAnswerable replay.new.candidates left.new.teams.items) }
     ensures way { OnOk result ((scripts : List Script) → IsUnderWay scripts left.old.teams.items replay.old.history
         → IsUnderWay scripts left.new.teams.items replay.new.history) }

@@ -1,13 +1,13 @@
 // What stood after a freeze.
 ghost use Rattle.std.specs.Prelude.{◌≡◌, ◌≤◌, All, length};
 ghost use Rattle.frozen_plan.specs.Plan.{all_ballots};
-ghost use Rattle.day_replay.specs.declared.limits.TheConstants.{MOST_STANDING};
+ghost use Rattle.batch_core.specs.declared.limits.TheConstants.{MOST_STANDING};
 
 use frozen_plan::Plans;
 use std::marker::Model;
 
 /// What stood after a freeze, as plans of so many candidates, who was struck until then, and the freeze's
-/// place in the history. Its ballots are at most [`MOST_STANDING`], few enough for a count.
+/// place in the history. Its ballots are at most [`batch_core::MOST_STANDING`], few enough for a count.
 #[derive(Debug, Drop)]
 pub struct Frozen {
     pub(crate) at: u64,
@@ -20,7 +20,7 @@ impl Model for Frozen {
     ghost use Rattle.std.specs.Prelude.{◌≡◌, ◌≤◌, All, length};
     ghost use Rattle.frozen_plan.specs.Plan.{all_ballots};
     ghost use Rattle.shard_office.specs.Versions.{VersionState};
-    ghost use Rattle.day_replay.specs.declared.limits.TheConstants.{MOST_STANDING};
+    ghost use Rattle.batch_core.specs.declared.limits.TheConstants.{MOST_STANDING};
 
     ghost Value = { VersionState };
 

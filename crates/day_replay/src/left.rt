@@ -1,15 +1,13 @@
 // The calls that are left of a day's scripts.
 ghost use Rattle.std.specs.Prelude.{◌≡◌, ◌≢◌, ◌≤◌, [], ◌++◌, All, IfOk, OnOk, IsTrue, ◌↔◌, MatchOption, length, replicate, reverse, ℕ};
+ghost use Rattle.batch_core.specs.declared.limits.TheConstants.{MOST_TEAMS};
 ghost use Rattle.team_run.specs.Endings.{calls_in};
 ghost use Rattle.day_replay.specs.Calls.{IsTaken, left_of};
 
 use crate::NoMemory;
-use batch_core::{Call, Calls};
+use batch_core::{Call, Calls, MOST_TEAMS};
 use day_reader::Scripts;
 use std::alloc::Global;
-
-/// Teams are numbered from 1 to this.
-const TEAMS: u32 = 16;
 
 /// The calls that each team has still to make, those of team t at index t - 1. Each list stands from its
 /// end, so that the next call is the last.
@@ -21,8 +19,8 @@ pub(crate) struct Left {
 impl Left {
     /// All calls of these scripts.
     pub fn of(alloc: Global, mut scripts: Scripts) -> Result<Left, NoMemory>
-        requires { All (λ script. (1 ≤ script.team) × (script.team ≤ 16)) scripts }
-        ensures teams { IfOk result (λ left. length left.teams.items ≡ 16) }
+        requires { All (λ script. (1 ≤ script.team) × (script.team ≤ MOST_TEAMS)) scripts }
+        ensures teams { IfOk result (λ left. length left.teams.items ≡ MOST_TEAMS) }
         ensures calls { IfOk result (λ left. (team : ℕ) → 1 ≤ team → left_of left.teams.items team ≡ calls_in scripts team) }
     {
         let mut teams = no_calls(alloc)?;
@@ -34,8 +32,8 @@ impl Left {
 
     /// Whether a team has calls left.
     pub fn has(&self, team: u32) -> bool
-        requires teams { length self.now.teams.items ≡ 16 }
-        requires team { (1 ≤ team) × (team ≤ 16) }
+        requires teams { length self.now.teams.items ≡ MOST_TEAMS }
+        requires team { (1 ≤ team) × (team ≤ MOST_TEAMS) }
         ensures { IsTrue result ↔ (1 ≤ length (left_of self.now.teams.items team)) }
     {
         self.teams[team as usize - 1].len() > 0
@@ -43,12 +41,12 @@ impl Left {
 
     /// The first team that has calls left.
     pub fn first(&self) -> Option<u32>
-        requires { length self.now.teams.items ≡ 16 }
+        requires { length self.now.teams.items ≡ MOST_TEAMS }
         ensures { MatchOption result
             ((team : ℕ) → 1 ≤ team → left_of self.now.teams.items team ≡ [])
-            (λ team. (1 ≤ team) × (team ≤ 16) × (1 ≤ length (left_of self.now.teams.items team))) }
+            (λ team. (1 ≤ team) × (team ≤ MOST_TEAMS) × (1 ≤ length (left_of self.now.teams.items team))) }
     {
-        for place in 0..TEAMS {
+        for place in 0..MOST_TEAMS {
             if self.has(place + 1) {
                 return Some(place + 1);
             }
@@ -58,8 +56,8 @@ impl Left {
 
     /// Takes the next call of a team that has calls left.
     pub fn take(&mut self, team: u32) -> Call
-        requires teams { length self.old.teams.items ≡ 16 }
-        requires team { (1 ≤ team) × (team ≤ 16) }
+        requires teams { length self.old.teams.items ≡ MOST_TEAMS }
+        requires team { (1 ≤ team) × (team ≤ MOST_TEAMS) }
         requires some { 1 ≤ length (left_of self.old.teams.items team) }
         ensures { IsTaken team result self.old.teams.items self.new.teams.items }
     {
@@ -84,10 +82,10 @@ fn put_behind(list: &mut Calls, mut calls: Calls) -> Result<(), NoMemory>
 
 /// No calls for each team.
 fn no_calls(alloc: Global) -> Result<Vec<Calls>, NoMemory>
-    ensures { IfOk result (λ teams. teams.items ≡ replicate 16 []) }
+    ensures { IfOk result (λ teams. teams.items ≡ replicate MOST_TEAMS []) }
 {
     let mut teams = Vec::new(alloc);
-    for _ in 0..TEAMS {
+    for _ in 0..MOST_TEAMS {
         teams.push(Calls::new(alloc))?;
     }
     Ok(teams)

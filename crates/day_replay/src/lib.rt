@@ -7,7 +7,6 @@
 mod following;
 mod frozen;
 mod left;
-mod limits;
 mod lines;
 mod no_memory;
 mod replay;
@@ -15,6 +14,5 @@ mod worked;
 
 pub use following::{Followed, follow};
 pub use frozen::Frozen;
-pub use limits::MOST_STANDING;
 pub use no_memory::NoMemory;
 pub use worked::worked_calls;

@@ -1,10 +1,12 @@
 // The lines of a text, and who called by them.
 ghost use Rattle.std.specs.Prelude.{◌≡◌, ◌≢◌, [], ◌++◌, ◌≤◌, ℕ, List, IsTrue, false, ◌↔◌, MatchOption, length};
+ghost use Rattle.batch_core.specs.declared.limits.TheConstants.{MOST_TEAMS};
 ghost use Rattle.sheet_check.specs.Difference.{behind_line, first_line};
 ghost use Rattle.day_replay.specs.Saying.{BeginsWith, Says};
 ghost use Rattle.day_replay.specs.Calls.{left_of};
 
 use crate::left::Left;
+use batch_core::MOST_TEAMS;
 use line_text::Line;
 
 /// The first line of a text, with its line feed, and what stands behind it.
@@ -23,10 +25,10 @@ pub(crate) fn next_line(text: &[u8]) -> (&[u8], &[u8])
 /// The team with calls left that has made the n-th call, by the line of this call.
 #[tactic(auto, using(crate::proofs::Rooms::rooms))]
 pub(crate) fn team_said(line: &[u8], n: u64, left: &Left) -> Option<u32>
-    requires { length left.now.teams.items ≡ 16 }
+    requires { length left.now.teams.items ≡ MOST_TEAMS }
     ensures { MatchOption result
         ((team : ℕ) → 1 ≤ team → Says n team line.now → left_of left.now.teams.items team ≡ [])
-        (λ team. (1 ≤ team) × (team ≤ 16) × Says n team line.now × (1 ≤ length (left_of left.now.teams.items team))) }
+        (λ team. (1 ≤ team) × (team ≤ MOST_TEAMS) × Says n team line.now × (1 ≤ length (left_of left.now.teams.items team))) }
 {
     let mut front = Line::new();
     front.push_count(n);
@@ -34,7 +36,7 @@ pub(crate) fn team_said(line: &[u8], n: u64, left: &Left) -> Option<u32>
     let Some(rest) = behind(line, front.bytes()) else {
         return None;
     };
-    for place in 0..16 {
+    for place in 0..MOST_TEAMS {
         if is_next(rest, place + 1, left) {
             return Some(place + 1);
         }
@@ -44,8 +46,8 @@ pub(crate) fn team_said(line: &[u8], n: u64, left: &Left) -> Option<u32>
 
 /// Whether a team has calls left, and a text begins with its number.
 fn is_next(text: &[u8], team: u32, left: &Left) -> bool
-    requires teams { length left.now.teams.items ≡ 16 }
-    requires team { (1 ≤ team) × (team ≤ 16) }
+    requires teams { length left.now.teams.items ≡ MOST_TEAMS }
+    requires team { (1 ≤ team) × (team ≤ MOST_TEAMS) }
     ensures named { IsTrue result → BeginsWith team text.now × (1 ≤ length (left_of left.now.teams.items team)) }
     ensures other { result ≡ false → BeginsWith team text.now → left_of left.now.teams.items team ≡ [] }
 {

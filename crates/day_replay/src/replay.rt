@@ -8,7 +8,7 @@ ghost use Rattle.day_reader.specs.Call.{is_freeze};
 ghost use Rattle.day_reader.specs.Said.{IsAnswerable};
 ghost use Rattle.meek_cli.specs.Frozen.{AreFrozen};
 ghost use Rattle.day_replay.specs.Replay.{IsLedOn, IsStanding};
-ghost use Rattle.day_replay.specs.declared.limits.TheConstants.{MOST_STANDING};
+ghost use Rattle.batch_core.specs.declared.limits.TheConstants.{MOST_STANDING};
 
 use crate::NoMemory;
 use crate::frozen::Frozen;

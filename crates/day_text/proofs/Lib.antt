@@ -12,9 +12,7 @@ mod FormLaws
 mod Printed
 mod Endings
 mod WorkedDays
-mod StandingRankings
 mod ScriptCalls
 mod SaidReplies
-mod PrintedNames
 mod FileTerms
 mod OwedDays

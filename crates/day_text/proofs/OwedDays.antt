@@ -1,5 +1,5 @@
 -- The history of a day file's teams may be printed, so that the text that is owed of it is read back.
-use Rattle.std.proofs.Common.{ℕ, List, All, length, sym, subst}
+use Rattle.std.proofs.Common.{ℕ, true, List, All, length, sym, subst}
 use Rattle.plain_ballots.specs.Ballots.{plain}
 use Rattle.meek_count.specs.Laws.{IsElection}
 use Rattle.batch_core.specs.declared.entry.Entry.{Entry}
@@ -14,10 +14,10 @@ use Rattle.meek_cli.proofs.TermsLemmas.{still_a_roll}
 use Rattle.day_text.specs.Written.{MayBePrinted, HistoriesHaveTheForm, HistoriesAreReadBack}
 use Rattle.day_text.specs.Owed.{OwedTextsHaveTheForm, OwedTextsAreReadBack}
 use Rattle.day_text.proofs.FileTerms.{IsInScale, in_scale, order_of}
-use Rattle.day_text.proofs.PrintedNames.{printed_roll}
+use Rattle.day_reader.proofs.RollNames.{printed_roll}
 use Rattle.day_text.proofs.SaidReplies.{said_history}
 use Rattle.day_text.proofs.ScriptCalls.{IsAsked, each_call}
-use Rattle.day_text.proofs.StandingRankings.{rankings, not_too_many}
+use Rattle.day_reader.proofs.CallRankings.{rankings, not_too_many}
 
 module _ (input : List ℕ) (day : Day) (history : List Entry) (says : SaysDay input day)
     (whole : IsHistoryOf day.scripts history) where
@@ -41,7 +41,7 @@ module _ (input : List ℕ) (day : Day) (history : List Entry) (says : SaysDay i
       → IsElection day.places day.omega (plain (standing_after history n))
       (roll_with day.roll (struck_after history n)) day.lots
   election n =
-      let roll = printed_roll input day says.file in
+      let roll = printed_roll input true day says.file in
       let few = roll.sound.few_candidates in
       record {
         places_from = counted_so.least_places;
@@ -57,11 +57,11 @@ module _ (input : List ℕ) (day : Day) (history : List Entry) (says : SaysDay i
 
   pub may_be_printed : MayBePrinted (terms_of day) history
   may_be_printed =
-      let roll = printed_roll input day says.file in
+      let roll = printed_roll input true day says.file in
       record {
         calls = said_history candidates roll.sound.few_candidates history asked whole.legal;
         ends = whole.ends;
-        names = roll.named;
+        names = record { title = roll.title; names = roll.names };
         elections = election;
       }
 

@@ -21,7 +21,7 @@ use Rattle.day_reader.specs.Call.{IsCall}
 use Rattle.day_text.specs.Said.{IsSaidCall, IsSaidEntry, IsSaidReply}
 use Rattle.day_text.specs.Without.{call_without, entry_without, without_ballots}
 use Rattle.day_text.proofs.ScriptCalls.{IsAsked}
-use Rattle.day_text.proofs.StandingRankings.{may_step}
+use Rattle.day_reader.proofs.CallRankings.{may_step}
 
 -- ---- one reply
 

@@ -11,7 +11,7 @@ use Rattle.day_reader.specs.Call.{IsCall}
 use Rattle.day_reader.specs.Day.{AreTeams, by_number}
 use Rattle.meek_cli.specs.DayHistory.{IsHistoryOf}
 use Rattle.meek_cli.proofs.HistoryCalls.{all_callers, each_caller}
-use Rattle.day_text.proofs.StandingRankings.{all_flat}
+use Rattle.day_reader.proofs.CallRankings.{all_flat}
 
 -- scripts by rising number are the same scripts
 by_number_same : (Q : Script → Type 0) (teams : List Script) → All Q teams → All Q (by_number teams)

@@ -1,5 +1,6 @@
 -- What stands in the end of a history, by its calls alone.
 use Rattle.std.specs.Prelude.{◌≡◌, ℕ, ◌≤◌, ◌-◌, ⊤, List, [], ◌∷◌, All, Option, Some, None, is_some, length, slice_index_or}
+use Rattle.batch_core.specs.declared.limits.TheConstants.{LAST_NUMBER}
 use Rattle.std.specs.List.{flat_map, range_with_len}
 use Rattle.batch_core.specs.declared.batch.Batch.{Batch}
 use Rattle.batch_core.specs.declared.entry.Entry.{Entry}
@@ -39,14 +40,14 @@ day_end history = end_of (after_all empty history)
 -- the revision is one that a batch may have
 abbrev pub IsRevised : Option BatchEnd → Type 0
 IsRevised None = ⊤
-IsRevised (Some end) = end.revision ≤ 9999
+IsRevised (Some end) = end.revision ≤ LAST_NUMBER
 
 -- a table of all batch numbers: that of batch b stands at index b - 1
 pub record IsTable (table : List (Option BatchEnd)) : Type 0 where
-  pub long : length table ≡ 9999
+  pub long : length table ≡ LAST_NUMBER
   pub revised : All IsRevised table
 
 -- the table and the struck candidates are those of a book
 pub record Follows (table : List (Option BatchEnd)) (struck : List ℕ) (book : BookState) : Type 0 where
-  pub batches : (number : ℕ) → 1 ≤ number → number ≤ 9999 → slice_index_or table (number - 1) None ≡ batch_end number (book.batches number)
+  pub batches : (number : ℕ) → 1 ≤ number → number ≤ LAST_NUMBER → slice_index_or table (number - 1) None ≡ batch_end number (book.batches number)
   pub struck_are : struck ≡ book.struck

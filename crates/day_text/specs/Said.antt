@@ -1,5 +1,6 @@
 -- What the line of an answered call may say. Whether the reply is that to the call is not asked.
 use Rattle.std.specs.Prelude.{◌≡◌, ◌≤◌, ⊤}
+use Rattle.batch_core.specs.declared.limits.TheConstants.{MOST_TEAMS}
 use Rattle.candidate_roll.specs.Roll.{IsFew}
 use Rattle.batch_core.specs.declared.change.Change.{Change}
 use Rattle.batch_core.specs.declared.change.Change.TheVariants.{Enter, Correct, Withdraw}
@@ -34,6 +35,6 @@ IsSaidReply reply = ⊤
 
 -- an answered call as its line says it: the clerk is 0, and teams are numbered from 1 to 16
 pub record IsSaidEntry (e : Entry) : Type 0 where
-  pub caller : e.caller ≤ 16
+  pub caller : e.caller ≤ MOST_TEAMS
   pub call : IsSaidCall e.call
   pub reply : IsSaidReply e.reply

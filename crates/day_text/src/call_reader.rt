@@ -1,5 +1,6 @@
 // Calls and replies in a line.
 ghost use Rattle.std.specs.Prelude.{◌≡◌, ◌≢◌, ◌≤◌, ◌++◌, ◌∷◌, ℕ, List, MatchOption};
+ghost use Rattle.batch_core.specs.declared.limits.TheConstants.{MOST_TEAMS};
 ghost use Rattle.batch_core.specs.declared.change.Change.{Change as Changes};
 ghost use Rattle.batch_core.specs.declared.call.Call.{Call as Calls};
 ghost use Rattle.batch_core.specs.declared.reply.Reply.{Reply as Replies};
@@ -10,26 +11,20 @@ ghost use Rattle.day_text.specs.Parts.{IsWordOnly, revised_text};
 
 use crate::cut::{is_same, strip};
 use crate::number::{last_number, numbered};
-use batch_core::{Call, Change, Reply};
+use batch_core::{Call, Change, LAST_NUMBER, MOST_TEAMS, Reply};
 use plain_ballots::{Ballots, MOST_CANDIDATES};
 use std::alloc::Global;
-
-/// Batches are numbered from 1 to this, and so are the revisions of a batch.
-const LAST: u32 = 9_999;
-
-/// Teams are numbered from 1 to this.
-const TEAMS: u32 = 16;
 
 /// Who calls, and what stands behind the space that follows.
 pub(crate) fn read_caller(text: &[u8]) -> Option<(u32, &[u8])>
     ensures { MatchOption result
-        ((caller : ℕ) (rest : List ℕ) → caller ≤ 16 → text.now ≢ caller_text caller ++ 32 ∷ rest)
-        (λ read. (read.0 ≤ 16) × (text.now ≡ caller_text read.0 ++ 32 ∷ read.1.now)) }
+        ((caller : ℕ) (rest : List ℕ) → caller ≤ MOST_TEAMS → text.now ≢ caller_text caller ++ 32 ∷ rest)
+        (λ read. (read.0 ≤ MOST_TEAMS) × (text.now ≡ caller_text read.0 ++ 32 ∷ read.1.now)) }
 {
     if let Some(rest) = strip(text, b"clerk ") {
         return Some((0, rest));
     }
-    numbered(text, b"team ", TEAMS)
+    numbered(text, b"team ", MOST_TEAMS)
 }
 
 /// A call, without ballots, and what stands behind the space that follows.
@@ -56,7 +51,7 @@ fn read_change(alloc: Global, text: &[u8]) -> Option<(Change, &[u8])>
         ((change : Changes) (rest : List ℕ) → IsSaidChange change → text.now ≢ change_text change ++ 32 ∷ rest)
         (λ read. IsSaidChange read.0 × (text.now ≡ change_text read.0 ++ 32 ∷ read.1.now)) }
 {
-    if let Some((batch, rest)) = numbered(text, b"enter ", LAST) {
+    if let Some((batch, rest)) = numbered(text, b"enter ", LAST_NUMBER) {
         let ballots = Ballots::new(alloc, 0);
         return Some((Change::Enter { batch, ballots }, rest));
     }
@@ -83,10 +78,10 @@ fn revised<'a>(text: &'a [u8], word: &[u8]) -> Option<(u32, u32, &'a [u8])>
         → text.now ≢ revised_text word.now batch revision rest)
         (λ read. IsInRange read.0 × IsInRange read.1 × (text.now ≡ revised_text word.now read.0 read.1 read.2.now)) }
 {
-    let Some((batch, behind)) = numbered(text, word, LAST) else {
+    let Some((batch, behind)) = numbered(text, word, LAST_NUMBER) else {
         return None;
     };
-    match numbered(behind, b"", LAST) {
+    match numbered(behind, b"", LAST_NUMBER) {
         Some((revision, rest)) => Some((batch, revision, rest)),
         None => None,
     }
@@ -98,19 +93,19 @@ pub(crate) fn read_reply(text: &[u8]) -> Option<Reply>
         ((reply : Replies) → IsSaidReply reply → text.now ≢ reply_text reply)
         (λ reply. IsSaidReply reply × (text.now ≡ reply_text reply)) }
 {
-    if let Some(revision) = last_number(text, b"corrected ", LAST) {
+    if let Some(revision) = last_number(text, b"corrected ", LAST_NUMBER) {
         return Some(Reply::Corrected(revision));
     }
-    if let Some(revision) = last_number(text, b"withdrawn ", LAST) {
+    if let Some(revision) = last_number(text, b"withdrawn ", LAST_NUMBER) {
         return Some(Reply::Withdrawn(revision));
     }
-    if let Some(revision) = last_number(text, b"exists ", LAST) {
+    if let Some(revision) = last_number(text, b"exists ", LAST_NUMBER) {
         return Some(Reply::Exists(revision));
     }
-    if let Some(revision) = last_number(text, b"gone ", LAST) {
+    if let Some(revision) = last_number(text, b"gone ", LAST_NUMBER) {
         return Some(Reply::Gone(revision));
     }
-    if let Some(revision) = last_number(text, b"stale ", LAST) {
+    if let Some(revision) = last_number(text, b"stale ", LAST_NUMBER) {
         return Some(Reply::Stale(revision));
     }
     read_word(text)

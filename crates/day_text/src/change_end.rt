@@ -1,14 +1,12 @@
 // What a change makes of a batch.
 ghost use Rattle.std.specs.Prelude.{◌≡◌, ◌≤◌, ◌+◌, ℕ, Option, Some, None, is_none, true, false};
+ghost use Rattle.batch_core.specs.declared.limits.TheConstants.{LAST_NUMBER};
 ghost use Rattle.batch_core.specs.declared.batch.Batch.{Batch};
 ghost use Rattle.batch_core.specs.Book.{batch_of, change_after, change_reply, refusal};
 ghost use Rattle.day_text.specs.End.{IsRevised, batch_end};
 
 use crate::BatchEnd;
-use batch_core::Change;
-
-/// No change raises the revision above this.
-const LAST_REVISION: u32 = 9_999;
+use batch_core::{Change, LAST_NUMBER};
 
 /// What became of a batch by a change of it, with what became of it before.
 pub(crate) fn changed(kept: Option<BatchEnd>, change: &Change) -> Option<BatchEnd>
@@ -41,8 +39,8 @@ fn entered(change: &Change) -> Option<BatchEnd>
 
 /// What becomes of a batch that was entered.
 fn renewed(end: BatchEnd, change: &Change) -> BatchEnd
-    requires { end.revision ≤ 9999 }
-    ensures revised { result.revision ≤ 9999 }
+    requires { end.revision ≤ LAST_NUMBER }
+    ensures revised { result.revision ≤ LAST_NUMBER }
     ensures after { (batch : Batch) → Some end ≡ batch_end (batch_of change.now) (Some batch)
         → Some result ≡ batch_end (batch_of change.now) (change_after (Some batch) change.now (change_reply (Some batch) change.now)) }
 {
@@ -56,8 +54,8 @@ fn renewed(end: BatchEnd, change: &Change) -> BatchEnd
 /// The batch at its next revision, standing or gone, where a change that names this revision is carried out; else the
 /// batch as it was.
 fn next(end: BatchEnd, revision: u32, stands: bool) -> BatchEnd
-    requires { end.revision ≤ 9999 }
-    ensures revised { result.revision ≤ 9999 }
+    requires { end.revision ≤ LAST_NUMBER }
+    ensures revised { result.revision ≤ LAST_NUMBER }
     ensures refused { (number : ℕ) (batch : Batch) → Some end ≡ batch_end number (Some batch) → is_none (refusal batch revision) ≡ false → result ≡ end }
     ensures carried_out { (number : ℕ) (batch : Batch) → Some end ≡ batch_end number (Some batch) → is_none (refusal batch revision) ≡ true
         → result ≡ record { number = end.number; revision = end.revision + 1; stands = stands } }
@@ -68,7 +66,7 @@ fn next(end: BatchEnd, revision: u32, stands: bool) -> BatchEnd
     if revision != end.revision {
         return end;
     }
-    if end.revision == LAST_REVISION {
+    if end.revision == LAST_NUMBER {
         return end;
     }
     BatchEnd {

@@ -1,16 +1,14 @@
 // What stands after the calls of a history.
 ghost use Rattle.std.specs.Prelude.{◌≡◌, ◌≤◌, ◌++◌, ℕ, IfOk, None, OnOk, replicate};
+ghost use Rattle.batch_core.specs.declared.limits.TheConstants.{LAST_NUMBER};
 ghost use Rattle.batch_core.specs.declared.call.Call.TheVariants as call;
 ghost use Rattle.batch_core.specs.Book.{BookState, after, empty, strike};
 ghost use Rattle.day_text.specs.End.{Follows, IsTable, day_end, end_of, if_any};
 
 use crate::change_end::changed;
 use crate::{BatchEnd, DayEnd};
-use batch_core::{Call, Change, Entries, NoMemory, a_book_answers_a_history};
+use batch_core::{Call, Change, Entries, LAST_NUMBER, NoMemory, a_book_answers_a_history};
 use std::alloc::Global;
-
-/// Batches are numbered from 1 to this.
-const LAST: u32 = 9_999;
 
 /// What stands in the end of a history: for each batch its last revision, and who is struck. A change of a batch
 /// beyond the last is passed over.
@@ -72,7 +70,7 @@ impl Ending {
         if batch < 1 {
             return;
         }
-        if batch > LAST {
+        if batch > LAST_NUMBER {
             return;
         }
         let place = batch as usize - 1;
@@ -101,7 +99,7 @@ impl Ending {
     {
         let Ending { table, struck } = self;
         let mut batches = Vec::new(alloc);
-        for at in 0..LAST as usize {
+        for at in 0..LAST_NUMBER as usize {
             push_any(&mut batches, table[at])?;
         }
         Ok(DayEnd { batches, struck })
@@ -110,10 +108,10 @@ impl Ending {
 
 /// A table in which no batch was entered.
 fn none_entered(alloc: Global) -> Result<Vec<Option<BatchEnd>>, NoMemory>
-    ensures { IfOk result (λ table. table.items ≡ replicate 9999 None) }
+    ensures { IfOk result (λ table. table.items ≡ replicate LAST_NUMBER None) }
 {
     let mut table = Vec::new(alloc);
-    for _ in 0..LAST {
+    for _ in 0..LAST_NUMBER {
         let Ok(()) = table.push(None) else {
             return Err(NoMemory);
         };

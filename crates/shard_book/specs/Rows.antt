@@ -1,5 +1,6 @@
 -- What a row of a shard's index says of a batch: its revision, and the place of the entry whose ballots stand.
 use Rattle.std.specs.Prelude.{◌≡◌, ℕ, ◌≤◌, List, [], Option, Some, None, is_some, IfSome, slice_get, option_map}
+use Rattle.batch_core.specs.declared.limits.TheConstants.{LAST_NUMBER}
 use Rattle.plain_ballots.specs.declared.ballot_line.BallotLine.{BallotLine}
 use Rattle.plain_ballots.specs.Ballots.{BallotList}
 use Rattle.batch_core.specs.declared.batch.Batch.{Batch}
@@ -36,7 +37,7 @@ kept_by entries row = record { revision = row.revision; standing = ballots_at en
 
 -- the row's revision is in bounds, and its place, if it has one, is that of an entry with ballots
 abbrev pub IsRow : List Entry → Row → Type 0
-IsRow entries row = (row.revision ≤ 9999) × (is_some (ballots_at entries row.place) ≡ is_some row.place)
+IsRow entries row = (row.revision ≤ LAST_NUMBER) × (is_some (ballots_at entries row.place) ≡ is_some row.place)
 
 -- some batch with the row's revision, which stands where the row has a place
 abbrev pub outline : Row → Batch

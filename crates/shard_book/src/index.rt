@@ -1,5 +1,6 @@
 // The index of a shard's batches.
 ghost use Rattle.std.specs.Prelude.{◌≡◌, ℕ, ◌≤◌, ◌==◌, if◌then◌else◌, nat_eq, option_map, IfSome};
+ghost use Rattle.batch_core.specs.declared.limits.TheConstants.{LAST_NUMBER};
 ghost use Rattle.indexmap.specs.IndexMap.{get, spare};
 ghost use Rattle.batch_core.specs.Book.{batch_of, change_reply};
 ghost use Rattle.shard_book.specs.Rows.{outline, index_after, standing_place};
@@ -21,7 +22,7 @@ pub(crate) fn standing_place(index: &IndexMap<u32, Row>, batch: u32) -> Option<u
 /// Answers a change, whose entry comes to this place, and notes it.
 pub(crate) fn answer(index: &mut IndexMap<u32, Row>, change: &Change, place: usize) -> Reply
     requires room { 1 ≤ spare index.old }
-    requires rows { IfSome (get nat_eq index.old (batch_of change.now)) (λ row. row.revision ≤ 9999) }
+    requires rows { IfSome (get nat_eq index.old (batch_of change.now)) (λ row. row.revision ≤ LAST_NUMBER) }
     ensures answered { result
         ≡ change_reply (option_map outline (get nat_eq index.old (batch_of change.now))) change.now }
     ensures index { (b : ℕ) → get nat_eq index.new b

@@ -1,12 +1,10 @@
 // What the index has of a batch.
 ghost use Rattle.std.specs.Prelude.{◌≡◌, ◌≤◌, Some};
+ghost use Rattle.batch_core.specs.declared.limits.TheConstants.{LAST_NUMBER};
 ghost use Rattle.batch_core.specs.Book.{refusal, change_reply};
 ghost use Rattle.shard_book.specs.Rows.{outline, row_after};
 
-use batch_core::{Change, Reply};
-
-/// No change raises the revision above this.
-const LAST_REVISION: u32 = 9_999;
+use batch_core::{Change, LAST_NUMBER, Reply};
 
 /// A batch that was entered: its revision, and the place of the entry whose ballots stand, or none
 /// where the batch is gone.
@@ -19,7 +17,7 @@ pub(crate) struct Row {
 impl Row {
     /// Answers a change of this batch, whose entry comes to this place.
     pub(crate) fn change(&mut self, change: &Change, place: usize) -> Reply
-        requires { self.old.revision ≤ 9999 }
+        requires { self.old.revision ≤ LAST_NUMBER }
         ensures answered { result ≡ change_reply (Some (outline self.old)) change.now }
         ensures row { self.new ≡ row_after self.old result place }
     {
@@ -54,7 +52,7 @@ impl Row {
         if revision != self.revision {
             return Some(Reply::Stale(self.revision));
         }
-        if self.revision == LAST_REVISION {
+        if self.revision == LAST_NUMBER {
             return Some(Reply::Spent);
         }
         None

@@ -1,12 +1,13 @@
 // What stood after a freeze.
 ghost use Rattle.std.specs.Prelude.{◌≡◌, ◌≤◌, All, length};
+ghost use Rattle.batch_core.specs.declared.limits.TheConstants.{MOST_STANDING};
 ghost use Rattle.frozen_plan.specs.Plan.{all_ballots};
 
 use frozen_plan::Plans;
 use std::marker::Model;
 
 /// What stood after a freeze, as one plan for each shard, who was struck until then, and the freeze's
-/// place in the history. Its ballots are at most 999,900,000, few enough for a count.
+/// place in the history. Its ballots are at most [`batch_core::MOST_STANDING`], few enough for a count.
 #[derive(Debug, Drop)]
 pub struct Version {
     pub(crate) at: u64,
@@ -17,6 +18,7 @@ pub struct Version {
 
 impl Model for Version {
     ghost use Rattle.std.specs.Prelude.{◌≡◌, ◌≤◌, All, length};
+    ghost use Rattle.batch_core.specs.declared.limits.TheConstants.{MOST_STANDING};
     ghost use Rattle.frozen_plan.specs.Plan.{all_ballots};
     ghost use Rattle.shard_office.specs.Versions.{VersionState};
 
@@ -24,7 +26,7 @@ impl Model for Version {
 
     ghost view = { λ v. record { at = v.at; candidates = v.candidates; plans = v.plans; struck = v.struck.items } };
 
-    ghost invariant = { λ v. All (λ plan. plan.candidates ≡ v.candidates) v.plans × (length (all_ballots v.plans) ≤ 999900000)
+    ghost invariant = { λ v. All (λ plan. plan.candidates ≡ v.candidates) v.plans × (length (all_ballots v.plans) ≤ MOST_STANDING)
         × All (λ c. (1 ≤ c) × (c ≤ v.candidates)) v.struck.items };
 }
 
@@ -48,7 +50,7 @@ impl Version {
     pub fn into_plans(self) -> Plans
         ensures plans { result ≡ self.plans }
         ensures candidates { All (λ plan. plan.candidates ≡ self.candidates) result }
-        ensures few { length (all_ballots result) ≤ 999900000 }
+        ensures few { length (all_ballots result) ≤ MOST_STANDING }
     {
         self.plans
     }

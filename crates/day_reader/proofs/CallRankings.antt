@@ -11,6 +11,7 @@ use Rattle.plain_ballots.specs.declared.ballot_line.BallotLine.{BallotLine}
 use Rattle.plain_ballots.specs.Ballots.{plain}
 use Rattle.plain_ballots.specs.Ranking.{IsRanking}
 use Rattle.plain_ballots.proofs.PlainLemmas.{length-plain}
+use Rattle.batch_core.specs.declared.limits.TheConstants.{LAST_NUMBER}
 use Rattle.batch_core.specs.declared.batch.Batch.{Batch}
 use Rattle.batch_core.specs.declared.call.Call.{Call}
 use Rattle.batch_core.specs.declared.call.Call.TheVariants.{Change as Changes, Freeze, Strike}
@@ -108,7 +109,7 @@ module _ (candidates : ℕ) where
       (λ number. All-nil (λ (line : BallotLine). IsRanking candidates line.ranking)) in
       single (standing book)
       (all_flat (λ (line : BallotLine). IsRanking candidates line.ranking) (λ number. lines_of (book.batches number))
-      (range_with_len 1 9999) (λ k d inside. keeps (slice_index_or (range_with_len 1 9999) k d)))
+      (range_with_len 1 LAST_NUMBER) (λ k d inside. keeps (slice_index_or (range_with_len 1 LAST_NUMBER) k d)))
 
   -- ---- how many they are
 

@@ -9,7 +9,8 @@ use Rattle.std.proofs.lemmas.Bool.{and_parts}
 use Rattle.std.proofs.lemmas.Bool.Decides.{nat_tests}
 use Rattle.std.proofs.lemmas.List.Elements.{All-nil, All-cons}
 use Rattle.std.proofs.lemmas.List.FromFn.{length-map-range_with_len}
-use Rattle.candidate_roll.specs.Name.{IsPrintable}
+use Rattle.candidate_roll.specs.declared.limits.TheConstants.{MOST_NAME_BYTES, MOST_TITLE_BYTES}
+use Rattle.candidate_roll.specs.Name.{IsPrintable, IsName}
 use Rattle.candidate_roll.specs.Roll.{RollList, IsRoll}
 use Rattle.input_text.specs.Token.{Item, Number, Minus, Text, Word, Scan}
 use Rattle.input_text.specs.Refusal.{items_of}
@@ -18,7 +19,6 @@ use Rattle.input_text.specs.Scan.{Lexeme, Wrong, Unclosed, number_piece, minus_p
 use Rattle.input_text.specs.Scan.{word_piece, piece, beginning, cut, mark_len, scan}
 use Rattle.blt_reader.specs.Poll.{Poll}
 use Rattle.blt_reader.specs.Blt.{opening, ballots, IsBlt}
-use Rattle.sheet_reader.specs.Laws.{HasNames}
 use Rattle.day_reader.specs.declared.day.Day.{Day}
 use Rattle.day_reader.specs.Day.{IsDay}
 
@@ -145,10 +145,11 @@ each_name (name ∷ names) are = All-cons (All IsPrintable) name names are.0 (ea
 
 -- ---- the roll
 
--- a roll of 1 to 250 candidates and seats, whose names can be printed
+-- a roll of 1 to 250 candidates and seats, whose title and names can be printed
 pub record IsPrintedRoll (roll : RollList) : Type 0 where
   pub sound : IsRoll roll
-  pub named : HasNames roll
+  pub names : All (IsName MOST_NAME_BYTES) roll.names
+  pub title : IsName MOST_TITLE_BYTES roll.title
 
 -- the roll of a ballot file that was cut so
 of_file : (most : ℕ) (items : List Item) (poll : Poll) → ArePlain items → IsBlt most items poll → IsPrintedRoll poll.roll
@@ -170,14 +171,15 @@ of_file most items poll are file =
         few_candidates = front.candidates.most;
         same_length = ap length front.marks ∙ length-map-range_with_len _ 0 (length roll.names);
       };
-      named = record {
-        title = record { short = front.title; printable = title.0 };
-        names = λ k d inside. record { short = front.names k d inside; printable = names k d inside };
-      };
+      names = λ k d inside. record { short = front.names k d inside; printable = names k d inside };
+      title = record { short = front.title; printable = title.0 };
     }
 
 -- the roll of a day file
-pub printed_roll : (input : List ℕ) (day : Day) → IsDay (items_of (scan input true).tokens) day → IsPrintedRoll day.roll
-printed_roll input day is =
+pub printed_roll :
+    (input : List ℕ) (letters : Bool) (day : Day) → IsDay (items_of (scan input letters).tokens) day
+    → IsPrintedRoll day.roll
+printed_roll input letters day is =
+    let plain = cut_plain letters 0 (mark_len input) input in
     of_file 0 is.roll_items (record { roll = day.roll; lines = [] })
-    (first_part is.roll_items _ (subst ArePlain is.spelled (cut_plain true 0 (mark_len input) input))) is.roll
+    (first_part is.roll_items _ (subst ArePlain is.spelled plain)) is.roll
