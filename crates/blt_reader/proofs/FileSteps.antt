@@ -3,7 +3,8 @@ use Rattle.std.proofs.Common.{◌≡◌, ℕ, List, refl, ◌∙◌, ap, Ok, Err
 use Rattle.std.specs.Prelude.{Result, IfOk}
 use Rattle.input_text.specs.declared.fault_kind.FaultKind.TheVariants.{Trailing}
 use Rattle.input_text.specs.declared.input_fault.InputFault.{InputFault}
-use Rattle.blt_reader.specs.declared.election.Election.{Election}
+use Rattle.plain_ballots.specs.declared.ballot_line.BallotLine.{BallotLine}
+use Rattle.blt_reader.specs.declared.election.StoredElection.{StoredElection}
 use Rattle.input_text.specs.declared.input_stop.InputStop.{InputStop}
 use Rattle.input_text.specs.declared.input_stop.InputStop.TheVariants as stop
 use Rattle.input_text.specs.declared.what.What.{What}
@@ -11,7 +12,7 @@ use Rattle.input_text.specs.declared.what.What.TheVariants as code
 use Rattle.input_text.specs.Token.{AtEnd, AtFault, Scan, ends, with_front}
 use Rattle.input_text.specs.Reader.{said}
 use Rattle.blt_reader.specs.Poll.{Poll}
-use Rattle.blt_reader.specs.Election.{poll}
+use Rattle.blt_reader.specs.Election.{poll_of_lines}
 use Rattle.input_text.specs.Judged.{outcome, GoesOn, Ends, ended, Stopped, reads}
 use Rattle.blt_reader.specs.BallotTable.{Limit}
 use Rattle.blt_reader.specs.BltTable.{Candidates, at_token, at_file_token}
@@ -19,7 +20,8 @@ use Rattle.blt_reader.specs.Blt.{IsBlt}
 use Rattle.input_text.specs.Refusal.{IsAccepted}
 use Rattle.blt_reader.specs.Said.{said_by, IsFileRefusal}
 use Rattle.input_text.specs.Reads.{IfFault, Reads}
-use Rattle.blt_reader.specs.Reads.{ReadsFurther, SaysFile}
+use Rattle.blt_reader.specs.Reads.{ReadsFurther, Says}
+use Rattle.blt_reader.specs.Stored.{SaysStored}
 use Rattle.input_text.proofs.Tables.{behind_front, reads_front}
 use Rattle.input_text.proofs.FrontRuling.{itself}
 use Rattle.blt_reader.proofs.BltLaws.{accepts_files, refuses_by_the_rule}
@@ -66,38 +68,54 @@ module _ (limit : Limit) where
       reads_front (at_token limit) (at_file_token limit) ended GoesOn Ends
       (λ s item. itself (at_token limit) (at_token limit s item)) (λ s. refl) text.tokens text.ending Candidates
 
-  pub says_all :
-      (text rest : Scan) (election : Election) → reads (at_token limit) Candidates text ≡ Ok (poll election, rest)
-      → ReadsFurther rest (Ok tt) → SaysFile (said_by limit text) (Ok election)
-  says_all text rest election is further =
-      in_two text ∙ ap (λ (r : Result (Poll × Scan) Stopped). behind_front r Behind) is
-      ∙ further limit (poll election)
+  module _ {R : Type 0} (value : R → Poll) (text : Scan) where
+    pub says_all :
+        (rest : Scan) (found : R) → reads (at_token limit) Candidates text ≡ Ok (value found, rest)
+        → ReadsFurther rest (Ok tt) → Says value (said_by limit text) (Ok found)
+    says_all rest found is further =
+        in_two text ∙ ap (λ (r : Result (Poll × Scan) Stopped). behind_front r Behind) is ∙ further limit (value found)
 
-  pub says_trailing :
-      (text rest : Scan) (election : Election) (fault : InputFault)
-      → reads (at_token limit) Candidates text ≡ Ok (poll election, rest) → ReadsFurther rest (Err fault)
-      → SaysFile (said_by limit text) (Err (stop.Fault fault))
-  says_trailing text rest election fault is further =
-      in_two text ∙ ap (λ (r : Result (Poll × Scan) Stopped). behind_front r Behind) is ∙ further limit (poll election)
+    pub says_trailing :
+        (rest : Scan) (found : R) (fault : InputFault) → reads (at_token limit) Candidates text ≡ Ok (value found, rest)
+        → ReadsFurther rest (Err fault) → Says value (said_by limit text) (Err (stop.Fault fault))
+    says_trailing rest found fault is further =
+        in_two text ∙ ap (λ (r : Result (Poll × Scan) Stopped). behind_front r Behind) is ∙ further limit (value found)
 
-  pub says_front :
-      (text rest : Scan) (why : InputStop) → Reads (at_token limit) Candidates poll text (Err why) rest
-      → SaysFile (said_by limit text) (Err why)
-  says_front text rest (stop.Fault fault) is =
-      in_two text ∙ ap (λ (r : Result (Poll × Scan) Stopped). behind_front r Behind) is
-  says_front text rest stop.NoMemory is = tt
+    pub says_front :
+        (rest : Scan) (why : InputStop) → Reads (at_token limit) Candidates value text (Err why) rest
+        → Says value (said_by limit text) (Err why)
+    says_front rest (stop.Fault fault) is =
+        in_two text ∙ ap (λ (r : Result (Poll × Scan) Stopped). behind_front r Behind) is
+    says_front rest stop.NoMemory is = tt
 
-  -- ---- what is answered, by the laws
+    -- ---- what is answered, by the laws
 
-  pub says_file :
-      (text : Scan) (result : Result Election InputStop) → SaysFile (said_by limit text) result
-      → IfOk result (λ e. IsAccepted (IsBlt limit.most) text (poll e))
-  says_file text (Ok election) is = (accepts_files limit text (poll election)).0 is
-  says_file text (Err why) is = tt
+    pub says_file :
+        (result : Result R InputStop) → Says value (said_by limit text) result
+        → IfOk result (λ found. IsAccepted (IsBlt limit.most) text (value found))
+    says_file (Ok found) is = (accepts_files limit text (value found)).0 is
+    says_file (Err why) is = tt
 
-  pub refuses_file :
-      (text : Scan) (result : Result Election InputStop) → SaysFile (said_by limit text) result
-      → IfFault result (λ fault. IsFileRefusal limit text fault)
-  refuses_file text (Ok election) is = tt
-  refuses_file text (Err (stop.Fault fault)) is = (refuses_by_the_rule limit text fault).0 is
-  refuses_file text (Err stop.NoMemory) is = tt
+    pub refuses_file :
+        (result : Result R InputStop) → Says value (said_by limit text) result
+        → IfFault result (λ fault. IsFileRefusal limit text fault)
+    refuses_file (Ok found) is = tt
+    refuses_file (Err (stop.Fault fault)) is = (refuses_by_the_rule limit text fault).0 is
+    refuses_file (Err stop.NoMemory) is = tt
+
+  -- ---- the same of a store
+
+  pub says_stored :
+      {B : Type 0} (holds : B → List BallotLine → Type 0) (text : Scan) (result : Result (StoredElection B) InputStop)
+      → SaysStored holds (said_by limit text) result
+      → IfOk result (λ e. (lines : List BallotLine) × IsAccepted (IsBlt limit.most) text (poll_of_lines e lines)
+      × holds e.ballots lines)
+  says_stored holds text (Ok e) is = (is.0, (accepts_files limit text (poll_of_lines e is.0)).0 is.2, is.1)
+  says_stored holds text (Err why) is = tt
+
+-- what stopped says nothing of a value
+pub stops_so :
+    {R Q : Type 0} (value : R → Poll) (other : Q → Poll) (said : Result Poll InputFault) (why : InputStop)
+    → Says value said (Err why) → Says other said (Err why)
+stops_so value other said (stop.Fault fault) is = is
+stops_so value other said stop.NoMemory is = tt

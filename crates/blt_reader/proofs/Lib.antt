@@ -5,6 +5,7 @@ mod BltCompleteness
 mod BltLaws
 mod Stamps
 mod LineSteps
+mod HeldLines
 mod RankSteps
 mod NameSteps
 mod OpeningSteps

@@ -1,6 +1,5 @@
 -- The parts of a file up to its title, one behind another.
 use Rattle.std.proofs.Common.{◌≡◌, ℕ, ◌<◌, List, [], length, Bool, refl, sym, ◌∙◌, ap, Ok, Err}
-use Rattle.plain_ballots.specs.Ballots.{BallotList}
 use Rattle.plain_ballots.specs.declared.ballot_line.BallotLine.{BallotLine}
 use Rattle.candidate_roll.specs.declared.limits.TheConstants.{MOST_TITLE_BYTES}
 use Rattle.candidate_roll.specs.Roll.{RollList, withdrawn_marks}
@@ -37,13 +36,13 @@ module _ (limit : Limit) (start : Scan) (opening : Opening) (behind_opening : Sc
   within lines item = refl
 
   pub ballots_fail :
-      {Q : Type 0} (value : Q → Poll) (new : Scan) (why : InputStop)
-      → Reads (at_line opening.candidates limit) (Between []) (λ (b : BallotList). b.lines) FirstText (Err why) new
+      {R Q : Type 0} (found : R → List BallotLine) (value : Q → Poll) (new : Scan) (why : InputStop)
+      → Reads (at_line opening.candidates limit) (Between []) found FirstText (Err why) new
       → Reads (at_token limit) Candidates value start (Err why) new
-  ballots_fail value new why fails =
+  ballots_fail found value new why fails =
       inner_fails (at_line opening.candidates limit) (at_token limit) (λ l. Ballots HeadingOf l)
       (λ l. Name HeadingOf l []) within
-      (Between []) FirstText (λ (b : BallotList). b.lines) value Candidates start new why (is.same limit) fails
+      (Between []) FirstText found value Candidates start new why (is.same limit) fails
 
   pub ballots_read :
       (lines : List BallotLine) (new : Scan) → 0 < opening.candidates

@@ -5,6 +5,8 @@ pub mod BallotTable
 pub mod BltTable
 pub mod Front
 pub mod Reads
+pub mod Stored
+pub mod Pieces
 pub mod Opening
 pub mod Said
 pub mod Worked

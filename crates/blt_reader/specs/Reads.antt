@@ -49,8 +49,11 @@ abbrev pub ReadsFurther : Scan → Result (Unit {0}) InputFault → Type 0
 ReadsFurther text (Ok done) = (limit : Limit) (poll : Poll) → outcome (at_file_token limit) ended (Ends poll) text.tokens text.ending ≡ Ok poll
 ReadsFurther text (Err fault) = (limit : Limit) (poll : Poll) → outcome (at_file_token limit) ended (Ends poll) text.tokens text.ending ≡ Err fault
 
--- the election is the poll that was said, and the fault the refusal
+-- what was found is the poll that was said, and the fault the refusal
+abbrev pub Says : {R : Type 0} → (R → Poll) → Result Poll InputFault → Result R InputStop → Type 0
+Says value said (Ok found) = said ≡ Ok (value found)
+Says value said (Err (stop.Fault fault)) = said ≡ Err fault
+Says value said (Err stop.NoMemory) = Unit {0}
+
 abbrev pub SaysFile : Result Poll InputFault → Result Election InputStop → Type 0
-SaysFile said (Ok election) = said ≡ Ok (poll election)
-SaysFile said (Err (stop.Fault fault)) = said ≡ Err fault
-SaysFile said (Err stop.NoMemory) = Unit {0}
+SaysFile = Says poll

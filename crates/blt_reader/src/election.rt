@@ -7,3 +7,10 @@ pub struct Election {
     pub roll: Roll,
     pub ballots: Ballots,
 }
+
+/// The same, with its ballots in a store of any kind.
+#[derive(Drop)]
+pub struct StoredElection<B> {
+    pub roll: Roll,
+    pub ballots: B,
+}

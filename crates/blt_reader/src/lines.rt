@@ -1,5 +1,5 @@
 // Ballot lines.
-ghost use Rattle.std.specs.Prelude.{◌≡◌, ◌+◌, ◌<◌, ◌≤◌, [], ◌∷◌, ◌++◌, length, take, replicate, slice_index_or, true, false, Ok, IfOk, IfErr, IfSome, IfNone, OnOk};
+ghost use Rattle.std.specs.Prelude.{◌≡◌, ◌+◌, ◌-◌, ◌^◌, ◌<◌, ◌≤◌, [], ◌∷◌, ◌++◌, length, take, replicate, slice_index_or, true, false, Ok, IfOk, IfErr, IfSome, IfNone, OnOk};
 ghost use Rattle.plain_ballots.specs.declared.limits.TheConstants.{MOST_BALLOTS};
 ghost use Rattle.plain_ballots.specs.Ballots.{ballot_count};
 ghost use Rattle.plain_ballots.specs.Ranking.{IsRanking};
@@ -8,13 +8,25 @@ ghost use Rattle.input_text.specs.Token.{Number, with_front};
 ghost use Rattle.blt_reader.specs.Blt.{AreLines};
 ghost use Rattle.blt_reader.specs.BallotTable.{at_rank, Between, at_line};
 ghost use Rattle.input_text.specs.Judged.{reads};
-ghost use Rattle.input_text.specs.Reads.{IsBehind, tokens_left, Reads};
+ghost use Rattle.input_text.specs.Reads.{IsBehind, tokens_left, IfFault, Reads};
 ghost use Rattle.blt_reader.specs.Reads.{Marks};
+ghost use Rattle.blt_reader.specs.Stored.{ReadsHeld, HoldsLines};
+ghost use Rattle.blt_reader.specs.Pieces.{counted, ReadsOn, ReadsPiece, RefusesPiece, IsEndOrBehind};
 
+use crate::line_bounds::LineBounds;
 use crate::named::Named;
 use input_text::{FaultKind, InputStop, Tokens};
-use plain_ballots::{BallotLine, Ballots, LineStop, Ranking};
+use packed_ballots::BallotStore;
+use plain_ballots::Ballots;
 use std::alloc::Global;
+
+/// Ballot lines that were read up to a count behind them.
+#[derive(Drop)]
+pub struct LinePiece<B> {
+    pub ballots: B,
+    /// That count, and its place.
+    pub last: (u32, usize),
+}
 
 /// Ballot lines up to the 0 behind them, of together at most `most` ballots. `refusal` is the kind
 /// of fault of a count that goes past them.
@@ -32,65 +44,136 @@ pub fn read_lines(
     ensures behind { IsBehind tokens.old tokens.new }
 {
     let first = tokens.next_number()?;
-    read_lines_from(alloc, tokens, candidates, most, refusal, first)
+    let bounds = LineBounds {
+        candidates,
+        most,
+        refusal,
+    };
+    let none = Ballots::new(alloc, candidates);
+    read_lines_from(alloc, tokens, none, bounds, first)
 }
 
-/// The same, where the first count was taken already, with its place.
-pub(crate) fn read_lines_from(
+/// The same into a store that is empty so far, where the first count was taken already, with its place.
+pub(crate) fn read_lines_from<B: BallotStore + Drop>(
     alloc: Global,
     tokens: &mut Tokens<'_>,
-    candidates: u32,
-    most: u32,
-    refusal: FaultKind,
+    empty: B,
+    bounds: LineBounds,
     first: (u32, usize),
-) -> Result<Ballots, InputStop>
-    requires { most ≤ MOST_BALLOTS }
-    ensures reads { Reads (at_line candidates (record { most = most; refusal = refusal })) (Between []) (λ b. b.lines) (with_front (record { at = first.1; item = Number first.0 }) tokens.old.rest) result tokens.new.rest }
-    ensures candidates { IfOk result (λ b. b.candidates ≡ candidates) }
-    ensures lines { IfOk result (λ b. AreLines candidates most b.lines) }
+) -> Result<B, InputStop>
+    requires most { bounds.most ≤ MOST_BALLOTS }
+    requires none { B.holds empty [] }
+    requires candidates { B.among empty ≡ bounds.candidates }
+    ensures reads { ReadsHeld B.holds (at_line bounds.candidates (record { most = bounds.most; refusal = bounds.refusal })) (Between []) (λ b lines. lines) (with_front (record { at = first.1; item = Number first.0 }) tokens.old.rest) result tokens.new.rest }
+    ensures candidates { IfOk result (λ b. B.among b ≡ bounds.candidates) }
+    ensures lines { IfOk result (HoldsLines B.holds bounds.candidates bounds.most) }
+    ensures behind { IsBehind tokens.old tokens.new }
+{
+    read_lines_on(alloc, tokens, empty, bounds, first)
+}
+
+/// The same into a store that has lines within these bounds already.
+pub fn read_lines_on<B: BallotStore + Drop>(
+    alloc: Global,
+    tokens: &mut Tokens<'_>,
+    store: B,
+    bounds: LineBounds,
+    first: (u32, usize),
+) -> Result<B, InputStop>
+    requires most { bounds.most ≤ MOST_BALLOTS }
+    requires held { HoldsLines B.holds bounds.candidates bounds.most store }
+    requires candidates { B.among store ≡ bounds.candidates }
+    ensures reads { ReadsOn B.holds bounds store (counted first tokens.old.rest) result tokens.new.rest }
+    ensures candidates { IfOk result (λ b. B.among b ≡ bounds.candidates) }
+    ensures lines { IfOk result (HoldsLines B.holds bounds.candidates bounds.most) }
     ensures behind { IsBehind tokens.old tokens.new }
 {
     let mut ahead = tokens.same();
-    let found = read_lines_ahead(alloc, &mut ahead, candidates, most, refusal, first);
+    let found = read_lines_ahead(alloc, &mut ahead, store, bounds, first, usize::MAX);
+    *tokens = ahead;
+    match found {
+        Ok(piece) => {
+            place_fits(piece.last.1);
+            Ok(piece.ballots)
+        }
+        Err(why) => Err(why),
+    }
+}
+
+// A place is a number of 64 bits, so none stands behind the last of them.
+#[inline(always)]
+fn place_fits(at: usize)
+    ensures { at ≤ 2 ^ 64 - 1 }
+{
+    let _ = at;
+}
+
+/// Lines up to the first count that is the 0 behind all lines or stands behind `place`: the store with
+/// these lines too, and that count.
+pub fn read_piece<B: BallotStore + Drop>(
+    alloc: Global,
+    tokens: &mut Tokens<'_>,
+    store: B,
+    bounds: LineBounds,
+    first: (u32, usize),
+    place: usize,
+) -> Result<LinePiece<B>, InputStop>
+    requires most { bounds.most ≤ MOST_BALLOTS }
+    requires held { HoldsLines B.holds bounds.candidates bounds.most store }
+    requires candidates { B.among store ≡ bounds.candidates }
+    ensures reads { IfOk result (λ piece. ReadsPiece B.holds bounds store (counted first tokens.old.rest) piece.ballots (counted piece.last tokens.new.rest)) }
+    ensures last { IfOk result (λ piece. IsEndOrBehind place piece.last) }
+    ensures refused { IfFault result (λ fault. RefusesPiece B.holds bounds store (counted first tokens.old.rest) fault tokens.new.rest) }
+    ensures candidates { IfOk result (λ piece. B.among piece.ballots ≡ bounds.candidates) }
+    ensures behind { IsBehind tokens.old tokens.new }
+{
+    let mut ahead = tokens.same();
+    let found = read_lines_ahead(alloc, &mut ahead, store, bounds, first, place);
     *tokens = ahead;
     found
 }
 
 // The same over tokens that nobody else sees, so that their place can stay in a register.
 #[inline(always)]
-fn read_lines_ahead(
+fn read_lines_ahead<B: BallotStore + Drop>(
     alloc: Global,
     tokens: &mut Tokens<'_>,
-    candidates: u32,
-    most: u32,
-    refusal: FaultKind,
+    store: B,
+    bounds: LineBounds,
     first: (u32, usize),
-) -> Result<Ballots, InputStop>
-    requires { most ≤ MOST_BALLOTS }
-    ensures reads { Reads (at_line candidates (record { most = most; refusal = refusal })) (Between []) (λ b. b.lines) (with_front (record { at = first.1; item = Number first.0 }) tokens.old.rest) result tokens.new.rest }
-    ensures candidates { IfOk result (λ b. b.candidates ≡ candidates) }
-    ensures lines { IfOk result (λ b. AreLines candidates most b.lines) }
+    place: usize,
+) -> Result<LinePiece<B>, InputStop>
+    requires most { bounds.most ≤ MOST_BALLOTS }
+    requires held { HoldsLines B.holds bounds.candidates bounds.most store }
+    requires candidates { B.among store ≡ bounds.candidates }
+    ensures reads { IfOk result (λ piece. ReadsPiece B.holds bounds store (counted first tokens.old.rest) piece.ballots (counted piece.last tokens.new.rest)) }
+    ensures last { IfOk result (λ piece. IsEndOrBehind place piece.last) }
+    ensures refused { IfFault result (λ fault. RefusesPiece B.holds bounds store (counted first tokens.old.rest) fault tokens.new.rest) }
+    ensures candidates { IfOk result (λ piece. B.among piece.ballots ≡ bounds.candidates) }
     ensures behind { IsBehind tokens.old tokens.new }
 {
+    let candidates = bounds.candidates;
     let mut named = Named::new(alloc, candidates as usize + 1)?;
     let mut room = vec![in alloc; 0; candidates as usize]?;
     let ranks = room.as_mut_slice();
-    let mut ballots = Ballots::new(alloc, candidates);
+    let mut ballots = store;
     let (mut count, mut at) = first;
-    while count > 0 {
-        if count as u64 > most as u64 - ballots.total() {
-            return Err(InputStop::refused(refusal, at));
+    while count > 0 && at <= place {
+        if count as u64 > bounds.most as u64 - ballots.ballot_count() {
+            return Err(InputStop::refused(bounds.refusal, at));
         }
         let len = read_ranks(tokens, candidates, &mut named, ranks)?;
-        let Ok(ranking) = Ranking::of_front(alloc, ranks, len) else {
+        let Ok(()) = ballots.take_line(alloc, count, ranks, len) else {
             return Err(InputStop::NoMemory);
         };
-        add_line(&mut ballots, BallotLine { count, ranking })?;
         let next = tokens.next_number()?;
         count = next.0;
         at = next.1;
     }
-    Ok(ballots)
+    Ok(LinePiece {
+        ballots,
+        last: (count, at),
+    })
 }
 
 // Candidates in order of rank, up to the 0 behind them: they stand in front of `ranks`, and are so many.
@@ -203,18 +286,4 @@ fn next_zero(tokens: &mut Tokens<'_>) -> Option<usize>
         return None;
     }
     Some(at)
-}
-
-fn add_line(ballots: &mut Ballots, line: BallotLine) -> Result<(), InputStop>
-    requires ranking { IsRanking ballots.old.candidates line.ranking }
-    requires counted { 1 ≤ line.count }
-    requires room { ballot_count ballots.old.lines + line.count ≤ MOST_BALLOTS }
-    ensures added { OnOk result (ballots.new ≡ record ballots.old { lines = ballots.old.lines ++ line ∷ [] }) }
-    ensures only_memory { IfErr result (λ why. why ≡ stop.NoMemory) }
-{
-    match ballots.push_line(line) {
-        Ok(()) => Ok(()),
-        Err(LineStop::NoMemory(_)) => Err(InputStop::NoMemory),
-        Err(LineStop::TooMany(_)) => unreachable!(),
-    }
 }

@@ -6,15 +6,18 @@ ghost use Rattle.input_text.specs.declared.input_stop.InputStop.TheVariants as s
 ghost use Rattle.blt_reader.specs.BltTable.{Candidates, at_token};
 ghost use Rattle.blt_reader.specs.Said.{limit_of, IsRollOf, IsRollRefusal};
 ghost use Rattle.input_text.specs.Reads.{IsBehind, IfFault, Reads};
-ghost use Rattle.blt_reader.specs.Election.{poll};
+ghost use Rattle.blt_reader.specs.Stored.{ReadsHeld};
+ghost use Rattle.blt_reader.specs.Election.{poll, poll_of_lines};
 
-use crate::Election;
-use crate::lines::read_lines_from;
+use crate::line_bounds::LineBounds;
+use crate::line_reader::{LineReader, OneByOne};
 use crate::names::{read_name, read_names};
 use crate::opening::read_opening;
+use crate::{Election, StoredElection};
 use candidate_roll::{MOST_TITLE_BYTES, Name, Names, Roll, RollStop};
 use input_text::{FaultKind, InputStop, Tokens};
-use plain_ballots::MOST_BALLOTS;
+use packed_ballots::BallotStore;
+use plain_ballots::{Ballots, MOST_BALLOTS};
 use std::alloc::Global;
 
 /// Reads a file up to its title and no further: an Ok leaves the reader right behind the title.
@@ -33,13 +36,13 @@ pub fn read_roll(
     ensures behind { IsBehind tokens.old tokens.new }
 {
     if with_ballots {
-        read_up_to_title(alloc, tokens, MOST_BALLOTS, FaultKind::TooManyBallots)
+        read_election(alloc, tokens, MOST_BALLOTS, FaultKind::TooManyBallots)
     } else {
-        read_up_to_title(alloc, tokens, 0, FaultKind::BallotsInRoll)
+        read_election(alloc, tokens, 0, FaultKind::BallotsInRoll)
     }
 }
 
-fn read_up_to_title(
+fn read_election(
     alloc: Global,
     tokens: &mut Tokens<'_>,
     most: u32,
@@ -50,19 +53,42 @@ fn read_up_to_title(
     ensures candidates { IfOk result (λ e. e.ballots.candidates ≡ length e.roll.names) }
     ensures behind { IsBehind tokens.old tokens.new }
 {
+    let stored = read_up_to_title::<Ballots, OneByOne>(alloc, tokens, most, refusal, &OneByOne)?;
+    Ok(Election {
+        roll: stored.roll,
+        ballots: stored.ballots,
+    })
+}
+
+/// A file up to its title, of at most `most` ballots, more of which are refused for `refusal`.
+pub(crate) fn read_up_to_title<B: BallotStore + Drop, L: LineReader<B>>(
+    alloc: Global,
+    tokens: &mut Tokens<'_>,
+    most: u32,
+    refusal: FaultKind,
+    how: &L,
+) -> Result<StoredElection<B>, InputStop>
+    requires { most ≤ MOST_BALLOTS }
+    ensures reads { ReadsHeld (λ e. B.holds e.ballots) (at_token (record { most = most; refusal = refusal })) Candidates poll_of_lines tokens.old.rest result tokens.new.rest }
+    ensures candidates { IfOk result (λ e. B.among e.ballots ≡ length e.roll.names) }
+    ensures behind { IsBehind tokens.old tokens.new }
+{
     let opening = read_opening(alloc, tokens)?;
     let candidates = opening.candidates;
-    let ballots = read_lines_from(alloc, tokens, candidates, most, refusal, opening.first)?;
+    let Ok(empty) = B::empty(alloc, candidates) else {
+        return Err(InputStop::NoMemory);
+    };
+    let bounds = LineBounds {
+        candidates,
+        most,
+        refusal,
+    };
+    let ballots = how.read_lines(alloc, tokens, empty, bounds, opening.first)?;
     let names = read_names(alloc, tokens, candidates)?;
     let title = read_name(alloc, tokens)?;
-    let roll = new_roll(
-        alloc,
-        opening.seats,
-        names,
-        title,
-        opening.withdrawn.as_slice(),
-    )?;
-    Ok(Election { roll, ballots })
+    let withdrawn = opening.withdrawn.as_slice();
+    let roll = new_roll(alloc, opening.seats, names, title, withdrawn)?;
+    Ok(StoredElection { roll, ballots })
 }
 
 // The roll of numbers that are known to make one.

@@ -2,3 +2,4 @@
 mod accepted;
 mod edges;
 mod refused;
+mod stored;

@@ -1,9 +1,8 @@
 -- One bag of ballots has one plan.
 use Rattle.std.proofs.Common.{◌≡◌, ℕ, ◌+◌, ◌-◌, List, [], ◌∷◌, ◌++◌, length, map, replicate, suc, arith, refl, ap, sym, ◌∙◌}
-use denote.RawPtr.{null_ptr}
 use Rattle.std.specs.List.Sorted.{IsPermutation}
-use Rattle.ranking_trie.specs.declared.forest.Forest as trie
-use Rattle.ranking_trie.specs.declared.forest.Forest.TheVariants.{Empty, Grow'}
+use Rattle.ranking_trie.specs.Forest as trie
+use Rattle.ranking_trie.specs.Forest.{Empty, Grow}
 use Rattle.ranking_trie.specs.Bag.{bag, root_bag, IsRising, HaveSameForm}
 use Rattle.ranking_trie.specs.BallotBag.{AreInOrder}
 use Rattle.frozen_plan.specs.Forest.{Forest, Bare, Grown, ballots_of, through, IsGrown}
@@ -13,16 +12,10 @@ use Rattle.frozen_plan.specs.OneBag.{OneBagHasOnePlan}
 use Rattle.frozen_plan.proofs.ReadLemmas.{length-ballots_of}
 use Rattle.frozen_plan.proofs.TrieLemmas.{ballots_of-shape}
 
--- a trie's node: where it lies makes no difference
-abbrev node : (c n : ℕ) (inner next : trie.Forest) → trie.Forest
-node c n inner next =
-    Grow' c n (record { ptr = null_ptr; alloc = record { memory = record { seal = tt } }; value = tt }) inner
-    next
-
--- a trie's nodes of this shape
+-- a trie's nodes of this shape: where they lie makes no difference
 abbrev grow : Forest → trie.Forest
 grow Bare = Empty
-grow (Grown c n inner next) = node c n (grow inner) (grow next)
+grow (Grown c n inner next) = Grow c n 0 (grow inner) (grow next)
 
 shape-grow : (f : Forest) → shape_of (grow f) ≡ f
 shape-grow Bare = refl
@@ -43,9 +36,9 @@ rising n low d (Grown c k inner next) is = (
 
 shape-HaveSameForm : (f g : trie.Forest) → HaveSameForm f g → shape_of f ≡ shape_of g
 shape-HaveSameForm Empty Empty same = refl
-shape-HaveSameForm Empty (Grow' d m q inner next) same = absurd same
-shape-HaveSameForm (Grow' c n p inner next) Empty same = absurd same
-shape-HaveSameForm (Grow' c n p inner next) (Grow' d m q inner_2 next_2) same =
+shape-HaveSameForm Empty (Grow d m q inner next) same = absurd same
+shape-HaveSameForm (Grow c n p inner next) Empty same = absurd same
+shape-HaveSameForm (Grow c n p inner next) (Grow d m q inner_2 next_2) same =
     ap (λ (x : ℕ). Grown x n (shape_of inner) (shape_of next)) same.0
     ∙ (ap (λ (k : ℕ). Grown d k (shape_of inner) (shape_of next)) same.1
     ∙ (ap (λ (low : Forest). Grown d m low (shape_of next)) (shape-HaveSameForm inner inner_2 same.2)
@@ -69,7 +62,7 @@ same_roots law n m ends more f g grown_f grown_g same =
     let equal : root_bag ends (grow f) ≡ root_bag more (grow g) =
     law.unique (root_bag ends (grow f)) (root_bag more (grow g)) (law.order ends (grow f) rising_f)
     (law.order more (grow g) rising_g) bags in
-    let forms = law.form (node 1 (suc ends) (grow f) Empty) (node 1 (suc more) (grow g) Empty)
+    let forms = law.form (Grow 1 (suc ends) 0 (grow f) Empty) (Grow 1 (suc more) 0 (grow g) Empty)
     (omega arith, omega arith, rising_f, tt) (omega arith, omega arith, rising_g, tt)
     (ap (λ (l : List (List ℕ)). map (λ r. 1 ∷ r) ([] ∷ l) ++ []) equal) in
     let as_many : suc ends ≡ suc more = forms.1 in

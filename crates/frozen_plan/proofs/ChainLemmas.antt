@@ -6,10 +6,10 @@ use Rattle.std.proofs.lemmas.List.{append-nil, length-append}
 use Rattle.std.proofs.lemmas.List.Elements.{All-nil, All-cons, All-head, All-tail, All-drop}
 use Rattle.std.proofs.lemmas.List.Sorted.{IsPermutation-refl}
 use Rattle.ranking_trie.proofs.BagLemmas.{map-replicate}
-use Rattle.frozen_plan.specs.declared.share.Placed.{Placed}
+use Rattle.packed_ballots.specs.declared.packed_line.PackedLine.{PackedLine}
 use Rattle.frozen_plan.specs.declared.plan_row.PlanRow.{PlanRow}
 use Rattle.frozen_plan.specs.Forest.{ballots_of, through, rows_of, IsGrown}
-use Rattle.frozen_plan.specs.Share.{until_zero, rank_of, rest_of, rests}
+use Rattle.packed_ballots.specs.Packed.{until_zero, rank_of, rest_of, rests}
 use Rattle.frozen_plan.specs.Groups.{IsNodeOf, ends_at, chain}
 use Rattle.frozen_plan.proofs.RunLemmas.{rest_none, rest_more}
 
@@ -74,21 +74,21 @@ candidates m (suc c ∷ bytes) all =
 -- ---- row by row
 
 positive :
-    (bytes : List ℕ) (at c : ℕ) (line : Placed) → rank_of bytes at line ≡ c
+    (bytes : List ℕ) (at c : ℕ) (line : PackedLine) → rank_of bytes at line ≡ c
     → 1 ≤ length (rest_of bytes at line) → 1 ≤ c
 positive bytes at zero line is some = absurd (omega (arith, some, ap length (rest_none bytes at line is)))
 positive bytes at (suc c) line is some = omega arith
 
 -- where a rank is left, it stands before what is left behind it
 one_rank :
-    (bytes : List ℕ) (at : ℕ) (line : Placed) → 1 ≤ length (rest_of bytes at line)
+    (bytes : List ℕ) (at : ℕ) (line : PackedLine) → 1 ≤ length (rest_of bytes at line)
     → rest_of bytes at line ≡ rank_of bytes at line ∷ rest_of bytes (at + 1) line
 one_rank bytes at line some =
     rest_more bytes at (rank_of bytes at line) line refl
     (positive bytes at (rank_of bytes at line) line refl some)
 
 pub one_less :
-    (bytes : List ℕ) (at end : ℕ) (line : Placed) → at + length (rest_of bytes at line) ≡ end → at < end
+    (bytes : List ℕ) (at end : ℕ) (line : PackedLine) → at + length (rest_of bytes at line) ≡ end → at < end
     → at + 1 + length (rest_of bytes (at + 1) line) ≡ end
 one_less bytes at end line left inside =
     let some : 1 ≤ length (rest_of bytes at line) = omega (arith, left, inside) in
@@ -96,7 +96,7 @@ one_less bytes at end line left inside =
 
 -- a row more, and those of the ranks behind it
 pub one_row :
-    (bytes : List ℕ) (at end n : ℕ) (line : Placed) (rows now : List PlanRow)
+    (bytes : List ℕ) (at end n : ℕ) (line : PackedLine) (rows now : List PlanRow)
     → at + length (rest_of bytes at line) ≡ end → at < end
     → now ≡ rows ++ record { depth = at + 1; candidate = rank_of bytes at line; ballots = n; skip = end - at } ∷ []
     → now ++ rows_of (at + 1 + 1) (chain n (rest_of bytes (at + 1) line))
@@ -116,13 +116,13 @@ one_row bytes at end n line rows now left inside is =
 
 -- ---- lines that are one
 
-pub one_only : (lines : List Placed) (d : Placed) → length lines ≡ 1 → lines ≡ get_or lines 0 d ∷ []
+pub one_only : (lines : List PackedLine) (d : PackedLine) → length lines ≡ 1 → lines ≡ get_or lines 0 d ∷ []
 one_only [] d one = absurd (omega (arith, one))
 one_only (line ∷ []) d one = refl
 one_only (line ∷ other ∷ lines) d one = absurd (omega (arith, one))
 
 -- The rows of a chain below this candidate are a node.
-pub node_of_line : (bytes : List ℕ) (at c : ℕ) (line : Placed) (old new : List PlanRow)
+pub node_of_line : (bytes : List ℕ) (at c : ℕ) (line : PackedLine) (old new : List PlanRow)
     → new ≡ old ++ rows_of (at + 1) (chain line.count (rest_of bytes at line)) → rank_of bytes at line ≡ c
     → 1 ≤ c → 1 ≤ line.count
     → at + 1 + length (rest_of bytes (at + 1) line) ≤ 250

@@ -7,29 +7,29 @@ use Rattle.std.proofs.lemmas.List.{replicate-append-replicate, take_more, take_m
 use Rattle.std.proofs.lemmas.List.{drop-set-lt, length-set}
 use Rattle.std.proofs.lemmas.List.Elements.{All-push, All-take}
 use Rattle.std.proofs.lemmas.List.Sums.{sum_by-cons, sum_by-append, sum_by-take-le}
-use Rattle.frozen_plan.specs.declared.share.Placed.{Placed}
-use Rattle.frozen_plan.specs.Share.{rank_of, rest_of, rests, line_count, IsKept, IsShare}
+use Rattle.packed_ballots.specs.declared.packed_line.PackedLine.{PackedLine}
+use Rattle.packed_ballots.specs.Packed.{rank_of, rest_of, rests, line_count, front_of, IsKept, IsPacked}
 use Rattle.frozen_plan.proofs.RunLemmas.{nothing, rest_none, length-rests}
 
 -- ---- equal rankings
 
 -- and where both end, they are equal
 pub same_end :
-    (bytes : List ℕ) (at : ℕ) (one other : Placed) → rank_of bytes at one ≡ 0 → rank_of bytes at other ≡ 0
+    (bytes : List ℕ) (at : ℕ) (one other : PackedLine) → rank_of bytes at one ≡ 0 → rank_of bytes at other ≡ 0
     → rest_of bytes at one ≡ rest_of bytes at other
 same_end bytes at one other here there = rest_none bytes at one here ∙ sym (rest_none bytes at other there)
 
 -- ---- ballots
 
-rests_push :
-    (bytes : List ℕ) (lines : List Placed) (line : Placed)
+pub rests_push :
+    (bytes : List ℕ) (lines : List PackedLine) (line : PackedLine)
     → rests bytes 0 (lines ++ line ∷ []) ≡ rests bytes 0 lines ++ replicate line.count (rest_of bytes 0 line)
 rests_push bytes lines line =
-    let own : Placed → List (List ℕ) = λ l. replicate l.count (rest_of bytes 0 l) in
+    let own : PackedLine → List (List ℕ) = λ l. replicate l.count (rest_of bytes 0 l) in
     flat_map-append own lines (line ∷ []) ∙ ap (λ (l : List (List ℕ)). rests bytes 0 lines ++ l) (append-nil (own line))
 
 -- an equal line has its ballots behind those of the line that it is put to
-rests_both : (bytes : List ℕ) (lines : List Placed) (last line : Placed) → rest_of bytes 0 last ≡ rest_of bytes 0 line
+rests_both : (bytes : List ℕ) (lines : List PackedLine) (last line : PackedLine) → rest_of bytes 0 last ≡ rest_of bytes 0 line
     → rests bytes 0
     (lines ++ record { front = last.front; start = last.start; count = last.count + line.count } ∷ [])
     ≡ rests bytes 0 (lines ++ last ∷ []) ++ replicate line.count (rest_of bytes 0 line)
@@ -44,69 +44,76 @@ rests_both bytes lines last line same =
 
 -- ---- sound lines
 
-All-front : (P : Placed → Type 0) (lines : List Placed) (last : Placed) → All P (lines ++ last ∷ []) → All P lines
+All-front : (P : PackedLine → Type 0) (lines : List PackedLine) (last : PackedLine) → All P (lines ++ last ∷ []) → All P lines
 All-front P lines last all k d inside =
     subst P (get_or_append_left lines (last ∷ []) d k inside) (all k d (omega (arith, inside, length_push lines last)))
 
-All-last : (P : Placed → Type 0) (lines : List Placed) (last : Placed) → All P (lines ++ last ∷ []) → P last
+All-last : (P : PackedLine → Type 0) (lines : List PackedLine) (last : PackedLine) → All P (lines ++ last ∷ []) → P last
 All-last P lines last all =
     subst P (get_or_push lines last last (length lines) refl)
     (all (length lines) last (omega (arith, length_push lines last)))
 
 -- the last of lines that a property has may be another one with it
 All-other_last :
-    (P : Placed → Type 0) (lines : List Placed) (last line : Placed) → (P last → P line)
+    (P : PackedLine → Type 0) (lines : List PackedLine) (last line : PackedLine) → (P last → P line)
     → All P (lines ++ last ∷ []) → All P (lines ++ line ∷ [])
 All-other_last P lines last line more all =
     All-push P lines line (All-front P lines last all) (more (All-last P lines last all))
 
 -- the last line may have more ballots
-share_both : (n : ℕ) (bytes : List ℕ) (lines : List Placed) (last : Placed) (more : ℕ)
-    → IsShare n bytes (lines ++ last ∷ [])
-    → IsShare n bytes
+share_both : (n : ℕ) (bytes : List ℕ) (lines : List PackedLine) (last : PackedLine) (more : ℕ)
+    → IsPacked n bytes (lines ++ last ∷ [])
+    → IsPacked n bytes
     (lines ++ record { front = last.front; start = last.start; count = last.count + more } ∷ [])
 share_both n bytes lines last more is =
-    let line : Placed = record { front = last.front; start = last.start; count = last.count + more } in
+    let line : PackedLine = record { front = last.front; start = last.start; count = last.count + more } in
     record {
       numbers = is.numbers;
       kept =
           All-other_last (IsKept bytes) lines last line
           (λ kept. record { front = kept.front; ended = kept.ended; inside = kept.inside }) is.kept;
-      short = All-other_last (λ (l : Placed). length (rest_of bytes 0 l) ≤ 250) lines last line (λ short. short) is.short;
-      counted = All-other_last (λ (l : Placed). 1 ≤ l.count) lines last line (λ some. omega (arith, some)) is.counted;
+      short = All-other_last (λ (l : PackedLine). length (rest_of bytes 0 l) ≤ 250) lines last line (λ short. short) is.short;
+      counted = All-other_last (λ (l : PackedLine). 1 ≤ l.count) lines last line (λ some. omega (arith, some)) is.counted;
+      fronts =
+          All-other_last (λ (l : PackedLine). l.front ≡ front_of (rest_of bytes 0 l)) lines last line
+          (λ front. front) is.fronts;
     }
 
 -- and a further one of sound lines may come
-share_more_lines : (n : ℕ) (bytes : List ℕ) (lines own : List Placed) (i : ℕ) → i < length lines
-    → IsShare n bytes lines → IsShare n bytes own → IsShare n bytes (own ++ get_or lines i nothing ∷ [])
+pub share_more_lines : (n : ℕ) (bytes : List ℕ) (lines own : List PackedLine) (i : ℕ) → i < length lines
+    → IsPacked n bytes lines → IsPacked n bytes own → IsPacked n bytes (own ++ get_or lines i nothing ∷ [])
 share_more_lines n bytes lines own i inside all is =
     let line = get_or lines i nothing in
     record {
       numbers = is.numbers;
       kept = All-push (IsKept bytes) own line is.kept (all.kept i nothing inside);
-      short = All-push (λ (l : Placed). length (rest_of bytes 0 l) ≤ 250) own line is.short (all.short i nothing inside);
-      counted = All-push (λ (l : Placed). 1 ≤ l.count) own line is.counted (all.counted i nothing inside);
+      short = All-push (λ (l : PackedLine). length (rest_of bytes 0 l) ≤ 250) own line is.short (all.short i nothing inside);
+      counted = All-push (λ (l : PackedLine). 1 ≤ l.count) own line is.counted (all.counted i nothing inside);
+      fronts =
+          All-push (λ (l : PackedLine). l.front ≡ front_of (rest_of bytes 0 l)) own line is.fronts
+          (all.fronts i nothing inside);
     }
 
-share_front : (n : ℕ) (bytes : List ℕ) (lines : List Placed) (k : ℕ) → IsShare n bytes lines → IsShare n bytes (take k lines)
+share_front : (n : ℕ) (bytes : List ℕ) (lines : List PackedLine) (k : ℕ) → IsPacked n bytes lines → IsPacked n bytes (take k lines)
 share_front n bytes lines k is = record {
   numbers = is.numbers;
   kept = All-take (IsKept bytes) k lines is.kept;
-  short = All-take (λ (l : Placed). length (rest_of bytes 0 l) ≤ 250) k lines is.short;
-  counted = All-take (λ (l : Placed). 1 ≤ l.count) k lines is.counted;
+  short = All-take (λ (l : PackedLine). length (rest_of bytes 0 l) ≤ 250) k lines is.short;
+  counted = All-take (λ (l : PackedLine). 1 ≤ l.count) k lines is.counted;
+  fronts = All-take (λ (l : PackedLine). l.front ≡ front_of (rest_of bytes 0 l)) k lines is.fronts;
 }
 
 -- ---- line by line
 
 -- The lines up to the last one have the ballots of the first `i` lines, and those from there on are left.
-pub record AreMerged (bytes : List ℕ) (old now : List Placed) (i last : ℕ) : Type 0 where
+pub record AreMerged (bytes : List ℕ) (old now : List PackedLine) (i last : ℕ) : Type 0 where
   pub as_many : length now ≡ length old
   pub before : last < i
   pub left : drop i now ≡ drop i old
   pub ballots : rests bytes 0 (take (last + 1) now) ≡ rests bytes 0 (take i old)
-  pub sound : (n : ℕ) → IsShare n bytes old → IsShare n bytes (take (last + 1) now)
+  pub sound : (n : ℕ) → IsPacked n bytes old → IsPacked n bytes (take (last + 1) now)
 
-pub first_merged : (bytes : List ℕ) (lines : List Placed) → AreMerged bytes lines lines 1 0
+pub first_merged : (bytes : List ℕ) (lines : List PackedLine) → AreMerged bytes lines lines 1 0
 first_merged bytes lines =
     record {
       as_many = refl;
@@ -117,23 +124,23 @@ first_merged bytes lines =
     }
 
 -- the next line is as it was
-same_line : (now old : List Placed) (i : ℕ) → drop i now ≡ drop i old → get_or now i nothing ≡ get_or old i nothing
+same_line : (now old : List PackedLine) (i : ℕ) → drop i now ≡ drop i old → get_or now i nothing ≡ get_or old i nothing
 same_line now old i left =
     let here : i ≡ i + 0 = omega arith in
     ap (λ (k : ℕ). get_or now k nothing) here
     ∙ (sym (get_or-drop i now 0 nothing)
-    ∙ (ap (λ (l : List Placed). get_or l 0 nothing) left
+    ∙ (ap (λ (l : List PackedLine). get_or l 0 nothing) left
     ∙ (get_or-drop i old 0 nothing ∙ ap (λ (k : ℕ). get_or old k nothing) (sym here))))
 
-one_less_left : (now old : List Placed) (i : ℕ) → drop i now ≡ drop i old → drop (i + 1) now ≡ drop (i + 1) old
+one_less_left : (now old : List PackedLine) (i : ℕ) → drop i now ≡ drop i old → drop (i + 1) now ≡ drop (i + 1) old
 one_less_left now old i left = sym (drop-drop 1 i now) ∙ (ap (drop 1) left ∙ drop-drop 1 i old)
 
-module _ (bytes : List ℕ) (old now : List Placed) (i last : ℕ) (so_far : AreMerged bytes old now i last)
+module _ (bytes : List ℕ) (old now : List PackedLine) (i last : ℕ) (so_far : AreMerged bytes old now i last)
     (inside : i < length now) where
-  abbrev pub one : Placed
+  abbrev pub one : PackedLine
   one = get_or now last nothing
 
-  abbrev pub line : Placed
+  abbrev pub line : PackedLine
   line = get_or now i nothing
 
   abbrev own : List (List ℕ)
@@ -146,7 +153,7 @@ module _ (bytes : List ℕ) (old now : List Placed) (i last : ℕ) (so_far : Are
   among = omega (arith, so_far.as_many, inside)
 
   passed : take (i + 1) old ≡ take i old ++ line ∷ []
-  passed = take_more old i nothing among ∙ ap (λ (l : Placed). take i old ++ l ∷ []) (sym (same_line now old i so_far.left))
+  passed = take_more old i nothing among ∙ ap (λ (l : PackedLine). take i old ++ l ∷ []) (sym (same_line now old i so_far.left))
 
   front : take (last + 1) now ≡ take last now ++ one ∷ []
   front = take_more now last nothing (omega (arith, within))
@@ -162,7 +169,7 @@ module _ (bytes : List ℕ) (old now : List Placed) (i last : ℕ) (so_far : Are
       (set now last (record { front = one.front; start = one.start; count = one.count + line.count }))
       (i + 1) last
   merged_same same =
-      let both : Placed = record { front = one.front; start = one.start; count = one.count + line.count } in
+      let both : PackedLine = record { front = one.front; start = one.start; count = one.count + line.count } in
       let is : take (last + 1) (set now last both) ≡ take last now ++ both ∷ [] =
       take_more_set now last both (omega (arith, within)) in
       record {
@@ -172,10 +179,10 @@ module _ (bytes : List ℕ) (old now : List Placed) (i last : ℕ) (so_far : Are
         ballots =
             ap (rests bytes 0) is
             ∙ (rests_both bytes (take last now) one line same
-            ∙ (ap (λ (l : List Placed). rests bytes 0 l ++ own) (sym front) ∙ with_line));
+            ∙ (ap (λ (l : List PackedLine). rests bytes 0 l ++ own) (sym front) ∙ with_line));
         sound =
-            λ n all. subst (IsShare n bytes) (sym is) (share_both n bytes (take last now) one line.count
-            (subst (IsShare n bytes) front (so_far.sound n all)));
+            λ n all. subst (IsPacked n bytes) (sym is) (share_both n bytes (take last now) one line.count
+            (subst (IsPacked n bytes) front (so_far.sound n all)));
       }
 
   pub merged_other : AreMerged bytes old (set now (last + 1) line) (i + 1) (last + 1)
@@ -187,15 +194,15 @@ module _ (bytes : List ℕ) (old now : List Placed) (i last : ℕ) (so_far : Are
         before = omega (arith, so_far.before);
         left = drop-set-lt (i + 1) now (last + 1) line (omega (arith, so_far.before)) ∙ one_less_left now old i so_far.left;
         ballots = ap (rests bytes 0) is ∙ (rests_push bytes (take (last + 1) now) line ∙ with_line);
-        sound = λ n all. subst (IsShare n bytes) (sym is)
-            (subst (λ (l : Placed). IsShare n bytes (take (last + 1) now ++ l ∷ [])) (sym (same_line now old i so_far.left))
+        sound = λ n all. subst (IsPacked n bytes) (sym is)
+            (subst (λ (l : PackedLine). IsPacked n bytes (take (last + 1) now ++ l ∷ [])) (sym (same_line now old i so_far.left))
             (share_more_lines n bytes old (take (last + 1) now) i among all (so_far.sound n all)));
       }
 
   -- both lines have no more ballots than all
   pub both_few : one.count + line.count ≤ line_count old
   both_few =
-      let count : Placed → ℕ = λ l. l.count in
+      let count : PackedLine → ℕ = λ l. l.count in
       omega (
         arith,
         ap line_count front,

@@ -1,8 +1,8 @@
 -- The shape of a trie's nodes.
 use Rattle.std.proofs.Common.{◌≡◌, ℕ, ◌+◌, ◌≤◌, List, [], ◌++◌, length, replicate, arith, refl, ap, sym, ◌∙◌}
 use Rattle.std.proofs.lemmas.List.{length-append, length-replicate}
-use Rattle.ranking_trie.specs.declared.forest.Forest as trie
-use Rattle.ranking_trie.specs.declared.forest.Forest.TheVariants.{Empty, Grow'}
+use Rattle.ranking_trie.specs.Forest as trie
+use Rattle.ranking_trie.specs.Forest.{Empty, Grow}
 use Rattle.ranking_trie.specs.Bag.{bag, below, IsRising, IsWithin}
 use Rattle.ranking_trie.specs.BallotBag.{BallotBag}
 use Rattle.frozen_plan.specs.Forest.{Forest, Bare, Grown, ballots_of, through, IsGrown}
@@ -14,7 +14,7 @@ use Rattle.frozen_plan.proofs.ReadLemmas.{length-ballots_of, plan_of_rows, ballo
 -- the nodes have the trie's ballots
 pub ballots_of-shape : (f : trie.Forest) → ballots_of (shape_of f) ≡ bag f
 ballots_of-shape Empty = refl
-ballots_of-shape (Grow' c n p inner next) =
+ballots_of-shape (Grow c n p inner next) =
     ap (λ (low : List (List ℕ)). below c n low ++ ballots_of (shape_of next)) (ballots_of-shape inner)
     ∙ ap (λ (rest : List (List ℕ)). below c n (bag inner) ++ rest) (ballots_of-shape next)
 
@@ -25,7 +25,7 @@ through-shape f = sym (length-ballots_of (shape_of f)) ∙ ap length (ballots_of
 -- siblings rise, each node has a ballot and none is too deep
 pub grown : (n low d : ℕ) (f : trie.Forest) → IsRising low f → IsWithin n 250 d f → IsGrown n low d (shape_of f)
 grown n low d Empty rising within = tt
-grown n low d (Grow' c k p inner next) rising within = (
+grown n low d (Grow c k p inner next) rising within = (
   rising.0,
   within.1,
   within.2,

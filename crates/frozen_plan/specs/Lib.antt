@@ -4,6 +4,5 @@ pub mod Shape
 pub mod Rows
 pub mod Dealing
 pub mod OneBag
-pub mod Share
 pub mod Groups
 pub mod Dealt

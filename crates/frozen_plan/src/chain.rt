@@ -3,17 +3,17 @@ ghost use Rattle.std.specs.Prelude.{◌≡◌, ◌+◌, ◌≤◌, ◌++◌, len
 ghost use Rattle.plain_ballots.specs.declared.limits.TheConstants.{MOST_CANDIDATES};
 ghost use Rattle.frozen_plan.specs.Forest.{rows_of};
 ghost use Rattle.frozen_plan.specs.Groups.{chain};
-ghost use Rattle.frozen_plan.specs.Share.{rest_of};
+ghost use Rattle.packed_ballots.specs.Packed.{rest_of};
 
-use crate::share::{Placed, rank_at};
 use crate::{NoMemory, PlanRow};
+use packed_ballots::{PackedLine, rank_at};
 use plain_ballots::MOST_CANDIDATES;
 
 /// Appends the nodes of a line by what stands in its ranking from place `at` from 0 on, and gives how
 /// many ballots it has.
 pub(crate) fn push_line(
     ranks: &[u8],
-    line: Placed,
+    line: PackedLine,
     at: u16,
     rows: &mut Vec<PlanRow>,
 ) -> Result<u64, NoMemory>
@@ -36,7 +36,7 @@ pub(crate) fn push_line(
 }
 
 /// The place from 0 behind a line's last rank, which is at `at` or behind it.
-fn end_of(ranks: &[u8], line: Placed, at: u16) -> u16
+fn end_of(ranks: &[u8], line: PackedLine, at: u16) -> u16
     requires short { at + length (rest_of ranks.now at line) ≤ MOST_CANDIDATES }
     ensures { result ≡ at + length (rest_of ranks.now at line) }
 {

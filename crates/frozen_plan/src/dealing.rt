@@ -1,14 +1,15 @@
 // Ballots dealt out among shards, and a plan of what each gets.
-ghost use Rattle.std.specs.Prelude.{◌≡◌, ℕ, ◌+◌, ◌%◌, ◌<◌, ◌≤◌, [], ◌∷◌, ◌++◌, All, IfOk, OnOk, length, IsPermutation};
+ghost use Rattle.std.specs.Prelude.{◌≡◌, ℕ, ◌+◌, ◌%◌, ◌≤◌, ◌++◌, All, IfOk, OnOk, length, replicate, IsPermutation};
 ghost use Rattle.plain_ballots.specs.declared.limits.TheConstants.{MOST_BALLOTS, MOST_CANDIDATES};
-ghost use Rattle.plain_ballots.specs.Ballots.{plain, IsSound};
-ghost use Rattle.frozen_plan.specs.Dealing.{share, AreOfShares};
+ghost use Rattle.plain_ballots.specs.Ballots.{ballot_count, plain, IsSound};
+ghost use Rattle.plain_ballots.specs.Ranking.{IsRanking};
+ghost use Rattle.frozen_plan.specs.Dealing.{AreOfShares};
 ghost use Rattle.frozen_plan.specs.Dealt.{AreDealt, AreEmpty};
 ghost use Rattle.frozen_plan.specs.Plan.{all_ballots};
 
-use crate::share::Share;
 use crate::{NoMemory, Plan, Plans};
-use plain_ballots::{Ballots, lines_stand_for_ballots};
+use packed_ballots::PackedBallots;
+use plain_ballots::{BallotLine, Ballots, lines_stand_for_ballots};
 use std::alloc::Global;
 
 impl Plans {
@@ -24,11 +25,10 @@ impl Plans {
         ensures few { IfOk result (λ plans. length (all_ballots plans) ≤ MOST_BALLOTS) }
     {
         lines_stand_for_ballots();
-        let candidates = ballots.candidates();
-        let mut shares = shares_of(alloc, ballots, shards)?;
+        let shares = shares_of(alloc, ballots, shards)?;
         let mut plans = Plans::new(alloc);
-        for shard in 0..shards {
-            let plan = Plan::from_share(alloc, candidates, &mut shares[shard as usize])?;
+        for share in shares {
+            let plan = Plan::of_packed(alloc, share)?;
             plans.push(plan)?;
         }
         Ok(plans)
@@ -36,46 +36,58 @@ impl Plans {
 }
 
 /// The lines of ballots, which are let go, dealt out to so many shares.
-fn shares_of(alloc: Global, ballots: Ballots, shards: u32) -> Result<Vec<Share>, NoMemory>
+fn shares_of(alloc: Global, ballots: Ballots, shards: u32) -> Result<Vec<PackedBallots>, NoMemory>
     requires shards { 1 ≤ shards }
     requires candidates { ballots.candidates ≤ MOST_CANDIDATES }
     ensures as_many { IfOk result (λ shares. length shares.items ≡ shards) }
     ensures dealt { IfOk result (λ shares. AreDealt ballots.candidates 0 ballots.lines shares.items) }
     ensures sound { IfOk result (λ _. IsSound ballots.candidates ballots.lines) }
 {
-    let mut shares = empty_shares(alloc, shards, ballots.lines().len())?;
+    let mut shares = empty_shares(alloc, ballots.candidates(), shards)?;
     deal(ballots, shares.as_mut_slice())?;
     Ok(shares)
 }
 
-/// So many shares without lines, each with room for its part of so many.
-fn empty_shares(alloc: Global, shards: u32, lines: usize) -> Result<Vec<Share>, NoMemory>
-    requires { 1 ≤ shards }
+/// So many shares without lines.
+fn empty_shares(alloc: Global, candidates: u32, shards: u32) -> Result<Vec<PackedBallots>, NoMemory>
+    requires { candidates ≤ MOST_CANDIDATES }
     ensures as_many { IfOk result (λ shares. length shares.items ≡ shards) }
-    ensures empty { IfOk result (λ shares. AreEmpty shares.items) }
+    ensures empty { IfOk result (λ shares. AreEmpty candidates shares.items) }
 {
-    let each = lines.div_ceil(shards as usize);
     let mut shares = Vec::with_capacity(alloc, shards as usize)?;
     for i in 0..shards {
-        shares.push_reserved(Share::new(alloc, each)?);
+        shares.push_reserved(PackedBallots::new(alloc, candidates)?);
     }
     Ok(shares)
 }
 
 /// Deals the lines of ballots out, one to each share in turn. They are taken from the last to the first, and
 /// each is let go when its share has it, so that few ballots stand beside many shares.
-fn deal(mut ballots: Ballots, shares: &mut [Share]) -> Result<(), NoMemory>
-    requires candidates { ballots.candidates ≤ MOST_CANDIDATES }
+fn deal(mut ballots: Ballots, shares: &mut [PackedBallots]) -> Result<(), NoMemory>
     requires some { 1 ≤ length shares.old }
-    requires empty { AreEmpty shares.old }
-    ensures { OnOk result (AreDealt ballots.candidates 0 ballots.lines shares.new) }
+    requires empty { AreEmpty ballots.candidates shares.old }
+    ensures dealt { OnOk result (AreDealt ballots.candidates 0 ballots.lines shares.new) }
 {
+    lines_stand_for_ballots();
     let shards = shares.len();
     let mut turn = ballots.lines().len() % shards;
     while let Some(line) = ballots.pop_line() {
         turn = before(turn, shards);
-        shares[turn].take(&line)?;
+        put(&mut shares[turn], &line)?;
     }
+    Ok(())
+}
+
+/// Puts the ballots of a line to those of a share.
+fn put(share: &mut PackedBallots, line: &BallotLine) -> Result<(), NoMemory>
+    requires ranking { IsRanking share.old.candidates line.now.ranking }
+    requires counted { 1 ≤ line.now.count }
+    requires room { ballot_count share.old.lines + line.now.count ≤ MOST_BALLOTS }
+    ensures candidates { share.new.candidates ≡ share.old.candidates }
+    ensures ballots { OnOk result (IsPermutation (plain share.new.lines) (plain share.old.lines ++ replicate line.now.count line.now.ranking)) }
+{
+    let ranks = line.ranking.ranks();
+    share.take(line.count, ranks, ranks.len())?;
     Ok(())
 }
 

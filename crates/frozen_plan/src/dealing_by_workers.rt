@@ -1,49 +1,47 @@
-// Plans of shards, made by several workers.
-ghost use Rattle.std.specs.Prelude.{◌≡◌, ◌+◌, ◌<◌, ◌≤◌, ◌^◌, All, IfOk, IfSome, Some, length, map, vec_len, IsPermutation};
-ghost use Rattle.plain_ballots.specs.declared.limits.TheConstants.{MOST_BALLOTS, MOST_CANDIDATES};
-ghost use Rattle.plain_ballots.specs.Ballots.{plain, IsSound};
+// Packed ballots dealt out among shards, and the plans of what each gets, made by several workers.
+ghost use Rattle.std.specs.Prelude.{◌≡◌, ◌+◌, ◌<◌, ◌≤◌, All, IfOk, IfSome, Some, length, map, vec_len, IsPermutation};
+ghost use Rattle.plain_ballots.specs.declared.limits.TheConstants.{MOST_BALLOTS};
+ghost use Rattle.plain_ballots.specs.Ballots.{plain};
 ghost use Rattle.frozen_plan.specs.Dealing.{AreOfShares};
-ghost use Rattle.frozen_plan.specs.Dealt.{IsDealt, IsOfShare, AreOfTurns};
+ghost use Rattle.frozen_plan.specs.Dealt.{IsOfShare, AreOfTurns};
 ghost use Rattle.frozen_plan.specs.Plan.{all_ballots};
 
-use crate::share::Share;
+use crate::deal::Deal;
 use crate::{NoMemory, Plan, Plans};
-use plain_ballots::{BallotLine, Ballots, lines_stand_for_ballots};
+use packed_ballots::PackedBallots;
+use plain_ballots::lines_stand_for_ballots;
 use std::alloc::Global;
 use std::thread;
 use std::thread::Threads;
 
-/// Fewer lines than these are dealt by the caller: threads cost more than they bring.
+/// Of fewer lines than these the caller's thread makes all plans: threads cost more than they bring.
 const MANY: usize = 20_000;
 
 impl Plans {
-    /// What [`Plans::dealt`] gives, made by at most so many workers. Each worker deals the lines of its
-    /// shards and makes their plans in a thread of its own; where none can be had, the caller's thread
-    /// does its work.
-    pub fn dealt_by<R: Threads + Sync>(
+    /// Deals the lines of packed ballots out among so many shards, the first line to the first shard, and
+    /// makes a plan of what each gets, by at most so many workers: each makes the plans of some shards in a
+    /// thread of its own. Where none can be had, the caller's thread does its work. The packed ballots are
+    /// let go when the last plan is made.
+    pub fn of_packed<R: Threads + Sync>(
         rt: &R,
         alloc: Global,
-        ballots: Ballots,
+        packed: PackedBallots,
         shards: u32,
         workers: u32,
     ) -> Result<Plans, NoMemory>
         requires shards { 1 ≤ shards }
         requires workers { 1 ≤ workers }
-        requires candidates { (1 ≤ ballots.candidates) × (ballots.candidates ≤ MOST_CANDIDATES) }
         ensures as_many { IfOk result (λ plans. length plans ≡ shards) }
-        ensures candidates { IfOk result (All (λ plan. plan.candidates ≡ ballots.candidates)) }
-        ensures shares { IfOk result (AreOfShares shards 1 ballots.lines) }
-        ensures ballots { IfOk result (λ plans. IsPermutation (all_ballots plans) (plain ballots.lines)) }
+        ensures candidates { IfOk result (All (λ plan. plan.candidates ≡ packed.candidates)) }
+        ensures shares { IfOk result (AreOfShares shards 1 packed.lines) }
+        ensures ballots { IfOk result (λ plans. IsPermutation (all_ballots plans) (plain packed.lines)) }
         ensures few { IfOk result (λ plans. length (all_ballots plans) ≤ MOST_BALLOTS) }
     {
         lines_stand_for_ballots();
-        if workers == 1 || ballots.lines().len() < MANY {
-            return Plans::dealt(alloc, ballots, shards);
-        }
-        let candidates = ballots.candidates();
-        let lines = ballots.lines();
+        let workers = if packed.len() < MANY { 1 } else { workers };
+        let deal = Deal::of(packed, shards);
         let mut made = none_made(alloc, shards)?;
-        make_plans(rt, alloc, candidates, lines, workers, made.as_mut_slice());
+        make_plans(rt, alloc, &deal, workers, made.as_mut_slice());
         let plans = all_made(alloc, made)?;
         Ok(plans)
     }
@@ -64,65 +62,20 @@ fn none_made(alloc: Global, shards: u32) -> Result<Vec<Option<Plan>>, NoMemory>
 fn make_plans<R: Threads + Sync>(
     rt: &R,
     alloc: Global,
-    candidates: u32,
-    lines: &[BallotLine],
+    deal: &Deal,
     workers: u32,
     made: &mut [Option<Plan>],
 )
     requires workers { 1 ≤ workers }
-    requires shards { length made.old < 2 ^ 32 }
-    requires candidates { candidates ≤ MOST_CANDIDATES }
-    requires sound { IsSound candidates lines.now }
+    requires shards { length made.old ≡ deal.now.shards }
     ensures as_many { length made.new ≡ length made.old }
-    ensures made { AreOfTurns candidates lines.now made.new }
+    ensures made { AreOfTurns deal.now.candidates deal.now.lines made.new }
 {
-    let shards = made.len();
     let make = |turn: usize, plan: &mut Option<Plan>|
-        requires { (turn < shards) × (shards < 2 ^ 32) × (candidates ≤ MOST_CANDIDATES) × IsSound candidates lines.now }
-        ensures { IfSome plan.exit.now (IsOfShare candidates shards (turn + 1) lines.entry.now) }
-    { *plan = plan_of(alloc, candidates, lines, shards, turn).ok() };
+        requires { turn < deal.now.shards }
+        ensures { IfSome plan.exit.now (IsOfShare deal.entry.now.candidates deal.entry.now.shards (turn + 1) deal.entry.now.lines) }
+    { *plan = deal.plan_of(alloc, turn).ok() };
     thread::for_each_mut(rt, made, workers as usize, &make);
-}
-
-/// The plan of the shard at a turn from 0 of so many.
-fn plan_of(
-    alloc: Global,
-    candidates: u32,
-    lines: &[BallotLine],
-    shards: usize,
-    turn: usize,
-) -> Result<Plan, NoMemory>
-    requires turn { turn < shards }
-    requires shards { shards < 2 ^ 32 }
-    requires candidates { candidates ≤ MOST_CANDIDATES }
-    requires sound { IsSound candidates lines.now }
-    ensures { IfOk result (IsOfShare candidates shards (turn + 1) lines.now) }
-{
-    let mut share = share_of(alloc, candidates, lines, shards, turn)?;
-    Plan::from_share(alloc, candidates, &mut share)
-}
-
-/// The lines that are dealt to the shard at a turn from 0 of so many.
-fn share_of(
-    alloc: Global,
-    candidates: u32,
-    lines: &[BallotLine],
-    shards: usize,
-    turn: usize,
-) -> Result<Share, NoMemory>
-    requires turn { turn < shards }
-    requires shards { shards < 2 ^ 32 }
-    requires candidates { candidates ≤ MOST_CANDIDATES }
-    requires sound { IsSound candidates lines.now }
-    ensures { IfOk result (IsDealt candidates shards (turn + 1) 0 lines.now) }
-{
-    let mut share = Share::new(alloc, lines.len().div_ceil(shards))?;
-    let mut i = turn;
-    while i < lines.len() {
-        share.take(&lines[i])?;
-        i += shards;
-    }
-    Ok(share)
 }
 
 /// The plans of all shards, unless one was not made.

@@ -4,6 +4,7 @@
 #![tactic(auto)]
 
 mod chain;
+mod deal;
 mod dealing;
 mod dealing_by_workers;
 mod groups;
@@ -15,7 +16,6 @@ mod plan_row;
 mod plans;
 mod push_back;
 mod rows;
-mod share;
 
 pub use laws::one_bag_has_one_plan;
 pub use no_memory::NoMemory;

@@ -1,30 +1,31 @@
 // The rows of a trie's nodes.
 ghost use Rattle.std.specs.Prelude.{◌≡◌, ℕ, ◌+◌, ◌≤◌, [], ◌∷◌, ◌++◌, IfOk, OnOk};
 ghost use Rattle.plain_ballots.specs.declared.limits.TheConstants.{MOST_BALLOTS, MOST_CANDIDATES};
+ghost use Rattle.ranking_trie.specs.Siblings.{forest_of};
 ghost use Rattle.frozen_plan.specs.Forest.{Bare, Grown, through, rows_of, IsGrown};
 ghost use Rattle.frozen_plan.specs.Shape.{shape_of};
 
 use crate::{NoMemory, PlanRow};
-use ranking_trie::Forest;
+use ranking_trie::Siblings;
 
 /// Appends the nodes of a forest in preorder, and gives how many ballots go through them.
 #[cycle(rows)]
 pub(crate) fn push_forest(
-    forest: &Forest,
+    forest: Siblings,
     depth: u16,
     rows: &mut Vec<PlanRow>,
 ) -> Result<u64, NoMemory>
-    requires grown { (low : ℕ) × IsGrown MOST_CANDIDATES low depth (shape_of forest.now) }
-    requires few { through (shape_of forest.now) ≤ MOST_BALLOTS }
+    requires grown { (low : ℕ) × IsGrown MOST_CANDIDATES low depth (shape_of (forest_of forest)) }
+    requires few { through (shape_of (forest_of forest)) ≤ MOST_BALLOTS }
     requires depth { depth ≤ MOST_CANDIDATES + 1 }
-    ensures rows { IfOk result (λ _. rows.new.items ≡ rows.old.items ++ rows_of depth (shape_of forest.now)) }
-    ensures through { IfOk result (λ n. n ≡ through (shape_of forest.now)) }
+    ensures rows { IfOk result (λ _. rows.new.items ≡ rows.old.items ++ rows_of depth (shape_of (forest_of forest.entry))) }
+    ensures through { IfOk result (λ n. n ≡ through (shape_of (forest_of forest.entry))) }
 {
     let mut total = 0;
     let mut rest = forest;
-    while let Forest::Grow(candidate, ends, pair) = rest {
-        total += push_node(*candidate, *ends, &pair.inner, depth, rows)?;
-        rest = &pair.next;
+    while let Some(node) = rest.first() {
+        total += push_node(node.candidate, node.ends, node.inner, depth, rows)?;
+        rest = node.next;
     }
     Ok(total)
 }
@@ -34,16 +35,16 @@ pub(crate) fn push_forest(
 fn push_node(
     candidate: u16,
     ends: u32,
-    inner: &Forest,
+    inner: Siblings,
     depth: u16,
     rows: &mut Vec<PlanRow>,
 ) -> Result<u64, NoMemory>
     requires candidate { candidate ≤ MOST_CANDIDATES }
-    requires grown { IsGrown MOST_CANDIDATES 0 (depth + 1) (shape_of inner.now) }
-    requires few { ends + through (shape_of inner.now) ≤ MOST_BALLOTS }
+    requires grown { IsGrown MOST_CANDIDATES 0 (depth + 1) (shape_of (forest_of inner)) }
+    requires few { ends + through (shape_of (forest_of inner)) ≤ MOST_BALLOTS }
     requires depth { depth ≤ MOST_CANDIDATES }
-    ensures rows { IfOk result (λ _. rows.new.items ≡ rows.old.items ++ rows_of depth (Grown candidate ends (shape_of inner.now) Bare)) }
-    ensures through { IfOk result (λ n. n ≡ ends + through (shape_of inner.now)) }
+    ensures rows { IfOk result (λ _. rows.new.items ≡ rows.old.items ++ rows_of depth (Grown candidate ends (shape_of (forest_of inner.entry)) Bare)) }
+    ensures through { IfOk result (λ n. n ≡ ends + through (shape_of (forest_of inner.entry))) }
 {
     let at = rows.len();
     let row = PlanRow {

@@ -1,5 +1,5 @@
 // The tokens of an input, one after another.
-ghost use Rattle.std.specs.Prelude.{◌≡◌, ◌≤◌, if◌then◌else◌, Bool, length, IfOk, IfErr, IfSome, IfNone};
+ghost use Rattle.std.specs.Prelude.{◌≡◌, ◌≤◌, if◌then◌else◌, Bool, length, true, IfOk, IfErr, IfSome, IfNone};
 ghost use Rattle.input_text.specs.Token.{Number, with_front};
 ghost use Rattle.input_text.specs.Scan.{scan, cut};
 ghost use Rattle.input_text.specs.Reader.{Gives, placed, GivesToken, IsTokenAt, IsTextOf, IsSaid};
@@ -115,6 +115,23 @@ impl<'a> Tokens<'a> {
         Tokens { bytes, at, letters }
     }
 
+    /// The tokens of an input from a place on. Where it lies within a token or a comment they are none of the
+    /// input's: whoever begins in the middle has to hold this reader against one that came there.
+    pub fn from_place(bytes: &'a [u8], letters: bool, at: usize) -> Self
+        requires { at ≤ length bytes.now }
+        ensures { result ≡ record { bytes = bytes.entry.now; rest = cut letters 0 at bytes.entry.now } }
+    {
+        Tokens { bytes, at, letters }
+    }
+
+    /// Whether this reader stands where another one of the same input does. Then both give the same.
+    pub fn stands_with(&self, other: &Tokens<'_>) -> bool
+        requires { self.now.bytes ≡ other.now.bytes }
+        ensures { result ≡ true → self.now ≡ other.now }
+    {
+        self.at == other.at && self.letters == other.letters
+    }
+
     /// A reader of its own that stands where this one does.
     #[inline(always)]
     pub fn same(&self) -> Tokens<'a>
@@ -125,6 +142,13 @@ impl<'a> Tokens<'a> {
             at: self.at,
             letters: self.letters,
         }
+    }
+
+    /// The whole input.
+    pub fn input(&self) -> &'a [u8]
+        ensures { result.now ≡ self.now.bytes }
+    {
+        self.bytes
     }
 
     /// The length of the input.

@@ -11,7 +11,7 @@ use fixed_place::Omega;
 use frozen_plan::Plans;
 use lot_order::Lots;
 use meek_rule::Spread;
-use plain_ballots::Ballots;
+use packed_ballots::PackedBallots;
 use sheet_text::sheets_are_unique;
 use std::alloc::Global;
 use std::slice;
@@ -43,11 +43,11 @@ impl<const P: usize> CountText<P> for OneSheet {
     }
 }
 
-/// Deals the ballots out among the crew's shards, counts them in its lanes, and writes the sheet. All
+/// Deals the packed ballots out among the crew's shards, counts them in its lanes, and writes the sheet. All
 /// memory is taken before the first byte.
 pub fn write_sheet_in_lanes<const P: usize, R: Threads + Sync, G: Gate + Sync, K: Sink>(
     crew: &Crew<'_, R, G>,
-    ballots: Ballots,
+    ballots: PackedBallots,
     roll: &Roll,
     lots: &Lots,
     omega: Omega,
@@ -64,7 +64,7 @@ pub fn write_sheet_in_lanes<const P: usize, R: Threads + Sync, G: Gate + Sync, K
     // The sheet of the plans' ballots is that of the ballots.
     sheets_are_unique();
     let _candidates = roll.candidates();
-    let plans = Plans::dealt_by(crew.rt, crew.alloc, ballots, crew.shards, crew.workers)?;
+    let plans = Plans::of_packed(crew.rt, crew.alloc, ballots, crew.shards, crew.workers)?;
     let polls = Polls {
         rolls: slice::from_ref(roll),
         lots,

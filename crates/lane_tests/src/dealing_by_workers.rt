@@ -1,9 +1,10 @@
-// Five lines, dealt by hand, that several workers make into plans.
+// Lines, packed and dealt by hand, that several workers make into plans.
 ghost use Rattle.std.specs.Prelude.{◌≡◌, ◌≤◌, IfOk, length};
 
 use crate::dealing::{EVEN, FIVE_LINES, ODD, totals_of};
-use crate::samples::{ballots_of, has_rows};
-use frozen_plan::Plans;
+use crate::samples::{Line, RowFigures, has_rows, packed_of, take};
+use frozen_plan::{Plan, Plans};
+use packed_ballots::PackedBallots;
 use std::alloc::Global;
 use std::process::Abort;
 use std::test::Fail;
@@ -20,8 +21,8 @@ fn dealt_by<R: Threads + Sync>(
     requires workers { 1 ≤ workers }
     ensures { IfOk result (λ plans. length plans ≡ shards) }
 {
-    let ballots = ballots_of(alloc, 3, &FIVE_LINES)?;
-    Ok(Plans::dealt_by(rt, alloc, ballots, shards, workers)?)
+    let packed = packed_of(alloc, 3, &FIVE_LINES)?;
+    Ok(Plans::of_packed(rt, alloc, packed, shards, workers)?)
 }
 
 /// Two shards get three lines and two.
@@ -49,6 +50,58 @@ fn workers_make_no_difference(rt: HostRuntime) -> Result<(), Fail> {
     for workers in [1, 2, 3, 32] {
         two_shards(&rt, rt.alloc(), workers)?;
         seven_shards(&rt, rt.alloc(), workers)?;
+    }
+    Ok(())
+}
+
+/// Two lines are equal to others: whether they were made one when they were packed or not, each plan has
+/// their ballots in one place.
+const EQUAL_LINES: [Line; 5] = [(3, &[1, 2]), (4, &[]), (1, &[3]), (2, &[1, 2]), (5, &[])];
+
+#[test]
+fn equal_lines_are_counted_together(rt: HostRuntime) -> Result<(), Fail> {
+    let packed = packed_of(rt.alloc(), 3, &EQUAL_LINES)?;
+    let plans = Plans::of_packed(&rt, rt.alloc(), packed, 1, 1)?;
+    let rows = [(0, 0, 15, 4), (1, 1, 5, 2), (2, 2, 5, 1), (1, 3, 1, 1)];
+    has_rows(&rt, plans.get(0), &rows);
+    Ok(())
+}
+
+/// A ballot each for this candidate before each of 126 to 250, and behind it.
+fn take_pairs(alloc: Global, packed: &mut PackedBallots, one: u32) -> Result<(), Fail> {
+    for other in 126..251 {
+        take(alloc, packed, 1, &[one, other])?;
+        take(alloc, packed, 1, &[other, one])?;
+    }
+    Ok(())
+}
+
+/// A ballot for each ranking of two of 250 candidates, one of 1 to 125 and one of the others, in 31,250 lines:
+/// so many that workers make plans in threads.
+fn all_pairs(alloc: Global) -> Result<PackedBallots, Fail> {
+    let mut packed = PackedBallots::new(alloc, 250)?;
+    for one in 1..126 {
+        take_pairs(alloc, &mut packed, one)?;
+    }
+    Ok(packed)
+}
+
+/// The plan has the ballots and rows of 125 times 125 rankings of two, and this row behind its root.
+fn has_half(rt: &impl Abort, plan: &Plan, first: RowFigures) {
+    let rows = plan.rows();
+    assert_eq!(rt; plan.total(), 15_625);
+    assert_eq!(rt; rows.len(), 1 + 125 + 15_625);
+    let row = rows[1];
+    assert_eq!(rt; (row.depth, row.candidate, row.ballots, row.skip), first);
+}
+
+#[test]
+fn workers_make_plans_of_many_lines(rt: HostRuntime) -> Result<(), Fail> {
+    for workers in [1, 2, 3] {
+        let packed = all_pairs(rt.alloc())?;
+        let plans = Plans::of_packed(&rt, rt.alloc(), packed, 2, workers)?;
+        has_half(&rt, plans.get(0), (1, 1, 125, 126));
+        has_half(&rt, plans.get(1), (1, 126, 125, 126));
     }
     Ok(())
 }

@@ -12,9 +12,8 @@ use Rattle.std.proofs.lemmas.List.Sorted.{IsPermutation-append_left, IsPermutati
 use Rattle.std.proofs.lemmas.List.Sorted.{IsPermutation-append_comm, IsPermutation-sym, All-permutation}
 use Rattle.std.proofs.lemmas.List.Sorted.{length_permutation}
 use Rattle.ranking_trie.proofs.ListLemmas.{All-right}
-use Rattle.ranking_trie.specs.declared.forest.Forest.{Forest}
-use Rattle.ranking_trie.specs.declared.forest.Forest.TheVariants.{Empty, Grow'}
-use Rattle.ranking_trie.specs.Bag.{below, IsRising, IsFalling}
+use Rattle.ranking_trie.specs.Forest.{Forest, Empty, Grow}
+use Rattle.ranking_trie.specs.Bag.{below, IsRising}
 
 pub map-replicate : {X Y : Type 0} (f : X → Y) (k : ℕ) (x : X) → map f (replicate k x) ≡ replicate k (f x)
 map-replicate f zero x = refl
@@ -128,15 +127,9 @@ put_empty ends count others =
     (ap (λ l. l ++ others) many ∙ append_assoc (replicate count []) (replicate ends []) others)
     (IsPermutation-refl (replicate (ends + count) [] ++ others))
 
-pub falling_more : (a b : ℕ) (f : Forest) → a ≤ b → IsFalling a f → IsFalling b f
-falling_more a b Empty le falling = tt
-falling_more a b (Grow' c n p inner next) le falling =
-    let less : c < a = falling.1 in
-    (falling.0, omega arith, falling.2, falling.3, falling.4)
-
 pub rising_less : (a b : ℕ) (f : Forest) → a ≤ b → IsRising b f → IsRising a f
 rising_less a b Empty le rising = tt
-rising_less a b (Grow' c n p inner next) le rising =
+rising_less a b (Grow c n p inner next) le rising =
     let less : b < c = rising.0 in
     (omega arith, rising.1, rising.2, rising.3)
 

@@ -1,15 +1,14 @@
 -- How many ballots have a ranking.
-use Rattle.std.proofs.Common.{◌≡◌, ◌≢◌, ℕ, ◌+◌, ◌-◌, ◌*◌, ◌<◌, ◌≤◌, List, [], ◌∷◌, ◌++◌, map, replicate}
-use Rattle.std.proofs.Common.{nat_eq, cond, Bool, true, false, ◌&&◌, inl, inr, arith, refl, ap, sym, subst}
+use Rattle.std.proofs.Common.{◌≡◌, ◌≢◌, ℕ, ◌+◌, ◌*◌, ◌<◌, ◌≤◌, List, [], ◌∷◌, ◌++◌, map, replicate}
+use Rattle.std.proofs.Common.{nat_eq, cond, Bool, true, false, ◌&&◌, arith, refl, ap, sym, subst}
 use Rattle.std.proofs.Common.{◌∙◌, length, get_or, drop}
 use Rattle.std.specs.Cmp.Lexicographic.{pointwise}
-use Rattle.std.proofs.lemmas.Bool.{cases_eq, eq-eqb, ne_eqb}
+use Rattle.std.proofs.lemmas.Bool.{eq-eqb, ne_eqb}
 use Rattle.std.proofs.lemmas.List.{drop_more, drop_all}
 use Rattle.std.proofs.lemmas.List.Folds.{sum_by-replicate}
 use Rattle.std.proofs.lemmas.List.Sums.{sum_by-append, sum_by-cons}
-use Rattle.ranking_trie.specs.declared.forest.Forest.{Forest}
-use Rattle.ranking_trie.specs.declared.forest.Forest.TheVariants.{Empty, Grow'}
-use Rattle.ranking_trie.specs.Bag.{below, bag, bag_back, IsRising, IsFalling, IsFirst}
+use Rattle.ranking_trie.specs.Forest.{Forest, Empty, Grow}
+use Rattle.ranking_trie.specs.Bag.{below, bag, IsRising}
 use Rattle.ranking_trie.specs.BallotBag.{count_of}
 
 -- 1 for a ballot with the ranking s
@@ -29,7 +28,7 @@ count_of-blank_map c (x ∷ xs) = count_of-blank_map c xs
 
 pub count_of-blank_bag : (f : Forest) → count_of [] (bag f) ≡ 0
 count_of-blank_bag Empty = refl
-count_of-blank_bag (Grow' c n p inner next) =
+count_of-blank_bag (Grow c n p inner next) =
     omega (
       arith,
       count_of-append [] (below c n (bag inner)) (bag next),
@@ -72,7 +71,7 @@ count_of-same c s (x ∷ xs) =
 -- no sibling behind a candidate has its ballots
 pub count_of-rising : (c low : ℕ) (s : List ℕ) (f : Forest) → c ≤ low → IsRising low f → count_of (c ∷ s) (bag f) ≡ 0
 count_of-rising c low s Empty less rising = refl
-count_of-rising c low s (Grow' d n p inner next) less rising =
+count_of-rising c low s (Grow d n p inner next) less rising =
     let above : low < d = rising.0 in
     let here = count_of-other c d s (replicate n [] ++ bag inner) (omega arith) in
     omega (
@@ -80,44 +79,6 @@ count_of-rising c low s (Grow' d n p inner next) less rising =
       here,
       count_of-append (c ∷ s) (below d n (bag inner)) (bag next),
       count_of-rising c d s next (omega arith) rising.3,
-    )
-
--- nor one that was passed
-pub count_of-falling :
-    (c high : ℕ) (s : List ℕ) (f : Forest) → high ≤ c → IsFalling high f → count_of (c ∷ s) (bag_back f) ≡ 0
-count_of-falling c high s Empty less falling = refl
-count_of-falling c high s (Grow' d n p inner next) less falling =
-    let under : d < high = falling.1 in
-    let here = count_of-other c d s (replicate n [] ++ bag inner) (omega arith) in
-    omega (
-      arith,
-      here,
-      count_of-append (c ∷ s) (bag_back next) (below d n (bag inner)),
-      count_of-falling c d s next (omega arith) falling.4,
-    )
-
--- siblings of which none is before a candidate, and that have its ballots, begin with its node
-pub first_has : (c : ℕ) (s : List ℕ) (f : Forest) → 1 ≤ c → IsRising (c - 1) f → 1 ≤ count_of (c ∷ s) (bag f) → IsFirst c f
-first_has c s Empty number rising some = absurd (omega arith)
-first_has c s (Grow' d n p inner next) number rising some =
-    let low : c - 1 < d = rising.0 in
-    elim (cases_eq d c) [
-      | inl same ↦ same
-      | inr other ↦
-          let above : IsRising c (Grow' d n p inner next) = (omega arith, rising.1, rising.2, rising.3) in
-          absurd (omega (arith, count_of-rising c c s (Grow' d n p inner next) (omega arith) above))
-    ]
-
--- the ballots with a ranking, among the siblings that were not passed
-pub count_of-passed :
-    (c : ℕ) (s : List ℕ) (passed rest whole : Forest) → IsFalling c passed
-    → bag_back passed ++ bag rest ≡ bag whole → count_of (c ∷ s) (bag rest) ≡ count_of (c ∷ s) (bag whole)
-count_of-passed c s passed rest whole falling parts =
-    omega (
-      arith,
-      count_of-append (c ∷ s) (bag_back passed) (bag rest),
-      count_of-falling c c s passed (omega arith) falling,
-      ap (count_of (c ∷ s)) parts,
     )
 
 -- where a candidate's ballots are among siblings: at its node,
@@ -157,13 +118,6 @@ none_has c d n s inner next less rising =
       count_of-rising c d s next (omega arith) rising,
     )
 
--- the first sibling's node
-pub count_of-first :
-    (c n : ℕ) (s : List ℕ) (inner next rest : Forest) → IsRising c next
-    → below c n (bag inner) ++ bag next ≡ bag rest
-    → count_of s (replicate n [] ++ bag inner) ≡ count_of (c ∷ s) (bag rest)
-count_of-first c n s inner next rest rising parts = node_has c c n s inner next refl rising ∙ ap (count_of (c ∷ s)) parts
-
 -- a ranking that goes on has its ballots below
 pub count_of-deeper :
     (d n : ℕ) (s : List ℕ) (f : Forest)
@@ -171,20 +125,7 @@ pub count_of-deeper :
 count_of-deeper d n s f =
     omega (arith, count_of-append (d ∷ s) (replicate n []) (bag f), sum_by-replicate (one_for (d ∷ s)) n [])
 
--- the ballots that have the ranks from a place on: at the rank's node those that have the ranks behind it,
-pub count_of-node :
-    (ranks : List ℕ) (at n : ℕ) (passed rest whole inner next : Forest) → at < length ranks
-    → IsFalling (get_or ranks at 0) passed → bag_back passed ++ bag rest ≡ bag whole
-    → IsRising (get_or ranks at 0) next → below (get_or ranks at 0) n (bag inner) ++ bag next ≡ bag rest
-    → count_of (drop (at + 1) ranks) (replicate n [] ++ bag inner) ≡ count_of (drop at ranks) (bag whole)
-count_of-node ranks at n passed rest whole inner next inside falling parts rising here =
-    let c = get_or ranks at 0 in
-    let s = drop (at + 1) ranks in
-    count_of-first c n s inner next rest rising here
-    ∙ (count_of-passed c s passed rest whole falling parts
-    ∙ ap (λ (r : List ℕ). count_of r (bag whole)) (sym (drop_more ranks at 0 inside)))
-
--- which are below the node where there are some,
+-- the ballots that have the ranks from a place on are below the node where there are some,
 pub count_of-inside :
     (ranks : List ℕ) (at n : ℕ) (f : Forest) → at < length ranks
     → count_of (drop at ranks) (replicate n [] ++ bag f) ≡ count_of (drop at ranks) (bag f)

@@ -6,8 +6,7 @@ use Rattle.std.proofs.lemmas.List.{get_or_at, length-append, length-replicate}
 use Rattle.plain_ballots.specs.Ranking.{IsRanking}
 use Rattle.plain_ballots.proofs.RankingLemmas.{length-IsRanking}
 use Rattle.ranking_trie.proofs.ListLemmas.{All-left, All-right, All-unmap}
-use Rattle.ranking_trie.specs.declared.forest.Forest.{Forest}
-use Rattle.ranking_trie.specs.declared.forest.Forest.TheVariants.{Empty, Grow'}
+use Rattle.ranking_trie.specs.Forest.{Forest, Empty, Grow}
 use Rattle.ranking_trie.specs.Bag.{below, bag, IsRising, IsWithin}
 
 -- a way down to a candidate, and on
@@ -28,7 +27,7 @@ pub within :
     (n : ℕ) (p : List ℕ) (low : ℕ) (f : Forest) → n ≤ 250 → IsRising low f
     → All (λ r. IsRanking n (p ++ r)) (bag f) → IsWithin n 250 (length p + 1) f
 within n p low Empty few rising rankings = tt
-within n p low (Grow' c k q inner next) few rising rankings =
+within n p low (Grow c k q inner next) few rising rankings =
     let rest = replicate k [] ++ bag inner in
     let here =
     All-unmap (λ r. IsRanking n (p ++ r)) (λ (r : List ℕ). c ∷ r) rest

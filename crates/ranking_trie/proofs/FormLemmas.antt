@@ -12,8 +12,7 @@ use Rattle.std.proofs.lemmas.Slice.Eq.{bytes_eq-Decides}
 use Rattle.plain_ballots.specs.declared.ballot_line.BallotLine.{BallotLine}
 use Rattle.plain_ballots.specs.Ballots.{plain}
 use Rattle.plain_ballots.specs.Ranking.{IsRanking}
-use Rattle.ranking_trie.specs.declared.forest.Forest.{Forest}
-use Rattle.ranking_trie.specs.declared.forest.Forest.TheVariants.{Empty, Grow'}
+use Rattle.ranking_trie.specs.Forest.{Forest, Empty, Grow}
 use Rattle.ranking_trie.specs.Bag.{below, bag, node_count, IsRising, HaveSameForm}
 use Rattle.ranking_trie.specs.BallotBag.{AreInOrder, IsSoundBag, count_of}
 use Rattle.ranking_trie.specs.Lines.{line_of, behind, node_lines, lines_of, HaveRisingRankings}
@@ -45,7 +44,7 @@ above_less low high (c ∷ r) less above = omega arith
 
 pub heads : (low : ℕ) (f : Forest) → IsRising low f → AllByRecursion (λ line. IsAbove low line.ranking) (lines_of f)
 heads low Empty rising = tt
-heads low (Grow' c n p inner next) rising =
+heads low (Grow c n p inner next) rising =
     let more : low < c = rising.0 in
     each-append (λ (line : BallotLine). IsAbove low line.ranking) (node_lines c n (lines_of inner)) (lines_of next)
     (heads_own low c (line_of n [] ++ lines_of inner) more)
@@ -91,7 +90,7 @@ node_before c (line ∷ lines) next above = (
 -- rankings of lines rise strictly
 pub lines_follow : (low : ℕ) (f : Forest) → IsRising low f → Follows line_before (lines_of f)
 lines_follow low Empty rising = tt
-lines_follow low (Grow' c n p inner next) rising =
+lines_follow low (Grow c n p inner next) rising =
     let own = line_of n [] ++ lines_of inner in
     let here = listed_follow n (lines_of inner) (heads 0 inner rising.2) (lines_follow 0 inner rising.2) in
     follows-append line_before (node_lines c n (lines_of inner)) (lines_of next)
@@ -211,13 +210,13 @@ not_none c n inner next some same =
 -- equal ballots have nodes of the same form
 pub same_form : (low high : ℕ) (f g : Forest) → IsRising low f → IsRising high g → bag f ≡ bag g → HaveSameForm f g
 same_form low high Empty Empty a b same = tt
-same_form low high Empty (Grow' d m q inner next) a b same = not_none d m (bag inner) (bag next) b.1 same
-same_form low high (Grow' c n p inner next) Empty a b same = not_none c n (bag inner) (bag next) a.1 (sym same)
-same_form low high (Grow' c n p inner next) (Grow' d m q inner_2 next_2) a b same =
+same_form low high Empty (Grow d m q inner next) a b same = not_none d m (bag inner) (bag next) b.1 same
+same_form low high (Grow c n p inner next) Empty a b same = not_none c n (bag inner) (bag next) a.1 (sym same)
+same_form low high (Grow c n p inner next) (Grow d m q inner_2 next_2) a b same =
     let e : c ≡ d =
     sym (first_head c n (bag inner) (bag next) a.1)
     ∙ (ap (λ (l : List (List ℕ)). get_or (get_or l 0 []) 0 0) same ∙ first_head d m (bag inner_2) (bag next_2) b.1) in
-    let as_c : bag (Grow' c n p inner next) ≡ below c m (bag inner_2) ++ bag next_2 =
+    let as_c : bag (Grow c n p inner next) ≡ below c m (bag inner_2) ++ bag next_2 =
     same ∙ ap (λ (k : ℕ). below k m (bag inner_2) ++ bag next_2) (sym e) in
     let above : AllByRecursion (IsAbove c) (bag next_2) =
     bag_above c next_2 (subst (λ (k : ℕ). IsRising k next_2) (sym e) b.3) in
@@ -243,9 +242,9 @@ listed_rise ends f rising = rankings_rise (line_of ends [] ++ lines_of f) (whole
 -- nodes of the same form are as many
 pub nodes-HaveSameForm : (f g : Forest) → HaveSameForm f g → node_count f ≡ node_count g
 nodes-HaveSameForm Empty Empty same = refl
-nodes-HaveSameForm Empty (Grow' d m q inner next) same = absurd same
-nodes-HaveSameForm (Grow' c n p inner next) Empty same = absurd same
-nodes-HaveSameForm (Grow' c n p inner next) (Grow' d m q inner_2 next_2) same =
+nodes-HaveSameForm Empty (Grow d m q inner next) same = absurd same
+nodes-HaveSameForm (Grow c n p inner next) Empty same = absurd same
+nodes-HaveSameForm (Grow c n p inner next) (Grow d m q inner_2 next_2) same =
     omega (arith, nodes-HaveSameForm inner inner_2 same.2, nodes-HaveSameForm next next_2 same.3)
 
 -- so each forest of a trie's ballots has its nodes

@@ -8,8 +8,7 @@ use Rattle.std.proofs.lemmas.List.Sums.{sum_by-append, sum_by-cons}
 use Rattle.plain_ballots.specs.declared.ballot_line.BallotLine.{BallotLine}
 use Rattle.plain_ballots.specs.Ballots.{BallotList, ballot_count, plain}
 use Rattle.plain_ballots.specs.Ranking.{IsRanking}
-use Rattle.ranking_trie.specs.declared.forest.Forest.{Forest}
-use Rattle.ranking_trie.specs.declared.forest.Forest.TheVariants.{Empty, Grow'}
+use Rattle.ranking_trie.specs.Forest.{Forest, Empty, Grow}
 use Rattle.ranking_trie.specs.Bag.{below, bag}
 use Rattle.ranking_trie.specs.Lines.{line_of, behind, node_lines, lines_of}
 use Rattle.ranking_trie.proofs.BagLemmas.{map-replicate}
@@ -67,7 +66,7 @@ length-below c n inner =
 -- the lines have as many ballots as the forest
 pub count-lines : (f : Forest) → ballot_count (lines_of f) ≡ length (bag f)
 count-lines Empty = refl
-count-lines (Grow' c n p inner next) =
+count-lines (Grow c n p inner next) =
     omega (
       arith,
       sum_by-append (λ (l : BallotLine). l.count) (node_lines c n (lines_of inner)) (lines_of next),
@@ -93,7 +92,7 @@ plain-line_of (suc n) r = append-nil (replicate (suc n) r)
 -- and stand for its ballots in order
 pub plain-lines : (f : Forest) → plain (lines_of f) ≡ bag f
 plain-lines Empty = refl
-plain-lines (Grow' c n p inner next) =
+plain-lines (Grow c n p inner next) =
     let f : List ℕ → List ℕ = λ r. c ∷ r in
     let here : plain (node_lines c n (lines_of inner)) ≡ below c n (bag inner) =
     plain-behind c (line_of n [] ++ lines_of inner)

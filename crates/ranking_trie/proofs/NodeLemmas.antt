@@ -5,8 +5,7 @@ use Rattle.std.proofs.lemmas.List.{length-append, length-replicate}
 use Rattle.std.proofs.lemmas.List.Elements.{All-weaker}
 use Rattle.std.proofs.lemmas.List.Sums.{sum_by-append, sum_by-cons, sum_by-le}
 use Rattle.plain_ballots.specs.Ranking.{IsRanking}
-use Rattle.ranking_trie.specs.declared.forest.Forest.{Forest}
-use Rattle.ranking_trie.specs.declared.forest.Forest.TheVariants.{Empty, Grow'}
+use Rattle.ranking_trie.specs.Forest.{Forest, Empty, Grow}
 use Rattle.ranking_trie.specs.Bag.{below, bag, node_count, IsRising}
 use Rattle.ranking_trie.specs.BallotBag.{IsSoundBag}
 use Rattle.plain_ballots.proofs.RankingLemmas.{length-IsRanking}
@@ -25,7 +24,7 @@ ranks-map c (x ∷ xs) =
 
 pub node_count-le : (low : ℕ) (f : Forest) → IsRising low f → node_count f ≤ sum_by length (bag f)
 node_count-le low Empty rising = omega arith
-node_count-le low (Grow' c n p inner next) rising =
+node_count-le low (Grow c n p inner next) rising =
     let some : 1 ≤ n + length (bag inner) = rising.1 in
     let rest : List (List ℕ) = replicate n [] ++ bag inner in
     omega (

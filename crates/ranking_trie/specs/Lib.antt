@@ -1,3 +1,7 @@
+pub mod Arena
 pub mod Bag
 pub mod BallotBag
+pub mod Forest
 pub mod Lines
+pub mod Places
+pub mod Siblings

@@ -4,8 +4,7 @@ use Rattle.std.specs.List.Sorted.{IsStrictlySortedBy}
 use Rattle.std.specs.Ordering.{nat_cmp}
 use Rattle.std.specs.Cmp.Lexicographic.{slice_cmp}
 use Rattle.plain_ballots.specs.declared.ballot_line.BallotLine.{BallotLine}
-use Rattle.ranking_trie.specs.declared.forest.Forest.{Forest}
-use Rattle.ranking_trie.specs.declared.forest.Forest.TheVariants.{Empty, Grow'}
+use Rattle.ranking_trie.specs.Forest.{Forest, Empty, Grow}
 
 -- the ranks of all lines: so many nodes are new at most
 abbrev pub rank_count : List BallotLine → ℕ
@@ -35,4 +34,4 @@ node_lines c n inner = map (behind (c ∷ [])) (line_of n [] ++ inner)
 -- the lines of siblings and of all below them, one for each ranking
 abbrev pub lines_of : Forest → List BallotLine
 lines_of Empty = []
-lines_of (Grow' c n p inner next) = node_lines c n (lines_of inner) ++ lines_of next
+lines_of (Grow c n p inner next) = node_lines c n (lines_of inner) ++ lines_of next

@@ -1,70 +1,79 @@
 // Ballots put into a trie.
-ghost use Rattle.std.specs.Prelude.{◌≡◌, ◌+◌, ◌-◌, ◌^◌, ◌<◌, ◌≤◌, ◌++◌, length, drop, replicate, vec_len, All, IsPermutation};
+ghost use Rattle.std.specs.Prelude.{◌≡◌, ◌+◌, ◌-◌, ◌^◌, ◌<◌, ◌≤◌, ◌++◌, length, drop, replicate, All, IsPermutation};
 ghost use Rattle.plain_ballots.specs.declared.limits.TheConstants.{MOST_CANDIDATES};
 ghost use Rattle.ranking_trie.specs.Bag.{bag, node_count, root_bag, IsRising};
+ghost use Rattle.ranking_trie.specs.Arena.{forest_in, IsApart, IsMoved};
 
-use crate::siblings::{find_or_make, pass_smaller, plant, put_back};
-use crate::{Forest, Pair};
+use crate::arena::Arena;
 use plain_ballots::Steps;
 use std::sync::ledger::Ledger;
 
-/// Puts `count` ballots in at the root. One step visits one node.
-pub(crate) fn put<L: Ledger>(
-    ends: u32,
-    forest: Forest,
-    ranks: &[u32],
-    count: u32,
-    spare: &mut Vec<Box<Pair>>,
-    steps: &mut Steps<L>,
-) -> (u32, Forest)
-    requires room { length ranks.now ≤ vec_len spare.old }
-    requires few { length (root_bag ends forest) + count < 2 ^ 32 }
-    requires rising { IsRising 0 forest }
-    requires numbers { All (λ r. (1 ≤ r) × (r ≤ MOST_CANDIDATES)) ranks.now }
-    requires some { 1 ≤ count }
-    ensures bag { IsPermutation (root_bag result.0 result.1)
-        (replicate count ranks.now ++ root_bag ends forest) }
-    ensures rising { IsRising 0 result.1 }
-    ensures room { vec_len spare.old ≤ vec_len spare.new + length ranks.now }
-    ensures nodes { node_count result.1 + vec_len spare.new ≡ node_count forest + vec_len spare.old }
-    ensures cost { steps.new ≡ steps.old + length ranks.now + 1 }
-{
-    steps.tick();
-    if ranks.len() == 0 {
-        return (ends + count, forest);
+impl Arena {
+    /// Puts `count` ballots in at the root, and gives how many then end there, and where the
+    /// siblings below it begin. One step visits one node.
+    pub(crate) fn put<L: Ledger>(
+        &mut self,
+        ends: u32,
+        first: u32,
+        ranks: &[u32],
+        count: u32,
+        steps: &mut Steps<L>,
+    ) -> (u32, u32)
+        requires apart { IsApart self.old first }
+        requires room { length ranks.now ≤ self.old.spare }
+        requires few { length (root_bag ends (forest_in self.old first)) + count < 2 ^ 32 }
+        requires rising { IsRising 0 (forest_in self.old first) }
+        requires numbers { All (λ r. (1 ≤ r) × (r ≤ MOST_CANDIDATES)) ranks.now }
+        requires some { 1 ≤ count }
+        ensures apart { IsApart self.new result.1 }
+        ensures bag { IsPermutation (root_bag result.0 (forest_in self.new result.1))
+            (replicate count ranks.now ++ root_bag ends (forest_in self.old first)) }
+        ensures rising { IsRising 0 (forest_in self.new result.1) }
+        ensures nodes { node_count (forest_in self.new result.1) + self.new.spare
+            ≡ node_count (forest_in self.old first) + self.old.spare }
+        ensures room { self.old.spare ≤ self.new.spare + length ranks.now }
+        ensures cost { steps.new ≡ steps.old + length ranks.now + 1 }
+    {
+        steps.tick();
+        if ranks.len() == 0 {
+            return (ends + count, first);
+        }
+        (ends, self.add(first, ranks, count, 0, steps))
     }
-    (ends, add(forest, ranks, 0, count, spare, steps))
-}
 
-/// Puts `count` ballots with the ranks from `at` on into a forest. One step visits one node.
-fn add<L: Ledger>(
-    forest: Forest,
-    ranks: &[u32],
-    at: usize,
-    count: u32,
-    spare: &mut Vec<Box<Pair>>,
-    steps: &mut Steps<L>,
-) -> Forest
-    requires ranked { at < length ranks.now }
-    requires room { length ranks.now ≤ vec_len spare.old + at }
-    requires few { length (bag forest) + count < 2 ^ 32 }
-    requires rising { IsRising 0 forest }
-    requires numbers { All (λ r. (1 ≤ r) × (r ≤ MOST_CANDIDATES)) ranks.now }
-    requires some { 1 ≤ count }
-    ensures bag { IsPermutation (bag result) (replicate count (drop at ranks.now) ++ bag forest) }
-    ensures rising { IsRising 0 result }
-    ensures room { vec_len spare.old + at ≤ vec_len spare.new + length ranks.now }
-    ensures nodes { node_count result + vec_len spare.new ≡ node_count forest + vec_len spare.old }
-    ensures cost { steps.new ≡ steps.old + (length ranks.now - at) }
-{
-    steps.tick();
-    let c = ranks[at] as u16;
-    let (passed, rest) = pass_smaller(forest, c);
-    let (ends, inner, pair) = find_or_make(rest, c, spare);
-    let (ends, inner) = if at + 1 == ranks.len() {
-        (ends + count, inner)
-    } else {
-        (ends, add(inner, ranks, at + 1, count, spare, steps))
-    };
-    put_back(passed, plant(c, ends, inner, pair))
+    /// Puts `count` ballots with the ranks from `at` on among siblings, and gives where these then
+    /// begin. One step visits one node.
+    fn add<L: Ledger>(
+        &mut self,
+        first: u32,
+        ranks: &[u32],
+        count: u32,
+        at: usize,
+        steps: &mut Steps<L>,
+    ) -> u32
+        requires apart { IsApart self.old first }
+        requires ranked { at < length ranks.now }
+        requires room { length ranks.now ≤ self.old.spare + at }
+        requires few { length (bag (forest_in self.old first)) + count < 2 ^ 32 }
+        requires rising { IsRising 0 (forest_in self.old first) }
+        requires numbers { All (λ r. (1 ≤ r) × (r ≤ MOST_CANDIDATES)) ranks.now }
+        requires some { 1 ≤ count }
+        ensures moved { IsMoved self.old first self.new result }
+        ensures bag { IsPermutation (bag (forest_in self.new result))
+            (replicate count (drop at ranks.now) ++ bag (forest_in self.old first)) }
+        ensures rising { IsRising 0 (forest_in self.new result) }
+        ensures room { self.old.spare + at ≤ self.new.spare + length ranks.now }
+        ensures cost { steps.new ≡ steps.old + (length ranks.now - at) }
+    {
+        steps.tick();
+        let (first, place) = self.place_of(first, ranks[at] as u16);
+        if at + 1 == ranks.len() {
+            self.end_at(place, count);
+            return first;
+        }
+        let below = self.node(place).first;
+        let below = self.add(below, ranks, count, at + 1, steps);
+        self.lead_down(place, below);
+        first
+    }
 }

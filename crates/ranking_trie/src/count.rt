@@ -2,13 +2,14 @@
 ghost use Rattle.std.specs.Prelude.{◌≡◌, ℕ, List, ◌∷◌, IfSome, IfNone};
 ghost use Rattle.ranking_trie.specs.Bag.{bag, root_bag, IsRising};
 ghost use Rattle.ranking_trie.specs.BallotBag.{count_of};
+ghost use Rattle.ranking_trie.specs.Siblings.{forest_of};
 
-use crate::Forest;
+use crate::Siblings;
 
 /// How many ballots at a root and in the forest below it have just these ranks.
-pub(crate) fn count(ends: u32, forest: &Forest, ranks: &[u32]) -> u32
-    requires { IsRising 0 forest.now }
-    ensures { result ≡ count_of ranks.now (root_bag ends forest.now) }
+pub(crate) fn count(ends: u32, forest: Siblings, ranks: &[u32]) -> u32
+    requires { IsRising 0 (forest_of forest) }
+    ensures { result ≡ count_of ranks.now (root_bag ends (forest_of forest.entry)) }
 {
     let mut ends = ends;
     let mut forest = forest;
@@ -25,22 +26,22 @@ pub(crate) fn count(ends: u32, forest: &Forest, ranks: &[u32]) -> u32
 }
 
 /// The node of a candidate among siblings: how many ballots end at it, and what stands below it.
-fn find(forest: &Forest, c: u32) -> Option<(u32, &Forest)>
-    requires { IsRising 0 forest.now }
-    ensures rising { IfSome result (λ node. IsRising 0 node.1.now) }
+fn find(forest: Siblings, c: u32) -> Option<(u32, Siblings)>
+    requires { IsRising 0 (forest_of forest) }
+    ensures rising { IfSome result (λ node. IsRising 0 (forest_of node.1)) }
     ensures found { IfSome result (λ node. (s : List ℕ) →
-        count_of s (root_bag node.0 node.1.now) ≡ count_of (c ∷ s) (bag forest.now)) }
-    ensures missing { IfNone result ((s : List ℕ) → count_of (c ∷ s) (bag forest.now) ≡ 0) }
+        count_of s (root_bag node.0 (forest_of node.1)) ≡ count_of (c ∷ s) (bag (forest_of forest.entry))) }
+    ensures missing { IfNone result ((s : List ℕ) → count_of (c ∷ s) (bag (forest_of forest.entry)) ≡ 0) }
 {
     let mut rest = forest;
-    while let Forest::Grow(d, ends, pair) = rest {
-        if c == *d as u32 {
-            return Some((*ends, &pair.inner));
+    while let Some(node) = rest.first() {
+        if c == node.candidate as u32 {
+            return Some((node.ends, node.inner));
         }
-        if c < *d as u32 {
+        if c < node.candidate as u32 {
             return None;
         }
-        rest = &pair.next;
+        rest = node.next;
     }
     None
 }

@@ -2,7 +2,7 @@
 ghost use Rattle.std.specs.Prelude.{◌≡◌, ℕ, List, ◌++◌, IsPermutation};
 ghost use Rattle.ranking_trie.specs.Bag.{bag, root_bag, IsRising, HaveSameForm};
 ghost use Rattle.ranking_trie.specs.BallotBag.{AreInOrder};
-ghost use Rattle.ranking_trie.specs.declared.forest.Forest.{Forest};
+ghost use Rattle.ranking_trie.specs.Forest.{Forest};
 
 /// A bag of ballots has one order and one form: the ballots of a trie are in order, two lists of
 /// the same ballots in order are equal, also where they are what is left when the same ballots are

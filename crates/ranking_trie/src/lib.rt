@@ -4,22 +4,20 @@
 #![tactic(auto)]
 
 mod add;
-mod clear;
-mod copy;
+mod arena;
 mod count;
-mod forest;
 mod laws;
 mod lines;
 mod no_memory;
-mod pair;
+mod node;
+mod places;
 mod ranks;
 mod remove;
 mod siblings;
 mod trie;
 
-pub use forest::Forest;
 pub use laws::one_bag_has_one_form;
 pub use no_memory::NoMemory;
-pub use pair::Pair;
 pub use ranks::ranks_of;
+pub use siblings::{Sibling, Siblings};
 pub use trie::Trie;

@@ -4,9 +4,10 @@ ghost use Rattle.plain_ballots.specs.declared.limits.TheConstants.{MOST_BALLOTS}
 ghost use Rattle.plain_ballots.specs.Ballots.{ballot_count};
 ghost use Rattle.plain_ballots.specs.Ranking.{IsRanking};
 ghost use Rattle.ranking_trie.specs.Bag.{bag, below};
+ghost use Rattle.ranking_trie.specs.Siblings.{forest_of};
 ghost use Rattle.ranking_trie.specs.Lines.{behind, line_of, lines_of, node_lines};
 
-use crate::{Forest, NoMemory};
+use crate::{NoMemory, Siblings};
 use plain_ballots::{BallotLine, Ballots, LineStop, Ranking};
 use std::alloc::Global;
 
@@ -14,22 +15,22 @@ use std::alloc::Global;
 #[cycle(lines)]
 pub(crate) fn push_lines(
     alloc: Global,
-    forest: &Forest,
+    forest: Siblings,
     ranks: &mut Vec<u32>,
     ballots: &mut Ballots,
 ) -> Result<(), NoMemory>
     requires rankings { All (λ r. IsRanking ballots.old.candidates (ranks.old.items ++ r))
-        (bag forest.now) }
-    requires few { ballot_count ballots.old.lines + length (bag forest.now) ≤ MOST_BALLOTS }
+        (bag (forest_of forest)) }
+    requires few { ballot_count ballots.old.lines + length (bag (forest_of forest)) ≤ MOST_BALLOTS }
     ensures ranks { IfOk result (λ _. ranks.new.items ≡ ranks.old.items) }
     ensures lines { IfOk result (λ _. ballots.new ≡ record ballots.old {
-      lines = ballots.old.lines ++ map (behind ranks.old.items) (lines_of forest.now);
+      lines = ballots.old.lines ++ map (behind ranks.old.items) (lines_of (forest_of forest.entry));
     }) }
 {
     let mut rest = forest;
-    while let Forest::Grow(c, ends, pair) = rest {
-        push_node(alloc, *c, *ends, &pair.inner, ranks, ballots)?;
-        rest = &pair.next;
+    while let Some(node) = rest.first() {
+        push_node(alloc, node.candidate, node.ends, node.inner, ranks, ballots)?;
+        rest = node.next;
     }
     Ok(())
 }
@@ -40,18 +41,18 @@ fn push_node(
     alloc: Global,
     c: u16,
     ends: u32,
-    inner: &Forest,
+    inner: Siblings,
     ranks: &mut Vec<u32>,
     ballots: &mut Ballots,
 ) -> Result<(), NoMemory>
     requires rankings { All (λ r. IsRanking ballots.old.candidates (ranks.old.items ++ r))
-        (below c ends (bag inner.now)) }
-    requires few { ballot_count ballots.old.lines + length (below c ends (bag inner.now))
+        (below c ends (bag (forest_of inner))) }
+    requires few { ballot_count ballots.old.lines + length (below c ends (bag (forest_of inner)))
         ≤ MOST_BALLOTS }
     ensures ranks { IfOk result (λ _. ranks.new.items ≡ ranks.old.items) }
     ensures lines { IfOk result (λ _. ballots.new ≡ record ballots.old {
       lines = ballots.old.lines
-          ++ map (behind ranks.old.items) (node_lines c ends (lines_of inner.now));
+          ++ map (behind ranks.old.items) (node_lines c ends (lines_of (forest_of inner.entry)));
     }) }
 {
     ranks.push(c as u32)?;

@@ -4,38 +4,37 @@ ghost use Rattle.plain_ballots.specs.declared.limits.TheConstants.{MOST_BALLOTS,
 ghost use Rattle.plain_ballots.specs.Ranking.{IsRanking};
 ghost use Rattle.plain_ballots.specs.Ballots.{ballot_count, plain};
 ghost use Rattle.ranking_trie.specs.Bag.{bag, node_count, IsRising, IsWithin};
+ghost use Rattle.ranking_trie.specs.Siblings.{forest_of};
 ghost use Rattle.ranking_trie.specs.Lines.{rank_count, visit_count, HaveRisingRankings};
-ghost use Rattle.ranking_trie.specs.declared.forest.Forest.{Forest};
+ghost use Rattle.ranking_trie.specs.Forest.{Forest};
 ghost use Rattle.ranking_trie.specs.BallotBag.{AreInOrder, count_of, Holds};
 
-use crate::add::put;
-use crate::clear::clear;
-use crate::copy::copy_forest;
+use crate::arena::Arena;
 use crate::count::count;
 use crate::lines::{push_line, push_lines};
-use crate::remove::take_out;
-use crate::{Forest, NoMemory, Pair};
+use crate::{NoMemory, Siblings};
 use plain_ballots::{BallotLine, Ballots, Ranking, Steps};
 use std::alloc::Global;
 use std::marker::Model;
-use std::mem;
 use std::sync::ledger::Ledger;
 
 /// A bag of ballots as a trie of their rankings: rankings that begin alike share the nodes of that
 /// beginning. It is seen as its single rankings in lexicographic order, and as room for so many
 /// further ranks, which are nodes to spare.
+#[derive(Drop)]
 pub struct Trie {
     alloc: Global,
     candidates: u32,
     total: u64,
     ends: u32,
-    forest: Forest,
+    first: u32,
     nodes: usize,
-    spare: Vec<Box<Pair>>,
+    arena: Arena,
 }
 
 impl Model for Trie {
-    ghost use Rattle.std.specs.Prelude.{◌≡◌, vec_len};
+    ghost use Rattle.std.specs.Prelude.{◌≡◌};
+    ghost use Rattle.ranking_trie.specs.Arena.{forest_in, IsApart};
     ghost use Rattle.ranking_trie.specs.BallotBag.{BallotBag, IsSoundBag};
     ghost use Rattle.ranking_trie.specs.Bag.{node_count, root_bag, IsRising};
 
@@ -43,30 +42,15 @@ impl Model for Trie {
 
     ghost view = { λ t. record {
       candidates = t.candidates;
-      ballots = root_bag t.ends t.forest;
-      spare = vec_len t.spare;
+      ballots = root_bag t.ends (forest_in t.arena t.first);
+      spare = t.arena.spare;
     } };
 
     ghost invariant = { λ t.
-        IsSoundBag t.candidates t.total (root_bag t.ends t.forest)
-        × IsRising 0 t.forest
-        × (t.nodes ≡ node_count t.forest) };
-}
-
-impl Drop for Trie {
-    fn drop(self) {
-        let Trie {
-            alloc: _,
-            candidates: _,
-            total: _,
-            ends: _,
-            forest,
-            nodes: _,
-            spare,
-        } = self;
-        clear(forest);
-        drop(spare);
-    }
+        IsSoundBag t.candidates t.total (root_bag t.ends (forest_in t.arena t.first))
+        × IsRising 0 (forest_in t.arena t.first)
+        × (t.nodes ≡ node_count (forest_in t.arena t.first))
+        × IsApart t.arena t.first };
 }
 
 impl Trie {
@@ -80,9 +64,9 @@ impl Trie {
             candidates,
             total: 0,
             ends: 0,
-            forest: Forest::Empty,
+            first: 0,
             nodes: 0,
-            spare: Vec::new(alloc),
+            arena: Arena::new(alloc),
         }
     }
 
@@ -93,7 +77,7 @@ impl Trie {
         ensures more { self.old.spare ≤ self.new.spare }
         ensures room { OnOk result (ranks ≤ self.new.spare) }
     {
-        fill_spare(self.alloc, &mut self.spare, ranks)
+        self.arena.reserve(ranks)
     }
 
     /// The number of all ballots, empty ones included.
@@ -136,19 +120,14 @@ impl Trie {
         ensures room { self.old.spare ≤ self.new.spare + length line.now.ranking }
         ensures cost { steps.new ≡ steps.old + length line.now.ranking + 1 }
     {
-        let nodes = self.nodes + self.spare.len();
-        let forest = mem::replace(&mut self.forest, Forest::Empty);
-        let (ends, forest) = put(
-            self.ends,
-            forest,
-            line.ranking.ranks(),
-            line.count,
-            &mut self.spare,
-            steps,
-        );
+        let nodes = self.nodes + self.arena.spare();
+        let ranks = line.ranking.ranks();
+        let (ends, first) = self
+            .arena
+            .put(self.ends, self.first, ranks, line.count, steps);
         self.ends = ends;
-        self.forest = forest;
-        self.nodes = nodes - self.spare.len();
+        self.first = first;
+        self.nodes = nodes - self.arena.spare();
         self.total += line.count as u64;
     }
 
@@ -179,17 +158,14 @@ impl Trie {
         ensures room { self.old.spare ≤ self.new.spare }
         ensures cost { steps.new ≡ steps.old + length line.now.ranking + 1 }
     {
-        let forest = mem::replace(&mut self.forest, Forest::Empty);
-        let (ends, forest) = take_out(
-            self.ends,
-            forest,
-            line.ranking.ranks(),
-            line.count,
-            &mut self.nodes,
-            steps,
-        );
+        let nodes = self.nodes + self.arena.spare();
+        let ranks = line.ranking.ranks();
+        let (ends, first) = self
+            .arena
+            .take_out(self.ends, self.first, ranks, line.count, steps);
         self.ends = ends;
-        self.forest = forest;
+        self.first = first;
+        self.nodes = nodes - self.arena.spare();
         self.total -= line.count as u64;
     }
 
@@ -197,14 +173,15 @@ impl Trie {
     fn keep_order(&self)
         ensures { AreInOrder self.now.ballots }
     {
-        let _ = &self.forest;
+        let _ = &self.first;
     }
 
     /// How many ballots have just this ranking.
     pub fn count_of(&self, ranking: &Ranking) -> u64
         ensures { result ≡ count_of ranking.now self.now.ballots }
     {
-        count(self.ends, &self.forest, ranking.ranks()) as u64
+        let forest = self.arena.siblings(self.first);
+        count(self.ends, forest, ranking.ranks()) as u64
     }
 
     /// A trie of the same ballots, without room.
@@ -216,9 +193,9 @@ impl Trie {
             candidates: self.candidates,
             total: self.total,
             ends: self.ends,
-            forest: copy_forest(self.alloc, &self.forest)?,
+            first: self.first,
             nodes: self.nodes,
-            spare: Vec::new(self.alloc),
+            arena: self.arena.copy(self.alloc)?,
         })
     }
 
@@ -231,7 +208,8 @@ impl Trie {
         let mut listed = Ballots::new(self.alloc, self.candidates);
         let mut ranks = Vec::new(self.alloc);
         push_line(self.alloc, self.ends, &[], &mut listed)?;
-        push_lines(self.alloc, &self.forest, &mut ranks, &mut listed)?;
+        let forest = self.arena.siblings(self.first);
+        push_lines(self.alloc, forest, &mut ranks, &mut listed)?;
         Ok(listed)
     }
 
@@ -251,14 +229,14 @@ impl Trie {
     }
 
     /// The nodes of all other ballots.
-    pub fn forest(&self) -> &Forest
+    pub fn forest(&self) -> Siblings
         ensures ballots { self.now.ballots
-            ≡ replicate (count_of [] self.now.ballots) [] ++ bag result.now }
-        ensures rising { IsRising 0 result.now }
-        ensures within { IsWithin self.now.candidates MOST_CANDIDATES 1 result.now }
+            ≡ replicate (count_of [] self.now.ballots) [] ++ bag (forest_of result) }
+        ensures rising { IsRising 0 (forest_of result) }
+        ensures within { IsWithin self.now.candidates MOST_CANDIDATES 1 (forest_of result) }
         ensures order { AreInOrder self.now.ballots }
     {
-        &self.forest
+        self.arena.siblings(self.first)
     }
 
     /// How many nodes the forest has.
@@ -269,20 +247,4 @@ impl Trie {
     {
         self.nodes
     }
-}
-
-/// Makes nodes until so many are to spare.
-fn fill_spare(alloc: Global, spare: &mut Vec<Box<Pair>>, ranks: usize) -> Result<(), NoMemory>
-    ensures more { vec_len spare.old ≤ vec_len spare.new }
-    ensures room { OnOk result (ranks ≤ vec_len spare.new) }
-{
-    spare.reserve_exact(ranks.saturating_sub(spare.len()))?;
-    while spare.len() < ranks {
-        let pair = Pair {
-            inner: Forest::Empty,
-            next: Forest::Empty,
-        };
-        spare.push(Box::new(alloc, pair)?)?;
-    }
-    Ok(())
 }

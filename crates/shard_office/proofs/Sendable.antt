@@ -1,15 +1,13 @@
 -- A pass may go to another thread: its seats have no bytes that a thread owns.
 use denote.Param.Send.{IsSend, sendable, view_send, recorded_send, struct_send}
 use denote.Struct.Declared.{shape}
-use Rattle.std.proofs.Crossing.{Vec-send, Box-send, frees}
+use Rattle.std.proofs.Crossing.{Vec-send, frees}
 use Rattle.std.proofs.alloc.Global.TheSendSync as heap
 use Rattle.batch_core.proofs.entries.Entries.TheSendSync as entries
 use Rattle.batch_core.specs.contracts.entry.Entry as entry
 use Rattle.call_register.specs.contracts.mark.Mark as mark
 use Rattle.number_tie.proofs.half.Half.TheSendSync as half
-use Rattle.ranking_trie.proofs.forest.Forest.TheLaws.TheKnot as knot
-use Rattle.ranking_trie.specs.contracts.forest.Forest as forest
-use Rattle.ranking_trie.specs.contracts.pair.Pair as pair
+use Rattle.ranking_trie.proofs.arena.Arena.TheSendSync as arena
 use Rattle.ranking_trie.specs.contracts.trie.Trie as trie
 use Rattle.ranking_trie.specs.contracts.trie.Trie.TheInside as trie_fields
 use Rattle.shard_book.below.indexmap.proofs.map.IndexMap.TheSendSync as index_map
@@ -31,15 +29,6 @@ use Rattle.shard_office.specs.contracts.desk.Desk as desk
 use Rattle.shard_office.specs.contracts.pass.Pass as pass
 use Rattle.shard_office.specs.contracts.pass.Pass.TheInside as inside
 
--- a node of a trie, and all below it
-forest_send : IsSend forest.the_field.row
-forest_send = knot.send-Forest (search sendable) (search sendable) Box-send
-
-pair_send : IsSend pair.the_row
-pair_send =
-    recorded_send pair.the_field.row _ _ pair.the_type.to_one
-    (knot.send-Pair (search sendable) (search sendable) Box-send)
-
 pub trie_send : IsSend trie.the_row
 trie_send =
     view_send trie_fields.the_row _ _ _ _ (recorded_send trie_fields.the_field.row _ _
@@ -49,10 +38,7 @@ trie_send =
         search sendable,
         (
           search sendable,
-          (
-            search sendable,
-            (forest_send, (search sendable, (Vec-send _ (Box-send pair.the_row pair_send), tt))),
-          ),
+          (search sendable, (search sendable, (search sendable, (arena.the_field_send, tt)))),
         ),
       ),
     )))

@@ -6,6 +6,6 @@ mod TrueSheets
 mod Counted
 pub mod Ends
 mod Splits
-mod Places
+mod ShortFiles
 mod Words
 mod Audits

@@ -14,6 +14,7 @@ use check_words::CountRule;
 use frozen_plan::Plans;
 use lane_sheet::{Crew, write_sheet_in_lanes};
 use meek_count::Count;
+use packed_ballots::PackedBallots;
 use plain_ballots::Ballots;
 use sheet_text::{sheets_are_unique, write_sheet};
 use std::alloc::Global;
@@ -42,7 +43,7 @@ pub(crate) fn write_sheet_by<const P: usize, R: Threads + Sync, K: Sink>(
     }
 }
 
-/// The sheet by Meek's rule.
+/// The sheet by Meek's rule. The ballots are packed, and let go line by line.
 fn write_meek<const P: usize, R: Threads + Sync, K: Sink>(
     rt: &R,
     alloc: Global,
@@ -57,6 +58,10 @@ fn write_meek<const P: usize, R: Threads + Sync, K: Sink>(
     ensures { WritesOrWants (IsSheet P terms.now.omega (plain ballots.lines) roll.now terms.now.lots)
         K.written K.faults sink.old sink.new result }
 {
+    // The sheet of the packed ballots is that of the ballots.
+    sheets_are_unique();
+    let _candidates = roll.candidates();
+    let packed = PackedBallots::pack(alloc, ballots)?;
     let crew = Crew {
         rt,
         alloc,
@@ -66,7 +71,7 @@ fn write_meek<const P: usize, R: Threads + Sync, K: Sink>(
     };
     let wrote = write_sheet_in_lanes::<P, R, FreeGate, K>(
         &crew,
-        ballots,
+        packed,
         roll,
         &terms.lots,
         terms.omega,

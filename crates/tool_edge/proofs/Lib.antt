@@ -5,3 +5,4 @@ pub mod Running
 mod Contests
 mod Places
 mod WordLemmas
+mod BadLots

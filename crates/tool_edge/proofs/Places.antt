@@ -1,6 +1,6 @@
 -- A fault of a ballot file stands in it, or at most two bytes behind it. So a place in what stands behind a sheet is
 -- one in the whole, too.
-use Rattle.std.proofs.Common.{ℕ, ◌+◌, ◌-◌, ◌≤◌, ◌==◌, ◌&&◌, zero, suc, List, [], ◌∷◌, ◌++◌, length, drop}
+use Rattle.std.proofs.Common.{ℕ, ◌+◌, ◌-◌, ◌^◌, ◌<◌, ◌≤◌, ◌==◌, ◌&&◌, zero, suc, List, [], ◌∷◌, ◌++◌, length, drop}
 use Rattle.std.proofs.Common.{Bool, true, false, cond, ap, subst, arith, inl, inr}
 use Rattle.std.specs.List.{prefix_len, take_while}
 use Rattle.std.specs.Char.{is_ascii_digit, is_ascii_lowercase}
@@ -14,7 +14,6 @@ use Rattle.input_text.specs.Scan.{Lexeme, Wrong, Unclosed, number_piece, minus_p
 use Rattle.input_text.specs.Scan.{word_piece, piece, beginning, cut, mark_len, scan}
 use Rattle.blt_reader.specs.Said.{of_a_file, IsFileRefusal}
 use Rattle.input_text.specs.Reads.{OnFault}
-use Rattle.tool_edge.specs.declared.opening.TheConstants.{FILE_LIMIT}
 use Rattle.tool_edge.specs.Contest.{IsRefusedFile}
 
 -- ---- one piece
@@ -148,7 +147,7 @@ file_refusal_near file fault refused =
 
 -- so there is room for its place in the whole
 pub room_for_place :
-    (before : ℕ) (file : List ℕ) (stop : InputStop) → before + length file ≤ FILE_LIMIT
-    → OnFault stop (λ fault. IsRefusedFile file fault) → OnFault stop (λ fault. before + fault.at ≤ FILE_LIMIT + 2)
+    (before : ℕ) (file : List ℕ) (stop : InputStop) → before + length file + 2 < 2 ^ 64
+    → OnFault stop (λ fault. IsRefusedFile file fault) → OnFault stop (λ fault. before + fault.at < 2 ^ 64)
 room_for_place before file (Fault fault) short refused = omega (arith, short, file_refusal_near file fault refused)
 room_for_place before file NoMemory short refused = tt

@@ -1,6 +1,7 @@
 -- What a ballot file and the lots of the words say together, or why they are refused.
 use Rattle.std.specs.Prelude.{◌≡◌, ◌⊎◌, ℕ, ◌+◌, List, length, false, Result, Ok, Err}
 use Rattle.plain_ballots.specs.declared.limits.TheConstants.{MOST_BALLOTS}
+use Rattle.plain_ballots.specs.declared.ballot_line.BallotLine.{BallotLine}
 use Rattle.lot_order.specs.Lots.{IsOrder, IsTwiceAt, IsOutOfRangeAt, IsFirstMissing}
 use Rattle.lot_order.specs.declared.lots_stop.LotsStop.{LotsStop}
 use Rattle.lot_order.specs.declared.lots_stop.LotsStop.TheVariants.{NotAll, Twice, OutOfRange, NoMemory as NoLots}
@@ -10,11 +11,12 @@ use Rattle.input_text.specs.declared.input_stop.InputStop.{InputStop}
 use Rattle.input_text.specs.declared.input_stop.InputStop.TheVariants.{Fault, NoMemory}
 use Rattle.input_text.specs.Scan.{scan}
 use Rattle.blt_reader.specs.Poll.{Poll}
-use Rattle.blt_reader.specs.Election.{poll}
+use Rattle.blt_reader.specs.Election.{poll, poll_of_lines}
 use Rattle.blt_reader.specs.Blt.{IsBlt}
 use Rattle.input_text.specs.Refusal.{IsAccepted}
 use Rattle.blt_reader.specs.Said.{of_a_file, IsFileRefusal}
 use Rattle.tool_edge.specs.declared.contest.Contest.{Contest}
+use Rattle.tool_edge.specs.declared.contest.StoredContest.{StoredContest}
 
 -- The input is the ballot file of this poll.
 abbrev pub SaysPoll : (input : List ℕ) → Poll → Type 0
@@ -66,6 +68,24 @@ abbrev pub ReadsContest : (lots input : List ℕ) → Result Contest InputStop �
 ReadsContest lots input (Ok contest) = IsContest lots input contest
 ReadsContest lots input (Err (Fault fault)) = IsRefusedContest lots input fault
 ReadsContest lots input (Err NoMemory) = Unit {0}
+
+-- ---- a file whose ballots are in a store
+
+-- A contest as it was read, with these lots, whose store holds the lines of the file.
+pub record IsStoredContest {B : Type 0} (holds : B → List BallotLine → Type 0) (among : B → ℕ) (lots input : List ℕ)
+    (contest : StoredContest B) : Type 0 where
+  pub lines : List BallotLine
+  pub held : holds contest.election.ballots lines
+  pub says : SaysContest lots input (poll_of_lines contest.election lines)
+  pub lots_are : contest.lots ≡ lots
+  pub ballots_of_all : among contest.election.ballots ≡ length contest.election.roll.names
+
+-- Ok is what the lots and the file say; what stops is what stops the reading of any contest.
+abbrev pub ReadsStored :
+    {B : Type 0} → (B → List BallotLine → Type 0) → (B → ℕ) → (lots input : List ℕ)
+    → Result (StoredContest B) InputStop → Type 0
+ReadsStored holds among lots input (Ok contest) = IsStoredContest holds among lots input contest
+ReadsStored holds among lots input (Err stop) = ReadsContest lots input (Err stop)
 
 -- ---- a file behind other bytes
 

@@ -1,4 +1,4 @@
-//! Tests of the public calls of plain_ballots, candidate_roll and lot_order.
+//! Tests of the public calls of plain_ballots, packed_ballots, candidate_roll and lot_order.
 #![tactic(auto)]
 
 #[cfg(test)]
@@ -13,6 +13,8 @@ mod lots;
 mod name;
 #[cfg(test)]
 mod names;
+#[cfg(test)]
+mod packed;
 #[cfg(test)]
 mod ranking;
 #[cfg(test)]

@@ -1,35 +1,44 @@
-// The plan of the lines that were dealt to a shard.
+// The plan of packed lines.
 ghost use Rattle.std.specs.Prelude.{◌≡◌, ◌≤◌, IfOk, IsPermutation};
 ghost use Rattle.plain_ballots.specs.declared.limits.TheConstants.{MOST_BALLOTS, MOST_CANDIDATES};
+ghost use Rattle.plain_ballots.specs.Ballots.{plain};
+ghost use Rattle.packed_ballots.specs.Packed.{IsPacked, line_count, rests};
 ghost use Rattle.frozen_plan.specs.Plan.{IsPlan, plan_ballots};
-ghost use Rattle.frozen_plan.specs.Share.{IsShare, line_count, rests};
 
 use crate::groups::push_group;
 use crate::merge::merge;
-use crate::share::{Placed, Share};
 use crate::{NoMemory, Plan, PlanRow};
+use packed_ballots::{PackedBallots, PackedLine, packed_lines_stand_for_ballots};
 use std::alloc::Global;
 
 impl Plan {
-    /// The plan of the lines that were dealt to a shard. They are sorted, and equal ones
-    /// made one, on the way. Then they are let go, so that few shares stand beside the last plans.
-    pub(crate) fn from_share(
+    /// The plan of packed ballots, which are let go.
+    pub(crate) fn of_packed(alloc: Global, packed: PackedBallots) -> Result<Plan, NoMemory>
+        ensures candidates { IfOk result (λ plan. plan.candidates ≡ packed.candidates) }
+        ensures ballots { IfOk result (λ plan. IsPermutation (plan_ballots plan.rows) (plain packed.lines)) }
+    {
+        packed_lines_stand_for_ballots();
+        let candidates = packed.candidates();
+        let (ranks, mut lines) = packed.into_parts();
+        Plan::of_lines(alloc, candidates, ranks.as_slice(), lines.as_mut_slice())
+    }
+
+    /// The plan of packed lines. They are sorted, and equal ones made one, on the way.
+    pub(crate) fn of_lines(
         alloc: Global,
         candidates: u32,
-        share: &mut Share,
+        ranks: &[u8],
+        lines: &mut [PackedLine],
     ) -> Result<Plan, NoMemory>
         requires candidates { candidates ≤ MOST_CANDIDATES }
-        requires sound { IsShare candidates share.old.ranks.items share.old.lines.items }
-        requires few { line_count share.old.lines.items ≤ MOST_BALLOTS }
+        requires sound { IsPacked candidates ranks.now lines.old }
+        requires few { line_count lines.old ≤ MOST_BALLOTS }
         ensures candidates { IfOk result (λ plan. plan.candidates ≡ candidates) }
-        ensures ballots { IfOk result (λ plan. IsPermutation (plan_ballots plan.rows) (rests share.old.ranks.items 0 share.old.lines.items)) }
+        ensures ballots { IfOk result (λ plan. IsPermutation (plan_ballots plan.rows) (rests ranks.now 0 lines.old)) }
     {
-        share.lines.sort_unstable_by_key(|line| line.front);
-        let ranks = share.ranks.as_slice();
-        let lines = share.lines.as_mut_slice();
+        lines.sort_unstable_by_key(|line| line.front);
         let kept = merge(ranks, lines);
         let rows = rows_of_lines(alloc, candidates, ranks, &mut lines[..kept])?;
-        *share = Share::new(alloc, 0)?;
         Ok(Plan { candidates, rows })
     }
 }
@@ -39,10 +48,10 @@ fn rows_of_lines(
     alloc: Global,
     candidates: u32,
     ranks: &[u8],
-    lines: &mut [Placed],
+    lines: &mut [PackedLine],
 ) -> Result<Vec<PlanRow>, NoMemory>
     requires candidates { candidates ≤ MOST_CANDIDATES }
-    requires sound { IsShare candidates ranks.now lines.old }
+    requires sound { IsPacked candidates ranks.now lines.old }
     requires few { line_count lines.old ≤ MOST_BALLOTS }
     ensures plan { IfOk result (λ rows. IsPlan candidates rows.items) }
     ensures ballots { IfOk result (λ rows. IsPermutation (plan_ballots rows.items) (rests ranks.now 0 lines.old)) }

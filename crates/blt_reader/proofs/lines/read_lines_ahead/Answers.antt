@@ -1,125 +1,119 @@
-use Rattle.std.proofs.Common.{◌≡◌, ℕ, ◌+◌, ◌≤◌, List, [], take, sym, ◌∙◌, ap, subst, arith}
+use Rattle.std.proofs.Common.{ℕ, ◌+◌, false, length, take, sym, ◌∙◌, ap, subst, arith, rules}
+use Rattle.std.proofs.lemmas.List.{length-replicate}
 use Rattle.std.proofs.lemmas.Result.{err_from_is_err_and}
-use Rattle.plain_ballots.specs.Ballots.{BallotList, ballot_count}
 use Rattle.plain_ballots.specs.Ranking.{IsRanking}
-use Rattle.plain_ballots.specs.declared.ballot_line.BallotLine.{BallotLine}
 use Rattle.input_text.specs.Token.{Scan}
-use Rattle.blt_reader.specs.Blt.{AreLines}
-use Rattle.input_text.specs.Judged.{reads}
-use Rattle.blt_reader.specs.BallotTable.{Limit, Between, with_line, at_line}
-use Rattle.blt_reader.proofs.BallotSoundness.{one_line_more}
+use Rattle.blt_reader.specs.Pieces.{counted}
 use Rattle.input_text.proofs.Reading.{behind_trans, behind_itself, fewer_left}
-use Rattle.blt_reader.proofs.LineSteps.{count_stops, all_read, too_many, line_begins, line_fails, one_line}
+use Rattle.blt_reader.proofs.HeldLines.{HeldSoFar, none_held, next_fails, within_limit, too_many_held}
+use Rattle.blt_reader.proofs.HeldLines.{room_in_store, ranks_fail, one_more_held}
 use Rattle.blt_reader.proofs.lines.read_lines_ahead.Goals as goal
 
-pub returns-then-count-most-clause-reads : goal.returns-then-count-most-clause-reads
-returns-then-count-most-clause-reads c =
-    let limit : Limit = record { most = c.args.most; refusal = c.args.refusal } in
+pub returns-then-count-bounds-clause-refused : goal.returns-then-count-bounds-clause-refused
+returns-then-count-bounds-clause-refused g c =
     rw c.refused.ensures
-    (c.loop-count.invariant.same ∙ too_many c.args.candidates limit c.loop-count.ballots.lines c.loop-count.tokens.rest
-    c.loop-count.count c.loop-count.at (omega (arith, c.loop-count-test.true))
-    (omega (arith, c.if-count-most.true, c.total.ensures, c.loop-count.invariant.lines.bounded)))
+    (too_many_held g.B.BallotStore.holds c.args.bounds c.args.store _ c.loop-count.ballots c.loop-count.tokens.rest
+    c.loop-count.count c.loop-count.at c.loop-count.invariant.so_far c.ballot_count.result c.ballot_count.ensures
+    (omega (arith, c.loop-count-test.true)) (omega (arith, c.if-count-bounds.true)))
 
-pub returns-clause-reads : goal.returns-clause-reads
-returns-clause-reads c =
-    let limit : Limit = record { most = c.args.most; refusal = c.args.refusal } in
-    c.loop-count.invariant.same ∙ all_read c.args.candidates limit c.loop-count.ballots.lines c.loop-count.tokens.rest
-    c.loop-count.count c.loop-count.at (omega (arith, c.loop-count-test.false))
-
-pub returns-in_err-len-clause-reads : goal.returns-in_err-len-clause-reads
-returns-in_err-len-clause-reads c =
-    let limit : Limit = record { most = c.args.most; refusal = c.args.refusal } in
-    let lines = c.loop-count.ballots.lines in
+pub returns-in_err-len-clause-refused : goal.returns-in_err-len-clause-refused
+returns-in_err-len-clause-refused g c =
     let p = err_from_is_err_and c.from_residual-in_err-len.result c.from_residual-in_err-len.ensures.1 in
-    let begun =
-    c.loop-count.invariant.same ∙ line_begins c.args.candidates limit lines c.loop-count.tokens.rest c.loop-count.count
-    c.loop-count.at (omega (arith, c.loop-count-test.true))
-    (omega (arith, c.if-count-most.false, c.total.ensures, c.loop-count.invariant.lines.bounded)) in
-    rw (p.1, p.2) (line_fails c.args.candidates limit lines c.loop-count.count (λ (len : ℕ). take len c.read_ranks.new.ranks)
-    (λ (b : BallotList). b.lines) (Between []) _ _ _ _ begun c.in_err-len.ensures.reads)
+    let fits =
+    within_limit g.B.BallotStore.holds c.args.bounds c.args.store _ c.loop-count.ballots _ c.loop-count.invariant.so_far
+    c.requires.held c.ballot_count.result c.ballot_count.ensures in
+    rw (p.1, p.2) (ranks_fail g.B.BallotStore.holds c.args.bounds c.args.store _ c.loop-count.ballots c.loop-count.tokens.rest
+    c.loop-count.count c.loop-count.at c.loop-count.invariant.so_far c.ballot_count.result c.ballot_count.ensures
+    (omega (arith, c.loop-count-test.true)) (omega (arith, c.if-count-bounds.false)) fits
+    (λ (len : ℕ). take len c.read_ranks.new.ranks) _ _ c.in_err-len.ensures.reads)
 
-pub returns-in_err-next-clause-reads : goal.returns-in_err-next-clause-reads
-returns-in_err-next-clause-reads c =
-    let limit : Limit = record { most = c.args.most; refusal = c.args.refusal } in
-    let lines = c.loop-count.ballots.lines in
-    let count = c.loop-count.count in
-    let ranking = take c.in_ok-len.len c.read_ranks.new.ranks in
-    let all : c.add_line.new.ballots.lines ≡ with_line lines count ranking =
-    ap (λ (b : BallotList). b.lines) c.in_ok-add_line.ensures.added ∙ ap (with_line lines count) c.in-Ok.ensures in
+pub returns-in_err-next-clause-refused : goal.returns-in_err-next-clause-refused
+returns-in_err-next-clause-refused g c =
     let p = err_from_is_err_and c.from_residual-in_err-next.result c.from_residual-in_err-next.ensures.1 in
-    rw (p.1, p.2) (c.loop-count.invariant.same
-    ∙ one_line c.args.candidates limit lines c.add_line.new.ballots.lines count c.loop-count.at c.loop-count.tokens.rest
-    c.read_ranks.new.tokens.rest ranking (omega (arith, c.loop-count-test.true))
-    (omega (arith, c.if-count-most.false, c.total.ensures, c.loop-count.invariant.lines.bounded)) c.in_ok-len.ensures.reads
-    all
-    ∙ count_stops c.args.candidates limit c.add_line.new.ballots.lines _ _ _ c.in_err-next.ensures.fault)
+    let fits =
+    within_limit g.B.BallotStore.holds c.args.bounds c.args.store _ c.loop-count.ballots _ c.loop-count.invariant.so_far
+    c.requires.held c.ballot_count.result c.ballot_count.ensures in
+    let more =
+    one_more_held g.B.BallotStore.holds c.args.bounds c.args.store _ c.loop-count.ballots c.loop-count.tokens.rest
+    c.loop-count.count c.loop-count.at c.loop-count.invariant.so_far c.ballot_count.result c.ballot_count.ensures
+    (omega (arith, c.loop-count-test.true)) (omega (arith, c.if-count-bounds.false)) fits c.take_line.new.self
+    (take c.in_ok-len.len c.read_ranks.new.ranks) c.read_ranks.new.tokens.rest c.in_ok-len.ensures.reads
+    c.in_ok-len.ensures.ranking c.in-Ok.ensures.lines in
+    rw (p.1, p.2) (next_fails g.B.BallotStore.holds c.args.bounds c.args.store _ c.take_line.new.self _ more _ _
+    c.in_err-next.ensures.fault)
+
+pub loop-count-init : goal.loop-count-init
+loop-count-init g c =
+    record {
+      so_far = none_held g.B.BallotStore.holds c.args.bounds c.args.store (counted c.args.first c.args.tokens.now.rest);
+      among = c.requires.candidates;
+      numbers = ap length c.in_ok-named.ensures ∙ length-replicate (c.args.bounds.candidates + 1) false;
+      room = search rules;
+      behind = behind_itself c.args.tokens.now;
+    }
 
 pub loop-count-preserved : goal.loop-count-preserved
-loop-count-preserved c =
-    let limit : Limit = record { most = c.args.most; refusal = c.args.refusal } in
+loop-count-preserved g c =
     let before = c.loop-count.invariant in
-    let lines = c.loop-count.ballots.lines in
-    let count = c.loop-count.count in
-    let ranking = take c.in_ok-len.len c.read_ranks.new.ranks in
-    let line : BallotLine = record { count = count; ranking = ranking } in
-    let all : c.add_line.new.ballots.lines ≡ with_line lines count ranking =
-    ap (λ (b : BallotList). b.lines) c.in_ok-add_line.ensures.added ∙ ap (with_line lines count) c.in-Ok.ensures in
-    let some : 1 ≤ count = omega (arith, c.loop-count-test.true) in
-    let room : ballot_count lines + count ≤ c.args.most =
-    omega (arith, c.if-count-most.false, c.total.ensures, before.lines.bounded) in
+    let start : Scan = counted c.args.first c.args.tokens.now.rest in
+    let fits =
+    within_limit g.B.BallotStore.holds c.args.bounds c.args.store start c.loop-count.ballots _ before.so_far
+    c.requires.held c.ballot_count.result c.ballot_count.ensures in
+    let more =
+    one_more_held g.B.BallotStore.holds c.args.bounds c.args.store start c.loop-count.ballots c.loop-count.tokens.rest
+    c.loop-count.count c.loop-count.at before.so_far c.ballot_count.result c.ballot_count.ensures
+    (omega (arith, c.loop-count-test.true)) (omega (arith, c.if-count-bounds.false)) fits c.take_line.new.self
+    (take c.in_ok-len.len c.read_ranks.new.ranks) c.read_ranks.new.tokens.rest c.in_ok-len.ensures.reads
+    c.in_ok-len.ensures.ranking c.in-Ok.ensures.lines in
     record {
-      same = before.same
-          ∙ one_line c.args.candidates limit lines c.add_line.new.ballots.lines count c.loop-count.at
-          c.loop-count.tokens.rest
-          c.read_ranks.new.tokens.rest ranking (omega (arith, some)) room c.in_ok-len.ensures.reads all
-          ∙ ap
-          (λ (s : Scan). reads (at_line c.args.candidates limit) (Between c.add_line.new.ballots.lines) s)
-          c.in_ok-next.ensures.number;
-      candidates = ap (λ (b : BallotList). b.candidates) c.in_ok-add_line.ensures.added ∙ before.candidates;
-      lines =
-          subst (AreLines c.args.candidates c.args.most) (sym all)
-          (one_line_more c.args.candidates c.args.most lines line before.lines c.in_ok-len.ensures.ranking some room);
+      so_far =
+          subst
+          (λ (s : Scan). HeldSoFar g.B.BallotStore.holds c.args.bounds c.args.store start c.take_line.new.self s)
+          c.in_ok-next.ensures.number more;
+      among = c.take_line.ensures.candidates ∙ before.among;
       numbers = c.in_ok-len.ensures.numbers ∙ before.numbers;
       room = c.in_ok-len.ensures.room ∙ before.room;
       behind = behind_trans before.behind (behind_trans c.in_ok-len.ensures.behind c.in_ok-next.ensures.behind);
     }
 
 pub returns-in_err-len-clause-behind : goal.returns-in_err-len-clause-behind
-returns-in_err-len-clause-behind c = behind_trans c.loop-count.invariant.behind c.in_err-len.ensures.behind
+returns-in_err-len-clause-behind g c = behind_trans c.loop-count.invariant.behind c.in_err-len.ensures.behind
 
 pub returns-in_default-clause-behind : goal.returns-in_default-clause-behind
-returns-in_default-clause-behind c = behind_trans c.loop-count.invariant.behind c.in_ok-len.ensures.behind
-
-pub returns-in_err-add_line-clause-behind : goal.returns-in_err-add_line-clause-behind
-returns-in_err-add_line-clause-behind c = behind_trans c.loop-count.invariant.behind c.in_ok-len.ensures.behind
+returns-in_default-clause-behind g c = behind_trans c.loop-count.invariant.behind c.in_ok-len.ensures.behind
 
 pub returns-in_err-next-clause-behind : goal.returns-in_err-next-clause-behind
-returns-in_err-next-clause-behind c =
+returns-in_err-next-clause-behind g c =
     behind_trans c.loop-count.invariant.behind
     (behind_trans c.in_ok-len.ensures.behind c.in_err-next.ensures.behind)
 
 pub returns-in_err-named-clause-behind : goal.returns-in_err-named-clause-behind
-returns-in_err-named-clause-behind c = behind_itself c.args.tokens.now
+returns-in_err-named-clause-behind g c = behind_itself c.args.tokens.now
 
 pub returns-in_err-room-clause-behind : goal.returns-in_err-room-clause-behind
-returns-in_err-room-clause-behind c = behind_itself c.args.tokens.now
+returns-in_err-room-clause-behind g c = behind_itself c.args.tokens.now
 
-pub overflow_sub-most : goal.overflow_sub-most
-overflow_sub-most c = omega (arith, c.total.ensures, c.loop-count.invariant.lines.bounded)
+pub overflow_sub-bounds : goal.overflow_sub-bounds
+overflow_sub-bounds g c =
+    within_limit g.B.BallotStore.holds c.args.bounds c.args.store _ c.loop-count.ballots _ c.loop-count.invariant.so_far
+    c.requires.held c.ballot_count.result c.ballot_count.ensures
 
-pub add_line-requires-clause-ranking : goal.add_line-requires-clause-ranking
-add_line-requires-clause-ranking c =
-    let candidates = c.loop-count.ballots.candidates in
-    subst (λ (r : List ℕ). IsRanking candidates r) (sym c.in-Ok.ensures)
-    (subst (λ (n : ℕ). IsRanking n (take c.in_ok-len.len c.read_ranks.new.ranks))
-    (sym c.loop-count.invariant.candidates) c.in_ok-len.ensures.ranking)
+pub take_line-requires-clause-ranking : goal.take_line-requires-clause-ranking
+take_line-requires-clause-ranking g c =
+    subst (λ (n : ℕ). IsRanking n (take c.in_ok-len.len c.read_ranks.new.ranks)) (sym c.loop-count.invariant.among)
+    c.in_ok-len.ensures.ranking
 
-pub add_line-requires-clause-room : goal.add_line-requires-clause-room
-add_line-requires-clause-room c =
-    omega (arith, c.if-count-most.false, c.total.ensures, c.loop-count.invariant.lines.bounded, c.requires)
+pub take_line-requires-clause-room : goal.take_line-requires-clause-room
+take_line-requires-clause-room g c =
+    let fits =
+    within_limit g.B.BallotStore.holds c.args.bounds c.args.store _ c.loop-count.ballots _ c.loop-count.invariant.so_far
+    c.requires.held c.ballot_count.result c.ballot_count.ensures in
+    room_in_store g.B.BallotStore.holds c.args.bounds c.args.store _ c.loop-count.ballots c.loop-count.tokens.rest
+    c.loop-count.count c.loop-count.at c.loop-count.invariant.so_far c.ballot_count.result c.ballot_count.ensures
+    (omega (arith, c.loop-count-test.true)) (omega (arith, c.if-count-bounds.false)) fits _ c.requires.most
 
 pub loop-count-smaller : goal.loop-count-smaller
-loop-count-smaller c =
+loop-count-smaller g c =
     omega (
       arith,
       c.in_ok-len.ensures.fewer,

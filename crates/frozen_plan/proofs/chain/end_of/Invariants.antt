@@ -1,5 +1,5 @@
 use Rattle.std.proofs.Common.{◌≡◌, ◌+◌, length}
-use Rattle.frozen_plan.specs.Share.{rest_of}
+use Rattle.packed_ballots.specs.Packed.{rest_of}
 use Rattle.frozen_plan.proofs.chain.end_of.Given as goal
 
 abbrev pub invariant-loop-i : goal.invariant-loop-i

@@ -1,7 +1,7 @@
 use Rattle.std.proofs.Common.{◌≡◌, ◌+◌, ◌++◌, length}
 use Rattle.frozen_plan.specs.Forest.{rows_of}
 use Rattle.frozen_plan.specs.Groups.{chain}
-use Rattle.frozen_plan.specs.Share.{rest_of}
+use Rattle.packed_ballots.specs.Packed.{rest_of}
 use Rattle.frozen_plan.proofs.chain.push_line.Given as goal
 
 abbrev pub invariant-loop-i : goal.invariant-loop-i

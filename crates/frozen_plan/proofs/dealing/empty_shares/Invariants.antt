@@ -7,5 +7,5 @@ abbrev pub invariant-loop-i : goal.invariant-loop-i
 invariant-loop-i l = record {
   as_many : length l.shares.items ≡ l.i;
   room : l.shards ≤ vec_capacity l.shares;
-  empty : AreEmpty l.shares.items;
+  empty : AreEmpty l.candidates l.shares.items;
 }

@@ -1,5 +1,5 @@
 use Rattle.std.proofs.Common.{◌≡◌}
-use Rattle.frozen_plan.specs.Share.{rest_of}
+use Rattle.packed_ballots.specs.Packed.{rest_of}
 use Rattle.frozen_plan.proofs.merge.are_equal.Given as goal
 
 abbrev pub invariant-loop-at : goal.invariant-loop-at

@@ -1,4 +1,5 @@
 use Rattle.std.proofs.Common.{◌≡◌, ◌+◌, ◌≤◌, ℕ, List, [], ◌∷◌, ◌++◌, length, set, arith, ap, sym, ◌∙◌, subst}
+use Rattle.ranking_trie.specs.Siblings.{forest_of}
 use Rattle.ranking_trie.specs.BallotBag.{count_of}
 use Rattle.frozen_plan.specs.declared.plan_row.PlanRow.{PlanRow}
 use Rattle.frozen_plan.specs.Forest.{through, rows_of}
@@ -11,7 +12,7 @@ use Rattle.frozen_plan.proofs.plan.rows_of_trie.Goals as goal
 pub push_forest-requires-clause-grown : goal.push_forest-requires-clause-grown
 push_forest-requires-clause-grown c =
     let n = c.args.trie.now.candidates in
-    let f = c.forest.result.now in
+    let f = forest_of c.forest.result in
     (0, grown_more n 250 0 1 (shape_of f) c.requires (grown n 0 1 f c.forest.ensures.rising c.forest.ensures.within))
 
 pub push_forest-requires-clause-few : goal.push_forest-requires-clause-few
@@ -19,7 +20,7 @@ push_forest-requires-clause-few c =
     let t = c.args.trie.now in
     omega (
       arith,
-      all_ballots t (count_of [] t.ballots) c.forest.result.now c.forest.ensures.ballots,
+      all_ballots t (count_of [] t.ballots) (forest_of c.forest.result) c.forest.ensures.ballots,
       c.total.ensures.total,
       c.total.ensures.few,
     )
@@ -27,7 +28,7 @@ push_forest-requires-clause-few c =
 pub returns : goal.returns
 returns c =
     let t = c.args.trie.now in
-    let f = c.forest.result.now in
+    let f = forest_of c.forest.result in
     let ends = count_of [] t.ballots in
     let below = rows_of 1 (shape_of f) in
     let now = c.push_forest.new.rows.items in

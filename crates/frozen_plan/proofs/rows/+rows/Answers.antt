@@ -1,4 +1,5 @@
 use Rattle.std.proofs.Common.{◌≡◌, ℕ, ◌+◌, ◌-◌, List, [], ◌∷◌, ◌++◌, length, arith, ap, ◌∙◌}
+use Rattle.ranking_trie.specs.Siblings.{forest_of}
 use Rattle.frozen_plan.specs.declared.plan_row.PlanRow.{PlanRow}
 use Rattle.frozen_plan.specs.Shape.{shape_of}
 use Rattle.frozen_plan.specs.Forest.{through, rows_of}
@@ -8,7 +9,7 @@ use Rattle.frozen_plan.proofs.rows.+rows.Goals as goal
 pub push_node-returns-clause-rows : goal.push_node-returns-clause-rows
 push_node-returns-clause-rows t c =
     let old = c.args.rows.now.items in
-    let low = rows_of (c.args.depth + 1) (shape_of c.args.inner.now) in
+    let low = rows_of (c.args.depth + 1) (shape_of (forest_of c.args.inner)) in
     let now = c.push_forest.new.rows.items in
     let first : PlanRow = record { depth = c.args.depth; candidate = c.args.candidate; ballots = 0; skip = 0 } in
     let at = c.len-at.result in
@@ -18,7 +19,7 @@ push_node-returns-clause-rows t c =
     let behind : c.len.result - at ≡ length low + 1 =
     ap (λ n. n - at) (omega (arith, c.push_forest.new.rows.ok.0, c.len.ensures))
     ∙ rows_behind old low now first at place is in
-    let below : c.in_ok-below.below ≡ through (shape_of c.args.inner.now) = c.in_ok-below.ensures.through in
+    let below : c.in_ok-below.below ≡ through (shape_of (forest_of c.args.inner)) = c.in_ok-below.ensures.through in
     let row : PlanRow =
     record {
       depth = c.args.depth;
@@ -37,6 +38,6 @@ push_node-returns-clause-rows t c =
     ∙ ap (λ (n : ℕ). record {
       depth = c.args.depth;
       candidate = c.args.candidate;
-      ballots = c.args.ends + through (shape_of c.args.inner.now);
+      ballots = c.args.ends + through (shape_of (forest_of c.args.inner));
       skip = n;
     }) behind)

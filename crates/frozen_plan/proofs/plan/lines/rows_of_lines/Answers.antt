@@ -1,6 +1,6 @@
 use Rattle.std.proofs.Common.{◌≡◌, List, [], ◌∷◌, ◌++◌, length, arith, ap, ◌∙◌, subst}
 use Rattle.frozen_plan.specs.declared.plan_row.PlanRow.{PlanRow}
-use Rattle.frozen_plan.specs.Share.{rests}
+use Rattle.packed_ballots.specs.Packed.{rests}
 use Rattle.frozen_plan.specs.Groups.{AreNodesOf}
 use Rattle.frozen_plan.proofs.GroupLemmas.{plan_of_lines, ballots_of_lines}
 use Rattle.frozen_plan.proofs.plan.lines.rows_of_lines.Goals as goal

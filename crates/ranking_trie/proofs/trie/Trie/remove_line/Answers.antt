@@ -1,6 +1,7 @@
 use Rattle.std.proofs.Common.{◌≡◌, ℕ, ◌≤◌, List, [], ◌++◌, replicate, arith, ap, sym, subst}
 use Rattle.std.specs.List.{All}
 use Rattle.std.specs.List.Sorted.{IsPermutation}
+use Rattle.ranking_trie.specs.Arena.{forest_in}
 use Rattle.ranking_trie.specs.Bag.{bag}
 use Rattle.ranking_trie.proofs.BagLemmas.{trie_fewer}
 use Rattle.ranking_trie.proofs.FormLemmas.{held_ranking}
@@ -10,31 +11,33 @@ use Rattle.ranking_trie.proofs.trie.Trie.remove_line.Goals as goal
 pub invariant_of-self : goal.invariant_of-self
 invariant_of-self g c =
     let t = c.self.inside in
-    let old = replicate t.ends [] ++ bag t.forest in
-    let new = replicate c.take_out-ends.result.0 [] ++ bag c.take_out-ends.result.1 in
+    let old = replicate t.ends [] ++ bag (forest_in t.arena t.first) in
+    let new = replicate c.take_out-ends.result.0 [] ++ bag (forest_in c.take_out-ends.new.self c.take_out-ends.result.1) in
     let line = c.args.line.now in
     let same : IsPermutation old (replicate line.count line.ranking ++ new) =
-    subst (λ (r : List ℕ). IsPermutation old (replicate line.count r ++ new)) c.ranks.ensures.value
-    (subst
-    (λ f. IsPermutation (replicate t.ends [] ++ bag f) (replicate line.count c.ranks.result.now ++ new))
-    c.replace-forest.ensures.value c.take_out-ends.ensures.bag) in (
+    subst (λ (r : List ℕ). IsPermutation old (replicate line.count r ++ new)) c.ranks-ranks.ensures.value
+    c.take_out-ends.ensures.bag in (
       trie_fewer t.candidates t.total line.count line.ranking old new c.self.invariant.0 same,
       c.take_out-ends.ensures.rising,
-      c.take_out-ends.ensures.counted,
+      omega (arith, c.take_out-ends.ensures.nodes, c.self.invariant.2, c.self.invariant.3.counted),
+      c.take_out-ends.ensures.apart,
     )
 
 pub take_out-ends-requires-clause-numbers : goal.take_out-ends-requires-clause-numbers
 take_out-ends-requires-clause-numbers g c =
     let t = c.self.inside in
     let line = c.args.line.now in
-    let bag_is : replicate t.ends [] ++ bag t.forest ≡ c.args.self.now.ballots =
-    ap (λ (s : BallotBag). s.ballots) c.self.view_is in
-    let held : line.count ≤ count_of line.ranking (replicate t.ends [] ++ bag t.forest) =
+    let own = replicate t.ends [] ++ bag (forest_in t.arena t.first) in
+    let bag_is : own ≡ c.args.self.now.ballots = ap (λ (s : BallotBag). s.ballots) c.self.view_is in
+    let held : line.count ≤ count_of line.ranking own =
     subst (λ (l : List (List ℕ)). line.count ≤ count_of line.ranking l) (sym bag_is) c.requires.held in
     let sound = c.self.invariant.0 in
     let ranking =
-    held_ranking t.candidates t.total line.count line.ranking (replicate t.ends [] ++ bag t.forest) sound
-    c.requires.some held in
+    held_ranking t.candidates t.total line.count line.ranking own sound c.requires.some held in
     let few = sound.few_candidates in
-    subst (All (λ r. (1 ≤ r) × (r ≤ 250))) (sym c.ranks.ensures.value)
+    subst (All (λ r. (1 ≤ r) × (r ≤ 250))) (sym c.ranks-ranks.ensures.value)
     (λ k d inside. let number = ranking.numbers k d inside in (number.0, omega (arith, number.1)))
+
+pub overflow_add-nodes : goal.overflow_add-nodes
+overflow_add-nodes g c =
+    omega (arith, c.self.invariant.2, c.self.invariant.3.few, c.self.inside.arena.nodes.ok.0)

@@ -1,9 +1,0 @@
-use Rattle.std.proofs.Common.{◌≡◌, ◌+◌, ◌++◌, take, vec_len, vec_capacity}
-use Rattle.frozen_plan.proofs.share.push_digits.Given as goal
-
-abbrev pub invariant-loop-rank : goal.invariant-loop-rank
-invariant-loop-rank l = record {
-  items : l.bytes.items ≡ l.initial.bytes.items ++ take l.rank-index l.ranks;
-  len : vec_len l.bytes ≡ vec_len l.initial.bytes + l.rank-index;
-  capacity : vec_capacity l.bytes ≡ vec_capacity l.initial.bytes;
-}

@@ -1,0 +1,7 @@
+mod Digits
+mod Fronts
+mod Bytes
+mod Found
+mod Lines
+mod TakenLemmas
+mod Appended

@@ -1,0 +1,4 @@
+pub mod Fronts
+pub mod Packed
+pub mod Taking
+pub mod Worked

@@ -1,5 +1,0 @@
-use Rattle.std.proofs.Common.{◌-◌, length}
-use Rattle.ranking_trie.proofs.add.+add.Given as goal
-
-abbrev pub decreases-add : goal.decreases-add
-decreases-add g l = length l.ranks.now - l.at
