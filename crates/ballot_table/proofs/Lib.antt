@@ -28,5 +28,7 @@ mod GrowingLemmas
 mod FreeLemmas
 mod SheetLemmas
 mod ShortTexts
+mod RankSums
+mod Placing
 mod PlacedLemmas
 mod PlainRows

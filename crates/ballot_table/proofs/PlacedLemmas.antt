@@ -1,144 +1,23 @@
 -- Candidates who are placed at their ranks.
-use Rattle.std.proofs.Common.{◌≡◌, ◌≢◌, ℕ, zero, suc, ◌+◌, ◌-◌, ◌<◌, ◌≤◌, ◌==◌, Bool, true, false, cond, eqb}
-use Rattle.std.proofs.Common.{List, [], ◌∷◌, ◌++◌}
-use Rattle.std.proofs.Common.{length, map, take, drop, get_or, set, replicate, Option, Some, None, All, refl}
-use Rattle.std.proofs.Common.{ap, sym, ◌∙◌, subst}
-use Rattle.std.proofs.Common.{inl, inr, arith}
-use Rattle.std.specs.List.{between, filter_map, enumerate_from, cons_option, range_with_len}
-use Rattle.std.specs.Option.{option_to_list}
-use Rattle.std.proofs.Common.{◌&&◌, ◌↔◌, not}
+use Rattle.std.proofs.Common.{◌≡◌, ◌≢◌, ℕ, zero, suc, ◌+◌, ◌-◌, ◌<◌, ◌≤◌, ◌==◌, ◌&&◌, ◌↔◌, not, Bool, true, false, cond, eqb}
+use Rattle.std.proofs.Common.{List, [], ◌∷◌, ◌++◌, length, map, take, drop, get_or, replicate, Option, Some, None, All}
+use Rattle.std.proofs.Common.{refl, ap, sym, ◌∙◌, subst, arith}
 use Rattle.std.specs.Bool.{IsTrue}
+use Rattle.std.specs.List.{between, filter_map, enumerate_from, cons_option, range_with_len}
 use Rattle.std.proofs.Math.Seq.{get_or-append_seam}
-use Rattle.std.proofs.lemmas.List.{get_or_append_left, length-append}
-use Rattle.std.proofs.lemmas.List.Elements.{All-push}
-use Rattle.std.proofs.lemmas.Bool.{and_from, and_parts, false≢true}
-use Rattle.std.proofs.lemmas.Bool.{cases_eq, eq-eqb, eqb-true, ne_eqb}
-use Rattle.std.proofs.lemmas.Bool.Decides.{leb_tells}
-use Rattle.std.proofs.lemmas.List.{append-nil, drop_more, get_or_default, get_or_past, get_or-set_same}
-use Rattle.std.proofs.lemmas.List.{get_or-set_other, length-map, length-set, map_push}
+use Rattle.std.proofs.lemmas.Bool.{and_from, and_parts, eq-eqb, eqb-true, false≢true, ne_eqb}
+use Rattle.std.proofs.lemmas.List.{drop_more, get_or_append_left, get_or_default, length-append, length-map}
 use Rattle.std.proofs.lemmas.List.Edits.{get_or-between, length-between}
-use Rattle.std.proofs.lemmas.List.Elements.{All-head, All-tail}
+use Rattle.std.proofs.lemmas.List.Elements.{All-head, All-push, All-tail}
 use Rattle.plain_ballots.specs.Ranking.{IsRanking}
 use Rattle.plain_ballots.specs.declared.limits.TheConstants.{MOST_CANDIDATES}
 use Rattle.ballot_marks.specs.declared.says.Says.{Says}
 use Rattle.ballot_marks.specs.declared.says.Says.TheVariants.{One}
-use Rattle.table_text.specs.declared.short.TheConstants.{NO_NUMBER}
-use Rattle.ballot_table.specs.PlainRows.{ArePlaced, one_or_none, rank_or_none}
+use Rattle.ballot_table.specs.PlainRows.{rank_or_none}
 use Rattle.ballot_table.specs.Rows.{holder, holders, said_by_holders, said_up_to}
-use Rattle.ballot_table.proofs.HeldLemmas.{holders_more, no_holder, the_holder}
+use Rattle.ballot_table.proofs.Placing.{ArePlaced, one_or_none}
 use Rattle.ballot_table.proofs.SayingLemmas.{plainly}
 use Rattle.ballot_table.proofs.WithinLemmas.{IsFrom, holders_from}
-
--- ---- one after another
-
--- nobody is placed yet
-pub none_placed : (placed : List ℕ) → length placed ≡ NO_NUMBER → All (λ c. c ≡ 0) placed → ArePlaced [] placed 0
-none_placed placed size free = record {
-  size = size;
-  none = zeros 0;
-  each = λ rank least. sym (ap one_or_none (zeros rank));
-  behind = λ rank behind. zeros rank;
-  inside = omega arith;
-}
-  where
-    zeros : (k : ℕ) → get_or placed k 0 ≡ 0
-    zeros k =
-        elim (leb_tells (suc k) (length placed)) [
-          | inl inside ↦ free k 0 (omega (arith, inside.1))
-          | inr past ↦ get_or_past placed k 0 (omega (arith, past.1))
-        ]
-
-module _ (numbers placed : List ℕ) (last rank c most : ℕ) (is : ArePlaced numbers placed last) (short : rank < NO_NUMBER)
-    (free : get_or placed rank 0 ≡ 0) (next : c ≡ length numbers + 1)
-    (least_last : last ≤ most) (least_rank : rank ≤ most) (least : (n : ℕ) → last ≤ n → rank ≤ n → most ≤ n)
-  where
-    abbrev here : ℕ
-    here = cond (rank == 0) 0 c
-
-    abbrev new : List ℕ
-    new = set placed rank here
-
-    abbrev ranks : List (Option ℕ)
-    ranks = map rank_or_none numbers
-
-    within : rank < length placed
-    within = let size = is.size in omega (arith, size, short)
-
-    there : (k : ℕ) → k ≢ rank → get_or new k 0 ≡ get_or placed k 0
-    there k other = get_or-set_other placed rank k here 0 other
-
-    number : 1 + length ranks ≡ c
-    number = let long = length-map numbers rank_or_none in omega (arith, long, next)
-
-    none_is : get_or new 0 0 ≡ 0
-    none_is =
-        elim (cases_eq rank 0) [
-          | inl zeroth ↦
-              ap (λ (k : ℕ). get_or new k 0) (sym zeroth)
-              ∙ get_or-set_same placed rank here 0 within
-              ∙ ap (λ (b : Bool). cond b 0 c) (eq-eqb rank 0 zeroth)
-          | inr other ↦ there 0 (λ e. other (sym e)) ∙ is.none
-        ]
-
-    -- who holds a rank, with one candidate more
-    more : (r : ℕ) → holders r (map rank_or_none (numbers ++ rank ∷ []))
-        ≡ holders r ranks ++ option_to_list (holder r (1 + length ranks, rank_or_none rank))
-    more r = ap (holders r) (map_push rank_or_none numbers rank) ∙ holders_more r ranks (rank_or_none rank)
-
-    -- the rank is no candidate's other rank
-    not_it : (r : ℕ) → 1 ≤ r → r ≢ rank → (q : ℕ) → rank_or_none rank ≡ Some q → q ≡ r → ⊥
-    not_it r from_one other q is_q same =
-        elim (cases_eq rank 0) [
-          | inl zeroth ↦ cc (sym (ap (λ (b : Bool). cond b None (Some rank)) (eq-eqb rank 0 zeroth)) ∙ is_q)
-          | inr some ↦
-              let found : rank ≡ q = cc (sym (ap (λ (b : Bool). cond b None (Some rank)) (ne_eqb rank 0 some)) ∙ is_q) in
-              other (omega (arith, found, same))
-        ]
-
-    each_other : (r : ℕ) → 1 ≤ r → r ≢ rank
-        → holders r (map rank_or_none (numbers ++ rank ∷ [])) ≡ one_or_none (get_or new r 0)
-    each_other r from_one other =
-        more r
-        ∙ ap (λ (o : Option ℕ). holders r ranks ++ option_to_list o)
-        (no_holder r (1 + length ranks) (rank_or_none rank) (not_it r from_one other))
-        ∙ append-nil (holders r ranks)
-        ∙ is.each r from_one
-        ∙ ap one_or_none (sym (there r other))
-
-    each_same : (r : ℕ) → 1 ≤ r → r ≡ rank
-        → holders r (map rank_or_none (numbers ++ rank ∷ [])) ≡ one_or_none (get_or new r 0)
-    each_same r from_one same =
-        let some : (rank == 0) ≡ false = ne_eqb rank 0 (λ e. omega (arith, e, same, from_one)) in
-        let one : (c == 0) ≡ false = ne_eqb c 0 (λ e. omega (arith, e, next)) in
-        let was : holders r ranks ≡ [] =
-        is.each r from_one ∙ ap (λ (k : ℕ). one_or_none (get_or placed k 0)) same ∙ ap one_or_none free in
-        let set_is : get_or new r 0 ≡ c =
-        ap (λ (k : ℕ). get_or new k 0) same ∙ get_or-set_same placed rank here 0 within
-        ∙ ap (λ (b : Bool). cond b 0 c) some in
-        more r
-        ∙ ap (λ (l : List ℕ). l ++ option_to_list (holder r (1 + length ranks, rank_or_none rank))) was
-        ∙ ap (λ (b : Bool). option_to_list (holder r (1 + length ranks, cond b None (Some rank)))) some
-        ∙ ap option_to_list (the_holder r (1 + length ranks) rank (sym same))
-        ∙ ap (λ (n : ℕ). n ∷ []) number
-        ∙ sym (ap one_or_none set_is ∙ ap (λ (b : Bool). cond b [] (c ∷ [])) one)
-
-    -- the next candidate is placed
-    pub one_placed : ArePlaced (numbers ++ rank ∷ []) new most
-    one_placed = record {
-      size = length-set placed rank here ∙ is.size;
-      none = none_is;
-      each = λ r from_one.
-          elim (cases_eq r rank) [
-            | inl same ↦ each_same r from_one same
-            | inr other ↦ each_other r from_one other
-          ];
-      behind = λ r behind.
-          there r (λ e. omega (arith, e, behind, least_rank)) ∙ is.behind r (omega (arith, behind, least_last));
-      inside =
-          let last_is = is.inside in
-          let most_is = least 99 (omega (arith, last_is)) (omega (arith, short)) in
-          omega (arith, most_is);
-    }
 
 -- ---- what the ranks say
 

@@ -1,5 +1,5 @@
 -- Rows of ranks that are plain.
-use Rattle.std.proofs.Common.{◌≡◌, ◌≢◌, ℕ, ◌+◌, ◌-◌, false, List, [], ◌∷◌, length, map, zip, take, drop, sum_by, All}
+use Rattle.std.proofs.Common.{◌≡◌, ◌≢◌, ℕ, ◌+◌, ◌-◌, ◌<◌, false, List, [], ◌∷◌, length, map, zip, take, drop, sum_by, All}
 use Rattle.std.proofs.Common.{Option, Some, Result, Ok, refl, ap, sym, ◌∙◌, subst, arith}
 use Rattle.std.specs.List.{between, filter_map, slice_get}
 use Rattle.std.specs.Option.{option_map, unwrap_or}
@@ -17,6 +17,7 @@ use Rattle.ballot_marks.specs.Laws.{IsPlain, PlainMarksAreRanked, TreatmentsOnly
 use Rattle.ballot_marks.specs.Marks.{plain_mark}
 use Rattle.table_text.specs.declared.cell.Cell.{Cell as Place}
 use Rattle.table_text.specs.Short.{short_number}
+use Rattle.table_text.specs.declared.short.TheConstants.{NO_NUMBER}
 use Rattle.ballot_table.specs.declared.column.Column.{Column}
 use Rattle.ballot_table.specs.declared.column.Column.TheVariants as column
 use Rattle.ballot_table.specs.declared.layout.Layout.{Layout}
@@ -32,6 +33,7 @@ use Rattle.ballot_table.specs.Rows.{by_rank, cells_of, marks_of, ranks_of, said_
 use Rattle.ballot_table.specs.Rows.{weight_at, weight_in}
 use Rattle.ballot_table.proofs.FaultLemmas.{not_refused}
 use Rattle.ballot_table.proofs.PlacedLemmas.{placed_rank, placed_say}
+use Rattle.ballot_table.proofs.Placing.{ArePlaced, are_placed}
 use Rattle.ballot_table.proofs.SayingLemmas.{plain_marks, plainly}
 use Rattle.ballot_table.proofs.ShortTexts.{short_rank}
 use Rattle.ballot_table.proofs.WeightLemmas.{IsFine, no_fault}
@@ -96,8 +98,8 @@ module _ (asked : Asked) (plain : HasPlainRanks asked) (room : ℕ) where
 
 module _ (asked : Asked) (plain : HasPlainRanks asked) (columns : List Column) (texts : List (List ℕ))
     (fields : List Place) (placed : List ℕ) (last : ℕ) (are : All IsCandidates columns)
-    (numbered : AreNumbered fields texts) (is : IsPlaced fields placed last) (long : length texts ≡ length columns)
-    (some : All (λ c. c ≢ 0) (between 1 (last + 1) placed))
+    (numbered : AreNumbered fields texts) (is : IsPlaced fields placed last) (inside : last < NO_NUMBER)
+    (long : length texts ≡ length columns) (some : All (λ c. c ≢ 0) (between 1 (last + 1) placed))
   where
     abbrev ranking : List ℕ
     ranking = between 1 (last + 1) placed
@@ -105,15 +107,17 @@ module _ (asked : Asked) (plain : HasPlainRanks asked) (columns : List Column) (
     abbrev numbers : List ℕ
     numbers = numbers_of fields
 
+    stand : ArePlaced numbers placed last
+    stand = are_placed fields placed last is inside some
+
     come : (room : ℕ) → ComeTo asked plain room columns texts numbers
     come room = come_to asked plain room columns texts numbers long are (numbered.numbers is.short)
 
     says : said_up_to MOST_CANDIDATES (map rank_or_none numbers) ≡ plainly ranking (MOST_CANDIDATES - last)
     says =
-        let inside = is.are_placed.inside in
         let same : last + 1 - 1 ≡ last = omega arith in
         let nonzero = subst (λ (k : ℕ). All (λ c. c ≢ 0) (take k (drop 1 placed))) same some in
-        placed_say numbers placed last is.are_placed (MOST_CANDIDATES - last) (omega (arith, inside)) nonzero
+        placed_say numbers placed last stand (MOST_CANDIDATES - last) (omega (arith, inside)) nonzero
         ∙ ap (λ (k : ℕ). plainly (take k (drop 1 placed)) (MOST_CANDIDATES - last)) (sym same)
 
     pub is_plain_row : IsPlainRow asked columns texts ranking
@@ -130,7 +134,7 @@ module _ (asked : Asked) (plain : HasPlainRanks asked) (columns : List Column) (
           subst (λ (n : ℕ). IsRanking n ranking)
           (sym (ap (λ (l : Layout). among l (length asked.candidates) (sum_by candidates_at columns)) plain.layout_is
           ∙ (come 0).counted))
-          (placed_rank numbers placed last is.are_placed some);
+          (placed_rank numbers placed last stand some);
     }
 
 -- ---- what a plain row comes to

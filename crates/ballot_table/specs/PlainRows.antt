@@ -1,6 +1,6 @@
 -- Rows of ranks that are plain: each of the first ranks has one candidate, in short numbers.
-use Rattle.std.specs.Prelude.{◌≡◌, ◌<◌, ◌≤◌, ◌==◌, if◌then◌else◌, ℕ, List, [], ◌∷◌, length, map, All, Option, Some, None}
-use Rattle.std.specs.List.{slice_index_or}
+use Rattle.std.specs.Prelude.{◌≡◌, ◌<◌, ◌≤◌, ◌==◌, not, if◌then◌else◌, ℕ, List, [], ◌∷◌, length, map, All, Option, Some, None}
+use Rattle.std.specs.List.{count_by, slice_index_or}
 use Rattle.plain_ballots.specs.Ranking.{IsRanking}
 use Rattle.ballot_marks.specs.Marks.{plain_mark}
 use Rattle.table_text.specs.declared.cell.Cell.{Cell}
@@ -23,25 +23,23 @@ pub record HasPlainRanks (asked : Asked) : Type 0 where
 abbrev pub rank_or_none : ℕ → Option ℕ
 rank_or_none n = if n == 0 then None else Some n
 
--- who has a rank, where that is a candidate's number or 0
-abbrev pub one_or_none : ℕ → List ℕ
-one_or_none c = if c == 0 then [] else c ∷ []
-
--- The candidates with these numbers stand at their ranks, nobody at the same as another, and nobody behind a last one.
-pub record ArePlaced (numbers placed : List ℕ) (last : ℕ) : Type 0 where
-  pub size : length placed ≡ NO_NUMBER
-  pub none : slice_index_or placed 0 0 ≡ 0
-  pub each : (rank : ℕ) → 1 ≤ rank → holders rank (map rank_or_none numbers) ≡ one_or_none (slice_index_or placed rank 0)
-  pub behind : (rank : ℕ) → last < rank → slice_index_or placed rank 0 ≡ 0
-  pub inside : last < NO_NUMBER
+-- the last of some candidates, or 0 where there is none
+abbrev pub last_of : List ℕ → ℕ
+last_of [] = 0
+last_of (c ∷ []) = c
+last_of (c ∷ d ∷ cs) = last_of (d ∷ cs)
 
 abbrev pub numbers_of : List Cell → List ℕ
 numbers_of cells = map (λ cell. cell.number) cells
 
--- Each of the cells has a short number, and the candidates with these numbers are placed so.
-pub record IsPlaced (cells : List Cell) (placed : List ℕ) (last : ℕ) : Type 0 where
+-- Each of the cells has a short number. At each rank stands the last candidate with it, or 0, and so many candidates have
+-- one.
+pub record IsPlaced (cells : List Cell) (placed : List ℕ) (ranked : ℕ) : Type 0 where
   pub short : All (λ cell. cell.number < NO_NUMBER) cells
-  pub are_placed : ArePlaced (numbers_of cells) placed last
+  pub size : length placed ≡ NO_NUMBER
+  pub each : (rank : ℕ) → 1 ≤ rank
+      → slice_index_or placed rank 0 ≡ last_of (holders rank (map rank_or_none (numbers_of cells)))
+  pub counted : ranked ≡ count_by (λ n. not (n == 0)) (numbers_of cells)
 
 -- Where each of the cells has a short number, their texts are these.
 pub record AreNumbered (cells : List Cell) (texts : List (List ℕ)) : Type 0 where

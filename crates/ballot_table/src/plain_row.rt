@@ -1,15 +1,10 @@
 // Rows of ranks that are plain.
-ghost use Rattle.std.specs.Prelude.{◌≡◌, ◌≢◌, ◌<◌, ◌≤◌, ◌↔◌, ℕ, length, sum_by, set, slice_index, All, IfOk, IfSome, IsTrue};
-ghost use Rattle.std.specs.Prelude.{if◌then◌else◌, ◌==◌};
-ghost use Rattle.plain_ballots.specs.declared.limits.TheConstants.{MOST_CANDIDATES};
-ghost use Rattle.plain_ballots.specs.Ranking.{AreRanks};
-ghost use Rattle.table_text.specs.declared.short.TheConstants.{NO_NUMBER};
+ghost use Rattle.std.specs.Prelude.{◌≡◌, ◌≢◌, ◌↔◌, length, All, IfOk, IfSome, IsTrue};
 ghost use Rattle.ballot_table.specs.Asked.{asked_of};
 ghost use Rattle.ballot_table.specs.PlainRows.{IsPlaced, IsPlainRow};
 
 use crate::TableAsked;
 use crate::columns::Columns;
-use crate::holders::greater;
 use crate::sheet::Sheet;
 use plain_ballots::{MOST_CANDIDATES, NoMemory, Ranking};
 use std::alloc::Global;
@@ -34,10 +29,13 @@ pub(crate) fn plain_ranking(
         return Ok(None);
     }
     let mut placed = [0u32; RANKS];
-    let Some(last) = place_each(sheet.cells(), &mut placed) else {
+    let Some(ranked) = place_each(sheet.cells(), &mut placed) else {
         return Ok(None);
     };
-    let ranks = &placed[1..last + 1];
+    if ranked >= RANKS {
+        return Ok(None);
+    }
+    let ranks = &placed[1..ranked + 1];
     if !are_held(ranks) {
         return Ok(None);
     }
@@ -45,7 +43,9 @@ pub(crate) fn plain_ranking(
     Ok(Some(ranking))
 }
 
-/// Puts the candidate of each cell at its rank, and gives the last rank that one has.
+/// Puts the candidate of each cell at its rank, in place of whoever stands there, and gives how many have one. Of those with one
+/// rank the last stays, and what stands at 0 is of no matter.
+#[inline(always)]
 fn place_each(cells: &[Cell], placed: &mut [u32; RANKS]) -> Option<usize>
     requires { All (λ c. c ≡ 0) placed.old }
     ensures { IfSome result (IsPlaced cells.now placed.new) }
@@ -53,27 +53,16 @@ fn place_each(cells: &[Cell], placed: &mut [u32; RANKS]) -> Option<usize>
     if cells.len() > MOST_CANDIDATES as usize {
         return None;
     }
-    let mut last = 0;
+    let mut ranked = 0;
     for (at, cell) in cells.iter().enumerate() {
         let rank = cell.number as usize;
-        if rank >= RANKS || !put(placed, rank, at as u32 + 1) {
+        if rank >= RANKS {
             return None;
         }
-        last = greater(last, rank);
+        placed[rank] = at as u32 + 1;
+        ranked += usize::from(rank != 0);
     }
-    Some(last)
-}
-
-/// Puts a candidate at a rank, where nobody is there; at 0 there is always nobody.
-#[inline(always)]
-fn put(placed: &mut [u32; RANKS], rank: usize, candidate: u32) -> bool
-    requires { rank < NO_NUMBER }
-    ensures free { IsTrue result ↔ (slice_index placed.old rank ≡ 0) }
-    ensures put { placed.new ≡ set placed.old rank (if rank == 0 then 0 else candidate) }
-{
-    let before = placed[rank];
-    placed[rank] = if rank == 0 { 0 } else { candidate };
-    before == 0
+    Some(ranked)
 }
 
 /// Whether somebody has each of some ranks. All are looked at, several at once.

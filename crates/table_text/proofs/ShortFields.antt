@@ -58,6 +58,11 @@ two_digits a b is next =
 
 -- ---- fields
 
+pub few_digits : (a b : ℕ) (found : ℕ × ℕ) → AreDigits a b found → found.0 ≤ 2
+few_digits a b found (inl is) = omega (arith, is.digits)
+few_digits a b found (inr (inl is)) = omega (arith, is.digits)
+few_digits a b found (inr (inr is)) = omega (arith, is.digits)
+
 module _ (s : ℕ) (bytes : List ℕ) (at : ℕ) (long : at + 2 < length bytes) (no_quote : s ≡ 34 → ⊥) (no_digit : IsDigit s → ⊥)
   where
     abbrev a : ℕ

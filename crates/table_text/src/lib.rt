@@ -7,6 +7,7 @@
 mod cell;
 mod cells;
 mod field;
+mod fronts;
 mod head_byte;
 mod laws;
 mod mark;

@@ -1,10 +1,12 @@
 // One record.
 ghost use Rattle.std.specs.Prelude.{◌≡◌, ◌≤◌, length, All, IfOk, IfErr};
 ghost use Rattle.table_text.specs.Reading.{next_count};
+ghost use Rattle.table_text.specs.Fronts.{AreFronts};
 ghost use Rattle.table_text.specs.Reader.{IsCellOf, GoesOn, EndsAt, IsEnded, IsBroken};
 
 use crate::field::{Flaw, any_cell};
-use crate::short::{short_cell, stands_apart};
+use crate::fronts::Fronts;
+use crate::short::stands_apart;
 use crate::{Cells, MAX_COUNT, NoMemory, TextFault, TextStop};
 
 /// The place behind the record that begins at a place. The places of its fields are then in `cells`.
@@ -14,9 +16,12 @@ pub(crate) fn record_end(
     separator: u8,
     row: u32,
     start: usize,
+    fronts: &mut Fronts,
     cells: &mut Cells,
 ) -> Result<usize, TextStop>
-    requires { start ≤ length bytes.now }
+    requires inside { start ≤ length bytes.now }
+    requires fronts { AreFronts bytes.now fronts.old }
+    ensures fronts { AreFronts bytes.now fronts.new }
     ensures after { IfOk result (λ end. start ≤ end) }
     ensures inside { IfOk result (λ end. end ≤ length bytes.now) }
     ensures cells { All (IsCellOf bytes.now) cells.new }
@@ -27,7 +32,7 @@ pub(crate) fn record_end(
     cells.clear();
     let mut at = start;
     loop {
-        at = short_cells(bytes, separator, at, cells)?;
+        at = short_cells(bytes, separator, at, fronts, cells)?;
         let cell = match any_cell(bytes, separator, at) {
             Ok(cell) => cell,
             Err(flaw) => return Err(TextStop::Fault(fault(flaw, row, cells.len()))),
@@ -46,12 +51,15 @@ fn short_cells(
     bytes: &[u8],
     separator: u8,
     start: usize,
+    fronts: &mut Fronts,
     cells: &mut Cells,
 ) -> Result<usize, NoMemory>
     requires inside { start ≤ length bytes.now }
+    requires fronts { AreFronts bytes.now fronts.old }
     requires cells { All (IsCellOf bytes.now) cells.old }
     ensures after { IfOk result (λ next. start ≤ next) }
     ensures inside { IfOk result (λ next. next ≤ length bytes.now) }
+    ensures fronts { AreFronts bytes.now fronts.new }
     ensures cells { All (IsCellOf bytes.now) cells.new }
     ensures on { IfOk result (GoesOn separator bytes.now cells.old cells.new start) }
 {
@@ -59,9 +67,8 @@ fn short_cells(
     if !stands_apart(separator) {
         return Ok(at);
     }
-    let limit = bytes.len().saturating_sub(2);
-    while at < limit {
-        let Some(cell) = short_cell(bytes, separator, at) else {
+    while fronts.reach(bytes, at) {
+        let Some(cell) = fronts.short_cell(bytes, separator, at) else {
             return Ok(at);
         };
         cells.push(cell)?;

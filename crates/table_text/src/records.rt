@@ -1,8 +1,10 @@
 // The records of a text.
 ghost use Rattle.std.specs.Prelude.{◌≡◌, ◌≢◌, ◌≤◌, ◌↔◌, [], length, slice_range, true, All, IfOk, IfSome, IsNone, OnOk, OnErr, Ok, Err};
+ghost use Rattle.table_text.specs.Fronts.{AreFronts};
 ghost use Rattle.table_text.specs.Reading.{begins_with_quote, field_text, read_text};
 ghost use Rattle.table_text.specs.Reader.{IsCellOf, IsEnded, LineEnds, GivesFrom, Gives};
 
+use crate::fronts::Fronts;
 use crate::mark::FEED;
 use crate::record::{next_count, record_end};
 use crate::text::{put_text, without_quotes};
@@ -16,10 +18,12 @@ pub struct Records<'a> {
     separator: u8,
     at: usize,
     row: u32,
+    fronts: Fronts,
 }
 
 impl<'a> Model for Records<'a> {
     ghost use Rattle.std.specs.Prelude.{◌≤◌, length};
+    ghost use Rattle.table_text.specs.Fronts.{AreFronts};
     ghost use Rattle.table_text.specs.Reading.{left};
     ghost use Rattle.table_text.specs.Reader.{Reader};
 
@@ -27,7 +31,7 @@ impl<'a> Model for Records<'a> {
 
     ghost view = { λ r. record { bytes = r.bytes.now; rest = left r.separator r.bytes.now r.row r.at } };
 
-    ghost invariant = { λ r. (r.at ≤ length r.bytes.now) × (1 ≤ r.row) };
+    ghost invariant = { λ r. (r.at ≤ length r.bytes.now) × (1 ≤ r.row) × AreFronts r.bytes.now r.fronts };
 }
 
 // What comes from a place on, with the place and the row of what is to come behind it.
@@ -37,10 +41,13 @@ fn next_from(
     separator: u8,
     row: u32,
     at: usize,
+    fronts: &mut Fronts,
     cells: &mut Cells,
 ) -> Result<(Step, usize, u32), TextStop>
     requires inside { at ≤ length bytes.now }
     requires row { 1 ≤ row }
+    requires fronts { AreFronts bytes.now fronts.old }
+    ensures fronts { AreFronts bytes.now fronts.new }
     ensures inside { IfOk result (λ found. found.1 ≤ length bytes.now) }
     ensures row { IfOk result (λ found. 1 ≤ found.2) }
     ensures cells { All (IsCellOf bytes.now) cells.new }
@@ -50,7 +57,7 @@ fn next_from(
         cells.clear();
         return at_end(row, at);
     }
-    let end = record_end(bytes, separator, row, at, cells)?;
+    let end = record_end(bytes, separator, row, at, fronts, cells)?;
     let rest = behind_line(bytes, separator, end);
     if end == at {
         return Err(refused(TextKind::EmptyLine, at, row));
@@ -116,6 +123,7 @@ impl<'a> Records<'a> {
             separator,
             at,
             row: 1,
+            fronts: Fronts::new(),
         }
     }
 
@@ -126,7 +134,14 @@ impl<'a> Records<'a> {
         ensures cells { All (IsCellOf self.old.bytes) cells.new }
         ensures gives { Gives self.old result cells.new self.new }
     {
-        let (step, at, row) = next_from(self.bytes, self.separator, self.row, self.at, cells)?;
+        let (step, at, row) = next_from(
+            self.bytes,
+            self.separator,
+            self.row,
+            self.at,
+            &mut self.fronts,
+            cells,
+        )?;
         self.at = at;
         self.row = row;
         Ok(step)

@@ -1,9 +1,7 @@
 // Fields that are short numbers.
-ghost use Rattle.std.specs.Prelude.{◌≡◌, ◌<◌, ◌+◌, ◌↔◌, length, slice_index, IfSome, IsTrue};
+ghost use Rattle.std.specs.Prelude.{◌≡◌, ◌<◌, ◌≤◌, ◌↔◌, IsTrue};
 ghost use Rattle.table_text.specs.Short.{AreDigits, IsDigit, StandsApart, is_first, number_or_none, short_number};
-ghost use Rattle.table_text.specs.Reader.{IsFieldAt};
 
-use crate::Cell;
 use crate::mark::QUOTE;
 
 /// What a [`Cell`] has in place of the number of a field that is none, or a longer one, or one that begins with a 0.
@@ -21,29 +19,12 @@ pub(crate) fn number_of(bytes: &[u8]) -> u32
     }
 }
 
-/// The field that begins at a place, where it is a short number with a separator behind it, as most fields of a table of
-/// ranks are. How many digits it has decides no branch: whoever runs over such a table can't foresee it.
+/// How many digits the short number has with which two bytes begin, and that number. Its first digit is told less one.
 #[inline(always)]
-pub(crate) fn short_cell(bytes: &[u8], separator: u8, at: usize) -> Option<Cell>
-    requires long { at + 2 < length bytes.now }
-    requires apart { StandsApart separator }
-    ensures field { IfSome result (IsFieldAt separator bytes.now at) }
-    ensures inside { IfSome result (λ cell. cell.stop < length bytes.now) }
-    ensures parts { IfSome result (λ cell. slice_index bytes.now cell.stop ≡ separator) }
-{
-    let (digits, number) = front(bytes[at], bytes[at + 1]);
-    let stop = at + digits;
-    if bytes[stop] == separator {
-        Some(Cell { at, stop, number })
-    } else {
-        None
-    }
-}
-
-// How many digits the short number has with which two bytes begin, and that number. Its first digit is told less one.
-#[inline(always)]
-fn front(a: u8, b: u8) -> (usize, u32)
-    ensures { AreDigits a b result }
+pub(crate) fn front(a: u8, b: u8) -> (usize, u32)
+    ensures digits { AreDigits a b result }
+    ensures few { result.0 ≤ 2 }
+    ensures short { result.1 < NO_NUMBER }
 {
     let tens = a.wrapping_sub(b'1');
     let ones = b.wrapping_sub(b'0');

@@ -1,21 +1,18 @@
-use Rattle.std.proofs.Common.{◌≡◌, ◌+◌, ◌<◌, ◌++◌, ◌∷◌, ℕ, List, [], All, take, get_or, sym, ap}
-use Rattle.std.proofs.Common.{◌∙◌, subst, arith}
-use Rattle.std.proofs.lemmas.List.{length-map, length-take, map_push, take_more}
-use Rattle.std.proofs.lemmas.List.Elements.{All-nil, All-push}
+use Rattle.std.proofs.Common.{List, ◌≡◌, ◌+◌, ◌≤◌, ◌==◌, Bool, true, false, cond, not, set, take, get_or}
+use Rattle.std.proofs.Common.{refl, ◌∙◌, sym, ap, subst, arith}
+use Rattle.std.proofs.lemmas.List.{length-take, take_more}
+use mir.Val.{bool_byte}
 use Rattle.table_text.specs.declared.cell.Cell.{Cell}
-use Rattle.table_text.specs.declared.short.TheConstants.{NO_NUMBER}
-use Rattle.ballot_table.specs.PlainRows.{ArePlaced, numbers_of}
-use Rattle.ballot_table.proofs.PlacedLemmas.{none_placed, one_placed}
+use Rattle.ballot_table.specs.PlainRows.{IsPlaced}
+use Rattle.ballot_table.proofs.Placing.{none_placed, one_placed}
 use Rattle.ballot_table.proofs.plain_row.place_each.Goals as goal
 
-abbrev IsShort : Cell → Type 0
-IsShort cell = cell.number < NO_NUMBER
-
 pub loop-at-init : goal.loop-at-init
-loop-at-init c = record {
-  short = All-nil IsShort;
-  are_placed = none_placed c.args.placed.now c.told-placed c.requires;
-}
+loop-at-init c = record { placed = none_placed c.args.placed.now c.told-placed c.requires; few = omega arith }
+
+worth : (b : Bool) → (bool_byte b ≡ cond b 1 0) × (bool_byte b ≤ 1)
+worth true = (refl, omega arith)
+worth false = (refl, omega arith)
 
 pub loop-at-preserved : goal.loop-at-preserved
 loop-at-preserved c =
@@ -24,22 +21,18 @@ loop-at-preserved c =
     let so_far = c.loop-at.invariant in
     let none : Cell = record { at = 0; stop = 0; number = 0 } in
     let cell : Cell = get_or cells at none in
-    let free = c.put.ensures.free.0 c.if-not-put.false in
     let long = length-take at cells in
-    let many = length-map (take at cells) (λ (each : Cell). each.number) in
-    let more = take_more cells at none c.loop-at-test.true in
-    let numbers : numbers_of (take at cells) ++ cell.number ∷ [] ≡ numbers_of (take (at + 1) cells) =
-    sym (ap numbers_of more ∙ map_push (λ (each : Cell). each.number) (take at cells) cell) in
+    let is : c.from-ranked.result ≡ bool_byte (not (cell.number == 0)) = c.from-ranked.ensures in
+    let most = worth (not (cell.number == 0)) in
+    let few = so_far.few in
     record {
-      short =
-          subst (λ (cs : List Cell). All IsShort cs) (sym more)
-          (All-push IsShort (take at cells) cell so_far.short c.if-rank-ge-RANKS.false);
-      are_placed =
-          subst (λ (ns : List ℕ). ArePlaced ns c.put.new.placed c.greater-last.result) numbers
-          (subst (λ (placed : List ℕ). ArePlaced (numbers_of (take at cells) ++ cell.number ∷ []) placed
-          c.greater-last.result)
-          (sym c.put.ensures.put)
-          (one_placed (numbers_of (take at cells)) c.loop-at.placed c.loop-at.last cell.number (at + 1) c.greater-last.result
-          so_far.are_placed c.if-rank-ge-RANKS.false free (omega (arith, many, long, c.loop-at-test.true))
-          c.greater-last.ensures.one c.greater-last.ensures.other c.greater-last.ensures.least));
+      placed =
+          subst
+          (λ (cs : List Cell). IsPlaced cs (set c.loop-at.placed cell.number (at + 1))
+          (c.loop-at.ranked + c.from-ranked.result))
+          (sym (take_more cells at none c.loop-at-test.true))
+          (one_placed (take at cells) c.loop-at.placed c.loop-at.ranked cell (at + 1) so_far.placed
+          c.if-rank-ge-RANKS.false (omega (arith, long, c.loop-at-test.true)) (c.loop-at.ranked + c.from-ranked.result)
+          (ap (λ n. c.loop-at.ranked + n) (is ∙ most.0)));
+      few = omega (arith, few, is, most.1);
     }

@@ -11,7 +11,8 @@ new-requires c =
     let some = c.if-not-are_held.ensures.0 refl in
     let is =
     is_plain_row (asked_of c.args.asked.now) plain c.args.columns.now c.args.sheet.now.texts c.cells.result.now
-    c.place_each.new.placed c.in-Some.last are c.cells.ensures c.in-Some.ensures c.requires.texts some in
+    c.place_each.new.placed c.in-Some.ranked are c.cells.ensures c.in-Some.ensures c.if-ranked-ge-RANKS.false
+    c.requires.texts some in
     record { positive = λ k d inside. (is.sound.numbers k d inside).0; different = is.sound.different }
 
 pub returns : goal.returns
@@ -23,4 +24,5 @@ returns c =
     (λ (ranking : List ℕ). IsPlainRow (asked_of c.args.asked.now) c.args.columns.now c.args.sheet.now.texts ranking)
     (sym c.in_ok-ranking.ensures)
     (is_plain_row (asked_of c.args.asked.now) plain c.args.columns.now c.args.sheet.now.texts c.cells.result.now
-    c.place_each.new.placed c.in-Some.last are c.cells.ensures c.in-Some.ensures c.requires.texts some)
+    c.place_each.new.placed c.in-Some.ranked are c.cells.ensures c.in-Some.ensures c.if-ranked-ge-RANKS.false
+    c.requires.texts some)

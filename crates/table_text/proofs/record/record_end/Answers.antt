@@ -20,6 +20,7 @@ loop-at-preserved c =
     record {
       after = omega arith;
       inside = omega arith;
+      fronts = c.in_ok-at.ensures.fronts;
       cells =
           subst (λ (cells : List Cell). All (IsCellOf bytes) cells) (sym pushed)
           (All-push (IsCellOf bytes) c.short_cells.new.cells _ c.in_ok-at.ensures.cells found.stands);

@@ -1,4 +1,5 @@
 use Rattle.std.proofs.Common.{◌≤◌, ◌+◌, ◌-◌, length, All}
+use Rattle.table_text.specs.Fronts.{AreFronts}
 use Rattle.table_text.specs.Reader.{IsBegun, IsCellOf}
 use Rattle.table_text.proofs.record.record_end.Given as goal
 
@@ -6,6 +7,7 @@ abbrev pub invariant-loop-at : goal.invariant-loop-at
 invariant-loop-at l = record {
   after : l.start ≤ l.at;
   inside : l.at ≤ length l.bytes;
+  fronts : AreFronts l.bytes l.fronts;
   cells : All (IsCellOf l.bytes) l.cells;
   begun : IsBegun l.separator l.bytes l.row l.start l.cells l.at;
 }

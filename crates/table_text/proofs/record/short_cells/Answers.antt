@@ -5,9 +5,9 @@ use Rattle.table_text.specs.Reader.{GoesOn, IsCellOf}
 use Rattle.table_text.proofs.CellFields.{begun_more}
 use Rattle.table_text.proofs.record.short_cells.Goals as goal
 
-pub loop-at-preserved : goal.loop-at-preserved
-loop-at-preserved c =
-    let l = c.loop-at in
+pub loop-fronts-preserved : goal.loop-fronts-preserved
+loop-fronts-preserved c =
+    let l = c.loop-fronts in
     let bytes = c.args.bytes.now in
     let cell = c.in-Some.cell in
     let found = c.in-Some.ensures.field in
@@ -18,6 +18,7 @@ loop-at-preserved c =
     record {
       after = omega arith;
       inside = omega arith;
+      fronts = c.reach.ensures.fronts;
       cells =
           subst (λ (cells : List Cell). All (IsCellOf bytes) cells) (sym pushed)
           (All-push (IsCellOf bytes) l.cells _ l.invariant.cells found.stands);
