@@ -51,7 +51,7 @@ struct Team {
 }
 
 /// Makes one call and notes it.
-fn play_step<R: Wait>(
+fn play_step<R: Threads + Wait + Sync>(
     rt: &R,
     alloc: Global,
     office: &Office,
@@ -70,7 +70,7 @@ fn play_step<R: Wait>(
 }
 
 /// A team of this pass after all its calls, or those up to the first that wasn't answered.
-fn play<R: Wait>(rt: &R, alloc: Global, office: &Office, pass: Pass) -> Team
+fn play<R: Threads + Wait + Sync>(rt: &R, alloc: Global, office: &Office, pass: Pass) -> Team
     requires office { pass.office ≡ office.now }
     requires candidates { office.now.candidates ≡ 3 }
     ensures { result.pass.office ≡ office.now }
@@ -126,7 +126,14 @@ fn play_teams<R: Threads + Wait + Sync>(
         requires { IsSync R.row × (clerk.desk.office ≡ office.now) × (office.now.candidates ≡ 3) }
         ensures { IfOk result (λ played. played.clerk.desk.office ≡ office.entry.now) }
     { play_teams(rt, alloc, office, clerk, next, fewer) };
-    let (team, played) = thread::join(rt, || play(rt, alloc, office, pass), rest);
+    let (team, played) = thread::join(
+        rt,
+        || -> Team
+            requires { (pass.office ≡ office.now) × (office.now.candidates ≡ 3) }
+            ensures { result.pass.office ≡ office.entry.now }
+        { play(rt, alloc, office, pass) },
+        rest,
+    );
     taken_in(office, team, played)
 }
 

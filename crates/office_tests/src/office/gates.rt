@@ -1,7 +1,8 @@
 // Two passes in two threads, held up at gates.
 ghost use Rattle.std.specs.Prelude.{◌≡◌, ◌≤◌};
 
-use super::steps::{NotPlayed, Step, closed, joined, noted, opened};
+use super::steps::{NotPlayed, ballots_for, closed, joined, opened, reply_to};
+use batch_core::Change;
 use byte_edge::{Gate, Place};
 use shard_office::{Clerk, Office, Pass};
 use std::alloc::Global;
@@ -27,12 +28,10 @@ fn entered<R: Wait, G: Gate>(
     requires candidates { office.now.candidates ≡ 3 }
     ensures { result.office ≡ office.now }
 {
-    let step = Step::Enter {
-        batch,
-        count: 1,
-        candidate: 1,
-    };
-    let _note = noted(rt, alloc, office, &mut pass, step, gate);
+    if let Ok(ballots) = ballots_for(alloc, 1, 1) {
+        let change = Change::Enter { batch, ballots };
+        let _reply = reply_to(rt, office, &mut pass, change, gate);
+    }
     pass
 }
 

@@ -14,8 +14,10 @@ calls-init g c =
 pub make-requires-clause-answerable : goal.make-requires-clause-answerable
 make-requires-clause-answerable g c =
     let team = c.calls.self in
+    let answerable =
     next_answerable c.args.office.now c.args.self.now.pass.caller c.args.self.now.left team.left c.pop.new.self
-    c.in-Some.call team.pass team.versions.items c.calls.invariant c.in-Some.ensures.last
+    c.in-Some.call team.pass team.versions.items c.calls.invariant c.in-Some.ensures.last in
+    λ κs given. answerable
 
 pub calls-preserved : goal.calls-preserved
 calls-preserved g c =
