@@ -1,0 +1,9 @@
+mod Calls
+mod Sheets
+mod Owing
+mod DayNesting
+mod DayWalks
+mod Listed
+mod DayNumbers
+mod DayTexts
+mod DayTables

@@ -1,0 +1,13 @@
+pub mod Lists
+pub mod CallTable
+pub mod EndPart
+pub mod Freezes
+pub mod DayHtml
+pub mod DayMinutes
+pub mod DayCsv
+pub mod DayJson
+pub mod DayValues
+pub mod Laws
+pub mod Inputs
+pub mod Owed
+pub mod Worked
