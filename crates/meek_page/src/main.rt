@@ -1,8 +1,8 @@
-//! A sheet shown to people and to programs, as a program.
+//! A sheet shown to people and to programs, and a day to people, as a program.
 #![tactic(auto)]
 
 use byte_edge::{StdSink, StdSource};
-use sheet_page::page;
+use day_page::page;
 use std::io::{self, BufWriter};
 use std::process::ExitCode;
 use tool_edge::{End, NO_WORDS, words_of};

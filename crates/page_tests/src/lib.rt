@@ -1,4 +1,4 @@
-//! Tests of the page of a sheet, its table and its JSON, and the crates that write them.
+//! Tests of the page of a sheet, its table and its JSON, of the page of a day, and of the crates that write them.
 #![tactic(auto)]
 
 #[cfg(test)]

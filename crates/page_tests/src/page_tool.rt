@@ -1,4 +1,5 @@
-// Whole runs over memory: sheets worked by hand, and texts that are none.
+// Whole runs over memory: sheets worked by hand, days, and texts that are neither.
+mod day;
 mod last_seats;
 mod many;
 mod minutes;
@@ -11,9 +12,9 @@ mod transfer;
 
 use bstr::ByteSlice;
 use byte_edge::MemorySink;
+use day_page::page;
 use sample_runs::{SHEET, sink_of, source_of, words_of};
 use sheet_input::SheetFault;
-use sheet_page::page;
 use std::alloc::Global;
 use std::process::{Abort, ExitCode};
 use std::test::Fail;

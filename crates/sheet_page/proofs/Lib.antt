@@ -1,15 +1,16 @@
-mod Pens
-mod Printing
+pub mod Pens
+pub mod Printing
 mod Telling
+pub mod Rooms
 mod Marks
 mod Peaks
 mod Sums
 mod Parts
 mod RoundPlaces
 mod RisingRounds
-mod Tested
-mod Nesting
-mod Owing
+pub mod Tested
+pub mod Nesting
+pub mod Owing
 mod CsvLemmas
 mod JsonReads
 mod JsonTwins
@@ -26,7 +27,7 @@ mod TableValues
 mod JsonRows
 mod JsonSheets
 mod WholeRounds
-mod PageWalks
+pub mod PageWalks
 mod PageTexts
 mod PageTable
 mod PageIterations

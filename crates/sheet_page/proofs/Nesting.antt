@@ -13,6 +13,8 @@ use Rattle.sheet_words.specs.Sentences.{outcome, sentences_at_end}
 use Rattle.sheet_minutes.specs.declared.entry.Entry.{Entry}
 use Rattle.sheet_minutes.specs.declared.entry.Entry.TheVariants.{Round, Quota, LeftOver, Candidate}
 use Rattle.sheet_minutes.specs.Rounds.{ends_round, left_over, row_at}
+use Rattle.sheet_page.specs.declared.part_names.PartNames.{PartNames}
+use Rattle.sheet_page.specs.declared.part_names.PartNames.TheVariants.{Alone}
 use Rattle.sheet_page.specs.Told.{end_list, item, outcome_list, result_part, result_title, round_sentences, sentences_at, spoken}
 use Rattle.sheet_page.specs.Trees.{at, each, el, isolated, words}
 use Rattle.sheet_page.proofs.Tested.{tested, Tested, sound, tested_all, tested_each, tested_el, tested_if}
@@ -26,7 +28,7 @@ use Rattle.sheet_page.specs.Iterations.{concerns, standing_at, standing_of, iter
 use Rattle.sheet_page.specs.Iterations.{iterations, summary, folded}
 use Rattle.sheet_page.specs.Html.{in_round, at_end as seat_at_end, elected_item, elected_in, is_seated, seated_item}
 use Rattle.sheet_page.specs.Html.{elected_list, elected_title, elected_part, rounds_title, words_explained, rounds_part}
-use Rattle.sheet_page.specs.Html.{round_title, round_part, part_at, round_parts, heading, content, body, head, page}
+use Rattle.sheet_page.specs.Html.{round_title, round_part, part_at, round_parts, heading, sheet_parts, content, body, head, page}
 use Rattle.sheet_page.specs.Links.{link_at, link_list, link_to, links, part_attributes, part_name, round_link}
 use Rattle.sheet_page.specs.RoundTable.{candidate_head, candidate_row, caption, first_head, frame_attributes}
 use Rattle.sheet_page.specs.RoundTable.{cell_at, cells, head_row, left_row, line_head, quota_row, round_cell}
@@ -51,53 +53,53 @@ elected_tested v = tested_el (codes "section") [] (elected_title ∷ elected_lis
           (tested_each (seated_item v) (all_places (length v.names)) seated, tt),
         )
 
-rounds_tested : (places : ℕ) (v : SheetList) → tested (rounds_part places v) ≡ true
-rounds_tested places v =
-    tested_el (codes "section") [] (rounds_title ∷ table_frame places v ∷ words_explained ∷ []) refl refl refl
+rounds_tested : (names : PartNames) (places : ℕ) (v : SheetList) → tested (rounds_part names places v) ≡ true
+rounds_tested names places v =
+    tested_el (codes "section") [] (rounds_title ∷ table_frame names places v ∷ words_explained ∷ []) refl refl refl
     (refl, (frame, (refl, tt)))
   where
-    said : (entry : Entry) (i : ℕ) → tested (round_cell places v entry i) ≡ true
+    said : (entry : Entry) (i : ℕ) → tested (round_cell names places v entry i) ≡ true
     said Round i = refl
     said Quota i = refl
     said LeftOver i = refl
     said (Candidate p) i = refl
 
     -- what a line says of the rounds
-    line : (entry : Entry) → tested (cells places v entry) ≡ true
+    line : (entry : Entry) → tested (cells names places v entry) ≡ true
     line entry =
-        tested_each (cell_at places v entry) (all_places (length v.rows))
-        (λ i. tested_if (ends_round v.rows i) (round_cell places v entry i) (said entry i))
+        tested_each (cell_at names places v entry) (all_places (length v.rows))
+        (λ i. tested_if (ends_round v.rows i) (round_cell names places v entry i) (said entry i))
 
-    first : tested (table_head places v) ≡ true
+    first : tested (table_head names places v) ≡ true
     first =
-        tested_el (codes "thead") [] (head_row places v ∷ []) refl refl refl (
-          tested_el (codes "tr") [] (first_head ∷ cells places v Round ∷ []) refl refl refl (refl, (line Round, tt)),
+        tested_el (codes "thead") [] (head_row names places v ∷ []) refl refl refl (
+          tested_el (codes "tr") [] (first_head ∷ cells names places v Round ∷ []) refl refl refl (refl, (line Round, tt)),
           tt,
         )
 
-    quotas : tested (quota_row places v) ≡ true
-    quotas = tested_el (codes "tr") [] (line_head (codes "Quota") ∷ cells places v Quota ∷ []) refl refl refl (refl, (line Quota, tt))
+    quotas : tested (quota_row names places v) ≡ true
+    quotas = tested_el (codes "tr") [] (line_head (codes "Quota") ∷ cells names places v Quota ∷ []) refl refl refl (refl, (line Quota, tt))
 
-    left : tested (left_row places v) ≡ true
+    left : tested (left_row names places v) ≡ true
     left =
-        tested_el (codes "tr") [] (line_head (codes "On no candidate") ∷ cells places v LeftOver ∷ []) refl refl refl
+        tested_el (codes "tr") [] (line_head (codes "On no candidate") ∷ cells names places v LeftOver ∷ []) refl refl refl
         (refl, (line LeftOver, tt))
 
-    one : (p : ℕ) → tested (candidate_row places v p) ≡ true
+    one : (p : ℕ) → tested (candidate_row names places v p) ≡ true
     one p =
-        tested_el (codes "tr") [] (candidate_head (name_at v p) (p + 1) ∷ cells places v (Candidate p) ∷ []) refl refl refl
+        tested_el (codes "tr") [] (candidate_head (name_at v p) (p + 1) ∷ cells names places v (Candidate p) ∷ []) refl refl refl
         (refl, (line (Candidate p), tt))
 
-    lines : tested (table_body places v) ≡ true
+    lines : tested (table_body names places v) ≡ true
     lines =
         tested_el (codes "tbody") []
-        (quota_row places v ∷ left_row places v ∷ each (candidate_row places v) (all_places (length v.names)) ∷ []) refl refl refl
-        (quotas, (left, (tested_each (candidate_row places v) (all_places (length v.names)) one, tt)))
+        (quota_row names places v ∷ left_row names places v ∷ each (candidate_row names places v) (all_places (length v.names)) ∷ []) refl refl refl
+        (quotas, (left, (tested_each (candidate_row names places v) (all_places (length v.names)) one, tt)))
 
-    frame : tested (table_frame places v) ≡ true
+    frame : tested (table_frame names places v) ≡ true
     frame =
-        tested_el (codes "div") frame_attributes (rounds_table places v ∷ []) refl refl refl (
-          tested_el (codes "table") [] (caption ∷ table_head places v ∷ table_body places v ∷ []) refl refl refl
+        tested_el (codes "div") frame_attributes (rounds_table names places v ∷ []) refl refl refl (
+          tested_el (codes "table") [] (caption ∷ table_head names places v ∷ table_body names places v ∷ []) refl refl refl
               (refl, (first, (lines, tt))),
           tt,
         )
@@ -182,29 +184,43 @@ result_tested v =
     list sentences =
         tested_el (codes "ul") [] (each item sentences ∷ []) refl refl refl (items_tested sentences, tt)
 
-parts_tested : (places : ℕ) (v : SheetList) (full : ℕ) → tested (round_parts places v full) ≡ true
-parts_tested places v full =
-    tested_each (part_at places v full) (all_places (length v.rows))
-    (λ i. tested_if (ends_round v.rows i) (round_part places v full i) (part i))
+parts_tested : (names : PartNames) (places : ℕ) (v : SheetList) (full : ℕ) → tested (round_parts names places v full) ≡ true
+parts_tested names places v full =
+    tested_each (part_at names places v full) (all_places (length v.rows))
+    (λ i. tested_if (ends_round v.rows i) (round_part names places v full i) (part i))
   where
-    part : (last : ℕ) → tested (round_part places v full last) ≡ true
+    part : (last : ℕ) → tested (round_part names places v full last) ≡ true
     part last =
         let row = settled_at v last in
-        tested_el (codes "section") (part_attributes (part_name last))
+        tested_el (codes "section") (part_attributes (part_name names last))
         (round_title row.round ∷ round_sentences places v last ∷ round_picture places v full row ∷ folded places v last ∷ []) refl refl refl
         (refl, (told_tested places v last, (picture_tested places v full row, (folded_tested places v last, tt))))
 
-links_tested : (v : SheetList) → tested (links v) ≡ true
-links_tested v =
-    tested_el (codes "nav") (at (codes "aria-label") (codes "Rounds") ∷ []) (link_list v ∷ []) refl refl refl (list, tt)
+links_tested : (names : PartNames) (v : SheetList) → tested (links names v) ≡ true
+links_tested names v =
+    tested_el (codes "nav") (at (codes "aria-label") (codes "Rounds") ∷ []) (link_list names v ∷ []) refl refl refl (list, tt)
   where
-    list : tested (link_list v) ≡ true
+    list : tested (link_list names v) ≡ true
     list =
-        tested_el (codes "ul") [] (each (link_at v) (all_places (length v.rows)) ∷ []) refl refl refl (
-          tested_each (link_at v) (all_places (length v.rows)) (λ i.
-              tested_if (ends_round v.rows i) (round_link (link_to i) (row_at v.rows i).round) refl),
+        tested_el (codes "ul") [] (each (link_at names v) (all_places (length v.rows)) ∷ []) refl refl refl (
+          tested_each (link_at names v) (all_places (length v.rows)) (λ i.
+              tested_if (ends_round v.rows i) (round_link (link_to names i) (row_at v.rows i).round) refl),
           tt,
         )
+
+-- all that a page shows of a sheet
+pub sheet_tested : (names : PartNames) (places : ℕ) (v : SheetList) → tested (sheet_parts names places v) ≡ true
+sheet_tested names places v =
+    tested_all (
+    heading v ∷ links names v ∷ elected_part v ∷ result_part v ∷ rounds_part names places v
+    ∷ round_parts names places v (full_of v.rows) ∷ []
+    ) (
+      refl,
+      (
+        links_tested names v,
+        (elected_tested v, (result_tested v, (rounds_tested names places v, (parts_tested names places v (full_of v.rows), tt)))),
+      ),
+    )
 
 -- every page
 pub well_named : (places : ℕ) (v : SheetList) → IsWellNamed (page places v)
@@ -215,9 +231,16 @@ well_named places v =
     parts : tested (content places v) ≡ true
     parts =
         tested_el (codes "main") []
-        (heading v ∷ links v ∷ elected_part v ∷ result_part v ∷ rounds_part places v ∷ round_parts places v (full_of v.rows) ∷ [])
-        refl refl refl
-        (refl, (links_tested v, (elected_tested v, (result_tested v, (rounds_tested places v, (parts_tested places v (full_of v.rows), tt))))))
+        (
+        heading v ∷ links Alone v ∷ elected_part v ∷ result_part v ∷ rounds_part Alone places v
+        ∷ round_parts Alone places v (full_of v.rows) ∷ []
+        ) refl refl refl (
+          refl,
+          (
+            links_tested Alone v,
+            (elected_tested v, (result_tested v, (rounds_tested Alone places v, (parts_tested Alone places v (full_of v.rows), tt)))),
+          ),
+        )
 
     whole : tested (body places v) ≡ true
     whole = tested_el (codes "body") [] (content places v ∷ []) refl refl refl (parts, tt)

@@ -14,6 +14,7 @@ use Rattle.sheet_reader.specs.Values.{SheetList}
 use Rattle.sheet_minutes.specs.declared.entry.Entry.{Entry}
 use Rattle.sheet_minutes.specs.declared.entry.Entry.TheVariants.{Round, Quota, LeftOver, Candidate}
 use Rattle.sheet_minutes.specs.Rounds.{ends_round, left_over, row_at}
+use Rattle.sheet_page.specs.declared.part_names.PartNames.TheVariants.{Alone}
 use Rattle.sheet_page.specs.Html.{page, rounds_part}
 use Rattle.sheet_page.specs.Links.{link_to}
 use Rattle.sheet_page.specs.PageLaws.{below, called_text, cells_of, ends_of, line_texts, vote_text}
@@ -31,15 +32,15 @@ use Rattle.sheet_page.proofs.PageWalks.{no_part, no_parts, behind_nothing, found
 module _ (places : ℕ) (name : List ℕ) (v : SheetList) (entry : Entry) where
   -- the cells of a line, behind its head
   abbrev behind : Trees
-  behind = followed (cells places v entry) Nothing
+  behind = followed (cells Alone places v entry) Nothing
 
-  cells_found : texts_along (name ∷ []) behind ≡ flat_map (λ i. found text_in name [] (cell_at places v entry i)) (all_places (length v.rows))
+  cells_found : texts_along (name ∷ []) behind ≡ flat_map (λ i. found text_in name [] (cell_at Alone places v entry i)) (all_places (length v.rows))
   cells_found =
-      ap (found text_in name []) (behind_nothing (cells places v entry))
-      ∙ found_each text_in name [] (cell_at places v entry) (all_places (length v.rows))
+      ap (found text_in name []) (behind_nothing (cells Alone places v entry))
+      ∙ found_each text_in name [] (cell_at Alone places v entry) (all_places (length v.rows))
 
   -- a cell of this name has what is said of its round
-  in_cells : (g : Row → List ℕ) → ((i : ℕ) → texts_along (name ∷ []) (round_cell places v entry i) ≡ g (settled_at v i) ∷ [])
+  in_cells : (g : Row → List ℕ) → ((i : ℕ) → texts_along (name ∷ []) (round_cell Alone places v entry i) ≡ g (settled_at v i) ∷ [])
       → texts_along (name ∷ []) behind ≡ map g (ends_of v)
   in_cells g is =
       cells_found
@@ -47,13 +48,13 @@ module _ (places : ℕ) (name : List ℕ) (v : SheetList) (entry : Entry) where
       ∙ at_ends (λ row. g row ∷ []) v.rows v.last
       ∙ flat_map_single g (ends_of v)
     where
-      here : (i : ℕ) → found text_in name [] (cell_at places v entry i) ≡ (if ends_round v.rows i then g (settled_at v i) ∷ [] else [])
+      here : (i : ℕ) → found text_in name [] (cell_at Alone places v entry i) ≡ (if ends_round v.rows i then g (settled_at v i) ∷ [] else [])
       here i =
-          found_if text_in name [] (ends_round v.rows i) (round_cell places v entry i)
+          found_if text_in name [] (ends_round v.rows i) (round_cell Alone places v entry i)
           ∙ ap (λ l. if ends_round v.rows i then l else []) (is i)
 
   -- no cell has this name
-  no_cells : ((i : ℕ) → texts_along (name ∷ []) (round_cell places v entry i) ≡ []) → texts_along (name ∷ []) behind ≡ []
+  no_cells : ((i : ℕ) → texts_along (name ∷ []) (round_cell Alone places v entry i) ≡ []) → texts_along (name ∷ []) behind ≡ []
   no_cells is =
       cells_found
       ∙ (λ j. flat_map (λ i. here i j) (all_places (length v.rows)))
@@ -63,9 +64,9 @@ module _ (places : ℕ) (name : List ℕ) (v : SheetList) (entry : Entry) where
       either true = refl
       either false = refl
 
-      here : (i : ℕ) → found text_in name [] (cell_at places v entry i) ≡ no_part {X = ℕ} {Y = List ℕ} i
+      here : (i : ℕ) → found text_in name [] (cell_at Alone places v entry i) ≡ no_part {X = ℕ} {Y = List ℕ} i
       here i =
-          found_if text_in name [] (ends_round v.rows i) (round_cell places v entry i)
+          found_if text_in name [] (ends_round v.rows i) (round_cell Alone places v entry i)
           ∙ ap (λ l. if ends_round v.rows i then l else []) (is i)
           ∙ either (ends_round v.rows i)
 
@@ -94,28 +95,28 @@ vote_said places row p =
 
 -- what stands in the lines of the quotas, of what is left, and of a candidate
 abbrev quotas_within : (places : ℕ) → SheetList → Trees
-quotas_within places v = all (line_head (codes "Quota") ∷ cells places v Quota ∷ [])
+quotas_within places v = all (line_head (codes "Quota") ∷ cells Alone places v Quota ∷ [])
 
 abbrev left_within : (places : ℕ) → SheetList → Trees
-left_within places v = all (line_head (codes "On no candidate") ∷ cells places v LeftOver ∷ [])
+left_within places v = all (line_head (codes "On no candidate") ∷ cells Alone places v LeftOver ∷ [])
 
 abbrev votes_within : (places : ℕ) → SheetList → (p : ℕ) → Trees
-votes_within places v p = all (candidate_head (name_at v p) (p + 1) ∷ cells places v (Candidate p) ∷ [])
+votes_within places v p = all (candidate_head (name_at v p) (p + 1) ∷ cells Alone places v (Candidate p) ∷ [])
 
 table_lines : (places : ℕ) {X : Type 0} (h : Trees → X) (v : SheetList) →
     map h (along (below (codes "div" ∷ codes "table" ∷ codes "tbody" ∷ codes "tr" ∷ [])) (page places v))
     ≡ h (quotas_within places v) ∷ h (left_within places v) ∷ map (λ p. h (votes_within places v p)) (all_places (length v.names))
 table_lines places h v =
     let path = codes "div" ∷ codes "table" ∷ codes "tbody" ∷ codes "tr" ∷ [] in
-    let lines = each (candidate_row places v) (all_places (length v.names)) in
-    let them = along (codes "tr" ∷ []) (followed (quota_row places v) (followed (left_row places v) (followed lines Nothing))) in
+    let lines = each (candidate_row Alone places v) (all_places (length v.names)) in
+    let them = along (codes "tr" ∷ []) (followed (quota_row Alone places v) (followed (left_row Alone places v) (followed lines Nothing))) in
     in_page places h path v no_part (λ full i. refl)
-    ∙ ap (λ l. in_parts places h path v (rounds_part places v) ++ l) (no_parts (ends_of v))
-    ∙ append-nil (in_parts places h path v (rounds_part places v))
+    ∙ ap (λ l. in_parts places h path v (rounds_part Alone places v) ++ l) (no_parts (ends_of v))
+    ∙ append-nil (in_parts places h path v (rounds_part Alone places v))
     ∙ ap (map h) (append-nil (((them ++ []) ++ []) ++ []) ∙ append-nil ((them ++ []) ++ []) ∙ append-nil (them ++ [])
     ∙ append-nil them)
     ∙ ap (λ l. h (quotas_within places v) ∷ h (left_within places v) ∷ l) (ap (found h (codes "tr") []) (behind_nothing lines)
-    ∙ found_each h (codes "tr") [] (candidate_row places v) (all_places (length v.names))
+    ∙ found_each h (codes "tr") [] (candidate_row Alone places v) (all_places (length v.names))
     ∙ flat_map_single (λ p. h (votes_within places v p)) (all_places (length v.names)))
 
 pub table_heads : (places : ℕ) (v : SheetList) →
@@ -167,17 +168,17 @@ pub table_columns : (places : ℕ) (v : SheetList) →
     ≡ codes "Candidate" ∷ map (λ row. decimal row.round) (ends_of v)
 table_columns places v =
     let path = codes "div" ∷ codes "table" ∷ codes "thead" ∷ codes "tr" ∷ codes "th" ∷ [] in
-    let heads = followed (cells places v Round) Nothing in
+    let heads = followed (cells Alone places v Round) Nothing in
     let them = along (codes "th" ∷ []) (followed first_head heads) in
     in_page places text_in path v no_part (λ full i. refl)
-    ∙ ap (λ l. in_parts places text_in path v (rounds_part places v) ++ l) (no_parts (ends_of v))
-    ∙ append-nil (in_parts places text_in path v (rounds_part places v))
+    ∙ ap (λ l. in_parts places text_in path v (rounds_part Alone places v) ++ l) (no_parts (ends_of v))
+    ∙ append-nil (in_parts places text_in path v (rounds_part Alone places v))
     ∙ ap (map text_in) (append-nil ((((them ++ []) ++ []) ++ []) ++ []) ∙ append-nil (((them ++ []) ++ []) ++ [])
     ∙ append-nil ((them ++ []) ++ []) ∙ append-nil (them ++ []) ∙ append-nil them)
     ∙ ap (λ l. codes "Candidate" ∷ l)
     (in_cells places (codes "th") v Round (λ row. decimal row.round) number)
   where
-    number : (i : ℕ) → texts_along (codes "th" ∷ []) (round_head (link_to i) (row_at v.rows i).round)
+    number : (i : ℕ) → texts_along (codes "th" ∷ []) (round_head (link_to Alone i) (row_at v.rows i).round)
         ≡ decimal (settled_at v i).round ∷ []
     number i =
         let digits = decimal (row_at v.rows i).round in

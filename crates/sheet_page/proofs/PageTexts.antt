@@ -10,6 +10,7 @@ use Rattle.meek_rule.specs.Row.{Row}
 use Rattle.page_tree.specs.Trees.{Trees, Nothing, followed}
 use Rattle.sheet_reader.specs.Values.{SheetList}
 use Rattle.sheet_minutes.specs.Rounds.{ends_round, row_at}
+use Rattle.sheet_page.specs.declared.part_names.PartNames.TheVariants.{Alone}
 use Rattle.sheet_page.specs.Html.{elected_item, elected_in, in_round, at_end, is_seated, seated_item}
 use Rattle.sheet_page.specs.Html.{elected_part, rounds_part}
 use Rattle.sheet_page.specs.Iterations.{iteration, iteration_at, iterations}
@@ -35,27 +36,27 @@ module _ (places : ℕ) {X : Type 0} (h : Trees → X) (path : List (List ℕ)) 
 
   -- the parts of rounds, by what a path leads to in the part of the round that ends at each place
   in_rounds :
-      (g : ℕ → List X) → ((full i : ℕ) → in_parts (round_part places v full i) ≡ g i)
-      → in_parts (round_parts places v (full_of v.rows))
+      (g : ℕ → List X) → ((full i : ℕ) → in_parts (round_part Alone places v full i) ≡ g i)
+      → in_parts (round_parts Alone places v (full_of v.rows))
       ≡ flat_map (λ i. if ends_round v.rows i then g i else []) (all_places (length v.rows))
   in_rounds g is =
-      found_each h (codes "section") path (part_at places v (full_of v.rows)) (all_places (length v.rows))
+      found_each h (codes "section") path (part_at Alone places v (full_of v.rows)) (all_places (length v.rows))
       ∙ (λ j. flat_map (λ i. here i j) (all_places (length v.rows)))
     where
-      here : (i : ℕ) → in_parts (part_at places v (full_of v.rows) i) ≡ (if ends_round v.rows i then g i else [])
+      here : (i : ℕ) → in_parts (part_at Alone places v (full_of v.rows) i) ≡ (if ends_round v.rows i then g i else [])
       here i =
-          found_if h (codes "section") path (ends_round v.rows i) (round_part places v (full_of v.rows) i)
+          found_if h (codes "section") path (ends_round v.rows i) (round_part Alone places v (full_of v.rows) i)
           ∙ ap (λ l. if ends_round v.rows i then l else []) (is (full_of v.rows) i)
 
   -- a whole page
   pub in_page_at :
-      (g : ℕ → List X) → ((full i : ℕ) → in_parts (round_part places v full i) ≡ g i)
+      (g : ℕ → List X) → ((full i : ℕ) → in_parts (round_part Alone places v full i) ≡ g i)
       → map h (along (below path) (page places v))
       ≡ in_parts (elected_part v) ++ (in_parts (result_part v)
-      ++ (in_parts (rounds_part places v) ++ flat_map (λ i. if ends_round v.rows i then g i else []) (all_places (length v.rows))))
+      ++ (in_parts (rounds_part Alone places v) ++ flat_map (λ i. if ends_round v.rows i then g i else []) (all_places (length v.rows))))
   in_page_at g is =
       let full = full_of v.rows in
-      let rounds = followed (rounds_part places v) (followed (round_parts places v full) Nothing) in
+      let rounds = followed (rounds_part Alone places v) (followed (round_parts Alone places v full) Nothing) in
       let parts = followed (elected_part v) (followed (result_part v) rounds) in
       let them = along (codes "section" ∷ path) parts in
       ap (map h) (append-nil ((them ++ []) ++ []) ∙ append-nil (them ++ []) ∙ append-nil them)
@@ -63,17 +64,17 @@ module _ (places : ℕ) {X : Type 0} (h : Trees → X) (path : List (List ℕ)) 
       ∙ ap (λ l. in_parts (elected_part v) ++ l) (
       found_followed h (codes "section") path (result_part v) rounds
       ∙ ap (λ l. in_parts (result_part v) ++ l) (
-      found_followed h (codes "section") path (rounds_part places v) (followed (round_parts places v full) Nothing)
-      ∙ ap (λ l. in_parts (rounds_part places v) ++ l) (ap in_parts (behind_nothing (round_parts places v full)) ∙ in_rounds g is)))
+      found_followed h (codes "section") path (rounds_part Alone places v) (followed (round_parts Alone places v full) Nothing)
+      ∙ ap (λ l. in_parts (rounds_part Alone places v) ++ l) (ap in_parts (behind_nothing (round_parts Alone places v full)) ∙ in_rounds g is)))
 
   -- where the last iteration of a round says it
   pub in_page :
-      (g : Row → List X) → ((full i : ℕ) → in_parts (round_part places v full i) ≡ g (settled_at v i))
+      (g : Row → List X) → ((full i : ℕ) → in_parts (round_part Alone places v full i) ≡ g (settled_at v i))
       → map h (along (below path) (page places v))
-      ≡ in_parts (elected_part v) ++ (in_parts (result_part v) ++ (in_parts (rounds_part places v) ++ flat_map g (ends_of v)))
+      ≡ in_parts (elected_part v) ++ (in_parts (result_part v) ++ (in_parts (rounds_part Alone places v) ++ flat_map g (ends_of v)))
   in_page g is =
       in_page_at (λ i. g (settled_at v i)) is
-      ∙ ap (λ l. in_parts (elected_part v) ++ (in_parts (result_part v) ++ (in_parts (rounds_part places v) ++ l)))
+      ∙ ap (λ l. in_parts (elected_part v) ++ (in_parts (result_part v) ++ (in_parts (rounds_part Alone places v) ++ l)))
       (at_ends g v.rows v.last)
 
 -- ---- who is elected
@@ -138,10 +139,10 @@ elected_items places v =
 
 -- the link to a round, if it ends at this place
 link_said : (v : SheetList) (i : ℕ)
-    → items (link_at v i) ≡ (if ends_round v.rows i then (codes "Round " ++ decimal (settled_at v i).round) ∷ [] else [])
+    → items (link_at Alone v i) ≡ (if ends_round v.rows i then (codes "Round " ++ decimal (settled_at v i).round) ∷ [] else [])
 link_said v i =
     let number = decimal (row_at v.rows i).round in
-    found_if text_in (codes "li") [] (ends_round v.rows i) (round_link (link_to i) (row_at v.rows i).round)
+    found_if text_in (codes "li") [] (ends_round v.rows i) (round_link (link_to Alone i) (row_at v.rows i).round)
     ∙ ap (λ l. if ends_round v.rows i then (codes "Round " ++ l) ∷ [] else []) (append-nil (number ++ []) ∙ append-nil number)
 
 pub round_links : (places : ℕ) (v : SheetList) →
@@ -149,21 +150,21 @@ pub round_links : (places : ℕ) (v : SheetList) →
     ≡ map (λ row. codes "Round " ++ decimal row.round) (ends_of v)
 round_links places v =
     let path = codes "ul" ∷ codes "li" ∷ [] in
-    let links = each (link_at v) (all_places (length v.rows)) in
+    let links = each (link_at Alone v) (all_places (length v.rows)) in
     let first = along (codes "li" ∷ []) (followed links Nothing) in
-    let rest = followed (round_parts places v (full_of v.rows)) Nothing in
+    let rest = followed (round_parts Alone places v (full_of v.rows)) Nothing in
     let behind = along (codes "nav" ∷ path) rest in
     let them = (first ++ []) ++ behind in
     ap (map text_in) (append-nil ((them ++ []) ++ []) ∙ append-nil (them ++ []) ∙ append-nil them)
     ∙ map-append text_in (first ++ []) behind
-    ∙ ap (λ l. map text_in (first ++ []) ++ l) (ap (found text_in (codes "nav") path) (behind_nothing (round_parts places v (full_of v.rows)))
-    ∙ found_each text_in (codes "nav") path (part_at places v (full_of v.rows)) (all_places (length v.rows))
+    ∙ ap (λ l. map text_in (first ++ []) ++ l) (ap (found text_in (codes "nav") path) (behind_nothing (round_parts Alone places v (full_of v.rows)))
+    ∙ found_each text_in (codes "nav") path (part_at Alone places v (full_of v.rows)) (all_places (length v.rows))
     ∙ (λ j. flat_map (λ i. none i j) (all_places (length v.rows)))
     ∙ no_parts (all_places (length v.rows)))
     ∙ append-nil (map text_in (first ++ []))
     ∙ ap (map text_in) (append-nil first)
     ∙ ap items (behind_nothing links)
-    ∙ found_each text_in (codes "li") [] (link_at v) (all_places (length v.rows))
+    ∙ found_each text_in (codes "li") [] (link_at Alone v) (all_places (length v.rows))
     ∙ (λ j. flat_map (λ i. link_said v i j) (all_places (length v.rows)))
     ∙ at_ends (λ row. (codes "Round " ++ decimal row.round) ∷ []) v.rows v.last
     ∙ flat_map_single (λ (row : Row). codes "Round " ++ decimal row.round) (ends_of v)
@@ -172,9 +173,9 @@ round_links places v =
     either true = refl
     either false = refl
 
-    none : (i : ℕ) → found text_in (codes "nav") (codes "ul" ∷ codes "li" ∷ []) (part_at places v (full_of v.rows) i) ≡ no_part {X = ℕ} {Y = List ℕ} i
+    none : (i : ℕ) → found text_in (codes "nav") (codes "ul" ∷ codes "li" ∷ []) (part_at Alone places v (full_of v.rows) i) ≡ no_part {X = ℕ} {Y = List ℕ} i
     none i =
-        found_if text_in (codes "nav") (codes "ul" ∷ codes "li" ∷ []) (ends_round v.rows i) (round_part places v (full_of v.rows) i)
+        found_if text_in (codes "nav") (codes "ul" ∷ codes "li" ∷ []) (ends_round v.rows i) (round_part Alone places v (full_of v.rows) i)
         ∙ either (ends_round v.rows i)
 
 -- ---- titles of rounds

@@ -118,3 +118,16 @@ pub printed-each :
 printed-each tree [] = refl
 printed-each tree (x ∷ items) =
     ap (λ (l : List ℕ). printed (tree x) ++ l) (printed-each tree items) ∙ sym (printed-followed (tree x) (each tree items))
+
+-- an element with trees within it that are written as they are
+pub enclosed :
+    (name : List ℕ) (attributes : List Attribute) (within : Trees)
+    → opening name attributes ++ (printed within ++ closing name) ≡ printed (Element name attributes within Nothing)
+enclosed name attributes within =
+    ap (λ (l : List ℕ). opening name attributes ++ (printed within ++ l)) (sym (append-nil (closing name)))
+
+-- trees, tree by tree, with the last one behind them
+pub one_by_one : (trees : List Trees) (last : Trees) → onto trees (printed last) ≡ printed (all (trees ++ last ∷ []))
+one_by_one [] last = sym (printed-followed last Nothing ∙ append-nil (printed last))
+one_by_one (tree ∷ trees) last =
+    ap (λ (l : List ℕ). printed tree ++ l) (one_by_one trees last) ∙ sym (printed-followed tree (all (trees ++ last ∷ [])))

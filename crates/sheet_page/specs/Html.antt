@@ -5,10 +5,12 @@ use Rattle.candidate_roll.specs.State.{state_at}
 use Rattle.lot_order.specs.Flags.{mark_at}
 use Rattle.meek_rule.specs.Row.{Row}
 use Rattle.meek_rule.specs.Situation.{is_elected}
-use Rattle.page_tree.specs.Trees.{Trees, Nothing}
+use Rattle.page_tree.specs.Trees.{Trees, Nothing, Element}
 use Rattle.page_tree.specs.Print.{printed}
 use Rattle.sheet_reader.specs.Values.{SheetList}
 use Rattle.sheet_minutes.specs.Rounds.{ends_round, row_at}
+use Rattle.sheet_page.specs.declared.part_names.PartNames.{PartNames}
+use Rattle.sheet_page.specs.declared.part_names.PartNames.TheVariants.{Alone}
 use Rattle.sheet_page.specs.Iterations.{folded}
 use Rattle.sheet_page.specs.Links.{links, part_attributes, part_name}
 use Rattle.sheet_page.specs.Picture.{full_of, round_picture}
@@ -79,8 +81,8 @@ words_explained =
     meaning (codes "In the iterations")
     (codes "each candidate by its number, with its vote; one of whom nothing else is said is hopeful and keeps 1. Who is defeated or withdrawn and has no vote is left out.") []))))
 
-abbrev pub rounds_part : (places : ℕ) → SheetList → Trees
-rounds_part places v = el (codes "section") [] (rounds_title ∷ table_frame places v ∷ words_explained ∷ [])
+abbrev pub rounds_part : PartNames → (places : ℕ) → SheetList → Trees
+rounds_part names places v = el (codes "section") [] (rounds_title ∷ table_frame names places v ∷ words_explained ∷ [])
 
 -- ---- each round
 
@@ -88,19 +90,19 @@ abbrev pub round_title : (round : ℕ) → Trees
 round_title round = el (codes "h2") [] (words (codes "Round ") ∷ words (decimal round) ∷ [])
 
 -- the part of the round that ends at a place
-abbrev pub round_part : (places : ℕ) → SheetList → (full last : ℕ) → Trees
-round_part places v full last =
-    el (codes "section") (part_attributes (part_name last)) (
+abbrev pub round_part : PartNames → (places : ℕ) → SheetList → (full last : ℕ) → Trees
+round_part names places v full last =
+    el (codes "section") (part_attributes (part_name names last)) (
     round_title (row_at v.rows last).round ∷ round_sentences places v last ∷ round_picture places v full (settled_at v last)
     ∷ folded places v last ∷ []
     )
 
 -- the part of a round, if it ends at this place
-abbrev pub part_at : (places : ℕ) → SheetList → (full i : ℕ) → Trees
-part_at places v full i = if ends_round v.rows i then round_part places v full i else Nothing
+abbrev pub part_at : PartNames → (places : ℕ) → SheetList → (full i : ℕ) → Trees
+part_at names places v full i = if ends_round v.rows i then round_part names places v full i else Nothing
 
-abbrev pub round_parts : (places : ℕ) → SheetList → (full : ℕ) → Trees
-round_parts places v full = each (part_at places v full) (all_places (length v.rows))
+abbrev pub round_parts : PartNames → (places : ℕ) → SheetList → (full : ℕ) → Trees
+round_parts names places v full = each (part_at names places v full) (all_places (length v.rows))
 
 -- ---- the page
 
@@ -114,12 +116,17 @@ heading v =
     ) ∷ []
     )
 
+-- all that a page shows of a sheet
+abbrev pub sheet_parts : PartNames → (places : ℕ) → SheetList → Trees
+sheet_parts names places v =
+    all (
+    heading v ∷ links names v ∷ elected_part v ∷ result_part v ∷ rounds_part names places v
+    ∷ round_parts names places v (full_of v.rows) ∷ []
+    )
+
 -- what a page is for
 abbrev pub content : (places : ℕ) → SheetList → Trees
-content places v =
-    el (codes "main") [] (
-    heading v ∷ links v ∷ elected_part v ∷ result_part v ∷ rounds_part places v ∷ round_parts places v (full_of v.rows) ∷ []
-    )
+content places v = Element (codes "main") [] (sheet_parts Alone places v) Nothing
 
 abbrev pub body : (places : ℕ) → SheetList → Trees
 body places v = el (codes "body") [] (content places v ∷ [])

@@ -9,6 +9,7 @@ use Rattle.sheet_reader.specs.Values.{SheetList}
 use Rattle.sheet_minutes.specs.declared.entry.Entry.{Entry}
 use Rattle.sheet_minutes.specs.declared.entry.Entry.TheVariants.{Round, Quota, LeftOver, Candidate}
 use Rattle.sheet_minutes.specs.Rounds.{ends_round, left_over, row_at}
+use Rattle.sheet_page.specs.declared.part_names.PartNames.{PartNames}
 use Rattle.sheet_page.specs.Links.{link_to}
 use Rattle.sheet_page.specs.RoundEnds.{settled_at}
 use Rattle.sheet_page.specs.Trees.{at, candidate, each, el, words}
@@ -55,28 +56,28 @@ round_head target round =
 -- ---- what a line says of the rounds
 
 -- Of the round that ends at a place: its number, its quota, the votes that are left on no candidate, or a candidate's vote and state.
-abbrev pub round_cell : (places : ℕ) → SheetList → Entry → (i : ℕ) → Trees
-round_cell places v Round i = round_head (link_to i) (row_at v.rows i).round
-round_cell places v Quota i = amount_cell places (row_at v.rows i).quota
-round_cell places v LeftOver i = amount_cell places (left_over places v.ballots (row_at v.rows i))
-round_cell places v (Candidate p) i = vote_cell places (settled_at v i) p
+abbrev pub round_cell : PartNames → (places : ℕ) → SheetList → Entry → (i : ℕ) → Trees
+round_cell names places v Round i = round_head (link_to names i) (row_at v.rows i).round
+round_cell names places v Quota i = amount_cell places (row_at v.rows i).quota
+round_cell names places v LeftOver i = amount_cell places (left_over places v.ballots (row_at v.rows i))
+round_cell names places v (Candidate p) i = vote_cell places (settled_at v i) p
 
-abbrev pub cell_at : (places : ℕ) → SheetList → Entry → (i : ℕ) → Trees
-cell_at places v entry i = if ends_round v.rows i then round_cell places v entry i else Nothing
+abbrev pub cell_at : PartNames → (places : ℕ) → SheetList → Entry → (i : ℕ) → Trees
+cell_at names places v entry i = if ends_round v.rows i then round_cell names places v entry i else Nothing
 
-abbrev pub cells : (places : ℕ) → SheetList → Entry → Trees
-cells places v entry = each (cell_at places v entry) (all_places (length v.rows))
+abbrev pub cells : PartNames → (places : ℕ) → SheetList → Entry → Trees
+cells names places v entry = each (cell_at names places v entry) (all_places (length v.rows))
 
 -- ---- the head
 
 abbrev pub first_head : Trees
 first_head = el (codes "th") column_attributes (words (codes "Candidate") ∷ [])
 
-abbrev pub head_row : (places : ℕ) → SheetList → Trees
-head_row places v = el (codes "tr") [] (first_head ∷ cells places v Round ∷ [])
+abbrev pub head_row : PartNames → (places : ℕ) → SheetList → Trees
+head_row names places v = el (codes "tr") [] (first_head ∷ cells names places v Round ∷ [])
 
-abbrev pub table_head : (places : ℕ) → SheetList → Trees
-table_head places v = el (codes "thead") [] (head_row places v ∷ [])
+abbrev pub table_head : PartNames → (places : ℕ) → SheetList → Trees
+table_head names places v = el (codes "thead") [] (head_row names places v ∷ [])
 
 -- ---- the lines
 
@@ -86,20 +87,20 @@ line_attributes = at (codes "scope") (codes "row") ∷ []
 abbrev pub line_head : (text : List ℕ) → Trees
 line_head text = el (codes "th") line_attributes (words text ∷ [])
 
-abbrev pub quota_row : (places : ℕ) → SheetList → Trees
-quota_row places v = el (codes "tr") [] (line_head (codes "Quota") ∷ cells places v Quota ∷ [])
+abbrev pub quota_row : PartNames → (places : ℕ) → SheetList → Trees
+quota_row names places v = el (codes "tr") [] (line_head (codes "Quota") ∷ cells names places v Quota ∷ [])
 
-abbrev pub left_row : (places : ℕ) → SheetList → Trees
-left_row places v = el (codes "tr") [] (line_head (codes "On no candidate") ∷ cells places v LeftOver ∷ [])
+abbrev pub left_row : PartNames → (places : ℕ) → SheetList → Trees
+left_row names places v = el (codes "tr") [] (line_head (codes "On no candidate") ∷ cells names places v LeftOver ∷ [])
 
 abbrev pub candidate_head : (name : List ℕ) → (number : ℕ) → Trees
 candidate_head name number = el (codes "th") line_attributes (candidate name number [])
 
-abbrev pub candidate_row : (places : ℕ) → SheetList → (p : ℕ) → Trees
-candidate_row places v p = el (codes "tr") [] (candidate_head (name_at v p) (p + 1) ∷ cells places v (Candidate p) ∷ [])
+abbrev pub candidate_row : PartNames → (places : ℕ) → SheetList → (p : ℕ) → Trees
+candidate_row names places v p = el (codes "tr") [] (candidate_head (name_at v p) (p + 1) ∷ cells names places v (Candidate p) ∷ [])
 
-abbrev pub table_body : (places : ℕ) → SheetList → Trees
-table_body places v = el (codes "tbody") [] (quota_row places v ∷ left_row places v ∷ each (candidate_row places v) (all_places (length v.names)) ∷ [])
+abbrev pub table_body : PartNames → (places : ℕ) → SheetList → Trees
+table_body names places v = el (codes "tbody") [] (quota_row names places v ∷ left_row names places v ∷ each (candidate_row names places v) (all_places (length v.names)) ∷ [])
 
 -- ---- the whole table
 
@@ -110,8 +111,8 @@ caption =
     ∷ []
     )
 
-abbrev pub rounds_table : (places : ℕ) → SheetList → Trees
-rounds_table places v = el (codes "table") [] (caption ∷ table_head places v ∷ table_body places v ∷ [])
+abbrev pub rounds_table : PartNames → (places : ℕ) → SheetList → Trees
+rounds_table names places v = el (codes "table") [] (caption ∷ table_head names places v ∷ table_body names places v ∷ [])
 
 -- a frame in which the table moves, also by the keys, while its heads stay
 abbrev pub frame_attributes : List Attribute
@@ -119,5 +120,5 @@ frame_attributes =
     at (codes "tabindex") (codes "0") ∷ at (codes "role") (codes "region")
     ∷ at (codes "aria-label") (codes "Votes at the end of each round") ∷ []
 
-abbrev pub table_frame : (places : ℕ) → SheetList → Trees
-table_frame places v = el (codes "div") frame_attributes (rounds_table places v ∷ [])
+abbrev pub table_frame : PartNames → (places : ℕ) → SheetList → Trees
+table_frame names places v = el (codes "div") frame_attributes (rounds_table names places v ∷ [])

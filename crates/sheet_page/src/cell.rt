@@ -8,7 +8,7 @@ use line_text::Line;
 
 /// A value as text: bytes as they are, a whole number, or an amount of votes to the last digit.
 #[derive(Drop)]
-pub(crate) enum Cell<'a, const P: usize> {
+pub enum Cell<'a, const P: usize> {
     Bytes(&'a [u8]),
     Count(u64),
     Amount(Amount<P>),

@@ -2,9 +2,10 @@
 ghost use Rattle.page_tree.specs.Print.{printed};
 ghost use Rattle.piece_text.specs.Writing.{Writes};
 ghost use Rattle.sheet_reader.specs.Form.{IsPrintable};
-ghost use Rattle.sheet_page.specs.Html.{body, content, head, heading, html_of, page, style_part, window_title};
+ghost use Rattle.sheet_page.specs.Html.{body, content, head, heading, html_of, page, sheet_parts, style_part, window_title};
 ghost use Rattle.sheet_page.specs.Prints.{Prints};
 
+use crate::PartNames;
 use crate::cell::Cell;
 use crate::elected::write_elected;
 use crate::links::write_links;
@@ -92,7 +93,8 @@ fn write_window_title<const P: usize, K: Sink>(pen: &mut Pen<'_, P, K>, text: &[
     ]);
 }
 
-fn write_style<const P: usize, K: Sink>(pen: &mut Pen<'_, P, K>)
+/// Writes how a page looks.
+pub fn write_style<const P: usize, K: Sink>(pen: &mut Pen<'_, P, K>)
     ensures { Prints K.Sink pen.old pen.new (printed style_part) }
 {
     pen.write(&[
@@ -118,13 +120,25 @@ fn write_content<const P: usize, K: Sink>(pen: &mut Pen<'_, P, K>, values: &Shee
     ensures { Prints K.Sink pen.old pen.new (printed (content P values.now)) }
 {
     pen.open(b"main");
+    write_sheet_parts(pen, PartNames::Alone, values);
+    pen.close(b"main");
+}
+
+/// Writes all that a page shows of a sheet.
+pub fn write_sheet_parts<const P: usize, K: Sink>(
+    pen: &mut Pen<'_, P, K>,
+    names: PartNames,
+    values: &SheetValuesAt<P>,
+)
+    requires printable { IsPrintable P values.now }
+    ensures { Prints K.Sink pen.old pen.new (printed (sheet_parts names P values.now)) }
+{
     write_heading(pen, values);
-    write_links(pen, values);
+    write_links(pen, names, values);
     write_elected(pen, values);
     write_result(pen, values);
-    write_rounds(pen, values);
-    write_round_parts(pen, values, sheet_full(values));
-    pen.close(b"main");
+    write_rounds(pen, names, values);
+    write_round_parts(pen, names, values, sheet_full(values));
 }
 
 /// The title of the election, and the numbers of seats and ballots.

@@ -1,8 +1,10 @@
 //! A sheet shown to people and to programs: as a page of its own, as a table for spreadsheets, as
 //! JSON, or as a text for a terminal, a mail or the minutes.
 //!
-//! [`page`] is the whole tool: [`takes_format`] reads the words, `read_sheet` the values, and what is
-//! written is a function of these values. What is no sheet is refused with a `SheetFault` of sheet_input.
+//! [`show_sheet`] shows an input: `read_sheet` reads the values, and what is written is a function of these
+//! values, in the format that [`takes_format`] reads from words. What is no sheet is refused with a `SheetFault`
+//! of sheet_input. A page of more than a sheet is written with a [`Pen`], and [`write_sheet_parts`] writes into
+//! it what a page shows of each sheet.
 #![tactic(auto)]
 
 mod bars;
@@ -18,6 +20,7 @@ mod json;
 mod json_text;
 mod laws;
 mod links;
+mod part_names;
 mod pen;
 mod picture;
 mod piece;
@@ -34,11 +37,16 @@ mod widths;
 mod words;
 mod worked;
 
+pub use cell::Cell;
 pub use format::Format;
+pub use html::{write_sheet_parts, write_style};
 pub use laws::{
     pages_nest, pages_say_their_sheets, pictures_are_small, rising_rounds_are_whole,
     sheets_are_json, strings_are_read_back, tables_are_read_back,
 };
-pub use tool::page;
+pub use part_names::PartNames;
+pub use pen::Pen;
+pub use piece::Piece;
+pub use tool::show_sheet;
 pub use words::takes_format;
 pub use worked::{worked_strings, worked_texts};

@@ -7,6 +7,7 @@ ghost use Rattle.page_tree.specs.Given.{given};
 ghost use Rattle.page_tree.specs.Print.{attribute_text, closing, opening, shown};
 ghost use Rattle.piece_text.specs.Writing.{Writes};
 ghost use Rattle.sheet_reader.specs.Form.{IsPrintable, IsPrintableRow};
+ghost use Rattle.sheet_minutes.specs.Minutes.{minutes_text};
 ghost use Rattle.sheet_words.specs.Lines.{at_end, sentences_of};
 ghost use Rattle.sheet_words.specs.Manner.{told};
 ghost use Rattle.sheet_words.specs.Sentences.{outcome, sentences_at_end};
@@ -24,20 +25,21 @@ use csv_text::write_field;
 use meek_rule::Row;
 use page_tree::{Attribute, write_end as write_end_tag, write_start, write_text};
 use piece_text::write_bytes;
+use sheet_minutes::write_minutes;
 use sheet_reader::SheetValuesAt;
 use sheet_words::{Voice, write_end, write_outcomes, write_sentences_of};
 
 /// Writes pieces, with amounts of `P` places, to a sink one after another, up to the first failure: behind it nothing more is
 /// written.
 #[derive(Drop)]
-pub(crate) struct Pen<'s, const P: usize, K> {
+pub struct Pen<'s, const P: usize, K> {
     sink: &'s mut K,
     done: Result<(), Failed>,
 }
 
 impl<'s, const P: usize, K: Sink> Pen<'s, P, K> {
     /// A pen at a sink, with nothing written yet.
-    pub(crate) fn new(sink: &'s mut K) -> Pen<'s, P, K>
+    pub fn new(sink: &'s mut K) -> Pen<'s, P, K>
         ensures same_sink { result.sink.ghost_name ≡ sink.entry.ghost_name }
         ensures before { result.sink.now ≡ sink.old }
         ensures well { result.done ≡ Ok (tt {0}) }
@@ -46,7 +48,7 @@ impl<'s, const P: usize, K: Sink> Pen<'s, P, K> {
     }
 
     /// Whether all was written. The sink is as the pen left it.
-    pub(crate) fn end(self) -> Result<(), Failed>
+    pub fn end(self) -> Result<(), Failed>
         ensures left { self.exit.0.now ≡ self.entry.sink.now }
         ensures done { result ≡ self.entry.done }
     {
@@ -54,7 +56,7 @@ impl<'s, const P: usize, K: Sink> Pen<'s, P, K> {
     }
 
     /// Writes some pieces.
-    pub(crate) fn write(&mut self, pieces: &[Piece<'_, P>])
+    pub fn write(&mut self, pieces: &[Piece<'_, P>])
         ensures { Prints K.Sink self.old self.new (flat_map (piece_text P) pieces.now) }
     {
         for piece in pieces {
@@ -63,7 +65,7 @@ impl<'s, const P: usize, K: Sink> Pen<'s, P, K> {
     }
 
     /// Writes a piece, if all before it was written.
-    pub(crate) fn piece(&mut self, piece: &Piece<'_, P>)
+    pub fn piece(&mut self, piece: &Piece<'_, P>)
         ensures { Prints K.Sink self.old self.new (piece_text P piece.now) }
     {
         if let Ok(()) = self.done {
@@ -72,7 +74,7 @@ impl<'s, const P: usize, K: Sink> Pen<'s, P, K> {
     }
 
     /// Writes the start of an element with attributes.
-    pub(crate) fn start(&mut self, name: &[u8], attributes: &[Attribute<'_>])
+    pub fn start(&mut self, name: &[u8], attributes: &[Attribute<'_>])
         ensures { Prints K.Sink self.old self.new (opening name.now (given attributes.now)) }
     {
         if let Ok(()) = self.done {
@@ -81,17 +83,28 @@ impl<'s, const P: usize, K: Sink> Pen<'s, P, K> {
     }
 
     /// Writes the start of an element without attributes.
-    pub(crate) fn open(&mut self, name: &[u8])
+    pub fn open(&mut self, name: &[u8])
         ensures { Prints K.Sink self.old self.new (opening name.now []) }
     {
         self.start(name, &[]);
     }
 
     /// Writes the end of an element.
-    pub(crate) fn close(&mut self, name: &[u8])
+    pub fn close(&mut self, name: &[u8])
         ensures { Prints K.Sink self.old self.new (closing name.now) }
     {
         self.piece(&Piece::End(name));
+    }
+
+    /// Writes the values of a sheet as a text.
+    pub fn minutes(&mut self, values: &SheetValuesAt<P>)
+        requires places { (6 ≤ P) × (P ≤ 9) }
+        requires printable { IsPrintable P values.now }
+        ensures { Prints K.Sink self.old self.new (minutes_text P values.now) }
+    {
+        if let Ok(()) = self.done {
+            self.done = write_minutes(values, self.sink);
+        }
     }
 
     /// Writes what an iteration decided, in the manner of a voice.

@@ -3,7 +3,7 @@ use crate::cell::Cell;
 
 /// A piece of what is written.
 #[derive(Drop)]
-pub(crate) enum Piece<'a, const P: usize> {
+pub enum Piece<'a, const P: usize> {
     /// Bytes as they are.
     Raw(&'a [u8]),
     /// A whole number.

@@ -8,6 +8,7 @@ ghost use Rattle.sheet_page.specs.Prints.{Prints};
 ghost use Rattle.sheet_page.specs.Trees.{print_each};
 ghost use Rattle.sheet_page.specs.Values.{all_places};
 
+use crate::PartNames;
 use crate::cell::Cell;
 use crate::iterations::write_folded;
 use crate::links::part_name;
@@ -22,47 +23,50 @@ use sheet_reader::SheetValuesAt;
 /// Writes the part of each round; `full` units have the whole width of a picture.
 pub(crate) fn write_round_parts<const P: usize, K: Sink>(
     pen: &mut Pen<'_, P, K>,
+    names: PartNames,
     values: &SheetValuesAt<P>,
     full: u64,
 )
     requires printable { IsPrintable P values.now }
     ensures { Prints K.Sink pen.old pen.new
-        (print_each (part_at P values.now full) (all_places (length values.now.rows))) }
+        (print_each (part_at names P values.now full) (all_places (length values.now.rows))) }
 {
     for i in 0..values.rows.len() {
-        write_part_at(pen, values, full, i);
+        write_part_at(pen, names, values, full, i);
     }
 }
 
 /// The part of a round, if it ends at this place.
 fn write_part_at<const P: usize, K: Sink>(
     pen: &mut Pen<'_, P, K>,
+    names: PartNames,
     values: &SheetValuesAt<P>,
     full: u64,
     i: usize,
 )
     requires printable { IsPrintable P values.now }
     requires place { i < length values.now.rows }
-    ensures { Prints K.Sink pen.old pen.new (printed (part_at P values.now full i)) }
+    ensures { Prints K.Sink pen.old pen.new (printed (part_at names P values.now full i)) }
 {
     if ends_round(values.rows.items(), i) {
-        write_round_part(pen, values, full, i);
+        write_round_part(pen, names, values, full, i);
     }
 }
 
 /// The part of the round that ends at a place.
 fn write_round_part<const P: usize, K: Sink>(
     pen: &mut Pen<'_, P, K>,
+    names: PartNames,
     values: &SheetValuesAt<P>,
     full: u64,
     last: usize,
 )
     requires printable { IsPrintable P values.now }
     requires place { last < length values.now.rows }
-    ensures { Prints K.Sink pen.old pen.new (printed (round_part P values.now full last)) }
+    ensures { Prints K.Sink pen.old pen.new (printed (round_part names P values.now full last)) }
 {
     let row = values.rows.get(last);
-    write_start(pen, values, last);
+    write_start(pen, names, values, last);
     write_title(pen, row.round);
     write_round_sentences(pen, values, last);
     write_round_picture(pen, values, full, row, states_behind(values, last));
@@ -73,13 +77,14 @@ fn write_round_part<const P: usize, K: Sink>(
 /// The start of the part of the round that ends at a place, with the name of the part.
 fn write_start<const P: usize, K: Sink>(
     pen: &mut Pen<'_, P, K>,
+    names: PartNames,
     values: &SheetValuesAt<P>,
     last: usize,
 )
     requires place { last < length values.now.rows }
-    ensures { Prints K.Sink pen.old pen.new (opening (codes "section") (part_attributes (part_name last))) }
+    ensures { Prints K.Sink pen.old pen.new (opening (codes "section") (part_attributes (part_name names last))) }
 {
-    let name = part_name(values, last);
+    let name = part_name(names, values, last);
     write_start_of(pen, name.bytes());
 }
 

@@ -4,6 +4,7 @@ ghost use Rattle.sheet_reader.specs.Form.{IsPrintable};
 ghost use Rattle.sheet_page.specs.Html.{rounds_part, rounds_title, words_explained};
 ghost use Rattle.sheet_page.specs.Prints.{Prints};
 
+use crate::PartNames;
 use crate::cell::Cell;
 use crate::pen::Pen;
 use crate::piece::Piece;
@@ -14,14 +15,15 @@ use sheet_reader::SheetValuesAt;
 /// The part of a page that has the table of rounds.
 pub(crate) fn write_rounds<const P: usize, K: Sink>(
     pen: &mut Pen<'_, P, K>,
+    names: PartNames,
     values: &SheetValuesAt<P>,
 )
     requires printable { IsPrintable P values.now }
-    ensures { Prints K.Sink pen.old pen.new (printed (rounds_part P values.now)) }
+    ensures { Prints K.Sink pen.old pen.new (printed (rounds_part names P values.now)) }
 {
     pen.open(b"section");
     write_title(pen);
-    write_frame(pen, values);
+    write_frame(pen, names, values);
     write_words(pen);
     pen.close(b"section");
 }

@@ -13,6 +13,7 @@ ghost use Rattle.sheet_page.specs.RoundTable.{amount_cell, candidate_head, candi
 ghost use Rattle.sheet_page.specs.Trees.{print_each};
 ghost use Rattle.sheet_page.specs.Values.{name_at, all_places};
 
+use crate::PartNames;
 use crate::cell::{Cell, amount_text};
 use crate::digits::{main_digits, other_digits};
 use crate::links::link_to;
@@ -29,13 +30,14 @@ use sheet_reader::SheetValuesAt;
 /// Writes the table of votes in a frame.
 pub(crate) fn write_frame<const P: usize, K: Sink>(
     pen: &mut Pen<'_, P, K>,
+    names: PartNames,
     values: &SheetValuesAt<P>,
 )
     requires printable { IsPrintable P values.now }
-    ensures { Prints K.Sink pen.old pen.new (printed (table_frame P values.now)) }
+    ensures { Prints K.Sink pen.old pen.new (printed (table_frame names P values.now)) }
 {
     write_frame_start(pen);
-    write_table(pen, values);
+    write_table(pen, names, values);
     pen.close(b"div");
 }
 
@@ -54,14 +56,18 @@ fn write_frame_start<const P: usize, K: Sink>(pen: &mut Pen<'_, P, K>)
     ]);
 }
 
-fn write_table<const P: usize, K: Sink>(pen: &mut Pen<'_, P, K>, values: &SheetValuesAt<P>)
+fn write_table<const P: usize, K: Sink>(
+    pen: &mut Pen<'_, P, K>,
+    names: PartNames,
+    values: &SheetValuesAt<P>,
+)
     requires printable { IsPrintable P values.now }
-    ensures { Prints K.Sink pen.old pen.new (printed (rounds_table P values.now)) }
+    ensures { Prints K.Sink pen.old pen.new (printed (rounds_table names P values.now)) }
 {
     pen.open(b"table");
     write_caption(pen);
-    write_head(pen, values);
-    write_body(pen, values);
+    write_head(pen, names, values);
+    write_body(pen, names, values);
     pen.close(b"table");
 }
 
@@ -78,22 +84,30 @@ fn write_caption<const P: usize, K: Sink>(pen: &mut Pen<'_, P, K>)
 }
 
 /// The head of the table.
-fn write_head<const P: usize, K: Sink>(pen: &mut Pen<'_, P, K>, values: &SheetValuesAt<P>)
+fn write_head<const P: usize, K: Sink>(
+    pen: &mut Pen<'_, P, K>,
+    names: PartNames,
+    values: &SheetValuesAt<P>,
+)
     requires printable { IsPrintable P values.now }
-    ensures { Prints K.Sink pen.old pen.new (printed (table_head P values.now)) }
+    ensures { Prints K.Sink pen.old pen.new (printed (table_head names P values.now)) }
 {
     pen.open(b"thead");
-    write_head_row(pen, values);
+    write_head_row(pen, names, values);
     pen.close(b"thead");
 }
 
-fn write_head_row<const P: usize, K: Sink>(pen: &mut Pen<'_, P, K>, values: &SheetValuesAt<P>)
+fn write_head_row<const P: usize, K: Sink>(
+    pen: &mut Pen<'_, P, K>,
+    names: PartNames,
+    values: &SheetValuesAt<P>,
+)
     requires printable { IsPrintable P values.now }
-    ensures { Prints K.Sink pen.old pen.new (printed (head_row P values.now)) }
+    ensures { Prints K.Sink pen.old pen.new (printed (head_row names P values.now)) }
 {
     pen.open(b"tr");
     write_first_head(pen);
-    write_cells(pen, values, Entry::Round);
+    write_cells(pen, names, values, Entry::Round);
     pen.close(b"tr");
 }
 
@@ -112,22 +126,24 @@ fn write_first_head<const P: usize, K: Sink>(pen: &mut Pen<'_, P, K>)
 /// What a line says of each round.
 fn write_cells<const P: usize, K: Sink>(
     pen: &mut Pen<'_, P, K>,
+    names: PartNames,
     values: &SheetValuesAt<P>,
     entry: Entry,
 )
     requires printable { IsPrintable P values.now }
     requires about { IsAbout (length values.now.names) entry }
     ensures { Prints K.Sink pen.old pen.new
-        (print_each (cell_at P values.now entry) (all_places (length values.now.rows))) }
+        (print_each (cell_at names P values.now entry) (all_places (length values.now.rows))) }
 {
     for i in 0..values.rows.len() {
-        write_cell_at(pen, values, entry, i);
+        write_cell_at(pen, names, values, entry, i);
     }
 }
 
 /// What a line says of a round, if it ends at this place.
 fn write_cell_at<const P: usize, K: Sink>(
     pen: &mut Pen<'_, P, K>,
+    names: PartNames,
     values: &SheetValuesAt<P>,
     entry: Entry,
     i: usize,
@@ -135,16 +151,17 @@ fn write_cell_at<const P: usize, K: Sink>(
     requires printable { IsPrintable P values.now }
     requires about { IsAbout (length values.now.names) entry }
     requires place { i < length values.now.rows }
-    ensures { Prints K.Sink pen.old pen.new (printed (cell_at P values.now entry i)) }
+    ensures { Prints K.Sink pen.old pen.new (printed (cell_at names P values.now entry i)) }
 {
     if ends_round(values.rows.items(), i) {
-        write_round_cell(pen, values, entry, i);
+        write_round_cell(pen, names, values, entry, i);
     }
 }
 
 /// What a line says of the round that ends at a place.
 fn write_round_cell<const P: usize, K: Sink>(
     pen: &mut Pen<'_, P, K>,
+    names: PartNames,
     values: &SheetValuesAt<P>,
     entry: Entry,
     i: usize,
@@ -152,11 +169,11 @@ fn write_round_cell<const P: usize, K: Sink>(
     requires printable { IsPrintable P values.now }
     requires about { IsAbout (length values.now.names) entry }
     requires place { i < length values.now.rows }
-    ensures { Prints K.Sink pen.old pen.new (printed (round_cell P values.now entry i)) }
+    ensures { Prints K.Sink pen.old pen.new (printed (round_cell names P values.now entry i)) }
 {
     let row = values.rows.get(i);
     match entry {
-        Entry::Round => write_round_head(pen, values, i),
+        Entry::Round => write_round_head(pen, names, values, i),
         Entry::Quota => write_amount(pen, row.quota),
         Entry::LeftOver => write_left(pen, values, row),
         Entry::Candidate(p) => write_vote(pen, row, states_behind(values, i), p),
@@ -166,14 +183,15 @@ fn write_round_cell<const P: usize, K: Sink>(
 /// The number of the round that ends at a place.
 fn write_round_head<const P: usize, K: Sink>(
     pen: &mut Pen<'_, P, K>,
+    names: PartNames,
     values: &SheetValuesAt<P>,
     i: usize,
 )
     requires place { i < length values.now.rows }
     ensures { Prints K.Sink pen.old pen.new
-        (printed (round_head (link_to i) (row_at values.now.rows i).round)) }
+        (printed (round_head (link_to names i) (row_at values.now.rows i).round)) }
 {
-    let target = link_to(values, i);
+    let target = link_to(names, values, i);
     let row = values.rows.get(i);
     write_number_to(pen, target.bytes(), row.round);
 }
@@ -196,14 +214,18 @@ fn write_number_to<const P: usize, K: Sink>(pen: &mut Pen<'_, P, K>, target: &[u
 }
 
 /// The lines below the head.
-fn write_body<const P: usize, K: Sink>(pen: &mut Pen<'_, P, K>, values: &SheetValuesAt<P>)
+fn write_body<const P: usize, K: Sink>(
+    pen: &mut Pen<'_, P, K>,
+    names: PartNames,
+    values: &SheetValuesAt<P>,
+)
     requires printable { IsPrintable P values.now }
-    ensures { Prints K.Sink pen.old pen.new (printed (table_body P values.now)) }
+    ensures { Prints K.Sink pen.old pen.new (printed (table_body names P values.now)) }
 {
     pen.open(b"tbody");
-    write_quota_row(pen, values);
-    write_left_row(pen, values);
-    write_candidate_rows(pen, values);
+    write_quota_row(pen, names, values);
+    write_left_row(pen, names, values);
+    write_candidate_rows(pen, names, values);
     pen.close(b"tbody");
 }
 
@@ -221,24 +243,32 @@ fn write_line_head<const P: usize, K: Sink>(pen: &mut Pen<'_, P, K>, text: &[u8]
 }
 
 /// The quotas of all rounds.
-fn write_quota_row<const P: usize, K: Sink>(pen: &mut Pen<'_, P, K>, values: &SheetValuesAt<P>)
+fn write_quota_row<const P: usize, K: Sink>(
+    pen: &mut Pen<'_, P, K>,
+    names: PartNames,
+    values: &SheetValuesAt<P>,
+)
     requires printable { IsPrintable P values.now }
-    ensures { Prints K.Sink pen.old pen.new (printed (quota_row P values.now)) }
+    ensures { Prints K.Sink pen.old pen.new (printed (quota_row names P values.now)) }
 {
     pen.open(b"tr");
     write_line_head(pen, b"Quota");
-    write_cells(pen, values, Entry::Quota);
+    write_cells(pen, names, values, Entry::Quota);
     pen.close(b"tr");
 }
 
 /// What is left on no candidate at the end of each round.
-fn write_left_row<const P: usize, K: Sink>(pen: &mut Pen<'_, P, K>, values: &SheetValuesAt<P>)
+fn write_left_row<const P: usize, K: Sink>(
+    pen: &mut Pen<'_, P, K>,
+    names: PartNames,
+    values: &SheetValuesAt<P>,
+)
     requires printable { IsPrintable P values.now }
-    ensures { Prints K.Sink pen.old pen.new (printed (left_row P values.now)) }
+    ensures { Prints K.Sink pen.old pen.new (printed (left_row names P values.now)) }
 {
     pen.open(b"tr");
     write_line_head(pen, b"On no candidate");
-    write_cells(pen, values, Entry::LeftOver);
+    write_cells(pen, names, values, Entry::LeftOver);
     pen.close(b"tr");
 }
 
@@ -255,29 +285,34 @@ fn write_left<const P: usize, K: Sink>(
 }
 
 /// The lines of all candidates.
-fn write_candidate_rows<const P: usize, K: Sink>(pen: &mut Pen<'_, P, K>, values: &SheetValuesAt<P>)
+fn write_candidate_rows<const P: usize, K: Sink>(
+    pen: &mut Pen<'_, P, K>,
+    names: PartNames,
+    values: &SheetValuesAt<P>,
+)
     requires printable { IsPrintable P values.now }
     ensures { Prints K.Sink pen.old pen.new
-        (print_each (candidate_row P values.now) (all_places (length values.now.names))) }
+        (print_each (candidate_row names P values.now) (all_places (length values.now.names))) }
 {
     for p in 0..values.names.len() {
-        write_candidate_row(pen, values, p);
+        write_candidate_row(pen, names, values, p);
     }
 }
 
 /// A candidate at the end of each round.
 fn write_candidate_row<const P: usize, K: Sink>(
     pen: &mut Pen<'_, P, K>,
+    names: PartNames,
     values: &SheetValuesAt<P>,
     p: usize,
 )
     requires printable { IsPrintable P values.now }
     requires place { p < length values.now.names }
-    ensures { Prints K.Sink pen.old pen.new (printed (candidate_row P values.now p)) }
+    ensures { Prints K.Sink pen.old pen.new (printed (candidate_row names P values.now p)) }
 {
     pen.open(b"tr");
     write_candidate_at(pen, values, p);
-    write_cells(pen, values, Entry::Candidate(p));
+    write_cells(pen, names, values, Entry::Candidate(p));
     pen.close(b"tr");
 }
 

@@ -1,48 +1,33 @@
-// The tool that shows a sheet.
-ghost use Rattle.std.specs.Prelude.{◌≤◌, map, length};
-ghost use Rattle.std.specs.String.{string_bytes};
+// An input that is shown as a sheet.
+ghost use Rattle.std.specs.Prelude.{◌≤◌, length};
 ghost use Rattle.sheet_input.specs.declared.sheet_limit.TheConstants.{SHEET_LIMIT};
 ghost use Rattle.tool_edge.specs.Finishing.{Finishes, FinishesOwed};
-ghost use Rattle.tool_edge.specs.Streams.{reading, writing};
-ghost use Rattle.tool_edge.specs.Tool.{IsOwedFor, IsRun, no_history};
+ghost use Rattle.tool_edge.specs.Streams.{writing};
+ghost use Rattle.tool_edge.specs.Tool.{IsOwedFor, no_history};
 ghost use Rattle.piece_text.specs.Writing.{Writes};
 ghost use Rattle.sheet_reader.specs.Form.{IsPrintable};
 ghost use Rattle.sheet_page.specs.Owed.{shown_as, shows};
 
+use crate::Format;
 use crate::csv::{write_csv, write_marked_csv};
 use crate::html::write_html;
 use crate::json::write_json;
-use crate::{Format, takes_format};
-use byte_edge::{Failed, Sink, Source};
-use sheet_input::{SHEET_LIMIT, SheetFault};
+use byte_edge::{Failed, Sink};
+use sheet_input::SheetFault;
 use sheet_minutes::write_minutes;
 use sheet_reader::{SheetStop, SheetValuesAt, read_sheet};
 use std::alloc::Global;
-use tool_edge::{End, close, open, refuse};
-
-/// Shows the sheet that the source gives, in the format that the words ask for. An input that is no sheet
-/// is refused by a line that says so. All memory is taken before the first byte.
-pub fn page<S: Source, K: Sink>(
-    alloc: Global,
-    words: &[String],
-    source: &mut S,
-    sink: &mut K,
-) -> End<SheetFault>
-    ensures { IsRun shows (map string_bytes words.now)
-        (reading S.left S.faults source.old source.new) (writing K.written K.faults sink.old sink.new)
-        result no_history }
-{
-    let asked = takes_format(words);
-    let opened = match open(alloc, asked, SHEET_LIMIT, source, sink) {
-        Ok(opened) => opened,
-        Err(end) => return end,
-    };
-    show(alloc, opened.asked, opened.input.as_slice(), sink)
-}
+use tool_edge::{End, close, refuse};
 
 /// Shows the whole input at its own places: the greatest number, from 6 to 9, at which it is a sheet. At each
-/// number but its own a sheet is given up at its first amount, so that one reading at most goes further.
-fn show<K: Sink>(alloc: Global, format: Format, input: &[u8], sink: &mut K) -> End<SheetFault>
+/// number but its own a sheet is given up at its first amount, so that one reading at most goes further. An
+/// input that is no sheet is refused by a line that says so. All memory is taken before the first byte.
+pub fn show_sheet<K: Sink>(
+    alloc: Global,
+    format: Format,
+    input: &[u8],
+    sink: &mut K,
+) -> End<SheetFault>
     requires { length input.now ≤ SHEET_LIMIT }
     ensures { FinishesOwed (IsOwedFor shows format input.now no_history) result
         (writing K.written K.faults sink.old sink.new) }

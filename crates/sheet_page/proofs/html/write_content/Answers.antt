@@ -1,21 +1,14 @@
-use Rattle.std.proofs.Common.{◌∙◌, ap, ℕ, length, [], ◌∷◌}
+use Rattle.std.proofs.Common.{[], ◌∷◌}
 use Rattle.std.specs.Prelude.{codes}
-use Rattle.page_tree.specs.Print.{printed}
-use Rattle.sheet_page.specs.Values.{all_places}
-use Rattle.sheet_page.specs.Html.{elected_part, heading, part_at, round_parts, rounds_part}
-use Rattle.sheet_page.specs.Links.{links}
-use Rattle.sheet_page.specs.Told.{result_part}
-use Rattle.sheet_page.specs.Picture.{full_of}
-use Rattle.sheet_page.proofs.Printing.{wrapped, printed-each}
+use Rattle.page_tree.specs.Print.{closing, opening, printed}
+use Rattle.page_tree.specs.Trees.{Element, Nothing}
+use Rattle.sheet_page.specs.declared.part_names.PartNames.TheVariants.{Alone}
+use Rattle.sheet_page.specs.Html.{sheet_parts}
+use Rattle.sheet_page.proofs.Printing.{enclosed}
 use Rattle.sheet_page.proofs.Pens.{later, renamed}
 use Rattle.sheet_page.proofs.html.write_content.Goals as goal
 
 pub returns : goal.returns
 returns g c =
-    let v = c.args.values.now in
-    let rounds = printed-each (part_at g.row.P v c.sheet_full.result) (all_places (length v.rows))
-    ∙ ap (λ (full : ℕ). printed (round_parts g.row.P v full)) c.sheet_full.ensures in
-    renamed (wrapped (codes "main") [] (heading v ∷ links v ∷ elected_part v ∷ result_part v ∷ rounds_part g.row.P v
-    ∷ round_parts g.row.P v (full_of v.rows) ∷ []))
-    (later c.open.ensures (later c.write_heading.ensures (later c.write_links.ensures (later c.write_elected.ensures (later c.write_result.ensures
-    (later c.write_rounds.ensures (later (renamed rounds c.write_round_parts.ensures) c.close.ensures)))))))
+    renamed (enclosed (codes "main") [] (sheet_parts Alone g.row.P c.args.values.now))
+    (later c.open.ensures (later c.write_sheet_parts.ensures c.close.ensures))

@@ -8,5 +8,5 @@ loop-i-init g c = nothing _ _
 
 pub loop-i-preserved : goal.loop-i-preserved
 loop-i-preserved g c =
-    place_more (λ p. printed ((link_at c.args.values.now) p)) c.loop-i.i c.loop-i.invariant
+    place_more (λ p. printed ((link_at c.args.names c.args.values.now) p)) c.loop-i.i c.loop-i.invariant
     c.write_link_at.ensures

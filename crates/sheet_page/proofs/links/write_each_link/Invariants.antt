@@ -7,4 +7,4 @@ use Rattle.sheet_page.proofs.links.write_each_link.Given as goal
 abbrev pub invariant-loop-i : goal.invariant-loop-i
 invariant-loop-i g l =
     Prints g.K.Sink l.initial.pen l.pen
-    (print_each (link_at l.fn.values) (all_places l.i))
+    (print_each (link_at l.fn.names l.fn.values) (all_places l.i))

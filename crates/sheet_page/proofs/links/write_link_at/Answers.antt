@@ -15,7 +15,7 @@ returns-then-ends_round g c =
     let i = c.args.i in
     let rows = c.items.ensures ∙ ap (λ (w : SheetList). w.rows) c.values.view_is in
     let ends = ap (λ (l : List Row). ends_round l i) (sym rows) ∙ sym c.ends_round.ensures ∙ c.if-ends_round.true in
-    renamed (sym (ap (λ (b : Bool). printed (if b then round_link (link_to i) (row_at v.rows i).round else Nothing)) ends))
+    renamed (sym (ap (λ (b : Bool). printed (if b then round_link (link_to c.args.names i) (row_at v.rows i).round else Nothing)) ends))
     c.write_link.ensures
 
 pub returns-else-ends_round : goal.returns-else-ends_round
@@ -24,5 +24,5 @@ returns-else-ends_round g c =
     let i = c.args.i in
     let rows = c.items.ensures ∙ ap (λ (w : SheetList). w.rows) c.values.view_is in
     let ends = ap (λ (l : List Row). ends_round l i) (sym rows) ∙ sym c.ends_round.ensures ∙ c.if-ends_round.false in
-    renamed (sym (ap (λ (b : Bool). printed (if b then round_link (link_to i) (row_at v.rows i).round else Nothing)) ends))
+    renamed (sym (ap (λ (b : Bool). printed (if b then round_link (link_to c.args.names i) (row_at v.rows i).round else Nothing)) ends))
     (nothing _ _)

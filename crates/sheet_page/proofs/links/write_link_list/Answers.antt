@@ -11,5 +11,5 @@ pub returns : goal.returns
 returns g c =
     let v = c.args.values.now in
     let all = all_places (length v.rows) in
-    renamed (wrapped (codes "ul") [] (each (link_at v) all ∷ []))
-    (later c.open.ensures (later (renamed (printed-each (link_at v) all) c.write_each_link.ensures) c.close.ensures))
+    renamed (wrapped (codes "ul") [] (each (link_at c.args.names v) all ∷ []))
+    (later c.open.ensures (later (renamed (printed-each (link_at c.args.names v) all) c.write_each_link.ensures) c.close.ensures))

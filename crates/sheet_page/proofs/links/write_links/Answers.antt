@@ -8,5 +8,5 @@ use Rattle.sheet_page.proofs.links.write_links.Goals as goal
 
 pub returns : goal.returns
 returns g c =
-    renamed (wrapped (codes "nav") (at (codes "aria-label") (codes "Rounds") ∷ []) (link_list c.args.values.now ∷ []))
+    renamed (wrapped (codes "nav") (at (codes "aria-label") (codes "Rounds") ∷ []) (link_list c.args.names c.args.values.now ∷ []))
     (later c.start.ensures (later c.write_link_list.ensures c.close.ensures))

@@ -15,5 +15,5 @@ returns-then-ends_round g c =
     let i = c.args.i in
     let rows = c.items.ensures ∙ ap (λ (w : SheetList). w.rows) c.values.view_is in
     let ends = ap (λ (l : List Row). ends_round l i) (sym rows) ∙ sym c.ends_round.ensures ∙ c.if-ends_round.true in
-    renamed (sym (ap (λ (b : Bool). printed (if b then round_part g.row.P v c.args.full i else Nothing)) ends))
+    renamed (sym (ap (λ (b : Bool). printed (if b then round_part c.args.names g.row.P v c.args.full i else Nothing)) ends))
     c.write_round_part.ensures

@@ -27,7 +27,7 @@ returns g c =
     let title = ap (λ (r : Row). printed (round_title r.round)) (c.row.view_is ∙ sym row) in
     let picture = ap (λ (r : Row). printed (round_picture g.row.P v full (settled r c.states_behind.result.now))) (sym row)
     ∙ ap (λ (s : List State). printed (round_picture g.row.P v full (settled (row_at v.rows last) s))) c.states_behind.ensures.states in
-    renamed (wrapped (codes "section") (part_attributes (part_name last)) (round_title (row_at v.rows last).round ∷ round_sentences g.row.P v last
+    renamed (wrapped (codes "section") (part_attributes (part_name c.args.names last)) (round_title (row_at v.rows last).round ∷ round_sentences g.row.P v last
     ∷ round_picture g.row.P v full (settled_at v last) ∷ folded g.row.P v last ∷ []))
     (later c.write_start.ensures (later (renamed title c.write_title.ensures) (later c.write_round_sentences.ensures
     (later (renamed picture c.write_round_picture.ensures) (later c.write_folded.ensures c.close.ensures)))))

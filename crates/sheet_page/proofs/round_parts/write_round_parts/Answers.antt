@@ -8,4 +8,4 @@ loop-i-init g c = nothing _ _
 
 pub loop-i-preserved : goal.loop-i-preserved
 loop-i-preserved g c =
-    place_more (λ i. printed (part_at g.row.P c.args.values.now c.args.full i)) c.loop-i.i c.loop-i.invariant c.write_part_at.ensures
+    place_more (λ i. printed (part_at c.args.names g.row.P c.args.values.now c.args.full i)) c.loop-i.i c.loop-i.invariant c.write_part_at.ensures

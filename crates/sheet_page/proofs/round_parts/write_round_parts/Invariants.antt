@@ -7,4 +7,4 @@ use Rattle.sheet_page.proofs.round_parts.write_round_parts.Given as goal
 abbrev pub invariant-loop-i : goal.invariant-loop-i
 invariant-loop-i g l =
     Prints g.K.Sink l.initial.pen l.pen
-    (print_each (part_at g.row.P l.fn.values l.fn.full) (all_places l.i))
+    (print_each (part_at l.fn.names g.row.P l.fn.values l.fn.full) (all_places l.i))

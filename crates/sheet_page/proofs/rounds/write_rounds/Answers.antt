@@ -8,5 +8,5 @@ use Rattle.sheet_page.proofs.rounds.write_rounds.Goals as goal
 
 pub returns : goal.returns
 returns g c =
-    renamed (wrapped (codes "section") ([]) (rounds_title ∷ table_frame g.row.P c.args.values.now ∷ words_explained ∷ []))
+    renamed (wrapped (codes "section") ([]) (rounds_title ∷ table_frame c.args.names g.row.P c.args.values.now ∷ words_explained ∷ []))
     (later c.open.ensures (later c.write_title.ensures (later c.write_frame.ensures (later c.write_words.ensures c.close.ensures))))

@@ -11,7 +11,7 @@ pub returns : goal.returns
 returns g c =
     let v = c.args.values.now in
     let p = c.args.p in
-    renamed (wrapped (codes "tr") [] (candidate_head (name_at v p) (p + 1) ∷ cells g.row.P v (Candidate p) ∷ []))
+    renamed (wrapped (codes "tr") [] (candidate_head (name_at v p) (p + 1) ∷ cells c.args.names g.row.P v (Candidate p) ∷ []))
     (later c.open.ensures
     (later c.write_candidate_at.ensures
-    (later (renamed (printed-each (cell_at g.row.P v (Candidate p)) (all_places (length v.rows))) c.write_cells.ensures) c.close.ensures)))
+    (later (renamed (printed-each (cell_at c.args.names g.row.P v (Candidate p)) (all_places (length v.rows))) c.write_cells.ensures) c.close.ensures)))

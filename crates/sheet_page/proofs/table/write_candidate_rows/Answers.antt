@@ -8,5 +8,5 @@ loop-p-init g c = nothing _ _
 
 pub loop-p-preserved : goal.loop-p-preserved
 loop-p-preserved g c =
-    place_more (λ k. printed ((candidate_row g.row.P c.args.values.now) k)) c.loop-p.p c.loop-p.invariant
+    place_more (λ k. printed ((candidate_row c.args.names g.row.P c.args.values.now) k)) c.loop-p.p c.loop-p.invariant
     c.write_candidate_row.ensures

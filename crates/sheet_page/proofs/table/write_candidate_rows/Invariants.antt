@@ -7,4 +7,4 @@ use Rattle.sheet_page.proofs.table.write_candidate_rows.Given as goal
 abbrev pub invariant-loop-p : goal.invariant-loop-p
 invariant-loop-p g l =
     Prints g.K.Sink l.initial.pen l.pen
-    (print_each (candidate_row g.row.P l.fn.values) (all_places l.p))
+    (print_each (candidate_row l.fn.names g.row.P l.fn.values) (all_places l.p))

@@ -14,7 +14,7 @@ returns-then-ends_round g c =
     let v = c.args.values.now in
     let rows = c.items.ensures ∙ ap (λ (w : SheetList). w.rows) c.values.view_is in
     let ends = ap (λ (l : List Row). ends_round l c.args.i) (sym rows) ∙ sym c.ends_round.ensures ∙ c.if-ends_round.true in
-    renamed (sym (ap (λ (b : Bool). printed (if b then round_cell g.row.P v c.args.entry c.args.i else Nothing)) ends))
+    renamed (sym (ap (λ (b : Bool). printed (if b then round_cell c.args.names g.row.P v c.args.entry c.args.i else Nothing)) ends))
     c.write_round_cell.ensures
 
 pub returns-else-ends_round : goal.returns-else-ends_round
@@ -22,4 +22,4 @@ returns-else-ends_round g c =
     let v = c.args.values.now in
     let rows = c.items.ensures ∙ ap (λ (w : SheetList). w.rows) c.values.view_is in
     let ends = ap (λ (l : List Row). ends_round l c.args.i) (sym rows) ∙ sym c.ends_round.ensures ∙ c.if-ends_round.false in
-    renamed (sym (ap (λ (b : Bool). printed (if b then round_cell g.row.P v c.args.entry c.args.i else Nothing)) ends)) (nothing _ _)
+    renamed (sym (ap (λ (b : Bool). printed (if b then round_cell c.args.names g.row.P v c.args.entry c.args.i else Nothing)) ends)) (nothing _ _)

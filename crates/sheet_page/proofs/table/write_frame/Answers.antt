@@ -8,6 +8,6 @@ use Rattle.sheet_page.proofs.table.write_frame.Goals as goal
 pub returns : goal.returns
 returns g c =
     let v = c.args.values.now in
-    renamed (wrapped (codes "div") frame_attributes (rounds_table g.row.P v ∷ []))
+    renamed (wrapped (codes "div") frame_attributes (rounds_table c.args.names g.row.P v ∷ []))
     (later c.write_frame_start.ensures
     (later c.write_table.ensures c.close.ensures))

@@ -8,6 +8,6 @@ use Rattle.sheet_page.proofs.table.write_head.Goals as goal
 pub returns : goal.returns
 returns g c =
     let v = c.args.values.now in
-    renamed (wrapped (codes "thead") [] (head_row g.row.P v ∷ []))
+    renamed (wrapped (codes "thead") [] (head_row c.args.names g.row.P v ∷ []))
     (later c.open.ensures
     (later c.write_head_row.ensures c.close.ensures))

@@ -10,7 +10,7 @@ use Rattle.sheet_page.proofs.table.write_head_row.Goals as goal
 pub returns : goal.returns
 returns g c =
     let v = c.args.values.now in
-    renamed (wrapped (codes "tr") [] (first_head ∷ cells g.row.P v Round ∷ []))
+    renamed (wrapped (codes "tr") [] (first_head ∷ cells c.args.names g.row.P v Round ∷ []))
     (later c.open.ensures
     (later c.write_first_head.ensures
-    (later (renamed (printed-each (cell_at g.row.P v Round) (all_places (length v.rows))) c.write_cells.ensures) c.close.ensures)))
+    (later (renamed (printed-each (cell_at c.args.names g.row.P v Round) (all_places (length v.rows))) c.write_cells.ensures) c.close.ensures)))

@@ -10,7 +10,7 @@ use Rattle.sheet_page.proofs.table.write_quota_row.Goals as goal
 pub returns : goal.returns
 returns g c =
     let v = c.args.values.now in
-    renamed (wrapped (codes "tr") [] (line_head (codes "Quota") ∷ cells g.row.P v Quota ∷ []))
+    renamed (wrapped (codes "tr") [] (line_head (codes "Quota") ∷ cells c.args.names g.row.P v Quota ∷ []))
     (later c.open.ensures
     (later c.write_line_head.ensures
-    (later (renamed (printed-each (cell_at g.row.P v Quota) (all_places (length v.rows))) c.write_cells.ensures) c.close.ensures)))
+    (later (renamed (printed-each (cell_at c.args.names g.row.P v Quota) (all_places (length v.rows))) c.write_cells.ensures) c.close.ensures)))

@@ -8,7 +8,7 @@ use Rattle.sheet_page.proofs.table.write_table.Goals as goal
 pub returns : goal.returns
 returns g c =
     let v = c.args.values.now in
-    renamed (wrapped (codes "table") [] (caption ∷ table_head g.row.P v ∷ table_body g.row.P v ∷ []))
+    renamed (wrapped (codes "table") [] (caption ∷ table_head c.args.names g.row.P v ∷ table_body c.args.names g.row.P v ∷ []))
     (later c.open.ensures
     (later c.write_caption.ensures
     (later c.write_head.ensures

@@ -1,6 +1,6 @@
 use Rattle.std.proofs.Common.{arith}
 use Rattle.sheet_page.proofs.Owing.{none_above_less, none_above_nine, own_at, values_owed}
-use Rattle.sheet_page.proofs.tool.show.Goals as goal
+use Rattle.sheet_page.proofs.tool.show_sheet.Goals as goal
 
 pub returns-in-Ok-read_sheet : goal.returns-in-Ok-read_sheet
 returns-in-Ok-read_sheet g c =

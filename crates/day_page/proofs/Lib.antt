@@ -1,0 +1,5 @@
+mod Calls
+mod Sheets
+mod Owing
+mod DayNesting
+mod DayWalks

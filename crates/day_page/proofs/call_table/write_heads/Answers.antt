@@ -1,0 +1,8 @@
+use Rattle.std.proofs.Common.{rules}
+use Rattle.day_page.specs.CallTable.{call_heads}
+use Rattle.sheet_page.proofs.Printing.{leaf}
+use Rattle.sheet_page.proofs.Pens.{renamed}
+use Rattle.day_page.proofs.call_table.write_heads.Goals as goal
+
+pub returns : goal.returns
+returns g c = renamed (leaf call_heads) (search rules)

@@ -1,0 +1,11 @@
+use Rattle.std.proofs.Common.{take}
+use Rattle.std.specs.List.{flat_map}
+use Rattle.team_run.specs.EntryText.{numbered}
+use Rattle.day_page.specs.DayMinutes.{answered_line}
+use Rattle.sheet_page.specs.Prints.{Prints}
+use Rattle.day_page.proofs.calls_text.write_lines.Given as goal
+
+abbrev pub invariant-loop-i : goal.invariant-loop-i
+invariant-loop-i g l =
+    Prints g.K.Sink l.initial.pen l.pen
+    (flat_map (λ e. answered_line e.0 e.1) (take l.i (numbered l.fn.history.items)))

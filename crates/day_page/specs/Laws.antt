@@ -1,0 +1,59 @@
+-- What every page of a day shows.
+use Rattle.std.specs.Prelude.{◌≡◌, ℕ, true, List, [], ◌∷◌, ◌++◌, codes, decimal, length, map, Some, None}
+use Rattle.page_tree.specs.Print.{printed}
+use Rattle.page_tree.specs.Reading.{nests}
+use Rattle.page_tree.specs.Trees.{Trees}
+use Rattle.team_run.specs.EntryText.{entry_lines}
+use Rattle.day_text.specs.Values.{DayTextList, FrozenSheet}
+use Rattle.sheet_page.specs.PageReading.{along, texts_along}
+use Rattle.day_page.specs.DayHtml.{day_page}
+use Rattle.day_page.specs.Freezes.{whose}
+use Rattle.day_page.specs.Lists.{own_first}
+
+-- elements nest, and each is closed
+abbrev pub DayPagesNest : Type 0
+DayPagesNest = (places : ℕ) (v : DayTextList) → nests (Some []) None (printed (day_page places v)) ≡ true
+
+-- a path below the content of a page
+abbrev pub below : (path : List (List ℕ)) → List (List ℕ)
+below path = codes "html" ∷ codes "body" ∷ codes "main" ∷ path
+
+-- ---- calls
+
+-- the rows of the table of calls
+abbrev pub rows_of : (places : ℕ) → DayTextList → List Trees
+rows_of places v =
+    along (below (codes "section" ∷ codes "div" ∷ codes "table" ∷ codes "tbody" ∷ codes "tr" ∷ [])) (day_page places v)
+
+-- texts with a space (32) between two
+abbrev pub spaced : List (List ℕ) → List ℕ
+spaced [] = []
+spaced (text ∷ []) = text
+spaced (text ∷ next ∷ texts) = text ++ 32 ∷ spaced (next ∷ texts)
+
+-- what a row says: its head, and its cells
+abbrev pub row_said : (row : Trees) → List ℕ
+row_said row = spaced (texts_along (codes "th" ∷ []) row ++ texts_along (codes "td" ∷ []) row)
+
+-- The rows of the table are the lines of the calls, as the text of the day has them: each call with its number, who called, what was called and
+-- what was answered, in their order, and no other.
+abbrev pub PagesSayTheirCalls : Type 0
+PagesSayTheirCalls = (places : ℕ) (v : DayTextList) → map row_said (rows_of places v) ≡ entry_lines v.history
+
+-- ---- freezes
+
+-- which freeze of so many calls it is
+abbrev pub title_said : (calls freeze : ℕ) → List ℕ
+title_said calls freeze =
+    codes "Freeze " ++ (decimal freeze ++ (whose calls freeze ++ (codes ": what stands after call " ++ decimal freeze)))
+
+-- the titles of the part of a freeze: its own, and the title of the election
+abbrev pub titles_of : (calls : ℕ) → FrozenSheet → List (List ℕ)
+titles_of calls s = title_said calls s.freeze ∷ s.values.title ∷ []
+
+-- Each sheet has its part, the office's own first, and there is no other.
+abbrev pub PagesHaveTheirFreezes : Type 0
+PagesHaveTheirFreezes =
+    (places : ℕ) (v : DayTextList)
+    → map (texts_along (codes "h1" ∷ [])) (along (below (codes "article" ∷ [])) (day_page places v))
+    ≡ map (titles_of (length v.history)) (own_first v.sheets)

@@ -1,0 +1,10 @@
+pub mod Lists
+pub mod CallTable
+pub mod EndPart
+pub mod Freezes
+pub mod DayHtml
+pub mod DayMinutes
+pub mod Laws
+pub mod Inputs
+pub mod Owed
+pub mod Worked
