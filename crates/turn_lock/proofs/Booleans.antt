@@ -1,5 +1,5 @@
 -- A boolean is true or false, and not both.
-use Rattle.std.proofs.Common.{◌≡◌, ◌⊎◌, Bool, true, false, refl, sym, ◌∙◌, inl, inr, true≢false}
+use Rattle.std.proofs.Common.{◌≡◌, Bool, true, false, refl, sym, ◌∙◌, true≢false}
 
 pub off : {b : Bool} → b ≡ true → b ≡ false → ⊥
 off t f = true≢false (sym t ∙ f)

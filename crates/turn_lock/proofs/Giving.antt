@@ -148,7 +148,7 @@ module _ {T E N : Type 0} (entries : T → List E) (owner : E → Option ℕ) (n
   gives_back : (name : N) (id : ℕ) (v : View E N) (value : T) → v.lives ≡ true → v.holds ≡ true → entries value ≡ v.seen
       → v.name ≡ Some (name_of value)
       → Allows (Kept name) 1 id (with_value v value) 0 (λ _. 0)
-      (λ _. GivesBack entries owner name_of (step 1 0 0 0 none) (with_value v value) 0)
+      (GivesBack entries owner name_of (step 1 0 0 0 none) (with_value v value))
   gives_back name id v value lives holds same named s r len at small = (
     without_turn v,
     gives,
@@ -170,7 +170,7 @@ module _ {T E N : Type 0} (entries : T → List E) (owner : E → Option ℕ) (n
       → entries value ≡ v.seen ++ e ∷ []
       → MayGive owner v.caller e → v.name ≡ Some (name_of value)
       → Allows (Kept name) 1 id (with_value v value) 0 (λ _. 0)
-      (λ _. GivesWith entries owner name_of (step 1 0 0 0 none) (with_value v value) 0)
+      (GivesWith entries owner name_of (step 1 0 0 0 none) (with_value v value))
   gives_with name id v value e lives holds same may named s r len at small =
       let own = one_owned owner v.caller e may in (
         after_gift (e ∷ []) v,
@@ -195,29 +195,29 @@ module _ {T E N : Type 0} (entries : T → List E) (owner : E → Option ℕ) (n
       (lives : v.lives ≡ true) (seen : sight_of lock v ≡ seat) (same : value ≡ held) (holds : seat.holds ≡ true)
       (named : seat.name ≡ Some (name_of held)) where
     pub gives_back_seen : entries held ≡ seat.seen
-        → Allows (Kept name) slots id me 0 (λ _. 0) (λ _. GivesBack entries owner name_of (step slots 0 0 0 none) me 0)
+        → Allows (Kept name) slots id me 0 (λ _. 0) (GivesBack entries owner name_of (step slots 0 0 0 none) me)
     gives_back_seen list =
         let P : Sight E N → T → Type 0 = λ s x.
         s.holds ≡ true → s.name ≡ Some (name_of x) → entries x ≡ s.seen
         → Allows (Kept name) 1 id (with_value v value) 0 (λ _. 0)
-        (λ _. GivesBack entries owner name_of (step 1 0 0 0 none) (with_value v value) 0) in
+        (GivesBack entries owner name_of (step 1 0 0 0 none) (with_value v value)) in
         let known =
         subst (λ (z : Sight E N × T). P z.0 z.1) (λ i. (seen i, same i))
         (λ h n l. gives_back name id v value lives h l n) holds named list in
         subst (λ (z : ℕ × Sat T E N). Allows (Kept name) z.0 id z.1 0 (λ _. 0)
-        (λ _. GivesBack entries owner name_of (step z.0 0 0 0 none) z.1 0)) (λ i. (sym one i, sym is i))
+        (GivesBack entries owner name_of (step z.0 0 0 0 none) z.1)) (λ i. (sym one i, sym is i))
         known
 
     pub gives_with_seen : (e : E) → entries held ≡ seat.seen ++ e ∷ [] → MayGive owner seat.caller e
-        → Allows (Kept name) slots id me 0 (λ _. 0) (λ _. GivesWith entries owner name_of (step slots 0 0 0 none) me 0)
+        → Allows (Kept name) slots id me 0 (λ _. 0) (GivesWith entries owner name_of (step slots 0 0 0 none) me)
     gives_with_seen e list may =
         let P : Sight E N → T → Type 0 = λ s x.
         s.holds ≡ true → s.name ≡ Some (name_of x) → entries x ≡ s.seen ++ e ∷ [] → MayGive owner s.caller e
         → Allows (Kept name) 1 id (with_value v value) 0 (λ _. 0)
-        (λ _. GivesWith entries owner name_of (step 1 0 0 0 none) (with_value v value) 0) in
+        (GivesWith entries owner name_of (step 1 0 0 0 none) (with_value v value)) in
         let known =
         subst (λ (z : Sight E N × T). P z.0 z.1) (λ i. (seen i, same i))
         (λ h n l m. gives_with name id v value e lives h l m n) holds named list may in
         subst (λ (z : ℕ × Sat T E N). Allows (Kept name) z.0 id z.1 0 (λ _. 0)
-        (λ _. GivesWith entries owner name_of (step z.0 0 0 0 none) z.1 0)) (λ i. (sym one i, sym is i))
+        (GivesWith entries owner name_of (step z.0 0 0 0 none) z.1)) (λ i. (sym one i, sym is i))
         known

@@ -1,13 +1,13 @@
 -- One seat moves, and the rule of the lock stays.
 use Rattle.std.proofs.Common.{◌≡◌, ◌≢◌, ◌⊎◌, ℕ, ◌<◌, Bool, true, false, List, length, set, get_or, refl, sym}
-use Rattle.std.proofs.Common.{ap, ◌∙◌, subst, inl, inr, ⊎_elim, Option}
+use Rattle.std.proofs.Common.{ap, ◌∙◌, subst, inl, inr, ⊎_elim, arith, length-set, get_or-set_same, Option}
 use mathlib.Core.Option.{Option as Maybe}
 use Rattle.std.proofs.lemmas.List.{set-get_or}
 use Rattle.atomic_table.proofs.Lists.{set_else, set_again}
 use Rattle.turn_lock.specs.declared.view.View.{View}
 use Rattle.turn_lock.specs.Entries.{Begins, owned_by, owned}
 use Rattle.turn_lock.specs.Numbers.{has}
-use Rattle.turn_lock.specs.Turns.{At, FitsLock, Counts, IsFree, IsHeld, IsKept}
+use Rattle.turn_lock.specs.Turns.{At, FitsLock, Counts, IsTaken, IsFree, IsHeld, IsKept}
 use Rattle.turn_lock.proofs.Booleans.{off}
 use Rattle.turn_lock.proofs.Places.{at_same, at_place, at_changed}
 use Rattle.turn_lock.proofs.Views.{St, table, holds_of, before_changed, counts_stay}
@@ -43,7 +43,7 @@ module _ {T E N : Type 0} (entries : T → List E) (owner : E → Option ℕ) (n
       λ e. off b.holds (holds_of
       (at_same s.views id b.view v (at_place s.views b.holder id b.view e b.there) at) ∙ out) in
       inr (record {
-        word = same ∙ b.word;
+        word = subst IsTaken (sym same) b.word;
         holder = b.holder;
         view = b.view;
         there = set_else s.views id b.holder w away ∙ b.there;
@@ -121,6 +121,33 @@ module _ {T E N : Type 0} (entries : T → List E) (owner : E → Option ℕ) (n
     unmoved =
         subst (λ (z : List ℕ × List (View E N)). Kept name (table z.0 s.homes z.1))
         (λ i. (sym (set-get_or s.words 0 0) i, sym (set_again s.views id v at) i)) r
+
+    -- nothing moves, and the word of a turn that is taken shows it in this way
+    pub shows : (word : ℕ) → IsTaken word → IsHeld entries owner name_of r.log s
+        → Kept name (table (set s.words 0 word) s.homes (set s.views id v))
+    shows word taken b =
+        subst (λ (views : List (View E N)). Kept name (table (set s.words 0 word) s.homes views))
+        (sym (set_again s.views id v at))
+        (record {
+          wide = length-set s.words 0 word ∙ r.wide;
+          log = r.log;
+          gave = r.gave;
+          turn = inr (record {
+            word = let wide = r.wide in subst IsTaken (sym (get_or-set_same s.words 0 word 0 (omega arith))) taken;
+            holder = b.holder;
+            view = b.view;
+            there = b.there;
+            lives = b.lives;
+            holds = b.holds;
+            list = b.list;
+            alone = b.alone;
+          });
+          fits = r.fits;
+          owners = r.owners;
+          apart = r.apart;
+          first = r.first;
+          one_first = r.one_first;
+        })
 
     -- a seat without the turn looks, or changes what says nothing of others
     pub looks : (seen told : List E) (next : ℕ) → v.lives ≡ true → v.holds ≡ false → Begins seen r.log → Begins told r.log

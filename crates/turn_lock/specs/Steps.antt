@@ -60,7 +60,7 @@ module _ {E N : Type 0} where
       pub mine : owned_by owner m.0.caller (entries value) ≡ owned owner m.0.mine
       pub was_free : m.0.holds ≡ false
 
-    -- a try that found the turn free gained it, and any other changed nothing
+    -- a try that found the turn free gained it, and any other left the seat as it was
     abbrev pub Tries : Step (Option T) → Sat → ℕ → Sat → Type 0
     Tries st m r m' = (r ≡ 0 → Gained m m') × (r ≢ 0 → m' ≡ m)
 

@@ -8,6 +8,10 @@ use Rattle.turn_lock.specs.declared.view.View.{View}
 use Rattle.turn_lock.specs.Entries.{Begins, taken_in, owned_by, owned}
 use Rattle.turn_lock.specs.Numbers.{has}
 
+-- the word shows that a seat has the turn: 1, or 2 where others may wait for it
+abbrev pub IsTaken : ℕ → Type 0
+IsTaken word = (word ≡ 1) ⊎ (word ≡ 2)
+
 module _ {E N : Type 0} where
   -- the view of a seat that was taken in: it knows nothing
   abbrev pub spent : View E N
@@ -72,7 +76,7 @@ module _ {E N : Type 0} where
 
     -- the turn is taken: one seat has it, and has seen the list
     pub record IsHeld (log : List E) (s : State (Option T) (View E N)) : Type 0 where
-      pub word : slice_index s.words 0 ≡ 1
+      pub word : IsTaken (slice_index s.words 0)
       pub holder : ℕ
       pub view : View E N
       pub there : At s.views holder view

@@ -2,6 +2,7 @@
 ghost use Rattle.std.specs.Prelude.{◌≡◌, ℕ, ◌<◌, true, false, [], ◌∷◌, ◌++◌, Some, None, IfOk, IfErr};
 ghost use Rattle.turn_lock.specs.Entries.{Begins, owned_by, owned};
 ghost use Rattle.turn_lock.specs.Numbers.{has};
+ghost use Rattle.turn_lock.specs.Steps.{Gained};
 ghost use Rattle.turn_lock.specs.Sights.{KnowsOwn, AddsOne, first_sight, new_sight, sight_after_split, sight_after_join, given_by};
 
 use crate::held::Held;
@@ -24,13 +25,16 @@ const FREE: u64 = 0;
 
 const TAKEN: u64 = 1;
 
+// Taken, and others may wait for it.
+const AWAITED: u64 = 2;
+
 // The slot of the value.
 const VALUE: usize = 0;
 
 /// A value that one seat at a time may have. Contracts see which lock it is.
 ///
-/// It has one word, which shows whether the turn is taken, and one slot, which has the value
-/// while the turn is free.
+/// It has one word, which shows whether the turn is taken and whether others may wait for it, and
+/// one slot, which has the value while the turn is free.
 #[derive(Drop)]
 pub struct TurnLock<T: Kept> {
     table: Table<Option<T>, View<T::Entry, T::Name>, Snapshot<T>, Turns<T>, Global>,
@@ -123,15 +127,9 @@ impl<T: Kept> TurnLock<T> {
         ensures name { seat.old.name ≡ Some (T.name result) }
         ensures own { KnowsOwn T.owner seat.new }
     {
-        let shared = &self.table.shared;
-        for _ in rt.forever() {
-            if shared.compare_exchange::<Try<T>>(&mut seat.inner, TURN, FREE, TAKEN) == FREE {
-                let inner = self.taken_out(&mut seat.inner);
-                return Held { inner };
-            }
-            shared.park(rt, TURN, TAKEN as u32);
-        }
-        unreachable!()
+        self.gain(rt, &mut seat.inner);
+        let inner = self.taken_out(&mut seat.inner);
+        Held { inner }
     }
 
     /// Gives the turn back, with the value's name and entries as they were.
@@ -145,8 +143,9 @@ impl<T: Kept> TurnLock<T> {
         let Held { inner } = held;
         let shared = &self.table.shared;
         self.put_back(&mut seat.inner, inner);
-        shared.store::<GiveBack<T>>(&mut seat.inner, TURN, FREE);
-        shared.wake_one(TURN);
+        if shared.swap::<GiveBack<T>>(&mut seat.inner, TURN, FREE) == AWAITED {
+            shared.wake_one(TURN);
+        }
     }
 
     /// Gives the turn back, with the value's name as it was and one entry more, which is this
@@ -162,8 +161,9 @@ impl<T: Kept> TurnLock<T> {
         let Held { inner } = held;
         let shared = &self.table.shared;
         self.put_back(&mut seat.inner, inner);
-        shared.store::<GiveWith<T>>(&mut seat.inner, TURN, FREE);
-        shared.wake_one(TURN);
+        if shared.swap::<GiveWith<T>>(&mut seat.inner, TURN, FREE) == AWAITED {
+            shared.wake_one(TURN);
+        }
     }
 
     /// Ends the lock and gives its value, once all seats but the first were taken in.
@@ -183,6 +183,27 @@ impl<T: Kept> TurnLock<T> {
             }
             None => unreachable!(),
         }
+    }
+
+    // Gains the turn, at once where it is free. A seat that waits leaves the word at AWAITED, also
+    // once it has the turn, since others may wait still.
+    fn gain<R: Wait>(&self, rt: &R, seat: &mut Inner<T>)
+        requires own { seat.old.table_id ≡ self.now }
+        requires lives { seat.old.me.0.lives ≡ true }
+        ensures own { seat.new.table_id ≡ seat.old.table_id }
+        ensures gained { Gained T.entries T.owner T.name seat.old.me seat.new.me }
+    {
+        let shared = &self.table.shared;
+        if shared.compare_exchange::<Try<T>>(seat, TURN, FREE, TAKEN) == FREE {
+            return;
+        }
+        for _ in rt.forever() {
+            if shared.swap::<Try<T>>(seat, TURN, AWAITED) == FREE {
+                return;
+            }
+            shared.park(rt, TURN, AWAITED as u32);
+        }
+        unreachable!()
     }
 
     // Takes the value out of its slot.

@@ -2,8 +2,8 @@ use Rattle.std.proofs.Common.{rules}
 use Rattle.turn_lock.proofs.Giving.{gives_back_seen}
 use Rattle.turn_lock.proofs.lock.TurnLock.give_back.Goals as goal
 
-pub store-requires : goal.store-requires
-store-requires g c = (
+pub swap-requires : goal.swap-requires
+swap-requires g c = (
   search rules,
   search rules,
   gives_back_seen g.T.Kept.entries g.T.Kept.owner g.T.Kept.name _ _ _ _ _ c.seat.inside.inner.me.0 c.held.inside.inner _ _
