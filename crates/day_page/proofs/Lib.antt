@@ -3,3 +3,7 @@ mod Sheets
 mod Owing
 mod DayNesting
 mod DayWalks
+mod Listed
+mod DayNumbers
+mod DayTexts
+mod DayTables

@@ -1,7 +1,6 @@
 -- What is owed for a day, and for a sheet where there is no day.
-use Rattle.std.proofs.Common.{◌≡◌, ◌⊎◌, ℕ, ◌+◌, ◌<◌, ◌≤◌, Bool, true, false, List, length, refl, subst, sym}
+use Rattle.std.proofs.Common.{◌≡◌, ◌⊎◌, ℕ, ◌+◌, ◌<◌, ◌≤◌, List, length, refl, subst, sym}
 use Rattle.std.proofs.Common.{inl, inr, arith}
-use Rattle.std.specs.Prelude.{MatchBool}
 use Rattle.std.proofs.lemmas.Bool.{cases_lt}
 use Rattle.sheet_input.specs.declared.sheet_fault.SheetFault.{SheetFault}
 use Rattle.sheet_input.specs.declared.sheet_fault.SheetFault.TheVariants.{Malformed, TooLong}
@@ -20,7 +19,7 @@ use Rattle.sheet_page.specs.Inputs.{IsSheetText}
 use Rattle.sheet_page.specs.Owed.{OwesShown, shows}
 use Rattle.sheet_page.proofs.Owing.{sound as sound_sheets}
 use Rattle.day_page.specs.Inputs.{IsDay, IsDayAt}
-use Rattle.day_page.specs.Owed.{IsDayFor, IsForPeople, IsRefusedPage, OwesDay, day_as, pages}
+use Rattle.day_page.specs.Owed.{IsRefusedPage, OwesDay, day_as, pages}
 
 -- ---- the places of an input
 
@@ -60,24 +59,23 @@ no_day input none day =
 
 pub day_owed :
     (places : ℕ) (format : Format) (input : List ℕ) (v : DayTextList) (end : End SheetFault) (sink : Writing)
-    → IsForPeople format
     → length input ≤ SHEET_LIMIT → IsDayAt input places v
     → FinishesOwed (λ due bytes. (due ≡ Done) × (bytes ≡ day_as places format v)) end sink
     → FinishesOwed (IsOwedFor pages format input no_history) end sink
-day_owed places format input v end sink people short at (inl nothing) = inl nothing
-day_owed places format input v end sink people short at (inr (due, bytes, (done, text), finishes)) =
+day_owed places format input v end sink short at (inl nothing) = inl nothing
+day_owed places format input v end sink short at (inr (due, bytes, (done, text), finishes)) =
     inr (
       due,
       bytes,
       subst (λ (e : End SheetFault). IsOwedFor pages format input no_history e bytes) (sym done)
-          (short, inr (people, (places, v, at, text))),
+          (short, inr (places, v, at, text)),
       finishes,
     )
 
 -- ---- no day
 
 sheet_due :
-    (format : Format) (input bytes : List ℕ) (due : End SheetFault) → ¬ (IsDayFor format input)
+    (format : Format) (input bytes : List ℕ) (due : End SheetFault) → ¬ (IsDay input)
     → IsOwedFor shows format input no_history due bytes → IsOwedFor pages format input no_history due bytes
 sheet_due format input bytes Done none owed = (owed.0, inl owed.1)
 sheet_due format input bytes (BadInput (TooLong most)) none (inl long, same, line) = (inl long, same, line)
@@ -91,38 +89,26 @@ sheet_due format input bytes SinkFault none owed = owed
 sheet_due format input bytes NoMemory none owed = owed
 
 pub sheet_owed :
-    (format : Format) (input : List ℕ) (end : End SheetFault) (sink : Writing) → ¬ (IsDayFor format input)
+    (format : Format) (input : List ℕ) (end : End SheetFault) (sink : Writing) → ¬ (IsDay input)
     → FinishesOwed (IsOwedFor shows format input no_history) end sink
     → FinishesOwed (IsOwedFor pages format input no_history) end sink
 sheet_owed format input end sink none (inl nothing) = inl nothing
 sheet_owed format input end sink none (inr (due, bytes, owed, finishes)) =
     inr (due, bytes, sheet_due format input bytes due none owed, finishes)
 
-pub not_people :
-    (answer : Bool) (format : Format) → MatchBool answer (¬ (IsForPeople format)) (IsForPeople format)
-    → answer ≡ true → ¬ (IsForPeople format)
-not_people true format says is = says
-not_people false format says is = absurd cc
-
-pub people :
-    (answer : Bool) (format : Format) → MatchBool answer (¬ (IsForPeople format)) (IsForPeople format)
-    → answer ≡ false → IsForPeople format
-people true format says is = absurd cc
-people false format says is = says
-
 -- ---- the whole run
 
 accepted_not_refused :
-    (format : Format) (input : List ℕ) (fault : SheetFault) → IsSheetText input ⊎ IsDayFor format input
-    → IsRefusedPage format input fault → ⊥
+    (format : Format) (input : List ℕ) (fault : SheetFault) → IsSheetText input ⊎ IsDay input
+    → IsRefusedPage input fault → ⊥
 accepted_not_refused format input (TooLong most) accepted refused = refused
 accepted_not_refused format input Malformed (inl sheet) refused =
     refused.0 sheet.0 sheet.1 sheet.2.from sheet.2.to sheet.2.form
 accepted_not_refused format input Malformed (inr day) refused = refused.1 day
 
 refused_once :
-    (format : Format) (input : List ℕ) (fault other : SheetFault) → IsRefusedPage format input fault
-    → IsRefusedPage format input other → fault ≡ other
+    (format : Format) (input : List ℕ) (fault other : SheetFault) → IsRefusedPage input fault
+    → IsRefusedPage input other → fault ≡ other
 refused_once format input (TooLong most) other refused again = absurd refused
 refused_once format input Malformed (TooLong most) refused again = absurd again
 refused_once format input Malformed Malformed refused again = refl
@@ -130,9 +116,9 @@ refused_once format input Malformed Malformed refused again = refl
 owed_is_accepted :
     (format : Format) (input : List ℕ) (bytes : List ℕ)
     → OwesShown format input bytes ⊎ OwesDay format input bytes
-    → IsSheetText input ⊎ IsDayFor format input
+    → IsSheetText input ⊎ IsDay input
 owed_is_accepted format input bytes (inl owes) = inl (owes.0, owes.1, owes.2)
-owed_is_accepted format input bytes (inr owes) = inr (owes.0, (owes.1.0, owes.1.1, owes.1.2))
+owed_is_accepted format input bytes (inr owes) = inr (owes.0, owes.1, owes.2)
 
 pub sound : IsSound pages
 sound = record {

@@ -1,12 +1,19 @@
--- What every page of a day shows.
-use Rattle.std.specs.Prelude.{◌≡◌, ℕ, true, List, [], ◌∷◌, ◌++◌, codes, decimal, length, map, Some, None}
+-- What every page of a day shows, and what its JSON and its table say.
+use Rattle.std.specs.Prelude.{◌≡◌, ◌<◌, ◌^◌, ℕ, true, List, [], ◌∷◌, ◌++◌, codes, decimal, length, map, Some, None}
 use Rattle.page_tree.specs.Print.{printed}
 use Rattle.page_tree.specs.Reading.{nests}
 use Rattle.page_tree.specs.Trees.{Trees}
-use Rattle.team_run.specs.EntryText.{entry_lines}
+use Rattle.batch_core.specs.declared.entry.Entry.{Entry}
+use Rattle.csv_text.specs.Reading.{read, Outside}
+use Rattle.team_run.specs.EntryText.{call_text, caller_text, entry_lines, numbered, reply_text}
+use Rattle.day_text.specs.Form.{HasDayForm}
 use Rattle.day_text.specs.Values.{DayTextList, FrozenSheet}
+use Rattle.sheet_page.specs.JsonGrammar.{IsTextOf}
 use Rattle.sheet_page.specs.PageReading.{along, texts_along}
+use Rattle.day_page.specs.DayCsv.{day_csv}
 use Rattle.day_page.specs.DayHtml.{day_page}
+use Rattle.day_page.specs.DayJson.{day_json}
+use Rattle.day_page.specs.DayValues.{day_value}
 use Rattle.day_page.specs.Freezes.{whose}
 use Rattle.day_page.specs.Lists.{own_first}
 
@@ -57,3 +64,39 @@ PagesHaveTheirFreezes =
     (places : ℕ) (v : DayTextList)
     → map (texts_along (codes "h1" ∷ [])) (along (below (codes "article" ∷ [])) (day_page places v))
     ≡ map (titles_of (length v.history)) (own_first v.sheets)
+
+-- ---- JSON
+
+-- Of every text of a day what is written is a text of JSON in one line: by the grammar of JSON it is a text of just what the day says. A
+-- text of JSON says one thing, so who reads it by the grammar has just that. 10 is the line feed.
+abbrev pub DaysAreJson : Type 0
+DaysAreJson =
+    (places : ℕ) (input : List ℕ) (v : DayTextList) → length input < 2 ^ 64 → HasDayForm places input v
+    → (text : List ℕ) × (day_json places v ≡ text ++ 10 ∷ []) × IsTextOf (day_value places v) text
+
+-- Two days with one text of JSON say the same.
+abbrev pub JsonSaysItsDay : Type 0
+JsonSaysItsDay =
+    (places : ℕ) (first second : List ℕ) (v w : DayTextList) → length first < 2 ^ 64 → length second < 2 ^ 64
+    → HasDayForm places first v → HasDayForm places second w → day_json places v ≡ day_json places w
+    → day_value places v ≡ day_value places w
+
+-- ---- tables
+
+-- what a row of the table of calls has: the number of the call, who called, what was called, and what was answered
+abbrev pub fields_of : ℕ × Entry → List (List ℕ)
+fields_of e = decimal e.0 ∷ caller_text e.1.caller ∷ call_text e.1.call ∷ reply_text e.1.reply ∷ []
+
+abbrev pub rows_of_calls : DayTextList → List (List (List ℕ))
+rows_of_calls v = map fields_of (numbered v.history)
+
+-- Who reads the table of a day has its head, and the rows of the calls.
+abbrev pub TablesOfCallsAreReadBack : Type 0
+TablesOfCallsAreReadBack =
+    (v : DayTextList)
+    → read [] (Outside []) (day_csv v)
+    ≡ (codes "number" ∷ codes "caller" ∷ codes "call" ∷ codes "answer" ∷ []) ∷ rows_of_calls v
+
+-- These rows, with a space between two fields, are the lines of the calls, as the text of the day has them.
+abbrev pub RowsSayTheirCalls : Type 0
+RowsSayTheirCalls = (v : DayTextList) → map spaced (rows_of_calls v) ≡ entry_lines v.history

@@ -4,6 +4,9 @@ pub mod EndPart
 pub mod Freezes
 pub mod DayHtml
 pub mod DayMinutes
+pub mod DayCsv
+pub mod DayJson
+pub mod DayValues
 pub mod Laws
 pub mod Inputs
 pub mod Owed

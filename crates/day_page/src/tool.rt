@@ -1,5 +1,5 @@
 // The tool that shows a sheet or a day.
-ghost use Rattle.std.specs.Prelude.{◌≡◌, ◌≤◌, All, MatchBool, map, length};
+ghost use Rattle.std.specs.Prelude.{◌≡◌, ◌≤◌, All, map, length};
 ghost use Rattle.std.specs.String.{string_bytes};
 ghost use Rattle.sheet_input.specs.declared.sheet_limit.TheConstants.{SHEET_LIMIT};
 ghost use Rattle.tool_edge.specs.Finishing.{FinishesOwed};
@@ -8,9 +8,11 @@ ghost use Rattle.tool_edge.specs.Tool.{IsOwedFor, IsRun, no_history};
 ghost use Rattle.piece_text.specs.Writing.{Writes};
 ghost use Rattle.day_text.specs.End.{day_end};
 ghost use Rattle.day_text.specs.Form.{IsPrintableSheet};
-ghost use Rattle.day_page.specs.Owed.{IsForPeople, day_as, pages};
+ghost use Rattle.day_page.specs.Owed.{day_as, pages};
 
+use crate::csv::{write_day_csv, write_marked_day_csv};
 use crate::html::write_html;
+use crate::json::write_day_json;
 use crate::minutes::write_day_minutes;
 use byte_edge::{Failed, Sink, Source};
 use day_text::{DayEnd, DayStop, DayText, end_of_day, read_day_text};
@@ -39,35 +41,10 @@ pub fn page<S: Source, K: Sink>(
     show(alloc, opened.asked, opened.input.as_slice(), sink)
 }
 
-/// Shows the whole input, a day only to people.
-fn show<K: Sink>(alloc: Global, format: Format, input: &[u8], sink: &mut K) -> End<SheetFault>
-    requires { length input.now ≤ SHEET_LIMIT }
-    ensures { FinishesOwed (IsOwedFor pages format input.now no_history) result
-        (writing K.written K.faults sink.old sink.new) }
-{
-    if is_for_programs(format) {
-        return show_sheet(alloc, format, input, sink);
-    }
-    show_any(alloc, format, input, sink)
-}
-
-fn is_for_programs(format: Format) -> bool
-    ensures { MatchBool result (¬ IsForPeople format) (IsForPeople format) }
-{
-    match format {
-        Format::Html => false,
-        Format::Csv => true,
-        Format::MarkedCsv => true,
-        Format::Json => true,
-        Format::Text => false,
-    }
-}
-
 /// Shows a day at its own places, and everything else as a sheet. At each number but its own the text of a day is
 /// given up at its first amount.
-fn show_any<K: Sink>(alloc: Global, format: Format, input: &[u8], sink: &mut K) -> End<SheetFault>
-    requires people { IsForPeople format }
-    requires short { length input.now ≤ SHEET_LIMIT }
+fn show<K: Sink>(alloc: Global, format: Format, input: &[u8], sink: &mut K) -> End<SheetFault>
+    requires { length input.now ≤ SHEET_LIMIT }
     ensures { FinishesOwed (IsOwedFor pages format input.now no_history) result
         (writing K.written K.faults sink.old sink.new) }
 {
@@ -116,7 +93,10 @@ fn write_day<const P: usize, K: Sink>(
     ensures { Writes K.written K.faults sink.old sink.new (day_as P format day.now) result }
 {
     match format {
+        Format::Html => write_html(day, end, sink),
+        Format::Csv => write_day_csv(day, sink),
+        Format::MarkedCsv => write_marked_day_csv(day, sink),
+        Format::Json => write_day_json(day, end, sink),
         Format::Text => write_day_minutes(day, end, sink),
-        _ => write_html(day, end, sink),
     }
 }

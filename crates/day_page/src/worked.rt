@@ -1,7 +1,9 @@
 // A day worked by hand.
-ghost use Rattle.day_page.specs.Worked.{WorkedDay};
+ghost use Rattle.day_page.specs.Worked.{WorkedDay, WorkedJson, WorkedTable};
 
-/// The text of a day that was worked by hand, byte by byte.
+/// A day that was worked by hand as a text, as a table and as JSON, byte by byte.
 pub fn worked_day_page()
-    ensures { WorkedDay }
+    ensures text { WorkedDay }
+    ensures table { WorkedTable }
+    ensures json { WorkedJson }
 {}

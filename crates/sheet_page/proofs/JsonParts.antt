@@ -21,11 +21,6 @@ joined-onto [] rest = refl
 joined-onto (part ∷ parts) rest =
     append_assoc part (joined parts) rest ∙ ap (λ (l : List ℕ). part ++ l) (joined-onto parts rest)
 
-pub onto-append : (parts : List (List ℕ)) (rest more : List ℕ) → onto parts rest ++ more ≡ onto parts (rest ++ more)
-onto-append [] rest more = refl
-onto-append (part ∷ parts) rest more =
-    append_assoc part (onto parts rest) more ∙ ap (λ (l : List ℕ). part ++ l) (onto-append parts rest more)
-
 -- a string, whatever its text
 pub said-text : (text : List ℕ) → IsTextOf (said text) (string_text text)
 said-text text = ap read_string (sym (append-nil (string_text text))) ∙ strings_read text []

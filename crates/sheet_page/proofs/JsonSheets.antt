@@ -22,7 +22,7 @@ use Rattle.sheet_page.specs.Values.{all_places, name_at}
 use Rattle.sheet_page.proofs.JsonParts.{joined-onto}
 use Rattle.sheet_page.proofs.JsonRows.{letter, states_shown, iterations_cut}
 use Rattle.sheet_page.proofs.JsonTwins.{Twin, Bytes, Numbers, Strings, AreOne, twins_cut, lists_cut}
-use Rattle.sheet_page.proofs.SheetJson.{head_parts}
+use Rattle.sheet_page.proofs.SheetJson.{head_parts, json-opened}
 
 -- ---- two candidates
 
@@ -100,7 +100,8 @@ module _ (places : ℕ) (v w : SheetList) (is : IsPrintable places v) (also : Is
       let others = flat_map (candidate_json w) (all_places (length w.names)) ++ 93 ∷ (codes ",\"iterations\":[" ++ behind places w) in
       let head = twins_cut (heads_of v w) rest others
       (omega (arith, is.seats.1), omega (arith, also.seats.1), (omega (arith, is.ballots), omega (arith, also.ballots), tt))
-      (sym (joined-onto (head_parts v) rest) ∙ e ∙ joined-onto (head_parts w) others) in
+      (sym (json-opened places v ∙ joined-onto (head_parts v) rest) ∙ e
+      ∙ json-opened places w ∙ joined-onto (head_parts w) others) in
       let items = lists_cut (candidate_json v) (candidate_json w) (λ p. AreOne (candidates v w p))
       (length v.names) (length w.names) (no_bracket v) (no_bracket w)
       (λ p r s low high. candidates_cut v w p r s) (codes ",\"iterations\":[" ++ behind places v)
@@ -130,13 +131,14 @@ candidate_with name last p =
 -- JSON of what can be read
 abbrev json_with : (places : ℕ) (title : List ℕ) → (seats ballots n : ℕ) → (name : ℕ → List ℕ) → List State → List Row → List ℕ
 json_with places title seats ballots n name last rows =
-    joined (
+    (joined (
     codes "{\"title\":" ∷ quoted title ∷ codes ",\"seats\":" ∷ decimal seats ∷ codes ",\"ballots\":" ∷ decimal ballots
     ∷ codes ",\"candidates\":[" ∷ []
     )
     ++ (flat_map (candidate_with name last) (all_places n)
     ++ (codes "],\"iterations\":["
-    ++ (flat_map (λ i. iteration_json places seats i (row_at rows i)) (all_places (length rows)) ++ (codes "]}" ++ 10 ∷ []))))
+    ++ (flat_map (λ i. iteration_json places seats i (row_at rows i)) (all_places (length rows)) ++ codes "]}"))))
+    ++ 10 ∷ []
 
 one_json : (places : ℕ) (v w : SheetList) → HaveOneJson v w → json_of places v ≡ json_of places w
 one_json places v w alike =

@@ -14,9 +14,9 @@ pub mod Owing
 mod CsvLemmas
 mod JsonReads
 mod JsonTwins
-mod JsonParts
-mod CandidateJson
-mod SheetJson
+pub mod JsonParts
+pub mod CandidateJson
+pub mod SheetJson
 mod JsonFronts
 mod JsonOneThing
 mod AmountTexts

@@ -1,5 +1,5 @@
 -- The JSON of a sheet as a text of what it says.
-use Rattle.std.proofs.Common.{◌≡◌, ◌∙◌, refl, sym, ap, ℕ, List, [], ◌∷◌, ◌++◌, length}
+use Rattle.std.proofs.Common.{◌≡◌, ◌∙◌, refl, ap, ℕ, List, [], ◌∷◌, ◌++◌, length}
 use Rattle.std.proofs.Common.{arith, ◌≤◌, ◌-◌, Bool, true, false}
 use Rattle.std.proofs.Common.{map, append_assoc}
 use Rattle.std.specs.Prelude.{codes, decimal, if◌then◌else◌}
@@ -14,13 +14,13 @@ use Rattle.sheet_minutes.specs.Rounds.{row_at}
 use Rattle.meek_rule.specs.Situation.{elected_count}
 use Rattle.sheet_words.specs.Facts.{by_lots, chooses, last_seats}
 use Rattle.sheet_page.specs.Json.{amount, comma_at, candidate_json, standing_json, truth}
-use Rattle.sheet_page.specs.Json.{iteration_json, iteration_at, json_of}
+use Rattle.sheet_page.specs.Json.{head_json, iteration_json, iteration_at, json_of, sheet_json}
 use Rattle.sheet_page.specs.JsonGrammar.{IsTextOf, closed}
 use Rattle.sheet_page.specs.JsonText.{string_text}
 use Rattle.sheet_page.specs.JsonValues.{array, candidate_value, standing_value, iteration_value}
 use Rattle.sheet_page.specs.JsonValues.{iteration_value_at, sheet_value}
 use Rattle.sheet_page.specs.Values.{all_places, step_word}
-use Rattle.sheet_page.proofs.JsonParts.{onto, joined-onto, onto-append, said-text, list-written, are-items}
+use Rattle.sheet_page.proofs.JsonParts.{onto, joined-onto, said-text, list-written, are-items}
 use Rattle.sheet_page.proofs.CandidateJson.{member, members, candidate_pieces, candidate-written, candidate-is}
 use Rattle.sheet_page.proofs.CandidateJson.{standing_pieces, standing-written, standing-is, truth-text}
 
@@ -142,33 +142,32 @@ head_parts v =
 abbrev pub sheet_text : (places : ℕ) → SheetList → List ℕ
 sheet_text places v = members (sheet_pieces places v)
 
--- the text of a sheet, and bytes behind it
-written-onto : (places : ℕ) (v : SheetList) (more : List ℕ) →
-    members (sheet_pieces places v) ++ more
-    ≡ onto (head_parts v) (closed (map (λ p. members (candidate_pieces v p)) (all_places (length v.names))) 93
-    ++ (codes ",\"iterations\":["
-    ++ (closed (map (λ i. members (iteration_pieces places v.seats (row_at v.rows i))) (all_places (length v.rows))) 93
-    ++ 125 ∷ more)))
-written-onto places v more =
-    let candidates = closed (map (λ p. members (candidate_pieces v p)) (all_places (length v.names))) 93 in
-    let iterations = closed (map (λ i. members (iteration_pieces places v.seats (row_at v.rows i))) (all_places (length v.rows))) 93 in
-    let behind = codes ",\"iterations\":[" ++ (iterations ++ 125 ∷ []) in
-    onto-append (head_parts v) (candidates ++ behind) more
-    ∙ ap (onto (head_parts v)) (append_assoc candidates behind more
-    ∙ ap (λ (l : List ℕ). candidates ++ (codes ",\"iterations\":[" ++ l)) (append_assoc iterations (125 ∷ []) more))
-
-pub sheet-written : (places : ℕ) (v : SheetList) → json_of places v ≡ sheet_text places v ++ 10 ∷ []
+pub sheet-written : (places : ℕ) (v : SheetList) → sheet_json places v ≡ sheet_text places v
 sheet-written places v =
     let head = head_parts v in
-    let iterations = flat_map (iteration_at places v) (all_places (length v.rows)) ++ (codes "]}" ++ 10 ∷ []) in
+    let iterations = flat_map (iteration_at places v) (all_places (length v.rows)) ++ codes "]}" in
     let candidates = closed (map (λ p. members (candidate_pieces v p)) (all_places (length v.names))) 93 in
     joined-onto head (flat_map (candidate_json v) (all_places (length v.names)) ++ (codes "],\"iterations\":[" ++ iterations))
     ∙ ap (onto head) (list-written (candidate_json v) (λ p. members (candidate_pieces v p)) (candidate-written v)
     (codes ",\"iterations\":[" ++ iterations) (length v.names)
     ∙ ap (λ (l : List ℕ). candidates ++ (codes ",\"iterations\":[" ++ l))
     (list-written (iteration_at places v) (λ i. members (iteration_pieces places v.seats (row_at v.rows i)))
-    (λ i. iteration-written places v.seats i (row_at v.rows i)) (125 ∷ 10 ∷ []) (length v.rows)))
-    ∙ sym (written-onto places v (10 ∷ []))
+    (λ i. iteration-written places v.seats i (row_at v.rows i)) (125 ∷ []) (length v.rows)))
+
+-- the line with the line feed behind each part
+pub json-opened :
+    (places : ℕ) (v : SheetList)
+    → json_of places v
+    ≡ head_json v ++ (flat_map (candidate_json v) (all_places (length v.names)) ++ (codes "],\"iterations\":["
+    ++ (flat_map (iteration_at places v) (all_places (length v.rows)) ++ codes "]}\n")))
+json-opened places v =
+    let candidates = flat_map (candidate_json v) (all_places (length v.names)) in
+    let iterations = flat_map (iteration_at places v) (all_places (length v.rows)) in
+    let behind = codes "],\"iterations\":[" ++ (iterations ++ codes "]}") in
+    append_assoc (head_json v) (candidates ++ behind) (10 ∷ [])
+    ∙ ap (λ (l : List ℕ). head_json v ++ l) (append_assoc candidates behind (10 ∷ [])
+    ∙ ap (λ (l : List ℕ). candidates ++ (codes "],\"iterations\":[" ++ l))
+    (append_assoc iterations (codes "]}") (10 ∷ [])))
 
 candidates-are :
     (places : ℕ) (v : SheetList) → IsPrintable places v

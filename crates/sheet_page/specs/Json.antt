@@ -85,9 +85,12 @@ head_json v =
     ∷ codes ",\"candidates\":[" ∷ []
     )
 
-abbrev pub json_of : (places : ℕ) → SheetList → List ℕ
-json_of places v =
+-- the whole object
+abbrev pub sheet_json : (places : ℕ) → SheetList → List ℕ
+sheet_json places v =
     head_json v
     ++ (flat_map (candidate_json v) (all_places (length v.names))
-    ++ (codes "],\"iterations\":["
-    ++ (flat_map (iteration_at places v) (all_places (length v.rows)) ++ (codes "]}" ++ 10 ∷ []))))
+    ++ (codes "],\"iterations\":[" ++ (flat_map (iteration_at places v) (all_places (length v.rows)) ++ codes "]}")))
+
+abbrev pub json_of : (places : ℕ) → SheetList → List ℕ
+json_of places v = sheet_json places v ++ 10 ∷ []

@@ -5,7 +5,7 @@ ghost use Rattle.plain_ballots.specs.declared.limits.TheConstants.{MOST_CANDIDAT
 ghost use Rattle.meek_rule.specs.Row.{HasRoomFor};
 ghost use Rattle.piece_text.specs.Writing.{Writes};
 ghost use Rattle.sheet_reader.specs.Form.{IsPrintable};
-ghost use Rattle.sheet_page.specs.Json.{amounts_json, candidate_json, comma_at, head_json, iteration_at, iteration_json, json_of, lost_json, standing_json, truth, vote_json, won_json};
+ghost use Rattle.sheet_page.specs.Json.{amounts_json, candidate_json, comma_at, head_json, iteration_at, iteration_json, json_of, lost_json, sheet_json, standing_json, truth, vote_json, won_json};
 ghost use Rattle.sheet_page.specs.Prints.{Prints};
 ghost use Rattle.sheet_page.specs.Values.{all_places};
 
@@ -27,12 +27,21 @@ pub(crate) fn write_json<const P: usize, K: Sink>(
     ensures { Writes K.written K.faults sink.old sink.new (json_of P values.now) result }
 {
     let mut pen = Pen::new(sink);
-    write_head(&mut pen, values);
-    write_candidates(&mut pen, values);
-    pen.piece(&Piece::Raw(b"],\"iterations\":["));
-    write_iterations(&mut pen, values);
-    pen.piece(&Piece::Raw(b"]}\n"));
+    write_sheet_json(&mut pen, values);
+    pen.piece(&Piece::Raw(b"\n"));
     pen.end()
+}
+
+/// Writes the values of a sheet as an object of JSON.
+pub fn write_sheet_json<const P: usize, K: Sink>(pen: &mut Pen<'_, P, K>, values: &SheetValuesAt<P>)
+    requires { IsPrintable P values.now }
+    ensures { Prints K.Sink pen.old pen.new (sheet_json P values.now) }
+{
+    write_head(pen, values);
+    write_candidates(pen, values);
+    pen.piece(&Piece::Raw(b"],\"iterations\":["));
+    write_iterations(pen, values);
+    pen.piece(&Piece::Raw(b"]}"));
 }
 
 /// Title and numbers, up to the list of candidates.
@@ -231,14 +240,15 @@ fn write_lost<'x, const P: usize, K: Sink>(
     ]);
 }
 
-/// What stands before the item at a place of a list.
-fn comma_at(p: usize) -> &'static [u8]
+/// What stands before the item at a place of a list, from 0.
+pub fn comma_at(p: usize) -> &'static [u8]
     ensures { result.now ≡ comma_at p }
 {
     if p == 0 { b"" } else { b"," }
 }
 
-fn truth(mark: bool) -> &'static [u8]
+/// A mark as JSON writes it.
+pub fn truth(mark: bool) -> &'static [u8]
     ensures { result.now ≡ truth mark }
 {
     if mark { b"true" } else { b"false" }

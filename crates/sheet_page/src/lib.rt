@@ -3,8 +3,8 @@
 //!
 //! [`show_sheet`] shows an input: `read_sheet` reads the values, and what is written is a function of these
 //! values, in the format that [`takes_format`] reads from words. What is no sheet is refused with a `SheetFault`
-//! of sheet_input. A page of more than a sheet is written with a [`Pen`], and [`write_sheet_parts`] writes into
-//! it what a page shows of each sheet.
+//! of sheet_input. More than a sheet is written with a [`Pen`]: [`write_sheet_parts`] writes what a page shows of
+//! a sheet, and [`write_sheet_json`] its JSON.
 #![tactic(auto)]
 
 mod bars;
@@ -40,6 +40,7 @@ mod worked;
 pub use cell::Cell;
 pub use format::Format;
 pub use html::{write_sheet_parts, write_style};
+pub use json::{comma_at, truth, write_sheet_json};
 pub use laws::{
     pages_nest, pages_say_their_sheets, pictures_are_small, rising_rounds_are_whole,
     sheets_are_json, strings_are_read_back, tables_are_read_back,

@@ -141,7 +141,7 @@ impl<'s, const P: usize, K: Sink> Pen<'s, P, K> {
     }
 
     /// Writes a record of a spreadsheet, which has at least one field.
-    pub(crate) fn record(&mut self, first: &Cell<'_, P>, others: &[Cell<'_, P>])
+    pub fn record(&mut self, first: &Cell<'_, P>, others: &[Cell<'_, P>])
         ensures { Prints K.Sink self.old self.new (record_text (map (cell_text P) (first.now ∷ others.now))) }
     {
         self.field(first);

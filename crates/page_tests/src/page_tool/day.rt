@@ -16,6 +16,16 @@ const DAY_HTML: (&[u8], &[u8]) = (
 const DAY_TEXT: &[u8] =
     b"A day of ballot entry\n\nCalls\nNumber Who     Call               Answer\n     1 team 2  enter 7            entered\n     2 team 2  freeze             frozen\n     3 team 1  strike 1           struck\n     4 clerk   freeze             frozen\n\nWhat stands in the end\nBatches that were entered: 1. Candidates who were struck: 1.\nBatch 7 stands at revision 1.\nCandidate 1 was struck.\n\nFreeze 4, the office's own: what stands after call 4\n\nA & B\nSeats: 1. Ballots: 0.\n\nResult\nEnd: No more candidates are left than seats.\n<Ann> (1): withdrawn\n\nVotes at the end of each round\nBehind each round: H hopeful, E elected, D defeated, W withdrawn\n\nDecisions\n\nFreeze 2: what stands after call 2\n\nA & B\nSeats: 1. Ballots: 0.\n\nResult\nEnd: No more candidates are left than seats.\nEnd: <Ann> (1) is elected: there is a seat for each who remains.\n<Ann> (1): elected\n\nVotes at the end of each round\nBehind each round: H hopeful, E elected, D defeated, W withdrawn\n\nDecisions\n";
 
+const DAY_JSON: &[u8] =
+    b"{\"calls\":[{\"number\":1,\"caller\":2,\"call\":\"enter 7\",\"answer\":\"entered\"},{\"number\":2,\"caller\":2,\"call\":\"freeze\",\"answer\":\"frozen\"},{\"number\":3,\"caller\":1,\"call\":\"strike 1\",\"answer\":\"struck\"},{\"number\":4,\"caller\":0,\"call\":\"freeze\",\"answer\":\"frozen\"}],\"batches\":[{\"number\":7,\"revision\":1,\"stands\":true}],\"struck\":[1],\"freezes\":[{\"at\":2,\"own\":false,\"sheet\":{\"title\":\"A & B\",\"seats\":1,\"ballots\":0,\"candidates\":[{\"number\":1,\"name\":\"<Ann>\",\"outcome\":\"elected\"}],\"iterations\":[]}},{\"at\":4,\"own\":true,\"sheet\":{\"title\":\"A & B\",\"seats\":1,\"ballots\":0,\"candidates\":[{\"number\":1,\"name\":\"<Ann>\",\"outcome\":\"withdrawn\"}],\"iterations\":[]}}]}\n";
+
+const DAY_CSV: &[u8] =
+    b"number,caller,call,answer\r\n1,team 2,enter 7,entered\r\n2,team 2,freeze,frozen\r\n3,team 1,strike 1,struck\r\n4,clerk,freeze,frozen\r\n";
+
+// U+FEFF in UTF-8 is EF BB BF.
+const DAY_MARKED_CSV: &[u8] =
+    b"\xEF\xBB\xBFnumber,caller,call,answer\r\n1,team 2,enter 7,entered\r\n2,team 2,freeze,frozen\r\n3,team 1,strike 1,struck\r\n4,clerk,freeze,frozen\r\n";
+
 // Two freezes of one sheet, of six places.
 const ROUNDS: &[u8] =
     b"1 team 1 freeze frozen\n2 clerk freeze frozen\nsheet 1\ntitle Six\nseats 1\ncandidates 2\nballots 2\nround 1 iteration 1\n1 hopeful 1.000000 1.000000\n2 hopeful 1.000000 1.000000\ntotal 2.000000\nquota 1.000001\nsurplus 0.000000\nstep defeat 2 tied 1 2\nresult\n1 elected A\n2 defeated B\nend\nsheet 2\ntitle Six\nseats 1\ncandidates 2\nballots 2\nround 1 iteration 1\n1 hopeful 1.000000 1.000000\n2 hopeful 1.000000 1.000000\ntotal 2.000000\nquota 1.000001\nsurplus 0.000000\nstep defeat 2 tied 1 2\nresult\n1 elected A\n2 defeated B\nend\n";
@@ -24,6 +34,17 @@ const ROUNDS: &[u8] =
 fn a_day_as_a_second_program_shows_it(rt: HostRuntime) -> Result<(), Fail> {
     is_page(&rt, rt.alloc(), "", DAY, DAY_HTML)?;
     is_shown(&rt, rt.alloc(), "--as text", DAY, DAY_TEXT)
+}
+
+#[test]
+fn the_json_of_a_day_as_a_second_program_writes_it(rt: HostRuntime) -> Result<(), Fail> {
+    is_shown(&rt, rt.alloc(), "--as json", DAY, DAY_JSON)
+}
+
+#[test]
+fn the_calls_of_a_day_as_a_table(rt: HostRuntime) -> Result<(), Fail> {
+    is_shown(&rt, rt.alloc(), "--as csv", DAY, DAY_CSV)?;
+    is_shown(&rt, rt.alloc(), "--as csv --mark", DAY, DAY_MARKED_CSV)
 }
 
 #[test]
@@ -42,11 +63,12 @@ fn the_parts_of_a_day_have_names_of_their_own(rt: HostRuntime) -> Result<(), Fai
 }
 
 #[test]
-fn a_day_is_shown_to_people_alone_and_whole(rt: HostRuntime) -> Result<(), Fail> {
+fn a_day_is_shown_whole_or_not_at_all(rt: HostRuntime) -> Result<(), Fail> {
     let malformed = End::BadInput(SheetFault::Malformed);
     let line = b"sheet malformed\n".as_slice();
-    ends(&rt, rt.alloc(), ("--as csv", DAY), &[], (malformed, line))?;
-    ends(&rt, rt.alloc(), ("--as json", DAY), &[], (malformed, line))?;
     let cut = &DAY[..DAY.len() - 1];
-    ends(&rt, rt.alloc(), ("", cut), &[], (malformed, line))
+    for words in ["", "--as csv", "--as json", "--as text"] {
+        ends(&rt, rt.alloc(), (words, cut), &[], (malformed, line))?;
+    }
+    Ok(())
 }

@@ -2,11 +2,12 @@ use Rattle.std.proofs.Common.{refl}
 use Rattle.std.specs.Char.{encode_utf8}
 use Rattle.std.specs.Fmt.{digits}
 use Rattle.bstr.specs.Utf8.{pieces_from}
+use Rattle.page_tree.specs.Escaping.{escaped}
 use Rattle.fixed_place.specs.Text.{text_of, last_digits}
 use Rattle.sheet_words.specs.Manner.{said}
 use Rattle.sheet_minutes.specs.Columns.{name_columns}
 use Rattle.day_page.proofs.worked.worked_day_page.Goals as goal
 
 pub returns : goal.returns
-unfolding text_of last_digits digits encode_utf8 name_columns pieces_from said
-returns c = refl
+unfolding text_of last_digits digits encode_utf8 escaped name_columns pieces_from said
+returns c = record { text = refl; table = refl; json = refl }

@@ -11,8 +11,10 @@ pub returns : goal.returns
 returns g c =
     let v = c.args.values.now in
     let all = all_places (length v.names) in
-    renamed (wrapped (codes "tbody") [] (quota_row c.args.names g.row.P v ∷ left_row c.args.names g.row.P v ∷ each (candidate_row c.args.names g.row.P v) all ∷ []))
+    renamed (wrapped (codes "tbody") [] (quota_row c.args.names g.row.P v ∷ left_row c.args.names g.row.P v
+    ∷ each (candidate_row c.args.names g.row.P v) all ∷ []))
     (later c.open.ensures
     (later c.write_quota_row.ensures
     (later c.write_left_row.ensures
-    (later (renamed (printed-each (candidate_row c.args.names g.row.P v) all) c.write_candidate_rows.ensures) c.close.ensures))))
+    (later (renamed (printed-each (candidate_row c.args.names g.row.P v) all) c.write_candidate_rows.ensures)
+    c.close.ensures))))
