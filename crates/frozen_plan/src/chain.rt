@@ -16,19 +16,19 @@ pub(crate) fn push_line(
     line: PackedLine,
     at: u16,
     rows: &mut Vec<PlanRow>,
-) -> Result<u64, NoMemory>
+) -> Result<u32, NoMemory>
     requires short { at + length (rest_of ranks.now at line) ≤ MOST_CANDIDATES }
     ensures rows { IfOk result (λ _. rows.new.items ≡ rows.old.items ++ rows_of (at + 1) (chain line.count (rest_of ranks.now at line))) }
     ensures total { IfOk result (λ n. n ≡ line.count) }
 {
-    let ballots = line.count as u64;
+    let ballots = line.count;
     let end = end_of(ranks, line, at);
     for i in at..end {
         let row = PlanRow {
             depth: i + 1,
             candidate: rank_at(ranks, line, i) as u16,
             ballots,
-            skip: (end - i) as usize,
+            skip: (end - i) as u32,
         };
         rows.push(row)?;
     }

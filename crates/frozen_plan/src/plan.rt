@@ -4,6 +4,7 @@ ghost use Rattle.plain_ballots.specs.declared.limits.TheConstants.{MOST_CANDIDAT
 ghost use Rattle.frozen_plan.specs.Plan.{IsPlan, plan_ballots};
 ghost use Rattle.frozen_plan.specs.Rows.{AreRowsOf};
 
+use crate::plan_row::skip_of;
 use crate::rows::push_forest;
 use crate::{NoMemory, PlanRow};
 use ranking_trie::Trie;
@@ -53,7 +54,7 @@ impl Plan {
     pub fn total(&self) -> u64
         ensures { result ≡ length (plan_ballots self.now.rows) }
     {
-        self.rows[0].ballots
+        self.rows[0].ballots as u64
     }
 }
 
@@ -66,14 +67,12 @@ fn rows_of_trie(alloc: Global, trie: &Trie) -> Result<Vec<PlanRow>, NoMemory>
     let root = PlanRow {
         depth: 0,
         candidate: 0,
-        ballots: trie.total(),
+        ballots: trie.total() as u32,
         skip: 0,
     };
     rows.push(root)?;
     push_forest(trie.forest(), 1, &mut rows)?;
-    rows[0] = PlanRow {
-        skip: rows.len(),
-        ..root
-    };
+    let skip = skip_of(rows.len())?;
+    rows[0] = PlanRow { skip, ..root };
     Ok(rows)
 }

@@ -5,6 +5,7 @@ ghost use Rattle.ranking_trie.specs.Siblings.{forest_of};
 ghost use Rattle.frozen_plan.specs.Forest.{Bare, Grown, through, rows_of, IsGrown};
 ghost use Rattle.frozen_plan.specs.Shape.{shape_of};
 
+use crate::plan_row::skip_of;
 use crate::{NoMemory, PlanRow};
 use ranking_trie::Siblings;
 
@@ -14,7 +15,7 @@ pub(crate) fn push_forest(
     forest: Siblings,
     depth: u16,
     rows: &mut Vec<PlanRow>,
-) -> Result<u64, NoMemory>
+) -> Result<u32, NoMemory>
     requires grown { (low : ℕ) × IsGrown MOST_CANDIDATES low depth (shape_of (forest_of forest)) }
     requires few { through (shape_of (forest_of forest)) ≤ MOST_BALLOTS }
     requires depth { depth ≤ MOST_CANDIDATES + 1 }
@@ -38,7 +39,7 @@ fn push_node(
     inner: Siblings,
     depth: u16,
     rows: &mut Vec<PlanRow>,
-) -> Result<u64, NoMemory>
+) -> Result<u32, NoMemory>
     requires candidate { candidate ≤ MOST_CANDIDATES }
     requires grown { IsGrown MOST_CANDIDATES 0 (depth + 1) (shape_of (forest_of inner)) }
     requires few { ends + through (shape_of (forest_of inner)) ≤ MOST_BALLOTS }
@@ -55,8 +56,8 @@ fn push_node(
     };
     rows.push(row)?;
     let below = push_forest(inner, depth + 1, rows)?;
-    let ballots = ends as u64 + below;
-    let skip = rows.len() - at;
+    let ballots = ends + below;
+    let skip = skip_of(rows.len() - at)?;
     rows[at] = PlanRow {
         ballots,
         skip,

@@ -7,6 +7,7 @@ ghost use Rattle.frozen_plan.specs.Plan.{IsPlan, plan_ballots};
 
 use crate::groups::push_group;
 use crate::merge::merge;
+use crate::plan_row::skip_of;
 use crate::{NoMemory, Plan, PlanRow};
 use packed_ballots::{PackedBallots, PackedLine, packed_lines_stand_for_ballots};
 use std::alloc::Global;
@@ -65,9 +66,10 @@ fn rows_of_lines(
     };
     rows.push(root)?;
     let ballots = push_group(ranks, lines, 0, &mut rows)?;
+    let skip = skip_of(rows.len())?;
     rows[0] = PlanRow {
         ballots,
-        skip: rows.len(),
+        skip,
         ..root
     };
     Ok(rows)

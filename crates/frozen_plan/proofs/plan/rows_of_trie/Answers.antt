@@ -38,14 +38,14 @@ returns c =
     c.in_ok-push_forest.ensures.rows
     ∙ ap (λ (l : List PlanRow). l ++ below)
     (c.in_ok-push.ensures.items ∙ ap (λ (l : List PlanRow). l ++ first ∷ []) c.in_ok-rows.ensures.items) in
-    let size : c.len.result ≡ length below + 1 =
-    omega (arith, c.push_forest.new.rows.ok.0, c.len.ensures, ap length items) in
+    let size : c.in_ok-skip.skip ≡ length below + 1 =
+    omega (arith, c.in_ok-skip.ensures, c.push_forest.new.rows.ok.0, c.len.ensures, ap length items) in
     let count : c.total.result ≡ ends + through (shape_of f) =
     c.total.ensures.total ∙ all_ballots t ends f c.forest.ensures.ballots in
     let few : length t.ballots ≤ 999999999 = omega (arith, c.total.ensures.total, c.total.ensures.few) in
-    let same : set now 0 (root c.total.result c.len.result) ≡ plan_rows ends (shape_of f) =
-    ap (λ (l : List PlanRow). set l 0 (root c.total.result c.len.result)) items
-    ∙ (ap (λ (n : ℕ). root n c.len.result ∷ below) count
+    let same : set now 0 (root c.total.result c.in_ok-skip.skip) ≡ plan_rows ends (shape_of f) =
+    ap (λ (l : List PlanRow). set l 0 (root c.total.result c.in_ok-skip.skip)) items
+    ∙ (ap (λ (n : ℕ). root n c.in_ok-skip.skip ∷ below) count
     ∙ ap (λ (k : ℕ). root (ends + through (shape_of f)) k ∷ below) size) in
     subst (AreRowsOf t) (sym same) (rows_of_trie t ends f c.requires few c.forest.ensures.ballots
     c.forest.ensures.rising c.forest.ensures.within)

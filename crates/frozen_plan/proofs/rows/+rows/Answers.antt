@@ -16,16 +16,16 @@ push_node-returns-clause-rows t c =
     let place : at ≡ length old = omega (arith, c.args.rows.now.ok.0, c.len-at.ensures) in
     let is : now ≡ (old ++ first ∷ []) ++ low =
     c.in_ok-below.ensures.rows ∙ ap (λ (l : List PlanRow). l ++ low) c.in_ok-push.ensures.items in
-    let behind : c.len.result - at ≡ length low + 1 =
-    ap (λ n. n - at) (omega (arith, c.push_forest.new.rows.ok.0, c.len.ensures))
-    ∙ rows_behind old low now first at place is in
+    let skip : c.in_ok-skip.skip ≡ length low + 1 =
+    c.in_ok-skip.ensures ∙ (ap (λ n. n - at) (omega (arith, c.push_forest.new.rows.ok.0, c.len.ensures))
+    ∙ rows_behind old low now first at place is) in
     let below : c.in_ok-below.below ≡ through (shape_of (forest_of c.args.inner)) = c.in_ok-below.ensures.through in
     let row : PlanRow =
     record {
       depth = c.args.depth;
       candidate = c.args.candidate;
       ballots = c.args.ends + c.in_ok-below.below;
-      skip = c.len.result - at;
+      skip = c.in_ok-skip.skip;
     } in
     filled_row old low now first row at place is
     ∙ ap (λ (r : PlanRow). old ++ r ∷ (low ++ []))
@@ -33,11 +33,11 @@ push_node-returns-clause-rows t c =
       depth = c.args.depth;
       candidate = c.args.candidate;
       ballots = c.args.ends + n;
-      skip = c.len.result - at;
+      skip = c.in_ok-skip.skip;
     }) below
     ∙ ap (λ (n : ℕ). record {
       depth = c.args.depth;
       candidate = c.args.candidate;
       ballots = c.args.ends + through (shape_of (forest_of c.args.inner));
       skip = n;
-    }) behind)
+    }) skip)

@@ -16,8 +16,9 @@ returns-clause-plan c =
     let nodes =
     subst (λ (old : List PlanRow). AreNodesOf bytes 1 (rests bytes 0 lines) old now) root
     c.in_ok-ballots.ensures.nodes in
-    let size : c.len.result ≡ length now = omega (arith, c.push_group.new.rows.ok.0, c.len.ensures) in
-    plan_of_lines c.args.candidates bytes lines now first c.in_ok-ballots.ballots c.len.result nodes
+    let size : c.in_ok-skip.skip ≡ length now =
+    omega (arith, c.in_ok-skip.ensures, c.push_group.new.rows.ok.0, c.len.ensures) in
+    plan_of_lines c.args.candidates bytes lines now first c.in_ok-ballots.ballots c.in_ok-skip.skip nodes
     c.requires.candidates c.requires.sound.numbers c.requires.few c.in_ok-ballots.ensures.total size
 
 pub returns-clause-ballots : goal.returns-clause-ballots
@@ -31,6 +32,7 @@ returns-clause-ballots c =
     let nodes =
     subst (λ (old : List PlanRow). AreNodesOf bytes 1 (rests bytes 0 lines) old now) root
     c.in_ok-ballots.ensures.nodes in
-    let size : c.len.result ≡ length now = omega (arith, c.push_group.new.rows.ok.0, c.len.ensures) in
-    ballots_of_lines c.args.candidates bytes lines now first c.in_ok-ballots.ballots c.len.result nodes
+    let size : c.in_ok-skip.skip ≡ length now =
+    omega (arith, c.in_ok-skip.ensures, c.push_group.new.rows.ok.0, c.len.ensures) in
+    ballots_of_lines c.args.candidates bytes lines now first c.in_ok-ballots.ballots c.in_ok-skip.skip nodes
     c.requires.candidates c.requires.sound.numbers c.requires.few c.in_ok-ballots.ensures.total size
