@@ -13,8 +13,8 @@ pub(crate) fn ends_at_first(rows: &[PlanRow]) -> u64
     ensures { (d : PlanRow) → result ≡ ends_at (slice_index_or rows.now 0 d) (drop 1 rows.now) }
 {
     let first = rows[0];
-    let (below, _) = behind_first(rows).split_at(first.skip - 1);
-    first.ballots - through_all(below)
+    let (below, _) = behind_first(rows).split_at(first.skip as usize - 1);
+    first.ballots as u64 - through_all(below)
 }
 
 fn behind_first(rows: &[PlanRow]) -> &[PlanRow]
@@ -34,8 +34,8 @@ fn through_all(rows: &[PlanRow]) -> u64
     let mut siblings = rows;
     while siblings.len() > 0 {
         let first = siblings[0];
-        total += first.ballots;
-        let (_, behind) = siblings.split_at(first.skip);
+        total += first.ballots as u64;
+        let (_, behind) = siblings.split_at(first.skip as usize);
         siblings = behind;
     }
     total

@@ -2,9 +2,8 @@
 ghost use Rattle.std.specs.Prelude.{◌≡◌, ◌≤◌, IfOk, length};
 
 use crate::dealing::{EVEN, FIVE_LINES, ODD, totals_of};
-use crate::samples::{Line, RowFigures, has_rows, packed_of, take};
+use crate::samples::{Line, RowFigures, all_pairs, has_rows, packed_of};
 use frozen_plan::{Plan, Plans};
-use packed_ballots::PackedBallots;
 use std::alloc::Global;
 use std::process::Abort;
 use std::test::Fail;
@@ -67,25 +66,6 @@ fn equal_lines_are_counted_together(rt: HostRuntime) -> Result<(), Fail> {
     Ok(())
 }
 
-/// A ballot each for this candidate before each of 126 to 250, and behind it.
-fn take_pairs(alloc: Global, packed: &mut PackedBallots, one: u32) -> Result<(), Fail> {
-    for other in 126..251 {
-        take(alloc, packed, 1, &[one, other])?;
-        take(alloc, packed, 1, &[other, one])?;
-    }
-    Ok(())
-}
-
-/// A ballot for each ranking of two of 250 candidates, one of 1 to 125 and one of the others, in 31,250 lines:
-/// so many that workers make plans in threads.
-fn all_pairs(alloc: Global) -> Result<PackedBallots, Fail> {
-    let mut packed = PackedBallots::new(alloc, 250)?;
-    for one in 1..126 {
-        take_pairs(alloc, &mut packed, one)?;
-    }
-    Ok(packed)
-}
-
 /// The plan has the ballots and rows of 125 times 125 rankings of two, and this row behind its root.
 fn has_half(rt: &impl Abort, plan: &Plan, first: RowFigures) {
     let rows = plan.rows();
@@ -95,6 +75,7 @@ fn has_half(rt: &impl Abort, plan: &Plan, first: RowFigures) {
     assert_eq!(rt; (row.depth, row.candidate, row.ballots, row.skip), first);
 }
 
+// The lines are so many that workers make plans in threads.
 #[test]
 fn workers_make_plans_of_many_lines(rt: HostRuntime) -> Result<(), Fail> {
     for workers in [1, 2, 3] {

@@ -13,7 +13,7 @@ use std::test::Fail;
 pub(crate) type Line = (u32, &'static [u32]);
 
 /// The depth, the candidate, the ballots and the skip of a row.
-pub(crate) type RowFigures = (u16, u16, u64, usize);
+pub(crate) type RowFigures = (u16, u16, u32, u32);
 
 /// Adds a line.
 fn add(alloc: Global, ballots: &mut Ballots, line: &Line) -> Result<(), Fail>
@@ -71,6 +71,29 @@ pub(crate) fn packed_of(
     for line in lines {
         let (count, ranks) = *line;
         take(alloc, &mut packed, count, ranks)?;
+    }
+    Ok(packed)
+}
+
+/// A ballot each for this candidate before each of 126 to 250, and behind it.
+fn take_pairs(alloc: Global, packed: &mut PackedBallots, one: u32) -> Result<(), Fail>
+    ensures { packed.new.candidates ≡ packed.old.candidates }
+{
+    for other in 126..251 {
+        take(alloc, packed, 1, &[one, other])?;
+        take(alloc, packed, 1, &[other, one])?;
+    }
+    Ok(())
+}
+
+/// A ballot for each ranking of two of 250 candidates, one of 1 to 125 and one of the others, in 31,250
+/// lines. Each candidate is the first of 125 of them, and the second of 125.
+pub(crate) fn all_pairs(alloc: Global) -> Result<PackedBallots, Fail>
+    ensures { IfOk result (λ packed. packed.candidates ≡ 250) }
+{
+    let mut packed = PackedBallots::new(alloc, 250)?;
+    for one in 1..126 {
+        take_pairs(alloc, &mut packed, one)?;
     }
     Ok(packed)
 }

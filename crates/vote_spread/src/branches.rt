@@ -1,6 +1,6 @@
 // The nodes of tries in preorder, packed.
 ghost use Rattle.std.specs.Prelude.{◌≡◌, ◌+◌, ◌-◌, ◌*◌, ◌^◌, ◌<◌, ◌≤◌, [], ◌∷◌, ◌++◌, All, OnErr, OnOk, length, map, slice_index_or, slice_set, sum_by, vec_capacity};
-ghost use Rattle.plain_ballots.specs.declared.limits.TheConstants.{MOST_BALLOTS, MOST_CANDIDATES};
+ghost use Rattle.plain_ballots.specs.declared.limits.TheConstants.{MOST_CANDIDATES};
 ghost use Rattle.vote_spread.specs.Stem.{stem_of_row, closed_stem};
 ghost use Rattle.vote_spread.specs.Walk.{IsWalk};
 ghost use Rattle.vote_spread.specs.Rows.{seen, StandForPart, room_for};
@@ -59,7 +59,6 @@ impl Branches {
     ) -> Result<(), NoMemory>
         requires depth { depth ≤ MOST_CANDIDATES }
         requires candidate { row.candidate ≤ MOST_CANDIDATES }
-        requires few { row.ballots ≤ MOST_BALLOTS }
         requires short { length tail.now ≤ MOST_CANDIDATES }
         requires candidates { All (λ r. r.candidate ≤ MOST_CANDIDATES) tail.now }
         ensures { OnOk result (self.new ≡ self.old ++ stem_of_row depth row tail.now ∷ []) }
@@ -68,7 +67,7 @@ impl Branches {
             return Err(NoMemory);
         }
         let branch = Branch {
-            ballots: row.ballots as u32,
+            ballots: row.ballots,
             skip: 1,
             tail: self.tails.len() as u32,
             depth: depth as u8,

@@ -32,7 +32,6 @@ pub struct Lanes {
     plans: Snapshot<Plans>,
     task: Task,
     lanes: Vec<Lane>,
-    has_run: bool,
 }
 
 /// From so many rows on, lanes run in threads at each distribution: to start threads and to join them
@@ -40,7 +39,7 @@ pub struct Lanes {
 const MANY: usize = 100_000;
 
 /// From so many rows on, lanes run in threads where they make their rows anew, which takes some times
-/// as long as the walk.
+/// as long as the walk; or from so many branches on, where no rows stand yet.
 const MANY_TO_MAKE: usize = 25_000;
 
 impl Model for Lanes {
@@ -79,20 +78,19 @@ impl Lanes {
             plans: ballots,
             task: Task { branches, keeping },
             lanes,
-            has_run: false,
         })
     }
 
-    /// Distributes the ballots, each lane its share. At the first distribution, and at each one
-    /// over many rows, the lanes run in threads of their own where such can be had; else one after
-    /// another in the caller's. Each passes the gate at its number, from 1, before its work.
+    /// Distributes the ballots, each lane its share. At each distribution over many rows, and at a
+    /// first one whose rows are made of many branches, the lanes run in threads of their own where
+    /// such can be had; else one after another in the caller's. Each passes the gate at its number,
+    /// from 1, before its work.
     pub fn run<const P: usize, R: Threads + Sync, G: Gate + Sync>(&mut self, rt: &R, gate: &G)
         requires places { P ≤ 9 }
         requires scale { self.old.scale ≡ scale P }
         ensures { HaveCounted self.old self.new }
     {
-        let in_threads = !self.has_run || pays(&self.lanes, self.task.keeping.is_stale());
-        self.has_run = true;
+        let in_threads = pays(&self.lanes, &self.task);
         run_lanes(rt, gate, in_threads, &self.task, self.lanes.as_mut_slice());
         self.task.keeping.settle();
     }
@@ -118,13 +116,23 @@ impl Lanes {
 }
 
 /// Whether threads bring more than they cost: there are many rows, as far as is known from those of the
-/// distribution before.
-fn pays(lanes: &[Lane], stale: bool) -> bool {
+/// distribution before, or at the first one from the branches.
+fn pays(lanes: &[Lane], task: &Task) -> bool {
+    let rows = row_count(lanes);
+    if !task.keeping.is_stale() {
+        return rows >= MANY;
+    }
+    let to_make = if rows == 0 { task.branches.len() } else { rows };
+    to_make >= MANY_TO_MAKE
+}
+
+/// How many rows stand in all lanes, stale or not.
+fn row_count(lanes: &[Lane]) -> usize {
     let mut rows: usize = 0;
     for lane in lanes {
         rows = rows.saturating_add(lane.row_count());
     }
-    rows >= if stale { MANY_TO_MAKE } else { MANY }
+    rows
 }
 
 /// So many lanes with buffers for the candidates, and with room for the rows of their shares.

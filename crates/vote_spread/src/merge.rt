@@ -138,7 +138,7 @@ fn take_node<'a>(candidate: u16, part: &mut Part<'a>, at: usize, room: &mut [Par
 }
 
 /// Leaves the first row of each node out, and gives how many ballots go through all nodes.
-fn open_all(nodes: &mut [Part]) -> u64
+fn open_all(nodes: &mut [Part]) -> u32
     requires some { All (λ rows. 1 ≤ length rows) nodes.old }
     requires few { sum_by first_ballots nodes.old ≤ MOST_BALLOTS }
     ensures ballots { result ≡ sum_by first_ballots nodes.old }

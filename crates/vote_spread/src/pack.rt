@@ -64,7 +64,7 @@ pub(crate) fn pack_rows(
 {
     let mut rest = rows;
     while rest.len() > 0 {
-        let (node, behind) = rest.split_at(rest[0].skip);
+        let (node, behind) = rest.split_at(rest[0].skip as usize);
         pack_node(node, depth, branches)?;
         rest = behind;
     }

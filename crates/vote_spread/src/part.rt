@@ -47,7 +47,7 @@ impl<'a> Part<'a> {
     }
 
     /// Leaves the first row out, and gives its ballots.
-    pub(crate) fn open(&mut self) -> u64
+    pub(crate) fn open(&mut self) -> u32
         requires { 1 ≤ length self.old }
         ensures ballots { result ≡ first_ballots self.old }
         ensures below { self.new ≡ drop 1 self.old }
@@ -77,7 +77,7 @@ impl<'a> Part<'a> {
         if !self.begins(candidate) {
             return None;
         }
-        let (node, behind) = self.rows.split_at(self.rows[0].skip);
+        let (node, behind) = self.rows.split_at(self.rows[0].skip as usize);
         self.rows = behind;
         Some(Part { rows: node })
     }

@@ -34,7 +34,7 @@ fn parted(rows: &[PlanRow]) -> (PlanRow, &[PlanRow], &[PlanRow])
     ensures { (n : ℕ) → AreSiblings n rows.now → AreParted n rows.now result.0 result.1.now result.2.now }
 {
     let node = rows[0];
-    let (below, behind) = behind_first(rows).split_at(node.skip - 1);
+    let (below, behind) = behind_first(rows).split_at(node.skip as usize - 1);
     (node, below, behind)
 }
 
@@ -63,7 +63,7 @@ fn pay(rows: &[PlanRow], rest: u64, prices: &[u64], sums: &mut [u64])
         let (node, below, behind) = parted(siblings);
         let place = node.candidate as usize - 1;
         let part = rest.min(prices[place]);
-        sums[place] += node.ballots * part;
+        sums[place] += node.ballots as u64 * part;
         pay(below, rest - part, prices, sums);
         siblings = behind;
     }

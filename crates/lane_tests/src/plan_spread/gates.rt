@@ -1,11 +1,18 @@
 // Gates that lanes pass.
-use super::{SIXTEEN, distributes};
+ghost use Rattle.std.specs.Prelude.{◌≡◌, ◌≤◌};
+ghost use Rattle.fixed_place.specs.Rounding.{scale};
+ghost use Rattle.vote_spread.specs.Lanes.{HaveCounted};
+
+use super::{Distribution, SIXTEEN, distributes, gives_all};
+use crate::samples::all_pairs;
 use byte_edge::{Gate, Place};
+use frozen_plan::Plans;
 use std::alloc::Global;
 use std::process::Abort;
 use std::sync::atomic::{AtomicBool, AtomicU64, Ordering};
 use std::test::Fail;
 use std::thread::Threads;
+use vote_spread::{Lanes, PlanSpread};
 
 /// How often a lane looks for the others at most.
 const LOOKS: u32 = 500_000_000;
@@ -30,14 +37,42 @@ impl Gate for MeetingGate {
     }
 }
 
+/// One keep value of all candidates, and the votes that it gives each of them of a ballot for each pair:
+/// 125 times the share of a first rank, and 125 times that of a second.
+const BY_PAIRS: [Distribution<'static>; 2] = [
+    (&[1_000_000_000; 250], &[125_000_000_000; 250]),
+    (&[500_000_000; 250], &[93_750_000_000; 250]),
+];
+
+/// A ballot for each pair, distributed by so many lanes that pass a gate, gives these votes. Of its 31,500
+/// branches the lanes make their first rows in threads.
+fn distributes_pairs<'a, R: Threads + Abort + Sync, G: Gate + Sync>(
+    rt: &'a R,
+    gate: &'a G,
+    alloc: Global,
+    lanes: u32,
+) -> Result<(), Fail>
+    requires { (1 ≤ lanes) × (lanes ≤ 32) }
+{
+    let plans = Plans::of_packed(rt, alloc, all_pairs(alloc)?, 2, lanes)?;
+    let run = |lanes: &mut Lanes|
+        requires { lanes.now.scale ≡ scale 9 }
+        ensures { HaveCounted lanes.entry.now lanes.exit.now }
+    { lanes.run::<9, R, G>(rt, gate) };
+    let mut spread = PlanSpread::<9, _>::begin(alloc, plans, 250, lanes, run)?;
+    gives_all(rt, alloc, &mut spread, 31_250, &BY_PAIRS, (2, lanes))
+}
+
 /// In the first of two distributions each lane is met by all others before its work.
-fn lanes_meet<R: Threads + Abort + Sync>(rt: &R, alloc: Global, lanes: u32) -> Result<(), Fail> {
+fn lanes_meet<R: Threads + Abort + Sync>(rt: &R, alloc: Global, lanes: u32) -> Result<(), Fail>
+    requires { (1 ≤ lanes) × (lanes ≤ 32) }
+{
     let gate = MeetingGate {
         lanes: lanes as u64,
         came: AtomicU64::new(0),
         missed: AtomicBool::new(false),
     };
-    distributes(rt, &gate, alloc, &SIXTEEN, (2, lanes))?;
+    distributes_pairs(rt, &gate, alloc, lanes)?;
     assert_eq!(rt; gate.came.load(Ordering::SeqCst), 2 * lanes as u64);
     assert!(rt; !gate.missed.load(Ordering::SeqCst));
     Ok(())

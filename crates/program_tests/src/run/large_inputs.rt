@@ -66,7 +66,7 @@ fn is_too_long<R: Threads + Wait + Abort + Sync>(
 }
 
 /// The numbers from 1 to 250 with this between them.
-fn candidates(alloc: Global, between: &str) -> Result<String, Fail> {
+pub(super) fn candidates(alloc: Global, between: &str) -> Result<String, Fail> {
     let mut text = "1".to_string(alloc)?;
     for c in 2..251 {
         let number = format!(in alloc; "{between}{c}")?;
@@ -76,7 +76,7 @@ fn candidates(alloc: Global, between: &str) -> Result<String, Fail> {
 }
 
 /// Adds so many copies of a line.
-fn add_copies(file: &mut Vec<u8>, times: u32, line: &[u8]) -> Result<(), Fail> {
+pub(super) fn add_copies(file: &mut Vec<u8>, times: u32, line: &[u8]) -> Result<(), Fail> {
     for _ in 0..times {
         file.extend_from_slice(line)?;
     }
@@ -96,7 +96,7 @@ fn many_long_lines(alloc: Global) -> Result<Vec<u8>, Fail> {
 }
 
 /// The lines of the candidates from 2 to 250, each with this behind its number.
-fn add_losers(alloc: Global, sheet: &mut String, behind: &str) -> Result<(), Fail> {
+pub(super) fn add_losers(alloc: Global, sheet: &mut String, behind: &str) -> Result<(), Fail> {
     for c in 2..251 {
         let line = format!(in alloc; "{c} {behind}\n")?;
         sheet.push_str(line.as_str())?;

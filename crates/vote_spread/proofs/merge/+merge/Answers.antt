@@ -158,7 +158,6 @@ merge_nodes-push-requires t c =
     record {
       depth = omega (arith, may.shallow);
       candidate = may.known;
-      few = omega (arith, may.few, c.open_all-ballots.ensures.ballots);
       short = branch.short;
       candidates = branch.known;
     }
@@ -186,13 +185,6 @@ pub merge_nodes-push-requires-2-clause-candidate : goal.merge_nodes-push-require
 merge_nodes-push-requires-2-clause-candidate t c =
     (may_open c.args.depth c.args.candidate c.args.nodes.now no_row c.requires.some c.requires.nodes
     c.requires.alone).known
-
-pub merge_nodes-push-requires-2-clause-few : goal.merge_nodes-push-requires-2-clause-few
-merge_nodes-push-requires-2-clause-few t c =
-    let may =
-    may_open c.args.depth c.args.candidate c.args.nodes.now no_row c.requires.some c.requires.nodes
-    c.requires.alone in
-    omega (arith, may.few, c.open_all-ballots.ensures.ballots)
 
 pub merge_nodes-merge-requires : goal.merge_nodes-merge-requires
 merge_nodes-merge-requires t c =

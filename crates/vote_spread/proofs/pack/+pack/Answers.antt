@@ -2,7 +2,7 @@ use Rattle.std.proofs.Common.{◌≡◌, ℕ, ◌+◌, ◌≤◌, [], ◌∷◌,
 use Rattle.std.proofs.lemmas.List.{length-append, length-take-le, length-drop}
 use Rattle.frozen_plan.specs.declared.plan_row.PlanRow.{PlanRow}
 use Rattle.vote_spread.specs.Stem.{Stem, stem_of_row}
-use Rattle.frozen_plan.specs.Forest.{Forest, Grown, Bare, rows_of, through, IsGrown, nodes_of}
+use Rattle.frozen_plan.specs.Forest.{Forest, Grown, Bare, rows_of, IsGrown, nodes_of}
 use Rattle.vote_spread.specs.Packed.{HasAdded, AreRows}
 use Rattle.vote_spread.proofs.RowLemmas.{parted_rows}
 use Rattle.vote_spread.proofs.PackLemmas.{underway-begin, underway-next, underway-end, one_node, below_node, closed_node}
@@ -87,18 +87,17 @@ pack_node-returns t c =
     c.pack_rows.new.branches c.len-at.result c.len-at.ensures.value below)
 
 -- the first of some rows is within the limits
-first_fits : (d low : ℕ) (f : Forest) → IsGrown 250 low d f → through f ≤ 999999999 → 1 ≤ length (rows_of d f)
-    → (d ≤ 250) × ((get_or (rows_of d f) 0 none).candidate ≤ 250) × ((get_or (rows_of d f) 0 none).ballots ≤ 999999999)
-first_fits d low Bare grown few some = absurd (omega arith)
-first_fits d low (Grown c k inner next) grown few some = (grown.2, grown.1, omega arith)
+first_fits : (d low : ℕ) (f : Forest) → IsGrown 250 low d f → 1 ≤ length (rows_of d f)
+    → (d ≤ 250) × ((get_or (rows_of d f) 0 none).candidate ≤ 250)
+first_fits d low Bare grown some = absurd (omega arith)
+first_fits d low (Grown c k inner next) grown some = (grown.2, grown.1)
 
 fits :
     (d : ℕ) (rows : List PlanRow) → AreRows 250 d rows → 1 ≤ length rows
-    → (d ≤ 250) × ((get_or rows 0 none).candidate ≤ 250) × ((get_or rows 0 none).ballots ≤ 999999999)
+    → (d ≤ 250) × ((get_or rows 0 none).candidate ≤ 250)
 fits d rows are some =
-    subst (λ (l : List PlanRow). (d ≤ 250) × ((get_or l 0 none).candidate ≤ 250)
-    × ((get_or l 0 none).ballots ≤ 999999999)) (sym are.preorder)
-    (first_fits d are.low (nodes_of rows) are.grown are.few (subst (λ (l : List PlanRow). 1 ≤ length l) are.preorder some))
+    subst (λ (l : List PlanRow). (d ≤ 250) × ((get_or l 0 none).candidate ≤ 250)) (sym are.preorder)
+    (first_fits d are.low (nodes_of rows) are.grown (subst (λ (l : List PlanRow). 1 ≤ length l) are.preorder some))
 
 pub pack_rows-split_at-requires : goal.pack_rows-split_at-requires
 pack_rows-split_at-requires t c =
@@ -125,17 +124,11 @@ pack_node-push-requires-clause-depth t c = (fits c.args.depth c.args.rows.now c.
 pub pack_node-push-requires-clause-candidate : goal.pack_node-push-requires-clause-candidate
 pack_node-push-requires-clause-candidate t c = (fits c.args.depth c.args.rows.now c.requires.rows c.requires.some).1
 
-pub pack_node-push-requires-clause-few : goal.pack_node-push-requires-clause-few
-pack_node-push-requires-clause-few t c = (fits c.args.depth c.args.rows.now c.requires.rows c.requires.some).2
-
 pub pack_node-push-requires-2-clause-depth : goal.pack_node-push-requires-2-clause-depth
 pack_node-push-requires-2-clause-depth t c = (fits c.args.depth c.args.rows.now c.requires.rows c.requires.some).0
 
 pub pack_node-push-requires-2-clause-candidate : goal.pack_node-push-requires-2-clause-candidate
 pack_node-push-requires-2-clause-candidate t c = (fits c.args.depth c.args.rows.now c.requires.rows c.requires.some).1
-
-pub pack_node-push-requires-2-clause-few : goal.pack_node-push-requires-2-clause-few
-pack_node-push-requires-2-clause-few t c = (fits c.args.depth c.args.rows.now c.requires.rows c.requires.some).2
 
 pub pack_node-pack_rows-requires : goal.pack_node-pack_rows-requires
 pack_node-pack_rows-requires t c =
