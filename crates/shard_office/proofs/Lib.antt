@@ -8,6 +8,7 @@ mod Answered
 mod Marked
 mod AfterMarks
 mod TurnLists
+mod Planned
 mod FreezeLemmas
 mod HeldLemmas
 mod SightLemmas

@@ -8,12 +8,11 @@ use Rattle.turn_lock.specs.Entries.{Begins}
 use Rattle.turn_lock.specs.Sights.{KnowsOwn}
 use Rattle.batch_core.specs.declared.entry.Entry.{Entry}
 use Rattle.call_register.specs.declared.mark.Mark.{Mark}
-use Rattle.frozen_plan.specs.Plan.{PlanRows}
 use Rattle.shard_office.specs.Owners.{owner_of_entry}
 use Rattle.shard_office.specs.Values.{SeenShard}
 use Rattle.shard_office.specs.Passes.{ShardSeat}
 use Rattle.shard_office.specs.Turned.{AreOf, Took, GaveBack, IsHeld, AreHeld, TookTurns, GaveTurns, IsAgreed}
-use Rattle.shard_office.specs.Turned.{AreAgreed, IsPlanOf, ArePlansOf}
+use Rattle.shard_office.specs.Turned.{AreAgreed}
 use Rattle.shard_office.proofs.Places.{get_set, get_lt}
 
 module _ {A : Type 0} where
@@ -130,14 +129,3 @@ agreed_more n marks held are here i v lt e = ⊎_elim
     omega arith in
     subst (λ k. IsAgreed marks k v) is (here v (ap (slice_get held) is ∙ e)))
     (cases_lt i n)
-
-pub plans_more :
-    (held : List SeenShard) (plans : List PlanRows) (n : ℕ) (v : SeenShard) (p : PlanRows)
-    → ArePlansOf held plans → length plans ≡ n → slice_get held n ≡ Some v → IsPlanOf v p
-    → ArePlansOf held (plans ++ p ∷ [])
-plans_more held plans n v p are len at is i w q ew eq = ⊎_elim
-    (λ (t : (i ≡ length plans) × (p ≡ q)).
-    let same : v ≡ w = same_place held n i v w (sym (t.0 ∙ len)) at ew in
-    subst (λ (z : SeenShard). IsPlanOf z q) same (subst (IsPlanOf v) t.1 is))
-    (λ (t : (i < length plans) × (slice_get plans i ≡ Some q)). are i w q ew t.1)
-    (get_push plans p i q eq)

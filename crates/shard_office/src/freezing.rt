@@ -14,22 +14,28 @@ ghost use Rattle.shard_office.specs.Versions.{IsFreeze};
 use crate::desk::Desk;
 use crate::no_memory::NoMemory;
 use crate::office::Office;
+use crate::planning::plans_of;
 use crate::register_value::RegisterValue;
 use crate::shard_value::ShardValue;
-use crate::turns::{agree_all, give_all, plans_of, take_all};
+use crate::turns::{agree_all, give_all, take_all};
 use crate::version::Version;
 use std::alloc::Global;
 use std::sync::Wait;
+use std::thread::Threads;
 use turn_lock::Held;
 
-/// Copies what stands and who is struck, under all turns, and makes room for the mark of the freeze.
-fn copied(
+/// Copies what stands and who is struck, under all turns, and makes room for the mark of the freeze. At most
+/// so many workers make the plans.
+fn copied<R: Threads + Sync>(
+    rt: &R,
     alloc: Global,
     candidates: u32,
+    workers: u32,
     held: &Vec<Held<ShardValue>>,
     kept: &mut Held<RegisterValue>,
 ) -> Result<Version, NoMemory>
     requires limits { (1 ≤ vec_len held.now) × (candidates ≤ MOST_CANDIDATES) }
+    requires workers { 1 ≤ workers }
     requires register { (kept.old.register.shards ≡ vec_len held.now) × (kept.old.register.candidates ≡ candidates) }
     requires named { AreNamed (vec_len held.now) candidates held.now.items }
     requires agreed { AreAgreed (vec_len held.now) kept.old.register.marks held.now.items }
@@ -43,7 +49,7 @@ fn copied(
     ensures plans { IfOk result (λ version. ArePlansOf held.now.items version.plans) }
     ensures struck { IfOk result (λ version. version.struck ≡ struck_by kept.old.register.marks) }
 {
-    let plans = plans_of(alloc, held)?;
+    let plans = plans_of(rt, alloc, held, workers)?;
     let register = kept.value_mut();
     register.reserve()?;
     register.vouch();
@@ -58,7 +64,7 @@ fn copied(
 }
 
 /// A freeze at this desk: it takes the turns of all shards in rising order, and then the register's.
-pub(crate) fn freeze<R: Wait>(
+pub(crate) fn freeze<R: Threads + Wait + Sync>(
     rt: &R,
     alloc: Global,
     office: &Office,
@@ -80,7 +86,14 @@ pub(crate) fn freeze<R: Wait>(
     take_all(rt, &office.windows, &mut desk.shards, &mut held);
     let mut kept = office.register.take(rt, &mut desk.register);
     agree_all(&office.windows, &mut held, &mut kept);
-    match copied(alloc, office.candidates, &held, &mut kept) {
+    match copied(
+        rt,
+        alloc,
+        office.candidates,
+        office.workers,
+        &held,
+        &mut kept,
+    ) {
         Ok(version) => {
             kept.value_mut().freeze(desk.caller);
             office.register.give_with(&mut desk.register, kept);

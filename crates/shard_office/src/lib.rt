@@ -6,7 +6,7 @@
 //! 1. [`Office::try_new`] opens it, with its [`Clerk`].
 //! 2. [`Clerk::team`] makes a [`Pass`] for each caller, by rising numbers.
 //! 3. A caller makes its calls by its pass: [`Office::call`] for a change, [`Office::strike`], and
-//!    [`Office::freeze`], which gives a [`Version`] of what stands.
+//!    [`Office::freeze`], which gives a [`Version`] of what stands and may start threads to make it.
 //! 4. [`Clerk::take_in`] takes the passes back. [`Office::clerk_freeze`] is a freeze of the clerk's own.
 //! 5. When no pass is out, [`Office::close`] gives the history; where memory runs out it gives a
 //!    [`Closing`], which may be tried again.
@@ -36,6 +36,7 @@ mod no_memory;
 mod office;
 mod opening;
 mod pass;
+mod planning;
 mod register_value;
 mod shard_value;
 mod striking;

@@ -35,14 +35,17 @@ use std::alloc::Global;
 use std::marker::Model;
 use std::snapshot::Snapshot;
 use std::sync::Wait;
+use std::thread::Threads;
 use turn_lock::TurnLock;
 
 /// An office of so many shards and candidates. Contracts see these numbers, and which office it is by
-/// its windows and its register's lock.
+/// its windows and its register's lock; nothing in them depends on how many workers make the plans of
+/// a freeze.
 #[derive(Drop)]
 pub struct Office {
     pub(crate) shards: u32,
     pub(crate) candidates: u32,
+    pub(crate) workers: u32,
     pub(crate) windows: Vec<Window>,
     pub(crate) register: TurnLock<RegisterValue>,
 }
@@ -56,14 +59,21 @@ impl Model for Office {
 
     ghost view = { λ o. record { shards = o.shards; candidates = o.candidates; identity = record { windows = o.windows.items; register = o.register } } };
 
-    ghost invariant = { λ o. (length o.windows.items ≡ o.shards) × (1 ≤ o.shards) × (o.shards ≤ 64) × (o.candidates ≤ MOST_CANDIDATES) };
+    ghost invariant = { λ o. (length o.windows.items ≡ o.shards) × (1 ≤ o.shards) × (o.shards ≤ 64) × (o.candidates ≤ MOST_CANDIDATES) × (1 ≤ o.workers) };
 }
 
 impl Office {
-    /// A new office of 1 to 250 candidates and 1 to 64 shards, and its clerk, who has seen nothing yet.
-    pub fn try_new(alloc: Global, candidates: u32, shards: u32) -> Result<(Office, Clerk), NoMemory>
+    /// A new office of 1 to 250 candidates and 1 to 64 shards, whose freezes are made by at most so many
+    /// workers, and its clerk, who has seen nothing yet.
+    pub fn try_new(
+        alloc: Global,
+        candidates: u32,
+        shards: u32,
+        workers: u32,
+    ) -> Result<(Office, Clerk), NoMemory>
         requires candidates { (1 ≤ candidates) × (candidates ≤ MOST_CANDIDATES) }
         requires shards { (1 ≤ shards) × (shards ≤ 64) }
+        requires workers { 1 ≤ workers }
         ensures office { IfOk result (λ made. (made.0.shards ≡ shards) × (made.0.candidates ≡ candidates)) }
         ensures desk { IfOk result (λ made. (made.1.desk.office ≡ made.0) × (made.1.desk.caller ≡ 0)) }
         ensures nothing_seen { IfOk result (λ made. (made.1.desk.sight.marks ≡ []) × ((s : ℕ) → entries_of made.1.desk.sight s ≡ [])) }
@@ -88,6 +98,7 @@ impl Office {
         let office = Office {
             shards,
             candidates,
+            workers,
             windows,
             register: lock,
         };
@@ -176,11 +187,12 @@ impl Office {
     }
 
     /// Freezes what stands, for a pass: while all turns are held what stands in each shard is copied
-    /// into a plan, with the list of the struck, and the freeze is marked.
+    /// into a plan, with the list of the struck, and the freeze is marked. Where much stands the office's
+    /// workers make the plans, each those of some shards, in threads of their own where such can be had.
     ///
     /// The pass has then seen all of one legal history that ends with its freeze, and the version is of
     /// it. After want of memory there is no mark of it, and the pass may have seen more.
-    pub fn freeze<R: Wait>(
+    pub fn freeze<R: Threads + Wait + Sync>(
         &self,
         rt: &R,
         alloc: Global,
@@ -201,7 +213,7 @@ impl Office {
     }
 
     /// Freezes what stands, for the clerk, as a pass of caller 0 would.
-    pub fn clerk_freeze<R: Wait>(
+    pub fn clerk_freeze<R: Threads + Wait + Sync>(
         &self,
         rt: &R,
         alloc: Global,
@@ -260,6 +272,7 @@ fn ended(office: Office, alloc: Global, clerk: Clerk) -> Closing
         candidates,
         windows,
         register: lock,
+        ..
     } = office;
     let mut kept = lock.close(register);
     kept.vouch();

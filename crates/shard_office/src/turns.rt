@@ -1,19 +1,15 @@
 // The turns of shards that one caller holds together: those of shards 1 to k, in a list of k values.
-ghost use Rattle.std.specs.Prelude.{◌≡◌, ◌≢◌, ◌+◌, ◌<◌, ◌≤◌, ℕ, Some, slice_get, length, vec_len, vec_capacity, ◌++◌, ◌∷◌, [], IfOk, OnOk};
-ghost use Rattle.frozen_plan.specs.Plan.{PlanRows};
+ghost use Rattle.std.specs.Prelude.{◌≡◌, ◌≢◌, ◌+◌, ◌<◌, ◌≤◌, ℕ, Some, slice_get, vec_len, vec_capacity};
 ghost use Rattle.shard_office.specs.Passes.{ShardSeat};
 ghost use Rattle.shard_office.specs.Values.{SeenShard};
 ghost use Rattle.shard_office.specs.Office.{ties_at};
 ghost use Rattle.shard_office.specs.declared.window.Window.{Window};
-ghost use Rattle.shard_office.specs.Turned.{AreOf, AreTied, Took, GaveBack, IsHeld, AreHeld, TookTurns, GaveTurns, IsAgreed, AreAgreed, IsPlanOf, ArePlansOf};
+ghost use Rattle.shard_office.specs.Turned.{AreOf, AreTied, Took, GaveBack, IsHeld, AreHeld, TookTurns, GaveTurns, IsAgreed, AreAgreed};
 
 use crate::entering::agree;
-use crate::no_memory::NoMemory;
 use crate::register_value::RegisterValue;
 use crate::shard_value::ShardValue;
 use crate::window::Window;
-use frozen_plan::{Plan, Plans};
-use std::alloc::Global;
 use std::sync::Wait;
 use turn_lock::{Held, Seat};
 
@@ -122,24 +118,4 @@ pub(crate) fn agree_all(
     for i in 0..held.len() {
         agree_at(windows, held, kept, i);
     }
-}
-
-/// Adds the plan of a shard's ballots.
-fn add_plan(alloc: Global, plans: &mut Plans, value: &Held<ShardValue>) -> Result<(), NoMemory>
-    ensures { OnOk result ((plan : PlanRows) × IsPlanOf value.now plan × (plans.new ≡ plans.old ++ plan ∷ [])) }
-{
-    let plan = Plan::from_trie(alloc, value.value().book.trie())?;
-    Ok(plans.push(plan)?)
-}
-
-/// A plan for each shard.
-pub(crate) fn plans_of(alloc: Global, held: &Vec<Held<ShardValue>>) -> Result<Plans, NoMemory>
-    ensures len { IfOk result (λ plans. length plans ≡ vec_len held.now) }
-    ensures plans { IfOk result (λ plans. ArePlansOf held.now.items plans) }
-{
-    let mut plans = Plans::new(alloc);
-    for i in 0..held.len() {
-        add_plan(alloc, &mut plans, &held[i])?;
-    }
-    Ok(plans)
 }

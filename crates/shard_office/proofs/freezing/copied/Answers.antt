@@ -12,7 +12,7 @@ use Rattle.std.proofs.lemmas.List.Elements.{All-nil}
 use Rattle.shard_office.proofs.freezing.copied.Goals as goal
 
 pub invariant_of-result : goal.invariant_of-result
-invariant_of-result c =
+invariant_of-result g c =
     let held = c.args.held.now.items in
     let n = vec_len c.args.held.now in
     let plans = c.in_ok-plans.plans in

@@ -1,4 +1,4 @@
-use Rattle.std.proofs.Common.{◌≡◌, false, ◌++◌, ◌∷◌, [], ℕ, List, length, vec_len}
+use Rattle.std.proofs.Common.{◌≡◌, ◌++◌, ◌∷◌, [], ℕ, List, length, vec_len}
 use Rattle.std.proofs.Common.{refl, sym, ap, ◌∙◌, subst, arith}
 use Rattle.call_register.specs.declared.mark.Mark.{Mark}
 use Rattle.call_register.specs.declared.mark.Mark.TheVariants.{Freeze}
@@ -118,10 +118,13 @@ agreed g c =
 pub copied-requires-clause-named : goal.copied-requires-clause-named
 copied-requires-clause-named g c =
     let before = goal.at.copied-requires-clause-named g c in
-    named g before.After-agree_all (held g before.After-take_all)
+    let are = named g before.After-agree_all (held g before.After-take_all) in
+    λ κs given. are
 
 pub copied-requires-clause-agreed : goal.copied-requires-clause-agreed
-copied-requires-clause-agreed g c = agreed g (goal.at.copied-requires-clause-agreed g c).After-agree_all
+copied-requires-clause-agreed g c =
+    let are = agreed g (goal.at.copied-requires-clause-agreed g c).After-agree_all in
+    λ κs given. are
 
 -- after the freeze
 looks : (g : Over) (c : goal.After-give_all g) → Looks c.args.desk.now.shards.items c.give_all.new.seats.items
