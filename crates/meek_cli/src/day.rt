@@ -87,16 +87,8 @@ pub(crate) fn answer<R: Threads + Wait + Sync, G: Gate + Sync>(
         omega,
         scripts,
     } = day;
-    let (candidates, shards) = (roll.candidates(), hands.split.shards());
-    let answered = answer_day(
-        hands.rt,
-        hands.alloc,
-        candidates,
-        shards,
-        scripts,
-        hands.gate,
-    )?;
-    let (history, versions) = answered;
+    let candidates = roll.candidates();
+    let (history, versions) = answer_day(hands, candidates, scripts)?;
     let terms = Terms {
         places,
         omega,

@@ -63,7 +63,7 @@ fn run_day<R: Threads + Wait + Sync, G: Gate + Sync>(
     let Ok(day) = read_day(alloc, text) else {
         return Err(Fail::from("no day"));
     };
-    let Ok((office, mut clerk)) = Office::try_new(alloc, day.roll.candidates(), shards) else {
+    let Ok((office, mut clerk)) = Office::try_new(alloc, day.roll.candidates(), shards, 1) else {
         return Err(Fail::from("no office"));
     };
     match run_teams(rt, alloc, &office, &mut clerk, day.scripts, gate) {

@@ -12,6 +12,7 @@ use byte_edge::Gate;
 use shard_office::{Office, Pass, Version, versions_stay};
 use std::alloc::Global;
 use std::sync::Wait;
+use std::thread::Threads;
 
 /// Changes a batch.
 pub(crate) fn make_change<R: Wait, G: Gate>(
@@ -51,7 +52,7 @@ pub(crate) fn make_strike<R: Wait>(
 }
 
 /// Freezes. Room for the version is made before, so that no freeze is without its version.
-pub(crate) fn make_freeze<R: Wait>(
+pub(crate) fn make_freeze<R: Threads + Wait + Sync>(
     rt: &R,
     alloc: Global,
     office: &Office,

@@ -12,6 +12,7 @@ use byte_edge::Gate;
 use shard_office::{Office, Pass, Version, versions_stay};
 use std::alloc::Global;
 use std::sync::Wait;
+use std::thread::Threads;
 
 /// A team at work: its pass, the calls that are left of its script, the versions of its freezes,
 /// and whether memory was wanted for a call.
@@ -25,7 +26,13 @@ pub(crate) struct Team {
 
 impl Team {
     /// Makes the calls that are left, in their order, up to the first for which memory is wanted.
-    pub(crate) fn run<R: Wait, G: Gate>(&mut self, rt: &R, alloc: Global, office: &Office, gate: &G)
+    pub(crate) fn run<R: Threads + Wait + Sync, G: Gate>(
+        &mut self,
+        rt: &R,
+        alloc: Global,
+        office: &Office,
+        gate: &G,
+    )
         requires { IsReady office.now self.old }
         ensures { HasRun office.now self.old self.new }
     {
@@ -36,7 +43,7 @@ impl Team {
     }
 
     /// Makes calls in their order, up to the first for which memory is wanted.
-    fn make_all<R: Wait, G: Gate>(
+    fn make_all<R: Threads + Wait + Sync, G: Gate>(
         &mut self,
         rt: &R,
         alloc: Global,
@@ -57,7 +64,7 @@ impl Team {
     }
 
     /// Makes a call, and keeps the version of a freeze.
-    fn make<R: Wait, G: Gate>(
+    fn make<R: Threads + Wait + Sync, G: Gate>(
         &mut self,
         rt: &R,
         alloc: Global,

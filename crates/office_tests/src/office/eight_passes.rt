@@ -51,7 +51,7 @@ struct Team {
 }
 
 /// Makes one call and notes it.
-fn play_step<R: Wait>(
+fn play_step<R: Threads + Wait + Sync>(
     rt: &R,
     alloc: Global,
     office: &Office,
@@ -70,7 +70,7 @@ fn play_step<R: Wait>(
 }
 
 /// A team of this pass after all its calls, or those up to the first that wasn't answered.
-fn play<R: Wait>(rt: &R, alloc: Global, office: &Office, pass: Pass) -> Team
+fn play<R: Threads + Wait + Sync>(rt: &R, alloc: Global, office: &Office, pass: Pass) -> Team
     requires office { pass.office ≡ office.now }
     requires candidates { office.now.candidates ≡ 3 }
     ensures { result.pass.office ≡ office.now }

@@ -14,6 +14,7 @@ use std::alloc::Global;
 use std::process::Abort;
 use std::sync::Wait;
 use std::test::Fail;
+use std::thread::Threads;
 
 /// The note of a call that is no freeze.
 fn answered(step: Step, reply: Reply) -> Note {
@@ -38,7 +39,7 @@ fn frozen(at: u64, ballots: u64, struck: [u32; 3]) -> Note {
 }
 
 /// A pass that makes these calls notes just this.
-fn plays<R: Wait + Abort>(
+fn plays<R: Threads + Wait + Sync + Abort>(
     rt: &R,
     alloc: Global,
     office: &Office,
@@ -57,7 +58,7 @@ fn plays<R: Wait + Abort>(
 }
 
 /// A pass of caller 1 makes these calls, notes just this, and is taken in.
-fn one_plays<R: Wait + Abort>(
+fn one_plays<R: Threads + Wait + Sync + Abort>(
     rt: &R,
     alloc: Global,
     office: &Office,
@@ -77,7 +78,7 @@ fn one_plays<R: Wait + Abort>(
 
 /// Two passes that make these calls in this order, each those of its caller, note just this. The calls
 /// of the clerk, caller 0, are left out.
-fn play_in_turn<R: Wait + Abort>(
+fn play_in_turn<R: Threads + Wait + Sync + Abort>(
     rt: &R,
     alloc: Global,
     office: &Office,
@@ -102,7 +103,7 @@ fn play_in_turn<R: Wait + Abort>(
 }
 
 /// Two passes of these callers make their calls, and are taken in, the second one first.
-fn two_play<R: Wait + Abort>(
+fn two_play<R: Threads + Wait + Sync + Abort>(
     rt: &R,
     alloc: Global,
     office: &Office,
@@ -125,7 +126,7 @@ fn two_play<R: Wait + Abort>(
 }
 
 /// The clerk makes the freezes of caller 0, and notes just this.
-fn clerk_plays<R: Wait + Abort>(
+fn clerk_plays<R: Threads + Wait + Sync + Abort>(
     rt: &R,
     alloc: Global,
     office: &Office,
@@ -146,7 +147,7 @@ fn clerk_plays<R: Wait + Abort>(
 
 /// The history of an office of two shards, in which two passes make their calls, and after them the
 /// clerk.
-fn history_of_two<R: Wait + Abort>(
+fn history_of_two<R: Threads + Wait + Sync + Abort>(
     rt: &R,
     alloc: Global,
     callers: (u32, u32),
@@ -175,7 +176,7 @@ fn reads<R: Abort>(rt: &R, history: &History, calls: &[(u32, Note)]) {
 
 /// Two passes, and after them the clerk, make these calls in this order and note just this; the history
 /// then has these calls and no others.
-fn make_one_history<R: Wait + Abort>(
+fn make_one_history<R: Threads + Wait + Sync + Abort>(
     rt: &R,
     alloc: Global,
     callers: (u32, u32),
@@ -240,7 +241,7 @@ fn one_call_makes_a_history_of_one_entry(rt: HostRuntime) -> Result<(), Fail> {
 }
 
 /// The ballots by shard in a freeze of the clerk.
-fn ballots_by_shard<R: Wait>(
+fn ballots_by_shard<R: Threads + Wait + Sync>(
     rt: &R,
     alloc: Global,
     office: &Office,

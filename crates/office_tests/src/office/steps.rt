@@ -10,6 +10,7 @@ use plain_ballots::{BallotLine, Ballots, Ranking};
 use shard_office::{CallBack, Clerk, CloseBack, Office, Pass, Version};
 use std::alloc::Global;
 use std::sync::Wait;
+use std::thread::Threads;
 
 /// A call in numbers. Its ballots are so many for one candidate of three.
 #[derive(Clone, Copy, Debug, PartialEq, Eq, Drop)]
@@ -53,16 +54,16 @@ pub(super) struct Note {
 #[derive(Clone, Copy, Debug, Drop)]
 pub(super) struct NotPlayed;
 
-/// An office of three candidates, and its clerk.
+/// An office of three candidates, and its clerk. Three workers make the plans of its freezes.
 pub(super) fn opened(alloc: Global, shards: u32) -> Result<(Office, Clerk), NotPlayed>
     requires { (1 ≤ shards) × (shards ≤ 64) }
     ensures candidates { IfOk result (λ made. made.0.candidates ≡ 3) }
     ensures desk { IfOk result (λ made. made.1.desk.office ≡ made.0) }
     ensures nobody { IfOk result (λ made. made.1.last_caller ≡ 0) }
 {
-    match Office::try_new(alloc, 3, shards) {
+    match Office::try_new(alloc, 3, shards, 3) {
         Ok(made) => Ok(made),
-        Err(_) => match Office::try_new(alloc, 3, shards) {
+        Err(_) => match Office::try_new(alloc, 3, shards, 3) {
             Ok(made) => Ok(made),
             Err(_) => Err(NotPlayed),
         },
@@ -159,7 +160,7 @@ fn reply_to_strike<R: Wait>(
     }
 }
 
-fn version_for<R: Wait>(
+fn version_for<R: Threads + Wait + Sync>(
     rt: &R,
     alloc: Global,
     office: &Office,
@@ -178,7 +179,7 @@ fn version_for<R: Wait>(
 }
 
 /// A freeze of the clerk.
-pub(super) fn version_for_clerk<R: Wait>(
+pub(super) fn version_for_clerk<R: Threads + Wait + Sync>(
     rt: &R,
     alloc: Global,
     office: &Office,
@@ -197,7 +198,7 @@ pub(super) fn version_for_clerk<R: Wait>(
 }
 
 /// What the clerk notes of a freeze.
-pub(super) fn clerk_freeze<R: Wait>(
+pub(super) fn clerk_freeze<R: Threads + Wait + Sync>(
     rt: &R,
     alloc: Global,
     office: &Office,
@@ -222,7 +223,7 @@ fn note_of(version: Version) -> Note {
 }
 
 /// What a pass notes of its next step, which passes this gate.
-pub(super) fn noted<R: Wait, G: Gate>(
+pub(super) fn noted<R: Threads + Wait + Sync, G: Gate>(
     rt: &R,
     alloc: Global,
     office: &Office,

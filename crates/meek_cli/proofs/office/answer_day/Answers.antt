@@ -31,7 +31,7 @@ returns-in-Ok-close-clause-history g c =
     let office : clerk.desk.office ≡ c.in-Ok.office =
     c.in-Ok-clerk_freeze.ensures.office
     ∙ (c.in-Ok-run_teams.ensures.clerk.same.office ∙ c.in-Ok.ensures.desk.0) in
-    let shards : clerk.desk.office.shards ≡ c.args.shards =
+    let shards : clerk.desk.office.shards ≡ c.shards.result =
     ap (λ (o : OfficeState). o.shards) office ∙ c.in-Ok.ensures.office.0 in
     let taken = c.in-Ok-clerk_freeze.ensures.taken in
     let nothing : own fresh.desk ≡ [] =
@@ -46,7 +46,7 @@ returns-in-Ok-close-clause-history g c =
     (ap (λ (o : OfficeState). o.shards) (sym office)) c.in-Ok-clerk_freeze.ensures.frozen in
     history_of_day c.args.scripts (versions ++ last ∷ []) c.in-Ok-close.history
     (c.days_end_with_the_clerk.ensures c.args.scripts versions last clerk back.desk.sight c.in-Ok-close.history
-    (subst (λ (n : ℕ). 1 ≤ n) (sym shards) c.requires.shards.0) c.open_teams-all_back.ensures.caller may.numbers
+    (subst (λ (n : ℕ). 1 ≤ n) (sym shards) c.shards.ensures.bounds.0) c.open_teams-all_back.ensures.caller may.numbers
     (ap (map script_of) taken ∙ c.in-Ok-run_teams.ensures.teams)
     (subst (λ (passes : List PassState). AreVersionsOf passes versions) (sym taken) c.in-Ok-run_teams.ensures.versions)
     c.open_teams-all_back.ensures.taken frozen own_is c.in-Ok-close.ensures.closed)
@@ -63,7 +63,7 @@ returns-in-Ok-close-clause-frozen g c =
     let office : clerk.desk.office ≡ c.in-Ok.office =
     c.in-Ok-clerk_freeze.ensures.office
     ∙ (c.in-Ok-run_teams.ensures.clerk.same.office ∙ c.in-Ok.ensures.desk.0) in
-    let shards : clerk.desk.office.shards ≡ c.args.shards =
+    let shards : clerk.desk.office.shards ≡ c.shards.result =
     ap (λ (o : OfficeState). o.shards) office ∙ c.in-Ok.ensures.office.0 in
     let taken = c.in-Ok-clerk_freeze.ensures.taken in
     let nothing : own fresh.desk ≡ [] =
@@ -81,7 +81,7 @@ returns-in-Ok-close-clause-frozen g c =
     c.in-Ok-run_teams.ensures.versions in
     let ended =
     c.days_end_with_the_clerk.ensures c.args.scripts versions last clerk back.desk.sight c.in-Ok-close.history
-    (subst (λ (n : ℕ). 1 ≤ n) (sym shards) c.requires.shards.0) c.open_teams-all_back.ensures.caller may.numbers
+    (subst (λ (n : ℕ). 1 ≤ n) (sym shards) c.shards.ensures.bounds.0) c.open_teams-all_back.ensures.caller may.numbers
     (ap (map script_of) taken ∙ c.in-Ok-run_teams.ensures.teams) of_passes
     c.open_teams-all_back.ensures.taken frozen own_is c.in-Ok-close.ensures.closed in
     frozen_of_day clerk.desk.office clerk.desk.sight clerk.taken c.args.candidates c.args.scripts versions
