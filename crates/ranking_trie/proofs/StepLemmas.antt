@@ -10,10 +10,13 @@ use Rattle.ranking_trie.specs.Arena.{forest_in, IsApart, IsMoved, HasNode, join}
 use Rattle.ranking_trie.specs.Bag.{bag, below, IsRising}
 use Rattle.ranking_trie.specs.BallotBag.{count_of}
 use Rattle.ranking_trie.specs.Forest.{Forest, Grow}
+use Rattle.ranking_trie.specs.Fronts.{KeepsPlaces, KeepsOthers}
 use Rattle.ranking_trie.specs.Places.{node_at}
 use Rattle.ranking_trie.proofs.ArenaLemmas.{IsLaid, IsNode, node_in, ended, apart_below, led_below}
 use Rattle.ranking_trie.proofs.BagLemmas.{below_more_ends, below_more_inner, below_fewer_ends}
 use Rattle.ranking_trie.proofs.ChangeLemmas.{node_kept, rising_with, more_at, fewer_at, count_at}
+use Rattle.ranking_trie.proofs.PathLemmas.{keeps_all, keeps_node, keeps_join, keeps_is}
+use Rattle.ranking_trie.proofs.PathLemmas.{others_all, others_node, others_join, others_is}
 
 -- where a node is, and how many ballots end at it
 pub own_ends :
@@ -43,6 +46,17 @@ pub record IsPut (old : Arena) (first : ℕ) (new : Arena) (more : List (List �
   pub moved : IsMoved old first new first
   pub rising : IsRising 0 (forest_in new first)
   pub bag : IsPermutation (bag (forest_in new first)) (more ++ bag (forest_in old first))
+  pub kept : KeepsPlaces (forest_in old first) (forest_in new first)
+
+-- where the nodes below a node stay, all stay
+kept_at :
+    (f g : Forest) (c before place m : ℕ) (low : Forest) (h : HasNode f c before place)
+    → g ≡ join h.passed (Grow c m place low h.next) → KeepsPlaces h.inner low → KeepsPlaces f g
+kept_at f g c before place m low h is inside =
+    let was : Forest = Grow c h.ends place h.inner h.next in
+    let node : Forest = Grow c m place low h.next in
+    keeps_is f g (join h.passed was) (join h.passed node) h.is is
+    (keeps_join h.passed was node (keeps_node c h.ends m place h.inner low h.next h.next inside (keeps_all h.next)))
 
 pub put_at :
     (old new : Arena) (first c before place k : ℕ) (h : HasNode (forest_in old first) c before place)
@@ -67,6 +81,7 @@ put_at old new first c before place k h apart some write free spare =
       rising =
           rising_with f g c before place m h.inner h e.forest h.inner_rising (omega (arith, is, some));
       bag = more_at f g c before place m h.inner (replicate k (c ∷ [])) (bag f) h e.forest refl there;
+      kept = kept_at f g c before place m h.inner h e.forest (keeps_all h.inner);
     }
 
 pub put_below :
@@ -76,9 +91,10 @@ pub put_below :
     → IsPermutation (bag (forest_in mid under))
     (replicate k s ++ bag (forest_in old (node_at old.nodes.items place).first))
     → IsRising 0 (forest_in mid under)
+    → KeepsPlaces (forest_in old (node_at old.nodes.items place).first) (forest_in mid under)
     → new.nodes.items ≡ set mid.nodes.items (place - 1) (record (node_at mid.nodes.items place) { first = under })
     → new.free ≡ mid.free → new.spare ≡ mid.spare → IsPut old first new (replicate k (c ∷ s))
-put_below old mid new first c before place under k s h apart some moved same rising write free spare =
+put_below old mid new first c before place under k s h apart some moved same rising kept write free spare =
     let f = forest_in old first in
     let g = forest_in new first in
     let low = forest_in mid under in
@@ -101,20 +117,24 @@ put_below old mid new first c before place under k s h apart some moved same ris
       bag =
           more_at f g c before place h.ends low (replicate k (c ∷ s)) (bag f) h l.forest refl
           (below_more_inner c h.ends k s (bag h.inner) (bag low) there);
+      kept =
+          kept_at f g c before place h.ends low h l.forest
+          (subst (λ (x : Forest). KeepsPlaces x low) (apart_below old first c before place h apart).0 kept);
     }
 
 -- siblings with fewer ballots, where a node may have none
-pub record IsTaken (old : Arena) (first : ℕ) (new : Arena) (c before place : ℕ) (out : List (List ℕ)) : Type 0 where
+pub record IsTaken (old : Arena) (first : ℕ) (new : Arena) (c before place k : ℕ) (s : List ℕ) : Type 0 where
   pub moved : IsMoved old first new first
   pub node : HasNode (forest_in new first) c before place
-  pub bag : IsPermutation (bag (forest_in old first)) (out ++ bag (forest_in new first))
+  pub bag : IsPermutation (bag (forest_in old first)) (replicate k (c ∷ s) ++ bag (forest_in new first))
+  pub kept : KeepsOthers (c ∷ s) (forest_in old first) (forest_in new first)
 
 pub taken_at :
     (old new : Arena) (first c before place k : ℕ) (h : HasNode (forest_in old first) c before place)
     → IsApart old first → k ≤ h.ends
     → new.nodes.items ≡ set old.nodes.items (place - 1)
     (record (node_at old.nodes.items place) { ends = (node_at old.nodes.items place).ends - k })
-    → new.free ≡ old.free → new.spare ≡ old.spare → IsTaken old first new c before place (replicate k (c ∷ []))
+    → new.free ≡ old.free → new.spare ≡ old.spare → IsTaken old first new c before place k []
 taken_at old new first c before place k h apart held write free spare =
     let f = forest_in old first in
     let g = forest_in new first in
@@ -129,6 +149,7 @@ taken_at old new first c before place k h apart held write free spare =
       moved = e.moved;
       node = node_kept f g c before place m h.inner h e.forest h.inner_rising;
       bag = fewer_at f g c before place m h.inner (replicate k (c ∷ [])) h e.forest there;
+      kept = others_all (c ∷ []) f g (kept_at f g c before place m h.inner h e.forest (keeps_all h.inner));
     }
 
 pub taken_below :
@@ -138,14 +159,17 @@ pub taken_below :
     → IsPermutation (bag (forest_in old (node_at old.nodes.items place).first))
     (replicate k s ++ bag (forest_in mid under))
     → IsRising 0 (forest_in mid under)
+    → KeepsOthers s (forest_in old (node_at old.nodes.items place).first) (forest_in mid under)
     → new.nodes.items ≡ set mid.nodes.items (place - 1) (record (node_at mid.nodes.items place) { first = under })
     → new.free ≡ mid.free → new.spare ≡ mid.spare
-    → IsTaken old first new c before place (replicate k (c ∷ s))
-taken_below old mid new first c before place under k s h apart moved same rising write free spare =
+    → IsTaken old first new c before place k s
+taken_below old mid new first c before place under k s h apart moved same rising kept write free spare =
     let f = forest_in old first in
     let g = forest_in new first in
     let low = forest_in mid under in
-    let l : IsLaid old first new first (join h.passed (Grow c h.ends place low h.next)) =
+    let was : Forest = Grow c h.ends place h.inner h.next in
+    let node : Forest = Grow c h.ends place low h.next in
+    let l : IsLaid old first new first (join h.passed node) =
     led_below old mid new first c before place under h apart moved write free spare in
     let there : IsPermutation (bag h.inner) (replicate k s ++ bag low) =
     subst (λ (x : Forest). IsPermutation (bag x) (replicate k s ++ bag low))
@@ -156,4 +180,9 @@ taken_below old mid new first c before place under k s h apart moved same rising
       bag =
           fewer_at f g c before place h.ends low (replicate k (c ∷ s)) h l.forest
           (below_more_inner c h.ends k s (bag low) (bag h.inner) there);
+      kept =
+          others_is (c ∷ s) f g (join h.passed was) (join h.passed node) h.is l.forest
+          (others_join (c ∷ s) h.passed was node
+          (others_node c s h.ends h.ends place h.inner low h.next
+          (subst (λ (x : Forest). KeepsOthers s x low) (apart_below old first c before place h apart).0 kept)));
     }

@@ -5,6 +5,7 @@ ghost use Rattle.ranking_trie.specs.BallotBag.{count_of};
 ghost use Rattle.ranking_trie.specs.Places.{node_at, BeginsAt};
 ghost use Rattle.ranking_trie.specs.Siblings.{forest_of};
 ghost use Rattle.ranking_trie.specs.Arena.{forest_in, IsApart, IsMoved, HasNode};
+ghost use Rattle.ranking_trie.specs.Fronts.{place_on, IsFirm, KeepsPlaces, KeepsOthers};
 
 use crate::node::Node;
 use crate::places::find_place;
@@ -62,6 +63,13 @@ impl Arena {
         ensures { forest_of result ≡ forest_in self.now first }
     {
         Siblings::new(self.nodes(), first)
+    }
+
+    /// How many nodes there are, with those to spare.
+    pub(crate) fn len(&self) -> usize
+        ensures { result ≡ length self.now.nodes.items }
+    {
+        self.nodes.len()
     }
 
     /// How many nodes are to spare.
@@ -221,6 +229,7 @@ impl Arena {
         ensures moved { IsMoved self.old first self.new result.0 }
         ensures node { (before : ℕ) × HasNode (forest_in self.new result.0) c before result.1 }
         ensures bag { bag (forest_in self.new result.0) ≡ bag (forest_in self.old first) }
+        ensures kept { KeepsPlaces (forest_in self.old first) (forest_in self.new result.0) }
         ensures room { self.old.spare ≤ self.new.spare + 1 }
     {
         let (before, at) = find_place(self.nodes(), first, c);
@@ -240,6 +249,52 @@ impl Arena {
         ensures { HasNode (forest_in self.now first) c result.0 result.1 }
     {
         find_place(self.nodes(), first, c)
+    }
+
+    /// The place of a candidate's node among siblings, or 0.
+    fn seek(&self, first: u32, c: u16) -> u32
+        requires apart { IsApart self.now first }
+        requires number { 1 ≤ c }
+        requires rising { IsRising 0 (forest_in self.now first) }
+        ensures { 1 ≤ result → (before : ℕ) × HasNode (forest_in self.now first) c before result }
+    {
+        let (_, at) = find_place(self.nodes(), first, c);
+        if self.is_of(at, c) {
+            return at;
+        }
+        0
+    }
+
+    /// The place of the node of a candidate below that of another, or 0.
+    pub(crate) fn place_of_two(&self, first: u32, c: u16, d: u16) -> u32
+        requires apart { IsApart self.now first }
+        requires numbers { (1 ≤ c) × (1 ≤ d) }
+        requires rising { IsRising 0 (forest_in self.now first) }
+        ensures { 1 ≤ result → place_on 0 (c ∷ d ∷ []) (forest_in self.now first) ≡ result }
+    {
+        let at = self.seek(first, c);
+        if at == 0 {
+            return 0;
+        }
+        let below = self.node(at).first;
+        self.seek(below, d)
+    }
+
+    /// Whether a node keeps a ballot where ballots with a ranking that goes on below it are taken out.
+    pub(crate) fn is_firm(&self, place: u32) -> bool
+        requires some { 1 ≤ place }
+        requires within { place ≤ length self.now.nodes.items }
+        requires below { BeginsAt self.now.nodes.items (node_at self.now.nodes.items place).first }
+        ensures { result ≡ true → IsFirm self.now.nodes.items place }
+    {
+        let node = self.node(place);
+        if node.ends > 0 {
+            return true;
+        }
+        if node.first == 0 {
+            return false;
+        }
+        self.node(node.first).next > 0
     }
 
     /// Lets as many more ballots end at the node at a place.
@@ -304,6 +359,8 @@ impl Arena {
         ensures moved { IsMoved self.old first self.new result }
         ensures bag { bag (forest_in self.new result) ≡ bag (forest_in self.old first) }
         ensures rising { IsRising 0 (forest_in self.new result) }
+        ensures kept { (c : ℕ) → HasNode (forest_in self.old first) c before place →
+            KeepsOthers (c ∷ []) (forest_in self.old first) (forest_in self.new result) }
         ensures room { self.old.spare ≤ self.new.spare }
     {
         let node = self.node(place);

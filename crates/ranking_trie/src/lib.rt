@@ -6,6 +6,7 @@
 mod add;
 mod arena;
 mod count;
+mod fronts;
 mod laws;
 mod lines;
 mod no_memory;

@@ -11,6 +11,7 @@ ghost use Rattle.ranking_trie.specs.BallotBag.{AreInOrder, count_of, Holds};
 
 use crate::arena::Arena;
 use crate::count::count;
+use crate::fronts::Fronts;
 use crate::lines::{push_line, push_lines};
 use crate::{NoMemory, Siblings};
 use plain_ballots::{BallotLine, Ballots, Ranking, Steps};
@@ -30,6 +31,7 @@ pub struct Trie {
     first: u32,
     nodes: usize,
     arena: Arena,
+    fronts: Fronts,
 }
 
 impl Model for Trie {
@@ -37,6 +39,7 @@ impl Model for Trie {
     ghost use Rattle.ranking_trie.specs.Arena.{forest_in, IsApart};
     ghost use Rattle.ranking_trie.specs.BallotBag.{BallotBag, IsSoundBag};
     ghost use Rattle.ranking_trie.specs.Bag.{node_count, root_bag, IsRising};
+    ghost use Rattle.ranking_trie.specs.Fronts.{KnowsPlaces};
 
     ghost Value = { BallotBag };
 
@@ -50,7 +53,9 @@ impl Model for Trie {
         IsSoundBag t.candidates t.total (root_bag t.ends (forest_in t.arena t.first))
         × IsRising 0 (forest_in t.arena t.first)
         × (t.nodes ≡ node_count (forest_in t.arena t.first))
-        × IsApart t.arena t.first };
+        × IsApart t.arena t.first
+        × (t.fronts.candidates ≡ t.candidates)
+        × KnowsPlaces t.fronts (forest_in t.arena t.first) };
 }
 
 impl Trie {
@@ -67,6 +72,7 @@ impl Trie {
             first: 0,
             nodes: 0,
             arena: Arena::new(alloc),
+            fronts: Fronts::new(alloc, candidates),
         }
     }
 
@@ -77,7 +83,8 @@ impl Trie {
         ensures more { self.old.spare ≤ self.new.spare }
         ensures room { OnOk result (ranks ≤ self.new.spare) }
     {
-        self.arena.reserve(ranks)
+        self.arena.reserve(ranks)?;
+        self.fronts.reserve(self.alloc, self.arena.len())
     }
 
     /// The number of all ballots, empty ones included.
@@ -122,9 +129,14 @@ impl Trie {
     {
         let nodes = self.nodes + self.arena.spare();
         let ranks = line.ranking.ranks();
-        let (ends, first) = self
-            .arena
-            .put(self.ends, self.first, ranks, line.count, steps);
+        let (ends, first) = self.fronts.put(
+            &mut self.arena,
+            self.ends,
+            self.first,
+            ranks,
+            line.count,
+            steps,
+        );
         self.ends = ends;
         self.first = first;
         self.nodes = nodes - self.arena.spare();
@@ -160,9 +172,14 @@ impl Trie {
     {
         let nodes = self.nodes + self.arena.spare();
         let ranks = line.ranking.ranks();
-        let (ends, first) = self
-            .arena
-            .take_out(self.ends, self.first, ranks, line.count, steps);
+        let (ends, first) = self.fronts.take_out(
+            &mut self.arena,
+            self.ends,
+            self.first,
+            ranks,
+            line.count,
+            steps,
+        );
         self.ends = ends;
         self.first = first;
         self.nodes = nodes - self.arena.spare();
@@ -196,6 +213,7 @@ impl Trie {
             first: self.first,
             nodes: self.nodes,
             arena: self.arena.copy(self.alloc)?,
+            fronts: Fronts::new(self.alloc, self.candidates),
         })
     }
 

@@ -2,4 +2,6 @@
 #![tactic(auto)]
 
 #[cfg(test)]
+mod table;
+#[cfg(test)]
 mod trie;

@@ -6,9 +6,11 @@ use Rattle.ranking_trie.specs.declared.node.Node.{Node}
 use Rattle.ranking_trie.specs.Arena.{forest_in, IsApart, IsMoved}
 use Rattle.ranking_trie.specs.Bag.{bag, IsRising}
 use Rattle.ranking_trie.specs.Forest.{Forest}
+use Rattle.ranking_trie.specs.Fronts.{KeepsPlaces}
 use Rattle.ranking_trie.specs.Places.{node_at}
 use Rattle.ranking_trie.proofs.ArenaLemmas.{apart_below}
 use Rattle.ranking_trie.proofs.ChangeLemmas.{moved_on, ends_few}
+use Rattle.ranking_trie.proofs.PathLemmas.{keeps_on}
 use Rattle.ranking_trie.proofs.StepLemmas.{own_ends, last_rank, IsPut, put_at, put_below}
 use Rattle.ranking_trie.proofs.arena.Arena.+add.Goals as goal
 
@@ -45,6 +47,9 @@ returns-then-at-ranks g t c =
           (subst (λ (b : List (List ℕ)). IsPermutation (bag (forest_in new p.result.0)) (replicate k (r ∷ []) ++ b))
           p.ensures.bag put.bag);
       rising = put.rising;
+      kept =
+          keeps_on (forest_in c.args.self.now c.args.first) (forest_in p.new.self p.result.0) (forest_in new p.result.0)
+          p.ensures.kept put.kept;
       room = omega arith;
       cost = omega arith;
     }
@@ -102,8 +107,10 @@ returns g t c =
     (subst (λ (q : ℕ). IsMoved p.new.self q mid c.add-below.result) first c.add-below.ensures.moved)
     (subst (λ (q : ℕ). IsPermutation (bag (forest_in mid c.add-below.result))
     (replicate k s ++ bag (forest_in p.new.self q))) first c.add-below.ensures.bag)
-    c.add-below.ensures.rising c.lead_down.ensures.nodes c.lead_down.ensures.free
-    c.lead_down.ensures.spare in
+    c.add-below.ensures.rising
+    (subst (λ (q : ℕ). KeepsPlaces (forest_in p.new.self q) (forest_in mid c.add-below.result)) first
+    c.add-below.ensures.kept)
+    c.lead_down.ensures.nodes c.lead_down.ensures.free c.lead_down.ensures.spare in
     record {
       moved = moved_on c.args.self.now p.new.self new c.args.first p.result.0 p.result.0 p.ensures.moved put.moved;
       bag =
@@ -112,6 +119,9 @@ returns g t c =
           (subst (λ (b : List (List ℕ)). IsPermutation (bag (forest_in new p.result.0)) (replicate k (r ∷ s) ++ b))
           p.ensures.bag put.bag);
       rising = put.rising;
+      kept =
+          keeps_on (forest_in c.args.self.now c.args.first) (forest_in p.new.self p.result.0) (forest_in new p.result.0)
+          p.ensures.kept put.kept;
       room = omega arith;
       cost = omega arith;
     }

@@ -7,10 +7,12 @@ use Rattle.ranking_trie.specs.Arena.{forest_in, IsApart, IsMoved}
 use Rattle.ranking_trie.specs.Bag.{bag, IsRising}
 use Rattle.ranking_trie.specs.BallotBag.{count_of}
 use Rattle.ranking_trie.specs.Forest.{Forest}
+use Rattle.ranking_trie.specs.Fronts.{KeepsOthers}
 use Rattle.ranking_trie.specs.Places.{node_at}
 use Rattle.ranking_trie.proofs.ArenaLemmas.{apart_below}
 use Rattle.ranking_trie.proofs.ChangeLemmas.{moved_on}
 use Rattle.ranking_trie.proofs.CountLemmas.{count_of-end, count_of-inside}
+use Rattle.ranking_trie.proofs.PathLemmas.{others_on}
 use Rattle.ranking_trie.proofs.StepLemmas.{own_ends, last_rank, count_on, IsTaken, taken_at, taken_below}
 use Rattle.ranking_trie.proofs.arena.Arena.+remove.Goals as goal
 
@@ -70,7 +72,7 @@ returns-then-at-ranks g t c =
     let all = count_on ranks at p.result.0 p.result.1 f p.ensures c.requires.ranked in
     let end = count_of-end ranks (at + 1) p.ensures.ends p.ensures.inner (omega arith) in
     let last : drop at ranks ≡ r ∷ [] = last_rank ranks at c.requires.ranked (omega arith) in
-    let out : IsTaken old c.args.first mid r p.result.0 p.result.1 (replicate k (r ∷ [])) =
+    let out : IsTaken old c.args.first mid r p.result.0 p.result.1 k [] =
     taken_at old mid c.args.first r p.result.0 p.result.1 k p.ensures c.requires.apart
     (omega (arith, all, end, c.requires.held)) c.end_fewer.ensures.nodes c.end_fewer.ensures.free
     c.end_fewer.ensures.spare in
@@ -82,6 +84,10 @@ returns-then-at-ranks g t c =
           (subst (λ (b : List (List ℕ)). IsPermutation (bag f) (replicate k (r ∷ []) ++ b))
           (sym c.drop_idle.ensures.bag) out.bag);
       rising = c.drop_idle.ensures.rising;
+      kept =
+          subst (λ (l : List ℕ). KeepsOthers l f (forest_in new c.drop_idle.result)) (sym last)
+          (others_on r [] f (forest_in mid c.args.first) (forest_in new c.drop_idle.result) out.kept
+          (c.drop_idle.ensures.kept r out.node));
       room = omega arith;
       cost = omega arith;
     }
@@ -142,8 +148,10 @@ drop_idle-requires-2 g t c =
     (subst (λ (q : ℕ). IsMoved old q mid c.remove-below.result) first c.remove-below.ensures.moved)
     (subst (λ (q : ℕ). IsPermutation (bag (forest_in old q))
     (replicate c.args.count (drop (at + 1) ranks) ++ bag (forest_in mid c.remove-below.result))) first
-    c.remove-below.ensures.bag) c.remove-below.ensures.rising c.lead_down.ensures.nodes
-    c.lead_down.ensures.free c.lead_down.ensures.spare in
+    c.remove-below.ensures.bag) c.remove-below.ensures.rising
+    (subst (λ (q : ℕ). KeepsOthers (drop (at + 1) ranks) (forest_in old q) (forest_in mid c.remove-below.result)) first
+    c.remove-below.ensures.kept)
+    c.lead_down.ensures.nodes c.lead_down.ensures.free c.lead_down.ensures.spare in
     record { apart = out.moved.apart; node = (get_or ranks at 0, out.node) }
 
 pub returns : goal.returns
@@ -162,14 +170,16 @@ returns g t c =
     let next : drop at ranks ≡ r ∷ s = drop_more ranks at 0 c.requires.ranked in
     let first : c.node-below.result.first ≡ (node_at old.nodes.items p.result.1).first =
     ap (λ (x : Node). x.first) c.node-below.ensures in
-    let out : IsTaken old c.args.first led r p.result.0 p.result.1 (replicate k (r ∷ s)) =
+    let out : IsTaken old c.args.first led r p.result.0 p.result.1 k s =
     taken_below old mid led c.args.first r p.result.0 p.result.1 c.remove-below.result k s p.ensures
     c.requires.apart
     (subst (λ (q : ℕ). IsMoved old q mid c.remove-below.result) first c.remove-below.ensures.moved)
     (subst (λ (q : ℕ). IsPermutation (bag (forest_in old q))
     (replicate k s ++ bag (forest_in mid c.remove-below.result))) first c.remove-below.ensures.bag)
-    c.remove-below.ensures.rising c.lead_down.ensures.nodes c.lead_down.ensures.free
-    c.lead_down.ensures.spare in
+    c.remove-below.ensures.rising
+    (subst (λ (q : ℕ). KeepsOthers s (forest_in old q) (forest_in mid c.remove-below.result)) first
+    c.remove-below.ensures.kept)
+    c.lead_down.ensures.nodes c.lead_down.ensures.free c.lead_down.ensures.spare in
     record {
       moved = moved_on old led new c.args.first c.args.first c.drop_idle-2.result out.moved c.drop_idle-2.ensures.moved;
       bag =
@@ -178,6 +188,10 @@ returns g t c =
           (subst (λ (b : List (List ℕ)). IsPermutation (bag f) (replicate k (r ∷ s) ++ b))
           (sym c.drop_idle-2.ensures.bag) out.bag);
       rising = c.drop_idle-2.ensures.rising;
+      kept =
+          subst (λ (l : List ℕ). KeepsOthers l f (forest_in new c.drop_idle-2.result)) (sym next)
+          (others_on r s f (forest_in led c.args.first) (forest_in new c.drop_idle-2.result) out.kept
+          (c.drop_idle-2.ensures.kept r out.node));
       room = omega arith;
       cost = omega arith;
     }

@@ -66,5 +66,6 @@ returns c =
         subst (λ (r : ℕ). HasNode (forest_in new c.lead.result) c.args.c before r) (sym place) h.node,
       );
       bag = h.bag;
+      kept = h.kept;
       room = omega arith;
     }

@@ -1,4 +1,4 @@
-use Rattle.std.proofs.Common.{◌≡◌, ℕ, ◌+◌, ◌≤◌, List, [], ◌++◌, length, replicate, arith, ap, sym, subst}
+use Rattle.std.proofs.Common.{◌≡◌, ℕ, ◌+◌, ◌≤◌, List, [], ◌++◌, length, replicate, arith, ap, sym, subst, ◌∙◌}
 use Rattle.std.specs.List.Sorted.{IsPermutation}
 use Rattle.plain_ballots.specs.Ranking.{IsRanking}
 use Rattle.ranking_trie.specs.Arena.{forest_in}
@@ -12,7 +12,7 @@ invariant_of-self g c =
     let t = c.self.inside in
     let n = t.candidates in
     let old = replicate t.ends [] ++ bag (forest_in t.arena t.first) in
-    let new = replicate c.put-ends.result.0 [] ++ bag (forest_in c.put-ends.new.self c.put-ends.result.1) in
+    let new = replicate c.put-ends.result.0 [] ++ bag (forest_in c.put-ends.new.arena c.put-ends.result.1) in
     let line = c.args.line.now in
     let e : old ≡ c.args.self.now.ballots = ap (λ (t : BallotBag). t.ballots) c.self.view_is in
     let size : length old ≡ length c.args.self.now.ballots = ap length e in
@@ -26,6 +26,8 @@ invariant_of-self g c =
       c.put-ends.ensures.rising,
       omega (arith, c.put-ends.ensures.nodes, c.self.invariant.2, c.self.invariant.3.counted),
       c.put-ends.ensures.apart,
+      c.put-ends.ensures.candidates ∙ c.self.invariant.4,
+      c.put-ends.ensures.known,
     )
 
 pub overflow_add-nodes : goal.overflow_add-nodes

@@ -1,7 +1,9 @@
 use Rattle.std.proofs.Common.{[], ◌++◌, replicate, ap, sym, subst, ◌∙◌}
+use Rattle.ranking_trie.specs.Arena.{forest_in}
 use Rattle.ranking_trie.specs.Bag.{bag, node_count, IsRising}
 use Rattle.ranking_trie.specs.BallotBag.{IsSoundBag}
 use Rattle.ranking_trie.specs.Forest.{Forest}
+use Rattle.ranking_trie.proofs.FrontLemmas.{nothing_known}
 use Rattle.ranking_trie.proofs.SpareLemmas.{left_out}
 use Rattle.ranking_trie.proofs.trie.Trie.copy.Goals as goal
 
@@ -15,4 +17,7 @@ invariant_of-result c =
       subst (IsRising 0) (sym kept.forest) c.self.invariant.1,
       c.self.invariant.2 ∙ ap node_count (sym kept.forest),
       kept.apart,
+      c.new.ensures.candidates,
+      nothing_known c.new.result c.new.ensures.empty
+          (forest_in c.in_ok-copy.field-0 t.first),
     )

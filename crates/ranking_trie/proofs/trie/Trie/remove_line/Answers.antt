@@ -1,4 +1,4 @@
-use Rattle.std.proofs.Common.{◌≡◌, ℕ, ◌≤◌, List, [], ◌++◌, replicate, arith, ap, sym, subst}
+use Rattle.std.proofs.Common.{◌≡◌, ℕ, ◌≤◌, List, [], ◌++◌, replicate, arith, ap, sym, subst, ◌∙◌}
 use Rattle.std.specs.List.{All}
 use Rattle.std.specs.List.Sorted.{IsPermutation}
 use Rattle.ranking_trie.specs.Arena.{forest_in}
@@ -12,7 +12,7 @@ pub invariant_of-self : goal.invariant_of-self
 invariant_of-self g c =
     let t = c.self.inside in
     let old = replicate t.ends [] ++ bag (forest_in t.arena t.first) in
-    let new = replicate c.take_out-ends.result.0 [] ++ bag (forest_in c.take_out-ends.new.self c.take_out-ends.result.1) in
+    let new = replicate c.take_out-ends.result.0 [] ++ bag (forest_in c.take_out-ends.new.arena c.take_out-ends.result.1) in
     let line = c.args.line.now in
     let same : IsPermutation old (replicate line.count line.ranking ++ new) =
     subst (λ (r : List ℕ). IsPermutation old (replicate line.count r ++ new)) c.ranks-ranks.ensures.value
@@ -21,6 +21,8 @@ invariant_of-self g c =
       c.take_out-ends.ensures.rising,
       omega (arith, c.take_out-ends.ensures.nodes, c.self.invariant.2, c.self.invariant.3.counted),
       c.take_out-ends.ensures.apart,
+      c.take_out-ends.ensures.candidates ∙ c.self.invariant.4,
+      c.take_out-ends.ensures.known,
     )
 
 pub take_out-ends-requires-clause-numbers : goal.take_out-ends-requires-clause-numbers
@@ -34,9 +36,8 @@ take_out-ends-requires-clause-numbers g c =
     let sound = c.self.invariant.0 in
     let ranking =
     held_ranking t.candidates t.total line.count line.ranking own sound c.requires.some held in
-    let few = sound.few_candidates in
-    subst (All (λ r. (1 ≤ r) × (r ≤ 250))) (sym c.ranks-ranks.ensures.value)
-    (λ k d inside. let number = ranking.numbers k d inside in (number.0, omega (arith, number.1)))
+    subst (All (λ r. (1 ≤ r) × (r ≤ t.fronts.candidates))) (sym c.ranks-ranks.ensures.value)
+    (subst (λ (n : ℕ). All (λ r. (1 ≤ r) × (r ≤ n)) line.ranking) (sym c.self.invariant.4) ranking.numbers)
 
 pub overflow_add-nodes : goal.overflow_add-nodes
 overflow_add-nodes g c =
