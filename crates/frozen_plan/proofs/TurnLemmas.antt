@@ -1,12 +1,12 @@
 -- Lines that are dealt to one shard, turn by turn, and the plans of all shards.
 use Rattle.std.proofs.Common.{◌≡◌, ◌≢◌, ℕ, suc, zero, ◌+◌, ◌*◌, ◌-◌, ◌/◌, ◌%◌, ◌≤◌, ◌<◌, List, [], ◌∷◌, ◌++◌}
-use Rattle.std.proofs.Common.{All, Option, Some, IfSome, length, map, take, drop, mod-lt, get_or, replicate}
-use Rattle.std.proofs.Common.{slice_index_or, ⊎_elim, arith, sym, ap, ◌∙◌, subst}
+use Rattle.std.proofs.Common.{All, length, take, mod-lt, get_or, replicate}
+use Rattle.std.proofs.Common.{⊎_elim, arith, sym, ap, ◌∙◌, subst}
 use Rattle.std.specs.List.Sorted.{IsPermutation}
 use Rattle.std.proofs.Math.Nat.{mod-add-div', mod-eq_of_lt}
 use Rattle.std.proofs.lemmas.Nat.{mod-mul-add}
 use Rattle.std.proofs.lemmas.Bool.Decides.{leb_tells}
-use Rattle.std.proofs.lemmas.List.{append-nil, length-append, get_or_default, get_or-map, length-map, take_all, take_at}
+use Rattle.std.proofs.lemmas.List.{append-nil, length-append, get_or_default, get_or-map, length-map, take_all}
 use Rattle.std.proofs.lemmas.List.Elements.{All-nil, All-push}
 use Rattle.std.proofs.lemmas.List.Sorted.{IsPermutation-trans}
 use Rattle.plain_ballots.specs.declared.ballot_line.BallotLine.{BallotLine}
@@ -14,7 +14,7 @@ use Rattle.plain_ballots.specs.Ballots.{BallotList, plain}
 use Rattle.packed_ballots.specs.declared.packed_line.PackedLine.{PackedLine}
 use Rattle.packed_ballots.specs.Packed.{rest_of, rests, line_of, lines_of, front_of, IsKept, IsPacked}
 use Rattle.frozen_plan.specs.Dealing.{share, AreOfShares}
-use Rattle.frozen_plan.specs.Dealt.{IsDealt, AreOfShard, IsOfShare, AreOfTurns}
+use Rattle.frozen_plan.specs.Dealt.{IsDealt, AreOfShard, IsOfShare, LinesToDeal, AreOfTurns}
 use Rattle.frozen_plan.specs.Plan.{PlanRows, plan_ballots}
 use Rattle.frozen_plan.proofs.RunLemmas.{nothing}
 use Rattle.frozen_plan.proofs.DealingLemmas.{dealt_elsewhere, share_more, one_plan_more}
@@ -176,16 +176,6 @@ one_made candidates n lines plans now old left one plan before next more same ba
           (was.dealt (suc s) d (omega (arith, inside)));
     }
 
-some_at :
-    (candidates n : ℕ) (lines : List BallotLine) (plans : List PlanRows)
-    → ((turn : ℕ) (d : Option PlanRows) → turn < length (map Some plans)
-    → IfSome (slice_index_or (map Some plans) turn d) (IsOfShare candidates n (turn + 1) lines))
-    → (turn : ℕ) (d : PlanRows) → turn < length plans → IsOfShare candidates n (turn + 1) lines (get_or plans turn d)
-some_at candidates n lines plans made turn d inside =
-    subst (λ (p : Option PlanRows). IfSome p (IsOfShare candidates n (turn + 1) lines))
-    (get_or-map Some plans turn d (Some d) inside)
-    (made turn (Some d) (omega (arith, inside, length-map plans Some)))
-
 are_of_shares : (candidates n s : ℕ) (lines : List BallotLine) (plans : List PlanRows)
     → ((k : ℕ) (d : PlanRows) → k < length plans → IsOfShare candidates n (s + k) lines (get_or plans k d))
     → AreOfShares n s lines plans
@@ -198,39 +188,25 @@ are_of_shares candidates n s lines (plan ∷ plans) made = (
       (made (suc k) d (omega (arith, inside)))),
 )
 
+-- the same by other names
+pub same_turns :
+    {deal same : LinesToDeal} {plans list : List PlanRows} → deal ≡ same → list ≡ plans → AreOfTurns deal plans
+    → AreOfTurns same list
+same_turns {deal} {same} {plans} {list} is listed made =
+    subst (λ (d : LinesToDeal). AreOfTurns d list) is (subst (AreOfTurns deal) (sym listed) made)
+
 -- the plans of all shards, where each is that of its turn
-pub record AreAllDealt (candidates n : ℕ) (lines : List BallotLine) (plans : List PlanRows) : Type 0 where
-  pub as_many : length plans ≡ n
-  pub of_all : All (λ plan. plan.candidates ≡ candidates) plans
-  pub shares : AreOfShares n 1 lines plans
+module _ (deal : LinesToDeal) (plans : List PlanRows) (made : AreOfTurns deal plans) where
+  each_of :
+      (turn : ℕ) (d : PlanRows) → turn < length plans
+      → IsOfShare deal.candidates deal.shards (turn + 1) deal.lines (get_or plans turn d)
+  each_of turn d inside = made.each turn d (omega (arith, inside, made.as_many))
 
-turns_are_shares :
-    (candidates n : ℕ) (lines : List BallotLine) (plans : List PlanRows) (new : List (Option PlanRows))
-    → map Some plans ≡ new → length new ≡ n → AreOfTurns candidates lines new
-    → AreAllDealt candidates n lines plans
-turns_are_shares candidates n lines plans new is as_many made =
-    let size : length plans ≡ n = sym (length-map plans Some) ∙ (ap length is ∙ as_many) in
-    let each :
-    (turn : ℕ) (d : Option PlanRows) → turn < length (map Some plans)
-    → IfSome (slice_index_or (map Some plans) turn d) (IsOfShare candidates n (turn + 1) lines) =
-    subst (λ (l : List (Option PlanRows)). (turn : ℕ) (d : Option PlanRows) → turn < length l
-    → IfSome (slice_index_or l turn d) (IsOfShare candidates n (turn + 1) lines)) (sym is)
-    (subst (λ (m : ℕ). (turn : ℕ) (d : Option PlanRows) → turn < length new
-    → IfSome (slice_index_or new turn d) (IsOfShare candidates m (turn + 1) lines)) as_many made) in
-    let all = some_at candidates n lines plans each in
-    record {
-      as_many = size;
-      of_all = λ k d inside. (all k d inside).of_all;
-      shares =
-          are_of_shares candidates n 1 lines plans (λ k d inside.
-          subst (λ (t : ℕ). IsOfShare candidates n t lines (get_or plans k d)) (omega arith)
-          (all k d inside));
-    }
+  pub turns_of_all : All (λ plan. plan.candidates ≡ deal.candidates) plans
+  turns_of_all turn d inside = (each_of turn d inside).of_all
 
--- what all workers made, in a list that had room for it
-pub all_dealt_by :
-    (candidates n len : ℕ) (lines : List BallotLine) (plans : List PlanRows)
-    (old new : List (Option PlanRows)) → map Some plans ≡ take len (new ++ drop (length new) old)
-    → len ≡ length new → length new ≡ n → AreOfTurns candidates lines new → AreAllDealt candidates n lines plans
-all_dealt_by candidates n len lines plans old new is size as_many made =
-    turns_are_shares candidates n lines plans new (is ∙ take_at new (drop (length new) old) len (sym size)) as_many made
+  pub turns_are_shares : AreOfShares deal.shards 1 deal.lines plans
+  turns_are_shares =
+      are_of_shares deal.candidates deal.shards 1 deal.lines plans (λ turn d inside.
+      subst (λ (t : ℕ). IsOfShare deal.candidates deal.shards t deal.lines (get_or plans turn d)) (omega arith)
+      (each_of turn d inside))

@@ -1,5 +1,5 @@
 -- Shares to which lines were dealt.
-use Rattle.std.specs.Prelude.{◌≡◌, ℕ, ◌+◌, ◌<◌, List, [], Option, All, IfSome, length, slice_index_or, IsPermutation}
+use Rattle.std.specs.Prelude.{◌≡◌, ℕ, ◌+◌, ◌<◌, List, [], All, length, slice_index_or, IsPermutation}
 use Rattle.plain_ballots.specs.declared.ballot_line.BallotLine.{BallotLine}
 use Rattle.plain_ballots.specs.Ballots.{BallotList, plain}
 use Rattle.packed_ballots.specs.declared.packed_line.PackedLine.{PackedLine}
@@ -41,7 +41,9 @@ pub record IsOfShare (candidates n s : ℕ) (lines : List BallotLine) (plan : Pl
   pub of_all : plan.candidates ≡ candidates
   pub ballots : IsPermutation (plan_ballots plan.rows) (dealing.share n s 0 lines)
 
--- each plan that was made is that of its shard
-abbrev pub AreOfTurns : (candidates : ℕ) → List BallotLine → List (Option PlanRows) → Type 0
-AreOfTurns candidates lines made =
-    (turn : ℕ) (d : Option PlanRows) → turn < length made → IfSome (slice_index_or made turn d) (IsOfShare candidates (length made) (turn + 1) lines)
+-- a plan of the share of each shard
+pub record AreOfTurns (deal : LinesToDeal) (plans : List PlanRows) : Type 0 where
+  pub as_many : length plans ≡ deal.shards
+  pub each :
+      (turn : ℕ) (d : PlanRows) → turn < deal.shards
+      → IsOfShare deal.candidates deal.shards (turn + 1) deal.lines (slice_index_or plans turn d)

@@ -51,6 +51,12 @@ impl Deal {
         }
     }
 
+    pub(crate) fn shards(&self) -> u32
+        ensures { result ≡ self.now.shards }
+    {
+        self.shards
+    }
+
     /// The plan of the shard at a turn from 0.
     pub(crate) fn plan_of(&self, alloc: Global, turn: usize) -> Result<Plan, NoMemory>
         requires { turn < self.now.shards }

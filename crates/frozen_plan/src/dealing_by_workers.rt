@@ -1,5 +1,5 @@
 // Packed ballots dealt out among shards, and the plans of what each gets, made by several workers.
-ghost use Rattle.std.specs.Prelude.{◌≡◌, ◌+◌, ◌<◌, ◌≤◌, All, IfOk, IfSome, Some, length, map, vec_len, IsPermutation};
+ghost use Rattle.std.specs.Prelude.{◌≡◌, ◌+◌, ◌<◌, ◌≤◌, All, IfOk, IfSome, length, IsPermutation};
 ghost use Rattle.plain_ballots.specs.declared.limits.TheConstants.{MOST_BALLOTS};
 ghost use Rattle.plain_ballots.specs.Ballots.{plain};
 ghost use Rattle.frozen_plan.specs.Dealing.{AreOfShares};
@@ -10,8 +10,8 @@ use crate::deal::Deal;
 use crate::{NoMemory, Plan, Plans};
 use packed_ballots::PackedBallots;
 use plain_ballots::lines_stand_for_ballots;
+use shared_work::made_by_workers;
 use std::alloc::Global;
-use std::thread;
 use std::thread::Threads;
 
 /// Of fewer lines than these the caller's thread makes all plans: threads cost more than they bring.
@@ -40,55 +40,28 @@ impl Plans {
         lines_stand_for_ballots();
         let workers = if packed.len() < MANY { 1 } else { workers };
         let deal = Deal::of(packed, shards);
-        let mut made = none_made(alloc, shards)?;
-        make_plans(rt, alloc, &deal, workers, made.as_mut_slice());
-        let plans = all_made(alloc, made)?;
-        Ok(plans)
+        let Some(plans) = plans_of(rt, alloc, &deal, workers) else {
+            return Err(NoMemory);
+        };
+        Ok(Plans::of(plans))
     }
 }
 
-/// No plan yet for any of so many shards.
-fn none_made(alloc: Global, shards: u32) -> Result<Vec<Option<Plan>>, NoMemory>
-    ensures { IfOk result (λ made. vec_len made ≡ shards) }
-{
-    let mut made = Vec::new(alloc);
-    for i in 0..shards {
-        made.push(None)?;
-    }
-    Ok(made)
-}
-
-/// Makes the plan of each shard, where there is memory for it, by at most so many workers.
-fn make_plans<R: Threads + Sync>(
+/// The plan of each shard, unless memory was wanted for one, by at most so many workers.
+fn plans_of<R: Threads + Sync>(
     rt: &R,
     alloc: Global,
     deal: &Deal,
     workers: u32,
-    made: &mut [Option<Plan>],
-)
-    requires workers { 1 ≤ workers }
-    requires shards { length made.old ≡ deal.now.shards }
-    ensures as_many { length made.new ≡ length made.old }
-    ensures made { AreOfTurns deal.now.candidates deal.now.lines made.new }
+) -> Option<Vec<Plan>>
+    requires { 1 ≤ workers }
+    ensures { IfSome result (λ plans. AreOfTurns deal.now plans.items) }
 {
-    let make = |turn: usize, plan: &mut Option<Plan>|
+    let shards = deal.shards();
+    let make = |turn: usize| -> Option<Plan>
         requires { turn < deal.now.shards }
-        ensures { IfSome plan.exit.now (IsOfShare deal.entry.now.candidates deal.entry.now.shards (turn + 1) deal.entry.now.lines) }
-    { *plan = deal.plan_of(alloc, turn).ok() };
-    thread::for_each_mut(rt, made, workers as usize, &make);
-}
-
-/// The plans of all shards, unless one was not made.
-fn all_made(alloc: Global, mut made: Vec<Option<Plan>>) -> Result<Plans, NoMemory>
-    ensures { IfOk result (λ plans. map Some plans ≡ made.items) }
-{
-    let mut plans = Plans::new(alloc);
-    'plans: while let Some(plan) = made.pop() {
-        let Some(plan) = plan else {
-            return Err(NoMemory);
-        };
-        plans.push(plan)?;
-    }
-    plans.reverse();
-    Ok(plans)
+        ensures { IfSome result (IsOfShare deal.entry.now.candidates deal.entry.now.shards (turn + 1) deal.entry.now.lines) }
+    { deal.plan_of(alloc, turn).ok() };
+    let plans = made_by_workers(rt, alloc, workers, shards as usize, &make)?;
+    Some(plans)
 }

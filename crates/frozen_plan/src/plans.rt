@@ -30,6 +30,13 @@ impl Plans {
         }
     }
 
+    /// The plans of a list, in its order.
+    pub fn of(list: Vec<Plan>) -> Plans
+        ensures { result ≡ list.items }
+    {
+        Plans { list }
+    }
+
     /// Puts a plan behind the others.
     pub fn push(&mut self, item: Plan) -> Result<(), PushBack<Plan>>
         ensures ok { OnOk result (self.new ≡ self.old ++ item ∷ []) }

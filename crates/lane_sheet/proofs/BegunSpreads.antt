@@ -1,5 +1,6 @@
--- How distributions are begun, one after another.
+-- How distributions are made of lanes that were begun, one after another.
 use Rattle.std.proofs.Common.{◌≡◌, ℕ, ◌^◌, ◌≤◌, List, [], ◌∷◌, ◌++◌, length, map, All, sym, ap, ◌∙◌, subst}
+use Rattle.std.specs.List.{AllZip}
 use Rattle.std.proofs.lemmas.List.{append-nil, append_assoc, map-append}
 use Rattle.std.proofs.lemmas.List.Elements.{All-nil, All-head, All-tail, All-push}
 use denote.Ref.{MutBor}
@@ -9,7 +10,10 @@ use Rattle.vote_spread.specs.declared.lanes.Lanes.{Lanes}
 use Rattle.vote_spread.specs.declared.plan_spread.PlanSpread.{PlanSpread}
 use Rattle.vote_spread.specs.Runs.{RunsLanes, CanSpread}
 use Rattle.frozen_plan.specs.Plan.{PlanRows, all_ballots}
+use Rattle.vote_spread.specs.Lanes.{LanesSeen}
+use Rattle.lane_sheet.specs.Begun.{AreLanesOf}
 use Rattle.lane_sheet.specs.Plans.{CanBeCounted}
+use Rattle.lane_sheet.proofs.BegunLanes.{AreWhole, lanes_ballots, all_whole, same_ballots}
 
 -- a distribution of so many candidates' ballots that this runs
 pub record IsBegunBy {P : ℕ} {F : Type 0} (candidates : ℕ) (run : F) (s : PlanSpread P F) : Type 0 where
@@ -35,58 +39,60 @@ can_spread {P} calls candidates run s runs begun = record {
   runs = subst (RunsLanes calls (10 ^ P)) (sym begun.run_is) runs;
 }
 
--- these distributions are begun, and those of these lists of plans are left
+-- these distributions are begun, and these lanes are left, of all ballots of these lists of plans together
 pub record AreBegunBy {P : ℕ} {F : Type 0} (candidates : ℕ) (run : F) (lists : List (List PlanRows))
-    (spreads : List (PlanSpread P F)) (left : List (List PlanRows)) : Type 0 where
-  pub whole : map spread_ballots spreads ++ map all_ballots left ≡ map all_ballots lists
+    (spreads : List (PlanSpread P F)) (left : List LanesSeen) : Type 0 where
+  pub whole : map spread_ballots spreads ++ map lanes_ballots left ≡ map all_ballots lists
   pub each : All (IsBegunBy candidates run) spreads
-  pub left_of_all : All (CanBeCounted candidates) left
+  pub left_whole : All (AreWhole (10 ^ P) candidates) left
 
 pub begun_none :
     {P : ℕ} {F : Type 0} (candidates : ℕ) (run : F) (lists : List (List PlanRows))
-    (spreads : List (PlanSpread P F)) (left : List (List PlanRows))
-    → spreads ≡ [] → left ≡ lists → All (CanBeCounted candidates) lists
-    → AreBegunBy candidates run lists spreads left
-begun_none candidates run lists spreads left none is all = record {
-  whole = λ i. map spread_ballots (none i) ++ map all_ballots (is i);
+    (spreads : List (PlanSpread P F)) (lanes left : List LanesSeen)
+    → spreads ≡ [] → left ≡ lanes → AllZip (AreLanesOf (10 ^ P) candidates) lists lanes
+    → All (CanBeCounted candidates) lists → AreBegunBy candidates run lists spreads left
+begun_none {P} candidates run lists spreads lanes left none is of all = record {
+  whole =
+      (λ i. map spread_ballots (none i) ++ map lanes_ballots (is i)) ∙ same_ballots (10 ^ P) candidates lists lanes of;
   each = subst (All (IsBegunBy candidates run)) (sym none) (All-nil (IsBegunBy candidates run));
-  left_of_all = subst (All (CanBeCounted candidates)) (sym is) all;
+  left_whole = subst (All (AreWhole (10 ^ P) candidates)) (sym is) (all_whole (10 ^ P) candidates lists lanes of all);
 }
 
 pub begun_more :
     {P : ℕ} {F : Type 0} (candidates : ℕ) (run : F) (lists : List (List PlanRows))
-    (spreads spreads' : List (PlanSpread P F)) (left rest : List (List PlanRows))
-    (plans : List PlanRows) (s : PlanSpread P F) → AreBegunBy candidates run lists spreads left → left ≡ plans ∷ rest
-    → spreads' ≡ spreads ++ s ∷ [] → s.lanes.ballots ≡ all_ballots plans → IsBegunBy candidates run s
+    (spreads spreads' : List (PlanSpread P F)) (left rest : List LanesSeen)
+    (lanes : LanesSeen) (s : PlanSpread P F) → AreBegunBy candidates run lists spreads left → left ≡ lanes ∷ rest
+    → spreads' ≡ spreads ++ s ∷ [] → s.lanes.ballots ≡ lanes.ballots → IsBegunBy candidates run s
     → AreBegunBy candidates run lists spreads' rest
-begun_more candidates run lists spreads spreads' left rest plans s so_far is put ballots begun =
+begun_more {P} candidates run lists spreads spreads' left rest lanes s so_far is put ballots begun =
     record {
       whole =
-          ap (λ (l : List (PlanSpread _ _)). map spread_ballots l ++ map all_ballots rest) put
-          ∙ (ap (λ (l : List (List (List ℕ))). l ++ map all_ballots rest) (map-append spread_ballots spreads (s ∷ []))
-          ∙ (append_assoc (map spread_ballots spreads) (s.lanes.ballots ∷ []) (map all_ballots rest)
-          ∙ (ap (λ (b : List (List ℕ)). map spread_ballots spreads ++ b ∷ map all_ballots rest) ballots
-          ∙ (ap (λ (l : List (List PlanRows)). map spread_ballots spreads ++ map all_ballots l) (sym is) ∙ so_far.whole))));
+          ap (λ (l : List (PlanSpread _ _)). map spread_ballots l ++ map lanes_ballots rest) put
+          ∙ (ap (λ (l : List (List (List ℕ))). l ++ map lanes_ballots rest) (map-append spread_ballots spreads (s ∷ []))
+          ∙ (append_assoc (map spread_ballots spreads) (s.lanes.ballots ∷ []) (map lanes_ballots rest)
+          ∙ (ap (λ (b : List (List ℕ)). map spread_ballots spreads ++ b ∷ map lanes_ballots rest) ballots
+          ∙ (ap (λ (l : List LanesSeen). map spread_ballots spreads ++ map lanes_ballots l) (sym is) ∙ so_far.whole))));
       each =
           subst (All (IsBegunBy candidates run)) (sym put)
           (All-push (IsBegunBy candidates run) spreads s so_far.each begun);
-      left_of_all =
-          All-tail (CanBeCounted candidates) plans rest
-          (subst (All (CanBeCounted candidates)) is so_far.left_of_all);
+      left_whole =
+          All-tail (AreWhole (10 ^ P) candidates) lanes rest
+          (subst (All (AreWhole (10 ^ P) candidates)) is so_far.left_whole);
     }
 
 pub next_left :
     {P : ℕ} {F : Type 0} (candidates : ℕ) (run : F) (lists : List (List PlanRows)) (spreads : List (PlanSpread P F))
-    (left rest : List (List PlanRows)) (plans : List PlanRows) → AreBegunBy candidates run lists spreads left
-    → left ≡ plans ∷ rest → CanBeCounted candidates plans
-next_left candidates run lists spreads left rest plans so_far is =
-    All-head (CanBeCounted candidates) plans rest (subst (All (CanBeCounted candidates)) is so_far.left_of_all)
+    (left rest : List LanesSeen) (lanes : LanesSeen) → AreBegunBy candidates run lists spreads left
+    → left ≡ lanes ∷ rest → AreWhole (10 ^ P) candidates lanes
+next_left {P} candidates run lists spreads left rest lanes so_far is =
+    All-head (AreWhole (10 ^ P) candidates) lanes rest
+    (subst (All (AreWhole (10 ^ P) candidates)) is so_far.left_whole)
 
 pub begun_all :
     {P : ℕ} {F : Type 0} (candidates : ℕ) (run : F) (lists : List (List PlanRows))
-    (spreads : List (PlanSpread P F)) (left : List (List PlanRows))
+    (spreads : List (PlanSpread P F)) (left : List LanesSeen)
     → AreBegunBy candidates run lists spreads left → left ≡ [] → map spread_ballots spreads ≡ map all_ballots lists
 begun_all candidates run lists spreads left begun none =
     sym (append-nil (map spread_ballots spreads))
-    ∙ (ap (λ (l : List (List PlanRows)). map spread_ballots spreads ++ map all_ballots l) (sym none)
+    ∙ (ap (λ (l : List LanesSeen). map spread_ballots spreads ++ map lanes_ballots l) (sym none)
     ∙ begun.whole)

@@ -1,3 +1,4 @@
 mod BegunCounts
+mod BegunLanes
 mod BegunSpreads
 pub mod Sheets

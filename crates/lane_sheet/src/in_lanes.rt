@@ -6,6 +6,7 @@ ghost use Rattle.vote_spread.specs.Lanes.{HaveCounted};
 ghost use Rattle.lane_sheet.specs.Due.{dues_of, WritesOrWants};
 ghost use Rattle.lane_sheet.specs.Plans.{CanBeCounted};
 
+use crate::begun_lanes::begin_lanes;
 use crate::{CountText, Crew, NoMemory, Polls};
 use byte_edge::{Failed, Gate, Sink};
 use frozen_plan::Plans;
@@ -42,9 +43,10 @@ where
         ensures { HaveCounted lanes.entry.now lanes.exit.now }
     { lanes.run::<P, R, G>(rt, gate) };
     let candidates = polls.lots.candidates();
+    let begun = begin_lanes::<P, R, G>(crew, plans, candidates)?;
     let mut spreads = Vec::new(crew.alloc);
-    for plans in plans {
-        let spread = PlanSpread::<P, _>::begin(crew.alloc, plans, candidates, crew.workers, run)?;
+    for lanes in begun {
+        let spread = PlanSpread::<P, _>::over(lanes, candidates, run);
         if spreads.push(spread).is_err() {
             return Err(NoMemory);
         }

@@ -7,6 +7,7 @@
 
 mod begun_count;
 mod begun_counts;
+mod begun_lanes;
 mod count_text;
 mod crew;
 mod in_lanes;

@@ -8,7 +8,6 @@ mod Answered
 mod Marked
 mod AfterMarks
 mod TurnLists
-mod Planned
 mod FreezeLemmas
 mod HeldLemmas
 mod SightLemmas

@@ -8,6 +8,7 @@ use Rattle.batch_core.specs.contracts.entry.Entry as entry
 use Rattle.call_register.specs.contracts.mark.Mark as mark
 use Rattle.number_tie.proofs.half.Half.TheSendSync as half
 use Rattle.ranking_trie.proofs.arena.Arena.TheSendSync as arena
+use Rattle.ranking_trie.proofs.fronts.Fronts.TheSendSync as fronts
 use Rattle.ranking_trie.specs.contracts.trie.Trie as trie
 use Rattle.ranking_trie.specs.contracts.trie.Trie.TheInside as trie_fields
 use Rattle.shard_book.below.indexmap.proofs.map.IndexMap.TheSendSync as index_map
@@ -38,7 +39,10 @@ trie_send =
         search sendable,
         (
           search sendable,
-          (search sendable, (search sendable, (search sendable, (arena.the_field_send, tt)))),
+          (
+            search sendable,
+            (search sendable, (search sendable, (arena.the_field_send, (fronts.the_field_send, tt)))),
+          ),
         ),
       ),
     )))

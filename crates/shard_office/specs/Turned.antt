@@ -1,5 +1,5 @@
 -- Turns of shards that one caller holds together.
-use Rattle.std.specs.Prelude.{◌≡◌, ℕ, ◌+◌, ◌<◌, ◌≤◌, true, false, List, length, map, Option, Some, IfSome, slice_get, slice_index_or, IsPermutation}
+use Rattle.std.specs.Prelude.{◌≡◌, ℕ, ◌+◌, ◌<◌, ◌≤◌, true, false, List, length, map, Some, slice_get, IsPermutation}
 use Rattle.shard_office.specs.declared.window.Window.{Window}
 use Rattle.turn_lock.specs.Entries.{Begins}
 use Rattle.turn_lock.specs.Sights.{KnowsOwn}
@@ -73,12 +73,6 @@ pub record IsPlanOf (v : SeenShard) (plan : PlanRows) : Type 0 where
 
 abbrev pub ArePlansOf : List SeenShard → List PlanRows → Type 0
 ArePlansOf held plans = (i : ℕ) (v : SeenShard) (p : PlanRows) → slice_get held i ≡ Some v → slice_get plans i ≡ Some p → IsPlanOf v p
-
--- each plan that was made stands for the ballots that stand in the shard at its place
-abbrev pub AreMadeOf : List SeenShard → List (Option PlanRows) → Type 0
-AreMadeOf held made =
-    (i : ℕ) (v : SeenShard) (d : Option PlanRows) → i < length made → slice_get held i ≡ Some v
-    → IfSome (slice_index_or made i d) (IsPlanOf v)
 
 -- the value at this place is of this shard, among so many shards and candidates
 pub record IsNamed (shards candidates i : ℕ) (v : SeenShard) : Type 0 where

@@ -30,6 +30,7 @@ use std::thread::Threads;
 #[derive(Drop)]
 pub struct Lanes {
     plans: Snapshot<Plans>,
+    total: u64,
     task: Task,
     lanes: Vec<Lane>,
 }
@@ -43,6 +44,7 @@ const MANY: usize = 100_000;
 const MANY_TO_MAKE: usize = 25_000;
 
 impl Model for Lanes {
+    ghost use Rattle.std.specs.Prelude.{◌≡◌, length};
     ghost use Rattle.frozen_plan.specs.Plan.{all_ballots};
     ghost use Rattle.vote_spread.specs.LaneSeen.{tallies_of};
     ghost use Rattle.vote_spread.specs.Lanes.{LanesSeen, AreReady};
@@ -51,12 +53,13 @@ impl Model for Lanes {
 
     ghost view = { λ l. record { scale = l.task.keeping.one; ballots = all_ballots l.plans.value; keeps = l.task.keeping.keeps; tallies = tallies_of l.lanes.items } };
 
-    ghost invariant = { λ l. AreReady (all_ballots l.plans.value) l.task.branches l.task.keeping l.lanes.items };
+    ghost invariant = { λ l. AreReady (all_ballots l.plans.value) l.task.branches l.task.keeping l.lanes.items × (l.total ≡ length (all_ballots l.plans.value)) };
 }
 
 impl Lanes {
-    /// Lanes of so many workers over the ballots of plans, before any keep value.
-    pub(crate) fn begin<const P: usize>(
+    /// Lanes of so many workers over the ballots of plans, before any keep value. The plans are packed into
+    /// branches and let go, which takes long where they are large, and all memory of the lanes is taken.
+    pub fn begin<const P: usize>(
         alloc: Global,
         plans: Plans,
         candidates: u32,
@@ -71,14 +74,23 @@ impl Lanes {
         ensures candidates { IfOk result (λ lanes. length lanes.keeps ≡ candidates) }
     {
         let ballots = Snapshot::of(&plans);
+        let total = total_of(&plans);
         let branches = pack_plans(alloc, plans)?;
         let keeping = Keeping::nothing(alloc, scale_of::<P>(), candidates as usize)?;
         let lanes = lanes_of(alloc, candidates, workers, &branches)?;
         Ok(Lanes {
             plans: ballots,
+            total,
             task: Task { branches, keeping },
             lanes,
         })
+    }
+
+    /// How many ballots the lanes are over.
+    pub fn ballots(&self) -> u64
+        ensures { result ≡ length self.now.ballots }
+    {
+        self.total
     }
 
     /// Distributes the ballots, each lane its share. At each distribution over many rows, and at a
@@ -113,6 +125,18 @@ impl Lanes {
     {
         gather(self.lanes.as_slice(), tally);
     }
+}
+
+/// How many ballots all plans have.
+fn total_of(plans: &Plans) -> u64
+    requires { length (all_ballots plans.now) ≤ MOST_BALLOTS }
+    ensures { result ≡ length (all_ballots plans.now) }
+{
+    let mut total = 0;
+    for plan in plans.items() {
+        total += plan.total();
+    }
+    total
 }
 
 /// Whether threads bring more than they cost: there are many rows, as far as is known from those of the

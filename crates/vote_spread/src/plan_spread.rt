@@ -64,27 +64,29 @@ impl<const P: usize, F: Fn(&mut Lanes) + Drop> PlanSpread<P, F> {
         ensures ballots { IfOk result (λ s. s.lanes.ballots ≡ all_ballots plans) }
         ensures run { IfOk result (λ s. s.run ≡ run) }
     {
-        let total = total_of(&plans);
         let lanes = Lanes::begin::<P>(alloc, plans, candidates, workers)?;
-        Ok(PlanSpread {
+        Ok(PlanSpread::over(lanes, candidates, run))
+    }
+
+    /// A distribution by lanes that were begun over the ballots of so many candidates, which takes no
+    /// memory. `run` is as for [`PlanSpread::begin`].
+    pub fn over(lanes: Lanes, candidates: u32, run: F) -> PlanSpread<P, F>
+        requires scale { lanes.scale ≡ scale P }
+        requires lanes { length lanes.keeps ≡ candidates }
+        requires runs { RunsLanes F.Fn (scale P) run }
+        ensures can { CanSpread F.Fn (scale P) candidates result.total result.lanes result.run }
+        ensures candidates { result.candidates ≡ candidates }
+        ensures ballots { result.lanes.ballots ≡ lanes.ballots }
+        ensures run { result.run ≡ run }
+    {
+        let total = lanes.ballots();
+        PlanSpread {
             run,
             candidates,
             total,
             lanes,
-        })
+        }
     }
-}
-
-/// How many ballots all plans have.
-fn total_of(plans: &Plans) -> u64
-    requires { length (all_ballots plans.now) ≤ MOST_BALLOTS }
-    ensures { result ≡ length (all_ballots plans.now) }
-{
-    let mut total = 0;
-    for plan in plans.items() {
-        total += plan.total();
-    }
-    total
 }
 
 /// Fills a tally with the votes at some keep values.

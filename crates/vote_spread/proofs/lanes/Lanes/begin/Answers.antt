@@ -21,15 +21,17 @@ invariant_of-result g c =
     StandFor (length keeping.keeps) 1 c.in_ok-branches.branches (all_ballots c.of-ballots.result.value) =
     subst (λ m. StandFor m 1 c.in_ok-branches.branches (all_ballots c.of-ballots.result.value)) size
     (rw ballots (c.in_ok-branches.ensures n c.requires.plans)) in
-    let many : length lanes.items ≡ c.args.workers = omega (arith, lanes.ok.0, c.in_ok-lanes.ensures.as_many) in
-    record {
-      stand = stand;
-      few_ballots = rw ballots c.requires.few;
-      at_most_one = rw zeros (All-replicate (λ k. k ≤ keeping.one) n 0 (omega arith));
-      some = omega (arith, c.requires.workers.0);
-      few = omega (arith, c.requires.workers.1);
-      of_all = subst (λ m. All (λ (lane : LaneSeen). length lane.tally ≡ m) lanes.items) size c.in_ok-lanes.ensures.of_all;
-      fit =
-          subst (λ m. AreFit keeping c.in_ok-branches.branches 0 m lanes.items) (sym many)
-          (c.in_ok-lanes.ensures.fit keeping (ap (λ (k : KeepingSeen). k.stale) c.in_ok-keeping.ensures));
-    }
+    let many : length lanes.items ≡ c.args.workers = omega (arith, lanes.ok.0, c.in_ok-lanes.ensures.as_many) in (
+      record {
+        stand = stand;
+        few_ballots = rw ballots c.requires.few;
+        at_most_one = rw zeros (All-replicate (λ k. k ≤ keeping.one) n 0 (omega arith));
+        some = omega (arith, c.requires.workers.0);
+        few = omega (arith, c.requires.workers.1);
+        of_all = subst (λ m. All (λ (lane : LaneSeen). length lane.tally ≡ m) lanes.items) size c.in_ok-lanes.ensures.of_all;
+        fit =
+            subst (λ m. AreFit keeping c.in_ok-branches.branches 0 m lanes.items) (sym many)
+            (c.in_ok-lanes.ensures.fit keeping (ap (λ (k : KeepingSeen). k.stale) c.in_ok-keeping.ensures));
+      },
+      rw ballots c.total_of-total.ensures,
+    )

@@ -20,7 +20,7 @@ pub gather-requires : goal.gather-requires
 gather-requires g c = (
   omega arith,
   (
-    rw c.as_slice.ensures.value (λ k d lt. c.self.invariant.of_all k d lt
+    rw c.as_slice.ensures.value (λ k d lt. c.self.invariant.0.of_all k d lt
         ∙ (ap (λ (l : LanesSeen). length l.keeps) c.self.view_is ∙ sym c.requires.votes_of_all)),
     λ p lt. omega (
       arith,

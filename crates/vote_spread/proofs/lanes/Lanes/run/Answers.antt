@@ -17,7 +17,7 @@ run_lanes-requires-clause-can g c κs within =
     ap (λ (l : LanesSeen). l.scale) c.self.view_is ∙ c.requires.scale in
     let small : scale g.row.P ≤ 1000000000 = pow-le-pow_right {n = 10} (omega arith) c.requires.places in
     can_count (all_ballots inside.plans.value) inside.task.branches inside.task.keeping inside.lanes.items
-    (omega (arith, scaled, scale_pos g.row.P)) (omega (arith, scaled, small)) c.self.invariant
+    (omega (arith, scaled, scale_pos g.row.P)) (omega (arith, scaled, small)) c.self.invariant.0
 
 pub returns : goal.returns
 returns g c =
@@ -36,4 +36,4 @@ returns g c =
     subst (λ (t : List LaneSeen). HaveCounted c.args.self.now (seen_of ballots c.settle.new.self t)) (sym all)
     (subst (λ (k : KeepingSeen). HaveCounted c.args.self.now (seen_of ballots k new)) (sym c.settle.ensures)
     (subst (λ (l : LanesSeen). HaveCounted l (seen_of ballots keeping new)) c.self.view_is
-    (have_counted ballots stems keeping old new c.self.invariant many run)))
+    (have_counted ballots stems keeping old new c.self.invariant.0 many run)))

@@ -1,6 +1,6 @@
 use Rattle.std.proofs.Common.{◌≡◌, length, sum_by, take}
 use Rattle.frozen_plan.specs.Plan.{PlanRows, plan_ballots}
-use Rattle.vote_spread.proofs.plan_spread.total_of.Given as goal
+use Rattle.vote_spread.proofs.lanes.total_of.Given as goal
 
 abbrev pub invariant-loop-plan : goal.invariant-loop-plan
 invariant-loop-plan l =

@@ -3,7 +3,7 @@ use Rattle.std.proofs.lemmas.List.{take_all}
 use Rattle.std.proofs.lemmas.List.Sums.{sum_by_more_le}
 use Rattle.frozen_plan.specs.Plan.{PlanRows, plan_ballots, all_ballots}
 use Rattle.vote_spread.proofs.PlanLemmas.{length-all_ballots}
-use Rattle.vote_spread.proofs.plan_spread.total_of.Goals as goal
+use Rattle.vote_spread.proofs.lanes.total_of.Goals as goal
 
 pub overflow_add-total : goal.overflow_add-total
 overflow_add-total c =
