@@ -26,7 +26,7 @@ impl Model for Text {
 
 impl Text {
     /// No text. The allocator serves each later push.
-    pub(crate) fn new(alloc: Global) -> Text
+    pub fn new(alloc: Global) -> Text
         ensures { result ≡ [] }
     {
         Text {

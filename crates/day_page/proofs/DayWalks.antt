@@ -1,7 +1,7 @@
 -- What stands on a page of its day.
 use Rattle.std.proofs.Common.{◌≡◌, ◌∙◌, refl, ap, ℕ, Bool, true, false, List, [], ◌∷◌, ◌++◌, map, length}
 use Rattle.std.proofs.Common.{append-nil, append_assoc, sym}
-use Rattle.std.specs.Prelude.{if◌then◌else◌, codes, decimal}
+use Rattle.std.specs.Prelude.{if◌then◌else◌, codes, decimal, nat_eq}
 use Rattle.std.specs.List.{flat_map}
 use Rattle.std.proofs.lemmas.List.{map-append}
 use Rattle.std.proofs.lemmas.List.Concat.{flat_map_single}
@@ -14,12 +14,14 @@ use Rattle.sheet_reader.specs.Values.{SheetList}
 use Rattle.sheet_minutes.specs.Rounds.{ends_round}
 use Rattle.sheet_page.specs.declared.part_names.PartNames.{PartNames}
 use Rattle.sheet_page.specs.declared.part_names.PartNames.TheVariants.{OfFreeze}
-use Rattle.sheet_page.specs.Html.{part_at, round_part, round_parts}
+use Rattle.count_promise.specs.Lines.{promise_text}
+use Rattle.sheet_page.specs.Html.{part_at, round_part, round_parts, rounds_part}
 use Rattle.sheet_page.specs.PageReading.{along, text_in, texts_along}
 use Rattle.sheet_page.specs.Picture.{full_of}
+use Rattle.sheet_page.specs.Promised.{promise_part, told_promise}
 use Rattle.sheet_page.specs.Trees.{all, each}
 use Rattle.sheet_page.specs.Values.{all_places}
-use Rattle.sheet_page.proofs.PageWalks.{behind_nothing, found, found_each, found_if, no_part, no_parts}
+use Rattle.sheet_page.proofs.PageWalks.{behind_nothing, found, found_each, found_followed, found_if, no_part, no_parts}
 use Rattle.day_page.specs.CallTable.{calls_part, entry_row}
 use Rattle.day_page.specs.DayHtml.{day_heading, day_page}
 use Rattle.day_page.specs.EndPart.{end_part}
@@ -28,7 +30,7 @@ use Rattle.day_page.specs.Laws.{below, row_said, rows_of, titles_of}
 use Rattle.day_page.specs.Lists.{own_first}
 
 -- what a page is for
-abbrev inside : (places : ℕ) → DayTextList → Trees
+abbrev pub inside : (places : ℕ) → DayTextList → Trees
 inside places v =
     all (
     day_heading ∷ freeze_links (length v.history) v.sheets ∷ calls_part v.history
@@ -36,7 +38,7 @@ inside places v =
     ∷ freeze_parts places (length v.history) v.sheets ∷ []
     )
 
-below_main : (path : List (List ℕ)) (places : ℕ) (v : DayTextList)
+pub below_main : (path : List (List ℕ)) (places : ℕ) (v : DayTextList)
     → along (below path) (day_page places v) ≡ along path (inside places v)
 below_main path places v =
     let them = along path (inside places v) in
@@ -65,17 +67,16 @@ line e =
 abbrev path_of_rows : List (List ℕ)
 path_of_rows = codes "div" ∷ codes "table" ∷ codes "tbody" ∷ codes "tr" ∷ []
 
--- the parts of freezes stand in articles, and have no table of calls
-no_rows : (places calls : ℕ) (sheets : List FrozenSheet)
-    → found row_said (codes "section") path_of_rows (followed (freeze_parts places calls sheets) Nothing) ≡ []
-no_rows places calls sheets =
-    ap (found row_said (codes "section") path_of_rows) (behind_nothing (freeze_parts places calls sheets))
-    ∙ found_each row_said (codes "section") path_of_rows (freeze_part places calls) (own_first sheets)
+-- the parts of freezes stand in articles, and in no section beside these
+pub no_sections : {X : Type 0} (h : Trees → X) (path : List (List ℕ)) (places calls : ℕ) (sheets : List FrozenSheet)
+    → found h (codes "section") path (followed (freeze_parts places calls sheets) Nothing) ≡ []
+no_sections {X} h path places calls sheets =
+    ap (found h (codes "section") path) (behind_nothing (freeze_parts places calls sheets))
+    ∙ found_each h (codes "section") path (freeze_part places calls) (own_first sheets)
     ∙ (λ j. flat_map (λ s. none s j) (own_first sheets))
     ∙ no_parts (own_first sheets)
   where
-    none : (s : FrozenSheet) → found row_said (codes "section") path_of_rows (freeze_part places calls s)
-        ≡ no_part {X = FrozenSheet} {Y = List ℕ} s
+    none : (s : FrozenSheet) → found h (codes "section") path (freeze_part places calls s) ≡ no_part {X = FrozenSheet} {Y = X} s
     none s = refl
 
 pub rows_said : (places : ℕ) (v : DayTextList) → map row_said (rows_of places v) ≡ entry_lines v.history
@@ -88,7 +89,7 @@ rows_said places v =
     along (codes "section" ∷ path_of_rows) (followed (freeze_parts places calls v.sheets) Nothing) in
     ap (map row_said) (below_main (codes "section" ∷ path_of_rows) places v)
     ∙ map-append row_said first rest
-    ∙ ap (λ l. map row_said first ++ l) (no_rows places calls v.sheets)
+    ∙ ap (λ l. map row_said first ++ l) (no_sections row_said path_of_rows places calls v.sheets)
     ∙ append-nil (map row_said first)
     ∙ ap (map row_said) (append-nil ((them ++ []) ++ []) ∙ append-nil (them ++ []) ∙ append-nil them)
     ∙ ap (found row_said (codes "tr") []) (behind_nothing rows)
@@ -98,18 +99,27 @@ rows_said places v =
 
 -- ---- freezes
 
--- the parts of the rounds of a sheet have no title of the first rank
+-- the part of the promise, and those of the rounds of a sheet, have no title of the first rank
 no_titles : (names : PartNames) (places : ℕ) (v : SheetList)
     → found text_in (codes "h1") []
-    (followed (followed (round_parts names places v (full_of v.rows)) Nothing) Nothing) ≡ []
+    (followed (followed (promise_part places v) (followed (rounds_part names places v)
+    (followed (round_parts names places v (full_of v.rows)) Nothing))) Nothing) ≡ []
 no_titles names places v =
     let parts = round_parts names places v (full_of v.rows) in
-    ap (found text_in (codes "h1") []) (behind_nothing (followed parts Nothing) ∙ behind_nothing parts)
+    let rounds = followed (rounds_part names places v) (followed parts Nothing) in
+    ap (found text_in (codes "h1") []) (behind_nothing (followed (promise_part places v) rounds))
+    ∙ found_followed text_in (codes "h1") [] (promise_part places v) rounds
+    ∙ ap (λ l. l ++ found text_in (codes "h1") [] (followed parts Nothing)) (no_promise (nat_eq places 9))
+    ∙ ap (found text_in (codes "h1") []) (behind_nothing parts)
     ∙ found_each text_in (codes "h1") [] (part_at names places v (full_of v.rows))
     (all_places (length v.rows))
     ∙ (λ j. flat_map (λ i. none i j) (all_places (length v.rows)))
     ∙ no_parts (all_places (length v.rows))
   where
+    no_promise : (b : Bool) → found text_in (codes "h1") [] (if b then told_promise (promise_text v) else Nothing) ≡ []
+    no_promise true = refl
+    no_promise false = refl
+
     either : (b : Bool) → (if b then [] else []) ≡ no_part {X = Bool} {Y = List ℕ} b
     either true = refl
     either false = refl

@@ -1,8 +1,10 @@
 mod Calls
 mod Sheets
+mod Promised
 mod Owing
 mod DayNesting
 mod DayWalks
+mod DayEnds
 mod Listed
 mod DayNumbers
 mod DayTexts

@@ -1,13 +1,18 @@
 -- What every page of a day shows, and what its JSON and its table say.
-use Rattle.std.specs.Prelude.{◌≡◌, ◌<◌, ◌^◌, ℕ, true, List, [], ◌∷◌, ◌++◌, codes, decimal, length, map, Some, None}
+use Rattle.std.specs.Prelude.{◌≡◌, ◌<◌, ◌^◌, ℕ, true, List, [], ◌∷◌, ◌++◌, codes, decimal, length, map, Option, Some, None}
+use Rattle.std.specs.List.{flat_map, range_with_len}
 use Rattle.page_tree.specs.Print.{printed}
 use Rattle.page_tree.specs.Reading.{nests}
 use Rattle.page_tree.specs.Trees.{Trees}
+use Rattle.batch_core.specs.declared.batch.Batch.{Batch}
 use Rattle.batch_core.specs.declared.entry.Entry.{Entry}
+use Rattle.batch_core.specs.Book.{BookState, empty, last_batch}
+use Rattle.batch_core.specs.Histories.{after_all}
 use Rattle.csv_text.specs.Reading.{read, Outside}
 use Rattle.team_run.specs.EntryText.{call_text, caller_text, entry_lines, numbered, reply_text}
 use Rattle.day_text.specs.Form.{HasDayForm}
 use Rattle.day_text.specs.Values.{DayTextList, FrozenSheet}
+use Rattle.sheet_page.specs.Json.{joined}
 use Rattle.sheet_page.specs.JsonGrammar.{IsTextOf}
 use Rattle.sheet_page.specs.PageReading.{along, texts_along}
 use Rattle.day_page.specs.DayCsv.{day_csv}
@@ -46,6 +51,46 @@ row_said row = spaced (texts_along (codes "th" ∷ []) row ++ texts_along (codes
 -- what was answered, in their order, and no other.
 abbrev pub PagesSayTheirCalls : Type 0
 PagesSayTheirCalls = (places : ℕ) (v : DayTextList) → map row_said (rows_of places v) ≡ entry_lines v.history
+
+-- ---- what stands in the end
+
+-- what became of a batch: as long as it stands the book has its ballots
+abbrev pub fate_said : {X : Type 0} → Option X → List ℕ
+fate_said None = codes " was withdrawn, at revision "
+fate_said (Some ballots) = codes " stands at revision "
+
+-- a batch of the book, if it was entered
+abbrev pub batch_said : (number : ℕ) → Option Batch → List (List ℕ)
+batch_said number None = []
+batch_said number (Some batch) =
+    joined (codes "Batch " ∷ decimal number ∷ fate_said batch.standing ∷ decimal batch.revision ∷ codes "." ∷ []) ∷ []
+
+abbrev pub struck_said : (candidate : ℕ) → List ℕ
+struck_said candidate = joined (codes "Candidate " ∷ decimal candidate ∷ codes " was struck." ∷ [])
+
+-- the lines of the batches of a book, by rising number
+abbrev pub batches_said : BookState → List (List ℕ)
+batches_said book = flat_map (λ number. batch_said number (book.batches number)) (range_with_len 1 last_batch)
+
+abbrev pub counts_said : (batches struck : ℕ) → List ℕ
+counts_said batches struck =
+    joined (
+    codes "Batches that were entered: " ∷ decimal batches ∷ codes ". Candidates who were struck: " ∷ decimal struck ∷ codes "." ∷ []
+    )
+
+-- A page says of each batch that was entered, by rising number, what the book has of it after all calls, and of each struck candidate, in
+-- the order of striking, that it was struck; how many they are; and nothing else beside the table of calls and the freezes.
+pub record SaysItsEnd (places : ℕ) (v : DayTextList) (book : BookState) : Type 0 where
+  pub titles : texts_along (below (codes "section" ∷ codes "h2" ∷ [])) (day_page places v) ≡ codes "Calls" ∷ codes "What stands in the end" ∷ []
+  pub counts :
+      texts_along (below (codes "section" ∷ codes "p" ∷ [])) (day_page places v)
+      ≡ counts_said (length (batches_said book)) (length book.struck) ∷ []
+  pub items :
+      texts_along (below (codes "section" ∷ codes "ul" ∷ codes "li" ∷ [])) (day_page places v)
+      ≡ batches_said book ++ map struck_said book.struck
+
+abbrev pub PagesSayTheirEnd : Type 0
+PagesSayTheirEnd = (places : ℕ) (v : DayTextList) → SaysItsEnd places v (after_all empty v.history)
 
 -- ---- freezes
 

@@ -20,6 +20,7 @@ mod html;
 mod json;
 mod laws;
 mod minutes;
+mod promises;
 mod tool;
 mod worked;
 

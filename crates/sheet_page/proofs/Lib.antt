@@ -6,6 +6,7 @@ mod Marks
 mod Peaks
 mod Sums
 mod Parts
+mod Promises
 mod RoundPlaces
 mod RisingRounds
 pub mod Tested
@@ -35,5 +36,6 @@ mod PageLabels
 mod BarCounts
 mod PageBars
 mod PageRounds
+mod PromiseLines
 mod PageSentences
 mod LeftSeats

@@ -7,7 +7,9 @@ use Rattle.fixed_place.specs.Text.{text_of}
 use Rattle.lot_order.specs.Flags.{mark_at}
 use Rattle.meek_rule.specs.Row.{Row}
 use Rattle.page_tree.specs.Trees.{Nothing, IsWellNamed}
+use Rattle.count_promise.specs.Lines.{promise_text}
 use Rattle.sheet_reader.specs.Values.{SheetList}
+use Rattle.sheet_reader.specs.LineList.{lines_in}
 use Rattle.sheet_words.specs.Lines.{at_end, sentences_of}
 use Rattle.sheet_words.specs.Sentences.{outcome, sentences_at_end}
 use Rattle.sheet_minutes.specs.declared.entry.Entry.{Entry}
@@ -19,6 +21,7 @@ use Rattle.sheet_page.specs.Told.{end_list, item, outcome_list, result_part, res
 use Rattle.sheet_page.specs.Trees.{at, each, el, isolated, words}
 use Rattle.sheet_page.proofs.Tested.{tested, Tested, sound, tested_all, tested_each, tested_el, tested_if}
 use Rattle.sheet_page.specs.Values.{all_places, name_at}
+use Rattle.sheet_page.specs.Promised.{promise_head, promise_item, promise_list, promise_part, told_promise}
 use Rattle.sheet_page.specs.RoundEnds.{settled_at}
 use Rattle.sheet_page.specs.Stretches.{is_of_round}
 use Rattle.sheet_page.specs.Bars.{bars_of, has_bar, rest_count, rest_votes}
@@ -184,6 +187,17 @@ result_tested v =
     list sentences =
         tested_el (codes "ul") [] (each item sentences ∷ []) refl refl refl (items_tested sentences, tt)
 
+promise_tested : (places : ℕ) (v : SheetList) → tested (promise_part places v) ≡ true
+promise_tested places v = tested_if (nat_eq places 9) (told_promise (promise_text v)) (part (promise_text v))
+  where
+    list : (text : List ℕ) → tested (promise_list text) ≡ true
+    list text =
+        tested_el (codes "ul") [] (each promise_item (lines_in text) ∷ []) refl refl refl
+        (tested_each promise_item (lines_in text) (λ line. refl), tt)
+
+    part : (text : List ℕ) → tested (told_promise text) ≡ true
+    part text = tested_el (codes "section") [] (promise_head ∷ promise_list text ∷ []) refl refl refl (refl, (list text, tt))
+
 parts_tested : (names : PartNames) (places : ℕ) (v : SheetList) (full : ℕ) → tested (round_parts names places v full) ≡ true
 parts_tested names places v full =
     tested_each (part_at names places v full) (all_places (length v.rows))
@@ -212,13 +226,19 @@ links_tested names v =
 pub sheet_tested : (names : PartNames) (places : ℕ) (v : SheetList) → tested (sheet_parts names places v) ≡ true
 sheet_tested names places v =
     tested_all (
-    heading v ∷ links names v ∷ elected_part v ∷ result_part v ∷ rounds_part names places v
+    heading v ∷ links names v ∷ elected_part v ∷ result_part v ∷ promise_part places v ∷ rounds_part names places v
     ∷ round_parts names places v (full_of v.rows) ∷ []
     ) (
       refl,
       (
         links_tested names v,
-        (elected_tested v, (result_tested v, (rounds_tested names places v, (parts_tested names places v (full_of v.rows), tt)))),
+        (
+          elected_tested v,
+          (
+            result_tested v,
+            (promise_tested places v, (rounds_tested names places v, (parts_tested names places v (full_of v.rows), tt))),
+          ),
+        ),
       ),
     )
 
@@ -232,13 +252,19 @@ well_named places v =
     parts =
         tested_el (codes "main") []
         (
-        heading v ∷ links Alone v ∷ elected_part v ∷ result_part v ∷ rounds_part Alone places v
+        heading v ∷ links Alone v ∷ elected_part v ∷ result_part v ∷ promise_part places v ∷ rounds_part Alone places v
         ∷ round_parts Alone places v (full_of v.rows) ∷ []
         ) refl refl refl (
           refl,
           (
             links_tested Alone v,
-            (elected_tested v, (result_tested v, (rounds_tested Alone places v, (parts_tested Alone places v (full_of v.rows), tt)))),
+            (
+              elected_tested v,
+              (
+                result_tested v,
+                (promise_tested places v, (rounds_tested Alone places v, (parts_tested Alone places v (full_of v.rows), tt))),
+              ),
+            ),
           ),
         )
 

@@ -13,13 +13,13 @@ use Rattle.sheet_minutes.specs.Rounds.{left_over}
 use Rattle.sheet_page.specs.Bars.{bars_of, has_bar, rest_count, rest_votes}
 use Rattle.sheet_page.specs.Html.{page}
 use Rattle.sheet_page.specs.Json.{joined}
-use Rattle.sheet_page.specs.PageLaws.{below, amounts_line, rest_line, called_text, label_text, ends_of}
+use Rattle.sheet_page.specs.PageLaws.{at_nine, promise_said, below, amounts_line, rest_line, called_text, label_text, ends_of}
 use Rattle.sheet_page.specs.PageReading.{text_in, along, texts_along}
 use Rattle.sheet_page.specs.Picture.{bar, bar_at, quota_line, rest_part, rest_text, scaled}
 use Rattle.sheet_page.specs.RoundEnds.{settled_at}
 use Rattle.sheet_page.specs.Trees.{each}
 use Rattle.sheet_page.specs.Values.{all_places, name_at}
-use Rattle.sheet_page.proofs.PageTexts.{in_page}
+use Rattle.sheet_page.proofs.PageTexts.{in_all, in_promise, in_page}
 use Rattle.sheet_page.proofs.PageWalks.{picked, found, found_followed, found_each, found_if}
 
 abbrev labels : Trees → List (List ℕ)
@@ -56,7 +56,7 @@ pub picture_labels : (places : ℕ) (v : SheetList) →
     ≡ flat_map (λ row. map (label_text places v row) (filter (has_bar row) (all_places (length v.names)))) (ends_of v)
 picture_labels places v =
     in_page places text_in (codes "svg" ∷ codes "text" ∷ []) v
-    (λ row. map (label_text places v row) (filter (has_bar row) (all_places (length v.names)))) here
+    (λ row. map (label_text places v row) (filter (has_bar row) (all_places (length v.names)))) here (λ text. refl)
   where
     here : (full i : ℕ) →
         map text_in ((along (codes "text" ∷ []) (followed (each (bar_at places v full (settled_at v i)) (all_places (length v.names)))
@@ -85,10 +85,13 @@ rest_said places row = either (nat_eq (rest_count row) 0)
     either true = refl
     either false = sym (append-nil (said_of places row))
 
-pub amount_texts : (places : ℕ) (v : SheetList) → texts_along (below (codes "p" ∷ [])) (page places v) ≡ map (amounts_line places v) (ends_of v)
+pub amount_texts : (places : ℕ) (v : SheetList) →
+    texts_along (below (codes "p" ∷ [])) (page places v) ≡ at_nine places promise_said ++ map (amounts_line places v) (ends_of v)
 amount_texts places v =
-    in_page places text_in (codes "p" ∷ []) v (λ row. amounts_line places v row ∷ []) (λ full i. here i)
-    ∙ flat_map_single (amounts_line places v) (ends_of v)
+    in_all places text_in (codes "p" ∷ []) v (λ row. amounts_line places v row ∷ []) (λ full i. here i)
+    ∙ ap (λ l. l ++ flat_map (λ row. amounts_line places v row ∷ []) (ends_of v))
+    (in_promise places text_in (codes "p" ∷ []) v (λ text. promise_said) (λ text. refl))
+    ∙ ap (λ l. at_nine places promise_said ++ l) (flat_map_single (amounts_line places v) (ends_of v))
   where
     here : (i : ℕ) →
         (codes "Quota " ++ (text_of places (settled_at v i).quota ++ (codes ": the broken line. On no candidate: "

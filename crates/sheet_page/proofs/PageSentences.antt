@@ -7,19 +7,23 @@ use Rattle.std.specs.List.{flat_map, list_all}
 use Rattle.std.proofs.lemmas.List.{map-append}
 use Rattle.std.proofs.lemmas.List.Concat.{flat_map_single}
 use Rattle.page_tree.specs.Trees.{Trees, Nothing, followed}
+use Rattle.count_promise.specs.Lines.{promise_text}
+use Rattle.sheet_reader.specs.LineList.{lines_in}
 use Rattle.sheet_reader.specs.Values.{SheetList}
 use Rattle.sheet_words.specs.Lines.{at_end, joined, sentences_of}
 use Rattle.sheet_words.specs.Sentences.{outcome, sentences_at_end}
 use Rattle.sheet_minutes.specs.Rounds.{row_at}
+use Rattle.sheet_page.specs.PageLaws.{at_nine}
 use Rattle.sheet_page.specs.PageReading.{text_in, along, texts_along}
+use Rattle.sheet_page.specs.Promised.{promise_item, promise_part, told_promise}
 use Rattle.sheet_page.specs.SentenceLaws.{items_of, last_lines, lines_of, rounds_of}
 use Rattle.sheet_page.specs.Stretches.{is_of_round}
 use Rattle.sheet_page.specs.Told.{end_list, item, outcome_list, result_title, sentences_at, spoken}
 use Rattle.sheet_page.specs.Trees.{all, each, isolated, words}
 use Rattle.sheet_page.specs.Values.{all_places}
 use Rattle.sheet_page.proofs.PageRounds.{round_by_round}
-use Rattle.sheet_page.proofs.PageTexts.{in_page_at}
-use Rattle.sheet_page.proofs.PageWalks.{behind_nothing, found, found_each, found_if}
+use Rattle.sheet_page.proofs.PageTexts.{in_all_at, in_parts, in_promise}
+use Rattle.sheet_page.proofs.PageWalks.{behind_nothing, found, found_each, found_followed, found_if}
 use Rattle.sheet_page.proofs.WholeRounds.{of_round}
 
 -- the items of a list
@@ -92,6 +96,15 @@ end_texts v =
     ∙ ap (λ l. map joined ends ++ l) (list_texts outcomes)
     ∙ sym (map-append joined ends outcomes)
 
+-- ---- of the promise
+
+promise_items : (lines : List (List ℕ)) → listed (each promise_item lines) ≡ lines
+promise_items [] = refl
+promise_items (line ∷ lines) =
+    found_followed text_in (codes "li") [] (promise_item line) (each promise_item lines)
+    ∙ ap (λ l. l ∷ listed (each promise_item lines)) (append-nil line)
+    ∙ ap (λ ls. line ∷ ls) (promise_items lines)
+
 -- ---- of a page
 
 -- what stands in the part of the result
@@ -101,12 +114,24 @@ result_within v = all (result_title ∷ end_list v ∷ outcome_list v ∷ [])
 abbrev items_in : Trees → List (List ℕ)
 items_in = texts_along (codes "ul" ∷ codes "li" ∷ [])
 
-pub page_items : (places : ℕ) (v : SheetList) → items_of places v ≡ [] ∷ last_lines v ∷ [] ∷ map (lines_of places v) (rounds_of v.rows)
+promise_told : (text : List ℕ) → found items_in (codes "section") [] (told_promise text) ≡ lines_in text ∷ []
+promise_told text =
+    let trees = each promise_item (lines_in text) in
+    ap (λ l. map text_in l ∷ []) (append-nil (along (codes "li" ∷ []) (followed trees Nothing)))
+    ∙ ap (λ t. listed t ∷ []) (behind_nothing trees)
+    ∙ ap (λ l. l ∷ []) (promise_items (lines_in text))
+
+pub page_items : (places : ℕ) (v : SheetList) →
+    items_of places v
+    ≡ [] ∷ last_lines v ∷ (at_nine places (lines_in (promise_text v)) ++ [] ∷ map (lines_of places v) (rounds_of v.rows))
 page_items places v =
-    in_page_at places items_in [] v (λ i. map joined (decided places v i) ∷ []) (λ full i. here i)
-    ∙ ap (λ l. [] ∷ items_in (result_within v) ∷ [] ∷ l) (round_by_round (sentences_of places v) (map joined) v.rows
+    let promised = in_parts places items_in [] v (promise_part places v) in
+    in_all_at places items_in [] v (λ i. map joined (decided places v i) ∷ []) (λ full i. here i)
+    ∙ ap (λ l. [] ∷ items_in (result_within v) ∷ (promised ++ [] ∷ l)) (round_by_round (sentences_of places v) (map joined) v.rows
     ∙ sym (map_twice (flat_map (sentences_of places v)) (rounds_of v.rows)))
-    ∙ ap (λ l. [] ∷ l ∷ [] ∷ map (lines_of places v) (rounds_of v.rows)) (end_texts v)
+    ∙ ap (λ l. [] ∷ l ∷ (promised ++ [] ∷ map (lines_of places v) (rounds_of v.rows))) (end_texts v)
+    ∙ ap (λ l. [] ∷ last_lines v ∷ (l ++ [] ∷ map (lines_of places v) (rounds_of v.rows)))
+    (in_promise places items_in [] v lines_in promise_told)
   where
     map_twice : {Y : Type 0} (s : Y → List (List (List ℕ))) (xs : List Y) → map (λ x. map joined (s x)) xs ≡ map (map joined) (map s xs)
     map_twice s [] = refl

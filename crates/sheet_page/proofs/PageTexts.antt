@@ -1,13 +1,14 @@
 -- What stands on a page of its sheet.
 use Rattle.std.proofs.Common.{◌≡◌, ◌∙◌, refl, sym, ap, ℕ, ◌+◌, Bool, true, false, List, [], ◌∷◌, ◌++◌}
 use Rattle.std.proofs.Common.{map, length, append-nil, append_assoc}
-use Rattle.std.specs.Prelude.{if◌then◌else◌, codes, decimal}
+use Rattle.std.specs.Prelude.{if◌then◌else◌, codes, decimal, nat_eq}
 use Rattle.std.specs.List.{filter, flat_map}
 use Rattle.std.proofs.lemmas.List.{map-append}
 use Rattle.std.proofs.lemmas.List.Concat.{flat_map_single}
 use Rattle.lot_order.specs.Flags.{mark_at}
 use Rattle.meek_rule.specs.Row.{Row}
 use Rattle.page_tree.specs.Trees.{Trees, Nothing, followed}
+use Rattle.count_promise.specs.Lines.{promise_text}
 use Rattle.sheet_reader.specs.Values.{SheetList}
 use Rattle.sheet_minutes.specs.Rounds.{ends_round, row_at}
 use Rattle.sheet_page.specs.declared.part_names.PartNames.TheVariants.{Alone}
@@ -16,9 +17,10 @@ use Rattle.sheet_page.specs.Html.{elected_part, rounds_part}
 use Rattle.sheet_page.specs.Iterations.{iteration, iteration_at, iterations}
 use Rattle.sheet_page.specs.Links.{link_at, link_to, round_link}
 use Rattle.sheet_page.specs.Html.{round_part, part_at, round_parts, page}
-use Rattle.sheet_page.specs.PageLaws.{below, elected_line, seated_line, marked_lines, ends_of}
+use Rattle.sheet_page.specs.PageLaws.{at_nine, below, elected_line, seated_line, marked_lines, ends_of}
 use Rattle.sheet_page.specs.PageReading.{text_in, along, texts_along}
 use Rattle.sheet_page.specs.Picture.{full_of}
+use Rattle.sheet_page.specs.Promised.{promise_part, told_promise}
 use Rattle.sheet_page.specs.RoundEnds.{settled_at}
 use Rattle.sheet_page.specs.Stretches.{is_of_round}
 use Rattle.sheet_page.specs.Told.{result_part}
@@ -49,33 +51,76 @@ module _ (places : ℕ) {X : Type 0} (h : Trees → X) (path : List (List ℕ)) 
           ∙ ap (λ l. if ends_round v.rows i then l else []) (is (full_of v.rows) i)
 
   -- a whole page
+  pub in_all_at :
+      (g : ℕ → List X) → ((full i : ℕ) → in_parts (round_part Alone places v full i) ≡ g i)
+      → map h (along (below path) (page places v))
+      ≡ in_parts (elected_part v) ++ (in_parts (result_part v) ++ (in_parts (promise_part places v)
+      ++ (in_parts (rounds_part Alone places v) ++ flat_map (λ i. if ends_round v.rows i then g i else []) (all_places (length v.rows)))))
+  in_all_at g is =
+      let full = full_of v.rows in
+      let rounds = followed (rounds_part Alone places v) (followed (round_parts Alone places v full) Nothing) in
+      let promise = followed (promise_part places v) rounds in
+      let parts = followed (elected_part v) (followed (result_part v) promise) in
+      let them = along (codes "section" ∷ path) parts in
+      ap (map h) (append-nil ((them ++ []) ++ []) ∙ append-nil (them ++ []) ∙ append-nil them)
+      ∙ found_followed h (codes "section") path (elected_part v) (followed (result_part v) promise)
+      ∙ ap (λ l. in_parts (elected_part v) ++ l) (
+      found_followed h (codes "section") path (result_part v) promise
+      ∙ ap (λ l. in_parts (result_part v) ++ l) (
+      found_followed h (codes "section") path (promise_part places v) rounds
+      ∙ ap (λ l. in_parts (promise_part places v) ++ l) (
+      found_followed h (codes "section") path (rounds_part Alone places v) (followed (round_parts Alone places v full) Nothing)
+      ∙ ap (λ l. in_parts (rounds_part Alone places v) ++ l) (ap in_parts (behind_nothing (round_parts Alone places v full)) ∙ in_rounds g is))))
+
+  -- where the last iteration of a round says it
+  pub in_all :
+      (g : Row → List X) → ((full i : ℕ) → in_parts (round_part Alone places v full i) ≡ g (settled_at v i))
+      → map h (along (below path) (page places v))
+      ≡ in_parts (elected_part v) ++ (in_parts (result_part v) ++ (in_parts (promise_part places v)
+      ++ (in_parts (rounds_part Alone places v) ++ flat_map g (ends_of v))))
+  in_all g is =
+      in_all_at (λ i. g (settled_at v i)) is
+      ∙ ap (λ l. in_parts (elected_part v) ++ (in_parts (result_part v) ++ (in_parts (promise_part places v)
+      ++ (in_parts (rounds_part Alone places v) ++ l)))) (at_ends g v.rows v.last)
+
+  -- the part of the promise, where it has one thing, and where it has none
+  pub in_promise :
+      (said : List ℕ → X) → ((text : List ℕ) → in_parts (told_promise text) ≡ said text ∷ [])
+      → in_parts (promise_part places v) ≡ at_nine places (said (promise_text v))
+  in_promise said told = by (nat_eq places 9)
+    where
+      by : (b : Bool) → in_parts (if b then told_promise (promise_text v) else Nothing) ≡ (if b then said (promise_text v) ∷ [] else [])
+      by true = told (promise_text v)
+      by false = refl
+
+  no_promise : ((text : List ℕ) → in_parts (told_promise text) ≡ []) → in_parts (promise_part places v) ≡ []
+  no_promise told = by (nat_eq places 9)
+    where
+      by : (b : Bool) → in_parts (if b then told_promise (promise_text v) else Nothing) ≡ []
+      by true = told (promise_text v)
+      by false = refl
+
+  -- a page in whose part of the promise the path leads to nothing
   pub in_page_at :
       (g : ℕ → List X) → ((full i : ℕ) → in_parts (round_part Alone places v full i) ≡ g i)
+      → ((text : List ℕ) → in_parts (told_promise text) ≡ [])
       → map h (along (below path) (page places v))
       ≡ in_parts (elected_part v) ++ (in_parts (result_part v)
       ++ (in_parts (rounds_part Alone places v) ++ flat_map (λ i. if ends_round v.rows i then g i else []) (all_places (length v.rows))))
-  in_page_at g is =
-      let full = full_of v.rows in
-      let rounds = followed (rounds_part Alone places v) (followed (round_parts Alone places v full) Nothing) in
-      let parts = followed (elected_part v) (followed (result_part v) rounds) in
-      let them = along (codes "section" ∷ path) parts in
-      ap (map h) (append-nil ((them ++ []) ++ []) ∙ append-nil (them ++ []) ∙ append-nil them)
-      ∙ found_followed h (codes "section") path (elected_part v) (followed (result_part v) rounds)
-      ∙ ap (λ l. in_parts (elected_part v) ++ l) (
-      found_followed h (codes "section") path (result_part v) rounds
-      ∙ ap (λ l. in_parts (result_part v) ++ l) (
-      found_followed h (codes "section") path (rounds_part Alone places v) (followed (round_parts Alone places v full) Nothing)
-      ∙ ap (λ l. in_parts (rounds_part Alone places v) ++ l) (ap in_parts (behind_nothing (round_parts Alone places v full)) ∙ in_rounds g is)))
+  in_page_at g is none =
+      in_all_at g is
+      ∙ ap (λ l. in_parts (elected_part v) ++ (in_parts (result_part v) ++ (l ++ (in_parts (rounds_part Alone places v)
+      ++ flat_map (λ i. if ends_round v.rows i then g i else []) (all_places (length v.rows)))))) (no_promise none)
 
-  -- where the last iteration of a round says it
   pub in_page :
       (g : Row → List X) → ((full i : ℕ) → in_parts (round_part Alone places v full i) ≡ g (settled_at v i))
+      → ((text : List ℕ) → in_parts (told_promise text) ≡ [])
       → map h (along (below path) (page places v))
       ≡ in_parts (elected_part v) ++ (in_parts (result_part v) ++ (in_parts (rounds_part Alone places v) ++ flat_map g (ends_of v)))
-  in_page g is =
-      in_page_at (λ i. g (settled_at v i)) is
-      ∙ ap (λ l. in_parts (elected_part v) ++ (in_parts (result_part v) ++ (in_parts (rounds_part Alone places v) ++ l)))
-      (at_ends g v.rows v.last)
+  in_page g is none =
+      in_all g is
+      ∙ ap (λ l. in_parts (elected_part v) ++ (in_parts (result_part v)
+      ++ (l ++ (in_parts (rounds_part Alone places v) ++ flat_map g (ends_of v))))) (no_promise none)
 
 -- ---- who is elected
 
@@ -126,7 +171,7 @@ elected_items places v =
     let list = followed rows (followed seats Nothing) in
     let marks = flat_map (marked_lines v) v.rows in
     let left = map (seated_line v) (filter (is_seated v) (all_places (length v.names))) in
-    in_page places text_in (codes "ol" ∷ codes "li" ∷ []) v no_part (λ full i. refl)
+    in_page places text_in (codes "ol" ∷ codes "li" ∷ []) v no_part (λ full i. refl) (λ text. refl)
     ∙ ap (λ l. in_parts places text_in (codes "ol" ∷ codes "li" ∷ []) v (elected_part v) ++ l) (no_parts (ends_of v))
     ∙ append-nil (in_parts places text_in (codes "ol" ∷ codes "li" ∷ []) v (elected_part v))
     ∙ ap (map text_in) (append-nil (along (codes "li" ∷ []) list ++ []) ∙ append-nil (along (codes "li" ∷ []) list))
@@ -153,11 +198,14 @@ round_links places v =
     let links = each (link_at Alone v) (all_places (length v.rows)) in
     let first = along (codes "li" ∷ []) (followed links Nothing) in
     let rest = followed (round_parts Alone places v (full_of v.rows)) Nothing in
-    let behind = along (codes "nav" ∷ path) rest in
+    let rounds = followed (rounds_part Alone places v) rest in
+    let behind = along (codes "nav" ∷ path) (followed (promise_part places v) rounds) in
     let them = (first ++ []) ++ behind in
     ap (map text_in) (append-nil ((them ++ []) ++ []) ∙ append-nil (them ++ []) ∙ append-nil them)
     ∙ map-append text_in (first ++ []) behind
-    ∙ ap (λ l. map text_in (first ++ []) ++ l) (ap (found text_in (codes "nav") path) (behind_nothing (round_parts Alone places v (full_of v.rows)))
+    ∙ ap (λ l. map text_in (first ++ []) ++ l) (found_followed text_in (codes "nav") path (promise_part places v) rounds
+    ∙ ap (λ l. l ++ found text_in (codes "nav") path rest) (no_link (nat_eq places 9))
+    ∙ ap (found text_in (codes "nav") path) (behind_nothing (round_parts Alone places v (full_of v.rows)))
     ∙ found_each text_in (codes "nav") path (part_at Alone places v (full_of v.rows)) (all_places (length v.rows))
     ∙ (λ j. flat_map (λ i. none i j) (all_places (length v.rows)))
     ∙ no_parts (all_places (length v.rows)))
@@ -173,6 +221,10 @@ round_links places v =
     either true = refl
     either false = refl
 
+    no_link : (b : Bool) → found text_in (codes "nav") (codes "ul" ∷ codes "li" ∷ []) (if b then told_promise (promise_text v) else Nothing) ≡ []
+    no_link true = refl
+    no_link false = refl
+
     none : (i : ℕ) → found text_in (codes "nav") (codes "ul" ∷ codes "li" ∷ []) (part_at Alone places v (full_of v.rows) i) ≡ no_part {X = ℕ} {Y = List ℕ} i
     none i =
         found_if text_in (codes "nav") (codes "ul" ∷ codes "li" ∷ []) (ends_round v.rows i) (round_part Alone places v (full_of v.rows) i)
@@ -182,12 +234,16 @@ round_links places v =
 
 pub round_titles : (places : ℕ) (v : SheetList) →
     texts_along (below (codes "h2" ∷ [])) (page places v)
-    ≡ codes "Elected" ∷ codes "Result" ∷ codes "Votes at the end of each round"
-    ∷ map (λ row. codes "Round " ++ decimal row.round) (ends_of v)
+    ≡ codes "Elected" ∷ codes "Result" ∷ (at_nine places (codes "What this count promises")
+    ++ codes "Votes at the end of each round" ∷ map (λ row. codes "Round " ++ decimal row.round) (ends_of v))
 round_titles places v =
-    in_page places text_in (codes "h2" ∷ []) v (λ row. (codes "Round " ++ decimal row.round) ∷ [])
+    let title = codes "What this count promises" in
+    let of_rounds = flat_map (λ row. (codes "Round " ++ decimal row.round) ∷ []) (ends_of v) in
+    in_all places text_in (codes "h2" ∷ []) v (λ row. (codes "Round " ++ decimal row.round) ∷ [])
     (λ full i. ap (λ l. (codes "Round " ++ l) ∷ []) (append-nil (decimal (row_at v.rows i).round)))
-    ∙ ap (λ l. codes "Elected" ∷ codes "Result" ∷ codes "Votes at the end of each round" ∷ l)
+    ∙ ap (λ l. codes "Elected" ∷ codes "Result" ∷ (l ++ codes "Votes at the end of each round" ∷ of_rounds))
+    (in_promise places text_in (codes "h2" ∷ []) v (λ text. title) (λ text. refl))
+    ∙ ap (λ l. codes "Elected" ∷ codes "Result" ∷ (at_nine places title ++ codes "Votes at the end of each round" ∷ l))
     (flat_map_single (λ (row : Row). codes "Round " ++ decimal row.round) (ends_of v))
 
 pub folded_titles : (places : ℕ) (v : SheetList) →
@@ -195,7 +251,7 @@ pub folded_titles : (places : ℕ) (v : SheetList) →
     ≡ map (λ row. codes "Iterations of round " ++ decimal row.round) (ends_of v)
 folded_titles places v =
     in_page places text_in (codes "details" ∷ codes "summary" ∷ []) v
-    (λ row. (codes "Iterations of round " ++ decimal row.round) ∷ []) (λ full i. here i)
+    (λ row. (codes "Iterations of round " ++ decimal row.round) ∷ []) (λ full i. here i) (λ text. refl)
     ∙ flat_map_single (λ (row : Row). codes "Iterations of round " ++ decimal row.round) (ends_of v)
   where
     either : (b : Bool) → (if b then [] else []) ≡ no_part {X = Bool} {Y = List ℕ} b

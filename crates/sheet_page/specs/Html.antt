@@ -14,6 +14,7 @@ use Rattle.sheet_page.specs.declared.part_names.PartNames.TheVariants.{Alone}
 use Rattle.sheet_page.specs.Iterations.{folded}
 use Rattle.sheet_page.specs.Links.{links, part_attributes, part_name}
 use Rattle.sheet_page.specs.Picture.{full_of, round_picture}
+use Rattle.sheet_page.specs.Promised.{promise_part}
 use Rattle.sheet_page.specs.RoundEnds.{settled_at}
 use Rattle.sheet_page.specs.RoundTable.{table_frame}
 use Rattle.sheet_page.specs.Style.{style}
@@ -120,7 +121,7 @@ heading v =
 abbrev pub sheet_parts : PartNames → (places : ℕ) → SheetList → Trees
 sheet_parts names places v =
     all (
-    heading v ∷ links names v ∷ elected_part v ∷ result_part v ∷ rounds_part names places v
+    heading v ∷ links names v ∷ elected_part v ∷ result_part v ∷ promise_part places v ∷ rounds_part names places v
     ∷ round_parts names places v (full_of v.rows) ∷ []
     )
 

@@ -17,6 +17,7 @@ pub mod Bars
 pub mod Picture
 pub mod Iterations
 pub mod Told
+pub mod Promised
 pub mod Links
 pub mod RoundTable
 pub mod Html

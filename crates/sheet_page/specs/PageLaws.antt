@@ -55,6 +55,10 @@ PagesListTheirElected = (places : ℕ) (v : SheetList) → ListsItsElected place
 
 -- ---- rounds
 
+-- what a page has at nine places alone
+abbrev pub at_nine : {X : Type 0} → (places : ℕ) → X → List X
+at_nine places x = if nat_eq places 9 then x ∷ [] else []
+
 -- The last iteration of each round, with what the candidates are behind it: as before the next one, or as in the end. A round
 -- goes on as long as its number stays.
 abbrev pub round_ends : List Row → (last : List State) → List Row
@@ -104,24 +108,29 @@ amounts_line places v row =
     ∷ text_of places (left_over places v.ballots row) ∷ codes "." ∷ rest_line places row ∷ []
     )
 
+-- where the lines of a promise are explained
+abbrev pub promise_said : List ℕ
+promise_said = codes "Anybody can work out these lines from the sheet: docs/FORMATS.md says how, under What one count promises."
+
 -- A page has a part with a title for each round, with a label for each candidate who has a bar and its iterations within the part; and the
 -- table has a column for each round below its number, and a line for the quota, for what is on no candidate, and for each
--- candidate; and there is a link to each round. All stand in the order of the rounds, and there is no other.
+-- candidate; and there is a link to each round. All stand in the order of the rounds. Before them are the parts of who is
+-- elected, of the result, at nine places of the promise, and of the table, and there is no other.
 pub record HasItsRounds (places : ℕ) (v : SheetList) : Type 0 where
   pub links :
       texts_along (codes "html" ∷ codes "body" ∷ codes "main" ∷ codes "nav" ∷ codes "ul" ∷ codes "li" ∷ []) (page places v)
       ≡ map (λ row. codes "Round " ++ decimal row.round) (ends_of v)
   pub titles :
       texts_along (below (codes "h2" ∷ [])) (page places v)
-      ≡ codes "Elected" ∷ codes "Result" ∷ codes "Votes at the end of each round"
-      ∷ map (λ row. codes "Round " ++ decimal row.round) (ends_of v)
+      ≡ codes "Elected" ∷ codes "Result" ∷ (at_nine places (codes "What this count promises")
+      ++ codes "Votes at the end of each round" ∷ map (λ row. codes "Round " ++ decimal row.round) (ends_of v))
   pub folded :
       texts_along (below (codes "details" ∷ codes "summary" ∷ [])) (page places v)
       ≡ map (λ row. codes "Iterations of round " ++ decimal row.round) (ends_of v)
   pub labels :
       texts_along (below (codes "svg" ∷ codes "text" ∷ [])) (page places v)
       ≡ flat_map (λ row. map (label_text places v row) (filter (has_bar row) (all_places (length v.names)))) (ends_of v)
-  pub amounts : texts_along (below (codes "p" ∷ [])) (page places v) ≡ map (amounts_line places v) (ends_of v)
+  pub amounts : texts_along (below (codes "p" ∷ [])) (page places v) ≡ at_nine places promise_said ++ map (amounts_line places v) (ends_of v)
   pub columns :
       texts_along (below (codes "div" ∷ codes "table" ∷ codes "thead" ∷ codes "tr" ∷ codes "th" ∷ [])) (page places v)
       ≡ codes "Candidate" ∷ map (λ row. decimal row.round) (ends_of v)

@@ -1,8 +1,10 @@
 // A sheet as a page.
+ghost use Rattle.std.specs.Prelude.{◌≡◌};
 ghost use Rattle.page_tree.specs.Print.{printed};
 ghost use Rattle.piece_text.specs.Writing.{Writes};
 ghost use Rattle.sheet_reader.specs.Form.{IsPrintable};
 ghost use Rattle.sheet_page.specs.Html.{body, content, head, heading, html_of, page, sheet_parts, style_part, window_title};
+ghost use Rattle.sheet_page.specs.Promised.{promised_text};
 ghost use Rattle.sheet_page.specs.Prints.{Prints};
 
 use crate::PartNames;
@@ -11,6 +13,7 @@ use crate::elected::write_elected;
 use crate::links::write_links;
 use crate::pen::Pen;
 use crate::piece::Piece;
+use crate::promised::write_promise;
 use crate::round_parts::write_round_parts;
 use crate::rounds::write_rounds;
 use crate::style::STYLE;
@@ -20,24 +23,31 @@ use byte_edge::{Failed, Sink};
 use page_tree::Attribute;
 use sheet_reader::SheetValuesAt;
 
-/// Writes the values of a sheet as a page.
+/// Writes the values of a sheet as a page, with what the count promises.
 pub(crate) fn write_html<const P: usize, K: Sink>(
     values: &SheetValuesAt<P>,
+    promised: &[u8],
     sink: &mut K,
 ) -> Result<(), Failed>
-    requires { IsPrintable P values.now }
+    requires printable { IsPrintable P values.now }
+    requires promised { promised.now ≡ promised_text P values.now }
     ensures { Writes K.written K.faults sink.old sink.new (html_of P values.now) result }
 {
     let mut pen = Pen::new(sink);
     pen.piece(&Piece::Raw(b"<!DOCTYPE html>"));
-    write_page(&mut pen, values);
+    write_page(&mut pen, values, promised);
     pen.piece(&Piece::Raw(b"\n"));
     pen.end()
 }
 
 /// All behind the line that says that it is HTML.
-fn write_page<const P: usize, K: Sink>(pen: &mut Pen<'_, P, K>, values: &SheetValuesAt<P>)
+fn write_page<const P: usize, K: Sink>(
+    pen: &mut Pen<'_, P, K>,
+    values: &SheetValuesAt<P>,
+    promised: &[u8],
+)
     requires printable { IsPrintable P values.now }
+    requires promised { promised.now ≡ promised_text P values.now }
     ensures { Prints K.Sink pen.old pen.new (printed (page P values.now)) }
 {
     pen.start(
@@ -48,7 +58,7 @@ fn write_page<const P: usize, K: Sink>(pen: &mut Pen<'_, P, K>, values: &SheetVa
         }],
     );
     write_head(pen, values);
-    write_body(pen, values);
+    write_body(pen, values, promised);
     pen.close(b"html");
 }
 
@@ -105,38 +115,51 @@ pub fn write_style<const P: usize, K: Sink>(pen: &mut Pen<'_, P, K>)
 }
 
 /// What is seen of the page.
-fn write_body<const P: usize, K: Sink>(pen: &mut Pen<'_, P, K>, values: &SheetValuesAt<P>)
+fn write_body<const P: usize, K: Sink>(
+    pen: &mut Pen<'_, P, K>,
+    values: &SheetValuesAt<P>,
+    promised: &[u8],
+)
     requires printable { IsPrintable P values.now }
+    requires promised { promised.now ≡ promised_text P values.now }
     ensures { Prints K.Sink pen.old pen.new (printed (body P values.now)) }
 {
     pen.open(b"body");
-    write_content(pen, values);
+    write_content(pen, values, promised);
     pen.close(b"body");
 }
 
 /// What a page is for.
-fn write_content<const P: usize, K: Sink>(pen: &mut Pen<'_, P, K>, values: &SheetValuesAt<P>)
+fn write_content<const P: usize, K: Sink>(
+    pen: &mut Pen<'_, P, K>,
+    values: &SheetValuesAt<P>,
+    promised: &[u8],
+)
     requires printable { IsPrintable P values.now }
+    requires promised { promised.now ≡ promised_text P values.now }
     ensures { Prints K.Sink pen.old pen.new (printed (content P values.now)) }
 {
     pen.open(b"main");
-    write_sheet_parts(pen, PartNames::Alone, values);
+    write_sheet_parts(pen, PartNames::Alone, values, promised);
     pen.close(b"main");
 }
 
-/// Writes all that a page shows of a sheet.
+/// Writes all that a page shows of a sheet, with what the count promises.
 pub fn write_sheet_parts<const P: usize, K: Sink>(
     pen: &mut Pen<'_, P, K>,
     names: PartNames,
     values: &SheetValuesAt<P>,
+    promised: &[u8],
 )
     requires printable { IsPrintable P values.now }
+    requires promised { promised.now ≡ promised_text P values.now }
     ensures { Prints K.Sink pen.old pen.new (printed (sheet_parts names P values.now)) }
 {
     write_heading(pen, values);
     write_links(pen, names, values);
     write_elected(pen, values);
     write_result(pen, values);
+    write_promise(pen, promised);
     write_rounds(pen, names, values);
     write_round_parts(pen, names, values, sheet_full(values));
 }

@@ -1,5 +1,5 @@
 // An input that is shown as a sheet.
-ghost use Rattle.std.specs.Prelude.{◌≤◌, length};
+ghost use Rattle.std.specs.Prelude.{◌≡◌, ◌≤◌, length};
 ghost use Rattle.sheet_input.specs.declared.sheet_limit.TheConstants.{SHEET_LIMIT};
 ghost use Rattle.tool_edge.specs.Finishing.{Finishes, FinishesOwed};
 ghost use Rattle.tool_edge.specs.Streams.{writing};
@@ -7,15 +7,17 @@ ghost use Rattle.tool_edge.specs.Tool.{IsOwedFor, no_history};
 ghost use Rattle.piece_text.specs.Writing.{Writes};
 ghost use Rattle.sheet_reader.specs.Form.{IsPrintable};
 ghost use Rattle.sheet_page.specs.Owed.{shown_as, shows};
+ghost use Rattle.sheet_page.specs.Promised.{promised_text};
 
 use crate::Format;
 use crate::csv::{write_csv, write_marked_csv};
 use crate::html::write_html;
 use crate::json::write_json;
 use byte_edge::{Failed, Sink};
+use count_promise::promise_of;
 use sheet_input::SheetFault;
 use sheet_minutes::write_minutes;
-use sheet_reader::{SheetStop, SheetValuesAt, read_sheet};
+use sheet_reader::{SheetStop, SheetValues, SheetValuesAt, read_sheet};
 use std::alloc::Global;
 use tool_edge::{End, close, refuse};
 
@@ -35,28 +37,52 @@ pub fn show_sheet<K: Sink>(
     macro_rules! show_at {
         ($($at:literal)*) => {
             $(match read_sheet::<$at>(alloc, input) {
-                Ok(values) => return show_values(format, &values, sink),
+                Ok(values) => return show_values(format, &values, b"", sink),
                 Err(SheetStop::Malformed) => {}
                 Err(SheetStop::NoMemory) => return End::NoMemory,
             })*
         };
     }
-    show_at!(9 8 7 6);
+    match read_sheet::<9>(alloc, input) {
+        Ok(values) => return show_promised(alloc, format, &values, sink),
+        Err(SheetStop::Malformed) => {}
+        Err(SheetStop::NoMemory) => return End::NoMemory,
+    }
+    show_at!(8 7 6);
     refuse(sink, SheetFault::Malformed)
+}
+
+/// Shows the values of a sheet of nine places, with what the count promises.
+fn show_promised<K: Sink>(
+    alloc: Global,
+    format: Format,
+    values: &SheetValues,
+    sink: &mut K,
+) -> End<SheetFault>
+    requires { IsPrintable 9 values.now }
+    ensures { FinishesOwed (λ due bytes. (due ≡ End.Done) × (bytes ≡ shown_as 9 format values.now)) result
+        (writing K.written K.faults sink.old sink.new) }
+{
+    match promise_of(alloc, values) {
+        Ok(promised) => show_values(format, values, promised.bytes(), sink),
+        Err(_) => End::NoMemory,
+    }
 }
 
 /// Shows the values of a sheet.
 fn show_values<const P: usize, K: Sink>(
     format: Format,
     values: &SheetValuesAt<P>,
+    promised: &[u8],
     sink: &mut K,
 ) -> End<SheetFault>
     requires places { (6 ≤ P) × (P ≤ 9) }
     requires printable { IsPrintable P values.now }
+    requires promised { promised.now ≡ promised_text P values.now }
     ensures { Finishes End.Done (shown_as P format values.now) result
         (writing K.written K.faults sink.old sink.new) }
 {
-    let wrote = write_values(format, values, sink);
+    let wrote = write_values(format, values, promised, sink);
     close(sink, wrote)
 }
 
@@ -64,14 +90,16 @@ fn show_values<const P: usize, K: Sink>(
 fn write_values<const P: usize, K: Sink>(
     format: Format,
     values: &SheetValuesAt<P>,
+    promised: &[u8],
     sink: &mut K,
 ) -> Result<(), Failed>
     requires places { (6 ≤ P) × (P ≤ 9) }
     requires printable { IsPrintable P values.now }
+    requires promised { promised.now ≡ promised_text P values.now }
     ensures { Writes K.written K.faults sink.old sink.new (shown_as P format values.now) result }
 {
     match format {
-        Format::Html => write_html(values, sink),
+        Format::Html => write_html(values, promised, sink),
         Format::Csv => write_csv(values, sink),
         Format::MarkedCsv => write_marked_csv(values, sink),
         Format::Json => write_json(values, sink),

@@ -1,7 +1,5 @@
-use Rattle.std.proofs.Common.{[], ◌∷◌}
+use Rattle.std.proofs.Common.{[]}
 use Rattle.std.specs.Prelude.{codes}
-use Rattle.page_tree.specs.Print.{closing, opening, printed}
-use Rattle.page_tree.specs.Trees.{Element, Nothing}
 use Rattle.sheet_page.specs.declared.part_names.PartNames.TheVariants.{Alone}
 use Rattle.sheet_page.specs.Html.{sheet_parts}
 use Rattle.sheet_page.proofs.Printing.{enclosed}

@@ -9,7 +9,7 @@ returns-in-Ok-read_sheet g c =
     let at =
     own_at input 8 _ (omega arith) (omega arith) c.in-Ok-read_sheet.ensures
     (none_above_less input 8 (none_above_nine input) not_nine) in
-    values_owed 8 c.args.format input _ _ _ c.requires at c.show_values-in-Ok-read_sheet.ensures
+    values_owed 8 c.args.format input _ _ _ c.requires at c.show_values.ensures
 
 pub returns-in-Ok-read_sheet-2 : goal.returns-in-Ok-read_sheet-2
 returns-in-Ok-read_sheet-2 g c =
