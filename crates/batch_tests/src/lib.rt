@@ -1,4 +1,4 @@
-//! Tests of the public calls of batch_core and call_register.
+//! Tests of the public calls of batch_core.
 #![tactic(auto)]
 
 #[cfg(test)]
@@ -10,16 +10,4 @@ mod change;
 #[cfg(test)]
 mod entries;
 #[cfg(test)]
-mod entry_lists;
-#[cfg(test)]
-mod history;
-#[cfg(test)]
-mod long_day;
-#[cfg(test)]
-mod marks;
-#[cfg(test)]
-mod register;
-#[cfg(test)]
 mod shard;
-#[cfg(test)]
-mod weaving;

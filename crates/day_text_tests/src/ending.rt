@@ -1,6 +1,9 @@
 // Tests of day_text: what stands in the end. It was worked out by hand from the calls.
+ghost use Rattle.std.specs.Prelude.{◌≤◌};
+
 use crate::sample::{ONE_TEAM, SIX_PLACES};
-use day_text::{BatchEnd, end_of_day, read_day_text};
+use day_text::{BatchEnd, DayEnd, end_of_day, read_day_text};
+use std::alloc::Global;
 use std::test::Fail;
 
 // Batch 3 is withdrawn, 2 is corrected twice, 9999 stands as it was entered; stale and gone calls change nothing.
@@ -20,10 +23,17 @@ fn batch(number: u32, revision: u32, stands: bool) -> BatchEnd {
     }
 }
 
+/// What stands in the end of a text of so many places.
+fn end_of<const P: usize>(alloc: Global, text: &[u8]) -> Result<DayEnd, Fail>
+    requires places { (6 ≤ P) × (P ≤ 9) }
+{
+    let day = read_day_text::<P>(alloc, text)?;
+    Ok(end_of_day(alloc, &day.history)?)
+}
+
 #[test]
 fn batches_stand_or_are_gone(rt: HostRuntime) -> Result<(), Fail> {
-    let day = read_day_text::<9>(rt.alloc(), CALLS)?;
-    let end = end_of_day(rt.alloc(), &day.history)?;
+    let end = end_of::<9>(rt.alloc(), CALLS)?;
     let due = [batch(2, 3, true), batch(3, 2, false), batch(9_999, 1, true)];
     assert_eq!(rt; end.batches.as_slice(), due.as_slice());
     assert_eq!(rt; end.struck.as_slice(), [5, 1].as_slice());
@@ -32,12 +42,10 @@ fn batches_stand_or_are_gone(rt: HostRuntime) -> Result<(), Fail> {
 
 #[test]
 fn a_day_of_one_team_ends(rt: HostRuntime) -> Result<(), Fail> {
-    let day = read_day_text::<9>(rt.alloc(), ONE_TEAM)?;
-    let end = end_of_day(rt.alloc(), &day.history)?;
+    let end = end_of::<9>(rt.alloc(), ONE_TEAM)?;
     assert_eq!(rt; end.batches.as_slice(), [batch(7, 2, true)].as_slice());
     assert_eq!(rt; end.struck.len(), 0);
-    let day = read_day_text::<6>(rt.alloc(), SIX_PLACES)?;
-    let end = end_of_day(rt.alloc(), &day.history)?;
+    let end = end_of::<6>(rt.alloc(), SIX_PLACES)?;
     assert_eq!(rt;
         (end.batches.len(), end.struck.as_slice()),
         (1, [1].as_slice())

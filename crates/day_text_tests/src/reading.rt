@@ -1,9 +1,10 @@
 // Tests of day_text: reading.
-use crate::sample::{EACH_KIND, ONE_TEAM, SIX_PLACES, with_piece};
-use batch_core::{Call, Change, Entry, Reply};
+use crate::sample::{EACH_KIND, ONE_TEAM, SIX_PLACES};
+use batch_core::{Call, Change, Entries, Entry, Reply};
 use candidate_roll::State;
-use day_text::{DayStop, day_places, read_day_text};
+use day_text::{DaySheet, DaySheets, DayStop, day_places, read_day_text};
 use meek_rule::Step;
+use sample_runs::with_piece;
 use std::alloc::Global;
 use std::process::Abort;
 use std::test::Fail;
@@ -35,8 +36,25 @@ fn brought(call: &Call) -> (u64, u32) {
 }
 
 /// Who called what, and the reply.
-fn answered(entry: &Entry) -> (u32, (u8, u32, u32), Reply) {
+type Answered = (u32, (u8, u32, u32), Reply);
+
+fn answered(entry: &Entry) -> Answered {
     (entry.caller, called(&entry.call), entry.reply)
+}
+
+/// These calls were made, with these replies.
+fn has_calls(rt: &impl Abort, history: &Entries, due: &[Answered]) {
+    assert_eq!(rt; history.len(), due.len());
+    for (entry, due) in history.items().iter().zip(due) {
+        assert_eq!(rt; answered(entry), *due);
+    }
+}
+
+/// No entry brings ballots.
+fn brings_none(rt: &impl Abort, entries: &[Entry]) {
+    for entry in entries {
+        assert_eq!(rt; brought(&entry.call), (0, 0));
+    }
 }
 
 #[test]
@@ -48,19 +66,13 @@ fn a_text_says_its_calls(rt: HostRuntime) -> Result<(), Fail> {
         (1, (3, 8, 1), Reply::Unknown),
         (0, (4, 0, 0), Reply::Frozen),
     ];
-    assert_eq!(rt; day.history.len(), 4);
-    for (entry, due) in day.history.items().iter().zip(due) {
-        assert_eq!(rt; answered(entry), due);
-        assert_eq!(rt; brought(&entry.call), (0, 0));
-    }
+    has_calls(&rt, &day.history, &due);
+    brings_none(&rt, day.history.items());
     Ok(())
 }
 
-#[test]
-fn a_text_says_its_sheets(rt: HostRuntime) -> Result<(), Fail> {
-    let day = read_day_text::<9>(rt.alloc(), ONE_TEAM)?;
-    assert_eq!(rt; day.sheets.len(), 1);
-    let sheet = day.sheets.items().first().ok_or("no sheet")?;
+/// The sheet of the board, at call 4.
+fn is_of_the_board(rt: &impl Abort, sheet: &DaySheet<9>) -> Result<(), Fail> {
     let values = &sheet.values;
     assert_eq!(rt;
         (sheet.freeze, values.title.bytes()),
@@ -81,38 +93,46 @@ fn a_text_says_its_sheets(rt: HostRuntime) -> Result<(), Fail> {
 }
 
 #[test]
+fn a_text_says_its_sheets(rt: HostRuntime) -> Result<(), Fail> {
+    let day = read_day_text::<9>(rt.alloc(), ONE_TEAM)?;
+    assert_eq!(rt; day.sheets.len(), 1);
+    is_of_the_board(&rt, day.sheets.items().first().ok_or("no sheet")?)
+}
+
+// The calls of EACH_KIND, and the titles of its sheets.
+const EACH_CALL: [Answered; 15] = [
+    (1, (1, 1, 0), Reply::Entered),
+    (16, (1, 9_999, 0), Reply::Exists(9_999)),
+    (2, (2, 1, 9_999), Reply::Corrected(9_999)),
+    (2, (2, 9_999, 1), Reply::Stale(3)),
+    (2, (3, 8, 1), Reply::Unknown),
+    (2, (3, 1, 3), Reply::Withdrawn(1)),
+    (2, (3, 1, 4), Reply::Gone(4)),
+    (2, (2, 5, 9_999), Reply::Spent),
+    (10, (5, 250, 0), Reply::Struck),
+    (3, (5, 1, 0), Reply::AlreadyStruck),
+    (3, (4, 0, 0), Reply::Frozen),
+    (3, (4, 0, 0), Reply::Entered),
+    (3, (5, 7, 0), Reply::Gone(1)),
+    (3, (1, 2, 0), Reply::Frozen),
+    (0, (4, 0, 0), Reply::Frozen),
+];
+
+const EACH_TITLE: [(u64, &[u8]); 3] = [(11, b""), (12, b"end"), (15, b"sheet 16")];
+
+/// There are sheets of these freezes with these titles.
+fn has_titles(rt: &impl Abort, sheets: &DaySheets<9>, due: &[(u64, &[u8])]) {
+    assert_eq!(rt; sheets.len(), due.len());
+    for (sheet, due) in sheets.items().iter().zip(due) {
+        assert_eq!(rt; (sheet.freeze, sheet.values.title.bytes()), *due);
+    }
+}
+
+#[test]
 fn each_kind_of_line_is_read(rt: HostRuntime) -> Result<(), Fail> {
     let day = read_day_text::<9>(rt.alloc(), EACH_KIND)?;
-    let due = [
-        (1, (1, 1, 0), Reply::Entered),
-        (16, (1, 9_999, 0), Reply::Exists(9_999)),
-        (2, (2, 1, 9_999), Reply::Corrected(9_999)),
-        (2, (2, 9_999, 1), Reply::Stale(3)),
-        (2, (3, 8, 1), Reply::Unknown),
-        (2, (3, 1, 3), Reply::Withdrawn(1)),
-        (2, (3, 1, 4), Reply::Gone(4)),
-        (2, (2, 5, 9_999), Reply::Spent),
-        (10, (5, 250, 0), Reply::Struck),
-        (3, (5, 1, 0), Reply::AlreadyStruck),
-        (3, (4, 0, 0), Reply::Frozen),
-        (3, (4, 0, 0), Reply::Entered),
-        (3, (5, 7, 0), Reply::Gone(1)),
-        (3, (1, 2, 0), Reply::Frozen),
-        (0, (4, 0, 0), Reply::Frozen),
-    ];
-    assert_eq!(rt; day.history.len(), 15);
-    for (entry, due) in day.history.items().iter().zip(due) {
-        assert_eq!(rt; answered(entry), due);
-    }
-    let titles = [
-        (11, b"".as_slice()),
-        (12, b"end".as_slice()),
-        (15, b"sheet 16".as_slice()),
-    ];
-    assert_eq!(rt; day.sheets.len(), 3);
-    for (sheet, due) in day.sheets.items().iter().zip(titles) {
-        assert_eq!(rt; (sheet.freeze, sheet.values.title.bytes()), due);
-    }
+    has_calls(&rt, &day.history, &EACH_CALL);
+    has_titles(&rt, &day.sheets, &EACH_TITLE);
     Ok(())
 }
 
@@ -179,6 +199,26 @@ fn has_places<R: Abort>(
     Ok(())
 }
 
+/// The second sheet of nine places behind one of six.
+fn mixed(alloc: Global) -> Result<Vec<u8>, Fail> {
+    with_piece(
+        alloc,
+        SIX_PLACES,
+        24,
+        0,
+        b"round 1 iteration 1\n1 hopeful 1.000000000 2.000000000\n2 hopeful 1.000000000 0.000000000\ntotal 2.000000000\nquota 1.000000001\nsurplus 0.999999999\nelected 1\nstep elected\n",
+    )
+}
+
+/// The text of six places is read at six alone.
+fn is_read_at_six(rt: &impl Abort, alloc: Global) -> Result<(), Fail> {
+    let stop = read_day_text::<9>(alloc, SIX_PLACES).err();
+    assert_eq!(rt; stop, Some(DayStop::Malformed));
+    let sheets = read_day_text::<6>(alloc, SIX_PLACES)?.sheets.len();
+    assert_eq!(rt; sheets, 2);
+    Ok(())
+}
+
 #[test]
 fn a_text_has_its_own_places(rt: HostRuntime) -> Result<(), Fail> {
     has_places(&rt, rt.alloc(), ONE_TEAM, Ok(9))?;
@@ -186,17 +226,7 @@ fn a_text_has_its_own_places(rt: HostRuntime) -> Result<(), Fail> {
     // Without an iteration it has the form at each number of places.
     has_places(&rt, rt.alloc(), EACH_KIND, Ok(9))?;
     has_places(&rt, rt.alloc(), b"title T\n", Err(DayStop::Malformed))?;
-    // The second sheet of nine places behind one of six.
-    let mixed = with_piece(
-        rt.alloc(),
-        SIX_PLACES,
-        24,
-        0,
-        b"round 1 iteration 1\n1 hopeful 1.000000000 2.000000000\n2 hopeful 1.000000000 0.000000000\ntotal 2.000000000\nquota 1.000000001\nsurplus 0.999999999\nelected 1\nstep elected\n",
-    )?;
+    let mixed = mixed(rt.alloc())?;
     has_places(&rt, rt.alloc(), mixed.as_slice(), Err(DayStop::Malformed))?;
-    let stop = read_day_text::<9>(rt.alloc(), SIX_PLACES).err();
-    assert_eq!(rt; stop, Some(DayStop::Malformed));
-    assert_eq!(rt; read_day_text::<6>(rt.alloc(), SIX_PLACES)?.sheets.len(), 2);
-    Ok(())
+    is_read_at_six(&rt, rt.alloc())
 }

@@ -1,6 +1,4 @@
 // Texts of days that were written by hand.
-use std::alloc::Global;
-use std::test::Fail;
 
 // The day of one team in docs/FORMATS.md, "The text of a day".
 pub(crate) const ONE_TEAM: &[u8] =
@@ -30,29 +28,3 @@ pub(crate) const EACH_KIND: &[u8] =
 sheet 11\ntitle \nseats 1\ncandidates 1\nballots 0\nresult\n1 elected end\nend\n\
 sheet 12\ntitle end\nseats 1\ncandidates 1\nballots 0\nresult\n1 elected \nend\n\
 sheet 15\ntitle sheet 16\nseats 1\ncandidates 1\nballots 0\nresult\n1 elected A\nend\n";
-
-/// The text with a piece in the place of so many of its lines, the first of which has this number, from 1.
-pub(crate) fn with_piece(
-    alloc: Global,
-    text: &[u8],
-    first: u64,
-    count: u64,
-    piece: &[u8],
-) -> Result<Vec<u8>, Fail> {
-    let mut changed = Vec::new(alloc);
-    let mut line = 1u64;
-    let mut begins = true;
-    for byte in text {
-        if begins && line == first {
-            changed.extend_from_slice(piece)?;
-        }
-        if line < first || line - first >= count {
-            changed.push(*byte)?;
-        }
-        begins = *byte == b'\n';
-        if begins {
-            line = line.saturating_add(1);
-        }
-    }
-    Ok(changed)
-}

@@ -1,8 +1,8 @@
 // Tests of lent_spread: lent.
 use crate::plan_spread::votes_at;
-use crate::samples::ballots_of;
 use lent_spread::Lent;
 use meek_rule::{FlatSpread, Spread};
+use sample_ballots::ballots_of;
 use std::test::Fail;
 
 /// How many candidates and ballots a distribution says that it has.

@@ -7,11 +7,11 @@ ghost use Rattle.vote_spread.specs.Lanes.{HaveCounted};
 mod classes;
 mod gates;
 
-use crate::samples::{Line, ballots_of};
 use byte_edge::{FreeGate, Gate};
 use fixed_place::{Amount, Amounts, Keep, Keeps};
 use frozen_plan::Plans;
 use meek_rule::Spread;
+use sample_ballots::{Line, ballots_of};
 use std::alloc::Global;
 use std::process::Abort;
 use std::test::Fail;

@@ -1,9 +1,5 @@
-//! Tests of the public calls of shard_office and team_run.
+//! Tests of the public calls of shard_office.
 #![tactic(auto)]
 
 #[cfg(test)]
-mod entries;
-#[cfg(test)]
 mod office;
-#[cfg(test)]
-mod teams;

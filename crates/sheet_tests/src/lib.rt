@@ -1,11 +1,5 @@
-//! Tests of the reader of sheets and the tool that checks them.
+//! Tests of the public calls of sheet_reader.
 #![tactic(auto)]
 
-#[cfg(test)]
-mod check_terms;
-#[cfg(test)]
-mod check_tool;
-#[cfg(test)]
-mod judging;
 #[cfg(test)]
 mod sheet;

@@ -1,8 +1,7 @@
 // Tests of sheet_reader: sheet.
-use crate::judging::with_piece;
 use candidate_roll::State;
 use meek_rule::Step;
-use sample_runs::{SHEET, sheet};
+use sample_runs::{SHEET, sheet, with_piece};
 use sheet_reader::{SheetStop, check_form, read_sheet};
 use std::alloc::Global;
 use std::test::Fail;

@@ -1,4 +1,4 @@
-//! Tests of the public calls of table_text, ballot_marks, ballot_table and import_words.
+//! Tests of the public calls of ballot_table.
 #![tactic(auto)]
 
 #[cfg(test)]
@@ -6,10 +6,4 @@ mod asked;
 #[cfg(test)]
 mod layouts;
 #[cfg(test)]
-mod marks;
-#[cfg(test)]
-mod records;
-#[cfg(test)]
 mod tables;
-#[cfg(test)]
-mod words;

@@ -4,9 +4,9 @@ ghost use Rattle.fixed_place.specs.Rounding.{scale};
 ghost use Rattle.vote_spread.specs.Lanes.{HaveCounted};
 
 use super::{Distribution, SIXTEEN, distributes, gives_all};
-use crate::samples::all_pairs;
 use byte_edge::{Gate, Place};
 use frozen_plan::Plans;
+use sample_ballots::all_pairs;
 use std::alloc::Global;
 use std::process::Abort;
 use std::sync::atomic::{AtomicBool, AtomicU64, Ordering};

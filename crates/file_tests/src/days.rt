@@ -1,4 +1,0 @@
-// Whole day files, worked out by hand.
-mod accepted;
-mod edges;
-mod refused;

@@ -1,0 +1,5 @@
+//! Tests of the public calls of import_words.
+#![tactic(auto)]
+
+#[cfg(test)]
+mod words;

@@ -1,0 +1,5 @@
+//! Tests of the public calls of packed_ballots.
+#![tactic(auto)]
+
+#[cfg(test)]
+mod packed;

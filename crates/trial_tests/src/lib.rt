@@ -1,0 +1,7 @@
+//! Tests of the public calls of meek_cli: made days.
+#![tactic(auto)]
+
+#[cfg(test)]
+mod ends;
+#[cfg(test)]
+mod trials;
