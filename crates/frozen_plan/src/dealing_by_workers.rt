@@ -40,28 +40,28 @@ impl Plans {
         lines_stand_for_ballots();
         let workers = if packed.len() < MANY { 1 } else { workers };
         let deal = Deal::of(packed, shards);
-        let Some(plans) = plans_of(rt, alloc, &deal, workers) else {
-            return Err(NoMemory);
-        };
+        let plans = plans_of(rt, alloc, &deal, workers)?;
         Ok(Plans::of(plans))
     }
 }
 
-/// The plan of each shard, unless memory was wanted for one, by at most so many workers.
+/// The plan of each shard, by at most so many workers.
 fn plans_of<R: Threads + Sync>(
     rt: &R,
     alloc: Global,
     deal: &Deal,
     workers: u32,
-) -> Option<Vec<Plan>>
+) -> Result<Vec<Plan>, NoMemory>
     requires { 1 ≤ workers }
-    ensures { IfSome result (λ plans. AreOfTurns deal.now plans.items) }
+    ensures { IfOk result (λ plans. AreOfTurns deal.now plans.items) }
 {
     let shards = deal.shards();
     let make = |turn: usize| -> Option<Plan>
         requires { turn < deal.now.shards }
         ensures { IfSome result (IsOfShare deal.entry.now.candidates deal.entry.now.shards (turn + 1) deal.entry.now.lines) }
     { deal.plan_of(alloc, turn).ok() };
-    let plans = made_by_workers(rt, alloc, workers, shards as usize, &make)?;
-    Some(plans)
+    let Ok(plans) = made_by_workers(rt, alloc, workers, shards as usize, &make) else {
+        return Err(NoMemory);
+    };
+    Ok(plans)
 }

@@ -39,7 +39,7 @@ pub(crate) fn begin_lanes<const P: usize, R: Threads + Sync, G>(
         requires plans { CanBeCounted candidates plans }
         ensures { IfSome result (AreLanesOf (scale P) candidates plans) }
     { Lanes::begin::<P>(alloc, plans, candidates, workers).ok() };
-    let Some(begun) = done_by_workers(crew.rt, alloc, threads, plans, &begin) else {
+    let Ok(begun) = done_by_workers(crew.rt, alloc, threads, plans, &begin) else {
         return Err(NoMemory);
     };
     Ok(begun)

@@ -1,7 +1,7 @@
 // Tests of shared_work: pieces of work, and places, by one worker and by several.
 ghost use Rattle.std.specs.Prelude.{◌≤◌};
 
-use shared_work::{done_by_workers, made_by_workers};
+use shared_work::{Undone, done_by_workers, made_by_workers};
 use std::alloc::Global;
 use std::process::Abort;
 use std::test::Fail;
@@ -23,8 +23,8 @@ fn five_halves<R: Threads + Abort + Sync>(rt: &R, alloc: Global, workers: u32) -
     let numbers = Vec::from_array(alloc, [8, 2, 6, 0, 4])?;
     let halves = done_by_workers(rt, alloc, workers, numbers, &|number: u64| half(number));
     match halves {
-        Some(halves) => assert_eq!(rt; halves.as_slice(), [4, 1, 3, 0, 2].as_slice()),
-        None => assert!(rt; false),
+        Ok(halves) => assert_eq!(rt; halves.as_slice(), [4, 1, 3, 0, 2].as_slice()),
+        Err(_) => assert!(rt; false),
     }
     Ok(())
 }
@@ -35,7 +35,7 @@ fn no_halves<R: Threads + Abort + Sync>(rt: &R, alloc: Global, workers: u32) -> 
 {
     let numbers = Vec::from_array(alloc, [8, 2, 6, 0, 5])?;
     let halves = done_by_workers(rt, alloc, workers, numbers, &|number: u64| half(number));
-    assert!(rt; halves.is_none());
+    assert!(rt; matches!(halves, Err(Undone::Nothing)));
     Ok(())
 }
 
@@ -45,8 +45,8 @@ fn four_places<R: Threads + Abort + Sync>(rt: &R, alloc: Global, workers: u32) -
 {
     let made = made_by_workers(rt, alloc, workers, 4, &|place: usize| place.checked_mul(3));
     match made {
-        Some(made) => assert_eq!(rt; made.as_slice(), [0, 3, 6, 9].as_slice()),
-        None => assert!(rt; false),
+        Ok(made) => assert_eq!(rt; made.as_slice(), [0, 3, 6, 9].as_slice()),
+        Err(_) => assert!(rt; false),
     }
     Ok(())
 }
@@ -65,8 +65,8 @@ fn what_comes_of_work_stands_in_its_order(rt: HostRuntime) -> Result<(), Fail> {
 fn of_no_work_nothing_comes(rt: HostRuntime) -> Result<(), Fail> {
     let made = made_by_workers(&rt, rt.alloc(), 2, 0, &|place: usize| place.checked_mul(3));
     match made {
-        Some(made) => assert!(rt; made.is_empty()),
-        None => assert!(rt; false),
+        Ok(made) => assert!(rt; made.is_empty()),
+        Err(_) => assert!(rt; false),
     }
     Ok(())
 }

@@ -28,9 +28,7 @@ pub(crate) fn plans_of<R: Threads + Sync>(
     ensures plans { IfOk result (λ plans. ArePlansOf held.now.items plans) }
 {
     let workers = if nodes_of(held) < MANY { 1 } else { workers };
-    let Some(plans) = plans_by(rt, alloc, held, workers) else {
-        return Err(NoMemory);
-    };
+    let plans = plans_by(rt, alloc, held, workers)?;
     Ok(Plans::of(plans))
 }
 
@@ -43,23 +41,25 @@ fn nodes_of(held: &Vec<Held<ShardValue>>) -> usize {
     nodes
 }
 
-/// The plan of each shard, unless memory was wanted for one, by at most so many workers.
+/// The plan of each shard, by at most so many workers.
 fn plans_by<R: Threads + Sync>(
     rt: &R,
     alloc: Global,
     held: &[Held<ShardValue>],
     workers: u32,
-) -> Option<Vec<Plan>>
+) -> Result<Vec<Plan>, NoMemory>
     requires { 1 ≤ workers }
-    ensures as_many { IfSome result (λ plans. vec_len plans ≡ length held.now) }
-    ensures plans { IfSome result (λ plans. ArePlansOf held.now plans.items) }
+    ensures as_many { IfOk result (λ plans. vec_len plans ≡ length held.now) }
+    ensures plans { IfOk result (λ plans. ArePlansOf held.now plans.items) }
 {
     let make = |i: usize| -> Option<Plan>
         requires { i < length held.now }
         ensures { (v : SeenShard) → slice_get held.entry.now i ≡ Some v → IfSome result (IsPlanOf v) }
     { plan_of(alloc, &held[i]).ok() };
-    let plans = made_by_workers(rt, alloc, workers, held.len(), &make)?;
-    Some(plans)
+    let Ok(plans) = made_by_workers(rt, alloc, workers, held.len(), &make) else {
+        return Err(NoMemory);
+    };
+    Ok(plans)
 }
 
 /// The plan of a shard's ballots.

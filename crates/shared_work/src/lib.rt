@@ -4,5 +4,7 @@
 
 mod by_workers;
 mod slot;
+mod undone;
 
 pub use by_workers::{done_by_workers, made_by_workers};
+pub use undone::Undone;

@@ -1,5 +1,5 @@
 // A piece of work and what comes of it.
-ghost use Rattle.std.specs.Prelude.{IfSome, Some};
+ghost use Rattle.std.specs.Prelude.{IfSome};
 
 /// A piece of work until a worker takes it, and then what came of it.
 #[derive(Drop)]
@@ -12,7 +12,7 @@ impl<W: Drop, X: Drop> Slot<W, X> {
     /// Takes the piece and does it.
     pub(crate) fn serve<F: Fn(W) -> Option<X>>(&mut self, each: &F)
         requires { IfSome self.old.work (λ piece. F.pre each.now piece) }
-        ensures { IfSome self.old.work (λ piece. IfSome self.new.done (λ x. F.post each.now piece (Some x))) }
+        ensures { IfSome self.old.work (λ piece. F.post each.now piece self.new.done) }
     {
         if let Some(piece) = self.work.take() {
             self.done = each(piece);

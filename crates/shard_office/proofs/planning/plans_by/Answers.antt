@@ -17,7 +17,7 @@ made_by_workers-requires-sync-F g c κs within =
 
 pub returns-clause-plans : goal.returns-clause-plans
 returns-clause-plans g c i v p ev ep =
-    let plans = c.in_ok-plans.plans in
+    let plans = c.in-Ok.plans in
     let below : i < length c.args.held.now =
-    omega (arith, get_lt plans.items i p ep, plans.ok.0, c.in_ok-plans.ensures.as_many) in
-    subst (IsPlanOf v) (read_at plans.items i p p ep) (c.in_ok-plans.ensures.made i p below v ev)
+    omega (arith, get_lt plans.items i p ep, plans.ok.0, c.in-Ok.ensures.as_many) in
+    subst (IsPlanOf v) (read_at plans.items i p p ep) (c.in-Ok.ensures.made i p below v ev)

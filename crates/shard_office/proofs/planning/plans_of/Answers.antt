@@ -6,4 +6,4 @@ use Rattle.shard_office.proofs.planning.plans_of.Goals as goal
 pub returns-clause-plans : goal.returns-clause-plans
 returns-clause-plans g c =
     subst (λ (held : List SeenShard). ArePlansOf held c.of.result) c.deref.ensures.value
-    (rw c.of.ensures c.in-Some.ensures.plans)
+    (rw c.of.ensures c.in_ok-plans.ensures.plans)

@@ -1,4 +1,5 @@
-use Rattle.std.proofs.Common.{arith}
+use Rattle.std.proofs.Common.{None, Some, Any, subst, arith}
+use Rattle.shared_work.proofs.Pieces.{of_ok}
 use Rattle.shared_work.proofs.Places.{at_places, as_many, made_at}
 use Rattle.shared_work.proofs.by_workers.made_by_workers.Goals as goal
 
@@ -8,9 +9,17 @@ done_by_workers-requires-clause-accepts g c κs within =
 
 pub returns-clause-as_many : goal.returns-clause-as_many
 returns-clause-as_many g c =
-    let size = as_many _ c.args.places c.in-Ok.numbers.items c.in_ok-made.made.items c.in-Ok.ensures c.in_ok-made.ensures in
-    omega (arith, size, c.in_ok-made.made.ok.0)
+    of_ok _ _ c.done_by_workers.result c.done_by_workers.ensures.done (λ made zip.
+    let size = as_many (λ i x. g.F.Fn.post c.args.make.now (i, tt) (Some x)) c.args.places c.in-Ok.numbers.items made.items
+    c.in-Ok.ensures zip in
+    omega (arith, size, made.ok.0))
 
 pub returns-clause-made : goal.returns-clause-made
 returns-clause-made g c =
-    made_at _ c.args.places c.in-Ok.numbers.items c.in_ok-made.made.items c.in-Ok.ensures c.in_ok-made.ensures
+    of_ok _ _ c.done_by_workers.result c.done_by_workers.ensures.done (λ made zip.
+    made_at (λ i x. g.F.Fn.post c.args.make.now (i, tt) (Some x)) c.args.places c.in-Ok.numbers.items made.items
+    c.in-Ok.ensures zip)
+
+pub returns-clause-nothing : goal.returns-clause-nothing
+returns-clause-nothing g c is =
+    subst (Any (λ i. g.F.Fn.post c.args.make.now (i, tt) None)) c.in-Ok.ensures (c.done_by_workers.ensures.nothing is)
