@@ -12,6 +12,7 @@ mod cell;
 mod csv;
 mod digits;
 mod elected;
+mod figures;
 mod format;
 mod html;
 mod items;

@@ -1,28 +1,23 @@
 // The table of votes: a line for each candidate, and a column for each round.
 ghost use Rattle.std.specs.Prelude.{◌≡◌, ◌<◌, ◌≤◌, ◌+◌, codes, length};
 ghost use Rattle.plain_ballots.specs.declared.limits.TheConstants.{MOST_CANDIDATES};
-ghost use Rattle.meek_rule.specs.Row.{HasRoomFor};
 ghost use Rattle.page_tree.specs.Print.{opening, printed};
 ghost use Rattle.sheet_reader.specs.Form.{IsPrintable};
 ghost use Rattle.sheet_minutes.specs.Table.{IsAbout};
 ghost use Rattle.sheet_minutes.specs.Rounds.{left_over, row_at};
 ghost use Rattle.sheet_page.specs.Links.{link_to};
 ghost use Rattle.sheet_page.specs.Prints.{Prints};
-ghost use Rattle.sheet_page.specs.RoundEnds.{settled};
-ghost use Rattle.sheet_page.specs.RoundTable.{amount_cell, candidate_head, candidate_row, caption, cell_at, figure_cell, first_head, frame_attributes, head_row, left_row, line_head, quota_row, round_cell, round_head, rounds_table, standing_cell, table_body, table_frame, table_head, vote_cell};
+ghost use Rattle.sheet_page.specs.RoundTable.{amount_cell, candidate_head, candidate_row, caption, cell_at, first_head, frame_attributes, head_row, left_row, line_head, quota_row, round_cell, round_head, rounds_table, table_body, table_frame, table_head};
 ghost use Rattle.sheet_page.specs.Trees.{print_each};
 ghost use Rattle.sheet_page.specs.Values.{name_at, all_places};
 
 use crate::PartNames;
-use crate::cell::{Cell, amount_text};
-use crate::digits::{main_digits, other_digits};
+use crate::cell::Cell;
+use crate::figures::{write_amount, write_vote};
 use crate::links::link_to;
 use crate::pen::Pen;
 use crate::piece::Piece;
-use crate::values::state_word;
 use byte_edge::Sink;
-use candidate_roll::States;
-use fixed_place::Amount;
 use meek_rule::Row;
 use sheet_minutes::{Entry, ends_round, left_over, states_behind};
 use sheet_reader::SheetValuesAt;
@@ -344,80 +339,5 @@ fn write_candidate<const P: usize, K: Sink>(pen: &mut Pen<'_, P, K>, name: &[u8]
         Piece::Text(Cell::Count(number)),
         Piece::Text(Cell::Bytes(b")")),
         Piece::End(b"th"),
-    ]);
-}
-
-/// A candidate's vote in the last iteration of a round, and what it is behind it.
-fn write_vote<const P: usize, K: Sink>(
-    pen: &mut Pen<'_, P, K>,
-    row: &Row<P>,
-    behind: &States,
-    p: usize,
-)
-    requires room { HasRoomFor (length row.now.states) row.now }
-    requires few { length row.now.states ≤ MOST_CANDIDATES }
-    requires states { length behind.now ≡ length row.now.states }
-    requires place { p < length row.now.states }
-    ensures { Prints K.Sink pen.old pen.new (printed (vote_cell P (settled row.now behind.now) p)) }
-{
-    let text = amount_text(*row.votes.get(p));
-    let state = state_word(*behind.get(p));
-    write_standing(
-        pen,
-        main_digits::<P>(text.bytes()),
-        other_digits::<P>(text.bytes()),
-        state,
-    );
-}
-
-/// An amount as a cell.
-fn write_amount<const P: usize, K: Sink>(pen: &mut Pen<'_, P, K>, amount: Amount<P>)
-    ensures { Prints K.Sink pen.old pen.new (printed (amount_cell P amount.entry)) }
-{
-    let text = amount_text(amount);
-    write_figure(
-        pen,
-        main_digits::<P>(text.bytes()),
-        other_digits::<P>(text.bytes()),
-    );
-}
-
-fn write_figure<'x, const P: usize, K: Sink>(
-    pen: &mut Pen<'_, P, K>,
-    main: &'x [u8],
-    other: &'x [u8],
-)
-    ensures { Prints K.Sink pen.old pen.new (printed (figure_cell main.now other.now)) }
-{
-    pen.write(&[
-        Piece::Start(b"td"),
-        Piece::Text(Cell::Bytes(main)),
-        Piece::Start(b"small"),
-        Piece::Text(Cell::Bytes(other)),
-        Piece::End(b"small"),
-        Piece::End(b"td"),
-    ]);
-}
-
-/// Votes, and a state.
-fn write_standing<'x, const P: usize, K: Sink>(
-    pen: &mut Pen<'_, P, K>,
-    main: &'x [u8],
-    other: &'x [u8],
-    state: &'x [u8],
-)
-    ensures { Prints K.Sink pen.old pen.new (printed (standing_cell main.now other.now state.now)) }
-{
-    pen.write(&[
-        Piece::Start(b"td"),
-        Piece::Text(Cell::Bytes(main)),
-        Piece::Start(b"small"),
-        Piece::Text(Cell::Bytes(other)),
-        Piece::End(b"small"),
-        Piece::Text(Cell::Bytes(b" ")),
-        Piece::Start(b"em"),
-        Piece::Text(Cell::Bytes(state)),
-        Piece::End(b"em"),
-        Piece::End(b"td"),
     ]);
 }
