@@ -3,6 +3,7 @@ use Rattle.std.specs.Prelude.{◌≡◌, ℕ, ◌+◌, ◌-◌, ◌≤◌, List,
 use Rattle.plain_ballots.specs.declared.limits.TheConstants.{MOST_BALLOTS, MOST_CANDIDATES}
 use Rattle.plain_ballots.specs.declared.ballot_line.BallotLine.{BallotLine}
 use Rattle.plain_ballots.specs.Ballots.{BallotList, plain}
+use Rattle.batch_core.specs.declared.limits.TheConstants.{LAST_NUMBER}
 use Rattle.batch_core.specs.declared.batch.Batch.{Batch}
 use Rattle.batch_core.specs.declared.change.Change.{Change}
 use Rattle.batch_core.specs.declared.reply.Reply.{Reply}
@@ -23,7 +24,7 @@ kept_for candidates kept batch = slice_index_or kept (batch - 1) (record { candi
 
 -- for each batch its standing lines are kept
 pub record AreKept (candidates : ℕ) (book : BookState) (kept : List BallotList) : Type 0 where
-  pub all : length kept ≡ 9999
+  pub all : length kept ≡ LAST_NUMBER
   pub of_candidates : (batch : ℕ) → IsInRange batch → (kept_for candidates kept batch).candidates ≡ candidates
   pub lines : (batch : ℕ) → IsInRange batch → (kept_for candidates kept batch).lines ≡ lines_of (book.batches batch)
 

@@ -1,5 +1,6 @@
 // The book of a day, and the board that shows what stands in it.
 ghost use Rattle.std.specs.Prelude.{◌≡◌, ◌-◌, [], ◌∷◌, ◌++◌, length, map, slice_set, OnOk};
+ghost use Rattle.batch_core.specs.declared.limits.TheConstants.{LAST_NUMBER};
 ghost use Rattle.batch_core.specs.Lawful.{IsInRange, IsLawful};
 ghost use Rattle.batch_core.specs.declared.call.Call.TheVariants.{Change as Changes};
 ghost use Rattle.tally_board.specs.Moves.{totals_after};
@@ -57,7 +58,7 @@ impl Hall {
     fn show<R: Wait>(&mut self, rt: &R, batch: u32, ballots: Ballots) -> Result<(), NoMemory>
         requires batch { IsInRange batch }
         requires candidates { ballots.candidates ≡ self.old.scribe.candidates }
-        requires all { length self.old.kept.items ≡ 9999 }
+        requires all { length self.old.kept.items ≡ LAST_NUMBER }
         requires of_candidates { (kept_for self.old.scribe.candidates self.old.kept.items batch).candidates
             ≡ self.old.scribe.candidates }
         requires pending { self.old.scribe.pending ≡ [] }

@@ -1,18 +1,17 @@
 // A hall before the first change.
 ghost use Rattle.std.specs.Prelude.{◌≡◌, ◌≤◌, [], replicate, IfOk};
 ghost use Rattle.plain_ballots.specs.declared.limits.TheConstants.{MOST_CANDIDATES};
+ghost use Rattle.batch_core.specs.declared.limits.TheConstants.{LAST_NUMBER};
 ghost use Rattle.tally_cli.specs.Shown.{IsShown};
 
 use crate::NoMemory;
 use crate::hall::Hall;
+use batch_core::LAST_NUMBER;
 use plain_ballots::Ballots;
 use shard_book::ShardBook;
 use std::alloc::Global;
 use std::sync::Wait;
 use tally_board::open_board;
-
-/// Batches are numbered from 1 to this.
-const BATCHES: usize = 9_999;
 
 /// A hall in which no ballots stand.
 pub(crate) fn open_hall<R: Wait>(rt: &R, alloc: Global, candidates: u32) -> Result<Hall, NoMemory>
@@ -35,10 +34,10 @@ pub(crate) fn open_hall<R: Wait>(rt: &R, alloc: Global, candidates: u32) -> Resu
 /// No ballots for each batch.
 fn nothing_kept(alloc: Global, candidates: u32) -> Result<Vec<Ballots>, NoMemory>
     ensures { IfOk result (λ kept.
-        kept.items ≡ replicate 9999 (record { candidates = candidates; lines = [] })) }
+        kept.items ≡ replicate LAST_NUMBER (record { candidates = candidates; lines = [] })) }
 {
     let mut kept = Vec::new(alloc);
-    for _ in 0..BATCHES {
+    for _ in 0..LAST_NUMBER {
         kept.push(Ballots::new(alloc, candidates))?;
     }
     Ok(kept)
