@@ -28,7 +28,8 @@ pub struct Pieces<R: Threads + Sync> {
 impl<R: Threads + Sync> Threads for Pieces<R> {}
 
 impl<R: Threads + Sync> Pieces<R> {
-    /// By so many workers.
+    /// By so many workers; of fewer than two the caller's thread reads all. What is read is the same for every
+    /// number of them, as the contract of `read_lines` says, so this promises nothing.
     pub fn new(rt: &R, workers: u32) -> Self {
         let _ = rt;
         Pieces {

@@ -27,7 +27,13 @@ returns-clause-rounds c places v = record {
 }
 
 pub returns-clause-iterations : goal.returns-clause-iterations
-returns-clause-iterations c places v = record { heads = iteration_heads places v; candidates = iteration_candidates places v; left_out = left_out }
+returns-clause-iterations c places v =
+    record
+    { heads = iteration_heads places v; candidates = iteration_candidates places v; left_out = left_out }
 
 pub returns-clause-decisions : goal.returns-clause-decisions
-returns-clause-decisions c places v = record { items = (at_nine places (lines_in (promise_text v)), promise_said places v, page_items places v); whole = rounds_whole v.rows }
+returns-clause-decisions c places v =
+    record {
+      items = (at_nine places (lines_in (promise_text v)), promise_said places v, page_items places v);
+      whole = rounds_whole v.rows;
+    }

@@ -86,7 +86,8 @@ returns c =
     let next : c.node-node.result.next ≡ (node_at old.nodes.items c.args.place).next = ap (λ (x : Node). x.next) node in
     let d : (e : ℕ) → HasNode (forest_in old c.args.first) e c.args.before c.args.place
     → IsDropped old c.args.first new c.lead.result e =
-    λ e h. dropped old mid new c.args.first e c.args.before c.args.place c.lead.result h c.requires.apart ends first c.give_back.ensures.nodes c.give_back.ensures.free
+    λ e h. dropped old mid new c.args.first e c.args.before c.args.place c.lead.result h c.requires.apart ends
+    first c.give_back.ensures.nodes c.give_back.ensures.free
     c.give_back.ensures.spare (λ none. c.lead.ensures.begin none ∙ next) c.lead.ensures.untouched
     c.lead.ensures.behind
     (λ some. subst (λ (r : ℕ). new.nodes.items
