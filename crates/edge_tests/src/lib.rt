@@ -1,4 +1,4 @@
-//! Tests of the edge of the program and its tools, of their words, and of made days.
+//! Tests of the edge of the program and its tools, of bytes handed on in pieces, and of made days.
 #![tactic(auto)]
 
 #[cfg(test)]
@@ -12,10 +12,4 @@ mod end;
 #[cfg(test)]
 mod finishing;
 #[cfg(test)]
-mod input_words;
-#[cfg(test)]
-mod lot_words;
-#[cfg(test)]
 mod opening;
-#[cfg(test)]
-mod words;

@@ -1,15 +1,7 @@
-//! Tests of the public calls of meek_rule, meek_count and sheet_text.
+//! Tests of the public calls of meek_rule.
 #![tactic(auto)]
 
 #[cfg(test)]
-mod count;
-#[cfg(test)]
-mod elections;
-#[cfg(test)]
 mod flat_spread;
-#[cfg(test)]
-mod row_text;
-#[cfg(test)]
-mod sheet;
 #[cfg(test)]
 mod situation;

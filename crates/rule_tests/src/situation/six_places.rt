@@ -1,10 +1,10 @@
 // A count at six places, with an omega of one unit.
-use crate::elections::{TEN_FOUR_THREE, ballots_of, omega_of, roll_and_lots};
 use crate::situation::checked::{are_keeps, are_votes, settle_checked};
 use candidate_roll::{Roll, State};
 use fixed_place::{Amount, Amounts};
 use lot_order::Lots;
 use meek_rule::{FlatSpread, Row, Situation, Spread, Step};
+use sample_elections::{TEN_FOUR_THREE, ballots_of, omega_of, roll_and_lots};
 use std::alloc::Global;
 use std::process::Abort;
 use std::test::Fail;

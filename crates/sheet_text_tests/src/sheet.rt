@@ -1,9 +1,9 @@
 // Sheets of small elections, byte for byte.
 ghost use Rattle.std.specs.Prelude.{◌<◌, ◌≤◌};
 
-use crate::elections::{Election, TEN_FOUR_THREE, ballots_of, begin, omega_of, roll_and_lots};
 use byte_edge::MemorySink;
 use fixed_place::Omega;
+use sample_elections::{Election, TEN_FOUR_THREE, ballots_of, begin, omega_of, roll_and_lots};
 use sheet_text::write_sheet;
 use std::alloc::Global;
 use std::process::Abort;
@@ -20,7 +20,6 @@ pub(crate) fn sink_of(alloc: Global, chunk: usize, failing: &[u64]) -> Result<Me
 
 /// Counts an election's ballots and writes its sheet, and says whether it was written whole.
 fn write<const P: usize>(
-    rt: &impl Abort,
     alloc: Global,
     election: &Election,
     omega: Omega,
@@ -30,7 +29,7 @@ fn write<const P: usize>(
 {
     let (roll, lots) = roll_and_lots(alloc, election)?;
     let ballots = ballots_of(alloc, roll.candidates(), election.lines)?;
-    let mut count = begin::<P>(rt, alloc, &roll, &lots, ballots, omega)?;
+    let mut count = begin::<P>(alloc, &roll, &lots, ballots, omega)?;
     Ok(write_sheet(&mut count, sink).is_ok())
 }
 
@@ -46,7 +45,7 @@ fn writes<const P: usize>(
     requires { (6 ≤ P) × (P ≤ 9) }
 {
     let (whole, text) = outcome;
-    let wrote = write::<P>(rt, alloc, election, omega, sink)?;
+    let wrote = write::<P>(alloc, election, omega, sink)?;
     assert_eq!(rt; (wrote, sink.bytes()), (whole, text.as_bytes()));
     Ok(())
 }

@@ -1,12 +1,12 @@
 // Counts of small elections, with the figures that their rules give by hand.
 ghost use Rattle.std.specs.Prelude.{◌≡◌, ◌≤◌, true};
 
-use crate::elections::{Election, TEN_FOUR_THREE, ballots_of, begin, omega_of, roll_and_lots};
 use candidate_roll::{Roll, State};
 use fixed_place::Omega;
 use lot_order::Lots;
 use meek_count::{Count, Turn};
 use meek_rule::{FlatSpread, Row, Step};
+use sample_elections::{Election, TEN_FOUR_THREE, ballots_of, begin, omega_of, roll_and_lots};
 use std::alloc::Global;
 use std::process::Abort;
 use std::test::Fail;
@@ -249,7 +249,7 @@ fn counts_ballots<const P: usize>(
     requires { (6 ≤ P) × (P ≤ 9) }
 {
     let ballots = ballots_of(alloc, roll.candidates(), case.election.lines)?;
-    let mut count = begin::<P>(rt, alloc, roll, lots, ballots, omega)?;
+    let mut count = begin::<P>(alloc, roll, lots, ballots, omega)?;
     goes(rt, &mut count, case);
     Ok(())
 }

@@ -2,12 +2,12 @@
 ghost use Rattle.std.specs.Prelude.{◌≡◌, length};
 ghost use Rattle.meek_rule.specs.Row.{HasRoomFor};
 
-use crate::elections::roll_with;
 use crate::sheet::sink_of;
 use byte_edge::MemorySink;
 use candidate_roll::{Name, Names, Roll, State, States};
 use fixed_place::{Amount, Keep};
 use meek_rule::Row;
+use sample_elections::roll_with;
 use sheet_text::{write_head, write_result, write_row};
 use std::alloc::Global;
 use std::process::Abort;

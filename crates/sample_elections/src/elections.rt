@@ -7,24 +7,23 @@ use candidate_roll::{Name, Names, Roll};
 use fixed_place::Omega;
 use lot_order::Lots;
 use meek_count::Count;
-use meek_rule::{FlatSpread, NoMemory};
+use meek_rule::FlatSpread;
 use plain_ballots::{BallotLine, Ballots, Ranking, lines_stand_for_ballots};
 use std::alloc::Global;
-use std::process::Abort;
 use std::test::Fail;
 
 /// An election: its seats, a letter for each candidate's name, its lots, and how many ballots there are
 /// of each ranking.
 #[derive(Clone, Copy)]
-pub(crate) struct Election {
-    pub(crate) seats: u32,
-    pub(crate) letters: &'static [u8],
-    pub(crate) lots: &'static [u32],
-    pub(crate) lines: &'static [(u32, &'static [u32])],
+pub struct Election {
+    pub seats: u32,
+    pub letters: &'static [u8],
+    pub lots: &'static [u32],
+    pub lines: &'static [(u32, &'static [u32])],
 }
 
 /// Ten ballots for A, four for B and three for C.
-pub(crate) const TEN_FOUR_THREE: Election = Election {
+pub const TEN_FOUR_THREE: Election = Election {
     seats: 2,
     letters: b"ABC",
     lots: &[1, 2, 3],
@@ -41,18 +40,13 @@ fn names_of(alloc: Global, letters: &[u8]) -> Result<Names, Fail> {
 }
 
 /// A roll of these candidates.
-pub(crate) fn roll_with(
-    alloc: Global,
-    seats: u32,
-    names: Names,
-    title: &[u8],
-) -> Result<Roll, Fail> {
+pub fn roll_with(alloc: Global, seats: u32, names: Names, title: &[u8]) -> Result<Roll, Fail> {
     let title = Name::try_new(alloc, title)?;
     Ok(Roll::try_new(alloc, seats, names, title, &[])?)
 }
 
 /// The roll of an election, whose title is `T`, and its lots.
-pub(crate) fn roll_and_lots(alloc: Global, election: &Election) -> Result<(Roll, Lots), Fail> {
+pub fn roll_and_lots(alloc: Global, election: &Election) -> Result<(Roll, Lots), Fail> {
     let names = names_of(alloc, election.letters)?;
     let roll = roll_with(alloc, election.seats, names, b"T")?;
     let lots = Lots::try_new(alloc, election.lots, roll.candidates())?;
@@ -71,7 +65,7 @@ fn add(alloc: Global, ballots: &mut Ballots, line: (u32, &[u32])) -> Result<(), 
 }
 
 /// So many ballots of each ranking.
-pub(crate) fn ballots_of(
+pub fn ballots_of(
     alloc: Global,
     candidates: u32,
     lines: &[(u32, &[u32])],
@@ -84,28 +78,30 @@ pub(crate) fn ballots_of(
 }
 
 /// An omega of so many units.
-pub(crate) fn omega_of(units: u32) -> Result<Omega, Fail> {
+pub fn omega_of(units: u32) -> Result<Omega, Fail> {
     match Omega::new(units) {
         Some(omega) => Ok(omega),
         None => Err(Fail::from("no omega of so many units")),
     }
 }
 
-/// Begins the count of these ballots.
-pub(crate) fn begin<'a, const P: usize>(
-    rt: &impl Abort,
+/// Begins the count of these ballots, where they and the lots are of the roll's candidates.
+pub fn begin<'a, const P: usize>(
     alloc: Global,
     roll: &'a Roll,
     lots: &'a Lots,
     ballots: Ballots,
     omega: Omega,
-) -> Result<Count<'a, P, FlatSpread>, NoMemory>
+) -> Result<Count<'a, P, FlatSpread>, Fail>
     requires { (6 ≤ P) × (P ≤ 9) }
     ensures { IfOk result (HasJustBegun (scale P)) }
 {
     let (candidates, all) = (ballots.candidates(), roll.candidates());
-    assert!(rt; lots.candidates() == all && candidates == all);
+    if lots.candidates() != all || candidates != all {
+        return Err(Fail::from("lots or ballots of other candidates"));
+    }
     let _sound = ballots.lines();
     lines_stand_for_ballots();
-    Count::begin(alloc, roll, lots, FlatSpread::new(ballots), omega)
+    let spread = FlatSpread::new(ballots);
+    Ok(Count::begin(alloc, roll, lots, spread, omega)?)
 }
