@@ -1,7 +1,7 @@
 // Tests of meek_rule: flat spread.
 use fixed_place::{Amount, Amounts, Keep, Keeps};
 use meek_rule::{FlatSpread, Spread};
-use sample_elections::ballots_of;
+use sample_ballots::ballots_of;
 use std::alloc::Global;
 use std::process::Abort;
 use std::test::Fail;

@@ -8,7 +8,8 @@ use fixed_place::Omega;
 use lot_order::Lots;
 use meek_count::Count;
 use meek_rule::FlatSpread;
-use plain_ballots::{BallotLine, Ballots, Ranking, lines_stand_for_ballots};
+use plain_ballots::{Ballots, lines_stand_for_ballots};
+use sample_ballots::Line;
 use std::alloc::Global;
 use std::test::Fail;
 
@@ -19,7 +20,7 @@ pub struct Election {
     pub seats: u32,
     pub letters: &'static [u8],
     pub lots: &'static [u32],
-    pub lines: &'static [(u32, &'static [u32])],
+    pub lines: &'static [Line],
 }
 
 /// Ten ballots for A, four for B and three for C.
@@ -51,30 +52,6 @@ pub fn roll_and_lots(alloc: Global, election: &Election) -> Result<(Roll, Lots),
     let roll = roll_with(alloc, election.seats, names, b"T")?;
     let lots = Lots::try_new(alloc, election.lots, roll.candidates())?;
     Ok((roll, lots))
-}
-
-/// Adds a line.
-fn add(alloc: Global, ballots: &mut Ballots, line: (u32, &[u32])) -> Result<(), Fail> {
-    let (count, ranks) = line;
-    if count == 0 {
-        return Err(Fail::from("a line without ballots"));
-    }
-    let ranking = Ranking::try_new(alloc, ballots.candidates(), ranks)?;
-    ballots.push_line(BallotLine { count, ranking })?;
-    Ok(())
-}
-
-/// So many ballots of each ranking.
-pub fn ballots_of(
-    alloc: Global,
-    candidates: u32,
-    lines: &[(u32, &[u32])],
-) -> Result<Ballots, Fail> {
-    let mut ballots = Ballots::new(alloc, candidates);
-    for line in lines {
-        add(alloc, &mut ballots, *line)?;
-    }
-    Ok(ballots)
 }
 
 /// An omega of so many units.

@@ -4,6 +4,4 @@
 
 mod elections;
 
-pub use elections::{
-    Election, TEN_FOUR_THREE, ballots_of, begin, omega_of, roll_and_lots, roll_with,
-};
+pub use elections::{Election, TEN_FOUR_THREE, begin, omega_of, roll_and_lots, roll_with};

@@ -3,7 +3,8 @@ ghost use Rattle.std.specs.Prelude.{◌<◌, ◌≤◌};
 
 use byte_edge::MemorySink;
 use fixed_place::Omega;
-use sample_elections::{Election, TEN_FOUR_THREE, ballots_of, begin, omega_of, roll_and_lots};
+use sample_ballots::ballots_of;
+use sample_elections::{Election, TEN_FOUR_THREE, begin, omega_of, roll_and_lots};
 use sheet_text::write_sheet;
 use std::alloc::Global;
 use std::process::Abort;
