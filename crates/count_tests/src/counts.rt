@@ -1,9 +1,8 @@
 // Counts of elections worked by hand with their sheets, of an input that ends too early, and over a source or a
 // sink that fails in mid-stream. Expected bytes were worked out by hand.
-use crate::ends::{ends, ends_failing};
 use blt_reader::{FaultKind, InputFault};
 use meek_cli::Status;
-use program_runs::ELECTIONS;
+use program_runs::{ELECTIONS, ends, ends_failing};
 use sample_runs::{FILE, SHEET};
 use std::test::Fail;
 

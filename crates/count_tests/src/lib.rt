@@ -5,8 +5,6 @@
 #[cfg(test)]
 mod counts;
 #[cfg(test)]
-mod ends;
-#[cfg(test)]
 mod flushes;
 #[cfg(test)]
 mod refusals;

@@ -1,7 +1,7 @@
 // Words, files and lots that are refused, each with its line, worked out by hand.
-use crate::ends::ends;
 use blt_reader::{FaultKind, InputFault};
 use meek_cli::Status;
+use program_runs::ends;
 use sample_runs::FILE;
 use std::alloc::Global;
 use std::test::Fail;

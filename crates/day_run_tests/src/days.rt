@@ -1,9 +1,8 @@
 // Whole days: calls with their replies, sheets with the struck withdrawn and at other places, refusals
 // and failing writes. Expected bytes were worked out by hand.
-use crate::ends::{ends, ends_failing};
 use byte_edge::FreeGate;
 use meek_cli::Status;
-use program_runs::{Failing, run};
+use program_runs::{Failing, ends, ends_failing, run};
 use std::alloc::Global;
 use std::process::{Abort, ExitCode};
 use std::sync::Wait;

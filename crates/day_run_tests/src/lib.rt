@@ -2,10 +2,6 @@
 #![tactic(auto)]
 
 #[cfg(test)]
-mod contended;
-#[cfg(test)]
 mod days;
-#[cfg(test)]
-mod ends;
 #[cfg(test)]
 mod teams;

@@ -1,27 +1,14 @@
 // Counts whose ballots are shared among shards and workers: the bytes are those that were worked out by
 // hand for one.
-use byte_edge::{FreeGate, Gate, Place};
+use byte_edge::{Gate, Place};
 use meek_cli::Status;
-use program_runs::{ELECTIONS, Ending, Meeting, add_copies, add_losers, candidates, run};
+use program_runs::{ELECTIONS, Meeting, add_copies, add_losers, candidates, ends, run};
 use sample_runs::{FILE, SHEET};
 use std::alloc::Global;
 use std::process::Abort;
 use std::sync::Wait;
 use std::test::Fail;
 use std::thread::Threads;
-
-/// A run over memory ends so.
-fn ends<R: Threads + Wait + Abort + Sync>(
-    rt: &R,
-    alloc: Global,
-    words: &str,
-    input: &[u8],
-    end: Ending<'_>,
-) -> Result<(), Fail> {
-    let ran = run(rt, alloc, words, input, &FreeGate)?;
-    assert_eq!(rt; ran.ending(), end, "{words}");
-    Ok(())
-}
 
 #[test]
 fn counts_the_sample_in_lanes(rt: HostRuntime) -> Result<(), Fail> {

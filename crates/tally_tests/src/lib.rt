@@ -1,9 +1,5 @@
-//! Tests of the board of first preferences and the tally of a day.
+//! Tests of the public calls of tally_cli: the tally of a day.
 #![tactic(auto)]
 
 #[cfg(test)]
-mod scribe;
-#[cfg(test)]
 mod tally_tool;
-#[cfg(test)]
-mod totals;

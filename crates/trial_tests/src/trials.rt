@@ -1,8 +1,7 @@
 // Made days with their summaries, which were worked out by a program of its own from the rule and from
 // the sequence of the made days.
-use crate::ends::{ends, ends_failing};
 use meek_cli::Status;
-use program_runs::Ending;
+use program_runs::{Ending, ends, ends_failing};
 use std::test::Fail;
 
 const FIRST: &[u8] =
