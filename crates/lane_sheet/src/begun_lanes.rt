@@ -2,6 +2,7 @@
 ghost use Rattle.std.specs.Prelude.{◌≤◌, All, IfOk, IfSome};
 ghost use Rattle.std.specs.List.{AllZip};
 ghost use Rattle.fixed_place.specs.Rounding.{scale};
+ghost use Rattle.vote_spread.specs.declared.limits.TheConstants.{MOST_WORKERS};
 ghost use Rattle.lane_sheet.specs.Begun.{AreLanesOf};
 ghost use Rattle.lane_sheet.specs.Plans.{CanBeCounted};
 
@@ -23,7 +24,7 @@ pub(crate) fn begin_lanes<const P: usize, R: Threads + Sync, G>(
     candidates: u32,
 ) -> Result<Vec<Lanes>, NoMemory>
     requires places { P ≤ 9 }
-    requires workers { (1 ≤ crew.now.workers) × (crew.now.workers ≤ 32) }
+    requires workers { (1 ≤ crew.now.workers) × (crew.now.workers ≤ MOST_WORKERS) }
     requires plans { All (CanBeCounted candidates) plans.items }
     ensures { IfOk result (λ begun. AllZip (AreLanesOf (scale P) candidates) plans.items begun.items) }
 {
@@ -35,7 +36,7 @@ pub(crate) fn begin_lanes<const P: usize, R: Threads + Sync, G>(
     let (alloc, workers) = (crew.alloc, crew.workers);
     let begin = |plans: Plans| -> Option<Lanes>
         requires places { P ≤ 9 }
-        requires workers { (1 ≤ workers) × (workers ≤ 32) }
+        requires workers { (1 ≤ workers) × (workers ≤ MOST_WORKERS) }
         requires plans { CanBeCounted candidates plans }
         ensures { IfSome result (AreLanesOf (scale P) candidates plans) }
     { Lanes::begin::<P>(alloc, plans, candidates, workers).ok() };

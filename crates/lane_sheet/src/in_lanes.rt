@@ -2,6 +2,7 @@
 ghost use Rattle.std.specs.Prelude.{◌≡◌, ◌≤◌, All, length, map};
 ghost use Rattle.fixed_place.specs.Rounding.{scale};
 ghost use Rattle.frozen_plan.specs.Plan.{all_ballots};
+ghost use Rattle.vote_spread.specs.declared.limits.TheConstants.{MOST_WORKERS};
 ghost use Rattle.vote_spread.specs.Lanes.{HaveCounted};
 ghost use Rattle.lane_sheet.specs.Due.{dues_of, WritesOrWants};
 ghost use Rattle.lane_sheet.specs.Plans.{CanBeCounted};
@@ -28,7 +29,7 @@ where
     T: CountText<P>,
     K: Sink,
     requires places { (6 ≤ P) × (P ≤ 9) }
-    requires workers { (1 ≤ crew.now.workers) × (crew.now.workers ≤ 32) }
+    requires workers { (1 ≤ crew.now.workers) × (crew.now.workers ≤ MOST_WORKERS) }
     requires rolls { All (λ roll. length roll.names ≡ length polls.now.lots.now) polls.now.rolls.now }
     requires plans { All (CanBeCounted (length polls.now.lots.now)) plans.items }
     requires takes { T.takes text.now (dues_of polls.now.omega polls.now.lots.now polls.now.rolls.now (map all_ballots plans.items)) }

@@ -2,6 +2,7 @@
 ghost use Rattle.std.specs.Prelude.{◌≡◌, ◌≤◌, length};
 ghost use Rattle.plain_ballots.specs.Ballots.{plain};
 ghost use Rattle.sheet_text.specs.Sheet.{IsSheet};
+ghost use Rattle.vote_spread.specs.declared.limits.TheConstants.{MOST_WORKERS};
 ghost use Rattle.lane_sheet.specs.Due.{WritesOrWants};
 
 use crate::{CountText, Crew, NoMemory, Polls, begin_counts, write_in_lanes};
@@ -55,7 +56,7 @@ pub fn write_sheet_in_lanes<const P: usize, R: Threads + Sync, G: Gate + Sync, K
 ) -> Result<Result<(), Failed>, NoMemory>
     requires places { (6 ≤ P) × (P ≤ 9) }
     requires shards { 1 ≤ crew.now.shards }
-    requires workers { (1 ≤ crew.now.workers) × (crew.now.workers ≤ 32) }
+    requires workers { (1 ≤ crew.now.workers) × (crew.now.workers ≤ MOST_WORKERS) }
     requires lots_of_all { length lots.now ≡ length roll.now.names }
     requires ballots_of_all { ballots.candidates ≡ length roll.now.names }
     ensures { WritesOrWants (IsSheet P omega (plain ballots.lines) roll.now lots.now)

@@ -1,5 +1,6 @@
 // What a run is worked on with.
 ghost use Rattle.std.specs.Prelude.{◌≤◌};
+ghost use Rattle.vote_spread.specs.declared.limits.TheConstants.{MOST_WORKERS};
 
 use crate::split::Split;
 use lane_sheet::Crew;
@@ -19,7 +20,7 @@ impl<'a, R, G> Hands<'a, R, G> {
     /// Those that count.
     pub(crate) fn crew(&self) -> Crew<'a, R, G>
         ensures shards { 1 ≤ result.shards }
-        ensures workers { (1 ≤ result.workers) × (result.workers ≤ 32) }
+        ensures workers { (1 ≤ result.workers) × (result.workers ≤ MOST_WORKERS) }
     {
         Crew {
             rt: self.rt,

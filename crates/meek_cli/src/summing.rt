@@ -1,6 +1,7 @@
 // The count of what stands in the end, and its summary.
 ghost use Rattle.std.specs.Prelude.{◌≡◌, ◌≤◌};
 ghost use Rattle.batch_core.specs.Histories.{IsLegal};
+ghost use Rattle.vote_spread.specs.declared.limits.TheConstants.{MOST_WORKERS};
 ghost use Rattle.lane_sheet.specs.Due.{WritesOrWants};
 ghost use Rattle.meek_cli.specs.MadeDay.{made_day};
 ghost use Rattle.meek_cli.specs.DayText.{terms_of};
@@ -26,7 +27,7 @@ pub fn sum_up<R: Threads + Sync, G: Gate + Sync, K: Sink>(
     standing: Plans,
     sink: &mut K,
 ) -> Result<Result<(), Failed>, NoMemory>
-    requires workers { (1 ≤ crew.now.workers) × (crew.now.workers ≤ 32) }
+    requires workers { (1 ≤ crew.now.workers) × (crew.now.workers ≤ MOST_WORKERS) }
     requires terms { terms.now ≡ terms_of (made_day text.now.number) }
     requires legal { IsLegal text.now.history.now }
     requires numbers { HaveNumbers text.now.history.now }

@@ -1,6 +1,8 @@
 -- Words have at most one form.
 use Rattle.std.proofs.Common.{◌≡◌, ℕ, ◌≤◌, length, Option, Some, None, List, [], ◌∷◌, ap, sym, subst, ◌∙◌, arith, get_or}
 use Rattle.std.specs.List.{flat_map}
+use Rattle.meek_trial.specs.declared.day.TheConstants.{MOST_TRIAL}
+use Rattle.meek_words.specs.declared.limits.TheConstants.{MOST_SHARDS, MOST_WORKERS, SHARDS, WORKERS}
 use Rattle.meek_words.specs.Numerals.{Word, IsNumeralUpTo, IsLotList, number_of}
 use Rattle.meek_words.specs.Parts.{Part, AreParts, Given, values_of, given_of, words_of}
 use Rattle.meek_words.specs.Settings.{IsSetting}
@@ -27,7 +29,7 @@ same_lots (word ∷ []) lots others h k = one_lot_list word lots others h k
 same_lots (word ∷ again ∷ words) lots others h k = absurd h
 
 abbrev IsTrialNumber : ℕ → Word → Type 0
-IsTrialNumber number word = IsNumeralUpTo 1000 word × (number ≡ number_of word)
+IsTrialNumber number word = IsNumeralUpTo MOST_TRIAL word × (number ≡ number_of word)
 
 same_number : (words : List Word) (m n : ℕ) → IsOnce (IsTrialNumber m) words → IsOnce (IsTrialNumber n) words → m ≡ n
 same_number [] m n h k = absurd h
@@ -35,10 +37,10 @@ same_number (word ∷ []) m n h k = h.1 ∙ sym k.1
 same_number (word ∷ again ∷ words) m n h k = absurd h
 
 shards_same : (given : Given) (s w s' w' : ℕ) → HasSettings given s w → HasSettings given s' w' → s ≡ s'
-shards_same given s w s' w' h k = same_setting 64 8 given.shards s s' h.shards_in k.shards_in
+shards_same given s w s' w' h k = same_setting MOST_SHARDS SHARDS given.shards s s' h.shards_in k.shards_in
 
 workers_same : (given : Given) (s w s' w' : ℕ) → HasSettings given s w → HasSettings given s' w' → w ≡ w'
-workers_same given s w s' w' h k = same_setting 32 4 given.workers w w' h.workers_in k.workers_in
+workers_same given s w s' w' h k = same_setting MOST_WORKERS WORKERS given.workers w w' h.workers_in k.workers_in
 
 -- commands of the same first word that the same values say are one
 pub one_says :
@@ -78,10 +80,10 @@ none_at_most : (words : List Word) → words ≡ [] → length words ≤ 1
 none_at_most words e = omega (arith, ap length e)
 
 shards_once : (given : Given) (s w : ℕ) → HasSettings given s w → length given.shards ≤ 1
-shards_once given s w h = setting_once 64 8 given.shards s h.shards_in
+shards_once given s w h = setting_once MOST_SHARDS SHARDS given.shards s h.shards_in
 
 workers_once : (given : Given) (s w : ℕ) → HasSettings given s w → length given.workers ≤ 1
-workers_once given s w h = setting_once 32 4 given.workers w h.workers_in
+workers_once given s w h = setting_once MOST_WORKERS WORKERS given.workers w h.workers_in
 
 -- a command has each option once at most
 says_once :

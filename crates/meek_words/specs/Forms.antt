@@ -1,6 +1,8 @@
 -- The forms of a command line.
 use Rattle.std.specs.Prelude.{◌≡◌, ℕ, List, [], ◌∷◌, codes, All}
 use Rattle.std.specs.List.{flat_map}
+use Rattle.meek_trial.specs.declared.day.TheConstants.{MOST_TRIAL}
+use Rattle.meek_words.specs.declared.limits.TheConstants.{MOST_SHARDS, MOST_WORKERS, SHARDS, WORKERS}
 use Rattle.meek_words.specs.Numerals.{Word, IsNumeralUpTo, IsLotList, number_of}
 use Rattle.meek_words.specs.Settings.{IsSetting}
 use Rattle.meek_words.specs.Parts.{Part, Given, given_of, words_of, HasValue}
@@ -14,8 +16,8 @@ IsOnce P words = ⊥
 
 -- up to 64 shards, if not said 8; up to 32 workers, if not said 4
 pub record HasSettings (given : Given) (shards workers : ℕ) : Type 0 where
-  pub shards_in : IsSetting 64 8 given.shards shards
-  pub workers_in : IsSetting 32 4 given.workers workers
+  pub shards_in : IsSetting MOST_SHARDS SHARDS given.shards shards
+  pub workers_in : IsSetting MOST_WORKERS WORKERS given.workers workers
 
 abbrev pub first_word : Command → Word
 first_word (Count lots shards workers) = codes "count"
@@ -32,7 +34,7 @@ Says (Day shards workers) given =
     HasSettings given shards workers × (given.lots ≡ []) × (given.plain ≡ [])
 Says (Trial number shards workers) given =
     HasSettings given shards workers × (given.lots ≡ [])
-    × IsOnce (λ word. IsNumeralUpTo 1000 word × (number ≡ number_of word)) given.plain
+    × IsOnce (λ word. IsNumeralUpTo MOST_TRIAL word × (number ≡ number_of word)) given.plain
 
 -- the words after the program's name have the form of this command
 pub record HasForm (words : List Word) (command : Command) : Type 0 where

@@ -2,21 +2,12 @@ ghost use Rattle.std.specs.Prelude.{IfNone, IfSome, ℕ};
 ghost use Rattle.meek_words.specs.Settings.{IsSetting};
 ghost use Rattle.meek_words.specs.Values.{words_in};
 
+use crate::limits::{MOST_SHARDS, MOST_WORKERS, SHARDS, WORKERS};
 use crate::numeral::numeral_up_to;
 use crate::values::Values;
 use crate::{LotWords, WordsStop, read_lots};
+use meek_trial::MOST_TRIAL;
 use std::alloc::Global;
-
-const MOST_SHARDS: u32 = 64;
-
-const MOST_WORKERS: u32 = 32;
-
-const MOST_TRIAL: u32 = 1000;
-
-/// How many shards and workers there are where the words say nothing of them.
-const SHARDS: u32 = 8;
-
-const WORKERS: u32 = 4;
 
 /// What the program is asked to do.
 ///

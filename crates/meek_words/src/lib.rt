@@ -8,6 +8,7 @@
 mod command;
 mod found;
 mod laws;
+mod limits;
 mod lot_words;
 mod lots;
 mod numeral;

@@ -31,6 +31,7 @@ mod ending;
 mod entering;
 mod freezing;
 mod laws;
+mod limits;
 mod meeting;
 mod no_memory;
 mod office;
@@ -51,6 +52,7 @@ pub use closing::Closing;
 pub use laws::{
     calls_stand_at_their_marks, histories_go_on, the_clerk_has_seen_all, versions_stay,
 };
+pub use limits::MOST_SHARDS;
 pub use no_memory::NoMemory;
 pub use office::Office;
 pub use pass::Pass;

@@ -4,6 +4,7 @@ ghost use Rattle.plain_ballots.specs.declared.limits.TheConstants.{MOST_CANDIDAT
 ghost use Rattle.batch_core.specs.Book.{batch_of};
 ghost use Rattle.batch_core.specs.Lawful.{IsLawful};
 ghost use Rattle.batch_core.specs.Shards.{shard_of};
+ghost use Rattle.shard_office.specs.declared.limits.TheConstants.{MOST_SHARDS};
 ghost use Rattle.shard_office.specs.Names.{change_entry, strike_answer};
 ghost use Rattle.call_register.specs.declared.mark.Mark.TheVariants.{Freeze, Strike};
 ghost use Rattle.shard_office.specs.Sight.{GoesOn, IsChange, IsStrike, AddsEntry, AddsMark, entries_of};
@@ -53,13 +54,14 @@ pub struct Office {
 impl Model for Office {
     ghost use Rattle.std.specs.Prelude.{◌≡◌, ◌≤◌, length};
     ghost use Rattle.plain_ballots.specs.declared.limits.TheConstants.{MOST_CANDIDATES};
+    ghost use Rattle.shard_office.specs.declared.limits.TheConstants.{MOST_SHARDS};
     ghost use Rattle.shard_office.specs.Office.{OfficeState};
 
     ghost Value = { OfficeState };
 
     ghost view = { λ o. record { shards = o.shards; candidates = o.candidates; identity = record { windows = o.windows.items; register = o.register } } };
 
-    ghost invariant = { λ o. (length o.windows.items ≡ o.shards) × (1 ≤ o.shards) × (o.shards ≤ 64) × (o.candidates ≤ MOST_CANDIDATES) × (1 ≤ o.workers) };
+    ghost invariant = { λ o. (length o.windows.items ≡ o.shards) × (1 ≤ o.shards) × (o.shards ≤ MOST_SHARDS) × (o.candidates ≤ MOST_CANDIDATES) × (1 ≤ o.workers) };
 }
 
 impl Office {
@@ -72,7 +74,7 @@ impl Office {
         workers: u32,
     ) -> Result<(Office, Clerk), NoMemory>
         requires candidates { (1 ≤ candidates) × (candidates ≤ MOST_CANDIDATES) }
-        requires shards { (1 ≤ shards) × (shards ≤ 64) }
+        requires shards { (1 ≤ shards) × (shards ≤ MOST_SHARDS) }
         requires workers { 1 ≤ workers }
         ensures office { IfOk result (λ made. (made.0.shards ≡ shards) × (made.0.candidates ≡ candidates)) }
         ensures desk { IfOk result (λ made. (made.1.desk.office ≡ made.0) × (made.1.desk.caller ≡ 0)) }

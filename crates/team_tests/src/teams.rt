@@ -1,5 +1,6 @@
 // Days of teams: calls on different shards that meet at a gate, and what comes of them.
 ghost use Rattle.std.specs.Prelude.{◌≤◌};
+ghost use Rattle.shard_office.specs.declared.limits.TheConstants.{MOST_SHARDS};
 
 use byte_edge::{FreeGate, Gate, Place};
 use day_reader::read_day;
@@ -57,7 +58,7 @@ fn run_day<R: Threads + Wait + Sync, G: Gate + Sync>(
     shards: u32,
     gate: &G,
 ) -> Result<Versions, Fail>
-    requires { (1 ≤ shards) × (shards ≤ 64) }
+    requires { (1 ≤ shards) × (shards ≤ MOST_SHARDS) }
 {
     scripts_of_a_day_may_run();
     let Ok(day) = read_day(alloc, text) else {

@@ -2,6 +2,7 @@
 use Rattle.std.specs.Prelude.{◌≡◌, ℕ, ◌+◌, ◌<◌, ◌≤◌, List, length, slice_index, sum_by, All}
 use Rattle.plain_ballots.specs.declared.limits.TheConstants.{MOST_BALLOTS}
 use Rattle.meek_rule.specs.Weights.{vote}
+use Rattle.vote_spread.specs.declared.limits.TheConstants.{MOST_WORKERS}
 use Rattle.vote_spread.specs.Stem.{Stem}
 use Rattle.vote_spread.specs.Packed.{StandFor}
 use Rattle.vote_spread.specs.KeepingSeen.{KeepingSeen}
@@ -22,7 +23,7 @@ pub record AreReady (ballots : List (List ℕ)) (stems : List Stem) (keeping : K
   pub few_ballots : length ballots ≤ MOST_BALLOTS
   pub at_most_one : All (λ k. k ≤ keeping.one) keeping.keeps
   pub some : 1 ≤ length lanes
-  pub few : length lanes ≤ 32
+  pub few : length lanes ≤ MOST_WORKERS
   pub of_all : All (λ lane. length lane.tally ≡ length keeping.keeps) lanes
   pub fit : AreFit keeping stems 0 (length lanes) lanes
 

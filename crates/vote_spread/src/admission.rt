@@ -1,5 +1,6 @@
 // A lane's way past its gate.
 ghost use Rattle.std.specs.Prelude.{◌≡◌, ◌<◌};
+ghost use Rattle.vote_spread.specs.declared.limits.TheConstants.{MOST_WORKERS};
 
 use byte_edge::{Gate, Place};
 
@@ -13,7 +14,7 @@ pub(crate) struct Admission {
 
 impl Admission {
     pub(crate) fn pass<G: Gate>(gate: &G, number: usize) -> Admission
-        requires { number < 32 }
+        requires { number < MOST_WORKERS }
         ensures { result.number ≡ number }
     {
         gate.pass(Place::Lane(number as u32 + 1));

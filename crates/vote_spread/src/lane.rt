@@ -1,6 +1,7 @@
 // A worker's lane.
 ghost use Rattle.std.specs.Prelude.{◌≡◌, ◌+◌, ◌^◌, ◌<◌, ◌≤◌, IfOk, length, replicate};
 ghost use Rattle.vote_spread.specs.declared.depths.TheConstants.{DEPTHS};
+ghost use Rattle.vote_spread.specs.declared.limits.TheConstants.{MOST_WORKERS};
 ghost use Rattle.vote_spread.specs.KeepingSeen.{settled};
 ghost use Rattle.vote_spread.specs.Shares.{share, CanCount, HasCounted};
 ghost use Rattle.vote_spread.specs.LaneSeen.{IsFit};
@@ -68,7 +69,7 @@ impl Lane {
     /// admitted, of so many lanes. Where the lane's rows are stale they are made anew.
     pub(crate) fn count(&mut self, task: &Task, admission: Admission, count: usize)
         requires number { admission.number < count }
-        requires few { count ≤ 32 }
+        requires few { count ≤ MOST_WORKERS }
         requires of_all { length self.old.tally ≡ length task.now.keeping.keeps }
         requires can { CanCount task.now.keeping task.now.branches }
         requires fit { IsFit task.now.keeping task.now.branches admission.number count self.old }
@@ -88,7 +89,7 @@ impl Lane {
     /// those are stale.
     fn renew(&mut self, task: &Task, number: usize, count: usize)
         requires number { number < count }
-        requires few { count ≤ 32 }
+        requires few { count ≤ MOST_WORKERS }
         requires walk { IsWalk (length task.now.keeping.keeps) 1 task.now.branches }
         requires fit { IsFit task.now.keeping task.now.branches number count self.old }
         ensures fit { IsFit (settled task.now.keeping) task.now.branches number count self.new }
@@ -105,7 +106,7 @@ impl Lane {
 
 /// The first of `len` branches of share `k` of `count`.
 pub(crate) fn share(len: usize, k: usize, count: usize) -> usize
-    requires { (1 ≤ count) × (k ≤ count) × (count ≤ 32) }
+    requires { (1 ≤ count) × (k ≤ count) × (count ≤ MOST_WORKERS) }
     ensures share { result ≡ share len k count }
     ensures within { result ≤ len }
 {

@@ -3,6 +3,7 @@ ghost use Rattle.std.specs.Prelude.{◌≡◌, ℕ, ◌+◌, ◌<◌, ◌≤◌,
 ghost use Rattle.plain_ballots.specs.declared.limits.TheConstants.{MOST_BALLOTS};
 ghost use Rattle.fixed_place.specs.Rounding.{scale, most};
 ghost use Rattle.frozen_plan.specs.Plan.{all_ballots};
+ghost use Rattle.vote_spread.specs.declared.limits.TheConstants.{MOST_WORKERS};
 ghost use Rattle.vote_spread.specs.KeepingSeen.{KeepingSeen};
 ghost use Rattle.vote_spread.specs.LaneSeen.{AreFit};
 ghost use Rattle.vote_spread.specs.Lanes.{HaveCounted, AreLoaded};
@@ -66,7 +67,7 @@ impl Lanes {
         workers: u32,
     ) -> Result<Lanes, NoMemory>
         requires places { P ≤ 9 }
-        requires workers { (1 ≤ workers) × (workers ≤ 32) }
+        requires workers { (1 ≤ workers) × (workers ≤ MOST_WORKERS) }
         requires plans { All (λ plan. plan.candidates ≡ candidates) plans }
         requires few { length (all_ballots plans) ≤ MOST_BALLOTS }
         ensures scale { IfOk result (λ lanes. lanes.scale ≡ scale P) }
@@ -166,7 +167,7 @@ fn lanes_of(
     workers: u32,
     branches: &Branches,
 ) -> Result<Vec<Lane>, NoMemory>
-    requires { (1 ≤ workers) × (workers ≤ 32) }
+    requires { (1 ≤ workers) × (workers ≤ MOST_WORKERS) }
     ensures as_many { IfOk result (λ lanes. vec_len lanes ≡ workers) }
     ensures of_all { IfOk result (λ lanes. All (λ lane. length lane.tally ≡ candidates) lanes.items) }
     ensures fit { IfOk result (λ lanes. (keeping : KeepingSeen) → keeping.stale ≡ true → AreFit keeping branches.now 0 workers lanes.items) }
@@ -181,7 +182,7 @@ fn lanes_of(
 
 /// For how many rows lane `number` of so many has to have room.
 fn room_of(branches: &Branches, number: usize, count: usize) -> usize
-    requires { (number < count) × (count ≤ 32) }
+    requires { (number < count) × (count ≤ MOST_WORKERS) }
     ensures { result ≡ room_for branches.now (share (length branches.now) number count) (share (length branches.now) (number + 1) count) }
 {
     let from = share(branches.len(), number, count);

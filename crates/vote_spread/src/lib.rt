@@ -14,6 +14,7 @@ mod keeping;
 mod lane;
 mod lanes;
 mod leaving;
+mod limits;
 mod merge;
 mod no_memory;
 mod pack;
@@ -25,5 +26,6 @@ mod task;
 mod walk;
 
 pub use lanes::Lanes;
+pub use limits::MOST_WORKERS;
 pub use no_memory::NoMemory;
 pub use plan_spread::PlanSpread;

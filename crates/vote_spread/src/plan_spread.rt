@@ -5,6 +5,7 @@ ghost use Rattle.fixed_place.specs.Rounding.{scale};
 ghost use Rattle.frozen_plan.specs.Plan.{all_ballots};
 ghost use Rattle.meek_rule.specs.Rule.{Meek};
 ghost use Rattle.meek_rule.specs.Weights.{votes};
+ghost use Rattle.vote_spread.specs.declared.limits.TheConstants.{MOST_WORKERS};
 ghost use Rattle.vote_spread.specs.Runs.{RunsLanes, CanSpread};
 
 use crate::{Lanes, NoMemory};
@@ -55,7 +56,7 @@ impl<const P: usize, F: Fn(&mut Lanes) + Drop> PlanSpread<P, F> {
         run: F,
     ) -> Result<PlanSpread<P, F>, NoMemory>
         requires places { P ≤ 9 }
-        requires workers { (1 ≤ workers) × (workers ≤ 32) }
+        requires workers { (1 ≤ workers) × (workers ≤ MOST_WORKERS) }
         requires plans { All (λ plan. plan.candidates ≡ candidates) plans }
         requires few { length (all_ballots plans) ≤ MOST_BALLOTS }
         requires runs { RunsLanes F.Fn (scale P) run }

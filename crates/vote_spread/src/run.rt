@@ -1,18 +1,17 @@
 // Lanes in threads, or one after another.
 ghost use Rattle.std.specs.Prelude.{◌≡◌, ◌+◌, ◌≤◌, All, length};
+ghost use Rattle.vote_spread.specs.declared.limits.TheConstants.{MOST_WORKERS};
 ghost use Rattle.vote_spread.specs.KeepingSeen.{settled};
 ghost use Rattle.vote_spread.specs.Shares.{CanCount};
 ghost use Rattle.vote_spread.specs.LaneSeen.{AreFit, HaveRun};
 
+use crate::MOST_WORKERS;
 use crate::admission::Admission;
 use crate::lane::Lane;
 use crate::task::Task;
 use byte_edge::Gate;
 use std::thread;
 use std::thread::Threads;
-
-/// No more lanes than these are ever had.
-const MOST: usize = 32;
 
 /// Runs the lanes over their shares of the branches: each in a thread of its own where one can be
 /// had, or all in this one. Each passes the gate at its number, from 1, before its work.
@@ -23,7 +22,7 @@ pub(crate) fn run_lanes<R: Threads + Sync, G: Gate + Sync>(
     task: &Task,
     lanes: &mut [Lane],
 )
-    requires few { length lanes.old ≤ 32 }
+    requires few { length lanes.old ≤ MOST_WORKERS }
     requires of_all { All (λ lane. length lane.tally ≡ length task.now.keeping.keeps) lanes.old }
     requires can { CanCount task.now.keeping task.now.branches }
     requires fit { AreFit task.now.keeping task.now.branches 0 (length lanes.old) lanes.old }
@@ -33,17 +32,17 @@ pub(crate) fn run_lanes<R: Threads + Sync, G: Gate + Sync>(
 {
     let count = lanes.len();
     let run = |first: usize, part: &mut [Lane]|
-        requires { (first + length part.now ≤ count) × (count ≤ 32) × CanCount task.now.keeping task.now.branches × All (λ lane. length lane.tally ≡ length task.now.keeping.keeps) part.now × AreFit task.now.keeping task.now.branches first count part.now }
+        requires { (first + length part.now ≤ count) × (count ≤ MOST_WORKERS) × CanCount task.now.keeping task.now.branches × All (λ lane. length lane.tally ≡ length task.now.keeping.keeps) part.now × AreFit task.now.keeping task.now.branches first count part.now }
         ensures { (length part.exit.now ≡ length part.entry.now) × HaveRun task.entry.now.keeping task.entry.now.branches first count part.exit.now × AreFit (settled task.entry.now.keeping) task.entry.now.branches first count part.exit.now }
     { run_part(gate, task, first, count, part) };
-    let together = if in_threads { 1 } else { MOST };
+    let together = if in_threads { 1 } else { MOST_WORKERS as usize };
     thread::for_each_chunk_mut(rt, lanes, together, &run);
 }
 
 /// Runs some of the lanes one after another.
 fn run_part<G: Gate>(gate: &G, task: &Task, first: usize, count: usize, lanes: &mut [Lane])
     requires numbers { first + length lanes.old ≤ count }
-    requires few { count ≤ 32 }
+    requires few { count ≤ MOST_WORKERS }
     requires of_all { All (λ lane. length lane.tally ≡ length task.now.keeping.keeps) lanes.old }
     requires can { CanCount task.now.keeping task.now.branches }
     requires fit { AreFit task.now.keeping task.now.branches first count lanes.old }

@@ -1,6 +1,7 @@
 // Gates that lanes pass.
 ghost use Rattle.std.specs.Prelude.{◌≡◌, ◌≤◌};
 ghost use Rattle.fixed_place.specs.Rounding.{scale};
+ghost use Rattle.vote_spread.specs.declared.limits.TheConstants.{MOST_WORKERS};
 ghost use Rattle.vote_spread.specs.Lanes.{HaveCounted};
 
 use super::{Distribution, SIXTEEN, distributes, gives_all};
@@ -52,7 +53,7 @@ fn distributes_pairs<'a, R: Threads + Abort + Sync, G: Gate + Sync>(
     alloc: Global,
     lanes: u32,
 ) -> Result<(), Fail>
-    requires { (1 ≤ lanes) × (lanes ≤ 32) }
+    requires { (1 ≤ lanes) × (lanes ≤ MOST_WORKERS) }
 {
     let plans = Plans::of_packed(rt, alloc, all_pairs(alloc)?, 2, lanes)?;
     let run = |lanes: &mut Lanes|
@@ -65,7 +66,7 @@ fn distributes_pairs<'a, R: Threads + Abort + Sync, G: Gate + Sync>(
 
 /// In the first of two distributions each lane is met by all others before its work.
 fn lanes_meet<R: Threads + Abort + Sync>(rt: &R, alloc: Global, lanes: u32) -> Result<(), Fail>
-    requires { (1 ≤ lanes) × (lanes ≤ 32) }
+    requires { (1 ≤ lanes) × (lanes ≤ MOST_WORKERS) }
 {
     let gate = MeetingGate {
         lanes: lanes as u64,
