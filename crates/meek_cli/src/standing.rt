@@ -1,5 +1,6 @@
 // The batches that stand at the end of a history.
 ghost use Rattle.std.specs.Prelude.{◌≡◌, ◌+◌, ◌≤◌};
+ghost use Rattle.batch_core.specs.declared.limits.TheConstants.{LAST_NUMBER};
 ghost use Rattle.batch_core.specs.Book.{empty};
 ghost use Rattle.batch_core.specs.Histories.{IsLegal, after_all};
 ghost use Rattle.meek_cli.specs.Standing.{HaveNumbers, come, gone};
@@ -22,7 +23,7 @@ pub(crate) fn standing_batches(entries: &[Entry]) -> u64
 
 /// How many batches stand after a call with this reply.
 fn standing_then(standing: u64, reply: &Reply) -> u64
-    requires few { standing ≤ 9999 }
+    requires few { standing ≤ LAST_NUMBER }
     requires some { gone reply.now ≤ standing }
     ensures { result + gone reply.now ≡ standing + come reply.now }
 {
