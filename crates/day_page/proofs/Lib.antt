@@ -5,6 +5,7 @@ mod Owing
 mod DayNesting
 mod DayWalks
 mod DayEnds
+mod Articles
 mod Listed
 mod DayNumbers
 mod DayTexts

@@ -1,5 +1,5 @@
 -- What every page of a day shows, and what its JSON and its table say.
-use Rattle.std.specs.Prelude.{◌≡◌, ◌<◌, ◌^◌, ℕ, true, List, [], ◌∷◌, ◌++◌, codes, decimal, length, map, Option, Some, None}
+use Rattle.std.specs.Prelude.{◌≡◌, ◌≢◌, ◌<◌, ◌^◌, ℕ, true, List, [], ◌∷◌, ◌++◌, codes, decimal, length, map, Option, Some, None}
 use Rattle.std.specs.List.{flat_map, range_with_len}
 use Rattle.page_tree.specs.Print.{printed}
 use Rattle.page_tree.specs.Reading.{nests}
@@ -12,9 +12,10 @@ use Rattle.csv_text.specs.Reading.{read, Outside}
 use Rattle.team_run.specs.EntryText.{call_text, caller_text, entry_lines, numbered, reply_text}
 use Rattle.day_text.specs.Form.{HasDayForm}
 use Rattle.day_text.specs.Values.{DayTextList, FrozenSheet}
+use Rattle.sheet_page.specs.Html.{page}
 use Rattle.sheet_page.specs.Json.{joined}
 use Rattle.sheet_page.specs.JsonGrammar.{IsTextOf}
-use Rattle.sheet_page.specs.PageReading.{along, texts_along}
+use Rattle.sheet_page.specs.PageReading.{along, texts_along, unnamed}
 use Rattle.day_page.specs.DayCsv.{day_csv}
 use Rattle.day_page.specs.DayHtml.{day_page}
 use Rattle.day_page.specs.DayJson.{day_json}
@@ -109,6 +110,21 @@ PagesHaveTheirFreezes =
     (places : ℕ) (v : DayTextList)
     → map (texts_along (codes "h1" ∷ [])) (along (below (codes "article" ∷ [])) (day_page places v))
     ≡ map (titles_of (length v.history)) (own_first v.sheets)
+
+-- What the part of a freeze says is what the page of its sheet says, whatever path leads to it. The titles of the first rank are not
+-- meant: of these the part has its own, too.
+abbrev pub PagesSayTheirSheets : Type 0
+PagesSayTheirSheets =
+    (places : ℕ) (v : DayTextList) (name : List ℕ) (path : List (List ℕ)) → name ≢ codes "h1"
+    → map (texts_along (name ∷ path)) (along (below (codes "article" ∷ [])) (day_page places v))
+    ≡ map (λ s. texts_along (below (name ∷ path)) (page places s.values)) (own_first v.sheets)
+
+-- So is what it shows, pictures and all; names of parts and targets of links alone are others.
+abbrev pub PagesShowTheirSheets : Type 0
+PagesShowTheirSheets =
+    (places : ℕ) (v : DayTextList) (name : List ℕ) (path : List (List ℕ)) → name ≢ codes "h1"
+    → map (λ article. map unnamed (along (name ∷ path) article)) (along (below (codes "article" ∷ [])) (day_page places v))
+    ≡ map (λ s. map unnamed (along (below (name ∷ path)) (page places s.values))) (own_first v.sheets)
 
 -- ---- JSON
 

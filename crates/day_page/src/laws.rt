@@ -1,5 +1,5 @@
 // What holds of every page, of all JSON and of every table of a day.
-ghost use Rattle.day_page.specs.Laws.{DayPagesNest, DaysAreJson, JsonSaysItsDay, PagesHaveTheirFreezes, PagesSayTheirCalls, PagesSayTheirEnd, RowsSayTheirCalls, TablesOfCallsAreReadBack};
+ghost use Rattle.day_page.specs.Laws.{DayPagesNest, DaysAreJson, JsonSaysItsDay, PagesHaveTheirFreezes, PagesSayTheirCalls, PagesSayTheirEnd, PagesSayTheirSheets, PagesShowTheirSheets, RowsSayTheirCalls, TablesOfCallsAreReadBack};
 
 use batch_core::lawful_calls_leave_lawful_batches;
 use csv_text::csv_laws;
@@ -15,11 +15,13 @@ pub fn day_pages_nest()
 
 /// The rows of the table of a page are the lines of the calls, as the text of the day has them; its part of the end says
 /// what the book has of each batch that was entered, and who was struck; and each freeze has its part, the office's own
-/// first.
+/// first, which says and shows of its sheet what the page of the sheet does. The call does nothing.
 pub fn pages_say_their_days()
     ensures calls { PagesSayTheirCalls }
     ensures end { PagesSayTheirEnd }
     ensures freezes { PagesHaveTheirFreezes }
+    ensures sheets { PagesSayTheirSheets }
+    ensures shown { PagesShowTheirSheets }
 {}
 
 /// What is written of a day is JSON, and says what the day says: each call with its answer, each batch that was

@@ -29,6 +29,7 @@ mod JsonRows
 mod JsonSheets
 mod WholeRounds
 pub mod PageWalks
+pub mod Unnamed
 mod PageTexts
 mod PageTable
 mod PageIterations
