@@ -18,7 +18,8 @@ use Rattle.meek_cli.specs.Status.{Status}
 use Rattle.meek_cli.specs.DayHistory.{IsHistoryOf}
 use Rattle.meek_cli.specs.DayText.{terms_of, IsDayText}
 use Rattle.meek_cli.specs.Owed.{SaysDay, meek}
-use Rattle.meek_cli.specs.Run.{FinishesDay, PlaysDay, WritesOwed}
+use Rattle.ballot_count.specs.Ending.{WritesOwed}
+use Rattle.meek_cli.specs.Run.{FinishesDay, PlaysDay}
 
 -- A day that is refused is answered by its line, or memory was wanted.
 pub refused_day :

@@ -1,8 +1,6 @@
 mod Sound
-mod Endings
 mod CountEnding
 mod Rooms
-mod WritingBytes
 mod DueTexts
 mod DayOffice
 pub mod DaySheets

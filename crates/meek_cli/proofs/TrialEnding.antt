@@ -32,7 +32,8 @@ use Rattle.meek_cli.specs.MadeDay.{made_day}
 use Rattle.tool_edge.specs.Streams.{Writing}
 use Rattle.meek_cli.specs.Summary.{standing_batches, summary_of, summary_lines, IsSummary, IsSummaryDue}
 use Rattle.meek_cli.specs.Summary.{IsOnlySummary, AreLastStanding}
-use Rattle.meek_cli.specs.Run.{PlaysTrial, WritesOwed}
+use Rattle.ballot_count.specs.Ending.{WritesOwed}
+use Rattle.meek_cli.specs.Run.{PlaysTrial}
 use Rattle.meek_cli.specs.DayHistory.{IsHistoryOf}
 use Rattle.meek_cli.proofs.LastFreeze.{IsClerks}
 

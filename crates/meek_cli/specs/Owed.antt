@@ -1,21 +1,18 @@
 -- What the program accepts, refuses and owes.
 use Rattle.std.specs.Prelude.{◌≡◌, ℕ, List, [], true}
-use Rattle.fixed_place.specs.declared.omega.TheConstants.{USUAL_OMEGA}
-use Rattle.plain_ballots.specs.Ballots.{plain}
 use Rattle.input_text.specs.declared.input_fault.InputFault.{InputFault}
 use Rattle.input_text.specs.Scan.{scan}
-use Rattle.blt_reader.specs.Poll.{Poll}
 use Rattle.input_text.specs.Refusal.{IsAccepted}
-use Rattle.sheet_text.specs.Sheet.{IsSheet}
 use Rattle.batch_core.specs.declared.entry.Entry.{Entry}
 use Rattle.day_reader.specs.declared.day.Day.{Day as DayFile}
 use Rattle.day_reader.specs.Day.{IsDay}
 use Rattle.day_reader.specs.Said.{IsDayRefusal}
 use Rattle.meek_trial.specs.Trial.{trial_day}
-use Rattle.tool_edge.specs.Contest.{SaysContest, IsRefusedContest}
+use Rattle.tool_edge.specs.Contest.{IsRefusedContest}
 use Rattle.tool_edge.specs.Refusals.{file_refusals}
 use Rattle.tool_edge.specs.Tool.{Tool}
 use Rattle.tool_edge.specs.Tools.{IsContestFile}
+use Rattle.ballot_count.specs.Owed.{OwesSheet}
 use Rattle.meek_cli.specs.declared.work.Work.{Work}
 use Rattle.meek_cli.specs.declared.work.Work.TheVariants.{Count, Day, Trial}
 use Rattle.meek_cli.specs.DayText.{terms_of, IsDayText}
@@ -24,12 +21,6 @@ use Rattle.meek_cli.specs.Summary.{IsSummary}
 use Rattle.meek_cli.specs.Work.{AsksFor, limit_of}
 
 -- ---- what is owed
-
--- The sheet that the rule gives over the single ballots, at nine places with the usual omega.
-pub record OwesSheet (lots input : List ℕ) (bytes : List ℕ) : Type 0 where
-  pub poll : Poll
-  pub says : SaysContest lots input poll
-  pub sheet : IsSheet 9 USUAL_OMEGA (plain poll.lines) poll.roll lots bytes
 
 -- The input is the file of this day.
 abbrev pub SaysDay : (input : List ℕ) → DayFile → Type 0

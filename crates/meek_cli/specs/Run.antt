@@ -1,10 +1,10 @@
 -- What the parts of a run come to.
-use Rattle.std.specs.Prelude.{◌≡◌, ◌⊎◌, ℕ, List, [], Result, Ok, Err}
+use Rattle.std.specs.Prelude.{◌≡◌, ◌⊎◌, ℕ, List, []}
 use Rattle.batch_core.specs.declared.entry.Entry.{Entry}
 use Rattle.day_reader.specs.declared.day.Day.{Day as DayFile}
 use Rattle.tool_edge.specs.declared.end.End.TheVariants.{Done, NoMemory}
 use Rattle.tool_edge.specs.Streams.{Writing, NothingWritten}
-use Rattle.tool_edge.specs.Finishing.{Finishes, FinishesOwed, Closes}
+use Rattle.tool_edge.specs.Finishing.{Finishes, FinishesOwed}
 use Rattle.tool_edge.specs.Tool.{IsOwedFor, Works}
 use Rattle.meek_cli.specs.declared.work.Work.TheVariants.{Count, Day, Trial}
 use Rattle.meek_cli.specs.Status.{Status}
@@ -16,17 +16,6 @@ use Rattle.meek_cli.specs.Owed.{meek}
 -- what a count by these lots of this input came to: what is owed was written, or memory was wanted before the first byte
 abbrev pub FinishesCount : (lots input : List ℕ) → Status → Writing → Type 0
 FinishesCount lots input status sink = FinishesOwed (IsOwedFor meek (Count lots) input []) status sink
-
--- the end behind a text that was written, or for which memory was wanted
-abbrev pub EndsBehind : {T E F : Type 0} → Result (Result T E) F → Status → Writing → Type 0
-EndsBehind (Ok wrote) status sink = Closes wrote status sink
-EndsBehind (Err wants) status sink = (status ≡ NoMemory) × NothingWritten sink
-
--- what a run that writes a text like this came to: it was written, or memory was wanted before the first byte
-abbrev pub WritesOwed : (IsText : List ℕ → Type 0) → Status → Writing → Type 0
-WritesOwed IsText status sink =
-    ((status ≡ NoMemory) × NothingWritten sink)
-    ⊎ ((text : List ℕ) × IsText text × Finishes Done text status sink)
 
 -- what a day of this input came to
 abbrev pub FinishesDay : (input : List ℕ) → Status → List Entry → Writing → Type 0

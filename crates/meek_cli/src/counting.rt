@@ -1,29 +1,15 @@
 // A count: from the bytes of a ballot file to the sheet.
-ghost use Rattle.std.specs.Prelude.{◌≡◌, ◌≤◌, List, length, IsPermutation};
-ghost use Rattle.fixed_place.specs.declared.omega.TheConstants.{USUAL_OMEGA};
+ghost use Rattle.std.specs.Prelude.{◌≤◌, length};
 ghost use Rattle.tool_edge.specs.declared.opening.TheConstants.{FILE_LIMIT};
-ghost use Rattle.plain_ballots.specs.declared.ballot_line.BallotLine.{BallotLine};
-ghost use Rattle.plain_ballots.specs.Ballots.{plain};
-ghost use Rattle.sheet_text.specs.Sheet.{IsSheet};
-ghost use Rattle.lane_sheet.specs.Due.{WritesOrWants};
 ghost use Rattle.tool_edge.specs.Streams.{writing};
 ghost use Rattle.meek_cli.specs.Run.{FinishesCount};
 
-use crate::closing::end;
+use crate::Status;
 use crate::hands::Hands;
-use crate::{NoMemory, Status};
-use ballot_pieces::Pieces;
-use blt_reader::StoredElection;
-use byte_edge::{Failed, Gate, Sink};
-use fixed_place::Omega;
-use lane_sheet::write_sheet_in_lanes;
-use packed_ballots::PackedBallots;
-use sheet_text::sheets_are_unique;
+use byte_edge::{Gate, Sink};
 use std::thread::Threads;
-use tool_edge::{StoredContest, refuse_input};
 
-/// Counts the ballots of a file by these lots, and writes the sheet or the refusal. The ballots are packed as
-/// they are read, and the bytes are let go before anything is made of them.
+/// Counts the ballots of a file by these lots, and writes the sheet or the refusal.
 pub(crate) fn count<R: Threads + Sync, G: Gate + Sync, K: Sink>(
     hands: &Hands<'_, R, G>,
     input: Vec<u8>,
@@ -34,42 +20,6 @@ pub(crate) fn count<R: Threads + Sync, G: Gate + Sync, K: Sink>(
     ensures { FinishesCount lots.now input.items result
         (writing K.written K.faults sink.old sink.new) }
 {
-    let pieces = Pieces::new(hands.rt, hands.split.workers());
-    let read = StoredContest::<PackedBallots>::read_by(
-        hands.alloc,
-        lots,
-        input.as_slice(),
-        &pieces,
-    );
-    drop(input);
-    let contest = match read {
-        Ok(contest) => contest,
-        Err(stop) => return refuse_input(sink, stop),
-    };
-    let wrote = count_contest(hands, contest, sink);
-    end(sink, wrote)
-}
-
-/// Deals the packed ballots out among shards, counts them in lanes, and writes the sheet: it is that of any
-/// lines of the same ballots.
-fn count_contest<R: Threads + Sync, G: Gate + Sync, K: Sink>(
-    hands: &Hands<'_, R, G>,
-    contest: StoredContest<PackedBallots>,
-    sink: &mut K,
-) -> Result<Result<(), Failed>, NoMemory>
-    requires lots_of_all { length contest.lots ≡ length contest.election.roll.names }
-    requires ballots_of_all { contest.election.ballots.candidates ≡ length contest.election.roll.names }
-    ensures { (lines : List BallotLine) → IsPermutation (plain contest.election.ballots.lines) (plain lines)
-        → WritesOrWants (IsSheet 9 USUAL_OMEGA (plain lines) contest.election.roll contest.lots)
-        K.written K.faults sink.old sink.new result }
-{
-    let StoredContest {
-        election: StoredElection { ballots, roll },
-        lots,
-    } = contest;
-    sheets_are_unique();
     let crew = hands.crew();
-    let omega = Omega::usual();
-    let wrote = write_sheet_in_lanes::<9, R, G, K>(&crew, ballots, &roll, &lots, omega, sink)?;
-    Ok(wrote)
+    ballot_count::count(&crew, input, lots, sink)
 }

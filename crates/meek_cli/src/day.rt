@@ -9,13 +9,13 @@ ghost use Rattle.meek_cli.specs.DayText.{terms_of, IsDayText};
 ghost use Rattle.meek_cli.specs.Frozen.{AreFrozen};
 ghost use Rattle.meek_cli.specs.Run.{FinishesDay, PlaysDay};
 
-use crate::closing::end;
 use crate::day_counting::count_day;
 use crate::hands::Hands;
 use crate::office::answer_day;
 use crate::played_day::PlayedDay;
 use crate::terms::Terms;
 use crate::{NoMemory, Outcome, Status};
+use ballot_count::end_after;
 use byte_edge::{Failed, Gate, Sink};
 use call_register::History;
 use day_reader::{Day, read_day};
@@ -64,7 +64,7 @@ fn play<R: Threads + Wait + Sync, G: Gate + Sync, K: Sink>(
         versions,
     } = played;
     let wrote = count_at_places(hands, &terms, &history, versions, sink);
-    match end(sink, wrote) {
+    match end_after(sink, wrote) {
         Status::NoMemory => Outcome::without_calls(hands.alloc, Status::NoMemory),
         status => Outcome { status, history },
     }

@@ -3,7 +3,6 @@
 //! for whoever has a history of its own.
 #![tactic(auto)]
 
-mod closing;
 mod counted_out;
 mod counting;
 mod day;

@@ -14,7 +14,6 @@ ghost use Rattle.meek_cli.specs.Standing.{HaveNumbers};
 ghost use Rattle.meek_cli.specs.Summary.{IsSummary};
 ghost use Rattle.meek_cli.specs.Run.{FinishesTrial, PlaysTrial};
 
-use crate::closing::end;
 use crate::day::answer;
 use crate::hands::Hands;
 use crate::made_days::read_made_day;
@@ -23,6 +22,7 @@ use crate::summary_text::SummaryText;
 use crate::summing::sum_up;
 use crate::terms::Terms;
 use crate::{NoMemory, Outcome, Status};
+use ballot_count::end_after;
 use byte_edge::{Failed, Gate, Sink};
 use day_reader::Day;
 use shard_office::Version;
@@ -71,7 +71,7 @@ fn play<R: Threads + Wait + Sync, G: Gate + Sync, K: Sink>(
         history: &history,
     };
     let wrote = sum_up_last(hands, &text, &terms, versions, sink);
-    match end(sink, wrote) {
+    match end_after(sink, wrote) {
         Status::NoMemory => Outcome::without_calls(hands.alloc, Status::NoMemory),
         status => Outcome { status, history },
     }

@@ -1,7 +1,7 @@
 use Rattle.std.proofs.Common.{length}
 use Rattle.tool_edge.specs.Streams.{writing}
 use Rattle.meek_cli.specs.Summary.{IsSummary}
-use Rattle.meek_cli.proofs.Endings.{ended}
+use Rattle.ballot_count.proofs.Endings.{ended}
 use Rattle.meek_cli.proofs.HistoryCalls.{have_numbers}
 use Rattle.meek_cli.proofs.TrialEnding.{played_trial}
 use Rattle.meek_cli.proofs.trial.play.Goals as goal
@@ -18,7 +18,7 @@ returns g c =
     let terms = c.in-Ok.played.terms in
     let history = c.in-Ok.played.history in
     let wrote =
-    ended w f c.args.sink.now c.sum_up_last-wrote.new.sink c.end.new.sink (IsSummary c.args.number terms history)
-    c.sum_up_last-wrote.result c.end.result c.sum_up_last-wrote.ensures c.end.ensures in
-    played_trial c.args.number c.args.day terms history c.end.result (writing w f c.args.sink.now c.end.new.sink)
-    c.in-Ok.ensures.terms c.in-Ok.ensures.history c.in_default-end.not-NoMemory wrote
+    ended w f c.args.sink.now c.sum_up_last-wrote.new.sink c.end_after.new.sink (IsSummary c.args.number terms history)
+    c.sum_up_last-wrote.result c.end_after.result c.sum_up_last-wrote.ensures c.end_after.ensures in
+    played_trial c.args.number c.args.day terms history c.end_after.result (writing w f c.args.sink.now c.end_after.new.sink)
+    c.in-Ok.ensures.terms c.in-Ok.ensures.history c.in_default-end_after.not-NoMemory wrote

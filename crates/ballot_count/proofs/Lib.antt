@@ -1,0 +1,4 @@
+mod WritingBytes
+pub mod Endings
+mod CountEnding
+mod Sound
