@@ -1,11 +1,12 @@
-//! The count office as a program: its words, its standard input and its standard output.
+//! A count as a program: the words `count --lots LIST`, a ballot file on standard input, its sheet on standard output. It
+//! stands on fewer crates than the program of days, so the first count in a checkout builds this one.
 #![tactic(auto)]
 
+use ballot_count::run_count;
 use byte_edge::{FreeGate, StdSink, StdSource};
-use meek_cli::{Status, meek};
 use std::io::{self, BufWriter};
 use std::process::ExitCode;
-use tool_edge::{NO_WORDS, words_of};
+use tool_edge::{End, NO_WORDS, words_of};
 
 /// How many bytes of a sheet are handed to the system at once.
 const ROOM: usize = 1 << 18;
@@ -15,12 +16,12 @@ fn main(rt: HostRuntime) -> ExitCode {
         return ExitCode::from(NO_WORDS);
     };
     let Ok(writer) = BufWriter::with_capacity(rt.alloc(), ROOM, io::writer(&rt)) else {
-        let status: Status = Status::NoMemory;
-        return status.exit_code();
+        let end: End = End::NoMemory;
+        return end.exit_code();
     };
     let mut source = StdSource::new(rt.reader());
     let mut sink = StdSink::new(writer);
-    let outcome = meek(
+    let end = run_count(
         &rt,
         rt.alloc(),
         words.as_slice(),
@@ -28,5 +29,5 @@ fn main(rt: HostRuntime) -> ExitCode {
         &mut sink,
         &FreeGate,
     );
-    outcome.status.exit_code()
+    end.exit_code()
 }
