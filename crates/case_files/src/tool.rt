@@ -1,0 +1,40 @@
+// The tools that cases call.
+
+/// A tool that cases call.
+#[derive(Clone, Copy)]
+pub enum Tool {
+    Draw,
+    Normal,
+    Look,
+    Import,
+    Warren,
+    Check,
+    Audit,
+    Ballots,
+    Page,
+    Promise,
+    Tally,
+    Meek,
+}
+
+impl Tool {
+    /// The tool of this name.
+    pub fn named(name: &str) -> Option<Tool> {
+        let tool = match name {
+            "draw" => Tool::Draw,
+            "normal" => Tool::Normal,
+            "look" => Tool::Look,
+            "import" => Tool::Import,
+            "warren" => Tool::Warren,
+            "check" => Tool::Check,
+            "audit" => Tool::Audit,
+            "ballots" => Tool::Ballots,
+            "page" => Tool::Page,
+            "promise" => Tool::Promise,
+            "tally" => Tool::Tally,
+            "meek" => Tool::Meek,
+            _ => return None,
+        };
+        Some(tool)
+    }
+}

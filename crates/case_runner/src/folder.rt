@@ -1,0 +1,122 @@
+// The files of cases in the folder.
+use crate::run::run;
+use case_files::{Case, CaseReader, lines_of, tell};
+use std::rt::Files;
+use std::sync::Wait;
+use std::thread::Threads;
+use std::{fs, io};
+
+/// The names of the files of cases, in order.
+pub fn file_names(rt: &HostRuntime) -> io::Result<Vec<String>> {
+    let mut names = Vec::new(rt.alloc());
+    for entry in fs::read_dir(rt, ".")? {
+        let entry = entry?;
+        let name = entry.file_name();
+        if name.ends_with(".cases") {
+            names.push(name.to_string(rt.alloc())?)?;
+        }
+    }
+    names.sort_unstable();
+    Ok(names)
+}
+
+/// How many cases were run, and how many of them differ or could not be read.
+#[derive(Clone, Copy)]
+struct Tally {
+    cases: usize,
+    differ: usize,
+}
+
+impl Tally {
+    /// Counts a case, or a file that could not be read, that differs.
+    fn count_different(&mut self) {
+        self.differ = self.differ.saturating_add(1);
+    }
+}
+
+/// Runs a case.
+fn run_case<R: Print + AllocGlobal + Threads + Wait + Sync>(
+    rt: &R,
+    file: &str,
+    case: &Case<'_>,
+    tally: &mut Tally,
+) -> io::Result<()> {
+    tally.cases = tally.cases.saturating_add(1);
+    let is_well = match run(rt, rt.alloc(), case) {
+        Ok(ran) => tell(rt, file, case, &ran)?,
+        Err(_) => {
+            let (name, line) = (case.name, case.line);
+            println!(rt; "{file} line {line}, {name}: no memory")?;
+            false
+        }
+    };
+    if !is_well {
+        tally.count_different();
+    }
+    Ok(())
+}
+
+/// Runs the cases of a file.
+fn run_cases<R: Print + AllocGlobal + Threads + Wait + Sync>(
+    rt: &R,
+    file: &str,
+    lines: &[&str],
+    tally: &mut Tally,
+) -> io::Result<()> {
+    let mut reader = CaseReader::new(rt.alloc());
+    let mut rest = lines;
+    let mut number = 0usize;
+    let before = tally.cases;
+    for line in lines {
+        number = number.saturating_add(1);
+        rest = rest.get(1..).unwrap_or(&[]);
+        match reader.read(rt.alloc(), number, line, rest) {
+            Ok(Some(case)) => run_case(rt, file, &case, tally)?,
+            Ok(None) => {}
+            Err(fault) => {
+                tally.count_different();
+                return println!(rt; "{file} line {}: {fault:?}", reader.line());
+            }
+        }
+    }
+    if tally.cases == before {
+        tally.count_different();
+        println!(rt; "{file}: no case")?;
+    }
+    Ok(())
+}
+
+/// Runs the cases of the file of this name.
+fn run_file<R: Files + Print + AllocGlobal + Threads + Wait + Sync>(
+    rt: &R,
+    file: &str,
+    tally: &mut Tally,
+) -> io::Result<()> {
+    match fs::read_to_string(rt, file) {
+        Ok(text) => {
+            let lines = lines_of(rt.alloc(), text.as_str())?;
+            run_cases(rt, file, lines.as_slice(), tally)
+        }
+        Err(fault) => {
+            tally.count_different();
+            println!(rt; "{file}: {fault}")
+        }
+    }
+}
+
+/// Runs the cases of all files, and gives whether there are any and none differs.
+pub fn run_files<R: Files + Print + AllocGlobal + Threads + Wait + Sync>(
+    rt: &R,
+    names: &[String],
+) -> io::Result<bool> {
+    let mut tally = Tally {
+        cases: 0,
+        differ: 0,
+    };
+    for name in names {
+        run_file(rt, name.as_str(), &mut tally)?;
+    }
+    let Tally { cases, differ } = tally;
+    println!(rt; "{cases} cases, {differ} differ")?;
+    Ok(cases > 0 && differ == 0)
+}

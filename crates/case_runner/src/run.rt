@@ -1,0 +1,69 @@
+// A case's run.
+use ballot_look::look;
+use blt_import::import;
+use blt_normal::normal;
+use byte_edge::{FreeGate, MemorySink, MemorySource, NoMemory};
+use case_files::{Case, Ran, Tool};
+use count_promise::promise;
+use day_audit::audit;
+use day_ballots::ballots;
+use day_page::page;
+use lot_draw::draw_in_public;
+use meek_cli::meek;
+use sheet_check::check;
+use std::alloc::Global;
+use std::process::ExitCode;
+use std::sync::Wait;
+use std::thread::Threads;
+use tally_cli::tally;
+use warren_cli::warren;
+
+/// Calls a tool, and gives its exit status and how many calls its history has.
+fn call<R: Threads + Wait + Sync>(
+    rt: &R,
+    alloc: Global,
+    tool: Tool,
+    words: &[String],
+    source: &mut MemorySource,
+    sink: &mut MemorySink,
+) -> (ExitCode, usize) {
+    let code = match tool {
+        Tool::Draw => draw_in_public(alloc, words, sink).exit_code(),
+        Tool::Normal => normal(rt, alloc, words, source, sink).exit_code(),
+        Tool::Look => look(alloc, words, source, sink).exit_code(),
+        Tool::Import => import(rt, alloc, words, source, sink).exit_code(),
+        Tool::Warren => warren(alloc, words, source, sink).exit_code(),
+        Tool::Check => check(rt, alloc, words, source, sink).exit_code(),
+        Tool::Audit => audit(rt, alloc, words, source, sink).exit_code(),
+        Tool::Ballots => ballots(alloc, words, source, sink).exit_code(),
+        Tool::Page => page(alloc, words, source, sink).exit_code(),
+        Tool::Promise => promise(alloc, words, source, sink).exit_code(),
+        Tool::Tally => tally(rt, alloc, words, source, sink).exit_code(),
+        Tool::Meek => {
+            let outcome = meek(rt, alloc, words, source, sink, &FreeGate);
+            return (outcome.status.exit_code(), outcome.history.entries().len());
+        }
+    };
+    (code, 0)
+}
+
+/// Runs a case's tool.
+pub fn run<R: Threads + Wait + Sync>(
+    rt: &R,
+    alloc: Global,
+    case: &Case<'_>,
+) -> Result<Ran, NoMemory> {
+    let input = case.input.to_vec(alloc)?;
+    let reads = case.failing_reads.to_vec(alloc)?;
+    let writes = case.failing_writes.to_vec(alloc)?;
+    let mut source = MemorySource::new(input, case.read.max(1), reads);
+    let mut sink = MemorySink::with_room(alloc, case.room, case.write.max(1), writes)?;
+    let words = case.words.as_slice();
+    let (code, calls) = call(rt, alloc, case.tool, words, &mut source, &mut sink);
+    let written = sink.bytes().to_vec(alloc)?;
+    Ok(Ran {
+        code,
+        written,
+        calls,
+    })
+}
