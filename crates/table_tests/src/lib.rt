@@ -1,9 +1,11 @@
-//! Tests of the public calls of ballot_table.
+//! Tests of the public calls of table_text, candidate_roll and lot_order whose values no run of a tool shows.
 #![tactic(auto)]
 
 #[cfg(test)]
-mod asked;
+mod lots;
 #[cfg(test)]
-mod layouts;
+mod names;
 #[cfg(test)]
-mod tables;
+mod records;
+#[cfg(test)]
+mod rolls;

@@ -1,5 +1,0 @@
-//! Tests of the public calls of preflib_text.
-#![tactic(auto)]
-
-#[cfg(test)]
-mod texts;
