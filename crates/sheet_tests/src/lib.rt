@@ -1,5 +1,10 @@
-//! Tests of the public calls of sheet_reader.
+//! Tests of sheets and pages that no run of a tool can show: the form of a sheet byte by byte, texts and elements of
+//! a page, and records of a table.
 #![tactic(auto)]
 
 #[cfg(test)]
-mod sheet;
+mod element;
+#[cfg(test)]
+mod form;
+#[cfg(test)]
+mod record;
