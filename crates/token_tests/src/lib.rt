@@ -1,5 +1,0 @@
-//! Tests of the public calls of input_text.
-#![tactic(auto)]
-
-#[cfg(test)]
-mod tokens;
