@@ -1,60 +1,70 @@
-// Tests of plain_ballots: ballots.
-ghost use Rattle.std.specs.Prelude.{◌≡◌, ◌≤◌, IfOk};
-ghost use Rattle.plain_ballots.specs.Ranking.{IsRanking};
+// Rankings, and lines of ballots.
+ghost use Rattle.std.specs.Prelude.{◌≡◌};
 
-use plain_ballots::{AppendStop, BallotLine, Ballots, LineStop, RankStop, Ranking};
+use crate::same::same;
+use crate::samples::has_lines;
+use plain_ballots::{AppendStop, BallotLine, Ballots, LineStop, NoMemory, Ranking};
+use sample_ballots::{Line, ballots_of};
 use std::alloc::Global;
 use std::process::Abort;
 use std::test::Fail;
 
-/// A line of so many ballots for 1 and then 2.
-fn line(alloc: Global, count: u32) -> Result<BallotLine, RankStop>
-    ensures { IfOk result (λ line. (line.count ≡ count) × IsRanking 2 line.ranking) }
-{
-    let ranking = Ranking::try_new(alloc, 2, &[1, 2])?;
-    Ok(BallotLine { count, ranking })
+/// Seven ballots that rank some of nine candidates in this order are as many in a copy, in this order.
+fn look_at_copies(rt: &impl Abort, alloc: Global, ranks: &[u32]) -> Result<(), Fail> {
+    let ranking = Ranking::try_new(alloc, 9, ranks)?;
+    same(rt, ranking.copy(alloc)?.ranks(), ranks);
+    let copy = BallotLine { count: 7, ranking }.copy(alloc)?;
+    same(rt, (copy.count, copy.ranking.ranks()), (7, ranks));
+    Ok(())
 }
 
-/// The ballots of one line.
-fn one_line(alloc: Global, count: u32) -> Result<Ballots, Fail>
-    requires { 1 ≤ count }
-    ensures { IfOk result (λ ballots. ballots.candidates ≡ 2) }
-{
-    let mut ballots = Ballots::new(alloc, 2);
-    ballots.push_line(line(alloc, count)?)?;
-    Ok(ballots)
+/// Seven ranks lie in the value, and eight outside of it.
+#[test]
+fn few_and_many_ranks_are_kept(rt: HostRuntime) -> Result<(), Fail> {
+    let numbers = [9, 3, 1, 7, 2, 8, 5, 4, 6];
+    for len in 0..10 {
+        look_at_copies(&rt, rt.alloc(), &numbers[..len])?;
+    }
+    Ok(())
 }
 
-/// The ballots of two lines.
-fn two_lines(alloc: Global, first: u32, second: u32) -> Result<Ballots, Fail>
-    requires first { 1 ≤ first }
-    requires second { 1 ≤ second }
-    ensures { IfOk result (λ ballots. ballots.candidates ≡ 2) }
-{
-    let mut ballots = one_line(alloc, first)?;
-    ballots.push_line(line(alloc, second)?)?;
-    Ok(ballots)
+/// What stands behind the ranks is of no matter, also where they would be few or many with it.
+#[test]
+fn ranks_that_were_looked_at_are_kept(rt: HostRuntime) -> Result<(), NoMemory> {
+    let alloc = rt.alloc();
+    same(&rt, Ranking::new(alloc, &[2, 9])?.ranks(), &[2, 9]);
+    let few = Ranking::of_front(alloc, &[2, 1, 0, 2, 2, 2, 2, 2, 2], 2)?;
+    same(&rt, few.ranks(), &[2, 1]);
+    same(&rt, Ranking::of_front(alloc, &[3, 3], 1)?.ranks(), &[3]);
+    let many = Ranking::of_front(alloc, &[8, 7, 6, 5, 4, 3, 2, 1, 8], 8)?;
+    same(&rt, many.ranks(), &[8, 7, 6, 5, 4, 3, 2, 1]);
+    Ok(())
 }
 
-/// The numbers of candidates, ballots and lines.
-fn sums(ballots: &Ballots) -> (u32, u64, usize) {
-    (ballots.candidates(), ballots.total(), ballots.lines().len())
+/// There are so many ballots of two candidates, in these lines.
+fn has(rt: &impl Abort, ballots: &Ballots, total: u64, lines: &[Line]) {
+    same(rt, (ballots.candidates(), ballots.total()), (2, total));
+    has_lines(rt, ballots.lines(), lines);
 }
 
-/// The copy of a line of three ballots.
-fn copy_of_three(alloc: Global) -> Result<Ballots, Fail> {
-    let ballots = one_line(alloc, 3)?;
-    let copy = ballots.copy(alloc)?;
-    Ok(copy)
+/// How many ballots the last line has, which is taken out.
+fn last_count(ballots: &mut Ballots) -> Option<u32> {
+    Some(ballots.pop_line()?.count)
 }
 
 #[test]
-fn a_copy_has_the_same_lines(rt: HostRuntime) -> Result<(), Fail> {
-    let copy = copy_of_three(rt.alloc())?;
-    assert_eq!(rt; sums(&copy), (2, 3, 1));
-    for line in copy.lines() {
-        assert_eq!(rt; (line.count, line.ranking.ranks()), (3, [1, 2].as_slice()));
-    }
+fn lines_are_copied_and_taken_out(rt: HostRuntime) -> Result<(), Fail> {
+    let lines: [Line; 2] = [(3, &[1, 2]), (5, &[1, 2])];
+    let ballots = ballots_of(rt.alloc(), 2, &lines)?;
+    let mut copy = ballots.copy(rt.alloc())?;
+    has(&rt, &copy, 8, &lines);
+    let counts = [
+        last_count(&mut copy),
+        last_count(&mut copy),
+        last_count(&mut copy),
+    ];
+    same(&rt, counts, [Some(5), Some(3), None]);
+    has(&rt, &copy, 0, &[]);
     Ok(())
 }
 
@@ -62,59 +72,22 @@ fn a_copy_has_the_same_lines(rt: HostRuntime) -> Result<(), Fail> {
 fn one_too_many(alloc: Global, ballots: &mut Ballots) -> Result<u32, Fail>
     requires { ballots.old.candidates ≡ 2 }
 {
-    match ballots.push_line(line(alloc, 1)?) {
+    let ranking = Ranking::try_new(alloc, 2, &[1, 2])?;
+    match ballots.push_line(BallotLine { count: 1, ranking }) {
         Err(LineStop::TooMany(back)) => Ok(back.count),
         _ => Err(Fail::from("the line was taken")),
     }
 }
 
 #[test]
-fn one_ballot_too_many_comes_back(rt: HostRuntime) -> Result<(), Fail> {
-    let mut ballots = one_line(rt.alloc(), 999_999_999)?;
-    let back = one_too_many(rt.alloc(), &mut ballots)?;
-    assert_eq!(rt; (back, sums(&ballots)), (1, (2, 999_999_999, 1)));
-    Ok(())
-}
-
-/// How many ballots the last line has, which is taken out.
-fn last_count(ballots: &mut Ballots) -> Option<u32> {
-    match ballots.pop_line() {
-        Some(line) => Some(line.count),
-        None => None,
-    }
-}
-
-#[test]
-fn the_last_line_is_taken_out(rt: HostRuntime) -> Result<(), Fail> {
-    let mut ballots = two_lines(rt.alloc(), 3, 5)?;
-    let counts = [
-        last_count(&mut ballots),
-        last_count(&mut ballots),
-        last_count(&mut ballots),
-    ];
-    assert_eq!(rt;
-        (counts, sums(&ballots)),
-        ([Some(5), Some(3), None], (2, 0, 0))
-    );
-    Ok(())
-}
-
-/// The lines of seven ballots and of two others, which are one too many to be added again.
-fn added(rt: &impl Abort, alloc: Global) -> Result<Ballots, Fail> {
-    let mut ballots = one_line(alloc, 7)?;
-    let others = two_lines(alloc, 999_999_985, 7)?;
+fn lines_are_added_until_ballots_are_too_many(rt: HostRuntime) -> Result<(), Fail> {
+    let mut ballots = ballots_of(rt.alloc(), 2, &[(7, &[1, 2])])?;
+    let others = ballots_of(rt.alloc(), 2, &[(999_999_985, &[1, 2]), (7, &[2])])?;
     ballots.append_copy(&others)?;
     let again = ballots.append_copy(&others);
-    assert_eq!(rt; again, Err(AppendStop::TooMany));
-    Ok(ballots)
-}
-
-#[test]
-fn lines_are_added_behind_the_others(rt: HostRuntime) -> Result<(), Fail> {
-    let ballots = added(&rt, rt.alloc())?;
-    assert_eq!(rt; sums(&ballots), (2, 999_999_999, 3));
-    for (line, count) in ballots.lines().iter().zip([7, 999_999_985, 7]) {
-        assert_eq!(rt; line.count, count);
-    }
+    same(&rt, again, Err(AppendStop::TooMany));
+    same(&rt, one_too_many(rt.alloc(), &mut ballots)?, 1);
+    let lines: [Line; 3] = [(7, &[1, 2]), (999_999_985, &[1, 2]), (7, &[2])];
+    has(&rt, &ballots, 999_999_999, &lines);
     Ok(())
 }

@@ -1,11 +1,24 @@
-//! Tests of the public calls of plain_ballots.
+//! Tests of the public calls of plain_ballots, packed_ballots, ranking_trie, batch_core, call_register and
+//! shard_book: ballots, and the books of their batches.
 #![tactic(auto)]
 
 #[cfg(test)]
-mod ballot_line;
-#[cfg(test)]
 mod ballots;
 #[cfg(test)]
-mod ranking;
+mod batches;
 #[cfg(test)]
-mod steps;
+mod histories;
+#[cfg(test)]
+mod large_batches;
+#[cfg(test)]
+mod long_day;
+#[cfg(test)]
+mod packed;
+#[cfg(test)]
+mod same;
+#[cfg(test)]
+mod samples;
+#[cfg(test)]
+mod shards;
+#[cfg(test)]
+mod tries;

@@ -1,7 +1,8 @@
-// Tests of line_text: line.
+// Lines: their bytes, and the digits of numbers in them.
 ghost use Rattle.std.specs.Prelude.{◌≡◌, ◌≤◌};
 ghost use Rattle.fixed_place.specs.Rounding.{scale, most};
 
+use crate::same::same;
 use fixed_place::{Amount, Keep};
 use line_text::Line;
 use std::process::Abort;
@@ -11,7 +12,7 @@ use std::process::Abort;
 fn count_says(rt: &impl Abort, n: u64, text: &[u8]) {
     let mut line = Line::new();
     line.push_count(n);
-    assert_eq!(rt; line.bytes(), text);
+    same(rt, line.bytes(), text);
 }
 
 /// So many units of votes have this text.
@@ -22,7 +23,7 @@ fn amount_says<const P: usize>(rt: &impl Abort, units: u64, text: &[u8])
 {
     let mut line = Line::new();
     line.push_amount(Amount::<P>::from_units(units));
-    assert_eq!(rt; line.bytes(), text);
+    same(rt, line.bytes(), text);
 }
 
 /// So many units of a keep value have this text.
@@ -33,41 +34,33 @@ fn keep_says<const P: usize>(rt: &impl Abort, units: u64, text: &[u8])
 {
     let mut line = Line::new();
     line.push_keep(Keep::<P>::from_units(units));
-    assert_eq!(rt; line.bytes(), text);
+    same(rt, line.bytes(), text);
 }
 
 #[test]
 #[tactic(auto, using(line_text::proofs::Lengths::lengths))]
-fn begins_empty_and_clears(rt: HostRuntime) {
-    let mut line = Line::new();
-    line.push_bytes(b"end");
-    line.clear();
-    line.push_bytes(b"seats ");
-    line.push_count(2);
-    assert_eq!(rt; line.bytes(), b"seats 2".as_slice());
-}
-
-#[test]
-fn fills_up(rt: HostRuntime) {
+fn a_line_fills_up_and_clears(rt: HostRuntime) {
     let mut line = Line::new();
     line.push_bytes(&[b'a'; 1399]);
     line.push_bytes(b"b");
-    assert_eq!(rt;
-        (line.bytes().len(), line.bytes().last()),
-        (1400, Some(&b'b'))
-    );
+    let bytes = line.bytes();
+    same(&rt, (bytes.len(), bytes.last()), (1400, Some(&b'b')));
+    line.clear();
+    line.push_bytes(b"seats ");
+    line.push_count(2);
+    same(&rt, line.bytes(), b"seats 2");
 }
 
 #[test]
-fn prints_whole_numbers(rt: HostRuntime) {
-    count_says(&rt, 0, b"0");
-    count_says(&rt, 7, b"7");
-    count_says(&rt, 250, b"250");
-    count_says(&rt, u64::MAX, b"18446744073709551615");
-}
-
-#[test]
-fn prints_as_many_digits_as_places(rt: HostRuntime) {
+fn numbers_have_their_digits(rt: HostRuntime) {
+    for (n, text) in [
+        (0, b"0".as_slice()),
+        (7, b"7"),
+        (250, b"250"),
+        (u64::MAX, b"18446744073709551615"),
+    ] {
+        count_says(&rt, n, text);
+    }
     amount_says::<6>(&rt, 5_666_670, b"5.666670");
     keep_says::<6>(&rt, 566_667, b"0.566667");
     amount_says::<7>(&rt, 12, b"0.0000012");
@@ -77,10 +70,15 @@ fn prints_as_many_digits_as_places(rt: HostRuntime) {
 }
 
 #[test]
-fn prints_amounts_at_nine_places(rt: HostRuntime) {
-    amount_says::<9>(&rt, 0, b"0.000000000");
-    amount_says::<9>(&rt, 1, b"0.000000001");
-    amount_says::<9>(&rt, 4_000_000_001, b"4.000000001");
-    amount_says::<9>(&rt, 999_999_999_000_000_000, b"999999999.000000000");
-    amount_says::<9>(&rt, 1_000_000_000_000_000_000, b"1000000000.000000000");
+fn amounts_have_nine_places(rt: HostRuntime) {
+    for (units, text) in [
+        (0, b"0.000000000".as_slice()),
+        (1, b"0.000000001"),
+        (4_000_000_001, b"4.000000001"),
+        (999_999_999_000_000_000, b"999999999.000000000"),
+        (1_000_000_000_000_000_000, b"1000000000.000000000"),
+    ] {
+        assert!(rt; units <= 1_000_000_000_000_000_000);
+        amount_says::<9>(&rt, units, text);
+    }
 }

@@ -1,25 +1,62 @@
-// Tests of fixed_place: rounding.
+// Roundings of a count, and its lists of numbers.
 ghost use Rattle.std.specs.Prelude.{◌≤◌};
 ghost use Rattle.fixed_place.specs.Rounding.{scale, most};
 
-use fixed_place::{Amount, Keep, div_down, div_up_capped, mul_up, rounding_law, sum_checked};
+use crate::same::same;
+use fixed_place::{
+    Amount, Amounts, Keep, Keeps, RoundCase, check_cases, div_down, div_up_capped, mul_up,
+    rounding_law, sum_checked,
+};
 use std::process::Abort;
+use std::test::Fail;
 
-#[test]
-fn keeps_the_part_rounded_up(rt: HostRuntime) {
-    let most = Amount::<9>::from_units(1_000_000_000_000_000_000);
-    let all = mul_up(most, Keep::from_units(1_000_000_000));
-    let weight = Amount::<9>::from_units(428_571_428);
-    let keep = Keep::from_units(666_666_667);
-    let parts = (mul_up(weight, keep), rounding_law(weight, keep));
-    assert_eq!(rt;
-        (all.units(), parts.0.units(), parts.1.units()),
-        (1_000_000_000_000_000_000, 285_714_286, 142_857_142)
-    );
+/// Of so many units a candidate of this keep value keeps so many.
+fn case(rt: &impl Abort, a: u64, k: u64, kept: u64) -> RoundCase<9> {
+    let (most, one) = (1_000_000_000_000_000_000, 1_000_000_000);
+    assert!(rt; a <= most && k <= one && kept <= most);
+    RoundCase {
+        a: Amount::from_units(a),
+        k: Keep::from_units(k),
+        kept: Amount::from_units(kept),
+    }
 }
 
 #[test]
-fn divides_up_to_one_vote(rt: HostRuntime) {
+fn what_is_kept_is_rounded_up(rt: HostRuntime) {
+    for (a, k, kept) in [
+        (428_571_428, 666_666_667, 285_714_286),
+        (1, 1, 1),
+        (0, 1_000_000_000, 0),
+        (999_999_999, 999_999_999, 999_999_999),
+        (999_999_999, 1, 1),
+        (7_000_000_000, 0, 0),
+        (
+            1_000_000_000_000_000_000,
+            1_000_000_000,
+            1_000_000_000_000_000_000,
+        ),
+    ] {
+        let right = [case(&rt, a, k, kept)];
+        same(&rt, check_cases(&right), Ok(()));
+    }
+    let second_and_third_wrong = [
+        case(&rt, 1, 1, 1),
+        case(&rt, 428_571_428, 666_666_667, 285_714_285),
+        case(&rt, 7_000_000_000, 0, 1),
+    ];
+    same(&rt, check_cases(&second_and_third_wrong), Err(1));
+}
+
+#[test]
+fn what_goes_on_and_what_is_divided(rt: HostRuntime) {
+    let weight = Amount::<9>::from_units(428_571_428);
+    let rest = rounding_law(weight, Keep::from_units(666_666_667));
+    let third = div_down(Amount::<9>::from_units(17_000_000_000), 3);
+    same(
+        &rt,
+        [rest.units(), third.units()],
+        [142_857_142, 5_666_666_666],
+    );
     for (a, v, units, capped) in [
         (4_000_000_001, 7_000_000_000, 571_428_572, false),
         (4_000_000_001, 4_000_000_001, 1_000_000_000, false),
@@ -28,14 +65,8 @@ fn divides_up_to_one_vote(rt: HostRuntime) {
     ] {
         assert!(rt; a <= 1_000_000_000_000_000_000 && v > 0 && v <= 1_000_000_000_000_000_000);
         let (keep, is_capped) = div_up_capped(Amount::<9>::from_units(a), Amount::from_units(v));
-        assert_eq!(rt; (keep.units(), is_capped), (units, capped), "{a} over {v}");
+        same(&rt, (keep.units(), is_capped), (units, capped));
     }
-}
-
-#[test]
-fn divides_down(rt: HostRuntime) {
-    let total = Amount::<9>::from_units(17_000_000_000);
-    assert_eq!(rt; div_down(total, 3).units(), 5_666_666_666);
 }
 
 /// At `P` places `one` units are one vote, and `largest` are the most that an amount may have.
@@ -50,11 +81,11 @@ fn rounds<const P: usize>(rt: &impl Abort, one: u64, largest: u64)
         mul_up(unit, Keep::from_units(1)),
         mul_up(vote, Keep::from_units(one)),
     );
-    assert_eq!(rt; parts, (unit, vote));
+    same(rt, parts, (unit, vote));
     let nearly = Amount::<P>::from_units(largest - 1);
     let largest = Amount::<P>::from_units(largest);
     let sums = (sum_checked(nearly, unit), sum_checked(largest, unit));
-    assert_eq!(rt; sums, (Some(largest), None));
+    same(rt, sums, (Some(largest), None));
 }
 
 #[test]
@@ -63,4 +94,17 @@ fn rounds_at_each_number_of_places(rt: HostRuntime) {
     rounds::<7>(&rt, 10_000_000, 10_000_000_000_000_000);
     rounds::<8>(&rt, 100_000_000, 100_000_000_000_000_000);
     rounds::<9>(&rt, 1_000_000_000, 1_000_000_000_000_000_000);
+}
+
+#[test]
+fn lists_have_a_number_for_each_candidate(rt: HostRuntime) -> Result<(), Fail> {
+    let (five, seven) = (Amount::from_units(5), Amount::from_units(7));
+    let mut amounts = Amounts::<6>::filled(rt.alloc(), 3, five)?;
+    amounts.set(1, seven);
+    same(&rt, amounts.items(), &[five, seven, five]);
+    let (five, seven) = (Keep::from_units(5), Keep::from_units(7));
+    let mut keeps = Keeps::<6>::filled(rt.alloc(), 3, five)?;
+    keeps.set(1, seven);
+    same(&rt, keeps.items(), &[five, seven, five]);
+    Ok(())
 }

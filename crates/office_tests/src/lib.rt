@@ -1,8 +1,18 @@
-//! Tests of the public calls of shard_office: passes that call one after another, and two that are held up
-//! at gates.
+//! Tests of the public calls of turn_lock, number_tie, shard_office and team_run: turns, passes that call one
+//! after another, and teams in threads of their own.
 #![tactic(auto)]
 
 #[cfg(test)]
-mod gates;
+mod contended;
 #[cfg(test)]
-mod one_thread;
+mod entries;
+#[cfg(test)]
+mod passes;
+#[cfg(test)]
+mod same;
+#[cfg(test)]
+mod teams;
+#[cfg(test)]
+mod ties;
+#[cfg(test)]
+mod turns;

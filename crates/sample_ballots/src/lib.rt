@@ -5,4 +5,4 @@ mod lines;
 mod packed;
 
 pub use lines::{Line, ballots_of};
-pub use packed::{all_pairs, packed_of};
+pub use packed::{all_pairs, packed_of, take};

@@ -9,7 +9,12 @@ use std::alloc::Global;
 use std::test::Fail;
 
 /// Takes so many ballots of a ranking in.
-fn take(alloc: Global, packed: &mut PackedBallots, count: u32, ranks: &[u32]) -> Result<(), Fail>
+pub fn take(
+    alloc: Global,
+    packed: &mut PackedBallots,
+    count: u32,
+    ranks: &[u32],
+) -> Result<(), Fail>
     ensures { packed.new.candidates ≡ packed.old.candidates }
 {
     let room = (MOST_BALLOTS as u64).saturating_sub(packed.total());

@@ -1,5 +1,0 @@
-//! Tests of the public calls of packed_ballots.
-#![tactic(auto)]
-
-#[cfg(test)]
-mod packed;
