@@ -198,6 +198,8 @@ fn read_taken(scribe: &mut Scribe, watcher: &mut Watcher, totals: &mut Totals) -
     requires board { watcher.old.board ≡ scribe.old.board }
     requires length { length totals.old ≡ watcher.old.candidates }
     ensures scribe { scribe.new ≡ scribe.old }
+    ensures board { watcher.new.board ≡ watcher.old.board }
+    ensures length { length totals.new ≡ watcher.new.candidates }
     ensures taken { Begins (front watcher.new.seen) (scribe.old.published ++ scribe.old.pending) }
 {
     let is_read = watcher.read(totals).is_ok();

@@ -58,8 +58,11 @@ pub(crate) fn run_day<R: Threads + Wait + Sync, G: Gate + Sync>(
     let Ok(day) = read_day(alloc, text) else {
         return Err(Fail::from("no day"));
     };
-    let (office, mut clerk) = Office::try_new(alloc, day.roll.candidates(), shards, 1)?;
+    let Ok((office, mut clerk)) = Office::try_new(alloc, day.roll.candidates(), shards, 1) else {
+        return Err(Fail::from("no office"));
+    };
     let versions = run_teams(rt, alloc, &office, &mut clerk, day.scripts, gate)?;
+    let _all_back = clerk.open_teams();
     let Ok(history) = office.close(alloc, clerk) else {
         return Err(Fail::from("no memory"));
     };

@@ -85,37 +85,37 @@ fn give<R: Wait>(
     }
 }
 
-// Takes the turn and gives nothing.
-fn look<R: Wait>(rt: &R, lock: &TurnLock<Gifts>, seat: &mut Seat<Gifts>)
-    requires { seat.old.lock ≡ lock.now }
+// Takes the turn so many times and gives nothing.
+fn look<R: Wait>(rt: &R, lock: &TurnLock<Gifts>, seat: &mut Seat<Gifts>, many: u32)
+    requires { (seat.old.lock ≡ lock.now) × (seat.old.holds ≡ false) }
     ensures lock { seat.new.lock ≡ seat.old.lock }
     ensures caller { seat.new.caller ≡ seat.old.caller }
     ensures free { seat.new.holds ≡ false }
 {
-    let mut held = lock.take(rt, seat);
-    count_turn(held.value_mut());
-    lock.give_back(seat, held);
+    for _ in 0..many {
+        let mut held = lock.take(rt, seat);
+        count_turn(held.value_mut());
+        lock.give_back(seat, held);
+    }
 }
 
-// Gives so many numbers from 1 on, and may look once before each.
+// Gives so many numbers from 1 on, and looks so many times before each.
 fn give_each<R: Wait>(
     rt: &R,
     lock: &TurnLock<Gifts>,
     mut seat: Seat<Gifts>,
     giver: u32,
     many: u32,
-    looks: bool,
+    looks: u32,
 ) -> Result<Seat<Gifts>, AllocError>
     requires { (seat.lock ≡ lock.now) × (seat.caller ≡ giver) × (seat.holds ≡ false) }
     ensures { IfOk result (λ s. (s.lock ≡ lock.now) × (s.caller ≡ giver) × (s.holds ≡ false)) }
 {
-    for number in 1..=many {
-        if looks {
-            look(rt, lock, &mut seat);
-        }
+    for place in 0..many {
+        look(rt, lock, &mut seat, looks);
         let gift = Gift {
             giver: Some(giver),
-            number,
+            number: place + 1,
         };
         give(rt, lock, &mut seat, gift)?;
     }
@@ -127,15 +127,12 @@ fn only_looks<R: Wait>(
     rt: &R,
     lock: &TurnLock<Gifts>,
     mut seat: Seat<Gifts>,
-    giver: u32,
     many: u32,
 ) -> Seat<Gifts>
-    requires { (seat.lock ≡ lock.now) × (seat.caller ≡ giver) × (seat.holds ≡ false) }
-    ensures { (result.lock ≡ lock.now) × (result.caller ≡ giver) × (result.holds ≡ false) }
+    requires { (seat.lock ≡ lock.now) × (seat.holds ≡ false) }
+    ensures { (result.lock ≡ lock.now) × (result.caller ≡ seat.caller) × (result.holds ≡ false) }
 {
-    for _ in 0..many {
-        look(rt, lock, &mut seat);
-    }
+    look(rt, lock, &mut seat, many);
     seat
 }
 
@@ -177,11 +174,11 @@ fn two_threads_wake_each_other(rt: HostRuntime) -> Result<(), Fail> {
         &rt,
         || {
             meet(&came, 2);
-            give_each(&rt, &lock, one, 1, 10_000, false)
+            give_each(&rt, &lock, one, 1, 10_000, 0)
         },
         || {
             meet(&came, 2);
-            give_each(&rt, &lock, two, 2, 10_000, false)
+            give_each(&rt, &lock, two, 2, 10_000, 0)
         },
     );
     let (one, two) = (one?, two?);
@@ -189,11 +186,11 @@ fn two_threads_wake_each_other(rt: HostRuntime) -> Result<(), Fail> {
         &rt,
         || {
             meet(&came, 4);
-            only_looks(&rt, &lock, one, 1, 10_000)
+            only_looks(&rt, &lock, one, 10_000)
         },
         || {
             meet(&came, 4);
-            only_looks(&rt, &lock, two, 2, 10_000)
+            only_looks(&rt, &lock, two, 10_000)
         },
     );
     lock.join(&mut first, one);
@@ -226,7 +223,7 @@ fn eight_threads_find_what_was_put_back(rt: HostRuntime) -> Result<(), Fail> {
                 let started = scope.spawn(
                     move ||
                         requires { (seat.lock ≡ shared.now) × (seat.caller ≡ giver) × (seat.holds ≡ false) }
-                    { give_each(runtime, shared, seat, giver, 1000, true).is_ok() },
+                    { give_each(runtime, shared, seat, giver, 1000, 1).is_ok() },
                 );
                 assert!(runtime; started.is_ok());
             }

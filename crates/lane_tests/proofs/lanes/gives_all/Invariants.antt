@@ -1,4 +1,4 @@
 use Rattle.lane_tests.proofs.lanes.gives_all.Given as goal
 
-abbrev pub invariant-loop-distribution : goal.invariant-loop-distribution
-invariant-loop-distribution g l = g.D.Spread.can_spread l.spread
+abbrev pub invariant-loop-keeps : goal.invariant-loop-keeps
+invariant-loop-keeps g l = g.D.Spread.can_spread l.spread
