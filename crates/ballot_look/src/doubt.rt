@@ -3,7 +3,7 @@ ghost use Rattle.std.specs.Prelude.{◌≡◌};
 ghost use Rattle.ballot_look.specs.Doubts.{doubt_words};
 
 /// What of a candidate wants a look.
-#[derive(Clone, Copy, Debug, PartialEq, Eq)]
+#[derive(Clone, Copy)]
 pub(crate) enum Doubt {
     /// The name is no UTF-8.
     OtherBytes,

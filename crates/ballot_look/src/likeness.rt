@@ -3,7 +3,7 @@ ghost use Rattle.std.specs.Prelude.{◌≡◌};
 ghost use Rattle.ballot_look.specs.Doubts.{like_words};
 
 /// What of two candidates' names wants a look.
-#[derive(Clone, Copy, Debug, PartialEq, Eq)]
+#[derive(Clone, Copy)]
 pub(crate) enum Likeness {
     /// They are the same.
     Same,

@@ -3,7 +3,7 @@ ghost use Rattle.std.specs.Prelude.{◌≡◌, ◌<◌, ◌≤◌, ◌+◌, ◌-
 ghost use Rattle.ballot_look.specs.Places.{IsMark, IsMarkOf, column_at, ends_line, is_break, line_at};
 
 /// A place in a text with its line and its column, both from 1.
-#[derive(Clone, Copy, Debug, PartialEq, Eq)]
+#[derive(Clone, Copy)]
 pub(crate) struct Mark {
     pub at: usize,
     pub line: u64,

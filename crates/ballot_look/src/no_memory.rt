@@ -2,7 +2,7 @@
 use std::alloc::{AllocError, AllocFailed};
 
 /// There was not enough memory.
-#[derive(Clone, Copy, Debug, PartialEq, Eq)]
+#[derive(Clone, Copy)]
 pub(crate) struct NoMemory;
 
 impl From<AllocError> for NoMemory {

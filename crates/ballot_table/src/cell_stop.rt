@@ -6,7 +6,7 @@ use crate::TableKind;
 use plain_ballots::NoMemory;
 
 /// Why a cell was not taken in: its text is at fault, or memory is wanted.
-#[derive(Clone, Copy, Debug, PartialEq, Eq)]
+#[derive(Clone, Copy)]
 pub(crate) enum CellStop {
     Fault(TableKind),
     NoMemory,

@@ -5,7 +5,7 @@ ghost use Rattle.ballot_table.specs.Held.{with_holder, says_held, held_refused};
 use ballot_marks::{Says, Why};
 
 /// Who has a rank, in the order of the columns.
-#[derive(Clone, Copy, Debug, PartialEq, Eq)]
+#[derive(Clone, Copy)]
 pub(crate) enum Held {
     Nobody,
     One(u32),

@@ -5,7 +5,7 @@ ghost use Rattle.ballot_table.specs.Texts.{is_digit, are_digits, value, number};
 ghost use Rattle.ballot_table.specs.Numerals.{numeral_of};
 
 /// What a text is as a number: none, or one up to the greatest that is asked for, or a greater one.
-#[derive(Clone, Copy, Debug, PartialEq, Eq)]
+#[derive(Clone, Copy)]
 pub(crate) enum Numeral {
     Other,
     Number(u32),

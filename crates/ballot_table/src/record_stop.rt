@@ -7,7 +7,7 @@ use crate::fault::Fault;
 use plain_ballots::NoMemory;
 
 /// Why a record was not read: it has a fault, or memory is wanted.
-#[derive(Clone, Copy, Debug, PartialEq, Eq)]
+#[derive(Clone, Copy)]
 pub(crate) enum RecordStop {
     Fault(Fault),
     NoMemory,

@@ -21,7 +21,7 @@ use std::marker::Model;
 use table_text::{Cell, Cells, MAX_COUNT, NO_NUMBER, Records, Step, TextStop};
 
 /// Where a record stands: its bytes and its number.
-#[derive(Clone, Copy, Debug, PartialEq, Eq)]
+#[derive(Clone, Copy)]
 pub(crate) struct Place {
     pub at: usize,
     pub end: usize,

@@ -7,7 +7,7 @@ use crate::{Change, LAST_NUMBER, Reply};
 use plain_ballots::Ballots;
 
 /// A batch that was entered: its revision, and its ballots, or none where it is gone.
-#[derive(Debug, Drop)]
+#[derive(Drop)]
 pub(crate) struct Batch {
     pub(crate) revision: u32,
     pub(crate) standing: Option<Ballots>,

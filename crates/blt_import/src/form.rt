@@ -14,7 +14,7 @@ use plain_ballots::NoMemory;
 use std::alloc::Global;
 
 /// The form of an input, with what the words say of it.
-#[derive(Debug, Drop)]
+#[derive(Drop)]
 pub(crate) enum Form {
     Table(TableForm),
     Preflib(PrefForm),

@@ -19,7 +19,7 @@ use preflib_text::{Imported, PrefAsked, PrefStop, Tally as OrderTally, read_pref
 use std::alloc::Global;
 
 /// What the words say of a text of PrefLib.
-#[derive(Debug, Drop)]
+#[derive(Drop)]
 pub(crate) struct PrefForm {
     /// In place of the text's title.
     pub title: Option<Name<MOST_TITLE_BYTES>>,

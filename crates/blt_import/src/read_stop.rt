@@ -6,7 +6,7 @@ use crate::ImportFault;
 use plain_ballots::NoMemory;
 
 /// Why an input was not read: it has a fault, or memory is wanted.
-#[derive(Clone, Copy, Debug, PartialEq, Eq)]
+#[derive(Clone, Copy)]
 pub(crate) enum ReadStop {
     Fault(ImportFault),
     NoMemory,

@@ -18,7 +18,7 @@ use plain_ballots::NoMemory;
 use std::alloc::Global;
 
 /// What the words say of a table, which has no title.
-#[derive(Debug, Drop)]
+#[derive(Drop)]
 pub(crate) struct TableForm {
     pub title: Name<MOST_TITLE_BYTES>,
     pub table: TableAsked,

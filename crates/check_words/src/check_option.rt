@@ -4,7 +4,7 @@ ghost use Rattle.check_words.specs.Options.{flag_of};
 ghost use Rattle.check_words.specs.declared.check_option.CheckOption.{CheckOption};
 
 /// An option of the words.
-#[derive(Clone, Copy, Debug, PartialEq, Eq)]
+#[derive(Clone, Copy)]
 pub(crate) enum CheckOption {
     Lots,
     Rule,

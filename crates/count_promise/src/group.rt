@@ -1,5 +1,5 @@
 /// Candidates of an iteration that a line names.
-#[derive(Clone, Copy, Debug, PartialEq, Eq)]
+#[derive(Clone, Copy)]
 pub(crate) enum Group {
     /// Who was tied for defeat.
     Tied,

@@ -1,5 +1,6 @@
 mod DifferentLemmas
 mod ExitLemmas
+mod TwiceLemmas
 mod FoundLemmas
 mod ForLemmas
 mod NumberLemmas

@@ -1,10 +1,12 @@
 -- The values of the words, as a struct keeps them.
-use Rattle.std.specs.Prelude.{Option, List, map}
+use Rattle.std.specs.Prelude.{◌≡◌, Option, List, map}
 use Rattle.std.specs.Option.{option_map, option_to_list}
 use Rattle.std.specs.Borrow.{Bor}
 use Rattle.meek_words.specs.Numerals.{Word}
-use Rattle.import_words.specs.Pairs.{Given, Said}
+use Rattle.import_words.specs.Pairs.{Given, Said, values_of}
+use Rattle.import_words.specs.declared.import_option.ImportOption.TheVariants as options
 use Rattle.import_words.specs.declared.pair.Pair.{Pair}
+use Rattle.import_words.specs.declared.single_values.SingleValues.{SingleValues}
 use Rattle.import_words.specs.declared.values.Values.{Values}
 
 abbrev pub said_in : Pair → Said
@@ -41,3 +43,19 @@ given_by values = record {
   overs = texts_in values.overs.items;
   repeated = words_in values.repeated;
 }
+
+-- the values of the options that have one at most are those of these pairs
+pub record AreSingle (values : SingleValues) (pairs : List Said) : Type 0 where
+  pub layout : words_in values.layout ≡ values_of options.Layout pairs
+  pub seats : words_in values.seats ≡ values_of options.Seats pairs
+  pub title : words_in values.title ≡ values_of options.Title pairs
+  pub withdrawn : words_in values.withdrawn ≡ values_of options.Withdrawn pairs
+  pub output : words_in values.output ≡ values_of options.As pairs
+  pub equal : words_in values.equal ≡ values_of options.Equal pairs
+  pub skipped : words_in values.skipped ≡ values_of options.Skipped pairs
+  pub empty : words_in values.empty ≡ values_of options.Empty pairs
+  pub separator : words_in values.separator ≡ values_of options.Separator pairs
+  pub weight : words_in values.weight ≡ values_of options.Weight pairs
+  pub names : words_in values.names ≡ values_of options.Names pairs
+  pub ranks : words_in values.ranks ≡ values_of options.Ranks pairs
+  pub repeated : words_in values.repeated ≡ values_of options.Repeated pairs

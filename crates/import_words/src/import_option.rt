@@ -6,7 +6,7 @@ ghost use Rattle.import_words.specs.declared.import_option.ImportOption.{ImportO
 use crate::Layout;
 
 /// An option of the words.
-#[derive(Clone, Copy, Debug, PartialEq, Eq)]
+#[derive(Clone, Copy)]
 pub(crate) enum ImportOption {
     Layout,
     Seats,

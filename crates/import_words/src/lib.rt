@@ -21,6 +21,7 @@ mod reading;
 mod roll_words;
 mod separator;
 mod settings;
+mod single_values;
 mod table_words;
 mod values;
 mod words;

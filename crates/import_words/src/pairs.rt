@@ -5,11 +5,12 @@ ghost use Rattle.import_words.specs.Asks.{AreFor, Says};
 ghost use Rattle.import_words.specs.declared.asked.Asked.{Asked};
 ghost use Rattle.import_words.specs.Options.{flag_of};
 ghost use Rattle.import_words.specs.Pairs.{ArePairs, Said, columns_of, given_of, values_of, words_of};
-ghost use Rattle.import_words.specs.Values.{given_by, pairs_in, said_in, texts_in, words_in};
+ghost use Rattle.import_words.specs.Values.{AreSingle, given_by, pairs_in, said_in, texts_in, words_in};
 
 use crate::Layout;
 use crate::import_option::ImportOption;
 use crate::pair::Pair;
+use crate::single_values::SingleValues;
 use crate::values::Values;
 use meek_words::WordsStop;
 use std::alloc::Global;
@@ -117,31 +118,68 @@ fn columns<'a>(alloc: Global, pairs: &[Pair<'a>]) -> Result<Vec<&'a str>, WordsS
     Ok(values)
 }
 
+/// The values of the options that have one at most, where none has more.
+fn single_values<'a>(pairs: &[Pair<'a>]) -> Option<SingleValues<'a>>
+    ensures single { IfSome result (λ values. AreSingle values (pairs_in pairs.now)) }
+    ensures none { IfNone result ((asked : Asked) → ¬ (Says (given_of (pairs_in pairs.now)) asked)) }
+{
+    let layout = at_most_one(pairs, ImportOption::Layout)?;
+    let seats = at_most_one(pairs, ImportOption::Seats)?;
+    let title = at_most_one(pairs, ImportOption::Title)?;
+    let withdrawn = at_most_one(pairs, ImportOption::Withdrawn)?;
+    let output = at_most_one(pairs, ImportOption::As)?;
+    let equal = at_most_one(pairs, ImportOption::Equal)?;
+    let skipped = at_most_one(pairs, ImportOption::Skipped)?;
+    let empty = at_most_one(pairs, ImportOption::Empty)?;
+    let separator = at_most_one(pairs, ImportOption::Separator)?;
+    let weight = at_most_one(pairs, ImportOption::Weight)?;
+    let names = at_most_one(pairs, ImportOption::Names)?;
+    let ranks = at_most_one(pairs, ImportOption::Ranks)?;
+    let repeated = at_most_one(pairs, ImportOption::Repeated)?;
+    Some(SingleValues {
+        layout,
+        seats,
+        title,
+        withdrawn,
+        output,
+        equal,
+        skipped,
+        empty,
+        separator,
+        weight,
+        names,
+        ranks,
+        repeated,
+    })
+}
+
 /// The values of each option, where none has more of them than it may have.
 pub(crate) fn values<'a>(alloc: Global, pairs: &[Pair<'a>]) -> Result<Values<'a>, WordsStop>
     ensures given { IfOk result (λ values. given_by values ≡ given_of (pairs_in pairs.now)) }
     ensures refused { result ≡ Err WordsStop.BadWords → (asked : Asked)
         → ¬ (Says (given_of (pairs_in pairs.now)) asked) }
 {
-    let stop = WordsStop::BadWords;
+    let Some(single) = single_values(pairs) else {
+        return Err(WordsStop::BadWords);
+    };
     Ok(Values {
-        layout: at_most_one(pairs, ImportOption::Layout).ok_or(stop)?,
-        seats: at_most_one(pairs, ImportOption::Seats).ok_or(stop)?,
-        title: at_most_one(pairs, ImportOption::Title).ok_or(stop)?,
-        withdrawn: at_most_one(pairs, ImportOption::Withdrawn).ok_or(stop)?,
-        output: at_most_one(pairs, ImportOption::As).ok_or(stop)?,
-        equal: at_most_one(pairs, ImportOption::Equal).ok_or(stop)?,
-        skipped: at_most_one(pairs, ImportOption::Skipped).ok_or(stop)?,
-        empty: at_most_one(pairs, ImportOption::Empty).ok_or(stop)?,
-        separator: at_most_one(pairs, ImportOption::Separator).ok_or(stop)?,
-        weight: at_most_one(pairs, ImportOption::Weight).ok_or(stop)?,
+        layout: single.layout,
+        seats: single.seats,
+        title: single.title,
+        withdrawn: single.withdrawn,
+        output: single.output,
+        equal: single.equal,
+        skipped: single.skipped,
+        empty: single.empty,
+        separator: single.separator,
+        weight: single.weight,
         ignored: each(alloc, pairs, ImportOption::Ignore)?,
         columns: columns(alloc, pairs)?,
         blanks: each(alloc, pairs, ImportOption::Blank)?,
-        names: at_most_one(pairs, ImportOption::Names).ok_or(stop)?,
-        ranks: at_most_one(pairs, ImportOption::Ranks).ok_or(stop)?,
+        names: single.names,
+        ranks: single.ranks,
         candidates: each(alloc, pairs, ImportOption::Candidate)?,
         overs: each(alloc, pairs, ImportOption::Over)?,
-        repeated: at_most_one(pairs, ImportOption::Repeated).ok_or(stop)?,
+        repeated: single.repeated,
     })
 }

@@ -8,7 +8,7 @@ ghost use Rattle.input_text.specs.Pieces.{seen, IsWithin, HoldsToken};
 use crate::What;
 use crate::short_number::{is_separator, may_end};
 
-#[derive(Clone, Copy, Debug, PartialEq, Eq)]
+#[derive(Clone, Copy)]
 pub(crate) enum Piece {
     Gap(usize),
     Lexeme(What, usize),

@@ -7,7 +7,7 @@ use std::marker::Model;
 
 /// Among how many shards ballots are kept, from 1 to 64, and among how many workers they are counted,
 /// from 1 to 32.
-#[derive(Debug, Drop)]
+#[derive(Drop)]
 pub(crate) struct Split {
     shards: u32,
     workers: u32,

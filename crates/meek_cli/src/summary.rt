@@ -10,7 +10,7 @@ use line_text::Line;
 
 /// What a made day came to: its number, its calls, the batches and ballots that stand in the end, and
 /// the rounds and iterations of their count.
-#[derive(Clone, Copy, Debug)]
+#[derive(Clone, Copy)]
 pub(crate) struct Summary {
     pub(crate) number: u32,
     pub(crate) calls: u64,

@@ -1,5 +1,6 @@
 // What is written down of an iteration.
-ghost use Rattle.std.specs.Prelude.{◌≡◌, ◌≤◌, IfOk};
+ghost use Rattle.std.specs.Prelude.{◌≡◌, ◌≤◌, IfOk, false, replicate};
+ghost use Rattle.candidate_roll.specs.declared.state.State.TheVariants.{Withdrawn};
 ghost use Rattle.meek_rule.specs.Row.{HasRoomFor, blank};
 
 use crate::{NoMemory, Step};
@@ -45,19 +46,66 @@ impl<const P: usize> Row<P> {
     {
         let n = candidates as usize;
         let zero = Amount::from_units(0);
+        let lists = Lists::new(alloc, n)?;
+        let marks = Marks::new(alloc, n)?;
         Ok(Row {
             round: 0,
             iteration: 0,
-            states: States::filled(alloc, n, State::Withdrawn)?,
-            keeps: Keeps::filled(alloc, n, Keep::from_units(0))?,
-            votes: Amounts::filled(alloc, n, zero)?,
+            states: lists.states,
+            keeps: lists.keeps,
+            votes: lists.votes,
             total: zero,
             quota: zero,
             surplus: zero,
+            elected: marks.elected,
+            capped: marks.capped,
+            tied: marks.tied,
+            step: Step::Iterate,
+        })
+    }
+}
+
+// What a row says of each candidate.
+#[derive(Drop)]
+struct Lists<const P: usize> {
+    states: States,
+    keeps: Keeps<P>,
+    votes: Amounts<P>,
+}
+
+impl<const P: usize> Lists<P> {
+    fn new(alloc: Global, n: usize) -> Result<Lists<P>, NoMemory>
+        requires places { (6 ≤ P) × (P ≤ 9) }
+        ensures states { IfOk result (λ l. l.states ≡ replicate n Withdrawn) }
+        ensures keeps { IfOk result (λ l. l.keeps ≡ replicate n 0) }
+        ensures votes { IfOk result (λ l. l.votes ≡ replicate n 0) }
+    {
+        Ok(Lists {
+            states: States::filled(alloc, n, State::Withdrawn)?,
+            keeps: Keeps::filled(alloc, n, Keep::from_units(0))?,
+            votes: Amounts::filled(alloc, n, Amount::from_units(0))?,
+        })
+    }
+}
+
+// Whom a row marks.
+#[derive(Drop)]
+struct Marks {
+    elected: Flags,
+    capped: Flags,
+    tied: Flags,
+}
+
+impl Marks {
+    fn new(alloc: Global, n: usize) -> Result<Marks, NoMemory>
+        ensures elected { IfOk result (λ m. m.elected ≡ replicate n false) }
+        ensures capped { IfOk result (λ m. m.capped ≡ replicate n false) }
+        ensures tied { IfOk result (λ m. m.tied ≡ replicate n false) }
+    {
+        Ok(Marks {
             elected: Flags::filled(alloc, n, false)?,
             capped: Flags::filled(alloc, n, false)?,
             tied: Flags::filled(alloc, n, false)?,
-            step: Step::Iterate,
         })
     }
 }

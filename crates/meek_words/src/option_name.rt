@@ -3,7 +3,7 @@ ghost use Rattle.meek_words.specs.Parts.{flag_of};
 ghost use Rattle.meek_words.specs.declared.option_name.OptionName.{OptionName};
 
 /// An option of the command line.
-#[derive(Clone, Copy, Debug, PartialEq, Eq)]
+#[derive(Clone, Copy)]
 pub(crate) enum OptionName {
     Lots,
     Shards,

@@ -5,7 +5,7 @@ ghost use Rattle.preflib_text.specs.Standing.{more_braced, says_braced};
 use ballot_marks::Says;
 
 /// The candidates in braces, as far as they are read.
-#[derive(Clone, Copy, Debug, PartialEq, Eq)]
+#[derive(Clone, Copy)]
 pub(crate) enum Braced {
     Nobody,
     One(u32),

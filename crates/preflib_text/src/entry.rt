@@ -8,7 +8,7 @@ use crate::blanks::{behind_blanks, trimmed};
 use crate::numeral::number;
 
 /// What a line of metadata is about.
-#[derive(Clone, Copy, Debug, PartialEq, Eq)]
+#[derive(Clone, Copy)]
 pub(crate) enum Key {
     /// The number of candidates.
     Alternatives,

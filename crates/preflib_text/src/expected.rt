@@ -1,7 +1,7 @@
 // What may stand next in an order.
 
 /// What may stand next in an order.
-#[derive(Clone, Copy, Debug, PartialEq, Eq)]
+#[derive(Clone, Copy)]
 pub(crate) enum Expected {
     Count,
     /// The colon behind the count.

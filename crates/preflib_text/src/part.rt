@@ -10,7 +10,7 @@ use crate::blanks::is_blank;
 use crate::numeral::{is_digit, value};
 
 /// A part of a line that is an order. Numbers above the most ballots are all the next one.
-#[derive(Clone, Copy, Debug, PartialEq, Eq)]
+#[derive(Clone, Copy)]
 pub(crate) enum Part {
     Number(u32),
     Colon,
@@ -26,7 +26,7 @@ pub(crate) enum Part {
 }
 
 /// A part, the place of its first byte in the line, and the place behind it.
-#[derive(Clone, Copy, Debug, PartialEq, Eq)]
+#[derive(Clone, Copy)]
 pub(crate) struct Found {
     pub part: Part,
     pub at: usize,

@@ -6,7 +6,7 @@ use crate::PrefKind;
 use plain_ballots::NoMemory;
 
 /// Why a part is not taken: it can't stand where it does, or memory is wanted.
-#[derive(Clone, Copy, Debug, PartialEq, Eq)]
+#[derive(Clone, Copy)]
 pub(crate) enum PartStop {
     Fault(PrefKind),
     NoMemory,

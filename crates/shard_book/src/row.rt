@@ -8,7 +8,7 @@ use batch_core::{Change, LAST_NUMBER, Reply};
 
 /// A batch that was entered: its revision, and the place of the entry whose ballots stand, or none
 /// where the batch is gone.
-#[derive(Clone, Copy, Debug, Drop)]
+#[derive(Clone, Copy, Drop)]
 pub(crate) struct Row {
     pub(crate) revision: u32,
     pub(crate) place: Option<usize>,

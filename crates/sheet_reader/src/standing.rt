@@ -13,7 +13,7 @@ use fixed_place::scale_of;
 use line_text::Line;
 
 /// A candidate in an iteration, the amounts in units.
-#[derive(Clone, Copy, Debug)]
+#[derive(Clone, Copy)]
 pub(crate) struct Standing {
     pub state: State,
     pub keep: u64,

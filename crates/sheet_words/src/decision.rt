@@ -1,5 +1,5 @@
 /// What an iteration decided, or a reason of it, that a sentence says.
-#[derive(Clone, Copy, Debug, PartialEq, Eq)]
+#[derive(Clone, Copy)]
 pub(crate) enum Decision {
     /// All who have the quota are elected.
     Election,

@@ -1,5 +1,5 @@
 /// Candidates of an iteration that a sentence names.
-#[derive(Clone, Copy, Debug, PartialEq, Eq)]
+#[derive(Clone, Copy)]
 pub(crate) enum Group {
     /// Who has the quota.
     Reached,

@@ -8,7 +8,7 @@ use crate::short::number_of;
 use crate::{Cell, TextKind};
 
 /// What is wrong with a field, and at which byte.
-#[derive(Clone, Copy, Debug, PartialEq, Eq)]
+#[derive(Clone, Copy)]
 pub(crate) struct Flaw {
     pub kind: TextKind,
     pub at: usize,

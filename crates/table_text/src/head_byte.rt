@@ -5,7 +5,7 @@ ghost use Rattle.table_text.specs.Separator.{may_part, head_byte};
 use crate::mark::{FEED, QUOTE, RETURN, TAB};
 
 /// What a byte of a head does: it goes in or out of quotes, ends the head, may part two fields, or none of it.
-#[derive(Clone, Copy, Debug, PartialEq, Eq)]
+#[derive(Clone, Copy)]
 pub(crate) enum HeadByte {
     Quote,
     Ends,

@@ -5,7 +5,7 @@ ghost use Rattle.table_text.specs.Reading.{mark, begins_with_feed};
 
 /// What a byte outside quotes does: it begins or ends quotes, parts two fields, ends a line, begins a line end of two bytes, may stand
 /// in no text, or belongs to a field.
-#[derive(Clone, Copy, Debug, PartialEq, Eq)]
+#[derive(Clone, Copy)]
 pub(crate) enum Mark {
     Quote,
     Parts,

@@ -2,7 +2,7 @@ use std::alloc::{AllocError, AllocFailed};
 use tally_board::MoveBack;
 
 /// Want of memory.
-#[derive(Clone, Copy, Debug, PartialEq, Eq, Drop)]
+#[derive(Clone, Copy, Drop)]
 pub(crate) struct NoMemory;
 
 impl From<AllocError> for NoMemory {
