@@ -18,6 +18,19 @@ use std::thread::Threads;
 use tally_cli::tally;
 use warren_cli::warren;
 
+/// Calls `meek`, and gives its exit status and how many calls its history has.
+fn call_meek<R: Threads + Wait + Sync>(
+    rt: &R,
+    alloc: Global,
+    words: &[String],
+    source: &mut MemorySource,
+    sink: &mut MemorySink,
+) -> (ExitCode, usize) {
+    let outcome = meek(rt, alloc, words, source, sink, &FreeGate);
+    let calls = outcome.history.entries().len();
+    (outcome.status.exit_code(), calls)
+}
+
 /// Calls a tool, and gives its exit status and how many calls its history has.
 fn call<R: Threads + Wait + Sync>(
     rt: &R,
@@ -39,10 +52,7 @@ fn call<R: Threads + Wait + Sync>(
         Tool::Page => page(alloc, words, source, sink).exit_code(),
         Tool::Promise => promise(alloc, words, source, sink).exit_code(),
         Tool::Tally => tally(rt, alloc, words, source, sink).exit_code(),
-        Tool::Meek => {
-            let outcome = meek(rt, alloc, words, source, sink, &FreeGate);
-            return (outcome.status.exit_code(), outcome.history.entries().len());
-        }
+        Tool::Meek => return call_meek(rt, alloc, words, source, sink),
     };
     (code, 0)
 }
