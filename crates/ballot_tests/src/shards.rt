@@ -104,7 +104,7 @@ fn fourteen_steps<L: Ledger>(alloc: Global, steps: &mut Steps<L>) -> Result<Shar
     ensures candidates { IfOk result (λ book. book.candidates ≡ 3) }
     ensures shards { IfOk result (λ book. (book.shards ≡ 1) × (book.shard ≡ 1)) }
 {
-    let mut book = to_another_thread(ShardBook::new(alloc, 1, 1, 3));
+    let mut book = ShardBook::new(alloc, 1, 1, 3);
     let first = three_ballots(alloc)?;
     let enter = Change::Enter {
         batch: 1,
@@ -131,7 +131,23 @@ pub(crate) fn has_entries(rt: &impl Abort, entries: &[Entry], due: &[(u32, Reply
     }
 }
 
-// No ballot stands when the only batch is withdrawn, and then those of another.
+/// No ballot stands when the only batch is withdrawn, and then those of another.
+fn enter_another<L: Ledger>(
+    rt: &impl Abort,
+    alloc: Global,
+    book: &mut ShardBook,
+    steps: &mut Steps<L>,
+) -> Result<(), Fail>
+    requires { (book.old.candidates ≡ 3) × (book.old.shards ≡ 1) × (book.old.shard ≡ 1) }
+{
+    same(rt, book.trie().total(), 0);
+    let ballots = four_ballots(alloc)?;
+    carry_out(book, 6, Change::Enter { batch: 2, ballots }, steps)?;
+    let standing = book.trie().to_ballots()?;
+    has_lines(rt, standing.lines(), &[(4, &[1])]);
+    Ok(())
+}
+
 fn follow_changes<L: Ledger>(rt: &impl Abort, alloc: Global, blank: Blank) -> Result<(), Fail>
     requires name { blank.name ≡ L.name }
     requires parts { blank.parts ≡ L.parts }
@@ -139,15 +155,7 @@ fn follow_changes<L: Ledger>(rt: &impl Abort, alloc: Global, blank: Blank) -> Re
 {
     let mut steps = Steps::<L>::new(blank);
     let mut book = fourteen_steps(alloc, &mut steps)?;
-    same(rt, book.trie().total(), 0);
-    let ballots = four_ballots(alloc)?;
-    carry_out(
-        &mut book,
-        6,
-        Change::Enter { batch: 2, ballots },
-        &mut steps,
-    )?;
-    has_lines(rt, book.trie().to_ballots()?.lines(), &[(4, &[1])]);
+    enter_another(rt, alloc, &mut book, &mut steps)?;
     let due = [
         (5, Reply::Entered),
         (5, Reply::Corrected(2)),
@@ -156,7 +164,7 @@ fn follow_changes<L: Ledger>(rt: &impl Abort, alloc: Global, blank: Blank) -> Re
         (6, Reply::Entered),
     ];
     has_entries(rt, book.entries().items(), &due);
-    has_entries(rt, book.into_entries().items(), &due);
+    has_entries(rt, to_another_thread(book).into_entries().items(), &due);
     Ok(())
 }
 
