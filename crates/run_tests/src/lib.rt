@@ -1,5 +1,5 @@
-//! Tests of whole runs, for what no run over memory alone shows: what is flushed, lanes and teams that meet, and days whose
-//! calls fall in any order.
+//! Tests of whole runs, for what no run over memory alone shows: what is flushed, lanes and teams that meet, days whose
+//! calls fall in any order, and the places of a text of a day.
 #![tactic(auto)]
 
 #[cfg(test)]
@@ -12,6 +12,8 @@ mod inputs;
 mod lanes;
 #[cfg(test)]
 mod meeting;
+#[cfg(test)]
+mod places;
 #[cfg(test)]
 mod runs;
 #[cfg(test)]

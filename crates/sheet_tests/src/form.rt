@@ -1,21 +1,9 @@
 // Tests of sheet_reader: form.
 use sample_runs::SHEET;
-use sheet_reader::{SheetStop, check_form, read_sheet};
+use sheet_reader::{SheetStop, check_form};
 use std::alloc::Global;
 use std::process::Abort;
 use std::test::Fail;
-
-/// Both readers of sheets take this text, or refuse it as malformed.
-fn is_taken(alloc: Global, text: &[u8]) -> Result<bool, SheetStop> {
-    let checked = check_form::<9>(alloc, text);
-    match read_sheet::<9>(alloc, text) {
-        Ok(_) => checked.and(Ok(true)),
-        Err(stop) => match checked {
-            Err(SheetStop::Malformed) if stop == SheetStop::Malformed => Ok(false),
-            _ => Err(stop),
-        },
-    }
-}
 
 // What the form of a sheet allows at each byte of the sample election's sheet while all others stay: `*` is a byte of a
 // name, `#` a digit, `+` a digit but 0, `^` 0 or 1, and `%` the number of a candidate. Each other byte stands for itself.
@@ -37,21 +25,20 @@ fn is_allowed(sign: u8, byte: u8) -> bool {
     }
 }
 
-/// The text is taken with the bytes at a place that its sign allows, and with no other.
-fn bytes_are_judged(
-    rt: &impl Abort,
-    alloc: Global,
-    text: &mut Vec<u8>,
-    (at, sign): (usize, u8),
-) -> Result<(), Fail> {
+/// The text has the form of a sheet with the bytes at a place that its sign allows, and with no other.
+fn bytes_are_judged(rt: &impl Abort, alloc: Global, text: &mut Vec<u8>, (at, sign): (usize, u8)) {
     for byte in BYTES {
         if at < text.len() {
             text[at] = *byte;
         }
-        let taken = is_taken(alloc, text.as_slice())?;
-        assert_eq!(rt; (at, *byte, taken), (at, *byte, is_allowed(sign, *byte)));
+        let due = if is_allowed(sign, *byte) {
+            Ok(())
+        } else {
+            Err(SheetStop::Malformed)
+        };
+        let stop = check_form::<9>(alloc, text.as_slice());
+        assert_eq!(rt; (at, *byte, stop), (at, *byte, due));
     }
-    Ok(())
 }
 
 #[test]
@@ -59,7 +46,7 @@ fn each_changed_byte_is_judged(rt: HostRuntime) -> Result<(), Fail> {
     assert_eq!(rt; SHEET.len(), FORM.len());
     let mut text = SHEET.to_vec(rt.alloc())?;
     for (at, (byte, sign)) in SHEET.iter().zip(FORM).enumerate() {
-        bytes_are_judged(&rt, rt.alloc(), &mut text, (at, *sign))?;
+        bytes_are_judged(&rt, rt.alloc(), &mut text, (at, *sign));
         if at < text.len() {
             text[at] = *byte;
         }
@@ -79,9 +66,9 @@ const OTHER_ENDS: [&[u8]; 6] = [
 ];
 
 #[test]
-fn texts_of_another_end_are_malformed(rt: HostRuntime) -> Result<(), Fail> {
+fn texts_of_another_end_are_malformed(rt: HostRuntime) {
     for (i, text) in OTHER_ENDS.iter().enumerate() {
-        assert_eq!(rt; (i, is_taken(rt.alloc(), *text)), (i, Ok(false)));
+        let stop = check_form::<9>(rt.alloc(), *text);
+        assert_eq!(rt; (i, stop), (i, Err(SheetStop::Malformed)));
     }
-    Ok(())
 }
