@@ -10,7 +10,7 @@ pub enum LineFault {
     NoSuchText,
     /// No tool is named before this case.
     NoTool,
-    /// A case of this name is before it in the file.
+    /// A case, or a text, of this name is before it in the file.
     SameName,
     /// The case that begins here has no status.
     NoStatus,

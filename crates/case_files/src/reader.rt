@@ -1,7 +1,7 @@
 // The cases of a file.
 use crate::bytes::push_marked;
 use crate::line::{begins_part, first_word, is_silent, marked};
-use crate::text::Text;
+use crate::text::{Text, text_named};
 use crate::{Case, LineFault, Tool};
 use std::alloc::{AllocError, Global};
 
@@ -80,6 +80,9 @@ impl<'a> CaseReader<'a> {
         name: &'a str,
         rest: &[&'a str],
     ) -> Result<(), LineFault> {
+        if text_named(self.texts.as_slice(), name).is_ok() {
+            return Err(LineFault::SameName);
+        }
         let mut bytes = Vec::new(alloc);
         for line in rest {
             if begins_part(line) {

@@ -1,5 +1,5 @@
 // How a run differs from its case.
-ghost use Rattle.std.specs.Prelude.{◌≡◌, ◌↔◌, IsTrue, Some};
+ghost use Rattle.std.specs.Prelude.{◌≡◌, ◌⊎◌, ◌↔◌, IsTrue, Some, None};
 ghost use Rattle.std.specs.Process.{exit_status};
 
 use crate::Case;
@@ -27,7 +27,9 @@ fn is_as_said(case: &Case<'_>, ran: &Ran) -> bool
 }
 
 /// Whether a run has as many calls as its case says, where it says so.
-fn has_the_calls(case: &Case<'_>, ran: &Ran) -> bool {
+fn has_the_calls(case: &Case<'_>, ran: &Ran) -> bool
+    ensures { IsTrue result ↔ ((case.now.calls ≡ None) ⊎ (case.now.calls ≡ Some ran.now.calls)) }
+{
     match case.calls {
         Some(calls) => calls == ran.calls,
         None => true,
