@@ -1,13 +1,11 @@
 //! Tests of public calls below a run, for what no run of a tool shows: readers of files and of words, made days, ends of
-//! runs, iterations of the rule and rows of sheets.
+//! runs, ballots line by line and a row of a sheet.
 #![tactic(auto)]
 
 #[cfg(test)]
 mod ends;
 #[cfg(test)]
 mod flat_spread;
-#[cfg(test)]
-mod iterations;
 #[cfg(test)]
 mod lines;
 #[cfg(test)]
