@@ -1,10 +1,9 @@
 -- A caller's seats while it holds all turns, and after it gave them back.
-use Rattle.std.proofs.Common.{◌≡◌, ℕ, ◌+◌, ◌≤◌, true, false, List, [], ◌∷◌, ◌++◌, length, sym, ap, ◌∙◌, arith}
+use Rattle.std.proofs.Common.{◌≡◌, ℕ, ◌+◌, ◌≤◌, true, false, List, [], ◌∷◌, ◌++◌, length, sym, ap, ◌∙◌, arith, append-nil}
 use Rattle.std.specs.Prelude.{slice_get, Some}
 use Rattle.shard_office.specs.declared.window.Window.{Window}
 use Rattle.turn_lock.specs.Entries.{Begins}
 use Rattle.turn_lock.specs.Sights.{Sight as SeatSight}
-use Rattle.call_register.specs.declared.mark.Mark.{Mark}
 use Rattle.shard_office.specs.declared.shard_value.ShardName.{ShardName}
 use Rattle.shard_office.specs.Office.{OfficeState}
 use Rattle.shard_office.specs.Values.{SeenShard}
@@ -100,30 +99,36 @@ module _ (o : OfficeState) (p : ℕ) (olds mids : List ShardSeat) (r : RegisterS
   pub all_held : AllHeld o mids held
   all_held = record { named = held_named; ties = held_ties; seen = held_seen }
 
--- the register's turn, taken and given back with a mark
-pub register_gave :
-    (r m r' : RegisterSeat) (log new : List Mark) (e : Mark) → m ≡ record r { holds = true; seen = log }
-    → Begins r.seen log → r' ≡ record m { holds = false; seen = new; mine = r'.mine } → new ≡ log ++ e ∷ []
-    → r'.mine ≡ m.mine ++ e ∷ [] → Gave r r' e
-register_gave r m r' log new e taken begins given more mine = (
-  begins.0,
-  given
-      ∙ ((λ k. record (taken k) { holds = false; seen = new; mine = r'.mine })
-      ∙ (λ k. record r {
-        holds = false;
-        seen = (more ∙ ap (λ l. l ++ e ∷ []) begins.1) k;
-        mine = (mine ∙ ap (λ z. z.mine ++ e ∷ []) taken) k;
-      })),
-)
+module _ {E N : Type 0} where
+  -- a turn, taken and given back with an entry
+  pub turn_gave :
+      (r m r' : SeatSight E N) (log new : List E) (e : E) → m ≡ record r { holds = true; seen = log }
+      → Begins r.seen log → r' ≡ record m { holds = false; seen = new; mine = r'.mine } → new ≡ log ++ e ∷ []
+      → r'.mine ≡ m.mine ++ e ∷ [] → Gave r r' e
+  turn_gave r m r' log new e taken begins given more mine = (
+    begins.0,
+    given
+        ∙ ((λ k. record (taken k) { holds = false; seen = new; mine = r'.mine })
+        ∙ (λ k. record r {
+          holds = false;
+          seen = (more ∙ ap (λ l. l ++ e ∷ []) begins.1) k;
+          mine = (mine ∙ ap (λ z. z.mine ++ e ∷ []) taken) k;
+        })),
+  )
 
-pub register_looked :
-    (r m r' : RegisterSeat) (log : List Mark) → m ≡ record r { holds = true; seen = log } → Begins r.seen log
-    → r' ≡ record m { holds = false } → Looked r r'
-register_looked r m r' log taken begins given = (
-  begins.0,
-  given
-      ∙ ((λ k. record (taken k) { holds = false }) ∙ (λ k. record r { holds = false; seen = begins.1 k })),
-)
+  -- a turn, taken and given back
+  pub turn_looked :
+      (r m r' : SeatSight E N) (log : List E) → m ≡ record r { holds = true; seen = log } → Begins r.seen log
+      → r' ≡ record m { holds = false } → Looked r r'
+  turn_looked r m r' log taken begins given = (
+    begins.0,
+    given
+        ∙ ((λ k. record (taken k) { holds = false }) ∙ (λ k. record r { holds = false; seen = begins.1 k })),
+  )
+
+  -- no turn was taken
+  pub none_looked : (r : SeatSight E N) → r.holds ≡ false → Looked r r
+  none_looked r free = ([], λ k. record r { holds = free k; seen = sym (append-nil r.seen) k })
 
 -- but for what it has seen and given a seat is as it was
 module _ {E N : Type 0} where

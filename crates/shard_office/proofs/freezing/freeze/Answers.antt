@@ -11,7 +11,7 @@ use Rattle.shard_office.specs.Moves.{Looked, Gave, Looks}
 use Rattle.shard_office.specs.Turned.{TookTurns, AreTied, AreNamed, AreAgreed, entries_held}
 use Rattle.shard_office.specs.Versions.{IsFreeze}
 use Rattle.shard_office.proofs.HeldLemmas.{AllHeld, all_held, seats_of, looks_by}
-use Rattle.shard_office.proofs.HeldLemmas.{register_gave, register_looked, gave_still, looked_still}
+use Rattle.shard_office.proofs.HeldLemmas.{turn_gave, turn_looked, gave_still, looked_still}
 use Rattle.shard_office.proofs.Marked.{none_looked}
 use Rattle.shard_office.proofs.Called.{HaveLooked}
 use Rattle.shard_office.proofs.AfterMarks.{HaveFrozen, have_looked, have_frozen}
@@ -153,7 +153,7 @@ gave g c =
     let log : c.freeze.new.self.register.marks ≡ c.take-kept.new.seat.seen ++ mark ∷ [] =
     marks_now g c
     ∙ ap (λ (m : List Mark). m ++ mark ∷ []) (sym (ap (λ z. z.seen) c.take-kept.ensures.seat)) in
-    register_gave c.args.desk.now.register c.take-kept.new.seat c.give_with.new.seat
+    turn_gave c.args.desk.now.register c.take-kept.new.seat c.give_with.new.seat
     c.take-kept.result.register.marks c.freeze.new.self.register.marks mark c.take-kept.ensures.seat
     c.take-kept.ensures.begins c.give_with.ensures.seat (marks_now g c) (c.give_with.ensures.mine mark log)
 
@@ -225,7 +225,7 @@ looked_err :
     (g : Over) (c : goal.After-give_all-in-Err g)
     → Looked c.args.desk.now.register c.give_back.new.seat
 looked_err g c =
-    register_looked c.args.desk.now.register c.take-kept.new.seat c.give_back.new.seat
+    turn_looked c.args.desk.now.register c.take-kept.new.seat c.give_back.new.seat
     c.take-kept.result.register.marks c.take-kept.ensures.seat c.take-kept.ensures.begins
     c.give_back.ensures.seat
 
