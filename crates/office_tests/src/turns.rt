@@ -11,6 +11,9 @@ use std::test::Fail;
 use std::thread;
 use turn_lock::{Held, Kept, Seat, TurnLock};
 
+/// How many turns each of two threads takes that wake each other.
+const MANY: u32 = 10_000;
+
 /// How often a thread looks for the other at most.
 const LOOKS: u32 = 50_000_000;
 
@@ -136,11 +139,11 @@ fn only_looks<R: Wait>(
     seat
 }
 
-// Waits until so many calls have come, so that threads take their turns at the same time.
-fn meet(came: &AtomicU64, all: u64) {
+// Waits until two threads have come, so that both take their turns at the same time.
+fn meet(came: &AtomicU64) {
     came.fetch_add(1, Ordering::SeqCst);
     for _ in 0..LOOKS {
-        if came.load(Ordering::SeqCst) >= all {
+        if came.load(Ordering::SeqCst) >= 2 {
             return;
         }
     }
@@ -160,10 +163,39 @@ fn sums(gifts: &Gifts) -> (usize, u32, u32) {
     (gifts.list.len(), gifts.turns, gifts.title)
 }
 
+// Gives so many numbers from 1 on, once another thread has come too.
+fn meet_and_give<R: Wait>(
+    rt: &R,
+    lock: &TurnLock<Gifts>,
+    seat: Seat<Gifts>,
+    giver: u32,
+    came: &AtomicU64,
+) -> Result<Seat<Gifts>, AllocError>
+    requires { (seat.lock ≡ lock.now) × (seat.caller ≡ giver) × (seat.holds ≡ false) }
+    ensures { IfOk result (λ s. (s.lock ≡ lock.now) × (s.caller ≡ giver) × (s.holds ≡ false)) }
+{
+    meet(came);
+    give_each(rt, lock, seat, giver, MANY, 0)
+}
+
+// Gives nothing in so many turns, once another thread has come too.
+fn meet_and_look<R: Wait>(
+    rt: &R,
+    lock: &TurnLock<Gifts>,
+    seat: Seat<Gifts>,
+    came: &AtomicU64,
+) -> Seat<Gifts>
+    requires { (seat.lock ≡ lock.now) × (seat.holds ≡ false) }
+    ensures { (result.lock ≡ lock.now) × (result.caller ≡ seat.caller) × (result.holds ≡ false) }
+{
+    meet(came);
+    only_looks(rt, lock, seat, MANY)
+}
+
 // Where one of the two calls that give the turn back woke nobody, a thread would wait without end, since
-// no other call comes.
+// no other call comes. Here each turn gives something, below none does.
 #[test]
-fn two_threads_wake_each_other(rt: HostRuntime) -> Result<(), Fail> {
+fn threads_that_only_give_wake_each_other(rt: HostRuntime) -> Result<(), Fail> {
     let (lock, mut first) = TurnLock::try_new(rt.alloc(), none_yet(rt.alloc())).map_err(
         |_| AllocError,
     )?;
@@ -172,35 +204,36 @@ fn two_threads_wake_each_other(rt: HostRuntime) -> Result<(), Fail> {
     let came = AtomicU64::new(0);
     let (one, two) = thread::join(
         &rt,
-        || {
-            meet(&came, 2);
-            give_each(&rt, &lock, one, 1, 10_000, 0)
-        },
-        || {
-            meet(&came, 2);
-            give_each(&rt, &lock, two, 2, 10_000, 0)
-        },
+        || meet_and_give(&rt, &lock, one, 1, &came),
+        || meet_and_give(&rt, &lock, two, 2, &came),
     );
-    let (one, two) = (one?, two?);
+    lock.join(&mut first, one?);
+    let held = lock.take(&rt, &mut first);
+    same(&rt, sums(held.value()), (20_000, 20_000, 7));
+    lock.give_back(&mut first, held);
+    lock.join(&mut first, two?);
+    let gifts = lock.close(first);
+    are_whole(&rt, &gifts, &[1, 2], MANY);
+    Ok(())
+}
+
+#[test]
+fn threads_that_only_look_wake_each_other(rt: HostRuntime) -> Result<(), Fail> {
+    let (lock, mut first) = TurnLock::try_new(rt.alloc(), none_yet(rt.alloc())).map_err(
+        |_| AllocError,
+    )?;
+    let one = lock.split(&mut first, 1);
+    let two = lock.split(&mut first, 2);
+    let came = AtomicU64::new(0);
     let (one, two) = thread::join(
         &rt,
-        || {
-            meet(&came, 4);
-            only_looks(&rt, &lock, one, 10_000)
-        },
-        || {
-            meet(&came, 4);
-            only_looks(&rt, &lock, two, 10_000)
-        },
+        || meet_and_look(&rt, &lock, one, &came),
+        || meet_and_look(&rt, &lock, two, &came),
     );
     lock.join(&mut first, one);
-    let held = lock.take(&rt, &mut first);
-    same(&rt, sums(held.value()), (20_000, 40_000, 7));
-    lock.give_back(&mut first, held);
     lock.join(&mut first, two);
     let gifts = lock.close(first);
-    same(&rt, sums(&gifts), (20_000, 40_000, 7));
-    are_whole(&rt, &gifts, &[1, 2], 10_000);
+    same(&rt, sums(&gifts), (0, 20_000, 7));
     Ok(())
 }
 
