@@ -1,6 +1,9 @@
 // The files of cases in the folder.
+use crate::case::Case;
+use crate::line::lines_of;
+use crate::reader::CaseReader;
 use crate::run::run;
-use case_files::{Case, CaseReader, lines_of, tell};
+use crate::telling::tell;
 use std::rt::Files;
 use std::sync::Wait;
 use std::thread::Threads;

@@ -1,9 +1,22 @@
 //! Runs the cases in the files of its folder whose names end in `.cases`: says which of them differ, and how many
 //! there are.
+//!
+//! `folder` reads each file with a `CaseReader`, `run` makes the call of each `Case` over memory, and `telling` says how
+//! what it came to, a `Ran`, differs. A case keeps its bytes as lines of text until it is read, so that a file of many takes
+//! little memory. Contracts say of the comparison alone what it does: a reader that is wrong shows as a case that differs,
+//! or as another number of cases.
 #![tactic(auto)]
 
+mod bytes;
+mod case;
 mod folder;
+mod line;
+mod line_fault;
+mod reader;
 mod run;
+mod telling;
+mod text;
+mod tool;
 
 use crate::folder::{file_names, run_files};
 use std::process::ExitCode;

@@ -1,9 +1,11 @@
 // A case's run.
+use crate::case::Case;
+use crate::telling::Ran;
+use crate::tool::Tool;
 use ballot_look::look;
 use blt_import::import;
 use blt_normal::normal;
 use byte_edge::{FreeGate, MemorySink, MemorySource, NoMemory};
-use case_files::{Case, Ran, Tool};
 use count_promise::promise;
 use day_audit::audit;
 use day_ballots::ballots;

@@ -2,7 +2,7 @@
 ghost use Rattle.std.specs.Prelude.{◌≡◌, ◌⊎◌, ◌↔◌, IsTrue, Some, None};
 ghost use Rattle.std.specs.Process.{exit_status};
 
-use crate::Case;
+use crate::case::Case;
 use std::process::ExitCode;
 use std::{io, str};
 

@@ -1,6 +1,6 @@
 // The lines of a case that stand for bytes.
-use crate::LineFault;
 use crate::line::first_word;
+use crate::line_fault::LineFault;
 use crate::text::{Text, lines_between, text_named};
 
 /// How often a piece is repeated at most.

@@ -1,5 +1,6 @@
 // What a case says.
-use crate::{LineFault, Tool};
+use crate::line_fault::LineFault;
+use crate::tool::Tool;
 use std::alloc::Global;
 
 /// One run of a tool over memory, and what it has to come to.

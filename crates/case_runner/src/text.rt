@@ -1,5 +1,5 @@
 // Texts that lines take by their names.
-use crate::LineFault;
+use crate::line_fault::LineFault;
 
 /// A text that later lines may take by its name.
 #[derive(Drop)]

@@ -1,8 +1,10 @@
 // The cases of a file.
 use crate::bytes::push_marked;
+use crate::case::Case;
 use crate::line::{begins_part, first_word, is_silent, marked};
+use crate::line_fault::LineFault;
 use crate::text::{Text, text_named};
-use crate::{Case, LineFault, Tool};
+use crate::tool::Tool;
 use std::alloc::{AllocError, Global};
 
 /// Where the bytes of a line go.
