@@ -1,9 +1,7 @@
-//! Tests of the public calls of plain_ballots, packed_ballots, ranking_trie, batch_core, call_register and
+//! Tests of the public calls of packed_ballots, ranking_trie, batch_core, call_register and
 //! shard_book: ballots, and the books of their batches.
 #![tactic(auto)]
 
-#[cfg(test)]
-mod ballots;
 #[cfg(test)]
 mod batches;
 #[cfg(test)]

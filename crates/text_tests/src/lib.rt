@@ -1,10 +1,8 @@
-//! Tests of public calls below a run, for what no run of a tool shows: bytes and numbers; names, rolls and orders of lots;
-//! readers of files, tables and words; made days, ends of runs and rows of a sheet; a sheet that is too long, the form of a
-//! sheet byte by byte; texts and elements of a page, and records of a table.
+//! Tests of public calls below a run, for what no run of a tool shows: readers and writers of std, numbers and their roundings,
+//! rolls; readers of files, tables and words; made days, ends of runs and rows of a sheet; a sheet that is too long, the form
+//! of a sheet byte by byte, and records of a table. What a clause determines for all values has no test.
 #![tactic(auto)]
 
-#[cfg(test)]
-mod element;
 #[cfg(test)]
 mod ends;
 #[cfg(test)]
@@ -20,13 +18,7 @@ mod line;
 #[cfg(test)]
 mod lines;
 #[cfg(test)]
-mod lists;
-#[cfg(test)]
-mod lots;
-#[cfg(test)]
 mod made_days;
-#[cfg(test)]
-mod names;
 #[cfg(test)]
 mod record;
 #[cfg(test)]

@@ -38,20 +38,6 @@ fn keep_says<const P: usize>(rt: &impl Abort, units: u64, text: &[u8])
 }
 
 #[test]
-#[tactic(auto, using(line_text::proofs::Lengths::lengths))]
-fn a_line_fills_up_and_clears(rt: HostRuntime) {
-    let mut line = Line::new();
-    line.push_bytes(&[b'a'; 1399]);
-    line.push_bytes(b"b");
-    let bytes = line.bytes();
-    same(&rt, (bytes.len(), bytes.last()), (1400, Some(&b'b')));
-    line.clear();
-    line.push_bytes(b"seats ");
-    line.push_count(2);
-    same(&rt, line.bytes(), b"seats 2");
-}
-
-#[test]
 fn numbers_have_their_digits(rt: HostRuntime) {
     for (n, text) in [
         (0, b"0".as_slice()),
@@ -67,18 +53,4 @@ fn numbers_have_their_digits(rt: HostRuntime) {
     amount_says::<8>(&rt, 1_020_000_000, b"10.20000000");
     keep_says::<8>(&rt, 100_000_000, b"1.00000000");
     keep_says::<9>(&rt, 571_428_572, b"0.571428572");
-}
-
-#[test]
-fn amounts_have_nine_places(rt: HostRuntime) {
-    for (units, text) in [
-        (0, b"0.000000000".as_slice()),
-        (1, b"0.000000001"),
-        (4_000_000_001, b"4.000000001"),
-        (999_999_999_000_000_000, b"999999999.000000000"),
-        (1_000_000_000_000_000_000, b"1000000000.000000000"),
-    ] {
-        assert!(rt; units <= 1_000_000_000_000_000_000);
-        amount_says::<9>(&rt, units, text);
-    }
 }

@@ -4,11 +4,10 @@ ghost use Rattle.fixed_place.specs.Rounding.{scale, most};
 
 use crate::same::same;
 use fixed_place::{
-    Amount, Amounts, Keep, Keeps, RoundCase, check_cases, div_down, div_up_capped, mul_up,
-    rounding_law, sum_checked,
+    Amount, Keep, RoundCase, check_cases, div_down, div_up_capped, mul_up, rounding_law,
+    sum_checked,
 };
 use std::process::Abort;
-use std::test::Fail;
 
 /// Of so many units a candidate of this keep value keeps so many.
 fn case(rt: &impl Abort, a: u64, k: u64, kept: u64) -> RoundCase<9> {
@@ -94,17 +93,4 @@ fn rounds_at_each_number_of_places(rt: HostRuntime) {
     rounds::<7>(&rt, 10_000_000, 10_000_000_000_000_000);
     rounds::<8>(&rt, 100_000_000, 100_000_000_000_000_000);
     rounds::<9>(&rt, 1_000_000_000, 1_000_000_000_000_000_000);
-}
-
-#[test]
-fn lists_have_a_number_for_each_candidate(rt: HostRuntime) -> Result<(), Fail> {
-    let (five, seven) = (Amount::from_units(5), Amount::from_units(7));
-    let mut amounts = Amounts::<6>::filled(rt.alloc(), 3, five)?;
-    amounts.set(1, seven);
-    same(&rt, amounts.items(), &[five, seven, five]);
-    let (five, seven) = (Keep::from_units(5), Keep::from_units(7));
-    let mut keeps = Keeps::<6>::filled(rt.alloc(), 3, five)?;
-    keeps.set(1, seven);
-    same(&rt, keeps.items(), &[five, seven, five]);
-    Ok(())
 }

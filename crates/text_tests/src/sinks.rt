@@ -1,7 +1,6 @@
-// Sinks: single writes and flushes, and writing the whole of a text.
+// Writers of std as sinks: single writes and flushes.
 use crate::same::same;
-use byte_edge::{CountSink, Failed, MemorySink, Sink, StdSink, write_all};
-use std::alloc::Global;
+use byte_edge::{Failed, Sink, StdSink};
 use std::io::{self, BufWriter, Write};
 use std::process::Abort;
 use std::test::Fail;
@@ -59,86 +58,5 @@ fn holds_back(rt: &impl Abort, buffered: &mut BufWriter<Vec<u8>>) {
 #[test]
 fn a_flush_reaches_the_writer_behind_a_buffer(rt: HostRuntime) -> Result<(), Fail> {
     holds_back(&rt, &mut BufWriter::new(rt.alloc(), Vec::new(rt.alloc()))?);
-    Ok(())
-}
-
-// That no write to it fails is proved at the arm that can't be reached.
-#[test]
-fn a_count_has_all_bytes(rt: HostRuntime) {
-    let mut sink = CountSink::new();
-    takes_all(&rt, &mut sink);
-    let few = sink.taken();
-    match write_all(&mut sink, b"abcdefg") {
-        Ok(()) => same(&rt, [few, sink.taken()], [5, 12]),
-        Err(Failed) => unreachable!(),
-    }
-}
-
-/// What a call answers, and the bytes that were taken then.
-type Taking<'a> = (&'a [u8], Result<usize, Failed>, &'a [u8]);
-
-/// Each call gives its answer.
-fn answers(rt: &impl Abort, sink: &mut MemorySink, takings: &[Taking<'_>]) {
-    for (piece, due, bytes) in takings {
-        let answer = call(sink, piece);
-        same(rt, (answer, sink.bytes()), (*due, *bytes));
-    }
-}
-
-// There is room for four bytes, and a write takes three. The second call and the fourth fail.
-#[test]
-fn a_sink_in_memory_fails_as_told(rt: HostRuntime) -> Result<(), Fail> {
-    let failing = vec![in rt.alloc(); 2, 4]?;
-    let takings: [Taking<'_>; 7] = [
-        (b"abcde", Ok(3), b"abc"),
-        (b"de", Err(Failed), b"abc"),
-        (b"", Ok(0), b"abc"),
-        (b"", Err(Failed), b"abc"),
-        (b"de", Ok(1), b"abcd"),
-        (b"e", Err(Failed), b"abcd"),
-        (b"", Ok(0), b"abcd"),
-    ];
-    answers(
-        &rt,
-        &mut MemorySink::with_room(rt.alloc(), 4, 3, failing)?,
-        &takings,
-    );
-    Ok(())
-}
-
-/// Has room for nine bytes, and takes two at a write; the call with this number fails.
-fn room_for_nine(alloc: Global, failing: u64) -> Result<MemorySink, Fail> {
-    Ok(MemorySink::with_room(alloc, 9, 2, vec![in alloc; failing]?)?)
-}
-
-/// Writing the piece gives this answer, and the sink has taken these bytes then.
-fn writes(
-    rt: &impl Abort,
-    sink: &mut MemorySink,
-    piece: &[u8],
-    answer: Result<(), Failed>,
-    bytes: &[u8],
-) {
-    let written = write_all(sink, piece);
-    same(rt, (written, sink.bytes()), (answer, bytes));
-}
-
-#[test]
-fn a_front_is_written_where_a_write_fails(rt: HostRuntime) -> Result<(), Fail> {
-    for (failing, front) in [(1, b"".as_slice()), (2, b"ab"), (3, b"abcd")] {
-        let mut sink = room_for_nine(rt.alloc(), failing)?;
-        writes(&rt, &mut sink, b"abcde", Err(Failed), front);
-    }
-    Ok(())
-}
-
-#[test]
-fn all_is_written(rt: HostRuntime) -> Result<(), Fail> {
-    let mut sink = room_for_nine(rt.alloc(), 4)?;
-    writes(&rt, &mut sink, b"abcde", Ok(()), b"abcde");
-    same(&rt, sink.flush(), Err(Failed));
-    writes(&rt, &mut sink, b"fghi", Ok(()), b"abcdefghi");
-    writes(&rt, &mut sink, b"", Ok(()), b"abcdefghi");
-    writes(&rt, &mut sink, b"j", Err(Failed), b"abcdefghi");
     Ok(())
 }
