@@ -73,48 +73,6 @@ const EQUAL_LINES: [Line; 5] = [(3, &[1, 2]), (4, &[]), (1, &[3]), (2, &[1, 2]),
 
 const ROWS_OF_EQUAL: [RowFigures; 4] = [(0, 0, 15, 4), (1, 1, 5, 2), (2, 2, 5, 1), (1, 3, 1, 1)];
 
-/// Rankings of nine or ten candidates, the first eight of them alike, and the later ones out of order.
-const LONG_RANKINGS: [Line; 4] = [
-    (2, &[1, 2, 3, 4, 5, 6, 7, 8, 10]),
-    (1, &[1, 2, 3, 4, 5, 6, 7, 8, 9, 10]),
-    (3, &[1, 2, 3, 4, 5, 6, 7, 8, 9]),
-    (4, &[1, 2, 3, 4, 5, 6, 7, 8, 10]),
-];
-
-const ROWS_IN_ORDER: [RowFigures; 12] = [
-    (0, 0, 10, 12),
-    (1, 1, 10, 11),
-    (2, 2, 10, 10),
-    (3, 3, 10, 9),
-    (4, 4, 10, 8),
-    (5, 5, 10, 7),
-    (6, 6, 10, 6),
-    (7, 7, 10, 5),
-    (8, 8, 10, 4),
-    (9, 9, 4, 2),
-    (10, 10, 1, 1),
-    (9, 10, 6, 1),
-];
-
-/// These lines of ten candidates, dealt to one shard, make a plan with these rows.
-fn one_plan(
-    rt: &impl Abort,
-    alloc: Global,
-    lines: &[Line],
-    rows: &[RowFigures],
-) -> Result<(), Fail> {
-    let plans = Plans::dealt(alloc, ballots_of(alloc, 10, lines)?, 1)?;
-    have_rows(rt, &plans, &[rows]);
-    Ok(())
-}
-
-#[test]
-fn lines_come_into_order_and_equal_ones_together(rt: HostRuntime) -> Result<(), Fail> {
-    one_plan(&rt, rt.alloc(), &[], &[(0, 0, 0, 1)])?;
-    one_plan(&rt, rt.alloc(), &EQUAL_LINES, &ROWS_OF_EQUAL)?;
-    one_plan(&rt, rt.alloc(), &LONG_RANKINGS, &ROWS_IN_ORDER)
-}
-
 /// These lines, packed, are dealt to shards by so many workers.
 fn dealt_by<R: Threads + Sync>(
     rt: &R,

@@ -1,6 +1,6 @@
 // The sink is flushed behind the last byte, at each end of a run that writes all it owes.
 use crate::runs::read_and_run;
-use byte_edge::{CountSink, FreeGate, StdSink};
+use byte_edge::{FreeGate, StdSink};
 use meek_cli::Status;
 use sample_runs::{FILE, SHEET};
 use std::alloc::Global;
@@ -127,17 +127,5 @@ fn flushes_a_buffer_of_std(rt: HostRuntime) -> Result<(), Fail> {
     for (words, input, written) in ENDS {
         flushes_a_buffer(&rt, rt.alloc(), words, input, written)?;
     }
-    Ok(())
-}
-
-#[test]
-fn a_sink_that_counts_takes_each_byte(rt: HostRuntime) -> Result<(), Fail> {
-    let mut counter = CountSink::new();
-    let run = ("count --lots 1,2,3,4", FILE);
-    let (status, _) = read_and_run(&rt, rt.alloc(), run, &mut counter, &FreeGate)?;
-    assert_eq!(rt;
-        (status, counter.taken()),
-        (Status::Done, SHEET.len() as u64)
-    );
     Ok(())
 }

@@ -1,4 +1,4 @@
-// Distributions worked by hand, by the lanes of workers and by what is lent.
+// Distributions worked by hand, by the lanes of workers.
 ghost use Rattle.std.specs.Prelude.{◌≡◌, ◌≤◌, All, IfOk, length};
 ghost use Rattle.frozen_plan.specs.Plan.{all_ballots};
 ghost use Rattle.fixed_place.specs.Rounding.{scale};
@@ -9,8 +9,7 @@ use crate::samples::{Distribution, MANY, SIXTEEN, Sample, THREE_ALIKE};
 use byte_edge::{FreeGate, Gate};
 use fixed_place::{Amount, Amounts, Keep, Keeps};
 use frozen_plan::Plans;
-use lent_spread::Lent;
-use meek_rule::{FlatSpread, Spread};
+use meek_rule::Spread;
 use sample_ballots::{Line, ballots_of};
 use std::alloc::Global;
 use std::process::Abort;
@@ -127,21 +126,4 @@ fn shards_and_workers_make_no_difference(rt: HostRuntime) -> Result<(), Fail> {
     distributes_over(&rt, alloc, &SIXTEEN, &[1, 2, 7], &[1, 3, 32])?;
     distributes_over(&rt, alloc, &THREE_ALIKE, &[1], &[1, 3, 32])?;
     distributes_over(&rt, alloc, &MANY, &[1, 3, 64], &[1, 2, 4, 32])
-}
-
-/// How many candidates a distribution says that it has.
-fn candidates_of<D: Spread<9>>(spread: &D) -> u32
-    requires { D.can_spread spread.now }
-{
-    spread.candidates()
-}
-
-// Two ballots give a quarter each to candidate 2, and half of what is left to candidate 1.
-#[test]
-fn what_is_lent_distributes(rt: HostRuntime) -> Result<(), Fail> {
-    let mut flat = FlatSpread::new(ballots_of(rt.alloc(), 2, &[(2, &[2, 1])])?);
-    let mut lent = Lent { spread: &mut flat };
-    same(&rt, candidates_of(&lent), 2);
-    let halves: Distribution<'_> = (&[500_000_000, 250_000_000], &[750_000_000, 500_000_000]);
-    gives_all(&rt, rt.alloc(), &mut lent, 2, &[halves])
 }
