@@ -18,6 +18,7 @@ mod SolidMajority
 mod Orderly
 mod FirstVotes
 mod FirstQuota
+mod Earlier
 mod Struck
 mod Moved
 mod Renamed

@@ -3,6 +3,7 @@ pub mod NoTies
 pub mod Majority
 pub mod Coalition
 pub mod Orderly
+pub mod LaterPreferences
 pub mod Strikes
 pub mod Renaming
 pub mod Absence

@@ -8,6 +8,7 @@ ghost use Rattle.rule_laws.specs.WorkedAbsence.{BenIsLeftOut};
 ghost use Rattle.rule_laws.specs.Majority.{FirstShareWins, MajorityWins};
 ghost use Rattle.rule_laws.specs.Coalition.{SolidMajorityWins, CoalitionsAreSeated, SharesAreSeated, ShareGetsASeat};
 ghost use Rattle.rule_laws.specs.Orderly.{OrderlyCountsAreProportional, QuietCountsAreProportional};
+ghost use Rattle.rule_laws.specs.LaterPreferences.{EarlierAreSafe};
 ghost use Rattle.rule_laws.specs.Unheard.{AllRankDeeLast, AllRankDeeLastAtSixPlaces};
 
 /// A count fills its seats, or elects all who were not withdrawn where those are fewer. Whoever stands as elected or
@@ -62,6 +63,12 @@ pub fn coalitions_are_seated()
     ensures orderly { OrderlyCountsAreProportional }
     ensures hundredths { QuietCountsAreProportional }
     ensures one { ShareGetsASeat }
+{}
+
+/// Later-no-harm and later-no-help: what a ballot says after a candidate can neither hurt nor help that candidate. Two
+/// elections that differ in nothing else end alike for each candidate whom the ballot ranks before they differ.
+pub fn later_preferences_change_nothing_earlier()
+    ensures { EarlierAreSafe }
 {}
 
 /// What the rule does not promise: in two counts worked by hand a candidate whom all voters rank last, and who never
