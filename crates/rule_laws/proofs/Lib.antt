@@ -19,6 +19,7 @@ mod Orderly
 mod FirstVotes
 mod FirstQuota
 mod Earlier
+mod LaterLots
 mod Struck
 mod Moved
 mod Renamed

@@ -1,5 +1,6 @@
 pub mod Seats
 pub mod NoTies
+pub mod LaterLots
 pub mod Majority
 pub mod Coalition
 pub mod Orderly

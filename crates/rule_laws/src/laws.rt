@@ -9,6 +9,7 @@ ghost use Rattle.rule_laws.specs.Majority.{FirstShareWins, MajorityWins};
 ghost use Rattle.rule_laws.specs.Coalition.{SolidMajorityWins, CoalitionsAreSeated, SharesAreSeated, ShareGetsASeat};
 ghost use Rattle.rule_laws.specs.Orderly.{OrderlyCountsAreProportional, QuietCountsAreProportional};
 ghost use Rattle.rule_laws.specs.LaterPreferences.{EarlierAreSafe};
+ghost use Rattle.rule_laws.specs.LaterLots.{LaterLotsNeverHurt};
 ghost use Rattle.rule_laws.specs.Unheard.{AllRankDeeLast, AllRankDeeLastAtSixPlaces};
 
 /// A count fills its seats, or elects all who were not withdrawn where those are fewer. Whoever stands as elected or
@@ -25,6 +26,12 @@ pub fn seats_are_filled()
 /// count, row for row.
 pub fn lots_break_ties_alone()
     ensures { LotsBreakTiesAlone }
+{}
+
+/// Who is elected with some lots is elected too where it comes later in them, the rest in its order: the count is the
+/// same, row for row.
+pub fn later_lots_never_hurt()
+    ensures { LaterLotsNeverHurt }
 {}
 
 /// With other numbers on ballots, roll and lots the count is the same under these numbers.
