@@ -20,6 +20,9 @@ mod FirstVotes
 mod FirstQuota
 mod Earlier
 mod LaterLots
+mod TopVotes
+mod Runoffs
+mod OneSeat
 mod Struck
 mod Moved
 mod Renamed

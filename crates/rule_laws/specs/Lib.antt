@@ -5,6 +5,7 @@ pub mod Majority
 pub mod Coalition
 pub mod Orderly
 pub mod LaterPreferences
+pub mod OneSeat
 pub mod Strikes
 pub mod Renaming
 pub mod Absence

@@ -10,6 +10,7 @@ ghost use Rattle.rule_laws.specs.Coalition.{SolidMajorityWins, CoalitionsAreSeat
 ghost use Rattle.rule_laws.specs.Orderly.{OrderlyCountsAreProportional, QuietCountsAreProportional};
 ghost use Rattle.rule_laws.specs.LaterPreferences.{EarlierAreSafe};
 ghost use Rattle.rule_laws.specs.LaterLots.{LaterLotsNeverHurt};
+ghost use Rattle.rule_laws.specs.OneSeat.{OneSeatRulesAgree, OneSeatRowsAreRunoffs, OneSeatPlacesAgree};
 ghost use Rattle.rule_laws.specs.Unheard.{AllRankDeeLast, AllRankDeeLastAtSixPlaces};
 
 /// A count fills its seats, or elects all who were not withdrawn where those are fewer. Whoever stands as elected or
@@ -76,6 +77,15 @@ pub fn coalitions_are_seated()
 /// elections that differ in nothing else end alike for each candidate whom the ballot ranks before they differ.
 pub fn later_preferences_change_nothing_earlier()
     ensures { EarlierAreSafe }
+{}
+
+/// With one seat a count is the alternative vote (instant-runoff voting): both rules have the same rows, each of which
+/// is a runoff with one vote for each ballot that ranks somebody hopeful, and ties are of equal votes. So neither the
+/// rule, nor the number of places, nor omega makes a difference to who is elected.
+pub fn one_seat_is_the_alternative_vote()
+    ensures rules { OneSeatRulesAgree }
+    ensures rows { OneSeatRowsAreRunoffs }
+    ensures places { OneSeatPlacesAgree }
 {}
 
 /// What the rule does not promise: in two counts worked by hand a candidate whom all voters rank last, and who never
