@@ -20,6 +20,7 @@ mod FirstVotes
 mod FirstQuota
 mod Earlier
 mod LaterLots
+mod MovedLots
 mod TopVotes
 mod Runoffs
 mod OneSeat

@@ -26,3 +26,10 @@ LaterLotsNeverHurt =
     → IsCountUnder rule places omega ballots roll lots rows last
     → state_at last (c - 1) ≡ Elected
     → IsCountUnder rule places omega ballots roll other rows last
+
+-- With the other order it is an election, so that this is its only count.
+abbrev pub WithLaterLotsItIsAnElection : Type 0
+WithLaterLotsItIsAnElection =
+    (places omega : ℕ) (ballots : List (List ℕ)) (roll : RollList) (lots other : List ℕ) (c : ℕ)
+    → IsElection places omega ballots roll lots → IsMovedLater c lots other
+    → IsElection places omega ballots roll other

@@ -9,7 +9,7 @@ ghost use Rattle.rule_laws.specs.Majority.{FirstShareWins, MajorityWins};
 ghost use Rattle.rule_laws.specs.Coalition.{SolidMajorityWins, CoalitionsAreSeated, SharesAreSeated, ShareGetsASeat};
 ghost use Rattle.rule_laws.specs.Orderly.{OrderlyCountsAreProportional, QuietCountsAreProportional};
 ghost use Rattle.rule_laws.specs.LaterPreferences.{EarlierAreSafe};
-ghost use Rattle.rule_laws.specs.LaterLots.{LaterLotsNeverHurt};
+ghost use Rattle.rule_laws.specs.LaterLots.{LaterLotsNeverHurt, WithLaterLotsItIsAnElection};
 ghost use Rattle.rule_laws.specs.OneSeat.{OneSeatRulesAgree, OneSeatRowsAreRunoffs, OneSeatPlacesAgree};
 ghost use Rattle.rule_laws.specs.Unheard.{AllRankDeeLast, AllRankDeeLastAtSixPlaces};
 
@@ -30,9 +30,10 @@ pub fn lots_break_ties_alone()
 {}
 
 /// Who is elected with some lots is elected too where it comes later in them, the rest in its order: the count is the
-/// same, row for row.
+/// same, row for row, and with that order it is the only one.
 pub fn later_lots_never_hurt()
-    ensures { LaterLotsNeverHurt }
+    ensures same { LaterLotsNeverHurt }
+    ensures election { WithLaterLotsItIsAnElection }
 {}
 
 /// With other numbers on ballots, roll and lots the count is the same under these numbers.
