@@ -24,6 +24,7 @@ mod MovedLots
 mod TopVotes
 mod Runoffs
 mod OneSeat
+mod TwoSeats
 mod Struck
 mod Moved
 mod Renamed

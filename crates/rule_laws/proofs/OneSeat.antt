@@ -1,4 +1,4 @@
--- With one seat neither the rule, nor the number of places, nor omega makes a difference.
+-- With one seat neither the rule, nor the number of places, nor omega makes a difference to who is elected.
 use Rattle.std.proofs.Common.{◌≡◌, ◌↔◌, ℕ, ◌+◌, ◌-◌, ◌*◌, ◌<◌, ◌≤◌, ◌==◌, ◌||◌, nat_le, Bool, true, false}
 use Rattle.std.proofs.Common.{List, [], ◌∷◌, length, get_or, set, sum, arith, refl, ap, sym, subst, ◌∙◌}
 use Rattle.std.proofs.Math.Nat.{add-mul, lt_of_mul-lt-mul_right, mul-lt-mul_of_pos_right, le_of_mul-le-mul_right, mul-le-mul_right}
@@ -17,65 +17,19 @@ use Rattle.meek_rule.specs.Places.{each_place, marked_count}
 use Rattle.meek_rule.specs.Situation.{Situation, IsValid, is_complete, elected_count, hopeful_count}
 use Rattle.meek_rule.specs.Situation.{final_state, opening}
 use Rattle.meek_rule.specs.Row.{Row}
-use Rattle.meek_rule.specs.Rule.{Rule, Meek, Warren}
+use Rattle.meek_rule.specs.Rule.{Rule}
 use Rattle.meek_rule.specs.Ties.{is_tied}
 use Rattle.meek_rule.specs.Iteration.{Settle, StepLeaves, elect}
 use Rattle.meek_rule.specs.Weights.{votes_under}
 use Rattle.meek_rule.proofs.SettleLemmas.{settled-valid, settled-same}
 use Rattle.meek_count.specs.Laws.{IsElection}
-use Rattle.meek_count.specs.Rows.{Rows, IteratesTo, IsCountUnder}
+use Rattle.meek_count.specs.Rows.{Rows, IsCountUnder}
 use Rattle.meek_count.proofs.WholeCount.{length-opening, valid-opening_of_roll}
 use Rattle.rule_laws.specs.OneSeat.{HasFewest, top_count}
 use Rattle.rule_laws.proofs.Runoffs.{hopeful_inside, runoff-decides, runoff-majority, runoff-tied, runoff-votes}
-use Rattle.rule_laws.proofs.TopVotes.{one_seat_plain, sum-top, vote-top}
+use Rattle.rule_laws.proofs.TopVotes.{one_seat_plain, sum-top}
 use Rattle.rule_laws.proofs.Totals.{total}
 use Rattle.rule_laws.proofs.Walk.{settled-seats}
-
--- THE RULES
-
-rows-by_other :
-    (one other : Rule) (s : ℕ) (ballots : List (List ℕ)) (lots : List ℕ) (now : Situation) (rows : List Row)
-    (last : List State)
-    → 1 ≤ s → IsValid s now → IsOrder lots → length lots ≡ length now.states → now.seats ≡ 1
-    → Rows one s ballots lots now rows last → Rows other s ballots lots now rows last
-rows-by_other one other s ballots lots now [] last pos valid order same single leads = leads
-rows-by_other one other s ballots lots now (row ∷ rows) last pos valid order same single leads =
-    let votes : List ℕ = votes_under one s now.keeps ballots (length now.states) in
-    let next : Situation = leads.1.0 in
-    let plain = one_seat_plain s now valid leads.0 single in
-    let alike :
-    votes_under one s now.keeps ballots (length now.states) ≡ votes_under other s now.keeps ballots (length now.states) =
-    λ i. each_place (length now.states) (λ p.
-    (vote-top one s now.keeps now.states ballots (p + 1) pos plain
-    ∙ sym (vote-top other s now.keeps now.states ballots (p + 1) pos plain)) i) in
-    let iterates : IteratesTo other s ballots lots now row next =
-    subst (λ (v : List ℕ). Settle s now v lots row next) alike leads.1.1 in (
-      leads.0,
-      (
-        next,
-        iterates,
-        rows-by_other one other s ballots lots next rows last pos
-            (settled-valid s now votes lots row next leads.1.1 valid leads.0 order same) order
-            (same ∙ sym (settled-same s now votes lots row next leads.1.1))
-            (settled-seats s now votes lots row next leads.1.1 ∙ single) leads.1.2,
-      ),
-    )
-
-pub count-by_both :
-    (places units : ℕ) (ballots : List (List ℕ)) (roll : RollList) (lots : List ℕ) (rows : List Row) (last : List State)
-    → IsElection places units ballots roll lots → roll.seats ≡ 1
-    → IsCountUnder Meek places units ballots roll lots rows last
-    ↔ IsCountUnder Warren places units ballots roll lots rows last
-count-by_both places units ballots roll lots rows last is single =
-    let s : ℕ = scale places in
-    let start : Situation = opening s units roll.seats roll.withdrawn in
-    let valid : IsValid s start = valid-opening_of_roll s units roll is.some_omega is.small_omega is.sound_roll in
-    let all : length lots ≡ length start.states = is.lots_of_all ∙ sym (length-opening s units roll is.sound_roll) in (
-      rows-by_other Meek Warren s ballots lots start rows last (scale_pos places) valid is.order_of_lots all single,
-      rows-by_other Warren Meek s ballots lots start rows last (scale_pos places) valid is.order_of_lots all single,
-    )
-
--- THE PLACES
 
 same_marks :
     (one other : List Bool) (n : ℕ) → length one ≡ n → length other ≡ n

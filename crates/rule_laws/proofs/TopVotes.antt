@@ -22,12 +22,19 @@ use Rattle.rule_laws.proofs.Totals.{list-total, one_if, total, total-same, total
 abbrev pub ArePlain : (s : ℕ) → List State → (keeps : List ℕ) → Type 0
 ArePlain s states keeps = (p : ℕ) → get_or keeps p 0 ≡ cond (is_hopeful (state_at states p)) s 0
 
-plain_keep : (s : ℕ) (state : State) (keep : ℕ) → is_elected state ≡ false → FitsState s state keep
+pub plain_keep : (s : ℕ) (state : State) (keep : ℕ) → is_elected state ≡ false → FitsState s state keep
     → keep ≡ cond (is_hopeful state) s 0
 plain_keep s Hopeful keep free fits = fits
 plain_keep s Elected keep free fits = absurd (cc)
 plain_keep s Defeated keep free fits = fits
 plain_keep s Withdrawn keep free fits = fits
+
+-- nor does who is no candidate
+pub past_keep : (s : ℕ) (now : Situation) (p : ℕ) → IsValid s now → length now.states ≤ p
+    → get_or now.keeps p 0 ≡ cond (is_hopeful (state_at now.states p)) s 0
+past_keep s now p valid past =
+    get_or_past now.keeps p 0 (omega (arith, valid.same_length))
+    ∙ sym (ap (λ (x : State). cond (is_hopeful x) s 0) (get_or_past now.states p Withdrawn past))
 
 -- so it is with one seat, until somebody is elected
 pub one_seat_plain :
@@ -37,9 +44,7 @@ one_seat_plain s now valid going one p =
       | inl inside ↦
           plain_keep s (state_at now.states p) (get_or now.keeps p 0) (one_seat_open s now valid going one p inside)
           (valid.fitting p inside)
-      | inr past ↦
-          get_or_past now.keeps p 0 (omega (arith, valid.same_length))
-          ∙ sym (ap (λ (x : State). cond (is_hopeful x) s 0) (get_or_past now.states p Withdrawn past))
+      | inr past ↦ past_keep s now p valid past
     ]
 
 cond_same : (t : Bool) (k : ℕ) → cond t k k ≡ k

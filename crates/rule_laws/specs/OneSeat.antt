@@ -38,11 +38,11 @@ pub record IsRunoff (s : ℕ) (ballots : List (List ℕ)) (lots : List ℕ) (row
   pub fewest : (c p : ℕ) → row.step ≡ Defeat c → (mark_at row.tied p ≡ true) ↔ HasFewest row.states row.votes p
   pub loser : (c : ℕ) → row.step ≡ Defeat c → c ≡ first_marked lots row.tied
 
--- With one seat both rules have the same count, row for row.
-abbrev pub OneSeatRulesAgree : Type 0
-OneSeatRulesAgree =
+-- With one seat, and with two, both rules have the same count, row for row.
+abbrev pub FewSeatsRulesAgree : Type 0
+FewSeatsRulesAgree =
     (places omega : ℕ) (ballots : List (List ℕ)) (roll : RollList) (lots : List ℕ) (rows : List Row) (last : List State)
-    → IsElection places omega ballots roll lots → roll.seats ≡ 1
+    → IsElection places omega ballots roll lots → roll.seats ≤ 2
     → IsCountUnder Meek places omega ballots roll lots rows last
     ↔ IsCountUnder Warren places omega ballots roll lots rows last
 

@@ -10,7 +10,7 @@ ghost use Rattle.rule_laws.specs.Coalition.{SolidMajorityWins, CoalitionsAreSeat
 ghost use Rattle.rule_laws.specs.Orderly.{OrderlyCountsAreProportional, QuietCountsAreProportional};
 ghost use Rattle.rule_laws.specs.LaterPreferences.{EarlierAreSafe};
 ghost use Rattle.rule_laws.specs.LaterLots.{LaterLotsNeverHurt, WithLaterLotsItIsAnElection};
-ghost use Rattle.rule_laws.specs.OneSeat.{OneSeatRulesAgree, OneSeatRowsAreRunoffs, OneSeatPlacesAgree};
+ghost use Rattle.rule_laws.specs.OneSeat.{FewSeatsRulesAgree, OneSeatRowsAreRunoffs, OneSeatPlacesAgree};
 ghost use Rattle.rule_laws.specs.Unheard.{AllRankDeeLast, AllRankDeeLastAtSixPlaces};
 
 /// A count fills its seats, or elects all who were not withdrawn where those are fewer. Whoever stands as elected or
@@ -80,11 +80,11 @@ pub fn later_preferences_change_nothing_earlier()
     ensures { EarlierAreSafe }
 {}
 
-/// With one seat a count is the alternative vote (instant-runoff voting): both rules have the same rows, each of which
-/// is a runoff with one vote for each ballot that ranks somebody hopeful, and ties are of equal votes. So neither the
-/// rule, nor the number of places, nor omega makes a difference to who is elected.
+/// With one seat a count is the alternative vote (instant-runoff voting): each row is a runoff with one vote for each
+/// ballot that ranks somebody hopeful, and ties are of equal votes. So neither the rule, nor the number of places, nor
+/// omega makes a difference to who is elected. Both rules have the same rows, with two seats too.
 pub fn one_seat_is_the_alternative_vote()
-    ensures rules { OneSeatRulesAgree }
+    ensures rules { FewSeatsRulesAgree }
     ensures rows { OneSeatRowsAreRunoffs }
     ensures places { OneSeatPlacesAgree }
 {}

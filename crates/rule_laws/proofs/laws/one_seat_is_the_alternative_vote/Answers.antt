@@ -1,5 +1,6 @@
-use Rattle.rule_laws.proofs.OneSeat.{count-by_both, count-places}
+use Rattle.rule_laws.proofs.OneSeat.{count-places}
 use Rattle.rule_laws.proofs.Runoffs.{count-runoffs}
+use Rattle.rule_laws.proofs.TwoSeats.{count-by_both}
 use Rattle.rule_laws.proofs.laws.one_seat_is_the_alternative_vote.Goals as goal
 
 pub returns-clause-rules : goal.returns-clause-rules
