@@ -40,7 +40,7 @@ use Rattle.rule_laws.proofs.FirstVotes.{first-given, first-runs, first-votes, fi
 -- THE FIRST ITERATION
 
 -- No more reach the quota than there are seats.
-reached_few :
+pub reached_few :
     (n q seats : ℕ) (reached : ℕ → Bool) (v : ℕ → ℕ) → ((p : ℕ) → p < n → reached p ≡ true → q ≤ v p)
     → total n v < (seats + 1) * q
     → total n (λ p. one_if (reached p)) ≤ seats
@@ -57,7 +57,7 @@ reached_few n q seats reached v enough few =
     point false q v has = omega arith
 
 -- Where there is room for all who have reached the quota all of them are winners.
-room_for_all :
+pub room_for_all :
     (states : List State) (free : ℕ) (votes lots : List ℕ) (q : ℕ) (marks : List Bool) (p : ℕ)
     → AreWinners states free votes lots q marks
     → count_places (length states) (has_reached states votes q) ≤ free

@@ -13,7 +13,7 @@ use Rattle.meek_rule.specs.Weights.{kept_under, given_under, vote_under}
 use Rattle.meek_rule.proofs.WeightLemmas.{kept_under-le, kept_under-none}
 use Rattle.rule_laws.proofs.Totals.{total, total-add, total-part, total-same}
 
-up-whole : (s w : ℕ) → 1 ≤ s → up s w s ≡ w
+pub up-whole : (s w : ℕ) → 1 ≤ s → up s w s ≡ w
 up-whole s w pos =
     let near : (w * s ≤ up s w s * s) × (up s w s * s < w * s + s) = div_ceil_times (w * s) s pos in
     let below : w * s < (up s w s + 1) * s = omega (arith, near.0, add-mul (up s w s) 1 s) in

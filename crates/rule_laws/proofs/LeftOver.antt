@@ -94,20 +94,25 @@ not_held false false k none = refl
 nothing_less : (a b : ℕ) → a ≤ b → a - b ≤ 0
 nothing_less a b le = omega arith
 
+-- with one seat nobody is elected before the end
+pub one_seat_open : (s : ℕ) (now : Situation) → IsValid s now → is_complete now ≡ false → now.seats ≡ 1
+    → (p : ℕ) → p < length now.states → is_elected (state_at now.states p) ≡ false
+one_seat_open s now valid going one p inside =
+    elim (cases_Bool (is_elected (state_at now.states p))) [
+      | inr is_not ↦ is_not
+      | inl is ↦
+          let part = total-part (length now.states) p (λ c. one_if (is_elected (state_at now.states c))) inside in
+          let counted = states-total is_elected now.states in
+          let this : one_if (is_elected (state_at now.states p)) ≡ 1 = ap one_if is in
+          absurd (omega (arith, (is_open s now valid going).free))
+    ]
+
 -- with one seat nothing is left over: nobody is elected before the end, and a winner has the quota
 pub one_seat_within : (n : ℕ) (members : ℕ → Bool) (s : ℕ) (now : Situation) (votes lots : List ℕ) (row : Row) (next : Situation)
     → Settle s now votes lots row next → IsValid s now → is_complete now ≡ false → length now.states ≡ n → now.seats ≡ 1
     → (step : Step) → IsWithin n members 1 0 now.states votes step row
 one_seat_within n members s now votes lots row next settle valid going long one step =
-    by_step step (λ p inside.
-    elim (cases_Bool (is_elected (state_at now.states p))) [
-      | inr is_not ↦ is_not
-      | inl is ↦
-          let part = total-part (length now.states) p (λ c. one_if (is_elected (state_at now.states c))) (omega arith) in
-          let counted = states-total is_elected now.states in
-          let this : one_if (is_elected (state_at now.states p)) ≡ 1 = ap one_if is in
-          absurd (omega (arith, (is_open s now valid going).free))
-    ])
+    by_step step (λ p inside. one_seat_open s now valid going one p (omega arith))
   where
     by_step :
         (step : Step) → ((p : ℕ) → p < n → is_elected (state_at now.states p) ≡ false)

@@ -18,6 +18,13 @@ mod SolidMajority
 mod Orderly
 mod FirstVotes
 mod FirstQuota
+mod Earlier
+mod LaterLots
+mod MovedLots
+mod TopVotes
+mod Runoffs
+mod OneSeat
+mod TwoSeats
 mod Struck
 mod Moved
 mod Renamed

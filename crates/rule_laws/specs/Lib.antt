@@ -1,8 +1,11 @@
 pub mod Seats
 pub mod NoTies
+pub mod LaterLots
 pub mod Majority
 pub mod Coalition
 pub mod Orderly
+pub mod LaterPreferences
+pub mod OneSeat
 pub mod Strikes
 pub mod Renaming
 pub mod Absence

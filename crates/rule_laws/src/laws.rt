@@ -8,6 +8,9 @@ ghost use Rattle.rule_laws.specs.WorkedAbsence.{BenIsLeftOut};
 ghost use Rattle.rule_laws.specs.Majority.{FirstShareWins, MajorityWins};
 ghost use Rattle.rule_laws.specs.Coalition.{SolidMajorityWins, CoalitionsAreSeated, SharesAreSeated, ShareGetsASeat};
 ghost use Rattle.rule_laws.specs.Orderly.{OrderlyCountsAreProportional, QuietCountsAreProportional};
+ghost use Rattle.rule_laws.specs.LaterPreferences.{EarlierAreSafe};
+ghost use Rattle.rule_laws.specs.LaterLots.{LaterLotsNeverHurt, WithLaterLotsItIsAnElection};
+ghost use Rattle.rule_laws.specs.OneSeat.{FewSeatsRulesAgree, OneSeatRowsAreRunoffs, OneSeatPlacesAgree};
 ghost use Rattle.rule_laws.specs.Unheard.{AllRankDeeLast, AllRankDeeLastAtSixPlaces};
 
 /// A count fills its seats, or elects all who were not withdrawn where those are fewer. Whoever stands as elected or
@@ -24,6 +27,13 @@ pub fn seats_are_filled()
 /// count, row for row.
 pub fn lots_break_ties_alone()
     ensures { LotsBreakTiesAlone }
+{}
+
+/// Who is elected with some lots is elected too where it comes later in them, the rest in its order: the count is the
+/// same, row for row, and with that order it is the only one.
+pub fn later_lots_never_hurt()
+    ensures same { LaterLotsNeverHurt }
+    ensures election { WithLaterLotsItIsAnElection }
 {}
 
 /// With other numbers on ballots, roll and lots the count is the same under these numbers.
@@ -62,6 +72,21 @@ pub fn coalitions_are_seated()
     ensures orderly { OrderlyCountsAreProportional }
     ensures hundredths { QuietCountsAreProportional }
     ensures one { ShareGetsASeat }
+{}
+
+/// Later-no-harm and later-no-help: what a ballot says after a candidate can neither hurt nor help that candidate. Two
+/// elections that differ in nothing else end alike for each candidate whom the ballot ranks before they differ.
+pub fn later_preferences_change_nothing_earlier()
+    ensures { EarlierAreSafe }
+{}
+
+/// With one seat a count is the alternative vote (instant-runoff voting): each row is a runoff with one vote for each
+/// ballot that ranks somebody hopeful, and ties are of equal votes. So neither the rule, nor the number of places, nor
+/// omega makes a difference to who is elected. Both rules have the same rows, with two seats too.
+pub fn one_seat_is_the_alternative_vote()
+    ensures rules { FewSeatsRulesAgree }
+    ensures rows { OneSeatRowsAreRunoffs }
+    ensures places { OneSeatPlacesAgree }
 {}
 
 /// What the rule does not promise: in two counts worked by hand a candidate whom all voters rank last, and who never

@@ -5,6 +5,7 @@
 mod laws;
 
 pub use laws::{
-    coalitions_are_seated, lots_break_ties_alone, majorities_win, numbers_mean_nothing,
+    coalitions_are_seated, later_lots_never_hurt, later_preferences_change_nothing_earlier,
+    lots_break_ties_alone, majorities_win, numbers_mean_nothing, one_seat_is_the_alternative_vote,
     seats_are_filled, strikes_change_nothing, unanimity_fails, withdrawn_may_be_left_out,
 };
