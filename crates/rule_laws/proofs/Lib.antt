@@ -17,8 +17,10 @@ mod Coalitions
 mod SolidMajority
 mod Orderly
 mod FirstVotes
+mod EachRow
 mod FirstQuota
 mod Struck
+mod NothingLost
 mod Moved
 mod Renamed
 mod RenamedWinners

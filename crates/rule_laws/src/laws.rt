@@ -8,6 +8,7 @@ ghost use Rattle.rule_laws.specs.WorkedAbsence.{BenIsLeftOut};
 ghost use Rattle.rule_laws.specs.Majority.{FirstShareWins, MajorityWins};
 ghost use Rattle.rule_laws.specs.Coalition.{SolidMajorityWins, CoalitionsAreSeated, SharesAreSeated, ShareGetsASeat};
 ghost use Rattle.rule_laws.specs.Orderly.{OrderlyCountsAreProportional, QuietCountsAreProportional};
+ghost use Rattle.rule_laws.specs.Exhausted.{NothingVanishes};
 ghost use Rattle.rule_laws.specs.Unheard.{AllRankDeeLast, AllRankDeeLastAtSixPlaces};
 
 /// A count fills its seats, or elects all who were not withdrawn where those are fewer. Whoever stands as elected or
@@ -62,6 +63,12 @@ pub fn coalitions_are_seated()
     ensures orderly { OrderlyCountsAreProportional }
     ensures hundredths { QuietCountsAreProportional }
     ensures one { ShareGetsASeat }
+{}
+
+/// No vote is lost by roundings: in each iteration the votes of the candidates, and what the ballots have left after
+/// their last preferences, the exhausted votes, are together one vote for each ballot, to the unit.
+pub fn no_vote_vanishes()
+    ensures { NothingVanishes }
 {}
 
 /// What the rule does not promise: in two counts worked by hand a candidate whom all voters rank last, and who never
