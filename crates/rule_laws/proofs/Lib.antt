@@ -18,6 +18,7 @@ mod SolidMajority
 mod Orderly
 mod FirstVotes
 mod EachRow
+mod Firsts
 mod FirstQuota
 mod Struck
 mod NothingLost

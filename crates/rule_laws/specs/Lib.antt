@@ -9,3 +9,4 @@ pub mod Absence
 pub mod WorkedAbsence
 pub mod Unheard
 pub mod Exhausted
+pub mod Plurality

@@ -9,6 +9,7 @@ ghost use Rattle.rule_laws.specs.Majority.{FirstShareWins, MajorityWins};
 ghost use Rattle.rule_laws.specs.Coalition.{SolidMajorityWins, CoalitionsAreSeated, SharesAreSeated, ShareGetsASeat};
 ghost use Rattle.rule_laws.specs.Orderly.{OrderlyCountsAreProportional, QuietCountsAreProportional};
 ghost use Rattle.rule_laws.specs.Exhausted.{NothingVanishes};
+ghost use Rattle.rule_laws.specs.Plurality.{FirstPreferencesStay};
 ghost use Rattle.rule_laws.specs.Unheard.{AllRankDeeLast, AllRankDeeLastAtSixPlaces};
 
 /// A count fills its seats, or elects all who were not withdrawn where those are fewer. Whoever stands as elected or
@@ -69,6 +70,11 @@ pub fn coalitions_are_seated()
 /// their last preferences, the exhausted votes, are together one vote for each ballot, to the unit.
 pub fn no_vote_vanishes()
     ensures { NothingVanishes }
+{}
+
+/// In each iteration a hopeful candidate has at least its first preferences.
+pub fn first_preferences_count()
+    ensures hopeful { FirstPreferencesStay }
 {}
 
 /// What the rule does not promise: in two counts worked by hand a candidate whom all voters rank last, and who never
