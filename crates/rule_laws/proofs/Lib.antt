@@ -22,6 +22,7 @@ mod Firsts
 mod FirstQuota
 mod Struck
 mod NothingLost
+mod Mentions
 mod Moved
 mod Renamed
 mod RenamedWinners

@@ -14,6 +14,10 @@ use Rattle.meek_count.specs.Laws.{IsElection}
 use Rattle.meek_count.specs.Rows.{IsCountUnder}
 use Rattle.rule_laws.specs.Majority.{first_count}
 
+-- on how many ballots candidate c is ranked at all
+abbrev pub mention_count : List (List ℕ) → (c : ℕ) → ℕ
+mention_count ballots c = count_by (λ ranking. is_listed ranking c) ballots
+
 -- In each iteration a hopeful candidate has at least a whole vote of each ballot on which it is the first preference.
 abbrev pub FirstPreferencesStay : Type 0
 FirstPreferencesStay =
@@ -21,3 +25,11 @@ FirstPreferencesStay =
     → IsElection places omega ballots roll lots → IsCountUnder rule places omega ballots roll lots rows last
     → All (λ row. (c : ℕ) → is_hopeful (state_at row.states (c - 1)) ≡ true
     → first_count roll.withdrawn ballots c * scale places ≤ slice_index row.votes (c - 1)) rows
+
+-- Who is ranked on no ballot is elected by no iteration.
+abbrev pub UnrankedAreNotElected : Type 0
+UnrankedAreNotElected =
+    (rule : Rule) (places omega : ℕ) (ballots : List (List ℕ)) (roll : RollList) (lots : List ℕ) (rows : List Row) (last : List State) (c : ℕ)
+    → IsElection places omega ballots roll lots → IsCountUnder rule places omega ballots roll lots rows last
+    → 1 ≤ c → mention_count ballots c ≡ 0
+    → All (λ row. mark_at row.elected (c - 1) ≡ false) rows

@@ -9,7 +9,7 @@ ghost use Rattle.rule_laws.specs.Majority.{FirstShareWins, MajorityWins};
 ghost use Rattle.rule_laws.specs.Coalition.{SolidMajorityWins, CoalitionsAreSeated, SharesAreSeated, ShareGetsASeat};
 ghost use Rattle.rule_laws.specs.Orderly.{OrderlyCountsAreProportional, QuietCountsAreProportional};
 ghost use Rattle.rule_laws.specs.Exhausted.{NothingVanishes};
-ghost use Rattle.rule_laws.specs.Plurality.{FirstPreferencesStay};
+ghost use Rattle.rule_laws.specs.Plurality.{FirstPreferencesStay, UnrankedAreNotElected};
 ghost use Rattle.rule_laws.specs.Unheard.{AllRankDeeLast, AllRankDeeLastAtSixPlaces};
 
 /// A count fills its seats, or elects all who were not withdrawn where those are fewer. Whoever stands as elected or
@@ -75,6 +75,11 @@ pub fn no_vote_vanishes()
 /// In each iteration a hopeful candidate has at least its first preferences.
 pub fn first_preferences_count()
     ensures hopeful { FirstPreferencesStay }
+{}
+
+/// Who is ranked on no ballot is elected by no iteration, but only, maybe, as one who remains at the end.
+pub fn unranked_are_not_elected()
+    ensures { UnrankedAreNotElected }
 {}
 
 /// What the rule does not promise: in two counts worked by hand a candidate whom all voters rank last, and who never
