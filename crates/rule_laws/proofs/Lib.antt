@@ -23,6 +23,7 @@ mod FirstQuota
 mod Struck
 mod NothingLost
 mod Mentions
+mod KeepRises
 mod Moved
 mod Renamed
 mod RenamedWinners

@@ -10,3 +10,4 @@ pub mod WorkedAbsence
 pub mod Unheard
 pub mod Exhausted
 pub mod Plurality
+pub mod KeepRises

@@ -10,6 +10,7 @@ ghost use Rattle.rule_laws.specs.Coalition.{SolidMajorityWins, CoalitionsAreSeat
 ghost use Rattle.rule_laws.specs.Orderly.{OrderlyCountsAreProportional, QuietCountsAreProportional};
 ghost use Rattle.rule_laws.specs.Exhausted.{NothingVanishes};
 ghost use Rattle.rule_laws.specs.Plurality.{FirstPreferencesStay, UnrankedAreNotElected};
+ghost use Rattle.rule_laws.specs.KeepRises.{KeepValuesRiseByAUnit};
 ghost use Rattle.rule_laws.specs.Unheard.{AllRankDeeLast, AllRankDeeLastAtSixPlaces};
 
 /// A count fills its seats, or elects all who were not withdrawn where those are fewer. Whoever stands as elected or
@@ -80,6 +81,12 @@ pub fn first_preferences_count()
 /// Who is ranked on no ballot is elected by no iteration, but only, maybe, as one who remains at the end.
 pub fn unranked_are_not_elected()
     ensures { UnrankedAreNotElected }
+{}
+
+/// A keep value, or a price, may rise by rounding, but by at most one unit in an iteration where its candidate has at
+/// least the quota, and at least a vote less a unit.
+pub fn keep_values_rise_by_a_unit()
+    ensures { KeepValuesRiseByAUnit }
 {}
 
 /// What the rule does not promise: in two counts worked by hand a candidate whom all voters rank last, and who never

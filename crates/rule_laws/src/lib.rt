@@ -5,7 +5,8 @@
 mod laws;
 
 pub use laws::{
-    coalitions_are_seated, first_preferences_count, lots_break_ties_alone, majorities_win,
-    no_vote_vanishes, numbers_mean_nothing, seats_are_filled, strikes_change_nothing,
-    unanimity_fails, unranked_are_not_elected, withdrawn_may_be_left_out,
+    coalitions_are_seated, first_preferences_count, keep_values_rise_by_a_unit,
+    lots_break_ties_alone, majorities_win, no_vote_vanishes, numbers_mean_nothing,
+    seats_are_filled, strikes_change_nothing, unanimity_fails, unranked_are_not_elected,
+    withdrawn_may_be_left_out,
 };
