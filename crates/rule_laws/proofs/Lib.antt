@@ -21,6 +21,7 @@ mod EachRow
 mod Firsts
 mod FirstQuota
 mod Struck
+mod Silent
 mod NothingLost
 mod Mentions
 mod KeepRises

@@ -11,3 +11,4 @@ pub mod Unheard
 pub mod Exhausted
 pub mod Plurality
 pub mod KeepRises
+pub mod Silent

@@ -10,6 +10,7 @@ ghost use Rattle.rule_laws.specs.Coalition.{SolidMajorityWins, CoalitionsAreSeat
 ghost use Rattle.rule_laws.specs.Orderly.{OrderlyCountsAreProportional, QuietCountsAreProportional};
 ghost use Rattle.rule_laws.specs.Exhausted.{NothingVanishes};
 ghost use Rattle.rule_laws.specs.Plurality.{FirstPreferencesStay, UnrankedAreNotElected};
+ghost use Rattle.rule_laws.specs.Silent.{SilentBallotsChangeNothing};
 ghost use Rattle.rule_laws.specs.KeepRises.{KeepValuesRiseByAUnit};
 ghost use Rattle.rule_laws.specs.Unheard.{AllRankDeeLast, AllRankDeeLastAtSixPlaces};
 
@@ -81,6 +82,11 @@ pub fn first_preferences_count()
 /// Who is ranked on no ballot is elected by no iteration, but only, maybe, as one who remains at the end.
 pub fn unranked_are_not_elected()
     ensures { UnrankedAreNotElected }
+{}
+
+/// Ballots that rank nobody who runs may be added or left out: the count is the same, row for row.
+pub fn silent_ballots_change_nothing()
+    ensures { SilentBallotsChangeNothing }
 {}
 
 /// A keep value, or a price, may rise by rounding, but by at most one unit in an iteration where its candidate has at

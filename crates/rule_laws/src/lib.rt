@@ -7,6 +7,6 @@ mod laws;
 pub use laws::{
     coalitions_are_seated, first_preferences_count, keep_values_rise_by_a_unit,
     lots_break_ties_alone, majorities_win, no_vote_vanishes, numbers_mean_nothing,
-    seats_are_filled, strikes_change_nothing, unanimity_fails, unranked_are_not_elected,
-    withdrawn_may_be_left_out,
+    seats_are_filled, silent_ballots_change_nothing, strikes_change_nothing, unanimity_fails,
+    unranked_are_not_elected, withdrawn_may_be_left_out,
 };
