@@ -25,6 +25,7 @@ mod Silent
 mod NothingLost
 mod Mentions
 mod KeepRises
+mod Plurality
 mod Moved
 mod Renamed
 mod RenamedWinners

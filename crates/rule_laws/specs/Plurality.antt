@@ -26,6 +26,19 @@ FirstPreferencesStay =
     → All (λ row. (c : ℕ) → is_hopeful (state_at row.states (c - 1)) ≡ true
     → first_count roll.withdrawn ballots c * scale places ≤ slice_index row.votes (c - 1)) rows
 
+-- Who is the first preference on more ballots than another is ranked on at all, by more than the surplus of the iteration that
+-- defeats it, if one does, is elected where the other is.
+abbrev pub PluralityHolds : Type 0
+PluralityHolds =
+    (rule : Rule) (places omega : ℕ) (ballots : List (List ℕ)) (roll : RollList) (lots : List ℕ) (rows : List Row) (last : List State)
+    (c other u : ℕ)
+    → IsElection places omega ballots roll lots → IsCountUnder rule places omega ballots roll lots rows last
+    → All (λ row. row.step ≡ Defeat c → row.surplus ≤ u) rows
+    → 1 ≤ other
+    → mention_count ballots other * scale places + u < first_count roll.withdrawn ballots c * scale places
+    → state_at last (other - 1) ≡ Elected
+    → state_at last (c - 1) ≡ Elected
+
 -- Who is ranked on no ballot is elected by no iteration.
 abbrev pub UnrankedAreNotElected : Type 0
 UnrankedAreNotElected =

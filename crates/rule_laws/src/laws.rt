@@ -9,7 +9,7 @@ ghost use Rattle.rule_laws.specs.Majority.{FirstShareWins, MajorityWins};
 ghost use Rattle.rule_laws.specs.Coalition.{SolidMajorityWins, CoalitionsAreSeated, SharesAreSeated, ShareGetsASeat};
 ghost use Rattle.rule_laws.specs.Orderly.{OrderlyCountsAreProportional, QuietCountsAreProportional};
 ghost use Rattle.rule_laws.specs.Exhausted.{NothingVanishes};
-ghost use Rattle.rule_laws.specs.Plurality.{FirstPreferencesStay, UnrankedAreNotElected};
+ghost use Rattle.rule_laws.specs.Plurality.{FirstPreferencesStay, PluralityHolds, UnrankedAreNotElected};
 ghost use Rattle.rule_laws.specs.Silent.{SilentBallotsChangeNothing};
 ghost use Rattle.rule_laws.specs.KeepRises.{KeepValuesRiseByAUnit};
 ghost use Rattle.rule_laws.specs.Unheard.{AllRankDeeLast, AllRankDeeLastAtSixPlaces};
@@ -74,9 +74,12 @@ pub fn no_vote_vanishes()
     ensures { NothingVanishes }
 {}
 
-/// In each iteration a hopeful candidate has at least its first preferences.
+/// In each iteration a hopeful candidate has at least its first preferences. So the plurality criterion holds but for
+/// the surplus: who has more first preferences than another has mentions, by more than the surplus at its own defeat,
+/// is elected where the other is.
 pub fn first_preferences_count()
     ensures hopeful { FirstPreferencesStay }
+    ensures plurality { PluralityHolds }
 {}
 
 /// Who is ranked on no ballot is elected by no iteration, but only, maybe, as one who remains at the end.
