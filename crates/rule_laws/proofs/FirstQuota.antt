@@ -1,7 +1,7 @@
 -- Who is first on more than a share of the ballots is elected in the first iteration.
 use Rattle.std.proofs.Common.{◌≡◌, ℕ, ◌+◌, ◌-◌, ◌*◌, ◌/◌, ◌<◌, ◌≤◌, Bool, true, false, cond, List, [], ◌∷◌}
 use Rattle.std.proofs.Common.{length, get_or, sum, arith, refl, ap, sym}
-use Rattle.std.proofs.Common.{subst, ◌∙◌, inl, inr, suc, zero}
+use Rattle.std.proofs.Common.{subst, ◌∙◌, inl, inr}
 use Rattle.std.proofs.lemmas.Bool.{cases_Bool, and_parts, leb-true, and_from, le-leb, ne_eqb}
 use Rattle.std.proofs.lemmas.List.FromFn.{get_or-map-range_with_len, length-map-range_with_len}
 use Rattle.fixed_place.specs.Rounding.{scale}
@@ -34,8 +34,8 @@ use Rattle.rule_laws.proofs.Quotas.{quota_bound, share_enough}
 use Rattle.rule_laws.proofs.Decided.{becomes-itself, rows-become}
 use Rattle.rule_laws.proofs.TieBreaks.{marked-total}
 use Rattle.rule_laws.proofs.MemberSteps.{elect-at}
-use Rattle.rule_laws.proofs.Seated.{hopeful_keep, opening-at, opening-elected, withdrawn_keep}
-use Rattle.rule_laws.proofs.FirstVotes.{first-given, first-runs, first-votes, first_somewhere, number_of}
+use Rattle.rule_laws.proofs.Seated.{opening-at, opening-elected}
+use Rattle.rule_laws.proofs.Firsts.{first_number, firsts_stay, some_factor}
 
 -- THE FIRST ITERATION
 
@@ -150,39 +150,24 @@ count-first_share rule places units ballots roll lots rows last c is more counte
     let valid : IsValid s start = valid-opening_of_roll s units roll is.some_omega is.small_omega is.sound_roll in
     let long : length start.states ≡ n = length-opening s units roll is.sound_roll in
     let some : 1 ≤ first_count roll.withdrawn ballots c =
-    some_first (first_count roll.withdrawn ballots c) (length ballots) (roll.seats + 1) more in
-    let somewhere = first_somewhere roll.withdrawn ballots c some in
-    let ranking : List ℕ = get_or ballots somewhere.0 [] in
-    let stands_ = first-runs roll.withdrawn ranking c somewhere.2 in
-    let numbers : (1 ≤ c) × (c ≤ n) = number_of n ranking c (is.rankings somewhere.0 [] somewhere.1) stands_.0 in
-    let inside : c - 1 < length start.states = omega arith in
+    some_factor (first_count roll.withdrawn ballots c) (roll.seats + 1) (length ballots) more in
+    let runs = first_number n roll.withdrawn ballots c is.rankings some in
+    let inside : c - 1 < length start.states = omega (arith, runs.0, runs.1) in
     let at : state_at start.states (c - 1) ≡ Hopeful =
     opening-at s units roll.seats roll.withdrawn (c - 1) (omega (arith, is.sound_roll.same_length))
-    ∙ ap (λ (b : Bool). cond b Withdrawn Hopeful) stands_.1 in
-    let hopeful : is_hopeful (state_at start.states (c - 1)) ≡ true = ap is_hopeful at in
+    ∙ ap (λ (b : Bool). cond b Withdrawn Hopeful) runs.2 in
     let from : AllBecome start.states start.states = λ p below_. becomes-itself (state_at start.states p) in
-    let whole : get_or start.keeps (c - 1) 0 ≡ s =
-    hopeful_keep s (state_at start.states (c - 1)) (get_or start.keeps (c - 1) 0) hopeful (valid.fitting (c - 1) inside) in
     let votes : first_count roll.withdrawn ballots c * s ≤ vote_under rule s start.keeps ballots c =
-    first-votes rule s start.keeps roll.withdrawn ballots c (λ k d below_ first.
-    first-given rule s start.keeps roll.withdrawn s (get_or ballots k d) c (scale_pos places) (omega arith) whole
-    (λ r has gone.
-    let number : (1 ≤ r) × (r ≤ n) = number_of n (get_or ballots k d) r (is.rankings k d below_) has in
-    withdrawn_keep s units roll start (r - 1) is.sound_roll valid long from (omega arith) gone)
-    first) in
+    firsts_stay rule places units ballots roll lots start c is valid long from (ap is_hopeful at) in
     let nobody : elected_count start.states ≡ 0 = opening-elected s units roll.seats roll.withdrawn in
     by_rows rule s ballots lots start rows last (c - 1) (first_count roll.withdrawn ballots c)
     (scale_pos places) valid is.order_of_lots
     (is.lots_of_all ∙ sym long) nobody at inside
     (subst (λ (x : ℕ). first_count roll.withdrawn ballots c * s ≤ vote_under rule s start.keeps ballots x)
-    (number numbers.0) votes) more counted
+    (number runs.0) votes) more counted
   where
     number : {c : ℕ} → 1 ≤ c → c ≡ c - 1 + 1
     number some = omega arith
-
-    some_first : (h b d : ℕ) → b < h * d → 1 ≤ h
-    some_first zero b d more = absurd (omega arith)
-    some_first (suc h) b d more = omega arith
 
     by_rows :
         (rule : Rule) (s : ℕ) (ballots : List (List ℕ)) (lots : List ℕ) (now : Situation) (rows : List Row)

@@ -17,6 +17,8 @@ mod Coalitions
 mod SolidMajority
 mod Orderly
 mod FirstVotes
+mod EachRow
+mod Firsts
 mod FirstQuota
 mod Earlier
 mod LaterLots
@@ -26,6 +28,11 @@ mod Runoffs
 mod OneSeat
 mod TwoSeats
 mod Struck
+mod Silent
+mod NothingLost
+mod Mentions
+mod KeepRises
+mod Plurality
 mod Moved
 mod Renamed
 mod RenamedWinners

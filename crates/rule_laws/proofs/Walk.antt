@@ -1,21 +1,24 @@
 -- From one iteration of a count to the next, and so to the end.
-use Rattle.std.proofs.Common.{◌≡◌, ℕ, ◌+◌, ◌-◌, ◌<◌, ◌≤◌, true, false, List, [], ◌∷◌, length, All, arith, ap}
+use Rattle.std.proofs.Common.{◌≡◌, ℕ, ◌+◌, ◌-◌, ◌<◌, ◌≤◌, Bool, true, false, List, [], ◌∷◌, length, All, arith, ap}
 use Rattle.std.proofs.Common.{sym, ◌∙◌, inl, inr}
 use Rattle.std.proofs.lemmas.Bool.{cases_lt, le-leb, eq-eqb}
 use Rattle.std.proofs.lemmas.List.Elements.{All-head, All-tail}
+use Rattle.std.proofs.lemmas.List.FromFn.{length-map-range_with_len}
 use Rattle.candidate_roll.specs.State.{state_at}
 use Rattle.candidate_roll.specs.declared.state.State.{State}
+use Rattle.lot_order.specs.Flags.{mark_at}
 use Rattle.lot_order.specs.Lots.{IsOrder, first_marked}
+use Rattle.lot_order.proofs.LotsLemmas.{first_marked-order}
 use Rattle.meek_rule.specs.declared.step.Step.{Step}
 use Rattle.meek_rule.specs.declared.step.Step.TheVariants.{Elected, Iterate, Defeat}
 use Rattle.meek_rule.specs.Situation.{Situation, IsValid, is_complete, is_full, is_hopeful, elected_count}
 use Rattle.meek_rule.specs.Situation.{hopeful_count, final_states}
 use Rattle.meek_rule.specs.Row.{Row}
 use Rattle.meek_rule.specs.Rule.{Rule}
-use Rattle.meek_rule.specs.Ties.{tied}
+use Rattle.meek_rule.specs.Ties.{is_tied, tied}
 use Rattle.meek_rule.specs.Iteration.{Settle, StepLeaves}
 use Rattle.meek_rule.specs.Weights.{votes_under}
-use Rattle.meek_rule.proofs.TieLemmas.{somebody_hopeful, loser-hopeful}
+use Rattle.meek_rule.proofs.TieLemmas.{somebody_hopeful, loser-hopeful, tied-somebody, first_marked-marked}
 use Rattle.meek_rule.proofs.SettleLemmas.{settled-valid, settled-same}
 use Rattle.meek_rule.proofs.TestLemmas.{or_left, or_right}
 use Rattle.meek_count.specs.Rows.{Rows, IteratesTo}
@@ -55,6 +58,22 @@ loser_is_hopeful s now lots row next c leaves valid going order same =
     let some : 1 ≤ hopeful_count now.states = somebody_hopeful s now valid going in
     let is : c ≡ first_marked lots (tied now.states row.votes row.surplus) = leaves.3 ∙ ap (first_marked lots) leaves.2 in
     rw is (loser-hopeful now.states row.votes lots row.surplus order same some)
+
+-- and tied
+pub loser_is_tied :
+    (s : ℕ) (now : Situation) (lots : List ℕ) (row : Row) (next : Situation) (c : ℕ)
+    → StepLeaves s now lots row (Defeat c) next
+    → IsValid s now → is_complete now ≡ false → IsOrder lots → length lots ≡ length now.states
+    → (1 ≤ c) × (mark_at (tied now.states row.votes row.surplus) (c - 1) ≡ true)
+loser_is_tied s now lots row next c leaves valid going order same =
+    let marks : List Bool = tied now.states row.votes row.surplus in
+    let one = tied-somebody now.states row.votes lots row.surplus order same (somebody_hopeful s now valid going) in
+    let long : length marks ≡ length lots =
+    length-map-range_with_len (is_tied now.states row.votes row.surplus) 0 (length now.states) ∙ sym same in
+    let some : 1 ≤ first_marked lots marks = first_marked-order lots marks one.0 order long one.1 in
+    let is : c ≡ first_marked lots marks = leaves.3 ∙ ap (first_marked lots) leaves.2 in
+    let marked : mark_at marks (first_marked lots marks - 1) ≡ true = first_marked-marked lots marks some in
+    (omega arith, ap (λ (k : ℕ). mark_at marks (k - 1)) is ∙ marked)
 
 -- an iteration leaves as many seats
 pub settled-seats :

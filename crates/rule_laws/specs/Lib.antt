@@ -11,3 +11,7 @@ pub mod Renaming
 pub mod Absence
 pub mod WorkedAbsence
 pub mod Unheard
+pub mod Exhausted
+pub mod Plurality
+pub mod KeepRises
+pub mod Silent

@@ -11,6 +11,10 @@ ghost use Rattle.rule_laws.specs.Orderly.{OrderlyCountsAreProportional, QuietCou
 ghost use Rattle.rule_laws.specs.LaterPreferences.{EarlierAreSafe};
 ghost use Rattle.rule_laws.specs.LaterLots.{LaterLotsNeverHurt, WithLaterLotsItIsAnElection};
 ghost use Rattle.rule_laws.specs.OneSeat.{FewSeatsRulesAgree, OneSeatRowsAreRunoffs, OneSeatPlacesAgree};
+ghost use Rattle.rule_laws.specs.Exhausted.{NothingVanishes};
+ghost use Rattle.rule_laws.specs.Plurality.{FirstPreferencesStay, PluralityHolds, UnrankedAreNotElected};
+ghost use Rattle.rule_laws.specs.Silent.{SilentBallotsChangeNothing};
+ghost use Rattle.rule_laws.specs.KeepRises.{KeepValuesRiseByAUnit};
 ghost use Rattle.rule_laws.specs.Unheard.{AllRankDeeLast, AllRankDeeLastAtSixPlaces};
 
 /// A count fills its seats, or elects all who were not withdrawn where those are fewer. Whoever stands as elected or
@@ -87,6 +91,36 @@ pub fn one_seat_is_the_alternative_vote()
     ensures rules { FewSeatsRulesAgree }
     ensures rows { OneSeatRowsAreRunoffs }
     ensures places { OneSeatPlacesAgree }
+{}
+
+/// No vote is lost by roundings: in each iteration the votes of the candidates, and what the ballots have left after
+/// their last preferences, the exhausted votes, are together one vote for each ballot, to the unit.
+pub fn no_vote_vanishes()
+    ensures { NothingVanishes }
+{}
+
+/// In each iteration a hopeful candidate has at least its first preferences. So the plurality criterion holds but for
+/// the surplus: who has more first preferences than another has mentions, by more than the surplus at its own defeat,
+/// is elected where the other is.
+pub fn first_preferences_count()
+    ensures hopeful { FirstPreferencesStay }
+    ensures plurality { PluralityHolds }
+{}
+
+/// Who is ranked on no ballot is elected by no iteration, but only, maybe, as one who remains at the end.
+pub fn unranked_are_not_elected()
+    ensures { UnrankedAreNotElected }
+{}
+
+/// Ballots that rank nobody who runs may be added or left out: the count is the same, row for row.
+pub fn silent_ballots_change_nothing()
+    ensures { SilentBallotsChangeNothing }
+{}
+
+/// A keep value, or a price, may rise by rounding, but by at most one unit in an iteration where its candidate has at
+/// least the quota, and at least a vote less a unit.
+pub fn keep_values_rise_by_a_unit()
+    ensures { KeepValuesRiseByAUnit }
 {}
 
 /// What the rule does not promise: in two counts worked by hand a candidate whom all voters rank last, and who never

@@ -5,7 +5,9 @@
 mod laws;
 
 pub use laws::{
-    coalitions_are_seated, later_lots_never_hurt, later_preferences_change_nothing_earlier,
-    lots_break_ties_alone, majorities_win, numbers_mean_nothing, one_seat_is_the_alternative_vote,
-    seats_are_filled, strikes_change_nothing, unanimity_fails, withdrawn_may_be_left_out,
+    coalitions_are_seated, first_preferences_count, keep_values_rise_by_a_unit,
+    later_lots_never_hurt, later_preferences_change_nothing_earlier, lots_break_ties_alone,
+    majorities_win, no_vote_vanishes, numbers_mean_nothing, one_seat_is_the_alternative_vote,
+    seats_are_filled, silent_ballots_change_nothing, strikes_change_nothing, unanimity_fails,
+    unranked_are_not_elected, withdrawn_may_be_left_out,
 };
