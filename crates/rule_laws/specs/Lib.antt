@@ -8,3 +8,4 @@ pub mod Renaming
 pub mod Absence
 pub mod WorkedAbsence
 pub mod Unheard
+pub mod Paradoxes
