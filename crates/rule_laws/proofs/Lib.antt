@@ -42,3 +42,6 @@ mod Absent
 mod AbsentElection
 mod UnheardHolds
 mod UnheardAtSixPlaces
+mod WorkedRows
+mod ParadoxesHold
+mod UnnamedAtSixPlaces

@@ -34,7 +34,7 @@ pub marked-total : (marks : List Bool) → marked_count marks ≡ total (length 
 marked-total marks = ap marked_count (marks_by_place marks (length marks) refl) ∙ count-total (length marks) (mark_at marks)
 
 -- of at most one mark two are the same
-only_mark : (marks : List Bool) (p q : ℕ) → marked_count marks ≤ 1 → mark_at marks p ≡ true → mark_at marks q ≡ true → p ≡ q
+pub only_mark : (marks : List Bool) (p q : ℕ) → marked_count marks ≤ 1 → mark_at marks p ≡ true → mark_at marks q ≡ true → p ≡ q
 only_mark marks p q few first second =
     elim (cases_eq p q) [
       | inl same ↦ same

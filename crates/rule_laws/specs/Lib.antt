@@ -15,3 +15,4 @@ pub mod Exhausted
 pub mod Plurality
 pub mod KeepRises
 pub mod Silent
+pub mod Paradoxes

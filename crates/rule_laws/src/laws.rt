@@ -15,7 +15,9 @@ ghost use Rattle.rule_laws.specs.Exhausted.{NothingVanishes};
 ghost use Rattle.rule_laws.specs.Plurality.{FirstPreferencesStay, PluralityHolds, UnrankedAreNotElected};
 ghost use Rattle.rule_laws.specs.Silent.{SilentBallotsChangeNothing};
 ghost use Rattle.rule_laws.specs.KeepRises.{KeepValuesRiseByAUnit};
-ghost use Rattle.rule_laws.specs.Unheard.{AllRankDeeLast, AllRankDeeLastAtSixPlaces};
+ghost use Rattle.rule_laws.specs.Unheard.{AllRankDeeLast, AllRankDeeLastAtSixPlaces, UnnamedDeeIsElected};
+ghost use Rattle.rule_laws.specs.Paradoxes.{CidIsElectedFromSecond, CidIsDefeatedFromFirst, AnnIsElectedByNine, CidIsElectedByEleven};
+ghost use Rattle.rule_laws.specs.Paradoxes.{CidHasTheOneSeat, CidHasNoneOfTwoSeats, AnnIsElectedWithoutDee, BenIsElectedWithDee};
 
 /// A count fills its seats, or elects all who were not withdrawn where those are fewer. Whoever stands as elected or
 /// defeated in an iteration stands so in each later one and at the end, where nobody is hopeful. Who was withdrawn
@@ -128,4 +130,38 @@ pub fn keep_values_rise_by_a_unit()
 pub fn unanimity_fails()
     ensures by_hand { AllRankDeeLast }
     ensures at_six_places { AllRankDeeLastAtSixPlaces }
+{}
+
+/// Plurality is not promised where a surplus is left over: in a count at six places, by either rule, a candidate whom all
+/// ballots name, and who is first on 299,999, is defeated, and one whom no ballot names is elected.
+pub fn plurality_fails()
+    ensures { UnnamedDeeIsElected }
+{}
+
+/// Monotonicity is not promised: with one seat, by either rule and with any lots, two of 17 voters raise the winner from
+/// second to first, and the winner is defeated.
+pub fn monotonicity_fails()
+    ensures from_second { CidIsElectedFromSecond }
+    ensures from_first { CidIsDefeatedFromFirst }
+{}
+
+/// Participation is not promised: with one seat, by either rule and with any lots, nine voters elect a candidate whom two
+/// more prefer to the one that is elected where these vote too. The two do better by staying at home.
+pub fn participation_fails()
+    ensures by_nine { AnnIsElectedByNine }
+    ensures by_eleven { CidIsElectedByEleven }
+{}
+
+/// House monotonicity is not promised: by either rule and with any lots, 13 ballots elect a candidate where there is one
+/// seat, and the same ballots defeat this candidate where there are two.
+pub fn house_monotonicity_fails()
+    ensures one_seat { CidHasTheOneSeat }
+    ensures two_seats { CidHasNoneOfTwoSeats }
+{}
+
+/// Independence of clones is not promised with several seats: by either rule and with any lots, a candidate comes in whom
+/// each voter ranks directly after one of the two elected, and costs the other one the seat.
+pub fn clone_independence_fails()
+    ensures without_clone { AnnIsElectedWithoutDee }
+    ensures with_clone { BenIsElectedWithDee }
 {}
