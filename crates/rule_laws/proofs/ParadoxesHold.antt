@@ -5,7 +5,8 @@ use Rattle.candidate_roll.specs.declared.state.State.TheVariants.{Hopeful, Elect
 use Rattle.meek_rule.specs.Rule.{Meek, Warren}
 use Rattle.meek_rule.specs.Situation.{Situation}
 use Rattle.rule_laws.proofs.WorkedRows.{lone_first, settled}
-use Rattle.rule_laws.specs.Paradoxes.{CidIsElectedFromSecond, CidIsDefeatedFromFirst, AnnIsElectedByNine, CidIsElectedByEleven}
+use Rattle.rule_laws.specs.Paradoxes.{CidIsElectedFromSecond, CidIsDefeatedFromFirst, AnnIsElectedByNine}
+use Rattle.rule_laws.specs.Paradoxes.{CidIsElectedByEleven}
 use Rattle.rule_laws.specs.Paradoxes.{CidHasTheOneSeat, CidHasNoneOfTwoSeats, AnnIsElectedWithoutDee, BenIsElectedWithDee}
 
 abbrev between : (seats : ℕ) → List State → (keeps : List ℕ) → (round iteration : ℕ) → Option ℕ → Situation
@@ -238,10 +239,62 @@ CidHasNoneOfTwoSeats-holds Warren lots order same =
     )
 
 pub AnnIsElectedWithoutDee-holds : AnnIsElectedWithoutDee
-AnnIsElectedWithoutDee-holds Meek lots order same =
-    (refl, (between 2 (Hopeful ∷ Hopeful ∷ Elected ∷ Withdrawn ∷ []) (1000000000 ∷ 1000000000 ∷ 1000000000 ∷ 0 ∷ []) 2 1 None, settled _ _ _ _ _ _ refl refl refl refl refl refl refl refl refl (lit≤ tt, refl, refl, refl), (refl, (between 2 (Hopeful ∷ Hopeful ∷ Elected ∷ Withdrawn ∷ []) (1000000000 ∷ 1000000000 ∷ 583333334 ∷ 0 ∷ []) 2 2 (Some 1666666666), settled _ _ _ _ _ _ refl refl refl refl refl refl refl refl refl (refl, refl, refl, refl, refl), (refl, (between 2 (Elected ∷ Hopeful ∷ Elected ∷ Withdrawn ∷ []) (1000000000 ∷ 1000000000 ∷ 583333334 ∷ 0 ∷ []) 3 1 None, settled _ _ _ _ _ _ refl refl refl refl refl refl refl refl refl (lit≤ tt, refl, refl, refl), (refl, refl)))))))
-AnnIsElectedWithoutDee-holds Warren lots order same =
-    (refl, (between 2 (Hopeful ∷ Hopeful ∷ Elected ∷ Withdrawn ∷ []) (1000000000 ∷ 1000000000 ∷ 1000000000 ∷ 0 ∷ []) 2 1 None, settled _ _ _ _ _ _ refl refl refl refl refl refl refl refl refl (lit≤ tt, refl, refl, refl), (refl, (between 2 (Hopeful ∷ Hopeful ∷ Elected ∷ Withdrawn ∷ []) (1000000000 ∷ 1000000000 ∷ 583333334 ∷ 0 ∷ []) 2 2 (Some 1666666666), settled _ _ _ _ _ _ refl refl refl refl refl refl refl refl refl (refl, refl, refl, refl, refl), (refl, (between 2 (Elected ∷ Hopeful ∷ Elected ∷ Withdrawn ∷ []) (1000000000 ∷ 1000000000 ∷ 583333334 ∷ 0 ∷ []) 3 1 None, settled _ _ _ _ _ _ refl refl refl refl refl refl refl refl refl (lit≤ tt, refl, refl, refl), (refl, refl)))))))
+AnnIsElectedWithoutDee-holds Meek lots order same = (
+  refl,
+  (
+    between 2 (Hopeful ∷ Hopeful ∷ Elected ∷ Withdrawn ∷ [])
+        (1000000000 ∷ 1000000000 ∷ 1000000000 ∷ 0 ∷ []) 2 1 None,
+    settled _ _ _ _ _ _ refl refl refl refl refl refl refl refl refl (lit≤ tt, refl, refl, refl),
+    (
+      refl,
+      (
+        between 2 (Hopeful ∷ Hopeful ∷ Elected ∷ Withdrawn ∷ [])
+            (1000000000 ∷ 1000000000 ∷ 583333334 ∷ 0 ∷ []) 2 2 (Some 1666666666),
+        settled _ _ _ _ _ _ refl refl refl refl refl refl refl refl refl
+            (refl, refl, refl, refl, refl),
+        (
+          refl,
+          (
+            between 2
+                (Elected ∷ Hopeful ∷ Elected ∷ Withdrawn ∷ [])
+                (1000000000 ∷ 1000000000 ∷ 583333334 ∷ 0 ∷ []) 3 1 None,
+            settled _ _ _ _ _ _ refl refl refl refl refl refl refl refl refl
+                (lit≤ tt, refl, refl, refl),
+            (refl, refl),
+          ),
+        ),
+      ),
+    ),
+  ),
+)
+AnnIsElectedWithoutDee-holds Warren lots order same = (
+  refl,
+  (
+    between 2 (Hopeful ∷ Hopeful ∷ Elected ∷ Withdrawn ∷ [])
+        (1000000000 ∷ 1000000000 ∷ 1000000000 ∷ 0 ∷ []) 2 1 None,
+    settled _ _ _ _ _ _ refl refl refl refl refl refl refl refl refl (lit≤ tt, refl, refl, refl),
+    (
+      refl,
+      (
+        between 2 (Hopeful ∷ Hopeful ∷ Elected ∷ Withdrawn ∷ [])
+            (1000000000 ∷ 1000000000 ∷ 583333334 ∷ 0 ∷ []) 2 2 (Some 1666666666),
+        settled _ _ _ _ _ _ refl refl refl refl refl refl refl refl refl
+            (refl, refl, refl, refl, refl),
+        (
+          refl,
+          (
+            between 2
+                (Elected ∷ Hopeful ∷ Elected ∷ Withdrawn ∷ [])
+                (1000000000 ∷ 1000000000 ∷ 583333334 ∷ 0 ∷ []) 3 1 None,
+            settled _ _ _ _ _ _ refl refl refl refl refl refl refl refl refl
+                (lit≤ tt, refl, refl, refl),
+            (refl, refl),
+          ),
+        ),
+      ),
+    ),
+  ),
+)
 
 pub BenIsElectedWithDee-holds : BenIsElectedWithDee
 BenIsElectedWithDee-holds Meek lots order same = (
@@ -252,7 +305,8 @@ BenIsElectedWithDee-holds Meek lots order same = (
     (
       refl,
       (
-        between 2 (Hopeful ∷ Hopeful ∷ Elected ∷ Hopeful ∷ []) (1000000000 ∷ 1000000000 ∷ 583333334 ∷ 1000000000 ∷ []) 2 2 (Some 1666666666),
+        between 2 (Hopeful ∷ Hopeful ∷ Elected ∷ Hopeful ∷ [])
+            (1000000000 ∷ 1000000000 ∷ 583333334 ∷ 1000000000 ∷ []) 2 2 (Some 1666666666),
         settled _ _ _ _ _ _ refl refl refl refl refl refl refl refl refl (refl, refl, refl, refl, refl),
         (
           refl,
@@ -260,7 +314,16 @@ BenIsElectedWithDee-holds Meek lots order same = (
             between 2 (Defeated ∷ Hopeful ∷ Elected ∷ Hopeful ∷ []) (0 ∷ 1000000000 ∷ 583333334 ∷ 1000000000 ∷ []) 3 1 None,
             settled _ _ _ _ _ _ refl refl refl refl refl refl refl refl refl
                 (refl, refl, refl, lone_first lots _ 1 order same (lit≤ tt) (lit≤ tt) refl, refl, refl),
-            (refl, (between 2 (Defeated ∷ Elected ∷ Elected ∷ Hopeful ∷ []) (0 ∷ 1000000000 ∷ 583333334 ∷ 1000000000 ∷ []) 4 1 None, settled _ _ _ _ _ _ refl refl refl refl refl refl refl refl refl (lit≤ tt, refl, refl, refl), (refl, refl))),
+            (
+              refl,
+              (
+                between 2 (Defeated ∷ Elected ∷ Elected ∷ Hopeful ∷ [])
+                    (0 ∷ 1000000000 ∷ 583333334 ∷ 1000000000 ∷ []) 4 1 None,
+                settled _ _ _ _ _ _ refl refl refl refl refl refl refl refl refl
+                    (lit≤ tt, refl, refl, refl),
+                (refl, refl),
+              ),
+            ),
           ),
         ),
       ),
@@ -275,7 +338,8 @@ BenIsElectedWithDee-holds Warren lots order same = (
     (
       refl,
       (
-        between 2 (Hopeful ∷ Hopeful ∷ Elected ∷ Hopeful ∷ []) (1000000000 ∷ 1000000000 ∷ 583333334 ∷ 1000000000 ∷ []) 2 2 (Some 1666666666),
+        between 2 (Hopeful ∷ Hopeful ∷ Elected ∷ Hopeful ∷ [])
+            (1000000000 ∷ 1000000000 ∷ 583333334 ∷ 1000000000 ∷ []) 2 2 (Some 1666666666),
         settled _ _ _ _ _ _ refl refl refl refl refl refl refl refl refl (refl, refl, refl, refl, refl),
         (
           refl,
@@ -283,7 +347,16 @@ BenIsElectedWithDee-holds Warren lots order same = (
             between 2 (Defeated ∷ Hopeful ∷ Elected ∷ Hopeful ∷ []) (0 ∷ 1000000000 ∷ 583333334 ∷ 1000000000 ∷ []) 3 1 None,
             settled _ _ _ _ _ _ refl refl refl refl refl refl refl refl refl
                 (refl, refl, refl, lone_first lots _ 1 order same (lit≤ tt) (lit≤ tt) refl, refl, refl),
-            (refl, (between 2 (Defeated ∷ Elected ∷ Elected ∷ Hopeful ∷ []) (0 ∷ 1000000000 ∷ 583333334 ∷ 1000000000 ∷ []) 4 1 None, settled _ _ _ _ _ _ refl refl refl refl refl refl refl refl refl (lit≤ tt, refl, refl, refl), (refl, refl))),
+            (
+              refl,
+              (
+                between 2 (Defeated ∷ Elected ∷ Elected ∷ Hopeful ∷ [])
+                    (0 ∷ 1000000000 ∷ 583333334 ∷ 1000000000 ∷ []) 4 1 None,
+                settled _ _ _ _ _ _ refl refl refl refl refl refl refl refl refl
+                    (lit≤ tt, refl, refl, refl),
+                (refl, refl),
+              ),
+            ),
           ),
         ),
       ),
