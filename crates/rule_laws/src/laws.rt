@@ -109,12 +109,14 @@ pub fn first_preferences_count()
     ensures plurality { PluralityHolds }
 {}
 
-/// Who is ranked on no ballot is elected by no iteration, but only, maybe, as one who remains at the end.
+/// Who is ranked on no ballot is elected by no iteration: it has no vote, and the quota is at least a unit. It may be
+/// elected as one of those who remain at the end.
 pub fn unranked_are_not_elected()
     ensures { UnrankedAreNotElected }
 {}
 
-/// Ballots that rank nobody who runs may be added or left out: the count is the same, row for row.
+/// Ballots that rank nobody who runs, blank ones among them, may be added or left out: the count is the same, row
+/// for row.
 pub fn silent_ballots_change_nothing()
     ensures { SilentBallotsChangeNothing }
 {}
