@@ -15,8 +15,8 @@ use Rattle.day_reader.specs.declared.day.Day.{Day}
 use Rattle.shard_office.specs.Versions.{VersionState}
 use Rattle.shard_office.specs.Laws.{StandsIn}
 use Rattle.blt_writer.specs.Text.{IsBltText}
-use Rattle.meek_cli.specs.DayHistory.{IsHistoryOf}
-use Rattle.meek_cli.specs.DayText.{roll_with}
+use Rattle.day_lines.specs.DayHistory.{IsHistoryOf}
+use Rattle.day_lines.specs.DayText.{roll_with}
 use Rattle.meek_cli.specs.Frozen.{AreFrozen}
 use Rattle.day_replay.specs.Nearest.{BeginsAs, IsNearest}
 use Rattle.day_audit.proofs.DayEnds.{in_front, no_more}

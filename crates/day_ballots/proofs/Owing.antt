@@ -17,10 +17,10 @@ use Rattle.tool_edge.specs.declared.end.End.TheVariants.{Done, SourceFault, BadW
 use Rattle.tool_edge.specs.Streams.{Writing, writing}
 use Rattle.tool_edge.specs.Finishing.{Finishes, FinishesOwed, Wrote}
 use Rattle.tool_edge.specs.Tool.{IsOwedFor, no_history}
-use Rattle.meek_cli.specs.DayHistory.{IsHistoryOf}
-use Rattle.meek_cli.specs.DayText.{roll_with}
+use Rattle.day_lines.specs.DayHistory.{IsHistoryOf}
+use Rattle.day_lines.specs.DayText.{roll_with}
 use Rattle.meek_cli.specs.Frozen.{AreFrozen}
-use Rattle.meek_cli.specs.Owed.{SaysDay}
+use Rattle.day_lines.specs.Owed.{SaysDay}
 use Rattle.day_replay.specs.Nearest.{IsNearest}
 use Rattle.sheet_input.specs.declared.sheet_limit.TheConstants.{SHEET_LIMIT}
 use Rattle.day_audit.specs.Audit.{EndsInText}

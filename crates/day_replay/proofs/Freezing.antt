@@ -15,7 +15,7 @@ use Rattle.frozen_plan.specs.Plan.{all_ballots}
 use Rattle.day_reader.specs.Call.{is_freeze}
 use Rattle.shard_office.specs.Versions.{VersionState}
 use Rattle.shard_office.specs.Laws.{StandsIn}
-use Rattle.meek_cli.specs.DayText.{freeze_places}
+use Rattle.day_lines.specs.DayText.{freeze_places}
 use Rattle.meek_cli.specs.Frozen.{AreFrozen}
 use Rattle.day_replay.specs.Replay.{IsStanding}
 use Rattle.day_replay.proofs.Lists.{inside, got_behind, got_ahead}

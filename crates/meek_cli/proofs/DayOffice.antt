@@ -12,7 +12,7 @@ use Rattle.shard_office.specs.Versions.{VersionState}
 use Rattle.team_run.specs.Teams.{AreVersionsOf, IsFreezeOf}
 use Rattle.team_run.specs.Endings.{HasEnded}
 use Rattle.team_run.proofs.Lists.{got}
-use Rattle.meek_cli.specs.DayHistory.{IsHistoryOf}
+use Rattle.day_lines.specs.DayHistory.{IsHistoryOf}
 use Rattle.meek_cli.specs.Frozen.{AreFrozen}
 
 pub history_of_day :

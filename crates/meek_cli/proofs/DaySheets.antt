@@ -14,8 +14,8 @@ use Rattle.sheet_text.specs.Laws.{OrderOfBallotsLeavesTheSheet}
 use Rattle.sheet_text.specs.Lines.{ended}
 use Rattle.sheet_text.specs.Sheet.{IsSheet}
 use Rattle.lane_sheet.specs.Due.{CountDue, dues_of}
-use Rattle.meek_cli.specs.declared.terms.Terms.{Terms}
-use Rattle.meek_cli.specs.DayText.{roll_with, freeze_places, sheet_line, AreSheets, IsDayText}
+use Rattle.day_lines.specs.declared.terms.Terms.{Terms}
+use Rattle.day_lines.specs.DayText.{roll_with, freeze_places, sheet_line, AreSheets, IsDayText}
 use Rattle.shard_office.specs.Laws.{StandsIn}
 use Rattle.meek_cli.specs.Frozen.{AreFrozen}
 use Rattle.meek_cli.specs.DueSheets.{SheetDue, sheets_at, AreDueTexts, IsDayTextOf}

@@ -7,7 +7,7 @@ use Rattle.sheet_text.specs.Lines.{ended}
 use Rattle.piece_text.specs.Writing.{Wrote as WroteBytes, Stopped as StoppedBytes, Writes as WritesBytes}
 use Rattle.piece_text.proofs.Written.{wrote_nothing, wrote_later, stopped_later, stops, later}
 use Rattle.lane_sheet.specs.Due.{CountDue, HasSheet, IsSheetDue, WritesSome}
-use Rattle.meek_cli.specs.DayText.{sheet_line}
+use Rattle.day_lines.specs.DayText.{sheet_line}
 use Rattle.meek_cli.specs.DueSheets.{SheetDue, sheets_at, IsDueText, AreDueTexts}
 
 -- the sheet of a freeze exists

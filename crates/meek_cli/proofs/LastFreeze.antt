@@ -9,8 +9,8 @@ use Rattle.day_reader.specs.Call.{is_freeze}
 use Rattle.shard_office.specs.Versions.{VersionState}
 use Rattle.shard_office.specs.Laws.{StandsIn}
 use Rattle.team_run.proofs.Lists.{All-split, get_last}
-use Rattle.meek_cli.specs.DayText.{freeze_places}
-use Rattle.meek_cli.specs.DayHistory.{clerk_freeze, EndsWithTheClerk}
+use Rattle.day_lines.specs.DayText.{freeze_places}
+use Rattle.day_lines.specs.DayHistory.{clerk_freeze, EndsWithTheClerk}
 use Rattle.meek_cli.specs.Frozen.{AreFrozen}
 
 -- the places of the freezes, where the first call has this place

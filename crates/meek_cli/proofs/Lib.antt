@@ -12,11 +12,10 @@ mod MadeCalls
 mod MadeDays
 mod StandingBatches
 mod StandingWalk
-pub mod HistoryCalls
+pub mod BatchNumbers
 mod OwnBatches
 mod AsMany
 mod Separate
-pub mod TermsLemmas
 mod MadeSummaries
 pub mod LastFreeze
 mod CountingOut

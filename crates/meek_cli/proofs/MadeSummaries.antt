@@ -34,10 +34,10 @@ use Rattle.meek_cli.specs.MadeDay.{drawn_ballots, corrections, withdrawals, batc
 use Rattle.meek_cli.specs.MadeDay.{team_script, team_scripts, made_day, trial_lots}
 use Rattle.lane_sheet.specs.Due.{CountDue, due_of}
 use Rattle.meek_cli.specs.declared.summary.Summary.{Summary}
-use Rattle.meek_cli.specs.declared.terms.Terms.{Terms}
-use Rattle.meek_cli.specs.DayText.{roll_with, terms_of}
+use Rattle.day_lines.specs.declared.terms.Terms.{Terms}
+use Rattle.day_lines.specs.DayText.{roll_with, terms_of}
 use Rattle.meek_cli.specs.Summary.{IsSummary, IsSummaryDue, standing_batches, last_round, summary_lines}
-use Rattle.meek_cli.proofs.TermsLemmas.{AreTerms, still_a_roll}
+use Rattle.day_lines.proofs.TermsLemmas.{AreTerms, still_a_roll}
 use Rattle.meek_cli.proofs.Separate.{end_alike}
 
 -- ---- each batch is its team's own

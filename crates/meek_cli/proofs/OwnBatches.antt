@@ -12,7 +12,7 @@ use Rattle.batch_core.specs.declared.change.Change.{Change}
 use Rattle.batch_core.specs.declared.entry.Entry.{Entry}
 use Rattle.batch_core.specs.Book.{BookState, after, batch_of, change_reply, change_after, replaced}
 use Rattle.batch_core.specs.Histories.{after_all, own_calls}
-use Rattle.team_run.specs.Teams.{calls_of}
+use Rattle.day_lines.specs.DayHistory.{calls_of}
 
 -- whether a call is of this batch
 abbrev pub is_of : ℕ → Call → Bool

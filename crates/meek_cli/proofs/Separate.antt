@@ -12,10 +12,9 @@ use Rattle.batch_core.specs.declared.entry.Entry.{Entry}
 use Rattle.batch_core.specs.Book.{BookState, empty, after, batch_of}
 use Rattle.batch_core.specs.Histories.{after_all, own_calls}
 use Rattle.day_reader.specs.declared.script.Script.{Script}
-use Rattle.team_run.specs.Teams.{calls_of}
-use Rattle.meek_cli.specs.DayHistory.{IsHistoryOf}
+use Rattle.day_lines.specs.DayHistory.{calls_of, IsHistoryOf}
 use Rattle.meek_cli.specs.Laws.{IsOfOwn, AreSeparate, SeparateTeamsEndAlike}
-use Rattle.meek_cli.proofs.HistoryCalls.{all_callers, each_caller, same_calls}
+use Rattle.day_lines.proofs.HistoryCalls.{all_callers, each_caller, same_calls}
 use Rattle.meek_cli.proofs.OwnBatches.{is_of, of_batch, kept_by, kept, by_one}
 use Rattle.meek_cli.proofs.AsMany.{as_many}
 

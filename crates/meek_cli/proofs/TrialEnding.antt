@@ -24,17 +24,17 @@ use Rattle.shard_office.specs.Versions.{VersionState}
 use Rattle.meek_cli.specs.Status.{Status}
 use Rattle.tool_edge.specs.declared.end.End.TheVariants.{NoMemory}
 use Rattle.meek_cli.specs.declared.summary.Summary.{Summary}
-use Rattle.meek_cli.specs.declared.terms.Terms.{Terms}
+use Rattle.day_lines.specs.declared.terms.Terms.{Terms}
 use Rattle.meek_cli.specs.declared.turns.Turns.{Turns}
 use Rattle.meek_cli.specs.CountedOut.{IsCountedOut}
-use Rattle.meek_cli.specs.DayText.{roll_with, terms_of}
+use Rattle.day_lines.specs.DayText.{roll_with, terms_of}
 use Rattle.meek_cli.specs.MadeDay.{made_day}
 use Rattle.tool_edge.specs.Streams.{Writing}
 use Rattle.meek_cli.specs.Summary.{standing_batches, summary_of, summary_lines, IsSummary, IsSummaryDue}
 use Rattle.meek_cli.specs.Summary.{IsOnlySummary, AreLastStanding}
 use Rattle.ballot_count.specs.Ending.{WritesOwed}
 use Rattle.meek_cli.specs.Run.{PlaysTrial}
-use Rattle.meek_cli.specs.DayHistory.{IsHistoryOf}
+use Rattle.day_lines.specs.DayHistory.{IsHistoryOf}
 use Rattle.meek_cli.proofs.LastFreeze.{IsClerks}
 
 -- what writing the summary came to is what playing the day came to

@@ -3,8 +3,8 @@ use Rattle.std.specs.Prelude.{◌≡◌, ℕ, List, [], ◌∷◌, ◌++◌}
 use Rattle.batch_core.specs.declared.entry.Entry.{Entry}
 use Rattle.sheet_text.specs.Lines.{ended}
 use Rattle.lane_sheet.specs.Due.{CountDue, IsSheetDue}
-use Rattle.team_run.specs.EntryText.{entries_text}
-use Rattle.meek_cli.specs.DayText.{sheet_line}
+use Rattle.day_lines.specs.EntryText.{entries_text}
+use Rattle.day_lines.specs.DayText.{sheet_line}
 
 -- the place of a freeze, and what is counted for it
 pub record SheetDue : Type 0 where

@@ -3,7 +3,7 @@ use Rattle.std.specs.Prelude.{◌≡◌, ℕ, List, map, All}
 use Rattle.batch_core.specs.declared.entry.Entry.{Entry}
 use Rattle.shard_office.specs.Versions.{VersionState}
 use Rattle.shard_office.specs.Laws.{StandsIn}
-use Rattle.meek_cli.specs.DayText.{freeze_places}
+use Rattle.day_lines.specs.DayText.{freeze_places}
 
 -- the versions of all freezes of a history of so many candidates, by rising place, each with what stands there
 pub record AreFrozen (candidates : ℕ) (history : List Entry) (versions : List VersionState) : Type 0 where

@@ -6,8 +6,8 @@ use Rattle.batch_core.specs.declared.entry.Entry.{Entry}
 use Rattle.batch_core.specs.Book.{empty, batch_of}
 use Rattle.batch_core.specs.Histories.{after_all}
 use Rattle.day_reader.specs.declared.script.Script.{Script}
-use Rattle.meek_cli.specs.DayHistory.{IsHistoryOf}
-use Rattle.meek_cli.specs.DayText.{terms_of}
+use Rattle.day_lines.specs.DayHistory.{IsHistoryOf}
+use Rattle.day_lines.specs.DayText.{terms_of}
 use Rattle.meek_cli.specs.MadeDay.{made_day}
 use Rattle.meek_cli.specs.Summary.{IsSummary}
 

@@ -1,5 +1,3 @@
-pub mod DayText
-pub mod DayHistory
 pub mod Frozen
 pub mod DueSheets
 pub mod Summary

@@ -16,9 +16,9 @@ use Rattle.batch_core.specs.declared.batch.Batch.{Batch}
 use Rattle.batch_core.specs.declared.entry.Entry.{Entry}
 use Rattle.batch_core.specs.Book.{BookState, empty, last_batch}
 use Rattle.batch_core.specs.Histories.{after_all, standing_after, struck_after}
-use Rattle.meek_cli.specs.declared.terms.Terms.{Terms}
+use Rattle.day_lines.specs.declared.terms.Terms.{Terms}
 use Rattle.meek_cli.specs.declared.summary.Summary.{Summary}
-use Rattle.meek_cli.specs.DayText.{roll_with}
+use Rattle.day_lines.specs.DayText.{roll_with}
 
 -- ---- batches
 

@@ -3,16 +3,16 @@ ghost use Rattle.std.specs.Prelude.{All};
 ghost use Rattle.sheet_text.specs.Lines.{ended};
 ghost use Rattle.piece_text.specs.Writing.{Writes as WritesBytes};
 ghost use Rattle.lane_sheet.specs.Due.{HasSheet, WritesSome};
-ghost use Rattle.meek_cli.specs.DayText.{sheet_line};
+ghost use Rattle.day_lines.specs.DayText.{sheet_line};
 ghost use Rattle.meek_cli.specs.DueSheets.{sheets_at, IsDayTextOf, IsDueText, AreDueTexts};
 
 use byte_edge::{Failed, Sink, write_all};
 use call_register::History;
+use day_lines::write_entries;
 use lane_sheet::{BegunCount, CountText, NoMemory, Polls, begin_counts};
 use line_text::Line;
 use meek_rule::Spread;
 use std::alloc::Global;
-use team_run::write_entries;
 
 /// The text of a day: the lines of these answered calls, and then the sheets of their freezes, which stand
 /// at these places of the history.

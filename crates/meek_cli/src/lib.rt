@@ -21,11 +21,11 @@ mod standing;
 mod summary;
 mod summary_text;
 mod summing;
-mod terms;
 mod trial;
 mod turns;
 mod work;
 
+pub use day_lines::Terms;
 pub use day_text::DayText;
 pub use laws::{made_days_have_one_summary, separate_teams_end_alike};
 pub use made_days::{made_days_are_days, read_made_day};
@@ -34,5 +34,4 @@ pub use outcome::Outcome;
 pub use run::meek;
 pub use summary_text::SummaryText;
 pub use summing::sum_up;
-pub use terms::Terms;
 pub use tool_edge::End as Status;

@@ -4,13 +4,14 @@ ghost use Rattle.batch_core.specs.Histories.{IsLegal};
 ghost use Rattle.vote_spread.specs.declared.limits.TheConstants.{MOST_WORKERS};
 ghost use Rattle.lane_sheet.specs.Due.{WritesOrWants};
 ghost use Rattle.meek_cli.specs.MadeDay.{made_day};
-ghost use Rattle.meek_cli.specs.DayText.{terms_of};
+ghost use Rattle.day_lines.specs.DayText.{terms_of};
 ghost use Rattle.meek_cli.specs.Standing.{HaveNumbers};
 ghost use Rattle.meek_cli.specs.Summary.{AreLastStanding, IsSummary};
 
-use crate::{NoMemory, SummaryText, Terms};
+use crate::{NoMemory, SummaryText};
 use byte_edge::{Failed, Gate, Sink};
 use candidate_roll::Roll;
+use day_lines::Terms;
 use frozen_plan::Plans;
 use lane_sheet::{Crew, Polls, write_in_lanes};
 use meek_count::counts_are_unique;

@@ -12,7 +12,8 @@ use Rattle.shard_office.specs.Office.{OfficeState}
 use Rattle.shard_office.specs.Passes.{PassState, own}
 use Rattle.shard_office.specs.Versions.{VersionState, IsFreeze}
 use Rattle.shard_office.specs.Laws.{VersionsStay}
-use Rattle.team_run.specs.Teams.{calls_of, FrozeAt, IsFreezeOf}
+use Rattle.day_lines.specs.DayHistory.{calls_of}
+use Rattle.team_run.specs.Teams.{FrozeAt, IsFreezeOf}
 use Rattle.team_run.specs.Runs.{freezes_of, IsSamePass, IsAtWork}
 use Rattle.team_run.proofs.Lists.{pairs_append, one_pair}
 use Rattle.team_run.proofs.Sights.{freeze_stays, later, froze_last}

@@ -2,7 +2,7 @@ use Rattle.std.proofs.Common.{◌≡◌, ◌≤◌, ℕ, List, [], ◌∷◌, Al
 use Rattle.frozen_plan.specs.Plan.{PlanRows, all_ballots}
 use Rattle.lane_sheet.specs.Due.{CountDue, dues_of, due_of}
 use Rattle.lane_sheet.proofs.Sheets.{written_as}
-use Rattle.meek_cli.specs.declared.terms.Terms.{Terms}
+use Rattle.day_lines.specs.declared.terms.Terms.{Terms}
 use Rattle.batch_core.specs.Histories.{IsLegal}
 use Rattle.meek_cli.specs.Standing.{HaveNumbers}
 use Rattle.meek_cli.specs.Summary.{IsOnlySummary, IsSummedUp}

@@ -1,5 +1,5 @@
 use Rattle.std.proofs.Common.{ℕ, ◌≤◌, All, length, refl, ap, ◌∙◌, subst}
-use Rattle.meek_cli.specs.DayText.{roll_with}
+use Rattle.day_lines.specs.DayText.{roll_with}
 use Rattle.meek_cli.proofs.LastFreeze.{some_version, clerks}
 use Rattle.meek_cli.proofs.TrialEnding.{stands_last}
 use Rattle.meek_cli.proofs.trial.sum_up_last.Goals as goal

@@ -1,5 +1,5 @@
 use Rattle.std.proofs.Common.{◌++◌, refl}
-use Rattle.team_run.specs.EntryText.{entries_text}
+use Rattle.day_lines.specs.EntryText.{entries_text}
 use Rattle.piece_text.proofs.Written.{stops, later}
 use Rattle.meek_cli.specs.DueSheets.{sheets_at}
 use Rattle.meek_cli.proofs.DueTexts.{texts_of, sheets_have}

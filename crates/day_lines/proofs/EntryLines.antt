@@ -9,7 +9,8 @@ use Rattle.std.proofs.lemmas.List.{map-append, take_more, take-append-drop, leng
 use Rattle.std.proofs.lemmas.List.Concat.{flat_map-append}
 use Rattle.batch_core.specs.declared.entry.Entry.{Entry}
 use Rattle.byte_edge.specs.Bytes.{AppendsFront}
-use Rattle.team_run.specs.EntryText.{entry_line, ended, entries_text}
+use Rattle.sheet_text.specs.Lines.{ended}
+use Rattle.day_lines.specs.EntryText.{entry_line, entries_text}
 
 enumerate_from-append :
     {X : Type 0} (n : ℕ) (xs ys : List X)
@@ -24,7 +25,7 @@ enumerate_from-append {X} n (x ∷ xs) ys =
 abbrev line_of : ℕ × Entry → List ℕ
 line_of x = entry_line x.0 x.1
 
--- the text of calls with their places
+-- the text of calls with their numbers
 abbrev text_of : List (ℕ × Entry) → List ℕ
 text_of calls = flat_map ended (map line_of calls)
 

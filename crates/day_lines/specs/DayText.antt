@@ -1,4 +1,4 @@
--- The text of a day: a line for each answered call, and then a sheet for each freeze. 32 is a space, and 10 ends a line.
+-- The text of a day: a line for each answered call, and then a sheet for each freeze.
 use Rattle.std.specs.Prelude.{◌≡◌, ℕ, List, [], ◌∷◌, ◌++◌, map, filter, codes, decimal}
 use Rattle.plain_ballots.specs.Ballots.{plain}
 use Rattle.candidate_roll.specs.Roll.{RollList, marks_with}
@@ -8,12 +8,12 @@ use Rattle.batch_core.specs.declared.entry.Entry.{Entry}
 use Rattle.batch_core.specs.Histories.{standing_after, struck_after}
 use Rattle.day_reader.specs.declared.day.Day.{Day}
 use Rattle.day_reader.specs.Call.{is_freeze}
-use Rattle.team_run.specs.EntryText.{numbered, entries_text}
-use Rattle.meek_cli.specs.declared.terms.Terms.{Terms}
+use Rattle.day_lines.specs.EntryText.{numbered, entries_text}
+use Rattle.day_lines.specs.declared.terms.Terms.{Terms}
 
 -- ---- a history
 
--- the places of the freezes
+-- the numbers of the freezes among the calls, from 1
 abbrev pub freeze_places : List Entry → List ℕ
 freeze_places history = map (λ e. e.0) (filter (λ e. is_freeze e.1.call) (numbered history))
 
@@ -23,12 +23,12 @@ freeze_places history = map (λ e. e.0) (filter (λ e. is_freeze e.1.call) (numb
 abbrev pub terms_of : Day → Terms
 terms_of day = record { places = day.places; omega = day.omega; roll = day.roll; lots = day.lots }
 
--- the roll with these candidates withdrawn besides
+-- the roll in which these candidates are withdrawn too
 abbrev pub roll_with : RollList → List ℕ → RollList
 roll_with roll struck = record roll { withdrawn = marks_with roll.withdrawn struck }
 
--- the sheet over the single ballots of the batches that stand after the first n calls, with the candidates withdrawn
--- besides that these calls strike
+-- the sheet over the single ballots of the batches that stand after the first n calls; the candidates that these calls
+-- strike are withdrawn too
 abbrev pub IsSheetAfter : Terms → List Entry → ℕ → List ℕ → Type 0
 IsSheetAfter terms history n sheet =
     IsSheet terms.places terms.omega (plain (standing_after history n)) (roll_with terms.roll (struck_after history n))
@@ -38,7 +38,7 @@ IsSheetAfter terms history n sheet =
 abbrev pub sheet_line : ℕ → List ℕ
 sheet_line n = codes "sheet " ++ decimal n
 
--- for each of these places its line and the sheet there
+-- for each of these freezes its line and then its sheet
 abbrev pub AreSheets : Terms → List Entry → List ℕ → List ℕ → Type 0
 AreSheets terms history [] text = text ≡ []
 AreSheets terms history (n ∷ places) text =

@@ -3,15 +3,16 @@ ghost use Rattle.std.specs.Prelude.{◌≡◌, ◌+◌, ◌≤◌, ◌++◌, len
 ghost use Rattle.std.specs.Io.KnownBytes.{Appends};
 ghost use Rattle.byte_edge.specs.Bytes.{AppendsFront};
 ghost use Rattle.byte_edge.specs.Faults.{CountsFault};
-ghost use Rattle.team_run.specs.EntryText.{caller_text, change_text, call_text, reply_text, entry_line, ended, entries_text};
+ghost use Rattle.sheet_text.specs.Lines.{ended};
+ghost use Rattle.day_lines.specs.EntryText.{caller_text, change_text, call_text, reply_text, entry_line, entries_text};
 
 use batch_core::{Call, Change, Entry, Reply};
 use byte_edge::{Failed, Sink, write_all};
 use call_register::History;
 use line_text::Line;
 
-/// Writes a line for each answered call: its place from 1, who called, the call, and the reply. Each
-/// line is one piece to the sink.
+/// Writes a line for each answered call: its number from 1, the caller, the call and the reply. Each line is
+/// handed to the sink in one piece.
 pub fn write_entries<K: Sink>(history: &History, sink: &mut K) -> Result<(), Failed>
     ensures all { OnOk result (Appends (K.written sink.old) (K.written sink.new) (entries_text history.now)) }
     ensures front { OnErr result (AppendsFront (K.written sink.old) (K.written sink.new) (entries_text history.now)) }
@@ -50,7 +51,7 @@ fn push_entry(line: &mut Line, n: u64, entry: &Entry)
     push_reply(line, entry.reply);
 }
 
-/// Appends who calls: 0 is the clerk, another number is a team's.
+/// Appends the caller: 0 is the clerk, any other number is a team's.
 #[tactic(auto, using(crate::proofs::Rooms::rooms))]
 fn push_caller(line: &mut Line, caller: u32)
     requires { length line.old ≤ 1000 }
@@ -64,7 +65,7 @@ fn push_caller(line: &mut Line, caller: u32)
     }
 }
 
-/// Appends a word, which brings its space, and a number.
+/// Appends a word, whose last byte is a space, and a number.
 #[tactic(auto, using(crate::proofs::Rooms::rooms))]
 fn push_numbered(line: &mut Line, word: &[u8], number: u32)
     requires short { length word.now ≤ 10 }

@@ -1,4 +1,4 @@
--- Every call in the history of scripts is one of the clerk or of a script.
+-- Every call in a history of scripts is the clerk's freeze or a call of a script.
 use Rattle.std.proofs.Common.{◌≡◌, ℕ, zero, suc, ◌≤◌, ◌==◌, Bool, true, false, cond, List, [], ◌∷◌, ◌++◌, filter}
 use Rattle.std.proofs.Common.{All, refl, sym, ap, ◌∙◌, subst, arith}
 use Rattle.std.specs.List.{flat_map}
@@ -7,18 +7,13 @@ use Rattle.std.proofs.lemmas.Bool.Decides.{eqb_tells}
 use Rattle.std.proofs.Common.{⊎_elim, ◌≢◌}
 use Rattle.std.proofs.lemmas.List.Elements.{All-nil, All-cons, All-head, All-tail, All-append, filter-append}
 use Rattle.batch_core.specs.declared.call.Call.{Call}
-use Rattle.batch_core.specs.declared.change.Change.TheVariants.{Enter, Correct, Withdraw}
-use Rattle.batch_core.specs.declared.call.Call.TheVariants.{Change, Freeze, Strike}
+use Rattle.batch_core.specs.declared.call.Call.TheVariants.{Freeze}
 use Rattle.batch_core.specs.declared.entry.Entry.{Entry}
 use Rattle.batch_core.specs.Histories.{own_calls}
 use Rattle.day_reader.specs.declared.script.Script.{Script}
-use Rattle.day_reader.specs.Said.{IsAnswerable, AreScripts}
-use Rattle.team_run.specs.Teams.{calls_of}
-use Rattle.team_run.specs.Endings.{calls_in}
-use Rattle.meek_cli.specs.DayHistory.{clerk_freeze, EndsWithTheClerk, IsHistoryOf}
-use Rattle.meek_cli.specs.Standing.{HasNumber, HaveNumbers}
+use Rattle.day_lines.specs.DayHistory.{calls_of, calls_in, clerk_freeze, EndsWithTheClerk, IsHistoryOf}
 
--- what may be said of a caller's call
+-- a property of callers and their calls
 module _ (P : ℕ → Call → Type 0) where
   own_rest :
       (caller : ℕ) (own : Bool) (e : Entry) (rest : List Entry) → All (P caller) (calls_of (cond own (e ∷ rest) rest))
@@ -26,7 +21,7 @@ module _ (P : ℕ → Call → Type 0) where
   own_rest caller true e rest all = All-tail (P caller) e.call (calls_of rest) all
   own_rest caller false e rest all = all
 
-  -- what holds of the calls of each caller holds of all calls
+  -- a property of the calls of each caller is one of all calls
   pub all_callers :
       (history : List Entry) → ((caller : ℕ) → All (P caller) (calls_of (own_calls caller history)))
       → All (λ e. P e.caller e.call) history
@@ -53,7 +48,7 @@ module _ (P : ℕ → Call → Type 0) where
       (λ (other : ((s.team == team) ≡ false) × (s.team ≢ team)). absurd (cc))
       (eqb_tells s.team team)
 
-  -- what holds of the calls of all scripts holds of those of one team
+  -- a property of the calls of all scripts is one of the calls of each team
   one_script :
       (scripts : List Script) (team : ℕ) → All (λ s. All (P s.team) s.calls) scripts
       → All (P team) (calls_in scripts team)
@@ -63,14 +58,14 @@ module _ (P : ℕ → Call → Type 0) where
       (of_team s team (All-head (λ (s : Script). All (P s.team) s.calls) s ss all))
       (one_script ss team (All-tail (λ (s : Script). All (P s.team) s.calls) s ss all))
 
--- the clerk has only frozen
+-- the clerk's only call is the freeze
 pub clerks_own : (history : List Entry) → EndsWithTheClerk history → own_calls 0 history ≡ clerk_freeze ∷ []
 clerks_own history ends =
     ap (own_calls 0) ends.last
     ∙ (filter-append (λ (e : Entry). e.caller == 0) ends.before (clerk_freeze ∷ [])
     ∙ ap (λ (front : List Entry). front ++ clerk_freeze ∷ []) ends.no_other)
 
--- what holds of the calls of all scripts, and of the clerk's freeze, holds of the calls of each caller
+-- a property of the calls of all scripts and of the clerk's freeze is one of the calls of each caller
 pub each_caller :
     (P : ℕ → Call → Type 0) (scripts : List Script) (history : List Entry) → IsHistoryOf scripts history
     → All (λ s. All (P s.team) s.calls) scripts → P 0 Freeze
@@ -88,24 +83,3 @@ pub same_calls :
 same_calls scripts one other is too zero = ap calls_of (clerks_own one is.ends ∙ sym (clerks_own other too.ends))
 same_calls scripts one other is too (suc caller) =
     is.whole (suc caller) (omega arith) ∙ sym (too.whole (suc caller) (omega arith))
-
--- a call of a day file is of a batch with a number
-numbered : (candidates : ℕ) (call : Call) → IsAnswerable candidates call → HasNumber call
-numbered candidates (Change (Enter batch ballots)) may = may.0
-numbered candidates (Change (Correct batch revision ballots)) may = may.0
-numbered candidates (Change (Withdraw batch revision)) may = may.0
-numbered candidates Freeze may = tt
-numbered candidates (Strike candidate) may = tt
-
-all_numbered :
-    (candidates : ℕ) (scripts : List Script) → All (λ s. All (IsAnswerable candidates) s.calls) scripts
-    → All (λ s. All HasNumber s.calls) scripts
-all_numbered candidates scripts all k d inside j e within = numbered candidates _ (all k d inside j e within)
-
--- The changes in the history of a day's scripts have batch numbers.
-pub have_numbers :
-    (candidates : ℕ) (scripts : List Script) (history : List Entry) → AreScripts candidates scripts
-    → IsHistoryOf scripts history → HaveNumbers history
-have_numbers candidates scripts history are is =
-    all_callers (λ caller. HasNumber) history
-    (each_caller (λ caller. HasNumber) scripts history is (all_numbered candidates scripts are.calls) tt)
