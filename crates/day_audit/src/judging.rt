@@ -3,7 +3,7 @@ ghost use Rattle.std.specs.Prelude.{◌≡◌, ◌≤◌, IfOk, length};
 ghost use Rattle.day_reader.specs.Said.{AreScripts};
 ghost use Rattle.sheet_check.specs.Comparison.{IsCompared};
 ghost use Rattle.day_lines.specs.DayText.{IsDayText};
-ghost use Rattle.meek_cli.specs.Frozen.{AreFrozen};
+ghost use Rattle.day_sheets.specs.Frozen.{AreFrozen};
 ghost use Rattle.day_audit.specs.Judged.{IsDayVerdict};
 
 use crate::comparing::first_difference;

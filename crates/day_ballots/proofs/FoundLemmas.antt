@@ -17,7 +17,7 @@ use Rattle.shard_office.specs.Laws.{StandsIn}
 use Rattle.blt_writer.specs.Text.{IsBltText}
 use Rattle.day_lines.specs.DayHistory.{IsHistoryOf}
 use Rattle.day_lines.specs.DayText.{roll_with}
-use Rattle.meek_cli.specs.Frozen.{AreFrozen}
+use Rattle.day_sheets.specs.Frozen.{AreFrozen}
 use Rattle.day_replay.specs.Nearest.{BeginsAs, IsNearest}
 use Rattle.day_audit.proofs.DayEnds.{in_front, no_more}
 use Rattle.day_ballots.specs.declared.ballots_fault.BallotsFault.{BallotsFault}

@@ -19,7 +19,7 @@ use Rattle.tool_edge.specs.Finishing.{Finishes, FinishesOwed, Wrote}
 use Rattle.tool_edge.specs.Tool.{IsOwedFor, no_history}
 use Rattle.day_lines.specs.DayHistory.{IsHistoryOf}
 use Rattle.day_lines.specs.DayText.{roll_with}
-use Rattle.meek_cli.specs.Frozen.{AreFrozen}
+use Rattle.day_sheets.specs.Frozen.{AreFrozen}
 use Rattle.day_lines.specs.Owed.{SaysDay}
 use Rattle.day_replay.specs.Nearest.{IsNearest}
 use Rattle.sheet_input.specs.declared.sheet_limit.TheConstants.{SHEET_LIMIT}

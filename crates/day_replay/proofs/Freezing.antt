@@ -16,7 +16,7 @@ use Rattle.day_reader.specs.Call.{is_freeze}
 use Rattle.shard_office.specs.Versions.{VersionState}
 use Rattle.shard_office.specs.Laws.{StandsIn}
 use Rattle.day_lines.specs.DayText.{freeze_places}
-use Rattle.meek_cli.specs.Frozen.{AreFrozen}
+use Rattle.day_sheets.specs.Frozen.{AreFrozen}
 use Rattle.day_replay.specs.Replay.{IsStanding}
 use Rattle.day_replay.proofs.Lists.{inside, got_behind, got_ahead}
 

@@ -6,7 +6,7 @@ ghost use Rattle.batch_core.specs.declared.entry.Entry.{Entry};
 ghost use Rattle.day_reader.specs.declared.script.Script.{Script};
 ghost use Rattle.day_reader.specs.Said.{AreScripts};
 ghost use Rattle.day_lines.specs.DayHistory.{IsHistoryOf};
-ghost use Rattle.meek_cli.specs.Frozen.{AreFrozen};
+ghost use Rattle.day_sheets.specs.Frozen.{AreFrozen};
 ghost use Rattle.day_replay.specs.Calls.{AreAnswerable, HasCalled, IsUnderWay, calls_left, left_of};
 ghost use Rattle.day_replay.specs.Nearest.{IsNearest, HasFollowed};
 

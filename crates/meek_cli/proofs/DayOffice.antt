@@ -13,7 +13,7 @@ use Rattle.team_run.specs.Teams.{AreVersionsOf, IsFreezeOf}
 use Rattle.team_run.specs.Endings.{HasEnded}
 use Rattle.team_run.proofs.Lists.{got}
 use Rattle.day_lines.specs.DayHistory.{IsHistoryOf}
-use Rattle.meek_cli.specs.Frozen.{AreFrozen}
+use Rattle.day_sheets.specs.Frozen.{AreFrozen}
 
 pub history_of_day :
     (scripts : List Script) (versions : List VersionState) (history : List Entry)

@@ -16,7 +16,7 @@ use Rattle.meek_cli.specs.declared.work.Work.TheVariants.{Count, Day, Trial}
 use Rattle.day_lines.specs.DayText.{terms_of}
 use Rattle.day_lines.specs.DayHistory.{IsHistoryOf}
 use Rattle.day_lines.specs.Owed.{SaysDay, OwesDay}
-use Rattle.meek_cli.specs.Summary.{IsSummary}
+use Rattle.day_sheets.specs.Summary.{IsSummary}
 use Rattle.meek_cli.specs.Work.{AsksFor, limit_of}
 
 -- ---- what a trial owes

@@ -6,7 +6,7 @@ ghost use Rattle.lane_sheet.specs.Due.{WritesOrWants};
 ghost use Rattle.tool_edge.specs.Streams.{writing};
 ghost use Rattle.day_lines.specs.DayHistory.{IsHistoryOf};
 ghost use Rattle.day_lines.specs.DayText.{terms_of, IsDayText};
-ghost use Rattle.meek_cli.specs.Frozen.{AreFrozen};
+ghost use Rattle.day_sheets.specs.Frozen.{AreFrozen};
 ghost use Rattle.meek_cli.specs.Run.{FinishesDay, PlaysDay};
 
 use crate::day_counting::count_day;
