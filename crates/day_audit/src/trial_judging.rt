@@ -3,7 +3,7 @@ ghost use Rattle.std.specs.Prelude.{◌≡◌, ◌≤◌, ◌++◌, ◌∷◌, [
 ghost use Rattle.day_reader.specs.Said.{AreScripts};
 ghost use Rattle.meek_trial.specs.declared.day.TheConstants.{MOST_TRIAL};
 ghost use Rattle.sheet_check.specs.Comparison.{IsCompared};
-ghost use Rattle.shard_office.specs.Versions.{VersionState};
+ghost use Rattle.frozen_version.specs.Versions.{VersionState};
 ghost use Rattle.day_lines.specs.DayHistory.{IsHistoryOf};
 ghost use Rattle.day_lines.specs.DayText.{terms_of};
 ghost use Rattle.day_sheets.specs.Frozen.{AreFrozen};

@@ -9,7 +9,7 @@ use Rattle.frozen_plan.specs.Plan.{PlanRows, all_ballots}
 use Rattle.batch_core.specs.declared.entry.Entry.{Entry}
 use Rattle.day_reader.specs.declared.day.Day.{Day}
 use Rattle.day_reader.specs.Said.{IsDayRefusal}
-use Rattle.shard_office.specs.Versions.{VersionState}
+use Rattle.frozen_version.specs.Versions.{VersionState}
 use Rattle.blt_writer.specs.Exported.{Exported}
 use Rattle.blt_writer.specs.Text.{IsBltText}
 use Rattle.tool_edge.specs.declared.end.End.{End}

@@ -5,7 +5,7 @@ use Rattle.candidate_roll.specs.Roll.{RollList}
 use Rattle.frozen_plan.specs.Plan.{all_ballots}
 use Rattle.batch_core.specs.declared.entry.Entry.{Entry}
 use Rattle.batch_core.specs.Histories.{standing_after, struck_after}
-use Rattle.shard_office.specs.Versions.{VersionState}
+use Rattle.frozen_version.specs.Versions.{VersionState}
 use Rattle.day_reader.specs.declared.day.Day.{Day}
 use Rattle.blt_writer.specs.Text.{IsBltText}
 use Rattle.tool_edge.specs.Refusals.{Refusals, fault_line, too_long}

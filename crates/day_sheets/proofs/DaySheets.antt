@@ -8,7 +8,7 @@ use Rattle.plain_ballots.specs.Ballots.{plain}
 use Rattle.frozen_plan.specs.Plan.{PlanRows, all_ballots}
 use Rattle.batch_core.specs.declared.entry.Entry.{Entry}
 use Rattle.batch_core.specs.Histories.{standing_after, struck_after}
-use Rattle.shard_office.specs.Versions.{VersionState}
+use Rattle.frozen_version.specs.Versions.{VersionState, StandsIn}
 use Rattle.meek_rule.specs.Rule.{Meek}
 use Rattle.sheet_text.specs.Laws.{OrderOfBallotsLeavesTheSheet}
 use Rattle.sheet_text.specs.Lines.{ended}
@@ -16,7 +16,6 @@ use Rattle.sheet_text.specs.Sheet.{IsSheet}
 use Rattle.lane_sheet.specs.Due.{CountDue, dues_of}
 use Rattle.day_lines.specs.declared.terms.Terms.{Terms}
 use Rattle.day_lines.specs.DayText.{roll_with, freeze_places, sheet_line, AreSheets, IsDayText}
-use Rattle.shard_office.specs.Laws.{StandsIn}
 use Rattle.day_sheets.specs.Frozen.{AreFrozen}
 use Rattle.day_sheets.specs.DueSheets.{SheetDue, sheets_at, AreDueTexts, IsDayTextOf}
 

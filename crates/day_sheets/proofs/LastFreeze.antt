@@ -7,8 +7,7 @@ use Rattle.std.proofs.lemmas.List.{map-append, length-map, same_from_push}
 use Rattle.std.proofs.lemmas.List.Elements.{All-pop}
 use Rattle.batch_core.specs.declared.entry.Entry.{Entry}
 use Rattle.day_reader.specs.Call.{is_freeze}
-use Rattle.shard_office.specs.Versions.{VersionState}
-use Rattle.shard_office.specs.Laws.{StandsIn}
+use Rattle.frozen_version.specs.Versions.{VersionState, StandsIn}
 use Rattle.day_lines.specs.DayText.{freeze_places}
 use Rattle.day_lines.specs.DayHistory.{clerk_freeze, EndsWithTheClerk}
 use Rattle.day_sheets.specs.Frozen.{AreFrozen}

@@ -19,7 +19,7 @@ use Rattle.batch_core.specs.Book.{empty}
 use Rattle.batch_core.specs.Histories.{after_all, standing_after, struck_after}
 use Rattle.frozen_plan.specs.Plan.{PlanRows, all_ballots}
 use Rattle.lane_sheet.specs.Plans.{CanBeCounted}
-use Rattle.shard_office.specs.Versions.{VersionState}
+use Rattle.frozen_version.specs.Versions.{VersionState}
 use Rattle.day_sheets.specs.declared.summary.Summary.{Summary}
 use Rattle.day_lines.specs.declared.terms.Terms.{Terms}
 use Rattle.day_sheets.specs.declared.turns.Turns.{Turns}

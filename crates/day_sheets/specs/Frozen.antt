@@ -1,8 +1,7 @@
 -- What stood at the freezes of a history.
 use Rattle.std.specs.Prelude.{◌≡◌, ℕ, List, map, All}
 use Rattle.batch_core.specs.declared.entry.Entry.{Entry}
-use Rattle.shard_office.specs.Versions.{VersionState}
-use Rattle.shard_office.specs.Laws.{StandsIn}
+use Rattle.frozen_version.specs.Versions.{VersionState, StandsIn}
 use Rattle.day_lines.specs.DayText.{freeze_places}
 
 -- the versions of all freezes of a history of so many candidates, by rising place, each with what stands there

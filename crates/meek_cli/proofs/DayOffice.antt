@@ -8,7 +8,7 @@ use Rattle.shard_office.specs.Office.{OfficeState}
 use Rattle.shard_office.specs.Sight.{Sight}
 use Rattle.shard_office.specs.Passes.{PassState}
 use Rattle.shard_office.specs.Clerk.{IsTaken}
-use Rattle.shard_office.specs.Versions.{VersionState}
+use Rattle.frozen_version.specs.Versions.{VersionState}
 use Rattle.team_run.specs.Teams.{AreVersionsOf, IsFreezeOf}
 use Rattle.team_run.specs.Endings.{HasEnded}
 use Rattle.team_run.proofs.Lists.{got}

@@ -2,7 +2,7 @@
 ghost use Rattle.std.specs.Prelude.{◌≡◌, ◌≤◌, ◌++◌, ◌∷◌, [], List, length, true, IfOk};
 ghost use Rattle.day_reader.specs.Said.{AreScripts};
 ghost use Rattle.batch_core.specs.Histories.{IsLegal};
-ghost use Rattle.shard_office.specs.Versions.{VersionState};
+ghost use Rattle.frozen_version.specs.Versions.{VersionState};
 ghost use Rattle.meek_trial.specs.declared.day.TheConstants.{MOST_TRIAL};
 ghost use Rattle.lane_sheet.specs.Due.{WritesOrWants};
 ghost use Rattle.tool_edge.specs.Streams.{writing};

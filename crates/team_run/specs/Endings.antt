@@ -9,9 +9,9 @@ use Rattle.day_reader.specs.Call.{is_freeze}
 use Rattle.shard_office.specs.Sight.{Sight}
 use Rattle.shard_office.specs.Passes.{PassState, own}
 use Rattle.shard_office.specs.Clerk.{ClerkState, IsTaken}
-use Rattle.shard_office.specs.Versions.{VersionState, IsFreeze}
+use Rattle.frozen_version.specs.Versions.{VersionState, StandsIn}
+use Rattle.shard_office.specs.Versions.{IsFreeze}
 use Rattle.shard_office.specs.Closing.{IsClosed}
-use Rattle.shard_office.specs.Laws.{StandsIn}
 use Rattle.day_lines.specs.DayHistory.{calls_of, calls_in}
 use Rattle.team_run.specs.Teams.{script_of, RisesFrom, AreVersionsOf}
 

@@ -9,7 +9,8 @@ use Rattle.day_lines.specs.DayHistory.{calls_of}
 use Rattle.shard_office.specs.Sight.{Sight, GoesOn}
 use Rattle.shard_office.specs.Passes.{PassState, own}
 use Rattle.shard_office.specs.Clerk.{ClerkState}
-use Rattle.shard_office.specs.Versions.{VersionState, IsVersionOf}
+use Rattle.frozen_version.specs.Versions.{VersionState}
+use Rattle.shard_office.specs.Versions.{IsVersionOf}
 
 -- ---- scripts
 
