@@ -14,7 +14,7 @@ use Rattle.tool_edge.specs.Streams.{Writing}
 use Rattle.tool_edge.specs.Refusals.{fault_line}
 use Rattle.tool_edge.specs.Finishing.{Finishes, FinishesOwed, RefusesInput}
 use Rattle.tool_edge.specs.Tool.{IsOwedFor, IsSound, no_history}
-use Rattle.meek_cli.specs.Owed.{SaysDay}
+use Rattle.day_lines.specs.Owed.{SaysDay}
 use Rattle.sheet_input.specs.declared.sheet_limit.TheConstants.{SHEET_LIMIT}
 use Rattle.day_audit.specs.Input.{IsDaySplit}
 use Rattle.day_audit.specs.declared.audit_asked.AuditAsked.{AuditAsked}

@@ -5,7 +5,7 @@ use Rattle.std.specs.Prelude.{slice_get}
 use Rattle.std.proofs.lemmas.List.{append-nil, append_assoc, length-append, take-append-drop}
 use Rattle.batch_core.specs.declared.entry.Entry.{Entry}
 use Rattle.day_reader.specs.declared.script.Script.{Script}
-use Rattle.meek_cli.specs.DayHistory.{IsHistoryOf, clerk_freeze}
+use Rattle.day_lines.specs.DayHistory.{IsHistoryOf, clerk_freeze}
 use Rattle.day_replay.proofs.Lists.{got_ahead, got_behind}
 use Rattle.day_replay.proofs.Own.{none_by}
 

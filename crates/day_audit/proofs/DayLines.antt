@@ -12,7 +12,8 @@ use Rattle.batch_core.specs.declared.call.Call.TheVariants.{Change, Freeze, Stri
 use Rattle.batch_core.specs.declared.reply.Reply.{Reply}
 use Rattle.batch_core.specs.declared.reply.Reply.TheVariants as reply
 use Rattle.batch_core.specs.declared.entry.Entry.{Entry}
-use Rattle.team_run.specs.EntryText.{caller_text, call_text, reply_text, entry_line, ended}
+use Rattle.day_lines.specs.EntryText.{caller_text, call_text, reply_text, entry_line}
+use Rattle.sheet_text.specs.Lines.{ended}
 use Rattle.sheet_check.specs.Difference.{first_line, behind_line, line_at}
 
 -- whether no line feed stands in a text

@@ -15,10 +15,10 @@ use Rattle.sheet_text.specs.Lines.{text_of_lines, ended}
 use Rattle.sheet_text.specs.Sheet.{IsSheet, sheet_lines}
 use Rattle.batch_core.specs.declared.entry.Entry.{Entry}
 use Rattle.batch_core.specs.Histories.{standing_after, struck_after}
-use Rattle.team_run.specs.EntryText.{entries_text}
-use Rattle.meek_cli.specs.declared.terms.Terms.{Terms}
-use Rattle.meek_cli.proofs.TermsLemmas.{AreTerms, still_a_roll}
-use Rattle.meek_cli.specs.DayText.{roll_with, freeze_places, sheet_line, AreSheets, IsDayText}
+use Rattle.day_lines.specs.EntryText.{entries_text}
+use Rattle.day_lines.specs.declared.terms.Terms.{Terms}
+use Rattle.day_lines.proofs.TermsLemmas.{AreTerms, still_a_roll}
+use Rattle.day_lines.specs.DayText.{roll_with, freeze_places, sheet_line, AreSheets, IsDayText}
 
 one_sheet :
     (places omega : ℕ) (ballots : List (List ℕ)) (roll : RollList) (lots a b : List ℕ) → 1 ≤ omega → omega ≤ MOST_OMEGA

@@ -7,17 +7,18 @@ use Rattle.std.proofs.lemmas.List.{take_all}
 use Rattle.std.proofs.lemmas.Option.{slice_get-get_or}
 use Rattle.batch_core.specs.declared.entry.Entry.{Entry}
 use Rattle.day_reader.specs.declared.day.Day.{Day}
-use Rattle.team_run.specs.EntryText.{entry_line, ended}
+use Rattle.day_lines.specs.EntryText.{entry_line}
+use Rattle.sheet_text.specs.Lines.{ended}
 use Rattle.sheet_check.specs.Difference.{IsFirstDifference, line_at}
-use Rattle.meek_cli.specs.DayHistory.{IsHistoryOf, clerk_freeze}
-use Rattle.meek_cli.specs.DayText.{terms_of, IsDayText}
+use Rattle.day_lines.specs.DayHistory.{IsHistoryOf, clerk_freeze}
+use Rattle.day_lines.specs.DayText.{terms_of, IsDayText}
 use Rattle.day_replay.specs.Nearest.{BeginsAs, IsNearest}
 use Rattle.day_audit.specs.declared.day_verdict.DayVerdict.{DayVerdict}
 use Rattle.day_audit.specs.declared.day_verdict.DayVerdict.TheVariants.{True, False}
 use Rattle.day_audit.specs.Judged.{IsTextOf, BeginAlike, IsFalseAt, IsVerdict}
 use Rattle.day_audit.proofs.DayEnds.{in_front, no_more}
 use Rattle.day_audit.proofs.DayLines.{line_of_a_call}
-use Rattle.meek_cli.proofs.TermsLemmas.{AreTerms}
+use Rattle.day_lines.proofs.TermsLemmas.{AreTerms}
 use Rattle.day_audit.proofs.DayTexts.{one_text}
 
 module _ (day : Day) (are : AreTerms (terms_of day)) where

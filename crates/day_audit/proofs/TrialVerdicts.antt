@@ -2,11 +2,11 @@
 use Rattle.std.proofs.Common.{◌≡◌, ℕ, ◌+◌, ◌<◌, List, ap, ◌∙◌, sym, arith}
 use Rattle.batch_core.specs.declared.entry.Entry.{Entry}
 use Rattle.sheet_check.specs.Difference.{IsFirstDifference, line_at}
-use Rattle.meek_cli.specs.DayHistory.{IsHistoryOf}
-use Rattle.meek_cli.specs.DayText.{terms_of}
-use Rattle.meek_cli.specs.Laws.{EachMadeDayHasOneSummary}
-use Rattle.meek_cli.specs.MadeDay.{made_day}
-use Rattle.meek_cli.specs.Summary.{IsSummary}
+use Rattle.day_lines.specs.DayHistory.{IsHistoryOf}
+use Rattle.day_lines.specs.DayText.{terms_of}
+use Rattle.day_sheets.specs.Laws.{EachMadeDayHasOneSummary}
+use Rattle.day_sheets.specs.MadeDay.{made_day}
+use Rattle.day_sheets.specs.Summary.{IsSummary}
 use Rattle.day_audit.specs.Judged.{IsFalseAt, IsSummaryOf}
 
 pub false_summary :

@@ -9,7 +9,7 @@ use Rattle.tool_edge.specs.Refusals.{file_refusals}
 use Rattle.tool_edge.specs.declared.end.End.{End}
 use Rattle.tool_edge.specs.declared.end.End.TheVariants.{Done}
 use Rattle.tool_edge.specs.Tool.{Tool, no_history}
-use Rattle.meek_cli.specs.Owed.{SaysDay}
+use Rattle.day_lines.specs.Owed.{SaysDay}
 use Rattle.sheet_input.specs.declared.sheet_limit.TheConstants.{SHEET_LIMIT}
 use Rattle.day_audit.specs.declared.audit_asked.AuditAsked.{AuditAsked}
 use Rattle.day_audit.specs.declared.audit_asked.AuditAsked.TheVariants as of

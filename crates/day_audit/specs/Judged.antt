@@ -3,10 +3,10 @@ use Rattle.std.specs.Prelude.{◌≡◌, ℕ, ◌<◌, List}
 use Rattle.batch_core.specs.declared.entry.Entry.{Entry}
 use Rattle.day_reader.specs.declared.day.Day.{Day}
 use Rattle.sheet_check.specs.Difference.{IsFirstDifference, line_at}
-use Rattle.meek_cli.specs.DayHistory.{IsHistoryOf}
-use Rattle.meek_cli.specs.DayText.{terms_of, IsDayText}
-use Rattle.meek_cli.specs.MadeDay.{made_day}
-use Rattle.meek_cli.specs.Summary.{IsSummary}
+use Rattle.day_lines.specs.DayHistory.{IsHistoryOf}
+use Rattle.day_lines.specs.DayText.{terms_of, IsDayText}
+use Rattle.day_sheets.specs.MadeDay.{made_day}
+use Rattle.day_sheets.specs.Summary.{IsSummary}
 use Rattle.day_audit.specs.declared.day_verdict.DayVerdict.{DayVerdict}
 use Rattle.day_audit.specs.declared.day_verdict.DayVerdict.TheVariants.{True, False}
 

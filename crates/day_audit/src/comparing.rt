@@ -1,15 +1,16 @@
 // A text compared with the text of a history.
 ghost use Rattle.std.specs.Prelude.{◌≡◌, ◌≤◌, IfOk, length};
 ghost use Rattle.sheet_check.specs.Comparison.{IsCompared};
-ghost use Rattle.meek_cli.specs.DayText.{IsDayText};
-ghost use Rattle.meek_cli.specs.Frozen.{AreFrozen};
+ghost use Rattle.day_lines.specs.DayText.{IsDayText};
+ghost use Rattle.day_sheets.specs.Frozen.{AreFrozen};
 
 use crate::NoMemory;
 use crate::frozen_sheets::{places_of, plans_of, rolls_of};
 use byte_edge::FreeGate;
+use day_lines::Terms;
 use day_replay::Followed;
+use day_sheets::DayText;
 use lane_sheet::{Crew, Polls, write_in_lanes};
-use meek_cli::{DayText, Terms};
 use sheet_check::Comparing;
 use sheet_text::sheets_are_unique;
 use std::alloc::Global;

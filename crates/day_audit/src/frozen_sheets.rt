@@ -1,7 +1,7 @@
 // What is counted for the freezes of a history.
 ghost use Rattle.std.specs.Prelude.{◌≡◌, All, IfOk, length, map};
 ghost use Rattle.lane_sheet.specs.Plans.{CanBeCounted};
-ghost use Rattle.meek_cli.specs.DayText.{roll_with};
+ghost use Rattle.day_lines.specs.DayText.{roll_with};
 
 use crate::NoMemory;
 use candidate_roll::Roll;

@@ -2,15 +2,15 @@
 ghost use Rattle.std.specs.Prelude.{◌≡◌, ◌≤◌, IfOk, length};
 ghost use Rattle.day_reader.specs.Said.{AreScripts};
 ghost use Rattle.sheet_check.specs.Comparison.{IsCompared};
-ghost use Rattle.meek_cli.specs.DayText.{IsDayText};
-ghost use Rattle.meek_cli.specs.Frozen.{AreFrozen};
+ghost use Rattle.day_lines.specs.DayText.{IsDayText};
+ghost use Rattle.day_sheets.specs.Frozen.{AreFrozen};
 ghost use Rattle.day_audit.specs.Judged.{IsDayVerdict};
 
 use crate::comparing::first_difference;
 use crate::{DayVerdict, NoMemory};
+use day_lines::Terms;
 use day_reader::Day;
 use day_replay::{Followed, follow};
-use meek_cli::Terms;
 use std::alloc::Global;
 use std::thread::Threads;
 

@@ -34,8 +34,8 @@ impl From<lane_sheet::NoMemory> for NoMemory {
     }
 }
 
-impl From<meek_cli::NoMemory> for NoMemory {
-    fn from(_: meek_cli::NoMemory) -> NoMemory {
+impl From<day_sheets::NoMemory> for NoMemory {
+    fn from(_: day_sheets::NoMemory) -> NoMemory {
         NoMemory
     }
 }

@@ -3,20 +3,21 @@ ghost use Rattle.std.specs.Prelude.{◌≡◌, ◌≤◌, ◌++◌, ◌∷◌, [
 ghost use Rattle.day_reader.specs.Said.{AreScripts};
 ghost use Rattle.meek_trial.specs.declared.day.TheConstants.{MOST_TRIAL};
 ghost use Rattle.sheet_check.specs.Comparison.{IsCompared};
-ghost use Rattle.shard_office.specs.Versions.{VersionState};
-ghost use Rattle.meek_cli.specs.DayHistory.{IsHistoryOf};
-ghost use Rattle.meek_cli.specs.DayText.{terms_of};
-ghost use Rattle.meek_cli.specs.Frozen.{AreFrozen};
-ghost use Rattle.meek_cli.specs.MadeDay.{made_day};
-ghost use Rattle.meek_cli.specs.Summary.{IsSummary};
+ghost use Rattle.frozen_version.specs.Versions.{VersionState};
+ghost use Rattle.day_lines.specs.DayHistory.{IsHistoryOf};
+ghost use Rattle.day_lines.specs.DayText.{terms_of};
+ghost use Rattle.day_sheets.specs.Frozen.{AreFrozen};
+ghost use Rattle.day_sheets.specs.MadeDay.{made_day};
+ghost use Rattle.day_sheets.specs.Summary.{IsSummary};
 ghost use Rattle.day_audit.specs.Judged.{IsTrialVerdict};
 
 use crate::comparing::crew_of;
 use crate::{DayVerdict, NoMemory};
 use byte_edge::FreeGate;
+use day_lines::Terms;
 use day_reader::Day;
 use day_replay::{Followed, Frozen, follow};
-use meek_cli::{SummaryText, Terms, made_days_have_one_summary, read_made_day, sum_up};
+use day_sheets::{SummaryText, made_days_have_one_summary, read_made_day, sum_up};
 use sheet_check::Comparing;
 use std::alloc::Global;
 use std::thread::Threads;

@@ -10,11 +10,12 @@ use Rattle.std.proofs.lemmas.Bool.{cases_lt}
 use Rattle.std.proofs.lemmas.List.{append-nil}
 use Rattle.std.proofs.lemmas.Option.{slice_get-get_or}
 use Rattle.batch_core.specs.declared.entry.Entry.{Entry}
-use Rattle.team_run.specs.EntryText.{entry_line, ended, entries_text}
+use Rattle.day_lines.specs.EntryText.{entry_line, entries_text}
+use Rattle.sheet_text.specs.Lines.{ended}
 use Rattle.sheet_check.specs.Comparison.{Comparison, IsCompared, told}
 use Rattle.sheet_check.specs.Difference.{IsFirstDifference, line_at}
 use Rattle.sheet_check.proofs.Differences.{Tells, compared}
-use Rattle.meek_cli.specs.DayHistory.{clerk_freeze}
+use Rattle.day_lines.specs.DayHistory.{clerk_freeze}
 use Rattle.day_replay.specs.Nearest.{BeginsAs}
 use Rattle.day_replay.proofs.Lists.{inside}
 use Rattle.day_audit.proofs.DayLines.{line_of_a_call}

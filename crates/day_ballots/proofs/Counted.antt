@@ -20,13 +20,11 @@ use Rattle.day_reader.specs.declared.day.Day.{Day}
 use Rattle.day_reader.specs.declared.script.Script.{Script}
 use Rattle.day_reader.specs.Call.{IsCall}
 use Rattle.day_reader.specs.Day.{IsDay}
-use Rattle.team_run.specs.Teams.{calls_of}
-use Rattle.team_run.specs.Endings.{calls_in}
+use Rattle.day_lines.specs.DayHistory.{calls_of, calls_in, IsHistoryOf, clerk_freeze}
 use Rattle.std.proofs.lemmas.List.Elements.{filter-append}
 use Rattle.std.proofs.lemmas.List.FromFn.{length-map-range_with_len}
-use Rattle.meek_cli.specs.DayHistory.{IsHistoryOf, clerk_freeze}
-use Rattle.meek_cli.specs.DayText.{terms_of, roll_with, IsSheetAfter}
-use Rattle.meek_cli.specs.Owed.{SaysDay}
+use Rattle.day_lines.specs.DayText.{terms_of, roll_with, IsSheetAfter}
+use Rattle.day_lines.specs.Owed.{SaysDay}
 use Rattle.day_ballots.specs.Laws.{FreezesAreCounted}
 use Rattle.day_reader.proofs.RollNames.{IsPrintedRoll, printed_roll}
 use Rattle.day_reader.proofs.CallRankings.{rankings, not_too_many}

@@ -12,12 +12,11 @@ use Rattle.frozen_plan.specs.Plan.{all_ballots}
 use Rattle.batch_core.specs.declared.entry.Entry.{Entry}
 use Rattle.batch_core.specs.Histories.{standing_after, struck_after}
 use Rattle.day_reader.specs.declared.day.Day.{Day}
-use Rattle.shard_office.specs.Versions.{VersionState}
-use Rattle.shard_office.specs.Laws.{StandsIn}
+use Rattle.frozen_version.specs.Versions.{VersionState, StandsIn}
 use Rattle.blt_writer.specs.Text.{IsBltText}
-use Rattle.meek_cli.specs.DayHistory.{IsHistoryOf}
-use Rattle.meek_cli.specs.DayText.{roll_with}
-use Rattle.meek_cli.specs.Frozen.{AreFrozen}
+use Rattle.day_lines.specs.DayHistory.{IsHistoryOf}
+use Rattle.day_lines.specs.DayText.{roll_with}
+use Rattle.day_sheets.specs.Frozen.{AreFrozen}
 use Rattle.day_replay.specs.Nearest.{BeginsAs, IsNearest}
 use Rattle.day_audit.proofs.DayEnds.{in_front, no_more}
 use Rattle.day_ballots.specs.declared.ballots_fault.BallotsFault.{BallotsFault}

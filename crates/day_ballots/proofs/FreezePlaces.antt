@@ -7,8 +7,8 @@ use Rattle.std.specs.List.{enumerate_from}
 use Rattle.std.proofs.lemmas.List.Elements.{All-head, All-tail, All-map}
 use Rattle.batch_core.specs.declared.entry.Entry.{Entry}
 use Rattle.day_reader.specs.Call.{is_freeze}
-use Rattle.shard_office.specs.Versions.{VersionState}
-use Rattle.meek_cli.specs.Frozen.{AreFrozen}
+use Rattle.frozen_version.specs.Versions.{VersionState}
+use Rattle.day_sheets.specs.Frozen.{AreFrozen}
 use Rattle.day_replay.proofs.Lists.{inside}
 use Rattle.day_ballots.specs.Along.{IsFreezeAt}
 

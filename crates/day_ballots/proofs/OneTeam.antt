@@ -12,9 +12,7 @@ use Rattle.batch_core.specs.declared.entry.Entry.{Entry}
 use Rattle.batch_core.specs.Book.{empty, reply, after}
 use Rattle.batch_core.specs.Histories.{IsLegal, own_calls}
 use Rattle.day_reader.specs.declared.script.Script.{Script}
-use Rattle.team_run.specs.Teams.{calls_of}
-use Rattle.team_run.specs.Endings.{calls_in}
-use Rattle.meek_cli.specs.DayHistory.{IsHistoryOf, clerk_freeze}
+use Rattle.day_lines.specs.DayHistory.{calls_of, calls_in, IsHistoryOf, clerk_freeze}
 use Rattle.day_replay.specs.Worked.{made_by}
 use Rattle.day_replay.proofs.Own.{own_append, own_first, none_by}
 

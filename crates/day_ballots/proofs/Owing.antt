@@ -9,7 +9,7 @@ use Rattle.frozen_plan.specs.Plan.{PlanRows, all_ballots}
 use Rattle.batch_core.specs.declared.entry.Entry.{Entry}
 use Rattle.day_reader.specs.declared.day.Day.{Day}
 use Rattle.day_reader.specs.Said.{IsDayRefusal}
-use Rattle.shard_office.specs.Versions.{VersionState}
+use Rattle.frozen_version.specs.Versions.{VersionState}
 use Rattle.blt_writer.specs.Exported.{Exported}
 use Rattle.blt_writer.specs.Text.{IsBltText}
 use Rattle.tool_edge.specs.declared.end.End.{End}
@@ -17,10 +17,10 @@ use Rattle.tool_edge.specs.declared.end.End.TheVariants.{Done, SourceFault, BadW
 use Rattle.tool_edge.specs.Streams.{Writing, writing}
 use Rattle.tool_edge.specs.Finishing.{Finishes, FinishesOwed, Wrote}
 use Rattle.tool_edge.specs.Tool.{IsOwedFor, no_history}
-use Rattle.meek_cli.specs.DayHistory.{IsHistoryOf}
-use Rattle.meek_cli.specs.DayText.{roll_with}
-use Rattle.meek_cli.specs.Frozen.{AreFrozen}
-use Rattle.meek_cli.specs.Owed.{SaysDay}
+use Rattle.day_lines.specs.DayHistory.{IsHistoryOf}
+use Rattle.day_lines.specs.DayText.{roll_with}
+use Rattle.day_sheets.specs.Frozen.{AreFrozen}
+use Rattle.day_lines.specs.Owed.{SaysDay}
 use Rattle.day_replay.specs.Nearest.{IsNearest}
 use Rattle.sheet_input.specs.declared.sheet_limit.TheConstants.{SHEET_LIMIT}
 use Rattle.day_audit.specs.Audit.{EndsInText}

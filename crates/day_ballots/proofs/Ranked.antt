@@ -15,8 +15,7 @@ use Rattle.day_reader.specs.declared.script.Script.{Script}
 use Rattle.day_reader.specs.Call.{IsCall}
 use Rattle.day_reader.specs.Day.{by_number}
 use Rattle.day_reader.proofs.CallRankings.{all_flat}
-use Rattle.team_run.specs.Teams.{calls_of}
-use Rattle.team_run.specs.Endings.{calls_in}
+use Rattle.day_lines.specs.DayHistory.{calls_of, calls_in}
 
 -- ---- the calls of a history
 

@@ -5,7 +5,7 @@ use Rattle.input_text.specs.declared.input_fault.InputFault.{InputFault}
 use Rattle.day_reader.specs.declared.day.Day.{Day}
 use Rattle.day_reader.specs.Said.{AcceptsDays, RefusesByTheRule}
 use Rattle.tool_edge.specs.Tool.{IsSound}
-use Rattle.meek_cli.specs.Owed.{SaysDay}
+use Rattle.day_lines.specs.Owed.{SaysDay}
 use Rattle.day_audit.specs.Audit.{IsAudit}
 use Rattle.day_audit.proofs.Splits.{text_once, file_once}
 use Rattle.day_audit.proofs.Audits.{one_day, not_refused, refused_once}

@@ -11,11 +11,10 @@ use Rattle.batch_core.specs.declared.entry.Entry.{Entry}
 use Rattle.batch_core.specs.Histories.{own_calls}
 use Rattle.day_reader.specs.declared.script.Script.{Script}
 use Rattle.day_reader.specs.Call.{is_freeze}
-use Rattle.team_run.specs.Teams.{calls_of}
-use Rattle.team_run.specs.Endings.{calls_in}
-use Rattle.team_run.specs.EntryText.{entry_line, ended}
+use Rattle.day_lines.specs.DayHistory.{calls_of, calls_in, clerk_freeze, IsHistoryOf}
+use Rattle.day_lines.specs.EntryText.{entry_line}
+use Rattle.sheet_text.specs.Lines.{ended}
 use Rattle.sheet_check.specs.Difference.{line_at}
-use Rattle.meek_cli.specs.DayHistory.{clerk_freeze, IsHistoryOf}
 use Rattle.day_replay.specs.Nearest.{BeginsAs}
 use Rattle.day_replay.specs.Worked.{made_by, enter, correct, entered_line}
 use Rattle.day_ballots.specs.Along.{GoesAlong, IsFreezeAt, IsAtFreeze, IsFalseCall, HasNoFreeze}

@@ -3,7 +3,7 @@ use Rattle.std.specs.Prelude.{◌≡◌, ℕ, ◌+◌, ◌-◌, ◌<◌, ◌≤�
 use Rattle.batch_core.specs.declared.entry.Entry.{Entry}
 use Rattle.day_reader.specs.declared.day.Day.{Day}
 use Rattle.day_reader.specs.Call.{is_freeze}
-use Rattle.meek_cli.specs.DayHistory.{IsHistoryOf}
+use Rattle.day_lines.specs.DayHistory.{IsHistoryOf}
 use Rattle.day_replay.specs.Nearest.{BeginsAs}
 
 -- The calls of the day's teams can be answered as this history, and the first n lines of the text are those of its

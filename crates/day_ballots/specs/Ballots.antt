@@ -5,15 +5,15 @@ use Rattle.candidate_roll.specs.Roll.{RollList}
 use Rattle.frozen_plan.specs.Plan.{all_ballots}
 use Rattle.batch_core.specs.declared.entry.Entry.{Entry}
 use Rattle.batch_core.specs.Histories.{standing_after, struck_after}
-use Rattle.shard_office.specs.Versions.{VersionState}
+use Rattle.frozen_version.specs.Versions.{VersionState}
 use Rattle.day_reader.specs.declared.day.Day.{Day}
 use Rattle.blt_writer.specs.Text.{IsBltText}
 use Rattle.tool_edge.specs.Refusals.{Refusals, fault_line, too_long}
 use Rattle.tool_edge.specs.declared.end.End.{End}
 use Rattle.tool_edge.specs.declared.end.End.TheVariants.{Done, BadInput}
 use Rattle.tool_edge.specs.Tool.{Tool, no_history}
-use Rattle.meek_cli.specs.Owed.{SaysDay}
-use Rattle.meek_cli.specs.DayText.{roll_with}
+use Rattle.day_lines.specs.Owed.{SaysDay}
+use Rattle.day_lines.specs.DayText.{roll_with}
 use Rattle.sheet_input.specs.declared.sheet_limit.TheConstants.{SHEET_LIMIT}
 use Rattle.day_audit.specs.declared.audit_asked.AuditAsked.TheVariants.{Day as OfDay}
 use Rattle.day_audit.specs.declared.day_verdict.DayVerdict.TheVariants.{False as NotTrueAt}

@@ -1,7 +1,7 @@
 -- What is found at a line of a text, by one history and what stood at its freezes.
 use Rattle.std.specs.Prelude.{◌≡◌, ◌≢◌, ℕ, ◌+◌, ◌≤◌, List, length, All, Contains}
 use Rattle.batch_core.specs.declared.entry.Entry.{Entry}
-use Rattle.shard_office.specs.Versions.{VersionState}
+use Rattle.frozen_version.specs.Versions.{VersionState}
 use Rattle.day_replay.specs.Nearest.{BeginsAs}
 use Rattle.day_ballots.specs.declared.ballots_fault.BallotsFault.{BallotsFault}
 use Rattle.day_ballots.specs.declared.ballots_fault.BallotsFault.TheVariants.{File, False, NoFreeze}

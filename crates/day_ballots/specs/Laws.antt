@@ -6,7 +6,7 @@ use Rattle.batch_core.specs.Histories.{standing_after, struck_after}
 use Rattle.sheet_text.specs.Sheet.{IsSheet}
 use Rattle.blt_writer.specs.Laws.{SaysBallots}
 use Rattle.day_reader.specs.declared.day.Day.{Day}
-use Rattle.meek_cli.specs.DayText.{terms_of, roll_with, IsSheetAfter}
+use Rattle.day_lines.specs.DayText.{terms_of, roll_with, IsSheetAfter}
 use Rattle.day_ballots.specs.Ballots.{OwesBallots}
 
 -- The bytes are a ballot file: of the day's roll with those withdrawn besides whom the first n calls strike, and, in

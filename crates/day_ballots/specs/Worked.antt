@@ -3,7 +3,7 @@ use Rattle.std.specs.Prelude.{◌≡◌, ℕ, List, [], ◌∷◌, ◌++◌, cod
 use Rattle.batch_core.specs.declared.reply.Reply.TheVariants.{Entered, Corrected}
 use Rattle.batch_core.specs.declared.entry.Entry.{Entry}
 use Rattle.day_reader.specs.declared.day.Day.{Day}
-use Rattle.meek_cli.specs.DayHistory.{clerk_freeze}
+use Rattle.day_lines.specs.DayHistory.{clerk_freeze}
 use Rattle.day_replay.specs.Worked.{made_by, enter, correct, entered_line}
 use Rattle.day_ballots.specs.declared.ballots_fault.BallotsFault.TheVariants.{False, NoFreeze}
 use Rattle.day_ballots.specs.Along.{GoesAlong, IsFreezeAt, IsAtFreeze, IsFalseCall, HasNoFreeze}

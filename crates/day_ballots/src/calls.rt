@@ -1,13 +1,13 @@
 // The lines of a history's calls, compared with a text.
 ghost use Rattle.std.specs.Prelude.{◌≡◌, MatchOption};
-ghost use Rattle.team_run.specs.EntryText.{entries_text};
+ghost use Rattle.day_lines.specs.EntryText.{entries_text};
 ghost use Rattle.sheet_check.specs.Comparison.{IsCompared};
 ghost use Rattle.day_replay.specs.Nearest.{BeginsAs};
 ghost use Rattle.day_ballots.specs.Found.{IsFirstOther};
 
 use call_register::History;
+use day_lines::write_entries;
 use sheet_check::Comparing;
-use team_run::write_entries;
 
 /// The first of so many calls whose line is another than in the text, by its number from 1.
 pub(crate) fn first_other(text: &[u8], history: &History, at: u64) -> Option<u64>

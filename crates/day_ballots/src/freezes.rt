@@ -1,6 +1,6 @@
 // The freeze of a line among all freezes.
 ghost use Rattle.std.specs.Prelude.{◌≡◌, ◌≢◌, ◌<◌, ℕ, All, Contains, IfNone, IfSome, MatchOption, length, slice_index_or};
-ghost use Rattle.shard_office.specs.Versions.{VersionState};
+ghost use Rattle.frozen_version.specs.Versions.{VersionState};
 
 use day_replay::Frozen;
 

@@ -9,7 +9,7 @@ use Rattle.byte_edge.specs.declared.sink.Sink.{Ghosts}
 use Rattle.sheet_page.specs.declared.pen.Pen.{Pen}
 use Rattle.sheet_page.specs.Prints.{Prints}
 use Rattle.sheet_page.proofs.Pens.{item_more, items_all}
-use Rattle.team_run.specs.EntryText.{numbered}
+use Rattle.day_lines.specs.EntryText.{numbered}
 
 -- the call at a place, with its number
 pub call_at :

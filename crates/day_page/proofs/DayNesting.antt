@@ -2,7 +2,7 @@
 use Rattle.std.proofs.Common.{◌≡◌, refl, ℕ, List, [], ◌∷◌, true, length}
 use Rattle.std.specs.Prelude.{codes}
 use Rattle.batch_core.specs.declared.entry.Entry.{Entry}
-use Rattle.team_run.specs.EntryText.{numbered}
+use Rattle.day_lines.specs.EntryText.{numbered}
 use Rattle.page_tree.specs.Trees.{IsWellNamed}
 use Rattle.day_text.specs.End.{DayEndList, day_end}
 use Rattle.day_text.specs.Values.{DayTextList, FrozenSheet}

@@ -20,9 +20,10 @@ use Rattle.day_text.specs.End.{batch_end, day_end, if_any}
 use Rattle.day_text.specs.Form.{HasDayForm}
 use Rattle.day_text.specs.Said.{IsSaidCall, IsSaidChange, IsSaidEntry}
 use Rattle.day_text.specs.Values.{DayTextList, sheets_text}
-use Rattle.meek_cli.specs.DayHistory.{EndsWithTheClerk, clerk_freeze}
-use Rattle.meek_cli.specs.DayText.{freeze_places}
-use Rattle.team_run.specs.EntryText.{ended, entry_line, entries_text}
+use Rattle.day_lines.specs.DayHistory.{EndsWithTheClerk, clerk_freeze}
+use Rattle.day_lines.specs.DayText.{freeze_places}
+use Rattle.sheet_text.specs.Lines.{ended}
+use Rattle.day_lines.specs.EntryText.{entry_line, entries_text}
 
 -- a number that JSON may have
 abbrev pub IsSmall : ℕ → Type 0

@@ -5,7 +5,7 @@ use Rattle.std.specs.List.{enumerate_from}
 use Rattle.std.proofs.lemmas.List.Elements.{All-cons, All-nil}
 use Rattle.batch_core.specs.declared.entry.Entry.{Entry}
 use Rattle.csv_text.specs.Laws.{RecordsReadBack}
-use Rattle.team_run.specs.EntryText.{call_text, caller_text, entry_line, reply_text}
+use Rattle.day_lines.specs.EntryText.{call_text, caller_text, entry_line, reply_text}
 use Rattle.day_page.specs.DayCsv.{entry_record, table_head, table_records}
 use Rattle.day_page.specs.Laws.{RowsSayTheirCalls, TablesOfCallsAreReadBack, fields_of, spaced}
 

@@ -8,7 +8,7 @@ use Rattle.std.proofs.lemmas.Bool.Decides.{eqb_tells}
 use Rattle.std.proofs.lemmas.List.Elements.{All-head, All-tail}
 use Rattle.batch_core.specs.declared.entry.Entry.{Entry}
 use Rattle.batch_core.specs.Laws.{EveryBatchIsNumbered}
-use Rattle.team_run.specs.EntryText.{call_text, numbered, reply_text}
+use Rattle.day_lines.specs.EntryText.{call_text, numbered, reply_text}
 use Rattle.day_text.specs.declared.batch_end.BatchEnd.{BatchEnd}
 use Rattle.day_text.specs.End.{day_end}
 use Rattle.day_text.specs.Form.{HasDayForm, IsPrintableSheet, sheet_places}

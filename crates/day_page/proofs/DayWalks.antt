@@ -6,7 +6,7 @@ use Rattle.std.specs.List.{flat_map}
 use Rattle.std.proofs.lemmas.List.{map-append}
 use Rattle.std.proofs.lemmas.List.Concat.{flat_map_single}
 use Rattle.batch_core.specs.declared.entry.Entry.{Entry}
-use Rattle.team_run.specs.EntryText.{call_text, caller_text, entry_line, entry_lines, numbered, reply_text}
+use Rattle.day_lines.specs.EntryText.{call_text, caller_text, entry_line, entry_lines, numbered, reply_text}
 use Rattle.page_tree.specs.Trees.{Trees, Nothing, followed}
 use Rattle.day_text.specs.End.{day_end}
 use Rattle.day_text.specs.Values.{DayTextList, FrozenSheet}

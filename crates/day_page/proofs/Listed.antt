@@ -9,7 +9,7 @@ use Rattle.std.proofs.lemmas.List.FromFn.{length-enumerate_from}
 use Rattle.std.proofs.lemmas.Option.{slice_get_within}
 use Rattle.batch_core.specs.declared.entry.Entry.{Entry}
 use Rattle.byte_edge.specs.declared.sink.Sink.{Ghosts}
-use Rattle.team_run.specs.EntryText.{numbered}
+use Rattle.day_lines.specs.EntryText.{numbered}
 use Rattle.sheet_page.specs.declared.pen.Pen.{Pen}
 use Rattle.sheet_page.specs.Json.{comma_at}
 use Rattle.sheet_page.specs.Prints.{Prints}

@@ -1,7 +1,7 @@
 -- The calls of a day as a table on a page: a row for each, in the words of the text of the day.
 use Rattle.std.specs.Prelude.{ℕ, List, [], ◌∷◌, codes, decimal}
 use Rattle.batch_core.specs.declared.entry.Entry.{Entry}
-use Rattle.team_run.specs.EntryText.{call_text, caller_text, numbered, reply_text}
+use Rattle.day_lines.specs.EntryText.{call_text, caller_text, numbered, reply_text}
 use Rattle.page_tree.specs.Trees.{Attribute, Trees}
 use Rattle.sheet_page.specs.RoundTable.{column_attributes, line_head}
 use Rattle.sheet_page.specs.Trees.{at, each, el, words}

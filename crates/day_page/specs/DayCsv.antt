@@ -2,7 +2,7 @@
 use Rattle.std.specs.Prelude.{ℕ, List, [], ◌∷◌, codes, decimal, map}
 use Rattle.batch_core.specs.declared.entry.Entry.{Entry}
 use Rattle.csv_text.specs.Csv.{csv_text}
-use Rattle.team_run.specs.EntryText.{call_text, caller_text, numbered, reply_text}
+use Rattle.day_lines.specs.EntryText.{call_text, caller_text, numbered, reply_text}
 use Rattle.day_text.specs.Values.{DayTextList}
 
 -- the names of the columns

@@ -2,7 +2,7 @@
 use Rattle.std.specs.Prelude.{ℕ, ◌-◌, List, [], ◌∷◌, ◌++◌, codes, decimal, length, replicate}
 use Rattle.std.specs.List.{flat_map}
 use Rattle.batch_core.specs.declared.entry.Entry.{Entry}
-use Rattle.team_run.specs.EntryText.{call_text, caller_text, numbered, reply_text}
+use Rattle.day_lines.specs.EntryText.{call_text, caller_text, numbered, reply_text}
 use Rattle.day_text.specs.declared.batch_end.BatchEnd.{BatchEnd}
 use Rattle.day_text.specs.End.{DayEndList, day_end}
 use Rattle.day_text.specs.Values.{DayTextList, FrozenSheet}

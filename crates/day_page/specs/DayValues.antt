@@ -1,7 +1,7 @@
 -- What the JSON of a day says.
 use Rattle.std.specs.Prelude.{ℕ, Bool, true, false, List, [], ◌∷◌, codes, map}
 use Rattle.batch_core.specs.declared.entry.Entry.{Entry}
-use Rattle.team_run.specs.EntryText.{call_text, numbered, reply_text}
+use Rattle.day_lines.specs.EntryText.{call_text, numbered, reply_text}
 use Rattle.day_text.specs.declared.batch_end.BatchEnd.{BatchEnd}
 use Rattle.day_text.specs.End.{day_end}
 use Rattle.day_text.specs.Values.{DayTextList, FrozenSheet}

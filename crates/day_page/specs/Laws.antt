@@ -9,7 +9,7 @@ use Rattle.batch_core.specs.declared.entry.Entry.{Entry}
 use Rattle.batch_core.specs.Book.{BookState, empty, last_batch}
 use Rattle.batch_core.specs.Histories.{after_all}
 use Rattle.csv_text.specs.Reading.{read, Outside}
-use Rattle.team_run.specs.EntryText.{call_text, caller_text, entry_lines, numbered, reply_text}
+use Rattle.day_lines.specs.EntryText.{call_text, caller_text, entry_lines, numbered, reply_text}
 use Rattle.day_text.specs.Form.{HasDayForm}
 use Rattle.day_text.specs.Values.{DayTextList, FrozenSheet}
 use Rattle.sheet_page.specs.Html.{page}

@@ -1,7 +1,7 @@
 // The calls of a day as a table on a page.
 ghost use Rattle.std.specs.Prelude.{◌≡◌, ◌+◌, codes};
 ghost use Rattle.std.specs.List.{flat_map};
-ghost use Rattle.team_run.specs.EntryText.{numbered};
+ghost use Rattle.day_lines.specs.EntryText.{numbered};
 ghost use Rattle.page_tree.specs.Print.{opening, printed};
 ghost use Rattle.sheet_page.specs.Prints.{Prints};
 ghost use Rattle.day_page.specs.CallTable.{call_heads, call_row, call_rows, call_table, calls_frame, calls_frame_attributes, calls_part, calls_title, entry_row};

@@ -1,6 +1,6 @@
 // The words of a call and of its answer, as in the text of a day.
 ghost use Rattle.std.specs.Prelude.{◌≡◌, ◌≤◌, ◌++◌, ◌∷◌, decimal, length};
-ghost use Rattle.team_run.specs.EntryText.{call_text, caller_text, change_text, reply_text};
+ghost use Rattle.day_lines.specs.EntryText.{call_text, caller_text, change_text, reply_text};
 
 use batch_core::{Call, Change, Reply};
 use line_text::Line;

@@ -1,7 +1,7 @@
 // The calls of a day as lines of a text.
 ghost use Rattle.std.specs.Prelude.{◌≡◌};
 ghost use Rattle.std.specs.List.{flat_map};
-ghost use Rattle.team_run.specs.EntryText.{numbered};
+ghost use Rattle.day_lines.specs.EntryText.{numbered};
 ghost use Rattle.sheet_page.specs.Prints.{Prints};
 ghost use Rattle.day_page.specs.DayMinutes.{answered_line, call_line, calls_text};
 

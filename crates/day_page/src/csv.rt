@@ -3,7 +3,7 @@ ghost use Rattle.std.specs.Prelude.{◌≡◌};
 ghost use Rattle.std.specs.List.{flat_map};
 ghost use Rattle.csv_text.specs.Csv.{record_text};
 ghost use Rattle.piece_text.specs.Writing.{Writes};
-ghost use Rattle.team_run.specs.EntryText.{numbered};
+ghost use Rattle.day_lines.specs.EntryText.{numbered};
 ghost use Rattle.sheet_page.specs.Prints.{Prints};
 ghost use Rattle.day_page.specs.DayCsv.{call_record, day_csv, entry_record, marked_day_csv, table_head};
 

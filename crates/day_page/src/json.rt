@@ -4,7 +4,7 @@ ghost use Rattle.piece_text.specs.Writing.{Writes};
 ghost use Rattle.day_text.specs.End.{day_end};
 ghost use Rattle.day_text.specs.Form.{IsPrintableSheet};
 ghost use Rattle.sheet_reader.specs.Form.{IsPrintable};
-ghost use Rattle.team_run.specs.EntryText.{numbered};
+ghost use Rattle.day_lines.specs.EntryText.{numbered};
 ghost use Rattle.sheet_page.specs.Json.{comma_at, truth};
 ghost use Rattle.sheet_page.specs.Prints.{Prints};
 ghost use Rattle.day_page.specs.DayJson.{answered_json, batch_json, call_json, calls_json, day_json, end_json, freeze_head, freeze_json, freezes_json, frozen_json, json_with, listed, stands_json};

@@ -13,10 +13,9 @@ use Rattle.batch_core.specs.Laws.{LeadsOn}
 use Rattle.call_register.specs.Weaving.{freeze_entry}
 use Rattle.frozen_plan.specs.Plan.{all_ballots}
 use Rattle.day_reader.specs.Call.{is_freeze}
-use Rattle.shard_office.specs.Versions.{VersionState}
-use Rattle.shard_office.specs.Laws.{StandsIn}
-use Rattle.meek_cli.specs.DayText.{freeze_places}
-use Rattle.meek_cli.specs.Frozen.{AreFrozen}
+use Rattle.frozen_version.specs.Versions.{VersionState, StandsIn}
+use Rattle.day_lines.specs.DayText.{freeze_places}
+use Rattle.day_sheets.specs.Frozen.{AreFrozen}
 use Rattle.day_replay.specs.Replay.{IsStanding}
 use Rattle.day_replay.proofs.Lists.{inside, got_behind, got_ahead}
 

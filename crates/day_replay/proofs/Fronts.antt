@@ -7,7 +7,7 @@ use Rattle.std.proofs.lemmas.Bool.{ne_eqb}
 use Rattle.std.proofs.lemmas.Str.Parse.{digit_from_value}
 use Rattle.std.proofs.lemmas.Fmt.{decimal_is_IsNumeral}
 use Rattle.std.specs.Str.Parse.{AllDigits, digits_value}
-use Rattle.team_run.specs.EntryText.{caller_text}
+use Rattle.day_lines.specs.EntryText.{caller_text}
 use Rattle.day_replay.specs.Saying.{call_front, BeginsWith, Says}
 
 front_is :

@@ -14,11 +14,10 @@ use Rattle.batch_core.specs.Histories.{IsLegal, own_calls, after_all}
 use Rattle.batch_core.specs.Book.{empty, reply}
 use Rattle.batch_core.specs.Laws.{AnswersEachCall}
 use Rattle.day_reader.specs.declared.script.Script.{Script}
-use Rattle.team_run.specs.Teams.{calls_of}
-use Rattle.team_run.specs.Endings.{calls_in}
-use Rattle.team_run.specs.EntryText.{entry_line, ended, call_text, reply_text}
+use Rattle.day_lines.specs.DayHistory.{calls_of, calls_in, IsHistoryOf, clerk_freeze}
+use Rattle.day_lines.specs.EntryText.{entry_line, call_text, reply_text}
+use Rattle.sheet_text.specs.Lines.{ended}
 use Rattle.sheet_check.specs.Difference.{line_at}
-use Rattle.meek_cli.specs.DayHistory.{IsHistoryOf, clerk_freeze}
 use Rattle.day_replay.specs.Calls.{IsUnderWay}
 use Rattle.day_replay.specs.Saying.{Says}
 use Rattle.day_replay.specs.Nearest.{IsNearest, HasFollowed}

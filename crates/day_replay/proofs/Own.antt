@@ -7,7 +7,7 @@ use Rattle.std.proofs.lemmas.List.{map-append}
 use Rattle.std.proofs.lemmas.List.Elements.{filter-append}
 use Rattle.batch_core.specs.declared.entry.Entry.{Entry}
 use Rattle.batch_core.specs.Histories.{own_calls}
-use Rattle.team_run.specs.Teams.{calls_of}
+use Rattle.day_lines.specs.DayHistory.{calls_of}
 
 pub own_append : (t : ℕ) (xs ys : List Entry) → own_calls t (xs ++ ys) ≡ own_calls t xs ++ own_calls t ys
 own_append t xs ys = filter-append (λ (e : Entry). e.caller == t) xs ys

@@ -9,7 +9,7 @@ use Rattle.std.proofs.lemmas.List.{append-nil, append_assoc, length-set, get_or-
 use Rattle.std.proofs.lemmas.List.Elements.{All-nil, All-head, All-tail, All-append, filter-append}
 use Rattle.batch_core.specs.declared.call.Call.{Call}
 use Rattle.day_reader.specs.declared.script.Script.{Script}
-use Rattle.team_run.specs.Endings.{calls_in}
+use Rattle.day_lines.specs.DayHistory.{calls_in}
 use Rattle.day_replay.specs.Calls.{left_of}
 
 calls_of_all : List Script → List Call

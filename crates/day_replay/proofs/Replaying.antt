@@ -11,10 +11,10 @@ use Rattle.batch_core.specs.Book.{BookList, BookState, empty, after, reply, stat
 use Rattle.batch_core.specs.Histories.{after_all}
 use Rattle.batch_core.specs.Laws.{LeadsOn}
 use Rattle.call_register.specs.Weaving.{freeze_entry}
-use Rattle.shard_office.specs.Versions.{VersionState}
+use Rattle.frozen_version.specs.Versions.{VersionState}
 use Rattle.day_reader.specs.Call.{is_freeze}
 use Rattle.day_reader.specs.Said.{IsAnswerable}
-use Rattle.meek_cli.specs.Frozen.{AreFrozen}
+use Rattle.day_sheets.specs.Frozen.{AreFrozen}
 use Rattle.day_replay.specs.Replay.{answered, IsReplay, IsStanding}
 use Rattle.day_replay.proofs.Freezing.{frozen_on, frozen_more, stands_now}
 

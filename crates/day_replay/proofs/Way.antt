@@ -10,10 +10,8 @@ use Rattle.batch_core.specs.declared.entry.Entry.{Entry}
 use Rattle.batch_core.specs.Histories.{own_calls}
 use Rattle.batch_core.specs.Laws.{GrowsByAnAnswer}
 use Rattle.day_reader.specs.declared.script.Script.{Script}
-use Rattle.team_run.specs.Teams.{calls_of}
-use Rattle.team_run.specs.Endings.{calls_in}
+use Rattle.day_lines.specs.DayHistory.{calls_of, calls_in, clerk_freeze, IsHistoryOf}
 use Rattle.sheet_check.specs.Difference.{line_at, first_line, behind_line}
-use Rattle.meek_cli.specs.DayHistory.{clerk_freeze, IsHistoryOf}
 use Rattle.day_replay.specs.Calls.{left_of, IsTaken, IsUnderWay, HasCalled}
 use Rattle.day_replay.specs.Replay.{answered}
 use Rattle.day_replay.specs.Saying.{Says}

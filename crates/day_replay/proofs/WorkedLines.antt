@@ -6,9 +6,10 @@ use Rattle.std.specs.Fmt.{digits}
 use Rattle.batch_core.specs.declared.call.Call.TheVariants.{Strike}
 use Rattle.batch_core.specs.declared.reply.Reply.TheVariants.{Entered, Corrected, Struck}
 use Rattle.batch_core.specs.declared.entry.Entry.{Entry}
-use Rattle.team_run.specs.EntryText.{entry_line, ended}
+use Rattle.day_lines.specs.EntryText.{entry_line}
+use Rattle.sheet_text.specs.Lines.{ended}
 use Rattle.sheet_check.specs.Difference.{line_at}
-use Rattle.meek_cli.specs.DayHistory.{clerk_freeze}
+use Rattle.day_lines.specs.DayHistory.{clerk_freeze}
 use Rattle.day_replay.specs.Saying.{Says, call_front}
 use Rattle.day_replay.specs.Nearest.{BeginsAs}
 use Rattle.day_replay.specs.Worked.{WorkedLines, WorkedCallers, made_by, enter, correct, morning, morning_text, entered_line}

@@ -14,11 +14,10 @@ use Rattle.batch_core.specs.declared.entry.Entry.{Entry}
 use Rattle.batch_core.specs.Histories.{own_calls}
 use Rattle.batch_core.specs.Laws.{AnswersEachCall}
 use Rattle.day_reader.specs.declared.script.Script.{Script}
-use Rattle.team_run.specs.Teams.{calls_of}
-use Rattle.team_run.specs.Endings.{calls_in}
-use Rattle.team_run.specs.EntryText.{entry_line, ended}
+use Rattle.day_lines.specs.DayHistory.{calls_of, calls_in, clerk_freeze, IsHistoryOf}
+use Rattle.day_lines.specs.EntryText.{entry_line}
+use Rattle.sheet_text.specs.Lines.{ended}
 use Rattle.sheet_check.specs.Difference.{line_at}
-use Rattle.meek_cli.specs.DayHistory.{clerk_freeze, IsHistoryOf}
 use Rattle.day_replay.specs.Calls.{IsUnderWay, left_of}
 use Rattle.day_replay.specs.Saying.{Says}
 use Rattle.day_replay.specs.Nearest.{BeginsAs, HasFollowed, HasSaid, IsNearest}

@@ -5,8 +5,7 @@ use Rattle.batch_core.specs.declared.entry.Entry.{Entry}
 use Rattle.batch_core.specs.Histories.{IsLegal, own_calls}
 use Rattle.day_reader.specs.declared.script.Script.{Script}
 use Rattle.day_reader.specs.Said.{IsAnswerable}
-use Rattle.team_run.specs.Teams.{calls_of}
-use Rattle.team_run.specs.Endings.{calls_in}
+use Rattle.day_lines.specs.DayHistory.{calls_of, calls_in}
 
 -- the next ones of this team, where each list stands from its end
 abbrev pub left_of : List (List Call) → ℕ → List Call

@@ -3,9 +3,10 @@ use Rattle.std.specs.Prelude.{◌≡◌, ℕ, ◌+◌, ◌<◌, ◌≤◌, List,
 use Rattle.batch_core.specs.declared.call.Call.{Call}
 use Rattle.batch_core.specs.declared.entry.Entry.{Entry}
 use Rattle.day_reader.specs.declared.script.Script.{Script}
-use Rattle.team_run.specs.EntryText.{entry_line, ended}
+use Rattle.day_lines.specs.EntryText.{entry_line}
+use Rattle.sheet_text.specs.Lines.{ended}
 use Rattle.sheet_check.specs.Difference.{line_at}
-use Rattle.meek_cli.specs.DayHistory.{IsHistoryOf}
+use Rattle.day_lines.specs.DayHistory.{IsHistoryOf}
 use Rattle.day_replay.specs.Calls.{left_of}
 use Rattle.day_replay.specs.Saying.{Says}
 

@@ -8,8 +8,8 @@ use Rattle.batch_core.specs.declared.entry.Entry.{Entry}
 use Rattle.batch_core.specs.Book.{BookList, empty, reply, standing, state_of}
 use Rattle.batch_core.specs.Histories.{after_all}
 use Rattle.day_reader.specs.Said.{IsAnswerable}
-use Rattle.shard_office.specs.Versions.{VersionState}
-use Rattle.meek_cli.specs.Frozen.{AreFrozen}
+use Rattle.frozen_version.specs.Versions.{VersionState}
+use Rattle.day_sheets.specs.Frozen.{AreFrozen}
 
 -- its candidates, all answered calls, and what stood after each freeze
 pub record ReplayState : Type 0 where

@@ -1,6 +1,6 @@
 -- What the line of an answered call says of who called; 32 is a space.
 use Rattle.std.specs.Prelude.{◌≡◌, ℕ, List, [], ◌∷◌, ◌++◌, decimal}
-use Rattle.team_run.specs.EntryText.{caller_text}
+use Rattle.day_lines.specs.EntryText.{caller_text}
 
 -- how the line of the n-th call begins, where this caller made it
 abbrev pub call_front : (n caller : ℕ) → List ℕ

@@ -7,7 +7,7 @@ use Rattle.batch_core.specs.declared.reply.Reply.{Reply}
 use Rattle.batch_core.specs.declared.reply.Reply.TheVariants.{Entered, Corrected, Struck}
 use Rattle.batch_core.specs.declared.entry.Entry.{Entry}
 use Rattle.day_reader.specs.declared.script.Script.{Script}
-use Rattle.meek_cli.specs.DayHistory.{IsHistoryOf, clerk_freeze}
+use Rattle.day_lines.specs.DayHistory.{IsHistoryOf, clerk_freeze}
 use Rattle.day_replay.specs.Saying.{Says}
 use Rattle.day_replay.specs.Nearest.{BeginsAs, HasFollowed, HasSaid, IsNearest}
 

@@ -5,8 +5,8 @@ ghost use Rattle.plain_ballots.specs.declared.limits.TheConstants.{MOST_CANDIDAT
 ghost use Rattle.batch_core.specs.declared.entry.Entry.{Entry};
 ghost use Rattle.day_reader.specs.declared.script.Script.{Script};
 ghost use Rattle.day_reader.specs.Said.{AreScripts};
-ghost use Rattle.meek_cli.specs.DayHistory.{IsHistoryOf};
-ghost use Rattle.meek_cli.specs.Frozen.{AreFrozen};
+ghost use Rattle.day_lines.specs.DayHistory.{IsHistoryOf};
+ghost use Rattle.day_sheets.specs.Frozen.{AreFrozen};
 ghost use Rattle.day_replay.specs.Calls.{AreAnswerable, HasCalled, IsUnderWay, calls_left, left_of};
 ghost use Rattle.day_replay.specs.Nearest.{IsNearest, HasFollowed};
 

@@ -19,7 +19,7 @@ pub struct Frozen {
 impl Model for Frozen {
     ghost use Rattle.std.specs.Prelude.{◌≡◌, ◌≤◌, All, length};
     ghost use Rattle.frozen_plan.specs.Plan.{all_ballots};
-    ghost use Rattle.shard_office.specs.Versions.{VersionState};
+    ghost use Rattle.frozen_version.specs.Versions.{VersionState};
     ghost use Rattle.batch_core.specs.declared.limits.TheConstants.{MOST_STANDING};
 
     ghost Value = { VersionState };

@@ -1,7 +1,7 @@
 // The calls that are left of a day's scripts.
 ghost use Rattle.std.specs.Prelude.{◌≡◌, ◌≢◌, ◌≤◌, [], ◌++◌, All, IfOk, OnOk, IsTrue, ◌↔◌, MatchOption, length, replicate, reverse, ℕ};
 ghost use Rattle.batch_core.specs.declared.limits.TheConstants.{MOST_TEAMS};
-ghost use Rattle.team_run.specs.Endings.{calls_in};
+ghost use Rattle.day_lines.specs.DayHistory.{calls_in};
 ghost use Rattle.day_replay.specs.Calls.{IsTaken, left_of};
 
 use crate::NoMemory;

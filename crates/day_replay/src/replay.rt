@@ -6,7 +6,7 @@ ghost use Rattle.batch_core.specs.Book.{standing, state_of};
 ghost use Rattle.batch_core.specs.declared.call.Call.TheVariants as call;
 ghost use Rattle.day_reader.specs.Call.{is_freeze};
 ghost use Rattle.day_reader.specs.Said.{IsAnswerable};
-ghost use Rattle.meek_cli.specs.Frozen.{AreFrozen};
+ghost use Rattle.day_sheets.specs.Frozen.{AreFrozen};
 ghost use Rattle.day_replay.specs.Replay.{IsLedOn, IsStanding};
 ghost use Rattle.batch_core.specs.declared.limits.TheConstants.{MOST_STANDING};
 

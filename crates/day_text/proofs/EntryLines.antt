@@ -14,7 +14,7 @@ use Rattle.batch_core.specs.declared.reply.Reply.TheVariants.{Unknown, Gone, Sta
 use Rattle.batch_core.specs.declared.reply.Reply.TheVariants.{AlreadyStruck}
 use Rattle.batch_core.specs.declared.entry.Entry.{Entry}
 use Rattle.batch_core.specs.Lawful.{IsInRange}
-use Rattle.team_run.specs.EntryText.{caller_text, call_text, reply_text, entry_line}
+use Rattle.day_lines.specs.EntryText.{caller_text, call_text, reply_text, entry_line}
 use Rattle.day_text.specs.Said.{IsSaidCall, IsSaidReply, IsSaidEntry}
 use Rattle.day_text.specs.Parts.{numbered_text}
 use Rattle.day_text.proofs.Cuts.{heads, behind_front, numbered_once, revised_is}

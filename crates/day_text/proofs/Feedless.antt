@@ -10,7 +10,7 @@ use Rattle.batch_core.specs.declared.call.Call.TheVariants.{Change, Freeze, Stri
 use Rattle.batch_core.specs.declared.reply.Reply.{Reply}
 use Rattle.batch_core.specs.declared.reply.Reply.TheVariants as reply
 use Rattle.batch_core.specs.declared.entry.Entry.{Entry}
-use Rattle.team_run.specs.EntryText.{caller_text, call_text, reply_text, entry_line}
+use Rattle.day_lines.specs.EntryText.{caller_text, call_text, reply_text, entry_line}
 use Rattle.sheet_reader.specs.Cut.{is_without, IsWithout}
 use Rattle.day_text.proofs.Cuts.{without-append}
 use Rattle.day_text.proofs.EntryLines.{line_is}

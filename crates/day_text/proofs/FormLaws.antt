@@ -6,8 +6,8 @@ use Rattle.batch_core.specs.declared.entry.Entry.{Entry}
 use Rattle.sheet_text.specs.Lines.{text_of_lines}
 use Rattle.sheet_reader.specs.Laws.{FormSaysItsValues}
 use Rattle.sheet_reader.specs.Values.{SheetList, lines_of}
-use Rattle.team_run.specs.EntryText.{entries_text}
-use Rattle.meek_cli.specs.DayHistory.{EndsWithTheClerk}
+use Rattle.day_lines.specs.EntryText.{entries_text}
+use Rattle.day_lines.specs.DayHistory.{EndsWithTheClerk}
 use Rattle.day_text.specs.declared.day_stop.DayStop.TheVariants.{Malformed, NoMemory}
 use Rattle.day_text.specs.Laws.{DayFormSaysItsValues, WrittenDaysAreRead, NoDayIsASheet}
 use Rattle.day_text.specs.Values.{sheets_text}

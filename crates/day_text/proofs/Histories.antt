@@ -8,9 +8,10 @@ use Rattle.std.proofs.lemmas.List.{append-nil}
 use Rattle.std.proofs.lemmas.List.Elements.{All-nil, All-cons, All-append, All-head, All-tail, filter-append}
 use Rattle.batch_core.specs.declared.entry.Entry.{Entry}
 use Rattle.batch_core.specs.Histories.{own_calls}
-use Rattle.team_run.specs.EntryText.{entry_line, ended, entries_text}
+use Rattle.day_lines.specs.EntryText.{entry_line, entries_text}
+use Rattle.sheet_text.specs.Lines.{ended}
 use Rattle.sheet_reader.specs.Cut.{IsWithout}
-use Rattle.meek_cli.specs.DayHistory.{clerk_freeze, EndsWithTheClerk}
+use Rattle.day_lines.specs.DayHistory.{clerk_freeze, EndsWithTheClerk}
 use Rattle.day_text.specs.Said.{IsSaidEntry}
 use Rattle.day_text.specs.Parts.{BeginsWithCalls}
 use Rattle.day_text.proofs.Cuts.{cut_once, without_none}

@@ -7,10 +7,10 @@ use Rattle.batch_core.specs.Histories.{standing_after, struck_after}
 use Rattle.day_reader.specs.declared.day.Day.{Day}
 use Rattle.day_reader.specs.Call.{IsCall}
 use Rattle.day_reader.specs.Day.{scale_of}
-use Rattle.meek_cli.specs.DayHistory.{IsHistoryOf}
-use Rattle.meek_cli.specs.DayText.{roll_with, terms_of}
-use Rattle.meek_cli.specs.Owed.{SaysDay}
-use Rattle.meek_cli.proofs.TermsLemmas.{still_a_roll}
+use Rattle.day_lines.specs.DayHistory.{IsHistoryOf}
+use Rattle.day_lines.specs.DayText.{roll_with, terms_of}
+use Rattle.day_lines.specs.Owed.{SaysDay}
+use Rattle.day_lines.proofs.TermsLemmas.{still_a_roll}
 use Rattle.day_text.specs.Written.{MayBePrinted, HistoriesHaveTheForm, HistoriesAreReadBack}
 use Rattle.day_text.specs.Owed.{OwedTextsHaveTheForm, OwedTextsAreReadBack}
 use Rattle.day_text.proofs.FileTerms.{IsInScale, in_scale, order_of}

@@ -15,10 +15,10 @@ use Rattle.batch_core.specs.declared.call.Call.TheVariants.{Change as Changes, F
 use Rattle.batch_core.specs.declared.entry.Entry.{Entry}
 use Rattle.batch_core.specs.Histories.{standing_after, struck_after, own_calls}
 use Rattle.day_reader.specs.Call.{is_freeze}
-use Rattle.team_run.specs.EntryText.{call_text, caller_text, reply_text}
-use Rattle.meek_cli.specs.declared.terms.Terms.{Terms}
-use Rattle.meek_cli.specs.DayText.{roll_with, freeze_places, sheet_line, AreSheets}
-use Rattle.meek_cli.specs.DayHistory.{clerk_freeze, EndsWithTheClerk}
+use Rattle.day_lines.specs.EntryText.{call_text, caller_text, reply_text}
+use Rattle.day_lines.specs.declared.terms.Terms.{Terms}
+use Rattle.day_lines.specs.DayText.{roll_with, freeze_places, sheet_line, AreSheets}
+use Rattle.day_lines.specs.DayHistory.{clerk_freeze, EndsWithTheClerk}
 use Rattle.day_text.specs.Form.{IsPrintableSheet, sheet_places}
 use Rattle.day_text.specs.Laws.{WrittenDaysAreRead}
 use Rattle.day_text.specs.Values.{FrozenSheet, DayTextList, sheets_text}

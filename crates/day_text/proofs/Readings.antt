@@ -5,7 +5,7 @@ use Rattle.std.proofs.lemmas.Grind.{take_at_read}
 use Rattle.std.proofs.lemmas.List.{append-nil, take-append-drop}
 use Rattle.batch_core.specs.declared.entry.Entry.{Entry}
 use Rattle.sheet_reader.specs.Laws.{FormSaysItsValues}
-use Rattle.meek_cli.specs.DayText.{freeze_places}
+use Rattle.day_lines.specs.DayText.{freeze_places}
 use Rattle.day_text.specs.declared.day_stop.DayStop.{DayStop}
 use Rattle.day_text.specs.declared.day_stop.DayStop.TheVariants.{Malformed, NoMemory}
 use Rattle.day_text.specs.Form.{HasDayForm}

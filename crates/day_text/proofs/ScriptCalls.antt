@@ -9,8 +9,8 @@ use Rattle.input_text.specs.Range.{IsIn}
 use Rattle.day_reader.specs.declared.script.Script.{Script}
 use Rattle.day_reader.specs.Call.{IsCall}
 use Rattle.day_reader.specs.Day.{AreTeams, by_number}
-use Rattle.meek_cli.specs.DayHistory.{IsHistoryOf}
-use Rattle.meek_cli.proofs.HistoryCalls.{all_callers, each_caller}
+use Rattle.day_lines.specs.DayHistory.{IsHistoryOf}
+use Rattle.day_lines.proofs.HistoryCalls.{all_callers, each_caller}
 use Rattle.day_reader.proofs.CallRankings.{all_flat}
 
 -- scripts by rising number are the same scripts

@@ -8,7 +8,7 @@ use Rattle.sheet_text.specs.Lines.{ended, text_of_lines}
 use Rattle.sheet_reader.specs.Form.{HasForm}
 use Rattle.sheet_reader.specs.Laws.{FormSaysItsValues}
 use Rattle.sheet_reader.specs.Values.{SheetList, lines_of}
-use Rattle.meek_cli.specs.DayText.{sheet_line}
+use Rattle.day_lines.specs.DayText.{sheet_line}
 use Rattle.day_text.specs.Form.{IsPrintableSheet, sheet_places}
 use Rattle.day_text.specs.SheetParts.{IsSheetCut, BeginsWithSheet, BeginsWithSheets}
 use Rattle.day_text.specs.Values.{FrozenSheet, sheet_text, sheets_text}

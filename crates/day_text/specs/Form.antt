@@ -1,8 +1,8 @@
 -- Which texts have the form of the text of a day.
 use Rattle.std.specs.Prelude.{◌≡◌, ℕ, List, All, map}
 use Rattle.sheet_reader.specs.Form.{IsPrintable}
-use Rattle.meek_cli.specs.DayText.{freeze_places}
-use Rattle.meek_cli.specs.DayHistory.{EndsWithTheClerk}
+use Rattle.day_lines.specs.DayText.{freeze_places}
+use Rattle.day_lines.specs.DayHistory.{EndsWithTheClerk}
 use Rattle.day_text.specs.Said.{IsSaidEntry}
 use Rattle.day_text.specs.Values.{FrozenSheet, DayTextList, day_text}
 

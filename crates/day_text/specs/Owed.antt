@@ -1,8 +1,8 @@
 -- The text that is owed of a day file is read back, at the file's places.
 use Rattle.std.specs.Prelude.{ℕ, List, Result}
 use Rattle.batch_core.specs.declared.entry.Entry.{Entry}
-use Rattle.meek_cli.specs.DayText.{terms_of}
-use Rattle.meek_cli.specs.Owed.{OwesDay}
+use Rattle.day_lines.specs.DayText.{terms_of}
+use Rattle.day_lines.specs.Owed.{OwesDay}
 use Rattle.day_text.specs.declared.day_stop.DayStop.{DayStop}
 use Rattle.day_text.specs.Values.{DayTextList}
 use Rattle.day_text.specs.Form.{HasDayForm}

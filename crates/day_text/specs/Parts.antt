@@ -3,8 +3,8 @@ use Rattle.std.specs.Prelude.{◌≡◌, ℕ, ◌≤◌, ⊤, List, ◌∷◌, �
 use Rattle.batch_core.specs.declared.entry.Entry.{Entry}
 use Rattle.batch_core.specs.declared.reply.Reply.{Reply}
 use Rattle.batch_core.specs.declared.reply.Reply.TheVariants.{Corrected, Withdrawn, Exists, Gone, Stale}
-use Rattle.team_run.specs.EntryText.{entries_text}
-use Rattle.meek_cli.specs.DayHistory.{EndsWithTheClerk}
+use Rattle.day_lines.specs.EntryText.{entries_text}
+use Rattle.day_lines.specs.DayHistory.{EndsWithTheClerk}
 use Rattle.day_text.specs.Said.{IsSaidEntry}
 
 -- ---- numbers

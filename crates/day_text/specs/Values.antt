@@ -4,8 +4,8 @@ use Rattle.std.specs.List.{flat_map}
 use Rattle.batch_core.specs.declared.entry.Entry.{Entry}
 use Rattle.sheet_text.specs.Lines.{ended, text_of_lines}
 use Rattle.sheet_reader.specs.Values.{SheetList, lines_of}
-use Rattle.team_run.specs.EntryText.{entries_text}
-use Rattle.meek_cli.specs.DayText.{sheet_line}
+use Rattle.day_lines.specs.EntryText.{entries_text}
+use Rattle.day_lines.specs.DayText.{sheet_line}
 
 -- ---- values
 

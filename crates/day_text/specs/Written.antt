@@ -9,9 +9,9 @@ use Rattle.meek_count.specs.Rows.{IsCountUnder}
 use Rattle.sheet_reader.specs.Laws.{HasNames, values_of}
 use Rattle.batch_core.specs.declared.entry.Entry.{Entry}
 use Rattle.batch_core.specs.Histories.{standing_after, struck_after}
-use Rattle.meek_cli.specs.declared.terms.Terms.{Terms}
-use Rattle.meek_cli.specs.DayHistory.{EndsWithTheClerk}
-use Rattle.meek_cli.specs.DayText.{roll_with, IsDayText}
+use Rattle.day_lines.specs.declared.terms.Terms.{Terms}
+use Rattle.day_lines.specs.DayHistory.{EndsWithTheClerk}
+use Rattle.day_lines.specs.DayText.{roll_with, IsDayText}
 use Rattle.day_text.specs.declared.day_stop.DayStop.{DayStop}
 use Rattle.day_text.specs.Values.{FrozenSheet, DayTextList}
 use Rattle.day_text.specs.Without.{without_ballots}

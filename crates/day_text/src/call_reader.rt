@@ -5,7 +5,7 @@ ghost use Rattle.batch_core.specs.declared.change.Change.{Change as Changes};
 ghost use Rattle.batch_core.specs.declared.call.Call.{Call as Calls};
 ghost use Rattle.batch_core.specs.declared.reply.Reply.{Reply as Replies};
 ghost use Rattle.batch_core.specs.Lawful.{IsInRange};
-ghost use Rattle.team_run.specs.EntryText.{caller_text, change_text, call_text, reply_text};
+ghost use Rattle.day_lines.specs.EntryText.{caller_text, change_text, call_text, reply_text};
 ghost use Rattle.day_text.specs.Said.{IsSaidChange, IsSaidCall, IsSaidReply};
 ghost use Rattle.day_text.specs.Parts.{IsWordOnly, revised_text};
 

@@ -1,8 +1,8 @@
 // An answered call in a line.
 ghost use Rattle.std.specs.Prelude.{◌≡◌, ◌≢◌, MatchBool, MatchOption};
 ghost use Rattle.batch_core.specs.declared.entry.Entry.{Entry as Answered};
-ghost use Rattle.team_run.specs.EntryText.{entry_line};
-ghost use Rattle.meek_cli.specs.DayHistory.{clerk_freeze};
+ghost use Rattle.day_lines.specs.EntryText.{entry_line};
+ghost use Rattle.day_lines.specs.DayHistory.{clerk_freeze};
 ghost use Rattle.day_text.specs.Said.{IsSaidEntry};
 
 use crate::call_reader::{read_call, read_caller, read_reply};

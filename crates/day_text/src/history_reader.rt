@@ -2,7 +2,7 @@
 ghost use Rattle.std.specs.Prelude.{◌≡◌, ℕ, List, IfErr, IfOk, MatchResult};
 ghost use Rattle.batch_core.specs.declared.entry.Entry.{Entry as Answered};
 ghost use Rattle.day_reader.specs.Call.{is_freeze};
-ghost use Rattle.meek_cli.specs.DayText.{freeze_places};
+ghost use Rattle.day_lines.specs.DayText.{freeze_places};
 ghost use Rattle.day_text.specs.declared.day_stop.DayStop.TheVariants.{NoMemory};
 ghost use Rattle.day_text.specs.Parts.{BeginsWithCalls};
 ghost use Rattle.day_text.specs.Refusal.{Stops};

@@ -1,7 +1,7 @@
 // Where a sheet in a text ends.
 ghost use Rattle.std.specs.Prelude.{◌≡◌, ◌≢◌, ◌++◌, ℕ, List, decimal, codes, MatchOption};
 ghost use Rattle.sheet_text.specs.Lines.{ended};
-ghost use Rattle.meek_cli.specs.DayText.{sheet_line};
+ghost use Rattle.day_lines.specs.DayText.{sheet_line};
 ghost use Rattle.day_text.specs.SheetParts.{IsSheetCut};
 
 use crate::cut::{cut, is_same, strip};

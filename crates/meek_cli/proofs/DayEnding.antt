@@ -12,12 +12,13 @@ use Rattle.tool_edge.specs.Finishing.{RefusesInput}
 use Rattle.tool_edge.specs.declared.opening.TheConstants.{DAY_LIMIT}
 use Rattle.tool_edge.proofs.Running.{refused, works_alone}
 use Rattle.meek_cli.specs.declared.outcome.Outcome.{Outcome}
-use Rattle.meek_cli.specs.declared.terms.Terms.{Terms}
+use Rattle.day_lines.specs.declared.terms.Terms.{Terms}
 use Rattle.meek_cli.specs.declared.work.Work.TheVariants.{Day as DayWork}
 use Rattle.meek_cli.specs.Status.{Status}
-use Rattle.meek_cli.specs.DayHistory.{IsHistoryOf}
-use Rattle.meek_cli.specs.DayText.{terms_of, IsDayText}
-use Rattle.meek_cli.specs.Owed.{SaysDay, meek}
+use Rattle.day_lines.specs.DayHistory.{IsHistoryOf}
+use Rattle.day_lines.specs.DayText.{terms_of, IsDayText}
+use Rattle.day_lines.specs.Owed.{SaysDay}
+use Rattle.meek_cli.specs.Owed.{meek}
 use Rattle.ballot_count.specs.Ending.{WritesOwed}
 use Rattle.meek_cli.specs.Run.{FinishesDay, PlaysDay}
 

@@ -8,12 +8,12 @@ use Rattle.shard_office.specs.Office.{OfficeState}
 use Rattle.shard_office.specs.Sight.{Sight}
 use Rattle.shard_office.specs.Passes.{PassState}
 use Rattle.shard_office.specs.Clerk.{IsTaken}
-use Rattle.shard_office.specs.Versions.{VersionState}
+use Rattle.frozen_version.specs.Versions.{VersionState}
 use Rattle.team_run.specs.Teams.{AreVersionsOf, IsFreezeOf}
 use Rattle.team_run.specs.Endings.{HasEnded}
 use Rattle.team_run.proofs.Lists.{got}
-use Rattle.meek_cli.specs.DayHistory.{IsHistoryOf}
-use Rattle.meek_cli.specs.Frozen.{AreFrozen}
+use Rattle.day_lines.specs.DayHistory.{IsHistoryOf}
+use Rattle.day_sheets.specs.Frozen.{AreFrozen}
 
 pub history_of_day :
     (scripts : List Script) (versions : List VersionState) (history : List Entry)

@@ -1,14 +1,5 @@
-pub mod DayText
-pub mod DayHistory
-pub mod Frozen
-pub mod DueSheets
-pub mod Summary
 pub mod Status
 pub mod Work
 pub mod Owed
 pub mod Run
 pub mod Sharing
-pub mod MadeDay
-pub mod CountedOut
-pub mod Standing
-pub mod Laws

@@ -2,10 +2,8 @@
 use Rattle.std.specs.Prelude.{◌≡◌, ℕ, List, [], true}
 use Rattle.input_text.specs.declared.input_fault.InputFault.{InputFault}
 use Rattle.input_text.specs.Scan.{scan}
-use Rattle.input_text.specs.Refusal.{IsAccepted}
 use Rattle.batch_core.specs.declared.entry.Entry.{Entry}
 use Rattle.day_reader.specs.declared.day.Day.{Day as DayFile}
-use Rattle.day_reader.specs.Day.{IsDay}
 use Rattle.day_reader.specs.Said.{IsDayRefusal}
 use Rattle.meek_trial.specs.Trial.{trial_day}
 use Rattle.tool_edge.specs.Contest.{IsRefusedContest}
@@ -15,23 +13,13 @@ use Rattle.tool_edge.specs.Tools.{IsContestFile}
 use Rattle.ballot_count.specs.Owed.{OwesSheet}
 use Rattle.meek_cli.specs.declared.work.Work.{Work}
 use Rattle.meek_cli.specs.declared.work.Work.TheVariants.{Count, Day, Trial}
-use Rattle.meek_cli.specs.DayText.{terms_of, IsDayText}
-use Rattle.meek_cli.specs.DayHistory.{IsHistoryOf}
-use Rattle.meek_cli.specs.Summary.{IsSummary}
+use Rattle.day_lines.specs.DayText.{terms_of}
+use Rattle.day_lines.specs.DayHistory.{IsHistoryOf}
+use Rattle.day_lines.specs.Owed.{SaysDay, OwesDay}
+use Rattle.day_sheets.specs.Summary.{IsSummary}
 use Rattle.meek_cli.specs.Work.{AsksFor, limit_of}
 
--- ---- what is owed
-
--- The input is the file of this day.
-abbrev pub SaysDay : (input : List ℕ) → DayFile → Type 0
-SaysDay input day = IsAccepted IsDay (scan input true) day
-
--- The calls of the day's teams are answered as one history, and the text of this history is owed.
-pub record OwesDay (input : List ℕ) (history : List Entry) (bytes : List ℕ) : Type 0 where
-  pub day : DayFile
-  pub says : SaysDay input day
-  pub calls : IsHistoryOf day.scripts history
-  pub text : IsDayText (terms_of day) history bytes
+-- ---- what a trial owes
 
 -- The calls of the teams of the made day are answered as one history, and the summary of this history is owed.
 pub record OwesTrial (number : ℕ) (history : List Entry) (bytes : List ℕ) : Type 0 where

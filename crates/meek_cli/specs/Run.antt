@@ -8,9 +8,9 @@ use Rattle.tool_edge.specs.Finishing.{Finishes, FinishesOwed}
 use Rattle.tool_edge.specs.Tool.{IsOwedFor, Works}
 use Rattle.meek_cli.specs.declared.work.Work.TheVariants.{Count, Day, Trial}
 use Rattle.meek_cli.specs.Status.{Status}
-use Rattle.meek_cli.specs.DayText.{terms_of, IsDayText}
-use Rattle.meek_cli.specs.DayHistory.{IsHistoryOf}
-use Rattle.meek_cli.specs.Summary.{IsSummary}
+use Rattle.day_lines.specs.DayText.{terms_of, IsDayText}
+use Rattle.day_lines.specs.DayHistory.{IsHistoryOf}
+use Rattle.day_sheets.specs.Summary.{IsSummary}
 use Rattle.meek_cli.specs.Owed.{meek}
 
 -- what a count by these lots of this input came to: what is owed was written, or memory was wanted before the first byte

@@ -2,16 +2,16 @@
 ghost use Rattle.std.specs.Prelude.{◌≡◌, ◌≤◌, map, length, All, IfOk};
 ghost use Rattle.lane_sheet.specs.Due.{WritesOrWants};
 ghost use Rattle.lane_sheet.specs.Plans.{CanBeCounted};
-ghost use Rattle.meek_cli.specs.DayText.{roll_with, IsDayText};
-ghost use Rattle.meek_cli.specs.Frozen.{AreFrozen};
+ghost use Rattle.day_lines.specs.DayText.{roll_with, IsDayText};
+ghost use Rattle.day_sheets.specs.Frozen.{AreFrozen};
 
 use crate::NoMemory;
-use crate::day_text::DayText;
 use crate::hands::Hands;
-use crate::terms::Terms;
 use byte_edge::{Failed, Gate, Sink};
 use call_register::History;
 use candidate_roll::Roll;
+use day_lines::Terms;
+use day_sheets::DayText;
 use frozen_plan::Plans;
 use lane_sheet::{Polls, write_in_lanes};
 use shard_office::Version;

@@ -2,8 +2,8 @@
 ghost use Rattle.std.specs.Prelude.{◌≡◌, ◌≤◌, IfOk};
 ghost use Rattle.plain_ballots.specs.declared.limits.TheConstants.{MOST_CANDIDATES};
 ghost use Rattle.day_reader.specs.Said.{AreScripts};
-ghost use Rattle.meek_cli.specs.DayHistory.{IsHistoryOf};
-ghost use Rattle.meek_cli.specs.Frozen.{AreFrozen};
+ghost use Rattle.day_lines.specs.DayHistory.{IsHistoryOf};
+ghost use Rattle.day_sheets.specs.Frozen.{AreFrozen};
 
 use crate::NoMemory;
 use crate::hands::Hands;

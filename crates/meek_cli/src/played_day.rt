@@ -1,6 +1,6 @@
 // A day whose calls are answered.
-use crate::terms::Terms;
 use call_register::History;
+use day_lines::Terms;
 use team_run::Versions;
 
 /// A day whose calls are all answered: how its sheets are counted, the history, and the versions of its

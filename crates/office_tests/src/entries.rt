@@ -3,10 +3,10 @@ use crate::same::same;
 use batch_core::{Call, Change, Entries, Entry, Reply};
 use byte_edge::{Failed, MemorySink};
 use call_register::History;
+use day_lines::write_entries;
 use plain_ballots::Ballots;
 use std::alloc::Global;
 use std::test::Fail;
-use team_run::write_entries;
 
 fn withdraw(batch: u32, revision: u32) -> Call {
     Call::Change(Change::Withdraw { batch, revision })

@@ -1,5 +1,5 @@
-//! Tests of the public calls of turn_lock, number_tie, shard_office and team_run: turns, passes that call one
-//! after another, and teams in threads of their own.
+//! Tests of the public calls of turn_lock, number_tie, shard_office, team_run and day_lines: turns, passes that call one
+//! after another, teams in threads of their own, and the lines of their calls.
 #![tactic(auto)]
 
 #[cfg(test)]

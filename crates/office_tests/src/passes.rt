@@ -5,6 +5,7 @@ use crate::same::same;
 use batch_core::{Call, Calls};
 use byte_edge::{FreeGate, MemorySink};
 use call_register::History;
+use day_lines::write_entries;
 use day_reader::read_day;
 use shard_office::{Clerk, Office, Pass, Version};
 use std::alloc::Global;
@@ -12,7 +13,7 @@ use std::process::Abort;
 use std::sync::Wait;
 use std::test::Fail;
 use std::thread::Threads;
-use team_run::{Versions, write_entries};
+use team_run::Versions;
 
 /// The calls of the first team of a day of three candidates, the last of them first.
 fn calls_of(alloc: Global, text: &[u8]) -> Result<Calls, Fail> {

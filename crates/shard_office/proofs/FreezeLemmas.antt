@@ -32,7 +32,8 @@ use Rattle.frozen_plan.specs.Plan.{PlanRows, plan_ballots, all_ballots}
 use Rattle.shard_office.specs.Values.{SeenShard}
 use Rattle.shard_office.specs.Sight.{Sight, by_shard}
 use Rattle.shard_office.specs.Turned.{IsAgreed, AreAgreed, IsNamed, AreNamed, ArePlansOf, entries_held}
-use Rattle.shard_office.specs.Versions.{VersionState, IsVersionOf, IsFreeze}
+use Rattle.frozen_version.specs.Versions.{VersionState}
+use Rattle.shard_office.specs.Versions.{IsVersionOf, IsFreeze}
 use Rattle.shard_office.proofs.Places.{get_lt, get_some, get_map, length_map}
 use Rattle.shard_office.proofs.Lists.{read_at}
 use Rattle.shard_office.proofs.TurnLists.{get_last}

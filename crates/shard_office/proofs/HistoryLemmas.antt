@@ -25,9 +25,9 @@ use Rattle.call_register.proofs.Woven.{front_of_sight, front_marks}
 use Rattle.frozen_plan.specs.Plan.{all_ballots}
 use Rattle.shard_office.specs.Names.{strike_answer}
 use Rattle.shard_office.specs.Sight.{Sight, by_shard, entries_of, history_of, GoesOn, IsWhole, IsChange, IsStrike}
-use Rattle.shard_office.specs.Versions.{VersionState, IsVersionOf, IsFreeze, history_at}
+use Rattle.frozen_version.specs.Versions.{VersionState, StandsIn}
+use Rattle.shard_office.specs.Versions.{IsVersionOf, IsFreeze, history_at}
 use Rattle.shard_office.specs.Closing.{sight_in}
-use Rattle.shard_office.specs.Laws.{StandsIn}
 use Rattle.shard_office.proofs.Places.{length_map}
 use Rattle.shard_office.proofs.Tallied.{more_here}
 

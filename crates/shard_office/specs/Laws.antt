@@ -1,18 +1,17 @@
 -- What holds of sights, versions and histories for ever.
-use Rattle.std.specs.Prelude.{◌≡◌, ℕ, ◌-◌, ◌≤◌, List, ◌++◌, length, slice_get, Some, IsPermutation}
+use Rattle.std.specs.Prelude.{◌≡◌, ℕ, ◌-◌, ◌≤◌, List, ◌++◌, length, slice_get, Some}
 use Rattle.turn_lock.specs.Entries.{Begins}
-use Rattle.plain_ballots.specs.Ballots.{plain}
 use Rattle.batch_core.specs.declared.reply.Reply.{Reply}
 use Rattle.batch_core.specs.declared.entry.Entry.{Entry}
-use Rattle.batch_core.specs.Histories.{IsLegal, standing_after, struck_after}
+use Rattle.batch_core.specs.Histories.{IsLegal}
 use Rattle.call_register.specs.Weaving.{freeze_entry}
 use Rattle.call_register.specs.Walk.{NoneBy}
-use Rattle.frozen_plan.specs.Plan.{all_ballots}
 use Rattle.shard_office.specs.Names.{strike_answer}
 use Rattle.shard_office.specs.Office.{OfficeState}
 use Rattle.shard_office.specs.Sight.{Sight, GoesOn, IsWhole, IsChange, IsStrike, history_of}
 use Rattle.shard_office.specs.Passes.{PassState}
-use Rattle.shard_office.specs.Versions.{VersionState, IsVersionOf, IsFreeze}
+use Rattle.frozen_version.specs.Versions.{VersionState, StandsIn}
+use Rattle.shard_office.specs.Versions.{IsVersionOf, IsFreeze}
 use Rattle.shard_office.specs.Clerk.{ClerkState, IsTaken}
 use Rattle.shard_office.specs.Closing.{sight_in, FitsHistory, IsClosed}
 
@@ -64,15 +63,6 @@ abbrev pub VersionsAreOfHistories : Type 0
 VersionsAreOfHistories =
     (version : VersionState) (pass : PassState) (history : List Entry) → IsVersionOf version pass.sight → FitsHistory pass history
     → IsVersionOf version (sight_in pass.office.shards history)
-
--- What a version is in a history: one of its calls is the freeze, the ballots are, in whatever order, those that stand
--- after it, and the struck candidates are those struck until then.
-pub record StandsIn (version : VersionState) (history : List Entry) : Type 0 where
-  pub some : 1 ≤ version.at
-  pub inside : version.at ≤ length history
-  pub freeze : (caller : ℕ) × (slice_get history (version.at - 1) ≡ Some (freeze_entry caller))
-  pub ballots : IsPermutation (all_ballots version.plans) (plain (standing_after history version.at))
-  pub struck : version.struck ≡ struck_after history version.at
 
 abbrev pub VersionsStandInHistories : Type 0
 VersionsStandInHistories =

@@ -11,9 +11,10 @@ use Rattle.day_reader.specs.Call.{freezes}
 use Rattle.shard_office.specs.Sight.{Sight, history_of}
 use Rattle.shard_office.specs.Passes.{PassState}
 use Rattle.shard_office.specs.Clerk.{ClerkState, IsTaken}
-use Rattle.shard_office.specs.Versions.{VersionState, IsFreeze}
+use Rattle.frozen_version.specs.Versions.{VersionState, StandsIn}
+use Rattle.shard_office.specs.Versions.{IsFreeze}
 use Rattle.shard_office.specs.Closing.{IsClosed}
-use Rattle.shard_office.specs.Laws.{StandsIn, VersionsAreOfHistories, VersionsStandInHistories, TheClerkHasSeenAll}
+use Rattle.shard_office.specs.Laws.{VersionsAreOfHistories, VersionsStandInHistories, TheClerkHasSeenAll}
 use Rattle.team_run.specs.Teams.{IsFreezeOf}
 use Rattle.team_run.specs.Runs.{place_of}
 use Rattle.team_run.specs.Endings.{freezes_from, DaysEnd}

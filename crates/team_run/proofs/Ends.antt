@@ -14,8 +14,8 @@ use Rattle.day_reader.specs.declared.script.Script.{Script}
 use Rattle.shard_office.specs.Passes.{PassState}
 use Rattle.shard_office.specs.Clerk.{ClerkState, callers_of}
 use Rattle.shard_office.specs.Closing.{FitsHistory, IsClosed}
-use Rattle.team_run.specs.Teams.{calls_of, script_of, RisesFrom}
-use Rattle.team_run.specs.Endings.{calls_in}
+use Rattle.day_lines.specs.DayHistory.{calls_of, calls_in}
+use Rattle.team_run.specs.Teams.{script_of, RisesFrom}
 use Rattle.team_run.proofs.Lists.{all_got}
 
 -- a number that isn't that of any pass

@@ -16,7 +16,8 @@ use Rattle.day_reader.specs.Call.{is_freeze, freezes}
 use Rattle.shard_office.specs.Passes.{PassState, own}
 use Rattle.shard_office.specs.Clerk.{ClerkState}
 use Rattle.shard_office.specs.Closing.{FitsHistory, IsClosed}
-use Rattle.team_run.specs.Teams.{calls_of, script_of, RisesFrom}
+use Rattle.day_lines.specs.DayHistory.{calls_of}
+use Rattle.team_run.specs.Teams.{script_of, RisesFrom}
 use Rattle.team_run.specs.Endings.{freezes_from}
 use Rattle.team_run.proofs.Ends.{none_has, all_fit}
 use Rattle.team_run.proofs.Rising.{Rise, StandsAmong, StandAmong, above, lower, within}

@@ -12,5 +12,3 @@ mod Ends
 mod Rising
 mod Freezes
 mod DayEnd
-mod Rooms
-mod EntryLines

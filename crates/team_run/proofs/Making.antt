@@ -9,8 +9,9 @@ use Rattle.day_reader.specs.Call.{is_freeze}
 use Rattle.day_reader.specs.Said.{IsAnswerable}
 use Rattle.shard_office.specs.Office.{OfficeState}
 use Rattle.shard_office.specs.Passes.{PassState, own}
-use Rattle.shard_office.specs.Versions.{VersionState}
-use Rattle.team_run.specs.Teams.{calls_of, HasBegun, IsFreezeOf}
+use Rattle.frozen_version.specs.Versions.{VersionState}
+use Rattle.day_lines.specs.DayHistory.{calls_of}
+use Rattle.team_run.specs.Teams.{HasBegun, IsFreezeOf}
 use Rattle.team_run.specs.Runs.{IsSamePass, IsAtWork, IsMaking}
 use Rattle.team_run.proofs.Lists.{next_of, All-reverse, All-split, no_pairs}
 

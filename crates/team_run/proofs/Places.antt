@@ -15,7 +15,7 @@ use Rattle.day_reader.specs.declared.script.Script.{Script}
 use Rattle.day_reader.specs.Call.{is_freeze, freezes}
 use Rattle.shard_office.specs.Sight.{Sight, GoesOn}
 use Rattle.shard_office.specs.Passes.{PassState}
-use Rattle.shard_office.specs.Versions.{VersionState}
+use Rattle.frozen_version.specs.Versions.{VersionState}
 use Rattle.team_run.specs.declared.team.Team.{Team}
 use Rattle.team_run.specs.Teams.{script_of, RisesFrom, FrozeAt, IsFreezeOf, AreVersionsOf}
 use Rattle.team_run.specs.Runs.{freezes_of, passes_of, versions_of, place_of}

@@ -6,7 +6,8 @@ use Rattle.batch_core.specs.declared.entry.Entry.{Entry}
 use Rattle.day_reader.specs.declared.script.Script.{Script}
 use Rattle.shard_office.specs.Office.{OfficeState}
 use Rattle.team_run.specs.declared.team.Team.{Team}
-use Rattle.team_run.specs.Teams.{calls_of, script_of, HaveBegun}
+use Rattle.day_lines.specs.DayHistory.{calls_of}
+use Rattle.team_run.specs.Teams.{script_of, HaveBegun}
 use Rattle.team_run.specs.Runs.{asked, IsReady, IsAtWork, passes_of, HasRun, AreRun}
 
 pub are_run : (office : OfficeState) (olds news : List Team) → length news ≡ length olds

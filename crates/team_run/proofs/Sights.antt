@@ -10,7 +10,8 @@ use Rattle.call_register.specs.declared.mark.Mark.TheVariants.{Freeze}
 use Rattle.call_register.specs.Weaving.{mark_of}
 use Rattle.shard_office.specs.Sight.{Sight, GoesOn, history_of}
 use Rattle.shard_office.specs.Passes.{PassState}
-use Rattle.shard_office.specs.Versions.{VersionState, IsFreeze}
+use Rattle.frozen_version.specs.Versions.{VersionState}
+use Rattle.shard_office.specs.Versions.{IsFreeze}
 use Rattle.shard_office.specs.Laws.{VersionsStay}
 use Rattle.team_run.specs.Teams.{FrozeAt, IsFreezeOf}
 use Rattle.team_run.specs.Runs.{IsSamePass}

@@ -9,7 +9,7 @@ use Rattle.shard_office.specs.Office.{OfficeState}
 use Rattle.shard_office.specs.Sight.{GoesOn}
 use Rattle.shard_office.specs.Passes.{PassState, own}
 use Rattle.shard_office.specs.Clerk.{ClerkState}
-use Rattle.shard_office.specs.Versions.{VersionState}
+use Rattle.frozen_version.specs.Versions.{VersionState}
 use Rattle.team_run.specs.declared.team.Team.{Team}
 use Rattle.team_run.specs.Teams.{IsSameClerk}
 use Rattle.team_run.specs.Runs.{passes_of, versions_of, IsTaking}

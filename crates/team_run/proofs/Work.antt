@@ -10,9 +10,11 @@ use Rattle.day_reader.specs.Call.{is_freeze}
 use Rattle.call_register.specs.Weaving.{freeze_entry}
 use Rattle.shard_office.specs.Office.{OfficeState}
 use Rattle.shard_office.specs.Passes.{PassState, own}
-use Rattle.shard_office.specs.Versions.{VersionState, IsFreeze}
+use Rattle.frozen_version.specs.Versions.{VersionState}
+use Rattle.shard_office.specs.Versions.{IsFreeze}
 use Rattle.shard_office.specs.Laws.{VersionsStay}
-use Rattle.team_run.specs.Teams.{calls_of, FrozeAt, IsFreezeOf}
+use Rattle.day_lines.specs.DayHistory.{calls_of}
+use Rattle.team_run.specs.Teams.{FrozeAt, IsFreezeOf}
 use Rattle.team_run.specs.Runs.{freezes_of, IsSamePass, IsAtWork}
 use Rattle.team_run.proofs.Lists.{pairs_append, one_pair}
 use Rattle.team_run.proofs.Sights.{freeze_stays, later, froze_last}

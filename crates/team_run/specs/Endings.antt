@@ -1,7 +1,6 @@
 -- How a day ends: what its office has answered in all, and the versions of its freezes.
-use Rattle.std.specs.Prelude.{◌≡◌, ℕ, ◌≤◌, ◌==◌, List, [], ◌∷◌, ◌++◌, map, filter, slice_get, Some, All}
-use Rattle.std.specs.List.{enumerate_from, flat_map}
-use Rattle.batch_core.specs.declared.call.Call.{Call}
+use Rattle.std.specs.Prelude.{◌≡◌, ℕ, ◌≤◌, List, [], ◌∷◌, ◌++◌, map, filter, slice_get, Some, All}
+use Rattle.std.specs.List.{enumerate_from}
 use Rattle.batch_core.specs.declared.entry.Entry.{Entry}
 use Rattle.batch_core.specs.Histories.{IsLegal, own_calls}
 use Rattle.call_register.specs.Weaving.{freeze_entry}
@@ -10,14 +9,11 @@ use Rattle.day_reader.specs.Call.{is_freeze}
 use Rattle.shard_office.specs.Sight.{Sight}
 use Rattle.shard_office.specs.Passes.{PassState, own}
 use Rattle.shard_office.specs.Clerk.{ClerkState, IsTaken}
-use Rattle.shard_office.specs.Versions.{VersionState, IsFreeze}
+use Rattle.frozen_version.specs.Versions.{VersionState, StandsIn}
+use Rattle.shard_office.specs.Versions.{IsFreeze}
 use Rattle.shard_office.specs.Closing.{IsClosed}
-use Rattle.shard_office.specs.Laws.{StandsIn}
-use Rattle.team_run.specs.Teams.{calls_of, script_of, RisesFrom, AreVersionsOf}
-
--- the calls of a team in the scripts, none where it has no script
-abbrev pub calls_in : List Script → ℕ → List Call
-calls_in scripts team = flat_map (λ s. s.calls) (filter (λ s. s.team == team) scripts)
+use Rattle.day_lines.specs.DayHistory.{calls_of, calls_in}
+use Rattle.team_run.specs.Teams.{script_of, RisesFrom, AreVersionsOf}
 
 -- the places of the freezes, where the first entry has this place
 abbrev pub freezes_from : ℕ → List Entry → List ℕ

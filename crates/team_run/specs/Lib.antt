@@ -1,4 +1,3 @@
 pub mod Teams
 pub mod Runs
 pub mod Endings
-pub mod EntryText

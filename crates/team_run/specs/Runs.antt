@@ -9,9 +9,10 @@ use Rattle.shard_office.specs.Office.{OfficeState}
 use Rattle.shard_office.specs.Sight.{GoesOn}
 use Rattle.shard_office.specs.Passes.{PassState, own}
 use Rattle.shard_office.specs.Clerk.{ClerkState}
-use Rattle.shard_office.specs.Versions.{VersionState}
+use Rattle.frozen_version.specs.Versions.{VersionState}
 use Rattle.team_run.specs.declared.team.Team.{Team}
-use Rattle.team_run.specs.Teams.{calls_of, HasBegun, RisesFrom, IsSameClerk, IsFreezeOf}
+use Rattle.day_lines.specs.DayHistory.{calls_of}
+use Rattle.team_run.specs.Teams.{HasBegun, RisesFrom, IsSameClerk, IsFreezeOf}
 
 -- ---- one pass
 

@@ -1,15 +1,16 @@
 -- Teams at an office, and what has come of them.
 use Rattle.std.specs.Prelude.{◌≡◌, ℕ, ◌-◌, ◌<◌, ⊤, List, [], ◌∷◌, ◌++◌, length, map, slice_get, Some, All, AllPairs, Any}
 use Rattle.batch_core.specs.declared.call.Call.{Call}
-use Rattle.batch_core.specs.declared.entry.Entry.{Entry}
 use Rattle.call_register.specs.declared.mark.Mark.TheVariants.{Freeze}
 use Rattle.day_reader.specs.declared.script.Script.{Script}
 use Rattle.day_reader.specs.Call.{freezes}
 use Rattle.day_reader.specs.Said.{IsAnswerable, AreScripts}
+use Rattle.day_lines.specs.DayHistory.{calls_of}
 use Rattle.shard_office.specs.Sight.{Sight, GoesOn}
 use Rattle.shard_office.specs.Passes.{PassState, own}
 use Rattle.shard_office.specs.Clerk.{ClerkState}
-use Rattle.shard_office.specs.Versions.{VersionState, IsVersionOf}
+use Rattle.frozen_version.specs.Versions.{VersionState}
+use Rattle.shard_office.specs.Versions.{IsVersionOf}
 
 -- ---- scripts
 
@@ -22,9 +23,6 @@ RisesFrom n (script ∷ scripts) = (n < script.team) × RisesFrom script.team sc
 pub record MayRun (candidates : ℕ) (scripts : List Script) : Type 0 where
   pub numbers : RisesFrom 0 scripts
   pub calls : All (λ script. All (IsAnswerable candidates) script.calls) scripts
-
-abbrev pub calls_of : List Entry → List Call
-calls_of entries = map (λ e. e.call) entries
 
 -- the script that a pass has made
 abbrev pub script_of : PassState → Script

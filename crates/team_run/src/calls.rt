@@ -3,7 +3,7 @@ ghost use Rattle.std.specs.Prelude.{◌≡◌, ◌≤◌, ◌++◌, ◌∷◌, [
 ghost use Rattle.batch_core.specs.Lawful.{IsLawful};
 ghost use Rattle.batch_core.specs.declared.call.Call.TheVariants as call;
 ghost use Rattle.shard_office.specs.Passes.{own};
-ghost use Rattle.team_run.specs.Teams.{calls_of};
+ghost use Rattle.day_lines.specs.DayHistory.{calls_of};
 ghost use Rattle.team_run.specs.Runs.{freezes_of, IsSamePass, IsAtWork};
 
 use crate::NoMemory;

@@ -1,11 +1,9 @@
-//! Teams at a shared office: [`run_teams`] makes the calls of each team's script in a thread of its
-//! own, and gives the [`Versions`] of all freezes. [`write_entries`] writes what came of it: a line for
-//! each answered call of the history.
+//! Teams at a shared office: [`run_teams`] makes the calls of each team's script in a thread of its own, and gives
+//! the [`Versions`] of all freezes. [`write_entries`], of the crate day_lines, writes the history that came of it.
 #![tactic(auto)]
 
 mod calls;
 mod closing;
-mod entries;
 mod laws;
 mod no_memory;
 mod opening;
@@ -15,7 +13,7 @@ mod teams;
 mod threads;
 mod versions;
 
-pub use entries::write_entries;
+pub use day_lines::write_entries;
 pub use laws::{days_end_with_the_clerk, scripts_of_a_day_may_run};
 pub use no_memory::NoMemory;
 pub use push_back::PushBack;

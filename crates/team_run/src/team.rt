@@ -2,7 +2,8 @@
 ghost use Rattle.std.specs.Prelude.{◌≡◌, ◌++◌, ◌∷◌, [], OnOk, OnErr};
 ghost use Rattle.day_reader.specs.Said.{IsAnswerable};
 ghost use Rattle.shard_office.specs.Passes.{own};
-ghost use Rattle.team_run.specs.Teams.{calls_of, HasBegun};
+ghost use Rattle.day_lines.specs.DayHistory.{calls_of};
+ghost use Rattle.team_run.specs.Teams.{HasBegun};
 ghost use Rattle.team_run.specs.Runs.{asked, IsSamePass, IsReady, IsAtWork, HasRun};
 
 use crate::NoMemory;

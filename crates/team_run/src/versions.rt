@@ -14,7 +14,7 @@ pub struct Versions {
 
 impl Model for Versions {
     ghost use Rattle.std.specs.Prelude.{List};
-    ghost use Rattle.shard_office.specs.Versions.{VersionState};
+    ghost use Rattle.frozen_version.specs.Versions.{VersionState};
 
     ghost Value = { List VersionState };
 

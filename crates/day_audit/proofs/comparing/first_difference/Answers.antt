@@ -1,8 +1,8 @@
 use Rattle.std.proofs.Common.{Some, Result, map, sym, ap, ◌∙◌, subst}
 use Rattle.byte_edge.specs.declared.failed.Failed.{Failed}
 use Rattle.lane_sheet.proofs.Sheets.{written_as}
-use Rattle.meek_cli.specs.DayText.{IsDayText}
-use Rattle.meek_cli.proofs.DaySheets.{day_text_of, rolls_of_all, roll_of, place_of}
+use Rattle.day_lines.specs.DayText.{IsDayText}
+use Rattle.day_sheets.proofs.DaySheets.{day_text_of, rolls_of_all, roll_of, place_of}
 use Rattle.sheet_check.specs.Comparison.{Comparison, told}
 use Rattle.sheet_check.proofs.Differences.{Tells, compared}
 use Rattle.day_audit.proofs.comparing.first_difference.Goals as goal

@@ -1,5 +1,5 @@
 use Rattle.std.specs.Vec.Iter.{into_iter_items}
-use Rattle.meek_cli.proofs.FrozenPlans.{AreTaken}
+use Rattle.day_sheets.proofs.FrozenPlans.{AreTaken}
 use Rattle.day_audit.proofs.frozen_sheets.plans_of.Given as goal
 
 abbrev pub invariant-loop-version : goal.invariant-loop-version

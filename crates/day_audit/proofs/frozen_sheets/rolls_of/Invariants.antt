@@ -1,5 +1,5 @@
 use Rattle.std.proofs.Common.{◌≡◌, map, take}
-use Rattle.meek_cli.proofs.DaySheets.{roll_of}
+use Rattle.day_sheets.proofs.DaySheets.{roll_of}
 use Rattle.day_audit.proofs.frozen_sheets.rolls_of.Given as goal
 
 abbrev pub invariant-loop-version : goal.invariant-loop-version

@@ -3,11 +3,11 @@ use Rattle.day_reader.specs.declared.day.Day.{Day}
 use Rattle.day_reader.specs.declared.script.Script.{Script}
 use Rattle.day_reader.specs.Said.{AreScripts}
 use Rattle.sheet_check.specs.Comparison.{IsCompared}
-use Rattle.meek_cli.specs.declared.terms.Terms.{Terms}
-use Rattle.meek_cli.specs.DayHistory.{IsHistoryOf}
-use Rattle.meek_cli.specs.DayText.{terms_of}
-use Rattle.meek_cli.specs.MadeDay.{made_day}
-use Rattle.meek_cli.specs.Summary.{IsSummary}
+use Rattle.day_lines.specs.declared.terms.Terms.{Terms}
+use Rattle.day_lines.specs.DayHistory.{IsHistoryOf}
+use Rattle.day_lines.specs.DayText.{terms_of}
+use Rattle.day_sheets.specs.MadeDay.{made_day}
+use Rattle.day_sheets.specs.Summary.{IsSummary}
 use Rattle.day_audit.proofs.TrialVerdicts.{false_summary}
 use Rattle.day_audit.proofs.trial_judging.judge_trial.Goals as goal
 

@@ -1,11 +1,11 @@
 use Rattle.std.proofs.Common.{◌≡◌, ◌≤◌, ℕ, All, Some, Result, length, refl, sym, ap, ◌∙◌, subst}
 use Rattle.byte_edge.specs.declared.failed.Failed.{Failed}
-use Rattle.meek_cli.specs.DayText.{roll_with}
-use Rattle.meek_cli.specs.MadeDay.{made_day}
-use Rattle.meek_cli.specs.Summary.{IsSummary}
-use Rattle.meek_cli.proofs.HistoryCalls.{have_numbers}
-use Rattle.meek_cli.proofs.LastFreeze.{some_version, clerks}
-use Rattle.meek_cli.proofs.TrialEnding.{stands_last}
+use Rattle.day_lines.specs.DayText.{roll_with}
+use Rattle.day_sheets.specs.MadeDay.{made_day}
+use Rattle.day_sheets.specs.Summary.{IsSummary}
+use Rattle.day_sheets.proofs.BatchNumbers.{have_numbers}
+use Rattle.day_sheets.proofs.LastFreeze.{some_version, clerks}
+use Rattle.day_sheets.proofs.SummingUp.{stands_last}
 use Rattle.sheet_check.proofs.Differences.{Tells, compared}
 use Rattle.day_audit.proofs.trial_judging.summary_difference.Goals as goal
 

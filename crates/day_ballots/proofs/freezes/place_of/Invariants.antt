@@ -1,5 +1,5 @@
 use Rattle.std.proofs.Common.{◌≢◌, ℕ, ◌<◌, get_or}
-use Rattle.shard_office.specs.Versions.{VersionState}
+use Rattle.frozen_version.specs.Versions.{VersionState}
 use Rattle.day_ballots.proofs.freezes.place_of.Given as goal
 
 abbrev pub invariant-loop-place : goal.invariant-loop-place

@@ -1,7 +1,7 @@
 use Rattle.std.proofs.Common.{ℕ, [], ◌∷◌}
 use Rattle.std.specs.Prelude.{codes}
 use Rattle.batch_core.specs.declared.entry.Entry.{Entry}
-use Rattle.team_run.specs.EntryText.{numbered}
+use Rattle.day_lines.specs.EntryText.{numbered}
 use Rattle.sheet_page.specs.Trees.{each}
 use Rattle.day_page.specs.CallTable.{entry_row}
 use Rattle.sheet_page.proofs.Printing.{wrapped, printed-each}

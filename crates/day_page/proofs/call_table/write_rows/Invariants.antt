@@ -1,6 +1,6 @@
 use Rattle.std.proofs.Common.{take}
 use Rattle.std.specs.List.{flat_map}
-use Rattle.team_run.specs.EntryText.{numbered}
+use Rattle.day_lines.specs.EntryText.{numbered}
 use Rattle.page_tree.specs.Print.{printed}
 use Rattle.day_page.specs.CallTable.{entry_row}
 use Rattle.sheet_page.specs.Prints.{Prints}

@@ -1,6 +1,6 @@
 use Rattle.std.proofs.Common.{take}
 use Rattle.std.specs.List.{flat_map}
-use Rattle.team_run.specs.EntryText.{numbered}
+use Rattle.day_lines.specs.EntryText.{numbered}
 use Rattle.day_page.specs.DayMinutes.{answered_line}
 use Rattle.sheet_page.specs.Prints.{Prints}
 use Rattle.day_page.proofs.calls_text.write_lines.Given as goal

@@ -1,7 +1,7 @@
 use Rattle.std.proofs.Common.{take}
 use Rattle.std.specs.List.{flat_map}
 use Rattle.csv_text.specs.Csv.{record_text}
-use Rattle.team_run.specs.EntryText.{numbered}
+use Rattle.day_lines.specs.EntryText.{numbered}
 use Rattle.day_page.specs.DayCsv.{entry_record}
 use Rattle.sheet_page.specs.Prints.{Prints}
 use Rattle.day_page.proofs.csv.write_rows.Given as goal

@@ -2,7 +2,7 @@ use Rattle.std.proofs.Common.{◌∙◌, ap, sym, ℕ, List, ◌++◌}
 use Rattle.std.proofs.lemmas.List.Folds.{flat_map-map}
 use Rattle.batch_core.specs.declared.entry.Entry.{Entry}
 use Rattle.csv_text.specs.Csv.{record_text}
-use Rattle.team_run.specs.EntryText.{numbered}
+use Rattle.day_lines.specs.EntryText.{numbered}
 use Rattle.day_text.specs.Values.{DayTextList}
 use Rattle.day_page.specs.DayCsv.{day_csv, entry_record, table_head}
 use Rattle.sheet_page.proofs.Pens.{later, renamed}

@@ -1,5 +1,5 @@
 use Rattle.std.proofs.Common.{map, take}
-use Rattle.team_run.specs.EntryText.{numbered}
+use Rattle.day_lines.specs.EntryText.{numbered}
 use Rattle.day_page.specs.DayJson.{call_json, listed}
 use Rattle.sheet_page.specs.Prints.{Prints}
 use Rattle.day_page.proofs.json.write_entries.Given as goal

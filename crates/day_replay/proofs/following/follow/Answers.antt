@@ -4,7 +4,7 @@ use Rattle.std.proofs.lemmas.List.{append_assoc}
 use Rattle.batch_core.specs.declared.call.Call.{Call}
 use Rattle.batch_core.specs.declared.entry.Entry.{Entry}
 use Rattle.day_reader.specs.Said.{IsAnswerable}
-use Rattle.meek_cli.specs.DayHistory.{clerk_freeze, IsHistoryOf}
+use Rattle.day_lines.specs.DayHistory.{clerk_freeze, IsHistoryOf}
 use Rattle.day_replay.specs.Calls.{IsUnderWay, left_of}
 use Rattle.day_replay.specs.Replay.{ReplayState}
 use Rattle.day_replay.proofs.Nearest.{nearest}

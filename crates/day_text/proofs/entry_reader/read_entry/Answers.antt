@@ -1,5 +1,5 @@
 use Rattle.std.proofs.Common.{◌++◌, ◌∷◌, sym, ◌∙◌}
-use Rattle.team_run.specs.EntryText.{call_text, reply_text}
+use Rattle.day_lines.specs.EntryText.{call_text, reply_text}
 use Rattle.day_text.proofs.EntryLines.{caller_once, call_once, behind_line_number}
 use Rattle.day_text.proofs.entry_reader.read_entry.Goals as goal
 

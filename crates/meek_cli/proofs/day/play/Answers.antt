@@ -1,5 +1,5 @@
 use Rattle.tool_edge.specs.Streams.{writing}
-use Rattle.meek_cli.specs.DayText.{IsDayText}
+use Rattle.day_lines.specs.DayText.{IsDayText}
 use Rattle.meek_cli.proofs.DayEnding.{played}
 use Rattle.ballot_count.proofs.Endings.{ended}
 use Rattle.meek_cli.proofs.day.play.Goals as goal

@@ -1,5 +1,5 @@
 use Rattle.std.proofs.Common.{All, ◌≡◌, map, sym, ap, ◌∙◌, subst}
-use Rattle.meek_cli.proofs.DaySheets.{day_text_of, rolls_of_all, roll_of, place_of}
+use Rattle.day_sheets.proofs.DaySheets.{day_text_of, rolls_of_all, roll_of, place_of}
 use Rattle.lane_sheet.proofs.Sheets.{written_as}
 use Rattle.meek_cli.proofs.day_counting.count_day.Goals as goal
 

@@ -2,7 +2,7 @@ use Rattle.std.proofs.Common.{◌≡◌, [], sym, ◌∙◌, subst, All, arith, 
 use Rattle.std.specs.Vec.Iter.{into_iter_items}
 use Rattle.std.proofs.lemmas.List.{nil_from_length}
 use Rattle.frozen_plan.specs.Plan.{PlanRows}
-use Rattle.meek_cli.proofs.FrozenPlans.{taken_more, taken_all, of_next}
+use Rattle.day_sheets.proofs.FrozenPlans.{taken_more, taken_all, of_next}
 use Rattle.meek_cli.proofs.day_counting.plans_of.Goals as goal
 
 pub loop-version-preserved : goal.loop-version-preserved

@@ -1,8 +1,8 @@
 use Rattle.std.proofs.Common.{length}
 use Rattle.tool_edge.specs.Streams.{writing}
-use Rattle.meek_cli.specs.Summary.{IsSummary}
+use Rattle.day_sheets.specs.Summary.{IsSummary}
 use Rattle.ballot_count.proofs.Endings.{ended}
-use Rattle.meek_cli.proofs.HistoryCalls.{have_numbers}
+use Rattle.day_sheets.proofs.BatchNumbers.{have_numbers}
 use Rattle.meek_cli.proofs.TrialEnding.{played_trial}
 use Rattle.meek_cli.proofs.trial.play.Goals as goal
 

@@ -1,7 +1,7 @@
 use Rattle.std.proofs.Common.{ℕ, ◌≤◌, All, length, refl, ap, ◌∙◌, subst}
-use Rattle.meek_cli.specs.DayText.{roll_with}
-use Rattle.meek_cli.proofs.LastFreeze.{some_version, clerks}
-use Rattle.meek_cli.proofs.TrialEnding.{stands_last}
+use Rattle.day_lines.specs.DayText.{roll_with}
+use Rattle.day_sheets.proofs.LastFreeze.{some_version, clerks}
+use Rattle.day_sheets.proofs.SummingUp.{stands_last}
 use Rattle.meek_cli.proofs.trial.sum_up_last.Goals as goal
 
 pub last_of-version-requires : goal.last_of-version-requires

@@ -1,10 +1,10 @@
 use Rattle.std.proofs.Common.{◌≡◌, List, ◌++◌, map, All, IsPermutation, sym, ap, subst, ◌∙◌}
 use Rattle.shard_office.specs.Passes.{PassState}
 use Rattle.shard_office.specs.Sight.{GoesOn}
-use Rattle.shard_office.specs.Versions.{VersionState}
+use Rattle.frozen_version.specs.Versions.{VersionState}
 use Rattle.team_run.specs.Teams.{script_of, RisesFrom, HaveBegun, AreVersionsOf}
 use Rattle.team_run.specs.Runs.{asked, passes_of}
-use Rattle.team_run.proofs.EntryLines.{on_err}
+use Rattle.day_lines.proofs.EntryLines.{on_err}
 use Rattle.team_run.proofs.Lists.{all_got}
 use Rattle.team_run.proofs.Ran.{as_many, still_of, all_whole, all_begun, all_work}
 use Rattle.team_run.proofs.Places.{are_versions}

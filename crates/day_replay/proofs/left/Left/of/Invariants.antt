@@ -1,5 +1,5 @@
 use Rattle.std.proofs.Common.{◌≡◌, ℕ, ◌≤◌, ◌++◌, All, length}
-use Rattle.team_run.specs.Endings.{calls_in}
+use Rattle.day_lines.specs.DayHistory.{calls_in}
 use Rattle.day_replay.specs.Calls.{left_of}
 use Rattle.day_replay.proofs.left.Left.of.Given as goal
 

@@ -1,7 +1,7 @@
 use Rattle.std.proofs.Common.{◌≡◌, ℕ, ◌+◌, [], List, ◌∷◌, ◌++◌, length, sym, ap, ◌∙◌, subst}
 use Rattle.batch_core.specs.declared.entry.Entry.{Entry}
 use Rattle.call_register.specs.Weaving.{freeze_entry}
-use Rattle.shard_office.specs.Versions.{VersionState}
+use Rattle.frozen_version.specs.Versions.{VersionState}
 use Rattle.day_replay.specs.Replay.{IsReplay, IsStanding}
 use Rattle.day_replay.proofs.Replaying.{frozen_kept}
 use Rattle.day_replay.proofs.Stands.{few_stand, struck_in_range}

@@ -1,0 +1,4 @@
+mod Rooms
+pub mod EntryLines
+pub mod HistoryCalls
+pub mod TermsLemmas

@@ -1,0 +1,149 @@
+-- The head of a made day: its roll and its lots.
+use Rattle.std.proofs.Common.{◌≡◌, ℕ, ◌<◌, List, [], ◌∷◌, ◌++◌, length, map, refl, arith}
+use Rattle.std.specs.Prelude.{codes, ⊤}
+use Rattle.std.specs.List.{flat_map}
+use Rattle.std.specs.Char.{is_ascii_digit}
+use Rattle.input_text.specs.Token.{Number, Text}
+use Rattle.input_text.specs.Scan.{number, is_in_string}
+use Rattle.input_text.specs.Written.{Spells, Each}
+use Rattle.input_text.proofs.Spelling.{number_spelled, words, strings, parts, nothing}
+use Rattle.day_reader.specs.declared.keyword.Keyword.TheVariants as key
+use Rattle.day_reader.specs.Keyword.{word}
+use Rattle.meek_trial.specs.Trial.{roll_lines, lots_line}
+use Rattle.day_sheets.specs.MadeDay.{trial_names, trial_lots}
+
+-- ---- names, each on a line of its own
+
+abbrev AreStrings : List (List ℕ) → Type 0
+AreStrings [] = ⊤
+AreStrings (name ∷ names) = Each is_in_string name × AreStrings names
+
+names_spelled :
+    (names : List (List ℕ)) → AreStrings names
+    → Spells (flat_map (λ name. 34 ∷ (name ++ 34 ∷ 10 ∷ [])) names) (map Text names)
+names_spelled [] are = nothing
+names_spelled (name ∷ names) are =
+    parts (34 ∷ (name ++ 34 ∷ 10 ∷ [])) (flat_map (λ n. 34 ∷ (n ++ 34 ∷ 10 ∷ [])) names) (Text name ∷ []) (map Text names)
+    (strings name 10 are.0 refl) (names_spelled names are.1)
+
+-- ---- numbers with their digits, each with a space behind it
+
+record Digits : Type 0 where
+  value : ℕ
+  text : List ℕ
+
+abbrev AreDigits : List Digits → Type 0
+AreDigits [] = ⊤
+AreDigits (d ∷ ds) = (0 < length d.text) × Each is_ascii_digit d.text × (number d.text ≡ d.value) × AreDigits ds
+
+digits_spelled :
+    (ds : List Digits) → AreDigits ds
+    → Spells (flat_map (λ d. d.text ++ 32 ∷ []) ds) (map Number (map (λ d. d.value) ds))
+digits_spelled [] are = nothing
+digits_spelled (d ∷ ds) are =
+    parts (d.text ++ 32 ∷ []) (flat_map (λ e. e.text ++ 32 ∷ []) ds) (Number d.value ∷ [])
+    (map Number (map (λ e. e.value) ds))
+    (number_spelled d.text 32 d.value are.0 are.1 are.2 refl) (digits_spelled ds are.3)
+
+abbrev one : (value : ℕ) (text : List ℕ) → Digits
+one value text = record { value = value; text = text }
+
+-- ---- the head
+
+pub roll_spelled : Spells roll_lines (Number 12 ∷ Number 4 ∷ Number 0 ∷ map Text trial_names)
+roll_spelled =
+    parts (codes "12 ") (codes "4\n0\n" ++ flat_map (λ name. 34 ∷ (name ++ 34 ∷ 10 ∷ [])) trial_names)
+    (Number 12 ∷ []) (Number 4 ∷ Number 0 ∷ map Text trial_names)
+    (number_spelled (codes "12") 32 12 (omega arith) (refl, (refl, tt)) refl refl)
+    (parts (codes "4\n") (codes "0\n" ++ flat_map (λ name. 34 ∷ (name ++ 34 ∷ 10 ∷ [])) trial_names)
+    (Number 4 ∷ []) (Number 0 ∷ map Text trial_names)
+    (number_spelled (codes "4") 10 4 (omega arith) (refl, tt) refl refl)
+    (parts (codes "0\n") (flat_map (λ name. 34 ∷ (name ++ 34 ∷ 10 ∷ [])) trial_names) (Number 0 ∷ []) (map Text trial_names)
+    (number_spelled (codes "0") 10 0 (omega arith) (refl, tt) refl refl)
+    (names_spelled trial_names (
+      (refl, (refl, tt)),
+      (
+        (refl, (refl, tt)),
+        (
+          (refl, (refl, tt)),
+          (
+            (refl, (refl, tt)),
+            (
+              (refl, (refl, tt)),
+              (
+                (refl, (refl, tt)),
+                (
+                  (refl, (refl, tt)),
+                  (
+                    (refl, (refl, tt)),
+                    (
+                      (refl, (refl, tt)),
+                      ((refl, (refl, (refl, tt))), ((refl, (refl, (refl, tt))), ((refl, (refl, (refl, tt))), tt))),
+                    ),
+                  ),
+                ),
+              ),
+            ),
+          ),
+        ),
+      ),
+    ))))
+
+pub lots_spelled : Spells lots_line (word key.Lots ∷ map Number trial_lots ++ Number 0 ∷ [])
+lots_spelled =
+    let lots =
+    one 12 (codes "12") ∷ one 11 (codes "11") ∷ one 10 (codes "10") ∷ one 9 (codes "9") ∷ one 8 (codes "8")
+    ∷ one 7 (codes "7")
+    ∷ one 6 (codes "6") ∷ one 5 (codes "5") ∷ one 4 (codes "4") ∷ one 3 (codes "3") ∷ one 2 (codes "2")
+    ∷ one 1 (codes "1") ∷ [] in
+    parts (codes "lots ") (flat_map (λ d. d.text ++ 32 ∷ []) lots ++ codes "0\n") (word key.Lots ∷ [])
+    (map Number trial_lots ++ Number 0 ∷ [])
+    (words 108 (codes "ots") 32 (refl, (refl, (refl, (refl, tt)))) refl)
+    (parts (flat_map (λ d. d.text ++ 32 ∷ []) lots) (codes "0\n") (map Number trial_lots) (Number 0 ∷ [])
+    (digits_spelled lots (
+      omega arith,
+      (refl, (refl, tt)),
+      refl,
+      (
+        omega arith,
+        (refl, (refl, tt)),
+        refl,
+        (
+          omega arith,
+          (refl, (refl, tt)),
+          refl,
+          (
+            omega arith,
+            (refl, tt),
+            refl,
+            (
+              omega arith,
+              (refl, tt),
+              refl,
+              (
+                omega arith,
+                (refl, tt),
+                refl,
+                (
+                  omega arith,
+                  (refl, tt),
+                  refl,
+                  (
+                    omega arith,
+                    (refl, tt),
+                    refl,
+                    (
+                      omega arith,
+                      (refl, tt),
+                      refl,
+                      (omega arith, (refl, tt), refl, (omega arith, (refl, tt), refl, (omega arith, (refl, tt), refl, tt))),
+                    ),
+                  ),
+                ),
+              ),
+            ),
+          ),
+        ),
+      ),
+    ))
+    (number_spelled (codes "0") 10 0 (omega arith) (refl, tt) refl refl))
