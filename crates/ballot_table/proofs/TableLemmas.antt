@@ -1,6 +1,7 @@
 -- A whole table, from its head and what is left behind it.
-use Rattle.std.proofs.Common.{◌≡◌, ℕ, ◌+◌, ◌-◌, List, [], ◌∷◌, ◌++◌, map, take, length, Option, Some, None, Ok}
-use Rattle.std.proofs.Common.{refl, ap, sym, ◌∙◌, arith, append_assoc}
+use Rattle.std.proofs.Common.{◌≡◌, ℕ, ◌+◌, ◌-◌, List, [], ◌∷◌, ◌++◌, map, take, length, Option, Some, None, Result, Ok, Err}
+use Rattle.std.specs.Prelude.{IfErr, IfOk, OnOk}
+use Rattle.std.proofs.Common.{refl, ap, sym, subst, ◌∙◌, arith, append_assoc}
 use Rattle.std.specs.List.{filter_map, enumerate_from, cons_option, slice_get}
 use Rattle.std.specs.Option.{option_or, option_map}
 use Rattle.std.proofs.Math.Seq.{take-append_seam}
@@ -8,19 +9,20 @@ use Rattle.std.proofs.lemmas.List.{length-append}
 use Rattle.std.proofs.lemmas.List.Sums.{sum_by_push}
 use Rattle.plain_ballots.specs.declared.limits.TheConstants.{MOST_BALLOTS}
 use Rattle.table_text.specs.Reading as text
-use Rattle.table_text.specs.declared.text_fault.TextFault.{TextFault}
 use Rattle.ballot_table.specs.declared.column.Column.{Column}
 use Rattle.ballot_table.specs.declared.fault.Fault.{Fault}
+use Rattle.ballot_table.specs.declared.imported.Imported.{Imported}
 use Rattle.ballot_table.specs.declared.table_asked.TableAsked.{TableAsked}
 use Rattle.ballot_table.specs.declared.table_stop.TableStop.{TableStop}
 use Rattle.ballot_table.specs.declared.table_stop.TableStop.TheVariants as stop
 use Rattle.ballot_table.specs.Head.{head_fault, columns}
-use Rattle.ballot_table.specs.Imported.{texts_in, stops, stop_at, text_stop, separator, stop_by, reading_stop, refusal}
-use Rattle.ballot_table.specs.Left.{rooms, stop_left, ballots_left, tally_left}
+use Rattle.ballot_table.specs.Imported.{texts_in, stops, stop_at, text_stop, separator, stop_by, reading_stop, refusal, IsTableStop, IsImported}
+use Rattle.ballot_table.specs.Left.{Reads, rooms, stop_left, ballots_left, tally_left}
 use Rattle.ballot_table.specs.Report.{tally_of}
 use Rattle.ballot_table.specs.Asked.{asked_of}
 use Rattle.ballot_table.specs.Refusals.{whole_fault}
 use Rattle.ballot_table.specs.Rows.{weight_at, row_of, with_room, room_behind}
+use Rattle.ballot_table.specs.Sheets.{Opened, Turns}
 use Rattle.ballot_table.specs.Table.{ballots, rows_of}
 
 abbrev Texts : Type 0
@@ -55,67 +57,95 @@ module _ (cols : List Column) where
   pub with_room_is : (rows : List Texts) → with_room cols rows ≡ rooms cols MOST_BALLOTS rows
   with_room_is rows = rooms_behind [] rows
 
-module _ (a : TableAsked) (bytes : List ℕ) (byte : ℕ) (separated : separator a.separator bytes ≡ Ok byte) where
-  by_reading : (reading : text.Reading) → text.read_text byte bytes ≡ reading → refusal a bytes ≡ reading_stop a reading
-  by_reading reading is = ap (stop_by a bytes) separated ∙ ap (reading_stop a) is
+-- a text that is read with this separator comes to what its records come to
+by_reading : (a : TableAsked) (bytes : List ℕ) (byte : ℕ) → separator a.separator bytes ≡ Ok byte
+    → (reading : text.Reading) → reading ≡ text.read_text byte bytes → refusal a bytes ≡ reading_stop a reading
+by_reading a bytes byte separated reading is = ap (stop_by a bytes) separated ∙ ap (reading_stop a) (sym is)
 
-  pub refused_text : (fault : TextFault) → text.read_text byte bytes ≡ text.ends (text.AtFault fault)
-      → refusal a bytes ≡ Some (stop.Text fault)
-  refused_text fault is = by_reading (text.ends (text.AtFault fault)) is
+-- What the records of a text come to is what the text comes to.
+module _ (a : TableAsked) (bytes : List ℕ) (byte : ℕ) (separated : separator a.separator bytes ≡ Ok byte)
+    (reading : text.Reading) (is : reading ≡ text.read_text byte bytes)
+  where
+    pub stop_read : (r : Result Imported TableStop) → Reads a reading r → IfErr r (IsTableStop (refusal a bytes))
+    stop_read (Ok imported) read = tt
+    stop_read (Err found) read =
+        subst (λ (o : Option TableStop). IsTableStop o found) (sym (by_reading a bytes byte separated reading is)) read
 
-  module _ (head : text.Row) (rest : text.Reading) (is : text.read_text byte bytes ≡ text.with_row head rest)
-      (texts : List (List ℕ)) (texts_are : texts ≡ texts_in head)
-    where
-      abbrev below : List (List (List ℕ))
-      below = map texts_in rest.rows
+    pub sound_read : (r : Result Imported TableStop) → Reads a reading r → OnOk r (refusal a bytes ≡ None)
+    sound_read (Ok imported) read = by_reading a bytes byte separated reading is ∙ read.sound
+    sound_read (Err found) read = tt
 
-      abbrev cols : List Column
-      cols = columns (asked_of a) (texts_in head)
+    pub imported_read : (r : Result Imported TableStop) → Reads a reading r → IfOk r (IsImported a bytes)
+    imported_read (Ok imported) read = record {
+      byte = byte;
+      separated = separated;
+      head = read.head;
+      below = read.below;
+      records = ap (λ (r : text.Reading). r.rows) (sym is) ∙ read.records;
+      names = read.names;
+      candidates = read.candidates;
+      ballots_are = read.ballots_are;
+      tally_is = read.tally_is;
+    }
+    imported_read (Err found) read = tt
 
-      abbrev faults : List (ℕ × List (List ℕ)) → List (Option Fault)
-      faults rs = map (λ (r : ℕ × List (List ℕ)). whole_fault (asked_of a) a.treatment a.empty r.0 cols r.1) rs
+-- where no record is to come there is no head
+pub stops_there : (a : TableAsked) (old new : Opened) (stop : TableStop) → Turns old (Err stop) new
+    → IsTableStop (reading_stop a old.records.rest) stop
+stops_there a old new (stop.Text fault) is = ap (reading_stop a) is
+stops_there a old new stop.NoMemory is = tt
+stops_there a old new (stop.Word _ _) is = elim is [ ]
+stops_there a old new (stop.Record _ _ _ _) is = elim is [ ]
 
-      abbrev by_head : Option Fault → Option TableStop
-      by_head o = option_or
-          (slice_get (cons_option (option_map (stop_at head) o) (stops rest.rows (faults (with_room cols below)))) 0)
-          (text_stop rest.ending)
+module _ (a : TableAsked) (head : text.Row) (rest : text.Reading) (texts : List (List ℕ)) (texts_are : texts ≡ texts_in head)
+  where
+    abbrev below : List (List (List ℕ))
+    below = map texts_in rest.rows
 
-      whole : refusal a bytes ≡ by_head (head_fault (asked_of a) (texts_in head))
-      whole = by_reading (text.with_row head rest) is
+    abbrev cols : List Column
+    cols = columns (asked_of a) (texts_in head)
 
-      pub refused_head : (fault : Fault) → head_fault (asked_of a) texts ≡ Some fault
-          → refusal a bytes ≡ Some (stop_at head fault)
-      refused_head fault some =
-          whole ∙ ap by_head (sym (ap (head_fault (asked_of a)) texts_are) ∙ some)
+    abbrev faults : List (ℕ × List (List ℕ)) → List (Option Fault)
+    faults rs = map (λ (r : ℕ × List (List ℕ)). whole_fault (asked_of a) a.treatment a.empty r.0 cols r.1) rs
 
-      pub refused_left :
-          (found : List Column) → head_fault (asked_of a) texts ≡ None
-          → found ≡ columns (asked_of a) texts
-          → refusal a bytes ≡ stop_left a found MOST_BALLOTS rest
-      refused_left found none found_are =
-          whole ∙ ap by_head (sym (ap (head_fault (asked_of a)) texts_are) ∙ none)
-          ∙ ap (λ (rs : List (ℕ × List (List ℕ))). option_or (slice_get (stops rest.rows (faults rs)) 0)
-          (text_stop rest.ending))
-          (with_room_is cols below)
-          ∙ ap (λ (cs : List Column). stop_left a cs MOST_BALLOTS rest)
-          (sym (found_are ∙ ap (columns (asked_of a)) texts_are))
+    abbrev by_head : Option Fault → Option TableStop
+    by_head o = option_or
+        (slice_get (cons_option (option_map (stop_at head) o) (stops rest.rows (faults (with_room cols below)))) 0)
+        (text_stop rest.ending)
 
-      pub same_ballots : (found : List Column) → found ≡ columns (asked_of a) texts
-          → ballots a.treatment (rows_of (asked_of a) a.empty (columns (asked_of a) (texts_in head))
-          (map texts_in rest.rows))
-          ≡ ballots_left a found MOST_BALLOTS rest.rows
-      same_ballots found found_are =
-          ap (λ (rs : List (ℕ × List (List ℕ))). ballots a.treatment
-          (filter_map (λ (r : ℕ × List (List ℕ)). row_of (asked_of a) a.empty r.0 cols r.1) rs)) (with_room_is cols below)
-          ∙ ap (λ (cs : List Column). ballots_left a cs MOST_BALLOTS rest.rows)
-          (sym (found_are ∙ ap (columns (asked_of a)) texts_are))
+    pub refused_head : (fault : Fault) → head_fault (asked_of a) texts ≡ Some fault
+        → reading_stop a (text.with_row head rest) ≡ Some (stop_at head fault)
+    refused_head fault some =
+        ap by_head (sym (ap (head_fault (asked_of a)) texts_are) ∙ some)
 
-      pub same_tally : (found : List Column) → found ≡ columns (asked_of a) texts
-          → tally_left a found MOST_BALLOTS rest.rows
-          ≡ tally_of a.treatment a.empty (map texts_in rest.rows)
-          (rows_of (asked_of a) a.empty (columns (asked_of a) (texts_in head)) (map texts_in rest.rows))
-      same_tally found found_are =
-          ap (λ (cs : List Column). tally_left a cs MOST_BALLOTS rest.rows)
-          (found_are ∙ ap (columns (asked_of a)) texts_are)
-          ∙ sym (ap (λ (rs : List (ℕ × List (List ℕ))). tally_of a.treatment a.empty (map texts_in rest.rows)
-          (filter_map (λ (r : ℕ × List (List ℕ)). row_of (asked_of a) a.empty r.0 cols r.1) rs)) (with_room_is cols below))
+    pub refused_left :
+        (found : List Column) → head_fault (asked_of a) texts ≡ None
+        → found ≡ columns (asked_of a) texts
+        → reading_stop a (text.with_row head rest) ≡ stop_left a found MOST_BALLOTS rest
+    refused_left found none found_are =
+        ap by_head (sym (ap (head_fault (asked_of a)) texts_are) ∙ none)
+        ∙ ap (λ (rs : List (ℕ × List (List ℕ))). option_or (slice_get (stops rest.rows (faults rs)) 0)
+        (text_stop rest.ending))
+        (with_room_is cols below)
+        ∙ ap (λ (cs : List Column). stop_left a cs MOST_BALLOTS rest)
+        (sym (found_are ∙ ap (columns (asked_of a)) texts_are))
+
+    pub same_ballots : (found : List Column) → found ≡ columns (asked_of a) texts
+        → ballots a.treatment (rows_of (asked_of a) a.empty (columns (asked_of a) (texts_in head))
+        (map texts_in rest.rows))
+        ≡ ballots_left a found MOST_BALLOTS rest.rows
+    same_ballots found found_are =
+        ap (λ (rs : List (ℕ × List (List ℕ))). ballots a.treatment
+        (filter_map (λ (r : ℕ × List (List ℕ)). row_of (asked_of a) a.empty r.0 cols r.1) rs)) (with_room_is cols below)
+        ∙ ap (λ (cs : List Column). ballots_left a cs MOST_BALLOTS rest.rows)
+        (sym (found_are ∙ ap (columns (asked_of a)) texts_are))
+
+    pub same_tally : (found : List Column) → found ≡ columns (asked_of a) texts
+        → tally_left a found MOST_BALLOTS rest.rows
+        ≡ tally_of a.treatment a.empty (map texts_in rest.rows)
+        (rows_of (asked_of a) a.empty (columns (asked_of a) (texts_in head)) (map texts_in rest.rows))
+    same_tally found found_are =
+        ap (λ (cs : List Column). tally_left a cs MOST_BALLOTS rest.rows)
+        (found_are ∙ ap (columns (asked_of a)) texts_are)
+        ∙ sym (ap (λ (rs : List (ℕ × List (List ℕ))). tally_of a.treatment a.empty (map texts_in rest.rows)
+        (filter_map (λ (r : ℕ × List (List ℕ)). row_of (asked_of a) a.empty r.0 cols r.1) rs)) (with_room_is cols below))

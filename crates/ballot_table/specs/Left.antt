@@ -1,5 +1,5 @@
 -- What is still to come of a table's rows.
-use Rattle.std.specs.Prelude.{◌≡◌, ℕ, ◌-◌, ◌++◌, List, [], ◌∷◌, map, replicate, Option, Some, None}
+use Rattle.std.specs.Prelude.{◌≡◌, ℕ, ◌-◌, ◌++◌, List, [], ◌∷◌, length, map, replicate, Option, Some, None, Result, Ok, Err}
 use Rattle.std.specs.List.{filter_map, slice_get}
 use Rattle.std.specs.Option.{option_or}
 use Rattle.plain_ballots.specs.Ballots.{BallotList, plain}
@@ -8,15 +8,17 @@ use Rattle.ballot_marks.specs.Ballot.{ranked, is_closed, is_passed, is_cut}
 use Rattle.table_text.specs.Reading as text
 use Rattle.ballot_table.specs.declared.column.Column.{Column}
 use Rattle.ballot_table.specs.declared.fault.Fault.{Fault}
+use Rattle.ballot_table.specs.declared.imported.Imported.{Imported}
 use Rattle.ballot_table.specs.declared.table_asked.TableAsked.{TableAsked}
 use Rattle.ballot_table.specs.declared.table_stop.TableStop.{TableStop}
 use Rattle.ballot_table.specs.declared.tally.Tally.{Tally}
-use Rattle.ballot_table.specs.Imported.{texts_in, stops, text_stop}
+use Rattle.ballot_table.specs.Head.{columns, names_of}
+use Rattle.ballot_table.specs.Imported.{texts_in, stops, text_stop, reading_stop, IsTableStop}
 use Rattle.ballot_table.specs.Asked.{asked_of}
 use Rattle.ballot_table.specs.Refusals.{whole_fault}
 use Rattle.ballot_table.specs.Report.{tally_of, one_dropped, counted_if, ranks_nobody}
 use Rattle.ballot_table.specs.Rows.{Row, weight_at, row_of}
-use Rattle.ballot_table.specs.Table.{ballots}
+use Rattle.ballot_table.specs.Table.{rows_of, ballots}
 
 -- rows, each with the room for more ballots that those before it leave
 abbrev pub rooms : List Column → (room : ℕ) → List (List (List ℕ)) → List (ℕ × List (List ℕ))
@@ -68,3 +70,25 @@ pub record IsAddedRow (treatment : Treatment) (row : Row) (old new : BallotList)
 abbrev pub IsAdded : Treatment → Option Row → (old new : BallotList) → Type 0
 IsAdded treatment None old new = plain new.lines ≡ plain old.lines
 IsAdded treatment (Some row) old new = IsAddedRow treatment row old new
+
+-- Records are a head and rows without a fault, whose names, ballots and numbers these are.
+pub record IsRead (asked : TableAsked) (reading : text.Reading) (imported : Imported) : Type 0 where
+  pub sound : reading_stop asked reading ≡ None
+  pub head : text.Row
+  pub below : List text.Row
+  pub records : reading.rows ≡ head ∷ below
+  pub names : imported.names ≡ names_of (asked_of asked) (texts_in head)
+  pub candidates : imported.ballots.candidates ≡ length imported.names
+  pub ballots_are :
+      ballots asked.treatment
+      (rows_of (asked_of asked) asked.empty (columns (asked_of asked) (texts_in head)) (map texts_in below))
+      ≡ Some (plain imported.ballots.lines)
+  pub tally_is :
+      imported.tally
+      ≡ tally_of asked.treatment asked.empty (map texts_in below)
+      (rows_of (asked_of asked) asked.empty (columns (asked_of asked) (texts_in head)) (map texts_in below))
+
+-- They are read so, or refused for their first fault; or memory is wanted.
+abbrev pub Reads : TableAsked → text.Reading → Result Imported TableStop → Type 0
+Reads asked reading (Ok imported) = IsRead asked reading imported
+Reads asked reading (Err stop) = IsTableStop (reading_stop asked reading) stop

@@ -2,8 +2,10 @@
 ghost use Rattle.std.specs.Prelude.{◌≡◌, ◌≤◌, Some, None, Ok, length, sum_by, OnOk, IfOk, IfErr};
 ghost use Rattle.plain_ballots.specs.declared.limits.TheConstants.{MOST_BALLOTS, MOST_CANDIDATES};
 ghost use Rattle.plain_ballots.specs.Ballots.{plain};
-ghost use Rattle.ballot_table.specs.Imported.{IsImported, IsTableStop, refusal, separator};
-ghost use Rattle.ballot_table.specs.Left.{stop_left, ballots_left, tally_left};
+ghost use Rattle.table_text.specs.Reading.{with_row};
+ghost use Rattle.ballot_table.specs.Imported.{IsImported, IsTableStop, refusal, separator, texts_in};
+ghost use Rattle.ballot_table.specs.Left.{Reads, stop_left, ballots_left, tally_left};
+ghost use Rattle.ballot_table.specs.Sheets.{row_at};
 ghost use Rattle.ballot_table.specs.Asked.{asked_of};
 ghost use Rattle.ballot_table.specs.Finding.{candidates_at, candidates_in};
 
@@ -11,8 +13,8 @@ use crate::columns::Columns;
 use crate::head::{Head, names};
 use crate::record_stop::RecordStop;
 use crate::rows::Rows;
-use crate::sheet::Sheet;
-use crate::{Imported, TableAsked, TableStop};
+use crate::sheet::{Place, Sheet};
+use crate::{Imported, TableAsked, TableStop, Text};
 use std::alloc::Global;
 use table_text::find_separator;
 
@@ -23,28 +25,56 @@ pub fn read_table(alloc: Global, asked: &TableAsked, bytes: &[u8]) -> Result<Imp
     ensures sound { OnOk result (refusal asked.now bytes.now ≡ None) }
     ensures stop { IfErr result (IsTableStop (refusal asked.now bytes.now)) }
 {
-    let separator = match separator(asked, bytes) {
-        Ok(separator) => separator,
-        Err(stop) => return Err(stop),
-    };
-    let mut sheet = Sheet::new(alloc, bytes, separator);
+    match separator(asked, bytes) {
+        Ok(separator) => {
+            let mut sheet = Sheet::new(alloc, bytes, separator);
+            read_sheet(alloc, asked, &mut sheet)
+        }
+        Err(stop) => Err(stop),
+    }
+}
+
+// What the records that are still to come come to, of which the first is the head.
+fn read_sheet(
+    alloc: Global,
+    asked: &TableAsked,
+    sheet: &mut Sheet<'_>,
+) -> Result<Imported, TableStop>
+    requires { length asked.now.candidates ≤ MOST_CANDIDATES }
+    ensures { Reads asked.now sheet.old.records.rest result }
+{
     let place = match sheet.next() {
         Ok(Some(place)) => place,
         Ok(None) => return Err(TableStop::NoMemory),
         Err(stop) => return Err(stop),
     };
-    let Ok(texts) = sheet.texts(alloc) else {
-        return Err(TableStop::NoMemory);
-    };
-    let head = match Head::read(alloc, asked, texts.items()) {
+    match sheet.texts(alloc) {
+        Ok(texts) => read_below(alloc, asked, texts.items(), place, sheet),
+        Err(_) => Err(TableStop::NoMemory),
+    }
+}
+
+// What a head of these texts, at a place, and the records below it come to.
+fn read_below(
+    alloc: Global,
+    asked: &TableAsked,
+    texts: &[Text],
+    place: Place,
+    sheet: &mut Sheet<'_>,
+) -> Result<Imported, TableStop>
+    requires names { length asked.now.candidates ≤ MOST_CANDIDATES }
+    requires texts { texts.now ≡ texts_in (row_at sheet.old place) }
+    ensures { Reads asked.now (with_row (row_at sheet.old place) sheet.old.records.rest) result }
+{
+    let head = match Head::read(alloc, asked, texts) {
         Ok(head) => head,
         Err(RecordStop::Fault(fault)) => return Err(sheet.stop_at(place, fault)),
         Err(RecordStop::NoMemory) => return Err(TableStop::NoMemory),
     };
-    let Ok(names) = names(alloc, asked, texts.items()) else {
+    let Ok(names) = names(alloc, asked, texts) else {
         return Err(TableStop::NoMemory);
     };
-    match read_rows(alloc, asked, &head, &mut sheet) {
+    match read_rows(alloc, asked, &head, sheet) {
         Ok(taken) => match taken.imported(names) {
             Ok(imported) => Ok(imported),
             Err(_) => Err(TableStop::NoMemory),
