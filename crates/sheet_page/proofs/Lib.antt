@@ -24,6 +24,7 @@ mod AmountTexts
 mod FieldWords
 mod RecordRuns
 mod RowFields
+mod RowsAt
 mod TableValues
 mod JsonRows
 mod JsonSheets

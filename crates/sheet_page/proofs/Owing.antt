@@ -16,7 +16,7 @@ use Rattle.sheet_page.specs.declared.format.Format.{Format}
 use Rattle.sheet_page.specs.declared.format.Format.TheVariants.{Html, Csv, MarkedCsv, Json, Text}
 use Rattle.sheet_input.specs.declared.sheet_fault.SheetFault.{SheetFault}
 use Rattle.sheet_input.specs.declared.sheet_fault.SheetFault.TheVariants.{TooLong, Malformed}
-use Rattle.sheet_page.specs.Inputs.{IsSheetAt, IsSheetText, IsRefusedSheet}
+use Rattle.sheet_page.specs.Inputs.{HasNoneAbove, IsSheetAt, IsSheetText, IsRefusedSheet}
 use Rattle.sheet_page.specs.Words.{TakesFormat, mark_first, words_of}
 use Rattle.sheet_page.specs.Owed.{shown_as, shows}
 
@@ -36,17 +36,26 @@ pub values_owed :
 values_owed places format input v end sink short at finishes =
     inr (Done, shown_as places format v, (short, (places, v, at, refl)), finishes)
 
+pub promised_owed :
+    (places : ℕ) (format : Format) (input : List ℕ) (v : SheetList) (end : End SheetFault) (sink : Writing) → length input ≤ SHEET_LIMIT
+    → IsSheetAt input places v → FinishesOwed (λ due bytes. (due ≡ Done) × (bytes ≡ shown_as places format v)) end sink
+    → FinishesOwed (IsOwedFor shows format input no_history) end sink
+promised_owed places format input v end sink short at (inl nothing) = inl nothing
+promised_owed places format input v end sink short at (inr (due, bytes, (done, text), finishes)) =
+    inr (
+      due,
+      bytes,
+      subst (λ (e : End SheetFault). IsOwedFor shows format input no_history e bytes) (sym done) (short, (places, v, at, text)),
+      finishes,
+    )
+
 -- ---- the places of an input
 
--- it is a sheet at no number of places above this one
-abbrev pub HasNoneAbove : List ℕ → ℕ → Type 0
-HasNoneAbove input n = (other : ℕ) (w : SheetList) → n < other → other ≤ 9 → ¬ HasForm other input w
-
-pub none_above_nine : (input : List ℕ) → HasNoneAbove input 9
+pub none_above_nine : (input : List ℕ) → HasNoneAbove 9 input
 none_above_nine input other w above few form = omega (arith, above, few)
 
 pub none_above_less :
-    (input : List ℕ) (n : ℕ) → HasNoneAbove input (n + 1) → ((w : SheetList) → ¬ HasForm (n + 1) input w) → HasNoneAbove input n
+    (input : List ℕ) (n : ℕ) → HasNoneAbove (n + 1) input → ((w : SheetList) → ¬ HasForm (n + 1) input w) → HasNoneAbove n input
 none_above_less input n above not other w more few form =
     elim (cases_lt (n + 1) other) [
       | inl lt ↦ above other w lt few form
@@ -56,7 +65,7 @@ none_above_less input n above not other w more few form =
     ]
 
 pub own_at :
-    (input : List ℕ) (n : ℕ) (v : SheetList) → 6 ≤ n → n ≤ 9 → HasForm n input v → HasNoneAbove input n → IsSheetAt input n v
+    (input : List ℕ) (n : ℕ) (v : SheetList) → 6 ≤ n → n ≤ 9 → HasForm n input v → HasNoneAbove n input → IsSheetAt input n v
 own_at input n v from few form above = record { from = from; to = few; form = form; greatest = above }
 
 not_refused : (input : List ℕ) (fault : SheetFault) → IsSheetText input → IsRefusedSheet input fault → ⊥

@@ -13,6 +13,10 @@ pub record IsSheetAt (input : List ℕ) (places : ℕ) (v : SheetList) : Type 0 
   pub form : HasForm places input v
   pub greatest : (other : ℕ) (w : SheetList) → places < other → other ≤ 9 → ¬ HasForm other input w
 
+-- No values have this text as their sheet at more places than these.
+abbrev pub HasNoneAbove : (places : ℕ) → (input : List ℕ) → Type 0
+HasNoneAbove places input = (other : ℕ) (w : SheetList) → places < other → other ≤ 9 → ¬ HasForm other input w
+
 -- Some values have this text as their sheet, at some number of places.
 abbrev pub IsSheetText : (input : List ℕ) → Type 0
 IsSheetText input = (places : ℕ) × (v : SheetList) × IsSheetAt input places v

@@ -1,8 +1,10 @@
 // The part of all rounds.
+ghost use Rattle.std.specs.Prelude.{[]};
 ghost use Rattle.page_tree.specs.Print.{printed};
 ghost use Rattle.sheet_reader.specs.Form.{IsPrintable};
-ghost use Rattle.sheet_page.specs.Html.{rounds_part, rounds_title, words_explained};
+ghost use Rattle.sheet_page.specs.Html.{meaning, rounds_part, rounds_title, words_explained};
 ghost use Rattle.sheet_page.specs.Prints.{Prints};
+ghost use Rattle.sheet_page.specs.Trees.{all};
 
 use crate::PartNames;
 use crate::cell::Cell;
@@ -42,38 +44,40 @@ fn write_title<const P: usize, K: Sink>(pen: &mut Pen<'_, P, K>)
 fn write_words<const P: usize, K: Sink>(pen: &mut Pen<'_, P, K>)
     ensures { Prints K.Sink pen.old pen.new (printed words_explained) }
 {
+    pen.open(b"dl");
+    write_meaning(pen, b"Hopeful", b"neither elected nor defeated so far.");
+    write_meaning(
+        pen,
+        b"Keep value",
+        b"the part of each vote which reaches a candidate that the candidate keeps. The rest goes on to the next on the ballot. It is 1 for the hopeful; for the elected it falls until each keeps a quota.",
+    );
+    write_meaning(
+        pen,
+        b"On no candidate",
+        b"the votes that nobody keeps, since their ballots rank no further candidate who could, and what rounding leaves.",
+    );
+    write_meaning(
+        pen,
+        b"In the iterations",
+        b"each candidate by its number, with its vote; one of whom nothing else is said is hopeful and keeps 1. Who is defeated or withdrawn and has no vote is left out.",
+    );
+    pen.close(b"dl");
+}
+
+/// A word, and what it means.
+fn write_meaning<'w, const P: usize, K: Sink>(
+    pen: &mut Pen<'_, P, K>,
+    word: &'w [u8],
+    meant: &'w [u8],
+)
+    ensures { Prints K.Sink pen.old pen.new (printed (all (meaning word.now meant.now []))) }
+{
     pen.write(&[
-        Piece::Start(b"dl"),
         Piece::Start(b"dt"),
-        Piece::Text(Cell::Bytes(b"Hopeful")),
+        Piece::Text(Cell::Bytes(word)),
         Piece::End(b"dt"),
         Piece::Start(b"dd"),
-        Piece::Text(Cell::Bytes(b"neither elected nor defeated so far.")),
+        Piece::Text(Cell::Bytes(meant)),
         Piece::End(b"dd"),
-        Piece::Start(b"dt"),
-        Piece::Text(Cell::Bytes(b"Keep value")),
-        Piece::End(b"dt"),
-        Piece::Start(b"dd"),
-        Piece::Text(Cell::Bytes(
-            b"the part of each vote which reaches a candidate that the candidate keeps. The rest goes on to the next on the ballot. It is 1 for the hopeful; for the elected it falls until each keeps a quota.",
-        )),
-        Piece::End(b"dd"),
-        Piece::Start(b"dt"),
-        Piece::Text(Cell::Bytes(b"On no candidate")),
-        Piece::End(b"dt"),
-        Piece::Start(b"dd"),
-        Piece::Text(Cell::Bytes(
-            b"the votes that nobody keeps, since their ballots rank no further candidate who could, and what rounding leaves.",
-        )),
-        Piece::End(b"dd"),
-        Piece::Start(b"dt"),
-        Piece::Text(Cell::Bytes(b"In the iterations")),
-        Piece::End(b"dt"),
-        Piece::Start(b"dd"),
-        Piece::Text(Cell::Bytes(
-            b"each candidate by its number, with its vote; one of whom nothing else is said is hopeful and keeps 1. Who is defeated or withdrawn and has no vote is left out.",
-        )),
-        Piece::End(b"dd"),
-        Piece::End(b"dl"),
     ]);
 }

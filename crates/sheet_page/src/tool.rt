@@ -1,11 +1,13 @@
 // An input that is shown as a sheet.
-ghost use Rattle.std.specs.Prelude.{◌≡◌, ◌≤◌, length};
+ghost use Rattle.std.specs.Prelude.{◌≡◌, ◌≤◌, IfNone, IfSome, length};
 ghost use Rattle.sheet_input.specs.declared.sheet_limit.TheConstants.{SHEET_LIMIT};
 ghost use Rattle.tool_edge.specs.Finishing.{Finishes, FinishesOwed};
 ghost use Rattle.tool_edge.specs.Streams.{writing};
 ghost use Rattle.tool_edge.specs.Tool.{IsOwedFor, no_history};
 ghost use Rattle.piece_text.specs.Writing.{Writes};
-ghost use Rattle.sheet_reader.specs.Form.{IsPrintable};
+ghost use Rattle.sheet_reader.specs.Form.{HasForm, IsPrintable};
+ghost use Rattle.sheet_reader.specs.Values.{SheetList};
+ghost use Rattle.sheet_page.specs.Inputs.{HasNoneAbove};
 ghost use Rattle.sheet_page.specs.Owed.{shown_as, shows};
 ghost use Rattle.sheet_page.specs.Promised.{promised_text};
 
@@ -36,20 +38,58 @@ pub fn show_sheet<K: Sink>(
 {
     macro_rules! show_at {
         ($($at:literal)*) => {
-            $(match read_sheet::<$at>(alloc, input) {
-                Ok(values) => return show_values(format, &values, b"", sink),
-                Err(SheetStop::Malformed) => {}
-                Err(SheetStop::NoMemory) => return End::NoMemory,
+            $(if let Some(end) = show_at::<$at, K>(alloc, format, input, sink) {
+                return end;
             })*
         };
     }
-    match read_sheet::<9>(alloc, input) {
-        Ok(values) => return show_promised(alloc, format, &values, sink),
-        Err(SheetStop::Malformed) => {}
-        Err(SheetStop::NoMemory) => return End::NoMemory,
+    if let Some(end) = show_at_nine(alloc, format, input, sink) {
+        return end;
     }
     show_at!(8 7 6);
     refuse(sink, SheetFault::Malformed)
+}
+
+/// Shows an input at nine places, with what the count promises. Where it is no sheet at these, nothing is done.
+fn show_at_nine<K: Sink>(
+    alloc: Global,
+    format: Format,
+    input: &[u8],
+    sink: &mut K,
+) -> Option<End<SheetFault>>
+    requires { length input.now ≤ SHEET_LIMIT }
+    ensures shown { IfSome result (λ end. FinishesOwed (IsOwedFor shows format input.now no_history) end
+        (writing K.written K.faults sink.old sink.new)) }
+    ensures none { IfNone result ((v : SheetList) → ¬ HasForm 9 input.now v) }
+    ensures untouched { IfNone result (sink.new ≡ sink.old) }
+{
+    match read_sheet::<9>(alloc, input) {
+        Ok(values) => Some(show_promised(alloc, format, &values, sink)),
+        Err(SheetStop::Malformed) => None,
+        Err(SheetStop::NoMemory) => Some(End::NoMemory),
+    }
+}
+
+/// Shows an input at `P` places, where it is a sheet at no more of them. Where it is none at these either, nothing is done.
+fn show_at<const P: usize, K: Sink>(
+    alloc: Global,
+    format: Format,
+    input: &[u8],
+    sink: &mut K,
+) -> Option<End<SheetFault>>
+    requires places { (6 ≤ P) × (P ≤ 8) }
+    requires greatest { HasNoneAbove P input.now }
+    requires short { length input.now ≤ SHEET_LIMIT }
+    ensures shown { IfSome result (λ end. FinishesOwed (IsOwedFor shows format input.now no_history) end
+        (writing K.written K.faults sink.old sink.new)) }
+    ensures none { IfNone result ((v : SheetList) → ¬ HasForm P input.now v) }
+    ensures untouched { IfNone result (sink.new ≡ sink.old) }
+{
+    match read_sheet::<P>(alloc, input) {
+        Ok(values) => Some(show_values(format, &values, b"", sink)),
+        Err(SheetStop::Malformed) => None,
+        Err(SheetStop::NoMemory) => Some(End::NoMemory),
+    }
 }
 
 /// Shows the values of a sheet of nine places, with what the count promises.

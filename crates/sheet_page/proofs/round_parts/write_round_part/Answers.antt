@@ -1,4 +1,4 @@
-use Rattle.std.proofs.Common.{◌≡◌, ◌∙◌, ap, sym, subst, [], ◌∷◌, List}
+use Rattle.std.proofs.Common.{arith, ◌≡◌, ◌∙◌, ap, sym, subst, [], ◌∷◌, List}
 use Rattle.std.specs.Prelude.{codes, Some, slice_get}
 use Rattle.std.proofs.lemmas.Option.{get_or_from_slice_get}
 use Rattle.candidate_roll.specs.declared.state.State.{State}
@@ -14,6 +14,7 @@ use Rattle.sheet_page.specs.RoundEnds.{settled, settled_at}
 use Rattle.sheet_page.specs.Told.{round_sentences}
 use Rattle.sheet_page.proofs.Printing.{wrapped}
 use Rattle.sheet_page.proofs.Pens.{later, renamed}
+use Rattle.sheet_page.proofs.RowsAt.{printable_at}
 use Rattle.sheet_page.proofs.round_parts.write_round_part.Goals as goal
 
 pub returns : goal.returns
@@ -31,3 +32,21 @@ returns g c =
     ∷ round_picture g.row.P v full (settled_at v last) ∷ folded g.row.P v last ∷ []))
     (later c.write_start.ensures (later (renamed title c.write_title.ensures) (later c.write_round_sentences.ensures
     (later (renamed picture c.write_round_picture.ensures) (later c.write_folded.ensures c.close.ensures)))))
+
+pub write_round_picture-requires : goal.write_round_picture-requires
+write_round_picture-requires g c =
+    let v = c.args.values.now in
+    let at = subst (λ (w : SheetList). slice_get w.rows c.args.last ≡ Some c.get-row.result.now) c.values.view_is c.get-row.ensures in
+    let row = get_or_from_slice_get v.rows c.args.last c.get-row.result.now (blank 0) at in (
+      omega arith,
+      (
+        omega arith,
+        (
+          omega arith,
+          (
+            c.requires.printable,
+            ((printable_at g.row.P v c.args.last _ c.requires.printable c.requires.place row).of_all, c.states_behind.ensures.all),
+          ),
+        ),
+      ),
+    )
