@@ -59,30 +59,57 @@ fn run_case<R: Print + AllocGlobal + Threads + Wait + Sync>(
     Ok(())
 }
 
-/// Runs the cases of a file.
+/// Runs the case that begins with the line of this number, if one does; gives whether the file goes on.
+fn run_part<'a, R: Print + AllocGlobal + Threads + Wait + Sync>(
+    rt: &R,
+    file: &str,
+    reader: &mut CaseReader<'a>,
+    (number, line): (usize, &'a str),
+    rest: &[&'a str],
+    tally: &mut Tally,
+) -> io::Result<bool> {
+    match reader.read(rt.alloc(), number, line, rest) {
+        Ok(Some(case)) => run_case(rt, file, &case, tally)?,
+        Ok(None) => {}
+        Err(fault) => {
+            tally.count_different();
+            println!(rt; "{file} line {}: {fault:?}", reader.line())?;
+            return Ok(false);
+        }
+    }
+    Ok(true)
+}
+
+/// Runs the cases of a file up to a line that can't be read.
+fn run_lines<'a, R: Print + AllocGlobal + Threads + Wait + Sync>(
+    rt: &R,
+    file: &str,
+    reader: &mut CaseReader<'a>,
+    lines: &[&'a str],
+    tally: &mut Tally,
+) -> io::Result<()> {
+    let mut rest = lines;
+    let mut number = 0usize;
+    for line in lines {
+        number = number.saturating_add(1);
+        rest = rest.get(1..).unwrap_or(&[]);
+        if !run_part(rt, file, reader, (number, line), rest, tally)? {
+            break;
+        }
+    }
+    Ok(())
+}
+
+/// Runs the cases of a file, which has to have one or a line that can't be read.
 fn run_cases<R: Print + AllocGlobal + Threads + Wait + Sync>(
     rt: &R,
     file: &str,
     lines: &[&str],
     tally: &mut Tally,
 ) -> io::Result<()> {
-    let mut reader = CaseReader::new(rt.alloc());
-    let mut rest = lines;
-    let mut number = 0usize;
-    let before = tally.cases;
-    for line in lines {
-        number = number.saturating_add(1);
-        rest = rest.get(1..).unwrap_or(&[]);
-        match reader.read(rt.alloc(), number, line, rest) {
-            Ok(Some(case)) => run_case(rt, file, &case, tally)?,
-            Ok(None) => {}
-            Err(fault) => {
-                tally.count_different();
-                return println!(rt; "{file} line {}: {fault:?}", reader.line());
-            }
-        }
-    }
-    if tally.cases == before {
+    let before = (tally.cases, tally.differ);
+    run_lines(rt, file, &mut CaseReader::new(rt.alloc()), lines, tally)?;
+    if (tally.cases, tally.differ) == before {
         tally.count_different();
         println!(rt; "{file}: no case")?;
     }

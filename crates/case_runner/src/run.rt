@@ -59,17 +59,27 @@ fn call<R: Threads + Wait + Sync>(
     (code, 0)
 }
 
+/// What a case's run reads.
+fn source_of(alloc: Global, case: &Case<'_>) -> Result<MemorySource, NoMemory> {
+    let input = case.input.to_vec(alloc)?;
+    let failing = case.failing_reads.to_vec(alloc)?;
+    Ok(MemorySource::new(input, case.read.max(1), failing))
+}
+
+/// What a case's run writes into.
+fn sink_of(alloc: Global, case: &Case<'_>) -> Result<MemorySink, NoMemory> {
+    let failing = case.failing_writes.to_vec(alloc)?;
+    MemorySink::with_room(alloc, case.room, case.write.max(1), failing)
+}
+
 /// Runs a case's tool.
 pub fn run<R: Threads + Wait + Sync>(
     rt: &R,
     alloc: Global,
     case: &Case<'_>,
 ) -> Result<Ran, NoMemory> {
-    let input = case.input.to_vec(alloc)?;
-    let reads = case.failing_reads.to_vec(alloc)?;
-    let writes = case.failing_writes.to_vec(alloc)?;
-    let mut source = MemorySource::new(input, case.read.max(1), reads);
-    let mut sink = MemorySink::with_room(alloc, case.room, case.write.max(1), writes)?;
+    let mut source = source_of(alloc, case)?;
+    let mut sink = sink_of(alloc, case)?;
     let words = case.words.as_slice();
     let (code, calls) = call(rt, alloc, case.tool, words, &mut source, &mut sink);
     let written = sink.bytes().to_vec(alloc)?;
