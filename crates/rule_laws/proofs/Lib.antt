@@ -23,6 +23,7 @@ mod FirstQuota
 mod Struck
 mod Silent
 mod NothingLost
+mod Heard
 mod Mentions
 mod KeepRises
 mod Plurality
