@@ -1,5 +1,5 @@
 -- What holds in every count, where its sheet promises it.
-use Rattle.std.specs.Prelude.{◌≡◌, ◌↔◌, ℕ, ◌*◌, ◌+◌, ◌≤◌, Bool, List, ◌++◌, length, All}
+use Rattle.std.specs.Prelude.{◌≡◌, ◌≢◌, ◌↔◌, ℕ, ◌*◌, ◌+◌, ◌≤◌, Bool, List, [], ◌++◌, length, All}
 use Rattle.std.specs.List.Sorted.{IsPermutation}
 use Rattle.fixed_place.specs.Rounding.{scale}
 use Rattle.candidate_roll.specs.Roll.{RollList}
@@ -11,12 +11,14 @@ use Rattle.meek_count.specs.Laws.{IsElection}
 use Rattle.meek_count.specs.Rows.{IsCountUnder}
 use Rattle.rule_laws.specs.Coalition.{IsSolid, elected_members, left_over, running_members, whole_quota}
 use Rattle.rule_laws.specs.NoTies.{HasNoTie}
+use Rattle.rule_laws.specs.Silent.{heard_count}
 use Rattle.sheet_text.specs.Lines.{ended}
 use Rattle.sheet_text.specs.Sheet.{IsSheetUnder}
 use Rattle.sheet_reader.specs.Form.{HasForm}
 use Rattle.sheet_reader.specs.Laws.{HasNames}
 use Rattle.sheet_reader.specs.Values.{SheetList}
 use Rattle.count_promise.specs.Left.{slack}
+use Rattle.count_promise.specs.Quota.{promised_quota}
 use Rattle.count_promise.specs.Lines.{no_lot, promise_text}
 
 -- The text is the sheet of these values, and that of an election by a rule, at nine places.
@@ -27,7 +29,8 @@ pub record IsSheetOfCount (rule : Rule) (omega : ℕ) (ballots : List (List ℕ)
   pub values : HasForm 9 text v
 
 -- Voters who rank the same candidates above all others, and are k quotas and the slack besides, have k of them elected, where so
--- many were not withdrawn. The slack is what `proportional within` names; it is so too where a defeat with a great surplus makes it great.
+-- many were not withdrawn. Ballots that rank nobody who runs ask for no greater quota. The slack is what `proportional within` names;
+-- it is so too where a defeat with a great surplus makes it great.
 abbrev pub PromisesHold : Type 0
 PromisesHold =
     (rule : Rule) (omega : ℕ) (ballots coalition others : List (List ℕ)) (roll : RollList) (lots text : List ℕ) (v : SheetList)
@@ -36,8 +39,15 @@ PromisesHold =
     → IsPermutation ballots (coalition ++ others)
     → All (IsSolid (length v.names) roll.withdrawn members) coalition
     → k ≤ running_members (length v.names) roll.withdrawn members
-    → k * whole_quota (scale 9) v.seats v.ballots + slack v.rows ≤ length coalition * scale 9
+    → k * promised_quota v + slack v.rows ≤ length coalition * scale 9
     → k ≤ elected_members (length v.names) members v.last
+
+-- Where the sheet has an iteration, its quota is that of the ballots that rank somebody who runs.
+abbrev pub QuotaIsOfThoseHeard : Type 0
+QuotaIsOfThoseHeard =
+    (rule : Rule) (omega : ℕ) (ballots : List (List ℕ)) (roll : RollList) (lots text : List ℕ) (v : SheetList)
+    → IsSheetOfCount rule omega ballots roll lots text v → v.rows ≢ []
+    → promised_quota v ≡ whole_quota (scale 9) v.seats (heard_count roll.withdrawn ballots)
 
 -- No iteration of a count leaves more over for any candidates than the slack.
 abbrev pub SlackCoversAll : Type 0

@@ -5,13 +5,13 @@ use Rattle.fixed_place.specs.Rounding.{scale}
 use Rattle.fixed_place.specs.Text.{text_of}
 use Rattle.meek_rule.specs.Places.{each_place}
 use Rattle.meek_rule.specs.Row.{Row}
-use Rattle.rule_laws.specs.Coalition.{whole_quota}
 use Rattle.sheet_text.specs.Lines.{ended, listed, number_line}
 use Rattle.sheet_reader.specs.Values.{SheetList}
 use Rattle.count_promise.specs.declared.group.Group.{Group}
 use Rattle.count_promise.specs.declared.group.Group.TheVariants.{Tied, Seated, Left}
 use Rattle.count_promise.specs.Lots.{defeat_is_by_lot, election_is_by_lot, is_by_lot, is_in}
 use Rattle.count_promise.specs.Left.{defeated, first_defeat, greatest_lack, greatest_surplus, slack}
+use Rattle.count_promise.specs.Quota.{promised_quota}
 
 -- the numbers of a group by rising number, each after a space
 abbrev pub numbers_in : Row → Group → List ℕ
@@ -79,7 +79,7 @@ abbrev pub further_text : SheetList → List ℕ
 further_text v =
     ended (greatest_line (first_defeat (greatest_surplus v.rows) v.rows))
     ++ ended (amount_line (codes "seats lack at most ") (greatest_lack v.rows))
-    ++ ended (amount_line (codes "quota of all votes ") (whole_quota (scale 9) v.seats v.ballots))
+    ++ ended (amount_line (codes "quota of all votes ") (promised_quota v))
     ++ ended (promise_of v.rows)
 
 -- What the sheet of these values promises.

@@ -1,5 +1,5 @@
 -- What sheets promise, worked by hand.
-use Rattle.std.specs.Prelude.{◌≡◌, ℕ, ◌+◌, Bool, true, false, List, [], ◌∷◌, codes}
+use Rattle.std.specs.Prelude.{◌≡◌, ℕ, ◌+◌, Bool, true, false, List, [], ◌∷◌, sum, codes}
 use Rattle.candidate_roll.specs.declared.state.State.{State}
 use Rattle.candidate_roll.specs.declared.state.State.TheVariants.{Hopeful, Elected as IsElected}
 use Rattle.meek_rule.specs.Row.{Row}
@@ -9,9 +9,9 @@ use Rattle.sheet_text.specs.Lines.{text_of_lines}
 use Rattle.sheet_reader.specs.Values.{SheetList}
 use Rattle.count_promise.specs.Lines.{promise_text}
 
--- a sheet of these iterations, in which 13 ballots take two seats
+-- a sheet of these iterations, in which 14 ballots take two seats
 abbrev pub sheet_of : List Row → SheetList
-sheet_of rows = record { title = codes "T"; seats = 2; ballots = 13; names = []; rows = rows; last = [] }
+sheet_of rows = record { title = codes "T"; seats = 2; ballots = 14; names = []; rows = rows; last = [] }
 
 -- The sheet of these iterations promises just these lines.
 abbrev pub Promises : List Row → (lines : List (List ℕ)) → Type 0
@@ -25,7 +25,7 @@ row_of round states votes quota surplus elected tied step = record {
   states = states;
   keeps = 0 ∷ 0 ∷ 0 ∷ [];
   votes = votes;
-  total = 0;
+  total = sum votes;
   quota = quota;
   surplus = surplus;
   elected = elected;
@@ -50,7 +50,7 @@ NoIterations =
     codes "no lot decided anything"
     ∷ codes "nobody was defeated in an iteration"
     ∷ codes "seats lack at most 0.000000000"
-    ∷ codes "quota of all votes 4.333333334"
+    ∷ codes "quota of all votes 4.666666667"
     ∷ codes "proportional within 0.000000000"
     ∷ []
     )
@@ -64,7 +64,7 @@ TwoAreTied =
     codes "round 4 iteration 1 defeats 2 by lot of 2 3"
     ∷ codes "greatest surplus at a defeat 0.000000000 round 4 iteration 1 candidate 2"
     ∷ codes "seats lack at most 0.000000000"
-    ∷ codes "quota of all votes 4.333333334"
+    ∷ codes "quota of all votes 1.666666667"
     ∷ codes "proportional within 0.000000000"
     ∷ []
     )
@@ -78,7 +78,7 @@ LastSeatByLot =
     codes "round 1 iteration 1 elects 2 and not 1 by lot"
     ∷ codes "nobody was defeated in an iteration"
     ∷ codes "seats lack at most 0.000000000"
-    ∷ codes "quota of all votes 4.333333334"
+    ∷ codes "quota of all votes 4.666666667"
     ∷ codes "proportional within 0.000000000"
     ∷ []
     )
@@ -92,7 +92,7 @@ LastSeatByVotes =
     codes "no lot decided anything"
     ∷ codes "nobody was defeated in an iteration"
     ∷ codes "seats lack at most 0.000000000"
-    ∷ codes "quota of all votes 4.333333334"
+    ∷ codes "quota of all votes 3.333333334"
     ∷ codes "proportional within 0.000000000"
     ∷ []
     )
@@ -106,7 +106,7 @@ GreatSurplus =
     codes "no lot decided anything"
     ∷ codes "greatest surplus at a defeat 3.500000000 round 2 iteration 1 candidate 3"
     ∷ codes "seats lack at most 0.500000000"
-    ∷ codes "quota of all votes 4.333333334"
+    ∷ codes "quota of all votes 4.166666667"
     ∷ codes "not promised: round 2 iteration 1 defeats 3 while 3.500000000 votes of surplus are not passed on"
     ∷ []
     )
@@ -125,7 +125,7 @@ LittleSurplus =
     codes "no lot decided anything"
     ∷ codes "greatest surplus at a defeat 0.999999999 round 3 iteration 1 candidate 3"
     ∷ codes "seats lack at most 0.500000000"
-    ∷ codes "quota of all votes 4.333333334"
+    ∷ codes "quota of all votes 4.000000001"
     ∷ codes "proportional within 1.499999999"
     ∷ []
     )
@@ -145,7 +145,7 @@ SecondIsGreatest =
     codes "no lot decided anything"
     ∷ codes "greatest surplus at a defeat 1.000000000 round 3 iteration 1 candidate 3"
     ∷ codes "seats lack at most 0.000000000"
-    ∷ codes "quota of all votes 4.333333334"
+    ∷ codes "quota of all votes 3.100000001"
     ∷ codes "not promised: round 3 iteration 1 defeats 3 while 1.000000000 votes of surplus are not passed on"
     ∷ []
     )

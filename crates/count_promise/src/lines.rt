@@ -5,11 +5,11 @@ ghost use Rattle.plain_ballots.specs.declared.limits.TheConstants.{MOST_BALLOTS}
 ghost use Rattle.fixed_place.specs.Rounding.{scale};
 ghost use Rattle.meek_rule.specs.Places.{each_place};
 ghost use Rattle.meek_rule.specs.Row.{HasRoomFor};
-ghost use Rattle.rule_laws.specs.Coalition.{whole_quota};
 ghost use Rattle.sheet_text.specs.Lines.{ended, listed, number_line};
 ghost use Rattle.sheet_reader.specs.Form.{IsPrintable, IsPrintableRow};
 ghost use Rattle.count_promise.specs.Left.{first_defeat};
 ghost use Rattle.count_promise.specs.Lots.{is_by_lot, is_in};
+ghost use Rattle.count_promise.specs.Quota.{quota_of, votes_heard};
 ghost use Rattle.count_promise.specs.Lines.{amount_line, defeat_lots, election_lots, further_text, greatest_line, lots_of, lots_text, not_promised_line, promise_line, promise_text};
 
 use crate::Text;
@@ -41,20 +41,33 @@ fn push_further(text: &mut Text, values: &SheetValues) -> Result<(), AllocError>
 {
     let rows = values.rows.items();
     let peaks = peaks_of(rows, values.names.len());
-    let quota = whole_quota(values.seats, values.ballots);
+    let votes = votes_heard(rows, values.ballots);
+    let quota = quota_of(values.seats, votes);
     push_greatest(text, rows, peaks.surplus)?;
     push_amount(text, b"seats lack at most ", peaks.lack)?;
     push_amount(text, b"quota of all votes ", quota)?;
     push_promise(text, rows, peaks.left)
 }
 
-/// The quota while nothing of any ballot is lost, in units.
-fn whole_quota(seats: u32, ballots: u64) -> u128
+/// The votes of the first iteration together, in units, or those of all ballots where there is none.
+fn votes_heard(rows: &[Row<9>], ballots: u64) -> u128
     requires { ballots ≤ MOST_BALLOTS }
-    ensures value { result ≡ whole_quota (scale 9) seats ballots }
+    ensures value { result ≡ votes_heard (scale 9) ballots rows.now }
+    ensures bound { result < 10 ^ 26 }
+{
+    match rows.first() {
+        Some(row) => row.total.units() as u128,
+        None => ballots as u128 * VOTE as u128,
+    }
+}
+
+/// The quota of so many units of votes.
+fn quota_of(seats: u32, votes: u128) -> u128
+    requires { votes < 10 ^ 26 }
+    ensures value { result ≡ quota_of seats votes }
     ensures bound { result < 10 ^ 27 }
 {
-    ballots as u128 * VOTE as u128 / (seats as u128 + 1) + 1
+    votes / (seats as u128 + 1) + 1
 }
 
 /// The lines of what lots decided, or the line that they decided nothing.

@@ -30,6 +30,7 @@ mod TwoSeats
 mod Struck
 mod Silent
 mod NothingLost
+mod Heard
 mod Mentions
 mod KeepRises
 mod Plurality

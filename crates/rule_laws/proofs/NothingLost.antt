@@ -54,7 +54,7 @@ given-and_left rule s keeps w (r ∷ ranks) n pos bound numbers =
     omega arith
 
 -- so with all ballots
-votes-and_exhausted : (rule : Rule) (s : ℕ) (keeps : List ℕ) (ballots : List (List ℕ)) (n : ℕ) → 1 ≤ s
+pub votes-and_exhausted : (rule : Rule) (s : ℕ) (keeps : List ℕ) (ballots : List (List ℕ)) (n : ℕ) → 1 ≤ s
     → All (λ k. k ≤ s) keeps → All (IsRanking n) ballots
     → total n (λ p. vote_under rule s keeps ballots (p + 1)) + exhausted rule s keeps ballots ≡ length ballots * s
 votes-and_exhausted rule s keeps [] n pos bound rankings =

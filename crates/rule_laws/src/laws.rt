@@ -13,7 +13,7 @@ ghost use Rattle.rule_laws.specs.LaterLots.{LaterLotsNeverHurt, WithLaterLotsItI
 ghost use Rattle.rule_laws.specs.OneSeat.{FewSeatsRulesAgree, OneSeatRowsAreRunoffs, OneSeatPlacesAgree};
 ghost use Rattle.rule_laws.specs.Exhausted.{NothingVanishes};
 ghost use Rattle.rule_laws.specs.Plurality.{FirstPreferencesStay, PluralityHolds, UnrankedAreNotElected};
-ghost use Rattle.rule_laws.specs.Silent.{SilentBallotsChangeNothing};
+ghost use Rattle.rule_laws.specs.Silent.{FirstVotesAreThoseHeard, HeardCoalitionsAreSeated, SilentBallotsChangeNothing};
 ghost use Rattle.rule_laws.specs.KeepRises.{KeepValuesRiseByAUnit};
 ghost use Rattle.rule_laws.specs.Unheard.{AllRankDeeLast, AllRankDeeLastAtSixPlaces, UnnamedDeeIsElected};
 ghost use Rattle.rule_laws.specs.Paradoxes.{CidIsElectedFromSecond, CidIsDefeatedFromFirst, AnnIsElectedByNine, CidIsElectedByEleven};
@@ -115,10 +115,13 @@ pub fn unranked_are_not_elected()
     ensures { UnrankedAreNotElected }
 {}
 
-/// Ballots that rank nobody who runs, blank ones among them, may be added or left out: the count is the same, row
-/// for row.
+/// Ballots that rank nobody who runs, blank ones among them, may be added or left out: the count is the same, row for row.
+/// The votes of the first iteration are together one for each other ballot, and quotas of these are enough for voters who
+/// rank the same candidates above all others.
 pub fn silent_ballots_change_nothing()
-    ensures { SilentBallotsChangeNothing }
+    ensures same { SilentBallotsChangeNothing }
+    ensures total { FirstVotesAreThoseHeard }
+    ensures quotas { HeardCoalitionsAreSeated }
 {}
 
 /// A keep value, or a price, may rise by rounding, but by at most one unit in an iteration where its candidate has at

@@ -7,9 +7,8 @@ use Rattle.sheet_text.specs.Lines.{ended, text_of_lines}
 use Rattle.sheet_reader.specs.Cut.{IsWithout, is_without}
 use Rattle.sheet_reader.specs.LineList.{in_front, lines_in}
 use Rattle.sheet_reader.specs.Values.{SheetList}
-use Rattle.fixed_place.specs.Rounding.{scale}
-use Rattle.rule_laws.specs.Coalition.{whole_quota}
 use Rattle.count_promise.specs.Left.{first_defeat, greatest_lack, greatest_surplus}
+use Rattle.count_promise.specs.Quota.{promised_quota}
 use Rattle.count_promise.specs.Lines.{amount_line, greatest_line, lots_text, promise_of, promise_text}
 use Rattle.sheet_page.specs.PageLaws.{at_nine}
 use Rattle.sheet_page.specs.SentenceLaws.{SaysItsPromise}
@@ -62,7 +61,7 @@ promise_whole : (v : SheetList) â†’ text_of_lines (lines_in (promise_text v)) â‰
 promise_whole v =
     let greatest = ended (greatest_line (first_defeat (greatest_surplus v.rows) v.rows)) in
     let lack = ended (amount_line (codes "seats lack at most ") (greatest_lack v.rows)) in
-    let quota = ended (amount_line (codes "quota of all votes ") (whole_quota (scale 9) v.seats v.ballots)) in
+    let quota = ended (amount_line (codes "quota of all votes ") (promised_quota v)) in
     let last = promise_of v.rows in
     let others = greatest ++ lack ++ quota in
     let ends = behind (lots_text v.rows) (others ++ last) _ (behind others last (ended last) refl) in
