@@ -1,10 +1,11 @@
-use Rattle.std.proofs.Common.{◌≡◌, ℕ, ◌+◌, ◌∷◌, ◌++◌, [], List, sym, ap, ◌∙◌, subst, take, arith}
+use Rattle.std.proofs.Common.{◌≡◌, ℕ, ◌+◌, ◌∷◌, ◌++◌, [], List, Some, sym, ap, ◌∙◌, subst, take, arith}
 use Rattle.std.proofs.lemmas.Grind.{common_steps}
 use Rattle.ballot_table.specs.declared.column.Column.{Column}
 use Rattle.ballot_table.specs.Head.{column_of}
 use Rattle.ballot_table.specs.Asked.{asked_of}
 use Rattle.ballot_table.specs.Finding.{IsNext}
-use Rattle.ballot_table.proofs.HeadLemmas.{AreColumns, column_more}
+use Rattle.ballot_table.proofs.HeadLemmas.{AreColumns, all_columns, all_counted, as_many_columns, as_many_names}
+use Rattle.ballot_table.proofs.HeadLemmas.{column_fault, column_more, no_column_fault}
 use Rattle.ballot_table.proofs.head.Head.columns.Goals as goal
 
 pub loop-at-preserved : goal.loop-at-preserved
@@ -23,3 +24,44 @@ loop-at-preserved c =
     (l.others + c.others_at-others.result)) (sym pushed)
     (subst (λ (n : ℕ). AreColumns a texts (l.at + 1) (l.columns.items ++ column ∷ []) (l.others + n))
     (sym c.others_at-others.ensures) more)
+
+pub column_of-requires-clause-counted : goal.column_of-requires-clause-counted
+column_of-requires-clause-counted c = c.loop-at.invariant.counted
+
+pub column_of-requires-clause-few : goal.column_of-requires-clause-few
+column_of-requires-clause-few c = c.loop-at.invariant.few
+
+pub column_of-requires-clause-room : goal.column_of-requires-clause-room
+column_of-requires-clause-room c =
+    let few = c.loop-at.invariant.inside in
+    omega (arith, few, c.loop-at-test.true, c.if-texts.false)
+
+pub returns-in-Err-clause-stop : goal.returns-in-Err-clause-stop
+returns-in-Err-clause-stop c =
+    let a = c.args.asked.now in
+    let texts = c.args.texts.now in
+    let l = c.loop-at in
+    let faulty = sym (c.in-Err.ensures.column ∙ ap (column_of (asked_of a) (take l.at texts)) c.bytes.ensures) in
+    column_fault a texts l.at c.index-texts-at.result c.loop-at-test.true c.index-texts-at.is l.columns.items l.others
+    l.invariant c.in-Err.kind faulty
+    ∙ ap Some (sym c.fault_at.ensures)
+
+pub returns-clause-sound : goal.returns-clause-sound
+returns-clause-sound c =
+    let l = c.loop-at in
+    no_column_fault c.args.asked.now c.args.texts.now l.at c.loop-at-test.false l.columns.items l.others l.invariant
+
+pub returns-clause-head : goal.returns-clause-head
+returns-clause-head c =
+    let a = c.args.asked.now in
+    let texts = c.args.texts.now in
+    let l = c.loop-at in
+    let so_far = l.invariant in
+    let counted = all_counted a texts l.at c.loop-at-test.false l.columns.items l.others so_far in
+    record {
+      columns_are = all_columns a texts l.at c.loop-at-test.false l.columns.items l.others so_far;
+      others = counted;
+      names = c.among.ensures ∙ as_many_names a texts l.others counted;
+      candidates = as_many_columns a l.columns.items l.others so_far.sum ∙ sym c.among.ensures;
+      few = let sum = so_far.sum in let few = so_far.few in omega (arith, sum, few);
+    }
