@@ -18,21 +18,17 @@ use Rattle.sheet_page.specs.declared.format.Format.{Format}
 use Rattle.sheet_page.specs.Inputs.{IsSheetText}
 use Rattle.sheet_page.specs.Owed.{OwesShown, shows}
 use Rattle.sheet_page.proofs.Owing.{sound as sound_sheets}
-use Rattle.day_page.specs.Inputs.{IsDay, IsDayAt}
+use Rattle.day_page.specs.Inputs.{HasNoneAbove, IsDay, IsDayAt}
 use Rattle.day_page.specs.Owed.{IsRefusedPage, OwesDay, day_as, pages}
 
 -- ---- the places of an input
 
--- it is a day at no number of places above this one
-abbrev pub HasNoneAbove : List ℕ → ℕ → Type 0
-HasNoneAbove input n = (other : ℕ) → n < other → other ≤ 9 → ¬ (IsDayForm other input)
-
-pub none_above_nine : (input : List ℕ) → HasNoneAbove input 9
+pub none_above_nine : (input : List ℕ) → HasNoneAbove 9 input
 none_above_nine input other above few form = omega (arith, above, few)
 
 pub none_above_less :
-    (input : List ℕ) (n : ℕ) → HasNoneAbove input (n + 1)
-    → ((v : DayTextList) → ¬ (HasDayForm (n + 1) input v)) → HasNoneAbove input n
+    (input : List ℕ) (n : ℕ) → HasNoneAbove (n + 1) input
+    → ((v : DayTextList) → ¬ (HasDayForm (n + 1) input v)) → HasNoneAbove n input
 none_above_less input n above not other more few form =
     elim (cases_lt (n + 1) other) [
       | inl lt ↦ above other lt few form
@@ -43,14 +39,14 @@ none_above_less input n above not other more few form =
     ]
 
 pub own_at :
-    (input : List ℕ) (n : ℕ) (v : DayTextList) → 6 ≤ n → n ≤ 9 → HasDayForm n input v → HasNoneAbove input n
+    (input : List ℕ) (n : ℕ) (v : DayTextList) → 6 ≤ n → n ≤ 9 → HasDayForm n input v → HasNoneAbove n input
     → IsDayAt input n v
 own_at input n v from few form above = record {
   own = record { from = from; to = few; form = (v, form); greatest = above };
   form = form;
 }
 
-pub no_day : (input : List ℕ) → HasNoneAbove input 5 → IsDay input → ⊥
+pub no_day : (input : List ℕ) → HasNoneAbove 5 input → IsDay input → ⊥
 no_day input none day =
     let own = day.2.own in
     none day.0 (omega (arith, own.from)) own.to own.form

@@ -1,5 +1,5 @@
 // The tool that shows a sheet or a day.
-ghost use Rattle.std.specs.Prelude.{◌≡◌, ◌≤◌, All, map, length};
+ghost use Rattle.std.specs.Prelude.{◌≡◌, ◌≤◌, All, IfNone, IfOk, IfSome, map, length};
 ghost use Rattle.std.specs.String.{string_bytes};
 ghost use Rattle.sheet_input.specs.declared.sheet_limit.TheConstants.{SHEET_LIMIT};
 ghost use Rattle.tool_edge.specs.Finishing.{FinishesOwed};
@@ -7,8 +7,10 @@ ghost use Rattle.tool_edge.specs.Streams.{reading, writing};
 ghost use Rattle.tool_edge.specs.Tool.{IsOwedFor, IsRun, no_history};
 ghost use Rattle.piece_text.specs.Writing.{Writes};
 ghost use Rattle.day_text.specs.End.{day_end};
-ghost use Rattle.day_text.specs.Form.{IsPrintableSheet};
+ghost use Rattle.day_text.specs.Form.{HasDayForm, IsPrintableSheet};
+ghost use Rattle.day_text.specs.Values.{DayTextList};
 ghost use Rattle.day_page.specs.Freezes.{promised_at};
+ghost use Rattle.day_page.specs.Inputs.{HasNoneAbove};
 ghost use Rattle.day_page.specs.Owed.{day_as, pages};
 
 use crate::csv::{write_day_csv, write_marked_day_csv};
@@ -21,7 +23,7 @@ use count_promise::Text;
 use day_text::{DayEnd, DayStop, DayText, end_of_day, read_day_text};
 use sheet_input::{SHEET_LIMIT, SheetFault};
 use sheet_page::{Format, show_sheet, takes_format};
-use std::alloc::Global;
+use std::alloc::{AllocError, Global};
 use tool_edge::{End, close, open};
 
 /// Shows the sheet or the text of a day that the source gives, in the format that the words ask for. An input that
@@ -52,21 +54,86 @@ fn show<K: Sink>(alloc: Global, format: Format, input: &[u8], sink: &mut K) -> E
         (writing K.written K.faults sink.old sink.new) }
 {
     macro_rules! show_at {
-        ($($at:literal $promises:ident)*) => {
-            $(match read_day_text::<$at>(alloc, input) {
-                Ok(day) => {
-                    let Ok(promises) = $promises(alloc, day.sheets.items()) else {
-                        return End::NoMemory;
-                    };
-                    return show_day(alloc, format, &day, promises.as_slice(), sink);
-                }
-                Err(DayStop::Malformed) => {}
-                Err(DayStop::NoMemory) => return End::NoMemory,
+        ($($at:literal)*) => {
+            $(if let Some(end) = show_at::<$at, K>(alloc, format, input, sink) {
+                return end;
             })*
         };
     }
-    show_at!(9 promises_of 8 no_promises 7 no_promises 6 no_promises);
+    if let Some(end) = show_at_nine(alloc, format, input, sink) {
+        return end;
+    }
+    show_at!(8 7 6);
     show_sheet(alloc, format, input, sink)
+}
+
+/// Shows the text of a day at nine places, with what its counts promise. Where an input is none at these, nothing is done.
+fn show_at_nine<K: Sink>(
+    alloc: Global,
+    format: Format,
+    input: &[u8],
+    sink: &mut K,
+) -> Option<End<SheetFault>>
+    requires { length input.now ≤ SHEET_LIMIT }
+    ensures shown { IfSome result (λ end. FinishesOwed (IsOwedFor pages format input.now no_history) end
+        (writing K.written K.faults sink.old sink.new)) }
+    ensures none { IfNone result ((v : DayTextList) → ¬ HasDayForm 9 input.now v) }
+    ensures untouched { IfNone result (sink.new ≡ sink.old) }
+{
+    match read_day_text::<9>(alloc, input) {
+        Ok(day) => {
+            let promises = promises_of(alloc, day.sheets.items());
+            Some(show_promised(alloc, format, &day, &promises, sink))
+        }
+        Err(DayStop::Malformed) => None,
+        Err(DayStop::NoMemory) => Some(End::NoMemory),
+    }
+}
+
+/// Shows the text of a day at `P` places, where an input is none at more of them. Where it is none at these either, nothing
+/// is done.
+fn show_at<const P: usize, K: Sink>(
+    alloc: Global,
+    format: Format,
+    input: &[u8],
+    sink: &mut K,
+) -> Option<End<SheetFault>>
+    requires places { (6 ≤ P) × (P ≤ 8) }
+    requires greatest { HasNoneAbove P input.now }
+    requires short { length input.now ≤ SHEET_LIMIT }
+    ensures shown { IfSome result (λ end. FinishesOwed (IsOwedFor pages format input.now no_history) end
+        (writing K.written K.faults sink.old sink.new)) }
+    ensures none { IfNone result ((v : DayTextList) → ¬ HasDayForm P input.now v) }
+    ensures untouched { IfNone result (sink.new ≡ sink.old) }
+{
+    match read_day_text::<P>(alloc, input) {
+        Ok(day) => {
+            let promises = no_promises(alloc, day.sheets.items());
+            Some(show_promised(alloc, format, &day, &promises, sink))
+        }
+        Err(DayStop::Malformed) => None,
+        Err(DayStop::NoMemory) => Some(End::NoMemory),
+    }
+}
+
+/// Shows the values of a day, with what its counts promise if there was memory for it.
+fn show_promised<const P: usize, K: Sink>(
+    alloc: Global,
+    format: Format,
+    day: &DayText<P>,
+    promises: &Result<Vec<Text>, AllocError>,
+    sink: &mut K,
+) -> End<SheetFault>
+    requires places { (6 ≤ P) × (P ≤ 9) }
+    requires printable { All (IsPrintableSheet P) day.now.sheets }
+    requires promised { IfOk promises.now (λ texts. texts.items ≡ map (promised_at P) day.now.sheets) }
+    ensures { FinishesOwed (λ due bytes. (due ≡ End.Done) × (bytes ≡ day_as P format day.now)) result
+        (writing K.written K.faults sink.old sink.new) }
+{
+    match promises {
+        Ok(texts) => show_day(alloc, format, day, texts.as_slice(), sink),
+        Err(_) => End::NoMemory,
+    }
 }
 
 /// Shows the values of a day, with what its counts promise.
