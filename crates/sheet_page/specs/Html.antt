@@ -70,17 +70,27 @@ rounds_title = el (codes "h2") [] (words (codes "Votes at the end of each round"
 abbrev pub meaning : (word meant : List ℕ) → List Trees → List Trees
 meaning word meant behind = el (codes "dt") [] (words word ∷ []) ∷ el (codes "dd") [] (words meant ∷ []) ∷ behind
 
+-- what the words of a count mean
+abbrev pub hopeful_means : List ℕ
+hopeful_means = codes "neither elected nor defeated so far."
+
+abbrev pub keep_value_means : List ℕ
+keep_value_means = codes "the part of each vote which reaches a candidate that the candidate keeps. The rest goes on to the next on the ballot. It is 1 for the hopeful; for the elected it falls until each keeps a quota."
+
+abbrev pub on_no_candidate_means : List ℕ
+on_no_candidate_means = codes "the votes that nobody keeps, since their ballots rank no further candidate who could, and what rounding leaves."
+
+abbrev pub iterations_mean : List ℕ
+iterations_mean = codes "each candidate by its number, with its vote; one of whom nothing else is said is hopeful and keeps 1. Who is defeated or withdrawn and has no vote is left out."
+
 -- the words of a count that a reader may not know
 abbrev pub words_explained : Trees
 words_explained =
     el (codes "dl") [] (
-    meaning (codes "Hopeful") (codes "neither elected nor defeated so far.") (
-    meaning (codes "Keep value")
-    (codes "the part of each vote which reaches a candidate that the candidate keeps. The rest goes on to the next on the ballot. It is 1 for the hopeful; for the elected it falls until each keeps a quota.") (
-    meaning (codes "On no candidate")
-    (codes "the votes that nobody keeps, since their ballots rank no further candidate who could, and what rounding leaves.") (
-    meaning (codes "In the iterations")
-    (codes "each candidate by its number, with its vote; one of whom nothing else is said is hopeful and keeps 1. Who is defeated or withdrawn and has no vote is left out.") []))))
+    meaning (codes "Hopeful") hopeful_means (
+    meaning (codes "Keep value") keep_value_means (
+    meaning (codes "On no candidate") on_no_candidate_means (
+    meaning (codes "In the iterations") iterations_mean []))))
 
 abbrev pub rounds_part : PartNames → (places : ℕ) → SheetList → Trees
 rounds_part names places v = el (codes "section") [] (rounds_title ∷ table_frame names places v ∷ words_explained ∷ [])
