@@ -23,11 +23,8 @@ use Rattle.import_words.specs.declared.asked.Asked.{Asked}
 use Rattle.import_words.specs.declared.output.Output.{Output}
 use Rattle.import_words.specs.declared.output.Output.TheVariants.{Blt}
 use Rattle.import_words.specs.declared.roll_words.RollWords.{RollWords}
-use Rattle.blt_import.specs.declared.form.Form.{Form}
-use Rattle.blt_import.specs.declared.form.Form.TheVariants.{Table}
 use Rattle.blt_import.specs.declared.read.Read.{Read}
-use Rattle.blt_import.specs.declared.table_form.TableForm.{TableForm}
-use Rattle.blt_import.specs.Forms.{form_of}
+use Rattle.blt_import.specs.Forms.{Form, Table, TableForm, form_of}
 use Rattle.blt_import.specs.Laws.{HasRecords, RecordsHaveOneText}
 use Rattle.blt_import.specs.Owed.{HasNoFault, IsTextOf, OwesText, Says, roll_of}
 use Rattle.blt_import.proofs.OneText.{one_byte, one_some}

@@ -20,11 +20,9 @@ use Rattle.import_words.specs.declared.output.Output.{Output}
 use Rattle.import_words.specs.declared.output.Output.TheVariants.{Blt, Report}
 use Rattle.import_words.specs.declared.roll_words.RollWords.{RollWords}
 use Rattle.blt_import.specs.Laws.{TablesHaveOneText}
-use Rattle.blt_import.specs.declared.form.Form.{Form}
-use Rattle.blt_import.specs.declared.form.Form.TheVariants.{Table, Preflib}
 use Rattle.blt_import.specs.declared.read.Read.{Read}
 use Rattle.blt_import.specs.Owed.{IsTextOf, Says, roll_of}
-use Rattle.blt_import.specs.Forms.{form_of}
+use Rattle.blt_import.specs.Forms.{Form, Table, Preflib, form_of}
 use Rattle.blt_import.specs.Report.{report_text, tally_of_orders}
 
 -- what records say, of which the first is the head

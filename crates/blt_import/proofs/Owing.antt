@@ -3,14 +3,12 @@ use Rattle.std.proofs.Common.{◌≡◌, ◌∙◌, refl, sym, ap, subst, ℕ, �
 use Rattle.std.specs.Prelude.{Option, Some, None, Result, Ok, Err, IsPermutation}
 use Rattle.std.specs.Option.{option_and_then, option_map}
 use Rattle.preflib_text.specs.declared.pref_fault.PrefFault.{PrefFault}
-use Rattle.plain_ballots.specs.Ballots.{plain}
-use Rattle.candidate_roll.specs.Roll.{RollList, withdrawn_marks}
+use Rattle.candidate_roll.specs.Roll.{RollList}
 use Rattle.piece_text.specs.Writing.{Writes}
 use Rattle.blt_writer.specs.Laws.{EveryBagHasAText, OneBagHasOneText}
 use Rattle.blt_writer.specs.Text.{IsBltText}
 use Rattle.import_words.specs.Laws.{AskOneThing}
 use Rattle.import_words.specs.declared.asked.Asked.{Asked}
-use Rattle.import_words.specs.declared.roll_words.RollWords.{RollWords}
 use Rattle.tool_edge.specs.declared.end.End.{End}
 use Rattle.tool_edge.specs.declared.end.End.TheVariants.{Done, BadInput}
 use Rattle.tool_edge.specs.declared.opening.TheConstants.{FILE_LIMIT}
@@ -18,16 +16,14 @@ use Rattle.tool_edge.specs.Streams.{Writing, writing}
 use Rattle.tool_edge.specs.Finishing.{FinishesOwed, Wrote}
 use Rattle.tool_edge.specs.Tool.{IsOwedFor, IsSound, no_history}
 use Rattle.blt_import.specs.declared.import_fault.ImportFault.{ImportFault}
-use Rattle.blt_import.specs.declared.form.Form.{Form}
-use Rattle.blt_import.specs.declared.form.Form.TheVariants.{Table, Preflib}
 use Rattle.blt_import.specs.declared.import_fault.ImportFault.TheVariants as fault
 use Rattle.blt_import.specs.declared.read.Read.{Read}
 use Rattle.blt_import.specs.declared.read_stop.ReadStop.{ReadStop}
 use Rattle.blt_import.specs.declared.read_stop.ReadStop.TheVariants as stop
 use Rattle.blt_import.specs.Faults.{fault_of, refusal_line}
-use Rattle.blt_import.specs.Forms.{form_of}
+use Rattle.blt_import.specs.Forms.{Form, Table, Preflib, form_of}
 use Rattle.blt_import.specs.Owed.{HasNoFault, IsDoneWith, IsReadStop, Refuses, Says}
-use Rattle.blt_import.specs.Owed.{fault_in, import_tool, roll_of}
+use Rattle.blt_import.specs.Owed.{fault_in, import_tool}
 
 -- what was written, as a tool's end takes it
 pub wrote_text :
@@ -43,29 +39,6 @@ pub text_moved :
 text_moved every once one other roll text moved is =
     let some = every roll other in
     subst (λ (t : List ℕ). IsBltText other roll t) (sym (once roll one other text some.0 moved is some.1)) some.1
-
--- the text of a listing is that of the ballots that were read, under the roll of the words
-pub text_of_read :
-    EveryBagHasAText → OneBagHasOneText → (words : RollWords) (read : Read) (listed : List (List ℕ)) (roll : RollList)
-    (title withdrawn text : List ℕ) → IsPermutation listed (plain read.ballots.lines)
-    → roll ≡ record {
-      seats = words.seats;
-      names = read.names;
-      title = title;
-      withdrawn = withdrawn_marks (length read.names) withdrawn;
-    }
-    → title ≡ read.title → withdrawn ≡ words.withdrawn → IsBltText listed roll text
-    → IsBltText (plain read.ballots.lines) (roll_of words read.names read.title) text
-text_of_read every once words read listed roll title withdrawn text moved is title_is withdrawn_are says =
-    let of_words : roll ≡ roll_of words read.names read.title =
-    is ∙ (λ i. record {
-      seats = words.seats;
-      names = read.names;
-      title = title_is i;
-      withdrawn = withdrawn_marks (length read.names) (withdrawn_are i);
-    }) in
-    text_moved every once listed (plain read.ballots.lines) (roll_of words read.names read.title) text moved
-    (subst (λ (r : RollList). IsBltText listed r text) of_words says)
 
 -- ---- a whole input
 

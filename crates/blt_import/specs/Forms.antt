@@ -1,16 +1,11 @@
 -- What the words say of an input's form. 44 is the comma, 59 the semicolon and 9 the tab.
-use Rattle.std.specs.Prelude.{ℕ, ◌≤◌, Bool, true, false, List, [], ◌∷◌, length, Option, Some, None, ⊤}
+use Rattle.std.specs.Prelude.{ℕ, Bool, true, false, List, [], ◌∷◌, ◌++◌, Option, Some, None}
 use Rattle.std.specs.Option.{option_map}
-use Rattle.plain_ballots.specs.declared.limits.TheConstants.{MOST_CANDIDATES}
 use Rattle.ballot_table.specs.declared.empty.Empty.{Empty}
 use Rattle.ballot_table.specs.declared.empty.Empty.TheVariants as empty
 use Rattle.ballot_table.specs.declared.layout.Layout.{Layout as TableLayout}
 use Rattle.ballot_table.specs.declared.layout.Layout.TheVariants as table
 use Rattle.ballot_table.specs.declared.table_asked.TableAsked.{TableAsked}
-use Rattle.blt_import.specs.declared.form.Form.{Form}
-use Rattle.blt_import.specs.declared.form.Form.TheVariants.{Table, Preflib}
-use Rattle.blt_import.specs.declared.pref_form.PrefForm.{PrefForm}
-use Rattle.blt_import.specs.declared.table_form.TableForm.{TableForm}
 use Rattle.import_words.specs.declared.asked.Asked.{Asked}
 use Rattle.import_words.specs.declared.empty_rows.EmptyRows.{EmptyRows}
 use Rattle.import_words.specs.declared.empty_rows.EmptyRows.TheVariants as rows
@@ -21,6 +16,16 @@ use Rattle.import_words.specs.declared.layout.Layout.TheVariants as words
 use Rattle.import_words.specs.declared.separator.Separator.{Separator}
 use Rattle.import_words.specs.declared.separator.Separator.TheVariants.{Comma, Semicolon, Tab}
 use Rattle.preflib_text.specs.Asked.{Asked as PrefAsked}
+
+-- a table, which has no title, and the title that the words give it
+pub record TableForm : Type 0 where
+  pub title : List ℕ
+  pub table : TableAsked
+
+-- The form of an input, with what the words say of it.
+pub data Form : Type 0 where
+  Table : TableForm → Form
+  Preflib : PrefAsked → Form
 
 abbrev pub byte_of : Separator → ℕ
 byte_of Comma = 44
@@ -66,6 +71,29 @@ table_of asked layout = record {
   treatment = asked.treatment;
 }
 
+-- it without what the words list, and with that behind what is there
+abbrev pub without_lists : Asked → TableLayout → TableAsked
+without_lists asked layout = record (table_of asked layout) {
+  labels = [];
+  blank = [];
+  over = [];
+  ranks = [];
+  weight = None;
+  candidates = [];
+  withdrawn = [];
+}
+
+abbrev pub with_lists : Asked → TableAsked → TableAsked
+with_lists asked table = record table {
+  labels = table.labels ++ asked.table.columns;
+  weight = asked.table.weight;
+  blank = table.blank ++ asked.cells.blanks;
+  over = table.over ++ asked.cells.overs;
+  ranks = table.ranks ++ asked.cells.ranks;
+  candidates = named_for table.layout asked.roll.candidates;
+  withdrawn = table.withdrawn ++ asked.roll.withdrawn;
+}
+
 abbrev pub table_form : Asked → TableLayout → TableForm
 table_form asked layout = record { title = asked.roll.title; table = table_of asked layout }
 
@@ -75,26 +103,17 @@ said_title [] = None
 said_title (b ∷ bs) = Some (b ∷ bs)
 
 -- A text of PrefLib names its candidates, and no rank of its ballots is skipped.
-abbrev pub pref_form : Asked → PrefForm
-pref_form asked = record {
+abbrev pub text_of : Asked → PrefAsked
+text_of asked = record {
   title = said_title asked.roll.title;
   withdrawn = asked.roll.withdrawn;
   equal = asked.treatment.equal;
 }
 
--- what the reader of such texts is asked
-abbrev pub pref_asked : PrefForm → PrefAsked
-pref_asked form = record { title = form.title; withdrawn = form.withdrawn; equal = form.equal }
-
 -- The form that the words ask for: a table of this layout, or else a text of PrefLib.
 abbrev pub form_by : Asked → Option TableLayout → Form
 form_by asked (Some layout) = Table (table_form asked layout)
-form_by asked None = Preflib (pref_form asked)
+form_by asked None = Preflib (text_of asked)
 
 abbrev pub form_of : Asked → Form
 form_of asked = form_by asked (layout_of asked.layout)
-
--- the words name not too many candidates, where they name those of a table
-abbrev pub HasFew : Form → Type 0
-HasFew (Table form) = length form.table.candidates ≤ MOST_CANDIDATES
-HasFew (Preflib form) = ⊤

@@ -5,9 +5,7 @@ use Rattle.ballot_table.specs.declared.table_asked.TableAsked.{TableAsked}
 use Rattle.ballot_table.specs.Imported.{separator, texts_in}
 use Rattle.import_words.specs.declared.asked.Asked.{Asked}
 use Rattle.import_words.specs.declared.output.Output.TheVariants.{Blt}
-use Rattle.blt_import.specs.declared.form.Form.TheVariants.{Table}
-use Rattle.blt_import.specs.declared.table_form.TableForm.{TableForm}
-use Rattle.blt_import.specs.Forms.{form_of}
+use Rattle.blt_import.specs.Forms.{Table, TableForm, form_of}
 use Rattle.blt_import.specs.Owed.{OwesText}
 
 -- One text at most is owed for an input, as it is asked for.

@@ -1,6 +1,7 @@
 -- What is owed for an input that says ballots.
-use Rattle.std.specs.Prelude.{◌≡◌, ℕ, List, length, Option, Some, None, ⊤}
+use Rattle.std.specs.Prelude.{◌≡◌, ◌≤◌, ℕ, All, List, length, Option, Some, None, Result, Ok, Err, ⊤}
 use Rattle.std.specs.Option.{option_and_then, option_map}
+use Rattle.plain_ballots.specs.declared.ballot_line.BallotLine.{BallotLine}
 use Rattle.plain_ballots.specs.Ballots.{plain}
 use Rattle.candidate_roll.specs.Roll.{RollList, withdrawn_marks}
 use Rattle.ballot_table.specs.Imported.{IsImported, refusal}
@@ -24,12 +25,10 @@ use Rattle.tool_edge.specs.Streams.{Writing, NothingWritten}
 use Rattle.tool_edge.specs.Tool.{Tool, no_history}
 use Rattle.blt_import.specs.declared.import_fault.ImportFault.{ImportFault}
 use Rattle.blt_import.specs.declared.import_fault.ImportFault.TheVariants as fault
-use Rattle.blt_import.specs.declared.form.Form.{Form}
-use Rattle.blt_import.specs.declared.form.Form.TheVariants.{Table, Preflib}
 use Rattle.blt_import.specs.declared.read.Read.{Read}
 use Rattle.blt_import.specs.declared.read_stop.ReadStop.{ReadStop}
 use Rattle.blt_import.specs.declared.read_stop.ReadStop.TheVariants as stop
-use Rattle.blt_import.specs.Forms.{form_of, pref_asked}
+use Rattle.blt_import.specs.Forms.{Form, Table, Preflib, form_of}
 use Rattle.blt_import.specs.Faults.{fault_of, import_refusals, refusal_line}
 use Rattle.blt_import.specs.Report.{report_text, tally_of_orders}
 
@@ -50,7 +49,7 @@ Says (Table form) input read =
     × (read.ballots ≡ table.ballots)
     × (read.tally ≡ table.tally)
 Says (Preflib form) input read =
-    (text : ImportedText) × IsImportedText (pref_asked form) input text × (read.names ≡ text.names)
+    (text : ImportedText) × IsImportedText form input text × (read.names ≡ text.names)
     × (read.title ≡ text.title)
     × (read.ballots ≡ text.ballots)
     × (read.tally ≡ tally_of_orders text.tally)
@@ -58,12 +57,12 @@ Says (Preflib form) input read =
 -- the first fault of an input of its form
 abbrev pub fault_in : Form → (input : List ℕ) → Option ImportFault
 fault_in (Table form) input = option_and_then fault_of (refusal form.table input)
-fault_in (Preflib form) input = option_map (λ why. fault.Preflib why) (fault_of_text (pref_asked form) input)
+fault_in (Preflib form) input = option_map (λ why. fault.Preflib why) (fault_of_text form input)
 
 -- an input of its form has no fault
 abbrev pub HasNoFault : Form → (input : List ℕ) → Type 0
 HasNoFault (Table form) input = refusal form.table input ≡ None
-HasNoFault (Preflib form) input = fault_of_text (pref_asked form) input ≡ None
+HasNoFault (Preflib form) input = fault_of_text form input ≡ None
 
 -- whom the words of a form withdraw
 abbrev pub withdrawn_in : Form → List ℕ
@@ -78,6 +77,10 @@ IsTextOf Report words read bytes = bytes ≡ report_text read.tally
 -- it is all that is written
 abbrev pub IsDoneWith : Output → RollWords → Read → End ImportFault → (bytes : List ℕ) → Type 0
 IsDoneWith output words read end bytes = (end ≡ Done) × IsTextOf output words read bytes
+
+-- all that is written is the canonical text of the ballots of lines, under a roll
+abbrev pub IsDoneUnder : RollList → List BallotLine → End ImportFault → (bytes : List ℕ) → Type 0
+IsDoneUnder roll lines end bytes = (end ≡ Done) × IsBltText (plain lines) roll bytes
 
 -- the words ask for a form of which the input has no fault
 abbrev pub IsSoundInput : Asked → (input : List ℕ) → Type 0
@@ -124,3 +127,15 @@ stop_of_text pref.NoMemory = stop.NoMemory
 abbrev pub IsReadStop : Option ImportFault → ReadStop → Type 0
 IsReadStop first (stop.Fault fault) = first ≡ Some fault
 IsReadStop first stop.NoMemory = ⊤
+
+-- what is read of an input, which has no fault and all candidates whom the words withdraw
+pub record IsRead (form : Form) (input : List ℕ) (read : Read) : Type 0 where
+  pub says : Says form input read
+  pub sound : HasNoFault form input
+  pub candidates : read.ballots.candidates ≡ length read.names
+  pub withdrawn : All (λ c. (1 ≤ c) × (c ≤ length read.names)) (withdrawn_in form)
+
+-- an input of its form is read, or its first fault is found
+abbrev pub Reads : Form → (input : List ℕ) → Result Read ReadStop → Type 0
+Reads form input (Ok read) = IsRead form input read
+Reads form input (Err stop) = IsReadStop (fault_in form input) stop

@@ -1,9 +1,9 @@
 // Why an input is refused.
 ghost use Rattle.std.specs.Prelude.{◌≡◌, ◌≤◌, length};
-ghost use Rattle.blt_import.specs.Faults.{fault_of, import_refusals, pref_line, record_line, word_line};
+ghost use Rattle.blt_import.specs.Faults.{import_refusals, pref_line, record_line, word_line};
 
 use crate::kinds::{pref_word, table_word, text_word};
-use ballot_table::{TableKind, TableStop};
+use ballot_table::TableKind;
 use blt_reader::InputFault;
 use line_text::Line;
 use preflib_text::PrefFault;
@@ -32,30 +32,6 @@ pub enum ImportFault {
     },
     /// It is no text of PrefLib: the line and the byte of the line from 1.
     Preflib(PrefFault),
-}
-
-impl ImportFault {
-    /// The fault that stopped a reader, if it didn't want memory.
-    pub(crate) fn of(stop: TableStop) -> Option<ImportFault>
-        ensures { result ≡ fault_of stop }
-    {
-        match stop {
-            TableStop::Text(fault) => Some(ImportFault::Text(fault)),
-            TableStop::Word { kind, place } => Some(ImportFault::Word { kind, place }),
-            TableStop::Record {
-                kind,
-                at,
-                row,
-                column,
-            } => Some(ImportFault::Record {
-                kind,
-                at,
-                row,
-                column,
-            }),
-            TableStop::NoMemory => None,
-        }
-    }
 }
 
 impl Fault for ImportFault {

@@ -14,7 +14,6 @@ mod report;
 mod run;
 mod table_form;
 mod tables;
-mod titles;
 mod writing;
 
 pub use import_fault::ImportFault;

@@ -1,89 +1,63 @@
 // Inputs that are texts of PrefLib.
-ghost use Rattle.std.specs.Prelude.{◌≡◌, ◌≤◌, All, OnOk, IfOk, IfErr, length};
-ghost use Rattle.blt_import.specs.declared.form.Form.TheVariants.{Preflib};
-ghost use Rattle.blt_import.specs.Forms.{pref_asked, pref_form};
-ghost use Rattle.blt_import.specs.Owed.{IsReadStop, HasNoFault, Says, fault_in, stop_of_text};
+ghost use Rattle.std.specs.Prelude.{◌≡◌};
+ghost use Rattle.blt_import.specs.Forms.{Preflib, said_title, text_of};
+ghost use Rattle.blt_import.specs.Owed.{Reads, stop_of_text};
 ghost use Rattle.blt_import.specs.Report.{tally_of_orders};
+ghost use Rattle.std.specs.Option.{option_map};
 
 use crate::ImportFault;
 use crate::read::Read;
 use crate::read_stop::ReadStop;
-use crate::tables::numbers_of;
-use crate::titles::said_title;
-use ballot_marks::Treat;
-use ballot_table::{Numbers, Tally};
+use ballot_table::Tally;
 use candidate_roll::{MOST_TITLE_BYTES, Name};
 use import_words::Asked;
-use plain_ballots::NoMemory;
 use preflib_text::{Imported, PrefAsked, PrefStop, Tally as OrderTally, read_preflib};
 use std::alloc::Global;
 
-/// What the words say of a text of PrefLib.
-#[derive(Drop)]
-pub(crate) struct PrefForm {
-    /// In place of the text's title.
-    pub title: Option<Name<MOST_TITLE_BYTES>>,
-    pub withdrawn: Numbers,
-    pub equal: Treat,
-}
-
-impl PrefForm {
-    pub fn of(alloc: Global, asked: &Asked) -> Result<PrefForm, NoMemory>
-        ensures { IfOk result (λ form. form ≡ pref_form asked.now) }
-    {
-        Ok(PrefForm {
-            title: said_title(alloc, &asked.roll.title)?,
-            withdrawn: numbers_of(alloc, asked.roll.withdrawn.items())?,
-            equal: asked.treatment.equal,
-        })
-    }
-
-    /// What an input says as a text of PrefLib, or its first fault.
-    pub fn read(&self, alloc: Global, input: &[u8]) -> Result<Read, ReadStop>
-        ensures says { IfOk result (Says (Preflib self.now) input.now) }
-        ensures sound { OnOk result (HasNoFault (Preflib self.now) input.now) }
-        ensures candidates { IfOk result (λ read. read.ballots.candidates ≡ length read.names) }
-        ensures withdrawn { IfOk result (λ read. All (λ c. (1 ≤ c) × (c ≤ length read.names)) self.now.withdrawn) }
-        ensures stop { IfErr result (IsReadStop (fault_in (Preflib self.now) input.now)) }
-    {
-        match read_preflib(alloc, &self.asked(), input) {
-            Ok(text) => Ok(of_text(text)),
-            Err(stop) => Err(stop_of(stop)),
-        }
-    }
-
-    fn asked(&self) -> PrefAsked<'_>
-        ensures { result ≡ pref_asked self.now }
-    {
-        let title = match &self.title {
-            Some(title) => Some(title),
-            None => None,
-        };
-        PrefAsked {
-            title,
-            withdrawn: self.withdrawn.items(),
-            equal: self.equal,
-        }
-    }
-}
-
-fn of_text(text: Imported) -> Read
-    ensures names { result.names ≡ text.names }
-    ensures title { result.title ≡ text.title }
-    ensures ballots { result.ballots ≡ text.ballots }
-    ensures tally { result.tally ≡ tally_of_orders text.tally }
+/// What an input says as a text of PrefLib, or its first fault.
+pub(crate) fn read_text(alloc: Global, asked: &Asked, input: &[u8]) -> Result<Read, ReadStop>
+    ensures { Reads (Preflib (text_of asked.now)) input.now result }
 {
-    let Imported {
-        names,
-        title,
-        ballots,
-        tally,
-    } = text;
+    match read_preflib(alloc, &text_of(asked), input) {
+        Ok(text) => Ok(read_of(text)),
+        Err(stop) => Err(stop_of(stop)),
+    }
+}
+
+/// What the words say of a text of PrefLib.
+fn text_of(asked: &Asked) -> PrefAsked<'_>
+    ensures { result ≡ text_of asked.now }
+{
+    PrefAsked {
+        title: said_title(&asked.roll.title),
+        withdrawn: asked.roll.withdrawn.items(),
+        equal: asked.treatment.equal,
+    }
+}
+
+/// The title that the words give, in place of the text's; an empty one is none.
+fn said_title(title: &Name<MOST_TITLE_BYTES>) -> Option<&Name<MOST_TITLE_BYTES>>
+    ensures { option_map (λ said. said.now) result ≡ said_title title.now }
+{
+    if title.bytes().is_empty() {
+        return None;
+    }
+    Some(title)
+}
+
+fn read_of(text: Imported) -> Read
+    ensures { result ≡ record {
+      names = text.names;
+      title = text.title;
+      ballots = text.ballots;
+      tally = tally_of_orders text.tally;
+    } }
+{
     Read {
-        names,
-        title,
-        ballots,
-        tally: tally_of(tally),
+        names: text.names,
+        title: text.title,
+        ballots: text.ballots,
+        tally: tally_of(text.tally),
     }
 }
 

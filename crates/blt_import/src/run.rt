@@ -8,7 +8,7 @@ ghost use Rattle.import_words.specs.Asks.{AreEnough};
 ghost use Rattle.blt_import.specs.Owed.{import_tool, Refuses};
 
 use crate::ImportFault;
-use crate::form::Form;
+use crate::form::read_form;
 use crate::read_stop::ReadStop;
 use crate::report::report;
 use crate::writing::write_ballots;
@@ -34,11 +34,10 @@ pub fn import<R: Threads + Sync, S: Source, K: Sink>(
 {
     words_ask_one_thing();
     let asked = read_import_words(alloc, words);
-    let opened = match open(alloc, asked, FILE_LIMIT, source, sink) {
-        Ok(opened) => opened,
-        Err(end) => return end,
-    };
-    import_input(rt, alloc, &opened.asked, opened.input.as_slice(), sink)
+    match open(alloc, asked, FILE_LIMIT, source, sink) {
+        Ok(opened) => import_input(rt, alloc, &opened.asked, opened.input.as_slice(), sink),
+        Err(end) => end,
+    }
 }
 
 /// Writes what is asked for of a whole input, or its refusal.
@@ -54,10 +53,7 @@ fn import_input<R: Threads + Sync, K: Sink>(
     ensures { FinishesOwed (IsOwedFor import_tool asked.now input.now no_history) result
         (writing K.written K.faults sink.old sink.new) }
 {
-    let Ok(form) = Form::of(alloc, asked) else {
-        return End::NoMemory;
-    };
-    match form.read(alloc, input) {
+    match read_form(alloc, asked, input) {
         Ok(read) => match asked.output {
             Output::Blt => write_ballots(rt, alloc, &asked.roll, read, sink),
             Output::Report => finish(sink, End::Done, report(read.tally).bytes()),

@@ -1,7 +1,7 @@
 // From the words to what the reader of tables is asked.
-ghost use Rattle.std.specs.Prelude.{◌≡◌, IfOk};
+ghost use Rattle.std.specs.Prelude.{◌≡◌, ◌++◌, IfOk, OnOk};
 ghost use Rattle.std.specs.Option.{option_map};
-ghost use Rattle.blt_import.specs.Forms.{byte_of, empty_of, is_bracketed, named_for, table_of};
+ghost use Rattle.blt_import.specs.Forms.{byte_of, empty_of, is_bracketed, named_for, with_lists, without_lists};
 
 use ballot_table::{Empty, Layout, Numbers, TableAsked, Text, Texts};
 use candidate_roll::Names;
@@ -9,24 +9,37 @@ use import_words::{Asked, EmptyRows, HeadNames, Label, Separator};
 use plain_ballots::NoMemory;
 use std::alloc::Global;
 
-/// What the words say of a table of this layout.
-pub(crate) fn table_of(alloc: Global, asked: &Asked, layout: Layout) -> Result<TableAsked, NoMemory>
-    ensures { IfOk result (λ table. table ≡ table_of asked.now layout) }
+/// What the words say of a table of this layout, but for what they list.
+pub(crate) fn without_lists(alloc: Global, asked: &Asked, layout: Layout) -> TableAsked
+    ensures { result ≡ without_lists asked.now layout }
 {
-    Ok(TableAsked {
+    TableAsked {
         layout,
         separator: separator_of(asked.table.separator),
         bracketed: is_bracketed(asked.table.names),
-        labels: texts_of(alloc, asked.table.columns.items())?,
-        weight: text_of(alloc, &asked.table.weight)?,
-        blank: texts_of(alloc, asked.cells.blanks.items())?,
-        over: texts_of(alloc, asked.cells.overs.items())?,
-        ranks: texts_of(alloc, asked.cells.ranks.items())?,
-        candidates: named_for(alloc, layout, &asked.roll.candidates)?,
-        withdrawn: numbers_of(alloc, asked.roll.withdrawn.items())?,
+        labels: Texts::new(alloc),
+        weight: None,
+        blank: Texts::new(alloc),
+        over: Texts::new(alloc),
+        ranks: Texts::new(alloc),
+        candidates: Names::new(alloc),
+        withdrawn: Numbers::new(alloc),
         empty: empty_of(asked.empty),
         treatment: asked.treatment,
-    })
+    }
+}
+
+/// Puts what the words list behind what is there.
+pub(crate) fn fill(alloc: Global, asked: &Asked, table: &mut TableAsked) -> Result<(), NoMemory>
+    ensures { OnOk result (table.new ≡ with_lists asked.now table.old) }
+{
+    table.weight = text_of(alloc, &asked.table.weight)?;
+    table.candidates = named_for(alloc, table.layout, &asked.roll.candidates)?;
+    push_texts(alloc, &mut table.labels, asked.table.columns.items())?;
+    push_texts(alloc, &mut table.blank, asked.cells.blanks.items())?;
+    push_texts(alloc, &mut table.over, asked.cells.overs.items())?;
+    push_texts(alloc, &mut table.ranks, asked.cells.ranks.items())?;
+    push_numbers(&mut table.withdrawn, asked.roll.withdrawn.items())
 }
 
 /// The candidates whom the words name, where the head doesn't.
@@ -78,23 +91,21 @@ fn text_of(alloc: Global, label: &Option<Label>) -> Result<Option<Text>, NoMemor
     }
 }
 
-fn texts_of(alloc: Global, labels: &[Label]) -> Result<Texts, NoMemory>
-    ensures { IfOk result (λ texts. texts ≡ labels.now) }
+fn push_texts(alloc: Global, texts: &mut Texts, labels: &[Label]) -> Result<(), NoMemory>
+    ensures { OnOk result (texts.new ≡ texts.old ++ labels.now) }
 {
-    let mut texts = Texts::new(alloc);
     for label in labels {
         let text = Text::new(alloc, label.bytes())?;
         texts.push(text)?;
     }
-    Ok(texts)
+    Ok(())
 }
 
-pub(crate) fn numbers_of(alloc: Global, typed: &[u32]) -> Result<Numbers, NoMemory>
-    ensures { IfOk result (λ numbers. numbers ≡ typed.now) }
+fn push_numbers(numbers: &mut Numbers, typed: &[u32]) -> Result<(), NoMemory>
+    ensures { OnOk result (numbers.new ≡ numbers.old ++ typed.now) }
 {
-    let mut numbers = Numbers::new(alloc);
     for number in typed {
         numbers.push(*number)?;
     }
-    Ok(numbers)
+    Ok(())
 }

@@ -2,7 +2,8 @@
 ghost use Rattle.std.specs.Prelude.{◌≡◌, ◌≤◌, length, All};
 ghost use Rattle.tool_edge.specs.Finishing.{FinishesOwed};
 ghost use Rattle.tool_edge.specs.Streams.{writing};
-ghost use Rattle.blt_import.specs.Owed.{IsDoneWith};
+ghost use Rattle.plain_ballots.specs.declared.limits.TheConstants.{MOST_CANDIDATES};
+ghost use Rattle.blt_import.specs.Owed.{IsDoneUnder, IsDoneWith};
 
 use crate::ImportFault;
 use crate::read::Read;
@@ -10,6 +11,7 @@ use blt_writer::{Listing, every_bag_has_a_text, one_bag_has_one_text, write_list
 use byte_edge::Sink;
 use candidate_roll::Roll;
 use import_words::{Output, RollWords};
+use plain_ballots::Ballots;
 use std::alloc::Global;
 use std::thread::Threads;
 use tool_edge::{End, close};
@@ -30,21 +32,32 @@ pub(crate) fn write_ballots<R: Threads + Sync, K: Sink>(
     ensures { FinishesOwed (IsDoneWith Output.Blt words.now read) result
         (writing K.written K.faults sink.old sink.new) }
 {
+    let withdrawn = words.withdrawn.items();
+    match Roll::try_new(alloc, words.seats, read.names, read.title, withdrawn) {
+        Ok(roll) => write_under(rt, alloc, &roll, read.ballots, sink),
+        Err(_) => End::NoMemory,
+    }
+}
+
+/// Writes the canonical text of ballots under a roll.
+fn write_under<R: Threads + Sync, K: Sink>(
+    rt: &R,
+    alloc: Global,
+    roll: &Roll,
+    ballots: Ballots,
+    sink: &mut K,
+) -> End<ImportFault>
+    requires { ballots.candidates ≤ MOST_CANDIDATES }
+    ensures { FinishesOwed (IsDoneUnder roll.now ballots.lines) result
+        (writing K.written K.faults sink.old sink.new) }
+{
     every_bag_has_a_text();
     one_bag_has_one_text();
-    let Read {
-        names,
-        title,
-        ballots,
-        ..
-    } = read;
-    let withdrawn = words.withdrawn.items();
-    let Ok(roll) = Roll::try_new(alloc, words.seats, names, title, withdrawn) else {
-        return End::NoMemory;
-    };
-    let Ok(listing) = Listing::begin(rt, alloc, &roll, ballots, WORKERS) else {
-        return End::NoMemory;
-    };
-    let wrote = write_listing(&listing, sink);
-    close(sink, wrote)
+    match Listing::begin(rt, alloc, roll, ballots, WORKERS) {
+        Ok(listing) => {
+            let wrote = write_listing(&listing, sink);
+            close(sink, wrote)
+        }
+        Err(_) => End::NoMemory,
+    }
 }

@@ -21,8 +21,8 @@ returns-in-Err g c =
     c.read_import_words-asked.ensures.refused)
     c.in-Err.ensures.stopped
 
-pub returns : goal.returns
-returns g c =
+pub returns-in-Ok : goal.returns-in-Ok
+returns-in-Ok g c =
     worked_on import_tool g.K.Sink.written g.K.Sink.faults c.args.sink.now c.open.new.sink c.import_input.new.sink
     (map string_bytes c.args.words.now) c.read_import_words-asked.result c.in-Ok.opened.asked _
     c.in-Ok.opened.input.items _ c.import_input.result
