@@ -1,5 +1,5 @@
 -- The text is owed for the file.
-use Rattle.std.proofs.Common.{◌≡◌, ℕ, ◌≤◌, List, length, refl, sym, subst, inl, inr}
+use Rattle.std.proofs.Common.{ℕ, ◌≤◌, List, length, refl, sym, subst, inl, inr}
 use Rattle.input_text.specs.declared.input_fault.InputFault.{InputFault}
 use Rattle.blt_reader.specs.Poll.{Poll}
 use Rattle.tool_edge.specs.Contest.{SaysPoll}
