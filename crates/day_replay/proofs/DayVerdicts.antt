@@ -13,13 +13,13 @@ use Rattle.sheet_check.specs.Difference.{IsFirstDifference, line_at}
 use Rattle.day_lines.specs.DayHistory.{IsHistoryOf, clerk_freeze}
 use Rattle.day_lines.specs.DayText.{terms_of, IsDayText}
 use Rattle.day_replay.specs.Nearest.{BeginsAs, IsNearest}
-use Rattle.day_audit.specs.declared.day_verdict.DayVerdict.{DayVerdict}
-use Rattle.day_audit.specs.declared.day_verdict.DayVerdict.TheVariants.{True, False}
-use Rattle.day_audit.specs.Judged.{IsTextOf, BeginAlike, IsFalseAt, IsVerdict}
-use Rattle.day_audit.proofs.DayEnds.{in_front, no_more}
-use Rattle.day_audit.proofs.DayLines.{line_of_a_call}
+use Rattle.day_replay.specs.declared.day_verdict.DayVerdict.{DayVerdict}
+use Rattle.day_replay.specs.declared.day_verdict.DayVerdict.TheVariants.{True, False}
+use Rattle.day_replay.specs.Judged.{IsTextOf, BeginAlike, IsFalseAt, IsVerdict}
+use Rattle.day_replay.proofs.DayEnds.{in_front, no_more}
+use Rattle.day_replay.proofs.DayLines.{line_of_a_call}
 use Rattle.day_lines.proofs.TermsLemmas.{AreTerms}
-use Rattle.day_audit.proofs.DayTexts.{one_text}
+use Rattle.day_replay.proofs.DayTexts.{one_text}
 
 module _ (day : Day) (are : AreTerms (terms_of day)) where
   -- the line of a history's call in its text

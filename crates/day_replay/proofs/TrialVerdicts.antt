@@ -7,7 +7,7 @@ use Rattle.day_lines.specs.DayText.{terms_of}
 use Rattle.day_sheets.specs.Laws.{EachMadeDayHasOneSummary}
 use Rattle.day_sheets.specs.MadeDay.{made_day}
 use Rattle.day_sheets.specs.Summary.{IsSummary}
-use Rattle.day_audit.specs.Judged.{IsFalseAt, IsSummaryOf}
+use Rattle.day_replay.specs.Judged.{IsFalseAt, IsSummaryOf}
 
 pub false_summary :
     (number n : ℕ) (text summary : List ℕ) (history : List Entry) → EachMadeDayHasOneSummary

@@ -2,8 +2,8 @@
 use Rattle.std.proofs.Common.{◌≡◌, ◌≢◌, ◌⊎◌, inl, inr, ℕ, zero, suc, ◌+◌, ◌<◌, ◌≤◌, List, [], ◌∷◌, refl, sym}
 use Rattle.std.proofs.Common.{ap, ◌∙◌, arith, codes, get_or}
 use Rattle.sheet_check.specs.Difference.{line_at}
-use Rattle.day_audit.specs.Judged.{BeginAlike, IsFalseAt}
-use Rattle.day_audit.specs.Worked.{IsOneOfTwo, WorkedVerdicts}
+use Rattle.day_replay.specs.Judged.{BeginAlike, IsFalseAt}
+use Rattle.day_replay.specs.WorkedVerdicts.{IsOneOfTwo, WorkedVerdicts}
 
 abbrev long : List ℕ
 long = codes "1 a\n2 b\n3 c\n"

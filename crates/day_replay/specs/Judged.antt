@@ -7,8 +7,8 @@ use Rattle.day_lines.specs.DayHistory.{IsHistoryOf}
 use Rattle.day_lines.specs.DayText.{terms_of, IsDayText}
 use Rattle.day_sheets.specs.MadeDay.{made_day}
 use Rattle.day_sheets.specs.Summary.{IsSummary}
-use Rattle.day_audit.specs.declared.day_verdict.DayVerdict.{DayVerdict}
-use Rattle.day_audit.specs.declared.day_verdict.DayVerdict.TheVariants.{True, False}
+use Rattle.day_replay.specs.declared.day_verdict.DayVerdict.{DayVerdict}
+use Rattle.day_replay.specs.declared.day_verdict.DayVerdict.TheVariants.{True, False}
 
 -- The calls of the day's teams can be answered as a history whose text this is.
 abbrev pub IsTextOf : Day → (text : List ℕ) → Type 0

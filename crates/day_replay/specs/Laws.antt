@@ -1,8 +1,8 @@
 -- Each text has one verdict.
 use Rattle.std.specs.Prelude.{◌≡◌, ℕ, List}
 use Rattle.day_reader.specs.declared.day.Day.{Day}
-use Rattle.day_audit.specs.declared.day_verdict.DayVerdict.{DayVerdict}
-use Rattle.day_audit.specs.Judged.{IsDayVerdict, IsTrialVerdict}
+use Rattle.day_replay.specs.declared.day_verdict.DayVerdict.{DayVerdict}
+use Rattle.day_replay.specs.Judged.{IsDayVerdict, IsTrialVerdict}
 
 -- A text is that of a history of the day, or it has one line that is the first false one.
 abbrev pub EachTextHasOneVerdict : Type 0

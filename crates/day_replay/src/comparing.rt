@@ -4,11 +4,10 @@ ghost use Rattle.sheet_check.specs.Comparison.{IsCompared};
 ghost use Rattle.day_lines.specs.DayText.{IsDayText};
 ghost use Rattle.day_sheets.specs.Frozen.{AreFrozen};
 
-use crate::NoMemory;
 use crate::frozen_sheets::{places_of, plans_of, rolls_of};
+use crate::{Followed, NoMemory};
 use byte_edge::FreeGate;
 use day_lines::Terms;
-use day_replay::Followed;
 use day_sheets::DayText;
 use lane_sheet::{Crew, Polls, write_in_lanes};
 use sheet_check::Comparing;

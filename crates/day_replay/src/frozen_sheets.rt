@@ -3,9 +3,8 @@ ghost use Rattle.std.specs.Prelude.{◌≡◌, All, IfOk, length, map};
 ghost use Rattle.lane_sheet.specs.Plans.{CanBeCounted};
 ghost use Rattle.day_lines.specs.DayText.{roll_with};
 
-use crate::NoMemory;
+use crate::{Frozen, NoMemory};
 use candidate_roll::Roll;
-use day_replay::Frozen;
 use frozen_plan::Plans;
 use std::alloc::Global;
 

@@ -4,13 +4,12 @@ ghost use Rattle.day_reader.specs.Said.{AreScripts};
 ghost use Rattle.sheet_check.specs.Comparison.{IsCompared};
 ghost use Rattle.day_lines.specs.DayText.{IsDayText};
 ghost use Rattle.day_sheets.specs.Frozen.{AreFrozen};
-ghost use Rattle.day_audit.specs.Judged.{IsDayVerdict};
+ghost use Rattle.day_replay.specs.Judged.{IsDayVerdict};
 
 use crate::comparing::first_difference;
-use crate::{DayVerdict, NoMemory};
+use crate::{DayVerdict, Followed, NoMemory, follow};
 use day_lines::Terms;
 use day_reader::Day;
-use day_replay::{Followed, follow};
 use std::alloc::Global;
 use std::thread::Threads;
 

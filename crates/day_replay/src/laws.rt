@@ -1,5 +1,5 @@
 // What holds of every verdict.
-ghost use Rattle.day_audit.specs.Laws.{EachSummaryHasOneVerdict, EachTextHasOneVerdict};
+ghost use Rattle.day_replay.specs.Laws.{EachSummaryHasOneVerdict, EachTextHasOneVerdict};
 
 /// Each text has one verdict, as the text of a day or as the summary of a made day.
 pub fn verdicts_are_unique()

@@ -9,14 +9,13 @@ ghost use Rattle.day_lines.specs.DayText.{terms_of};
 ghost use Rattle.day_sheets.specs.Frozen.{AreFrozen};
 ghost use Rattle.day_sheets.specs.MadeDay.{made_day};
 ghost use Rattle.day_sheets.specs.Summary.{IsSummary};
-ghost use Rattle.day_audit.specs.Judged.{IsTrialVerdict};
+ghost use Rattle.day_replay.specs.Judged.{IsTrialVerdict};
 
 use crate::comparing::crew_of;
-use crate::{DayVerdict, NoMemory};
+use crate::{DayVerdict, Followed, Frozen, NoMemory, follow};
 use byte_edge::FreeGate;
 use day_lines::Terms;
 use day_reader::Day;
-use day_replay::{Followed, Frozen, follow};
 use day_sheets::{SummaryText, made_days_have_one_summary, read_made_day, sum_up};
 use sheet_check::Comparing;
 use std::alloc::Global;

@@ -5,7 +5,7 @@ use Rattle.day_lines.specs.DayText.{IsDayText}
 use Rattle.day_sheets.proofs.DaySheets.{day_text_of, rolls_of_all, roll_of, place_of}
 use Rattle.sheet_check.specs.Comparison.{Comparison, told}
 use Rattle.sheet_check.proofs.Differences.{Tells, compared}
-use Rattle.day_audit.proofs.comparing.first_difference.Goals as goal
+use Rattle.day_replay.proofs.comparing.first_difference.Goals as goal
 
 pub write_in_lanes-requires-clause-rolls : goal.write_in_lanes-requires-clause-rolls
 write_in_lanes-requires-clause-rolls g c κs within =

@@ -3,7 +3,7 @@ use Rattle.std.specs.Vec.Iter.{into_iter_items}
 use Rattle.std.proofs.lemmas.List.{nil_from_length}
 use Rattle.frozen_plan.specs.Plan.{PlanRows}
 use Rattle.day_sheets.proofs.FrozenPlans.{taken_more, taken_all, of_next}
-use Rattle.day_audit.proofs.frozen_sheets.plans_of.Goals as goal
+use Rattle.day_replay.proofs.frozen_sheets.plans_of.Goals as goal
 
 pub loop-version-preserved : goal.loop-version-preserved
 loop-version-preserved c =

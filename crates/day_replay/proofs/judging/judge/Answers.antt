@@ -2,8 +2,8 @@ use Rattle.std.proofs.Common.{◌≤◌, ℕ, Option, subst}
 use Rattle.fixed_place.specs.declared.omega.TheConstants.{MOST_OMEGA}
 use Rattle.sheet_check.specs.Comparison.{IsCompared}
 use Rattle.day_lines.specs.DayText.{terms_of, IsDayText}
-use Rattle.day_audit.proofs.DayVerdicts.{false_at}
-use Rattle.day_audit.proofs.judging.judge.Goals as goal
+use Rattle.day_replay.proofs.DayVerdicts.{false_at}
+use Rattle.day_replay.proofs.judging.judge.Goals as goal
 
 pub returns : goal.returns
 returns g c =

@@ -1,6 +1,6 @@
-use Rattle.day_audit.specs.Judged.{IsTextOf, IsSummaryOf}
-use Rattle.day_audit.proofs.DayVerdicts.{one_verdict}
-use Rattle.day_audit.proofs.laws.verdicts_are_unique.Goals as goal
+use Rattle.day_replay.specs.Judged.{IsTextOf, IsSummaryOf}
+use Rattle.day_replay.proofs.DayVerdicts.{one_verdict}
+use Rattle.day_replay.proofs.laws.verdicts_are_unique.Goals as goal
 
 pub returns-clause-texts : goal.returns-clause-texts
 returns-clause-texts c = λ day. one_verdict (IsTextOf day)

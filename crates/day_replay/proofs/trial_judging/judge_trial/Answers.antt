@@ -8,8 +8,8 @@ use Rattle.day_lines.specs.DayHistory.{IsHistoryOf}
 use Rattle.day_lines.specs.DayText.{terms_of}
 use Rattle.day_sheets.specs.MadeDay.{made_day}
 use Rattle.day_sheets.specs.Summary.{IsSummary}
-use Rattle.day_audit.proofs.TrialVerdicts.{false_summary}
-use Rattle.day_audit.proofs.trial_judging.judge_trial.Goals as goal
+use Rattle.day_replay.proofs.TrialVerdicts.{false_summary}
+use Rattle.day_replay.proofs.trial_judging.judge_trial.Goals as goal
 
 pub summary_difference-requires-clause-scripts : goal.summary_difference-requires-clause-scripts
 summary_difference-requires-clause-scripts g c κs within =

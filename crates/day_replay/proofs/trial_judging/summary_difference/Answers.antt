@@ -7,7 +7,7 @@ use Rattle.day_sheets.proofs.BatchNumbers.{have_numbers}
 use Rattle.day_sheets.proofs.LastFreeze.{some_version, clerks}
 use Rattle.day_sheets.proofs.SummingUp.{stands_last}
 use Rattle.sheet_check.proofs.Differences.{Tells, compared}
-use Rattle.day_audit.proofs.trial_judging.summary_difference.Goals as goal
+use Rattle.day_replay.proofs.trial_judging.summary_difference.Goals as goal
 
 pub last_of-version-requires : goal.last_of-version-requires
 last_of-version-requires g c =
