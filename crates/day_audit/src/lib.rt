@@ -12,5 +12,5 @@ mod worked;
 pub use audit_asked::AuditAsked;
 pub use split::{ended, text_and_file};
 pub use tool::audit;
-pub use verdict_line::verdict_line;
+pub use verdict_line::line_of;
 pub use worked::worked_audits;

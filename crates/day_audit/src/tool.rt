@@ -13,7 +13,7 @@ ghost use Rattle.day_audit.specs.Words.{MayBeAsked};
 
 use crate::AuditAsked;
 use crate::split::{ended, text_and_file};
-use crate::verdict_line::verdict_line;
+use crate::verdict_line::line_of;
 use crate::words::takes_audit;
 use byte_edge::{Sink, Source};
 use day_reader::{Day, accepts_days, read_day, refuses_by_the_rule};
@@ -97,11 +97,7 @@ fn judge_day<R: Threads + Sync, K: Sink>(
         (writing K.written K.faults sink.old sink.new) }
 {
     match judge(rt, alloc, text, day) {
-        Ok(verdict) => finish(
-            sink,
-            End::Done,
-            verdict_line(AuditAsked::Day, verdict).bytes(),
-        ),
+        Ok(verdict) => finish(sink, End::Done, line_of(AuditAsked::Day, verdict).bytes()),
         Err(_) => End::NoMemory,
     }
 }
@@ -124,7 +120,7 @@ fn audit_trial<R: Threads + Sync, K: Sink>(
         Ok(verdict) => finish(
             sink,
             End::Done,
-            verdict_line(AuditAsked::Trial(number), verdict).bytes(),
+            line_of(AuditAsked::Trial(number), verdict).bytes(),
         ),
         Err(_) => End::NoMemory,
     }

@@ -11,7 +11,7 @@ use line_text::Line;
 const LONGEST_SUBJECT: usize = 5;
 
 /// The line of a verdict on what was audited.
-pub fn verdict_line(asked: AuditAsked, verdict: DayVerdict) -> Line
+pub fn line_of(asked: AuditAsked, verdict: DayVerdict) -> Line
     ensures { result ≡ verdict_line asked verdict }
 {
     let mut line = begun(asked);

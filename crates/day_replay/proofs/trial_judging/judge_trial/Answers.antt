@@ -1,4 +1,4 @@
-use Rattle.std.proofs.Common.{◌≡◌, ℕ, Option, List, length, ap, sym, ◌∙◌, subst}
+use Rattle.std.proofs.Common.{ℕ, Option, List, length, ap, subst}
 use Rattle.day_reader.specs.declared.day.Day.{Day}
 use Rattle.day_reader.specs.declared.script.Script.{Script}
 use Rattle.day_reader.specs.Said.{AreScripts}
@@ -6,7 +6,6 @@ use Rattle.sheet_check.specs.Comparison.{IsCompared}
 use Rattle.day_lines.specs.declared.terms.Terms.{Terms}
 use Rattle.day_lines.specs.DayHistory.{IsHistoryOf}
 use Rattle.day_lines.specs.DayText.{terms_of}
-use Rattle.day_sheets.specs.MadeDay.{made_day}
 use Rattle.day_sheets.specs.Summary.{IsSummary}
 use Rattle.day_replay.proofs.TrialVerdicts.{false_summary}
 use Rattle.day_replay.proofs.trial_judging.judge_trial.Goals as goal

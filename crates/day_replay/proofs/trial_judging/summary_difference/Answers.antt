@@ -1,4 +1,4 @@
-use Rattle.std.proofs.Common.{◌≡◌, ◌≤◌, ℕ, All, Some, Result, length, refl, sym, ap, ◌∙◌, subst}
+use Rattle.std.proofs.Common.{◌≤◌, ℕ, All, Some, Result, length, refl, sym, ap, ◌∙◌, subst}
 use Rattle.byte_edge.specs.declared.failed.Failed.{Failed}
 use Rattle.day_lines.specs.DayText.{roll_with}
 use Rattle.day_sheets.specs.MadeDay.{made_day}
