@@ -1,15 +1,1 @@
-mod Each
-mod Marks
-mod Counting
-mod Repeats
-mod LineItems
-mod Texts
-mod Told
-mod NameLaws
-mod CountLaws
-mod PlaceLaws
-mod Firsts
-mod SiteLemmas
-mod Spelled
-mod TokenLaws
 mod Owing

@@ -1,13 +1,1 @@
-pub mod Counts
-pub mod Names
-pub mod Places
-pub mod Sites
-pub mod Lines
-pub mod Breaks
-pub mod Tally
-pub mod Doubts
-pub mod Said
-pub mod Looked
 pub mod Owed
-pub mod Laws
-pub mod Worked

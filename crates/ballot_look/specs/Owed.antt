@@ -1,5 +1,5 @@
 -- What is owed for a ballot file.
-use Rattle.std.specs.Prelude.{◌≡◌, ℕ, List, ◌++◌, length, Some}
+use Rattle.std.specs.Prelude.{◌≡◌, ℕ, List, Some}
 use Rattle.input_text.specs.declared.input_fault.InputFault.{InputFault}
 use Rattle.blt_reader.specs.Poll.{Poll}
 use Rattle.tool_edge.specs.declared.end.End.{End}
@@ -8,12 +8,7 @@ use Rattle.tool_edge.specs.Contest.{SaysPoll}
 use Rattle.tool_edge.specs.Tool.{Tool}
 use Rattle.tool_edge.specs.Tools.{over_files}
 use Rattle.sheet_input.specs.declared.sheet_limit.TheConstants.{SHEET_LIMIT}
-use Rattle.ballot_look.specs.Breaks.{place_warnings}
-use Rattle.ballot_look.specs.Lines.{look_text}
-
--- what is said of an election, and behind it what of the places in its file wants a look
-abbrev pub whole_text : (input : List ℕ) → Poll → List ℕ
-whole_text input poll = look_text input poll ++ place_warnings input (length poll.roll.names)
+use Rattle.ballot_findings.specs.Findings.{whole_text}
 
 -- what was read of the file, and what of it wants a look
 abbrev pub OwesLook : (input bytes : List ℕ) → Type 0

@@ -7,7 +7,7 @@ ghost use Rattle.tool_edge.specs.Tool.{IsOwedFor, IsRun, no_history};
 ghost use Rattle.blt_reader.specs.Election.{poll};
 ghost use Rattle.ballot_look.specs.Owed.{IsLookOf, look_tool};
 
-use crate::looking::{looked_at, whole_text};
+use ballot_findings::findings_of;
 use blt_reader::{Election, read_blt};
 use byte_edge::{Sink, Source};
 use sheet_input::SHEET_LIMIT;
@@ -16,8 +16,8 @@ use tool_edge::{
     End, files_are_not_refused, files_are_refused_once, finish, open, refuse_input, takes_nothing,
 };
 
-/// Says what stands in the ballot file that the source gives, before anything is counted, and what of it
-/// wants a look. No words are taken. All memory is taken before the first byte.
+/// Says what the ballot file that the source gives holds, before anything is counted, and what of it wants a
+/// look. No words are taken. All memory is taken before the first byte.
 pub fn look<S: Source, K: Sink>(
     alloc: Global,
     words: &[String],
@@ -56,10 +56,7 @@ fn tell_election<K: Sink>(alloc: Global, input: &[u8], election: &Election, sink
     ensures { FinishesOwed (IsLookOf input.now (poll election.now)) result
         (writing K.written K.faults sink.old sink.new) }
 {
-    let Ok(looked) = looked_at(alloc, &election.roll, &election.ballots) else {
-        return End::NoMemory;
-    };
-    match whole_text(alloc, input, &election.roll, &looked) {
+    match findings_of(alloc, input, &election.roll, &election.ballots) {
         Ok(text) => finish(sink, End::Done, text.bytes()),
         Err(_) => End::NoMemory,
     }

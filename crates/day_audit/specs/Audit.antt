@@ -13,9 +13,9 @@ use Rattle.day_lines.specs.Owed.{SaysDay}
 use Rattle.sheet_input.specs.declared.sheet_limit.TheConstants.{SHEET_LIMIT}
 use Rattle.day_audit.specs.declared.audit_asked.AuditAsked.{AuditAsked}
 use Rattle.day_audit.specs.declared.audit_asked.AuditAsked.TheVariants as of
-use Rattle.day_audit.specs.declared.day_verdict.DayVerdict.{DayVerdict}
-use Rattle.day_audit.specs.declared.day_verdict.DayVerdict.TheVariants.{True, False}
-use Rattle.day_audit.specs.Judged.{IsDayVerdict, IsTrialVerdict}
+use Rattle.day_replay.specs.declared.day_verdict.DayVerdict.{DayVerdict}
+use Rattle.day_replay.specs.declared.day_verdict.DayVerdict.TheVariants.{True, False}
+use Rattle.day_replay.specs.Judged.{IsDayVerdict, IsTrialVerdict}
 use Rattle.day_audit.specs.Words.{TakesAudit}
 use Rattle.day_audit.specs.Input.{HasNoLastEnd, IsDaySplit}
 

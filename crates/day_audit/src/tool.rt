@@ -8,14 +8,16 @@ ghost use Rattle.tool_edge.specs.Tool.{IsOwedFor, IsRun, no_history};
 ghost use Rattle.sheet_input.specs.declared.sheet_limit.TheConstants.{SHEET_LIMIT};
 ghost use Rattle.meek_trial.specs.declared.day.TheConstants.{MOST_TRIAL};
 ghost use Rattle.day_audit.specs.Audit.{audits_days, IsOwedLine};
-ghost use Rattle.day_audit.specs.Judged.{IsDayVerdict};
+ghost use Rattle.day_replay.specs.Judged.{IsDayVerdict};
 ghost use Rattle.day_audit.specs.Words.{MayBeAsked};
 
+use crate::AuditAsked;
 use crate::split::{ended, text_and_file};
+use crate::verdict_line::line_of;
 use crate::words::takes_audit;
-use crate::{AuditAsked, judge, judge_trial};
 use byte_edge::{Sink, Source};
 use day_reader::{Day, accepts_days, read_day, refuses_by_the_rule};
+use day_replay::{judge, judge_trial};
 use number_option::words_have_one_number;
 use sheet_input::SHEET_LIMIT;
 use std::alloc::Global;
@@ -95,7 +97,7 @@ fn judge_day<R: Threads + Sync, K: Sink>(
         (writing K.written K.faults sink.old sink.new) }
 {
     match judge(rt, alloc, text, day) {
-        Ok(verdict) => finish(sink, End::Done, verdict.line(AuditAsked::Day).bytes()),
+        Ok(verdict) => finish(sink, End::Done, line_of(AuditAsked::Day, verdict).bytes()),
         Err(_) => End::NoMemory,
     }
 }
@@ -118,7 +120,7 @@ fn audit_trial<R: Threads + Sync, K: Sink>(
         Ok(verdict) => finish(
             sink,
             End::Done,
-            verdict.line(AuditAsked::Trial(number)).bytes(),
+            line_of(AuditAsked::Trial(number), verdict).bytes(),
         ),
         Err(_) => End::NoMemory,
     }

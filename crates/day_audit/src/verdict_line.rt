@@ -3,24 +3,23 @@ ghost use Rattle.std.specs.Prelude.{◌≡◌, ◌≤◌, ◌++◌, ◌∷◌, [
 ghost use Rattle.day_audit.specs.Audit.{subject, verdict_line};
 ghost use Rattle.day_audit.specs.declared.verdict_line.TheConstants.{LONGEST_SUBJECT};
 
-use crate::{AuditAsked, DayVerdict};
+use crate::AuditAsked;
+use day_replay::DayVerdict;
 use line_text::Line;
 
 /// So many bytes has the longer of `day` and `trial`.
 const LONGEST_SUBJECT: usize = 5;
 
-impl DayVerdict {
-    /// The line that says it of what was audited.
-    pub fn line(self, asked: AuditAsked) -> Line
-        ensures { result ≡ verdict_line asked self }
-    {
-        let mut line = begun(asked);
-        match self {
-            DayVerdict::True => line.push_bytes(b" true\n"),
-            DayVerdict::False(n) => push_false(&mut line, n),
-        }
-        line
+/// The line of a verdict on what was audited.
+pub fn line_of(asked: AuditAsked, verdict: DayVerdict) -> Line
+    ensures { result ≡ verdict_line asked verdict }
+{
+    let mut line = begun(asked);
+    match verdict {
+        DayVerdict::True => line.push_bytes(b" true\n"),
+        DayVerdict::False(n) => push_false(&mut line, n),
     }
+    line
 }
 
 /// A line that begins with what was audited.

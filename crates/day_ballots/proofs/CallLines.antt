@@ -18,7 +18,7 @@ use Rattle.sheet_check.proofs.Differences.{Tells, compared}
 use Rattle.day_lines.specs.DayHistory.{clerk_freeze}
 use Rattle.day_replay.specs.Nearest.{BeginsAs}
 use Rattle.day_replay.proofs.Lists.{inside}
-use Rattle.day_audit.proofs.DayLines.{line_of_a_call}
+use Rattle.day_replay.proofs.DayLines.{line_of_a_call}
 use Rattle.day_ballots.specs.Found.{IsFirstOther}
 
 -- the line of a call stands at its place

@@ -26,7 +26,7 @@ use Rattle.std.proofs.lemmas.List.FromFn.{length-map-range_with_len}
 use Rattle.day_lines.specs.DayText.{terms_of, roll_with, IsSheetAfter}
 use Rattle.day_lines.specs.Owed.{SaysDay}
 use Rattle.day_ballots.specs.Laws.{FreezesAreCounted}
-use Rattle.day_reader.proofs.RollNames.{IsPrintedRoll, printed_roll}
+use Rattle.day_reader.proofs.RollNames.{printed_roll}
 use Rattle.day_reader.proofs.CallRankings.{rankings, not_too_many}
 use Rattle.day_ballots.proofs.Ranked.{all_calls, in_scripts}
 

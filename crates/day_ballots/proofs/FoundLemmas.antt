@@ -18,7 +18,7 @@ use Rattle.day_lines.specs.DayHistory.{IsHistoryOf}
 use Rattle.day_lines.specs.DayText.{roll_with}
 use Rattle.day_sheets.specs.Frozen.{AreFrozen}
 use Rattle.day_replay.specs.Nearest.{BeginsAs, IsNearest}
-use Rattle.day_audit.proofs.DayEnds.{in_front, no_more}
+use Rattle.day_replay.proofs.DayEnds.{in_front, no_more}
 use Rattle.day_ballots.specs.declared.ballots_fault.BallotsFault.{BallotsFault}
 use Rattle.day_ballots.specs.declared.ballots_fault.BallotsFault.TheVariants.{File, False, NoFreeze}
 use Rattle.day_ballots.specs.Along.{GoesAlong, IsFreezeAt, IsAtFreeze, IsFalseCall}

@@ -1,5 +1,5 @@
 -- Answers and words of the tool, worked by hand.
-use Rattle.std.proofs.Common.{ℕ, [], ◌∷◌, refl, arith, codes}
+use Rattle.std.proofs.Common.{refl, arith, codes}
 use Rattle.std.specs.Fmt.{digits}
 use Rattle.day_audit.proofs.WorkedWords.{numeral}
 use Rattle.day_ballots.specs.Worked.{WorkedAnswers, WorkedLineWords}

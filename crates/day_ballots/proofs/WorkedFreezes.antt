@@ -17,7 +17,7 @@ use Rattle.sheet_text.specs.Lines.{ended}
 use Rattle.sheet_check.specs.Difference.{line_at}
 use Rattle.day_replay.specs.Nearest.{BeginsAs}
 use Rattle.day_replay.specs.Worked.{made_by, enter, correct, entered_line}
-use Rattle.day_ballots.specs.Along.{GoesAlong, IsFreezeAt, IsAtFreeze, IsFalseCall, HasNoFreeze}
+use Rattle.day_ballots.specs.Along.{GoesAlong, IsFreezeAt, IsAtFreeze, IsFalseCall}
 use Rattle.day_ballots.specs.Worked.{WorkedFreezes, WorkedFalseLines, one_team, its_history, its_text, corrected_line}
 use Rattle.day_ballots.proofs.OneTeam.{only_history}
 

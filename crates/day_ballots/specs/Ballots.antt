@@ -16,7 +16,7 @@ use Rattle.day_lines.specs.Owed.{SaysDay}
 use Rattle.day_lines.specs.DayText.{roll_with}
 use Rattle.sheet_input.specs.declared.sheet_limit.TheConstants.{SHEET_LIMIT}
 use Rattle.day_audit.specs.declared.audit_asked.AuditAsked.TheVariants.{Day as OfDay}
-use Rattle.day_audit.specs.declared.day_verdict.DayVerdict.TheVariants.{False as NotTrueAt}
+use Rattle.day_replay.specs.declared.day_verdict.DayVerdict.TheVariants.{False as NotTrueAt}
 use Rattle.day_audit.specs.Audit.{verdict_line, IsRefusedAudit}
 use Rattle.day_audit.specs.Input.{IsDaySplit}
 use Rattle.day_ballots.specs.declared.ballots_fault.BallotsFault.{BallotsFault}

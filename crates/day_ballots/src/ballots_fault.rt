@@ -3,7 +3,8 @@ ghost use Rattle.std.specs.Prelude.{◌≡◌, ◌++◌, ◌∷◌, [], codes, d
 ghost use Rattle.day_ballots.specs.Ballots.{ballots_refusals, refusal_line};
 
 use blt_reader::InputFault;
-use day_audit::{AuditAsked, DayVerdict};
+use day_audit::{AuditAsked, line_of};
+use day_replay::DayVerdict;
 use line_text::Line;
 use tool_edge::Fault;
 
@@ -24,7 +25,7 @@ impl Fault for BallotsFault {
     fn line(&self) -> Line {
         match self {
             BallotsFault::File(fault) => fault.line(),
-            BallotsFault::False(line) => DayVerdict::False(*line).line(AuditAsked::Day),
+            BallotsFault::False(line) => line_of(AuditAsked::Day, DayVerdict::False(*line)),
             BallotsFault::NoFreeze(line) => no_freeze_line(*line),
         }
     }

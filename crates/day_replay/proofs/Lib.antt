@@ -12,3 +12,9 @@ mod Way
 mod Stands
 mod WorkedLines
 mod WorkedOrders
+pub mod DayLines
+mod DayTexts
+pub mod DayEnds
+mod DayVerdicts
+mod TrialVerdicts
+mod WorkedVerdicts

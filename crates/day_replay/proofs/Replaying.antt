@@ -1,10 +1,9 @@
 -- Calls answered one after another.
-use Rattle.std.proofs.Common.{◌≡◌, ℕ, ◌+◌, ◌≤◌, false, List, [], ◌∷◌, ◌++◌, length, refl, sym, ap, ◌∙◌, subst, arith}
+use Rattle.std.proofs.Common.{◌≡◌, ℕ, ◌+◌, ◌≤◌, false, List, [], ◌∷◌, ◌++◌, length, sym, ap, ◌∙◌, subst, arith}
 use Rattle.std.specs.Prelude.{All}
 use Rattle.std.proofs.lemmas.List.Elements.{All-push}
 use Rattle.plain_ballots.specs.declared.limits.TheConstants.{MOST_CANDIDATES}
 use Rattle.batch_core.specs.declared.call.Call.{Call}
-use Rattle.batch_core.specs.declared.call.Call.TheVariants.{Freeze as FreezeCall}
 use Rattle.batch_core.specs.declared.reply.Reply.{Reply}
 use Rattle.batch_core.specs.declared.entry.Entry.{Entry}
 use Rattle.batch_core.specs.Book.{BookList, BookState, empty, after, reply, state_of}

@@ -1,7 +1,7 @@
 -- Lines of calls, worked by hand.
-use Rattle.std.proofs.Common.{◌≡◌, ◌≢◌, ℕ, zero, suc, ◌+◌, ◌<◌, ◌≤◌, List, [], ◌∷◌, ◌++◌, refl, sym, ap, ◌∙◌}
+use Rattle.std.proofs.Common.{◌≡◌, ◌≢◌, ℕ, zero, suc, ◌+◌, ◌<◌, List, ◌++◌, refl, ap}
 use Rattle.std.proofs.Common.{subst, arith, codes, get_or}
-use Rattle.std.specs.Prelude.{slice_get, Some, Option, unwrap_or, decimal}
+use Rattle.std.specs.Prelude.{slice_get, Some, Option, unwrap_or}
 use Rattle.std.specs.Fmt.{digits}
 use Rattle.batch_core.specs.declared.call.Call.TheVariants.{Strike}
 use Rattle.batch_core.specs.declared.reply.Reply.TheVariants.{Entered, Corrected, Struck}
@@ -10,7 +10,6 @@ use Rattle.day_lines.specs.EntryText.{entry_line}
 use Rattle.sheet_text.specs.Lines.{ended}
 use Rattle.sheet_check.specs.Difference.{line_at}
 use Rattle.day_lines.specs.DayHistory.{clerk_freeze}
-use Rattle.day_replay.specs.Saying.{Says, call_front}
 use Rattle.day_replay.specs.Nearest.{BeginsAs}
 use Rattle.day_replay.specs.Worked.{WorkedLines, WorkedCallers, made_by, enter, correct, morning, morning_text, entered_line}
 

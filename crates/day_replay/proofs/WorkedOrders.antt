@@ -1,8 +1,8 @@
 -- Two orders of two teams' calls, worked by hand.
-use Rattle.std.proofs.Common.{◌≡◌, ◌⊎◌, inl, inr, ℕ, zero, suc, ◌+◌, ◌-◌, ◌==◌, ◌<◌, ◌≤◌, Bool, true, false}
+use Rattle.std.proofs.Common.{◌≡◌, ℕ, zero, suc, ◌-◌, ◌==◌, ◌<◌, ◌≤◌, false}
 use Rattle.std.proofs.Common.{cond, List, [], ◌∷◌, ◌++◌}
-use Rattle.std.proofs.Common.{refl, sym, ap, ◌∙◌, subst, arith, codes, get_or, take, filter}
-use Rattle.std.specs.Prelude.{All, slice_get, slice_index_or, reverse, Some, Option, unwrap_or}
+use Rattle.std.proofs.Common.{refl, sym, ap, ◌∙◌, subst, arith, codes, get_or, take}
+use Rattle.std.specs.Prelude.{All, slice_get, slice_index_or, reverse, Option, unwrap_or}
 use Rattle.std.specs.List.{flat_map}
 use Rattle.std.specs.Fmt.{digits}
 use Rattle.std.proofs.lemmas.Bool.{ne_eqb}

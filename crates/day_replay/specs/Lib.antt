@@ -3,3 +3,6 @@ pub mod Replay
 pub mod Saying
 pub mod Nearest
 pub mod Worked
+pub mod Judged
+pub mod Laws
+pub mod WorkedVerdicts

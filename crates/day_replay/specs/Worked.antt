@@ -1,5 +1,5 @@
 -- Lines of calls worked by hand, and the history that is the nearest to a text.
-use Rattle.std.specs.Prelude.{◌≡◌, ℕ, List, [], ◌∷◌, ◌++◌, codes}
+use Rattle.std.specs.Prelude.{ℕ, List, [], ◌∷◌, ◌++◌, codes}
 use Rattle.batch_core.specs.declared.change.Change.TheVariants.{Enter, Correct}
 use Rattle.batch_core.specs.declared.call.Call.{Call}
 use Rattle.batch_core.specs.declared.call.Call.TheVariants.{Change, Strike}
@@ -9,7 +9,7 @@ use Rattle.batch_core.specs.declared.entry.Entry.{Entry}
 use Rattle.day_reader.specs.declared.script.Script.{Script}
 use Rattle.day_lines.specs.DayHistory.{IsHistoryOf, clerk_freeze}
 use Rattle.day_replay.specs.Saying.{Says}
-use Rattle.day_replay.specs.Nearest.{BeginsAs, HasFollowed, HasSaid, IsNearest}
+use Rattle.day_replay.specs.Nearest.{BeginsAs, HasFollowed, IsNearest}
 
 abbrev pub made_by : (caller : ℕ) → Call → Reply → Entry
 made_by caller asked answer = record { caller = caller; call = asked; reply = answer }

@@ -34,3 +34,21 @@ impl From<frozen_plan::NoMemory> for NoMemory {
         NoMemory
     }
 }
+
+impl From<candidate_roll::NoMemory> for NoMemory {
+    fn from(_: candidate_roll::NoMemory) -> NoMemory {
+        NoMemory
+    }
+}
+
+impl From<lane_sheet::NoMemory> for NoMemory {
+    fn from(_: lane_sheet::NoMemory) -> NoMemory {
+        NoMemory
+    }
+}
+
+impl From<day_sheets::NoMemory> for NoMemory {
+    fn from(_: day_sheets::NoMemory) -> NoMemory {
+        NoMemory
+    }
+}

@@ -1,8 +1,8 @@
 -- Words that are the two options.
-use Rattle.std.proofs.Common.{◌≡◌, ◌∙◌, sym, ap, subst, ℕ, ◌≤◌, List, [], ◌∷◌, length, get_or, arith, inl, inr}
+use Rattle.std.proofs.Common.{◌≡◌, ◌∙◌, sym, ap, subst, ℕ, List, [], ◌∷◌, length, get_or, arith, inl, inr}
 use Rattle.std.specs.Prelude.{codes, Result, Ok, Err, IfOk}
 use Rattle.std.specs.Borrow.{Bor}
-use Rattle.meek_words.specs.Numerals.{Word, IsNumeralUpTo, IsLotList, number_of}
+use Rattle.meek_words.specs.Numerals.{Word}
 use Rattle.lot_draw.specs.Words.{Asked, AreOptions, Says, TakesDraw}
 
 -- a list of four elements

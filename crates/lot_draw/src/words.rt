@@ -1,7 +1,7 @@
 // The words that ask for a draw.
-ghost use Rattle.std.specs.Prelude.{◌≡◌, ◌↔◌, ℕ, IsTrue, IfOk, map};
+ghost use Rattle.std.specs.Prelude.{◌≡◌, ◌↔◌, ℕ, All, IsTrue, IfOk, map};
 ghost use Rattle.std.specs.String.{string_bytes};
-ghost use Rattle.lot_draw.specs.Words.{Asked, IsSeed, Says, TakesDraw};
+ghost use Rattle.lot_draw.specs.Words.{AreBlanks, Asked, IsPrinted, IsSeed, Says, TakesDraw};
 
 use meek_words::WordsStop;
 use number_word::read_number;
@@ -9,6 +9,10 @@ use plain_ballots::MOST_CANDIDATES;
 use std::alloc::Global;
 
 const LONGEST_SEED: usize = 1000;
+
+const BLANK: u8 = 32;
+
+const LAST_PRINTED: u8 = 126;
 
 /// The seed and the number of candidates of words that are just `--seed` and `--candidates`, in either
 /// order, each with its value behind it.
@@ -52,8 +56,41 @@ fn asked<'a>(alloc: Global, seed: &'a str, number: &str) -> Result<(&'a str, u32
     }
 }
 
+/// Whether a word is a seed: of printed characters of ASCII, with one blank between each two words.
 fn is_seed(word: &str) -> bool
     ensures { IsTrue result ↔ IsSeed word.now }
 {
-    !word.is_empty() && word.len() <= LONGEST_SEED
+    let bytes = word.as_bytes();
+    let len = bytes.len();
+    if len == 0 || len > LONGEST_SEED {
+        return false;
+    }
+    if bytes[0] == BLANK || bytes[len - 1] == BLANK {
+        return false;
+    }
+    is_printed(bytes) && are_apart(bytes)
+}
+
+/// Whether all bytes are printed characters of ASCII.
+fn is_printed(bytes: &[u8]) -> bool
+    ensures { IsTrue result ↔ All IsPrinted bytes.now }
+{
+    for byte in bytes {
+        if *byte < BLANK || *byte > LAST_PRINTED {
+            return false;
+        }
+    }
+    true
+}
+
+/// Whether no two blanks are together.
+fn are_apart(bytes: &[u8]) -> bool
+    ensures { IsTrue result ↔ ((at : ℕ) → ¬ AreBlanks bytes.now at) }
+{
+    for at in 1..bytes.len() {
+        if bytes[at - 1] == BLANK && bytes[at] == BLANK {
+            return false;
+        }
+    }
+    true
 }

@@ -17,7 +17,8 @@ use Rattle.vote_spread.specs.Packed.{StandFor}
 use Rattle.vote_spread.specs.declared.class.Class.{Class}
 use Rattle.vote_spread.specs.KeepingSeen.{KeepingSeen, TakesOver}
 use Rattle.vote_spread.specs.Rows.{StandForPart}
-use Rattle.vote_spread.specs.Shares.{share, share_of, CanCount, HasCounted}
+use Rattle.shared_work.specs.Shares.{share}
+use Rattle.vote_spread.specs.Shares.{share_of, CanCount, HasCounted}
 use Rattle.vote_spread.specs.LaneSeen.{LaneSeen, tallies_of, HaveRun}
 use Rattle.vote_spread.specs.Lanes.{LanesSeen, AreLoaded, AreReady, HaveCounted}
 use Rattle.vote_spread.proofs.GainLemmas.{length-gains}

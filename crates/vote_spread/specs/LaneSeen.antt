@@ -3,7 +3,8 @@ use Rattle.std.specs.Prelude.{◌≡◌, ℕ, ◌+◌, ◌<◌, ◌≤◌, false
 use Rattle.vote_spread.specs.Stem.{Stem}
 use Rattle.vote_spread.specs.KeepingSeen.{KeepingSeen, classes_of}
 use Rattle.vote_spread.specs.Rows.{StandForPart, room_for}
-use Rattle.vote_spread.specs.Shares.{share, HasCounted}
+use Rattle.shared_work.specs.Shares.{share}
+use Rattle.vote_spread.specs.Shares.{HasCounted}
 
 -- a lane's tally, its rows, and for how many rows it has room
 pub record LaneSeen : Type 0 where

@@ -1,13 +1,10 @@
 -- How stems are shared among lanes.
-use Rattle.std.specs.Prelude.{◌≡◌, ℕ, ◌+◌, ◌*◌, ◌/◌, ◌^◌, ◌<◌, ◌≤◌, List, length, slice_index, sum}
+use Rattle.std.specs.Prelude.{◌≡◌, ℕ, ◌+◌, ◌^◌, ◌<◌, ◌≤◌, List, length, slice_index, sum}
+use Rattle.shared_work.specs.Shares.{share}
 use Rattle.vote_spread.specs.Stem.{Stem}
 use Rattle.vote_spread.specs.Walk.{IsWalk}
 use Rattle.vote_spread.specs.KeepingSeen.{KeepingSeen}
 use Rattle.vote_spread.specs.Gain.{gains, opening, part}
-
--- the first of `len` stems of share k, of as many shares as there are lanes
-abbrev pub share : (len k lanes : ℕ) → ℕ
-share len k lanes = len * k / lanes
 
 -- what share k of the stems gives to candidate c
 abbrev pub share_of : (s : ℕ) (keeps : List ℕ) (c : ℕ) → List Stem → (k lanes : ℕ) → ℕ

@@ -3,7 +3,7 @@ ghost use Rattle.std.specs.Prelude.{◌≡◌, ◌+◌, ◌^◌, ◌<◌, ◌≤
 ghost use Rattle.vote_spread.specs.declared.depths.TheConstants.{DEPTHS};
 ghost use Rattle.vote_spread.specs.declared.limits.TheConstants.{MOST_WORKERS};
 ghost use Rattle.vote_spread.specs.KeepingSeen.{settled};
-ghost use Rattle.vote_spread.specs.Shares.{share, CanCount, HasCounted};
+ghost use Rattle.vote_spread.specs.Shares.{CanCount, HasCounted};
 ghost use Rattle.vote_spread.specs.LaneSeen.{IsFit};
 ghost use Rattle.vote_spread.specs.Walk.{IsWalk};
 
@@ -13,6 +13,7 @@ use crate::depths::DEPTHS;
 use crate::row::Row;
 use crate::task::Task;
 use crate::walk::walk;
+use shared_work::share;
 use std::alloc::Global;
 use std::marker::Model;
 
@@ -102,15 +103,6 @@ impl Lane {
             branches.condense(from, to, task.keeping.classes(), &mut self.rows);
         }
     }
-}
-
-/// The first of `len` branches of share `k` of `count`.
-pub(crate) fn share(len: usize, k: usize, count: usize) -> usize
-    requires { (1 ≤ count) × (k ≤ count) × (count ≤ MOST_WORKERS) }
-    ensures share { result ≡ share len k count }
-    ensures within { result ≤ len }
-{
-    (len as u128 * k as u128 / count as u128) as usize
 }
 
 /// How many numbers are room enough between two lanes' buffers, so that no lane writes to a line of

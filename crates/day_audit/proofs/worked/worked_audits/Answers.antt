@@ -1,12 +1,8 @@
 use Rattle.std.proofs.Common.{refl}
 use Rattle.std.specs.Fmt.{digits}
 use Rattle.day_audit.proofs.WorkedEnds.{worked_ends}
-use Rattle.day_audit.proofs.WorkedVerdicts.{worked_verdicts}
 use Rattle.day_audit.proofs.WorkedWords.{worked_words}
 use Rattle.day_audit.proofs.worked.worked_audits.Goals as goal
-
-pub returns-clause-verdicts : goal.returns-clause-verdicts
-returns-clause-verdicts c = worked_verdicts
 
 pub returns-clause-verdict_lines : goal.returns-clause-verdict_lines
 unfolding digits

@@ -3,7 +3,7 @@ use Rattle.std.specs.List.{All}
 use Rattle.std.proofs.lemmas.List.Elements.{All-push, All-nil}
 use Rattle.vote_spread.specs.LaneSeen.{LaneSeen}
 use Rattle.vote_spread.specs.Rows.{room_for}
-use Rattle.vote_spread.specs.Shares.{share}
+use Rattle.shared_work.specs.Shares.{share}
 use Rattle.vote_spread.proofs.lanes.lanes_of.Goals as goal
 
 -- one lane more with as much room as its place needs

@@ -2,7 +2,7 @@ use Rattle.std.proofs.Common.{◌≡◌, ℕ, ◌+◌, ◌<◌, ◌≤◌, lengt
 use Rattle.std.specs.List.{All}
 use Rattle.vote_spread.specs.LaneSeen.{LaneSeen}
 use Rattle.vote_spread.specs.Rows.{room_for}
-use Rattle.vote_spread.specs.Shares.{share}
+use Rattle.shared_work.specs.Shares.{share}
 use Rattle.vote_spread.proofs.lanes.lanes_of.Given as goal
 
 abbrev pub invariant-loop-k : goal.invariant-loop-k

@@ -1,4 +1,4 @@
-use Rattle.std.proofs.Common.{◌≡◌, ℕ, ◌+◌, [], List, ◌∷◌, ◌++◌, length, sym, ap, ◌∙◌, subst}
+use Rattle.std.proofs.Common.{ℕ, ◌+◌, [], List, ◌∷◌, ◌++◌, length, sym, ap, ◌∙◌, subst}
 use Rattle.batch_core.specs.declared.entry.Entry.{Entry}
 use Rattle.call_register.specs.Weaving.{freeze_entry}
 use Rattle.frozen_version.specs.Versions.{VersionState}

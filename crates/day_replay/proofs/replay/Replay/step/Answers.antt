@@ -1,4 +1,4 @@
-use Rattle.std.proofs.Common.{◌≡◌, ℕ, [], List, ◌∷◌, ◌++◌, sym, ap, ◌∙◌, subst}
+use Rattle.std.proofs.Common.{ℕ, [], List, ◌∷◌, ◌++◌, sym, ap, ◌∙◌, subst}
 use Rattle.batch_core.specs.declared.entry.Entry.{Entry}
 use Rattle.batch_core.specs.Book.{after, state_of}
 use Rattle.day_reader.specs.Said.{IsAnswerable}

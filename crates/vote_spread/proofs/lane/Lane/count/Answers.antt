@@ -4,7 +4,8 @@ use Rattle.vote_spread.specs.Class.{AreOf}
 use Rattle.vote_spread.specs.KeepingSeen.{KeepingSeen, settled, classes_of}
 use Rattle.vote_spread.specs.Stem.{Stem}
 use Rattle.vote_spread.specs.Rows.{seen, total}
-use Rattle.vote_spread.specs.Shares.{share, share_of, CanCount, HasCounted}
+use Rattle.shared_work.specs.Shares.{share}
+use Rattle.vote_spread.specs.Shares.{share_of, CanCount, HasCounted}
 use Rattle.vote_spread.specs.LaneSeen.{LaneSeen, IsFit}
 use Rattle.vote_spread.proofs.WalkLemmas.{part-le}
 use Rattle.vote_spread.proofs.lane.Lane.count.Goals as goal

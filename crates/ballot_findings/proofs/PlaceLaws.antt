@@ -1,0 +1,96 @@
+-- Which places in a file want no look.
+use Rattle.std.proofs.Common.{◌≡◌, ◌∙◌, ℕ, ◌+◌, ◌≤◌, Bool, true, false, List, [], ◌∷◌, ◌++◌, length, drop}
+use Rattle.std.proofs.Common.{ap, arith, refl, sym}
+use Rattle.std.specs.Prelude.{◌==◌, ◌&&◌, not}
+use Rattle.std.proofs.lemmas.Bool.{eqb-true, eq-eqb, not-false}
+use Rattle.std.proofs.lemmas.List.{drop_all, length-drop}
+use Rattle.input_text.specs.Token.{Placed}
+use Rattle.ballot_findings.specs.Breaks.{is_parted, parted_from, parted_lines, string_lines}
+use Rattle.ballot_findings.specs.Sites.{goes_on, strings, tokens_of}
+use Rattle.ballot_findings.specs.Places.{line_at}
+use Rattle.ballot_findings.specs.Laws.{BreaksAreTold, FurtherAreTold}
+use Rattle.ballot_findings.proofs.Told.{back_none, front_none, not_written, unwritten}
+
+-- ---- ballots that a line break parts
+
+-- behind which a ballot goes on, on the same line
+abbrev AreTogether : (input : List ℕ) → List Placed → Type 0
+AreTogether input tokens =
+    (front : List Placed) (token next : Placed) (behind : List Placed) → tokens ≡ front ++ token ∷ next ∷ behind
+    → goes_on token.item ≡ true → line_at input token.at ≡ line_at input next.at
+
+together_if : (on : Bool) (m n : ℕ) → (on && not (m == n)) ≡ false → on ≡ true → m ≡ n
+together_if true m n none is = eqb-true m n (not-false (m == n) none)
+together_if false m n none is = absurd (cc)
+
+none_if : (on : Bool) (m n : ℕ) → (on ≡ true → m ≡ n) → (on && not (m == n)) ≡ false
+none_if true m n same = ap not (eq-eqb m n (same refl))
+none_if false m n same = refl
+
+module _ (input : List ℕ) where
+  alone : (token : Placed) → AreTogether input (token ∷ [])
+  alone token [] a b behind is on = absurd (cc)
+  alone token (f ∷ []) a b behind is on = absurd (cc)
+  alone token (f ∷ g ∷ front) a b behind is on = absurd (cc)
+
+  parted_none :
+      (token : Placed) (tokens : List Placed) → parted_from input token tokens ≡ []
+      → AreTogether input (token ∷ tokens)
+  parted_none token [] none front a b behind is on = alone token front a b behind is on
+  parted_none token (next ∷ tokens) none [] a b behind is on =
+      let first : token ≡ a = cc in
+      let second : next ≡ b = cc in
+      let silent =
+      not_written (is_parted input token next) 108 _
+      (front_none _ (parted_from input next tokens) none) in
+      let same =
+      together_if (goes_on token.item) (line_at input token.at) (line_at input next.at) silent
+      (ap (λ (t : Placed). goes_on t.item) first ∙ on) in
+      ap (λ (t : Placed). line_at input t.at) (sym first) ∙ (same ∙ ap (λ (t : Placed). line_at input t.at) second)
+  parted_none token (next ∷ tokens) none (f ∷ front) a b behind is on =
+      let rest : next ∷ tokens ≡ front ++ a ∷ b ∷ behind = cc in
+      parted_none next tokens (back_none _ (parted_from input next tokens) none) front a b behind rest on
+
+  none_parted :
+      (token : Placed) (tokens : List Placed) → AreTogether input (token ∷ tokens)
+      → parted_from input token tokens ≡ []
+  none_parted token [] together = refl
+  none_parted token (next ∷ tokens) together =
+      ap (λ (l : List ℕ). l ++ parted_from input next tokens)
+      (unwritten (is_parted input token next) _
+      (none_if (goes_on token.item) (line_at input token.at) (line_at input next.at)
+      (λ on. together [] token next tokens refl on)))
+      ∙ none_parted next tokens
+      (λ front a b behind is on. together (token ∷ front) a b behind (ap (λ (l : List Placed). token ∷ l) is) on)
+
+  nobody : AreTogether input []
+  nobody [] a b behind is on = absurd (cc)
+  nobody (f ∷ front) a b behind is on = absurd (cc)
+
+  lines_none : (tokens : List Placed) → parted_lines input tokens ≡ [] → AreTogether input tokens
+  lines_none [] none = nobody
+  lines_none (token ∷ tokens) none = parted_none token tokens none
+
+  none_lines : (tokens : List Placed) → AreTogether input tokens → parted_lines input tokens ≡ []
+  none_lines [] together = refl
+  none_lines (token ∷ tokens) together = none_parted token tokens together
+
+pub breaks : BreaksAreTold
+breaks input = (lines_none input (drop 2 (tokens_of input)), none_lines input (drop 2 (tokens_of input)))
+
+-- ---- strings behind the title
+
+lines_of_none : (input : List ℕ) (tokens : List Placed) → string_lines input tokens ≡ [] → tokens ≡ []
+lines_of_none input [] none = refl
+lines_of_none input (token ∷ tokens) none = absurd (cc)
+
+few_left : (n : ℕ) (xs : List Placed) → drop n xs ≡ [] → length xs ≤ n
+few_left n xs none = omega (arith, length-drop n xs, ap (λ (l : List Placed). length l) none)
+
+pub further : FurtherAreTold
+further input candidates =
+    let n = candidates + 1 in
+    let all = strings (tokens_of input) in (
+      λ none. few_left n all (lines_of_none input (drop n all) none),
+      λ few. ap (string_lines input) (drop_all n all few),
+    )

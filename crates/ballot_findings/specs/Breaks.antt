@@ -1,0 +1,50 @@
+-- What of a file's text wants a look: parted ballots, strings behind the title, and more bytes than a count reads.
+use Rattle.std.specs.Prelude.{ℕ, ◌+◌, ◌==◌, Bool, not, nat_lt, ◌&&◌, List, [], ◌∷◌, ◌++◌, length, drop, codes}
+use Rattle.std.specs.List.{flat_map}
+use Rattle.input_text.specs.Token.{Placed}
+use Rattle.tool_edge.specs.declared.opening.TheConstants.{FILE_LIMIT}
+use Rattle.ballot_findings.specs.Lines.{only_if, place_line}
+use Rattle.ballot_findings.specs.Places.{line_at}
+use Rattle.ballot_findings.specs.Sites.{goes_on, strings, tokens_of}
+
+-- ---- ballots that a line break parts
+
+-- The ballot goes on behind the token, but on another line.
+abbrev pub is_parted : (input : List ℕ) → (token next : Placed) → Bool
+is_parted input token next = goes_on token.item && not (line_at input token.at == line_at input next.at)
+
+-- a line for this token and each of the further ones that is parted from the one behind it
+abbrev pub parted_from : (input : List ℕ) → Placed → List Placed → List ℕ
+parted_from input token [] = []
+parted_from input token (next ∷ tokens) =
+    only_if (is_parted input token next) (place_line input (codes "look line ends within a ballot") [] token.at)
+    ++ parted_from input next tokens
+
+abbrev pub parted_lines : (input : List ℕ) → List Placed → List ℕ
+parted_lines input [] = []
+parted_lines input (token ∷ tokens) = parted_from input token tokens
+
+-- The numbers of candidates and of seats, with which a file begins, may stand on any lines.
+abbrev pub break_lines : (input : List ℕ) → List ℕ
+break_lines input = parted_lines input (drop 2 (tokens_of input))
+
+-- ---- strings behind the title
+
+abbrev pub string_lines : (input : List ℕ) → List Placed → List ℕ
+string_lines input tokens =
+    flat_map (λ token. place_line input (codes "look string behind the title") [] token.at) tokens
+
+-- a line for each string that is neither a name nor the title
+abbrev pub further_lines : (input : List ℕ) → (candidates : ℕ) → List ℕ
+further_lines input candidates = string_lines input (drop (candidates + 1) (strings (tokens_of input)))
+
+-- ---- a file that is longer than a count reads
+
+-- Where a count reads so many bytes, and the file has more: how many a count reads, and the place of the first behind them.
+unfoldable pub longer_lines : (most : ℕ) → (input : List ℕ) → List ℕ
+longer_lines most input =
+    only_if (nat_lt most (length input)) (place_line input (codes "look longer than a count reads") (most ∷ []) most)
+
+-- what of the text of a file wants a look
+abbrev pub place_warnings : (input : List ℕ) → (candidates : ℕ) → List ℕ
+place_warnings input candidates = break_lines input ++ further_lines input candidates ++ longer_lines FILE_LIMIT input

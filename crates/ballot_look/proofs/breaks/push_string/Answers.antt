@@ -1,4 +1,0 @@
-use Rattle.ballot_look.proofs.breaks.push_string.Goals as goal
-
-pub returns : goal.returns
-returns c = c.push_place_line.ensures c.args.input.now c.args.token.at c.requires
