@@ -4,6 +4,12 @@ use Rattle.std.proofs.Common.{Option, Result, IsErr}
 use Rattle.piece_text.specs.Writing.{Wrote, Stopped, Writes}
 use Rattle.piece_text.proofs.Written.{stopped_later, stops, wrote_later}
 
+-- the same bytes by another name
+pub renamed :
+    {S T E : Type 0} (w : S → Option (List ℕ)) (f : S → ℕ) (a b : S) (xs ys : List ℕ) (r : Result T E) → xs ≡ ys
+    → Writes w f a b xs r → Writes w f a b ys r
+renamed w f a b xs ys r same done = subst (λ (l : List ℕ). Writes w f a b l r) same done
+
 module _ (text piece : ℕ → List ℕ) (more : (n : ℕ) → text (n + 1) ≡ text n ++ piece n) where
   -- what is still to come
   rest : (n k : ℕ) → (others : List ℕ) × (text (n + k) ≡ text n ++ others)

@@ -6,3 +6,4 @@ mod Measures
 mod Texts
 mod Fitting
 mod Taming
+mod Rows

@@ -1,5 +1,6 @@
-use Rattle.std.proofs.Common.{ap, arith, ℕ, ◌-◌, List, length}
+use Rattle.std.proofs.Common.{◌≡◌, ap, arith, subst, ℕ, ◌-◌, List, length}
 use Rattle.std.specs.List.{flat_map, range_with_len}
+use Rattle.piece_text.specs.Writing.{Wrote}
 use Rattle.piece_text.proofs.Written.{wrote_nothing}
 use Rattle.sheet_reader.specs.Values.{SheetList}
 use Rattle.sheet_text.specs.Lines.{ended}
@@ -30,3 +31,11 @@ returns-in_err-write_line g c =
     stopped (λ n. flat_map h (range_with_len 0 n)) h (flat_map-places_more h) c.loop-p.p
     (length c.args.values.now.names) c.from_residual.result (omega (arith, size)) c.from_residual.ensures.0
     c.loop-p.invariant c.in_err-write_line.ensures
+
+pub returns : goal.returns
+returns g c =
+    let h = own g.row.P c.args.values.now c.args.width c.args.first c.args.end in
+    let size = ap (λ (v : SheetList). length v.names) c.values.view_is in
+    let all : c.loop-p.p ≡ length c.args.values.now.names = omega (arith, size) in
+    subst (λ (n : ℕ). Wrote g.K.Sink.written g.K.Sink.faults c.args.sink.now c.loop-p.sink (flat_map h (range_with_len 0 n))) all
+    c.loop-p.invariant

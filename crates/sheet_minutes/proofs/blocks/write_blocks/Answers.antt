@@ -1,8 +1,8 @@
-use Rattle.std.proofs.Common.{◌≡◌, ◌∙◌, ap, subst, arith, ℕ, ◌+◌, ◌-◌, ◌/◌, ◌<◌, ◌≤◌, List, ◌++◌, append_assoc, drop, length, take}
+use Rattle.std.proofs.Common.{◌≡◌, ◌∙◌, ap, sym, subst, arith, append-nil, [], ℕ, ◌+◌, ◌-◌, ◌/◌, ◌<◌, ◌≤◌, List, ◌++◌, append_assoc, drop, length, take}
 use Rattle.std.specs.List.{flat_map}
 use Rattle.meek_rule.specs.Row.{Row}
-use Rattle.piece_text.specs.Writing.{Writes}
-use Rattle.piece_text.proofs.Written.{stopped_later, stops, wrote_later}
+use Rattle.piece_text.specs.Writing.{Writes, Wrote}
+use Rattle.piece_text.proofs.Written.{stopped_later, stops, wrote_later, wrote_nothing}
 use Rattle.sheet_reader.specs.Values.{SheetList}
 use Rattle.sheet_minutes.specs.declared.columns.TheConstants.{MARK_COLUMNS, ROUND_COLUMNS}
 use Rattle.sheet_minutes.specs.Rounds.{cut, rounds_in}
@@ -68,3 +68,32 @@ loop-first-preserved g c =
         wrote_later now.2 c.in_ok-write_block.ensures,
       ),
     )
+
+pub loop-first-init : goal.loop-first-init
+loop-first-init g c =
+    let v = c.args.values.now in
+    let width = c.width_of-width.result in
+    let size = ROUND_COLUMNS / (width + MARK_COLUMNS) in
+    let all : length v.rows - 0 ≡ length v.rows = omega arith in (
+      omega arith,
+      (
+        [],
+        ap (λ (n : ℕ). flat_map (block_text g.row.P v width) (cut size (rounds_in v.rows 0 n))) all
+            ∙ ap (λ (w : ℕ). flat_map (block_text g.row.P v w) (cut (ROUND_COLUMNS / (w + MARK_COLUMNS)) (rounds_in v.rows 0 (length v.rows))))
+            c.width_of-width.ensures.width,
+        wrote_nothing _ _ _,
+      ),
+    )
+
+pub returns : goal.returns
+returns g c =
+    let v = c.args.values.now in
+    let width = c.width_of-width.result in
+    let size = ROUND_COLUMNS / (width + MARK_COLUMNS) in
+    let now = c.loop-first.invariant.1 in
+    let count = ap (λ (w : SheetList). length w.rows) c.values.view_is in
+    let none : 0 ≡ length v.rows - c.loop-first.first = omega (arith, count) in
+    subst (λ (l : List ℕ). Wrote g.K.Sink.written g.K.Sink.faults c.args.sink.now c.loop-first.sink l)
+    (sym (append-nil now.0)
+    ∙ ap (λ (n : ℕ). now.0 ++ flat_map (block_text g.row.P v width) (cut size (rounds_in v.rows c.loop-first.first n))) none
+    ∙ now.1) now.2
