@@ -1,25 +1,31 @@
 -- The rows of a table, one after another.
 use Rattle.std.proofs.Common.{◌≡◌, ℕ, ◌-◌, ◌≤◌, List, [], ◌++◌, replicate, Option, Some, None}
 use Rattle.std.proofs.Common.{refl, ap, sym, ◌∙◌, subst, arith, append_assoc, Result, Ok, Err}
-use Rattle.std.specs.Prelude.{OnOk}
+use Rattle.std.specs.Prelude.{OnErr, OnOk}
 use Rattle.std.specs.List.{cons_option, slice_get}
 use Rattle.std.specs.Option.{option_or, option_map}
 use Rattle.std.proofs.lemmas.List.{append-nil}
 use Rattle.plain_ballots.specs.declared.limits.TheConstants.{MOST_BALLOTS}
 use Rattle.plain_ballots.specs.Ballots.{BallotList, plain}
+use Rattle.plain_ballots.specs.Ranking.{IsRanking}
+use Rattle.ballot_marks.specs.declared.treatment.Treatment.{Treatment}
 use Rattle.table_text.specs.Reading as text
 use Rattle.table_text.specs.declared.text_fault.TextFault.{TextFault}
 use Rattle.ballot_table.specs.declared.column.Column.{Column}
 use Rattle.ballot_table.specs.declared.fault.Fault.{Fault}
+use Rattle.ballot_table.specs.declared.row.JudgedRow.{JudgedRow}
+use Rattle.ballot_table.specs.declared.rows.Rows.{Rows}
 use Rattle.ballot_table.specs.declared.table_asked.TableAsked.{TableAsked}
 use Rattle.ballot_table.specs.declared.table_stop.TableStop.{TableStop}
 use Rattle.ballot_table.specs.declared.table_stop.TableStop.TheVariants as stop
 use Rattle.ballot_table.specs.Imported.{texts_in, stops, stop_at, text_stop, IsTableStop}
-use Rattle.ballot_table.specs.Left.{faults_left, stop_left, ballots_left, tally_left, of_row, IsAdded}
+use Rattle.ballot_table.specs.JudgedRows.{IsJudged}
+use Rattle.ballot_table.specs.Left.{faults_left, stop_left, ballots_left, tally_left, of_row, IsAdded, IsRowTaken, TakesRow}
 use Rattle.ballot_table.specs.Asked.{asked_of}
 use Rattle.ballot_table.specs.Refusals.{whole_fault}
-use Rattle.ballot_table.specs.Report.{no_rows, plus}
+use Rattle.ballot_table.specs.Report.{counted_if, no_rows, of_judged, plus, ranks_nobody}
 use Rattle.ballot_table.specs.Rows.{Row, weight_at, row_of}
+use Rattle.ballot_table.specs.Sheets.{Opened, Turns}
 use Rattle.ballot_table.specs.Table.{ballots}
 use Rattle.ballot_table.specs.declared.tally.Tally.{Tally}
 use Rattle.ballot_table.proofs.BallotsLemmas.{joined}
@@ -181,7 +187,54 @@ same_stop first other (stop.Word kind place) then is = then is
 same_stop first other (stop.Record kind at row column) then is = then is
 same_stop first other stop.NoMemory then is = tt
 
--- what holds anyway holds where a call is done
-pub on_done : {T E : Type 0} (P : Type 0) (r : Result T E) → P → OnOk r P
-on_done P (Ok x) holds = holds
-on_done P (Err e) holds = tt
+-- what is still to come stops rows that are taken in
+pub going_stops : (a : TableAsked) (cols : List Column) (all : text.Reading) (room : ℕ) (taken : BallotList) (tally : Tally)
+    (old new : Opened) → IsGoing a cols all room old.records.rest taken tally
+    → (found : TableStop) → Turns old (Err found) new → IsTableStop (stop_left a cols MOST_BALLOTS all) found
+going_stops a cols all room taken tally old new going (stop.Text fault) is =
+    going_text a cols all room old.records.rest taken tally going fault is
+going_stops a cols all room taken tally old new going stop.NoMemory is = tt
+going_stops a cols all room taken tally old new going (stop.Word _ _) is = elim is [ ]
+going_stops a cols all room taken tally old new going (stop.Record _ _ _ _) is = elim is [ ]
+
+-- ---- one row
+
+module _ (n : ℕ) (t : Treatment) (weight : ℕ) (judged : JudgedRow) where
+  pub judged_weight : (o : Option Row) → IsJudged n t weight o (Some judged) → judged.weight ≡ weight
+  judged_weight None is = elim is [ ]
+  judged_weight (Some row) is = is.weight_is
+
+  pub judged_added : (o : Option Row) → IsJudged n t weight o (Some judged) → (old new : BallotList)
+      → plain new.lines ≡ plain old.lines ++ replicate judged.count judged.treated.ranking → IsAdded t o old new
+  judged_added None is old new pushed = elim is [ ]
+  judged_added (Some row) is old new pushed = record {
+    ranking = judged.treated.ranking;
+    ranked_is = is.ranked_is;
+    plain_is = pushed ∙ ap (λ (k : ℕ). plain old.lines ++ replicate k judged.treated.ranking) is.count;
+  }
+
+  pub judged_tallied : (o : Option Row) → IsJudged n t weight o (Some judged) → of_judged judged ≡ of_row t o
+  judged_tallied None is = elim is [ ]
+  judged_tallied (Some row) is = λ i. record {
+    rows = 1;
+    dropped = 0;
+    ballots = is.count i;
+    empty = counted_if (ranks_nobody (sym is.ranked_is i)) (is.count i);
+    closed = counted_if (is.closed_is i) (is.count i);
+    passed = counted_if (is.passed_is i) (is.count i);
+    cut = counted_if (is.cut_is i) (is.count i);
+  }
+
+  pub judged_ranking : (o : Option Row) → IsJudged n t weight o (Some judged) → IsRanking n judged.treated.ranking
+  judged_ranking None is = elim is [ ]
+  judged_ranking (Some row) is = is.sound
+
+-- a row's ballots are put behind the others, or memory is wanted
+pub row_pushed : (a : TableAsked) (cols : List Column) (row : text.Row) (texts : List (List ℕ)) (old new : Rows) (P Q : Type 0)
+    (r : Result (Unit {0}) TableStop) → OnErr r (r ≡ Err stop.NoMemory) → OnOk r P → OnOk r Q
+    → (P → Q → IsRowTaken a cols texts old new) → TakesRow a cols row texts old r new
+row_pushed a cols row texts old new P Q (Ok done) none p q taken = taken p q
+row_pushed a cols row texts old new P Q (Err (stop.Text fault)) none p q taken = absurd (cc none)
+row_pushed a cols row texts old new P Q (Err (stop.Word kind place)) none p q taken = absurd (cc none)
+row_pushed a cols row texts old new P Q (Err (stop.Record kind at r c)) none p q taken = absurd (cc none)
+row_pushed a cols row texts old new P Q (Err stop.NoMemory) none p q taken = tt

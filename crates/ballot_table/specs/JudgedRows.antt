@@ -7,6 +7,7 @@ use Rattle.ballot_marks.specs.declared.treatment.Treatment.{Treatment}
 use Rattle.ballot_marks.specs.declared.why.Why.{Why}
 use Rattle.ballot_marks.specs.Ballot.{ranked, is_closed, is_passed, is_cut}
 use Rattle.ballot_table.specs.declared.column.Column.{Column}
+use Rattle.ballot_table.specs.declared.empty.Empty.{Empty}
 use Rattle.ballot_table.specs.declared.fault.Fault.{Fault}
 use Rattle.ballot_table.specs.declared.held.Held.TheVariants.{Nobody}
 use Rattle.ballot_table.specs.declared.layout.Layout.{Layout}
@@ -19,8 +20,8 @@ use Rattle.ballot_table.specs.Held.{held_refused}
 use Rattle.ballot_table.specs.Asked.{Asked}
 use Rattle.ballot_table.specs.Faults.{first_fault}
 use Rattle.ballot_table.specs.Finding.{candidates_in}
-use Rattle.ballot_table.specs.Refusals.{place_of, is_candidate, is_rank, mark_fault}
-use Rattle.ballot_table.specs.Rows.{Row, ballots_in, cells_of, marks_of, said_in, weight_at}
+use Rattle.ballot_table.specs.Refusals.{place_of, is_candidate, is_rank, mark_fault, whole_fault}
+use Rattle.ballot_table.specs.Rows.{Row, ballots_in, cells_of, marks_of, row_of, said_in, weight_at}
 
 -- The column at which the mark at a place, from 0, is refused, by what is found of a row's cells.
 abbrev pub refused_at : Layout → List Column → RowCells → (place : ℕ) → Why → ℕ
@@ -84,3 +85,19 @@ abbrev pub IsJudged : ℕ → Treatment → (weight : ℕ) → Option Row → Op
 IsJudged n treatment weight None None = weight ≡ 0
 IsJudged n treatment weight (Some row) (Some judged) = IsJudgedRow n treatment weight row judged
 IsJudged n treatment weight row other = ⊥
+
+-- A row has no fault, and is judged or dropped.
+pub record IsRowRead (asked : Asked) (treatment : Treatment) (empty : Empty) (room : ℕ) (columns : List Column)
+    (texts : List (List ℕ)) (found : Option JudgedRow) : Type 0
+  where
+    pub sound : whole_fault asked treatment empty room columns texts ≡ None
+    pub is_judged :
+        IsJudged (candidates_in asked columns) treatment (weight_at columns texts)
+        (row_of asked empty room columns texts) found
+
+-- It is so, or refused for its first fault; or memory is wanted.
+abbrev pub ReadsRow :
+    Asked → Treatment → Empty → ℕ → List Column → List (List ℕ) → Result (Option JudgedRow) RecordStop → Type 0
+ReadsRow asked treatment empty room columns texts (Ok found) = IsRowRead asked treatment empty room columns texts found
+ReadsRow asked treatment empty room columns texts (Err stop) =
+    IsRowStop (whole_fault asked treatment empty room columns texts) stop

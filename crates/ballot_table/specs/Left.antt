@@ -1,7 +1,8 @@
 -- What is still to come of a table's rows.
 use Rattle.std.specs.Prelude.{◌≡◌, ℕ, ◌-◌, ◌++◌, List, [], ◌∷◌, length, map, replicate, Option, Some, None, Result, Ok, Err}
 use Rattle.std.specs.List.{filter_map, slice_get}
-use Rattle.std.specs.Option.{option_or}
+use Rattle.std.specs.Option.{option_map, option_or}
+use Rattle.plain_ballots.specs.declared.limits.TheConstants.{MOST_BALLOTS}
 use Rattle.plain_ballots.specs.Ballots.{BallotList, plain}
 use Rattle.ballot_marks.specs.declared.treatment.Treatment.{Treatment}
 use Rattle.ballot_marks.specs.Ballot.{ranked, is_closed, is_passed, is_cut}
@@ -9,14 +10,15 @@ use Rattle.table_text.specs.Reading as text
 use Rattle.ballot_table.specs.declared.column.Column.{Column}
 use Rattle.ballot_table.specs.declared.fault.Fault.{Fault}
 use Rattle.ballot_table.specs.declared.imported.Imported.{Imported}
+use Rattle.ballot_table.specs.declared.rows.Rows.{Rows}
 use Rattle.ballot_table.specs.declared.table_asked.TableAsked.{TableAsked}
 use Rattle.ballot_table.specs.declared.table_stop.TableStop.{TableStop}
 use Rattle.ballot_table.specs.declared.tally.Tally.{Tally}
 use Rattle.ballot_table.specs.Head.{columns, names_of}
-use Rattle.ballot_table.specs.Imported.{texts_in, stops, text_stop, reading_stop, IsTableStop}
+use Rattle.ballot_table.specs.Imported.{texts_in, stop_at, stops, text_stop, reading_stop, IsTableStop}
 use Rattle.ballot_table.specs.Asked.{asked_of}
 use Rattle.ballot_table.specs.Refusals.{whole_fault}
-use Rattle.ballot_table.specs.Report.{tally_of, one_dropped, counted_if, ranks_nobody}
+use Rattle.ballot_table.specs.Report.{tally_of, one_dropped, counted_if, plus, ranks_nobody}
 use Rattle.ballot_table.specs.Rows.{Row, weight_at, row_of}
 use Rattle.ballot_table.specs.Table.{rows_of, ballots}
 
@@ -70,6 +72,33 @@ pub record IsAddedRow (treatment : Treatment) (row : Row) (old new : BallotList)
 abbrev pub IsAdded : Treatment → Option Row → (old new : BallotList) → Type 0
 IsAdded treatment None old new = plain new.lines ≡ plain old.lines
 IsAdded treatment (Some row) old new = IsAddedRow treatment row old new
+
+-- A row without a fault is taken in: it takes room for its weight, and its ballots and its numbers are added.
+pub record IsRowTaken (asked : TableAsked) (cols : List Column) (texts : List (List ℕ)) (old new : Rows) : Type 0 where
+  pub sound : whole_fault (asked_of asked) asked.treatment asked.empty old.room cols texts ≡ None
+  pub room : new.room ≡ old.room - weight_at cols texts
+  pub candidates : new.ballots.candidates ≡ old.ballots.candidates
+  pub added : IsAdded asked.treatment (row_of (asked_of asked) asked.empty old.room cols texts) old.ballots new.ballots
+  pub tallied : new.tally ≡ plus (of_row asked.treatment (row_of (asked_of asked) asked.empty old.room cols texts)) old.tally
+
+-- It is taken in, or refused for its first fault; or memory is wanted.
+abbrev pub TakesRow : TableAsked → List Column → text.Row → List (List ℕ) → (old : Rows) → Result (Unit {0}) TableStop → (new : Rows)
+    → Type 0
+TakesRow asked cols row texts old (Ok done) new = IsRowTaken asked cols texts old new
+TakesRow asked cols row texts old (Err stop) new =
+    IsTableStop (option_map (stop_at row) (whole_fault (asked_of asked) asked.treatment asked.empty old.room cols texts)) stop
+
+-- All that is still to come is taken in, behind no row.
+pub record AreRowsTaken (asked : TableAsked) (cols : List Column) (reading : text.Reading) (old new : Rows) : Type 0 where
+  pub sound : stop_left asked cols MOST_BALLOTS reading ≡ None
+  pub candidates : new.ballots.candidates ≡ old.ballots.candidates
+  pub ballots_are : ballots_left asked cols MOST_BALLOTS reading.rows ≡ Some (plain new.ballots.lines)
+  pub tally_is : new.tally ≡ tally_left asked cols MOST_BALLOTS reading.rows
+
+-- It is taken in, or refused for its first fault; or memory is wanted.
+abbrev pub TakesRows : TableAsked → List Column → text.Reading → (old : Rows) → Result (Unit {0}) TableStop → (new : Rows) → Type 0
+TakesRows asked cols reading old (Ok done) new = AreRowsTaken asked cols reading old new
+TakesRows asked cols reading old (Err stop) new = IsTableStop (stop_left asked cols MOST_BALLOTS reading) stop
 
 -- Records are a head and rows without a fault, whose names, ballots and numbers these are.
 pub record IsRead (asked : TableAsked) (reading : text.Reading) (imported : Imported) : Type 0 where

@@ -1,10 +1,10 @@
 // The reader of tables.
-ghost use Rattle.std.specs.Prelude.{◌≡◌, ◌≤◌, Some, None, Ok, length, sum_by, OnOk, IfOk, IfErr};
+ghost use Rattle.std.specs.Prelude.{◌≡◌, ◌≤◌, [], Some, None, Ok, length, sum_by, OnOk, IfOk, IfErr};
 ghost use Rattle.plain_ballots.specs.declared.limits.TheConstants.{MOST_BALLOTS, MOST_CANDIDATES};
-ghost use Rattle.plain_ballots.specs.Ballots.{plain};
 ghost use Rattle.table_text.specs.Reading.{with_row};
 ghost use Rattle.ballot_table.specs.Imported.{IsImported, IsTableStop, refusal, separator, texts_in};
-ghost use Rattle.ballot_table.specs.Left.{Reads, stop_left, ballots_left, tally_left};
+ghost use Rattle.ballot_table.specs.Left.{Reads, TakesRows};
+ghost use Rattle.ballot_table.specs.Report.{no_rows};
 ghost use Rattle.ballot_table.specs.Sheets.{row_at};
 ghost use Rattle.ballot_table.specs.Asked.{asked_of};
 ghost use Rattle.ballot_table.specs.Finding.{candidates_at, candidates_in};
@@ -74,8 +74,9 @@ fn read_below(
     let Ok(names) = names(alloc, asked, texts) else {
         return Err(TableStop::NoMemory);
     };
-    match read_rows(alloc, asked, &head, sheet) {
-        Ok(taken) => match taken.imported(names) {
+    let mut taken = Rows::new(alloc, head.candidates);
+    match take_rows(alloc, asked, &head, sheet, &mut taken) {
+        Ok(()) => match taken.imported(names) {
             Ok(imported) => Ok(imported),
             Err(_) => Err(TableStop::NoMemory),
         },
@@ -96,32 +97,30 @@ fn separator(asked: &TableAsked, bytes: &[u8]) -> Result<u8, TableStop>
     }
 }
 
-// What the rows that are still to come come to.
-fn read_rows(
+// Takes in the rows that are still to come, behind no row.
+fn take_rows(
     alloc: Global,
     asked: &TableAsked,
     head: &Head,
     sheet: &mut Sheet<'_>,
-) -> Result<Rows, TableStop>
+    taken: &mut Rows,
+) -> Result<(), TableStop>
     requires names { length asked.now.candidates ≤ MOST_CANDIDATES }
     requires few { sum_by candidates_at head.now.columns.items ≤ MOST_CANDIDATES }
-    requires candidates { candidates_in (asked_of asked.now) head.now.columns.items ≡ head.now.candidates }
-    ensures stop { IfErr result (IsTableStop (stop_left asked.now head.now.columns.items MOST_BALLOTS sheet.old.records.rest)) }
-    ensures sound { OnOk result (stop_left asked.now head.now.columns.items MOST_BALLOTS sheet.old.records.rest ≡ None) }
-    ensures candidates { IfOk result (λ taken. taken.ballots.candidates ≡ head.now.candidates) }
-    ensures ballots { IfOk result (λ taken. ballots_left asked.now head.now.columns.items MOST_BALLOTS sheet.old.records.rest.rows
-        ≡ Some (plain taken.ballots.lines)) }
-    ensures tally { IfOk result (λ taken. taken.tally ≡ tally_left asked.now head.now.columns.items MOST_BALLOTS sheet.old.records.rest.rows) }
+    requires candidates { candidates_in (asked_of asked.now) head.now.columns.items ≡ taken.old.ballots.candidates }
+    requires room { taken.old.room ≡ MOST_BALLOTS }
+    requires ballots { taken.old.ballots.lines ≡ [] }
+    requires tally { taken.old.tally ≡ no_rows }
+    ensures { TakesRows asked.now head.now.columns.items sheet.old.records.rest taken.old result taken.new }
 {
     let columns = Columns::new(head.columns.as_slice());
-    let mut taken = Rows::new(alloc, head.candidates);
     'rows: loop {
         match sheet.next() {
             Ok(Some(place)) => match taken.take(alloc, asked, &columns, sheet, place) {
                 Ok(()) => {}
                 Err(stop) => return Err(stop),
             },
-            Ok(None) => return Ok(taken),
+            Ok(None) => return Ok(()),
             Err(stop) => return Err(stop),
         }
     }

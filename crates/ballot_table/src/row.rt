@@ -1,13 +1,11 @@
 // A row of a table.
-ghost use Rattle.std.specs.Prelude.{◌≡◌, ◌<◌, ◌≤◌, ◌+◌, min, position, None, false, length, sum_by, OnOk};
-ghost use Rattle.std.specs.Prelude.{IfOk, IfErr, IfSome};
+ghost use Rattle.std.specs.Prelude.{◌≡◌, ◌<◌, ◌≤◌, ◌+◌, min, position, false, length, sum_by, IfSome};
 ghost use Rattle.plain_ballots.specs.declared.limits.TheConstants.{MOST_BALLOTS, MOST_CANDIDATES};
 ghost use Rattle.ballot_table.specs.Asked.{asked_of};
-ghost use Rattle.ballot_table.specs.Finding.{candidates_at, candidates_in};
-ghost use Rattle.ballot_table.specs.JudgedRows.{IsRowStop, IsJudged, Judges};
+ghost use Rattle.ballot_table.specs.Finding.{candidates_at};
+ghost use Rattle.ballot_table.specs.JudgedRows.{Judges, ReadsRow};
 ghost use Rattle.ballot_table.specs.JudgedRows.{refused_at};
-ghost use Rattle.ballot_table.specs.Refusals.{kind_of, place_of, is_candidate, is_rank, whole_fault};
-ghost use Rattle.ballot_table.specs.Rows.{row_of, weight_at};
+ghost use Rattle.ballot_table.specs.Refusals.{kind_of, place_of, is_candidate, is_rank};
 
 use crate::columns::Columns;
 use crate::fault::Fault;
@@ -42,10 +40,7 @@ pub(crate) fn read_row(
     requires names { length asked.now.candidates ≤ MOST_CANDIDATES }
     requires room { room ≤ MOST_BALLOTS }
     requires few { sum_by candidates_at columns.now ≤ MOST_CANDIDATES }
-    ensures stop { IfErr result (IsRowStop (whole_fault (asked_of asked.now) asked.now.treatment asked.now.empty room columns.now sheet.now.texts)) }
-    ensures sound { OnOk result (whole_fault (asked_of asked.now) asked.now.treatment asked.now.empty room columns.now sheet.now.texts ≡ None) }
-    ensures row { IfOk result (IsJudged (candidates_in (asked_of asked.now) columns.now) asked.now.treatment (weight_at columns.now sheet.now.texts)
-        (row_of (asked_of asked.now) asked.now.empty room columns.now sheet.now.texts)) }
+    ensures { ReadsRow (asked_of asked.now) asked.now.treatment asked.now.empty room columns.now sheet.now.texts result }
 {
     if sheet.len() != columns.len() {
         return Err(RecordStop::Fault(unequal(sheet.len(), columns.len())));

@@ -1,16 +1,12 @@
 // The rows of a table, one after another.
-ghost use Rattle.std.specs.Prelude.{◌≡◌, ◌≤◌, ◌-◌, ◌++◌, None, Err, [], length, sum_by, replicate, OnOk, OnErr, IfOk, IfErr};
-ghost use Rattle.std.specs.Option.{option_map};
+ghost use Rattle.std.specs.Prelude.{◌≡◌, ◌≤◌, ◌++◌, Err, [], length, sum_by, replicate, OnOk, OnErr, IfOk};
 ghost use Rattle.plain_ballots.specs.declared.limits.TheConstants.{MOST_BALLOTS, MOST_CANDIDATES};
 ghost use Rattle.plain_ballots.specs.Ballots.{plain};
 ghost use Rattle.plain_ballots.specs.Ranking.{IsRanking};
-ghost use Rattle.ballot_table.specs.Imported.{IsTableStop, stop_at};
-ghost use Rattle.ballot_table.specs.Left.{IsAdded, of_row};
-ghost use Rattle.ballot_table.specs.Report.{no_rows, plus};
+ghost use Rattle.ballot_table.specs.Left.{TakesRow};
+ghost use Rattle.ballot_table.specs.Report.{no_rows};
 ghost use Rattle.ballot_table.specs.Asked.{asked_of};
 ghost use Rattle.ballot_table.specs.Finding.{candidates_at, candidates_in};
-ghost use Rattle.ballot_table.specs.Refusals.{whole_fault};
-ghost use Rattle.ballot_table.specs.Rows.{row_of, weight_at};
 ghost use Rattle.ballot_table.specs.Sheets.{row_at};
 
 use crate::columns::Columns;
@@ -63,16 +59,7 @@ impl Rows {
         requires names { length asked.now.candidates ≤ MOST_CANDIDATES }
         requires few { sum_by candidates_at columns.now ≤ MOST_CANDIDATES }
         requires candidates { candidates_in (asked_of asked.now) columns.now ≡ self.old.ballots.candidates }
-        ensures stop { IfErr result (IsTableStop (option_map (stop_at (row_at sheet.now place))
-            (whole_fault (asked_of asked.now) asked.now.treatment asked.now.empty self.old.room columns.now sheet.now.texts))) }
-        ensures sound { OnOk result (whole_fault (asked_of asked.now) asked.now.treatment asked.now.empty self.old.room
-            columns.now sheet.now.texts ≡ None) }
-        ensures room { OnOk result (self.new.room ≡ self.old.room - weight_at columns.now sheet.now.texts) }
-        ensures candidates { OnOk result (self.new.ballots.candidates ≡ self.old.ballots.candidates) }
-        ensures added { OnOk result (IsAdded asked.now.treatment
-            (row_of (asked_of asked.now) asked.now.empty self.old.room columns.now sheet.now.texts) self.old.ballots self.new.ballots) }
-        ensures tallied { OnOk result (self.new.tally ≡ plus (of_row asked.now.treatment
-            (row_of (asked_of asked.now) asked.now.empty self.old.room columns.now sheet.now.texts)) self.old.tally) }
+        ensures { TakesRow asked.now columns.now (row_at sheet.now place) sheet.now.texts self.old result self.new }
     {
         match read_row(alloc, asked, self.room, columns, sheet, &mut self.cells) {
             Ok(Some(row)) => {

@@ -153,10 +153,18 @@ impl<'a> Sheet<'a> {
     {
         let mut texts = Texts::new(alloc);
         for at in 0..self.len() {
-            let field = self.field(alloc, at)?;
-            texts.push(Text::new(alloc, field.text())?)?;
+            texts.push(self.text(alloc, at)?)?;
         }
         Ok(texts)
+    }
+
+    // A copy of the text of the field at a place, from 0.
+    fn text(&self, alloc: Global, at: usize) -> Result<Text, NoMemory>
+        requires { at < length self.now.texts }
+        ensures { IfOk result (λ text. text ≡ slice_index_or self.now.texts at []) }
+    {
+        let field = self.field(alloc, at)?;
+        Text::new(alloc, field.text())
     }
 
     /// A fault of the record that stands at a place, at its byte.

@@ -1,5 +1,6 @@
 use Rattle.std.proofs.Common.{ℕ, List, Some, refl, sym, ap, ◌∙◌, length, subst}
 use Rattle.plain_ballots.specs.declared.limits.TheConstants.{MOST_BALLOTS}
+use Rattle.plain_ballots.specs.Ballots.{BallotList}
 use Rattle.table_text.specs.Reading as text
 use Rattle.ballot_table.specs.Head.{names_of}
 use Rattle.ballot_table.specs.Imported.{reading_stop}
@@ -28,22 +29,22 @@ returns-in-Ok-imported c =
     let texts = c.args.texts.now in
     let head = c.in-Ok in
     let columns = head.head.columns.items in
-    let taken = c.in-Ok-read_rows in
+    let taken = c.in-Ok-take_rows.ensures in
     let names = c.in-Ok-names.ensures ∙ ap (names_of (asked_of a)) c.requires.texts in
     subst (IsRead a (text.with_row row rest)) (sym c.in-Ok-imported.ensures) (record {
       sound =
           refused_left a row rest texts c.requires.texts columns head.ensures.sound head.ensures.head.columns_are
-          ∙ taken.ensures.sound;
+          ∙ taken.sound;
       head = row;
       below = rest.rows;
       records = refl;
       names = names;
       candidates =
-          taken.ensures.candidates ∙ head.ensures.head.names
+          taken.candidates ∙ ap (λ (b : BallotList). b.candidates) c.new-taken.ensures.ballots ∙ head.ensures.head.names
           ∙ sym (ap (λ (ns : List (List ℕ)). length ns) c.in-Ok-names.ensures);
       ballots_are =
-          same_ballots a row rest texts c.requires.texts columns head.ensures.head.columns_are ∙ taken.ensures.ballots;
-      tally_is = taken.ensures.tally ∙ same_tally a row rest texts c.requires.texts columns head.ensures.head.columns_are;
+          same_ballots a row rest texts c.requires.texts columns head.ensures.head.columns_are ∙ taken.ballots_are;
+      tally_is = taken.tally_is ∙ same_tally a row rest texts c.requires.texts columns head.ensures.head.columns_are;
     })
 
 pub returns : goal.returns
@@ -57,4 +58,4 @@ returns c =
     (λ some.
     refused_left a row rest c.args.texts.now c.requires.texts columns head.ensures.sound head.ensures.head.columns_are
     ∙ some)
-    c.in-Err.ensures.stop
+    c.in-Err.ensures

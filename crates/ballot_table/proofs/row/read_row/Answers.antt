@@ -1,17 +1,15 @@
 use Rattle.std.proofs.Common.{sym, ◌∙◌, subst, None}
 use Rattle.ballot_table.specs.declared.empty.Empty.{Empty}
-use Rattle.ballot_table.specs.JudgedRows.{IsJudged}
+use Rattle.ballot_table.specs.JudgedRows.{IsRowRead}
 use Rattle.ballot_table.specs.Asked.{asked_of}
-use Rattle.ballot_table.specs.Finding.{candidates_in}
-use Rattle.ballot_table.specs.Rows.{row_of, weight_at}
 use Rattle.ballot_table.proofs.DroppedLemmas.{dropped_row}
 use Rattle.ballot_table.proofs.row.read_row.Goals as goal
 
-pub returns-in-Drop-clause-row : goal.returns-in-Drop-clause-row
-returns-in-Drop-clause-row c =
-    let n = candidates_in (asked_of c.args.asked.now) c.args.columns.now in
-    let t = c.args.asked.now.treatment in
-    subst (λ (e : Empty). IsJudged n t (weight_at c.args.columns.now c.args.sheet.now.texts)
-    (row_of (asked_of c.args.asked.now) e c.args.room c.args.columns.now c.args.sheet.now.texts) None) (sym c.in-Drop.is)
-    (dropped_row n t (asked_of c.args.asked.now) c.args.room c.args.columns.now c.args.sheet.now.texts
-    (sym c.in_ok-is_blank.ensures ∙ c.if-branch.true))
+pub returns-in-Drop : goal.returns-in-Drop
+returns-in-Drop c =
+    let asked = c.args.asked.now in
+    let texts = c.args.sheet.now.texts in
+    let columns = c.args.columns.now in
+    subst (λ (e : Empty). IsRowRead (asked_of asked) asked.treatment e c.args.room columns texts None) (sym c.in-Drop.is)
+    (dropped_row asked.treatment (asked_of asked) c.args.room columns texts
+    (sym c.len.ensures ∙ c.if-len.false ∙ c.len-2.ensures) (sym c.in_ok-is_blank.ensures ∙ c.if-branch.true))

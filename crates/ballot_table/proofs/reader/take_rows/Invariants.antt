@@ -1,12 +1,12 @@
 use Rattle.std.proofs.Common.{◌≡◌, length}
 use Rattle.ballot_table.proofs.LeftLemmas.{IsGoing}
-use Rattle.ballot_table.proofs.reader.read_rows.Given as goal
+use Rattle.ballot_table.proofs.reader.take_rows.Given as goal
 
 -- the rows so far are taken in
 abbrev pub invariant-rows : goal.invariant-rows
 invariant-rows l = record {
   going : IsGoing l.asked l.columns l.fn.sheet.records.rest l.taken.room l.sheet.records.rest l.taken.ballots l.taken.tally;
-  candidates : l.taken.ballots.candidates ≡ l.head.candidates;
+  candidates : l.taken.ballots.candidates ≡ l.fn.taken.ballots.candidates;
 }
 
 abbrev pub decreases-rows : goal.decreases-rows
