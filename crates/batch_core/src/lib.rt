@@ -1,5 +1,9 @@
-//! What callers ask of a count office, and the plain [`Book`] that answers: a [`Change`] of one
-//! batch of ballots, a [`Call`] of any kind, its [`Reply`], and the [`Entry`] that keeps both.
+//! What callers ask of a count office, and the plain [`Book`] that answers: a [`Change`] of one batch of
+//! ballots, a [`Call`] of any kind, its [`Reply`], and the [`Entry`] that keeps both.
+//!
+//! The rules of replies are here, as definitions (`specs/Book`) and as one body that answers one call after
+//! another. The office of several threads is held to the same definitions, and who makes the calls of a day's
+//! text again uses this book itself.
 #![tactic(auto)]
 
 mod batch;

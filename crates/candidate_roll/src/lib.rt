@@ -1,5 +1,10 @@
-//! An election as it was announced: the [`Roll`] of its seats, the candidates' [`Names`], its title
-//! and who was withdrawn; and the [`States`] that candidates go through in a count.
+//! An election as it was announced: the [`Roll`] has its seats, the candidates' [`Names`], its title and who
+//! was withdrawn; the [`States`] are what candidates are at a point of a count: hopeful, elected, defeated or
+//! withdrawn.
+//!
+//! Readers of ballot files, day files and tables make rolls, and a count begins with one. What a roll's type
+//! keeps (names for all candidates, few enough of them, texts that can be printed) no crate above has to ask
+//! for.
 #![tactic(auto)]
 
 mod laws;

@@ -1,5 +1,8 @@
 //! The tool that says whether a text is that of a day: [`audit`] cuts its input into a text and a day file
-//! ([`text_and_file`]), or takes it as the summary of a made day, and writes the verdict of crate `day_replay` as a line.
+//! ([`text_and_file`]), or takes it as the summary of a made day, and writes the verdict of the crate
+//! day_replay as a line.
+//!
+//! The program of the command `audit` makes this call; `ballots` cuts its input in the same way.
 #![tactic(auto)]
 
 mod audit_asked;

@@ -1,5 +1,8 @@
-//! Day files: the [`Day`] that a file says, with a [`Script`] of calls for each team, or the place
-//! and kind of its refusal.
+//! Day files: the [`Day`] that a file says, with a [`Script`] of calls for each team, or the place and kind
+//! of its refusal. `day`, `audit`, `ballots` and `tally` begin with [`read_day`].
+//!
+//! The one idea: rolls and lines of ballots in a day file are read by the readers of a ballot file
+//! (blt_reader), so what is refused there is refused here, at its place in the day file.
 #![tactic(auto)]
 
 mod calls;

@@ -1,6 +1,10 @@
-//! Plans: the ballots of a trie, frozen as an array of its nodes in preorder. A [`Plan`] is read
-//! from front to back, each of its [`PlanRow`]s one beginning of a ranking; [`Plans`] is a list of
-//! them.
+//! Plans: ballots as an array of the beginnings of their rankings, in preorder. Each [`PlanRow`] of a
+//! [`Plan`] is one beginning, with the number of ballots that end there; [`Plans`] is a list of plans, one
+//! for each shard.
+//!
+//! A count makes its plans of sorted ballot lines ([`Plans::of_packed`]), and an office at a freeze those of
+//! its tries ([`Plan::from_trie`]). The one idea: a beginning that many ballots share is there once, so what
+//! they give to its candidates is worked out once. `specs/Plan` says which bag of ballots a plan is.
 #![tactic(auto)]
 
 mod chain;

@@ -1,4 +1,5 @@
-//! Text under way, line by line: a [`Line`] takes bytes and numbers at its end, and no memory.
+//! A line of text under way: a [`Line`] takes bytes, whole numbers and amounts at its end, in a buffer of a
+//! fixed size, and so takes no memory. Sheets, refusals and verdicts are written line by line with it.
 #![tactic(auto)]
 
 mod line;

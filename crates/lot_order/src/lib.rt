@@ -1,5 +1,8 @@
-//! The recorded order of lots by which ties are broken: [`Lots`], an order of all candidates, and
-//! [`Flags`], a mark for each candidate.
+//! The recorded order of lots by which ties are broken: [`Lots`], an order of all candidates, and [`Flags`],
+//! a mark for each candidate.
+//!
+//! Lots are drawn before the count (crate lot_draw) and read from words or a day file; the rule asks which of
+//! several candidates comes first or last in them. An order has each candidate once, and its type keeps that.
 #![tactic(auto)]
 
 mod flags;

@@ -1,4 +1,8 @@
-//! Days of ballot entry that are made from a number, so that an office can be tried at any size.
+//! Days of ballot entry that are made from a number, so that an office can be tried at any size: [`make_day`]
+//! writes the day file of a number from 1 to 1,000.
+//!
+//! The file is a definition (`trial_day`), so anybody can make it: `trial` plays it, and `audit --trial`
+//! judges its summary.
 #![tactic(auto)]
 
 mod ballots;

@@ -1,5 +1,8 @@
 //! What voters expect of a count, as laws over the definitions of the rule, and worked counts that show what
-//! the rule does not promise. Nothing here runs. docs/LAWS.md says each law in plain words.
+//! the rule does not promise. docs/LAWS.md says each law in plain words.
+//!
+//! Nothing here runs: each public function has a contract and no body, so a law can be cited, and bent by a
+//! planted bug, like any other contract. What one sheet promises (crate count_promise) rests on these.
 #![tactic(auto)]
 
 mod laws;

@@ -1,5 +1,9 @@
-//! A sheet as it is read: [`read_sheet`] gives the values that a text writes, where it is the text of a
-//! sheet of so many places at all, and [`check_form`] says whether it is.
+//! A sheet as it is read: [`read_sheet`] gives the values that a text writes, where it is the text of a sheet
+//! of so many places at all, and [`check_form`] says whether it is.
+//!
+//! Pages, minutes, promises and checks begin with it. It asks nothing of the count: whether a sheet is true
+//! is for the crate sheet_check to say. The form of a sheet is what its values write (`specs/Form`), and a
+//! number is read by writing it again; so a text has one list of values at most.
 #![tactic(auto)]
 
 mod cut;

@@ -1,5 +1,9 @@
-//! The text of a count, line by line: [`write_sheet`] makes the whole sheet of a count that was just
-//! begun; [`write_head`], [`write_row`] and [`write_result`] write its parts.
+//! The text of a count, line by line: [`write_sheet`] makes the whole sheet of a count that was just begun;
+//! [`write_head`], [`write_row`] and [`write_result`] write its parts.
+//!
+//! The sheet is defined over the rows of the count (`specs/Sheet`), before anything is written. So one text
+//! is owed for an election, whoever counts it, and each writer, reader and check of sheets names that
+//! definition.
 #![tactic(auto)]
 
 mod head;

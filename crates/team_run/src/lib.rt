@@ -1,5 +1,9 @@
-//! Teams at a shared office: [`run_teams`] makes the calls of each team's script in a thread of its own, and gives
-//! the [`Versions`] of all freezes. [`write_entries`], of the crate day_lines, writes the history that came of it.
+//! Teams at a shared office: [`run_teams`] makes the calls of each team's script in a thread of its own, and
+//! gives the [`Versions`] of all freezes. [`write_entries`], of the crate day_lines, writes the history that
+//! came of it.
+//!
+//! The program's `day` and `trial` are played with it. Its contract says that the calls were answered as one
+//! legal history, and not in which order the teams came: that is up to their threads.
 #![tactic(auto)]
 
 mod calls;
