@@ -1,12 +1,10 @@
 -- A history has one text.
 use Rattle.std.proofs.Common.{◌≡◌, ℕ, ◌≤◌, List, [], ◌∷◌, ◌++◌, length, sym, ap, ◌∙◌}
 use Rattle.fixed_place.specs.declared.omega.TheConstants.{MOST_OMEGA}
-use Rattle.std.proofs.lemmas.List.FromFn.{length-map-range_with_len}
-use Rattle.std.specs.Prelude.{Bool}
 use Rattle.fixed_place.specs.Rounding.{scale}
 use Rattle.fixed_place.proofs.RoundingLemmas.{scale_pos}
 use Rattle.plain_ballots.specs.Ballots.{plain}
-use Rattle.candidate_roll.specs.Roll.{RollList, IsRoll, marks_with}
+use Rattle.candidate_roll.specs.Roll.{RollList, IsRoll}
 use Rattle.lot_order.specs.Lots.{IsOrder}
 use Rattle.meek_rule.specs.Rule.{Meek}
 use Rattle.meek_rule.specs.Situation.{opening}

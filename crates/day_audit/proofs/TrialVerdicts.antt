@@ -1,5 +1,5 @@
 -- A made day has one summary, so that of any history gives the verdict.
-use Rattle.std.proofs.Common.{◌≡◌, ℕ, ◌+◌, ◌<◌, List, ap, ◌∙◌, sym, arith}
+use Rattle.std.proofs.Common.{◌≡◌, ℕ, List, ap, ◌∙◌, arith}
 use Rattle.batch_core.specs.declared.entry.Entry.{Entry}
 use Rattle.sheet_check.specs.Difference.{IsFirstDifference, line_at}
 use Rattle.day_lines.specs.DayHistory.{IsHistoryOf}

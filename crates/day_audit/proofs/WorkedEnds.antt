@@ -1,5 +1,5 @@
 -- Where a text ends, worked by hand.
-use Rattle.std.proofs.Common.{◌≡◌, ◌≢◌, ◌⊎◌, inl, inr, ⊎_elim, ℕ, zero, suc, ◌+◌, ◌<◌, ◌≤◌, List, [], ◌∷◌, ◌++◌, take, drop}
+use Rattle.std.proofs.Common.{◌≢◌, inr, ⊎_elim, ℕ, zero, suc, ◌+◌, ◌<◌, ◌≤◌, List, [], ◌++◌, take, drop}
 use Rattle.std.proofs.Common.{refl, ap, arith, codes, get_or}
 use Rattle.day_audit.specs.Input.{GoesOn, HasNoLastEnd, IsLastEnd}
 use Rattle.day_audit.specs.Worked.{WorkedEnds, two_sheets}

@@ -1,5 +1,5 @@
 -- Verdicts on small texts, of which two are lawful, worked by hand.
-use Rattle.std.proofs.Common.{◌≡◌, ◌≢◌, ◌⊎◌, inl, inr, ℕ, zero, suc, ◌+◌, ◌<◌, ◌≤◌, List, [], ◌∷◌, refl, sym}
+use Rattle.std.proofs.Common.{◌≡◌, ◌≢◌, ◌⊎◌, inl, inr, ℕ, zero, suc, ◌+◌, ◌≤◌, List, [], refl}
 use Rattle.std.proofs.Common.{ap, ◌∙◌, arith, codes, get_or}
 use Rattle.sheet_check.specs.Difference.{line_at}
 use Rattle.day_audit.specs.Judged.{BeginAlike, IsFalseAt}

@@ -1,5 +1,5 @@
 -- Words of an audit, worked by hand.
-use Rattle.std.proofs.Common.{◌≡◌, ℕ, ◌≤◌, List, [], ◌∷◌, length, refl, sym, arith, codes, true}
+use Rattle.std.proofs.Common.{◌≡◌, ℕ, ◌≤◌, length, refl, sym, arith, codes, true}
 use Rattle.std.specs.List.{list_all}
 use Rattle.std.specs.Char.{is_ascii_digit}
 use Rattle.std.proofs.lemmas.List.Sums.{AllPass-from_list_all}

@@ -1,5 +1,5 @@
 -- The words of an audit.
-use Rattle.std.specs.Prelude.{◌≡◌, ℕ, ◌≤◌, ⊤, List, [], codes}
+use Rattle.std.specs.Prelude.{◌≡◌, ◌≤◌, ⊤, List, [], codes}
 use Rattle.meek_trial.specs.declared.day.TheConstants.{MOST_TRIAL}
 use Rattle.meek_words.specs.Numerals.{Word}
 use Rattle.number_option.specs.Taken.{TakesNumber}

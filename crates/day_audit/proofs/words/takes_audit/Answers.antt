@@ -1,10 +1,5 @@
-use Rattle.std.proofs.Common.{◌≡◌, [], length, map, sym, subst, ap, ◌∙◌, arith, string_bytes}
-use Rattle.std.specs.Prelude.{codes, Result, Err}
+use Rattle.std.proofs.Common.{◌≡◌, length, map, sym, ap, ◌∙◌, arith, string_bytes}
 use Rattle.std.proofs.lemmas.List.{length-map}
-use Rattle.meek_trial.specs.declared.day.TheConstants.{MOST_TRIAL}
-use Rattle.meek_words.specs.declared.words_stop.WordsStop.{WordsStop}
-use Rattle.number_option.specs.Taken.{TakesNumber}
-use Rattle.tool_edge.specs.Words.{IsAsked}
 use Rattle.day_audit.proofs.WordLemmas.{refused_asked}
 use Rattle.day_audit.proofs.words.takes_audit.Goals as goal
 
