@@ -1,12 +1,13 @@
 // A text compared with the text of a history.
-ghost use Rattle.std.specs.Prelude.{◌≡◌, ◌≤◌, IfOk, length};
+ghost use Rattle.std.specs.Prelude.{◌≡◌, ◌≤◌, IfOk, length, map};
 ghost use Rattle.sheet_check.specs.Comparison.{IsCompared};
-ghost use Rattle.day_lines.specs.DayText.{IsDayText};
+ghost use Rattle.day_lines.specs.DayText.{IsDayText, roll_with};
 ghost use Rattle.day_sheets.specs.Frozen.{AreFrozen};
 
-use crate::frozen_sheets::{places_of, plans_of, rolls_of};
-use crate::{Followed, NoMemory};
+use crate::frozen_sheets::plans_of;
+use crate::{Frozen, NoMemory};
 use byte_edge::FreeGate;
+use candidate_roll::Roll;
 use day_lines::Terms;
 use day_sheets::DayText;
 use lane_sheet::{Crew, Polls, write_in_lanes};
@@ -28,7 +29,7 @@ pub(crate) fn crew_of<R>(rt: &R, alloc: Global) -> Crew<'_, R, FreeGate>
     }
 }
 
-/// The first line in which a text differs from the text of this history, counted at so many places, none
+/// The first line in which a text differs from the text of this history, counted by these rolls at so many places, none
 /// where it is that text. What is counted is kept nowhere; the count ends where the first
 /// difference is found.
 pub(crate) fn first_difference<const P: usize, R: Threads + Sync>(
@@ -36,33 +37,30 @@ pub(crate) fn first_difference<const P: usize, R: Threads + Sync>(
     alloc: Global,
     text: &[u8],
     terms: &Terms,
-    followed: Followed,
+    rolls: &[Roll],
+    due: &DayText<'_>,
+    frozen: Vec<Frozen>,
 ) -> Result<Option<u64>, NoMemory>
     requires places { (6 ≤ P) × (P ≤ 9) }
     requires of_terms { terms.now.places ≡ P }
     requires lots_of_all { length terms.now.lots ≡ length terms.now.roll.names }
-    requires frozen { AreFrozen (length terms.now.roll.names) followed.history followed.frozen.items }
-    ensures { IfOk result (IsCompared (IsDayText terms.now followed.history) text.now) }
+    requires frozen { AreFrozen (length terms.now.roll.names) due.now.history.now frozen.items }
+    requires rolls { rolls.now ≡ map (λ version. roll_with terms.now.roll version.struck) frozen.items }
+    requires freezes { due.now.places.now ≡ map (λ version. version.at) frozen.items }
+    ensures { IfOk result (IsCompared (IsDayText terms.now due.now.history.now) text.now) }
 {
     // The sheet of a plan's ballots is that of the ballots that stand, in whatever order.
     sheets_are_unique();
-    let Followed { history, frozen } = followed;
-    let rolls = rolls_of(alloc, &terms.roll, frozen.as_slice())?;
-    let places = places_of(alloc, frozen.as_slice())?;
     let plans = plans_of(alloc, frozen, terms.roll.candidates())?;
     let crew = crew_of(rt, alloc);
     let polls = Polls {
-        rolls: rolls.as_slice(),
+        rolls,
         lots: &terms.lots,
         omega: terms.omega,
     };
-    let due = DayText {
-        history: &history,
-        places: places.as_slice(),
-    };
     let mut sink = Comparing::new(text);
     match write_in_lanes::<P, R, FreeGate, DayText<'_>, Comparing<'_>>(
-        &crew, plans, &polls, &due, &mut sink,
+        &crew, plans, &polls, due, &mut sink,
     )? {
         Ok(()) => Ok(sink.difference_from_whole()),
         Err(_) => Ok(Some(sink.difference_from_front())),

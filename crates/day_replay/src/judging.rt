@@ -1,15 +1,18 @@
 // A text judged by the day of a file.
-ghost use Rattle.std.specs.Prelude.{◌≡◌, ◌≤◌, IfOk, length};
+ghost use Rattle.std.specs.Prelude.{◌≡◌, ◌≤◌, IfOk, length, map};
 ghost use Rattle.day_reader.specs.Said.{AreScripts};
 ghost use Rattle.sheet_check.specs.Comparison.{IsCompared};
-ghost use Rattle.day_lines.specs.DayText.{IsDayText};
+ghost use Rattle.day_lines.specs.DayText.{IsDayText, roll_with};
 ghost use Rattle.day_sheets.specs.Frozen.{AreFrozen};
-ghost use Rattle.day_replay.specs.Judged.{IsDayVerdict};
+ghost use Rattle.day_replay.specs.Judged.{DiffersFromNearest, IsDayVerdict, day_of};
 
 use crate::comparing::first_difference;
-use crate::{DayVerdict, Followed, NoMemory, follow};
+use crate::frozen_sheets::{places_of, rolls_of};
+use crate::{DayVerdict, Followed, Frozen, NoMemory, follow};
+use candidate_roll::Roll;
 use day_lines::Terms;
-use day_reader::Day;
+use day_reader::{Day, Scripts};
+use day_sheets::DayText;
 use std::alloc::Global;
 use std::thread::Threads;
 
@@ -34,19 +37,58 @@ pub fn judge<R: Threads + Sync>(
         omega,
         scripts,
     } = day;
-    let _units = omega.units();
-    let _order = lots.candidates();
-    let followed = follow(alloc, roll.candidates(), scripts, text)?;
     let terms = Terms {
         places,
         omega,
         roll,
         lots,
     };
-    match difference_at(rt, alloc, text, &terms, followed)? {
+    judge_by(rt, alloc, text, &terms, scripts)
+}
+
+/// The same by the day's terms and its scripts.
+fn judge_by<R: Threads + Sync>(
+    rt: &R,
+    alloc: Global,
+    text: &[u8],
+    terms: &Terms,
+    scripts: Scripts,
+) -> Result<DayVerdict, NoMemory>
+    requires scripts { AreScripts (length terms.now.roll.names) scripts }
+    requires lots { length terms.now.lots ≡ length terms.now.roll.names }
+    requires places { (6 ≤ terms.now.places) × (terms.now.places ≤ 9) }
+    ensures { IfOk result (IsDayVerdict (day_of terms.now scripts) text.now) }
+{
+    let _units = terms.omega.units();
+    let _order = terms.lots.candidates();
+    let _candidates = terms.roll.candidates();
+    match difference_in(rt, alloc, text, terms, scripts)? {
         None => Ok(DayVerdict::True),
         Some(n) => Ok(DayVerdict::False(n)),
     }
+}
+
+/// The first line in which a text differs from the text of the history of these scripts that is nearest to it.
+fn difference_in<R: Threads + Sync>(
+    rt: &R,
+    alloc: Global,
+    text: &[u8],
+    terms: &Terms,
+    scripts: Scripts,
+) -> Result<Option<u64>, NoMemory>
+    requires places { (6 ≤ terms.now.places) × (terms.now.places ≤ 9) }
+    requires lots_of_all { length terms.now.lots ≡ length terms.now.roll.names }
+    requires scripts { AreScripts (length terms.now.roll.names) scripts }
+    ensures { IfOk result (DiffersFromNearest terms.now scripts text.now) }
+{
+    let Followed { history, frozen } = follow(alloc, terms.roll.candidates(), scripts, text)?;
+    let rolls = rolls_of(alloc, &terms.roll, frozen.as_slice())?;
+    let places = places_of(alloc, frozen.as_slice())?;
+    let due = DayText {
+        history: &history,
+        places: places.as_slice(),
+    };
+    difference_at(rt, alloc, text, terms, rolls.as_slice(), &due, frozen)
 }
 
 /// The first line in which a text differs from the text of this history at the places that the day says.
@@ -55,17 +97,21 @@ fn difference_at<R: Threads + Sync>(
     alloc: Global,
     text: &[u8],
     terms: &Terms,
-    followed: Followed,
+    rolls: &[Roll],
+    due: &DayText<'_>,
+    frozen: Vec<Frozen>,
 ) -> Result<Option<u64>, NoMemory>
     requires places { (6 ≤ terms.now.places) × (terms.now.places ≤ 9) }
     requires lots_of_all { length terms.now.lots ≡ length terms.now.roll.names }
-    requires frozen { AreFrozen (length terms.now.roll.names) followed.history followed.frozen.items }
-    ensures { IfOk result (IsCompared (IsDayText terms.now followed.history) text.now) }
+    requires frozen { AreFrozen (length terms.now.roll.names) due.now.history.now frozen.items }
+    requires rolls { rolls.now ≡ map (λ version. roll_with terms.now.roll version.struck) frozen.items }
+    requires freezes { due.now.places.now ≡ map (λ version. version.at) frozen.items }
+    ensures { IfOk result (IsCompared (IsDayText terms.now due.now.history.now) text.now) }
 {
     macro_rules! at_places {
         ($($at:literal)*) => {
             match terms.places {
-                $($at => first_difference::<$at, R>(rt, alloc, text, terms, followed),)*
+                $($at => first_difference::<$at, R>(rt, alloc, text, terms, rolls, due, frozen),)*
                 _ => unreachable!(),
             }
         };

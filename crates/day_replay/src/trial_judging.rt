@@ -1,5 +1,6 @@
 // A text judged as the summary of a made day.
 ghost use Rattle.std.specs.Prelude.{◌≡◌, ◌≤◌, ◌++◌, ◌∷◌, [], List, IfOk, IfSome, IfNone, length};
+ghost use Rattle.batch_core.specs.Histories.{IsLegal};
 ghost use Rattle.day_reader.specs.Said.{AreScripts};
 ghost use Rattle.meek_trial.specs.declared.day.TheConstants.{MOST_TRIAL};
 ghost use Rattle.sheet_check.specs.Comparison.{IsCompared};
@@ -8,15 +9,18 @@ ghost use Rattle.day_lines.specs.DayHistory.{IsHistoryOf};
 ghost use Rattle.day_lines.specs.DayText.{terms_of};
 ghost use Rattle.day_sheets.specs.Frozen.{AreFrozen};
 ghost use Rattle.day_sheets.specs.MadeDay.{made_day};
-ghost use Rattle.day_sheets.specs.Summary.{IsSummary};
-ghost use Rattle.day_replay.specs.Judged.{IsTrialVerdict};
+ghost use Rattle.day_sheets.specs.Standing.{HaveNumbers};
+ghost use Rattle.day_sheets.specs.Summary.{AreLastStanding, IsSummary};
+ghost use Rattle.day_replay.specs.Judged.{DiffersFromSummary, IsTrialVerdict};
 
 use crate::comparing::crew_of;
 use crate::{DayVerdict, Followed, Frozen, NoMemory, follow};
 use byte_edge::FreeGate;
+use candidate_roll::Roll;
 use day_lines::Terms;
-use day_reader::Day;
+use day_reader::{Day, Scripts};
 use day_sheets::{SummaryText, made_days_have_one_summary, read_made_day, sum_up};
+use frozen_plan::Plans;
 use sheet_check::Comparing;
 use std::alloc::Global;
 use std::thread::Threads;
@@ -33,7 +37,6 @@ pub fn judge_trial<R: Threads + Sync>(
     requires { (1 ≤ number) × (number ≤ MOST_TRIAL) }
     ensures { IfOk result (IsTrialVerdict number text.now) }
 {
-    made_days_have_one_summary();
     let Day {
         roll,
         lots,
@@ -41,48 +44,102 @@ pub fn judge_trial<R: Threads + Sync>(
         omega,
         scripts,
     } = read_made_day(alloc, number)?;
-    let followed = follow(alloc, roll.candidates(), scripts, b"")?;
     let terms = Terms {
         places,
         omega,
         roll,
         lots,
     };
-    match summary_difference(rt, alloc, text, number, &terms, followed)? {
+    judge_made(rt, alloc, number, text, &terms, scripts)
+}
+
+/// The same by the made day's terms and its scripts.
+fn judge_made<R: Threads + Sync>(
+    rt: &R,
+    alloc: Global,
+    number: u32,
+    text: &[u8],
+    terms: &Terms,
+    scripts: Scripts,
+) -> Result<DayVerdict, NoMemory>
+    requires terms { terms.now ≡ terms_of (made_day number) }
+    requires made { scripts ≡ (made_day number).scripts }
+    requires scripts { AreScripts (length terms.now.roll.names) scripts }
+    ensures { IfOk result (IsTrialVerdict number text.now) }
+{
+    made_days_have_one_summary();
+    match summary_difference(rt, alloc, text, number, terms, scripts)? {
         None => Ok(DayVerdict::True),
         Some(n) => Ok(DayVerdict::False(n)),
     }
 }
 
-/// The first line in which a text differs from the summary of this history, none where it is that summary.
+/// The first line in which a text differs from the summary of a history of these scripts, none where it is that summary.
 fn summary_difference<R: Threads + Sync>(
     rt: &R,
     alloc: Global,
     text: &[u8],
     number: u32,
     terms: &Terms,
-    followed: Followed,
+    scripts: Scripts,
 ) -> Result<Option<u64>, NoMemory>
     requires terms { terms.now ≡ terms_of (made_day number) }
-    requires scripts { AreScripts (length terms.now.roll.names) (made_day number).scripts }
-    requires history { IsHistoryOf (made_day number).scripts followed.history }
-    requires frozen { AreFrozen (length terms.now.roll.names) followed.history followed.frozen.items }
-    ensures { IfOk result (IsCompared (IsSummary number terms.now followed.history) text.now) }
+    requires made { scripts ≡ (made_day number).scripts }
+    requires scripts { AreScripts (length terms.now.roll.names) scripts }
+    ensures { IfOk result (DiffersFromSummary number terms.now scripts text.now) }
 {
-    let Followed { history, frozen } = followed;
-    let version = last_of(frozen);
-    let roll = terms.roll.with_struck(alloc, version.struck())?;
+    let Followed { history, frozen } = follow(alloc, terms.roll.candidates(), scripts, b"")?;
     let summary = SummaryText {
         number,
         history: &history,
     };
+    let version = last_of(frozen);
+    difference_from(rt, alloc, text, terms, &summary, version)
+}
+
+/// The first line in which a text differs from a summary, where this stood at its last freeze.
+fn difference_from<R: Threads + Sync>(
+    rt: &R,
+    alloc: Global,
+    text: &[u8],
+    terms: &Terms,
+    summary: &SummaryText<'_>,
+    version: Frozen,
+) -> Result<Option<u64>, NoMemory>
+    requires terms { terms.now ≡ terms_of (made_day summary.now.number) }
+    requires scripts { AreScripts (length terms.now.roll.names) (made_day summary.now.number).scripts }
+    requires history { IsHistoryOf (made_day summary.now.number).scripts summary.now.history.now }
+    requires frozen { (before : List VersionState)
+        × AreFrozen (length terms.now.roll.names) summary.now.history.now (before ++ version ∷ []) }
+    ensures { IfOk result (IsCompared (IsSummary summary.now.number terms.now summary.now.history.now) text.now) }
+{
+    let roll = terms.roll.with_struck(alloc, version.struck())?;
+    compare_summary(rt, alloc, terms, summary, &roll, version.into_plans(), text)
+}
+
+/// The same, where it is summed up by this roll and these plans.
+fn compare_summary<R: Threads + Sync>(
+    rt: &R,
+    alloc: Global,
+    terms: &Terms,
+    summary: &SummaryText<'_>,
+    roll: &Roll,
+    standing: Plans,
+    text: &[u8],
+) -> Result<Option<u64>, NoMemory>
+    requires terms { terms.now ≡ terms_of (made_day summary.now.number) }
+    requires legal { IsLegal summary.now.history.now }
+    requires numbers { HaveNumbers summary.now.history.now }
+    requires stands { AreLastStanding terms.now summary.now.history.now roll.now standing }
+    ensures { IfOk result (IsCompared (IsSummary summary.now.number terms.now summary.now.history.now) text.now) }
+{
     let mut sink = Comparing::new(text);
     match sum_up(
         &crew_of(rt, alloc),
-        &summary,
+        summary,
         terms,
-        &roll,
-        version.into_plans(),
+        roll,
+        standing,
         &mut sink,
     )? {
         Ok(()) => Ok(sink.difference_from_whole()),
