@@ -3,14 +3,17 @@ use Rattle.std.proofs.Common.{◌≡◌, ◌∙◌, ap, sym, subst, arith, ℕ, 
 use Rattle.std.proofs.Common.{take, get_or, Option}
 use Rattle.std.proofs.Common.{Result, IsErr, refl}
 use Rattle.std.specs.List.{flat_map}
+use Rattle.std.specs.Prelude.{Some, slice_get, slice_index_or}
 use Rattle.std.proofs.lemmas.List.{map-append}
 use Rattle.std.proofs.lemmas.List.Concat.{flat_map-append}
 use Rattle.std.proofs.lemmas.List.FromFn.{get_or-range_with_len, length-range_with_len}
 use Rattle.std.proofs.lemmas.List.Folds.{flat_map-map}
+use Rattle.std.proofs.lemmas.Option.{get_or_from_slice_get}
 use Rattle.piece_text.specs.Writing.{Wrote, Stopped, Writes}
 use Rattle.piece_text.proofs.Written.{wrote_nothing, later as written_later, stops as written_stops, wrote_more, stopped_at}
+use Rattle.sheet_reader.specs.Values.{SheetList}
 use Rattle.sheet_words.specs.Groups.{all_places}
-use Rattle.sheet_words.specs.Manner.{Manner, said}
+use Rattle.sheet_words.specs.Manner.{Manner, said, told}
 
 -- texts that stand behind others
 pub said-append : (m : Manner) (xs ys : List (List ℕ)) → said m (xs ++ ys) ≡ said m xs ++ said m ys
@@ -27,6 +30,18 @@ pub renamed :
     {S T E : Type 0} (w : S → Option (List ℕ)) (f : S → ℕ) (a b : S) (m : Manner) (xs ys : List (List ℕ))
     (r : Result T E) → xs ≡ ys → Writes w f a b (said m xs) r → Writes w f a b (said m ys) r
 renamed w f a b m xs ys r same done = subst (λ (l : List (List ℕ)). Writes w f a b (said m l) r) same done
+
+-- the same sentence by other names
+pub retold :
+    {S T E : Type 0} (w : S → Option (List ℕ)) (f : S → ℕ) (a b : S) (m : Manner) (xs ys : List (List ℕ))
+    (r : Result T E) → xs ≡ ys → Writes w f a b (told m xs) r → Writes w f a b (told m ys) r
+retold w f a b m xs ys r same done = subst (λ (l : List (List ℕ)). Writes w f a b (told m l) r) same done
+
+-- a candidate's name, as it is got
+pub name_is :
+    (v w : SheetList) (p : ℕ) (name : List ℕ) → w ≡ v → slice_get w.names p ≡ Some name → name ≡ slice_index_or v.names p []
+name_is v w p name same got =
+    sym (get_or_from_slice_get v.names p name [] (subst (λ (u : SheetList). slice_get u.names p ≡ Some name) same got))
 
 -- behind texts that were said, further ones
 pub later :

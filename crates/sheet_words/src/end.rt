@@ -8,13 +8,13 @@ ghost use Rattle.piece_text.specs.Writing.{Writes};
 ghost use Rattle.sheet_reader.specs.Form.{IsPrintable, IsPrintableRow};
 ghost use Rattle.sheet_words.specs.Groups.{all_places};
 ghost use Rattle.sheet_words.specs.Lines.{at_end};
-ghost use Rattle.sheet_words.specs.Manner.{said, told};
+ghost use Rattle.sheet_words.specs.Manner.{told};
 ghost use Rattle.sheet_words.specs.Phrases.{called};
 ghost use Rattle.sheet_words.specs.Sentences.{decides_on, ending, is_open, late, late_at, seats_taken, sentences_at_end, strikes, takes_seat};
 
 use crate::Voice;
 use crate::part::Part;
-use crate::saying::{say_about, say_parts};
+use crate::saying::write_parts;
 use byte_edge::{Failed, Sink};
 use candidate_roll::State;
 use meek_rule::{Row, Step};
@@ -43,21 +43,7 @@ fn write_ending<const P: usize, V: Voice, K: Sink>(
     ensures { Writes K.written K.faults sink.old sink.new
         (told V.manner (at_end (ending values.now ∷ []))) result }
 {
-    voice.begin(sink)?;
-    say_ending(voice, values, sink)?;
-    voice.end(sink)
-}
-
-fn say_ending<const P: usize, V: Voice, K: Sink>(
-    voice: &V,
-    values: &SheetValuesAt<P>,
-    sink: &mut K,
-) -> Result<(), Failed>
-    requires printable { IsPrintable P values.now }
-    ensures { Writes K.written K.faults sink.old sink.new
-        (said V.manner (at_end (ending values.now ∷ []))) result }
-{
-    say_parts(
+    write_parts(
         voice,
         &[Part::Words(b"End: "), Part::Words(ending(values))],
         sink,
@@ -172,11 +158,11 @@ fn write_late<const P: usize, V: Voice, K: Sink>(
     }
 }
 
-fn write_seat<const P: usize, V: Voice, K: Sink>(
+fn write_seat<'x, const P: usize, V: Voice, K: Sink>(
     voice: &V,
-    values: &SheetValuesAt<P>,
+    values: &'x SheetValuesAt<P>,
     p: usize,
-    words: &[u8],
+    words: &'x [u8],
     sink: &mut K,
 ) -> Result<(), Failed>
     requires few { length values.now.names ≤ MOST_CANDIDATES }
@@ -184,25 +170,19 @@ fn write_seat<const P: usize, V: Voice, K: Sink>(
     ensures { Writes K.written K.faults sink.old sink.new
         (told V.manner (at_end (called values.now p ++ words.now ∷ []))) result }
 {
-    voice.begin(sink)?;
-    say_seat(voice, values, p, words, sink)?;
-    voice.end(sink)
-}
-
-fn say_seat<const P: usize, V: Voice, K: Sink>(
-    voice: &V,
-    values: &SheetValuesAt<P>,
-    p: usize,
-    words: &[u8],
-    sink: &mut K,
-) -> Result<(), Failed>
-    requires few { length values.now.names ≤ MOST_CANDIDATES }
-    requires place { p < length values.now.names }
-    ensures { Writes K.written K.faults sink.old sink.new
-        (said V.manner (at_end (called values.now p ++ words.now ∷ []))) result }
-{
-    say_parts(voice, &[Part::Words(b"End: ")], sink)?;
-    say_about(voice, values, p, words, sink)
+    let name = values.names.get(p).bytes();
+    write_parts(
+        voice,
+        &[
+            Part::Words(b"End: "),
+            Part::Words(name),
+            Part::Words(b" ("),
+            Part::Number(p as u64 + 1),
+            Part::Words(b")"),
+            Part::Words(words),
+        ],
+        sink,
+    )
 }
 
 /// Whether no iteration decided on the candidate at a place.

@@ -5,12 +5,12 @@ ghost use Rattle.piece_text.specs.Writing.{Writes};
 ghost use Rattle.sheet_reader.specs.Form.{IsPrintable};
 ghost use Rattle.sheet_words.specs.Groups.{all_places};
 ghost use Rattle.sheet_words.specs.Lines.{results};
-ghost use Rattle.sheet_words.specs.Manner.{said, told};
+ghost use Rattle.sheet_words.specs.Manner.{told};
 ghost use Rattle.sheet_words.specs.Sentences.{fate, outcome};
 
 use crate::Voice;
 use crate::part::Part;
-use crate::saying::{say_about, say_parts};
+use crate::saying::write_parts;
 use byte_edge::{Failed, Sink};
 use candidate_roll::State;
 use sheet_reader::SheetValuesAt;
@@ -25,22 +25,8 @@ pub(crate) fn write_results<const P: usize, V: Voice, K: Sink>(
     ensures { Writes K.written K.faults sink.old sink.new
         (flat_map (told V.manner) (results values.now)) result }
 {
-    write_title(voice, sink)?;
+    write_parts(voice, &[Part::Words(b"Result")], sink)?;
     write_outcomes(voice, values, sink)
-}
-
-fn write_title<V: Voice, K: Sink>(voice: &V, sink: &mut K) -> Result<(), Failed>
-    ensures { Writes K.written K.faults sink.old sink.new (told V.manner (codes "Result" ∷ [])) result }
-{
-    voice.begin(sink)?;
-    say_title(voice, sink)?;
-    voice.end(sink)
-}
-
-fn say_title<V: Voice, K: Sink>(voice: &V, sink: &mut K) -> Result<(), Failed>
-    ensures { Writes K.written K.faults sink.old sink.new (said V.manner (codes "Result" ∷ [])) result }
-{
-    say_parts(voice, &[Part::Words(b"Result")], sink)
 }
 
 /// Writes what became of each candidate, without a title.
@@ -70,23 +56,18 @@ fn write_outcome<const P: usize, V: Voice, K: Sink>(
     ensures { Writes K.written K.faults sink.old sink.new
         (told V.manner (outcome values.now p)) result }
 {
-    voice.begin(sink)?;
-    say_outcome(voice, values, p, sink)?;
-    voice.end(sink)
-}
-
-fn say_outcome<const P: usize, V: Voice, K: Sink>(
-    voice: &V,
-    values: &SheetValuesAt<P>,
-    p: usize,
-    sink: &mut K,
-) -> Result<(), Failed>
-    requires printable { IsPrintable P values.now }
-    requires place { p < length values.now.names }
-    ensures { Writes K.written K.faults sink.old sink.new
-        (said V.manner (outcome values.now p)) result }
-{
-    say_about(voice, values, p, fate(*values.last.get(p)), sink)
+    let name = values.names.get(p).bytes();
+    write_parts(
+        voice,
+        &[
+            Part::Words(name),
+            Part::Words(b" ("),
+            Part::Number(p as u64 + 1),
+            Part::Words(b")"),
+            Part::Words(fate(*values.last.get(p))),
+        ],
+        sink,
+    )
 }
 
 fn fate(state: State) -> &'static [u8]

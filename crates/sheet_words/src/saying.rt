@@ -4,7 +4,7 @@ ghost use Rattle.plain_ballots.specs.declared.limits.TheConstants.{MOST_CANDIDAT
 ghost use Rattle.fixed_place.specs.Text.{text_of};
 ghost use Rattle.meek_rule.specs.Row.{HasRoomFor};
 ghost use Rattle.piece_text.specs.Writing.{Writes};
-ghost use Rattle.sheet_words.specs.Manner.{said};
+ghost use Rattle.sheet_words.specs.Manner.{said, told};
 ghost use Rattle.sheet_words.specs.Parts.{part_text};
 ghost use Rattle.sheet_words.specs.Phrases.{called, for_one_or_more, listing, member, numbered_name, separator, with_votes};
 
@@ -17,6 +17,20 @@ use fixed_place::Amount;
 use line_text::Line;
 use meek_rule::Row;
 use sheet_reader::SheetValuesAt;
+
+/// Writes a sentence of these texts.
+pub(crate) fn write_parts<V: Voice, K: Sink>(
+    voice: &V,
+    parts: &[Part<'_>],
+    sink: &mut K,
+) -> Result<(), Failed>
+    ensures { Writes K.written K.faults sink.old sink.new
+        (told V.manner (map part_text parts.now)) result }
+{
+    voice.begin(sink)?;
+    say_parts(voice, parts, sink)?;
+    voice.end(sink)
+}
 
 /// Says some texts.
 pub(crate) fn say_parts<V: Voice, K: Sink>(
@@ -76,23 +90,6 @@ pub(crate) fn say_called<const P: usize, V: Voice, K: Sink>(
 {
     let name = values.names.get(p).bytes();
     say_name(voice, name, p as u64 + 1, sink)
-}
-
-/// Says a candidate, and something of it.
-pub(crate) fn say_about<const P: usize, V: Voice, K: Sink>(
-    voice: &V,
-    values: &SheetValuesAt<P>,
-    p: usize,
-    words: &[u8],
-    sink: &mut K,
-) -> Result<(), Failed>
-    requires few { length values.now.names ≤ MOST_CANDIDATES }
-    requires place { p < length values.now.names }
-    ensures { Writes K.written K.faults sink.old sink.new
-        (said V.manner (called values.now p ++ words.now ∷ [])) result }
-{
-    say_called(voice, values, p, sink)?;
-    say_parts(voice, &[Part::Words(words)], sink)
 }
 
 /// Says a group by rising number, each with its votes.

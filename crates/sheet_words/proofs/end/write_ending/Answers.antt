@@ -1,12 +1,8 @@
-use Rattle.piece_text.proofs.Written.{later, stops}
+use Rattle.std.proofs.Common.{ap, ℕ, List, [], ◌∷◌}
+use Rattle.sheet_words.specs.Lines.{at_end}
+use Rattle.sheet_words.proofs.Written.{retold}
 use Rattle.sheet_words.proofs.end.write_ending.Goals as goal
 
-pub returns-in_err-begin : goal.returns-in_err-begin
-returns-in_err-begin g c = stops _ _ c.from_residual.ensures.0 c.in_err-begin.ensures
-
-pub returns-in_err-say_ending : goal.returns-in_err-say_ending
-returns-in_err-say_ending g c =
-    later _ _ _ c.in_ok-begin.ensures (stops _ _ c.from_residual-in_err-say_ending.ensures.0 c.in_err-say_ending.ensures)
-
 pub returns : goal.returns
-returns g c = later _ _ _ c.in_ok-begin.ensures (later _ _ _ c.in_ok-say_ending.ensures c.end.ensures)
+returns g c =
+    retold _ _ _ _ _ _ _ _ (ap (λ (l : List ℕ). at_end (l ∷ [])) c.ending.ensures) c.write_parts.ensures

@@ -1,12 +1,12 @@
-use Rattle.piece_text.proofs.Written.{later, stops}
+use Rattle.std.proofs.Common.{◌∙◌, ap, ◌+◌, ℕ, List, [], ◌∷◌, ◌++◌}
+use Rattle.sheet_words.specs.Lines.{at_end}
+use Rattle.sheet_words.specs.Phrases.{numbered_name}
+use Rattle.sheet_words.proofs.Written.{name_is, retold}
 use Rattle.sheet_words.proofs.end.write_seat.Goals as goal
 
-pub returns-in_err-begin : goal.returns-in_err-begin
-returns-in_err-begin g c = stops _ _ c.from_residual.ensures.0 c.in_err-begin.ensures
-
-pub returns-in_err-say_seat : goal.returns-in_err-say_seat
-returns-in_err-say_seat g c =
-    later _ _ _ c.in_ok-begin.ensures (stops _ _ c.from_residual-in_err-say_seat.ensures.0 c.in_err-say_seat.ensures)
-
 pub returns : goal.returns
-returns g c = later _ _ _ c.in_ok-begin.ensures (later _ _ _ c.in_ok-say_seat.ensures c.end.ensures)
+returns g c =
+    let p = c.args.p in
+    let name = c.bytes-name.ensures.value ∙ name_is c.args.values.now _ p c.get.result.now c.values.view_is c.get.ensures in
+    retold _ _ _ _ _ _ _ _
+    (ap (λ (l : List ℕ). at_end (numbered_name l (p + 1) ++ c.args.words.now ∷ [])) name) c.write_parts.ensures

@@ -1,12 +1,17 @@
-use Rattle.piece_text.proofs.Written.{later, stops}
+use Rattle.std.proofs.Common.{◌∙◌, ap, ◌+◌, ℕ, List, [], ◌∷◌, ◌++◌}
+use Rattle.candidate_roll.specs.State.{state_at}
+use Rattle.sheet_reader.specs.Values.{SheetList}
+use Rattle.sheet_words.specs.Phrases.{called, numbered_name}
+use Rattle.sheet_words.specs.Sentences.{fate}
+use Rattle.sheet_words.proofs.Written.{name_is, retold}
 use Rattle.sheet_words.proofs.results.write_outcome.Goals as goal
 
-pub returns-in_err-begin : goal.returns-in_err-begin
-returns-in_err-begin g c = stops _ _ c.from_residual.ensures.0 c.in_err-begin.ensures
-
-pub returns-in_err-say_outcome : goal.returns-in_err-say_outcome
-returns-in_err-say_outcome g c =
-    later _ _ _ c.in_ok-begin.ensures (stops _ _ c.from_residual-in_err-say_outcome.ensures.0 c.in_err-say_outcome.ensures)
-
 pub returns : goal.returns
-returns g c = later _ _ _ c.in_ok-begin.ensures (later _ _ _ c.in_ok-say_outcome.ensures c.end.ensures)
+returns g c =
+    let v = c.args.values.now in
+    let p = c.args.p in
+    let name = c.bytes-name.ensures.value ∙ name_is v _ p c.get.result.now c.values.view_is c.get.ensures in
+    let state = c.get-2.ensures.state ∙ ap (λ (w : SheetList). state_at w.last p) c.values.view_is in
+    retold _ _ _ _ _ _ _ _
+    (ap (λ (l : List ℕ). numbered_name l (p + 1) ++ c.fate.result.now ∷ []) name
+    ∙ ap (λ (l : List ℕ). called v p ++ l ∷ []) (c.fate.ensures ∙ ap fate state)) c.write_parts.ensures
