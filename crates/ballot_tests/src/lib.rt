@@ -1,22 +1,21 @@
-//! Tests of the public calls of packed_ballots, ranking_trie, batch_core, call_register and
-//! shard_book: ballots, and the books of their batches.
+//! Tests of public calls below a run, where neither a clause nor a run of a tool shows the value: the last revision of a batch
+//! and the dealing of batches, how soon strikes are woven and lines packed, copies of a trie, rolls at their greatest, errors of
+//! readers and writers of std, a sheet that is too long, words that name no shards, and a made day.
 #![tactic(auto)]
 
 #[cfg(test)]
-mod batches;
-#[cfg(test)]
-mod histories;
-#[cfg(test)]
-mod large_batches;
-#[cfg(test)]
-mod long_day;
+mod books;
 #[cfg(test)]
 mod packed;
 #[cfg(test)]
+mod rolls;
+#[cfg(test)]
 mod same;
 #[cfg(test)]
-mod samples;
+mod streams;
 #[cfg(test)]
-mod shards;
+mod strikes;
+#[cfg(test)]
+mod texts;
 #[cfg(test)]
 mod tries;

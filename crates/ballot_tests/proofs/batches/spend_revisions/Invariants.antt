@@ -1,5 +1,0 @@
-use Rattle.std.proofs.Common.{◌≡◌}
-use Rattle.ballot_tests.proofs.batches.spend_revisions.Given as goal
-
-abbrev pub invariant-loop-revision : goal.invariant-loop-revision
-invariant-loop-revision g l = l.book.candidates ≡ 3

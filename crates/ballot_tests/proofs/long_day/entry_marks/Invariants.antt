@@ -1,7 +1,0 @@
-use Rattle.std.proofs.Common.{◌≡◌, ℕ}
-use Rattle.call_register.specs.Marks.{marks_of}
-use Rattle.ballot_tests.proofs.ManyMarks.{at_first}
-use Rattle.ballot_tests.proofs.long_day.entry_marks.Given as goal
-
-abbrev pub invariant-loop-place : goal.invariant-loop-place
-invariant-loop-place l = (s : ℕ) → marks_of s l.marks.items ≡ at_first l._place s
