@@ -1,5 +1,5 @@
 -- The lines of what a count promises.
-use Rattle.std.specs.Prelude.{ℕ, if◌then◌else◌, List, [], ◌++◌, length, codes, decimal, Option, Some, None}
+use Rattle.std.specs.Prelude.{ℕ, if◌then◌else◌, List, [], ◌∷◌, ◌++◌, length, codes, decimal, Option, Some, None}
 use Rattle.std.specs.List.{flat_map, list_any}
 use Rattle.fixed_place.specs.Rounding.{scale}
 use Rattle.fixed_place.specs.Text.{text_of}
@@ -51,13 +51,25 @@ greatest_line (Some row) =
     codes "greatest surplus at a defeat " ++ text_of 9 row.surplus ++ codes " " ++ number_line row
     ++ codes " candidate " ++ decimal (defeated row.step)
 
--- words and an amount
-abbrev pub amount_line : (words : List ℕ) → (units : ℕ) → List ℕ
-amount_line words units = words ++ text_of 9 units
+-- an amount between words
+abbrev pub amount_line : (words : List ℕ) → (units : ℕ) → (more : List ℕ) → List ℕ
+amount_line words units more = words ++ (text_of 9 units ++ more)
+
+-- of which ballots a quota is: a sheet without an iteration doesn't tell the ballots that rank somebody who runs
+abbrev pub whose_quota : List Row → List ℕ
+whose_quota [] = codes " of all ballots"
+whose_quota (row ∷ rows) = codes " of the ballots that rank somebody who runs"
 
 -- what is promised
 abbrev pub within_line : (over : ℕ) → List ℕ
-within_line over = amount_line (codes "proportional within ") over
+within_line over = amount_line (codes "proportional within ") over []
+
+-- what that says to voters
+abbrev pub bound_texts : (quota over : List ℕ) → List (List ℕ)
+bound_texts quota over =
+    codes "Any voters who rank the same candidates, in any order, above all others who run, and are at least k quotas of "
+    ∷ quota ∷ codes " votes and " ∷ over
+    ∷ codes " votes more, have k of these candidates elected, or all of these who run where they are fewer than k." ∷ []
 
 -- a defeat with a surplus of a vote or more, for which nothing is promised
 abbrev pub not_promised_line : Row → List ℕ
@@ -65,22 +77,28 @@ not_promised_line row =
     codes "not promised: " ++ number_line row ++ codes " defeats " ++ decimal (defeated row.step)
     ++ codes " while " ++ text_of 9 row.surplus ++ codes " votes of surplus are not passed on"
 
--- the promise, or the defeat for which there is none
-abbrev pub promise_line : Option Row → (over : ℕ) → List ℕ
-promise_line None over = within_line over
-promise_line (Some row) over = not_promised_line row
+-- what that means for voters
+abbrev pub none_texts : (quota : List ℕ) → List (List ℕ)
+none_texts quota =
+    codes "So voters who rank the same candidates, in any order, above all others who run, may have fewer of these elected than they have quotas of "
+    ∷ quota ∷ codes " votes." ∷ []
 
--- the promise of a count of these iterations
-abbrev pub promise_of : List Row → List ℕ
-promise_of rows = promise_line (first_defeat (scale 9) rows) (slack rows)
+-- texts one after another
+abbrev pub sentence : List (List ℕ) → List ℕ
+sentence texts = flat_map (λ text. text) texts
 
--- the lines behind those of the lots
+-- the promise, or the defeat for which there is none, and what it says to voters
+abbrev pub promise_lines : Option Row → (quota over : ℕ) → List ℕ
+promise_lines None quota over = ended (within_line over) ++ ended (sentence (bound_texts (text_of 9 quota) (text_of 9 over)))
+promise_lines (Some row) quota over = ended (not_promised_line row) ++ ended (sentence (none_texts (text_of 9 quota)))
+
+-- the lines after those of the lots
 abbrev pub further_text : SheetList → List ℕ
 further_text v =
     ended (greatest_line (first_defeat (greatest_surplus v.rows) v.rows))
-    ++ ended (amount_line (codes "seats lack at most ") (greatest_lack v.rows))
-    ++ ended (amount_line (codes "quota of all votes ") (promised_quota v))
-    ++ ended (promise_of v.rows)
+    ++ ended (amount_line (codes "seats lack at most ") (greatest_lack v.rows) [])
+    ++ ended (amount_line (codes "quota ") (promised_quota v) (whose_quota v.rows))
+    ++ promise_lines (first_defeat (scale 9) v.rows) (promised_quota v) (slack v.rows)
 
 -- What the sheet of these values promises.
 abbrev pub promise_text : SheetList → List ℕ

@@ -1,5 +1,5 @@
 -- Where lots decided.
-use Rattle.std.specs.Prelude.{ℕ, ◌&&◌, ◌||◌, nat_le, not, Bool, false, length, slice_index}
+use Rattle.std.specs.Prelude.{ℕ, ◌+◌, ◌&&◌, ◌||◌, nat_eq, nat_le, not, if◌then◌else◌, Bool, false, length, slice_index, Option, Some, None}
 use Rattle.std.specs.List.{range_with_len, list_any}
 use Rattle.lot_order.specs.Flags.{mark_at}
 use Rattle.meek_rule.specs.Places.{marked_count}
@@ -9,6 +9,7 @@ use Rattle.meek_rule.specs.declared.step.Step.{Step}
 use Rattle.meek_rule.specs.declared.step.Step.TheVariants.{Elected, Iterate, Defeat}
 use Rattle.count_promise.specs.declared.group.Group.{Group}
 use Rattle.count_promise.specs.declared.group.Group.TheVariants.{Tied, Seated, Left}
+use Rattle.count_promise.specs.Left.{defeated}
 
 -- somebody at the places of an iteration passes a test
 abbrev pub somebody : Row → (ℕ → Bool) → Bool
@@ -55,6 +56,12 @@ election_is_by_lot row = somebody row (is_seated_by_lot row)
 -- a lot decided something in this iteration
 abbrev pub is_by_lot : Row → Bool
 is_by_lot row = defeat_is_by_lot row.step row || election_is_by_lot row
+
+-- Those among whom a lot chose the candidate at a place, where it chose it: for defeat, or for one of the last seats.
+abbrev pub chosen_among : Row → (p : ℕ) → Option Group
+chosen_among row p =
+    if defeat_is_by_lot row.step row && nat_eq (defeated row.step) (p + 1) then Some Tied
+    else if is_seated_by_lot row p then Some Left else None
 
 -- whom a line names
 abbrev pub is_in : Row → Group → (p : ℕ) → Bool

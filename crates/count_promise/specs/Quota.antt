@@ -14,6 +14,10 @@ votes_heard s ballots (row ∷ rows) = row.total
 abbrev pub quota_of : (seats votes : ℕ) → ℕ
 quota_of seats votes = votes / (seats + 1) + 1
 
--- the quota of these votes
+-- the quota of these votes, at some number of places
+abbrev pub quota_at : (places : ℕ) → SheetList → ℕ
+quota_at places v = quota_of v.seats (votes_heard (scale places) v.ballots v.rows)
+
+-- that of a promise, which is at nine places
 abbrev pub promised_quota : SheetList → ℕ
-promised_quota v = quota_of v.seats (votes_heard (scale 9) v.ballots v.rows)
+promised_quota v = quota_at 9 v

@@ -50,8 +50,9 @@ NoIterations =
     codes "no lot decided anything"
     ∷ codes "nobody was defeated in an iteration"
     ∷ codes "seats lack at most 0.000000000"
-    ∷ codes "quota of all votes 4.666666667"
+    ∷ codes "quota 4.666666667 of all ballots"
     ∷ codes "proportional within 0.000000000"
+    ∷ codes "Any voters who rank the same candidates, in any order, above all others who run, and are at least k quotas of 4.666666667 votes and 0.000000000 votes more, have k of these candidates elected, or all of these who run where they are fewer than k."
     ∷ []
     )
 
@@ -64,8 +65,9 @@ TwoAreTied =
     codes "round 4 iteration 1 defeats 2 by lot of 2 3"
     ∷ codes "greatest surplus at a defeat 0.000000000 round 4 iteration 1 candidate 2"
     ∷ codes "seats lack at most 0.000000000"
-    ∷ codes "quota of all votes 1.666666667"
+    ∷ codes "quota 1.666666667 of the ballots that rank somebody who runs"
     ∷ codes "proportional within 0.000000000"
+    ∷ codes "Any voters who rank the same candidates, in any order, above all others who run, and are at least k quotas of 1.666666667 votes and 0.000000000 votes more, have k of these candidates elected, or all of these who run where they are fewer than k."
     ∷ []
     )
 
@@ -78,8 +80,9 @@ LastSeatByLot =
     codes "round 1 iteration 1 elects 2 and not 1 by lot"
     ∷ codes "nobody was defeated in an iteration"
     ∷ codes "seats lack at most 0.000000000"
-    ∷ codes "quota of all votes 4.666666667"
+    ∷ codes "quota 4.666666667 of the ballots that rank somebody who runs"
     ∷ codes "proportional within 0.000000000"
+    ∷ codes "Any voters who rank the same candidates, in any order, above all others who run, and are at least k quotas of 4.666666667 votes and 0.000000000 votes more, have k of these candidates elected, or all of these who run where they are fewer than k."
     ∷ []
     )
 
@@ -92,8 +95,9 @@ LastSeatByVotes =
     codes "no lot decided anything"
     ∷ codes "nobody was defeated in an iteration"
     ∷ codes "seats lack at most 0.000000000"
-    ∷ codes "quota of all votes 3.333333334"
+    ∷ codes "quota 3.333333334 of the ballots that rank somebody who runs"
     ∷ codes "proportional within 0.000000000"
+    ∷ codes "Any voters who rank the same candidates, in any order, above all others who run, and are at least k quotas of 3.333333334 votes and 0.000000000 votes more, have k of these candidates elected, or all of these who run where they are fewer than k."
     ∷ []
     )
 
@@ -106,8 +110,9 @@ GreatSurplus =
     codes "no lot decided anything"
     ∷ codes "greatest surplus at a defeat 3.500000000 round 2 iteration 1 candidate 3"
     ∷ codes "seats lack at most 0.500000000"
-    ∷ codes "quota of all votes 4.166666667"
+    ∷ codes "quota 4.166666667 of the ballots that rank somebody who runs"
     ∷ codes "not promised: round 2 iteration 1 defeats 3 while 3.500000000 votes of surplus are not passed on"
+    ∷ codes "So voters who rank the same candidates, in any order, above all others who run, may have fewer of these elected than they have quotas of 4.166666667 votes."
     ∷ []
     )
 
@@ -125,8 +130,9 @@ LittleSurplus =
     codes "no lot decided anything"
     ∷ codes "greatest surplus at a defeat 0.999999999 round 3 iteration 1 candidate 3"
     ∷ codes "seats lack at most 0.500000000"
-    ∷ codes "quota of all votes 4.000000001"
+    ∷ codes "quota 4.000000001 of the ballots that rank somebody who runs"
     ∷ codes "proportional within 1.499999999"
+    ∷ codes "Any voters who rank the same candidates, in any order, above all others who run, and are at least k quotas of 4.000000001 votes and 1.499999999 votes more, have k of these candidates elected, or all of these who run where they are fewer than k."
     ∷ []
     )
 
@@ -145,7 +151,8 @@ SecondIsGreatest =
     codes "no lot decided anything"
     ∷ codes "greatest surplus at a defeat 1.000000000 round 3 iteration 1 candidate 3"
     ∷ codes "seats lack at most 0.000000000"
-    ∷ codes "quota of all votes 3.100000001"
+    ∷ codes "quota 3.100000001 of the ballots that rank somebody who runs"
     ∷ codes "not promised: round 3 iteration 1 defeats 3 while 1.000000000 votes of surplus are not passed on"
+    ∷ codes "So voters who rank the same candidates, in any order, above all others who run, may have fewer of these elected than they have quotas of 3.100000001 votes."
     ∷ []
     )

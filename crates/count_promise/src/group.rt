@@ -1,6 +1,6 @@
-/// Candidates of an iteration that a line names.
-#[derive(Clone, Copy)]
-pub(crate) enum Group {
+/// Candidates of an iteration, by what a lot had to do with them.
+#[derive(Clone, Copy, Debug, PartialEq, Eq)]
+pub enum Group {
     /// Who was tied for defeat.
     Tied,
     /// Whom a lot gave a seat.

@@ -2,7 +2,9 @@
 //! greatest surplus that was left at a defeat, what those who hold seats lack of their quotas, and
 //! within how many votes the count is proportional.
 //!
-//! [`promise`] is the whole tool, and [`promise_of`] makes the text from the values of a sheet.
+//! [`promise`] is the whole tool. What it says in lines is said in other words elsewhere: [`decides_any`],
+//! [`chosen_among`] and [`is_in`] tell what lots decided, [`promised_quota`] and [`slack`] the quota and the votes of
+//! the promise, and [`first_defeat`] the defeat for which there is none.
 //! [`promises_hold`] says that what is promised is so in each count of which this is the sheet.
 #![tactic(auto)]
 
@@ -12,12 +14,15 @@ mod lines;
 mod lots;
 mod measures;
 mod peaks;
+mod quota;
 mod text;
 mod tool;
 mod worked;
 
+pub use group::Group;
 pub use laws::promises_hold;
-pub use lines::promise_of;
-pub use text::Text;
+pub use lots::{chosen_among, decides_any, is_in};
+pub use measures::{defeated, first_defeat};
+pub use quota::{promised_quota, slack};
 pub use tool::promise;
 pub use worked::worked_promises;

@@ -1,22 +1,18 @@
 // The lines of what a count promises.
-ghost use Rattle.std.specs.Prelude.{◌≡◌, ◌+◌, ◌^◌, ◌<◌, ◌≤◌, ◌++◌, ◌∷◌, [], All, IfOk, OnOk, codes, decimal, length};
-ghost use Rattle.std.specs.List.{flat_map, list_any};
-ghost use Rattle.plain_ballots.specs.declared.limits.TheConstants.{MOST_BALLOTS};
+ghost use Rattle.std.specs.Prelude.{◌≡◌, ◌+◌, ◌^◌, ◌<◌, ◌≤◌, ◌++◌, ◌∷◌, All, IfOk, OnOk, decimal, length};
 ghost use Rattle.fixed_place.specs.Rounding.{scale};
 ghost use Rattle.meek_rule.specs.Places.{each_place};
 ghost use Rattle.meek_rule.specs.Row.{HasRoomFor};
 ghost use Rattle.sheet_text.specs.Lines.{ended, listed, number_line};
 ghost use Rattle.sheet_reader.specs.Form.{IsPrintable, IsPrintableRow};
 ghost use Rattle.count_promise.specs.Left.{first_defeat};
-ghost use Rattle.count_promise.specs.Lots.{is_by_lot, is_in};
-ghost use Rattle.count_promise.specs.Quota.{quota_of, votes_heard};
-ghost use Rattle.count_promise.specs.Lines.{amount_line, defeat_lots, election_lots, further_text, greatest_line, lots_of, lots_text, not_promised_line, promise_line, promise_text};
+ghost use Rattle.count_promise.specs.Lots.{is_in};
+ghost use Rattle.count_promise.specs.Lines.{amount_line, defeat_lots, election_lots, further_text, greatest_line, lots_of, lots_text, not_promised_line, promise_lines, promise_text, whose_quota};
 
-use crate::Text;
-use crate::group::Group;
-use crate::lots::{defeat_is_by_lot, election_is_by_lot, is_by_lot, is_in};
-use crate::measures::{defeated, first_defeat};
+use crate::lots::{defeat_is_by_lot, election_is_by_lot};
 use crate::peaks::peaks_of;
+use crate::text::Text;
+use crate::{Group, decides_any, defeated, first_defeat, is_in, promised_quota};
 use meek_rule::Row;
 use sheet_reader::SheetValues;
 use std::alloc::{AllocError, Global};
@@ -24,7 +20,7 @@ use std::alloc::{AllocError, Global};
 const VOTE: u64 = 1_000_000_000;
 
 /// What the sheet of these values promises, line by line.
-pub fn promise_of(alloc: Global, values: &SheetValues) -> Result<Text, AllocError>
+pub(crate) fn promise_of(alloc: Global, values: &SheetValues) -> Result<Text, AllocError>
     requires { IsPrintable 9 values.now }
     ensures { IfOk result (λ text. text ≡ promise_text values.now) }
 {
@@ -34,40 +30,28 @@ pub fn promise_of(alloc: Global, values: &SheetValues) -> Result<Text, AllocErro
     Ok(text)
 }
 
-/// The lines behind those of the lots.
+/// The lines after those of the lots.
 fn push_further(text: &mut Text, values: &SheetValues) -> Result<(), AllocError>
     requires { IsPrintable 9 values.now }
     ensures { OnOk result (text.new ≡ text.old ++ further_text values.now) }
 {
     let rows = values.rows.items();
     let peaks = peaks_of(rows, values.names.len());
-    let votes = votes_heard(rows, values.ballots);
-    let quota = quota_of(values.seats, votes);
+    let quota = promised_quota(values);
     push_greatest(text, rows, peaks.surplus)?;
-    push_amount(text, b"seats lack at most ", peaks.lack)?;
-    push_amount(text, b"quota of all votes ", quota)?;
-    push_promise(text, rows, peaks.left)
+    push_amount(text, b"seats lack at most ", peaks.lack, b"")?;
+    push_amount(text, b"quota ", quota, whose_quota(rows))?;
+    push_promise(text, rows, quota, peaks.left)
 }
 
-/// The votes of the first iteration together, in units, or those of all ballots where there is none.
-fn votes_heard(rows: &[Row<9>], ballots: u64) -> u128
-    requires { ballots ≤ MOST_BALLOTS }
-    ensures value { result ≡ votes_heard (scale 9) ballots rows.now }
-    ensures bound { result < 10 ^ 26 }
+/// Of which ballots the quota is.
+fn whose_quota(rows: &[Row<9>]) -> &'static [u8]
+    ensures { result.now ≡ whose_quota rows.now }
 {
-    match rows.first() {
-        Some(row) => row.total.units() as u128,
-        None => ballots as u128 * VOTE as u128,
+    match rows {
+        [] => b" of all ballots",
+        _ => b" of the ballots that rank somebody who runs",
     }
-}
-
-/// The quota of so many units of votes.
-fn quota_of(seats: u32, votes: u128) -> u128
-    requires { votes < 10 ^ 26 }
-    ensures value { result ≡ quota_of seats votes }
-    ensures bound { result < 10 ^ 27 }
-{
-    votes / (seats as u128 + 1) + 1
 }
 
 /// The lines of what lots decided, or the line that they decided nothing.
@@ -82,19 +66,6 @@ fn push_lots(text: &mut Text, rows: &[Row<9>]) -> Result<(), AllocError>
         push_lots_of(text, row)?;
     }
     Ok(())
-}
-
-/// Whether a lot decided anything in any iteration.
-fn decides_any(rows: &[Row<9>]) -> bool
-    requires { All (λ row. HasRoomFor (length row.states) row) rows.now }
-    ensures { result ≡ list_any is_by_lot rows.now }
-{
-    for row in rows {
-        if is_by_lot(row) {
-            return true;
-        }
-    }
-    false
 }
 
 /// The lines of what lots decided in an iteration.
@@ -199,25 +170,61 @@ fn surplus_of(row: &Row<9>) -> u128
     row.surplus.units() as u128
 }
 
-/// A line of words and an amount.
-fn push_amount(text: &mut Text, words: &[u8], units: u128) -> Result<(), AllocError>
+/// A line of an amount between words.
+fn push_amount(text: &mut Text, words: &[u8], units: u128, more: &[u8]) -> Result<(), AllocError>
     requires { units < 10 ^ 27 }
-    ensures { OnOk result (text.new ≡ text.old ++ ended (amount_line words.now units)) }
+    ensures { OnOk result (text.new ≡ text.old ++ ended (amount_line words.now units more.now)) }
 {
     text.push_bytes(words)?;
     text.push_units(units)?;
+    text.push_bytes(more)?;
     text.push_bytes(b"\n")
 }
 
-/// The line of the promise, or of the first defeat for which there is none.
-fn push_promise(text: &mut Text, rows: &[Row<9>], over: u128) -> Result<(), AllocError>
-    requires { over < 10 ^ 27 }
-    ensures { OnOk result (text.new ≡ text.old ++ ended (promise_line (first_defeat (scale 9) rows.now) over)) }
+/// The lines of the promise, or of the first defeat for which there is none.
+fn push_promise(text: &mut Text, rows: &[Row<9>], quota: u128, over: u128) -> Result<(), AllocError>
+    requires quota { quota < 10 ^ 27 }
+    requires over { over < 10 ^ 27 }
+    ensures { OnOk result
+        (text.new ≡ text.old ++ promise_lines (first_defeat (scale 9) rows.now) quota over) }
 {
     match first_defeat(rows, VOTE) {
-        Some(row) => push_not_promised(text, row),
-        None => push_amount(text, b"proportional within ", over),
+        Some(row) => push_none(text, row, quota),
+        None => push_bound(text, quota, over),
     }
+}
+
+/// The line of the promise, and what it says to voters.
+fn push_bound(text: &mut Text, quota: u128, over: u128) -> Result<(), AllocError>
+    requires quota { quota < 10 ^ 27 }
+    requires over { over < 10 ^ 27 }
+    ensures { OnOk result (text.new ≡ text.old ++ promise_lines None quota over) }
+{
+    push_amount(text, b"proportional within ", over, b"")?;
+    text.push_bytes(
+        b"Any voters who rank the same candidates, in any order, above all others who run, and are at least k quotas of ",
+    )?;
+    text.push_units(quota)?;
+    push_amount(
+        text,
+        b" votes and ",
+        over,
+        b" votes more, have k of these candidates elected, or all of these who run where they are fewer than k.",
+    )
+}
+
+/// The line of a defeat for which nothing is promised, and what it means for voters.
+fn push_none(text: &mut Text, row: &Row<9>, quota: u128) -> Result<(), AllocError>
+    requires { quota < 10 ^ 27 }
+    ensures { OnOk result (text.new ≡ text.old ++ promise_lines (Some row.now) quota 0) }
+{
+    push_not_promised(text, row)?;
+    push_amount(
+        text,
+        b"So voters who rank the same candidates, in any order, above all others who run, may have fewer of these elected than they have quotas of ",
+        quota,
+        b" votes.",
+    )
 }
 
 fn push_not_promised(text: &mut Text, row: &Row<9>) -> Result<(), AllocError>

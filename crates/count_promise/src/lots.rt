@@ -1,14 +1,45 @@
 // Where lots decided.
-ghost use Rattle.std.specs.Prelude.{◌≡◌, ◌<◌, ◌≤◌, length};
+ghost use Rattle.std.specs.Prelude.{◌≡◌, ◌<◌, ◌≤◌, All, length};
+ghost use Rattle.std.specs.List.{list_any};
 ghost use Rattle.meek_rule.specs.Row.{HasRoomFor};
-ghost use Rattle.count_promise.specs.Lots.{defeat_is_by_lot, elects, election_is_by_lot, is_by_lot, is_in, is_left_by_lot, is_left_out, is_seated_by_lot, leaves_out, some_elected_has, some_left_out_has};
+ghost use Rattle.count_promise.specs.Lots.{chosen_among, defeat_is_by_lot, elects, election_is_by_lot, is_by_lot, is_in, is_left_by_lot, is_left_out, is_seated_by_lot, leaves_out, some_elected_has, some_left_out_has};
 
-use crate::group::Group;
+use crate::Group;
+use crate::measures::defeated;
 use candidate_roll::State;
 use meek_rule::{Row, Step};
 
+/// Whether a lot decided anything in any iteration.
+pub fn decides_any<const P: usize>(rows: &[Row<P>]) -> bool
+    requires { All (λ row. HasRoomFor (length row.states) row) rows.now }
+    ensures { result ≡ list_any is_by_lot rows.now }
+{
+    for row in rows {
+        if is_by_lot(row) {
+            return true;
+        }
+    }
+    false
+}
+
+/// Those among whom a lot chose the candidate at a place in an iteration, where it chose it.
+pub fn chosen_among<const P: usize>(row: &Row<P>, p: usize) -> Option<Group>
+    requires room { HasRoomFor (length row.now.states) row.now }
+    requires place { p < length row.now.states }
+    ensures { result ≡ chosen_among row.now p }
+{
+    let _candidates = row.states.len();
+    if defeat_is_by_lot(row) && defeated(row.step) as usize == p + 1 {
+        return Some(Group::Tied);
+    }
+    if is_seated_by_lot(row, p) {
+        return Some(Group::Left);
+    }
+    None
+}
+
 /// Whether a lot decided anything in an iteration.
-pub(crate) fn is_by_lot(row: &Row<9>) -> bool
+fn is_by_lot<const P: usize>(row: &Row<P>) -> bool
     requires room { HasRoomFor (length row.now.states) row.now }
     ensures { result ≡ is_by_lot row.now }
 {
@@ -16,7 +47,7 @@ pub(crate) fn is_by_lot(row: &Row<9>) -> bool
 }
 
 /// Whether more than one candidate was tied for a defeat.
-pub(crate) fn defeat_is_by_lot(row: &Row<9>) -> bool
+pub(crate) fn defeat_is_by_lot<const P: usize>(row: &Row<P>) -> bool
     ensures { result ≡ defeat_is_by_lot row.now.step row.now }
 {
     match row.step {
@@ -27,7 +58,7 @@ pub(crate) fn defeat_is_by_lot(row: &Row<9>) -> bool
 }
 
 /// Whether a lot chose who takes the last seats.
-pub(crate) fn election_is_by_lot(row: &Row<9>) -> bool
+pub(crate) fn election_is_by_lot<const P: usize>(row: &Row<P>) -> bool
     requires room { HasRoomFor (length row.now.states) row.now }
     ensures { result ≡ election_is_by_lot row.now }
 {
@@ -40,7 +71,7 @@ pub(crate) fn election_is_by_lot(row: &Row<9>) -> bool
 }
 
 /// Whether the candidate at a place belongs to a group.
-pub(crate) fn is_in(row: &Row<9>, group: Group, p: usize) -> bool
+pub fn is_in<const P: usize>(row: &Row<P>, group: Group, p: usize) -> bool
     requires room { HasRoomFor (length row.now.states) row.now }
     requires place { p < length row.now.states }
     ensures { result ≡ is_in row.now group p }
@@ -52,7 +83,7 @@ pub(crate) fn is_in(row: &Row<9>, group: Group, p: usize) -> bool
     }
 }
 
-fn is_seated_by_lot(row: &Row<9>, p: usize) -> bool
+fn is_seated_by_lot<const P: usize>(row: &Row<P>, p: usize) -> bool
     requires room { HasRoomFor (length row.now.states) row.now }
     requires place { p < length row.now.states }
     ensures { result ≡ is_seated_by_lot row.now p }
@@ -60,7 +91,7 @@ fn is_seated_by_lot(row: &Row<9>, p: usize) -> bool
     *row.elected.get(p) && some_left_out_has(row, row.votes.get(p).units())
 }
 
-fn is_left_by_lot(row: &Row<9>, p: usize) -> bool
+fn is_left_by_lot<const P: usize>(row: &Row<P>, p: usize) -> bool
     requires room { HasRoomFor (length row.now.states) row.now }
     requires place { p < length row.now.states }
     ensures { result ≡ is_left_by_lot row.now p }
@@ -69,7 +100,7 @@ fn is_left_by_lot(row: &Row<9>, p: usize) -> bool
 }
 
 /// Whether somebody who was left out has this vote, or more.
-fn some_left_out_has(row: &Row<9>, vote: u64) -> bool
+fn some_left_out_has<const P: usize>(row: &Row<P>, vote: u64) -> bool
     requires room { HasRoomFor (length row.now.states) row.now }
     ensures { result ≡ some_left_out_has row.now vote }
 {
@@ -82,7 +113,7 @@ fn some_left_out_has(row: &Row<9>, vote: u64) -> bool
 }
 
 /// Whether somebody who was elected has this vote, or less.
-fn some_elected_has(row: &Row<9>, vote: u64) -> bool
+fn some_elected_has<const P: usize>(row: &Row<P>, vote: u64) -> bool
     requires room { HasRoomFor (length row.now.states) row.now }
     ensures { result ≡ some_elected_has row.now vote }
 {
@@ -95,7 +126,7 @@ fn some_elected_has(row: &Row<9>, vote: u64) -> bool
 }
 
 /// Whether the candidate at a place was left out with this vote, or more.
-fn leaves_out(row: &Row<9>, vote: u64, p: usize) -> bool
+fn leaves_out<const P: usize>(row: &Row<P>, vote: u64, p: usize) -> bool
     requires room { HasRoomFor (length row.now.states) row.now }
     requires place { p < length row.now.states }
     ensures { result ≡ leaves_out row.now vote p }
@@ -104,7 +135,7 @@ fn leaves_out(row: &Row<9>, vote: u64, p: usize) -> bool
 }
 
 /// Whether the candidate at a place was elected with this vote, or less.
-fn elects(row: &Row<9>, vote: u64, p: usize) -> bool
+fn elects<const P: usize>(row: &Row<P>, vote: u64, p: usize) -> bool
     requires room { HasRoomFor (length row.now.states) row.now }
     requires place { p < length row.now.states }
     ensures { result ≡ elects row.now vote p }
@@ -113,7 +144,7 @@ fn elects(row: &Row<9>, vote: u64, p: usize) -> bool
 }
 
 /// Whether the candidate at a place has the quota, and is not elected for want of a seat.
-fn is_left_out(row: &Row<9>, p: usize) -> bool
+fn is_left_out<const P: usize>(row: &Row<P>, p: usize) -> bool
     requires room { HasRoomFor (length row.now.states) row.now }
     requires place { p < length row.now.states }
     ensures { result ≡ is_left_out row.now p }

@@ -10,9 +10,8 @@ use candidate_roll::State;
 use meek_rule::{Row, Step};
 
 /// The surplus at a defeat, and 0 in another iteration.
-pub(crate) fn surplus_at(row: &Row<9>) -> u64
-    ensures value { result ≡ surplus_at row.now.step row.now }
-    ensures bound { result ≤ 10 ^ 18 }
+pub(crate) fn surplus_at<const P: usize>(row: &Row<P>) -> u64
+    ensures { result ≡ surplus_at row.now.step row.now }
 {
     match row.step {
         Step::Elected => 0,
@@ -22,11 +21,11 @@ pub(crate) fn surplus_at(row: &Row<9>) -> u64
 }
 
 /// What those who hold seats lack of their quotas together, where somebody is elected or defeated.
-pub(crate) fn lack_at(row: &Row<9>) -> u128
+pub(crate) fn lack_at<const P: usize>(row: &Row<P>) -> u128
     requires room { HasRoomFor (length row.now.states) row.now }
     requires few { length row.now.states ≤ MOST_CANDIDATES }
     ensures value { result ≡ lack_at row.now.step row.now }
-    ensures bound { result ≤ 10 ^ 21 }
+    ensures bound { result ≤ 10 ^ 22 }
 {
     match row.step {
         Step::Elected => shortfalls(row),
@@ -36,11 +35,11 @@ pub(crate) fn lack_at(row: &Row<9>) -> u128
 }
 
 /// What those who hold seats, winners included, lack of a quota, each for itself, together.
-fn shortfalls(row: &Row<9>) -> u128
+fn shortfalls<const P: usize>(row: &Row<P>) -> u128
     requires room { HasRoomFor (length row.now.states) row.now }
     requires few { length row.now.states ≤ MOST_CANDIDATES }
     ensures value { result ≡ shortfalls row.now }
-    ensures bound { result ≤ 10 ^ 21 }
+    ensures bound { result ≤ 10 ^ 22 }
 {
     let quota = row.quota.units();
     let mut lack: u128 = 0;
@@ -53,7 +52,7 @@ fn shortfalls(row: &Row<9>) -> u128
 }
 
 /// Whether the candidate at a place is elected, winners included.
-fn holds_seat(row: &Row<9>, p: usize) -> bool
+fn holds_seat<const P: usize>(row: &Row<P>, p: usize) -> bool
     requires room { HasRoomFor (length row.now.states) row.now }
     requires place { p < length row.now.states }
     ensures { result ≡ holds_seat row.now.states row.now.elected p }
@@ -62,7 +61,7 @@ fn holds_seat(row: &Row<9>, p: usize) -> bool
 }
 
 /// The number of whom a step defeats, 0 where it defeats nobody.
-pub(crate) fn defeated(step: Step) -> u32
+pub fn defeated(step: Step) -> u32
     ensures { result ≡ defeated step }
 {
     match step {
@@ -73,7 +72,7 @@ pub(crate) fn defeated(step: Step) -> u32
 }
 
 /// The first iteration that defeats somebody with a surplus of at least so many units.
-pub(crate) fn first_defeat(rows: &[Row<9>], least: u64) -> Option<&Row<9>>
+pub fn first_defeat<const P: usize>(rows: &[Row<P>], least: u64) -> Option<&Row<P>>
     ensures { option_map (λ row. row.now) result ≡ first_defeat least rows.now }
 {
     for row in rows {
@@ -84,7 +83,7 @@ pub(crate) fn first_defeat(rows: &[Row<9>], least: u64) -> Option<&Row<9>>
     None
 }
 
-fn is_defeat_of(row: &Row<9>, least: u64) -> bool
+fn is_defeat_of<const P: usize>(row: &Row<P>, least: u64) -> bool
     ensures { result ≡ is_defeat_of least row.now }
 {
     match row.step {

@@ -20,14 +20,14 @@ pub(crate) struct Peaks {
 }
 
 /// The greatest of all iterations.
-pub(crate) fn peaks_of(rows: &[Row<9>], candidates: usize) -> Peaks
+pub(crate) fn peaks_of<const P: usize>(rows: &[Row<P>], candidates: usize) -> Peaks
     requires few { candidates ≤ MOST_CANDIDATES }
-    requires rows { All (IsPrintableRow 9 candidates) rows.now }
+    requires rows { All (IsPrintableRow P candidates) rows.now }
     ensures surplus { result.surplus ≡ greatest_surplus rows.now }
     ensures lack { result.lack ≡ greatest_lack rows.now }
     ensures left { result.left ≡ slack rows.now }
     ensures few_lack { result.lack ≤ 10 ^ 22 }
-    ensures few_left { result.left ≤ 10 ^ 22 }
+    ensures few_left { result.left ≤ 10 ^ 23 }
 {
     let mut peaks = Peaks {
         surplus: 0,
@@ -42,16 +42,16 @@ pub(crate) fn peaks_of(rows: &[Row<9>], candidates: usize) -> Peaks
 
 impl Peaks {
     /// The greatest with one iteration more.
-    fn with(&self, row: &Row<9>) -> Peaks
+    fn with<const P: usize>(&self, row: &Row<P>) -> Peaks
         requires room { HasRoomFor (length row.now.states) row.now }
         requires few { length row.now.states ≤ MOST_CANDIDATES }
         requires few_lack { self.now.lack ≤ 10 ^ 22 }
-        requires few_left { self.now.left ≤ 10 ^ 22 }
+        requires few_left { self.now.left ≤ 10 ^ 23 }
         ensures surplus { result.surplus ≡ max self.now.surplus (surplus_at row.now.step row.now) }
         ensures lack { result.lack ≡ max self.now.lack (lack_at row.now.step row.now) }
         ensures left { result.left ≡ max self.now.left (left_at_most row.now) }
         ensures few_lack { result.lack ≤ 10 ^ 22 }
-        ensures few_left { result.left ≤ 10 ^ 22 }
+        ensures few_left { result.left ≤ 10 ^ 23 }
     {
         let surplus = surplus_at(row);
         let lack = lack_at(row);

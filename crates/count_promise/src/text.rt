@@ -12,7 +12,7 @@ const VOTE: u128 = 1_000_000_000;
 
 /// A text under way, in memory. A push that is refused for want of it leaves no text to rely on.
 #[derive(Drop)]
-pub struct Text {
+pub(crate) struct Text {
     bytes: Vec<u8>,
 }
 
@@ -26,7 +26,7 @@ impl Model for Text {
 
 impl Text {
     /// No text. The allocator serves each later push.
-    pub fn new(alloc: Global) -> Text
+    pub(crate) fn new(alloc: Global) -> Text
         ensures { result ≡ [] }
     {
         Text {
@@ -34,7 +34,7 @@ impl Text {
         }
     }
 
-    pub fn bytes(&self) -> &[u8]
+    pub(crate) fn bytes(&self) -> &[u8]
         ensures { result.now ≡ self.now }
     {
         self.bytes.as_slice()

@@ -8,7 +8,7 @@ ghost use Rattle.tool_edge.specs.Tool.{IsOwedFor, IsRun, no_history};
 ghost use Rattle.sheet_reader.specs.Form.{IsPrintable};
 ghost use Rattle.count_promise.specs.Owed.{IsPromised, promises};
 
-use crate::promise_of;
+use crate::lines::promise_of;
 use byte_edge::{Sink, Source};
 use sheet_input::{SHEET_LIMIT, SheetFault};
 use sheet_reader::{SheetStop, SheetValues, read_sheet};

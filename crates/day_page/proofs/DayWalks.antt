@@ -14,7 +14,6 @@ use Rattle.sheet_reader.specs.Values.{SheetList}
 use Rattle.sheet_minutes.specs.Rounds.{ends_round}
 use Rattle.sheet_page.specs.declared.part_names.PartNames.{PartNames}
 use Rattle.sheet_page.specs.declared.part_names.PartNames.TheVariants.{OfFreeze}
-use Rattle.count_promise.specs.Lines.{promise_text}
 use Rattle.sheet_page.specs.Html.{part_at, round_part, round_parts, rounds_part}
 use Rattle.sheet_page.specs.PageReading.{along, text_in, texts_along}
 use Rattle.sheet_page.specs.Picture.{full_of}
@@ -116,7 +115,7 @@ no_titles names places v =
     ∙ (λ j. flat_map (λ i. none i j) (all_places (length v.rows)))
     ∙ no_parts (all_places (length v.rows))
   where
-    no_promise : (b : Bool) → found text_in (codes "h1") [] (if b then told_promise (promise_text v) else Nothing) ≡ []
+    no_promise : (b : Bool) → found text_in (codes "h1") [] (if b then told_promise places v else Nothing) ≡ []
     no_promise true = refl
     no_promise false = refl
 

@@ -1,6 +1,5 @@
 mod Calls
 mod Sheets
-mod Promised
 mod Owing
 mod DayNesting
 mod DayWalks

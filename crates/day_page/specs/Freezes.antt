@@ -6,7 +6,6 @@ use Rattle.day_text.specs.Values.{FrozenSheet}
 use Rattle.sheet_page.specs.declared.part_names.PartNames.TheVariants.{OfFreeze}
 use Rattle.sheet_page.specs.Html.{sheet_parts}
 use Rattle.sheet_page.specs.Links.{part_attributes}
-use Rattle.sheet_page.specs.Promised.{promised_text}
 use Rattle.sheet_page.specs.Trees.{at, each, el, words}
 use Rattle.day_page.specs.Lists.{own_first}
 
@@ -40,10 +39,6 @@ abbrev pub freeze_links : (calls : ℕ) → List FrozenSheet → Trees
 freeze_links calls sheets = el (codes "nav") (at (codes "aria-label") (codes "Freezes") ∷ []) (link_list calls sheets ∷ [])
 
 -- ---- sheets
-
--- what the tool `promise` says of the sheet of a freeze
-abbrev pub promised_at : (places : ℕ) → FrozenSheet → List ℕ
-promised_at places s = promised_text places s.values
 
 abbrev pub freeze_heading : (freeze : ℕ) → (whose : List ℕ) → Trees
 freeze_heading freeze whose = el (codes "h1") [] (freeze_title freeze whose)

@@ -1,16 +1,14 @@
 // The freezes of a day, and the sheet of each on a page.
-ghost use Rattle.std.specs.Prelude.{◌≡◌, ◌-◌, ◌∷◌, All, codes, drop, length, map, take};
+ghost use Rattle.std.specs.Prelude.{◌≡◌, ◌-◌, All, codes, drop, length, take};
 ghost use Rattle.page_tree.specs.Print.{opening, printed};
 ghost use Rattle.sheet_reader.specs.Form.{IsPrintable};
 ghost use Rattle.day_text.specs.Form.{IsPrintableSheet};
 ghost use Rattle.sheet_page.specs.Links.{part_attributes};
-ghost use Rattle.sheet_page.specs.Promised.{promised_text};
 ghost use Rattle.sheet_page.specs.Prints.{Prints};
 ghost use Rattle.sheet_page.specs.Trees.{print_each};
-ghost use Rattle.day_page.specs.Freezes.{article, freeze_heading, freeze_name, freeze_part, freeze_parts, promised_at, whose};
+ghost use Rattle.day_page.specs.Freezes.{article, freeze_heading, freeze_name, freeze_part, freeze_parts, whose};
 
 use byte_edge::Sink;
-use count_promise::Text;
 use day_text::{DaySheet, DaySheets};
 use line_text::Line;
 use sheet_page::{Cell, PartNames, Pen, Piece, write_sheet_parts};
@@ -41,46 +39,31 @@ pub(crate) fn write_freezes<const P: usize, K: Sink>(
     pen: &mut Pen<'_, P, K>,
     calls: u64,
     sheets: &DaySheets<P>,
-    promises: &[Text],
 )
     requires printable { All (IsPrintableSheet P) sheets.now }
-    requires promised { promises.now ≡ map (promised_at P) sheets.now }
     ensures { Prints K.Sink pen.old pen.new (printed (freeze_parts P calls sheets.now)) }
 {
     let (others, own) = own_apart(sheets);
-    let (promises_of_others, promise_of_own) = promises.split_at(others.len());
-    write_each(pen, calls, own, promise_of_own);
-    write_each(pen, calls, others, promises_of_others);
+    write_each(pen, calls, own);
+    write_each(pen, calls, others);
 }
 
-fn write_each<const P: usize, K: Sink>(
-    pen: &mut Pen<'_, P, K>,
-    calls: u64,
-    sheets: &[DaySheet<P>],
-    promises: &[Text],
-)
+fn write_each<const P: usize, K: Sink>(pen: &mut Pen<'_, P, K>, calls: u64, sheets: &[DaySheet<P>])
     requires printable { All (IsPrintableSheet P) sheets.now }
-    requires promised { promises.now ≡ map (promised_at P) sheets.now }
     ensures { Prints K.Sink pen.old pen.new (print_each (freeze_part P calls) sheets.now) }
 {
-    for i in 0..sheets.len() {
-        write_part(pen, calls, &sheets[i], promises[i].bytes());
+    for sheet in sheets {
+        write_part(pen, calls, sheet);
     }
 }
 
 /// The part of a freeze.
-fn write_part<const P: usize, K: Sink>(
-    pen: &mut Pen<'_, P, K>,
-    calls: u64,
-    sheet: &DaySheet<P>,
-    promised: &[u8],
-)
+fn write_part<const P: usize, K: Sink>(pen: &mut Pen<'_, P, K>, calls: u64, sheet: &DaySheet<P>)
     requires printable { IsPrintableSheet P sheet.now }
-    requires promised { promised.now ≡ promised_at P sheet.now }
     ensures { Prints K.Sink pen.old pen.new (printed (freeze_part P calls sheet.now)) }
 {
     let whose = whose(calls, sheet.freeze);
-    write_article(pen, sheet.freeze, whose, &sheet.values, promised);
+    write_article(pen, sheet.freeze, whose, &sheet.values);
 }
 
 /// A freeze, whose it is, and all that a page shows of its sheet.
@@ -89,15 +72,13 @@ fn write_article<const P: usize, K: Sink>(
     freeze: u64,
     whose: &[u8],
     values: &SheetValuesAt<P>,
-    promised: &[u8],
 )
     requires printable { IsPrintable P values.now }
-    requires promised { promised.now ≡ promised_text P values.now }
     ensures { Prints K.Sink pen.old pen.new (printed (article P freeze whose.now values.now)) }
 {
     write_start(pen, freeze);
     write_heading(pen, freeze, whose);
-    write_sheet_parts(pen, PartNames::OfFreeze(freeze), values, promised);
+    write_sheet_parts(pen, PartNames::OfFreeze(freeze), values);
     pen.close(b"article");
 }
 

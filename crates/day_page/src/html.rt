@@ -1,12 +1,11 @@
 // A day as a page.
-ghost use Rattle.std.specs.Prelude.{◌≡◌, All, map};
+ghost use Rattle.std.specs.Prelude.{◌≡◌, All};
 ghost use Rattle.page_tree.specs.Print.{printed};
 ghost use Rattle.piece_text.specs.Writing.{Writes};
 ghost use Rattle.day_text.specs.End.{day_end};
 ghost use Rattle.day_text.specs.Form.{IsPrintableSheet};
 ghost use Rattle.sheet_page.specs.Prints.{Prints};
 ghost use Rattle.day_page.specs.DayHtml.{content_with, day_body, day_content, day_head, day_heading, day_html, day_page, told_of_page};
-ghost use Rattle.day_page.specs.Freezes.{promised_at};
 
 use crate::call_table::write_calls;
 use crate::end_part::write_end;
@@ -14,40 +13,31 @@ use crate::freeze_links::write_links;
 use crate::freezes::write_freezes;
 use batch_core::Entries;
 use byte_edge::{Failed, Sink};
-use count_promise::Text;
 use day_text::{DayEnd, DaySheets, DayText};
 use page_tree::Attribute;
 use sheet_page::{Cell, Pen, Piece, write_style};
 
-/// Writes a day as a page, with what stands in its end and what its counts promise.
+/// Writes a day as a page, with what stands in its end.
 pub(crate) fn write_html<const P: usize, K: Sink>(
     day: &DayText<P>,
     end: &DayEnd,
-    promises: &[Text],
     sink: &mut K,
 ) -> Result<(), Failed>
     requires printable { All (IsPrintableSheet P) day.now.sheets }
     requires end { end.now ≡ day_end day.now.history }
-    requires promised { promises.now ≡ map (promised_at P) day.now.sheets }
     ensures { Writes K.written K.faults sink.old sink.new (day_html P day.now) result }
 {
     let mut pen = Pen::new(sink);
     pen.piece(&Piece::Raw(b"<!DOCTYPE html>"));
-    write_page(&mut pen, day, end, promises);
+    write_page(&mut pen, day, end);
     pen.piece(&Piece::Raw(b"\n"));
     pen.end()
 }
 
 /// All behind the line that says that it is HTML.
-fn write_page<const P: usize, K: Sink>(
-    pen: &mut Pen<'_, P, K>,
-    day: &DayText<P>,
-    end: &DayEnd,
-    promises: &[Text],
-)
+fn write_page<const P: usize, K: Sink>(pen: &mut Pen<'_, P, K>, day: &DayText<P>, end: &DayEnd)
     requires printable { All (IsPrintableSheet P) day.now.sheets }
     requires end { end.now ≡ day_end day.now.history }
-    requires promised { promises.now ≡ map (promised_at P) day.now.sheets }
     ensures { Prints K.Sink pen.old pen.new (printed (day_page P day.now)) }
 {
     pen.start(
@@ -58,7 +48,7 @@ fn write_page<const P: usize, K: Sink>(
         }],
     );
     write_head(pen);
-    write_body(pen, day, end, promises);
+    write_body(pen, day, end);
     pen.close(b"html");
 }
 
@@ -91,35 +81,23 @@ fn write_told<const P: usize, K: Sink>(pen: &mut Pen<'_, P, K>)
 }
 
 /// What is seen of the page.
-fn write_body<const P: usize, K: Sink>(
-    pen: &mut Pen<'_, P, K>,
-    day: &DayText<P>,
-    end: &DayEnd,
-    promises: &[Text],
-)
+fn write_body<const P: usize, K: Sink>(pen: &mut Pen<'_, P, K>, day: &DayText<P>, end: &DayEnd)
     requires printable { All (IsPrintableSheet P) day.now.sheets }
     requires end { end.now ≡ day_end day.now.history }
-    requires promised { promises.now ≡ map (promised_at P) day.now.sheets }
     ensures { Prints K.Sink pen.old pen.new (printed (day_body P day.now)) }
 {
     pen.open(b"body");
-    write_content(pen, day, end, promises);
+    write_content(pen, day, end);
     pen.close(b"body");
 }
 
 /// The calls with their answers, what stands in the end, and the sheet of each freeze.
-fn write_content<const P: usize, K: Sink>(
-    pen: &mut Pen<'_, P, K>,
-    day: &DayText<P>,
-    end: &DayEnd,
-    promises: &[Text],
-)
+fn write_content<const P: usize, K: Sink>(pen: &mut Pen<'_, P, K>, day: &DayText<P>, end: &DayEnd)
     requires printable { All (IsPrintableSheet P) day.now.sheets }
     requires end { end.now ≡ day_end day.now.history }
-    requires promised { promises.now ≡ map (promised_at P) day.now.sheets }
     ensures { Prints K.Sink pen.old pen.new (printed (day_content P day.now)) }
 {
-    write_content_of(pen, &day.history, end, &day.sheets, promises);
+    write_content_of(pen, &day.history, end, &day.sheets);
 }
 
 /// Calls with their answers, what stands in the end, and sheets.
@@ -128,10 +106,8 @@ fn write_content_of<const P: usize, K: Sink>(
     history: &Entries,
     end: &DayEnd,
     sheets: &DaySheets<P>,
-    promises: &[Text],
 )
     requires printable { All (IsPrintableSheet P) sheets.now }
-    requires promised { promises.now ≡ map (promised_at P) sheets.now }
     ensures { Prints K.Sink pen.old pen.new
         (printed (content_with P history.now.items sheets.now end.now)) }
 {
@@ -141,7 +117,7 @@ fn write_content_of<const P: usize, K: Sink>(
     write_links(pen, calls, sheets);
     write_calls(pen, history);
     write_end(pen, end);
-    write_freezes(pen, calls, sheets, promises);
+    write_freezes(pen, calls, sheets);
     pen.close(b"main");
 }
 

@@ -20,7 +20,6 @@ mod html;
 mod json;
 mod laws;
 mod minutes;
-mod promises;
 mod tool;
 mod worked;
 

@@ -1,5 +1,5 @@
 // The tool that shows a sheet or a day.
-ghost use Rattle.std.specs.Prelude.{◌≡◌, ◌≤◌, All, IfNone, IfOk, IfSome, map, length};
+ghost use Rattle.std.specs.Prelude.{◌≡◌, ◌≤◌, All, IfNone, IfSome, map, length};
 ghost use Rattle.std.specs.String.{string_bytes};
 ghost use Rattle.sheet_input.specs.declared.sheet_limit.TheConstants.{SHEET_LIMIT};
 ghost use Rattle.tool_edge.specs.Finishing.{FinishesOwed};
@@ -9,7 +9,6 @@ ghost use Rattle.piece_text.specs.Writing.{Writes};
 ghost use Rattle.day_text.specs.End.{day_end};
 ghost use Rattle.day_text.specs.Form.{HasDayForm, IsPrintableSheet};
 ghost use Rattle.day_text.specs.Values.{DayTextList};
-ghost use Rattle.day_page.specs.Freezes.{promised_at};
 ghost use Rattle.day_page.specs.Inputs.{HasNoneAbove};
 ghost use Rattle.day_page.specs.Owed.{day_as, pages};
 
@@ -17,13 +16,11 @@ use crate::csv::{write_day_csv, write_marked_day_csv};
 use crate::html::write_html;
 use crate::json::write_day_json;
 use crate::minutes::write_day_minutes;
-use crate::promises::{no_promises, promises_of};
 use byte_edge::{Failed, Sink, Source};
-use count_promise::Text;
 use day_text::{DayEnd, DayStop, DayText, end_of_day, read_day_text};
 use sheet_input::{SHEET_LIMIT, SheetFault};
 use sheet_page::{Format, show_sheet, takes_format};
-use std::alloc::{AllocError, Global};
+use std::alloc::Global;
 use tool_edge::{End, close, open};
 
 /// Shows the sheet or the text of a day that the source gives, in the format that the words ask for. An input that
@@ -60,34 +57,8 @@ fn show<K: Sink>(alloc: Global, format: Format, input: &[u8], sink: &mut K) -> E
             })*
         };
     }
-    if let Some(end) = show_at_nine(alloc, format, input, sink) {
-        return end;
-    }
-    show_at!(8 7 6);
+    show_at!(9 8 7 6);
     show_sheet(alloc, format, input, sink)
-}
-
-/// Shows the text of a day at nine places, with what its counts promise. Where an input is none at these, nothing is done.
-fn show_at_nine<K: Sink>(
-    alloc: Global,
-    format: Format,
-    input: &[u8],
-    sink: &mut K,
-) -> Option<End<SheetFault>>
-    requires { length input.now ≤ SHEET_LIMIT }
-    ensures shown { IfSome result (λ end. FinishesOwed (IsOwedFor pages format input.now no_history) end
-        (writing K.written K.faults sink.old sink.new)) }
-    ensures none { IfNone result ((v : DayTextList) → ¬ HasDayForm 9 input.now v) }
-    ensures untouched { IfNone result (sink.new ≡ sink.old) }
-{
-    match read_day_text::<9>(alloc, input) {
-        Ok(day) => {
-            let promises = promises_of(alloc, day.sheets.items());
-            Some(show_promised(alloc, format, &day, &promises, sink))
-        }
-        Err(DayStop::Malformed) => None,
-        Err(DayStop::NoMemory) => Some(End::NoMemory),
-    }
 }
 
 /// Shows the text of a day at `P` places, where an input is none at more of them. Where it is none at these either, nothing
@@ -98,7 +69,7 @@ fn show_at<const P: usize, K: Sink>(
     input: &[u8],
     sink: &mut K,
 ) -> Option<End<SheetFault>>
-    requires places { (6 ≤ P) × (P ≤ 8) }
+    requires places { (6 ≤ P) × (P ≤ 9) }
     requires greatest { HasNoneAbove P input.now }
     requires short { length input.now ≤ SHEET_LIMIT }
     ensures shown { IfSome result (λ end. FinishesOwed (IsOwedFor pages format input.now no_history) end
@@ -107,72 +78,45 @@ fn show_at<const P: usize, K: Sink>(
     ensures untouched { IfNone result (sink.new ≡ sink.old) }
 {
     match read_day_text::<P>(alloc, input) {
-        Ok(day) => {
-            let promises = no_promises(alloc, day.sheets.items());
-            Some(show_promised(alloc, format, &day, &promises, sink))
-        }
+        Ok(day) => Some(show_day(alloc, format, &day, sink)),
         Err(DayStop::Malformed) => None,
         Err(DayStop::NoMemory) => Some(End::NoMemory),
     }
 }
 
-/// Shows the values of a day, with what its counts promise if there was memory for it.
-fn show_promised<const P: usize, K: Sink>(
-    alloc: Global,
-    format: Format,
-    day: &DayText<P>,
-    promises: &Result<Vec<Text>, AllocError>,
-    sink: &mut K,
-) -> End<SheetFault>
-    requires places { (6 ≤ P) × (P ≤ 9) }
-    requires printable { All (IsPrintableSheet P) day.now.sheets }
-    requires promised { IfOk promises.now (λ texts. texts.items ≡ map (promised_at P) day.now.sheets) }
-    ensures { FinishesOwed (λ due bytes. (due ≡ End.Done) × (bytes ≡ day_as P format day.now)) result
-        (writing K.written K.faults sink.old sink.new) }
-{
-    match promises {
-        Ok(texts) => show_day(alloc, format, day, texts.as_slice(), sink),
-        Err(_) => End::NoMemory,
-    }
-}
-
-/// Shows the values of a day, with what its counts promise.
+/// Shows the values of a day.
 fn show_day<const P: usize, K: Sink>(
     alloc: Global,
     format: Format,
     day: &DayText<P>,
-    promises: &[Text],
     sink: &mut K,
 ) -> End<SheetFault>
     requires places { (6 ≤ P) × (P ≤ 9) }
     requires printable { All (IsPrintableSheet P) day.now.sheets }
-    requires promised { promises.now ≡ map (promised_at P) day.now.sheets }
     ensures { FinishesOwed (λ due bytes. (due ≡ End.Done) × (bytes ≡ day_as P format day.now)) result
         (writing K.written K.faults sink.old sink.new) }
 {
     let Ok(end) = end_of_day(alloc, &day.history) else {
         return End::NoMemory;
     };
-    let wrote = write_day(format, day, &end, promises, sink);
+    let wrote = write_day(format, day, &end, sink);
     close(sink, wrote)
 }
 
-/// Writes the values of a day, with what stands in its end and what its counts promise.
+/// Writes the values of a day, with what stands in its end.
 fn write_day<const P: usize, K: Sink>(
     format: Format,
     day: &DayText<P>,
     end: &DayEnd,
-    promises: &[Text],
     sink: &mut K,
 ) -> Result<(), Failed>
     requires places { (6 ≤ P) × (P ≤ 9) }
     requires printable { All (IsPrintableSheet P) day.now.sheets }
     requires end { end.now ≡ day_end day.now.history }
-    requires promised { promises.now ≡ map (promised_at P) day.now.sheets }
     ensures { Writes K.written K.faults sink.old sink.new (day_as P format day.now) result }
 {
     match format {
-        Format::Html => write_html(day, end, promises, sink),
+        Format::Html => write_html(day, end, sink),
         Format::Csv => write_day_csv(day, sink),
         Format::MarkedCsv => write_marked_day_csv(day, sink),
         Format::Json => write_day_json(day, end, sink),

@@ -6,7 +6,6 @@ mod Marks
 mod Peaks
 mod Sums
 mod Parts
-mod Promises
 mod RoundPlaces
 mod RisingRounds
 pub mod Tested
@@ -38,6 +37,5 @@ mod PageLabels
 mod BarCounts
 mod PageBars
 mod PageRounds
-mod PromiseLines
 mod PageSentences
 mod LeftSeats

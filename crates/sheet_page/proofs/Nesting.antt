@@ -1,15 +1,17 @@
 -- Pages have well named elements, so they nest.
-use Rattle.std.proofs.Common.{◌≡◌, refl, ℕ, ◌+◌, List, [], ◌∷◌, Bool, true, false, length, map}
-use Rattle.std.specs.Prelude.{if◌then◌else◌, codes, nat_eq}
+use Rattle.std.proofs.Common.{◌≡◌, refl, ℕ, ◌+◌, ◌&&◌, not, List, [], ◌∷◌, Bool, true, false, length, map}
+use Rattle.std.specs.Prelude.{if◌then◌else◌, codes, nat_eq, Option, Some, None}
 use Rattle.std.specs.Char.{is_ascii}
-use Rattle.std.specs.List.{list_all}
+use Rattle.std.specs.List.{list_all, list_any}
+use Rattle.fixed_place.specs.Rounding.{scale}
 use Rattle.fixed_place.specs.Text.{text_of}
 use Rattle.lot_order.specs.Flags.{mark_at}
 use Rattle.meek_rule.specs.Row.{Row}
 use Rattle.page_tree.specs.Trees.{Nothing, IsWellNamed}
-use Rattle.count_promise.specs.Lines.{promise_text}
+use Rattle.count_promise.specs.declared.group.Group.{Group}
+use Rattle.count_promise.specs.Left.{first_defeat}
+use Rattle.count_promise.specs.Lots.{chosen_among, is_by_lot, is_in}
 use Rattle.sheet_reader.specs.Values.{SheetList}
-use Rattle.sheet_reader.specs.LineList.{lines_in}
 use Rattle.sheet_words.specs.Lines.{at_end, sentences_of}
 use Rattle.sheet_words.specs.Sentences.{outcome, sentences_at_end}
 use Rattle.sheet_minutes.specs.declared.entry.Entry.{Entry}
@@ -21,7 +23,8 @@ use Rattle.sheet_page.specs.Told.{end_list, item, outcome_list, result_part, res
 use Rattle.sheet_page.specs.Trees.{at, each, el, isolated, words}
 use Rattle.sheet_page.proofs.Tested.{tested, Tested, sound, tested_all, tested_each, tested_el, tested_if}
 use Rattle.sheet_page.specs.Values.{all_places, name_at}
-use Rattle.sheet_page.specs.Promised.{promise_head, promise_item, promise_list, promise_part, told_promise}
+use Rattle.sheet_page.specs.Promised.{bound_or_none, chosen, lot_at, lot_if, lot_items, lot_verb, lots_in, no_lot_item, other, other_at}
+use Rattle.sheet_page.specs.Promised.{promise_head, promise_list, promise_part, told_promise}
 use Rattle.sheet_page.specs.RoundEnds.{settled_at}
 use Rattle.sheet_page.specs.Stretches.{is_of_round}
 use Rattle.sheet_page.specs.Bars.{bars_of, has_bar, rest_count, rest_votes}
@@ -188,15 +191,37 @@ result_tested v =
         tested_el (codes "ul") [] (each item sentences ∷ []) refl refl refl (items_tested sentences, tt)
 
 promise_tested : (places : ℕ) (v : SheetList) → tested (promise_part places v) ≡ true
-promise_tested places v = tested_if (nat_eq places 9) (told_promise (promise_text v)) (part (promise_text v))
+promise_tested places v =
+    tested_if (nat_eq places 9) (told_promise places v)
+    (tested_el (codes "section") [] (promise_head ∷ promise_list places v ∷ []) refl refl refl (refl, (list, tt)))
   where
-    list : (text : List ℕ) → tested (promise_list text) ≡ true
-    list text =
-        tested_el (codes "ul") [] (each promise_item (lines_in text) ∷ []) refl refl refl
-        (tested_each promise_item (lines_in text) (λ line. refl), tt)
+    others : (row : Row) (p : ℕ) (group : Group) → tested (each (other_at v row group p) (all_places (length row.states))) ≡ true
+    others row p group =
+        tested_each (other_at v row group p) (all_places (length row.states))
+        (λ q. tested_if (is_in row group q && not (nat_eq q p)) (other (name_at v q) (q + 1)) refl)
 
-    part : (text : List ℕ) → tested (told_promise text) ≡ true
-    part text = tested_el (codes "section") [] (promise_head ∷ promise_list text ∷ []) refl refl refl (refl, (list text, tt))
+    lot : (row : Row) (p : ℕ) (among : Option Group) → tested (lot_if v row p among) ≡ true
+    lot row p None = refl
+    lot row p (Some group) =
+        tested_el (codes "li") [] (
+        chosen (name_at v p) (p + 1) row.round row.iteration (lot_verb group)
+        ∷ each (other_at v row group p) (all_places (length row.states)) ∷ words (codes ".") ∷ []
+        ) refl refl refl (refl, (others row p group, (refl, tt)))
+
+    lots : (b : Bool) → tested (if b then each (lots_in v) v.rows else no_lot_item) ≡ true
+    lots true =
+        tested_each (lots_in v) v.rows
+        (λ row. tested_each (lot_at v row) (all_places (length row.states)) (λ p. lot row p (chosen_among row p)))
+    lots false = refl
+
+    bound : (great : Option Row) → tested (bound_or_none places v great) ≡ true
+    bound None = refl
+    bound (Some row) = refl
+
+    list : tested (promise_list places v) ≡ true
+    list =
+        tested_el (codes "ul") [] (lot_items v ∷ bound_or_none places v (first_defeat (scale places) v.rows) ∷ []) refl refl refl
+        (lots (list_any is_by_lot v.rows), (bound (first_defeat (scale places) v.rows), tt))
 
 parts_tested : (names : PartNames) (places : ℕ) (v : SheetList) (full : ℕ) → tested (round_parts names places v full) ≡ true
 parts_tested names places v full =

@@ -1,5 +1,5 @@
 -- What is owed for a sheet, and what is refused.
-use Rattle.std.proofs.Common.{◌≡◌, ◌∙◌, ℕ, ◌+◌, ◌<◌, ◌≤◌, List, [], ◌∷◌, length, refl, sym, subst, inl, inr, arith}
+use Rattle.std.proofs.Common.{◌≡◌, ◌∙◌, ℕ, ◌+◌, ◌≤◌, List, [], ◌∷◌, length, refl, sym, subst, inl, inr, arith}
 use Rattle.std.specs.Prelude.{Option, Result, Ok, Err, codes}
 use Rattle.std.proofs.lemmas.Bool.{cases_lt}
 use Rattle.piece_text.specs.Writing.{Writes}
@@ -35,19 +35,6 @@ pub values_owed :
     → FinishesOwed (IsOwedFor shows format input no_history) end sink
 values_owed places format input v end sink short at finishes =
     inr (Done, shown_as places format v, (short, (places, v, at, refl)), finishes)
-
-pub promised_owed :
-    (places : ℕ) (format : Format) (input : List ℕ) (v : SheetList) (end : End SheetFault) (sink : Writing) → length input ≤ SHEET_LIMIT
-    → IsSheetAt input places v → FinishesOwed (λ due bytes. (due ≡ Done) × (bytes ≡ shown_as places format v)) end sink
-    → FinishesOwed (IsOwedFor shows format input no_history) end sink
-promised_owed places format input v end sink short at (inl nothing) = inl nothing
-promised_owed places format input v end sink short at (inr (due, bytes, (done, text), finishes)) =
-    inr (
-      due,
-      bytes,
-      subst (λ (e : End SheetFault). IsOwedFor shows format input no_history e bytes) (sym done) (short, (places, v, at, text)),
-      finishes,
-    )
 
 -- ---- the places of an input
 

@@ -67,7 +67,7 @@ bars_counted places v full row =
 counts : (places : ℕ) (v : SheetList) → map bar_count (pictures_of places v) ≡ flat_map (λ row. bars (length v.names) row ∷ []) (ends_of v)
 counts places v =
     in_page places bar_count (codes "svg" ∷ []) v (λ row. bars (length v.names) row ∷ [])
-    (λ full i. ap (λ (k : ℕ). k ∷ []) (bars_counted places v full (settled_at v i))) (λ text. refl)
+    (λ full i. ap (λ (k : ℕ). k ∷ []) (bars_counted places v full (settled_at v i))) refl
 
 abbrev IsSmall : ℕ → Type 0
 IsSmall k = k ≤ 24

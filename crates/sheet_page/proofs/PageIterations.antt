@@ -60,7 +60,7 @@ module _ (places : ℕ)
 
   pub all_iterations : map h (along (below (codes "details" ∷ codes "dl" ∷ [])) (page places v)) ≡ map g v.rows
   all_iterations =
-      in_page_at places h (codes "details" ∷ codes "dl" ∷ []) v (of_round v.rows said) (λ full last. here last) (λ text. refl)
+      in_page_at places h (codes "details" ∷ codes "dl" ∷ []) v (of_round v.rows said) (λ full last. here last) refl
       ∙ all_rounds v.rows said
       ∙ row_by_row
     where

@@ -56,7 +56,7 @@ pub picture_labels : (places : ℕ) (v : SheetList) →
     ≡ flat_map (λ row. map (label_text places v row) (filter (has_bar row) (all_places (length v.names)))) (ends_of v)
 picture_labels places v =
     in_page places text_in (codes "svg" ∷ codes "text" ∷ []) v
-    (λ row. map (label_text places v row) (filter (has_bar row) (all_places (length v.names)))) here (λ text. refl)
+    (λ row. map (label_text places v row) (filter (has_bar row) (all_places (length v.names)))) here refl
   where
     here : (full i : ℕ) →
         map text_in ((along (codes "text" ∷ []) (followed (each (bar_at places v full (settled_at v i)) (all_places (length v.names)))
@@ -90,7 +90,7 @@ pub amount_texts : (places : ℕ) (v : SheetList) →
 amount_texts places v =
     in_all places text_in (codes "p" ∷ []) v (λ row. amounts_line places v row ∷ []) (λ full i. here i)
     ∙ ap (λ l. l ++ flat_map (λ row. amounts_line places v row ∷ []) (ends_of v))
-    (in_promise places text_in (codes "p" ∷ []) v (λ text. promise_said) (λ text. refl))
+    (in_promise places text_in (codes "p" ∷ []) v promise_said refl)
     ∙ ap (λ l. at_nine places promise_said ++ l) (flat_map_single (amounts_line places v) (ends_of v))
   where
     here : (i : ℕ) →

@@ -110,7 +110,7 @@ table_lines places h v =
     let path = codes "div" ∷ codes "table" ∷ codes "tbody" ∷ codes "tr" ∷ [] in
     let lines = each (candidate_row Alone places v) (all_places (length v.names)) in
     let them = along (codes "tr" ∷ []) (followed (quota_row Alone places v) (followed (left_row Alone places v) (followed lines Nothing))) in
-    in_page places h path v no_part (λ full i. refl) (λ text. refl)
+    in_page places h path v no_part (λ full i. refl) refl
     ∙ ap (λ l. in_parts places h path v (rounds_part Alone places v) ++ l) (no_parts (ends_of v))
     ∙ append-nil (in_parts places h path v (rounds_part Alone places v))
     ∙ ap (map h) (append-nil (((them ++ []) ++ []) ++ []) ∙ append-nil ((them ++ []) ++ []) ∙ append-nil (them ++ [])
@@ -170,7 +170,7 @@ table_columns places v =
     let path = codes "div" ∷ codes "table" ∷ codes "thead" ∷ codes "tr" ∷ codes "th" ∷ [] in
     let heads = followed (cells Alone places v Round) Nothing in
     let them = along (codes "th" ∷ []) (followed first_head heads) in
-    in_page places text_in path v no_part (λ full i. refl) (λ text. refl)
+    in_page places text_in path v no_part (λ full i. refl) refl
     ∙ ap (λ l. in_parts places text_in path v (rounds_part Alone places v) ++ l) (no_parts (ends_of v))
     ∙ append-nil (in_parts places text_in path v (rounds_part Alone places v))
     ∙ ap (map text_in) (append-nil ((((them ++ []) ++ []) ++ []) ++ []) ∙ append-nil (((them ++ []) ++ []) ++ [])

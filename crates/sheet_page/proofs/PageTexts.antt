@@ -8,7 +8,6 @@ use Rattle.std.proofs.lemmas.List.Concat.{flat_map_single}
 use Rattle.lot_order.specs.Flags.{mark_at}
 use Rattle.meek_rule.specs.Row.{Row}
 use Rattle.page_tree.specs.Trees.{Trees, Nothing, followed}
-use Rattle.count_promise.specs.Lines.{promise_text}
 use Rattle.sheet_reader.specs.Values.{SheetList}
 use Rattle.sheet_minutes.specs.Rounds.{ends_round, row_at}
 use Rattle.sheet_page.specs.declared.part_names.PartNames.TheVariants.{Alone}
@@ -85,25 +84,24 @@ module _ (places : ℕ) {X : Type 0} (h : Trees → X) (path : List (List ℕ)) 
 
   -- the part of the promise, where it has one thing, and where it has none
   pub in_promise :
-      (said : List ℕ → X) → ((text : List ℕ) → in_parts (told_promise text) ≡ said text ∷ [])
-      → in_parts (promise_part places v) ≡ at_nine places (said (promise_text v))
+      (said : X) → in_parts (told_promise places v) ≡ said ∷ [] → in_parts (promise_part places v) ≡ at_nine places said
   in_promise said told = by (nat_eq places 9)
     where
-      by : (b : Bool) → in_parts (if b then told_promise (promise_text v) else Nothing) ≡ (if b then said (promise_text v) ∷ [] else [])
-      by true = told (promise_text v)
+      by : (b : Bool) → in_parts (if b then told_promise places v else Nothing) ≡ (if b then said ∷ [] else [])
+      by true = told
       by false = refl
 
-  no_promise : ((text : List ℕ) → in_parts (told_promise text) ≡ []) → in_parts (promise_part places v) ≡ []
+  no_promise : in_parts (told_promise places v) ≡ [] → in_parts (promise_part places v) ≡ []
   no_promise told = by (nat_eq places 9)
     where
-      by : (b : Bool) → in_parts (if b then told_promise (promise_text v) else Nothing) ≡ []
-      by true = told (promise_text v)
+      by : (b : Bool) → in_parts (if b then told_promise places v else Nothing) ≡ []
+      by true = told
       by false = refl
 
   -- a page in whose part of the promise the path leads to nothing
   pub in_page_at :
       (g : ℕ → List X) → ((full i : ℕ) → in_parts (round_part Alone places v full i) ≡ g i)
-      → ((text : List ℕ) → in_parts (told_promise text) ≡ [])
+      → in_parts (told_promise places v) ≡ []
       → map h (along (below path) (page places v))
       ≡ in_parts (elected_part v) ++ (in_parts (result_part v)
       ++ (in_parts (rounds_part Alone places v) ++ flat_map (λ i. if ends_round v.rows i then g i else []) (all_places (length v.rows))))
@@ -114,7 +112,7 @@ module _ (places : ℕ) {X : Type 0} (h : Trees → X) (path : List (List ℕ)) 
 
   pub in_page :
       (g : Row → List X) → ((full i : ℕ) → in_parts (round_part Alone places v full i) ≡ g (settled_at v i))
-      → ((text : List ℕ) → in_parts (told_promise text) ≡ [])
+      → in_parts (told_promise places v) ≡ []
       → map h (along (below path) (page places v))
       ≡ in_parts (elected_part v) ++ (in_parts (result_part v) ++ (in_parts (rounds_part Alone places v) ++ flat_map g (ends_of v)))
   in_page g is none =
@@ -171,7 +169,7 @@ elected_items places v =
     let list = followed rows (followed seats Nothing) in
     let marks = flat_map (marked_lines v) v.rows in
     let left = map (seated_line v) (filter (is_seated v) (all_places (length v.names))) in
-    in_page places text_in (codes "ol" ∷ codes "li" ∷ []) v no_part (λ full i. refl) (λ text. refl)
+    in_page places text_in (codes "ol" ∷ codes "li" ∷ []) v no_part (λ full i. refl) refl
     ∙ ap (λ l. in_parts places text_in (codes "ol" ∷ codes "li" ∷ []) v (elected_part v) ++ l) (no_parts (ends_of v))
     ∙ append-nil (in_parts places text_in (codes "ol" ∷ codes "li" ∷ []) v (elected_part v))
     ∙ ap (map text_in) (append-nil (along (codes "li" ∷ []) list ++ []) ∙ append-nil (along (codes "li" ∷ []) list))
@@ -221,7 +219,7 @@ round_links places v =
     either true = refl
     either false = refl
 
-    no_link : (b : Bool) → found text_in (codes "nav") (codes "ul" ∷ codes "li" ∷ []) (if b then told_promise (promise_text v) else Nothing) ≡ []
+    no_link : (b : Bool) → found text_in (codes "nav") (codes "ul" ∷ codes "li" ∷ []) (if b then told_promise places v else Nothing) ≡ []
     no_link true = refl
     no_link false = refl
 
@@ -242,7 +240,7 @@ round_titles places v =
     in_all places text_in (codes "h2" ∷ []) v (λ row. (codes "Round " ++ decimal row.round) ∷ [])
     (λ full i. ap (λ l. (codes "Round " ++ l) ∷ []) (append-nil (decimal (row_at v.rows i).round)))
     ∙ ap (λ l. codes "Elected" ∷ codes "Result" ∷ (l ++ codes "Votes at the end of each round" ∷ of_rounds))
-    (in_promise places text_in (codes "h2" ∷ []) v (λ text. title) (λ text. refl))
+    (in_promise places text_in (codes "h2" ∷ []) v title refl)
     ∙ ap (λ l. codes "Elected" ∷ codes "Result" ∷ (at_nine places title ++ codes "Votes at the end of each round" ∷ l))
     (flat_map_single (λ (row : Row). codes "Round " ++ decimal row.round) (ends_of v))
 
@@ -251,7 +249,7 @@ pub folded_titles : (places : ℕ) (v : SheetList) →
     ≡ map (λ row. codes "Iterations of round " ++ decimal row.round) (ends_of v)
 folded_titles places v =
     in_page places text_in (codes "details" ∷ codes "summary" ∷ []) v
-    (λ row. (codes "Iterations of round " ++ decimal row.round) ∷ []) (λ full i. here i) (λ text. refl)
+    (λ row. (codes "Iterations of round " ++ decimal row.round) ∷ []) (λ full i. here i) refl
     ∙ flat_map_single (λ (row : Row). codes "Iterations of round " ++ decimal row.round) (ends_of v)
   where
     either : (b : Bool) → (if b then [] else []) ≡ no_part {X = Bool} {Y = List ℕ} b

@@ -108,9 +108,9 @@ amounts_line places v row =
     ∷ text_of places (left_over places v.ballots row) ∷ codes "." ∷ rest_line places row ∷ []
     )
 
--- where the lines of a promise are explained
+-- where the sentences of a promise are explained
 abbrev pub promise_said : List ℕ
-promise_said = codes "Anybody can work out these lines from the sheet: docs/FORMATS.md says how, under What one count promises."
+promise_said = codes "Anybody can work this out from the sheet: docs/FORMATS.md says how, under What one count promises."
 
 -- A page has a part with a title for each round, with a label for each candidate who has a bar and its iterations within the part; and the
 -- table has a column for each round below its number, and a line for the quota, for what is on no candidate, and for each

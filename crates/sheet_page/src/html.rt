@@ -1,10 +1,8 @@
 // A sheet as a page.
-ghost use Rattle.std.specs.Prelude.{◌≡◌};
 ghost use Rattle.page_tree.specs.Print.{printed};
 ghost use Rattle.piece_text.specs.Writing.{Writes};
 ghost use Rattle.sheet_reader.specs.Form.{IsPrintable};
 ghost use Rattle.sheet_page.specs.Html.{body, content, head, heading, html_of, page, sheet_parts, style_part, window_title};
-ghost use Rattle.sheet_page.specs.Promised.{promised_text};
 ghost use Rattle.sheet_page.specs.Prints.{Prints};
 
 use crate::PartNames;
@@ -23,31 +21,24 @@ use byte_edge::{Failed, Sink};
 use page_tree::Attribute;
 use sheet_reader::SheetValuesAt;
 
-/// Writes the values of a sheet as a page, with what the count promises.
+/// Writes the values of a sheet as a page.
 pub(crate) fn write_html<const P: usize, K: Sink>(
     values: &SheetValuesAt<P>,
-    promised: &[u8],
     sink: &mut K,
 ) -> Result<(), Failed>
     requires printable { IsPrintable P values.now }
-    requires promised { promised.now ≡ promised_text P values.now }
     ensures { Writes K.written K.faults sink.old sink.new (html_of P values.now) result }
 {
     let mut pen = Pen::new(sink);
     pen.piece(&Piece::Raw(b"<!DOCTYPE html>"));
-    write_page(&mut pen, values, promised);
+    write_page(&mut pen, values);
     pen.piece(&Piece::Raw(b"\n"));
     pen.end()
 }
 
 /// All behind the line that says that it is HTML.
-fn write_page<const P: usize, K: Sink>(
-    pen: &mut Pen<'_, P, K>,
-    values: &SheetValuesAt<P>,
-    promised: &[u8],
-)
+fn write_page<const P: usize, K: Sink>(pen: &mut Pen<'_, P, K>, values: &SheetValuesAt<P>)
     requires printable { IsPrintable P values.now }
-    requires promised { promised.now ≡ promised_text P values.now }
     ensures { Prints K.Sink pen.old pen.new (printed (page P values.now)) }
 {
     pen.start(
@@ -58,7 +49,7 @@ fn write_page<const P: usize, K: Sink>(
         }],
     );
     write_head(pen, values);
-    write_body(pen, values, promised);
+    write_body(pen, values);
     pen.close(b"html");
 }
 
@@ -115,51 +106,39 @@ pub fn write_style<const P: usize, K: Sink>(pen: &mut Pen<'_, P, K>)
 }
 
 /// What is seen of the page.
-fn write_body<const P: usize, K: Sink>(
-    pen: &mut Pen<'_, P, K>,
-    values: &SheetValuesAt<P>,
-    promised: &[u8],
-)
+fn write_body<const P: usize, K: Sink>(pen: &mut Pen<'_, P, K>, values: &SheetValuesAt<P>)
     requires printable { IsPrintable P values.now }
-    requires promised { promised.now ≡ promised_text P values.now }
     ensures { Prints K.Sink pen.old pen.new (printed (body P values.now)) }
 {
     pen.open(b"body");
-    write_content(pen, values, promised);
+    write_content(pen, values);
     pen.close(b"body");
 }
 
 /// What a page is for.
-fn write_content<const P: usize, K: Sink>(
-    pen: &mut Pen<'_, P, K>,
-    values: &SheetValuesAt<P>,
-    promised: &[u8],
-)
+fn write_content<const P: usize, K: Sink>(pen: &mut Pen<'_, P, K>, values: &SheetValuesAt<P>)
     requires printable { IsPrintable P values.now }
-    requires promised { promised.now ≡ promised_text P values.now }
     ensures { Prints K.Sink pen.old pen.new (printed (content P values.now)) }
 {
     pen.open(b"main");
-    write_sheet_parts(pen, PartNames::Alone, values, promised);
+    write_sheet_parts(pen, PartNames::Alone, values);
     pen.close(b"main");
 }
 
-/// Writes all that a page shows of a sheet, with what the count promises.
+/// Writes all that a page shows of a sheet.
 pub fn write_sheet_parts<const P: usize, K: Sink>(
     pen: &mut Pen<'_, P, K>,
     names: PartNames,
     values: &SheetValuesAt<P>,
-    promised: &[u8],
 )
     requires printable { IsPrintable P values.now }
-    requires promised { promised.now ≡ promised_text P values.now }
     ensures { Prints K.Sink pen.old pen.new (printed (sheet_parts names P values.now)) }
 {
     write_heading(pen, values);
     write_links(pen, names, values);
     write_elected(pen, values);
     write_result(pen, values);
-    write_promise(pen, promised);
+    write_promise(pen, values);
     write_rounds(pen, names, values);
     write_round_parts(pen, names, values, sheet_full(values));
 }

@@ -9,17 +9,15 @@ ghost use Rattle.sheet_reader.specs.Form.{HasForm, IsPrintable};
 ghost use Rattle.sheet_reader.specs.Values.{SheetList};
 ghost use Rattle.sheet_page.specs.Inputs.{HasNoneAbove};
 ghost use Rattle.sheet_page.specs.Owed.{shown_as, shows};
-ghost use Rattle.sheet_page.specs.Promised.{promised_text};
 
 use crate::Format;
 use crate::csv::{write_csv, write_marked_csv};
 use crate::html::write_html;
 use crate::json::write_json;
 use byte_edge::{Failed, Sink};
-use count_promise::promise_of;
 use sheet_input::SheetFault;
 use sheet_minutes::write_minutes;
-use sheet_reader::{SheetStop, SheetValues, SheetValuesAt, read_sheet};
+use sheet_reader::{SheetStop, SheetValuesAt, read_sheet};
 use std::alloc::Global;
 use tool_edge::{End, close, refuse};
 
@@ -43,31 +41,8 @@ pub fn show_sheet<K: Sink>(
             })*
         };
     }
-    if let Some(end) = show_at_nine(alloc, format, input, sink) {
-        return end;
-    }
-    show_at!(8 7 6);
+    show_at!(9 8 7 6);
     refuse(sink, SheetFault::Malformed)
-}
-
-/// Shows an input at nine places, with what the count promises. Where it is no sheet at these, nothing is done.
-fn show_at_nine<K: Sink>(
-    alloc: Global,
-    format: Format,
-    input: &[u8],
-    sink: &mut K,
-) -> Option<End<SheetFault>>
-    requires { length input.now ≤ SHEET_LIMIT }
-    ensures shown { IfSome result (λ end. FinishesOwed (IsOwedFor shows format input.now no_history) end
-        (writing K.written K.faults sink.old sink.new)) }
-    ensures none { IfNone result ((v : SheetList) → ¬ HasForm 9 input.now v) }
-    ensures untouched { IfNone result (sink.new ≡ sink.old) }
-{
-    match read_sheet::<9>(alloc, input) {
-        Ok(values) => Some(show_promised(alloc, format, &values, sink)),
-        Err(SheetStop::Malformed) => None,
-        Err(SheetStop::NoMemory) => Some(End::NoMemory),
-    }
 }
 
 /// Shows an input at `P` places, where it is a sheet at no more of them. Where it is none at these either, nothing is done.
@@ -77,7 +52,7 @@ fn show_at<const P: usize, K: Sink>(
     input: &[u8],
     sink: &mut K,
 ) -> Option<End<SheetFault>>
-    requires places { (6 ≤ P) × (P ≤ 8) }
+    requires places { (6 ≤ P) × (P ≤ 9) }
     requires greatest { HasNoneAbove P input.now }
     requires short { length input.now ≤ SHEET_LIMIT }
     ensures shown { IfSome result (λ end. FinishesOwed (IsOwedFor shows format input.now no_history) end
@@ -86,26 +61,9 @@ fn show_at<const P: usize, K: Sink>(
     ensures untouched { IfNone result (sink.new ≡ sink.old) }
 {
     match read_sheet::<P>(alloc, input) {
-        Ok(values) => Some(show_values(format, &values, b"", sink)),
+        Ok(values) => Some(show_values(format, &values, sink)),
         Err(SheetStop::Malformed) => None,
         Err(SheetStop::NoMemory) => Some(End::NoMemory),
-    }
-}
-
-/// Shows the values of a sheet of nine places, with what the count promises.
-fn show_promised<K: Sink>(
-    alloc: Global,
-    format: Format,
-    values: &SheetValues,
-    sink: &mut K,
-) -> End<SheetFault>
-    requires { IsPrintable 9 values.now }
-    ensures { FinishesOwed (λ due bytes. (due ≡ End.Done) × (bytes ≡ shown_as 9 format values.now)) result
-        (writing K.written K.faults sink.old sink.new) }
-{
-    match promise_of(alloc, values) {
-        Ok(promised) => show_values(format, values, promised.bytes(), sink),
-        Err(_) => End::NoMemory,
     }
 }
 
@@ -113,16 +71,14 @@ fn show_promised<K: Sink>(
 fn show_values<const P: usize, K: Sink>(
     format: Format,
     values: &SheetValuesAt<P>,
-    promised: &[u8],
     sink: &mut K,
 ) -> End<SheetFault>
     requires places { (6 ≤ P) × (P ≤ 9) }
     requires printable { IsPrintable P values.now }
-    requires promised { promised.now ≡ promised_text P values.now }
     ensures { Finishes End.Done (shown_as P format values.now) result
         (writing K.written K.faults sink.old sink.new) }
 {
-    let wrote = write_values(format, values, promised, sink);
+    let wrote = write_values(format, values, sink);
     close(sink, wrote)
 }
 
@@ -130,16 +86,14 @@ fn show_values<const P: usize, K: Sink>(
 fn write_values<const P: usize, K: Sink>(
     format: Format,
     values: &SheetValuesAt<P>,
-    promised: &[u8],
     sink: &mut K,
 ) -> Result<(), Failed>
     requires places { (6 ≤ P) × (P ≤ 9) }
     requires printable { IsPrintable P values.now }
-    requires promised { promised.now ≡ promised_text P values.now }
     ensures { Writes K.written K.faults sink.old sink.new (shown_as P format values.now) result }
 {
     match format {
-        Format::Html => write_html(values, promised, sink),
+        Format::Html => write_html(values, sink),
         Format::Csv => write_csv(values, sink),
         Format::MarkedCsv => write_marked_csv(values, sink),
         Format::Json => write_json(values, sink),

@@ -3,4 +3,4 @@ use Rattle.count_promise.specs.Lots.{elects}
 use Rattle.count_promise.proofs.lots.some_elected_has.Given as goal
 
 abbrev pub invariant-loop-p : goal.invariant-loop-p
-invariant-loop-p l = (q : ℕ) → q < l.p → elects l.fn.row l.vote q ≡ false
+invariant-loop-p g l = (q : ℕ) → q < l.p → elects l.fn.row l.vote q ≡ false

@@ -5,18 +5,18 @@ use Rattle.count_promise.proofs.Places.{any_here, any_nowhere, none_more}
 use Rattle.count_promise.proofs.lots.some_left_out_has.Goals as goal
 
 pub loop-p-preserved : goal.loop-p-preserved
-loop-p-preserved c =
+loop-p-preserved g c =
     none_more (leaves_out c.args.row.now c.args.vote) c.loop-p.p c.loop-p.invariant
     (sym c.leaves_out.ensures ∙ c.if-leaves_out.false)
 
 pub returns-then-leaves_out : goal.returns-then-leaves_out
-returns-then-leaves_out c =
+returns-then-leaves_out g c =
     let size = ap (λ (row : Row). length row.states) c.row.view_is in
     let is = sym c.leaves_out.ensures ∙ c.if-leaves_out.true in
     sym (any_here (leaves_out c.args.row.now c.args.vote) (length c.args.row.now.states) c.loop-p.p (omega (arith, size)) is)
 
 pub returns : goal.returns
-returns c =
+returns g c =
     let size = ap (λ (row : Row). length row.states) c.row.view_is in
     sym (any_nowhere (leaves_out c.args.row.now c.args.vote) (length c.args.row.now.states)
     (λ q below. c.loop-p.invariant q (omega (arith, size))))

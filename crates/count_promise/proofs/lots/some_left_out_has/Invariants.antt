@@ -3,4 +3,4 @@ use Rattle.count_promise.specs.Lots.{leaves_out}
 use Rattle.count_promise.proofs.lots.some_left_out_has.Given as goal
 
 abbrev pub invariant-loop-p : goal.invariant-loop-p
-invariant-loop-p l = (q : ℕ) → q < l.p → leaves_out l.fn.row l.vote q ≡ false
+invariant-loop-p g l = (q : ℕ) → q < l.p → leaves_out l.fn.row l.vote q ≡ false

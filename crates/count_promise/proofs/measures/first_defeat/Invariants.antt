@@ -4,4 +4,4 @@ use Rattle.count_promise.specs.Left.{is_defeat_of}
 use Rattle.count_promise.proofs.measures.first_defeat.Given as goal
 
 abbrev pub invariant-loop-row : goal.invariant-loop-row
-invariant-loop-row l = find (is_defeat_of l.least) (take l.row-index l.fn.rows) ≡ None
+invariant-loop-row g l = find (is_defeat_of l.least) (take l.row-index l.fn.rows) ≡ None

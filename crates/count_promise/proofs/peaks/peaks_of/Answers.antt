@@ -6,7 +6,7 @@ use Rattle.count_promise.proofs.Items.{greatest_more}
 use Rattle.count_promise.proofs.peaks.peaks_of.Goals as goal
 
 pub loop-row-preserved : goal.loop-row-preserved
-loop-row-preserved c =
+loop-row-preserved g c =
     let rows = c.args.rows.now in
     let i = c.loop-row.row-index in
     let row = c.row-item.result in

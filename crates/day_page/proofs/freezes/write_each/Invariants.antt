@@ -5,7 +5,7 @@ use Rattle.day_page.specs.Freezes.{freeze_part}
 use Rattle.sheet_page.specs.Prints.{Prints}
 use Rattle.day_page.proofs.freezes.write_each.Given as goal
 
-abbrev pub invariant-loop-i : goal.invariant-loop-i
-invariant-loop-i g l =
+abbrev pub invariant-loop-sheet : goal.invariant-loop-sheet
+invariant-loop-sheet g l =
     Prints g.K.Sink l.initial.pen l.pen
-    (flat_map (λ s. printed (freeze_part g.row.P l.calls s)) (take l.i l.sheets))
+    (flat_map (λ s. printed (freeze_part g.row.P l.calls s)) (take l.sheet-index l.sheets))

@@ -6,6 +6,9 @@ use Rattle.sheet_page.specs.Owed.{shows}
 use Rattle.day_page.proofs.Owing.{no_day, none_above_less, none_above_nine, sheet_owed}
 use Rattle.day_page.proofs.tool.show.Goals as goal
 
+pub show_at-requires-clause-greatest : goal.show_at-requires-clause-greatest
+show_at-requires-clause-greatest g c = none_above_nine c.args.input.now
+
 pub returns : goal.returns
 returns g c =
     let input = c.args.input.now in

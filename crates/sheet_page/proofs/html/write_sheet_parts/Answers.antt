@@ -7,7 +7,6 @@ use Rattle.sheet_page.specs.Promised.{promise_part}
 use Rattle.sheet_page.specs.Told.{result_part}
 use Rattle.sheet_page.specs.Picture.{full_of}
 use Rattle.sheet_page.proofs.Printing.{one_by_one, printed-each}
-use Rattle.sheet_page.proofs.Promises.{same_part}
 use Rattle.sheet_page.proofs.Pens.{later, renamed}
 use Rattle.sheet_page.proofs.html.write_sheet_parts.Goals as goal
 
@@ -21,5 +20,4 @@ returns g c =
     ∷ rounds_part names g.row.P v ∷ [])
     (round_parts names g.row.P v (full_of v.rows)))
     (later c.write_heading.ensures (later c.write_links.ensures (later c.write_elected.ensures (later c.write_result.ensures
-    (later (renamed (ap printed (same_part g.row.P v c.args.promised.now c.requires.promised)) c.write_promise.ensures)
-    (later c.write_rounds.ensures (renamed rounds c.write_round_parts.ensures)))))))
+    (later c.write_promise.ensures (later c.write_rounds.ensures (renamed rounds c.write_round_parts.ensures)))))))

@@ -1,6 +1,3 @@
-use Rattle.count_promise.specs.Lines.{promise_text}
-use Rattle.sheet_reader.specs.LineList.{lines_in}
-use Rattle.sheet_page.specs.PageLaws.{at_nine}
 use Rattle.sheet_page.proofs.LeftSeats.{seated_are}
 use Rattle.sheet_page.proofs.PageIterations.{iteration_candidates, iteration_heads, left_out}
 use Rattle.sheet_page.proofs.PageLabels.{amount_texts, picture_labels}
@@ -8,7 +5,6 @@ use Rattle.sheet_page.proofs.PageRounds.{rounds_whole}
 use Rattle.sheet_page.proofs.PageSentences.{page_items}
 use Rattle.sheet_page.proofs.PageTable.{table_cells, table_columns, table_heads}
 use Rattle.sheet_page.proofs.PageTexts.{elected_items, round_links, round_titles, folded_titles}
-use Rattle.sheet_page.proofs.PromiseLines.{promise_said}
 use Rattle.sheet_page.proofs.laws.pages_say_their_sheets.Goals as goal
 
 pub returns-clause-elected : goal.returns-clause-elected
@@ -33,7 +29,4 @@ returns-clause-iterations c places v =
 
 pub returns-clause-decisions : goal.returns-clause-decisions
 returns-clause-decisions c places v =
-    record {
-      items = (at_nine places (lines_in (promise_text v)), promise_said places v, page_items places v);
-      whole = rounds_whole v.rows;
-    }
+    record { items = page_items places v; whole = rounds_whole v.rows }

@@ -7,5 +7,5 @@ use Rattle.sheet_page.proofs.promised.write_told.Goals as goal
 
 pub returns : goal.returns
 returns g c =
-    renamed (wrapped (codes "section") [] (promise_head ∷ promise_list c.args.promised.now ∷ []))
+    renamed (wrapped (codes "section") [] (promise_head ∷ promise_list g.row.P c.args.values.now ∷ []))
     (later c.open.ensures (later c.write_head.ensures (later c.write_list.ensures c.close.ensures)))

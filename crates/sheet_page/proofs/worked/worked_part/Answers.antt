@@ -8,4 +8,4 @@ use Rattle.sheet_page.proofs.worked.worked_part.Goals as goal
 
 pub returns : goal.returns
 unfolding text_of last_digits digits encode_utf8 escaped pieces_from
-returns c = record { nine = refl; eight = refl }
+returns c = record { nine = refl; eight = refl; of_two = refl; of_three = refl; seat = refl; none = refl }
