@@ -12,6 +12,8 @@ mod rolls;
 #[cfg(test)]
 mod same;
 #[cfg(test)]
+mod samples;
+#[cfg(test)]
 mod streams;
 #[cfg(test)]
 mod strikes;

@@ -1,7 +1,7 @@
 // How many lines packed ballots are: equal ones are found in a few looks.
 use crate::same::same;
+use crate::samples::{Line, ballots_of, packed_of, take};
 use packed_ballots::PackedBallots;
-use sample_ballots::{Line, ballots_of, packed_of, take};
 use std::alloc::Global;
 use std::test::Fail;
 

@@ -2,7 +2,6 @@
 use crate::same::same;
 use meek_trial::make_day;
 use meek_words::{Command, read_words};
-use sample_runs::words_of;
 use sheet_input::SheetFault;
 use std::test::Fail;
 use tool_edge::Fault;
@@ -19,9 +18,11 @@ fn a_sheet_that_is_too_long_is_told_with_the_limit(rt: HostRuntime) {
 
 #[test]
 fn a_day_has_eight_shards_and_four_workers(rt: HostRuntime) -> Result<(), Fail> {
-    let words = words_of(rt.alloc(), "day")?;
+    let alloc = rt.alloc();
+    let mut words = Vec::new(alloc);
+    words.push("day".to_string(alloc)?)?;
     let is_so = matches!(
-        read_words(rt.alloc(), &words),
+        read_words(alloc, &words),
         Ok(Command::Day {
             shards: 8,
             workers: 4,

@@ -1,5 +1,5 @@
 use Rattle.std.proofs.Common.{◌≡◌}
-use Rattle.sample_ballots.proofs.lines.ballots_of.Given as goal
+use Rattle.ballot_tests.proofs.samples.ballots_of.Given as goal
 
 abbrev pub invariant-loop-line : goal.invariant-loop-line
 invariant-loop-line l = l.ballots.candidates ≡ l.candidates
