@@ -1,6 +1,6 @@
 -- What the code finds of a head and of the cells of a row.
 use Rattle.std.specs.Prelude.{◌≡◌, ◌≤◌, ◌+◌, if◌then◌else◌, length, map, ◌++◌, ◌∷◌, ℕ, List, [], sum_by}
-use Rattle.std.specs.Prelude.{Option, Some, None, ⊤}
+use Rattle.std.specs.Prelude.{Option, Some, None, Result, Ok, Err, ⊤}
 use Rattle.std.specs.Option.{option_or, unwrap_or}
 use Rattle.plain_ballots.specs.declared.limits.TheConstants.{MOST_CANDIDATES}
 use Rattle.ballot_marks.specs.declared.says.Says.{Says}
@@ -14,8 +14,8 @@ use Rattle.ballot_table.specs.declared.layout.Layout.TheVariants as layout
 use Rattle.ballot_table.specs.declared.row_cells.RowCells.{RowCells}
 use Rattle.ballot_table.specs.declared.table_kind.TableKind.{TableKind}
 use Rattle.ballot_table.specs.Asked.{Asked}
-use Rattle.ballot_table.specs.Cells.{Cell, Nothing, Counts, Ranked, Said, Listed}
-use Rattle.ballot_table.specs.Faults.{sound}
+use Rattle.ballot_table.specs.Cells.{Cell, Nothing, Counts, Ranked, Said, Listed, cell_of, fault_one}
+use Rattle.ballot_table.specs.Faults.{sound, sound_one}
 use Rattle.ballot_table.specs.Head.{columns, names_of, unlabelled}
 use Rattle.ballot_table.specs.Held.{IsHolding, says_held}
 use Rattle.ballot_table.specs.Rows.{cells_of, ranks_of, says_of, ballots_in, weight_at}
@@ -88,6 +88,18 @@ IsTaken (Some (Said says)) old new =
     (new.count ≡ old.count) × (new.holders ≡ old.holders) × SaysMore (says ∷ []) old.said new.said
 IsTaken (Some (Listed says)) old new =
     (new.count ≡ old.count) × (new.holders ≡ old.holders) × SaysMore says old.said new.said
+
+-- a cell without a fault is taken in
+pub record IsCellTaken (asked : Asked) (room : ℕ) (column : Column) (text : List ℕ) (old new : RowCells) : Type 0 where
+  pub sound : fault_one (cell_of asked room column text) ≡ None
+  pub taken : IsTaken (sound_one (cell_of asked room column text)) old new
+  pub candidates : new.holders.candidates ≡ old.holders.candidates + candidates_at column
+
+-- It is taken in, or not for its fault; or memory is wanted.
+abbrev pub TakesCell :
+    Asked → ℕ → Column → List ℕ → (old : RowCells) → Result (Unit {0}) CellStop → (new : RowCells) → Type 0
+TakesCell asked room column text old (Ok done) new = IsCellTaken asked room column text old new
+TakesCell asked room column text old (Err stop) new = IsCellStop (fault_one (cell_of asked room column text)) stop
 
 -- the cells of a row say this: the number of its ballots, who has each rank, and what each rank says
 pub record AreTaken (asked : Asked) (room : ℕ) (columns : List Column) (texts : List (List ℕ)) (cells : RowCells)

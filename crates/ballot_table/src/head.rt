@@ -273,20 +273,20 @@ fn head_names(alloc: Global, asked: &TableAsked, texts: &[Text]) -> Result<Names
     let mut names = Names::new(alloc);
     for text in texts {
         if !asked.is_label(text.bytes()) {
-            let name = name(alloc, asked.name_of(text.bytes()))?;
-            if names.push(name).is_err() {
-                return Err(NoMemory);
-            }
+            push_name(alloc, &mut names, asked.name_of(text.bytes()))?;
         }
     }
     Ok(names)
 }
 
-fn name(alloc: Global, bytes: &[u8]) -> Result<Name<200>, NoMemory>
-    ensures { IfOk result (λ name. name ≡ bytes.now) }
+fn push_name(alloc: Global, names: &mut Names, bytes: &[u8]) -> Result<(), NoMemory>
+    ensures { OnOk result (names.new ≡ names.old ++ bytes.now ∷ []) }
 {
-    match Name::try_new(alloc, bytes) {
-        Ok(name) => Ok(name),
+    match Name::<200>::try_new(alloc, bytes) {
+        Ok(name) => match names.push(name) {
+            Ok(()) => Ok(()),
+            Err(_) => Err(NoMemory),
+        },
         Err(_) => Err(NoMemory),
     }
 }

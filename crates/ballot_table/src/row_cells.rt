@@ -2,9 +2,9 @@
 ghost use Rattle.std.specs.Prelude.{◌≡◌, ◌+◌, ◌≤◌, [], None, length, map, sum_by, OnOk, IfErr};
 ghost use Rattle.plain_ballots.specs.declared.limits.TheConstants.{MOST_BALLOTS, MOST_CANDIDATES};
 ghost use Rattle.ballot_table.specs.Asked.{asked_of};
-ghost use Rattle.ballot_table.specs.Cells.{cell_of, counted, all_of, fault_one, says_in};
+ghost use Rattle.ballot_table.specs.Cells.{counted, all_of, fault_one, says_in};
 ghost use Rattle.ballot_table.specs.Faults.{first_fault, sound_one};
-ghost use Rattle.ballot_table.specs.Finding.{candidates_at, AreTaken, IsCellStop, IsSaidBy, IsTaken, SaysAll};
+ghost use Rattle.ballot_table.specs.Finding.{candidates_at, AreTaken, IsCellStop, IsSaidBy, SaysAll, TakesCell};
 ghost use Rattle.ballot_table.specs.Held.{IsHolding};
 ghost use Rattle.ballot_table.specs.JudgedRows.{IsRowStop};
 ghost use Rattle.ballot_table.specs.Rows.{cells_of};
@@ -112,10 +112,7 @@ impl RowCells {
         requires names { length asked.now.candidates ≤ MOST_CANDIDATES }
         requires room { room ≤ MOST_BALLOTS }
         requires few { self.old.holders.candidates + candidates_at column ≤ MOST_CANDIDATES }
-        ensures stop { IfErr result (IsCellStop (fault_one (cell_of (asked_of asked.now) room column text.now))) }
-        ensures sound { OnOk result (fault_one (cell_of (asked_of asked.now) room column text.now) ≡ None) }
-        ensures taken { OnOk result (IsTaken (sound_one (cell_of (asked_of asked.now) room column text.now)) self.old self.new) }
-        ensures candidates { OnOk result (self.new.holders.candidates ≡ self.old.holders.candidates + candidates_at column) }
+        ensures { TakesCell (asked_of asked.now) room column text.now self.old result self.new }
     {
         match column {
             Column::PassedOver => Ok(()),

@@ -1,4 +1,5 @@
 use Rattle.std.proofs.Common.{List, ℕ, refl, sym, subst}
+use Rattle.std.proofs.lemmas.List.{get_or-replicate}
 use Rattle.ballot_table.specs.Asked.{asked_of}
 use Rattle.ballot_table.specs.PlainRows.{IsPlainRow}
 use Rattle.ballot_table.proofs.PlainRows.{is_plain_row}
@@ -26,3 +27,6 @@ returns c =
     (is_plain_row (asked_of c.args.asked.now) plain c.args.columns.now c.args.sheet.now.texts c.cells.result.now
     c.place_each.new.placed c.in-Some.ranked are c.cells.ensures c.in-Some.ensures c.if-ranked-ge-RANKS.false
     c.requires.texts some)
+
+pub place_each-requires : goal.place_each-requires
+place_each-requires c = λ k d inside. get_or-replicate 100 k 0 d inside

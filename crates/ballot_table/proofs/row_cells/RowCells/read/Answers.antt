@@ -25,7 +25,7 @@ returns-in-Err-Fault-clause-stop c =
     let column = get_or columns at Weight in
     let text = c.text.result.now in
     let kind = c.in-Err-Fault.kind in
-    let stop = rw c.in-Err-Fault.field-0-is at c.in-Err-Fault.ensures.stop in
+    let stop = rw c.in-Err-Fault.field-0-is at c.in-Err-Fault.ensures in
     let is = is_faulty (cell_of asked c.args.room column text) kind
     (sym stop) in
     let here = text_here texts at text (omega arith) (c.text.ensures ∙ c.in_ok-field.ensures) in
