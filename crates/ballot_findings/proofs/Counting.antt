@@ -3,6 +3,7 @@ use Rattle.std.proofs.Common.{◌≡◌, ◌∙◌, ℕ, zero, suc, ◌+◌, ◌
 use Rattle.std.proofs.Common.{ap, arith, refl, sym, append-nil, length, replicate}
 use Rattle.std.specs.Prelude.{◌||◌}
 use Rattle.std.specs.List.{list_any, sum_by}
+use Rattle.std.proofs.lemmas.Grind.{common_steps}
 use Rattle.std.proofs.lemmas.List.Folds.{list_any-append}
 use Rattle.std.proofs.lemmas.List.Sums.{sum_by_push}
 use Rattle.plain_ballots.specs.declared.ballot_line.BallotLine.{BallotLine}
@@ -10,6 +11,7 @@ use Rattle.plain_ballots.specs.Ballots.{ballot_count, plain}
 use Rattle.plain_ballots.proofs.PlainLemmas.{plain-append, sum_by-plain}
 use Rattle.candidate_roll.specs.Roll.{is_listed}
 use Rattle.ballot_findings.specs.Counts.{how_many, is_ranked, rank_count}
+use Rattle.ballot_findings.specs.Tally.{IsTally, TallyList}
 
 -- a sum over the single ballots of one line more
 plain_more :
@@ -60,3 +62,26 @@ ranked_more before line c some =
     ∙ (list_any-append test (plain before) (plain (line ∷ []))
     ∙ ap (λ (b : Bool). list_any test (plain before) || b)
     (ap (list_any test) (append-nil (replicate line.count line.ranking)) ∙ any_of_equal test line.count line.ranking some))
+
+-- what no lines come to
+abbrev pub no_tally : (candidates : ℕ) → TallyList
+no_tally candidates = record {
+  firsts = replicate candidates 0;
+  ranked = replicate candidates false;
+  ballots = 0;
+  empty = 0;
+  ranks = 0;
+  of_withdrawn = 0;
+}
+
+pub nothing_tallied : (candidates : ℕ) (withdrawn : List Bool) → IsTally candidates withdrawn [] (no_tally candidates)
+nothing_tallied candidates withdrawn = record {
+  ballots = refl;
+  empty = refl;
+  ranks = refl;
+  of_withdrawn = refl;
+  firsts = λ c from below. grind (arith, common_steps);
+  ranked = λ c from below. grind (arith, common_steps);
+  all_firsts = grind (arith, common_steps);
+  all_ranked = grind (arith, common_steps);
+}

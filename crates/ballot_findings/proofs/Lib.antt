@@ -5,6 +5,7 @@ mod Repeats
 mod LineItems
 mod Texts
 mod Told
+mod Plainly
 mod NameLaws
 mod CountLaws
 mod PlaceLaws

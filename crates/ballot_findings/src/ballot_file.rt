@@ -42,12 +42,6 @@ impl<'a> BallotFile<'a> {
         Ok(BallotFile { input, roll, names })
     }
 
-    pub(crate) fn input(&self) -> &[u8]
-        ensures { result.now ≡ self.now.input }
-    {
-        self.input
-    }
-
     pub(crate) fn roll(&self) -> &Roll
         ensures { result.now ≡ self.now.roll }
     {

@@ -80,13 +80,9 @@ pub(crate) fn push_firsts(text: &mut Text, roll: &Roll, tally: &Tally) -> Result
 fn push_first(text: &mut Text, c: u32, ballots: u64, name: &[u8]) -> Result<(), NoMemory>
     ensures { OnOk result (text.new ≡ text.old ++ first_line c ballots name.now) }
 {
-    text.push(b"first ")?;
-    text.push_count(u64::from(c))?;
-    text.push(b" ")?;
-    text.push_count(ballots)?;
-    text.push(b" ")?;
-    text.push(name)?;
-    text.push(b"\n")
+    text.push(b"first")?;
+    text.push_numbers(&[u64::from(c), ballots])?;
+    text.push_text_line(b" ", name)
 }
 
 /// The line of how many candidates a ballot ranks in the mean.

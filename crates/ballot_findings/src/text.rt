@@ -90,7 +90,7 @@ impl Text {
     }
 
     /// Appends numbers, each behind a space.
-    fn push_numbers(&mut self, numbers: &[u64]) -> Result<(), NoMemory>
+    pub(crate) fn push_numbers(&mut self, numbers: &[u64]) -> Result<(), NoMemory>
         ensures { OnOk result (self.new ≡ self.old ++ numbers_text numbers.now) }
     {
         for n in numbers {

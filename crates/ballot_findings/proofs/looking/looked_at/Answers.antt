@@ -1,11 +1,12 @@
-use Rattle.std.proofs.Common.{◌≡◌, ◌∙◌, ℕ, ◌<◌, Bool, cond, List, [], length, take, get_or, ap, arith, subst, sym}
-use Rattle.std.specs.List.{list_any}
+use Rattle.std.proofs.Common.{◌≡◌, ◌∙◌, ℕ, ◌<◌, Bool, cond, List, [], length, take, get_or, ap, arith, refl, subst, sym}
+use Rattle.std.specs.List.{count_by, list_any, range_with_len}
 use Rattle.std.specs.Str.{bytes_eq}
-use Rattle.std.proofs.lemmas.List.{length-map}
+use Rattle.std.proofs.lemmas.List.{length-map, take_all}
 use Rattle.plain_ballots.specs.declared.ballot_line.BallotLine.{BallotLine}
 use Rattle.plain_ballots.specs.Ballots.{IsSound}
-use Rattle.ballot_findings.specs.Counts.{is_repeat, rankings}
+use Rattle.ballot_findings.specs.Counts.{is_repeat, rankings, repeats}
 use Rattle.ballot_findings.specs.Tally.{IsTally}
+use Rattle.ballot_findings.proofs.Counting.{no_tally, nothing_tallied}
 use Rattle.ballot_findings.proofs.Each.{count_more}
 use Rattle.ballot_findings.proofs.LineItems.{counted_at, lines_more, ranking_at, room_at, said_at}
 use Rattle.ballot_findings.proofs.Repeats.{said_more}
@@ -39,6 +40,17 @@ add-requires-clause-room c =
     let room = room_at n lines c.loop-line.line-index c.line-item.result sound c.loop-line-test.true c.line-item.is in
     omega (arith, room, c.loop-line.invariant.tally.ballots)
 
+pub loop-line-init : goal.loop-line-init
+loop-line-init c = record {
+  tally =
+      subst (IsTally (length c.args.roll.now.names) c.args.roll.now.withdrawn [])
+      (ap (λ (n : ℕ). no_tally n) (sym c.candidates.ensures.value) ∙ sym c.in_ok-tally.ensures)
+      (nothing_tallied (length c.args.roll.now.names) c.args.roll.now.withdrawn);
+  repeats = refl;
+  few = omega arith;
+  said = c.new-said.ensures;
+}
+
 pub loop-line-preserved : goal.loop-line-preserved
 loop-line-preserved c =
     let lines = c.lines-lines.result.now in
@@ -67,3 +79,20 @@ loop-line-preserved c =
           let none : counted (is_repeat said i) ≡ 0 = ap counted (sym again ∙ w.if-branch.false) in
           record { tally = tally; repeats = omega (arith, more, none); few = omega arith; said = all }
     ]
+
+pub returns : goal.returns
+returns c =
+    let lines = c.lines-lines.result.now in
+    let inv = c.loop-line.invariant in
+    let done : c.loop-line.line-index ≡ length lines = omega (arith, c.loop-line-test.false, c.loop-line.auto.line-index-end) in
+    let whole = take_all c.loop-line.line-index lines c.loop-line-test.false in
+    let same = c.lines-lines.ensures.lines in
+    record {
+      lines_are = ap (λ (ls : List BallotLine). length ls) same;
+      repeats_are =
+          inv.repeats ∙ ap (λ (n : ℕ). count_by (is_repeat (rankings lines)) (range_with_len 0 n)) done ∙ ap repeats same;
+      tally =
+          subst (λ (ls : List BallotLine). IsTally (length c.args.roll.now.names) c.args.roll.now.withdrawn ls
+          c.loop-line.tally)
+          (whole ∙ same) inv.tally;
+    }
