@@ -4,7 +4,7 @@ ghost use Rattle.plain_ballots.specs.declared.limits.TheConstants.{MOST_CANDIDAT
 ghost use Rattle.meek_rule.specs.Row.{HasRoomFor};
 ghost use Rattle.piece_text.specs.Writing.{Writes};
 ghost use Rattle.sheet_words.specs.Manner.{said};
-ghost use Rattle.sheet_words.specs.Sentences.{arrival, arrived, at_quota, choice, chosen, election, reason, seated, seats_for_them};
+ghost use Rattle.sheet_words.specs.Sentences.{arrival, at_quota, choice, election, reason, seats_for_them};
 
 use crate::Voice;
 use crate::group::Group;
@@ -27,17 +27,6 @@ pub(crate) fn say_election<const P: usize, V: Voice, K: Sink>(
     ensures { Writes K.written K.faults sink.old sink.new (said V.manner (election P values.now row.now)) result }
 {
     say_listing(voice, values, row, Group::Elected, sink)?;
-    say_seated(voice, row, sink)
-}
-
-fn say_seated<const P: usize, V: Voice, K: Sink>(
-    voice: &V,
-    row: &Row<P>,
-    sink: &mut K,
-) -> Result<(), Failed>
-    requires { HasRoomFor (length row.now.states) row.now }
-    ensures { Writes K.written K.faults sink.old sink.new (said V.manner (seated P row.now)) result }
-{
     let winners = members(row, Group::Elected);
     let seated = for_one_or_more(b" and is elected.", b" and are elected.", winners);
     say_quota(voice, winners, row.quota, seated, sink)
@@ -54,17 +43,6 @@ pub(crate) fn say_arrival<const P: usize, V: Voice, K: Sink>(
     ensures { Writes K.written K.faults sink.old sink.new (said V.manner (arrival P values.now row.now)) result }
 {
     say_listing(voice, values, row, Group::Reached, sink)?;
-    say_arrived(voice, row, sink)
-}
-
-fn say_arrived<const P: usize, V: Voice, K: Sink>(
-    voice: &V,
-    row: &Row<P>,
-    sink: &mut K,
-) -> Result<(), Failed>
-    requires { HasRoomFor (length row.now.states) row.now }
-    ensures { Writes K.written K.faults sink.old sink.new (said V.manner (arrived P row.now)) result }
-{
     say_quota(voice, members(row, Group::Reached), row.quota, b".", sink)
 }
 
@@ -104,7 +82,16 @@ pub(crate) fn say_choice<const P: usize, V: Voice, K: Sink>(
 {
     say_seats(voice, values, row, sink)?;
     say_listing(voice, values, row, Group::Elected, sink)?;
-    say_chosen(voice, row, sink)
+    let seated = for_one_or_more(
+        b" is elected",
+        b" are elected",
+        members(row, Group::Elected),
+    );
+    say_parts(
+        voice,
+        &[Part::Words(seated), Part::Words(reason(row))],
+        sink,
+    )
 }
 
 /// Says how many seats are left before an iteration.
@@ -125,26 +112,6 @@ fn say_seats<const P: usize, V: Voice, K: Sink>(
             Part::Number(left as u64),
             Part::Words(b". "),
         ],
-        sink,
-    )
-}
-
-fn say_chosen<const P: usize, V: Voice, K: Sink>(
-    voice: &V,
-    row: &Row<P>,
-    sink: &mut K,
-) -> Result<(), Failed>
-    requires { HasRoomFor (length row.now.states) row.now }
-    ensures { Writes K.written K.faults sink.old sink.new (said V.manner (chosen row.now)) result }
-{
-    let seated = for_one_or_more(
-        b" is elected",
-        b" are elected",
-        members(row, Group::Elected),
-    );
-    say_parts(
-        voice,
-        &[Part::Words(seated), Part::Words(reason(row))],
         sink,
     )
 }

@@ -6,7 +6,7 @@ ghost use Rattle.meek_rule.specs.Row.{HasRoomFor};
 ghost use Rattle.piece_text.specs.Writing.{Writes};
 ghost use Rattle.sheet_words.specs.Lines.{numbered, numbers};
 ghost use Rattle.sheet_words.specs.Manner.{said, told};
-ghost use Rattle.sheet_words.specs.Sentences.{IsNamed, IsNumber, cap, defeat, held, lot, sentence, tie, with_fewest, within_surplus};
+ghost use Rattle.sheet_words.specs.Sentences.{IsNamed, IsNumber, cap, defeat, lot, sentence, tie};
 
 use crate::Voice;
 use crate::decision::Decision;
@@ -96,17 +96,6 @@ fn say_cap<const P: usize, V: Voice, K: Sink>(
     ensures { Writes K.written K.faults sink.old sink.new (said V.manner (cap P values.now row.now)) result }
 {
     say_listing(voice, values, row, Group::Capped, sink)?;
-    say_held(voice, row, sink)
-}
-
-fn say_held<const P: usize, V: Voice, K: Sink>(
-    voice: &V,
-    row: &Row<P>,
-    sink: &mut K,
-) -> Result<(), Failed>
-    requires { HasRoomFor (length row.now.states) row.now }
-    ensures { Writes K.written K.faults sink.old sink.new (said V.manner (held row.now)) result }
-{
     let held = for_one_or_more(
         b" has its keep value capped at one whole vote.",
         b" have their keep values capped at one whole vote.",
@@ -128,19 +117,6 @@ fn say_defeat<const P: usize, V: Voice, K: Sink>(
     ensures { Writes K.written K.faults sink.old sink.new (said V.manner (defeat P values.now row.now c)) result }
 {
     say_called(voice, values, c as usize - 1, sink)?;
-    say_fewest(voice, row, c, sink)
-}
-
-fn say_fewest<const P: usize, V: Voice, K: Sink>(
-    voice: &V,
-    row: &Row<P>,
-    c: u32,
-    sink: &mut K,
-) -> Result<(), Failed>
-    requires room { HasRoomFor (length row.now.states) row.now }
-    requires named { IsNumber (length row.now.states) c }
-    ensures { Writes K.written K.faults sink.old sink.new (said V.manner (with_fewest P row.now c)) result }
-{
     let votes = votes_text(*row.votes.get(c as usize - 1));
     say_parts(
         voice,
@@ -164,16 +140,6 @@ fn say_tie<const P: usize, V: Voice, K: Sink>(
     ensures { Writes K.written K.faults sink.old sink.new (said V.manner (tie P values.now row.now)) result }
 {
     say_listing(voice, values, row, Group::Tied, sink)?;
-    say_within_surplus(voice, row, sink)
-}
-
-fn say_within_surplus<const P: usize, V: Voice, K: Sink>(
-    voice: &V,
-    row: &Row<P>,
-    sink: &mut K,
-) -> Result<(), Failed>
-    ensures { Writes K.written K.faults sink.old sink.new (said V.manner (within_surplus P row.now)) result }
-{
     let surplus = votes_text(row.surplus);
     say_parts(
         voice,
