@@ -8,7 +8,7 @@ use Rattle.tally_board.specs.declared.entry.Entry.{Entry}
 use Rattle.tally_board.specs.declared.board_view.BoardView.{BoardView}
 use Rattle.tally_board.specs.Moves.{CanMove, IsStory, totals_after}
 use Rattle.tally_board.specs.Rule.{IsNoted, Keeps, Looks, candidates_of, shown}
-use Rattle.tally_board.specs.Desk.{AreNoted, IsScribe, steps}
+use Rattle.tally_board.specs.Desk.{AreNoted, IsNewDesk, IsScribe, steps}
 use Rattle.tally_board.specs.Told.{Told, front}
 use Rattle.tally_board.proofs.MoveLemmas.{story_more}
 use Rattle.tally_board.proofs.RuleLemmas.{absorbed, looks, newest, newest_noted, noted_more, steps_push}
@@ -64,6 +64,34 @@ begins_on seat v b next es none bare unnoted took =
     ([], moves ∙ sym (append-nil (shown b)))
     (subst (λ (ms : List Move). ∥ IsStory (candidates_of next) ms ∥₁) (sym (moves ∙ bare)) ∣ tt ∣₁)
     (ap (λ t. t.moves) note ∙ (unnoted ∙ ap front (sym (moves ∙ bare))))
+
+-- and its scribe is that of a new board
+pub begun :
+    (n : ℕ) (all : Told) (v w : BoardView) (b next : Board) (es left : List Entry) → es ≡ [] → left ≡ [] → shown b ≡ []
+    → candidates_of b ≡ n → b.before ≡ all → all.moves ≡ [] → Took b next es → Looks v b next w
+    → IsNewDesk all n w next left
+begun n all v w b next es left none nothing bare counted noted fresh took saw =
+    let same : taken next ≡ taken b =
+    took
+    ∙ ap (λ xs. fold (λ (s : ℕ × (List Move × Told)) (e : Entry). (s.0, (s.1.0 ++ e.step ∷ [], e.before)))
+    (taken b) xs) none in
+    let moves : shown next ≡ [] = ap (λ (t : ℕ × (List Move × Told)). t.1.0) same ∙ bare in
+    let note : next.before ≡ all = ap (λ (t : ℕ × (List Move × Told)). t.1.1) same ∙ noted in
+    let nil : shown next ++ steps left ≡ shown next = ap (λ xs. shown next ++ steps xs) nothing ∙ append-nil (shown next) in
+    record {
+      scribe = record {
+        candidates = ap (λ u. u.candidates) saw.0;
+        home = ap (λ u. u.home) saw.0;
+        board = ap (λ t. t.board) note;
+        noted = saw.3;
+        entries_noted = subst (λ (xs : List Entry). AreNoted all.board (shown next) xs) (sym nothing) tt;
+        moves = fresh ∙ sym (nil ∙ moves);
+        story = subst (λ (ms : List Move). ∥ IsStory (candidates_of next) ms ∥₁) (sym nil) saw.2;
+      };
+      counted = ap (λ (t : ℕ × (List Move × Told)). t.0) same ∙ counted;
+      bare = moves;
+      none = nothing;
+    }
 
 module _ (v : BoardView) (b next : Board) (es : List Entry) (all : Told) (is : IsScribe v b es all)
     (took : Took b next es) where

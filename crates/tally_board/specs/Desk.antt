@@ -44,3 +44,10 @@ pub record IsScribe (v : BoardView) (b : Board) (entries : List Entry) (all : To
 -- the scribe of a new board
 abbrev pub new_desk : BoardName → ℕ → Desk
 new_desk z candidates = record { board = z; candidates = candidates; published = []; pending = [] }
+
+-- the scribe of a new board knows what it shows, which is nothing yet
+pub record IsNewDesk (all : Told) (candidates : ℕ) (v : BoardView) (b : Board) (entries : List Entry) : Type 0 where
+  pub scribe : IsScribe v b entries all
+  pub counted : candidates_of b ≡ candidates
+  pub bare : shown b ≡ []
+  pub none : entries ≡ []

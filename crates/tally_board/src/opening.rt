@@ -1,7 +1,8 @@
 // How a board begins.
-ghost use Rattle.std.specs.Prelude.{◌≡◌, [], ◌++◌, ◌<◌, ◌≤◌, replicate, IfOk, IfErr, IfSome};
+ghost use Rattle.std.specs.Prelude.{◌≡◌, [], ◌++◌, ◌<◌, ◌≤◌, drop, replicate, IfOk, IfErr, IfSome};
+ghost use Rattle.left_right.specs.Sides.{view as known};
 ghost use Rattle.plain_ballots.specs.declared.limits.TheConstants.{MOST_CANDIDATES};
-ghost use Rattle.tally_board.specs.Desk.{new_desk};
+ghost use Rattle.tally_board.specs.Desk.{IsNewDesk, new_desk};
 ghost use Rattle.tally_board.specs.Sight.{new_sight};
 ghost use Rattle.tally_board.specs.declared.no_board.NoBoard.TheVariants.{NoPlace};
 
@@ -10,7 +11,7 @@ use crate::chronicle::Chronicle;
 use crate::rule::{Look, Name, Tell};
 use crate::scribe::Inner;
 use crate::story::Story;
-use crate::{NoBoard, NoMemory, Scribe, Watcher, Watchers};
+use crate::{NoBoard, NoMemory, Note, Scribe, Watcher, Watchers};
 use left_right::writer::Writer;
 use std::alloc::Global;
 use std::snapshot::Snapshot;
@@ -27,9 +28,30 @@ fn begin<R: Wait>(
     ensures { IfOk result (λ s. s ≡ new_desk s.board candidates) }
 {
     let chronicle = Chronicle::new();
-    let note = chronicle.note();
-    let first = Board::empty(alloc, candidates, &note)?;
-    let second = Board::empty(alloc, candidates, &note)?;
+    match open_writer(rt, alloc, candidates, places, &chronicle.note()) {
+        Ok(writer) => Ok(Scribe {
+            writer: Some(writer),
+            chronicle,
+        }),
+        Err(stop) => Err(stop),
+    }
+}
+
+/// The writer of a board without moves, which this note tells of.
+fn open_writer<R: Wait>(
+    rt: &R,
+    alloc: Global,
+    candidates: usize,
+    places: usize,
+    note: &Note,
+) -> Result<Inner, NoMemory>
+    requires places { (0 < places) × (places ≤ 16) }
+    requires fresh { note.now.moves ≡ [] }
+    ensures { IfOk result (λ w. IsNewDesk note.now candidates (known w.desk.place) w.desk.shown.value
+        (drop w.behind w.log.items)) }
+{
+    let first = Board::empty(alloc, candidates, note)?;
+    let second = Board::empty(alloc, candidates, note)?;
     let writer: Inner = match Writer::new(alloc, first, second, places) {
         Ok(writer) => writer,
         Err(_) => return Err(NoMemory),
@@ -38,10 +60,7 @@ fn begin<R: Wait>(
     if done.is_err() {
         unreachable!();
     }
-    Ok(Scribe {
-        writer: Some(writer),
-        chronicle,
-    })
+    Ok(writer)
 }
 
 /// A new watcher, where there is a place for it.
