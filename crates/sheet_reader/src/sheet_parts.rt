@@ -1,8 +1,8 @@
 // A sheet that is read part by part.
-ghost use Rattle.std.specs.Prelude.{◌≡◌, ◌≤◌, ◌∷◌, ◌++◌, List, All, codes, MatchResult};
+ghost use Rattle.std.specs.Prelude.{◌≡◌, ◌≤◌, ◌∷◌, ◌++◌, List, All, codes, length, MatchResult};
 ghost use Rattle.std.specs.List.{FoldsTo};
 ghost use Rattle.plain_ballots.specs.declared.limits.TheConstants.{MOST_CANDIDATES};
-ghost use Rattle.meek_rule.specs.Row.{Row as Iteration};
+ghost use Rattle.meek_rule.specs.Row.{Row as Iteration, HasRoomFor};
 ghost use Rattle.sheet_reader.specs.Form.{HasForm, IsPrintableRow};
 ghost use Rattle.sheet_reader.specs.Parts.{NoRows, rows_lines};
 ghost use Rattle.sheet_reader.specs.Refusal.{Stops};
@@ -77,15 +77,33 @@ fn read_rows<const P: usize, K: RowSink<P>>(
         × All (IsPrintableRow P candidates) rows × (lines.old ≡ rows_lines P rows ++ codes "result" ∷ lines.new))
         (λ stop. Stops stop (NoRows P candidates lines.old)) }
 {
-    let mut line = Line::new();
     let Ok(mut row) = Row::<P>::new(alloc, candidates) else {
         return Err(SheetStop::NoMemory);
     };
+    read_rows_into::<P, K>(alloc, lines, &mut row, sink)
+}
+
+/// Hands on all iterations up to the line of the result, each read into this row.
+fn read_rows_into<const P: usize, K: RowSink<P>>(
+    alloc: Global,
+    lines: &mut Lines<'_>,
+    row: &mut Row<P>,
+    sink: &mut K,
+) -> Result<(), SheetStop>
+    requires places { (6 ≤ P) × (P ≤ 9) }
+    requires room { HasRoomFor (length row.old.states) row.old }
+    requires few { length row.old.states ≤ MOST_CANDIDATES }
+    ensures { MatchResult result
+        (λ _. (rows : List Iteration) × FoldsTo K.takes sink.old rows sink.new
+        × All (IsPrintableRow P (length row.old.states)) rows × (lines.old ≡ rows_lines P rows ++ codes "result" ∷ lines.new))
+        (λ stop. Stops stop (NoRows P (length row.old.states) lines.old)) }
+{
+    let mut line = Line::new();
     while !lines.skips(b"result") {
-        if !read_row::<P>(lines, &mut line, &mut row) {
+        if !read_row::<P>(lines, &mut line, row) {
             return Err(SheetStop::Malformed);
         }
-        let Ok(()) = sink.take(alloc, &mut row) else {
+        let Ok(()) = sink.take(alloc, row) else {
             return Err(SheetStop::NoMemory);
         };
     }

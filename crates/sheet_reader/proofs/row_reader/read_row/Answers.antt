@@ -1,4 +1,4 @@
-use Rattle.std.proofs.Common.{ℕ, length, sym, ◌∙◌, ap, subst}
+use Rattle.std.proofs.Common.{arith, ℕ, length, sym, ◌∙◌, ap, subst}
 use Rattle.meek_rule.specs.Row.{Row}
 use Rattle.meek_count.specs.Ranges.{HasTiedFor}
 use Rattle.sheet_reader.proofs.LineParts.{heads, behind_places}
@@ -60,3 +60,19 @@ returns g c =
       surplus = amounts.2;
       tied = subst (λ (j : ℕ). HasTiedFor j c.in-Some-read_decision.step c.read_decision.new.tied) marked decision.0;
     }) c.read_standings.ensures.states numbers.2 standings.2 amounts.3 decision.1
+
+pub read_decision-requires : goal.read_decision-requires
+read_decision-requires g c =
+    let marked = ap (λ (r : Row). length r.tied) c.row.view_is ∙ c.requires.room.tied in
+    record {
+      few = omega (arith, marked, c.requires.few);
+      elected = ap (λ (r : Row). length r.elected) c.row.view_is ∙ c.requires.room.elected ∙ sym marked;
+      capped = ap (λ (r : Row). length r.capped) c.row.view_is ∙ c.requires.room.capped ∙ sym marked;
+    }
+
+pub read_standings-requires : goal.read_standings-requires
+read_standings-requires g c =
+    let all = ap (λ (r : Row). length r.states) c.row.view_is in
+    let keeps = ap (λ (r : Row). length r.keeps) c.row.view_is ∙ c.requires.room.keeps ∙ sym all in
+    let votes = ap (λ (r : Row). length r.votes) c.row.view_is ∙ c.requires.room.votes ∙ sym all in
+    (omega arith, (omega arith, (c.requires.places, (omega (arith, all, c.requires.few), (keeps, votes)))))
