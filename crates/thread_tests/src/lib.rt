@@ -11,6 +11,8 @@ mod flushes;
 #[cfg(test)]
 mod gates;
 #[cfg(test)]
+mod passes;
+#[cfg(test)]
 mod runs;
 #[cfg(test)]
 mod same;
