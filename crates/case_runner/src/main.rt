@@ -18,13 +18,15 @@ mod telling;
 mod text;
 mod tool;
 
-use crate::folder::{file_names, run_files};
+use crate::folder::{push_names, run_files};
 use std::process::ExitCode;
 
 fn main(rt: HostRuntime) -> ExitCode {
-    let Ok(names) = file_names(&rt) else {
+    let mut names = Vec::new(rt.alloc());
+    if push_names(&rt, &mut names).is_err() {
         return ExitCode::FAILURE;
-    };
+    }
+    names.sort_unstable();
     match run_files(&rt, names.as_slice()) {
         Ok(true) => ExitCode::SUCCESS,
         Ok(false) | Err(_) => ExitCode::FAILURE,
