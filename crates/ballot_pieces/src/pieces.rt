@@ -10,7 +10,7 @@ use blt_reader::{BltStop, LineBounds, LineReader, OneByOne, read_lines_on};
 use input_text::Tokens;
 use packed_ballots::{NoMemory, PackedBallots};
 use std::alloc::Global;
-use std::marker::PhantomData;
+use std::marker::{Model, PhantomData};
 use std::thread::Threads;
 
 /// Of fewer bytes than these for each worker one reader reads all: a thread takes about as long as reading
@@ -25,12 +25,22 @@ pub struct Pieces<R: Threads + Sync> {
     workers: u32,
 }
 
+impl<R: Threads + Sync> Model for Pieces<R> {
+    ghost use Rattle.std.specs.Prelude.{ℕ};
+
+    ghost Value = { ℕ };
+
+    ghost view = { λ p. p.workers };
+}
+
 impl<R: Threads + Sync> Threads for Pieces<R> {}
 
 impl<R: Threads + Sync> Pieces<R> {
     /// By so many workers; of fewer than two the caller's thread reads all. What is read is the same for every
-    /// number of them, as the contract of `read_lines` says, so this promises nothing.
-    pub fn new(rt: &R, workers: u32) -> Self {
+    /// number of them, as the contract of `read_lines` says.
+    pub fn new(rt: &R, workers: u32) -> Self
+        ensures { result ≡ workers }
+    {
         let _ = rt;
         Pieces {
             leave: PhantomData,

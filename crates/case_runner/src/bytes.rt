@@ -1,7 +1,7 @@
 // The lines of a case that stand for bytes.
 use crate::line::first_word;
 use crate::line_fault::LineFault;
-use crate::text::{Text, lines_between, text_named};
+use crate::text::{Text, text_named};
 
 /// How often a piece is repeated at most.
 const MOST_COPIES: usize = 100_000_000;
@@ -26,78 +26,109 @@ fn push_hex(bytes: &mut Vec<u8>, numbers: &str) -> Result<(), LineFault> {
     Ok(())
 }
 
-/// Adds so many copies of a piece.
-fn push_copies(bytes: &mut Vec<u8>, times: usize, piece: &[u8]) -> Result<(), LineFault> {
+/// Adds so many copies of a piece, each with its end.
+fn push_copies(
+    bytes: &mut Vec<u8>,
+    (times, piece): (usize, &str),
+    end: &[u8],
+) -> Result<(), LineFault> {
     for _ in 0..times {
-        bytes.extend_from_slice(piece)?;
+        bytes.extend_from_slice(piece.as_bytes())?;
+        bytes.extend_from_slice(end)?;
     }
     Ok(())
 }
 
-/// Adds a line with its line feed.
-fn push_line(bytes: &mut Vec<u8>, line: &str) -> Result<(), LineFault> {
-    bytes.extend_from_slice(line.as_bytes())?;
-    bytes.push(b'\n')?;
-    Ok(())
+/// Adds copies of a piece, each with its end: how many, and the piece.
+fn push_repeated(bytes: &mut Vec<u8>, rest: &str, end: &[u8]) -> Result<(), LineFault> {
+    push_copies(bytes, numbered(rest)?, end)
 }
 
-/// Adds so many copies of a line, each with its line feed.
-fn push_lines(bytes: &mut Vec<u8>, times: usize, line: &str) -> Result<(), LineFault> {
-    for _ in 0..times {
-        push_line(bytes, line)?;
-    }
-    Ok(())
-}
-
-/// The first bytes of a text: how many, and its name.
-fn front<'a>(texts: &'a [Text<'_>], rest: &str) -> Result<&'a [u8], LineFault> {
-    let (count, name) = numbered(rest)?;
-    text_named(texts, name)?
-        .get(..count)
-        .ok_or(LineFault::BadLine)
-}
-
-/// The numbers of the first and the last of some lines, or of the first alone.
-fn first_and_last(range: &str) -> Option<(usize, Option<usize>)> {
-    let (first, last) = range.split_once('-')?;
-    let first = first.parse::<usize>().ok()?;
-    match last {
-        "" => Some((first, None)),
-        last => Some((first, Some(last.parse::<usize>().ok()?))),
+/// Adds bytes.
+fn push_piece(bytes: &mut Vec<u8>, piece: Option<&[u8]>) -> Result<(), LineFault> {
+    match piece {
+        Some(piece) => Ok(bytes.extend_from_slice(piece)?),
+        None => Err(LineFault::BadLine),
     }
 }
 
-/// Lines of a text: from which to which, and its name.
-fn some_lines<'a>(texts: &'a [Text<'_>], rest: &str) -> Result<&'a [u8], LineFault> {
-    let (range, name) = first_word(rest);
-    let (first, last) = first_and_last(range).ok_or(LineFault::BadLine)?;
-    lines_between(text_named(texts, name)?, first, last).ok_or(LineFault::BadLine)
+/// The first bytes of a text, if it has so many.
+fn front<'a>(text: &'a [u8], count: &str) -> Option<&'a [u8]> {
+    match count.parse::<usize>() {
+        Ok(count) => text.get(..count),
+        Err(_) => None,
+    }
 }
 
-/// Adds what a line of this mark stands for.
-pub fn push_marked(
+/// How many bytes the first lines of a text have, if it has so many.
+fn end_of_lines(text: &[u8], lines: usize) -> Option<usize> {
+    let mut left = lines;
+    for (at, byte) in text.iter().enumerate() {
+        if left == 0 {
+            return Some(at);
+        }
+        if *byte == b'\n' {
+            left = left.saturating_sub(1);
+        }
+    }
+    if left == 0 { Some(text.len()) } else { None }
+}
+
+/// The bytes from one place to another, if there are any.
+fn between(text: &[u8], start: Option<usize>, end: Option<usize>) -> Option<&[u8]> {
+    match (start, end) {
+        (Some(start), Some(end)) if start < end => text.get(start..end),
+        _ => None,
+    }
+}
+
+/// The lines of a text from one to another, counted from 1, or to its end, as `3-7` or `3-`.
+fn lines_between<'a>(text: &'a [u8], range: &str) -> Option<&'a [u8]> {
+    let (first, last) = range.split_once('-').unwrap_or((range, "no end"));
+    let start = match first.parse::<usize>() {
+        Ok(first) if first > 0 => end_of_lines(text, first - 1),
+        _ => None,
+    };
+    let end = match last.parse::<usize>() {
+        Ok(last) => end_of_lines(text, last),
+        Err(_) if last.is_empty() => Some(text.len()),
+        Err(_) => None,
+    };
+    between(text, start, end)
+}
+
+/// Adds a part of a text: which, and its name.
+fn push_part(
     bytes: &mut Vec<u8>,
     texts: &[Text<'_>],
     mark: char,
     rest: &str,
 ) -> Result<(), LineFault> {
-    let piece = match mark {
-        '|' => return push_line(bytes, rest),
-        '=' => return push_hex(bytes, rest),
-        '*' => {
-            let (times, piece) = numbered(rest)?;
-            return push_copies(bytes, times, piece.as_bytes());
-        }
-        '+' => {
-            let (times, line) = numbered(rest)?;
-            return push_lines(bytes, times, line);
-        }
-        ':' => rest.as_bytes(),
-        '@' => text_named(texts, rest)?,
-        '^' => front(texts, rest)?,
-        '&' => some_lines(texts, rest)?,
-        _ => return Err(LineFault::BadLine),
+    let (part, name) = first_word(rest);
+    let text = text_named(texts, name)?;
+    let piece = if mark == '^' {
+        front(text, part)
+    } else {
+        lines_between(text, part)
     };
-    bytes.extend_from_slice(piece)?;
-    Ok(())
+    push_piece(bytes, piece)
+}
+
+/// Adds what a line of this mark stands for.
+pub(crate) fn push_marked(
+    bytes: &mut Vec<u8>,
+    texts: &[Text<'_>],
+    mark: char,
+    rest: &str,
+) -> Result<(), LineFault> {
+    match mark {
+        '|' => push_copies(bytes, (1, rest), b"\n"),
+        ':' => push_copies(bytes, (1, rest), b""),
+        '+' => push_repeated(bytes, rest, b"\n"),
+        '*' => push_repeated(bytes, rest, b""),
+        '=' => push_hex(bytes, rest),
+        '@' => push_piece(bytes, Some(text_named(texts, rest)?)),
+        '^' | '&' => push_part(bytes, texts, mark, rest),
+        _ => Err(LineFault::BadLine),
+    }
 }

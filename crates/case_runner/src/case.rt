@@ -5,41 +5,42 @@ use std::alloc::Global;
 
 /// One run of a tool over memory, and what it has to come to.
 #[derive(Drop)]
-pub struct Case<'a> {
+pub(crate) struct Case<'a> {
     /// What it is called, and the number of its first line in its file.
-    pub name: &'a str,
-    pub line: usize,
-    pub tool: Tool,
-    pub words: Vec<String>,
+    pub(crate) name: &'a str,
+    pub(crate) line: usize,
+    pub(crate) tool: Tool,
+    pub(crate) words: Vec<String>,
     /// How many bytes a read gives at most, and a write takes.
-    pub read: usize,
-    pub write: usize,
+    pub(crate) read: usize,
+    pub(crate) write: usize,
     /// How many bytes the sink takes in all.
-    pub room: usize,
+    pub(crate) room: usize,
     /// The numbers of the reads, and of the writes and flushes, that fail.
-    pub failing_reads: Vec<u64>,
-    pub failing_writes: Vec<u64>,
-    pub input: Vec<u8>,
-    pub output: Vec<u8>,
+    pub(crate) failing_reads: Vec<u64>,
+    pub(crate) failing_writes: Vec<u64>,
+    pub(crate) input: Vec<u8>,
+    pub(crate) output: Vec<u8>,
     /// The exit status, once it was read.
-    pub status: Option<u8>,
+    pub(crate) status: Option<u8>,
     /// How many calls the history of a day has, where the case says so.
-    pub calls: Option<usize>,
+    pub(crate) calls: Option<usize>,
     /// Whether the run is not to come to this, as in a case that tries the comparison.
-    pub differs: bool,
+    pub(crate) differs: bool,
 }
 
-/// A number of the case.
-fn number(text: &str) -> Result<usize, LineFault> {
-    text.parse::<usize>().map_err(|_| LineFault::BadLine)
-}
-
-/// A number above 0.
-fn size(text: &str) -> Result<usize, LineFault> {
-    match number(text)? {
-        0 => Err(LineFault::BadLine),
-        n => Ok(n),
+/// A number of the case, of at least so many.
+fn number(text: &str, least: usize) -> Result<usize, LineFault> {
+    match text.parse::<usize>() {
+        Ok(n) if n >= least => Ok(n),
+        _ => Err(LineFault::BadLine),
     }
+}
+
+/// Puts a number of at least so many in a place of the case.
+fn put(place: &mut usize, text: &str, least: usize) -> Result<(), LineFault> {
+    *place = number(text, least)?;
+    Ok(())
 }
 
 /// Adds the numbers with single spaces between them.
@@ -55,8 +56,7 @@ fn push_numbers(numbers: &mut Vec<u64>, text: &str) -> Result<(), LineFault> {
 
 /// Adds a word.
 fn push_word(alloc: Global, words: &mut Vec<String>, word: &str) -> Result<(), LineFault> {
-    let word = word.to_string(alloc)?;
-    words.push(word)?;
+    words.push(word.to_string(alloc)?)?;
     Ok(())
 }
 
@@ -68,9 +68,26 @@ fn push_words(alloc: Global, words: &mut Vec<String>, text: &str) -> Result<(), 
     Ok(())
 }
 
+/// Takes the status that a run has to end with, where none was said.
+fn put_status(status: &mut Option<u8>, text: &str) -> Result<(), LineFault> {
+    match (text.parse::<u8>(), *status) {
+        (Ok(said), None) => {
+            *status = Some(said);
+            Ok(())
+        }
+        _ => Err(LineFault::BadLine),
+    }
+}
+
+/// Takes how many calls the history of a day has.
+fn put_calls(calls: &mut Option<usize>, text: &str) -> Result<(), LineFault> {
+    *calls = Some(number(text, 0)?);
+    Ok(())
+}
+
 impl<'a> Case<'a> {
     /// A case of which only its first line was read.
-    pub fn begun(alloc: Global, name: &'a str, line: usize, tool: Tool) -> Case<'a> {
+    pub(crate) fn begun(alloc: Global, name: &'a str, line: usize, tool: Tool) -> Case<'a> {
         Case {
             name,
             line,
@@ -89,32 +106,23 @@ impl<'a> Case<'a> {
         }
     }
 
-    /// Takes the status that the run has to end with.
-    fn take_status(&mut self, text: &str) -> Result<(), LineFault> {
-        let Ok(status) = text.parse::<u8>() else {
-            return Err(LineFault::BadLine);
-        };
-        match self.status.replace(status) {
-            None => Ok(()),
-            Some(_) => Err(LineFault::BadLine),
-        }
-    }
-
     /// Takes a line, as its first word and the rest.
-    pub fn take(&mut self, alloc: Global, word: &str, rest: &str) -> Result<(), LineFault> {
+    pub(crate) fn take(&mut self, alloc: Global, word: &str, rest: &str) -> Result<(), LineFault> {
         match word {
-            "words" => return push_words(alloc, &mut self.words, rest),
-            "word" => return push_word(alloc, &mut self.words, rest),
-            "failing-reads" => return push_numbers(&mut self.failing_reads, rest),
-            "failing-writes" => return push_numbers(&mut self.failing_writes, rest),
-            "status" => return self.take_status(rest),
-            "read" => self.read = size(rest)?,
-            "write" => self.write = size(rest)?,
-            "room" => self.room = number(rest)?,
-            "calls" => self.calls = Some(number(rest)?),
-            "differs" => self.differs = true,
-            _ => return Err(LineFault::BadLine),
+            "words" => push_words(alloc, &mut self.words, rest),
+            "word" => push_word(alloc, &mut self.words, rest),
+            "failing-reads" => push_numbers(&mut self.failing_reads, rest),
+            "failing-writes" => push_numbers(&mut self.failing_writes, rest),
+            "status" => put_status(&mut self.status, rest),
+            "read" => put(&mut self.read, rest, 1),
+            "write" => put(&mut self.write, rest, 1),
+            "room" => put(&mut self.room, rest, 0),
+            "calls" => put_calls(&mut self.calls, rest),
+            "differs" => {
+                self.differs = true;
+                Ok(())
+            }
+            _ => Err(LineFault::BadLine),
         }
-        Ok(())
     }
 }

@@ -1,26 +1,30 @@
 // The files of cases in the folder.
 use crate::case::Case;
-use crate::line::lines_of;
+use crate::line::begins_part;
+use crate::line_fault::LineFault;
 use crate::reader::CaseReader;
 use crate::run::run;
-use crate::telling::tell;
+use crate::telling::{is_well, tell, tell_no_memory};
+use std::alloc::Global;
 use std::rt::Files;
 use std::sync::Wait;
 use std::thread::Threads;
 use std::{fs, io};
 
-/// The names of the files of cases, in order.
-pub fn file_names(rt: &HostRuntime) -> io::Result<Vec<String>> {
-    let mut names = Vec::new(rt.alloc());
-    for entry in fs::read_dir(rt, ".")? {
-        let entry = entry?;
-        let name = entry.file_name();
-        if name.ends_with(".cases") {
-            names.push(name.to_string(rt.alloc())?)?;
-        }
+/// Adds a name if it is that of a file of cases.
+fn push_name(alloc: Global, names: &mut Vec<String>, name: &str) -> io::Result<()> {
+    if name.ends_with(".cases") {
+        names.push(name.to_string(alloc)?)?;
     }
-    names.sort_unstable();
-    Ok(names)
+    Ok(())
+}
+
+/// Adds the names of the files of cases.
+pub(crate) fn push_names(rt: &HostRuntime, names: &mut Vec<String>) -> io::Result<()> {
+    for entry in fs::read_dir(rt, ".")? {
+        push_name(rt.alloc(), names, entry?.file_name())?;
+    }
+    Ok(())
 }
 
 /// How many cases were run, and how many of them differ or could not be read.
@@ -45,35 +49,42 @@ fn run_case<R: Print + AllocGlobal + Threads + Wait + Sync>(
     tally: &mut Tally,
 ) -> io::Result<()> {
     tally.cases = tally.cases.saturating_add(1);
-    let is_well = match run(rt, rt.alloc(), case) {
-        Ok(ran) => tell(rt, file, case, &ran)?,
-        Err(_) => {
-            let (name, line) = (case.name, case.line);
-            println!(rt; "{file} line {line}, {name}: no memory")?;
-            false
+    match &run(rt, rt.alloc(), case) {
+        Ok(ran) if is_well(case, ran) => Ok(()),
+        Ok(ran) => {
+            tally.count_different();
+            tell(rt, file, case, ran)
         }
-    };
-    if !is_well {
-        tally.count_different();
+        Err(_) => {
+            tally.count_different();
+            tell_no_memory(rt, file, case)
+        }
     }
-    Ok(())
+}
+/// Says that a line of a file can't be read, which counts as a case that differs.
+fn tell_fault(
+    rt: &impl Print,
+    file: &str,
+    line: usize,
+    fault: LineFault,
+    tally: &mut Tally,
+) -> io::Result<()> {
+    tally.count_different();
+    println!(rt; "{file} line {line}: {fault:?}")
 }
 
-/// Runs the case that begins with the line of this number, if one does; gives whether the file goes on.
-fn run_part<'a, R: Print + AllocGlobal + Threads + Wait + Sync>(
+/// Runs the case that ends here, if one does; gives whether the file goes on.
+fn end_part<R: Print + AllocGlobal + Threads + Wait + Sync>(
     rt: &R,
     file: &str,
-    reader: &mut CaseReader<'a>,
-    (number, line): (usize, &'a str),
-    rest: &[&'a str],
+    reader: &mut CaseReader<'_>,
     tally: &mut Tally,
 ) -> io::Result<bool> {
-    match reader.read(rt.alloc(), number, line, rest) {
-        Ok(Some(case)) => run_case(rt, file, &case, tally)?,
-        Ok(None) => {}
+    match reader.end_part(rt.alloc()) {
+        Ok(true) => run_case(rt, file, &reader.case, tally)?,
+        Ok(false) => {}
         Err(fault) => {
-            tally.count_different();
-            println!(rt; "{file} line {}: {fault:?}", reader.line())?;
+            tell_fault(rt, file, reader.line, fault, tally)?;
             return Ok(false);
         }
     }
@@ -85,18 +96,18 @@ fn run_lines<'a, R: Print + AllocGlobal + Threads + Wait + Sync>(
     rt: &R,
     file: &str,
     reader: &mut CaseReader<'a>,
-    lines: &[&'a str],
+    text: &'a str,
     tally: &mut Tally,
 ) -> io::Result<()> {
-    let mut rest = lines;
-    let mut number = 0usize;
-    for line in lines {
-        number = number.saturating_add(1);
-        rest = rest.get(1..).unwrap_or(&[]);
-        if !run_part(rt, file, reader, (number, line), rest, tally)? {
-            break;
+    for line in text.split('\n') {
+        if begins_part(line) && !end_part(rt, file, reader, tally)? {
+            return Ok(());
+        }
+        if let Err(fault) = reader.take(rt.alloc(), line) {
+            return tell_fault(rt, file, reader.line, fault, tally);
         }
     }
+    end_part(rt, file, reader, tally)?;
     Ok(())
 }
 
@@ -104,11 +115,11 @@ fn run_lines<'a, R: Print + AllocGlobal + Threads + Wait + Sync>(
 fn run_cases<R: Print + AllocGlobal + Threads + Wait + Sync>(
     rt: &R,
     file: &str,
-    lines: &[&str],
+    text: &str,
     tally: &mut Tally,
 ) -> io::Result<()> {
     let before = (tally.cases, tally.differ);
-    run_lines(rt, file, &mut CaseReader::new(rt.alloc()), lines, tally)?;
+    run_lines(rt, file, &mut CaseReader::new(rt.alloc()), text, tally)?;
     if (tally.cases, tally.differ) == before {
         tally.count_different();
         println!(rt; "{file}: no case")?;
@@ -123,10 +134,7 @@ fn run_file<R: Files + Print + AllocGlobal + Threads + Wait + Sync>(
     tally: &mut Tally,
 ) -> io::Result<()> {
     match fs::read_to_string(rt, file) {
-        Ok(text) => {
-            let lines = lines_of(rt.alloc(), text.as_str())?;
-            run_cases(rt, file, lines.as_slice(), tally)
-        }
+        Ok(text) => run_cases(rt, file, text.as_str(), tally),
         Err(fault) => {
             tally.count_different();
             println!(rt; "{file}: {fault}")
@@ -135,7 +143,7 @@ fn run_file<R: Files + Print + AllocGlobal + Threads + Wait + Sync>(
 }
 
 /// Runs the cases of all files, and gives whether there are any and none differs.
-pub fn run_files<R: Files + Print + AllocGlobal + Threads + Wait + Sync>(
+pub(crate) fn run_files<R: Files + Print + AllocGlobal + Threads + Wait + Sync>(
     rt: &R,
     names: &[String],
 ) -> io::Result<bool> {

@@ -3,7 +3,7 @@ use std::alloc::{AllocError, AllocFailed};
 
 /// Why a line is none of a file of cases.
 #[derive(Clone, Copy, Debug)]
-pub enum LineFault {
+pub(crate) enum LineFault {
     /// It is no line that is known here.
     BadLine,
     /// It names a text that is not before it.

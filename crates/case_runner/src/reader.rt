@@ -1,166 +1,143 @@
 // The cases of a file.
 use crate::bytes::push_marked;
 use crate::case::Case;
-use crate::line::{begins_part, first_word, is_silent, marked};
+use crate::line::{first_word, is_silent, marked};
 use crate::line_fault::LineFault;
 use crate::text::{Text, text_named};
 use crate::tool::Tool;
-use std::alloc::{AllocError, Global};
+use std::alloc::Global;
+use std::mem::replace;
 
-/// Where the bytes of a line go.
+/// What the lines that begin no part go into.
 #[derive(Clone, Copy)]
 enum Part {
-    Nowhere,
+    Nothing,
+    Text,
+    Words,
     Input,
     Output,
 }
 
-/// What the lines before a case say.
+/// What the lines up to some line say.
 #[derive(Drop)]
-pub struct CaseReader<'a> {
-    line: usize,
+pub(crate) struct CaseReader<'a> {
+    /// The number of the line that was read last, from 1.
+    pub(crate) line: usize,
+    /// The last case that began.
+    pub(crate) case: Case<'a>,
     tool: Option<Tool>,
-    texts: Vec<Text<'a>>,
     names: Vec<&'a str>,
-}
-
-/// Takes a line of a case, and gives where the bytes behind it go.
-fn take_line(
-    alloc: Global,
-    case: &mut Case<'_>,
+    /// The texts that are complete, and the last one that began.
+    texts: Vec<Text<'a>>,
+    text: Text<'a>,
     part: Part,
-    texts: &[Text<'_>],
-    line: &str,
-) -> Result<Part, LineFault> {
-    if let Some((mark, rest)) = marked(line) {
-        let bytes = match part {
-            Part::Nowhere => return Err(LineFault::BadLine),
-            Part::Input => &mut case.input,
-            Part::Output => &mut case.output,
-        };
-        push_marked(bytes, texts, mark, rest)?;
-        return Ok(part);
-    }
-    match first_word(line) {
-        ("input", _) => Ok(Part::Input),
-        ("output", _) => Ok(Part::Output),
-        (word, rest) => {
-            case.take(alloc, word, rest)?;
-            Ok(part)
-        }
-    }
-}
-
-/// Takes a line of a text.
-fn take_bytes(bytes: &mut Vec<u8>, texts: &[Text<'_>], line: &str) -> Result<(), LineFault> {
-    match marked(line) {
-        Some((mark, rest)) => push_marked(bytes, texts, mark, rest),
-        None => Err(LineFault::BadLine),
-    }
 }
 
 impl<'a> CaseReader<'a> {
     /// No line was read.
-    pub fn new(alloc: Global) -> CaseReader<'a> {
+    pub(crate) fn new(alloc: Global) -> CaseReader<'a> {
         CaseReader {
             line: 0,
+            case: Case::begun(alloc, "", 0, Tool::Draw),
             tool: None,
-            texts: Vec::new(alloc),
             names: Vec::new(alloc),
+            texts: Vec::new(alloc),
+            text: Text {
+                name: "",
+                bytes: Vec::new(alloc),
+            },
+            part: Part::Nothing,
         }
     }
 
-    /// The number of the line that was read last, from 1.
-    pub fn line(&self) -> usize {
-        self.line
+    /// Ends the part that was read last, before the next one or the end of the file; gives whether it is a case.
+    pub(crate) fn end_part(&mut self, alloc: Global) -> Result<bool, LineFault> {
+        match replace(&mut self.part, Part::Nothing) {
+            Part::Nothing => Ok(false),
+            Part::Text => {
+                let next = Text {
+                    name: "",
+                    bytes: Vec::new(alloc),
+                };
+                self.texts.push(replace(&mut self.text, next))?;
+                Ok(false)
+            }
+            Part::Words | Part::Input | Part::Output => match self.case.status {
+                Some(_) => Ok(true),
+                None => Err(LineFault::NoStatus),
+            },
+        }
     }
 
-    /// Reads the lines of a text up to the next part.
-    fn read_text(
-        &mut self,
-        alloc: Global,
-        name: &'a str,
-        rest: &[&'a str],
-    ) -> Result<(), LineFault> {
+    /// Begins a text.
+    fn begin_text(&mut self, name: &'a str) -> Result<(), LineFault> {
         if text_named(self.texts.as_slice(), name).is_ok() {
             return Err(LineFault::SameName);
         }
-        let mut bytes = Vec::new(alloc);
-        for line in rest {
-            if begins_part(line) {
-                break;
-            }
-            self.line = self.line.saturating_add(1);
-            if !is_silent(line) {
-                take_bytes(&mut bytes, self.texts.as_slice(), line)?;
-            }
-        }
-        self.texts.push(Text { name, bytes })?;
+        self.text.name = name;
+        self.part = Part::Text;
         Ok(())
     }
 
-    /// Reads the lines of a case up to the next part.
-    fn read_case(
-        &mut self,
-        alloc: Global,
-        case: &mut Case<'a>,
-        rest: &[&'a str],
-    ) -> Result<(), LineFault> {
-        let mut part = Part::Nowhere;
-        for line in rest {
-            if begins_part(line) {
-                break;
-            }
-            self.line = self.line.saturating_add(1);
-            if !is_silent(line) {
-                part = take_line(alloc, case, part, self.texts.as_slice(), line)?;
-            }
-        }
-        match case.status {
-            Some(_) => Ok(()),
-            None => Err(LineFault::NoStatus),
-        }
-    }
-
-    /// The case of this name, which no case before it has, with the lines up to the next part.
-    fn case_named(
-        &mut self,
-        alloc: Global,
-        name: &'a str,
-        rest: &[&'a str],
-    ) -> Result<Case<'a>, LineFault> {
-        let tool = self.tool.ok_or(LineFault::NoTool)?;
+    /// Begins a case.
+    fn begin_case(&mut self, alloc: Global, name: &'a str) -> Result<(), LineFault> {
+        let Some(tool) = self.tool else {
+            return Err(LineFault::NoTool);
+        };
         if self.names.as_slice().contains(&name) {
             return Err(LineFault::SameName);
         }
         self.names.push(name)?;
-        let mut case = Case::begun(alloc, name, self.line, tool);
-        match self.read_case(alloc, &mut case, rest) {
-            Ok(()) => Ok(case),
-            Err(fault) => Err(fault),
+        self.case = Case::begun(alloc, name, self.line, tool);
+        self.part = Part::Words;
+        Ok(())
+    }
+
+    /// Takes the tool of the cases from here on.
+    fn take_tool(&mut self, name: &str) -> Result<(), LineFault> {
+        self.tool = Tool::named(name);
+        match self.tool {
+            Some(_) => Ok(()),
+            None => Err(LineFault::BadLine),
         }
     }
 
-    /// Reads the part that begins with the line of this number, from 1, and gives its case if it is one. A
-    /// line that was read with the part before it is passed over.
-    pub fn read(
-        &mut self,
-        alloc: Global,
-        number: usize,
-        line: &'a str,
-        rest: &[&'a str],
-    ) -> Result<Option<Case<'a>>, LineFault> {
-        if number <= self.line {
-            return Ok(None);
+    /// Takes a line that stands for bytes.
+    fn take_bytes(&mut self, mark: char, rest: &str) -> Result<(), LineFault> {
+        let texts = self.texts.as_slice();
+        match self.part {
+            Part::Text => push_marked(&mut self.text.bytes, texts, mark, rest),
+            Part::Input => push_marked(&mut self.case.input, texts, mark, rest),
+            Part::Output => push_marked(&mut self.case.output, texts, mark, rest),
+            Part::Nothing | Part::Words => Err(LineFault::BadLine),
         }
-        self.line = number;
+    }
+
+    /// Takes a line of words, of a case.
+    fn take_words(&mut self, alloc: Global, word: &str, rest: &str) -> Result<(), LineFault> {
+        match (self.part, word) {
+            (Part::Nothing | Part::Text, _) => return Err(LineFault::BadLine),
+            (_, "input") => self.part = Part::Input,
+            (_, "output") => self.part = Part::Output,
+            _ => return self.case.take(alloc, word, rest),
+        }
+        Ok(())
+    }
+
+    /// Takes a line.
+    pub(crate) fn take(&mut self, alloc: Global, line: &'a str) -> Result<(), LineFault> {
+        self.line = self.line.saturating_add(1);
+        if is_silent(line) {
+            return Ok(());
+        }
+        if let Some((mark, rest)) = marked(line) {
+            return self.take_bytes(mark, rest);
+        }
         match first_word(line) {
-            ("tool", name) => self.tool = Some(Tool::named(name).ok_or(LineFault::BadLine)?),
-            ("text", name) => self.read_text(alloc, name, rest)?,
-            ("case", name) => return Ok(Some(self.case_named(alloc, name, rest)?)),
-            _ if is_silent(line) => {}
-            _ => return Err(LineFault::BadLine),
+            ("tool", name) => self.take_tool(name),
+            ("text", name) => self.begin_text(name),
+            ("case", name) => self.begin_case(alloc, name),
+            (word, rest) => self.take_words(alloc, word, rest),
         }
-        Ok(None)
     }
 }

@@ -73,7 +73,7 @@ fn sink_of(alloc: Global, case: &Case<'_>) -> Result<MemorySink, NoMemory> {
 }
 
 /// Runs a case's tool.
-pub fn run<R: Threads + Wait + Sync>(
+pub(crate) fn run<R: Threads + Wait + Sync>(
     rt: &R,
     alloc: Global,
     case: &Case<'_>,
@@ -82,10 +82,5 @@ pub fn run<R: Threads + Wait + Sync>(
     let mut sink = sink_of(alloc, case)?;
     let words = case.words.as_slice();
     let (code, calls) = call(rt, alloc, case.tool, words, &mut source, &mut sink);
-    let written = sink.bytes().to_vec(alloc)?;
-    Ok(Ran {
-        code,
-        written,
-        calls,
-    })
+    Ok(Ran { code, sink, calls })
 }

@@ -3,27 +3,29 @@ ghost use Rattle.std.specs.Prelude.{◌≡◌, ◌⊎◌, ◌↔◌, IsTrue, Som
 ghost use Rattle.std.specs.Process.{exit_status};
 
 use crate::case::Case;
+use byte_edge::MemorySink;
 use std::process::ExitCode;
 use std::{io, str};
 
 /// What a run came to.
 #[derive(Drop)]
-pub struct Ran {
-    pub code: ExitCode,
-    pub written: Vec<u8>,
+pub(crate) struct Ran {
+    pub(crate) code: ExitCode,
+    /// With what was written.
+    pub(crate) sink: MemorySink,
     /// How many calls the history of a day has; none where no day was run.
-    pub calls: usize,
+    pub(crate) calls: usize,
 }
 
 /// Whether a run wrote what its case says, and ended with the status that it says.
 fn is_as_said(case: &Case<'_>, ran: &Ran) -> bool
-    ensures { IsTrue result ↔ ((ran.now.written.items ≡ case.now.output.items)
+    ensures { IsTrue result ↔ ((ran.now.sink.taken ≡ case.now.output.items)
         × (case.now.status ≡ Some (exit_status ran.now.code))) }
 {
     let Some(status) = case.status else {
         return false;
     };
-    ran.code == ExitCode::from(status) && ran.written.as_slice() == case.output.as_slice()
+    ran.code == ExitCode::from(status) && ran.sink.bytes() == case.output.as_slice()
 }
 
 /// Whether a run has as many calls as its case says, where it says so.
@@ -67,7 +69,7 @@ fn line_after(bytes: &[u8]) -> usize {
 
 /// Says where the bytes of a run differ from those of its case, if they do.
 fn tell_bytes(rt: &impl Print, case: &Case<'_>, ran: &Ran) -> io::Result<()> {
-    let (found, wanted) = (ran.written.as_slice(), case.output.as_slice());
+    let (found, wanted) = (ran.sink.bytes(), case.output.as_slice());
     if found == wanted {
         return Ok(());
     }
@@ -89,17 +91,28 @@ fn tell_difference(rt: &impl Print, file: &str, case: &Case<'_>, ran: &Ran) -> i
     println!(rt; "")
 }
 
-/// Says how a run differs from its case, or that it doesn't where it is to; gives whether all is well.
-pub fn tell(rt: &impl Print, file: &str, case: &Case<'_>, ran: &Ran) -> io::Result<bool> {
+/// Says of a case what is not well with it.
+fn tell_case(rt: &impl Print, file: &str, case: &Case<'_>, fault: &str) -> io::Result<()> {
+    let (name, line) = (case.name, case.line);
+    println!(rt; "{file} line {line}, {name}: {fault}")
+}
+
+/// Says that there was not enough memory for a run.
+pub(crate) fn tell_no_memory(rt: &impl Print, file: &str, case: &Case<'_>) -> io::Result<()> {
+    tell_case(rt, file, case, "no memory")
+}
+
+/// Whether a run came to what its case says, or to something else where it is to differ.
+pub(crate) fn is_well(case: &Case<'_>, ran: &Ran) -> bool {
     let alike = is_as_said(case, ran) && has_the_calls(case, ran);
-    if alike != case.differs {
-        return Ok(true);
-    }
-    if alike {
-        let (name, line) = (case.name, case.line);
-        println!(rt; "{file} line {line}, {name}: as said, where it is to differ")?;
+    alike != case.differs
+}
+
+/// Says what is not well with a run: how it differs from its case, or that it doesn't where it is to.
+pub(crate) fn tell(rt: &impl Print, file: &str, case: &Case<'_>, ran: &Ran) -> io::Result<()> {
+    if case.differs {
+        tell_case(rt, file, case, "as said, where it is to differ")
     } else {
-        tell_difference(rt, file, case, ran)?;
+        tell_difference(rt, file, case, ran)
     }
-    Ok(false)
 }

@@ -2,7 +2,7 @@
 
 /// A tool that cases call.
 #[derive(Clone, Copy)]
-pub enum Tool {
+pub(crate) enum Tool {
     Draw,
     Normal,
     Look,
@@ -19,7 +19,7 @@ pub enum Tool {
 
 impl Tool {
     /// The tool of this name.
-    pub fn named(name: &str) -> Option<Tool> {
+    pub(crate) fn named(name: &str) -> Option<Tool> {
         let tool = match name {
             "draw" => Tool::Draw,
             "normal" => Tool::Normal,

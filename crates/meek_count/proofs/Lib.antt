@@ -5,5 +5,5 @@ pub mod Leading
 mod StepLemmas
 mod RowRanges
 mod EndLemmas
-mod LoneBallotHolds
+pub mod WorkedRows
 pub mod WorkedHolds

@@ -1,12 +1,11 @@
 -- The iterations of a count stay in range.
-use Rattle.std.proofs.Common.{◌≡◌, ℕ, ◌+◌, ◌-◌, ◌^◌, ◌<◌, ◌≤◌, Bool, true, false, List, [], ◌∷◌, length, sum}
-use Rattle.std.proofs.Common.{All, arith, refl, ap, sym, subst, ◌∙◌}
+use Rattle.std.proofs.Common.{◌≡◌, ℕ, ◌+◌, ◌-◌, ◌≤◌, Bool, false, List, [], ◌∷◌, length, sum}
+use Rattle.std.proofs.Common.{All, arith, ap, sym, subst, ◌∙◌}
 use Rattle.std.proofs.lemmas.List.{length-replicate}
 use Rattle.std.proofs.lemmas.List.Elements.{All-from_get_or, All-nil, All-cons}
 use Rattle.std.proofs.lemmas.List.FromFn.{length-map-range_with_len}
 use Rattle.std.proofs.lemmas.List.Sums.{get_or-le-sum_by}
 use Rattle.fixed_place.specs.Rounding.{scale, most}
-use Rattle.fixed_place.proofs.RoundingLemmas.{scale_pos}
 use Rattle.candidate_roll.specs.Roll.{RollList}
 use Rattle.candidate_roll.specs.declared.state.State.{State}
 use Rattle.lot_order.specs.Flags.{mark_at}
@@ -18,7 +17,7 @@ use Rattle.meek_rule.specs.Situation.{Situation, IsValid, IsOnItsWay, is_complet
 use Rattle.meek_rule.specs.Row.{Row}
 use Rattle.meek_rule.specs.Rule.{Rule}
 use Rattle.meek_rule.specs.Ties.{tied, is_tied}
-use Rattle.meek_rule.specs.Iteration.{Settle, StepLeaves, nobody}
+use Rattle.meek_rule.specs.Iteration.{StepLeaves}
 use Rattle.meek_rule.specs.Weights.{vote_under, votes_under}
 use Rattle.meek_rule.proofs.ProgressLemmas.{on_its_way-opening}
 use Rattle.meek_rule.proofs.RuleLemmas.{most_large, quota-le}

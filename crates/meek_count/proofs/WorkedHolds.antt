@@ -1,228 +1,30 @@
 -- The worked counts, by computing.
-use Rattle.std.proofs.Common.{ℕ, List, refl, lit≤, [], ◌∷◌, Some, None, Option}
-use Rattle.candidate_roll.specs.declared.state.State.{State}
-use Rattle.candidate_roll.specs.declared.state.State.TheVariants.{Hopeful, Elected, Defeated, Withdrawn}
-use Rattle.meek_rule.specs.Situation.{Situation}
-use Rattle.meek_rule.proofs.WinnersByTest.{winners_by_test}
-use Rattle.meek_count.specs.Worked.{ThreeIterations, AtSixPlaces, SampleElection}
-
-abbrev between : (omega : ℕ) → List State → (keeps : List ℕ) → (round iteration : ℕ) → Option ℕ → Situation
-between units states keeps round iteration previous = record {
-  seats = 2;
-  states = states;
-  keeps = keeps;
-  round = round;
-  iteration = iteration;
-  previous = previous;
-  omega = units;
-}
+use Rattle.std.proofs.Common.{refl, [], ◌∷◌}
+use Rattle.fixed_place.specs.Rounding.{scale}
+use Rattle.candidate_roll.specs.declared.state.State.TheVariants.{Elected, Defeated, Withdrawn}
+use Rattle.meek_rule.specs.Situation.{opening}
+use Rattle.meek_rule.specs.Rule.{Meek}
+use Rattle.meek_count.specs.Worked.{ten_four_three, three_for_two, three_iterations, ThreeIterations, at_six_places, AtSixPlaces}
+use Rattle.meek_count.specs.Worked.{sample_ballots, sample_roll, sample_rows, SampleElection}
+use Rattle.meek_count.specs.WorkedLoneBallot.{lone_ballot, lone_rows, LoneBallot}
+use Rattle.meek_count.proofs.WorkedRows.{counted_with}
 
 pub ThreeIterations-holds : ThreeIterations
 ThreeIterations-holds =
-    let hopeful_two : List State = Elected ∷ Hopeful ∷ Hopeful ∷ [] in (
-      refl,
-      (
-        between 1000 hopeful_two (1000000000 ∷ 1000000000 ∷ 1000000000 ∷ []) 2 1 None,
-        record {
-          round = refl;
-          iteration = refl;
-          states = refl;
-          keeps = refl;
-          votes_are = refl;
-          total = refl;
-          quota_is = refl;
-          winners = winners_by_test _ _ _ _ _ _ refl;
-          surplus_is = refl;
-          leaves = (lit≤ tt, refl, refl, refl);
-        },
-        (
-          refl,
-          (
-            between 1000 hopeful_two (566666667 ∷ 1000000000 ∷ 1000000000 ∷ []) 2 2 (Some 4333333333),
-            record {
-              round = refl;
-              iteration = refl;
-              states = refl;
-              keeps = refl;
-              votes_are = refl;
-              total = refl;
-              quota_is = refl;
-              winners = winners_by_test _ _ _ _ _ _ refl;
-              surplus_is = refl;
-              leaves = (refl, refl, refl, refl, refl);
-            },
-            (
-              refl,
-              (
-                between 1000 hopeful_two (422222223 ∷ 1000000000 ∷ 1000000000 ∷ []) 2 3 (Some 1444444446),
-                record {
-                  round = refl;
-                  iteration = refl;
-                  states = refl;
-                  keeps = refl;
-                  votes_are = refl;
-                  total = refl;
-                  quota_is = refl;
-                  winners = winners_by_test _ _ _ _ _ _ refl;
-                  surplus_is = refl;
-                  leaves = (refl, refl, refl, refl, refl);
-                },
-                (
-                  refl,
-                  (
-                    between 1000 (Elected ∷ Elected ∷ Hopeful ∷ []) (422222223 ∷ 1000000000 ∷ 1000000000 ∷ []) 3 1 None,
-                    record {
-                      round = refl;
-                      iteration = refl;
-                      states = refl;
-                      keeps = refl;
-                      votes_are = refl;
-                      total = refl;
-                      quota_is = refl;
-                      winners = winners_by_test _ _ _ _ _ _ refl;
-                      surplus_is = refl;
-                      leaves = (lit≤ tt, refl, refl, refl);
-                    },
-                    (refl, refl),
-                  ),
-                ),
-              ),
-            ),
-          ),
-        ),
-      ),
-    )
+    counted_with Meek (scale 9) ten_four_three (1 ∷ 2 ∷ 3 ∷ []) (opening (scale 9) 1000 2 three_for_two.withdrawn)
+    three_iterations (Elected ∷ Elected ∷ Defeated ∷ []) refl refl refl
 
 pub AtSixPlaces-holds : AtSixPlaces
 AtSixPlaces-holds =
-    let hopeful_two : List State = Elected ∷ Hopeful ∷ Hopeful ∷ [] in (
-      refl,
-      (
-        between 1 hopeful_two (1000000 ∷ 1000000 ∷ 1000000 ∷ []) 2 1 None,
-        record {
-          round = refl;
-          iteration = refl;
-          states = refl;
-          keeps = refl;
-          votes_are = refl;
-          total = refl;
-          quota_is = refl;
-          winners = winners_by_test _ _ _ _ _ _ refl;
-          surplus_is = refl;
-          leaves = (lit≤ tt, refl, refl, refl);
-        },
-        (
-          refl,
-          (
-            between 1 hopeful_two (566667 ∷ 1000000 ∷ 1000000 ∷ []) 2 2 (Some 4333333),
-            record {
-              round = refl;
-              iteration = refl;
-              states = refl;
-              keeps = refl;
-              votes_are = refl;
-              total = refl;
-              quota_is = refl;
-              winners = winners_by_test _ _ _ _ _ _ refl;
-              surplus_is = refl;
-              leaves = (refl, refl, refl, refl, refl);
-            },
-            (
-              refl,
-              (
-                between 1 hopeful_two (422223 ∷ 1000000 ∷ 1000000 ∷ []) 2 3 (Some 1444446),
-                record {
-                  round = refl;
-                  iteration = refl;
-                  states = refl;
-                  keeps = refl;
-                  votes_are = refl;
-                  total = refl;
-                  quota_is = refl;
-                  winners = winners_by_test _ _ _ _ _ _ refl;
-                  surplus_is = refl;
-                  leaves = (refl, refl, refl, refl, refl);
-                },
-                (
-                  refl,
-                  (
-                    between 1 (Elected ∷ Elected ∷ Hopeful ∷ []) (422223 ∷ 1000000 ∷ 1000000 ∷ []) 3 1 None,
-                    record {
-                      round = refl;
-                      iteration = refl;
-                      states = refl;
-                      keeps = refl;
-                      votes_are = refl;
-                      total = refl;
-                      quota_is = refl;
-                      winners = winners_by_test _ _ _ _ _ _ refl;
-                      surplus_is = refl;
-                      leaves = (lit≤ tt, refl, refl, refl);
-                    },
-                    (refl, refl),
-                  ),
-                ),
-              ),
-            ),
-          ),
-        ),
-      ),
-    )
+    counted_with Meek (scale 6) ten_four_three (1 ∷ 2 ∷ 3 ∷ []) (opening (scale 6) 1 2 three_for_two.withdrawn)
+    at_six_places (Elected ∷ Elected ∷ Defeated ∷ []) refl refl refl
 
 pub SampleElection-holds : SampleElection
 SampleElection-holds =
-    let hopeful_two : List State = Elected ∷ Withdrawn ∷ Hopeful ∷ Hopeful ∷ [] in (
-      refl,
-      (
-        between 1000 hopeful_two (1000000000 ∷ 0 ∷ 1000000000 ∷ 1000000000 ∷ []) 2 1 None,
-        record {
-          round = refl;
-          iteration = refl;
-          states = refl;
-          keeps = refl;
-          votes_are = refl;
-          total = refl;
-          quota_is = refl;
-          winners = winners_by_test _ _ _ _ _ _ refl;
-          surplus_is = refl;
-          leaves = (lit≤ tt, refl, refl, refl);
-        },
-        (
-          refl,
-          (
-            between 1000 hopeful_two (571428572 ∷ 0 ∷ 1000000000 ∷ 1000000000 ∷ []) 2 2 (Some 2999999999),
-            record {
-              round = refl;
-              iteration = refl;
-              states = refl;
-              keeps = refl;
-              votes_are = refl;
-              total = refl;
-              quota_is = refl;
-              winners = winners_by_test _ _ _ _ _ _ refl;
-              surplus_is = refl;
-              leaves = (refl, refl, refl, refl, refl);
-            },
-            (
-              refl,
-              (
-                between 1000 (Elected ∷ Withdrawn ∷ Defeated ∷ Hopeful ∷ []) (571428572 ∷ 0 ∷ 0 ∷ 1000000000 ∷ []) 3 1 None,
-                record {
-                  round = refl;
-                  iteration = refl;
-                  states = refl;
-                  keeps = refl;
-                  votes_are = refl;
-                  total = refl;
-                  quota_is = refl;
-                  winners = winners_by_test _ _ _ _ _ _ refl;
-                  surplus_is = refl;
-                  leaves = (refl, refl, refl, refl, refl, refl);
-                },
-                (refl, refl),
-              ),
-            ),
-          ),
-        ),
-      ),
-    )
+    counted_with Meek (scale 9) sample_ballots (1 ∷ 2 ∷ 3 ∷ 4 ∷ []) (opening (scale 9) 1000 2 sample_roll.withdrawn)
+    sample_rows (Elected ∷ Withdrawn ∷ Defeated ∷ Elected ∷ []) refl refl refl
+
+pub LoneBallot-holds : LoneBallot
+LoneBallot-holds =
+    counted_with Meek (scale 9) lone_ballot (2 ∷ 3 ∷ 1 ∷ []) (opening (scale 9) 1000 2 three_for_two.withdrawn)
+    lone_rows (Elected ∷ Defeated ∷ Elected ∷ []) refl refl refl

@@ -1,54 +1,29 @@
 -- A whole count worked by hand in which a keep value falls until it is so small that it rises by rounding.
 use Rattle.std.specs.Prelude.{ℕ, true, false, List, [], ◌∷◌}
-use Rattle.candidate_roll.specs.declared.state.State.TheVariants.{Hopeful, Elected as IsElected, Defeated}
-use Rattle.meek_rule.specs.declared.step.Step.TheVariants.{Elected, Iterate, Defeat}
+use Rattle.candidate_roll.specs.declared.state.State.TheVariants.{Elected as IsElected, Defeated}
+use Rattle.meek_rule.specs.declared.step.Step.TheVariants.{Elected, Defeat}
 use Rattle.meek_rule.specs.Row.{Row}
 use Rattle.meek_count.specs.Rows.{IsCount}
-use Rattle.meek_count.specs.Worked.{three_for_two, none_of_three, first_is_elected}
+use Rattle.meek_count.specs.Worked.{opened, unmoved, moved, three_for_two, first_is_elected}
 
 -- One ballot for candidate 1, who reaches the quota at once. Nobody else has votes, so whatever 1 doesn't keep is lost.
 
 abbrev pub lone_ballot : List (List ℕ)
 lone_ballot = (1 ∷ []) ∷ []
 
--- An iteration of round 2 with a transfer: what candidate 1 keeps of the ballot is all that there is.
-abbrev pub transferring : (iteration keep quota surplus : ℕ) → Row
-transferring iteration keep quota surplus = record {
-  round = 2;
-  iteration = iteration;
-  states = first_is_elected;
-  keeps = keep ∷ 1000000000 ∷ 1000000000 ∷ [];
-  votes = keep ∷ 0 ∷ 0 ∷ [];
-  total = keep;
-  quota = quota;
-  surplus = surplus;
-  elected = none_of_three;
-  capped = none_of_three;
-  tied = none_of_three;
-  step = Iterate;
-}
-
 -- The keep value falls to about a third each time, and rises from 19116 to 52313 when the roundings weigh more than
 -- that. So the surplus doesn't fall, and of the tied the first in the lots is defeated.
-abbrev pub LoneBallot : Type 0
-LoneBallot =
-    let first : Row = record {
-      round = 1;
-      iteration = 1;
-      states = Hopeful ∷ Hopeful ∷ Hopeful ∷ [];
-      keeps = 1000000000 ∷ 1000000000 ∷ 1000000000 ∷ [];
-      votes = 1000000000 ∷ 0 ∷ 0 ∷ [];
-      total = 1000000000;
-      quota = 333333334;
-      surplus = 666666666;
+abbrev pub lone_rows : List Row
+lone_rows =
+    let first : Row = record (opened 1000000000 (1000000000 ∷ 0 ∷ 0 ∷ []) 1000000000 333333334 666666666) {
       elected = true ∷ false ∷ false ∷ [];
-      capped = none_of_three;
-      tied = none_of_three;
       step = Elected;
     } in
-    let last : Row = record (transferring 12 52313 17438 34875) { tied = false ∷ true ∷ true ∷ []; step = Defeat 2 } in
-    IsCount 9 1000 lone_ballot three_for_two (2 ∷ 3 ∷ 1 ∷ [])
-    (
+    -- an iteration of round 2 with a transfer: what candidate 1 keeps of the ballot is all that there is
+    let transferring : (iteration keep quota surplus : ℕ) → Row = λ iteration keep quota surplus.
+    record (moved (unmoved first first_is_elected) (keep ∷ 1000000000 ∷ 1000000000 ∷ []) (keep ∷ 0 ∷ 0 ∷ []) keep quota surplus) {
+      iteration = iteration;
+    } in
     first
     ∷ transferring 1 1000000000 333333334 666666666
     ∷ transferring 2 333333334 111111112 222222222
@@ -61,7 +36,9 @@ LoneBallot =
     ∷ transferring 9 152926 50976 101950
     ∷ transferring 10 52313 17438 34875
     ∷ transferring 11 19116 6373 12743
-    ∷ last
+    ∷ record (transferring 12 52313 17438 34875) { tied = false ∷ true ∷ true ∷ []; step = Defeat 2 }
     ∷ []
-    )
-    (IsElected ∷ Defeated ∷ IsElected ∷ [])
+
+abbrev pub LoneBallot : Type 0
+LoneBallot =
+    IsCount 9 1000 lone_ballot three_for_two (2 ∷ 3 ∷ 1 ∷ []) lone_rows (IsElected ∷ Defeated ∷ IsElected ∷ [])

@@ -37,6 +37,7 @@ use Rattle.rule_laws.specs.LaterLots.{IsMovedLater}
 use Rattle.rule_laws.proofs.Decided.{becomes-itself, rows-become}
 use Rattle.rule_laws.proofs.FirstQuota.{room_for_all}
 use Rattle.rule_laws.proofs.MemberSteps.{elect-at}
+use Rattle.rule_laws.proofs.OtherLots.{settle-lots}
 use Rattle.rule_laws.proofs.Walk.{is_open, loser_is_hopeful}
 
 -- THE TWO ORDERS
@@ -159,39 +160,22 @@ settle-moved :
     → (has_reached now.states votes row.quota (c - 1) ≡ true → mark_at row.elected (c - 1) ≡ true)
     → row.step ≢ Defeat c
     → Settle s now votes other row next
-settle-moved s now votes lots other row next c settle moved wins stays = record {
-  round = settle.round;
-  iteration = settle.iteration;
-  states = settle.states;
-  keeps = settle.keeps;
-  votes_are = settle.votes_are;
-  total = settle.total;
-  quota_is = settle.quota_is;
-  winners = record {
-    same_length = settle.winners.same_length;
-    reached = settle.winners.reached;
-    as_many = settle.winners.as_many;
-    first = λ a b marked reached unmarked.
+settle-moved s now votes lots other row next c settle moved wins stays =
+    settle-lots s now votes lots other row next settle comes (λ d is leaves.
+    leaves.3
+    ∙ first-moved c row.tied lots other moved (λ e. stays (is ∙ ap Defeat (leaves.3 ∙ e))))
+  where
+    comes :
+        (a b : ℕ) → mark_at row.elected a ≡ true → has_reached now.states votes row.quota b ≡ true
+        → mark_at row.elected b ≡ false → comes_before votes other a b ≡ true
+    comes a b marked reached unmarked =
         let apart : c ≢ b + 1 =
         λ same. (let place : c - 1 ≡ b = omega arith in
         let won : mark_at row.elected b ≡ true =
         subst (λ (p : ℕ). has_reached now.states votes row.quota p ≡ true → mark_at row.elected p ≡ true) place wins
         reached in
         false≢true (sym unmarked ∙ won)) in
-        before-moved c votes lots other a b moved apart (settle.winners.first a b marked reached unmarked);
-  };
-  surplus_is = settle.surplus_is;
-  leaves = by_step row.step stays settle.leaves;
-}
-  where
-    by_step : (step : Step) → step ≢ Defeat c → StepLeaves s now lots row step next → StepLeaves s now other row step next
-    by_step Elected apart leaves = leaves
-    by_step Iterate apart leaves = leaves
-    by_step (Defeat d) apart leaves =
-        let first : d ≡ first_marked other row.tied =
-        leaves.3
-        ∙ first-moved c row.tied lots other moved (λ e. apart (ap Defeat (leaves.3 ∙ e))) in
-        (leaves.0, leaves.1, leaves.2, first, leaves.4, leaves.5)
+        before-moved c votes lots other a b moved apart (settle.winners.first a b marked reached unmarked)
 
 -- THE COUNT
 

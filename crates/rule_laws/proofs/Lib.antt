@@ -3,6 +3,7 @@ mod Quotas
 mod Walk
 mod SeatLemmas
 mod Decided
+mod OtherLots
 mod TieBreaks
 mod Kept
 mod Members

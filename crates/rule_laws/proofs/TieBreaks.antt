@@ -10,13 +10,13 @@ use Rattle.candidate_roll.specs.declared.state.State.{State}
 use Rattle.lot_order.specs.Flags.{mark_at}
 use Rattle.lot_order.specs.Lots.{IsOrder, first_marked}
 use Rattle.lot_order.proofs.LotsLemmas.{first_marked-order, marked-below}
-use Rattle.meek_rule.specs.declared.step.Step.{Step}
-use Rattle.meek_rule.specs.declared.step.Step.TheVariants.{Elected, Iterate, Defeat}
+use Rattle.meek_rule.specs.declared.step.Step.TheVariants.{Defeat}
 use Rattle.meek_rule.specs.Places.{marked_count}
 use Rattle.meek_rule.specs.Situation.{Situation, IsValid, is_complete, hopeful_count, opening}
 use Rattle.meek_rule.specs.Row.{Row}
 use Rattle.meek_rule.specs.Rule.{Rule}
 use Rattle.meek_rule.specs.Quota.{has_reached}
+use Rattle.meek_rule.specs.Winners.{comes_before}
 use Rattle.meek_rule.specs.Ties.{is_tied}
 use Rattle.meek_rule.specs.Iteration.{Settle, StepLeaves}
 use Rattle.meek_rule.specs.Weights.{votes_under}
@@ -28,6 +28,7 @@ use Rattle.meek_count.specs.Laws.{IsElection}
 use Rattle.meek_count.specs.Rows.{Rows, IsCountUnder}
 use Rattle.meek_count.proofs.WholeCount.{length-opening, valid-opening_of_roll}
 use Rattle.rule_laws.specs.NoTies.{HasNoTie}
+use Rattle.rule_laws.proofs.OtherLots.{settle-lots}
 use Rattle.rule_laws.proofs.Totals.{count-total, one_if, total, total-two}
 
 pub marked-total : (marks : List Bool) → marked_count marks ≡ total (length marks) (λ p. one_if (mark_at marks p))
@@ -66,45 +67,31 @@ settle-other :
     → IsValid s now → is_complete now ≡ false → IsOrder lots → length lots ≡ length now.states → IsOrder other
     → length other ≡ length now.states
     → Settle s now votes other row next
-settle-other s now votes lots other row next settle none valid going order same order_too same_too = record {
-  round = settle.round;
-  iteration = settle.iteration;
-  states = settle.states;
-  keeps = settle.keeps;
-  votes_are = settle.votes_are;
-  total = settle.total;
-  quota_is = settle.quota_is;
-  winners = record {
-    same_length = settle.winners.same_length;
-    reached = settle.winners.reached;
-    as_many = settle.winners.as_many;
-    first = λ a b marked is unmarked.
+settle-other s now votes lots other row next settle none valid going order same order_too same_too =
+    settle-lots s now votes lots other row next settle comes taken
+  where
+    comes :
+        (a b : ℕ) → mark_at row.elected a ≡ true → has_reached now.states votes row.quota b ≡ true
+        → mark_at row.elected b ≡ false → comes_before votes other a b ≡ true
+    comes a b marked is unmarked =
         let reached : has_reached row.states row.votes row.quota b ≡ true =
         subst (λ (x : List State). has_reached x row.votes row.quota b ≡ true) (sym settle.states)
         (subst (λ (v : List ℕ). has_reached now.states v row.quota b ≡ true) (sym settle.votes_are) is) in
         let less : get_or row.votes b 0 < get_or row.votes a 0 = none.for_election a b marked reached unmarked in
         let fewer : get_or votes b 0 < get_or votes a 0 =
         subst (λ (v : List ℕ). get_or v b 0 < get_or v a 0) settle.votes_are less in
-        or_left _ _ (lt-ltb _ _ fewer);
-  };
-  surplus_is = settle.surplus_is;
-  leaves = by_step row.step settle.leaves;
-}
-  where
-    by_step : (step : Step) → StepLeaves s now lots row step next → StepLeaves s now other row step next
-    by_step Elected leaves = leaves
-    by_step Iterate leaves = leaves
-    by_step (Defeat c) leaves =
+        or_left _ _ (lt-ltb _ _ fewer)
+
+    taken : (c : ℕ) → row.step ≡ Defeat c → StepLeaves s now lots row (Defeat c) next → c ≡ first_marked other row.tied
+    taken c is leaves =
         let some : 1 ≤ hopeful_count now.states = somebody_hopeful s now valid going in
         let one = tied-somebody now.states row.votes lots row.surplus order same some in
         let marked : mark_at row.tied one.0 ≡ true = ap (λ (m : List Bool). mark_at m one.0) leaves.2 ∙ one.1 in
         let long : length row.tied ≡ length now.states =
         ap length leaves.2 ∙ length-map-range_with_len (is_tied now.states row.votes row.surplus) 0 (length now.states) in
-        let first : c ≡ first_marked other row.tied =
         leaves.3
         ∙ same_first lots other row.tied one.0 order order_too (long ∙ sym same) (long ∙ sym same_too)
-        none.for_defeat marked in
-        (leaves.0, leaves.1, leaves.2, first, leaves.4, leaves.5)
+        none.for_defeat marked
 
 rows-other :
     (rule : Rule) (s : ℕ) (ballots : List (List ℕ)) (lots other : List ℕ) (now : Situation) (rows : List Row)

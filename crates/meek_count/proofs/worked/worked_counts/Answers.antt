@@ -1,5 +1,4 @@
-use Rattle.meek_count.proofs.WorkedHolds.{ThreeIterations-holds, AtSixPlaces-holds, SampleElection-holds}
-use Rattle.meek_count.proofs.LoneBallotHolds.{LoneBallot-holds}
+use Rattle.meek_count.proofs.WorkedHolds.{ThreeIterations-holds, AtSixPlaces-holds, SampleElection-holds, LoneBallot-holds}
 use Rattle.meek_count.proofs.worked.worked_counts.Goals as goal
 
 pub returns-clause-three_iterations : goal.returns-clause-three_iterations
