@@ -1,8 +1,10 @@
-use Rattle.std.proofs.Common.{◌≡◌, ◌++◌, ◌∷◌, [], ℕ, List, length, vec_len}
+use Rattle.std.proofs.Common.{◌≡◌, ◌++◌, ◌∷◌, [], Some, true, ℕ, List, length, vec_len}
 use Rattle.std.proofs.Common.{refl, sym, ap, ◌∙◌, subst, arith}
 use Rattle.call_register.specs.declared.mark.Mark.{Mark}
 use Rattle.call_register.specs.declared.mark.Mark.TheVariants.{Freeze}
-use Rattle.shard_office.specs.Office.{OfficeState}
+use Rattle.shard_office.specs.declared.register_value.RegisterName.{RegisterName}
+use Rattle.shard_office.specs.Names.{register_name}
+use Rattle.shard_office.specs.Office.{OfficeState, ties_at}
 use Rattle.shard_office.specs.Values.{SeenShard, SeenRegister}
 use Rattle.shard_office.specs.Sight.{by_shard}
 use Rattle.shard_office.specs.Passes.{RegisterSeat, AreAt}
@@ -18,7 +20,7 @@ use Rattle.shard_office.proofs.AfterMarks.{HaveFrozen, have_looked, have_frozen}
 use Rattle.shard_office.proofs.FreezeLemmas.{freeze_is}
 use Rattle.shard_office.proofs.freezing.freeze.Given.{Over}
 use Rattle.shard_office.proofs.freezing.freeze.Goals as goal
-use Rattle.shard_office.proofs.freezing.freeze.Goals.{After-take_all, After-agree_all}
+use Rattle.shard_office.proofs.freezing.freeze.Goals.{After-take_all, After-take-kept, After-agree_all}
 
 pub returns-in_err-held-clause-stays : goal.returns-in_err-held-clause-stays
 returns-in_err-held-clause-stays g c =
@@ -75,6 +77,33 @@ held g c =
     all_held c.args.office.now desk.caller desk.shards.items c.take_all.new.seats.items desk.register
     c.take_all.new.held.items are windows (taken g c) len c.take_all.ensures.held
 
+-- the register whose turn is taken has the office's name
+kept_name :
+    (g : Over) (c : After-take-kept g)
+    → register_name c.take-kept.result
+    ≡ record {
+      shards = c.office.inside.shards;
+      candidates = c.office.inside.candidates;
+      ties = ties_at c.office.inside.windows.items;
+    }
+kept_name g c =
+    let name : OfficeState → RegisterName =
+    λ o. record { shards = o.shards; candidates = o.candidates; ties = ties_at o.identity.windows } in
+    let is : Some (register_name c.take-kept.result) ≡ Some (name (record {
+      shards = c.office.inside.shards;
+      candidates = c.office.inside.candidates;
+      identity = record { windows = c.office.inside.windows.items; register = c.office.inside.register };
+    })) =
+    sym c.take-kept.ensures.name
+    ∙ (c.requires.seated.registered.name
+    ∙ ap (λ (o : OfficeState). Some (name o)) (c.requires.office ∙ sym c.office.view_is)) in
+    cc is
+
+pub agree_all-requires-clause-register_ties : goal.agree_all-requires-clause-register_ties
+agree_all-requires-clause-register_ties g c =
+    ap (λ (n : RegisterName). n.ties)
+    (kept_name g (goal.at.agree_all-requires-clause-register_ties g c).After-take-kept)
+
 pub agree_all-requires-clause-ties : goal.agree_all-requires-clause-ties
 agree_all-requires-clause-ties g c =
     subst (λ (o : OfficeState). AreTied o.identity.windows c.take_all.new.held.items) (sym c.office.view_is)
@@ -125,6 +154,56 @@ pub copied-requires-clause-agreed : goal.copied-requires-clause-agreed
 copied-requires-clause-agreed g c =
     let are = agreed g (goal.at.copied-requires-clause-agreed g c).After-agree_all in
     λ κs given. are
+
+pub copied-requires-clause-register : goal.copied-requires-clause-register
+copied-requires-clause-register g c =
+    let before = goal.at.copied-requires-clause-register g c in
+    let name = ap register_name c.agree_all.ensures.kept ∙ kept_name g before.After-take-kept in
+    let shards = ap (λ (o : OfficeState). o.shards) c.office.view_is in
+    let are :
+    (c.agree_all.new.kept.register.shards ≡ vec_len c.agree_all.new.held)
+    × (c.agree_all.new.kept.register.candidates ≡ c.office.inside.candidates) = (
+      ap (λ (n : RegisterName). n.shards) name ∙ (shards ∙ sym (count g before.After-agree_all)),
+      ap (λ (n : RegisterName). n.candidates) name,
+    ) in
+    λ κs given. are
+
+-- the turn of the register is this desk's
+turn :
+    (g : Over) (c : After-take-kept g)
+    → (c.take-kept.new.seat.lock ≡ c.office.inside.register) × (c.take-kept.new.seat.holds ≡ true)
+turn g c = (
+  ap (λ (s : RegisterSeat). s.lock) c.take-kept.ensures.seat
+      ∙ (c.requires.seated.registered.lock
+      ∙ ap (λ (o : OfficeState). o.identity.register) (c.requires.office ∙ sym c.office.view_is)),
+  ap (λ (s : RegisterSeat). s.holds) c.take-kept.ensures.seat,
+)
+
+pub give_with-requires-clause-own : goal.give_with-requires-clause-own
+give_with-requires-clause-own g c = turn g (goal.at.give_with-requires-clause-own g c).After-take-kept
+
+pub give_back-requires-clause-own : goal.give_back-requires-clause-own
+give_back-requires-clause-own g c = turn g (goal.at.give_back-requires-clause-own g c).After-take-kept
+
+pub give_with-requires-clause-name : goal.give_with-requires-clause-name
+give_with-requires-clause-name g c =
+    ap (λ (s : RegisterSeat). s.name) c.take-kept.ensures.seat
+    ∙ (c.take-kept.ensures.name
+    ∙ ap Some (sym (c.freeze.ensures.name
+    ∙ (ap register_name c.value_mut.ensures.value
+    ∙ (c.in-Ok.ensures.name ∙ ap register_name c.agree_all.ensures.kept)))))
+
+pub give_back-requires-clause-name : goal.give_back-requires-clause-name
+give_back-requires-clause-name g c =
+    ap (λ (s : RegisterSeat). s.name) c.take-kept.ensures.seat
+    ∙ (c.take-kept.ensures.name
+    ∙ ap Some (sym (c.in-Err.ensures.name ∙ ap register_name c.agree_all.ensures.kept)))
+
+pub give_back-requires-clause-entries : goal.give_back-requires-clause-entries
+give_back-requires-clause-entries g c =
+    c.in-Err.ensures.marks
+    ∙ (ap (λ (r : SeenRegister). r.register.marks) c.agree_all.ensures.kept
+    ∙ sym (ap (λ (s : RegisterSeat). s.seen) c.take-kept.ensures.seat))
 
 -- after the freeze
 looks : (g : Over) (c : goal.After-give_all g) → Looks c.args.desk.now.shards.items c.give_all.new.seats.items
