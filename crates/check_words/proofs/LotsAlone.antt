@@ -7,5 +7,5 @@ pub lots_alone : LotsAloneAskForTheUsual
 lots_alone word lots list = record {
   pairs = record { option = Lots; value = word } ∷ [];
   spelled = refl;
-  says = record { lots = list; rule = refl; omega = refl };
+  says = record { lots = list; rule = refl; places = refl; omega = refl };
 }

@@ -1,9 +1,9 @@
 -- Words ask for one thing at most.
-use Rattle.std.proofs.Common.{IfOk, Ok, Err, Result, ◌≡◌, ◌∙◌, ◌++◌, refl, sym, ap, subst, arith, append-nil, get_or, ℕ, List, [], ◌∷◌}
+use Rattle.std.proofs.Common.{IfOk, Ok, Err, Result, if◌then◌else◌, ◌==◌, ◌≡◌, ◌∙◌, ◌++◌, refl, sym, ap, subst, arith, append-nil, get_or, ℕ, List, [], ◌∷◌}
 use Rattle.std.specs.List.{flat_map}
 use Rattle.meek_words.specs.Numerals.{Word, HaveOneLotList, IsLotList}
 use Rattle.meek_words.specs.declared.words_stop.WordsStop.{WordsStop}
-use Rattle.check_words.specs.Asks.{Asks, Says, AreLots, IsRule, IsOmega, IsOnce, IsAtMostOnce, SaysOmega, rule_word}
+use Rattle.check_words.specs.Asks.{Asks, Says, AreLots, IsRule, IsOmega, ArePlaces, IsOnce, IsAtMostOnce, SaysOmega, places_word, rule_word}
 use Rattle.check_words.specs.Laws.{AskOneThing}
 use Rattle.check_words.specs.Pairs.{Said, words_of, values_of}
 use Rattle.check_words.specs.Values.{AreValuesOf, values_in}
@@ -13,6 +13,8 @@ use Rattle.check_words.specs.declared.check_option.CheckOption.{CheckOption}
 use Rattle.check_words.specs.declared.check_option.CheckOption.TheVariants as options
 use Rattle.check_words.specs.declared.count_rule.CountRule.{CountRule}
 use Rattle.check_words.specs.declared.count_rule.CountRule.TheVariants.{Meek, Warren}
+use Rattle.check_words.specs.declared.places.Places.{Places}
+use Rattle.check_words.specs.declared.places.Places.TheVariants.{Six, Seven, Eight, Nine}
 use Rattle.fixed_place.specs.declared.omega.TheConstants.{USUAL_OMEGA}
 use Rattle.check_words.proofs.PairLemmas.{behind_done}
 
@@ -32,6 +34,25 @@ one_rule Meek Meek e = refl
 one_rule Meek Warren e = absurd (omega (arith, ap (λ (w : Word). get_or w 0 0) e))
 one_rule Warren Meek e = absurd (omega (arith, ap (λ (w : Word). get_or w 0 0) e))
 one_rule Warren Warren e = refl
+
+-- the digit that a number of places is
+digit_of : Places → ℕ
+digit_of places = get_or (places_word places) 0 0
+
+by_digit : ℕ → Places
+by_digit digit = if digit == 54 then Six else if digit == 55 then Seven else if digit == 56 then Eight else Nine
+
+by_its_digit : (places : Places) → by_digit (digit_of places) ≡ places
+unfolding digit_of by_digit
+by_its_digit Six = refl
+by_its_digit Seven = refl
+by_its_digit Eight = refl
+by_its_digit Nine = refl
+
+one_places : (one other : Places) → places_word one ≡ places_word other → one ≡ other
+unfolding digit_of
+one_places one other e =
+    sym (by_its_digit one) ∙ (ap (λ (w : Word). by_digit (get_or w 0 0)) e ∙ by_its_digit other)
 
 -- what is said by one word, or by none
 module _ {A : Type 0} (Is : A → Word → Type 0) (Once : (word : Word) (a b : A) → Is a word → Is b word → a ≡ b) where
@@ -56,10 +77,14 @@ says_one lists values one other is also =
     let rule =
     one_at_most (λ (r : CountRule) (word : Word). word ≡ rule_word r)
     (λ word a b p q. one_rule a b (sym p ∙ q)) Meek (values options.Rule) one.rule other.rule is.rule also.rule in
+    let places =
+    one_at_most (λ (p : Places) (word : Word). word ≡ places_word p)
+    (λ word a b p q. one_places a b (sym p ∙ q)) Nine (values options.Places) one.places other.places is.places
+    also.places in
     let omega_of =
     one_at_most (λ (o : ℕ) (word : Word). SaysOmega word o) (λ word a b p q. p.1 ∙ sym q.1) USUAL_OMEGA
     (values options.Omega) one.omega other.omega is.omega also.omega in
-    λ i. record { lots = lots i; rule = rule i; omega = omega_of i }
+    λ i. record { lots = lots i; rule = rule i; places = places i; omega = omega_of i }
 
 pub ask_one_thing : HaveOneLotList → AskOneThing
 ask_one_thing lists words one other is also =
@@ -75,6 +100,7 @@ same_values :
 same_values one other same asked says = record {
   lots = subst (λ (ws : List Word). AreLots ws asked.lots) (same options.Lots) says.lots;
   rule = subst (λ (ws : List Word). IsRule ws asked.rule) (same options.Rule) says.rule;
+  places = subst (λ (ws : List Word). ArePlaces ws asked.places) (same options.Places) says.places;
   omega = subst (λ (ws : List Word). IsOmega ws asked.omega) (same options.Omega) says.omega;
 }
 

@@ -10,7 +10,7 @@ use Rattle.check_words.specs.Pairs.{Said, words_of, only_at, values_of}
 use Rattle.check_words.specs.Values.{values_in}
 use Rattle.check_words.specs.declared.asked.Asked.{Asked}
 use Rattle.check_words.specs.declared.check_option.CheckOption.{CheckOption}
-use Rattle.check_words.specs.declared.check_option.CheckOption.TheVariants.{Lots, Rule, Omega}
+use Rattle.check_words.specs.declared.check_option.CheckOption.TheVariants.{Lots, Rule, Places, Omega}
 use Rattle.check_words.specs.declared.values.Values.{Values}
 
 -- the letter behind the hyphens
@@ -21,17 +21,25 @@ pub one_option : (one other : CheckOption) → flag_of one ≡ flag_of other →
 unfolding letter
 one_option Lots Lots e = refl
 one_option Lots Rule e = absurd (omega (arith, ap letter e))
+one_option Lots Places e = absurd (omega (arith, ap letter e))
 one_option Lots Omega e = absurd (omega (arith, ap letter e))
 one_option Rule Lots e = absurd (omega (arith, ap letter e))
 one_option Rule Rule e = refl
+one_option Rule Places e = absurd (omega (arith, ap letter e))
 one_option Rule Omega e = absurd (omega (arith, ap letter e))
+one_option Places Lots e = absurd (omega (arith, ap letter e))
+one_option Places Rule e = absurd (omega (arith, ap letter e))
+one_option Places Places e = refl
+one_option Places Omega e = absurd (omega (arith, ap letter e))
 one_option Omega Lots e = absurd (omega (arith, ap letter e))
 one_option Omega Rule e = absurd (omega (arith, ap letter e))
+one_option Omega Places e = absurd (omega (arith, ap letter e))
 one_option Omega Omega e = refl
 
 itself : (option : CheckOption) → same_option option option ≡ true
 itself Lots = refl
 itself Rule = refl
+itself Places = refl
 itself Omega = refl
 
 -- Pairs at the front of words are those that the words begin with, and behind them the words are pairs too.
@@ -120,6 +128,7 @@ said_once :
     → length (values option) ≤ 1
 said_once values asked says Lots = just_once _ (values Lots) says.lots
 said_once values asked says Rule = most_once _ _ (values Rule) says.rule
+said_once values asked says Places = most_once _ _ (values Places) says.places
 said_once values asked says Omega = most_once _ _ (values Omega) says.omega
 
 some_length : (values : List Word) → values ≢ [] → 1 ≤ length values

@@ -6,15 +6,17 @@ use Rattle.std.specs.Char.{is_ascii_digit}
 use Rattle.std.proofs.lemmas.List.Elements.{All-cons, All-nil}
 use Rattle.std.proofs.lemmas.List.Sums.{AllPass-from_list_all}
 use Rattle.meek_words.specs.Numerals.{Word, IsNumeral, IsNumeralUpTo, IsLotList, number_of}
-use Rattle.check_words.specs.Asks.{Says, rule_word}
+use Rattle.check_words.specs.Asks.{Says, places_word, rule_word}
 use Rattle.check_words.specs.Options.{flag_of}
 use Rattle.check_words.specs.Pairs.{Said, words_of, values_of}
-use Rattle.check_words.specs.Worked.{AskNothing, AcceptedWords, RefusedWords, lots, rule, omega_is}
+use Rattle.check_words.specs.Worked.{AskNothing, AcceptedWords, RefusedWords, lots, rule, places_are, omega_is}
 use Rattle.check_words.specs.declared.asked.Asked.{Asked}
 use Rattle.check_words.specs.declared.check_option.CheckOption.{CheckOption}
-use Rattle.check_words.specs.declared.check_option.CheckOption.TheVariants.{Lots, Rule, Omega}
+use Rattle.check_words.specs.declared.check_option.CheckOption.TheVariants.{Lots, Rule, Places as PlacesOption, Omega}
 use Rattle.check_words.specs.declared.count_rule.CountRule.{CountRule}
 use Rattle.check_words.specs.declared.count_rule.CountRule.TheVariants.{Meek, Warren}
+use Rattle.check_words.specs.declared.places.Places.{Places}
+use Rattle.check_words.specs.declared.places.Places.TheVariants.{Six, Seven, Eight, Nine}
 use Rattle.check_words.proofs.OneLemmas.{same_pairs}
 
 abbrev said : CheckOption → Word → Said
@@ -38,9 +40,22 @@ no_rule_word : (rule : CountRule) → codes "Meek" ≡ rule_word rule → ⊥
 no_rule_word Meek e = omega (arith, ap (λ (w : Word). get_or w 0 0) e)
 no_rule_word Warren e = omega (arith, ap (λ (w : Word). get_or w 0 0) e)
 
-no_flag : (option : CheckOption) → codes "--places" ≡ flag_of option → ⊥
+not_five : (places : Places) → codes "5" ≡ places_word places → ⊥
+not_five Six e = omega (arith, ap (λ (w : Word). get_or w 0 0) e)
+not_five Seven e = omega (arith, ap (λ (w : Word). get_or w 0 0) e)
+not_five Eight e = omega (arith, ap (λ (w : Word). get_or w 0 0) e)
+not_five Nine e = omega (arith, ap (λ (w : Word). get_or w 0 0) e)
+
+not_two_digits : (word : Word) → length word ≡ 2 → (places : Places) → word ≡ places_word places → ⊥
+not_two_digits word two Six e = omega (arith, two, ap length e)
+not_two_digits word two Seven e = omega (arith, two, ap length e)
+not_two_digits word two Eight e = omega (arith, two, ap length e)
+not_two_digits word two Nine e = omega (arith, two, ap length e)
+
+no_flag : (option : CheckOption) → codes "--place" ≡ flag_of option → ⊥
 no_flag Lots e = omega (arith, ap (λ (w : Word). get_or w 2 0) e)
 no_flag Rule e = omega (arith, ap (λ (w : Word). get_or w 2 0) e)
+no_flag PlacesOption e = omega (arith, ap length e)
 no_flag Omega e = omega (arith, ap (λ (w : Word). get_or w 2 0) e)
 
 -- the third of some words is an option, where they are pairs
@@ -64,6 +79,22 @@ refused_words = record {
   no_rule =
       refused (lots (codes "1,2") ++ rule (codes "Meek")) (said Lots (codes "1,2") ∷ said Rule (codes "Meek") ∷ []) refl
       (λ asked says. no_rule_word asked.rule says.rule);
+  places_twice =
+      refused (lots (codes "1,2") ++ places_are (codes "9") ++ places_are (codes "9"))
+      (said Lots (codes "1,2") ∷ said PlacesOption (codes "9") ∷ said PlacesOption (codes "9") ∷ []) refl
+      (λ asked says. says.places);
+  five_places =
+      refused (lots (codes "1,2") ++ places_are (codes "5"))
+      (said Lots (codes "1,2") ∷ said PlacesOption (codes "5") ∷ []) refl
+      (λ asked says. not_five asked.places says.places);
+  ten_places =
+      refused (lots (codes "1,2") ++ places_are (codes "10"))
+      (said Lots (codes "1,2") ∷ said PlacesOption (codes "10") ∷ []) refl
+      (λ asked says. not_two_digits (codes "10") refl asked.places says.places);
+  no_zero_before =
+      refused (lots (codes "1,2") ++ places_are (codes "09"))
+      (said Lots (codes "1,2") ∷ said PlacesOption (codes "09") ∷ []) refl
+      (λ asked says. not_two_digits (codes "09") refl asked.places says.places);
   omega_of_nothing =
       refused (lots (codes "1,2") ++ omega_is (codes "0")) (said Lots (codes "1,2") ∷ said Omega (codes "0") ∷ []) refl
       (λ asked says. let value : number_of (codes "0") ≡ 0 = refl in omega (arith, says.omega.0.least, value));
@@ -75,7 +106,7 @@ refused_words = record {
   no_value = λ asked asks. omega (arith, ap length asks.spelled, even asks.pairs);
   another_option = λ asked asks.
       let flag =
-      third (lots (codes "1,2") ++ codes "--places" ∷ codes "9" ∷ []) asks.pairs (omega arith) asks.spelled in
+      third (lots (codes "1,2") ++ codes "--place" ∷ codes "9" ∷ []) asks.pairs (omega arith) asks.spelled in
       no_flag flag.0 flag.1;
 }
 
@@ -113,14 +144,30 @@ accepted_words = record {
   lots_alone = record {
     pairs = said Lots (codes "2,1") ∷ [];
     spelled = refl;
-    says = record { lots = two_one; rule = refl; omega = refl };
+    says = record { lots = two_one; rule = refl; places = refl; omega = refl };
+  };
+  six_places = record {
+    pairs = said PlacesOption (codes "6") ∷ said Lots (codes "2,1") ∷ [];
+    spelled = refl;
+    says = record { lots = two_one; rule = refl; places = refl; omega = refl };
+  };
+  seven_places = record {
+    pairs = said PlacesOption (codes "7") ∷ said Lots (codes "2,1") ∷ [];
+    spelled = refl;
+    says = record { lots = two_one; rule = refl; places = refl; omega = refl };
+  };
+  eight_places = record {
+    pairs = said Lots (codes "2,1") ∷ said PlacesOption (codes "8") ∷ [];
+    spelled = refl;
+    says = record { lots = two_one; rule = refl; places = refl; omega = refl };
   };
   usual_said = record {
-    pairs = said Lots (codes "2,1") ∷ said Rule (codes "meek") ∷ said Omega (codes "1000") ∷ [];
+    pairs = said Lots (codes "2,1") ∷ said Rule (codes "meek") ∷ said PlacesOption (codes "9") ∷ said Omega (codes "1000") ∷ [];
     spelled = refl;
     says = record {
       lots = two_one;
       rule = refl;
+      places = refl;
       omega = (numeral (codes "1000") 1000 refl (omega arith) (omega arith) refl (omega arith) (omega arith), refl);
     };
   };
@@ -130,6 +177,7 @@ accepted_words = record {
     says = record {
       lots = two_one;
       rule = refl;
+      places = refl;
       omega = (numeral (codes "1") 1 refl (omega arith) (omega arith) refl (omega arith) (omega arith), refl);
     };
   };
@@ -139,6 +187,7 @@ accepted_words = record {
     says = record {
       lots = two_one;
       rule = refl;
+      places = refl;
       omega = (
         numeral (codes "1000000") 1000000 refl (omega arith) (omega arith) refl (omega arith) (omega arith),
         refl,

@@ -9,6 +9,8 @@ use Rattle.check_words.specs.declared.check_option.CheckOption.{CheckOption}
 use Rattle.check_words.specs.declared.check_option.CheckOption.TheVariants as options
 use Rattle.check_words.specs.declared.count_rule.CountRule.{CountRule}
 use Rattle.check_words.specs.declared.count_rule.CountRule.TheVariants.{Meek, Warren}
+use Rattle.check_words.specs.declared.places.Places.{Places}
+use Rattle.check_words.specs.declared.places.Places.TheVariants.{Six, Seven, Eight, Nine}
 
 -- just one value, of which P holds
 abbrev pub IsOnce : (Word → Type 0) → List Word → Type 0
@@ -33,6 +35,16 @@ rule_word Warren = codes "warren"
 abbrev pub IsRule : List Word → CountRule → Type 0
 IsRule values rule = IsAtMostOnce (rule ≡ Meek) (λ word. word ≡ rule_word rule) values
 
+abbrev pub places_word : Places → Word
+places_word Six = codes "6"
+places_word Seven = codes "7"
+places_word Eight = codes "8"
+places_word Nine = codes "9"
+
+-- one digit from 6 to 9; where none is said these are nine places
+abbrev pub ArePlaces : List Word → Places → Type 0
+ArePlaces values places = IsAtMostOnce (places ≡ Nine) (λ word. word ≡ places_word places) values
+
 -- a numeral of 1 to 1,000,000 units
 abbrev pub SaysOmega : Word → ℕ → Type 0
 SaysOmega word omega = IsNumeralUpTo MOST_OMEGA word × (omega ≡ number_of word)
@@ -45,6 +57,7 @@ IsOmega values omega = IsAtMostOnce (omega ≡ USUAL_OMEGA) (λ word. SaysOmega 
 pub record Says (values : CheckOption → List Word) (asked : Asked) : Type 0 where
   pub lots : AreLots (values options.Lots) asked.lots
   pub rule : IsRule (values options.Rule) asked.rule
+  pub places : ArePlaces (values options.Places) asked.places
   pub omega : IsOmega (values options.Omega) asked.omega
 
 -- the words are options with their values, in any order, which say this

@@ -16,6 +16,7 @@ words_in value = option_to_list (option_map (λ text. text.now) value)
 abbrev pub values_in : Values → CheckOption → List Word
 values_in values options.Lots = words_in values.lots
 values_in values options.Rule = words_in values.rule
+values_in values options.Places = words_in values.places
 values_in values options.Omega = words_in values.omega
 
 -- The words are pairs, and these are their values.

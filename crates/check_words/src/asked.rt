@@ -5,7 +5,7 @@ ghost use Rattle.check_words.specs.Values.{values_in};
 ghost use Rattle.check_words.specs.declared.asked.Asked.{Asked};
 
 use crate::values::Values;
-use crate::{CountRule, reading};
+use crate::{CountRule, Places, reading};
 use fixed_place::Omega;
 use meek_words::{LotWords, WordsStop};
 use std::alloc::Global;
@@ -16,6 +16,7 @@ pub struct Asked {
     /// As they were typed, before anybody compares them with a roll.
     pub lots: LotWords,
     pub rule: CountRule,
+    pub places: Places,
     /// In units of the sheet's last place.
     pub omega: Omega,
 }
@@ -29,6 +30,7 @@ impl Asked {
         Ok(Asked {
             lots: reading::lots(alloc, values.lots)?,
             rule: reading::rule(values.rule)?,
+            places: reading::places(values.places)?,
             omega: reading::omega(alloc, values.omega)?,
         })
     }

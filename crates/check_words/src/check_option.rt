@@ -8,6 +8,7 @@ ghost use Rattle.check_words.specs.declared.check_option.CheckOption.{CheckOptio
 pub(crate) enum CheckOption {
     Lots,
     Rule,
+    Places,
     Omega,
 }
 
@@ -20,6 +21,7 @@ impl CheckOption {
         match word {
             "--lots" => Some(CheckOption::Lots),
             "--rule" => Some(CheckOption::Rule),
+            "--places" => Some(CheckOption::Places),
             "--omega" => Some(CheckOption::Omega),
             _ => None,
         }

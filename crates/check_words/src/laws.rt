@@ -10,7 +10,7 @@ pub fn words_ask_one_thing()
     words_have_one_lot_list();
 }
 
-/// Words that are a list of lots and nothing else ask for Meek's rule and the usual omega.
+/// Words that are a list of lots and nothing else ask for Meek's rule, nine places and the usual omega.
 pub fn lots_alone_ask_for_the_usual()
     ensures { LotsAloneAskForTheUsual }
 {}

@@ -1,10 +1,11 @@
 // What the value of each option says.
 ghost use Rattle.std.specs.Prelude.{◌≡◌, ℕ, List, IfOk};
-ghost use Rattle.check_words.specs.Asks.{AreLots, IsRule, IsOmega, SaysOmega};
+ghost use Rattle.check_words.specs.Asks.{AreLots, ArePlaces, IsRule, IsOmega, SaysOmega};
 ghost use Rattle.check_words.specs.Values.{words_in};
 ghost use Rattle.check_words.specs.declared.count_rule.CountRule.{CountRule};
+ghost use Rattle.check_words.specs.declared.places.Places.{Places};
 
-use crate::CountRule;
+use crate::{CountRule, Places};
 use fixed_place::{MOST_OMEGA, Omega};
 use meek_words::{LotWords, WordsStop, read_lots};
 use number_word::read_number;
@@ -29,6 +30,20 @@ pub(crate) fn rule(value: Option<&str>) -> Result<CountRule, WordsStop>
     match value {
         None | Some("meek") => Ok(CountRule::Meek),
         Some("warren") => Ok(CountRule::Warren),
+        _ => Err(WordsStop::BadWords),
+    }
+}
+
+pub(crate) fn places(value: Option<&str>) -> Result<Places, WordsStop>
+    ensures accepted { IfOk result (ArePlaces (words_in value.entry)) }
+    ensures refused { result ≡ Err WordsStop.BadWords
+        → (places : Places) → ¬ (ArePlaces (words_in value.entry) places) }
+{
+    match value {
+        None | Some("9") => Ok(Places::Nine),
+        Some("8") => Ok(Places::Eight),
+        Some("7") => Ok(Places::Seven),
+        Some("6") => Ok(Places::Six),
         _ => Err(WordsStop::BadWords),
     }
 }

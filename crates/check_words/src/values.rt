@@ -15,6 +15,7 @@ use crate::check_option::CheckOption;
 pub(crate) struct Values<'a> {
     pub(crate) lots: Option<&'a str>,
     pub(crate) rule: Option<&'a str>,
+    pub(crate) places: Option<&'a str>,
     pub(crate) omega: Option<&'a str>,
 }
 
@@ -27,6 +28,7 @@ pub(crate) fn values_of<'a>(words: &'a [String]) -> Option<Values<'a>>
     let mut values = Values {
         lots: None,
         rule: None,
+        places: None,
         omega: None,
     };
     let mut rest = words;
@@ -65,6 +67,7 @@ fn with<'a>(values: Values<'a>, option: CheckOption, value: &'a str) -> Option<V
     let stands = match option {
         CheckOption::Lots => values.lots,
         CheckOption::Rule => values.rule,
+        CheckOption::Places => values.places,
         CheckOption::Omega => values.omega,
     };
     if stands.is_some() {
@@ -83,6 +86,7 @@ fn put<'a>(values: Values<'a>, option: CheckOption, value: &'a str) -> Values<'a
     match option {
         CheckOption::Lots => new.lots = Some(value),
         CheckOption::Rule => new.rule = Some(value),
+        CheckOption::Places => new.places = Some(value),
         CheckOption::Omega => new.omega = Some(value),
     }
     new

@@ -162,7 +162,7 @@ pub judged_front :
     (sink : Writing) → length input ≤ SHEET_LIMIT
     → IsSplit input sheet file → front ≡ take (length sheet) input → length file ≤ FILE_LIMIT
     → IsContest asked.lots file (record { election = election; lots = lots })
-    → terms ≡ record { lots = lots; rule = asked.rule; omega = asked.omega }
+    → terms ≡ record { lots = lots; rule = asked.rule; places = asked.places; omega = asked.omega }
     → FinishesOwed (IsOwedVerdict (poll election) terms front) end sink
     → FinishesOwed (IsOwedFor audits asked input no_history) end sink
 judged_front asked input sheet file front lots election terms end sink short split same fits is terms_are finishes =
@@ -170,7 +170,7 @@ judged_front asked input sheet file front lots election terms end sink short spl
     (subst (λ (l : List ℕ). IsContest asked.lots file (record { election = election; lots = l }))
     (sym (ap (λ (t : Terms). t.lots) terms_are)) is)
     (terms_are
-    ∙ ap (λ (l : List ℕ). let t : Terms = record { lots = l; rule = asked.rule; omega = asked.omega } in t)
+    ∙ ap (λ (l : List ℕ). let t : Terms = record { lots = l; rule = asked.rule; places = asked.places; omega = asked.omega } in t)
     is.lots_are)
     (subst (λ (s : List ℕ). FinishesOwed (IsOwedVerdict (poll election) terms s) end sink)
     (same ∙ front_is_sheet input sheet file split) finishes)

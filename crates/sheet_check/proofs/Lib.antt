@@ -1,6 +1,6 @@
 pub mod Differences
 mod FirstDifferences
-mod OwnPlaces
+mod FormLemmas
 mod Verdicts
 mod TrueSheets
 mod Counted

@@ -1,78 +1,54 @@
--- The verdict on the sheet of a count is that it is true.
-use Rattle.std.proofs.Common.{◌≡◌, ℕ, ◌<◌, ◌≤◌, List, [], ◌∷◌, length, refl, arith}
-use Rattle.std.specs.Prelude.{◌≢◌}
+-- The verdict on the sheet of a count is that it is true by the terms of the count, and by no other places.
+use Rattle.std.proofs.Common.{ℕ, ◌≤◌, List, length, arith}
 use Rattle.candidate_roll.specs.Roll.{RollList}
-use Rattle.candidate_roll.specs.declared.state.State.{State}
-use Rattle.meek_rule.specs.Row.{Row}
-use Rattle.meek_count.specs.Rows.{IsCountUnder}
-use Rattle.sheet_text.specs.Lines.{text_of_lines}
-use Rattle.sheet_text.specs.Sheet.{sheet_lines}
+use Rattle.check_words.specs.declared.places.Places.{Places}
+use Rattle.check_words.specs.declared.places.Places.TheVariants.{Six, Seven, Eight, Nine}
 use Rattle.sheet_reader.specs.Form.{HasForm}
-use Rattle.sheet_reader.specs.Laws.{values_of}
-use Rattle.sheet_reader.specs.Laws.{IterationsSayTheirPlaces, NoIterationSaysNoPlaces, SheetsHaveTheForm}
-use Rattle.sheet_check.specs.declared.verdict.Verdict.TheVariants.{True}
-use Rattle.sheet_check.specs.Judged.{HasOwnPlaces, IsForm, IsVerdict}
-use Rattle.sheet_check.specs.Laws.{SheetsAreTrue}
-use Rattle.sheet_check.specs.Terms.{rule_of}
-use Rattle.sheet_check.proofs.OwnPlaces.{none_above_nine}
+use Rattle.sheet_reader.specs.Laws.{HasNames, values_of}
+use Rattle.sheet_reader.specs.Laws.{IterationsSayTheirPlaces, SheetsHaveTheForm}
+use Rattle.sheet_reader.specs.Values.{SheetList}
+use Rattle.sheet_check.specs.declared.terms.Terms.{Terms}
+use Rattle.sheet_check.specs.Laws.{CanBeCounted, OtherPlacesAreNotTrue, SheetsAreTrue}
+use Rattle.sheet_check.specs.Terms.{IsSheetBy, places_of, rule_of}
 
-not_empty : (row : Row) (rows : List Row) → row ∷ rows ≢ []
-not_empty row rows e = absurd cc
+at_least_six : (places : Places) → 6 ≤ places_of places
+at_least_six Six = omega arith
+at_least_six Seven = omega arith
+at_least_six Eight = omega arith
+at_least_six Nine = omega arith
 
--- a text with an iteration has the form at one number of places, so that is its own
-own_of_some :
-    IterationsSayTheirPlaces
-    → (places : ℕ) (text : List ℕ) (roll : RollList) (ballots : ℕ) (row : Row) (rows : List Row) (last : List State)
-    → 6 ≤ places → places ≤ 9 → HasForm places text (values_of roll ballots (row ∷ rows) last) → HasOwnPlaces text places
-own_of_some say places text roll ballots row rows last from few form = record {
-  from = from;
-  to = few;
-  form = (values_of roll ballots (row ∷ rows) last, form);
-  greatest = none;
-}
-  where
-    none : (other : ℕ) → places < other → other ≤ 9 → ¬ (IsForm other text)
-    none other above fits (values, also) =
-        let same : places ≡ other =
-        say places other text (values_of roll ballots (row ∷ rows) last) values from few (omega (arith, from, above)) fits
-        form also (not_empty row rows) in
-        omega (arith, above, same)
+at_most_nine : (places : Places) → places_of places ≤ 9
+at_most_nine Six = omega arith
+at_most_nine Seven = omega arith
+at_most_nine Eight = omega arith
+at_most_nine Nine = omega arith
 
--- one without any has it at nine
-own_of_none :
-    NoIterationSaysNoPlaces
-    → (places : ℕ) (text : List ℕ) (roll : RollList) (ballots : ℕ) (last : List State)
-    → HasForm places text (values_of roll ballots [] last) → HasOwnPlaces text 9
-own_of_none say places text roll ballots last form = record {
-  from = omega arith;
-  to = omega arith;
-  form = (values_of roll ballots [] last, say places 9 text (values_of roll ballots [] last) form refl);
-  greatest = none_above_nine text;
-}
+-- A sheet by some terms has the form at their places.
+module _ (forms : SheetsHaveTheForm) where
+  form_of :
+      (terms : Terms) (ballots : List (List ℕ)) (roll : RollList) (text : List ℕ) → CanBeCounted terms ballots roll
+      → HasNames roll → IsSheetBy terms (places_of terms.places) ballots roll text
+      → (values : SheetList) × HasForm (places_of terms.places) text values
+  form_of terms ballots roll text election named (rows, last, counted, is) = (
+    values_of roll (length ballots) rows last,
+    forms (rule_of terms.rule) (places_of terms.places) terms.omega ballots roll terms.lots text rows last election named
+        (rows, last, counted, is) counted,
+  )
 
-pub sheets_true : SheetsHaveTheForm → IterationsSayTheirPlaces → NoIterationSaysNoPlaces → SheetsAreTrue
-sheets_true forms say none terms places ballots roll text election named sheet = by sheet.0 sheet.2 sheet.3
-  where
-    last : List State
-    last = sheet.1
+  pub sheets_true : SheetsAreTrue
+  sheets_true terms ballots roll text election named sheet = (
+    (
+      places_of terms.places,
+      at_least_six terms.places,
+      at_most_nine terms.places,
+      form_of terms ballots roll text election named sheet,
+    ),
+    sheet,
+  )
 
-    form :
-        (rows : List Row) → IsCountUnder (rule_of terms.rule) places terms.omega ballots roll terms.lots rows last
-        → text ≡ text_of_lines (sheet_lines places roll (length ballots) rows last)
-        → HasForm places text (values_of roll (length ballots) rows last)
-    form rows counted is =
-        forms (rule_of terms.rule) places terms.omega ballots roll terms.lots text rows last election named
-        (rows, last, counted, is) counted
-
-    by :
-        (rows : List Row) → IsCountUnder (rule_of terms.rule) places terms.omega ballots roll terms.lots rows last
-        → text ≡ text_of_lines (sheet_lines places roll (length ballots) rows last)
-        → IsVerdict terms ballots roll text True
-    by [] counted is =
-        (9, own_of_none none places text roll (length ballots) last (form [] counted is), ([], last, counted, is))
-    by (row ∷ rows) counted is = (
-      places,
-      own_of_some say places text roll (length ballots) row rows last election.places_from election.places_to
-          (form (row ∷ rows) counted is),
-      (row ∷ rows, last, counted, is),
-    )
+  pub other_places : IterationsSayTheirPlaces → OtherPlacesAreNotTrue
+  other_places say terms places ballots roll text values election named from to form some other (has, sheet) =
+      let mine = form_of terms ballots roll text election named sheet in
+      other
+      (say places (places_of terms.places) text values mine.0 from to (at_least_six terms.places)
+      (at_most_nine terms.places) form mine.1 some)

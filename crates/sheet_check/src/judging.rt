@@ -2,18 +2,20 @@
 ghost use Rattle.std.specs.Prelude.{◌≡◌, ◌≤◌, IfOk, length};
 ghost use Rattle.plain_ballots.specs.Ballots.{plain};
 ghost use Rattle.sheet_check.specs.Judged.{Compares, IsVerdict};
+ghost use Rattle.sheet_check.specs.Terms.{places_of};
 
 use crate::comparing::Comparing;
 use crate::counting::write_sheet_by;
-use crate::own_places::own_places;
+use crate::forms::has_some_form;
 use crate::{NoMemory, Terms, Verdict};
 use blt_reader::Election;
+use check_words::Places;
 use std::alloc::Global;
 use std::thread::Threads;
 
 /// The verdict on a text that is held to be the sheet of an election by these terms, whose lots are of its
-/// candidates. The count is run again, at the text's own places, by one worker; what it writes is compared
-/// with the text as it comes, and kept nowhere. The ballots are let go before the count begins.
+/// candidates. The count is run again by one worker; what it writes is compared with the text as it comes,
+/// and kept nowhere. The ballots are let go before the count begins.
 pub fn judge<R: Threads + Sync>(
     rt: &R,
     alloc: Global,
@@ -25,38 +27,33 @@ pub fn judge<R: Threads + Sync>(
     requires ballots_of_all { election.ballots.candidates ≡ length election.roll.names }
     ensures { IfOk result (IsVerdict terms.now (plain election.ballots.lines) election.roll bytes.now) }
 {
-    let Some(places) = own_places(alloc, bytes)? else {
+    if !has_some_form(alloc, bytes)? {
         return Ok(Verdict::Malformed);
-    };
-    match difference_at(rt, alloc, bytes, election, terms, places)? {
+    }
+    match difference_at(rt, alloc, bytes, election, terms)? {
         Some(line) => Ok(Verdict::False(line)),
         None => Ok(Verdict::True),
     }
 }
 
-/// The first line in which a text differs from the sheet of an election at so many places.
+/// The first line in which a text differs from the sheet of an election by these terms.
 fn difference_at<R: Threads + Sync>(
     rt: &R,
     alloc: Global,
     bytes: &[u8],
     election: Election,
     terms: &Terms,
-    places: u32,
 ) -> Result<Option<u64>, NoMemory>
-    requires places { (6 ≤ places) × (places ≤ 9) }
     requires lots_of_all { length terms.now.lots ≡ length election.roll.names }
     requires ballots_of_all { election.ballots.candidates ≡ length election.roll.names }
-    ensures { IfOk result (Compares terms.now places (plain election.ballots.lines) election.roll bytes.now) }
+    ensures { IfOk result (Compares terms.now (places_of terms.now.places) (plain election.ballots.lines) election.roll bytes.now) }
 {
-    macro_rules! at_places {
-        ($($at:literal)*) => {
-            match places {
-                $($at => first_difference::<$at, R>(rt, alloc, bytes, election, terms),)*
-                _ => unreachable!(),
-            }
-        };
+    match terms.places {
+        Places::Six => first_difference::<6, R>(rt, alloc, bytes, election, terms),
+        Places::Seven => first_difference::<7, R>(rt, alloc, bytes, election, terms),
+        Places::Eight => first_difference::<8, R>(rt, alloc, bytes, election, terms),
+        Places::Nine => first_difference::<9, R>(rt, alloc, bytes, election, terms),
     }
-    at_places!(6 7 8 9)
 }
 
 /// The first line in which a text differs from the sheet of an election at `P` places, none where it is

@@ -1,19 +1,19 @@
 //! Whether a text is the sheet of an election: the count is run again, and what it writes is compared
 //! with the text as it comes.
 //!
-//! [`judge`] gives the verdict on a text and an election by the [`Terms`] of a count, at the text's own
-//! number of places; [`verdicts_are_unique`] says that each text has one, and [`sheets_are_true`] that the
-//! verdict on a sheet is that it is true. [`Comparing`] is the sink that compares, for any text. [`check`]
+//! [`judge`] gives the verdict on a text and an election by the [`Terms`] of a count;
+//! [`verdicts_are_unique`] says that each text has one, and [`sheets_are_true`] that the verdict on a sheet
+//! is that it is true by the terms of its count, and by no other places. [`Comparing`] is the sink that compares, for any text. [`check`]
 //! is the whole tool, over an input that is a sheet and behind it a ballot file.
 #![tactic(auto)]
 
 mod behind;
 mod comparing;
 mod counting;
+mod forms;
 mod judging;
 mod laws;
 mod no_memory;
-mod own_places;
 mod split;
 mod terms;
 mod tool;

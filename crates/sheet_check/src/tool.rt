@@ -24,7 +24,7 @@ use tool_edge::{
 };
 
 /// Checks the sheet at the front of the input against the ballot file behind it, counted with the lots,
-/// the rule and the omega of the words at the sheet's own places, and writes the verdict.
+/// the rule, the places and the omega of the words, and writes the verdict.
 pub fn check<R: Threads + Sync, S: Source, K: Sink>(
     rt: &R,
     alloc: Global,
@@ -70,6 +70,7 @@ fn check_input<R: Threads + Sync, K: Sink>(
             let terms = Terms {
                 lots,
                 rule: asked.rule,
+                places: asked.places,
                 omega: asked.omega,
             };
             write_verdict(rt, alloc, input.as_slice(), election, &terms, sink)
