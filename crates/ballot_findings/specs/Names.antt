@@ -29,11 +29,11 @@ has_other_bytes names c = not (is_utf8 (name_of names c))
 abbrev pub is_between : (least most n : ℕ) → Bool
 is_between least most n = nat_le least n && nat_le n most
 
--- A character that turns the direction of what stands behind it or around it: U+200E, U+200F, U+202A to U+202E and
--- U+2066 to U+2069.
+-- A character that turns the direction of what comes after it or around it: U+061C, U+200E, U+200F, U+202A to U+202E
+-- and U+2066 to U+2069.
 abbrev pub is_directional : (character : ℕ) → Bool
 is_directional character =
-    is_between 0x200E 0x200F character || is_between 0x202A 0x202E character || is_between 0x2066 0x2069 character
+    character == 0x061C || is_between 0x200E 0x200F character || is_between 0x202A 0x202E character || is_between 0x2066 0x2069 character
 
 -- The name is a text, and one of its characters turns its direction.
 abbrev pub has_directional : (names : List (List ℕ)) → (c : ℕ) → Bool

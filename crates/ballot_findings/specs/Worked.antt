@@ -58,12 +58,14 @@ OddCounts =
     (line_of 2 (1 ∷ 2 ∷ []) ∷ line_of 1 (1 ∷ []) ∷ line_of 1 (1 ∷ 2 ∷ []) ∷ line_of 3 (1 ∷ []) ∷ []))
     ≡ codes "ballots 7\nlines 4\nempty 0\ncandidates 3\nseats 4\nwithdrawn 2 3\ntitle Board\nfirst 1 7 Ann\nfirst 2 0 Ben\nfirst 3 0 Cid\nmean 1.42\nequal 2\nlook more seats than candidates 3 2\nlook a seat for everybody who runs 3 2\nlook on no ballot 3 10 7\nlook ballots with withdrawn candidates 3 5 5\n"
 
--- At both ends of each range of marks: the character before it, the first and the last in it, and the one behind it.
+-- At both ends of each range of marks, of which the first is a single one: the character before it, the first and the last in
+-- it, and the next after it.
 abbrev pub Marks : Type 0
 Marks =
     map is_directional
-    (0x200D ∷ 0x200E ∷ 0x200F ∷ 0x2010 ∷ 0x2029 ∷ 0x202A ∷ 0x202E ∷ 0x202F ∷ 0x2065 ∷ 0x2066 ∷ 0x2069 ∷ 0x206A ∷ [])
-    ≡ false ∷ true ∷ true ∷ false ∷ false ∷ true ∷ true ∷ false ∷ false ∷ true ∷ true ∷ false ∷ []
+    (0x061B ∷ 0x061C ∷ 0x061D ∷ 0x200D ∷ 0x200E ∷ 0x200F ∷ 0x2010 ∷ 0x2029 ∷ 0x202A ∷ 0x202E ∷ 0x202F ∷ 0x2065 ∷ 0x2066
+    ∷ 0x2069 ∷ 0x206A ∷ [])
+    ≡ false ∷ true ∷ false ∷ false ∷ true ∷ true ∷ false ∷ false ∷ true ∷ true ∷ false ∷ false ∷ true ∷ true ∷ false ∷ []
 
 -- Three lines in eight bytes: a carriage return with a line feed behind it ends one line, a line feed with a carriage return
 -- behind it ends two.

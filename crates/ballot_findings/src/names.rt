@@ -90,7 +90,8 @@ fn is_directional(character: char) -> bool
     ensures { result ≡ is_directional character }
 {
     let code = character as u32;
-    (0x200E <= code && code <= 0x200F)
+    code == 0x061C
+        || (0x200E <= code && code <= 0x200F)
         || (0x202A <= code && code <= 0x202E)
         || (0x2066 <= code && code <= 0x2069)
 }
