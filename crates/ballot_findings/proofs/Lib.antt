@@ -4,10 +4,13 @@ mod Counting
 mod Repeats
 mod LineItems
 mod Texts
+mod Windows
+mod Firstly
 mod Told
 mod Plainly
-mod NameLaws
 mod CountLaws
+mod OddLaws
+mod NameLaws
 mod PlaceLaws
 mod Firsts
 mod SiteLemmas

@@ -1,18 +1,15 @@
 -- Which names want no look.
-use Rattle.std.proofs.Common.{◌≡◌, ◌≢◌, ℕ, Bool, true, false, List}
-use Rattle.std.proofs.Common.{refl, sym, inl, inr, length, All}
+use Rattle.std.proofs.Common.{◌≡◌, ◌≢◌, ℕ, Bool, true, false, List, ◌++◌}
+use Rattle.std.proofs.Common.{refl, sym, length}
 use Rattle.std.specs.Prelude.{◌&&◌, not, codes}
-use Rattle.std.specs.List.{list_any}
-use Rattle.std.specs.Str.{bytes_eq, chars, is_utf8}
-use Rattle.std.proofs.lemmas.Bool.{and_cases, and_left, and_right, cases_Bool, both_ways, false_from_ne_true}
-use Rattle.std.proofs.lemmas.Bool.{not-false, not_from_true}
-use Rattle.std.proofs.lemmas.List.Folds.{list_any_at, list_any_none}
+use Rattle.std.specs.Str.{bytes_eq}
+use Rattle.std.proofs.lemmas.Bool.{both_ways, false_from_ne_true}
 use Rattle.std.proofs.lemmas.Slice.Eq.{bytes_eq-Decides}
-use Rattle.std.proofs.lemmas.Str.{IsUtf8-from_is_utf8, is_utf8-from_IsUtf8}
-use Rattle.ballot_findings.specs.Names.{has_directional, has_other_bytes, have_like_names, have_one_name}
-use Rattle.ballot_findings.specs.Names.{is_directional, name_of, plainly}
-use Rattle.ballot_findings.specs.Laws.{LikeNamesAreTold, MarksAreTold, OneNameIsTold, OtherBytesAreTold}
-use Rattle.ballot_findings.proofs.Told.{candidates_told, pairs_told}
+use Rattle.ballot_findings.specs.Names.{have_like_names, have_one_name, name_of, plainly}
+use Rattle.ballot_findings.specs.Laws.{LikeNamesAreTold, OddNamesAreTold, OddTitlesAreTold, OneNameIsTold}
+use Rattle.ballot_findings.specs.Oddities.{is_odd, oddity_words}
+use Rattle.ballot_findings.proofs.OddLaws.{free}
+use Rattle.ballot_findings.proofs.Told.{candidates_told, not_written, pairs_told, unwritten}
 
 unequal : (a b : List ℕ) → bytes_eq a b ≡ false → a ≢ b
 unequal a b fails same = both_ways (bytes_eq a b) fails ((bytes_eq-Decides a b).1 same)
@@ -57,36 +54,17 @@ like_names input roll =
           (same c d of other less ((bytes_eq-Decides (plainly (name c)) (plainly (name d))).0 is)))),
     )
 
-pub other_bytes : OtherBytesAreTold
-other_bytes input roll =
-    let told = candidates_told input 108 (codes "ook name is not UTF-8") (length roll.names) (has_other_bytes roll.names) in
-    let name : ℕ → List ℕ = name_of roll.names in (
-      λ none c of. IsUtf8-from_is_utf8 (name c) (not-false (is_utf8 (name c)) (told.0 none c of)),
-      λ texts. told.1 (λ c of. not_from_true (is_utf8 (name c)) (is_utf8-from_IsUtf8 (name c) (texts c of))),
-    )
-
--- where none of a list passes, each fails
-none_of : (test : ℕ → Bool) (xs : List ℕ) → list_any test xs ≡ false → All (λ x. test x ≡ false) xs
-none_of test xs none k d below =
-    false_from_ne_true (test _) (λ is. both_ways (list_any test xs) none (list_any_at test xs k d below is))
-
-pub marks : MarksAreTold
-marks input roll =
+pub odd_names : OddNamesAreTold
+odd_names input roll oddity =
+    let name : ℕ → List ℕ = name_of roll.names in
     let told =
-    candidates_told input 108 (codes "ook name has a directional mark") (length roll.names)
-    (has_directional roll.names) in
-    let name : ℕ → List ℕ = name_of roll.names in (
-      λ none c of text.
-          elim (and_cases (is_utf8 (name c)) (list_any is_directional (chars (name c))) (told.0 none c of)) [
-            | inl other ↦ absurd (both_ways (is_utf8 (name c)) other (is_utf8-from_IsUtf8 (name c) text))
-            | inr plain ↦ none_of is_directional (chars (name c)) plain
-          ],
-      λ texts.
-          told.1 (λ c of.
-          elim (cases_Bool (is_utf8 (name c))) [
-            | inl text ↦
-                and_right (is_utf8 (name c)) (list_any is_directional (chars (name c)))
-                (list_any_none is_directional (chars (name c)) (texts c of (IsUtf8-from_is_utf8 (name c) text)))
-            | inr other ↦ and_left (is_utf8 (name c)) (list_any is_directional (chars (name c))) other
-          ]),
+    candidates_told input 108 (codes "ook name" ++ oddity_words oddity) (length roll.names) (λ c. is_odd oddity (name c)) in (
+      λ none c of. (free oddity (name c)).0 (told.0 none c of),
+      λ all. told.1 (λ c of. (free oddity (name c)).1 (all c of)),
     )
+
+pub odd_titles : OddTitlesAreTold
+odd_titles input roll oddity = (
+  λ none. (free oddity roll.title).0 (not_written (is_odd oddity roll.title) 108 _ none),
+  λ is. unwritten (is_odd oddity roll.title) _ ((free oddity roll.title).1 is),
+)

@@ -1,14 +1,19 @@
 -- Which places in a file want no look.
 use Rattle.std.proofs.Common.{◌≡◌, ◌∙◌, ℕ, ◌+◌, ◌≤◌, Bool, true, false, List, [], ◌∷◌, ◌++◌, length, drop}
 use Rattle.std.proofs.Common.{ap, arith, refl, sym}
-use Rattle.std.specs.Prelude.{◌==◌, ◌&&◌, not}
-use Rattle.std.proofs.lemmas.Bool.{eqb-true, eq-eqb, not-false}
+use Rattle.std.specs.Prelude.{◌==◌, ◌&&◌, not, codes}
+use Rattle.std.specs.List.{range_with_len}
+use Rattle.std.proofs.lemmas.Bool.{eqb-true, eq-eqb, not-false, not_from_true}
 use Rattle.std.proofs.lemmas.List.{drop_all, length-drop}
 use Rattle.input_text.specs.Token.{Placed}
 use Rattle.ballot_findings.specs.Breaks.{is_parted, parted_from, parted_lines, string_lines}
-use Rattle.ballot_findings.specs.Sites.{goes_on, strings, tokens_of}
+use Rattle.ballot_findings.specs.Lines.{place_line}
+use Rattle.ballot_findings.specs.Sites.{candidates_at, goes_on, seats_at, strings, tokens_of}
+use Rattle.ballot_findings.specs.Unseen.{is_far, is_lone}
 use Rattle.ballot_findings.specs.Places.{line_at}
-use Rattle.ballot_findings.specs.Laws.{BreaksAreTold, FurtherAreTold}
+use Rattle.ballot_findings.specs.Laws.{ApartIsTold, BreaksAreTold, FarIsTold, FurtherAreTold, ReturnsAreTold}
+use Rattle.ballot_findings.proofs.Firstly.{first_none, none_first}
+use Rattle.ballot_findings.proofs.OddLaws.{none_of}
 use Rattle.ballot_findings.proofs.Told.{back_none, front_none, not_written, unwritten}
 
 -- ---- ballots that a line break parts
@@ -93,4 +98,32 @@ further input candidates =
     let all = strings (tokens_of input) in (
       λ none. few_left n all (lines_of_none input (drop n all) none),
       λ few. ap (string_lines input) (drop_all n all few),
+    )
+
+-- ---- the number of seats, and what a reader may not see
+
+pub apart : ApartIsTold
+apart input =
+    let candidates = line_at input (candidates_at input) in
+    let seats = line_at input (seats_at input) in (
+      λ none. eqb-true candidates seats (not-false (candidates == seats) (not_written (not (candidates == seats)) 108 _ none)),
+      λ same. unwritten (not (candidates == seats)) _ (not_from_true (candidates == seats) (eq-eqb candidates seats same)),
+    )
+
+pub far : FarIsTold
+far input =
+    let test : Placed → Bool = λ t. is_far input t.at in
+    let line : Placed → List ℕ = λ t. place_line input (codes "look hidden by blanks") [] t.at in
+    let all = none_of test (tokens_of input) in (
+      λ none. all.0 (first_none test line (λ t empty. absurd (cc)) (tokens_of input) none),
+      λ each. none_first test line (tokens_of input) (all.1 each),
+    )
+
+pub returns : ReturnsAreTold
+returns input =
+    let line : ℕ → List ℕ = place_line input (codes "look line ends with a carriage return alone") [] in
+    let places = range_with_len 0 (length input) in
+    let all = none_of (is_lone input) places in (
+      λ none. all.0 (first_none (is_lone input) line (λ p empty. absurd (cc)) places none),
+      λ each. none_first (is_lone input) line places (all.1 each),
     )

@@ -6,6 +6,7 @@ use Rattle.tool_edge.specs.declared.opening.TheConstants.{FILE_LIMIT}
 use Rattle.ballot_findings.specs.Lines.{only_if, place_line}
 use Rattle.ballot_findings.specs.Places.{line_at}
 use Rattle.ballot_findings.specs.Sites.{goes_on, strings, tokens_of}
+use Rattle.ballot_findings.specs.Unseen.{apart_lines, far_lines, return_lines}
 
 -- ---- ballots that a line break parts
 
@@ -47,4 +48,6 @@ longer_lines most input =
 
 -- what of the text of a file wants a look
 abbrev pub place_warnings : (input : List ℕ) → (candidates : ℕ) → List ℕ
-place_warnings input candidates = break_lines input ++ further_lines input candidates ++ longer_lines FILE_LIMIT input
+place_warnings input candidates =
+    apart_lines input ++ break_lines input ++ further_lines input candidates ++ far_lines input ++ return_lines input
+    ++ longer_lines FILE_LIMIT input

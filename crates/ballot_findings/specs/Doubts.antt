@@ -2,20 +2,19 @@
 use Rattle.std.specs.Prelude.{ℕ, Bool, not, List, codes}
 use Rattle.candidate_roll.specs.Roll.{RollList}
 use Rattle.ballot_findings.specs.declared.doubt.Doubt.{Doubt}
-use Rattle.ballot_findings.specs.declared.doubt.Doubt.TheVariants.{OtherBytes, Directional, Unranked}
+use Rattle.ballot_findings.specs.declared.doubt.Doubt.TheVariants.{Name, Unranked}
 use Rattle.ballot_findings.specs.declared.likeness.Likeness.{Likeness}
 use Rattle.ballot_findings.specs.declared.likeness.Likeness.TheVariants.{Same, Similar}
-use Rattle.ballot_findings.specs.Names.{has_directional, has_other_bytes, have_like_names, have_one_name}
+use Rattle.ballot_findings.specs.Names.{have_like_names, have_one_name, name_of}
+use Rattle.ballot_findings.specs.Oddities.{is_odd, name_words}
 use Rattle.ballot_findings.specs.Tally.{TallyList, was_ranked}
 
 abbrev pub doubt_words : Doubt → List ℕ
-doubt_words OtherBytes = codes "look name is not UTF-8"
-doubt_words Directional = codes "look name has a directional mark"
+doubt_words (Name oddity) = name_words oddity
 doubt_words Unranked = codes "look on no ballot"
 
 abbrev pub is_doubtful : Doubt → RollList → TallyList → (c : ℕ) → Bool
-is_doubtful OtherBytes roll tally c = has_other_bytes roll.names c
-is_doubtful Directional roll tally c = has_directional roll.names c
+is_doubtful (Name oddity) roll tally c = is_odd oddity (name_of roll.names c)
 is_doubtful Unranked roll tally c = not (was_ranked tally c)
 
 abbrev pub like_words : Likeness → List ℕ

@@ -1,7 +1,6 @@
 -- What holds of all files: which of them want no look, and what first preferences come to.
 use Rattle.std.specs.Prelude.{◌≡◌, ◌≢◌, ◌↔◌, ◌<◌, ◌≤◌, ◌+◌, ℕ, Bool, true, false, List, [], ◌∷◌, ◌++◌, length, map, sum_by, take, drop, All, Contains}
 use Rattle.std.specs.List.{filter, flat_map, range_with_len}
-use Rattle.std.specs.Str.{IsUtf8, chars}
 use Rattle.plain_ballots.specs.declared.ballot_line.BallotLine.{BallotLine}
 use Rattle.plain_ballots.specs.Ballots.{ballot_count, plain}
 use Rattle.plain_ballots.specs.Ranking.{IsRanking}
@@ -11,11 +10,14 @@ use Rattle.input_text.specs.Refusal.{items_of}
 use Rattle.blt_reader.specs.Poll.{Poll}
 use Rattle.tool_edge.specs.Contest.{SaysPoll}
 use Rattle.ballot_findings.specs.Breaks.{break_lines, further_lines}
-use Rattle.ballot_findings.specs.Sites.{goes_on, strings, tokens_of, withdrawn_ranks}
+use Rattle.ballot_findings.specs.Sites.{candidates_at, goes_on, seats_at, strings, tokens_of, withdrawn_ranks}
+use Rattle.ballot_findings.specs.Unseen.{apart_lines, far_lines, is_far, is_lone, return_lines}
 use Rattle.ballot_findings.specs.Places.{line_at}
 use Rattle.ballot_findings.specs.Counts.{has_first, how_many, is_empty, ranks_withdrawn, is_ranked}
-use Rattle.ballot_findings.specs.Names.{is_directional, name_of, plainly, running}
-use Rattle.ballot_findings.specs.Lines.{directional_lines, enough_seats_lines, like_name_lines, many_seats_lines, one_name_lines, other_bytes_lines, unranked_lines, withdrawn_lines}
+use Rattle.ballot_findings.specs.declared.oddity.Oddity.{Oddity}
+use Rattle.ballot_findings.specs.Free.{IsFree}
+use Rattle.ballot_findings.specs.Names.{name_of, plainly, running}
+use Rattle.ballot_findings.specs.Lines.{enough_seats_lines, like_name_lines, many_seats_lines, odd_name_lines, odd_title_lines, one_name_lines, unranked_lines, withdrawn_lines}
 
 -- the number of a candidate of this roll
 abbrev pub IsOf : RollList → (c : ℕ) → Type 0
@@ -36,19 +38,17 @@ LikeNamesAreTold =
     ↔ ((c d : ℕ) → IsOf roll c → IsOf roll d → c < d
     → plainly (name_of roll.names c) ≡ plainly (name_of roll.names d) → name_of roll.names c ≡ name_of roll.names d)
 
--- Nobody is warned of other bytes exactly where each name is UTF-8.
-abbrev pub OtherBytesAreTold : Type 0
-OtherBytesAreTold =
-    (input : List ℕ) (roll : RollList)
-    → (other_bytes_lines input roll ≡ []) ↔ ((c : ℕ) → IsOf roll c → IsUtf8 (name_of roll.names c))
+-- Nobody is warned of an oddity of names exactly where each name is free of it.
+abbrev pub OddNamesAreTold : Type 0
+OddNamesAreTold =
+    (input : List ℕ) (roll : RollList) (oddity : Oddity)
+    → (odd_name_lines input roll oddity ≡ []) ↔ ((c : ℕ) → IsOf roll c → IsFree oddity (name_of roll.names c))
 
--- Nobody is warned of marks exactly where no character of a name that is a text turns its direction.
-abbrev pub MarksAreTold : Type 0
-MarksAreTold =
-    (input : List ℕ) (roll : RollList)
-    → (directional_lines input roll ≡ [])
-    ↔ ((c : ℕ) → IsOf roll c → IsUtf8 (name_of roll.names c)
-    → All (λ character. is_directional character ≡ false) (chars (name_of roll.names c)))
+-- Nobody is warned of an oddity of the title exactly where the title is free of it.
+abbrev pub OddTitlesAreTold : Type 0
+OddTitlesAreTold =
+    (input : List ℕ) (roll : RollList) (oddity : Oddity)
+    → (odd_title_lines input roll oddity ≡ []) ↔ IsFree oddity roll.title
 
 -- Nobody is warned of seats exactly where there are not more than candidates, and fewer than candidates who run.
 abbrev pub SeatsAreTold : Type 0
@@ -93,6 +93,21 @@ abbrev pub FurtherAreTold : Type 0
 FurtherAreTold =
     (input : List ℕ) (candidates : ℕ)
     → (further_lines input candidates ≡ []) ↔ (length (strings (tokens_of input)) ≤ candidates + 1)
+
+-- Nobody is warned of the number of seats exactly where it is on the line of the number of candidates.
+abbrev pub ApartIsTold : Type 0
+ApartIsTold =
+    (input : List ℕ) → (apart_lines input ≡ []) ↔ (line_at input (candidates_at input) ≡ line_at input (seats_at input))
+
+-- Nobody is warned of blanks exactly where before no number and no string a hundred of them are.
+abbrev pub FarIsTold : Type 0
+FarIsTold = (input : List ℕ) → (far_lines input ≡ []) ↔ All (λ token. is_far input token.at ≡ false) (tokens_of input)
+
+-- Nobody is warned of carriage returns exactly where after each a line feed comes.
+abbrev pub ReturnsAreTold : Type 0
+ReturnsAreTold =
+    (input : List ℕ)
+    → (return_lines input ≡ []) ↔ All (λ place. is_lone input place ≡ false) (range_with_len 0 (length input))
 
 -- ---- the tokens whose places are told
 

@@ -1,13 +1,17 @@
 pub mod Counts
+pub mod Signs
+pub mod Oddities
 pub mod Names
 pub mod Places
 pub mod Sites
 pub mod Lines
+pub mod Unseen
 pub mod Breaks
 pub mod Tally
 pub mod Doubts
 pub mod Said
 pub mod Looked
 pub mod Findings
+pub mod Free
 pub mod Laws
 pub mod Worked

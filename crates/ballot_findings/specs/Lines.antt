@@ -4,9 +4,11 @@ use Rattle.std.specs.List.{flat_map, range_with_len}
 use Rattle.candidate_roll.specs.Roll.{RollList, is_withdrawn}
 use Rattle.blt_reader.specs.Poll.{Poll}
 use Rattle.ballot_findings.specs.Counts.{Figures, figures}
-use Rattle.ballot_findings.specs.Names.{has_directional, has_other_bytes, have_like_names, have_one_name, name_of, running}
+use Rattle.ballot_findings.specs.Names.{have_like_names, have_one_name, name_of, running}
+use Rattle.ballot_findings.specs.declared.oddity.Oddity.{Oddity}
+use Rattle.ballot_findings.specs.Oddities.{is_odd, name_words, oddities, title_words}
 use Rattle.ballot_findings.specs.Places.{column_at, line_at}
-use Rattle.ballot_findings.specs.Sites.{name_at, seats_at, withdrawn_at}
+use Rattle.ballot_findings.specs.Sites.{name_at, seats_at, title_at, withdrawn_at}
 
 -- a line of words and a number
 abbrev pub count_line : (words : List ℕ) → (n : ℕ) → List ℕ
@@ -115,15 +117,15 @@ abbrev pub like_name_lines : (input : List ℕ) → RollList → List ℕ
 like_name_lines input roll =
     pair_lines input (codes "look similar name") (length roll.names) (have_like_names roll.names)
 
--- candidates whose name is no UTF-8
-abbrev pub other_bytes_lines : (input : List ℕ) → RollList → List ℕ
-other_bytes_lines input roll =
-    candidate_lines input (codes "look name is not UTF-8") (length roll.names) (has_other_bytes roll.names)
+-- candidates whose name has this oddity
+abbrev pub odd_name_lines : (input : List ℕ) → RollList → Oddity → List ℕ
+odd_name_lines input roll oddity =
+    candidate_lines input (name_words oddity) (length roll.names) (λ c. is_odd oddity (name_of roll.names c))
 
--- candidates whose name has a character that turns the direction of the text
-abbrev pub directional_lines : (input : List ℕ) → RollList → List ℕ
-directional_lines input roll =
-    candidate_lines input (codes "look name has a directional mark") (length roll.names) (has_directional roll.names)
+-- the title, where it has this oddity
+abbrev pub odd_title_lines : (input : List ℕ) → RollList → Oddity → List ℕ
+odd_title_lines input roll oddity =
+    only_if (is_odd oddity roll.title) (place_line input (title_words oddity) [] (title_at input (length roll.names)))
 
 -- a line on the number of seats, with its place
 abbrev pub seats_line : (input words : List ℕ) → List ℕ
@@ -150,8 +152,9 @@ withdrawn_lines input withdrawn ballots =
 
 abbrev pub name_warnings : (input : List ℕ) → RollList → List ℕ
 name_warnings input roll =
-    one_name_lines input roll ++ like_name_lines input roll ++ other_bytes_lines input roll
-    ++ directional_lines input roll
+    one_name_lines input roll ++ like_name_lines input roll
+    ++ flat_map (odd_name_lines input roll) oddities
+    ++ flat_map (odd_title_lines input roll) oddities
 
 abbrev pub count_warnings : (input : List ℕ) → RollList → (is_ranked : ℕ → Bool) → (of_withdrawn : ℕ) → List ℕ
 count_warnings input roll is_ranked of_withdrawn =

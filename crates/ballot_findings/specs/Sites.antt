@@ -1,5 +1,5 @@
 -- Where the numbers, the names and the ranks of a ballot file stand: the places of its tokens, from 0 at the front.
-use Rattle.std.specs.Prelude.{◌≡◌, ◌≤◌, ℕ, ◌-◌, ◌==◌, Bool, true, false, not, ◌&&◌, List, length, map, drop, slice_index, slice_index_or}
+use Rattle.std.specs.Prelude.{◌≡◌, ◌≤◌, ℕ, ◌+◌, ◌-◌, ◌==◌, Bool, true, false, not, ◌&&◌, List, length, map, drop, slice_index, slice_index_or}
 use Rattle.std.specs.List.{filter, zip}
 use Rattle.input_text.specs.Token.{Item, Number, Text, Placed}
 use Rattle.input_text.specs.Scan.{scan}
@@ -15,7 +15,10 @@ places tokens = map (λ token. token.at) tokens
 
 -- ---- the numbers at the front, and the names
 
--- The second token is the number of seats.
+-- The first token is the number of candidates, and the second that of seats.
+abbrev pub candidates_at : (input : List ℕ) → ℕ
+candidates_at input = slice_index (places (tokens_of input)) 0
+
 abbrev pub seats_at : (input : List ℕ) → ℕ
 seats_at input = slice_index (places (tokens_of input)) 1
 
@@ -29,6 +32,10 @@ strings tokens = filter (λ token. is_string token.item) tokens
 -- The c-th string is the name of candidate c.
 abbrev pub name_at : (input : List ℕ) → (c : ℕ) → ℕ
 name_at input c = slice_index (places (strings (tokens_of input))) (c - 1)
+
+-- The string after the names of so many candidates is the title.
+abbrev pub title_at : (input : List ℕ) → (candidates : ℕ) → ℕ
+title_at input candidates = name_at input (candidates + 1)
 
 -- ---- withdrawn candidates on ballots
 
@@ -61,8 +68,8 @@ pub record FileList : Type 0 where
   pub input : List ℕ
   pub roll : RollList
 
--- the marks of the names of so many candidates: candidate c's stands at place c - 1
-pub record AreNameMarks (input : List ℕ) (candidates : ℕ) (marks : List Mark) : Type 0 where
-  pub all : length marks ≡ candidates
-  pub each : (c : ℕ) (d : Mark) → 1 ≤ c → c ≤ candidates
+-- the marks of the first strings, so many of them: candidate c's stands at place c - 1, and the title's after all of these
+pub record AreNameMarks (input : List ℕ) (count : ℕ) (marks : List Mark) : Type 0 where
+  pub all : length marks ≡ count
+  pub each : (c : ℕ) (d : Mark) → 1 ≤ c → c ≤ count
       → IsMarkOf input (name_at input c) (slice_index_or marks (c - 1) d)

@@ -10,16 +10,20 @@ use crate::mark::{Mark, mark_of, start};
 use crate::no_memory::NoMemory;
 use crate::reading::{goes_on, next_string, next_token};
 use crate::text::Text;
+use crate::unseen::{push_apart, push_far, push_return};
 use input_text::{Token, Tokens};
 use tool_edge::FILE_LIMIT;
 
-/// The lines on ballots that a line break parts, on strings behind the title where so many candidates run, and on a file
-/// that is longer than a count reads.
+/// The lines on seats that are not on the line of the candidates, on ballots that a line break parts, on strings behind the
+/// title where so many candidates run, on what a reader may not see, and on a file that is longer than a count reads.
 pub(crate) fn push_places(text: &mut Text, input: &[u8], candidates: u32) -> Result<(), NoMemory>
     ensures { OnOk result (text.new ≡ text.old ++ place_warnings input.now candidates) }
 {
+    push_apart(text, input)?;
     push_breaks(text, input)?;
     push_further(text, input, candidates)?;
+    push_far(text, input)?;
+    push_return(text, input)?;
     push_longer(text, input, FILE_LIMIT)
 }
 

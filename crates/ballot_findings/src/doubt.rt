@@ -2,13 +2,13 @@
 ghost use Rattle.std.specs.Prelude.{◌≡◌};
 ghost use Rattle.ballot_findings.specs.Doubts.{doubt_words};
 
+use crate::oddity::Oddity;
+
 /// What of a candidate wants a look.
 #[derive(Clone, Copy)]
 pub(crate) enum Doubt {
-    /// The name is no UTF-8.
-    OtherBytes,
-    /// The name has a character that turns the direction of the text.
-    Directional,
+    /// The name wants a look by itself.
+    Name(Oddity),
     /// No ballot ranks the candidate.
     Unranked,
 }
@@ -19,8 +19,7 @@ impl Doubt {
         ensures { result.now ≡ doubt_words self }
     {
         match self {
-            Doubt::OtherBytes => b"look name is not UTF-8",
-            Doubt::Directional => b"look name has a directional mark",
+            Doubt::Name(oddity) => oddity.name_words(),
             Doubt::Unranked => b"look on no ballot",
         }
     }

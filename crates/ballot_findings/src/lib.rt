@@ -9,6 +9,7 @@
 mod ballot_file;
 mod breaks;
 mod doubt;
+mod kind;
 mod laws;
 mod likeness;
 mod lines;
@@ -16,11 +17,14 @@ mod looking;
 mod mark;
 mod names;
 mod no_memory;
+mod odd;
+mod oddity;
 mod reading;
 mod said;
 mod sites;
 mod tally;
 mod text;
+mod unseen;
 mod warnings;
 mod worked;
 

@@ -1,8 +1,9 @@
 // One pass over the ballots of a file, and the text of what was read.
 ghost use Rattle.std.specs.Prelude.{◌≡◌, ◌≤◌, ◌++◌, length, IfOk, OnOk};
+ghost use Rattle.std.specs.List.{flat_map};
 ghost use Rattle.ballot_findings.specs.Findings.{whole_text};
 ghost use Rattle.ballot_findings.specs.Breaks.{place_warnings};
-ghost use Rattle.ballot_findings.specs.Lines.{ballots_text, count_text, count_warnings, facts_text, name_warnings, roll_text, text_of};
+ghost use Rattle.ballot_findings.specs.Lines.{ballots_text, count_text, count_warnings, facts_text, name_warnings, odd_name_lines, odd_title_lines, roll_text, text_of};
 ghost use Rattle.ballot_findings.specs.Looked.{IsLooked, figures_of};
 ghost use Rattle.ballot_findings.specs.Tally.{was_ranked};
 
@@ -12,11 +13,12 @@ use crate::doubt::Doubt;
 use crate::likeness::Likeness;
 use crate::lines::{push_firsts, push_mean, push_withdrawn};
 use crate::no_memory::NoMemory;
+use crate::oddity::Oddity;
 use crate::said::Said;
 use crate::tally::Tally;
 use crate::text::Text;
 use crate::warnings::{
-    push_doubts, push_enough_seats, push_many_seats, push_of_withdrawn, push_pairs,
+    push_doubts, push_enough_seats, push_many_seats, push_of_withdrawn, push_pairs, push_title,
 };
 use candidate_roll::Roll;
 use plain_ballots::{BallotLine, Ballots};
@@ -145,8 +147,40 @@ fn push_name_warnings(
 {
     push_pairs(alloc, text, file, Likeness::Same)?;
     push_pairs(alloc, text, file, Likeness::Similar)?;
-    push_doubts(text, file, tally, Doubt::OtherBytes)?;
-    push_doubts(text, file, tally, Doubt::Directional)
+    push_odd_names(text, file, tally, &Oddity::all())?;
+    push_odd_title(text, file, &Oddity::all())
+}
+
+/// The lines on names with each of these oddities.
+fn push_odd_names(
+    text: &mut Text,
+    file: &BallotFile<'_>,
+    tally: &Tally,
+    oddities: &[Oddity],
+) -> Result<(), NoMemory>
+    requires { length tally.now.ranked ≡ length file.now.roll.names }
+    ensures { OnOk result (text.new ≡ text.old
+        ++ flat_map (odd_name_lines file.now.input file.now.roll) oddities.now) }
+{
+    for oddity in oddities {
+        push_doubts(text, file, tally, Doubt::Name(*oddity))?;
+    }
+    Ok(())
+}
+
+/// The lines on the title with each of these oddities.
+fn push_odd_title(
+    text: &mut Text,
+    file: &BallotFile<'_>,
+    oddities: &[Oddity],
+) -> Result<(), NoMemory>
+    ensures { OnOk result (text.new ≡ text.old
+        ++ flat_map (odd_title_lines file.now.input file.now.roll) oddities.now) }
+{
+    for oddity in oddities {
+        push_title(text, file, *oddity)?;
+    }
+    Ok(())
 }
 
 /// What of the seats and the ballots wants a look.

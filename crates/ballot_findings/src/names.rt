@@ -1,8 +1,6 @@
 // What of names wants a look.
-ghost use Rattle.std.specs.Prelude.{◌≡◌, ◌<◌, ◌≤◌, ◌&&◌, length, IfOk};
-ghost use Rattle.std.specs.List.{list_any};
-ghost use Rattle.std.specs.Str.{chars, is_utf8};
-ghost use Rattle.ballot_findings.specs.Names.{has_directional, has_other_bytes, have_like_names, have_one_name, is_directional, name_of, plainly};
+ghost use Rattle.std.specs.Prelude.{◌≡◌, ◌≤◌, length, IfOk};
+ghost use Rattle.ballot_findings.specs.Names.{have_like_names, have_one_name, name_of, plainly};
 
 use crate::no_memory::NoMemory;
 use candidate_roll::Roll;
@@ -50,47 +48,4 @@ fn plainly(alloc: Global, name: &[u8]) -> Result<Vec<u8>, NoMemory>
         }
     }
     Ok(plain)
-}
-
-/// Whether a candidate's name is no UTF-8.
-pub(crate) fn has_other_bytes(roll: &Roll, c: u32) -> bool
-    requires { (1 ≤ c) × (c ≤ length roll.now.names) }
-    ensures { result ≡ has_other_bytes roll.now.names c }
-{
-    !is_text(name_of(roll, c))
-}
-
-fn is_text(name: &[u8]) -> bool
-    ensures { result ≡ is_utf8 name.now }
-{
-    match str::from_utf8(name) {
-        Ok(_) => true,
-        Err(_) => false,
-    }
-}
-
-/// Whether a candidate's name is a text in which a character turns its direction.
-pub(crate) fn has_directional(roll: &Roll, c: u32) -> bool
-    requires { (1 ≤ c) × (c ≤ length roll.now.names) }
-    ensures { result ≡ has_directional roll.now.names c }
-{
-    turns_direction(name_of(roll, c))
-}
-
-fn turns_direction(name: &[u8]) -> bool
-    ensures { result ≡ is_utf8 name.now && list_any is_directional (chars name.now) }
-{
-    match str::from_utf8(name) {
-        Ok(name) => name.chars().any(|character| is_directional(character)),
-        Err(_) => false,
-    }
-}
-
-fn is_directional(character: char) -> bool
-    ensures { result ≡ is_directional character }
-{
-    let code = character as u32;
-    (0x200E <= code && code <= 0x200F)
-        || (0x202A <= code && code <= 0x202E)
-        || (0x2066 <= code && code <= 0x2069)
 }

@@ -2,7 +2,7 @@
 ghost use Rattle.std.specs.Prelude.{◌≡◌, ◌∷◌, ℕ, List, IfOk, drop, slice_index};
 ghost use Rattle.input_text.specs.Reader.{placed, said};
 ghost use Rattle.ballot_findings.specs.Places.{IsMark, IsMarkOf};
-ghost use Rattle.ballot_findings.specs.Sites.{AreNameMarks, is_of_withdrawn, places, seats_at, strings, withdrawn_at, withdrawn_ranks};
+ghost use Rattle.ballot_findings.specs.Sites.{AreNameMarks, candidates_at, is_of_withdrawn, places, seats_at, strings, withdrawn_at, withdrawn_ranks};
 
 use crate::mark::{Mark, mark_of, start};
 use crate::no_memory::NoMemory;
@@ -11,18 +11,14 @@ use candidate_roll::Roll;
 use input_text::{Token, Tokens, What};
 use std::alloc::Global;
 
-/// Where the names of so many candidates stand: candidate c's at index c - 1.
-pub(crate) fn name_marks(
-    alloc: Global,
-    input: &[u8],
-    candidates: u32,
-) -> Result<Vec<Mark>, NoMemory>
-    ensures { IfOk result (λ marks. AreNameMarks input.now candidates marks.items) }
+/// Where the first strings stand, so many of them: the name of candidate c at index c - 1, and the title after all names.
+pub(crate) fn name_marks(alloc: Global, input: &[u8], count: u32) -> Result<Vec<Mark>, NoMemory>
+    ensures { IfOk result (λ marks. AreNameMarks input.now count marks.items) }
 {
     let mut tokens = Tokens::new(input, false);
     let mut marks = Vec::new(alloc);
     let mut mark = start(input);
-    for _ in 0..candidates {
+    for _ in 0..count {
         mark = next_string_mark(input, &mut tokens, mark);
         marks.push(mark)?;
     }
@@ -39,6 +35,14 @@ fn next_string_mark(input: &[u8], tokens: &mut Tokens<'_>, from: Mark) -> Mark
         Some(token) => mark_of(input, from, token.at),
         None => mark_of(input, from, 0),
     }
+}
+
+/// Where the number of candidates stands.
+pub(crate) fn candidates_mark(input: &[u8]) -> Mark
+    ensures { IsMarkOf input.now (candidates_at input.now) result }
+{
+    let mut tokens = Tokens::new(input, false);
+    mark_of(input, start(input), next_place(&mut tokens))
 }
 
 /// Where the number of seats stands.

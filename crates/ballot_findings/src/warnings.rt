@@ -1,14 +1,16 @@
 // What wants a look.
 ghost use Rattle.std.specs.Prelude.{◌≡◌, ◌+◌, ◌<◌, ◌≤◌, ◌++◌, length, OnOk, IfOk};
 ghost use Rattle.ballot_findings.specs.Doubts.{are_like, doubt_words, is_doubtful, like_words};
-ghost use Rattle.ballot_findings.specs.Lines.{candidate_line, candidate_lines, enough_seats_lines, for_later, many_seats_lines, only_if, pair_line, pair_lines, seats_line, withdrawn_lines};
+ghost use Rattle.ballot_findings.specs.Lines.{candidate_line, candidate_lines, enough_seats_lines, for_later, many_seats_lines, odd_title_lines, only_if, pair_line, pair_lines, seats_line, withdrawn_lines};
 
 use crate::ballot_file::BallotFile;
 use crate::doubt::Doubt;
 use crate::likeness::Likeness;
 use crate::lines::running;
-use crate::names::{has_directional, has_other_bytes, have_like_names, have_one_name};
+use crate::names::{have_like_names, have_one_name, name_of};
 use crate::no_memory::NoMemory;
+use crate::odd::is_odd;
+use crate::oddity::Oddity;
 use crate::tally::Tally;
 use crate::text::Text;
 use candidate_roll::Roll;
@@ -57,10 +59,23 @@ fn is_doubtful(roll: &Roll, tally: &Tally, doubt: Doubt, c: u32) -> bool
     ensures { result ≡ is_doubtful doubt roll.now tally.now c }
 {
     match doubt {
-        Doubt::OtherBytes => has_other_bytes(roll, c),
-        Doubt::Directional => has_directional(roll, c),
+        Doubt::Name(oddity) => is_odd(oddity, name_of(roll, c)),
         Doubt::Unranked => !tally.was_ranked(c),
     }
+}
+
+/// The line of a kind on the title, where it has one.
+pub(crate) fn push_title(
+    text: &mut Text,
+    file: &BallotFile<'_>,
+    oddity: Oddity,
+) -> Result<(), NoMemory>
+    ensures { OnOk result (text.new ≡ text.old ++ odd_title_lines file.now.input file.now.roll oddity) }
+{
+    if !is_odd(oddity, file.roll().title().bytes()) {
+        return Ok(());
+    }
+    text.push_place_line(oddity.title_words(), &[], file.title())
 }
 
 /// The lines of a kind on pairs of candidates.

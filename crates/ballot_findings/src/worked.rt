@@ -1,5 +1,5 @@
 // Files worked by hand.
-ghost use Rattle.ballot_findings.specs.Worked.{LongFile, Marks, NoBallots, OddCounts, OddNames, OldFile, PartedFile, Places, QuietFile, Ranks};
+ghost use Rattle.ballot_findings.specs.Worked.{FarBallots, HiddenCharacters, LongFile, Marks, NoBallots, OddCounts, OddNames, OddTexts, OddTitle, OldFile, OtherCharacters, PartedFile, Places, QuietFile, Ranks};
 
 /// What is said of these files, to the byte. The call does nothing.
 pub fn worked_looks()
@@ -8,6 +8,11 @@ pub fn worked_looks()
     ensures names { OddNames }
     ensures counts { OddCounts }
     ensures marks { Marks }
+    ensures hidden { HiddenCharacters }
+    ensures others { OtherCharacters }
+    ensures texts { OddTexts }
+    ensures title { OddTitle }
+    ensures far { FarBallots }
     ensures places { Places }
     ensures parted { PartedFile }
     ensures old { OldFile }

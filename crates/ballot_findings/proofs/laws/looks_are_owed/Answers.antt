@@ -10,11 +10,11 @@ returns-clause-one_name c = names.one_name
 pub returns-clause-like_names : goal.returns-clause-like_names
 returns-clause-like_names c = names.like_names
 
-pub returns-clause-other_bytes : goal.returns-clause-other_bytes
-returns-clause-other_bytes c = names.other_bytes
+pub returns-clause-odd_names : goal.returns-clause-odd_names
+returns-clause-odd_names c = names.odd_names
 
-pub returns-clause-marks : goal.returns-clause-marks
-returns-clause-marks c = names.marks
+pub returns-clause-odd_titles : goal.returns-clause-odd_titles
+returns-clause-odd_titles c = names.odd_titles
 
 pub returns-clause-seats : goal.returns-clause-seats
 returns-clause-seats c = counts.seats
@@ -30,6 +30,15 @@ returns-clause-breaks c = places.breaks
 
 pub returns-clause-further : goal.returns-clause-further
 returns-clause-further c = places.further
+
+pub returns-clause-apart : goal.returns-clause-apart
+returns-clause-apart c = places.apart
+
+pub returns-clause-far : goal.returns-clause-far
+returns-clause-far c = places.far
+
+pub returns-clause-returns : goal.returns-clause-returns
+returns-clause-returns c = places.returns
 
 pub returns-clause-firsts : goal.returns-clause-firsts
 returns-clause-firsts c = firsts.firsts

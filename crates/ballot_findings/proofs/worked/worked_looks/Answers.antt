@@ -25,6 +25,44 @@ returns-clause-counts c = refl
 pub returns-clause-marks : goal.returns-clause-marks
 returns-clause-marks c = refl
 
+pub returns-clause-hidden : goal.returns-clause-hidden
+returns-clause-hidden c = record { hidden_in = refl; hidden_out = refl }
+
+pub returns-clause-others : goal.returns-clause-others
+returns-clause-others c = record {
+  latin_in = refl;
+  latin_out = refl;
+  greek_in = refl;
+  greek_out = refl;
+  cyrillic_in = refl;
+  cyrillic_out = refl;
+  armenian_in = refl;
+  armenian_out = refl;
+  cherokee_in = refl;
+  cherokee_out = refl;
+  lisu_in = refl;
+  lisu_out = refl;
+  coptic_in = refl;
+  coptic_out = refl;
+  blank_in = refl;
+  blank_out = refl;
+  combining_in = refl;
+  combining_out = refl;
+  striking_in = refl;
+  striking_out = refl;
+}
+
+pub returns-clause-texts : goal.returns-clause-texts
+returns-clause-texts c = record { signs = refl; blanks = refl; letters = refl; numbers = refl }
+
+pub returns-clause-title : goal.returns-clause-title
+unfolding digits chars is_utf8 encode cut piece number_piece minus_piece string_piece
+returns-clause-title c = refl
+
+pub returns-clause-far : goal.returns-clause-far
+unfolding digits cut piece number_piece minus_piece string_piece
+returns-clause-far c = record { far = refl; near = refl }
+
 pub returns-clause-places : goal.returns-clause-places
 returns-clause-places c = record { lines = refl; columns = refl }
 
