@@ -1,5 +1,5 @@
 -- What is accepted is not refused, and what is answered is owed.
-use Rattle.std.proofs.Common.{◌≡◌, ℕ, ◌≤◌, List, length, true, refl, sym, ◌∙◌, subst, inl, inr}
+use Rattle.std.proofs.Common.{◌≡◌, ℕ, ◌≤◌, List, length, true, refl, sym, ◌∙◌, subst, arith, inl, inr}
 use Rattle.std.specs.Prelude.{Ok, Err}
 use Rattle.input_text.specs.declared.input_fault.InputFault.{InputFault}
 use Rattle.input_text.specs.declared.input_stop.InputStop.{InputStop}
@@ -7,16 +7,16 @@ use Rattle.input_text.specs.declared.input_stop.InputStop.TheVariants.{Fault, No
 use Rattle.input_text.specs.Reads.{OnFault}
 use Rattle.input_text.specs.Scan.{scan}
 use Rattle.day_reader.specs.declared.day.Day.{Day as DayFile}
-use Rattle.day_reader.specs.Said.{IsDayRefusal, said_by, AcceptsDays, RefusesByTheRule}
+use Rattle.day_reader.specs.Said.{said_by, AcceptsDays, RefusesByTheRule}
 use Rattle.tool_edge.specs.declared.end.End.{End}
 use Rattle.tool_edge.specs.declared.end.End.TheVariants.{BadInput}
 use Rattle.tool_edge.specs.Streams.{Writing}
 use Rattle.tool_edge.specs.Refusals.{fault_line}
 use Rattle.tool_edge.specs.Finishing.{Finishes, FinishesOwed, RefusesInput}
 use Rattle.tool_edge.specs.Tool.{IsOwedFor, IsSound, no_history}
-use Rattle.day_lines.specs.Owed.{SaysDay}
 use Rattle.sheet_input.specs.declared.sheet_limit.TheConstants.{SHEET_LIMIT}
 use Rattle.day_audit.specs.Input.{IsDaySplit}
+use Rattle.day_audit.specs.DayFile.{IsDayFile, IsRefusedDayFile}
 use Rattle.day_audit.specs.declared.audit_asked.AuditAsked.{AuditAsked}
 use Rattle.day_audit.specs.declared.audit_asked.AuditAsked.TheVariants.{Day, Trial}
 use Rattle.day_audit.specs.Audit.{Accepts, Refuses, Owes, IsAudit, EndsInText, IsRefusedAudit, IsOwedLine, audits_days}
@@ -29,25 +29,30 @@ use Rattle.day_audit.proofs.WordLemmas.{ask_one}
 
 -- a file that says a day is not refused
 not_both :
-    AcceptsDays → RefusesByTheRule → (file : List ℕ) (day : DayFile) (fault : InputFault) → SaysDay file day
-    → IsDayRefusal (scan file true) fault → ⊥
-not_both days refusals file day fault says refused =
-    let read : said_by (scan file true) ≡ Ok day = (days (scan file true) day).1 says in
+    AcceptsDays → RefusesByTheRule → (file : List ℕ) (day : DayFile) (fault : InputFault) → IsDayFile file day
+    → IsRefusedDayFile file fault → ⊥
+not_both days refusals file day fault is (inl (long, why)) = omega (arith, long, is.short)
+not_both days refusals file day fault is (inr (short, refused)) =
+    let read : said_by (scan file true) ≡ Ok day = (days (scan file true) day).1 is.says in
     let stopped : said_by (scan file true) ≡ Err fault = (refusals (scan file true) fault).1 refused in
     cc
 
 -- it says one day
-pub one_day : AcceptsDays → (file : List ℕ) (day other : DayFile) → SaysDay file day → SaysDay file other → day ≡ other
-one_day days file day other says also =
-    let read : said_by (scan file true) ≡ Ok day = (days (scan file true) day).1 says in
-    let again : said_by (scan file true) ≡ Ok other = (days (scan file true) other).1 also in
+pub one_day :
+    AcceptsDays → (file : List ℕ) (day other : DayFile) → IsDayFile file day → IsDayFile file other → day ≡ other
+one_day days file day other is also =
+    let read : said_by (scan file true) ≡ Ok day = (days (scan file true) day).1 is.says in
+    let again : said_by (scan file true) ≡ Ok other = (days (scan file true) other).1 also.says in
     cc
 
 -- and a file is refused once
 refused_alike :
-    RefusesByTheRule → (file : List ℕ) (fault other : InputFault) → IsDayRefusal (scan file true) fault
-    → IsDayRefusal (scan file true) other → fault ≡ other
-refused_alike refusals file fault other refused again =
+    RefusesByTheRule → (file : List ℕ) (fault other : InputFault) → IsRefusedDayFile file fault
+    → IsRefusedDayFile file other → fault ≡ other
+refused_alike refusals file fault other (inl (long, why)) (inl (again, also)) = why ∙ sym also
+refused_alike refusals file fault other (inl (long, why)) (inr (short, also)) = absurd (omega (arith, long, short))
+refused_alike refusals file fault other (inr (short, why)) (inl (long, also)) = absurd (omega (arith, long, short))
+refused_alike refusals file fault other (inr (short, refused)) (inr (within, again)) =
     let stopped : said_by (scan file true) ≡ Err fault = (refusals (scan file true) fault).1 refused in
     let restopped : said_by (scan file true) ≡ Err other = (refusals (scan file true) other).1 again in
     cc
@@ -57,7 +62,7 @@ pub not_refused :
 not_refused days refusals input fault (text, file, split, says) (inl ends) = ends.no_end split.at split.ends
 not_refused days refusals input fault (text, file, split, (day, says)) (inr (other_text, other, other_split, refused)) =
     not_both days refusals file day fault says
-    (subst (λ (f : List ℕ). IsDayRefusal (scan f true) fault)
+    (subst (λ (f : List ℕ). IsRefusedDayFile f fault)
     (file_once input text file other_text other split other_split) refused)
 
 pub refused_once :
@@ -70,7 +75,7 @@ refused_once refusals input fault other (inr (text, file, split, refused)) (inl 
     absurd (ends.no_end split.at split.ends)
 refused_once refusals input fault other (inr (text, file, split, refused)) (inr (again, twice, split_again, refused_again)) =
     refused_alike refusals file fault other refused
-    (subst (λ (f : List ℕ). IsDayRefusal (scan f true) other)
+    (subst (λ (f : List ℕ). IsRefusedDayFile f other)
     (file_once input text file again twice split split_again) refused_again)
 
 module _ (days : AcceptsDays) (refusals : RefusesByTheRule) (numbers : HaveOneNumber) where
@@ -110,7 +115,7 @@ ended_early input fault end sink short ends finishes =
 -- The day file is refused.
 pub refused_behind :
     (input text file : List ℕ) (stop : InputStop) (end : End InputFault) (sink : Writing) → length input ≤ SHEET_LIMIT
-    → IsDaySplit input text file → OnFault stop (IsDayRefusal (scan file true)) → RefusesInput stop end sink
+    → IsDaySplit input text file → OnFault stop (IsRefusedDayFile file) → RefusesInput stop end sink
     → FinishesOwed (IsOwedFor audits_days Day input no_history) end sink
 refused_behind input text file (Fault fault) end sink short split why finishes =
     inr (BadInput fault, fault_line fault, (inr (short, inr (text, file, split, why)), refl, refl), finishes)
@@ -119,7 +124,7 @@ refused_behind input text file NoInputRead end sink short split why nothing = in
 -- The verdict on the text is what is owed for the input.
 pub judged :
     (input text file : List ℕ) (day : DayFile) (end : End InputFault) (sink : Writing) → length input ≤ SHEET_LIMIT
-    → IsDaySplit input text file → SaysDay file day → FinishesOwed (IsOwedLine Day (IsDayVerdict day text)) end sink
+    → IsDaySplit input text file → IsDayFile file day → FinishesOwed (IsOwedLine Day (IsDayVerdict day text)) end sink
     → FinishesOwed (IsOwedFor audits_days Day input no_history) end sink
 judged input text file day end sink short split says (inl nothing) = inl nothing
 judged input text file day end sink short split says (inr (due, bytes, (done, (verdict, right, line)), finishes)) =

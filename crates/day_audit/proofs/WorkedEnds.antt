@@ -1,5 +1,5 @@
 -- Where a text ends, worked by hand.
-use Rattle.std.proofs.Common.{◌≢◌, inr, ⊎_elim, ℕ, zero, suc, ◌+◌, ◌<◌, ◌≤◌, List, [], ◌++◌, take, drop}
+use Rattle.std.proofs.Common.{◌≢◌, inr, ⊎_elim, ℕ, zero, suc, ◌+◌, ◌<◌, ◌≤◌, List, [], ◌∷◌, ◌++◌, take, drop}
 use Rattle.std.proofs.Common.{refl, ap, arith, codes, get_or}
 use Rattle.day_audit.specs.Input.{GoesOn, HasNoLastEnd, IsLastEnd}
 use Rattle.day_audit.specs.Worked.{WorkedEnds, two_sheets}
@@ -71,6 +71,19 @@ none_in_a_line (suc (suc (suc (suc zero)))) below = no_end within_a_line 4 0 (λ
 none_in_a_line (suc (suc (suc (suc (suc zero))))) below = no_end within_a_line 5 0 (λ e. absurd (omega (arith, e)))
 none_in_a_line (suc (suc (suc (suc (suc (suc k)))))) below = absurd (omega (arith, below))
 
+abbrev behind_a_return : List ℕ
+behind_a_return = codes "x" ++ 13 ∷ codes "end\n"
+
+none_behind_a_return : HasNoLastEnd behind_a_return
+none_behind_a_return at ends = by at (last_fits behind_a_return at ends) ends
+  where
+    by : (k : ℕ) → k + 4 ≤ 6 → ¬ IsLastEnd behind_a_return k
+    by zero within = no_end behind_a_return 0 0 (λ e. absurd (omega (arith, e)))
+    by (suc zero) within = no_end behind_a_return 1 0 (λ e. absurd (omega (arith, e)))
+    by (suc (suc zero)) within =
+        λ ends. ⊎_elim (λ e. absurd (omega (arith, e))) (λ e. absurd (omega (arith, e))) ends.stands.starts
+    by (suc (suc (suc k))) within = absurd (omega (arith, within))
+
 pub worked_ends : WorkedEnds
 worked_ends = record {
   two = record {
@@ -104,6 +117,7 @@ worked_ends = record {
     text_is = refl;
     file_is = refl;
   };
+  after_a_return = none_behind_a_return;
   goes_on = none_in_cut;
   no_line_feed = λ at ends. absurd (omega (arith, last_fits (codes "end") at ends));
   ended = record { no_end = none_in_cut; fault_is = refl };

@@ -1,15 +1,12 @@
 -- What the auditor accepts, refuses and writes.
-use Rattle.std.specs.Prelude.{◌≡◌, ◌⊎◌, ℕ, List, [], ◌∷◌, ◌++◌, length, codes, decimal, Some, true}
+use Rattle.std.specs.Prelude.{◌≡◌, ◌⊎◌, ℕ, List, [], ◌∷◌, ◌++◌, length, codes, decimal, Some}
 use Rattle.input_text.specs.declared.fault_kind.FaultKind.TheVariants.{Ended}
 use Rattle.input_text.specs.declared.input_fault.InputFault.{InputFault}
-use Rattle.input_text.specs.Scan.{scan}
 use Rattle.day_reader.specs.declared.day.Day.{Day}
-use Rattle.day_reader.specs.Said.{IsDayRefusal}
 use Rattle.tool_edge.specs.Refusals.{file_refusals}
 use Rattle.tool_edge.specs.declared.end.End.{End}
 use Rattle.tool_edge.specs.declared.end.End.TheVariants.{Done}
 use Rattle.tool_edge.specs.Tool.{Tool, no_history}
-use Rattle.day_lines.specs.Owed.{SaysDay}
 use Rattle.sheet_input.specs.declared.sheet_limit.TheConstants.{SHEET_LIMIT}
 use Rattle.day_audit.specs.declared.audit_asked.AuditAsked.{AuditAsked}
 use Rattle.day_audit.specs.declared.audit_asked.AuditAsked.TheVariants as of
@@ -18,21 +15,22 @@ use Rattle.day_replay.specs.declared.day_verdict.DayVerdict.TheVariants.{True, F
 use Rattle.day_replay.specs.Judged.{IsDayVerdict, IsTrialVerdict}
 use Rattle.day_audit.specs.Words.{TakesAudit}
 use Rattle.day_audit.specs.Input.{HasNoLastEnd, IsDaySplit}
+use Rattle.day_audit.specs.DayFile.{IsDayFile, IsRefusedDayFile}
 
 -- The input is a text and a day file.
 abbrev pub IsAudit : (input : List ℕ) → Type 0
-IsAudit input = (text : List ℕ) × (file : List ℕ) × IsDaySplit input text file × ((day : Day) × SaysDay file day)
+IsAudit input = (text : List ℕ) × (file : List ℕ) × IsDaySplit input text file × ((day : Day) × IsDayFile file day)
 
 -- No line ends a text, so that the input has ended too early.
 pub record EndsInText (input : List ℕ) (fault : InputFault) : Type 0 where
   pub no_end : HasNoLastEnd input
   pub fault_is : fault ≡ record { kind = Ended; at = length input }
 
--- Nothing ends a text, or the day file behind it is refused, at its place in the file.
+-- Nothing ends a text, or the day file behind it is refused.
 abbrev pub IsRefusedAudit : (input : List ℕ) → InputFault → Type 0
 IsRefusedAudit input fault =
     EndsInText input fault
-    ⊎ ((text : List ℕ) × (file : List ℕ) × IsDaySplit input text file × IsDayRefusal (scan file true) fault)
+    ⊎ ((text : List ℕ) × (file : List ℕ) × IsDaySplit input text file × IsRefusedDayFile file fault)
 
 -- the line of a verdict on what was audited
 abbrev pub subject : AuditAsked → List ℕ
@@ -49,7 +47,7 @@ pub record OwesAudit (input bytes : List ℕ) : Type 0 where
   pub file : List ℕ
   pub split : IsDaySplit input text file
   pub day : Day
-  pub says : SaysDay file day
+  pub says : IsDayFile file day
   pub verdict : DayVerdict
   pub right : IsDayVerdict day text verdict
   pub line : bytes ≡ verdict_line of.Day verdict

@@ -1,4 +1,5 @@
 pub mod Words
 pub mod Input
+pub mod DayFile
 pub mod Audit
 pub mod Worked

@@ -1,9 +1,9 @@
--- Lines of verdicts, and where a text ends, worked by hand.
-use Rattle.std.specs.Prelude.{◌≡◌, ℕ, List, [], ◌∷◌, ◌++◌, codes}
+-- Lines of verdicts, where a text ends, and how long an input may be, worked by hand.
+use Rattle.std.specs.Prelude.{◌≡◌, ℕ, List, [], ◌∷◌, ◌++◌, Some, codes}
 use Rattle.input_text.specs.declared.fault_kind.FaultKind.TheVariants.{Ended}
 use Rattle.day_audit.specs.declared.audit_asked.AuditAsked.TheVariants.{Day, Trial}
 use Rattle.day_replay.specs.declared.day_verdict.DayVerdict.TheVariants.{True, False}
-use Rattle.day_audit.specs.Audit.{EndsInText, verdict_line}
+use Rattle.day_audit.specs.Audit.{EndsInText, audits_days, verdict_line}
 use Rattle.day_audit.specs.Input.{HasNoLastEnd, IsDaySplit}
 use Rattle.day_audit.specs.Words.{TakesAudit}
 
@@ -25,9 +25,16 @@ pub record WorkedEnds : Type 0 where
   pub two : IsDaySplit (two_sheets ++ codes "2 1\n") two_sheets (codes "2 1\n")
   pub nothing_behind : IsDaySplit (codes "a\nend\n") (codes "a\nend\n") []
   pub in_a_line : IsDaySplit (codes "x end\nend\nend\n") (codes "x end\nend\n") (codes "end\n")
+  pub after_a_return : HasNoLastEnd (codes "x" ++ 13 ∷ codes "end\n")
   pub goes_on : HasNoLastEnd (codes "end\nsheet 2\n")
   pub no_line_feed : HasNoLastEnd (codes "end")
   pub ended : EndsInText (codes "end\nsheet 2\n") (record { kind = Ended; at = 12 })
+
+-- ---- how long an input may be: 2^30 bytes
+
+pub record WorkedLengths : Type 0 where
+  pub of_a_day : audits_days.limit Day ≡ Some 1073741824
+  pub of_a_trial : audits_days.limit (Trial 7) ≡ Some 1073741824
 
 -- ---- words
 

@@ -1,11 +1,12 @@
 //! The tool that says whether a text is that of a day: [`audit`] cuts its input into a text and a day file
-//! ([`text_and_file`]), or takes it as the summary of a made day, and writes the verdict of the crate
+//! ([`text_and_file`], [`read_day_file`]), or takes it as the summary of a made day, and writes the verdict of the crate
 //! day_replay as a line.
 //!
 //! The program of the command `audit` makes this call; `ballots` cuts its input in the same way.
 #![tactic(auto)]
 
 mod audit_asked;
+mod day_file;
 mod split;
 mod tool;
 mod verdict_line;
@@ -13,6 +14,7 @@ mod words;
 mod worked;
 
 pub use audit_asked::AuditAsked;
+pub use day_file::read_day_file;
 pub use split::{ended, text_and_file};
 pub use tool::audit;
 pub use verdict_line::line_of;

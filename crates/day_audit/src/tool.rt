@@ -12,11 +12,12 @@ ghost use Rattle.day_replay.specs.Judged.{IsDayVerdict};
 ghost use Rattle.day_audit.specs.Words.{MayBeAsked};
 
 use crate::AuditAsked;
+use crate::day_file::read_day_file;
 use crate::split::{ended, text_and_file};
 use crate::verdict_line::line_of;
 use crate::words::takes_audit;
 use byte_edge::{Sink, Source};
-use day_reader::{Day, accepts_days, read_day, refuses_by_the_rule};
+use day_reader::{Day, accepts_days, refuses_by_the_rule};
 use day_replay::{judge, judge_trial};
 use number_option::words_have_one_number;
 use sheet_input::SHEET_LIMIT;
@@ -76,7 +77,7 @@ fn audit_day<R: Threads + Sync, K: Sink>(rt: &R, alloc: Global, input: &[u8], si
     let Some((text, file)) = text_and_file(input) else {
         return refuse(sink, ended(input.len()));
     };
-    match read_day(alloc, file) {
+    match read_day_file(alloc, file) {
         Ok(day) => judge_day(rt, alloc, text, day, sink),
         Err(stop) => refuse_input(sink, stop),
     }

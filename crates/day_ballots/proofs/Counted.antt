@@ -105,6 +105,6 @@ module _ (file : List ℕ) (day : Day) (history : List Entry) (says : SaysDay fi
 pub freezes_counted : TextsAreRead → OrderOfBallotsLeavesTheSheet → FreezesAreCounted
 freezes_counted reads leaves n input bytes owes =
     let is =
-    counted owes.says.file owes.day owes.history owes.says.day_is owes.at.along.calls reads leaves n bytes
+    counted owes.says.file owes.day owes.history owes.says.day_is.says owes.at.along.calls reads leaves n bytes
     owes.file in
     record { says = is.0; sheets = is.1 }

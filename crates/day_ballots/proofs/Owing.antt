@@ -1,14 +1,15 @@
 -- What a run over an input, a text or what stood at a freeze owes.
-use Rattle.std.proofs.Common.{◌≡◌, ℕ, ◌≤◌, List, length, true, refl, sym, ap, ◌∙◌, subst, inl, inr}
+use Rattle.std.proofs.Common.{◌≡◌, ℕ, ◌≤◌, List, length, refl, sym, ap, ◌∙◌, subst, inl, inr}
 use Rattle.std.specs.Prelude.{Option, Result, Ok, Err, IsPermutation}
 use Rattle.piece_text.specs.Writing.{Writes}
 use Rattle.input_text.specs.declared.input_fault.InputFault.{InputFault}
-use Rattle.input_text.specs.Scan.{scan}
+use Rattle.input_text.specs.declared.input_stop.InputStop.{InputStop}
+use Rattle.input_text.specs.declared.input_stop.InputStop.TheVariants.{Fault, NoMemory as WantsMemory}
+use Rattle.input_text.specs.Reads.{OnFault}
 use Rattle.candidate_roll.specs.Roll.{RollList}
 use Rattle.frozen_plan.specs.Plan.{PlanRows, all_ballots}
 use Rattle.batch_core.specs.declared.entry.Entry.{Entry}
 use Rattle.day_reader.specs.declared.day.Day.{Day}
-use Rattle.day_reader.specs.Said.{IsDayRefusal}
 use Rattle.frozen_version.specs.Versions.{VersionState}
 use Rattle.blt_writer.specs.Exported.{Exported}
 use Rattle.blt_writer.specs.Text.{IsBltText}
@@ -20,15 +21,15 @@ use Rattle.tool_edge.specs.Tool.{IsOwedFor, no_history}
 use Rattle.day_lines.specs.DayHistory.{IsHistoryOf}
 use Rattle.day_lines.specs.DayText.{roll_with}
 use Rattle.day_sheets.specs.Frozen.{AreFrozen}
-use Rattle.day_lines.specs.Owed.{SaysDay}
 use Rattle.day_replay.specs.Nearest.{IsNearest}
 use Rattle.sheet_input.specs.declared.sheet_limit.TheConstants.{SHEET_LIMIT}
 use Rattle.day_audit.specs.Audit.{EndsInText}
 use Rattle.day_audit.specs.Input.{IsDaySplit}
+use Rattle.day_audit.specs.DayFile.{IsDayFile, IsRefusedDayFile}
 use Rattle.day_ballots.specs.declared.ballots_fault.BallotsFault.{BallotsFault}
 use Rattle.day_ballots.specs.declared.ballots_fault.BallotsFault.TheVariants.{File, False, NoFreeze}
 use Rattle.day_ballots.specs.Found.{IsFound, IsNotFound}
-use Rattle.day_ballots.specs.Ballots.{Says, IsOwedAtLine, IsOwedFile, exports_freezes, refusal_line}
+use Rattle.day_ballots.specs.Ballots.{Says, IsOwedAtLine, IsOwedFile, RefusesFile, exports_freezes, refusal_line}
 use Rattle.day_ballots.proofs.FoundLemmas.{file_at, none_at, text_moved}
 
 -- ---- the whole input
@@ -43,11 +44,11 @@ ended_early n input fault end sink short ends finishes =
 
 -- The day file is refused.
 pub refused_behind :
-    (n : ℕ) (input text file : List ℕ) (fault : InputFault) (end : End BallotsFault) (sink : Writing)
-    → length input ≤ SHEET_LIMIT → IsDaySplit input text file → IsDayRefusal (scan file true) fault
-    → Finishes (BadInput (File fault)) (refusal_line (File fault)) end sink
-    → FinishesOwed (IsOwedFor exports_freezes n input no_history) end sink
-refused_behind n input text file fault end sink short split why finishes =
+    (n : ℕ) (input text file : List ℕ) (stop : InputStop) (end : End BallotsFault) (sink : Writing)
+    → length input ≤ SHEET_LIMIT → IsDaySplit input text file → OnFault stop (IsRefusedDayFile file)
+    → RefusesFile stop end sink → FinishesOwed (IsOwedFor exports_freezes n input no_history) end sink
+refused_behind n input text file WantsMemory end sink short split why nothing = inl nothing
+refused_behind n input text file (Fault fault) end sink short split why finishes =
     inr (
       BadInput (File fault),
       refusal_line (File fault),
@@ -58,7 +59,7 @@ refused_behind n input text file fault end sink short split why finishes =
 -- What is owed at a line of the text is owed for the input.
 pub at_line :
     (n : ℕ) (input text file : List ℕ) (day : Day) (end : End BallotsFault) (sink : Writing) → length input ≤ SHEET_LIMIT
-    → IsDaySplit input text file → SaysDay file day → FinishesOwed (IsOwedAtLine day text n) end sink
+    → IsDaySplit input text file → IsDayFile file day → FinishesOwed (IsOwedAtLine day text n) end sink
     → FinishesOwed (IsOwedFor exports_freezes n input no_history) end sink
 at_line n input text file day end sink short split says (inl nothing) = inl nothing
 at_line n input text file day end sink short split says (inr (due, bytes, owed, finishes)) =

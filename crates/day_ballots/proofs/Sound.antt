@@ -5,8 +5,8 @@ use Rattle.input_text.specs.declared.input_fault.InputFault.{InputFault}
 use Rattle.day_reader.specs.declared.day.Day.{Day}
 use Rattle.day_reader.specs.Said.{AcceptsDays, RefusesByTheRule}
 use Rattle.tool_edge.specs.Tool.{IsSound}
-use Rattle.day_lines.specs.Owed.{SaysDay}
 use Rattle.day_audit.specs.Audit.{IsAudit}
+use Rattle.day_audit.specs.DayFile.{IsDayFile}
 use Rattle.day_audit.proofs.Splits.{text_once, file_once}
 use Rattle.day_audit.proofs.Audits.{one_day, not_refused, refused_once}
 use Rattle.day_ballots.specs.declared.ballots_fault.BallotsFault.{BallotsFault}
@@ -24,7 +24,7 @@ module _ (days : AcceptsDays) (refusals : RefusesByTheRule) where
   none_here n input text other day again fault one also none =
       let same = text_once input text one.file other also.file one.split also.split in
       let file = file_once input text one.file other also.file one.split also.split in
-      let days_are = one_day days one.file day again one.day_is (subst (λ (f : List ℕ). SaysDay f again) file also.day_is) in
+      let days_are = one_day days one.file day again one.day_is (subst (λ (f : List ℕ). IsDayFile f again) file also.day_is) in
       subst (λ (t : List ℕ). IsNoneAt day t n fault) (sym same)
       (subst (λ (d : Day). IsNoneAt d other n fault) (sym days_are) none)
 

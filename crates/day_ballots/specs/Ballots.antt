@@ -8,17 +8,21 @@ use Rattle.batch_core.specs.Histories.{standing_after, struck_after}
 use Rattle.frozen_version.specs.Versions.{VersionState}
 use Rattle.day_reader.specs.declared.day.Day.{Day}
 use Rattle.blt_writer.specs.Text.{IsBltText}
+use Rattle.input_text.specs.declared.input_stop.InputStop.{InputStop}
+use Rattle.input_text.specs.declared.input_stop.InputStop.TheVariants.{Fault, NoMemory as WantsMemory}
 use Rattle.tool_edge.specs.Refusals.{Refusals, fault_line, too_long}
 use Rattle.tool_edge.specs.declared.end.End.{End}
-use Rattle.tool_edge.specs.declared.end.End.TheVariants.{Done, BadInput}
+use Rattle.tool_edge.specs.declared.end.End.TheVariants.{Done, BadInput, NoMemory}
+use Rattle.tool_edge.specs.Finishing.{Finishes}
+use Rattle.tool_edge.specs.Streams.{Writing, NothingWritten}
 use Rattle.tool_edge.specs.Tool.{Tool, no_history}
-use Rattle.day_lines.specs.Owed.{SaysDay}
 use Rattle.day_lines.specs.DayText.{roll_with}
 use Rattle.sheet_input.specs.declared.sheet_limit.TheConstants.{SHEET_LIMIT}
 use Rattle.day_audit.specs.declared.audit_asked.AuditAsked.TheVariants.{Day as OfDay}
 use Rattle.day_replay.specs.declared.day_verdict.DayVerdict.TheVariants.{False as NotTrueAt}
 use Rattle.day_audit.specs.Audit.{verdict_line, IsRefusedAudit}
 use Rattle.day_audit.specs.Input.{IsDaySplit}
+use Rattle.day_audit.specs.DayFile.{IsDayFile}
 use Rattle.day_ballots.specs.declared.ballots_fault.BallotsFault.{BallotsFault}
 use Rattle.day_ballots.specs.declared.ballots_fault.BallotsFault.TheVariants.{File, False, NoFreeze}
 use Rattle.day_ballots.specs.Along.{IsAtFreeze, IsFalseCall, HasNoFreeze}
@@ -59,7 +63,7 @@ ballots_refusals = record { line = refusal_line; too_long = λ most. File (too_l
 pub record Says (input text : List ℕ) (day : Day) : Type 0 where
   pub file : List ℕ
   pub split : IsDaySplit input text file
-  pub day_is : SaysDay file day
+  pub day_is : IsDayFile file day
 
 -- It says a text that is lawful up to line n, and line n is a freeze.
 abbrev pub HasFreezeAt : (n : ℕ) → (input : List ℕ) → Type 0
@@ -93,6 +97,11 @@ exports_freezes = record {
 }
 
 -- ---- parts of a run
+
+-- A day file that was not read: its fault is the answer, or memory was wanted and nothing was written.
+abbrev pub RefusesFile : InputStop → End BallotsFault → Writing → Type 0
+RefusesFile (Fault fault) end sink = Finishes (BadInput (File fault)) (refusal_line (File fault)) end sink
+RefusesFile WantsMemory end sink = (end ≡ NoMemory) × NothingWritten sink
 
 -- what is owed at line n of a text, with the end of the run
 abbrev pub IsOwedAtLine : Day → (text : List ℕ) → (n : ℕ) → End BallotsFault → (bytes : List ℕ) → Type 0

@@ -1,5 +1,5 @@
 -- Lines of calls judged by hand: a day of one team, which enters a batch and corrects it.
-use Rattle.std.specs.Prelude.{◌≡◌, ℕ, List, [], ◌∷◌, ◌++◌, codes, false}
+use Rattle.std.specs.Prelude.{◌≡◌, ℕ, List, [], ◌∷◌, ◌++◌, Some, codes, false}
 use Rattle.batch_core.specs.declared.reply.Reply.TheVariants.{Entered, Corrected}
 use Rattle.batch_core.specs.declared.entry.Entry.{Entry}
 use Rattle.day_reader.specs.declared.day.Day.{Day}
@@ -7,7 +7,7 @@ use Rattle.day_lines.specs.DayHistory.{clerk_freeze}
 use Rattle.day_replay.specs.Worked.{made_by, enter, correct, entered_line}
 use Rattle.day_ballots.specs.declared.ballots_fault.BallotsFault.TheVariants.{False, NoFreeze}
 use Rattle.day_ballots.specs.Along.{GoesAlong, IsFreezeAt, IsAtFreeze, IsFalseCall, HasNoFreeze}
-use Rattle.day_ballots.specs.Ballots.{IsNoneAt, refusal_line}
+use Rattle.day_ballots.specs.Ballots.{IsNoneAt, exports_freezes, refusal_line}
 use Rattle.day_ballots.specs.Words.{TakesLine}
 
 abbrev pub one_team : Day
@@ -63,6 +63,10 @@ pub record WorkedAnswers : Type 0 where
   pub at_another_line : ¬ IsNoneAt one_team its_text 2 (NoFreeze 1)
   pub false_line : refusal_line (False 2) ≡ codes "day false at line 2\n"
   pub no_freeze_line : refusal_line (NoFreeze 12) ≡ codes "refused NoFreeze at 12\n"
+
+-- An input may have 2^30 bytes.
+abbrev pub LongestInput : Type 0
+LongestInput = exports_freezes.limit 4 ≡ Some 1073741824
 
 pub record WorkedLineWords : Type 0 where
   pub first : TakesLine (codes "--at" ∷ codes "1" ∷ []) 1

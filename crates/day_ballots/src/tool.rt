@@ -5,14 +5,14 @@ ghost use Rattle.tool_edge.specs.Finishing.{FinishesOwed};
 ghost use Rattle.tool_edge.specs.Streams.{reading, writing};
 ghost use Rattle.tool_edge.specs.Tool.{IsOwedFor, IsRun, no_history};
 ghost use Rattle.sheet_input.specs.declared.sheet_limit.TheConstants.{SHEET_LIMIT};
-ghost use Rattle.day_ballots.specs.Ballots.{exports_freezes};
+ghost use Rattle.day_ballots.specs.Ballots.{RefusesFile, exports_freezes};
 
 use crate::writing::write_at;
 use crate::{BallotsFault, takes_line};
 use blt_reader::BltStop;
 use byte_edge::{Sink, Source};
-use day_audit::{ended, text_and_file};
-use day_reader::{accepts_days, read_day, refuses_by_the_rule};
+use day_audit::{ended, read_day_file, text_and_file};
+use day_reader::{accepts_days, refuses_by_the_rule};
 use number_option::words_have_one_number;
 use sheet_input::SHEET_LIMIT;
 use std::alloc::Global;
@@ -49,9 +49,18 @@ fn write_ballots<K: Sink>(alloc: Global, at: u32, input: &[u8], sink: &mut K) ->
     let Some((text, file)) = text_and_file(input) else {
         return refuse(sink, BallotsFault::File(ended(input.len())));
     };
-    match read_day(alloc, file) {
+    match read_day_file(alloc, file) {
         Ok(day) => write_at(alloc, at, text, day, sink),
-        Err(BltStop::Fault(fault)) => refuse(sink, BallotsFault::File(fault)),
-        Err(BltStop::NoMemory) => End::NoMemory,
+        Err(stop) => refuse_file(sink, stop),
+    }
+}
+
+/// Refuses an input whose day file was not read.
+fn refuse_file<K: Sink>(sink: &mut K, stop: BltStop) -> End<BallotsFault>
+    ensures { RefusesFile stop result (writing K.written K.faults sink.old sink.new) }
+{
+    match stop {
+        BltStop::Fault(fault) => refuse(sink, BallotsFault::File(fault)),
+        BltStop::NoMemory => End::NoMemory,
     }
 }

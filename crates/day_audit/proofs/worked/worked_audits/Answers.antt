@@ -11,5 +11,8 @@ returns-clause-verdict_lines c = record { day_true = refl; day_false = refl; tri
 pub returns-clause-ends : goal.returns-clause-ends
 returns-clause-ends c = worked_ends
 
+pub returns-clause-lengths : goal.returns-clause-lengths
+returns-clause-lengths c = record { of_a_day = refl; of_a_trial = refl }
+
 pub returns-clause-words : goal.returns-clause-words
 returns-clause-words c = worked_words

@@ -1,3 +1,4 @@
+use Rattle.std.proofs.Common.{refl}
 use Rattle.day_ballots.proofs.WorkedAnswers.{worked_answers, worked_line_words}
 use Rattle.day_ballots.proofs.WorkedFreezes.{worked_false_lines, worked_freezes}
 use Rattle.day_ballots.proofs.worked.worked_freezes.Goals as goal
@@ -10,6 +11,9 @@ returns-clause-false_lines c = worked_false_lines
 
 pub returns-clause-answers : goal.returns-clause-answers
 returns-clause-answers c = worked_answers
+
+pub returns-clause-longest : goal.returns-clause-longest
+returns-clause-longest c = refl
 
 pub returns-clause-words : goal.returns-clause-words
 returns-clause-words c = worked_line_words
