@@ -1,26 +1,36 @@
 -- The head of a table.
-use Rattle.std.proofs.Common.{◌≡◌, ℕ, ◌+◌, ◌<◌, ◌≤◌, Bool, true, false, cond, not, ◌&&◌, ◌||◌, List, [], ◌∷◌}
+use Rattle.std.proofs.Common.{◌≡◌, ◌≢◌, ◌⊎◌, inl, inr, subst, set, eqb, leb, replicate, ℕ, ◌+◌}
+use Rattle.std.proofs.Common.{◌-◌, ◌<◌, ◌≤◌, Bool, true, false, cond, not, ◌&&◌, ◌||◌, List, [], ◌∷◌}
 use Rattle.std.proofs.Common.{◌++◌, map, take, drop, length}
 use Rattle.std.proofs.Common.{Option, Some, None, Result, Ok, Err, get_or, refl, ap, sym, ◌∙◌, arith}
 use Rattle.std.proofs.Common.{sum_by, add-one, append_assoc}
 use Rattle.std.specs.List.{list_any, enumerate_from, filter_map, slice_get}
 use Rattle.std.proofs.Math.Seq.{drop-cons}
+use Rattle.std.proofs.Math.Bool.{or-true, or-false}
+use Rattle.std.proofs.lemmas.Bool.{eqb-false}
+use Rattle.std.proofs.lemmas.Bool.Decides.{eqb_tells, leb_tells}
+use Rattle.std.proofs.lemmas.List.Folds.{list_any-append}
+use Rattle.std.proofs.lemmas.List.{get_or-replicate, get_or-set_other, get_or-set_same, length-replicate, length-set}
 use Rattle.std.proofs.lemmas.List.{take_more, take_all, drop_all, append-nil, map-append, length-append, length-map}
 use Rattle.std.proofs.lemmas.List.Elements.{filter-append}
 use Rattle.std.proofs.lemmas.List.Sums.{sum_by_push}
 use Rattle.plain_ballots.specs.declared.limits.TheConstants.{MOST_CANDIDATES}
 use Rattle.ballot_table.specs.declared.column.Column.{Column}
+use Rattle.ballot_table.specs.declared.column.Column.TheVariants as column
 use Rattle.ballot_table.specs.declared.fault.Fault.{Fault}
 use Rattle.ballot_table.specs.declared.table_kind.TableKind.{TableKind}
+use Rattle.ballot_table.specs.declared.table_kind.TableKind.TheVariants.{BadColumns, HeadExpected, RepeatedColumn}
 use Rattle.ballot_table.specs.Faults.{fault_of, first_fault, sound}
 use Rattle.std.specs.Str.{bytes_eq}
 use Rattle.ballot_table.specs.declared.table_asked.TableAsked.{TableAsked}
 use Rattle.ballot_table.specs.declared.layout.Layout.{Layout}
 use Rattle.ballot_table.specs.declared.layout.Layout.TheVariants as layout
 use Rattle.ballot_table.specs.Head.{name_of, names_in, names_of, unlabelled, column_of, columns_of, columns}
+use Rattle.ballot_table.specs.Head.{heads_say_ranks, is_cell, labelled, next_column, rank_among, rank_said}
+use Rattle.ballot_table.specs.Head.{said_column}
 use Rattle.ballot_table.specs.Asked.{asked_of}
-use Rattle.ballot_table.specs.Finding.{candidates_at, candidates_in, others_at, named_by, among, IsNext}
-use Rattle.ballot_table.specs.Texts.{is_in}
+use Rattle.ballot_table.specs.Finding.{candidates_at, candidates_in, others_at, named_by, among, with_seen, IsNext, IsSeen}
+use Rattle.ballot_table.specs.Texts.{is_in, said_number}
 
 -- some kept text has this name
 named_if : (b : Bool) (f : List ℕ → List ℕ) (x : List ℕ) (kept : List (List ℕ)) (any : Bool) (name : List ℕ)
@@ -72,7 +82,7 @@ names_more a texts at text names inside is other so_far =
 -- the columns of texts from a place on
 abbrev pub columns_from : TableAsked → List (List ℕ) → ℕ → List (List ℕ) → List (Result Column TableKind)
 columns_from a texts at left =
-    map (λ (p : ℕ × List ℕ). column_of (asked_of a) (take p.0 texts) p.1) (enumerate_from at left)
+    map (λ (p : ℕ × List ℕ). column_of (asked_of a) texts (take p.0 texts) p.1) (enumerate_from at left)
 
 abbrev pub first_from : ℕ → List (Result Column TableKind) → Option Fault
 first_from place fields = slice_get (filter_map fault_of (enumerate_from place fields)) 0
@@ -118,16 +128,16 @@ module _ (a : TableAsked) (texts : List (List ℕ)) (at : ℕ) (text : List ℕ)
         ∙ ap (λ (t : List ℕ). t ∷ drop (at + 1) texts) (sym is)
 
     with_next : columns_from a texts at (drop at texts)
-        ≡ column_of (asked_of a) (take at texts) text ∷ columns_from a texts (at + 1) (drop (at + 1) texts)
+        ≡ column_of (asked_of a) texts (take at texts) text ∷ columns_from a texts (at + 1) (drop (at + 1) texts)
     with_next = ap (columns_from a texts at) next_left
 
-    pub column_fault : (kind : TableKind) → column_of (asked_of a) (take at texts) text ≡ Err kind
+    pub column_fault : (kind : TableKind) → column_of (asked_of a) texts (take at texts) text ≡ Err kind
         → first_fault (columns_of (asked_of a) texts) ≡ Some (record { kind = kind; place = at + 1 })
     column_fault kind faulty =
         so_far.fault ∙ ap (first_from (at + 1)) with_next
         ∙ ap (λ r. first_from (at + 1) (r ∷ columns_from a texts (at + 1) (drop (at + 1) texts))) faulty
 
-    pub column_more : (column : Column) → column_of (asked_of a) (take at texts) text ≡ Ok column
+    pub column_more : (column : Column) → column_of (asked_of a) texts (take at texts) text ≡ Ok column
         → IsNext (asked_of a) others text column
         → AreColumns a texts (at + 1) (found ++ column ∷ []) (others + others_at column)
     column_more column sound_is next = record {
@@ -203,3 +213,111 @@ as_many_columns a found others is = by_layout a.layout is
     by_layout layout.Ranks same = same
     by_layout layout.Choices same = refl
     by_layout layout.List same = refl
+
+-- ---- ranks that heads say
+
+module _ (n : ℕ) where
+  abbrev pub says_rank : ℕ → List ℕ → Bool
+  says_rank rank text = eqb (rank_said n text) rank
+
+  pub none_seen : IsSeen n [] (replicate n false)
+  none_seen = record {
+    size = length-replicate n false;
+    each = λ k inside. get_or-replicate n k false false inside;
+  }
+
+  -- one more head says its rank
+  pub seen_more : (before : List (List ℕ)) (seen : List Bool) (text : List ℕ) (rank : ℕ) → rank ≡ rank_said n text
+      → 1 ≤ rank → rank ≤ n → IsSeen n before seen → IsSeen n (before ++ text ∷ []) (set seen (rank - 1) true)
+  seen_more before seen text rank is least most so_far = record {
+    size = length-set seen (rank - 1) true ∙ so_far.size;
+    each = λ k inside. by_place k inside (eqb_tells rank (k + 1));
+  }
+    where
+      more : (k : ℕ) → list_any (says_rank (k + 1)) (before ++ text ∷ [])
+          ≡ (list_any (says_rank (k + 1)) before || (eqb rank (k + 1) || false))
+      more k =
+          list_any-append (says_rank (k + 1)) before (text ∷ [])
+          ∙ ap (λ (r : ℕ). list_any (says_rank (k + 1)) before || (eqb r (k + 1) || false)) (sym is)
+
+      by_place :
+          (k : ℕ) → k < n
+          → ((eqb rank (k + 1) ≡ true) × (rank ≡ k + 1)) ⊎ ((eqb rank (k + 1) ≡ false) × (rank ≢ k + 1))
+          → get_or (set seen (rank - 1) true) k false ≡ list_any (says_rank (k + 1)) (before ++ text ∷ [])
+      by_place k inside (inl here) =
+          let same : rank - 1 ≡ k = let e = here.1 in omega (arith, e) in
+          let within : k < length seen = let size = so_far.size in omega (arith, inside, size) in
+          ap (λ (i : ℕ). get_or (set seen i true) k false) same ∙ get_or-set_same seen k true false within
+          ∙ sym (more k ∙ ap (λ (b : Bool). list_any (says_rank (k + 1)) before || (b || false)) here.0
+          ∙ or-true (list_any (says_rank (k + 1)) before))
+      by_place k inside (inr other) =
+          let differ : k ≢ rank - 1 = λ e. other.1 (omega (arith, e, least)) in
+          get_or-set_other seen (rank - 1) k true false differ ∙ so_far.each k inside
+          ∙ sym (more k ∙ ap (λ (b : Bool). list_any (says_rank (k + 1)) before || (b || false)) other.0
+          ∙ or-false (list_any (says_rank (k + 1)) before))
+
+-- a rank that a head says among n is one of them
+pub rank_within : (n : ℕ) (o : Option ℕ) → rank_among n o ≤ n
+rank_within n None = omega arith
+rank_within n (Some rank) = by_test (leb_tells rank n)
+  where
+    by_test : ((leb rank n ≡ true) × (rank ≤ n)) ⊎ ((leb rank n ≡ false) × (n < rank)) → cond (leb rank n) rank 0 ≤ n
+    by_test (inl is) = subst (λ (b : Bool). cond b rank 0 ≤ n) (sym is.0) is.1
+    by_test (inr is) = subst (λ (b : Bool). cond b rank 0 ≤ n) (sym is.0) (omega arith)
+
+-- a column without a rank leaves what is seen
+label_seen : (b : Bool) (seen : List Bool) → with_seen (cond b column.Weight column.PassedOver) seen ≡ seen
+label_seen true seen = refl
+label_seen false seen = refl
+
+module _ (a : TableAsked) (all front : List (List ℕ)) (text : List ℕ) (column_is : Column) (seen : List Bool) where
+  abbrev n : ℕ
+  n = length (unlabelled (asked_of a) all)
+
+  abbrev before : List (List ℕ)
+  before = unlabelled (asked_of a) front
+
+  abbrev more : Bool → List (List ℕ)
+  more label = before ++ cond (not label) (text ∷ []) []
+
+  by_rank : (nought some : Bool) → eqb (rank_said n text) 0 ≡ nought
+      → cond (nought || some) (Err BadColumns) (Ok (column.Rank (rank_said n text))) ≡ Ok column_is → IsSeen n before seen
+      → IsSeen n (before ++ text ∷ []) (with_seen column_is seen)
+  by_rank true some is_nought is so_far = absurd (cc is)
+  by_rank false true is_nought is so_far = absurd (cc is)
+  by_rank false false is_nought is so_far =
+      let same : column.Rank (rank_said n text) ≡ column_is = cc is in
+      let some : (rank_said n text ≡ 0 → ⊥) = eqb-false (rank_said n text) 0 is_nought in
+      let least : 1 ≤ rank_said n text = positive (rank_said n text) some in
+      subst (λ (c : Column). IsSeen n (before ++ text ∷ []) (with_seen c seen)) same
+      (seen_more n before seen text (rank_said n text) refl least (rank_within n (said_number text)) so_far)
+    where
+      positive : (rank : ℕ) → (rank ≡ 0 → ⊥) → 1 ≤ rank
+      positive rank some = omega (arith, some)
+
+  by_label : (label again cell : Bool) (labelled_is : Column) (next : Result Column TableKind)
+      → with_seen labelled_is seen ≡ seen → next ≡ said_column n before text
+      → cond label (cond again (Err RepeatedColumn) (Ok labelled_is)) (cond cell (Err HeadExpected) next) ≡ Ok column_is
+      → IsSeen n before seen → IsSeen n (more label) (with_seen column_is seen)
+  by_label true true cell labelled_is next none next_is is so_far = absurd (cc is)
+  by_label true false cell labelled_is next none next_is is so_far =
+      let same : labelled_is ≡ column_is = cc is in
+      subst (λ (c : Column). IsSeen n (before ++ []) (with_seen c seen)) same
+      (subst (IsSeen n (before ++ [])) (sym none)
+      (subst (λ (l : List (List ℕ)). IsSeen n l seen) (sym (append-nil before)) so_far))
+  by_label false again true labelled_is next none next_is is so_far = absurd (cc is)
+  by_label false again false labelled_is next none next_is is so_far =
+      by_rank (eqb (rank_said n text) 0) (list_any (λ other. eqb (rank_said n other) (rank_said n text)) before) refl
+      (sym next_is ∙ is) so_far
+
+  -- with one more text
+  pub seen_column : a.layout ≡ layout.Choices → heads_say_ranks (asked_of a) all ≡ true
+      → column_of (asked_of a) all front text ≡ Ok column_is → IsSeen n before seen
+      → IsSeen n (more (is_in a.labels text)) (with_seen column_is seen)
+  seen_column choices say is so_far =
+      by_label (is_in a.labels text) (is_in front text) (not a.head_is_said && is_cell a.layout (asked_of a) all text)
+      (labelled (asked_of a) text) (next_column a.layout (asked_of a) all before text)
+      (label_seen _ seen)
+      (ap (λ (l : Layout). next_column l (asked_of a) all before text) choices
+      ∙ ap (λ (b : Bool). cond b (said_column n before text) (Ok (column.Rank (length before + 1)))) say)
+      is so_far

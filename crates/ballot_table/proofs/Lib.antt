@@ -32,3 +32,4 @@ mod RankSums
 mod Placing
 mod PlacedLemmas
 mod PlainRows
+mod ShapeLemmas

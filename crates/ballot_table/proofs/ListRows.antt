@@ -19,7 +19,7 @@ use Rattle.ballot_table.specs.Faults.{sound}
 use Rattle.ballot_table.specs.Texts.{parts, trimmed}
 use Rattle.ballot_table.specs.Cells.{Listed, all_of, all_or, as_cell, fault_one, says_in}
 use Rattle.ballot_table.specs.Layouts.{AreNames, ListsSayRankings, StandsInList, list_row}
-use Rattle.ballot_table.specs.Rows.{cells_of, said_at, says_of}
+use Rattle.ballot_table.specs.Rows.{cells_of, said_at, listed_of}
 use Rattle.ballot_table.proofs.SayingLemmas.{SaysRanking, plainly, say_rankings, says_ranking}
 use Rattle.ballot_table.proofs.WeightLemmas.{IsFine}
 
@@ -111,8 +111,8 @@ module _ (asked : Asked) (name : ℕ → List ℕ) (n : ℕ) (named : AreNames a
         (All-cons IsFine (as_cell Listed (all_of (map (says_in asked) (parts text)))) []
         (ap (λ (r : Result (List (Option Says)) TableKind). fault_one (as_cell Listed r)) said) (All-nil IsFine))
         (blanks ranks)
-        (ap (λ (l : Layout). said_at l (sound (cells_of asked room (column.List ∷ []) (list_row name ranks)))) is_list
-        ∙ ap (λ (r : Result (List (Option Says)) TableKind). says_of (sound (as_cell Listed r ∷ []))) said
+        (ap (λ (l : Layout). said_at l (column.List ∷ []) (sound (cells_of asked room (column.List ∷ []) (list_row name ranks)))) is_list
+        ∙ ap (λ (r : Result (List (Option Says)) TableKind). listed_of (sound (as_cell Listed r ∷ []))) said
         ∙ append-nil says)
 
 pub lists_say_rankings : PlainMarksAreRanked → ListsSayRankings

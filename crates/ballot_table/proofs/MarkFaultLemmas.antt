@@ -30,8 +30,11 @@ use Rattle.ballot_table.specs.Faults.{sound}
 use Rattle.ballot_table.specs.Finding.{candidates_at, candidates_in, AreTaken, IsSaidBy}
 use Rattle.ballot_table.specs.Held.{IsHolding, held_by, held_refused}
 use Rattle.ballot_table.specs.JudgedRows.{refused_at}
-use Rattle.ballot_table.specs.Refusals.{kind_of, place_of, is_candidate, is_rank, refused_holder, refused_column, reason_of, mark_fault}
-use Rattle.ballot_table.specs.Rows.{said_of, said_by_holders, said_up_to, by_rank, marks_of, ranks_of, cells_of, holders, said_in, said_at, says_of}
+use Rattle.ballot_table.specs.Refusals.{kind_of, place_of, is_candidate, is_rank, refused_holder}
+use Rattle.ballot_table.specs.Refusals.{refused_column, reason_of, mark_fault}
+use Rattle.ballot_table.specs.Rows.{said_of, said_by_holders, said_up_to, by_rank, marks_of, ranks_of}
+use Rattle.ballot_table.specs.Rows.{cells_of, holders, said_in, said_at, at_places, chosen_of, listed_of}
+use Rattle.ballot_table.specs.Rows.{places_of}
 use Rattle.ballot_table.specs.Said.{IsSaying, rank_at}
 use Rattle.ballot_table.proofs.FaultLemmas.{not_refused}
 use Rattle.ballot_table.proofs.HoldingLemmas.{holding_said}
@@ -99,41 +102,47 @@ unfolding said_up_to
 as_many_ranks most ranks = length-map-range_with_len (λ rank. said_by_holders (holders rank ranks)) 1 most
 
 -- What the cells of a row say is found: who has each rank, and what each rank says by the layout.
-pub record IsFound (l : Layout) (cells : List Cell) (found : RowCells) : Type 0 where
+pub record IsFound (l : Layout) (columns : List Column) (cells : List Cell) (found : RowCells) : Type 0 where
   pub holding : IsHolding (ranks_of cells) found.holders
-  pub saying : IsSaying (said_at l cells) found.said
+  pub saying : IsSaying (said_at l columns cells) found.said
 
-pub said_found : (l : Layout) (cells : List Cell) (old new : RowCells) → IsHolding (ranks_of cells) old.holders
-    → IsSaying (says_of cells) old.said → new.holders ≡ old.holders → IsSaidBy l old new → IsFound l cells new
-said_found l cells old new holding saying same said = record {
+pub said_found : (l : Layout) (columns : List Column) (places : List ℕ) (cells : List Cell) (old new : RowCells)
+    → places ≡ places_of columns → IsHolding (ranks_of cells) old.holders → old.chosen.items ≡ chosen_of cells
+    → IsSaying (listed_of cells) old.said → new.holders ≡ old.holders → IsSaidBy l places old new
+    → IsFound l columns cells new
+said_found l columns places cells old new places_are holding chosen saying same said = record {
   holding = subst (IsHolding (ranks_of cells)) (sym same) holding;
   saying = by_layout l said;
 }
   where
-    by_layout : (l : Layout) → IsSaidBy l old new → IsSaying (said_at l cells) new.said
+    by_layout : (l : Layout) → IsSaidBy l places old new → IsSaying (said_at l columns cells) new.said
     by_layout layout.Ranks said =
-        subst (λ (says : List (Option Says)). IsSaying says new.said) (holding_said (ranks_of cells) old.holders holding) said
-    by_layout layout.Choices said = subst (IsSaying (says_of cells)) (sym said) saying
-    by_layout layout.List said = subst (IsSaying (says_of cells)) (sym said) saying
+        subst (λ (says : List (Option Says)). IsSaying says new.said)
+        (holding_said (ranks_of cells) old.holders holding) said
+    by_layout layout.Choices said =
+        subst (λ (ps : List ℕ). IsSaying (at_places ps (chosen_of cells)) new.said) places_are
+        (subst (λ (says : List (Option Says)). IsSaying (at_places places says) new.said) chosen said)
+    by_layout layout.List said = subst (IsSaying (listed_of cells)) (sym said) saying
 
-module _ (l : Layout) (cells : List Cell) (found : RowCells) (is : IsFound l cells found) (columns : List Column) where
+module _ (l : Layout) (columns : List Column) (cells : List Cell) (found : RowCells)
+    (is : IsFound l columns cells found) where
   abbrev said : List (ℕ × Says)
-  said = by_rank (said_at l cells)
+  said = by_rank (said_at l columns cells)
 
   -- the column is that of the definition
   column_is : (place : ℕ) (why : Why) → place < length said
       → refused_at l columns found place why ≡ refused_column l columns cells (rank_at said place) why
   column_is place why inside = by_layout l is inside
     where
-      rank_is : (k : Layout) → IsFound k cells found
-          → unwrap_or (slice_get found.said.ranks place) 0 ≡ rank_at (by_rank (said_at k cells)) place
+      rank_is : (k : Layout) → IsFound k columns cells found
+          → unwrap_or (slice_get found.said.ranks place) 0 ≡ rank_at (by_rank (said_at k columns cells)) place
       rank_is k found_is =
           ap (λ (ranks : List ℕ). unwrap_or (slice_get ranks place) 0) found_is.saying.ranks
-          ∙ rank_found (by_rank (said_at k cells)) place
+          ∙ rank_found (by_rank (said_at k columns cells)) place
 
-      by_layout : (k : Layout) → IsFound k cells found → place < length (by_rank (said_at k cells))
+      by_layout : (k : Layout) → IsFound k columns cells found → place < length (by_rank (said_at k columns cells))
           → refused_at k columns found place why
-          ≡ refused_column k columns cells (rank_at (by_rank (said_at k cells)) place) why
+          ≡ refused_column k columns cells (rank_at (by_rank (said_at k columns cells)) place) why
       by_layout layout.Choices found_is within =
           ap (λ (rank : ℕ). place_of (is_rank rank) columns) (rank_is layout.Choices found_is)
       by_layout layout.List found_is within =
@@ -153,7 +162,7 @@ module _ (l : Layout) (cells : List Cell) (found : RowCells) (is : IsFound l cel
 
 -- the marks of a row that is read
 module _ (a : Asked) (t : Treatment) (room : ℕ) (columns : List Column) (texts : List (List ℕ)) (found : RowCells)
-    (is : IsFound a.layout (sound (cells_of a room columns texts)) found)
+    (is : IsFound a.layout columns (sound (cells_of a room columns texts)) found)
   where
     pub same_marks : found.said.marks ≡ marks_of (said_in a room columns texts)
     same_marks = is.saying.marks
@@ -182,18 +191,19 @@ module _ (a : Asked) (t : Treatment) (room : ℕ) (columns : List Column) (texts
           kind = kind_of reason;
           place = refused_column a.layout columns cells (rank_at all (length (effective (judged t marks)))) reason;
         }) o) (ap reason_of ended)
-        ∙ ap (λ (n : ℕ). Some (record { kind = kind_of why; place = refused_column a.layout columns cells (rank_at all n) why }))
+        ∙ ap (λ (n : ℕ). Some (record
+        { kind = kind_of why; place = refused_column a.layout columns cells (rank_at all n) why }))
         (sym first)
         ∙ ap (λ (n : ℕ). Some (record { kind = kind_of why; place = n }))
-        (sym (column_is a.layout cells found is columns place why inside))
+        (sym (column_is a.layout columns cells found is place why inside))
 
 -- the marks of a row say candidates
 pub taken_within : (a : Asked) (room : ℕ) (columns : List Column) (texts : List (List ℕ)) (taken found : RowCells)
-    → AreTaken a room columns texts taken → IsFound a.layout (sound (cells_of a room columns texts)) found
+    → AreTaken a room columns texts taken → IsFound a.layout columns (sound (cells_of a room columns texts)) found
     → All (λ (m : Mark). SaysOneOf (candidates_in a columns) m.says) found.said.marks
 taken_within a room columns texts taken found all is =
     let cells = sound (cells_of a room columns texts) in
     let n : sum_by candidates_at columns ≡ length (ranks_of cells) = sym all.candidates ∙ all.holding.candidates in
     subst (λ (ms : List Mark). All (λ (m : Mark). SaysOneOf (candidates_in a columns) m.says) ms) (sym is.saying.marks)
-    (marks_one_of (candidates_in a columns) (said_at a.layout cells)
-    (row_within a a.layout cells (sum_by candidates_at columns) n (cells_within a room (zip columns texts))))
+    (marks_one_of (candidates_in a columns) (said_at a.layout columns cells)
+    (row_within a a.layout columns cells (sum_by candidates_at columns) n (cells_within a room (zip columns texts))))

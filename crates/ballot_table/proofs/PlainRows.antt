@@ -126,7 +126,7 @@ module _ (asked : Asked) (plain : HasPlainRanks asked) (columns : List Column) (
       one = ap (λ (ws : List ℕ). unwrap_or (slice_get ws 0) 1) (come 0).weightless;
       fault = λ room. no_fault 1 (cells_of asked room columns texts) (come room).fine;
       marks = λ room.
-          ap (λ (l : Layout). marks_of (by_rank (said_at l (sound (cells_of asked room columns texts))))) plain.layout_is
+          ap (λ (l : Layout). marks_of (by_rank (said_at l columns (sound (cells_of asked room columns texts))))) plain.layout_is
           ∙ ap (λ (ranks : List (Option ℕ)). marks_of (by_rank (said_up_to MOST_CANDIDATES ranks))) (come room).said
           ∙ ap (λ (l : List (Option Says)). marks_of (by_rank l)) says
           ∙ plain_marks ranking (MOST_CANDIDATES - last);

@@ -174,7 +174,7 @@ module _ (asked : Asked) (text : ℕ → List ℕ) (n : ℕ) (fits : n ≤ MOST_
       length-map-range_with_len (λ (c : ℕ). rank_cell text (rank_of ranks c)) 1 n
       ∙ sym (length-map-range_with_len column.Candidate 1 n) in
       says_ranking asked room (candidate_columns n) row ranks long come.weightless come.fine j
-      (ap (λ (l : Layout). said_at l (sound (cells_of asked room (candidate_columns n) row))) is_ranks
+      (ap (λ (l : Layout). said_at l (candidate_columns n) (sound (cells_of asked room (candidate_columns n) row))) is_ranks
       ∙ ap (said_up_to MOST_CANDIDATES) come.said ∙ said_of_all n ranks j is whole)
 
 pub ranks_say_rankings : PlainMarksAreRanked → RanksSayRankings

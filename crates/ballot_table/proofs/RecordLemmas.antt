@@ -53,9 +53,9 @@ module _ (asked : Asked) (empty : Empty) where
 
   one_weight : (head : List (List ℕ)) → head_fault asked head ≡ None → weights (columns asked head) ≤ 1
   one_weight head none =
-      let same = places_are_each (column_of asked) [] head in
+      let same = places_are_each (column_of asked head) [] head in
       let fine = all_fine 1 (columns_of asked head) (or_none (first_fault (columns_of asked head)) _ none).0 in
-      let few = (few_weights asked [] head (subst (All IsFine) same fine)).one in
+      let few = (few_weights asked head [] head (subst (All IsFine) same fine)).one in
       subst (λ (rs : List (Result Column TableKind)). weights (sound rs) ≤ 1) (sym same) few
 
   module _ (t : Treatment) (head : List (List ℕ)) (one other : List (List (List ℕ))) (moved : IsPermutation one other)

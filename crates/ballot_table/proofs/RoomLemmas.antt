@@ -14,12 +14,13 @@ use Rattle.ballot_table.specs.Faults.{sound}
 use Rattle.ballot_table.specs.Texts.{number}
 use Rattle.ballot_table.specs.Cells.{Cell, Nothing, Counts, cell_of, as_cell, counted}
 use Rattle.ballot_table.specs.Rows.{is_dropped, ballots_in, said_in, said_at, marks_of, row_of, by_rank}
-use Rattle.ballot_table.specs.Rows.{ranks_of, said_up_to, says_of}
+use Rattle.ballot_table.specs.Rows.{at_places, chosen_of, listed_of, places_of, ranks_of, said_up_to}
 
 -- what cells say of ranks, in either layout
 record SaySame (one other : List Cell) : Type 0 where
   pub ranks : ranks_of one ≡ ranks_of other
-  pub says : says_of one ≡ says_of other
+  pub chosen : chosen_of one ≡ chosen_of other
+  pub listed : listed_of one ≡ listed_of other
 
 same_behind :
     {X Y : Type 0} (f : X → List Y) (x : X) (one other : List X) → flat_map f one ≡ flat_map f other
@@ -33,30 +34,32 @@ same_cells :
 same_cells (Err kind) one other same = same
 same_cells (Ok cell) one other same = record {
   ranks = same_behind _ cell (sound one) (sound other) same.ranks;
-  says = same_behind _ cell (sound one) (sound other) same.says;
+  chosen = same_behind _ cell (sound one) (sound other) same.chosen;
+  listed = same_behind _ cell (sound one) (sound other) same.listed;
 }
 
 -- a weight says nothing of ranks
 no_rank :
     (here there : Result ℕ TableKind) (one other : List (Result Cell TableKind)) → SaySame (sound one) (sound other)
     → SaySame (sound (as_cell Counts here ∷ one)) (sound (as_cell Counts there ∷ other))
-no_rank (Ok m) (Ok n) one other same = record { ranks = same.ranks; says = same.says }
-no_rank (Ok m) (Err kind) one other same = record { ranks = same.ranks; says = same.says }
-no_rank (Err kind) (Ok n) one other same = record { ranks = same.ranks; says = same.says }
+no_rank (Ok m) (Ok n) one other same = record { ranks = same.ranks; chosen = same.chosen; listed = same.listed }
+no_rank (Ok m) (Err kind) one other same = record { ranks = same.ranks; chosen = same.chosen; listed = same.listed }
+no_rank (Err kind) (Ok n) one other same = record { ranks = same.ranks; chosen = same.chosen; listed = same.listed }
 no_rank (Err kind) (Err other_kind) one other same = same
 
 said_alike :
-    (layout : Layout) (one other : List Cell) → SaySame one other → said_at layout one ≡ said_at layout other
-said_alike layout.Ranks one other same = ap (said_up_to MOST_CANDIDATES) same.ranks
-said_alike layout.Choices one other same = same.says
-said_alike layout.List one other same = same.says
+    (layout : Layout) (cols : List Column) (one other : List Cell) → SaySame one other
+    → said_at layout cols one ≡ said_at layout cols other
+said_alike layout.Ranks cols one other same = ap (said_up_to MOST_CANDIDATES) same.ranks
+said_alike layout.Choices cols one other same = ap (at_places (places_of cols)) same.chosen
+said_alike layout.List cols one other same = same.listed
 
 module _ (asked : Asked) where
   abbrev cells_in : ℕ → List (Column × List ℕ) → List (Result Cell TableKind)
   cells_in room ps = map (λ p. cell_of asked room p.0 p.1) ps
 
   cells_alike : (m n : ℕ) (ps : List (Column × List ℕ)) → SaySame (sound (cells_in m ps)) (sound (cells_in n ps))
-  cells_alike m n [] = record { ranks = refl; says = refl }
+  cells_alike m n [] = record { ranks = refl; chosen = refl; listed = refl }
   cells_alike m n ((column.PassedOver, text) ∷ ps) =
       same_cells (Ok Nothing) (cells_in m ps) (cells_in n ps) (cells_alike m n ps)
   cells_alike m n ((column.Weight, text) ∷ ps) =
@@ -71,7 +74,7 @@ module _ (asked : Asked) where
 module _ (asked : Asked) (empty : Empty) (cols : List Column) where
   said_free : (m n : ℕ) (texts : List (List ℕ)) → said_in asked m cols texts ≡ said_in asked n cols texts
   said_free m n texts =
-      ap by_rank (said_alike asked.layout (sound (cells_in asked m (zip cols texts)))
+      ap by_rank (said_alike asked.layout cols (sound (cells_in asked m (zip cols texts)))
       (sound (cells_in asked n (zip cols texts)))
       (cells_alike asked m n (zip cols texts)))
 

@@ -20,7 +20,7 @@ use Rattle.ballot_table.specs.Cells.{rank_in, says_in, all_of, fault_one}
 use Rattle.ballot_table.specs.Faults.{fault_of, first_fault, sound}
 use Rattle.ballot_table.specs.Held.{IsHolding}
 use Rattle.ballot_table.specs.Finding.{IsTaken, AreTaken, candidates_at}
-use Rattle.ballot_table.specs.Rows.{weight_in, cells_of, ranks_of, rank_cell, says_of}
+use Rattle.ballot_table.specs.Rows.{weight_in, cells_of, ranks_of, rank_cell, chosen_cell, chosen_of, listed_cell, listed_of}
 use Rattle.ballot_table.specs.Said.{IsSaying}
 use Rattle.ballot_table.specs.Texts.{number, parts}
 
@@ -92,7 +92,7 @@ or_none (Some n) = refl
 count_taken : (x : Cell) (old new : RowCells) → IsTaken (Some x) old new
     → option_or old.count (weight_of x) ≡ new.count
 count_taken Nothing old new is = or_none old.count ∙ sym (ap (λ (c : RowCells). c.count) is)
-count_taken (Counts n) old new is = sym is.2
+count_taken (Counts n) old new is = sym is.3
 count_taken (Ranked rank) old new is = or_none old.count ∙ sym is.0
 count_taken (Said says) old new is = or_none old.count ∙ sym is.0
 count_taken (Listed says) old new is = or_none old.count ∙ sym is.0
@@ -106,7 +106,7 @@ holding_taken Nothing old new ranks is holding =
 holding_taken (Counts n) old new ranks is holding =
     subst (λ (rs : List (Option ℕ)). IsHolding rs new.holders) (sym (append-nil ranks))
     (subst (IsHolding ranks) (sym is.0) holding)
-holding_taken (Ranked rank) old new ranks is holding = is.2 ranks holding
+holding_taken (Ranked rank) old new ranks is holding = is.3 ranks holding
 holding_taken (Said says) old new ranks is holding =
     subst (λ (rs : List (Option ℕ)). IsHolding rs new.holders) (sym (append-nil ranks))
     (subst (IsHolding ranks) (sym is.1) holding)
@@ -114,20 +114,28 @@ holding_taken (Listed says) old new ranks is holding =
     subst (λ (rs : List (Option ℕ)). IsHolding rs new.holders) (sym (append-nil ranks))
     (subst (IsHolding ranks) (sym is.1) holding)
 
--- what cells say of ranks from the first on, with one cell more
+-- what lists say of ranks from the first on, with one cell more
 no_more_said : (says : List (Option Says)) (old new : RowCells) → new.said ≡ old.said → IsSaying says old.said
     → IsSaying (says ++ []) new.said
 no_more_said says old new same saying =
     subst (λ (l : List (Option Says)). IsSaying l new.said) (sym (append-nil says)) (subst (IsSaying says) (sym same) saying)
 
 saying_taken : (x : Cell) (old new : RowCells) (says : List (Option Says)) → IsTaken (Some x) old new
-    → IsSaying says old.said → IsSaying (says ++ says_of (x ∷ [])) new.said
+    → IsSaying says old.said → IsSaying (says ++ listed_cell x) new.said
 saying_taken Nothing old new says is saying = no_more_said says old new (ap (λ (c : RowCells). c.said) is) saying
 saying_taken (Counts n) old new says is saying = no_more_said says old new is.1 saying
 saying_taken (Ranked rank) old new says is saying = no_more_said says old new is.1 saying
-saying_taken (Said one) old new says is saying = is.2 says saying
-saying_taken (Listed more) old new says is saying =
-    subst (λ (l : List (Option Says)). IsSaying (says ++ l) new.said) (sym (append-nil more)) (is.2 says saying)
+saying_taken (Said one) old new says is saying = no_more_said says old new is.2 saying
+saying_taken (Listed more) old new says is saying = is.3 says saying
+
+-- what the columns of ranks say, with one cell more
+chosen_taken : (x : Cell) (old new : RowCells) → IsTaken (Some x) old new
+    → old.chosen.items ++ chosen_cell x ≡ new.chosen.items
+chosen_taken Nothing old new is = append-nil old.chosen.items ∙ sym (ap (λ (c : RowCells). c.chosen.items) is)
+chosen_taken (Counts n) old new is = append-nil old.chosen.items ∙ sym is.2
+chosen_taken (Ranked rank) old new is = append-nil old.chosen.items ∙ sym is.2
+chosen_taken (Said one) old new is = sym is.3
+chosen_taken (Listed more) old new is = append-nil old.chosen.items ∙ sym is.2
 
 -- The cells of a row are read up to these that are left.
 pub record IsReading (asked : Asked) (room : ℕ) (ps left : List Pair) (at : ℕ) (cells : RowCells) : Type 0 where
@@ -140,12 +148,14 @@ pub record IsReading (asked : Asked) (room : ℕ) (ps left : List Pair) (at : �
       ≡ ranks ++ ranks_of (sound (map (λ (p : Pair). cell_of asked room p.0 p.1) left))
   pub says : List (Option Says)
   pub saying : IsSaying says cells.said
-  pub all_said : says_of (sound (map (λ (p : Pair). cell_of asked room p.0 p.1) ps))
-      ≡ says ++ says_of (sound (map (λ (p : Pair). cell_of asked room p.0 p.1) left))
+  pub all_said : listed_of (sound (map (λ (p : Pair). cell_of asked room p.0 p.1) ps))
+      ≡ says ++ listed_of (sound (map (λ (p : Pair). cell_of asked room p.0 p.1) left))
+  pub chosen : chosen_of (sound (map (λ (p : Pair). cell_of asked room p.0 p.1) ps))
+      ≡ cells.chosen.items ++ chosen_of (sound (map (λ (p : Pair). cell_of asked room p.0 p.1) left))
 
 pub reading_begun : (asked : Asked) (room : ℕ) (ps : List Pair) (cells : RowCells) → cells.count ≡ None
-    → IsHolding [] cells.holders → IsSaying [] cells.said → IsReading asked room ps ps 0 cells
-reading_begun asked room ps cells none holding saying = record {
+    → IsHolding [] cells.holders → cells.chosen.items ≡ [] → IsSaying [] cells.said → IsReading asked room ps ps 0 cells
+reading_begun asked room ps cells none holding unchosen saying = record {
   fault = refl;
   count = sym (ap (λ o. option_or o (slice_get (filter_map weight_in ps) 0)) none);
   ranks = [];
@@ -154,15 +164,9 @@ reading_begun asked room ps cells none holding saying = record {
   says = [];
   saying = saying;
   all_said = refl;
+  chosen =
+      ap (λ (l : List (Option Says)). l ++ chosen_of (sound (map (λ (p : Pair). cell_of asked room p.0 p.1) ps))) (sym unchosen);
 }
-
--- what a cell says, before what others say
-said_first : (x : Cell) (cells : List Cell) → says_of (x ∷ cells) ≡ says_of (x ∷ []) ++ says_of cells
-said_first Nothing cells = refl
-said_first (Counts n) cells = refl
-said_first (Ranked rank) cells = refl
-said_first (Said says) cells = refl
-said_first (Listed says) cells = ap (λ (l : List (Option Says)). l ++ says_of cells) (sym (append-nil says))
 
 module _ (asked : Asked) (room : ℕ) (ps : List Pair) (column : Column) (text : List ℕ) (rest : List Pair) (at : ℕ) where
   abbrev cell : Pair → Result Cell TableKind
@@ -192,13 +196,17 @@ module _ (asked : Asked) (room : ℕ) (ps : List Pair) (column : Column) (text :
         so_far.all
         ∙ ap (λ r. so_far.ranks ++ ranks_of (sound (r ∷ map cell rest))) is
         ∙ sym (append_assoc so_far.ranks (rank_cell x) (ranks_of (sound (map cell rest))));
-    says = so_far.says ++ says_of (x ∷ []);
+    says = so_far.says ++ listed_cell x;
     saying = saying_taken x old new so_far.says taken so_far.saying;
     all_said =
         so_far.all_said
-        ∙ ap (λ r. so_far.says ++ says_of (sound (r ∷ map cell rest))) is
-        ∙ ap (λ (l : List (Option Says)). so_far.says ++ l) (said_first x (sound (map cell rest)))
-        ∙ sym (append_assoc so_far.says (says_of (x ∷ [])) (says_of (sound (map cell rest))));
+        ∙ ap (λ r. so_far.says ++ listed_of (sound (r ∷ map cell rest))) is
+        ∙ sym (append_assoc so_far.says (listed_cell x) (listed_of (sound (map cell rest))));
+    chosen =
+        so_far.chosen
+        ∙ ap (λ r. old.chosen.items ++ chosen_of (sound (r ∷ map cell rest))) is
+        ∙ sym (append_assoc old.chosen.items (chosen_cell x) (chosen_of (sound (map cell rest))))
+        ∙ ap (λ (l : List (Option Says)). l ++ chosen_of (sound (map cell rest))) (chosen_taken x old new taken);
   }
 
 -- a row's next pair of a column and a text
@@ -258,10 +266,15 @@ module _ (asked : Asked) (room : ℕ) (columns : List Column) (texts : List (Lis
           ++ ranks_of (sound (map (λ (p : Pair). cell_of asked room p.0 p.1) l))) no_pairs
           ∙ append-nil so_far.ranks))
           so_far.holding;
+      chosen =
+          sym (so_far.chosen
+          ∙ ap (λ (l : List Pair). cells.chosen.items
+          ++ chosen_of (sound (map (λ (p : Pair). cell_of asked room p.0 p.1) l))) no_pairs
+          ∙ append-nil cells.chosen.items);
       saying = subst (λ (l : List (Option Says)). IsSaying l cells.said)
           (sym (so_far.all_said
           ∙ ap (λ (l : List Pair). so_far.says
-          ++ says_of (sound (map (λ (p : Pair). cell_of asked room p.0 p.1) l))) no_pairs
+          ++ listed_of (sound (map (λ (p : Pair). cell_of asked room p.0 p.1) l))) no_pairs
           ∙ append-nil so_far.says))
           so_far.saying;
       candidates = candidates;

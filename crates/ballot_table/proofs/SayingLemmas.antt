@@ -90,7 +90,7 @@ either false o none = none
 module _ (asked : Asked) (room : ℕ) (cols : List Column) (texts : List (List ℕ)) (ranks : List ℕ) where
   pub says_ranking : length texts ≡ length cols → filter_map weight_in (zip cols texts) ≡ []
       → All IsFine (cells_of asked room cols texts) → (j : ℕ)
-      → said_at asked.layout (sound (cells_of asked room cols texts)) ≡ plainly ranks j
+      → said_at asked.layout cols (sound (cells_of asked room cols texts)) ≡ plainly ranks j
       → SaysRanking asked room cols texts ranks
   says_ranking long weightless fine j said =
       let cells = first_fault (cells_of asked room cols texts) in
@@ -103,7 +103,7 @@ module _ (asked : Asked) (room : ℕ) (cols : List Column) (texts : List (List �
         row =
             ap (λ (ks : List ℕ). Some (record {
               count = unwrap_or (slice_get ks 0) 1;
-              marks = marks_of (by_rank (said_at asked.layout (sound (cells_of asked room cols texts))));
+              marks = marks_of (by_rank (said_at asked.layout cols (sound (cells_of asked room cols texts))));
             })) weightless
             ∙ ap (λ (says : List (Option Says)). Some (record { count = 1; marks = marks_of (by_rank says) })) said
             ∙ ap (λ (marks : List Mark). Some (record { count = 1; marks = marks })) (plain_marks ranks j);

@@ -1,5 +1,5 @@
 -- A head without a fault has at most one column of the weight.
-use Rattle.std.proofs.Common.{◌≡◌, ℕ, suc, ◌+◌, ◌≤◌, ◌||◌, Bool, true, false, cond, List, [], ◌∷◌, ◌++◌}
+use Rattle.std.proofs.Common.{◌≡◌, ℕ, suc, ◌+◌, ◌≤◌, ◌||◌, ◌&&◌, not, eqb, Bool, true, false, cond, List, [], ◌∷◌, ◌++◌}
 use Rattle.std.proofs.Common.{length, filter, arith}
 use Rattle.std.proofs.Common.{Option, Some, None, Result, Ok, Err, All, refl, ap, sym, ◌∙◌, subst}
 use Rattle.std.specs.List.{enumerate_from, filter_map, list_any, slice_get, zip}
@@ -13,11 +13,11 @@ use Rattle.ballot_table.specs.declared.column.Column.TheVariants as column
 use Rattle.ballot_table.specs.declared.layout.Layout.{Layout}
 use Rattle.ballot_table.specs.declared.layout.Layout.TheVariants as layout
 use Rattle.ballot_table.specs.declared.table_kind.TableKind.{TableKind}
-use Rattle.ballot_table.specs.declared.table_kind.TableKind.TheVariants.{RepeatedColumn}
+use Rattle.ballot_table.specs.declared.table_kind.TableKind.TheVariants.{BadColumns, HeadExpected, RepeatedColumn}
 use Rattle.ballot_table.specs.Asked.{Asked}
 use Rattle.ballot_table.specs.Cells.{fault_one}
 use Rattle.ballot_table.specs.Faults.{fault_of, sound}
-use Rattle.ballot_table.specs.Head.{column_of, labelled, next_column, unless, unlabelled}
+use Rattle.ballot_table.specs.Head.{column_of, heads_say_ranks, is_cell, labelled, next_column, rank_said, unless, unlabelled}
 use Rattle.ballot_table.specs.Rows.{weight_in}
 use Rattle.ballot_table.specs.Texts.{is_in}
 use Rattle.ballot_table.proofs.BehindLemmas.{each}
@@ -67,6 +67,17 @@ stands_still front text label is =
     list_any-append (λ other. bytes_eq other label) front (text ∷ [])
     ∙ ap (λ b. b || list_any (λ other. bytes_eq other label) (text ∷ [])) is
 
+not_rank : (by_heads bad : Bool) (r n : ℕ)
+    → cond by_heads (cond bad (Err BadColumns) (Ok (column.Rank r))) (Ok (column.Rank n)) ≡ Ok column.Weight → ⊥
+not_rank true true r n is = cc is
+not_rank true false r n is = cc is
+not_rank false bad r n is = cc is
+
+not_guarded : (cell : Bool) (next : Result Column TableKind) → (next ≡ Ok column.Weight → ⊥)
+    → cond cell (Err HeadExpected) next ≡ Ok column.Weight → ⊥
+not_guarded true next none is = cc is
+not_guarded false next none is = none is
+
 not_weight : (fault : Option TableKind) (n : ℕ) → unless fault (column.Candidate n) ≡ Ok column.Weight → ⊥
 not_weight None n is = cc is
 not_weight (Some kind) n is = cc is
@@ -75,11 +86,15 @@ weight_or : (is_weights : Bool) → cond is_weights column.Weight column.PassedO
 weight_or true is = refl
 weight_or false is = absurd (cc is)
 
-module _ (asked : Asked) where
+module _ (asked : Asked) (whole : List (List ℕ)) where
   -- a column without a label is not the weight's
   no_weight : (l : Layout) (before : List (List ℕ)) (text : List ℕ)
-      → next_column l asked before text ≡ Ok column.Weight → ⊥
-  no_weight layout.Choices before text is = cc is
+      → next_column l asked whole before text ≡ Ok column.Weight → ⊥
+  no_weight layout.Choices before text is =
+      let rank = rank_said (length (unlabelled asked whole)) text in
+      not_rank (heads_say_ranks asked whole)
+      (eqb rank 0 || list_any (λ other. eqb (rank_said (length (unlabelled asked whole)) other) rank) before) rank
+      (length before + 1) is
   no_weight layout.List [] text is = cc is
   no_weight layout.List (other ∷ others) text is = cc is
   no_weight layout.Ranks before text is = not_weight _ _ is
@@ -108,12 +123,15 @@ module _ (asked : Asked) where
   by_label true false l next none is = (refl, cc is)
   by_label false again l next none is = absurd (none is)
 
-  is_first : (front : List (List ℕ)) (text : List ℕ) → column_of asked front text ≡ Ok column.Weight
+  is_first : (front : List (List ℕ)) (text : List ℕ) → column_of asked whole front text ≡ Ok column.Weight
       → IsFirst front text
   is_first front text is =
       let parts = by_label (is_in asked.labels text) (is_in front text) (labelled asked text)
-      (next_column asked.layout asked (unlabelled asked front) text)
-      (no_weight asked.layout (unlabelled asked front) text) is in
+      (cond (not asked.head_is_said && is_cell asked.layout asked whole text) (Err HeadExpected)
+      (next_column asked.layout asked whole (unlabelled asked front) text))
+      (not_guarded (not asked.head_is_said && is_cell asked.layout asked whole text)
+      (next_column asked.layout asked whole (unlabelled asked front) text)
+      (no_weight asked.layout (unlabelled asked front) text)) is in
       let both = first_labelled asked.weight front text parts.0 (weight_or _ parts.1) in
       record { before = both.0; behind = both.1 }
 
@@ -128,7 +146,7 @@ module _ (asked : Asked) where
     pub none : has_weight asked.weight front ≡ true → weights cols ≡ 0
 
   one_more : (front : List (List ℕ)) (text : List ℕ) (r : Result Column TableKind) (cols : List Column)
-      → column_of asked front text ≡ r → AreFew (front ++ text ∷ []) cols → IsFine r
+      → column_of asked whole front text ≡ r → AreFew (front ++ text ∷ []) cols → IsFine r
       → (c : Column) × (r ≡ Ok c) × AreFew front (c ∷ cols)
   one_more front text (Err kind) cols is few fine = absurd (cc fine)
   one_more front text (Ok column.Weight) cols is few fine =
@@ -144,12 +162,12 @@ module _ (asked : Asked) where
   one_more front text (Ok column.List) cols is few fine =
       (column.List, refl, record { one = few.one; none = λ had. few.none (still_has asked.weight front text had) })
 
-  pub few_weights : (front rest : List (List ℕ)) → All IsFine (each (column_of asked) front rest)
-      → AreFew front (sound (each (column_of asked) front rest))
+  pub few_weights : (front rest : List (List ℕ)) → All IsFine (each (column_of asked whole) front rest)
+      → AreFew front (sound (each (column_of asked whole) front rest))
   few_weights front [] all = record { one = omega arith; none = λ had. refl }
   few_weights front (text ∷ rest) all =
-      let here = column_of asked front text in
-      let more = each (column_of asked) (front ++ text ∷ []) rest in
+      let here = column_of asked whole front text in
+      let more = each (column_of asked whole) (front ++ text ∷ []) rest in
       let found = one_more front text here (sound more) refl
       (few_weights (front ++ text ∷ []) rest (All-tail IsFine here more all)) (All-head IsFine here more all) in
       subst (λ (r : Result Column TableKind). AreFew front (sound (r ∷ more))) (sym found.1) found.2

@@ -1,5 +1,5 @@
 -- The marks of a row say its candidates.
-use Rattle.std.proofs.Common.{◌≡◌, ℕ, zero, suc, ◌+◌, ◌<◌, ◌≤◌, Bool, true, false, cond, eqb, List, [], ◌∷◌}
+use Rattle.std.proofs.Common.{get_or, ◌≡◌, ℕ, zero, suc, ◌+◌, ◌<◌, ◌≤◌, Bool, true, false, cond, eqb, List, [], ◌∷◌}
 use Rattle.std.proofs.Common.{Option, Some, None, Result, Ok, Err, All, map, length, refl, ap, sym, ◌∙◌, subst, arith, inl, inr}
 use Rattle.std.specs.Bool.{⊤}
 use Rattle.std.specs.List.{filter_map, enumerate_from, cons_option, position_or_len, range_with_len, slice_get}
@@ -24,7 +24,7 @@ use Rattle.ballot_table.specs.Cells.{says_in, some_or, one_of, all_of, all_or, f
 use Rattle.ballot_table.specs.Faults.{sound}
 use Rattle.ballot_table.specs.Finding.{among}
 use Rattle.ballot_table.specs.Rows.{holder, holders, said_by_holders, said_up_to, said_of, by_rank, marks_behind, marks_of}
-use Rattle.ballot_table.specs.Rows.{ranks_of, says_of, said_at}
+use Rattle.ballot_table.specs.Rows.{at_places, chosen_of, listed_of, places_of, ranks_of, said_at}
 use Rattle.ballot_table.specs.Texts.{is_in, number, number_in, parts}
 
 -- what a rank says is one of n candidates, where it is one
@@ -162,36 +162,48 @@ module _ (asked : Asked) where
   list_within None rs says is all = let same : sound rs ≡ says = cc is in subst (All IsNamed) same all
   list_within (Some kind) rs says is all = absurd (cc is)
 
+  -- whoever is said by cells is a candidate
+  pub record AreNamed (cells : List Cell) : Type 0 where
+    pub chosen : All IsNamed (chosen_of cells)
+    pub listed : All IsNamed (listed_of cells)
+
   -- what a cell says before others
   said_more : (r : Result (Option Says) TableKind) (cells : List (Result Cell TableKind))
-      → ((says : Option Says) → r ≡ Ok says → IsNamed says) → All IsNamed (says_of (sound cells))
-      → All IsNamed (says_of (sound (as_cell Said r ∷ cells)))
-  said_more (Ok says) cells within all = All-cons IsNamed says (says_of (sound cells)) (within says refl) all
+      → ((says : Option Says) → r ≡ Ok says → IsNamed says) → AreNamed (sound cells)
+      → AreNamed (sound (as_cell Said r ∷ cells))
+  said_more (Ok says) cells within all = record {
+    chosen = All-cons IsNamed says (chosen_of (sound cells)) (within says refl) all.chosen;
+    listed = all.listed;
+  }
   said_more (Err kind) cells within all = all
 
   listed_more : (r : Result (List (Option Says)) TableKind) (cells : List (Result Cell TableKind))
-      → ((says : List (Option Says)) → r ≡ Ok says → All IsNamed says) → All IsNamed (says_of (sound cells))
-      → All IsNamed (says_of (sound (as_cell Listed r ∷ cells)))
-  listed_more (Ok says) cells within all = All-append IsNamed says (says_of (sound cells)) (within says refl) all
+      → ((says : List (Option Says)) → r ≡ Ok says → All IsNamed says) → AreNamed (sound cells)
+      → AreNamed (sound (as_cell Listed r ∷ cells))
+  listed_more (Ok says) cells within all = record {
+    chosen = all.chosen;
+    listed = All-append IsNamed says (listed_of (sound cells)) (within says refl) all.listed;
+  }
   listed_more (Err kind) cells within all = all
 
-  counted_more : (r : Result ℕ TableKind) (cells : List (Result Cell TableKind)) → All IsNamed (says_of (sound cells))
-      → All IsNamed (says_of (sound (as_cell Counts r ∷ cells)))
-  counted_more (Ok n) cells all = all
+  counted_more : (r : Result ℕ TableKind) (cells : List (Result Cell TableKind)) → AreNamed (sound cells)
+      → AreNamed (sound (as_cell Counts r ∷ cells))
+  counted_more (Ok n) cells all = record { chosen = all.chosen; listed = all.listed }
   counted_more (Err kind) cells all = all
 
-  ranked_more : (r : Result (Option ℕ) TableKind) (cells : List (Result Cell TableKind)) → All IsNamed (says_of (sound cells))
-      → All IsNamed (says_of (sound (as_cell Ranked r ∷ cells)))
-  ranked_more (Ok rank) cells all = all
+  ranked_more : (r : Result (Option ℕ) TableKind) (cells : List (Result Cell TableKind)) → AreNamed (sound cells)
+      → AreNamed (sound (as_cell Ranked r ∷ cells))
+  ranked_more (Ok rank) cells all = record { chosen = all.chosen; listed = all.listed }
   ranked_more (Err kind) cells all = all
 
   abbrev cells_in : (room : ℕ) → List (Column × List ℕ) → List (Result Cell TableKind)
   cells_in room ps = map (λ (p : Column × List ℕ). cell_of asked room p.0 p.1) ps
 
   pub cells_within : (room : ℕ) (ps : List (Column × List ℕ))
-      → All IsNamed (says_of (sound (map (λ (p : Column × List ℕ). cell_of asked room p.0 p.1) ps)))
-  cells_within room [] = All-nil IsNamed
-  cells_within room ((column.PassedOver, text) ∷ ps) = cells_within room ps
+      → AreNamed (sound (map (λ (p : Column × List ℕ). cell_of asked room p.0 p.1) ps))
+  cells_within room [] = record { chosen = All-nil IsNamed; listed = All-nil IsNamed }
+  cells_within room ((column.PassedOver, text) ∷ ps) =
+      let more = cells_within room ps in record { chosen = more.chosen; listed = more.listed }
   cells_within room ((column.Weight, text) ∷ ps) = counted_more (counted room (number text)) (cells_in room ps) (cells_within room ps)
   cells_within room ((column.Candidate c, text) ∷ ps) = ranked_more (rank_in asked text) (cells_in room ps) (cells_within room ps)
   cells_within room ((column.Rank r, text) ∷ ps) =
@@ -202,11 +214,26 @@ module _ (asked : Asked) where
       (λ says is. list_within (slice_get (filter_map fault_one rs) 0) rs says is (texts_within (parts text)))
       (cells_within room ps)
 
+  -- what stands at places
+  at_within : (n : ℕ) (says : List (Option Says)) (place : ℕ) → All (IsWithin n) says
+      → IsWithin n (get_or says place None)
+  at_within n [] place all = tt
+  at_within n (s ∷ says) zero all = All-head (IsWithin n) s says all
+  at_within n (s ∷ says) (suc place) all = at_within n says place (All-tail (IsWithin n) s says all)
+
+  places_within : (n : ℕ) (says : List (Option Says)) (places : List ℕ) → All (IsWithin n) says
+      → All (IsWithin n) (at_places places says)
+  places_within n says [] all = All-nil (IsWithin n)
+  places_within n says (place ∷ places) all =
+      All-cons (IsWithin n) (get_or says place None) (at_places places says) (at_within n says place all)
+      (places_within n says places all)
+
   -- what the ranks of a row say, by its layout
-  pub row_within : (l : Layout) (cells : List Cell) (columns : ℕ) → columns ≡ length (ranks_of cells)
-      → All IsNamed (says_of cells) → All (IsWithin (among l (length asked.candidates) columns)) (said_at l cells)
-  row_within layout.Ranks cells columns is all =
+  pub row_within : (l : Layout) (cols : List Column) (cells : List Cell) (columns : ℕ) → columns ≡ length (ranks_of cells)
+      → AreNamed cells → All (IsWithin (among l (length asked.candidates) columns)) (said_at l cols cells)
+  row_within layout.Ranks cols cells columns is all =
       subst (λ (n : ℕ). All (IsWithin n) (said_up_to MOST_CANDIDATES (ranks_of cells))) (sym is)
       (all_ranks_within MOST_CANDIDATES (ranks_of cells))
-  row_within layout.Choices cells columns is all = all
-  row_within layout.List cells columns is all = all
+  row_within layout.Choices cols cells columns is all =
+      places_within (length asked.candidates) (chosen_of cells) (places_of cols) all.chosen
+  row_within layout.List cols cells columns is all = all.listed

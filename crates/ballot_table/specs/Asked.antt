@@ -6,6 +6,8 @@ use Rattle.ballot_table.specs.declared.table_asked.TableAsked.{TableAsked}
 -- the layout, and the texts that have a meaning of their own
 pub record Asked : Type 0 where
   pub layout : Layout
+  -- the words say that the first record is the head
+  pub head_is_said : Bool
   -- candidates stand in brackets at the end of the head's fields
   pub bracketed : Bool
   -- heads of the weight's column and of those that are passed over, in the order of the words
@@ -24,6 +26,7 @@ pub record Asked : Type 0 where
 abbrev pub asked_of : TableAsked → Asked
 asked_of asked = record {
   layout = asked.layout;
+  head_is_said = asked.head_is_said;
   bracketed = asked.bracketed;
   labels = asked.labels;
   weight = asked.weight;

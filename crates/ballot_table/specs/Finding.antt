@@ -1,5 +1,6 @@
 -- What the code finds of a head and of the cells of a row.
-use Rattle.std.specs.Prelude.{◌≡◌, ◌≤◌, ◌+◌, if◌then◌else◌, length, map, ◌++◌, ◌∷◌, ℕ, List, [], sum_by}
+use Rattle.std.specs.Prelude.{◌≡◌, ◌<◌, ◌≤◌, ◌+◌, ◌-◌, ◌==◌, ◌^◌, Bool, true, false, if◌then◌else◌, length, map, ◌++◌, ◌∷◌, ℕ, List, [], sum_by}
+use Rattle.std.specs.List.{list_all, list_any, slice_index_or, slice_set}
 use Rattle.std.specs.Prelude.{Option, Some, None, Result, Ok, Err, ⊤}
 use Rattle.std.specs.Option.{option_or, unwrap_or}
 use Rattle.plain_ballots.specs.declared.limits.TheConstants.{MOST_CANDIDATES}
@@ -12,13 +13,14 @@ use Rattle.ballot_table.specs.declared.head.Head.{Head}
 use Rattle.ballot_table.specs.declared.layout.Layout.{Layout}
 use Rattle.ballot_table.specs.declared.layout.Layout.TheVariants as layout
 use Rattle.ballot_table.specs.declared.row_cells.RowCells.{RowCells}
+use Rattle.ballot_table.specs.declared.shape.Shape.{Shape}
 use Rattle.ballot_table.specs.declared.table_kind.TableKind.{TableKind}
 use Rattle.ballot_table.specs.Asked.{Asked}
 use Rattle.ballot_table.specs.Cells.{Cell, Nothing, Counts, Ranked, Said, Listed, cell_of, fault_one}
 use Rattle.ballot_table.specs.Faults.{sound, sound_one}
-use Rattle.ballot_table.specs.Head.{columns, names_of, unlabelled}
+use Rattle.ballot_table.specs.Head.{columns, heads_say_ranks, may_be_rank, names_of, rank_said, unlabelled}
 use Rattle.ballot_table.specs.Held.{IsHolding, says_held}
-use Rattle.ballot_table.specs.Rows.{cells_of, ranks_of, says_of, ballots_in, weight_at}
+use Rattle.ballot_table.specs.Rows.{cells_of, ranks_of, at_places, chosen_of, listed_of, ballots_in, weight_at}
 use Rattle.ballot_table.specs.Said.{SaidList, IsSaying}
 use Rattle.ballot_table.specs.Texts.{is_in}
 
@@ -54,6 +56,29 @@ pub record IsNext (asked : Asked) (others : ℕ) (text : List ℕ) (next : Colum
   pub named : candidates_at next ≡ named_by asked.layout (others_at next)
   pub few : named_by asked.layout (others + others_at next) ≤ MOST_CANDIDATES
 
+-- what the texts of a head say together
+pub record IsShape (asked : Asked) (all : List (List ℕ)) (shape : Shape) : Type 0 where
+  pub others : shape.others ≡ length (unlabelled asked all)
+  pub few : shape.others < 2 ^ 31
+  pub say_ranks : shape.say_ranks ≡ heads_say_ranks asked all
+  pub may_be_ranks : shape.may_be_ranks ≡ list_all (may_be_rank asked) (unlabelled asked all)
+
+-- Of each of n ranks it is known whether one of these heads says it.
+pub record IsSeen (n : ℕ) (before : List (List ℕ)) (seen : List Bool) : Type 0 where
+  pub size : length seen ≡ n
+  pub each : (k : ℕ) → k < n → slice_index_or seen k false ≡ list_any (λ other. rank_said n other == k + 1) before
+
+-- It is known where heads of choices say ranks.
+abbrev pub IsSeenBy : Asked → (all before : List (List ℕ)) → List Bool → Type 0
+IsSeenBy asked all before seen =
+    asked.layout ≡ layout.Choices → heads_say_ranks asked all ≡ true
+    → IsSeen (length (unlabelled asked all)) (unlabelled asked before) seen
+
+-- with the rank of one column more
+abbrev pub with_seen : Column → List Bool → List Bool
+with_seen (column.Rank rank) seen = slice_set seen (rank - 1) true
+with_seen other seen = seen
+
 -- the columns of a head, and the number of its candidates
 pub record IsHead (asked : Asked) (texts : List (List ℕ)) (head : Head) : Type 0 where
   pub columns_are : head.columns.items ≡ columns asked texts
@@ -80,14 +105,17 @@ abbrev pub IsTaken : Option Cell → (old new : RowCells) → Type 0
 IsTaken None old new = ⊤
 IsTaken (Some Nothing) old new = new ≡ old
 IsTaken (Some (Counts n)) old new =
-    (new.holders ≡ old.holders) × (new.said ≡ old.said) × (new.count ≡ option_or old.count (Some n))
+    (new.holders ≡ old.holders) × (new.said ≡ old.said) × (new.chosen.items ≡ old.chosen.items)
+    × (new.count ≡ option_or old.count (Some n))
 IsTaken (Some (Ranked rank)) old new =
-    (new.count ≡ old.count) × (new.said ≡ old.said)
+    (new.count ≡ old.count) × (new.said ≡ old.said) × (new.chosen.items ≡ old.chosen.items)
     × ((ranks : List (Option ℕ)) → IsHolding ranks old.holders → IsHolding (ranks ++ rank ∷ []) new.holders)
 IsTaken (Some (Said says)) old new =
-    (new.count ≡ old.count) × (new.holders ≡ old.holders) × SaysMore (says ∷ []) old.said new.said
+    (new.count ≡ old.count) × (new.holders ≡ old.holders) × (new.said ≡ old.said)
+    × (new.chosen.items ≡ old.chosen.items ++ says ∷ [])
 IsTaken (Some (Listed says)) old new =
-    (new.count ≡ old.count) × (new.holders ≡ old.holders) × SaysMore says old.said new.said
+    (new.count ≡ old.count) × (new.holders ≡ old.holders) × (new.chosen.items ≡ old.chosen.items)
+    × SaysMore says old.said new.said
 
 -- a cell without a fault is taken in
 pub record IsCellTaken (asked : Asked) (room : ℕ) (column : Column) (text : List ℕ) (old new : RowCells) : Type 0 where
@@ -108,11 +136,12 @@ pub record AreTaken (asked : Asked) (room : ℕ) (columns : List Column) (texts 
     pub weight : unwrap_or cells.count 0 ≡ weight_at columns texts
     pub count : unwrap_or cells.count 1 ≡ ballots_in columns texts
     pub holding : IsHolding (ranks_of (sound (cells_of asked room columns texts))) cells.holders
-    pub saying : IsSaying (says_of (sound (cells_of asked room columns texts))) cells.said
+    pub chosen : cells.chosen.items ≡ chosen_of (sound (cells_of asked room columns texts))
+    pub saying : IsSaying (listed_of (sound (cells_of asked room columns texts))) cells.said
     pub candidates : cells.holders.candidates ≡ sum_by candidates_at columns
 
--- what each rank says, by those who have it where the columns are the candidates'
-abbrev pub IsSaidBy : Layout → (old new : RowCells) → Type 0
-IsSaidBy layout.Ranks old new = IsSaying (map says_held old.holders.held) new.said
-IsSaidBy layout.Choices old new = new.said ≡ old.said
-IsSaidBy layout.List old new = new.said ≡ old.said
+-- what each rank says: by those who have it where the columns are the candidates', and by its place where they are of ranks
+abbrev pub IsSaidBy : Layout → (places : List ℕ) → (old new : RowCells) → Type 0
+IsSaidBy layout.Ranks places old new = IsSaying (map says_held old.holders.held) new.said
+IsSaidBy layout.Choices places old new = IsSaying (at_places places old.chosen.items) new.said
+IsSaidBy layout.List places old new = new.said ≡ old.said

@@ -1,9 +1,10 @@
--- The head of a table: what its columns are of, by the fields before them alone.
-use Rattle.std.specs.Prelude.{ℕ, ◌+◌, ◌-◌, ◌==◌, ◌||◌, ◌&&◌, not, nat_lt, nat_le, false, if◌then◌else◌}
+-- The head of a table: what its columns are of.
+use Rattle.std.specs.Prelude.{ℕ, ◌+◌, ◌-◌, ◌==◌, ◌||◌, ◌&&◌, not, nat_lt, nat_le, Bool, false, if◌then◌else◌}
 use Rattle.std.specs.Prelude.{List, [], ◌∷◌, length, take, map, filter, position, Option, Some, None, Result}
 use Rattle.std.specs.Prelude.{Ok, Err}
-use Rattle.std.specs.List.{enumerate_from, list_any, after_last, ends_with}
-use Rattle.std.specs.Option.{option_map, option_or, option_map_or}
+use Rattle.std.specs.List.{enumerate_from, list_any, list_all, after_last, ends_with}
+use Rattle.std.specs.Option.{is_some, option_map, option_or, option_map_or}
+use Rattle.std.specs.Result.{is_ok}
 use Rattle.std.specs.Str.{bytes_eq}
 use Rattle.plain_ballots.specs.declared.limits.TheConstants.{MOST_CANDIDATES}
 use Rattle.ballot_table.specs.declared.column.Column.{Column}
@@ -15,8 +16,10 @@ use Rattle.ballot_table.specs.declared.table_kind.TableKind.TheVariants.{NoColum
 use Rattle.ballot_table.specs.declared.table_kind.TableKind.TheVariants.{ColumnExpected, TooManyColumns}
 use Rattle.ballot_table.specs.declared.table_kind.TableKind.TheVariants.{TooManyCandidates, NameExpected}
 use Rattle.ballot_table.specs.declared.table_kind.TableKind.TheVariants.{BadName, TooLongName, BadWithdrawn}
+use Rattle.ballot_table.specs.declared.table_kind.TableKind.TheVariants.{BadColumns, HeadExpected}
 use Rattle.ballot_table.specs.Asked.{Asked}
-use Rattle.ballot_table.specs.Texts.{trimmed, is_in}
+use Rattle.ballot_table.specs.Texts.{trimmed, is_in, number, parts, said_number}
+use Rattle.ballot_table.specs.Cells.{rank_in, says_in}
 use Rattle.ballot_table.specs.declared.fault.Fault.{Fault}
 use Rattle.ballot_table.specs.Faults.{first_fault, sound}
 
@@ -56,25 +59,62 @@ abbrev pub unless : {X : Type 0} → Option TableKind → X → Result X TableKi
 unless None x = Ok x
 unless (Some kind) x = Err kind
 
+-- each head that is no label says a rank
+abbrev pub heads_say_ranks : Asked → List (List ℕ) → Bool
+heads_say_ranks asked all = list_all (λ text. is_some (said_number text)) (unlabelled asked all)
+
+abbrev pub rank_among : ℕ → Option ℕ → ℕ
+rank_among n None = 0
+rank_among n (Some rank) = if nat_le rank n then rank else 0
+
+-- the rank from 1 to n that a head says, and 0 where it says none of these
+abbrev pub rank_said : ℕ → List ℕ → ℕ
+rank_said n text = rank_among n (said_number text)
+
+-- the column of the rank that its head says, behind these others
+abbrev pub said_column : ℕ → List (List ℕ) → List ℕ → Result Column TableKind
+said_column n before text =
+    let rank = rank_said n text in
+    if rank == 0 || list_any (λ other. rank_said n other == rank) before then Err BadColumns
+    else Ok (column.Rank rank)
+
+-- the column of a rank of choices: by its head where each head says a rank, and else by its place
+abbrev pub choice_column : Asked → List (List ℕ) → List (List ℕ) → List ℕ → Result Column TableKind
+choice_column asked all before text =
+    if heads_say_ranks asked all then said_column (length (unlabelled asked all)) before text
+    else Ok (column.Rank (length before + 1))
+
 -- a column without a label, behind these others
-abbrev pub next_column : Layout → Asked → List (List ℕ) → List ℕ → Result Column TableKind
-next_column layout.Choices asked before text = Ok (column.Rank (length before + 1))
-next_column layout.List asked [] text = Ok column.List
-next_column layout.List asked (other ∷ others) text = Err TooManyColumns
-next_column layout.Ranks asked before text =
+abbrev pub next_column : Layout → Asked → List (List ℕ) → List (List ℕ) → List ℕ → Result Column TableKind
+next_column layout.Choices asked all before text = choice_column asked all before text
+next_column layout.List asked all [] text = Ok column.List
+next_column layout.List asked all (other ∷ others) text = Err TooManyColumns
+next_column layout.Ranks asked all before text =
     unless (name_fault (map (name_of asked) before) (name_of asked text))
     (column.Candidate (length before + 1))
 
--- The column of a head's text behind these texts.
-abbrev pub column_of : Asked → List (List ℕ) → List ℕ → Result Column TableKind
-column_of asked before text =
+-- a number, or what the cell of a candidate may say
+abbrev pub may_be_rank : Asked → List ℕ → Bool
+may_be_rank asked text = is_some (number text) || is_ok (rank_in asked text)
+
+-- a head reads as a cell of its column: of ranks where all heads without a label do
+abbrev pub is_cell : Layout → Asked → List (List ℕ) → List ℕ → Bool
+is_cell layout.Ranks asked all text = list_all (may_be_rank asked) (unlabelled asked all)
+is_cell layout.Choices asked all text = is_ok (says_in asked text)
+is_cell layout.List asked all text = list_all (λ part. is_ok (says_in asked part)) (parts text)
+
+-- The column of a text among all of a head, behind these texts. Where the words don't say that there is a head, none reads
+-- as a cell.
+abbrev pub column_of : Asked → List (List ℕ) → List (List ℕ) → List ℕ → Result Column TableKind
+column_of asked all before text =
     if is_in asked.labels text
     then (if is_in before text then Err RepeatedColumn else Ok (labelled asked text))
-    else next_column asked.layout asked (unlabelled asked before) text
+    else if not asked.head_is_said && is_cell asked.layout asked all text then Err HeadExpected
+    else next_column asked.layout asked all (unlabelled asked before) text
 
--- All columns of a head, each by the texts before it alone.
+-- All columns of a head, from the left.
 abbrev pub columns_of : Asked → List (List ℕ) → List (Result Column TableKind)
-columns_of asked texts = map (λ at. column_of asked (take at.0 texts) at.1) (enumerate_from 0 texts)
+columns_of asked texts = map (λ at. column_of asked texts (take at.0 texts) at.1) (enumerate_from 0 texts)
 
 -- the names of the candidates in number order
 abbrev pub names_in : Layout → Asked → List (List ℕ) → List (List ℕ)

@@ -1,7 +1,7 @@
 -- The rows of a table.
 use Rattle.std.specs.Prelude.{ℕ, ◌+◌, ◌-◌, ◌==◌, min, Bool, true, false, if◌then◌else◌, List, [], ◌∷◌}
 use Rattle.std.specs.Prelude.{length, take, map, sum_by, Option, Some, None, Result}
-use Rattle.std.specs.List.{enumerate_from, filter_map, flat_map, list_all, range_with_len, zip, slice_get}
+use Rattle.std.specs.List.{enumerate_from, filter_map, flat_map, list_all, position_or_len, range_with_len, zip, slice_get, slice_index_or}
 use Rattle.std.specs.Option.{option_or, unwrap_or}
 use Rattle.plain_ballots.specs.declared.limits.TheConstants.{MOST_BALLOTS, MOST_CANDIDATES}
 use Rattle.ballot_marks.specs.declared.mark.Mark.{Mark}
@@ -73,14 +73,38 @@ rank_cell other = []
 abbrev pub ranks_of : List Cell → List (Option ℕ)
 ranks_of cells = flat_map rank_cell cells
 
--- what the cells say of ranks, from the first rank on
-abbrev pub says_of : List Cell → List (Option Says)
-says_of cells = flat_map of_one cells
-  where
-    of_one : Cell → List (Option Says)
-    of_one (Said says) = says ∷ []
-    of_one (Listed says) = says
-    of_one other = []
+-- what the cell of a rank says
+abbrev pub chosen_cell : Cell → List (Option Says)
+chosen_cell (Said says) = says ∷ []
+chosen_cell other = []
+
+-- what the cells of ranks say, from the left
+abbrev pub chosen_of : List Cell → List (Option Says)
+chosen_of cells = flat_map chosen_cell cells
+
+-- what the cell of a list says
+abbrev pub listed_cell : Cell → List (Option Says)
+listed_cell (Listed says) = says
+listed_cell other = []
+
+-- what the cells of lists say, from the first rank on
+abbrev pub listed_of : List Cell → List (Option Says)
+listed_of cells = flat_map listed_cell cells
+
+-- the rank of a column of choices
+abbrev pub column_rank : Column → Option ℕ
+column_rank (column.Rank rank) = Some rank
+column_rank other = None
+
+-- the ranks of columns of choices, from the left
+abbrev pub ranks_at : List Column → List ℕ
+ranks_at columns = filter_map column_rank columns
+
+-- for each rank from 1 the place of its column among those of ranks, from 0
+abbrev pub places_of : List Column → List ℕ
+places_of columns =
+    let ranks = ranks_at columns in
+    map (λ rank. position_or_len (λ other. other == rank) ranks) (range_with_len 1 (length ranks))
 
 -- a candidate, where it has the rank
 abbrev pub holder : (rank : ℕ) → ℕ × Option ℕ → Option ℕ
@@ -110,11 +134,15 @@ by_rank says = filter_map said_of (enumerate_from 1 says)
 unfoldable pub said_up_to : (most : ℕ) → List (Option ℕ) → List (Option Says)
 said_up_to most ranks = map (λ rank. said_by_holders (holders rank ranks)) (range_with_len 1 most)
 
--- what the ranks of as many candidates say as there may be, or as many as there are columns or parts
-abbrev pub said_at : Layout → List Cell → List (Option Says)
-said_at layout.Ranks cells = said_up_to MOST_CANDIDATES (ranks_of cells)
-said_at layout.Choices cells = says_of cells
-said_at layout.List cells = says_of cells
+-- what stands at these places
+abbrev pub at_places : (places : List ℕ) → List (Option Says) → List (Option Says)
+at_places places says = map (λ place. slice_index_or says place None) places
+
+-- what each rank says: of as many candidates as there may be, of each column of a rank, or of each part of a list
+abbrev pub said_at : Layout → List Column → List Cell → List (Option Says)
+said_at layout.Ranks columns cells = said_up_to MOST_CANDIDATES (ranks_of cells)
+said_at layout.Choices columns cells = at_places (places_of columns) (chosen_of cells)
+said_at layout.List columns cells = listed_of cells
 
 -- the marks of ranks that aren't blank, behind a rank: those between each and the one before it are skipped
 abbrev pub marks_behind : (last : ℕ) → List (ℕ × Says) → List Mark
@@ -126,7 +154,7 @@ marks_of said = marks_behind 0 said
 
 -- what the ranks of a row say that aren't blank, by rising rank
 abbrev pub said_in : Asked → ℕ → List Column → List (List ℕ) → List (ℕ × Says)
-said_in asked room columns texts = by_rank (said_at asked.layout (sound (cells_of asked room columns texts)))
+said_in asked room columns texts = by_rank (said_at asked.layout columns (sound (cells_of asked room columns texts)))
 
 -- a record has a field for each column
 abbrev pub length_fault : ℕ → ℕ → Option Fault

@@ -1,5 +1,5 @@
 -- Texts of fields.
-use Rattle.std.specs.Prelude.{ℕ, ◌+◌, ◌-◌, ◌*◌, ◌==◌, ◌||◌, ◌&&◌, nat_le, Bool, false, if◌then◌else◌}
+use Rattle.std.specs.Prelude.{ℕ, ◌+◌, ◌-◌, ◌*◌, ◌==◌, ◌||◌, ◌&&◌, not, nat_le, Bool, false, if◌then◌else◌}
 use Rattle.std.specs.Prelude.{List, [], ◌∷◌, length, take, drop, fold, map, position, Option, Some, None}
 use Rattle.std.specs.List.{list_any, list_all, prefix_len, suffix_len, slice_split}
 use Rattle.std.specs.Option.{option_map}
@@ -38,6 +38,13 @@ value digits = fold (λ n d. n * 10 + (d - 48)) 0 digits
 -- the number that some digits are
 abbrev pub number : List ℕ → Option ℕ
 number text = if are_digits text then Some (value text) else None
+
+-- the number that the only digits of a text are
+abbrev pub said_number : List ℕ → Option ℕ
+said_number text =
+    let rest = drop (prefix_len (λ b. not (is_digit b)) text) text in
+    let digits = prefix_len is_digit rest in
+    if list_any is_digit (drop digits rest) then None else number (take digits rest)
 
 -- the texts between semicolons
 abbrev pub parts : List ℕ → List (List ℕ)

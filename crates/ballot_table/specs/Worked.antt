@@ -4,6 +4,7 @@ use Rattle.std.specs.List.{range_with_len}
 use Rattle.ballot_marks.specs.declared.choice.Treat.TheVariants.{Cut, Pass}
 use Rattle.ballot_marks.specs.declared.treatment.Treatment.{Treatment}
 use Rattle.ballot_marks.specs.Laws.{strict}
+use Rattle.ballot_table.specs.declared.column.Column.TheVariants.{Rank}
 use Rattle.ballot_table.specs.declared.layout.Layout.{Layout}
 use Rattle.ballot_table.specs.declared.layout.Layout.TheVariants.{Ranks, Choices, List as Lists}
 use Rattle.ballot_table.specs.declared.empty.Empty.{Empty}
@@ -15,7 +16,7 @@ use Rattle.ballot_table.specs.declared.table_kind.TableKind.TheVariants.{TooMany
 use Rattle.ballot_table.specs.declared.table_kind.TableKind.TheVariants.{BadName, BadWithdrawn, BadRank}
 use Rattle.ballot_table.specs.declared.table_kind.TableKind.TheVariants.{BadWeight, TooManyBallots}
 use Rattle.ballot_table.specs.declared.table_kind.TableKind.TheVariants.{UnequalRow, EmptyRow}
-use Rattle.ballot_table.specs.declared.table_kind.TableKind.TheVariants.{NoSuchCandidate, EqualRank}
+use Rattle.ballot_table.specs.declared.table_kind.TableKind.TheVariants.{NoSuchCandidate, EqualRank, BadColumns, HeadExpected}
 use Rattle.ballot_table.specs.declared.table_kind.TableKind.TheVariants.{SkippedRank, Repeated}
 use Rattle.ballot_table.specs.Asked.{Asked}
 use Rattle.ballot_table.specs.declared.fault.Fault.{Fault}
@@ -27,6 +28,7 @@ use Rattle.ballot_table.specs.Refusals.{TableFault, fault_of_table}
 abbrev pub plainly : Layout → Asked
 plainly layout = record {
   layout = layout;
+  head_is_said = false;
   bracketed = false;
   labels = [];
   weight = None;
@@ -60,6 +62,10 @@ row3 a b c = a ∷ b ∷ c ∷ []
 -- so many names of two letters, all different
 abbrev pub short_names : ℕ → List (List ℕ)
 short_names n = map (λ i. (65 + i / 16) ∷ (65 + i % 16) ∷ []) (range_with_len 0 n)
+
+-- three candidates, and a column for each rank
+abbrev pub choosing : Asked
+choosing = record (plainly Choices) { candidates = ann_ben_cid }
 
 -- heads with and without a fault
 pub record WorkedHeads : Type 0 where
@@ -98,9 +104,33 @@ pub record WorkedHeads : Type 0 where
       (codes "Your vote [1 to 2], please [Ben, jr]" ∷ []) ≡ codes "Ben, jr" ∷ []
   pub blanks_in_brackets :
       names_of (record (plainly Ranks) { bracketed = true }) (codes "Vote [ Ann ]" ∷ []) ≡ codes "Ann" ∷ []
+  pub by_their_heads :
+      columns choosing (codes "1st choice" ∷ codes "rank3" ∷ codes "02" ∷ []) ≡ Rank 1 ∷ Rank 3 ∷ Rank 2 ∷ []
+  pub by_their_places :
+      columns choosing (codes "rank2" ∷ codes "then" ∷ codes "rank1" ∷ []) ≡ Rank 1 ∷ Rank 2 ∷ Rank 3 ∷ []
+  pub two_numbers :
+      columns choosing (codes "Q7 rank 2" ∷ codes "Q7 rank 1" ∷ []) ≡ Rank 1 ∷ Rank 2 ∷ []
+  pub rank_twice : head_fault choosing (codes "rank1" ∷ codes "rank1" ∷ []) ≡ fault BadColumns 2
+  pub rank_above : head_fault choosing (codes "rank2" ∷ codes "rank3" ∷ []) ≡ fault BadColumns 2
+  pub rank_of_nought : head_fault choosing (codes "rank0" ∷ codes "rank1" ∷ []) ≡ fault BadColumns 1
+  pub candidate_for_head : head_fault choosing (codes "r1" ∷ codes "Ben" ∷ []) ≡ fault HeadExpected 2
+  pub blank_for_head : head_fault choosing (codes "r1" ∷ [] ∷ []) ≡ fault HeadExpected 2
+  pub list_for_head :
+      head_fault (record (plainly Lists) { candidates = ann_ben_cid }) (codes "Ben;Ann;" ∷ []) ≡ fault HeadExpected 1
+  pub part_of_no_candidate :
+      head_fault (record (plainly Lists) { candidates = ann_ben_cid }) (codes "Ben;Order" ∷ []) ≡ None
+  pub ranks_for_head :
+      head_fault (record (plainly Ranks) { blank = codes "-" ∷ [] }) (codes "2" ∷ codes "-" ∷ codes "300" ∷ [])
+      ≡ fault HeadExpected 1
+  pub one_name_among_numbers : head_fault (plainly Ranks) (codes "7" ∷ codes "Ann" ∷ []) ≡ None
+  pub said_head : head_fault (record (plainly Ranks) { head_is_said = true }) (codes "1" ∷ codes "2" ∷ []) ≡ None
 
 -- rows, and the ballots that they stand for
 pub record WorkedRows : Type 0 where
+  pub where_ranks_fall :
+      ballots_under strict Refuse choosing (codes "rank3" ∷ codes "rank2" ∷ codes "rank1" ∷ [])
+      (row3 (codes "Cid") (codes "Ben") (codes "Ann") ∷ row3 [] (codes "Ann") (codes "Ben") ∷ [])
+      ≡ Some ((1 ∷ 2 ∷ 3 ∷ []) ∷ (2 ∷ 1 ∷ []) ∷ [])
   pub ranks :
       ballots_under strict Refuse (plainly Ranks) ann_ben_cid
       (row3 (codes "1") (codes "2") (codes "3") ∷ row3 [] (codes "1") []
@@ -208,6 +238,9 @@ at_row row kind place = Some (record { row = row; fault = record { kind = kind; 
 
 -- tables that are refused, at row and column
 pub record WorkedRefusals : Type 0 where
+  pub where_ranks_fall :
+      refusal_under strict Refuse choosing (codes "rank2" ∷ codes "rank1" ∷ []) ((codes "Ben" ∷ codes "Ben" ∷ []) ∷ [])
+      ≡ at_row 2 Repeated 1
   pub equal_ranks :
       refusal_under strict Refuse (plainly Ranks) four
       ((codes "1" ∷ codes "2" ∷ codes "2" ∷ codes "3" ∷ []) ∷ [])

@@ -18,6 +18,7 @@ abbrev pub plain_ranks : TableAsked
 plain_ranks = record {
   layout = Ranks;
   separator = None;
+  head_is_said = false;
   bracketed = false;
   labels = [];
   weight = None;

@@ -1,22 +1,28 @@
 // The head of a table.
-ghost use Rattle.std.specs.Prelude.{◌≡◌, ◌≢◌, ◌+◌, ◌<◌, ◌≤◌, ◌==◌, ◌||◌, ◌&&◌, not, nat_lt, false, true};
+ghost use Rattle.std.specs.Prelude.{ℕ, List, ◌≡◌, ◌≢◌, ◌+◌, ◌-◌, ◌<◌, ◌≤◌, ◌^◌, replicate, ◌==◌, ◌||◌, ◌&&◌, not, nat_lt, false, true};
 ghost use Rattle.std.specs.Prelude.{◌++◌, ◌∷◌, [], length, map, position, sum_by, Some, None, OnOk, IfOk};
 ghost use Rattle.std.specs.Prelude.{IfErr, IfSome};
-ghost use Rattle.std.specs.List.{list_any};
+ghost use Rattle.std.specs.List.{list_all, list_any, slice_index_or};
+ghost use Rattle.std.specs.Result.{is_ok};
+ghost use Rattle.ballot_table.specs.Cells.{says_in};
+ghost use Rattle.ballot_table.specs.declared.column.Column.TheVariants.{Rank};
 ghost use Rattle.std.specs.Option.{option_or};
 ghost use Rattle.std.specs.Str.{bytes_eq};
 ghost use Rattle.plain_ballots.specs.declared.limits.TheConstants.{MOST_CANDIDATES};
 ghost use Rattle.ballot_table.specs.Faults.{first_fault};
-ghost use Rattle.ballot_table.specs.Head.{column_of, columns_of, next_column, name_of, name_fault, names_of};
+ghost use Rattle.ballot_table.specs.Head.{column_of, columns_of, is_cell, next_column, name_of, name_fault, names_of, rank_said, said_column};
 ghost use Rattle.ballot_table.specs.Head.{unlabelled, no_column, column_expected, bad_withdrawn, head_fault};
 ghost use Rattle.ballot_table.specs.JudgedRows.{IsRowStop};
 ghost use Rattle.ballot_table.specs.Asked.{asked_of};
-ghost use Rattle.ballot_table.specs.Finding.{candidates_at, others_at, among, named_by, IsHead, IsNext};
-ghost use Rattle.ballot_table.specs.Texts.{is_in};
+ghost use Rattle.ballot_table.specs.Finding.{candidates_at, others_at, among, named_by, with_seen, IsHead, IsNext, IsSeen, IsSeenBy, IsShape};
+ghost use Rattle.ballot_table.specs.Texts.{is_in, parts};
 
 use crate::among::is_in;
+use crate::edges::trimmed;
 use crate::fault::Fault;
 use crate::record_stop::RecordStop;
+use crate::said_number::rank_said;
+use crate::shape::Shape;
 use crate::{Column, Layout, TableAsked, TableKind, Text};
 use candidate_roll::{Name, Names};
 use plain_ballots::{MOST_CANDIDATES, NoMemory};
@@ -52,15 +58,18 @@ impl Head {
         ensures sound { OnOk result (first_fault (columns_of (asked_of asked.now) texts.now) ≡ None) }
         ensures head { IfOk result (IsHead (asked_of asked.now) texts.now) }
     {
-        if texts.len() > u32::MAX as usize {
+        if texts.len() > i32::MAX as usize {
             return Err(RecordStop::NoMemory);
         }
+        let shape = Shape::of(asked, texts);
+        let mut seen = unseen(alloc, shape.others)?;
         let mut columns = Vec::new(alloc);
         let mut others = 0;
         for (at, text) in texts.iter().enumerate() {
-            match column_of(asked, &texts[..at], others, text.bytes()) {
+            match column_of(asked, &shape, &seen, &texts[..at], others, text.bytes()) {
                 Ok(column) => {
                     others += others_at(column);
+                    see(&mut seen, column);
                     if columns.push(column).is_err() {
                         return Err(RecordStop::NoMemory);
                     }
@@ -132,29 +141,63 @@ fn fault_at(kind: TableKind, i: usize) -> Fault
     Fault { kind, place: i + 1 }
 }
 
-/// The column of a head's text behind these texts, of which so many are no labels.
+/// None of so many ranks was seen.
+fn unseen(alloc: Global, ranks: u32) -> Result<Vec<bool>, NoMemory>
+    ensures { IfOk result (λ seen. seen.items ≡ replicate ranks false) }
+{
+    match vec![in alloc; false; ranks as usize] {
+        Ok(seen) => Ok(seen),
+        Err(_) => Err(NoMemory),
+    }
+}
+
+/// The column of a rank was seen.
+fn see(seen: &mut Vec<bool>, column: Column)
+    ensures { seen.new.items ≡ with_seen column seen.old.items }
+{
+    if let Column::Rank(rank) = column {
+        let at = rank.saturating_sub(1) as usize;
+        if at < seen.len() {
+            seen[at] = true;
+        }
+    }
+}
+
+/// The column of a text of a head behind these texts, of which so many are no labels.
 fn column_of(
     asked: &TableAsked,
+    shape: &Shape<'_>,
+    seen: &[bool],
     before: &[Text],
     others: u32,
     text: &[u8],
 ) -> Result<Column, TableKind>
+    requires names { length asked.now.candidates ≤ MOST_CANDIDATES }
+    requires shape { IsShape (asked_of asked.now) shape.now.texts.now shape.now }
+    requires seen { IsSeenBy (asked_of asked.now) shape.now.texts.now before.now seen.now }
     requires counted { others ≡ length (unlabelled (asked_of asked.now) before.now) }
     requires few { named_by asked.now.layout others ≤ MOST_CANDIDATES }
     requires room { others < u32.MAX }
-    ensures column { result ≡ column_of (asked_of asked.now) before.now text.now }
+    ensures column { result ≡ column_of (asked_of asked.now) shape.now.texts.now before.now text.now }
     ensures next { IfOk result (IsNext (asked_of asked.now) others text.now) }
 {
     if asked.is_label(text) {
-        label_column(asked, before, text)
+        label_column(asked, shape, before, text)
+    } else if !asked.head_is_said && is_cell(asked, shape, text) {
+        Err(TableKind::HeadExpected)
     } else {
-        next_column(asked, before, others, text)
+        next_column(asked, shape, seen, before, others, text)
     }
 }
 
-fn label_column(asked: &TableAsked, before: &[Text], text: &[u8]) -> Result<Column, TableKind>
+fn label_column(
+    asked: &TableAsked,
+    shape: &Shape<'_>,
+    before: &[Text],
+    text: &[u8],
+) -> Result<Column, TableKind>
     requires { is_in asked.now.labels text.now ≡ true }
-    ensures column { result ≡ column_of (asked_of asked.now) before.now text.now }
+    ensures column { result ≡ column_of (asked_of asked.now) shape.now.texts.now before.now text.now }
     ensures other { IfOk result (λ column. others_at column ≡ 0) }
     ensures named { IfOk result (λ column. candidates_at column ≡ 0) }
 {
@@ -165,22 +208,53 @@ fn label_column(asked: &TableAsked, before: &[Text], text: &[u8]) -> Result<Colu
     }
 }
 
+/// Whether a head reads as a cell of its column.
+fn is_cell(asked: &TableAsked, shape: &Shape<'_>, text: &[u8]) -> bool
+    requires names { length asked.now.candidates ≤ MOST_CANDIDATES }
+    requires shape { IsShape (asked_of asked.now) shape.now.texts.now shape.now }
+    ensures { result ≡ is_cell asked.now.layout (asked_of asked.now) shape.now.texts.now text.now }
+{
+    match asked.layout {
+        Layout::Ranks => shape.may_be_ranks,
+        Layout::Choices => asked.may_be_said(text),
+        Layout::List => is_list(asked, text),
+    }
+}
+
+/// Whether each part of a text may be said by a part of a list.
+fn is_list(asked: &TableAsked, text: &[u8]) -> bool
+    requires { length asked.now.candidates ≤ MOST_CANDIDATES }
+    ensures { result ≡ list_all (λ part. is_ok (says_in (asked_of asked.now) part)) (parts text.now) }
+{
+    for part in text.split(|b| *b == b';') {
+        if !asked.may_be_said(trimmed(part)) {
+            return false;
+        }
+    }
+    true
+}
+
 /// The column of a text that is no label.
 fn next_column(
     asked: &TableAsked,
+    shape: &Shape<'_>,
+    seen: &[bool],
     before: &[Text],
     others: u32,
     text: &[u8],
 ) -> Result<Column, TableKind>
+    requires shape { IsShape (asked_of asked.now) shape.now.texts.now shape.now }
+    requires seen { IsSeenBy (asked_of asked.now) shape.now.texts.now before.now seen.now }
     requires counted { others ≡ length (unlabelled (asked_of asked.now) before.now) }
     requires few { named_by asked.now.layout others ≤ MOST_CANDIDATES }
     requires room { others < u32.MAX }
-    ensures column { result ≡ next_column asked.now.layout (asked_of asked.now) (unlabelled (asked_of asked.now) before.now) text.now }
+    ensures column { result ≡ next_column asked.now.layout (asked_of asked.now) shape.now.texts.now (unlabelled (asked_of asked.now) before.now) text.now }
     ensures other { IfOk result (λ column. others_at column ≡ 1) }
     ensures named { IfOk result (λ column. candidates_at column ≡ named_by asked.now.layout 1) }
     ensures few { OnOk result (named_by asked.now.layout (others + 1) ≤ MOST_CANDIDATES) }
 {
     match asked.layout {
+        Layout::Choices if shape.say_ranks => said_column(shape.others, seen, text),
         Layout::Choices => Ok(Column::Rank(others + 1)),
         Layout::List if others == 0 => Ok(Column::List),
         Layout::List => Err(TableKind::TooManyColumns),
@@ -189,6 +263,27 @@ fn next_column(
             None => Ok(Column::Candidate(others + 1)),
         },
     }
+}
+
+/// The column of the rank that its head says among so many, where it wasn't seen before.
+fn said_column(ranks: u32, seen: &[bool], text: &[u8]) -> Result<Column, TableKind>
+    requires { ranks < 2 ^ 31 }
+    ensures column { (before : List (List ℕ)) → IsSeen ranks before seen.now → result ≡ said_column ranks before text.now }
+    ensures rank { IfOk result (λ column. column ≡ Rank (rank_said ranks text.now)) }
+{
+    let rank = rank_said(ranks, text);
+    if rank == 0 || is_seen(seen, rank) {
+        Err(TableKind::BadColumns)
+    } else {
+        Ok(Column::Rank(rank))
+    }
+}
+
+fn is_seen(seen: &[bool], rank: u32) -> bool
+    ensures { result ≡ slice_index_or seen.now (rank - 1) false }
+{
+    let at = rank.saturating_sub(1) as usize;
+    if at < seen.len() { seen[at] } else { false }
 }
 
 /// Why a name is none, or one too many.

@@ -39,7 +39,7 @@ fn value_up_to(digits: &[u8], most: u32) -> Numeral
 }
 
 #[tactic(auto, using(crate::proofs::NumberLemmas::some_digits))]
-fn are_digits(text: &[u8]) -> bool
+pub(crate) fn are_digits(text: &[u8]) -> bool
     ensures { result ≡ are_digits text.now }
 {
     match text {
@@ -54,7 +54,7 @@ fn all_digits(text: &[u8]) -> bool
     text.iter().all(|b| is_digit(*b))
 }
 
-fn is_digit(b: u8) -> bool
+pub(crate) fn is_digit(b: u8) -> bool
     ensures { result ≡ is_digit b }
 {
     b >= b'0' && b <= b'9'

@@ -113,10 +113,31 @@ fn take_rows(
     requires tally { taken.old.tally ≡ no_rows }
     ensures { TakesRows asked.now head.now.columns.items sheet.old.records.rest taken.old result taken.new }
 {
-    let columns = Columns::new(head.columns.as_slice());
+    match Columns::new(alloc, head.columns.as_slice()) {
+        Ok(columns) => take_each(alloc, asked, &columns, sheet, taken),
+        Err(_) => Err(TableStop::NoMemory),
+    }
+}
+
+// The same, under these columns.
+fn take_each(
+    alloc: Global,
+    asked: &TableAsked,
+    columns: &Columns<'_>,
+    sheet: &mut Sheet<'_>,
+    taken: &mut Rows,
+) -> Result<(), TableStop>
+    requires names { length asked.now.candidates ≤ MOST_CANDIDATES }
+    requires few { sum_by candidates_at columns.now ≤ MOST_CANDIDATES }
+    requires candidates { candidates_in (asked_of asked.now) columns.now ≡ taken.old.ballots.candidates }
+    requires room { taken.old.room ≡ MOST_BALLOTS }
+    requires ballots { taken.old.ballots.lines ≡ [] }
+    requires tally { taken.old.tally ≡ no_rows }
+    ensures { TakesRows asked.now columns.now sheet.old.records.rest taken.old result taken.new }
+{
     'rows: loop {
         match sheet.next() {
-            Ok(Some(place)) => match taken.take(alloc, asked, &columns, sheet, place) {
+            Ok(Some(place)) => match taken.take(alloc, asked, columns, sheet, place) {
                 Ok(()) => {}
                 Err(stop) => return Err(stop),
             },

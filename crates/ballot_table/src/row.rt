@@ -5,6 +5,7 @@ ghost use Rattle.ballot_table.specs.Asked.{asked_of};
 ghost use Rattle.ballot_table.specs.Finding.{candidates_at};
 ghost use Rattle.ballot_table.specs.JudgedRows.{Judges, ReadsRow};
 ghost use Rattle.ballot_table.specs.JudgedRows.{refused_at};
+ghost use Rattle.ballot_table.specs.Rows.{places_of};
 ghost use Rattle.ballot_table.specs.Refusals.{kind_of, place_of, is_candidate, is_rank};
 
 use crate::columns::Columns;
@@ -76,7 +77,15 @@ fn judge(
     treatments_only_mend();
     match plain_ranking(alloc, asked, columns, sheet)? {
         Some(ranking) => Ok(plain_row(ranking)),
-        None => judge_cells(alloc, asked, room, columns.items(), sheet, cells),
+        None => judge_cells(
+            alloc,
+            asked,
+            room,
+            columns.items(),
+            columns.places(),
+            sheet,
+            cells,
+        ),
     }
 }
 
@@ -101,24 +110,26 @@ fn plain_row(ranking: Ranking) -> JudgedRow
     }
 }
 
-// What the cells of a row come to.
+// What the cells of a row come to, where the columns of the ranks are at these places.
 #[inline(never)]
 fn judge_cells(
     alloc: Global,
     asked: &TableAsked,
     room: u32,
     columns: &[Column],
+    places: &[usize],
     sheet: &Sheet<'_>,
     cells: &mut RowCells,
 ) -> Result<JudgedRow, RecordStop>
     requires names { length asked.now.candidates ≤ MOST_CANDIDATES }
     requires room { room ≤ MOST_BALLOTS }
     requires few { sum_by candidates_at columns.now ≤ MOST_CANDIDATES }
+    requires places { places.now ≡ places_of columns.now }
     requires texts { length sheet.now.texts ≡ length columns.now }
     ensures { Judges (asked_of asked.now) asked.now.treatment room columns.now sheet.now.texts result }
 {
     cells.read(alloc, asked, room, columns, sheet)?;
-    cells.say(asked.layout)?;
+    cells.say(asked.layout, places)?;
     let candidates = asked.among(cells.holders.candidates());
     match treat(alloc, cells.said.marks(), &asked.treatment, candidates) {
         Ok(treated) => Ok(JudgedRow {

@@ -7,7 +7,8 @@ ghost use Rattle.ballot_table.specs.Faults.{first_fault, sound_one};
 ghost use Rattle.ballot_table.specs.Finding.{candidates_at, AreTaken, IsCellStop, IsSaidBy, SaysAll, TakesCell};
 ghost use Rattle.ballot_table.specs.Held.{IsHolding};
 ghost use Rattle.ballot_table.specs.JudgedRows.{IsRowStop};
-ghost use Rattle.ballot_table.specs.Rows.{cells_of};
+ghost use Rattle.ballot_table.specs.Rows.{at_places, cells_of};
+ghost use Rattle.std.specs.List.{slice_index_or};
 ghost use Rattle.ballot_table.specs.Said.{IsSaying};
 ghost use Rattle.ballot_table.specs.Texts.{number, parts};
 
@@ -20,6 +21,7 @@ use crate::record_stop::RecordStop;
 use crate::said_ranks::SaidRanks;
 use crate::sheet::Sheet;
 use crate::{Column, Layout, TableAsked, TableKind};
+use ballot_marks::Says;
 use plain_ballots::NoMemory;
 use std::alloc::Global;
 
@@ -29,6 +31,8 @@ use std::alloc::Global;
 pub(crate) struct RowCells {
     pub count: Option<u32>,
     pub holders: Holders,
+    /// What the columns of ranks say, from the left.
+    pub chosen: Vec<Option<Says>>,
     pub said: SaidRanks,
 }
 
@@ -37,11 +41,13 @@ impl RowCells {
     pub fn new(alloc: Global) -> RowCells
         ensures count { result.count ≡ None }
         ensures holding { IsHolding [] result.holders }
+        ensures chosen { result.chosen.items ≡ [] }
         ensures saying { IsSaying [] result.said }
     {
         RowCells {
             count: None,
             holders: Holders::new(),
+            chosen: Vec::new(alloc),
             said: SaidRanks::new(alloc),
         }
     }
@@ -50,10 +56,12 @@ impl RowCells {
     fn clear(&mut self)
         ensures count { self.new.count ≡ None }
         ensures holding { IsHolding [] self.new.holders }
+        ensures chosen { self.new.chosen.items ≡ [] }
         ensures saying { IsSaying [] self.new.said }
     {
         self.count = None;
         self.holders.clear();
+        self.chosen.clear();
         self.said.clear();
     }
 
@@ -89,15 +97,17 @@ impl RowCells {
         Ok(())
     }
 
-    /// What each rank says is what those say who have it, where the columns are the candidates'.
-    pub fn say(&mut self, layout: Layout) -> Result<(), NoMemory>
+    /// What each rank says is what those say who have it, where the columns are the candidates', and what stands at its
+    /// place among what they say, where they are of ranks.
+    pub fn say(&mut self, layout: Layout, places: &[usize]) -> Result<(), NoMemory>
         ensures count { self.new.count ≡ self.old.count }
         ensures holders { self.new.holders ≡ self.old.holders }
-        ensures said { OnOk result (IsSaidBy layout self.old self.new) }
+        ensures said { OnOk result (IsSaidBy layout places.now self.old self.new) }
     {
         match layout {
             Layout::Ranks => self.holders.say(&mut self.said),
-            Layout::Choices | Layout::List => Ok(()),
+            Layout::Choices => say_at(places, &self.chosen, &mut self.said),
+            Layout::List => Ok(()),
         }
     }
 
@@ -128,11 +138,34 @@ impl RowCells {
             }
             Column::Rank(_) => {
                 let says = asked.says_in(text)?;
-                self.said.push(says)?;
-                Ok(())
+                match self.chosen.push(says) {
+                    Ok(()) => Ok(()),
+                    Err(_) => Err(CellStop::NoMemory),
+                }
             }
             Column::List => push_parts(asked, text, &mut self.said),
         }
+    }
+}
+
+/// What each rank says is what stands at its place.
+fn say_at(places: &[usize], chosen: &[Option<Says>], said: &mut SaidRanks) -> Result<(), NoMemory>
+    ensures { OnOk result (IsSaying (at_places places.now chosen.now) said.new) }
+{
+    said.clear();
+    for place in places {
+        said.push(chosen_at(chosen, *place))?;
+    }
+    Ok(())
+}
+
+fn chosen_at(chosen: &[Option<Says>], place: usize) -> Option<Says>
+    ensures { result ≡ slice_index_or chosen.now place None }
+{
+    if place < chosen.len() {
+        chosen[place]
+    } else {
+        None
     }
 }
 

@@ -3,14 +3,15 @@ ghost use Rattle.std.specs.Prelude.{◌≡◌, ◌≤◌, ◌↔◌, length, IsT
 ghost use Rattle.plain_ballots.specs.declared.limits.TheConstants.{MOST_CANDIDATES};
 ghost use Rattle.ballot_table.specs.Cells.{is_blank, rank_in, says_in};
 ghost use Rattle.ballot_table.specs.Finding.{among};
-ghost use Rattle.ballot_table.specs.Head.{name_of, labelled};
+ghost use Rattle.ballot_table.specs.Head.{name_of, labelled, may_be_rank};
+ghost use Rattle.std.specs.Result.{is_ok};
 ghost use Rattle.ballot_table.specs.Asked.{asked_of};
 ghost use Rattle.ballot_table.specs.PlainRows.{HasPlainRanks};
 ghost use Rattle.ballot_table.specs.Texts.{is_in, number_in};
 
 use crate::among::{is_in, name_in, number_in};
 use crate::brackets::bracketed;
-use crate::numeral::{Numeral, numeral_in};
+use crate::numeral::{Numeral, are_digits, numeral_in};
 use crate::{Column, Empty, Layout, Numbers, TableKind, Text, Texts};
 use ballot_marks::{Says, Treatment};
 use candidate_roll::Names;
@@ -22,6 +23,8 @@ pub struct TableAsked {
     pub layout: Layout,
     /// The byte between two fields; where none is said, the head shows it.
     pub separator: Option<u8>,
+    /// The first record is the head, whatever stands in it.
+    pub head_is_said: bool,
     /// The candidates stand in brackets at the end of the head's fields.
     pub bracketed: bool,
     /// The heads of the weight's column and of those that are passed over, in the order of the words.
@@ -102,6 +105,21 @@ impl TableAsked {
             Some(rank) => Ok(Some(rank)),
             None => Err(TableKind::BadRank),
         }
+    }
+
+    /// Whether a text is a number, or what the cell of a candidate may say.
+    pub(crate) fn may_be_rank(&self, text: &[u8]) -> bool
+        ensures { result ≡ may_be_rank (asked_of self.now) text.now }
+    {
+        are_digits(text) || self.rank_in(text).is_ok()
+    }
+
+    /// Whether the cell of a rank may say this.
+    pub(crate) fn may_be_said(&self, text: &[u8]) -> bool
+        requires { length self.now.candidates ≤ MOST_CANDIDATES }
+        ensures { result ≡ is_ok (says_in (asked_of self.now) text.now) }
+    {
+        self.says_in(text).is_ok()
     }
 
     /// What the cell of a rank says, if it isn't blank.

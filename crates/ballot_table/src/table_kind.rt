@@ -4,6 +4,8 @@
 #[derive(Clone, Copy, Debug, PartialEq, Eq)]
 pub enum TableKind {
     NoColumn,
+    HeadExpected,
+    BadColumns,
     RepeatedColumn,
     ColumnExpected,
     TooManyColumns,

@@ -33,6 +33,8 @@ text_word text.UnclearSeparator = codes "UnclearSeparator"
 
 abbrev pub table_word : TableKind → List ℕ
 table_word table.NoColumn = codes "NoColumn"
+table_word table.HeadExpected = codes "HeadExpected"
+table_word table.BadColumns = codes "BadColumns"
 table_word table.RepeatedColumn = codes "RepeatedColumn"
 table_word table.ColumnExpected = codes "ColumnExpected"
 table_word table.TooManyColumns = codes "TooManyColumns"

@@ -59,6 +59,7 @@ abbrev pub table_of : Asked → TableLayout → TableAsked
 table_of asked layout = record {
   layout = layout;
   separator = option_map byte_of asked.table.separator;
+  head_is_said = asked.table.head_is_said;
   bracketed = is_bracketed asked.table.names;
   labels = asked.table.columns;
   weight = asked.table.weight;

@@ -27,6 +27,8 @@ pub(crate) fn table_word(kind: TableKind) -> &'static [u8]
 {
     match kind {
         TableKind::NoColumn => b"NoColumn",
+        TableKind::HeadExpected => b"HeadExpected",
+        TableKind::BadColumns => b"BadColumns",
         TableKind::RepeatedColumn => b"RepeatedColumn",
         TableKind::ColumnExpected => b"ColumnExpected",
         TableKind::TooManyColumns => b"TooManyColumns",

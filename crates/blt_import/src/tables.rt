@@ -16,6 +16,7 @@ pub(crate) fn without_lists(alloc: Global, asked: &Asked, layout: Layout) -> Tab
     TableAsked {
         layout,
         separator: separator_of(asked.table.separator),
+        head_is_said: asked.table.head_is_said,
         bracketed: is_bracketed(asked.table.names),
         labels: Texts::new(alloc),
         weight: None,

@@ -1,5 +1,5 @@
 -- Words ask for one thing at most.
-use Rattle.std.proofs.Common.{◌≡◌, ◌∙◌, refl, sym, ap, subst, ℕ, Option, Some, None, List, [], ◌∷◌, inl, inr, ◌-◌}
+use Rattle.std.proofs.Common.{◌≡◌, ◌∙◌, refl, sym, ap, subst, true, false, codes, ℕ, Option, Some, None, List, [], ◌∷◌, inl, inr, ◌-◌}
 use Rattle.std.specs.List.{flat_map}
 use Rattle.candidate_roll.specs.declared.limits.TheConstants.{MOST_TITLE_BYTES}
 use Rattle.meek_words.specs.Numerals.{Word, HaveOneLotList, IsLotList, IsNumeralUpTo, number_of}
@@ -108,12 +108,15 @@ one_table given a b one other =
     let separator = said_separator given.separator a.separator b.separator one.separator other.separator in
     let names = one_at_most heads.Whole (λ n word. word ≡ head_word n)
     (λ word m n e f. one_head m n (sym e ∙ f)) given.names a.names b.names one.names other.names in
+    let head = one_at_most false (λ said word. (word ≡ codes "1") × (said ≡ true))
+    (λ word m n e f. e.1 ∙ sym f.1) given.head a.head_is_said b.head_is_said one.head other.head in
     let weight = one_weight given.weight a.weight b.weight one.weight other.weight in
     let ignored = one.ignored.0 ∙ sym other.ignored.0 in
     let columns = one.columns.0 ∙ sym other.columns.0 in
     λ i. record {
       separator = separator i;
       names = names i;
+      head_is_said = head i;
       weight = weight i;
       ignored = ignored i;
       columns = columns i;

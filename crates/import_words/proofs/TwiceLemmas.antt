@@ -1,5 +1,5 @@
 -- Where an option that may stand once stands twice, the values say nothing.
-use Rattle.std.proofs.Common.{◌≡◌, ◌≤◌, Option, Some, None, List, [], length, ap, arith}
+use Rattle.std.proofs.Common.{◌≡◌, ◌≤◌, true, false, codes, Option, Some, None, List, [], length, ap, arith}
 use Rattle.candidate_roll.specs.declared.limits.TheConstants.{MOST_TITLE_BYTES}
 use Rattle.candidate_roll.specs.Name.{IsName}
 use Rattle.plain_ballots.specs.declared.limits.TheConstants.{MOST_CANDIDATES}
@@ -58,6 +58,10 @@ module _ (given : Given) (asked : Asked) (says : Says given asked) where
 
   pub weight : 2 ≤ length given.weight → ⊥
   weight = weight_twice given.weight asked.table.weight says.table.weight
+
+  pub head : 2 ≤ length given.head → ⊥
+  head = no_twice (asked.table.head_is_said ≡ false) (λ (word : Word). (word ≡ codes "1") × (asked.table.head_is_said ≡ true))
+      given.head says.table.head
 
   pub names : 2 ≤ length given.names → ⊥
   names = no_twice (asked.table.names ≡ heads.Whole) (λ (word : Word). word ≡ head_word asked.table.names)

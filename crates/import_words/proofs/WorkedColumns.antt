@@ -1,6 +1,5 @@
 -- Words worked by hand: heads of columns that are no marks stand in the order of the words.
-use Rattle.std.proofs.Common.{◌≡◌, ◌≢◌, ◌≤◌, refl, sym, true, false, List, [], ◌∷◌, ◌++◌, codes, arith, All, IsTrue}
-use Rattle.std.proofs.Common.{Some}
+use Rattle.std.proofs.Common.{◌≢◌, refl, List, [], ◌∷◌, ◌++◌, codes, arith, All, IsTrue}
 use Rattle.std.proofs.lemmas.Bool.{false≢true}
 use Rattle.std.proofs.lemmas.List.Elements.{All-from_recursion, All-nil}
 use Rattle.candidate_roll.specs.declared.limits.TheConstants.{MOST_NAME_BYTES}
@@ -9,7 +8,7 @@ use Rattle.meek_words.specs.Numerals.{Word}
 use Rattle.import_words.specs.Asks.{Asks}
 use Rattle.import_words.specs.Labels.{AreDifferent, IsLabel}
 use Rattle.import_words.specs.Options.{is_of}
-use Rattle.import_words.specs.Pairs.{Said, columns_of, given_of, words_of}
+use Rattle.import_words.specs.Pairs.{Said}
 use Rattle.import_words.specs.Worked.{AcceptedWords, ignore_key, one_seat, weight_num, with_columns}
 use Rattle.import_words.specs.declared.layout.Layout.TheVariants as layouts
 use Rattle.import_words.specs.declared.import_option.ImportOption.TheVariants as options
@@ -76,6 +75,7 @@ weight_first = record {
     table = record {
       separator = refl;
       names = refl;
+      head = refl;
       weight = (refl, num_labelled);
       ignored = (refl, All-from_recursion IsLabel (codes "Key" ∷ []) (key_labelled, tt));
       columns = (refl, two_labelled (codes "Num") (codes "Key") num_labelled key_labelled);
@@ -110,6 +110,7 @@ ignored_first = record {
     table = record {
       separator = refl;
       names = refl;
+      head = refl;
       weight = (refl, num_labelled);
       ignored = (refl, All-from_recursion IsLabel (codes "Key" ∷ []) (key_labelled, tt));
       columns = (refl, two_labelled (codes "Key") (codes "Num") key_labelled num_labelled);

@@ -7,7 +7,7 @@ use Rattle.candidate_roll.specs.Name.{IsName}
 use Rattle.import_words.specs.Options.{is_of, is_named}
 use Rattle.import_words.specs.Pairs.{Said, Given, ArePairs, given_of}
 use Rattle.import_words.specs.Labels.{IsLabel, AreLabels, AreDifferent}
-use Rattle.import_words.specs.Settings.{IsOnce, IsAtMostOnce, IsLayout, IsOutput, IsTreatment, IsForEmpty, IsSeparator, IsForNames}
+use Rattle.import_words.specs.Settings.{IsOnce, IsAtMostOnce, IsLayout, IsOutput, IsTreatment, IsForEmpty, IsSeparator, IsForNames, IsForHead}
 use Rattle.plain_ballots.specs.declared.limits.TheConstants.{MOST_CANDIDATES}
 use Rattle.import_words.specs.declared.layout.Layout.{Layout}
 use Rattle.import_words.specs.declared.asked.Asked.{Asked}
@@ -46,6 +46,7 @@ IsWeight values (Some label) = (values ≡ label ∷ []) × IsLabel label
 pub record SaysTable (given : Given) (table : TableWords) : Type 0 where
   pub separator : IsSeparator given.separator table.separator
   pub names : IsForNames given.names table.names
+  pub head : IsForHead given.head table.head_is_said
   pub weight : IsWeight given.weight table.weight
   pub ignored : AreLabels given.ignored table.ignored
   pub columns : AreLabels given.columns table.columns

@@ -25,6 +25,7 @@ flag_of options.Ranks = codes "--ranks"
 flag_of options.Candidate = codes "--candidate"
 flag_of options.Over = codes "--over"
 flag_of options.Repeated = codes "--repeated"
+flag_of options.Head = codes "--head"
 
 -- the places of the options, by which they are told apart
 abbrev pub place_of : ImportOption → ℕ
@@ -45,6 +46,7 @@ place_of options.Ranks = 13
 place_of options.Candidate = 14
 place_of options.Over = 15
 place_of options.Repeated = 16
+place_of options.Head = 17
 
 abbrev pub same_option : ImportOption → ImportOption → Bool
 same_option option other = nat_eq (place_of option) (place_of other)
@@ -79,6 +81,7 @@ is_of layout options.Separator = is_table layout
 is_of layout options.Weight = is_table layout
 is_of layout options.Ignore = is_table layout
 is_of layout options.Blank = is_table layout
+is_of layout options.Head = is_table layout
 is_of layout options.Names = is_ranks layout
 is_of layout options.Ranks = is_ranks layout
 is_of layout options.Candidate = is_named layout

@@ -47,6 +47,7 @@ pub record Given : Type 0 where
   pub candidates : List Word
   pub overs : List Word
   pub repeated : List Word
+  pub head : List Word
 
 abbrev pub given_of : List Said → Given
 given_of pairs = record {
@@ -68,4 +69,5 @@ given_of pairs = record {
   candidates = values_of options.Candidate pairs;
   overs = values_of options.Over pairs;
   repeated = values_of options.Repeated pairs;
+  head = values_of options.Head pairs;
 }

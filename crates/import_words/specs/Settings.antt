@@ -1,5 +1,5 @@
 -- Options whose value is one of a few words.
-use Rattle.std.specs.Prelude.{◌≡◌, ◌⊎◌, ◌≤◌, ◌-◌, ℕ, Option, Some, None, List, [], ◌∷◌, codes}
+use Rattle.std.specs.Prelude.{◌≡◌, ◌⊎◌, ◌≤◌, ◌-◌, ℕ, Bool, true, false, Option, Some, None, List, [], ◌∷◌, codes}
 use Rattle.meek_words.specs.Numerals.{Word}
 use Rattle.ballot_marks.specs.declared.choice.Treat.{Treat}
 use Rattle.ballot_marks.specs.declared.choice.Treat.TheVariants as treats
@@ -76,6 +76,10 @@ IsSeparator values (Some separator) = values ≡ separator_word separator ∷ []
 
 abbrev pub IsForNames : List Word → HeadNames → Type 0
 IsForNames values names = IsAtMostOnce (names ≡ heads.Whole) (λ word. word ≡ head_word names) values
+
+-- the head is said to be the first record, or nothing is said of it
+abbrev pub IsForHead : List Word → Bool → Type 0
+IsForHead values said = IsAtMostOnce (said ≡ false) (λ word. (word ≡ codes "1") × (said ≡ true)) values
 
 -- one digit (48 to 57) and its number
 pub record IsDigit (word : Word) (number : ℕ) : Type 0 where

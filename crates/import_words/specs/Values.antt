@@ -42,6 +42,7 @@ given_by values = record {
   candidates = texts_in values.candidates.items;
   overs = texts_in values.overs.items;
   repeated = words_in values.repeated;
+  head = words_in values.head;
 }
 
 -- the values of the options that have one at most are those of these pairs
@@ -59,3 +60,4 @@ pub record AreSingle (values : SingleValues) (pairs : List Said) : Type 0 where
   pub names : words_in values.names ≡ values_of options.Names pairs
   pub ranks : words_in values.ranks ≡ values_of options.Ranks pairs
   pub repeated : words_in values.repeated ≡ values_of options.Repeated pairs
+  pub head : words_in values.head ≡ values_of options.Head pairs

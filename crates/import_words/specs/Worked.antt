@@ -1,5 +1,5 @@
 -- Words worked by hand.
-use Rattle.std.specs.Prelude.{Some, None, List, [], ◌∷◌, ◌++◌, codes}
+use Rattle.std.specs.Prelude.{Some, None, false, List, [], ◌∷◌, ◌++◌, codes}
 use Rattle.meek_words.specs.Numerals.{Word}
 use Rattle.ballot_marks.specs.declared.choice.Treat.TheVariants as treats
 use Rattle.import_words.specs.Asks.{Asks}
@@ -49,7 +49,7 @@ plain layout candidates = record {
   empty = rows.Refuse;
   treatment = record { skipped = None; equal = treats.Refuse; repeated = treats.Refuse };
   roll = record { seats = 1; title = []; withdrawn = []; candidates = candidates };
-  table = record { separator = None; names = heads.Whole; weight = None; ignored = []; columns = [] };
+  table = record { separator = None; names = heads.Whole; head_is_said = false; weight = None; ignored = []; columns = [] };
   cells = record { blanks = []; overs = []; ranks = [] };
 }
 
@@ -71,6 +71,7 @@ with_columns columns = record {
   table = record {
     separator = None;
     names = heads.Whole;
+    head_is_said = false;
     weight = Some (codes "Num");
     ignored = codes "Key" ∷ [];
     columns = columns;

@@ -25,6 +25,7 @@ pub(crate) enum ImportOption {
     Candidate,
     Over,
     Repeated,
+    Head,
 }
 
 impl ImportOption {
@@ -51,6 +52,7 @@ impl ImportOption {
             "--candidate" => Some(ImportOption::Candidate),
             "--over" => Some(ImportOption::Over),
             "--repeated" => Some(ImportOption::Repeated),
+            "--head" => Some(ImportOption::Head),
             _ => None,
         }
     }
@@ -91,7 +93,8 @@ impl ImportOption {
             | ImportOption::Separator
             | ImportOption::Weight
             | ImportOption::Ignore
-            | ImportOption::Blank => !matches!(layout, Layout::Preflib),
+            | ImportOption::Blank
+            | ImportOption::Head => !matches!(layout, Layout::Preflib),
             ImportOption::Names | ImportOption::Ranks => matches!(layout, Layout::Ranks),
             ImportOption::Candidate | ImportOption::Over | ImportOption::Repeated => {
                 matches!(layout, Layout::Choices | Layout::List)

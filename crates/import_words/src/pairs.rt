@@ -136,6 +136,7 @@ fn single_values<'a>(pairs: &[Pair<'a>]) -> Option<SingleValues<'a>>
     let names = at_most_one(pairs, ImportOption::Names)?;
     let ranks = at_most_one(pairs, ImportOption::Ranks)?;
     let repeated = at_most_one(pairs, ImportOption::Repeated)?;
+    let head = at_most_one(pairs, ImportOption::Head)?;
     Some(SingleValues {
         layout,
         seats,
@@ -150,6 +151,7 @@ fn single_values<'a>(pairs: &[Pair<'a>]) -> Option<SingleValues<'a>>
         names,
         ranks,
         repeated,
+        head,
     })
 }
 
@@ -181,5 +183,6 @@ pub(crate) fn values<'a>(alloc: Global, pairs: &[Pair<'a>]) -> Result<Values<'a>
         candidates: each(alloc, pairs, ImportOption::Candidate)?,
         overs: each(alloc, pairs, ImportOption::Over)?,
         repeated: single.repeated,
+        head: single.head,
     })
 }

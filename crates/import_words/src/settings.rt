@@ -1,6 +1,6 @@
 //! Options whose value is one of a few words.
-ghost use Rattle.std.specs.Prelude.{◌≡◌, ℕ, Option, IfSome, IfNone};
-ghost use Rattle.import_words.specs.Settings.{IsForEmpty, IsForNames, IsLayout, IsDigit, IsOutput, IsSeparator, IsSkipped, IsTreat, IsTreatment};
+ghost use Rattle.std.specs.Prelude.{◌≡◌, ℕ, Bool, Option, IfSome, IfNone};
+ghost use Rattle.import_words.specs.Settings.{IsForEmpty, IsForHead, IsForNames, IsLayout, IsDigit, IsOutput, IsSeparator, IsSkipped, IsTreat, IsTreatment};
 ghost use Rattle.import_words.specs.Values.{given_by, words_in};
 ghost use Rattle.ballot_marks.specs.declared.choice.Treat.{Treat};
 ghost use Rattle.ballot_marks.specs.declared.treatment.Treatment.{Treatment};
@@ -72,6 +72,18 @@ pub(crate) fn head_names(value: Option<&str>) -> Option<HeadNames>
     match value {
         None | Some("whole") => Some(HeadNames::Whole),
         Some("bracketed") => Some(HeadNames::Bracketed),
+        _ => None,
+    }
+}
+
+/// Whether the first record is said to be the head.
+pub(crate) fn head_is_said(value: Option<&str>) -> Option<bool>
+    ensures said { IfSome result (λ said. IsForHead (words_in value.entry) said) }
+    ensures none { IfNone result ((said : Bool) → ¬ (IsForHead (words_in value.entry) said)) }
+{
+    match value {
+        None => Some(false),
+        Some("1") => Some(true),
         _ => None,
     }
 }

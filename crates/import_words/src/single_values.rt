@@ -16,4 +16,5 @@ pub(crate) struct SingleValues<'a> {
     pub(crate) names: Option<&'a str>,
     pub(crate) ranks: Option<&'a str>,
     pub(crate) repeated: Option<&'a str>,
+    pub(crate) head: Option<&'a str>,
 }

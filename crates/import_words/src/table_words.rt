@@ -16,6 +16,8 @@ pub struct TableWords {
     /// Where none is said, the table shows it.
     pub separator: Option<Separator>,
     pub names: HeadNames,
+    /// The first record is the head, whatever stands in it.
+    pub head_is_said: bool,
     /// The head of the column that says for how many ballots a row stands.
     pub weight: Option<Label>,
     /// The heads of the columns that are not read.
@@ -32,6 +34,7 @@ impl TableWords {
     {
         let separator = settings::separator(values.separator).ok_or(WordsStop::BadWords)?;
         let names = settings::head_names(values.names).ok_or(WordsStop::BadWords)?;
+        let head_is_said = settings::head_is_said(values.head).ok_or(WordsStop::BadWords)?;
         let weight = reading::weight(alloc, values.weight)?;
         let ignored = reading::labels(alloc, values.ignored.as_slice())?;
         let columns = reading::labels(alloc, values.columns.as_slice())?;
@@ -41,6 +44,7 @@ impl TableWords {
         Ok(TableWords {
             separator,
             names,
+            head_is_said,
             weight,
             ignored,
             columns,

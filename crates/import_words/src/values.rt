@@ -22,4 +22,5 @@ pub(crate) struct Values<'a> {
     pub(crate) candidates: Vec<&'a str>,
     pub(crate) overs: Vec<&'a str>,
     pub(crate) repeated: Option<&'a str>,
+    pub(crate) head: Option<&'a str>,
 }

@@ -16,11 +16,12 @@ use Rattle.ballot_table.proofs.row.judge_cells.Goals.{In_ok-say}
 
 -- what is found of the cells, and among how many candidates
 found : (c : In_ok-say)
-    → IsFound c.args.asked.now.layout (sound (cells_of (asked_of c.args.asked.now) c.args.room c.args.columns.now c.args.sheet.now.texts))
-    c.say.new.self
+    → IsFound c.args.asked.now.layout c.args.columns.now
+    (sound (cells_of (asked_of c.args.asked.now) c.args.room c.args.columns.now c.args.sheet.now.texts)) c.say.new.self
 found c =
     let read = c.in_ok-read.ensures.taken in
-    said_found c.args.asked.now.layout _ c.read.new.self c.say.new.self read.holding read.saying
+    said_found c.args.asked.now.layout c.args.columns.now c.args.places.now _ c.read.new.self c.say.new.self c.requires.places
+    read.holding read.chosen read.saying
     c.in_ok-say.ensures.holders c.in_ok-say.ensures.said
 
 counted : (c : In_ok-say) (n holding : ℕ) → n ≡ among c.args.asked.now.layout (length c.args.asked.now.candidates) holding

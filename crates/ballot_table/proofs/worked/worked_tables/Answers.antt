@@ -21,11 +21,25 @@ returns-clause-heads c = record {
   one_too_many = refl;
   in_brackets = refl;
   blanks_in_brackets = refl;
+  by_their_heads = refl;
+  by_their_places = refl;
+  two_numbers = refl;
+  rank_twice = refl;
+  rank_above = refl;
+  rank_of_nought = refl;
+  candidate_for_head = refl;
+  blank_for_head = refl;
+  list_for_head = refl;
+  part_of_no_candidate = refl;
+  ranks_for_head = refl;
+  one_name_among_numbers = refl;
+  said_head = refl;
 }
 
 pub returns-clause-rows : goal.returns-clause-rows
 unfolding said_up_to
 returns-clause-rows c = record {
+  where_ranks_fall = refl;
   ranks = refl;
   shorter = refl;
   no_rank = refl;
@@ -48,6 +62,7 @@ returns-clause-rows c = record {
 pub returns-clause-refusals : goal.returns-clause-refusals
 unfolding said_up_to
 returns-clause-refusals c = record {
+  where_ranks_fall = refl;
   equal_ranks = refl;
   behind_a_passed_rank = refl;
   skipped_rank = refl;

@@ -19,6 +19,7 @@ returns-clause-single c = record {
   names = c.in_ok-names.ensures.one;
   ranks = c.in_ok-ranks.ensures.one;
   repeated = c.in_ok-repeated.ensures.one;
+  head = c.in_ok-head.ensures.one;
 }
 
 pub returns-in_err-layout-clause-none : goal.returns-in_err-layout-clause-none
@@ -85,3 +86,8 @@ pub returns-in_err-repeated-clause-none : goal.returns-in_err-repeated-clause-no
 returns-in_err-repeated-clause-none c =
     none_anyway c.from_residual-in_err-repeated.result
     (λ asked says. twice.repeated (given_of (pairs_in c.args.pairs.now)) asked says c.in_err-repeated.ensures.more)
+
+pub returns-in_err-head-clause-none : goal.returns-in_err-head-clause-none
+returns-in_err-head-clause-none c =
+    none_anyway c.from_residual-in_err-head.result
+    (λ asked says. twice.head (given_of (pairs_in c.args.pairs.now)) asked says c.in_err-head.ensures.more)

@@ -4,3 +4,7 @@ use Rattle.import_words.proofs.table_words.TableWords.read.Goals as goal
 pub returns-in_err-names-clause-refused : goal.returns-in_err-names-clause-refused
 returns-in_err-names-clause-refused c _ table says =
     where_none _ c.in_err-names.ensures.ok_part c.head_names.ensures.none table.names says.names
+
+pub returns-in_err-head_is_said-clause-refused : goal.returns-in_err-head_is_said-clause-refused
+returns-in_err-head_is_said-clause-refused c _ table says =
+    where_none _ c.in_err-head_is_said.ensures.ok_part c.head_is_said.ensures.none table.head_is_said says.head

@@ -1,6 +1,6 @@
 use Rattle.std.proofs.Common.{◌≡◌, length}
 use Rattle.ballot_table.proofs.LeftLemmas.{IsGoing}
-use Rattle.ballot_table.proofs.reader.take_rows.Given as goal
+use Rattle.ballot_table.proofs.reader.take_each.Given as goal
 
 -- the rows so far are taken in
 abbrev pub invariant-rows : goal.invariant-rows
