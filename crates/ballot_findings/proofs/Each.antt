@@ -1,7 +1,7 @@
 -- Texts for each of a run of numbers, one number more at a time.
 use Rattle.std.proofs.Common.{◌≡◌, ◌∙◌, ℕ, zero, suc, ◌+◌, ◌<◌, ◌≤◌, Bool, cond, List, [], ◌∷◌, ◌++◌, ap, arith, refl}
 use Rattle.std.proofs.Common.{append-nil, append_assoc, sym}
-use Rattle.std.specs.List.{flat_map, range_with_len, count_by}
+use Rattle.std.specs.List.{filter, flat_map, range_with_len, count_by}
 use Rattle.std.proofs.lemmas.List.Concat.{flat_map-append}
 use Rattle.std.proofs.lemmas.List.Sums.{sum_by_push}
 
@@ -51,3 +51,12 @@ count_more test a n c is =
     ap (count_by test) (range_more a n)
     ∙ (sum_by_push (λ (x : ℕ). cond (test x) 1 0) (range_with_len a n) (a + n)
     ∙ ap (λ (k : ℕ). count_by test (range_with_len a n) + cond (test k) 1 0) (sym is))
+
+-- the same numbers pass two tests that agree on them
+pub kept_same :
+    (f g : ℕ → Bool) (a n : ℕ) → ((c : ℕ) → a ≤ c → c < a + n → f c ≡ g c)
+    → filter f (range_with_len a n) ≡ filter g (range_with_len a n)
+kept_same f g a zero same = refl
+kept_same f g a (suc n) same =
+    let rest = kept_same f g (a + 1) n (λ c from below. same c (omega (arith, from)) (omega (arith, below))) in
+    λ i. cond (same a (omega arith) (omega arith) i) (a ∷ rest i) (rest i)

@@ -1,4 +1,5 @@
 mod Each
+mod CountedLines
 mod Marks
 mod Counting
 mod Repeats

@@ -1,12 +1,12 @@
 -- Which places in a file want no look.
 use Rattle.std.proofs.Common.{◌≡◌, ◌∙◌, ℕ, ◌+◌, ◌≤◌, Bool, true, false, List, [], ◌∷◌, ◌++◌, length, drop}
 use Rattle.std.proofs.Common.{ap, arith, refl, sym}
-use Rattle.std.specs.Prelude.{◌==◌, ◌&&◌, not, codes}
+use Rattle.std.specs.Prelude.{◌==◌, ◌&&◌, if◌then◌else◌, not, codes}
 use Rattle.std.specs.List.{range_with_len}
 use Rattle.std.proofs.lemmas.Bool.{eqb-true, eq-eqb, not-false, not_from_true}
 use Rattle.std.proofs.lemmas.List.{drop_all, length-drop}
 use Rattle.input_text.specs.Token.{Placed}
-use Rattle.ballot_findings.specs.Breaks.{is_parted, parted_from, parted_lines, string_lines}
+use Rattle.ballot_findings.specs.Breaks.{is_parted, parted, parted_from}
 use Rattle.ballot_findings.specs.Lines.{place_line}
 use Rattle.ballot_findings.specs.Sites.{candidates_at, goes_on, seats_at, strings, tokens_of}
 use Rattle.ballot_findings.specs.Unseen.{is_far, is_lone}
@@ -14,7 +14,7 @@ use Rattle.ballot_findings.specs.Places.{line_at}
 use Rattle.ballot_findings.specs.Laws.{ApartIsTold, BreaksAreTold, FarIsTold, FurtherAreTold, ReturnsAreTold}
 use Rattle.ballot_findings.proofs.Firstly.{first_none, none_first}
 use Rattle.ballot_findings.proofs.OddLaws.{none_of}
-use Rattle.ballot_findings.proofs.Told.{back_none, front_none, not_written, unwritten}
+use Rattle.ballot_findings.proofs.Told.{not_written, nothing_told, unwritten}
 
 -- ---- ballots that a line break parts
 
@@ -38,66 +38,74 @@ module _ (input : List ℕ) where
   alone token (f ∷ []) a b behind is on = absurd (cc)
   alone token (f ∷ g ∷ front) a b behind is on = absurd (cc)
 
+  -- the token is parted from the next, or the rest is all
+  first_parted :
+      (test : Bool) (token : Placed) (rest : List Placed) → (if test then token ∷ rest else rest) ≡ []
+      → (test ≡ false) × (rest ≡ [])
+  first_parted true token rest none = absurd (cc)
+  first_parted false token rest none = (refl, none)
+
   parted_none :
       (token : Placed) (tokens : List Placed) → parted_from input token tokens ≡ []
       → AreTogether input (token ∷ tokens)
-  parted_none token [] none front a b behind is on = alone token front a b behind is on
-  parted_none token (next ∷ tokens) none [] a b behind is on =
+  parted_none token [] none before a b after is on = alone token before a b after is on
+  parted_none token (next ∷ tokens) none [] a b after is on =
       let first : token ≡ a = cc in
       let second : next ≡ b = cc in
-      let silent =
-      not_written (is_parted input token next) 108 _
-      (front_none _ (parted_from input next tokens) none) in
+      let silent = (first_parted (is_parted input token next) token (parted_from input next tokens) none).0 in
       let same =
       together_if (goes_on token.item) (line_at input token.at) (line_at input next.at) silent
       (ap (λ (t : Placed). goes_on t.item) first ∙ on) in
       ap (λ (t : Placed). line_at input t.at) (sym first) ∙ (same ∙ ap (λ (t : Placed). line_at input t.at) second)
-  parted_none token (next ∷ tokens) none (f ∷ front) a b behind is on =
-      let rest : next ∷ tokens ≡ front ++ a ∷ b ∷ behind = cc in
-      parted_none next tokens (back_none _ (parted_from input next tokens) none) front a b behind rest on
+  parted_none token (next ∷ tokens) none (f ∷ before) a b after is on =
+      let rest : next ∷ tokens ≡ before ++ a ∷ b ∷ after = cc in
+      parted_none next tokens
+      (first_parted (is_parted input token next) token (parted_from input next tokens) none).1 before a b after rest on
 
   none_parted :
       (token : Placed) (tokens : List Placed) → AreTogether input (token ∷ tokens)
       → parted_from input token tokens ≡ []
   none_parted token [] together = refl
   none_parted token (next ∷ tokens) together =
-      ap (λ (l : List ℕ). l ++ parted_from input next tokens)
-      (unwritten (is_parted input token next) _
+      let rest = parted_from input next tokens in
+      ap (λ (b : Bool). if b then token ∷ rest else rest)
       (none_if (goes_on token.item) (line_at input token.at) (line_at input next.at)
-      (λ on. together [] token next tokens refl on)))
+      (λ on. together [] token next tokens refl on))
       ∙ none_parted next tokens
-      (λ front a b behind is on. together (token ∷ front) a b behind (ap (λ (l : List Placed). token ∷ l) is) on)
+      (λ before a b after is on. together (token ∷ before) a b after (ap (λ (l : List Placed). token ∷ l) is) on)
 
   nobody : AreTogether input []
   nobody [] a b behind is on = absurd (cc)
   nobody (f ∷ front) a b behind is on = absurd (cc)
 
-  lines_none : (tokens : List Placed) → parted_lines input tokens ≡ [] → AreTogether input tokens
-  lines_none [] none = nobody
-  lines_none (token ∷ tokens) none = parted_none token tokens none
+  all_none : (tokens : List Placed) → parted input tokens ≡ [] → AreTogether input tokens
+  all_none [] none = nobody
+  all_none (token ∷ tokens) none = parted_none token tokens none
 
-  none_lines : (tokens : List Placed) → AreTogether input tokens → parted_lines input tokens ≡ []
-  none_lines [] together = refl
-  none_lines (token ∷ tokens) together = none_parted token tokens together
+  none_all : (tokens : List Placed) → AreTogether input tokens → parted input tokens ≡ []
+  none_all [] together = refl
+  none_all (token ∷ tokens) together = none_parted token tokens together
 
 pub breaks : BreaksAreTold
-breaks input = (lines_none input (drop 2 (tokens_of input)), none_lines input (drop 2 (tokens_of input)))
+breaks input =
+    let line : Placed → List ℕ = λ token. place_line input (codes "look line ends within a ballot") [] token.at in
+    let tokens = drop 2 (tokens_of input) in
+    let all = nothing_told line (λ t empty. absurd (cc)) (parted input tokens) in
+    (λ none. all_none input tokens (all.0 none), λ together. all.1 (none_all input tokens together))
 
 -- ---- strings behind the title
-
-lines_of_none : (input : List ℕ) (tokens : List Placed) → string_lines input tokens ≡ [] → tokens ≡ []
-lines_of_none input [] none = refl
-lines_of_none input (token ∷ tokens) none = absurd (cc)
 
 few_left : (n : ℕ) (xs : List Placed) → drop n xs ≡ [] → length xs ≤ n
 few_left n xs none = omega (arith, length-drop n xs, ap (λ (l : List Placed). length l) none)
 
 pub further : FurtherAreTold
 further input candidates =
+    let line : Placed → List ℕ = λ token. place_line input (codes "look string behind the title") [] token.at in
     let n = candidates + 1 in
-    let all = strings (tokens_of input) in (
-      λ none. few_left n all (lines_of_none input (drop n all) none),
-      λ few. ap (string_lines input) (drop_all n all few),
+    let all = strings (tokens_of input) in
+    let told = nothing_told line (λ t empty. absurd (cc)) (drop n all) in (
+      λ none. few_left n all (told.0 none),
+      λ few. told.1 (drop_all n all few),
     )
 
 -- ---- the number of seats, and what a reader may not see

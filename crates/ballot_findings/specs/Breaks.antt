@@ -1,9 +1,8 @@
 -- What of a file's text wants a look: parted ballots, strings behind the title, and more bytes than a count reads.
-use Rattle.std.specs.Prelude.{ℕ, ◌+◌, ◌==◌, Bool, not, nat_lt, ◌&&◌, List, [], ◌∷◌, ◌++◌, length, drop, codes}
-use Rattle.std.specs.List.{flat_map}
+use Rattle.std.specs.Prelude.{ℕ, ◌+◌, ◌==◌, Bool, not, nat_lt, ◌&&◌, if◌then◌else◌, List, [], ◌∷◌, ◌++◌, length, drop, codes}
 use Rattle.input_text.specs.Token.{Placed}
 use Rattle.tool_edge.specs.declared.opening.TheConstants.{FILE_LIMIT}
-use Rattle.ballot_findings.specs.Lines.{only_if, place_line}
+use Rattle.ballot_findings.specs.Lines.{only_if, place_line, told}
 use Rattle.ballot_findings.specs.Places.{line_at}
 use Rattle.ballot_findings.specs.Sites.{goes_on, strings, tokens_of}
 use Rattle.ballot_findings.specs.Unseen.{apart_lines, far_lines, return_lines}
@@ -14,28 +13,29 @@ use Rattle.ballot_findings.specs.Unseen.{apart_lines, far_lines, return_lines}
 abbrev pub is_parted : (input : List ℕ) → (token next : Placed) → Bool
 is_parted input token next = goes_on token.item && not (line_at input token.at == line_at input next.at)
 
--- a line for this token and each of the further ones that is parted from the one behind it
-abbrev pub parted_from : (input : List ℕ) → Placed → List Placed → List ℕ
+-- this token and the further ones, of each of which the next is parted
+abbrev pub parted_from : (input : List ℕ) → Placed → List Placed → List Placed
 parted_from input token [] = []
 parted_from input token (next ∷ tokens) =
-    only_if (is_parted input token next) (place_line input (codes "look line ends within a ballot") [] token.at)
-    ++ parted_from input next tokens
+    let rest = parted_from input next tokens in if is_parted input token next then token ∷ rest else rest
 
-abbrev pub parted_lines : (input : List ℕ) → List Placed → List ℕ
-parted_lines input [] = []
-parted_lines input (token ∷ tokens) = parted_from input token tokens
+abbrev pub parted : (input : List ℕ) → List Placed → List Placed
+parted input [] = []
+parted input (token ∷ tokens) = parted_from input token tokens
 
 -- The numbers of candidates and of seats, with which a file begins, may stand on any lines.
 abbrev pub break_lines : (input : List ℕ) → List ℕ
-break_lines input = parted_lines input (drop 2 (tokens_of input))
+break_lines input =
+    told (λ token. place_line input (codes "look line ends within a ballot") [] token.at)
+    (parted input (drop 2 (tokens_of input)))
 
 -- ---- strings behind the title
 
 abbrev pub string_lines : (input : List ℕ) → List Placed → List ℕ
 string_lines input tokens =
-    flat_map (λ token. place_line input (codes "look string behind the title") [] token.at) tokens
+    told (λ token. place_line input (codes "look string behind the title") [] token.at) tokens
 
--- a line for each string that is neither a name nor the title
+-- the lines on strings that are neither a name nor the title
 abbrev pub further_lines : (input : List ℕ) → (candidates : ℕ) → List ℕ
 further_lines input candidates = string_lines input (drop (candidates + 1) (strings (tokens_of input)))
 

@@ -5,6 +5,7 @@ pub mod Names
 pub mod Places
 pub mod Sites
 pub mod Lines
+pub mod Counted
 pub mod Unseen
 pub mod Breaks
 pub mod Tally

@@ -1,6 +1,6 @@
 -- The lines that say what was read. 32 is a space, 46 a point, and 10 ends a line.
-use Rattle.std.specs.Prelude.{ℕ, ◌+◌, ◌-◌, ◌*◌, ◌/◌, ◌%◌, ◌==◌, Bool, not, nat_le, nat_lt, if◌then◌else◌, List, [], ◌∷◌, ◌++◌, length, codes, decimal}
-use Rattle.std.specs.List.{flat_map, range_with_len}
+use Rattle.std.specs.Prelude.{ℕ, ◌+◌, ◌-◌, ◌*◌, ◌/◌, ◌%◌, ◌==◌, Bool, not, nat_le, nat_lt, if◌then◌else◌, List, [], ◌∷◌, ◌++◌, length, map, take, codes, decimal}
+use Rattle.std.specs.List.{filter, flat_map, range_with_len}
 use Rattle.candidate_roll.specs.Roll.{RollList, is_withdrawn}
 use Rattle.blt_reader.specs.Poll.{Poll}
 use Rattle.ballot_findings.specs.Counts.{Figures, figures}
@@ -35,9 +35,11 @@ only_if test text = if test then text else []
 abbrev pub for_each : (candidates : ℕ) → (ℕ → List ℕ) → List ℕ
 for_each candidates text = flat_map text (range_with_len 1 candidates)
 
--- what is written for candidate c with each of a greater number
-abbrev pub for_later : (candidates c : ℕ) → (ℕ → List ℕ) → List ℕ
-for_later candidates c text = flat_map text (range_with_len (c + 1) (candidates - c))
+-- a line for each of the first hundred of these, and how many more of them there are
+unfoldable pub told : {X : Type 0} → (line : X → List ℕ) → List X → List ℕ
+told line xs =
+    flat_map line (take 100 xs)
+    ++ only_if (nat_lt 100 (length xs)) (count_line (codes "look more lines of this kind ") (length xs - 100))
 
 -- ---- what is said of every file
 
@@ -97,15 +99,19 @@ candidate_line input words c = place_line input words (c ∷ []) (name_at input 
 abbrev pub pair_line : (input words : List ℕ) → (c d : ℕ) → List ℕ
 pair_line input words c d = place_line input words (c ∷ d ∷ []) (name_at input d)
 
--- a line for each two candidates of whom this holds
+-- candidate c with each of a greater number, where this holds of both
+abbrev pub later_pairs : (candidates : ℕ) → (ℕ → ℕ → Bool) → (c : ℕ) → List (ℕ × ℕ)
+later_pairs candidates test c = map (λ d. (c, d)) (filter (test c) (range_with_len (c + 1) (candidates - c)))
+
+-- the lines on each two candidates of whom this holds
 abbrev pub pair_lines : (input words : List ℕ) → (candidates : ℕ) → (ℕ → ℕ → Bool) → List ℕ
 pair_lines input words candidates test =
-    for_each candidates (λ c. for_later candidates c (λ d. only_if (test c d) (pair_line input words c d)))
+    told (λ two. pair_line input words two.0 two.1) (flat_map (later_pairs candidates test) (range_with_len 1 candidates))
 
--- a line for each candidate of whom this holds
+-- the lines on each candidate of whom this holds
 abbrev pub candidate_lines : (input words : List ℕ) → (candidates : ℕ) → (ℕ → Bool) → List ℕ
 candidate_lines input words candidates test =
-    for_each candidates (λ c. only_if (test c) (candidate_line input words c))
+    told (candidate_line input words) (filter test (range_with_len 1 candidates))
 
 -- two candidates of one name
 abbrev pub one_name_lines : (input : List ℕ) → RollList → List ℕ

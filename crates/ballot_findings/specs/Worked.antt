@@ -1,10 +1,10 @@
 -- What is said of ballot files, worked by hand.
 use Rattle.std.specs.Prelude.{◌≡◌, ℕ, Bool, true, false, List, [], ◌∷◌, ◌++◌, codes, drop, map, replicate}
-use Rattle.std.specs.List.{range_with_len}
+use Rattle.std.specs.List.{flat_map, range_with_len}
 use Rattle.plain_ballots.specs.declared.ballot_line.BallotLine.{BallotLine}
 use Rattle.blt_reader.specs.Poll.{Poll}
 use Rattle.ballot_findings.specs.Breaks.{longer_lines, place_warnings}
-use Rattle.ballot_findings.specs.Lines.{look_text}
+use Rattle.ballot_findings.specs.Lines.{count_line, look_text, told}
 use Rattle.ballot_findings.specs.declared.kind.Kind.TheVariants.{Latin, Greek, Cyrillic, Armenian, Cherokee, Lisu, Coptic}
 use Rattle.ballot_findings.specs.Signs.{has_several_scripts, has_stray_sign, has_unusual_blanks, is_blank, is_combining, is_directional, is_hidden, is_number, is_of, is_striking}
 use Rattle.ballot_findings.specs.Unseen.{far_lines}
@@ -216,6 +216,13 @@ pub record FarBallots : Type 0 where
       far_lines (codes "1 1\n" ++ replicate 99 32 ++ codes "\t1 1 0\n" ++ replicate 101 32 ++ codes "1 0\n0\n")
       ≡ codes "look hidden by blanks 2 101\n"
   pub near : far_lines (codes "1 1\n" ++ replicate 99 32 ++ codes "1 0\n0\n") ≡ []
+
+-- Of a hundred lines all are told, and of a hundred and two the first hundred, and that there are two more.
+pub record ManyLines : Type 0 where
+  pub few : told (count_line (codes "n ")) (range_with_len 1 100) ≡ flat_map (count_line (codes "n ")) (range_with_len 1 100)
+  pub many :
+      told (count_line (codes "n ")) (range_with_len 1 102)
+      ≡ flat_map (count_line (codes "n ")) (range_with_len 1 100) ++ codes "look more lines of this kind 2\n"
 
 -- Three lines in eight bytes: a carriage return with a line feed behind it ends one line, a line feed with a carriage return
 -- behind it ends two.

@@ -1,11 +1,13 @@
 // What of the tokens of a file wants a look, each with its line and its column.
 ghost use Rattle.std.specs.Prelude.{◌≡◌, ◌+◌, ◌++◌, [], OnOk, IfOk, IfSome, IfNone, codes, drop};
 ghost use Rattle.input_text.specs.Reader.{placed};
-ghost use Rattle.ballot_findings.specs.Lines.{only_if, place_line};
+ghost use Rattle.ballot_findings.specs.Counted.{counted, with_line, with_line_if};
+ghost use Rattle.ballot_findings.specs.Lines.{place_line, told};
 ghost use Rattle.ballot_findings.specs.Breaks.{break_lines, further_lines, is_parted, longer_lines, parted_from, place_warnings, string_lines};
 ghost use Rattle.ballot_findings.specs.Places.{IsMarkOf};
 ghost use Rattle.ballot_findings.specs.Sites.{strings};
 
+use crate::counted::{push_more, push_told};
 use crate::mark::{Mark, mark_of, start};
 use crate::no_memory::NoMemory;
 use crate::reading::{goes_on, next_string, next_token};
@@ -40,7 +42,7 @@ fn push_breaks(text: &mut Text, input: &[u8]) -> Result<(), NoMemory>
     }
 }
 
-/// The lines on this token and those behind it.
+/// The lines on this token and those after it.
 fn push_parted(
     text: &mut Text,
     input: &[u8],
@@ -49,22 +51,25 @@ fn push_parted(
 ) -> Result<(), NoMemory>
     requires { tokens.old.bytes ≡ input.now }
     ensures { OnOk result (text.new ≡ text.old
-        ++ parted_from input.now (placed input.now first) tokens.old.rest.tokens) }
+        ++ told (λ token. place_line input.now (codes "look line ends within a ballot") [] token.at)
+        (parted_from input.now (placed input.now first) tokens.old.rest.tokens)) }
 {
+    let mut count = 0;
     let mut last = first;
     let mut mark = mark_of(input, start(input), first.at);
     while let Some(next) = next_token(tokens) {
         let ahead = mark_of(input, mark, next.at);
-        push_if_parted(text, input, last, mark, next, ahead)?;
+        push_if_parted(text, &mut count, input, last, mark, next, ahead)?;
         last = next;
         mark = ahead;
     }
-    Ok(())
+    push_more(text, count)
 }
 
 /// The line on a token, where it is parted from the next one. Each has its mark.
 fn push_if_parted(
     text: &mut Text,
+    count: &mut u64,
     input: &[u8],
     last: Token,
     mark: Mark,
@@ -73,14 +78,14 @@ fn push_if_parted(
 ) -> Result<(), NoMemory>
     requires last { IsMarkOf input.now last.at mark }
     requires next { IsMarkOf input.now next.at ahead }
-    ensures { OnOk result (text.new ≡ text.old
-        ++ only_if (is_parted input.now (placed input.now last) (placed input.now next))
-        (place_line input.now (codes "look line ends within a ballot") [] last.at)) }
+    ensures { OnOk result (counted text.new count.new
+        ≡ with_line_if (is_parted input.now (placed input.now last) (placed input.now next))
+        (counted text.old count.old) (place_line input.now (codes "look line ends within a ballot") [] last.at)) }
 {
     if !goes_on(last.what) || mark.line == ahead.line {
         return Ok(());
     }
-    text.push_place_line(b"look line ends within a ballot", &[], mark)
+    push_told(text, count, b"look line ends within a ballot", &[], mark)
 }
 
 /// The lines on strings that are neither the name of one of so many candidates nor the title.
@@ -108,21 +113,29 @@ fn push_strings(text: &mut Text, input: &[u8], tokens: &mut Tokens<'_>) -> Resul
     requires { tokens.old.bytes ≡ input.now }
     ensures { OnOk result (text.new ≡ text.old ++ string_lines input.now (strings tokens.old.rest.tokens)) }
 {
+    let mut count = 0;
     let mut mark = start(input);
     while let Some(token) = next_string(tokens) {
         mark = mark_of(input, mark, token.at);
-        push_string(text, input, token, mark)?;
+        push_string(text, &mut count, input, token, mark)?;
     }
-    Ok(())
+    push_more(text, count)
 }
 
 /// The line on a string of this mark.
-fn push_string(text: &mut Text, input: &[u8], token: Token, mark: Mark) -> Result<(), NoMemory>
+fn push_string(
+    text: &mut Text,
+    count: &mut u64,
+    input: &[u8],
+    token: Token,
+    mark: Mark,
+) -> Result<(), NoMemory>
     requires { IsMarkOf input.now token.at mark }
-    ensures { OnOk result (text.new ≡ text.old
-        ++ place_line input.now (codes "look string behind the title") [] token.at) }
+    ensures { OnOk result (counted text.new count.new
+        ≡ with_line (counted text.old count.old)
+        (place_line input.now (codes "look string behind the title") [] token.at)) }
 {
-    text.push_place_line(b"look string behind the title", &[], mark)
+    push_told(text, count, b"look string behind the title", &[], mark)
 }
 
 /// The line on a file that is longer than a count reads, which are so many bytes.

@@ -8,6 +8,7 @@
 
 mod ballot_file;
 mod breaks;
+mod counted;
 mod doubt;
 mod kind;
 mod laws;

@@ -1,9 +1,12 @@
 // What wants a look.
-ghost use Rattle.std.specs.Prelude.{◌≡◌, ◌+◌, ◌<◌, ◌≤◌, ◌++◌, length, OnOk, IfOk};
+ghost use Rattle.std.specs.Prelude.{◌≡◌, ◌+◌, ◌-◌, ◌<◌, ◌≤◌, ◌++◌, length, OnOk, IfOk};
+ghost use Rattle.std.specs.List.{filter, range_with_len};
+ghost use Rattle.ballot_findings.specs.Counted.{counted, with_line_if, with_lines};
 ghost use Rattle.ballot_findings.specs.Doubts.{are_like, doubt_words, is_doubtful, like_words};
-ghost use Rattle.ballot_findings.specs.Lines.{candidate_line, candidate_lines, enough_seats_lines, for_later, many_seats_lines, odd_title_lines, only_if, pair_line, pair_lines, seats_line, withdrawn_lines};
+ghost use Rattle.ballot_findings.specs.Lines.{candidate_line, candidate_lines, enough_seats_lines, many_seats_lines, odd_title_lines, pair_line, pair_lines, seats_line, withdrawn_lines};
 
 use crate::ballot_file::BallotFile;
+use crate::counted::{push_more, push_told};
 use crate::doubt::Doubt;
 use crate::likeness::Likeness;
 use crate::lines::running;
@@ -28,14 +31,16 @@ pub(crate) fn push_doubts(
         ++ candidate_lines file.now.input (doubt_words doubt) (length file.now.roll.names)
         (is_doubtful doubt file.now.roll tally.now)) }
 {
+    let mut count = 0;
     for p in 0..file.roll().candidates() {
-        push_doubt(text, file, tally, doubt, p + 1)?;
+        push_doubt(text, &mut count, file, tally, doubt, p + 1)?;
     }
-    Ok(())
+    push_more(text, count)
 }
 
 fn push_doubt(
     text: &mut Text,
+    count: &mut u64,
     file: &BallotFile<'_>,
     tally: &Tally,
     doubt: Doubt,
@@ -43,14 +48,14 @@ fn push_doubt(
 ) -> Result<(), NoMemory>
     requires named { (1 ≤ c) × (c ≤ length file.now.roll.names) }
     requires tallied { length tally.now.ranked ≡ length file.now.roll.names }
-    ensures { OnOk result (text.new ≡ text.old
-        ++ only_if (is_doubtful doubt file.now.roll tally.now c)
+    ensures { OnOk result (counted text.new count.new
+        ≡ with_line_if (is_doubtful doubt file.now.roll tally.now c) (counted text.old count.old)
         (candidate_line file.now.input (doubt_words doubt) c)) }
 {
     if !is_doubtful(file.roll(), tally, doubt, c) {
         return Ok(());
     }
-    text.push_place_line(doubt.words(), &[u64::from(c)], file.name(c))
+    push_told(text, count, doubt.words(), &[u64::from(c)], file.name(c))
 }
 
 fn is_doubtful(roll: &Roll, tally: &Tally, doubt: Doubt, c: u32) -> bool
@@ -89,27 +94,29 @@ pub(crate) fn push_pairs(
         ++ pair_lines file.now.input (like_words likeness) (length file.now.roll.names)
         (are_like likeness file.now.roll.names)) }
 {
+    let mut count = 0;
     for p in 0..file.roll().candidates() {
-        push_pairs_of(alloc, text, file, likeness, p + 1)?;
+        push_pairs_of(alloc, text, &mut count, file, likeness, p + 1)?;
     }
-    Ok(())
+    push_more(text, count)
 }
 
 /// The lines on candidate `c` with each of a greater number.
 fn push_pairs_of(
     alloc: Global,
     text: &mut Text,
+    count: &mut u64,
     file: &BallotFile<'_>,
     likeness: Likeness,
     c: u32,
 ) -> Result<(), NoMemory>
     requires { (1 ≤ c) × (c ≤ length file.now.roll.names) }
-    ensures { OnOk result (text.new ≡ text.old
-        ++ for_later (length file.now.roll.names) c (λ d. only_if (are_like likeness file.now.roll.names c d)
-        (pair_line file.now.input (like_words likeness) c d))) }
+    ensures { OnOk result (counted text.new count.new
+        ≡ with_lines (pair_line file.now.input (like_words likeness) c) (counted text.old count.old)
+        (filter (are_like likeness file.now.roll.names c) (range_with_len (c + 1) (length file.now.roll.names - c)))) }
 {
     for p in 0..file.roll().candidates() - c {
-        push_pair(alloc, text, file, likeness, c, c + 1 + p)?;
+        push_pair(alloc, text, count, file, likeness, c, c + 1 + p)?;
     }
     Ok(())
 }
@@ -117,6 +124,7 @@ fn push_pairs_of(
 fn push_pair(
     alloc: Global,
     text: &mut Text,
+    count: &mut u64,
     file: &BallotFile<'_>,
     likeness: Likeness,
     c: u32,
@@ -124,18 +132,15 @@ fn push_pair(
 ) -> Result<(), NoMemory>
     requires one { (1 ≤ c) × (c ≤ length file.now.roll.names) }
     requires other { (1 ≤ d) × (d ≤ length file.now.roll.names) }
-    ensures { OnOk result (text.new ≡ text.old
-        ++ only_if (are_like likeness file.now.roll.names c d)
+    ensures { OnOk result (counted text.new count.new
+        ≡ with_line_if (are_like likeness file.now.roll.names c d) (counted text.old count.old)
         (pair_line file.now.input (like_words likeness) c d)) }
 {
     if !are_like(alloc, file.roll(), likeness, c, d)? {
         return Ok(());
     }
-    text.push_place_line(
-        likeness.words(),
-        &[u64::from(c), u64::from(d)],
-        file.name(d),
-    )
+    let numbers = [u64::from(c), u64::from(d)];
+    push_told(text, count, likeness.words(), &numbers, file.name(d))
 }
 
 fn are_like(

@@ -1,5 +1,5 @@
 // Files worked by hand.
-ghost use Rattle.ballot_findings.specs.Worked.{FarBallots, HiddenCharacters, LongFile, Marks, NoBallots, OddCounts, OddNames, OddTexts, OddTitle, OldFile, OtherCharacters, PartedFile, Places, QuietFile, Ranks};
+ghost use Rattle.ballot_findings.specs.Worked.{FarBallots, HiddenCharacters, LongFile, ManyLines, Marks, NoBallots, OddCounts, OddNames, OddTexts, OddTitle, OldFile, OtherCharacters, PartedFile, Places, QuietFile, Ranks};
 
 /// What is said of these files, to the byte. The call does nothing.
 pub fn worked_looks()
@@ -13,6 +13,7 @@ pub fn worked_looks()
     ensures texts { OddTexts }
     ensures title { OddTitle }
     ensures far { FarBallots }
+    ensures many { ManyLines }
     ensures places { Places }
     ensures parted { PartedFile }
     ensures old { OldFile }

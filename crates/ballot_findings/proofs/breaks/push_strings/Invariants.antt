@@ -1,5 +1,7 @@
-use Rattle.std.proofs.Common.{◌≡◌, ◌++◌, length}
-use Rattle.ballot_findings.specs.Breaks.{string_lines}
+use Rattle.std.proofs.Common.{◌≡◌, [], length}
+use Rattle.std.specs.Prelude.{codes}
+use Rattle.ballot_findings.specs.Counted.{counted, with_lines}
+use Rattle.ballot_findings.specs.Lines.{place_line}
 use Rattle.ballot_findings.specs.Sites.{strings}
 use Rattle.ballot_findings.specs.Places.{IsMark}
 use Rattle.ballot_findings.proofs.breaks.push_strings.Given as goal
@@ -8,9 +10,11 @@ abbrev pub invariant-loop-token : goal.invariant-loop-token
 invariant-loop-token l = record {
   bytes : l.tokens.bytes ≡ l.input;
   mark : IsMark l.input l.mark;
-  text :
-      l.text ++ string_lines l.input (strings l.tokens.rest.tokens)
-      ≡ l.fn.text ++ string_lines l.input (strings l.fn.tokens.rest.tokens);
+  lines :
+      with_lines (λ token. place_line l.input (codes "look string behind the title") [] token.at) (counted l.text l.count)
+      (strings l.tokens.rest.tokens)
+      ≡ with_lines (λ token. place_line l.input (codes "look string behind the title") [] token.at) (counted l.fn.text 0)
+      (strings l.fn.tokens.rest.tokens);
 }
 
 abbrev pub decreases-loop-token : goal.decreases-loop-token
