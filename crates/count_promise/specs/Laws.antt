@@ -71,3 +71,15 @@ OtherLotsSameSheet =
     → IsSheetOfCount rule omega ballots roll lots text v → SaysNoLot v
     → IsOrder other → length other ≡ length lots
     → IsSheetUnder rule 9 omega ballots roll other text
+
+-- Right at its limit: four solid voters have a quota of 3.333333334 votes and a slack of 0.666666666 besides, and elect one.
+abbrev pub FourVotesForOne : Type 0
+FourVotesForOne =
+    (rule : Rule) (omega : ℕ) (ballots coalition others : List (List ℕ)) (roll : RollList) (lots text : List ℕ) (v : SheetList)
+    (members : List Bool)
+    → IsSheetOfCount rule omega ballots roll lots text v
+    → IsPermutation ballots (coalition ++ others)
+    → All (IsSolid (length v.names) roll.withdrawn members) coalition
+    → 1 ≤ running_members (length v.names) roll.withdrawn members
+    → length coalition ≡ 4 → promised_quota v ≡ 3333333334 → slack v.rows ≡ 666666666
+    → 1 ≤ elected_members (length v.names) members v.last

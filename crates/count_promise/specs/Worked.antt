@@ -1,5 +1,5 @@
 -- What sheets promise, worked by hand.
-use Rattle.std.specs.Prelude.{◌≡◌, ℕ, ◌+◌, Bool, true, false, List, [], ◌∷◌, sum, codes}
+use Rattle.std.specs.Prelude.{◌≡◌, ℕ, ◌+◌, Bool, true, false, List, [], ◌∷◌, Some, sum, codes}
 use Rattle.candidate_roll.specs.declared.state.State.{State}
 use Rattle.candidate_roll.specs.declared.state.State.TheVariants.{Hopeful, Elected as IsElected}
 use Rattle.meek_rule.specs.Row.{Row}
@@ -8,6 +8,7 @@ use Rattle.meek_rule.specs.declared.step.Step.TheVariants.{Elected, Iterate, Def
 use Rattle.sheet_text.specs.Lines.{text_of_lines}
 use Rattle.sheet_reader.specs.Values.{SheetList}
 use Rattle.count_promise.specs.Lines.{promise_text}
+use Rattle.count_promise.specs.Owed.{promises}
 
 -- a sheet of these iterations, in which 14 ballots take two seats
 abbrev pub sheet_of : List Row → SheetList
@@ -156,3 +157,53 @@ SecondIsGreatest =
     ∷ codes "So voters who rank the same candidates, in any order, above all others who run, may have fewer of these elected than they have quotas of 3.100000001 votes."
     ∷ []
     )
+
+-- Of two great surpluses the second is greater, and it is the first for which nothing is promised.
+abbrev pub FirstIsNotPromised : Type 0
+FirstIsNotPromised =
+    Promises
+    (third_defeated 2 1200000000 ∷ third_defeated 3 2500000000 ∷ [])
+    (
+    codes "no lot decided anything"
+    ∷ codes "greatest surplus at a defeat 2.500000000 round 3 iteration 1 candidate 3"
+    ∷ codes "seats lack at most 0.000000000"
+    ∷ codes "quota 3.400000001 of the ballots that rank somebody who runs"
+    ∷ codes "not promised: round 2 iteration 1 defeats 3 while 1.200000000 votes of surplus are not passed on"
+    ∷ codes "So voters who rank the same candidates, in any order, above all others who run, may have fewer of these elected than they have quotas of 3.400000001 votes."
+    ∷ []
+    )
+
+-- A winner lacks half a vote of four, and nobody is defeated.
+abbrev pub WinnerBelowTheQuota : Type 0
+WinnerBelowTheQuota =
+    Promises
+    (row_of 1 (IsElected ∷ Hopeful ∷ Hopeful ∷ []) (4200000000 ∷ 3500000000 ∷ 1000000000 ∷ []) 4000000000 200000000 (false ∷ true ∷ false ∷ []) nobody Elected ∷ [])
+    (
+    codes "no lot decided anything"
+    ∷ codes "nobody was defeated in an iteration"
+    ∷ codes "seats lack at most 0.500000000"
+    ∷ codes "quota 2.900000001 of the ballots that rank somebody who runs"
+    ∷ codes "proportional within 0.500000000"
+    ∷ codes "Any voters who rank the same candidates, in any order, above all others who run, and are at least k quotas of 2.900000001 votes and 0.500000000 votes more, have k of these candidates elected, or all of these who run where they are fewer than k."
+    ∷ []
+    )
+
+-- Lots of both kinds in one iteration: no count has it, but a sheet may have the form.
+abbrev pub DefeatAndSeatByLot : Type 0
+DefeatAndSeatByLot =
+    Promises
+    (row_of 1 all_hopeful (5000000000 ∷ 5000000000 ∷ 4000000000 ∷ []) 4000000000 500000000 (false ∷ true ∷ false ∷ []) (true ∷ false ∷ true ∷ []) (Defeat 3) ∷ [])
+    (
+    codes "round 1 iteration 1 defeats 3 by lot of 1 3"
+    ∷ codes "round 1 iteration 1 elects 2 and not 1 by lot"
+    ∷ codes "greatest surplus at a defeat 0.500000000 round 1 iteration 1 candidate 3"
+    ∷ codes "seats lack at most 0.000000000"
+    ∷ codes "quota 4.666666667 of the ballots that rank somebody who runs"
+    ∷ codes "proportional within 0.500000000"
+    ∷ codes "Any voters who rank the same candidates, in any order, above all others who run, and are at least k quotas of 4.666666667 votes and 0.500000000 votes more, have k of these candidates elected, or all of these who run where they are fewer than k."
+    ∷ []
+    )
+
+-- A sheet may have 2^30 bytes.
+abbrev pub LongestSheet : Type 0
+LongestSheet = promises.limit tt ≡ Some 1073741824

@@ -1,5 +1,5 @@
 // What holds in every count, where its sheet promises it.
-ghost use Rattle.count_promise.specs.Laws.{NoLotMeansNoTie, OtherLotsSameSheet, PromisesHold, QuotaIsOfThoseHeard, SlackCoversAll};
+ghost use Rattle.count_promise.specs.Laws.{FourVotesForOne, NoLotMeansNoTie, OtherLotsSameSheet, PromisesHold, QuotaIsOfThoseHeard, SlackCoversAll};
 
 use rule_laws::{coalitions_are_seated, lots_break_ties_alone, silent_ballots_change_nothing};
 use sheet_reader::{sheets_are_read_back, written_values_are_read};
@@ -20,4 +20,11 @@ pub fn promises_hold()
     lots_break_ties_alone();
     sheets_are_read_back();
     written_values_are_read();
+}
+
+/// What is promised right at its limit, in figures. It rests on the clause of [`promises_hold`] alone.
+pub fn promise_holds_in_figures()
+    ensures { FourVotesForOne }
+{
+    promises_hold();
 }

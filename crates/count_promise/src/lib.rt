@@ -20,7 +20,7 @@ mod tool;
 mod worked;
 
 pub use group::Group;
-pub use laws::promises_hold;
+pub use laws::{promise_holds_in_figures, promises_hold};
 pub use lots::{chosen_among, decides_any, is_in};
 pub use measures::{defeated, first_defeat};
 pub use quota::{promised_quota, slack};

@@ -1,7 +1,8 @@
 // Promises worked by hand.
 ghost use Rattle.count_promise.specs.Worked.{GreatSurplus, LastSeatByLot, LastSeatByVotes, LittleSurplus, NoIterations, SecondIsGreatest, TwoAreTied};
+ghost use Rattle.count_promise.specs.Worked.{DefeatAndSeatByLot, FirstIsNotPromised, LongestSheet, WinnerBelowTheQuota};
 
-/// What these sheets promise, to the byte. The call does nothing.
+/// What these sheets promise, to the byte, and how long one may be. The call does nothing.
 pub fn worked_promises()
     ensures none { NoIterations }
     ensures tied { TwoAreTied }
@@ -10,4 +11,8 @@ pub fn worked_promises()
     ensures great { GreatSurplus }
     ensures little { LittleSurplus }
     ensures second { SecondIsGreatest }
+    ensures not_promised { FirstIsNotPromised }
+    ensures winner { WinnerBelowTheQuota }
+    ensures both { DefeatAndSeatByLot }
+    ensures longest { LongestSheet }
 {}

@@ -47,3 +47,4 @@ mod UnheardAtSixPlaces
 mod WorkedRows
 mod ParadoxesHold
 mod UnnamedAtSixPlaces
+mod InFigures

@@ -16,3 +16,4 @@ pub mod Plurality
 pub mod KeepRises
 pub mod Silent
 pub mod Paradoxes
+pub mod InFigures

@@ -5,8 +5,10 @@
 //! planted bug, like any other contract. What one sheet promises (crate count_promise) rests on these.
 #![tactic(auto)]
 
+mod figures;
 mod laws;
 
+pub use figures::laws_hold_in_figures;
 pub use laws::{
     clone_independence_fails, coalitions_are_seated, first_preferences_count,
     house_monotonicity_fails, keep_values_rise_by_a_unit, later_lots_never_hurt,

@@ -31,3 +31,15 @@ returns-clause-little c = refl
 pub returns-clause-second : goal.returns-clause-second
 unfolding text_of_lines text_of last_digits digits
 returns-clause-second c = refl
+
+pub returns-clause-not_promised : goal.returns-clause-not_promised
+unfolding text_of_lines text_of last_digits digits
+returns-clause-not_promised c = refl
+
+pub returns-clause-winner : goal.returns-clause-winner
+unfolding text_of_lines text_of last_digits digits
+returns-clause-winner c = refl
+
+pub returns-clause-both : goal.returns-clause-both
+unfolding text_of_lines text_of last_digits digits
+returns-clause-both c = refl
