@@ -75,10 +75,10 @@ abbrev pub hopeful_means : List ℕ
 hopeful_means = codes "neither elected nor defeated so far."
 
 abbrev pub keep_value_means : List ℕ
-keep_value_means = codes "the part of each vote which reaches a candidate that the candidate keeps. The rest goes on to the next on the ballot. It is 1 for the hopeful; for the elected it falls until each keeps a quota."
+keep_value_means = codes "the part of each vote which reaches a candidate that the candidate keeps. The rest goes on to the next on the ballot. It is 1 for the hopeful; for the elected it is changed from one iteration to the next, down or up, so that each keeps about a quota."
 
 abbrev pub on_no_candidate_means : List ℕ
-on_no_candidate_means = codes "the votes that nobody keeps, since their ballots rank no further candidate who could, and what rounding leaves."
+on_no_candidate_means = codes "the votes that nobody keeps, since their ballots rank no further candidate who could."
 
 abbrev pub iterations_mean : List ℕ
 iterations_mean = codes "each candidate by its number, with its vote; one of whom nothing else is said is hopeful and keeps 1. Who is defeated or withdrawn and has no vote is left out."

@@ -49,12 +49,12 @@ fn write_words<const P: usize, K: Sink>(pen: &mut Pen<'_, P, K>)
     write_meaning(
         pen,
         b"Keep value",
-        b"the part of each vote which reaches a candidate that the candidate keeps. The rest goes on to the next on the ballot. It is 1 for the hopeful; for the elected it falls until each keeps a quota.",
+        b"the part of each vote which reaches a candidate that the candidate keeps. The rest goes on to the next on the ballot. It is 1 for the hopeful; for the elected it is changed from one iteration to the next, down or up, so that each keeps about a quota.",
     );
     write_meaning(
         pen,
         b"On no candidate",
-        b"the votes that nobody keeps, since their ballots rank no further candidate who could, and what rounding leaves.",
+        b"the votes that nobody keeps, since their ballots rank no further candidate who could.",
     );
     write_meaning(
         pen,
