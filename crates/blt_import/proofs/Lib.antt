@@ -4,3 +4,4 @@ mod AnyOrder
 mod Withdrawn
 mod WordLemmas
 mod FormLemmas
+mod Readable

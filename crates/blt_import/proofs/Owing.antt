@@ -52,10 +52,10 @@ module _ (asked : Asked) (input : List ℕ) (end : End ImportFault) (sink : Writ
       → FinishesOwed (IsDoneWith asked.output asked.roll read) end sink
       → Ended
   read_owed read sound says (inl nothing) = inl nothing
-  read_owed read sound says (inr (due, bytes, (done, text), finishes)) =
+  read_owed read sound says (inr (due, bytes, (done, text, back), finishes)) =
       let owes : IsOwedFor import_tool asked input no_history Done bytes = (
         short,
-        record { sound = sound; read = read; says = says; text = text },
+        record { sound = sound; read = read; says = says; text = text; read_back = back },
       ) in
       let owed = subst (λ (e : End ImportFault). IsOwedFor import_tool asked input no_history e bytes) (sym done) owes in
       inr (due, bytes, owed, finishes)

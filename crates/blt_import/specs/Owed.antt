@@ -11,6 +11,7 @@ use Rattle.preflib_text.specs.Refusals.{fault_of_text}
 use Rattle.preflib_text.specs.declared.imported.Imported.{Imported as ImportedText}
 use Rattle.preflib_text.specs.declared.pref_stop.PrefStop.{PrefStop}
 use Rattle.preflib_text.specs.declared.pref_stop.PrefStop.TheVariants as pref
+use Rattle.blt_writer.specs.Laws.{SaysBallots}
 use Rattle.blt_writer.specs.Text.{IsBltText}
 use Rattle.import_words.specs.Asks.{Asks}
 use Rattle.import_words.specs.declared.asked.Asked.{Asked}
@@ -74,13 +75,19 @@ abbrev pub IsTextOf : Output → RollWords → Read → (bytes : List ℕ) → T
 IsTextOf Blt words read bytes = IsBltText (plain read.ballots.lines) (roll_of words read.names read.title) bytes
 IsTextOf Report words read bytes = bytes ≡ report_text read.tally
 
+-- A ballot file that is written is read by whoever reads ballot files: it says this roll, and these ballots.
+abbrev pub IsReadBack : Output → RollWords → Read → (bytes : List ℕ) → Type 0
+IsReadBack Blt words read bytes = SaysBallots (roll_of words read.names read.title) (plain read.ballots.lines) bytes
+IsReadBack Report words read bytes = ⊤
+
 -- it is all that is written
 abbrev pub IsDoneWith : Output → RollWords → Read → End ImportFault → (bytes : List ℕ) → Type 0
-IsDoneWith output words read end bytes = (end ≡ Done) × IsTextOf output words read bytes
+IsDoneWith output words read end bytes = (end ≡ Done) × IsTextOf output words read bytes × IsReadBack output words read bytes
 
--- all that is written is the canonical text of the ballots of lines, under a roll
+-- all that is written is the canonical text of the ballots of lines, under a roll, which says both
 abbrev pub IsDoneUnder : RollList → List BallotLine → End ImportFault → (bytes : List ℕ) → Type 0
-IsDoneUnder roll lines end bytes = (end ≡ Done) × IsBltText (plain lines) roll bytes
+IsDoneUnder roll lines end bytes =
+    (end ≡ Done) × IsBltText (plain lines) roll bytes × SaysBallots roll (plain lines) bytes
 
 -- the words ask for a form of which the input has no fault
 abbrev pub IsSoundInput : Asked → (input : List ℕ) → Type 0
@@ -90,12 +97,13 @@ IsSoundInput asked input = HasNoFault (form_of asked) input
 abbrev pub IsRefusedInput : Asked → (input : List ℕ) → ImportFault → Type 0
 IsRefusedInput asked input first = fault_in (form_of asked) input ≡ Some first
 
--- the text that is asked for, of what the input says without a fault
+-- the text that is asked for, of what the input says without a fault; a ballot file can be read back
 pub record OwesText (asked : Asked) (input bytes : List ℕ) : Type 0 where
   pub sound : HasNoFault (form_of asked) input
   pub read : Read
   pub says : Says (form_of asked) input read
   pub text : IsTextOf asked.output asked.roll read bytes
+  pub read_back : IsReadBack asked.output asked.roll read bytes
 
 -- ---- the tool
 

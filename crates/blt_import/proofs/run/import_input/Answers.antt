@@ -35,7 +35,7 @@ returns-in-Report g c =
     read_owed c.args.asked.now c.args.input.now c.finish.result written
     c.requires.short read c.in-Ok.ensures.sound c.in-Ok.ensures.says
     (subst (λ (o : Output). FinishesOwed (IsDoneWith o c.args.asked.now.roll read) c.finish.result written)
-    (sym c.in-Report.is) (inr (Done, c.bytes.result.now, (refl, text), c.finish.ensures)))
+    (sym c.in-Report.is) (inr (Done, c.bytes.result.now, (refl, text, tt), c.finish.ensures)))
 
 pub returns-in-Err : goal.returns-in-Err
 returns-in-Err g c =
