@@ -24,7 +24,7 @@ each_more f a n c is =
     ∙ (ap (λ (l : List ℕ). flat_map f (range_with_len a n) ++ l) (append-nil (f (a + n)))
     ∙ ap (λ (k : ℕ). flat_map f (range_with_len a n) ++ f k) (sym is)))
 
--- a text with one number more behind it
+-- a text with one number more after it
 pub each_step :
     (f : ℕ → List ℕ) (a n c : ℕ) (old text new : List ℕ) → c ≡ a + n → text ≡ old ++ flat_map f (range_with_len a n)
     → new ≡ text ++ f c

@@ -1,4 +1,4 @@
--- The line and the column one byte on, and behind the end of a text.
+-- The line and the column one byte on, and after the end of a text.
 use Rattle.std.proofs.Common.{◌≡◌, ◌∙◌, ℕ, zero, suc, ◌+◌, ◌-◌, ◌<◌, ◌≤◌, Bool, true, false, cond, List, []}
 use Rattle.std.proofs.Common.{◌∷◌, ◌++◌, length, take}
 use Rattle.std.proofs.Common.{ap, arith, refl, sym, reverse}
@@ -27,7 +27,7 @@ column_more text p inside =
     ∙ (ap (λ (l : List ℕ). 1 + prefix_len test l) (reverse-append (take p text) (b ∷ []))
     ∙ counted (is_break b) (prefix_len test (reverse (take p text))))
 
--- ---- behind the end
+-- ---- after the end
 
 abbrev counted_one : Bool → ℕ
 counted_one b = cond b 1 0

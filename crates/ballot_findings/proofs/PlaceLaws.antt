@@ -18,7 +18,7 @@ use Rattle.ballot_findings.proofs.Told.{not_written, nothing_told, unwritten}
 
 -- ---- ballots that a line break parts
 
--- behind which a ballot goes on, on the same line
+-- after which a ballot goes on, on the same line
 abbrev AreTogether : (input : List ℕ) → List Placed → Type 0
 AreTogether input tokens =
     (front : List Placed) (token next : Placed) (behind : List Placed) → tokens ≡ front ++ token ∷ next ∷ behind
@@ -93,7 +93,7 @@ breaks input =
     let all = nothing_told line (λ t empty. absurd (cc)) (parted input tokens) in
     (λ none. all_none input tokens (all.0 none), λ together. all.1 (none_all input tokens together))
 
--- ---- strings behind the title
+-- ---- strings after the title
 
 few_left : (n : ℕ) (xs : List Placed) → drop n xs ≡ [] → length xs ≤ n
 few_left n xs none = omega (arith, length-drop n xs, ap (λ (l : List Placed). length l) none)

@@ -9,7 +9,7 @@ use Rattle.ballot_findings.specs.declared.mark.Mark.{Mark}
 use Rattle.ballot_findings.specs.Places.{IsMarkOf}
 use Rattle.ballot_findings.specs.Sites.{AreNameMarks, name_at, places, strings, tokens_of}
 
--- the place of the first token that is left is that of the token behind those that were passed
+-- the place of the first token that is left is that of the token after those that were passed
 pub place_behind : (n : ℕ) (tokens : List Placed) → slice_index (places (drop n tokens)) 0 ≡ slice_index (places tokens) n
 place_behind zero [] = refl
 place_behind zero (token ∷ tokens) = refl

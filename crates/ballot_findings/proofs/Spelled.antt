@@ -98,7 +98,7 @@ module _ (marks : List Bool) where
   texts_none [] = refl
   texts_none (text ∷ texts) = texts_none texts
 
-  -- a candidate and what is behind it
+  -- a candidate and what is after it
   candidate :
       (none is : Bool) (c : ℕ) (ranks : List ℕ) (items behind : List Item) → none ≡ false
       → ranks_among true items ≡ map Number ranks ++ behind

@@ -18,7 +18,7 @@ use Rattle.ballot_findings.proofs.Spelled.{ranks_among, string_items, texts_none
 
 -- ---- a file from its front on
 
--- behind its first two numbers: the withdrawn candidates, the ballots, and all strings
+-- after its first two numbers: the withdrawn candidates, the ballots, and all strings
 abbrev behind_front : (listed : List ℕ) → List BallotLine → (texts : List (List ℕ)) → List Item
 behind_front listed lines texts = map Minus listed ++ (flat_map ballot lines ++ (Number 0 ∷ map Text texts))
 
@@ -82,7 +82,7 @@ spells input poll says =
           (recursion_from_All (λ line. 1 ≤ line.count) poll.lines front.lines.counted);
     }
 
--- ---- the first two tokens, and those behind them
+-- ---- the first two tokens, and those after them
 
 front_two :
     (tokens : List Placed) (a b : Item) (items : List Item) → items_of tokens ≡ a ∷ (b ∷ items)

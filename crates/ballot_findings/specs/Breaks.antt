@@ -1,4 +1,4 @@
--- What of a file's text wants a look: parted ballots, strings behind the title, and more bytes than a count reads.
+-- What of a file's text wants a look: parted ballots, strings after the title, and more bytes than a count reads.
 use Rattle.std.specs.Prelude.{ℕ, ◌+◌, ◌==◌, Bool, not, nat_lt, ◌&&◌, if◌then◌else◌, List, [], ◌∷◌, ◌++◌, length, drop, codes}
 use Rattle.input_text.specs.Token.{Placed}
 use Rattle.tool_edge.specs.declared.opening.TheConstants.{FILE_LIMIT}
@@ -9,7 +9,7 @@ use Rattle.ballot_findings.specs.Unseen.{apart_lines, far_lines, return_lines}
 
 -- ---- ballots that a line break parts
 
--- The ballot goes on behind the token, but on another line.
+-- The ballot goes on after the token, but on another line.
 abbrev pub is_parted : (input : List ℕ) → (token next : Placed) → Bool
 is_parted input token next = goes_on token.item && not (line_at input token.at == line_at input next.at)
 
@@ -29,7 +29,7 @@ break_lines input =
     told (λ token. place_line input (codes "look line ends within a ballot") [] token.at)
     (parted input (drop 2 (tokens_of input)))
 
--- ---- strings behind the title
+-- ---- strings after the title
 
 abbrev pub string_lines : (input : List ℕ) → List Placed → List ℕ
 string_lines input tokens =
@@ -41,7 +41,7 @@ further_lines input candidates = string_lines input (drop (candidates + 1) (stri
 
 -- ---- a file that is longer than a count reads
 
--- Where a count reads so many bytes, and the file has more: how many a count reads, and the place of the first behind them.
+-- Where a count reads so many bytes, and the file has more: how many a count reads, and the place of the first after them.
 unfoldable pub longer_lines : (most : ℕ) → (input : List ℕ) → List ℕ
 longer_lines most input =
     only_if (nat_lt most (length input)) (place_line input (codes "look longer than a count reads") (most ∷ []) most)

@@ -1,4 +1,4 @@
--- What stands on the ballots of a file.
+-- What is on the ballots of a file.
 use Rattle.std.specs.Prelude.{ℕ, ◌==◌, Bool, true, false, List, [], ◌∷◌, length, map, take, count_by, sum_by, slice_index_or}
 use Rattle.std.specs.List.{list_any, range_with_len}
 use Rattle.std.specs.Str.{bytes_eq}
@@ -38,7 +38,7 @@ is_ranked lines c = list_any (λ ballot. is_listed ballot c) (plain lines)
 abbrev pub rankings : List BallotLine → List (List ℕ)
 rankings lines = map (λ line. line.ranking) lines
 
--- The ranking at this place stands at an earlier place too.
+-- The ranking at this place is at an earlier place too.
 abbrev pub is_repeat : (said : List (List ℕ)) → (place : ℕ) → Bool
 is_repeat said place = list_any (bytes_eq (slice_index_or said place [])) (take place said)
 

@@ -57,7 +57,7 @@ SeatsAreTold =
     → ((many_seats_lines input roll ≡ []) ↔ (roll.seats ≤ length roll.names))
     × ((enough_seats_lines input roll ≡ []) ↔ (roll.seats < running roll))
 
--- Nobody is warned of candidates on no ballot exactly where each stands on one.
+-- Nobody is warned of candidates on no ballot exactly where each is on one.
 abbrev pub UnrankedAreTold : Type 0
 UnrankedAreTold =
     (input : List ℕ) (candidates : ℕ) (lines : List BallotLine)
@@ -78,8 +78,8 @@ FirstsAreAll =
     → sum_by (λ c. how_many (has_first c) lines) (range_with_len 1 candidates) + how_many is_empty lines
     ≡ ballot_count lines
 
--- Nobody is warned of a line break exactly where, behind the numbers of candidates and seats, each count and each candidate
--- of a ballot stands on one line with what is next.
+-- Nobody is warned of a line break exactly where, after the numbers of candidates and seats, each count and each candidate
+-- of a ballot is on one line with what is next.
 abbrev pub BreaksAreTold : Type 0
 BreaksAreTold =
     (input : List ℕ)

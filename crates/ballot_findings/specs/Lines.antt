@@ -18,7 +18,7 @@ count_line words n = words ++ decimal n ++ 10 ∷ []
 abbrev pub text_line : (words text : List ℕ) → List ℕ
 text_line words text = words ++ text ++ 10 ∷ []
 
--- these numbers, each behind a space
+-- these numbers, each after a space
 abbrev pub numbers_text : (numbers : List ℕ) → List ℕ
 numbers_text numbers = flat_map (λ n. 32 ∷ decimal n) numbers
 
@@ -43,7 +43,7 @@ told line xs =
 
 -- ---- what is said of every file
 
--- the numbers of the withdrawn candidates, each behind a space, or that there are none
+-- the numbers of the withdrawn candidates, each after a space, or that there are none
 abbrev pub withdrawn_text : RollList → List ℕ
 withdrawn_text roll =
     if running roll == length roll.names then codes " none"
@@ -150,7 +150,7 @@ abbrev pub unranked_lines : (input : List ℕ) → (candidates : ℕ) → (is_ra
 unranked_lines input candidates is_ranked =
     candidate_lines input (codes "look on no ballot") candidates (λ c. not (is_ranked c))
 
--- how many ballots rank withdrawn candidates, where there are any, and where the first of these stands on one
+-- how many ballots rank withdrawn candidates, where there are any, and where the first of these is on one
 abbrev pub withdrawn_lines : (input : List ℕ) → (withdrawn : List Bool) → (ballots : ℕ) → List ℕ
 withdrawn_lines input withdrawn ballots =
     only_if (not (ballots == 0))

@@ -1,4 +1,4 @@
--- Where something stands in a file, as people say it: a line and a column, both from 1. 10 is a line feed, 13 a carriage return.
+-- Where something is in a file, as people say it: a line and a column, both from 1. 10 is a line feed, 13 a carriage return.
 use Rattle.std.specs.Prelude.{◌≡◌, ◌≤◌, ℕ, ◌+◌, ◌-◌, ◌==◌, Bool, not, ◌&&◌, ◌||◌, List, length, take, reverse, slice_index}
 use Rattle.std.specs.List.{count_by, prefix_len, range_with_len}
 use Rattle.ballot_findings.specs.declared.mark.Mark.{Mark}
@@ -6,7 +6,7 @@ use Rattle.ballot_findings.specs.declared.mark.Mark.{Mark}
 abbrev pub is_break : (byte : ℕ) → Bool
 is_break byte = byte == 10 || byte == 13
 
--- A line ends at this byte of the text: a carriage return, or a line feed that isn't right behind one.
+-- A line ends at this byte of the text: a carriage return, or a line feed that isn't right after one.
 abbrev pub ends_line : (text : List ℕ) → (p : ℕ) → Bool
 ends_line text p = slice_index text p == 13 || (slice_index text p == 10 && not (slice_index text (p - 1) == 13))
 
@@ -26,7 +26,7 @@ pub record IsMark (text : List ℕ) (mark : Mark) : Type 0 where
   pub few_lines : mark.line ≤ mark.at + 1
   pub few_columns : mark.column ≤ mark.at + 1
 
--- the mark has the line and the column of this place, also where it stands behind the text
+-- the mark has the line and the column of this place, also where it is after the text
 pub record IsMarkOf (text : List ℕ) (place : ℕ) (mark : Mark) : Type 0 where
   pub is : IsMark text mark
   pub line : mark.line ≡ line_at text place

@@ -39,7 +39,7 @@ title_at input candidates = name_at input (candidates + 1)
 
 -- ---- withdrawn candidates on ballots
 
--- A ballot goes on behind this item: it is a count or a candidate, and not the 0 at the end.
+-- A ballot goes on after this item: it is a count or a candidate, and not the 0 at the end.
 abbrev pub goes_on : Item → Bool
 goes_on (Number n) = not (n == 0)
 goes_on item = false
@@ -53,7 +53,7 @@ is_of_withdrawn withdrawn item = false
 abbrev pub ranks_one : (withdrawn : List Bool) → Placed × Placed → Bool
 ranks_one withdrawn pair = goes_on pair.0.item && is_of_withdrawn withdrawn pair.1.item
 
--- of these tokens the withdrawn candidates on ballots: each stands right behind a count or another candidate
+-- of these tokens the withdrawn candidates on ballots: each is right after a count or another candidate
 abbrev pub withdrawn_ranks : (withdrawn : List Bool) → List Placed → List Placed
 withdrawn_ranks withdrawn tokens = map (λ pair. pair.1) (filter (ranks_one withdrawn) (zip tokens (drop 1 tokens)))
 
@@ -68,7 +68,7 @@ pub record FileList : Type 0 where
   pub input : List ℕ
   pub roll : RollList
 
--- the marks of the first strings, so many of them: candidate c's stands at place c - 1, and the title's after all of these
+-- the marks of the first strings, so many of them: candidate c's is at place c - 1, and the title's after all of these
 pub record AreNameMarks (input : List ℕ) (count : ℕ) (marks : List Mark) : Type 0 where
   pub all : length marks ≡ count
   pub each : (c : ℕ) (d : Mark) → 1 ≤ c → c ≤ count

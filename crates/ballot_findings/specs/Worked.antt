@@ -35,7 +35,7 @@ NoBallots =
     ≡ codes "ballots 0\nlines 0\nempty 0\ncandidates 2\nseats 1\nwithdrawn none\ntitle Board\nfirst 1 0 Ann\nfirst 2 0 Ben\nmean none\nequal 0\nlook on no ballot 1 3 1\nlook on no ballot 2 3 7\n"
 
 -- Names: the first and the fourth are the same, the second is like both but for a space and a capital letter; the third has a byte
--- that is no UTF-8, and the fifth a mark, U+202E. They stand on lines 4 to 6, behind a space on the last of these.
+-- that is no UTF-8, and the fifth a mark, U+202E. They are on lines 4 to 6, after a space on the last of these.
 abbrev pub OddNames : Type 0
 OddNames =
     look_text
@@ -193,7 +193,7 @@ pub record OddTexts : Type 0 where
       map is_number (codes "7" ∷ codes "-3" ∷ codes "# 2/3?" ∷ [] ∷ codes "--" ∷ codes "7a" ∷ codes "7@" ∷ [])
       ≡ true ∷ true ∷ true ∷ false ∷ false ∷ false ∷ false ∷ []
 
--- The first name is a number and the second has two spaces in a row; the title ends with one, and stands behind one. Of names
+-- The first name is a number and the second has two spaces in a row; the title begins and ends with one. Of names
 -- and of the title the kinds come in their order: blanks, and then numbers.
 abbrev pub OddTitle : Type 0
 OddTitle =
@@ -224,8 +224,8 @@ pub record ManyLines : Type 0 where
       told (count_line (codes "n ")) (range_with_len 1 102)
       ≡ flat_map (count_line (codes "n ")) (range_with_len 1 100) ++ codes "look more lines of this kind 2\n"
 
--- Three lines in eight bytes: a carriage return with a line feed behind it ends one line, a line feed with a carriage return
--- behind it ends two.
+-- Three lines in eight bytes: a carriage return with a line feed after it ends one line, a line feed with a carriage return
+-- after it ends two.
 pub record Places : Type 0 where
   pub lines :
       map (line_at (codes "a\r\nb\n\rc")) (range_with_len 0 8) ≡ 1 ∷ 1 ∷ 2 ∷ 2 ∷ 2 ∷ 3 ∷ 4 ∷ 4 ∷ []
@@ -233,15 +233,15 @@ pub record Places : Type 0 where
       map (column_at (codes "a\r\nb\n\rc")) (range_with_len 0 8) ≡ 1 ∷ 2 ∷ 1 ∷ 1 ∷ 2 ∷ 1 ∷ 1 ∷ 2 ∷ []
 
 -- Five ballots without their 0, on the second line, and four with a line break before the last candidate, on the fifth;
--- behind the title two strings on one line. The numbers of candidates and of seats stand on lines of their own, a comment
--- stands between a ballot and its line break, and a line is empty.
+-- after the title two strings on one line. The numbers of candidates and of seats are on lines of their own, a comment
+-- is between a ballot and its line break, and a line is empty.
 abbrev pub PartedFile : Type 0
 PartedFile =
     place_warnings
     (codes "3\n1 5 1 # five\r\n2 3 0\n\n 4 2\n 3 0\n0\n\"A\" \"B\"\n\"C\"\n\"T\"\n \"x\" \"y z\"\n") 3
     ≡ codes "look seats on another line 2 1\nlook line ends within a ballot 2 5\nlook line ends within a ballot 5 4\nlook string behind the title 11 2\nlook string behind the title 11 6\n"
 
--- A byte order mark counts in columns, and carriage returns alone end lines, which is told of the first. A candidate is parted from the 0 behind it. The
+-- A byte order mark counts in columns, and carriage returns alone end lines, which is told of the first. A candidate is on another line than the 0 after it. The
 -- title and the withdrawn stand on lines of their own, as they may.
 abbrev pub OldFile : Type 0
 OldFile =

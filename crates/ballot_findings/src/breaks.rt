@@ -16,7 +16,7 @@ use crate::unseen::{push_apart, push_far, push_return};
 use input_text::{Token, Tokens};
 use tool_edge::FILE_LIMIT;
 
-/// The lines on seats that are not on the line of the candidates, on ballots that a line break parts, on strings behind the
+/// The lines on seats that are not on the line of the candidates, on ballots that a line break parts, on strings after the
 /// title where so many candidates run, on what a reader may not see, and on a file that is longer than a count reads.
 pub(crate) fn push_places(text: &mut Text, input: &[u8], candidates: u32) -> Result<(), NoMemory>
     ensures { OnOk result (text.new ≡ text.old ++ place_warnings input.now candidates) }

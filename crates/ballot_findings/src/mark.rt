@@ -29,14 +29,14 @@ pub(crate) fn mark_of(text: &[u8], from: Mark, place: usize) -> Mark
     ensures { IsMarkOf text.now place result }
 {
     let stop = within(text, place);
-    let mut mark = not_behind(text, from, stop);
+    let mut mark = not_after(text, from, stop);
     while mark.at < stop {
         mark = one_on(text, mark);
     }
     mark
 }
 
-/// The place, or the end of the text if it stands behind that.
+/// The place, or the end of the text if it is after that.
 fn within(text: &[u8], place: usize) -> usize
     ensures inside { result ≤ length text.now }
     ensures line { line_at text.now result ≡ line_at text.now place }
@@ -49,8 +49,8 @@ fn within(text: &[u8], place: usize) -> usize
     }
 }
 
-/// The mark, or the front of the text if it stands behind a place.
-fn not_behind(text: &[u8], mark: Mark, place: usize) -> Mark
+/// The mark, or the start of the text if it is after a place.
+fn not_after(text: &[u8], mark: Mark, place: usize) -> Mark
     requires { IsMark text.now mark }
     ensures is { IsMark text.now result }
     ensures before { result.at ≤ place }
@@ -68,7 +68,7 @@ fn one_on(text: &[u8], mark: Mark) -> Mark
     Mark {
         at: mark.at + 1,
         line: mark.line + lines_ended(text, mark.at),
-        column: column_behind(text[mark.at], mark.column),
+        column: column_after(text[mark.at], mark.column),
     }
 }
 
@@ -81,8 +81,8 @@ fn lines_ended(text: &[u8], p: usize) -> u64
     if ends_line(text, p) { 1 } else { 0 }
 }
 
-/// The column behind this byte, which stands in this one.
-fn column_behind(byte: u8, column: u64) -> u64
+/// The column after this byte, which is in this one.
+fn column_after(byte: u8, column: u64) -> u64
     requires { column < 0xFFFF_FFFF_FFFF_FFFF }
     ensures value { result ≡ if is_break byte then 1 else column + 1 }
     ensures few { result ≤ column + 1 }
@@ -101,11 +101,11 @@ fn ends_line(text: &[u8], p: usize) -> bool
     requires { p < length text.now }
     ensures { result ≡ ends_line text.now p }
 {
-    text[p] == b'\r' || (text[p] == b'\n' && !is_behind_return(text, p))
+    text[p] == b'\r' || (text[p] == b'\n' && !is_after_return(text, p))
 }
 
-/// Whether a carriage return stands right before this place.
-fn is_behind_return(text: &[u8], p: usize) -> bool
+/// Whether a carriage return is right before this place.
+fn is_after_return(text: &[u8], p: usize) -> bool
     requires inside { p < length text.now }
     requires other { slice_index text.now p ≡ 10 }
     ensures { result ≡ slice_index text.now (p - 1) == 13 }

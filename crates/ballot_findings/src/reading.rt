@@ -47,7 +47,7 @@ fn is_string(what: What) -> bool
     }
 }
 
-/// Whether a ballot goes on behind a token that says this.
+/// Whether a ballot goes on after a token that says this.
 pub(crate) fn goes_on(what: What) -> bool
     ensures { (bytes : List ℕ) (at stop : ℕ) → result ≡ goes_on (said bytes at stop what) }
 {

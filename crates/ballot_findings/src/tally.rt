@@ -150,7 +150,7 @@ fn ranks_nobody(ranks: &[u32]) -> bool
     matches!(ranks, [])
 }
 
-/// Whether somebody who was withdrawn stands among the ranks.
+/// Whether somebody who was withdrawn is among the ranks.
 fn ranks_withdrawn(roll: &Roll, ranks: &[u32]) -> bool
     requires { IsRanking (length roll.now.names) ranks.now }
     ensures { result ≡ ranks_withdrawn roll.now.withdrawn ranks.now }

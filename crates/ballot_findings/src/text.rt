@@ -73,7 +73,7 @@ impl Text {
         self.push(b"\n")
     }
 
-    /// Appends a line of words and numbers, and behind them the line and the column of a mark.
+    /// Appends a line of words and numbers, and after them the line and the column of a mark.
     pub(crate) fn push_place_line(
         &mut self,
         words: &[u8],
@@ -89,7 +89,7 @@ impl Text {
         self.push(b"\n")
     }
 
-    /// Appends numbers, each behind a space.
+    /// Appends numbers, each after a space.
     pub(crate) fn push_numbers(&mut self, numbers: &[u64]) -> Result<(), NoMemory>
         ensures { OnOk result (self.new ≡ self.old ++ numbers_text numbers.now) }
     {

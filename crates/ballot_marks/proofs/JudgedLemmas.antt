@@ -14,7 +14,7 @@ use Rattle.ballot_marks.specs.Ballot.{Judged, judge, judged, effective, end_way}
 abbrev pub with_way : Mark → Way → Judged
 with_way m w = record { mark = m; way = w }
 
--- marks that stand behind others, with their ways
+-- marks that stand after others, with their ways
 abbrev pub judged_behind : Treatment → List Mark → List Mark → List Judged
 judged_behind t before [] = []
 judged_behind t before (m ∷ ms) = judge t before m ∷ judged_behind t (before ++ m ∷ []) ms

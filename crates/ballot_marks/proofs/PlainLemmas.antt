@@ -35,7 +35,7 @@ plain_is_ranked t before m plain =
     ∙ (ap (said_way t before) plain.one
     ∙ ap (λ (again : Bool). cond again (chosen t.repeated Repeated) Ranked) plain.new)
 
--- all marks behind others are plain
+-- all marks after others are plain
 abbrev pub ArePlain : List Mark → List Mark → Type 0
 ArePlain before [] = Unit {0}
 ArePlain before (m ∷ ms) = IsPlainMark (said before) m × ArePlain (before ++ m ∷ []) ms

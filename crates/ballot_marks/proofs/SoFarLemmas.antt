@@ -25,7 +25,7 @@ use Rattle.ballot_marks.proofs.MarkLemmas.{said-push, is_among-append}
 use Rattle.ballot_marks.proofs.JudgedLemmas.{with_way, judged-behind, judged_behind, rest, rest-more}
 use Rattle.ballot_marks.proofs.JudgedLemmas.{effective-on, effective-end, end_way-end}
 
--- What stands before a place, with what judged marks from there on come to, is what all come to.
+-- What is before a place, with what judged marks from there on come to, is what all come to.
 pub record Makes (s : Standing) (p : ℕ) (left all : List Judged) : Type 0 where
   pub ranks : s.ranks ++ ranks_of (effective left) ≡ ranks_of (effective all)
   pub closed : (s.closed || some_closed (effective left)) ≡ some_closed (effective all)
@@ -69,7 +69,7 @@ Makes-passed s p m left all makes =
       place = omega (arith, makes.place, ap (length {A = Judged}) on);
     }
 
--- What stands where the ballot ends.
+-- What is at the place where the ballot ends.
 pub record IsEnd (s : Standing) (p : ℕ) (last : Option Way) (all : List Judged) : Type 0 where
   pub ranks : ranks_of (effective all) ≡ s.ranks
   pub closed : s.closed ≡ some_closed (effective all)
@@ -92,7 +92,7 @@ ended s p left all makes none = record {
   place = omega (arith, makes.place, ap (length {A = Judged}) none);
 }
 
--- What stands before a place stands for the marks before it.
+-- What is before a place stands for the marks before it.
 pub record IsSoFar (t : Treatment) (marks : List Mark) (p : ℕ) (s : Standing) : Type 0 where
   pub same : (c : ℕ) → is_among (said (take p marks)) c ≡ is_among s.ranks c
   pub makes : Makes s p (rest t marks p) (judged t marks)
@@ -215,7 +215,7 @@ module _ (t : Treatment) (marks : List Mark) (p : ℕ) (d : Mark) (s : Standing)
       (subst (λ (js : List Judged). Makes s p js (judged t marks)) none so_far.makes) refl
 
 module _ (t : Treatment) (marks : List Mark) (s : Standing) (p : ℕ) where
-  -- what stands in the end is ranked, unless the ballot is refused
+  -- what is in the end is ranked, unless the ballot is refused
   pub ranked_in_end :
       (last : Option Way) → IsEnd s p last (judged t marks) → ranked t marks ≡ unless_refused last s.ranks
   ranked_in_end last end =

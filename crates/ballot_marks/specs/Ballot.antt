@@ -74,7 +74,7 @@ is_passed treatment marks = some_passed (effective (judged treatment marks))
 abbrev pub is_cut : Treatment → List Mark → Bool
 is_cut treatment marks = ends_in_cut (end_way (judged treatment marks))
 
--- The first mark that is refused or cut stands at this place, from 0, and is refused for this reason.
+-- The first mark that is refused or cut is at this place, from 0, and is refused for this reason.
 pub record IsRefusedAt (treatment : Treatment) (marks : List Mark) (place : ℕ) (why : Why) : Type 0 where
   pub first : place ≡ length (effective (judged treatment marks))
   pub refused : end_way (judged treatment marks) ≡ Some (Refused why)

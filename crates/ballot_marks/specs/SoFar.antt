@@ -16,7 +16,7 @@ pub record Standing : Type 0 where
   pub closed : Bool
   pub passed : Bool
 
--- what stands behind one more mark with this way
+-- what is after one more mark with this way
 abbrev pub behind : Standing → Mark → Way → Standing
 behind s mark Ranked =
     record s { ranks = s.ranks ++ said_by mark.says; closed = s.closed || nat_lt 0 mark.skipped }

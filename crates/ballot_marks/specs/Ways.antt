@@ -18,7 +18,7 @@ chosen treat.Refuse why = Refused why
 chosen treat.Cut why = Cut
 chosen treat.Pass why = Passed
 
--- the way of what is said behind these candidates
+-- the way of what is said after these candidates
 abbrev pub said_way : Treatment → List ℕ → Says → Way
 said_way treatment before Over = chosen treatment.equal EqualRank
 said_way treatment before (One c) = if is_among before c then chosen treatment.repeated Repeated else Ranked
@@ -28,13 +28,13 @@ abbrev pub skipped_way : Option ℕ → ℕ → Way → Way
 skipped_way None skipped other = Refused SkippedRank
 skipped_way (Some most) skipped other = if nat_lt most skipped then Cut else other
 
--- the way of a mark behind marks that say these candidates: a skipped rank is judged first
+-- the way of a mark after marks that say these candidates: a skipped rank is judged first
 abbrev pub way_behind : Treatment → List ℕ → Mark → Way
 way_behind treatment before mark =
     let other = said_way treatment before mark.says in
     if nat_lt 0 mark.skipped then skipped_way treatment.skipped mark.skipped other else other
 
--- The way of a mark behind these marks.
+-- The way of a mark after these marks.
 abbrev pub way : Treatment → List Mark → Mark → Way
 way treatment before mark = way_behind treatment (said before) mark
 
@@ -48,7 +48,7 @@ abbrev pub is_passed : Way → Bool
 is_passed Passed = true
 is_passed other = false
 
--- behind a mark with this way the ballot goes on
+-- after a mark with this way the ballot goes on
 abbrev pub goes_on : Way → Bool
 goes_on w = is_ranked w || is_passed w
 

@@ -5,7 +5,7 @@ ghost use Rattle.ballot_marks.specs.Ways.{chosen};
 use crate::{Way, Why};
 
 /// What becomes of a mark that is not plain: the ballot is refused, or ends before the mark, or goes on
-/// behind it.
+/// after it.
 #[derive(Clone, Copy, Debug, PartialEq, Eq)]
 pub enum Treat {
     Refuse,

@@ -20,7 +20,7 @@ impl Treatment {
     /// Skipped ranks are closed however many they are, since no mark has more of them before it.
     pub const CLOSE: u32 = u32::MAX;
 
-    /// What becomes of a mark behind marks that say these candidates.
+    /// What becomes of a mark after marks that say these candidates.
     pub(crate) fn way(&self, before: &[u32], mark: Mark) -> Way
         ensures { result ≡ way_behind self.now before.now mark }
     {

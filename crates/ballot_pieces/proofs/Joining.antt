@@ -1,4 +1,4 @@
--- Pieces of ballot lines that stand one behind another are one.
+-- Pieces of ballot lines that stand one after another are one.
 use Rattle.std.proofs.Common.{◌≡◌, ℕ, ◌+◌, ◌≤◌, List, [], ◌∷◌, ◌++◌, length, take, drop, All}
 use Rattle.std.proofs.Common.{sym, ◌∙◌, ap, subst, arith, append_assoc, Ok, Err}
 use Rattle.std.specs.Prelude.{Result}

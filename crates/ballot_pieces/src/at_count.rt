@@ -4,7 +4,7 @@ ghost use Rattle.std.specs.Prelude.{◌≡◌, true, IfSome};
 use input_text::Tokens;
 use memchr::memchr;
 
-/// A place within ballot lines: right behind a count, which was taken with its own place.
+/// A place within ballot lines: right after a count, which was taken with its own place.
 #[derive(Drop)]
 pub(crate) struct AtCount<'a> {
     pub count: (u32, usize),
@@ -22,7 +22,7 @@ impl<'a> AtCount<'a> {
         }
     }
 
-    /// Whether the other one is behind the same count at the same place of one input.
+    /// Whether the other one is after the same count at the same place of one input.
     pub(crate) fn is_at(&self, other: &AtCount<'_>) -> bool
         requires { self.now.tokens.bytes ≡ other.now.tokens.bytes }
         ensures { result ≡ true → self.now ≡ other.now }
@@ -32,7 +32,7 @@ impl<'a> AtCount<'a> {
         count == other_count && at == other_at && self.tokens.stands_with(&other.tokens)
     }
 
-    /// The place behind the first number of the next line, if there is one.
+    /// The place after the first number of the next line, if there is one.
     pub(crate) fn next_line(&self, from: usize) -> Option<AtCount<'a>>
         ensures { IfSome result (λ next. next.tokens.bytes ≡ self.now.tokens.bytes) }
     {

@@ -19,7 +19,7 @@ pub(crate) struct Found<'a> {
 }
 
 impl<'a> Found<'a> {
-    /// Reads lines up to the first count that is the 0 behind all lines or stands behind `place`, unless
+    /// Reads lines up to the first count that is the 0 after all lines or is after `place`, unless
     /// they are refused or memory is wanted.
     pub(crate) fn read(
         alloc: Global,

@@ -10,7 +10,7 @@ use std::alloc::{AllocError, Global};
 use std::thread;
 use std::thread::Threads;
 
-/// Where a worker begins, behind what place the counts are another's, and what was read.
+/// Where a worker begins, after what place the counts are another's, and what was read.
 #[derive(Drop)]
 pub(crate) struct Piece<'a> {
     pub from: AtCount<'a>,
@@ -18,7 +18,7 @@ pub(crate) struct Piece<'a> {
     pub found: Option<Found<'a>>,
 }
 
-/// Cuts what is behind a count into at most so many pieces, the last one first: each is of so many bytes,
+/// Cuts what is after a count into at most so many pieces, the last one first: each is of so many bytes,
 /// and goes up to where a line begins.
 pub(crate) fn cut<'a>(
     alloc: Global,

@@ -79,7 +79,7 @@ impl<R: Threads + Sync> LineReader<PackedBallots> for Pieces<R> {
     }
 }
 
-/// Reads pieces from a count on, by so many workers, and puts together those that stand one behind another.
+/// Reads pieces from a count on, by so many workers, and puts together those that stand one after another.
 fn read_from<'a, R: Threads + Sync>(
     leave: &R,
     alloc: Global,

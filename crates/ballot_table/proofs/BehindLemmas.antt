@@ -5,7 +5,7 @@ use Rattle.std.proofs.Math.Seq.{take-append_seam}
 use Rattle.std.proofs.lemmas.List.{length-append}
 
 module _ {X Y : Type 0} (f : List X → X → Y) where
-  -- what becomes of each of the rest, behind a front and those before it
+  -- what becomes of each of the rest, after a front and those before it
   abbrev pub each : (front rest : List X) → List Y
   each front [] = []
   each front (x ∷ rest) = f front x ∷ each (front ++ x ∷ []) rest

@@ -81,7 +81,7 @@ ranks_in_order : (from n : ℕ) → ranks_at (map column.Rank (range_with_len fr
 ranks_in_order from zero = refl
 ranks_in_order from (suc n) = ap (λ (ranks : List ℕ). from ∷ ranks) (ranks_in_order (from + 1) n)
 
--- each rank stands at its place
+-- each rank is at its place
 place_in_order : (n k : ℕ) → k < n → position_or_len (λ other. eqb other (k + 1)) (range_with_len 1 n) ≡ k
 place_in_order n k inside =
     let long = length-range_with_len 1 n in
@@ -90,7 +90,7 @@ place_in_order n k inside =
     ∙ ne_eqb (1 + i) (k + 1) (λ e. let no = e in absurd (omega (arith, before, no))))
     (λ within. ap (λ (r : ℕ). eqb r (k + 1)) (get_or-range_with_len 1 n k 0 inside) ∙ eq-eqb (1 + k) (k + 1) (omega arith))
 
--- what stands at the places of ranks in their order
+-- what is at the places of ranks in their order
 said_in_order : (n : ℕ) (says : List (Option Says)) → length says ≡ n
     → at_places (places_of (rank_columns n)) says ≡ says
 said_in_order n says long =

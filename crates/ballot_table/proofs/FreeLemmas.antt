@@ -15,7 +15,7 @@ nobody_says (h ∷ held) free =
     ap (λ (other : Held). says_held other ∷ map says_held held) first
     ∙ ap (λ (l : List (Option Says)). None ∷ l) (nobody_says held (λ k below. free (suc k) (omega (arith, below))))
 
--- what the ranks say of which nobody has one behind so many
+-- what the ranks say of which nobody has one after so many
 pub free_says : (used : ℕ) (held : List Held) → IsFreeFrom used held
     → map says_held (take used held) ++ replicate (length held - used) None ≡ map says_held held
 free_says used held free =

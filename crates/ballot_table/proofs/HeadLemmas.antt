@@ -174,7 +174,7 @@ module _ (a : TableAsked) (texts : List (List ℕ)) (at : ℕ) (text : List ℕ)
         at_most true is_none = omega (arith, is_none)
         at_most false is_one = omega (arith, is_one)
 
--- behind the last text
+-- after the last text
 module _ (a : TableAsked) (texts : List (List ℕ)) (at : ℕ) (end : length texts ≤ at) (found : List Column) (others : ℕ)
     (so_far : AreColumns a texts at found others)
   where

@@ -17,7 +17,7 @@ alike a b false is = inr (is, λ same. absurd (cc (sym (eq-eqb a b same) ∙ is)
 
 -- ---- the place of a candidate
 
--- behind a front without it a candidate stands at the front's length
+-- after a front without it a candidate is at the front's length
 first_at : (front back : List ℕ) (c : ℕ) → ((i : ℕ) → i < length front → get_or front i 0 ≢ c)
     → position_or_len (λ d. d == c) (front ++ c ∷ back) ≡ length front
 first_at [] back c none =
@@ -111,7 +111,7 @@ only_holder front back c other different =
           | inr differs ↦ differs.0
         ]
 
--- nobody has a rank behind the last
+-- nobody has a rank after the last
 pub nobody : (ranks : List ℕ) (rank c : ℕ) → length ranks < rank → has_rank ranks rank c ≡ false
 nobody ranks rank c behind = by_rank (rank_of ranks c) refl
   where
@@ -130,7 +130,7 @@ filter_none p none from (suc m) =
     (filter p (range_with_len (from + 1) m))) (none from)
     ∙ filter_none p none (from + 1) m
 
--- behind somebody it is found no more
+-- after somebody it is found no more
 filter_past :
     (p : ℕ → Bool) (c : ℕ) → ((e : ℕ) → p e ≡ (e == c)) → (from m : ℕ) → c < from
     → filter p (range_with_len from m) ≡ []

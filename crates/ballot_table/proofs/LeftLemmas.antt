@@ -41,7 +41,7 @@ module _ (a : TableAsked) (cols : List Column) (room : ℕ) (row : text.Row) (re
       (stops rows (faults_left a cols (room - weight_at cols (texts_in row)) rows))) 0)
       (text_stop rest.ending)
 
-  -- a row without a fault leaves the first fault to those behind it
+  -- a row without a fault leaves the first fault to those after it
   pub stop_none : whole_fault (asked_of a) a.treatment a.empty room cols (texts_in row) ≡ None
       → stop_left a cols room (text.with_row row rest) ≡ stop_left a cols (room - weight_at cols (texts_in row)) rest
   stop_none none = ap (after rest.rows) none
@@ -229,7 +229,7 @@ module _ (n : ℕ) (t : Treatment) (weight : ℕ) (judged : JudgedRow) where
   judged_ranking None is = elim is [ ]
   judged_ranking (Some row) is = is.sound
 
--- a row's ballots are put behind the others, or memory is wanted
+-- a row's ballots are put after the others, or memory is wanted
 pub row_pushed : (a : TableAsked) (cols : List Column) (row : text.Row) (texts : List (List ℕ)) (old new : Rows) (P Q : Type 0)
     (r : Result (Unit {0}) TableStop) → OnErr r (r ≡ Err stop.NoMemory) → OnOk r P → OnOk r Q
     → (P → Q → IsRowTaken a cols texts old new) → TakesRow a cols row texts old r new

@@ -191,7 +191,7 @@ module _ (asked : Asked) (empty : Empty) (cols : List Column) where
   none_within [] room none = All-nil (λ k. k ≤ room)
   none_within (k ∷ ks) room none = absurd (omega (arith, none))
 
-  -- rows, each judged behind those before it
+  -- rows, each judged after those before it
   abbrev pub judged : (front rows : List (List (List ℕ))) → List (Option Fault)
   judged front rows = each (λ before texts. form (room_behind cols before) texts) front rows
 

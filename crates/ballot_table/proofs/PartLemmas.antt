@@ -90,7 +90,7 @@ all_pushed asked list texts old new is same =
       subst (λ (r : Result (List (Option Says)) TableKind). SaysAll (sound_one r) old new) (sym whole) is.said,
     )
 
--- a part at fault behind sound ones
+-- a part at fault after sound ones
 pub part_faulty : (asked : Asked) (list : List ℕ) (texts : List (List ℕ)) (old new : SaidList) (piece : List ℕ)
     (kind : TableKind) → ArePushed asked texts old new → texts ≡ map trimmed (take (length texts) (pieces_of list))
     → length texts < length (pieces_of list) → piece ≡ get_or (pieces_of list) (length texts) piece

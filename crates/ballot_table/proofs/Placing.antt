@@ -1,4 +1,4 @@
--- Candidates who are put at their ranks, each in place of whoever stands there; and that they stand alone where each of the
+-- Candidates who are put at their ranks, each in place of whoever is there; and that they stand alone where each of the
 -- first ranks, as many as are put, is somebody's.
 use Rattle.std.proofs.Common.{◌≡◌, ◌≢◌, ℕ, suc, ◌+◌, ◌-◌, ◌<◌, ◌≤◌, ◌==◌, not, Bool, true, false, cond, if◌then◌else◌}
 use Rattle.std.proofs.Common.{List, [], ◌∷◌, ◌++◌, length, map, get_or, set, Option, Some, None, All, refl}
@@ -30,7 +30,7 @@ IsSome n = not (n == 0)
 abbrev pub one_or_none : ℕ → List ℕ
 one_or_none c = if c == 0 then [] else c ∷ []
 
--- The candidates with these numbers stand at their ranks, nobody at the same as another, and nobody behind a last one.
+-- The candidates with these numbers stand at their ranks, nobody at the same as another, and nobody after a last one.
 pub record ArePlaced (numbers placed : List ℕ) (last : ℕ) : Type 0 where
   pub size : length placed ≡ NO_NUMBER
   pub each : (rank : ℕ) → 1 ≤ rank → holders rank (map rank_or_none numbers) ≡ one_or_none (get_or placed rank 0)

@@ -64,7 +64,7 @@ abbrev said_of : ℕ → List ℕ → ℕ → Option Says
 said_of n ranks rank = said_by_holders (holders rank (table n ranks))
 
 module _ (n : ℕ) where
-  -- the rank behind a front is its candidate's
+  -- the rank after a front is its candidate's
   one_said : (front back : List ℕ) (c : ℕ) → IsRanking n (front ++ c ∷ back) → (1 ≤ c) × (c ≤ n)
       → said_of n (front ++ c ∷ back) (length front + 1) ≡ Some (One c)
   one_said front back c is within =
@@ -72,7 +72,7 @@ module _ (n : ℕ) where
       ∙ filter_one (has_rank (front ++ c ∷ back) (length front + 1)) c
       (λ other. only_holder front back c other is.different) 1 n within.0 (omega (arith, within.1)))
 
-  -- and behind the last nobody's
+  -- and after the last nobody's
   none_said : (ranks : List ℕ) (rank : ℕ) → length ranks < rank → said_of n ranks rank ≡ None
   none_said ranks rank behind =
       ap said_by_holders (holders_are n rank ranks

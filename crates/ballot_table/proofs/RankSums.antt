@@ -85,7 +85,7 @@ module _ (f : ℕ → ℕ) where
             omega (arith, whole, here, rest)
       ]
 
-  -- and so is what is at a rank behind them
+  -- and so is what is at a rank after them
   pub one_behind : (k from m r : ℕ) → k ≤ m → IsSomeUpTo from k → from + k ≤ r → r < from + m → f r + k ≤ sums f from m
   one_behind zero from zero r few some least most = absurd (omega (arith, least, most))
   one_behind zero from (suc m) r few some least most =

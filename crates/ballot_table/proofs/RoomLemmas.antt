@@ -27,7 +27,7 @@ same_behind :
     → flat_map f (x ∷ one) ≡ flat_map f (x ∷ other)
 same_behind f x one other same = ap (λ l. f x ++ l) same
 
--- behind a cell that is the same
+-- after a cell that is the same
 same_cells :
     (cell : Result Cell TableKind) (one other : List (Result Cell TableKind)) → SaySame (sound one) (sound other)
     → SaySame (sound (cell ∷ one)) (sound (cell ∷ other))

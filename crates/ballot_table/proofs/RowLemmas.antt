@@ -88,7 +88,7 @@ or_none : (a : Option ℕ) → option_or a None ≡ a
 or_none None = refl
 or_none (Some n) = refl
 
--- what a cell counts behind others
+-- what a cell counts after others
 count_taken : (x : Cell) (old new : RowCells) → IsTaken (Some x) old new
     → option_or old.count (weight_of x) ≡ new.count
 count_taken Nothing old new is = or_none old.count ∙ sym (ap (λ (c : RowCells). c.count) is)
@@ -236,7 +236,7 @@ turned asked room columns texts at text cells inside same text_is so_far =
     (get_or_default columns at Weight (get_or columns at Weight) inside) text_is)
     so_far
 
--- behind the last cell
+-- after the last cell
 module _ (asked : Asked) (room : ℕ) (columns : List Column) (texts : List (List ℕ)) (at : ℕ) (cells : RowCells)
     (end : length columns ≤ at)
     (so_far : IsReading asked room (zip columns texts) (drop at (zip columns texts)) at cells)

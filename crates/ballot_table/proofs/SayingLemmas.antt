@@ -30,11 +30,11 @@ use Rattle.ballot_table.proofs.WeightLemmas.{IsFine, no_fault}
 
 -- ---- marks of ranks from the first on
 
--- one candidate at each of the first ranks, and so many blank ranks behind them
+-- one candidate at each of the first ranks, and so many blank ranks after them
 abbrev pub plainly : List ℕ → ℕ → List (Option Says)
 plainly ranks j = map (λ c. Some (One c)) ranks ++ replicate j None
 
--- what is said at each rank behind some
+-- what is said at each rank after some
 abbrev placed : ℕ → List ℕ → List (ℕ × Says)
 placed behind [] = []
 placed behind (c ∷ ranks) = (behind + 1, One c) ∷ placed (behind + 1) ranks

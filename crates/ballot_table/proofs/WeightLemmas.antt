@@ -140,7 +140,7 @@ module _ (asked : Asked) (whole : List (List ℕ)) where
   still_has None front text is = is
   still_has (Some label) front text is = stands_still front text label is
 
-  -- of columns behind a front at most one is the weight's, and none where its label stood before
+  -- of columns after a front at most one is the weight's, and none where its label stood before
   pub record AreFew (front : List (List ℕ)) (cols : List Column) : Type 0 where
     pub one : weights cols ≤ 1
     pub none : has_weight asked.weight front ≡ true → weights cols ≡ 0

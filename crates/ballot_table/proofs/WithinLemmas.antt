@@ -214,7 +214,7 @@ module _ (asked : Asked) where
       (λ says is. list_within (slice_get (filter_map fault_one rs) 0) rs says is (texts_within (parts text)))
       (cells_within room ps)
 
-  -- what stands at places
+  -- what is at places
   at_within : (n : ℕ) (says : List (Option Says)) (place : ℕ) → All (IsWithin n) says
       → IsWithin n (get_or says place None)
   at_within n [] place all = tt

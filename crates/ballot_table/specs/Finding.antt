@@ -50,7 +50,7 @@ among layout.List words columns = words
 abbrev pub candidates_in : Asked → List Column → ℕ
 candidates_in asked columns = among asked.layout (length asked.candidates) (sum_by candidates_at columns)
 
--- the column of a text behind so many that are no labels
+-- the column of a text after so many that are no labels
 pub record IsNext (asked : Asked) (others : ℕ) (text : List ℕ) (next : Column) : Type 0 where
   pub counted : others_at next ≡ (if is_in asked.labels text then 0 else 1)
   pub named : candidates_at next ≡ named_by asked.layout (others_at next)

@@ -23,7 +23,7 @@ use Rattle.ballot_table.specs.Cells.{rank_in, says_in}
 use Rattle.ballot_table.specs.declared.fault.Fault.{Fault}
 use Rattle.ballot_table.specs.Faults.{first_fault, sound}
 
--- what stands between the last `[` and the `]` that ends a text, and nothing where these are not there
+-- what is between the last `[` and the `]` that ends a text, and nothing where these are not there
 abbrev pub bracketed : List ℕ → List ℕ
 bracketed text =
     let opened = list_any (λ b. b == 91) text in
@@ -34,7 +34,7 @@ bracketed text =
 abbrev pub name_of : Asked → List ℕ → List ℕ
 name_of asked text = if asked.bracketed then bracketed text else text
 
--- why a name is none, or one too many, behind these names
+-- why a name is none, or one too many, after these names
 abbrev pub name_fault : List (List ℕ) → List ℕ → Option TableKind
 name_fault before [] = Some NameExpected
 name_fault before (b ∷ bs) =
@@ -71,7 +71,7 @@ rank_among n (Some rank) = if nat_le rank n then rank else 0
 abbrev pub rank_said : ℕ → List ℕ → ℕ
 rank_said n text = rank_among n (said_number text)
 
--- the column of the rank that its head says, behind these others
+-- the column of the rank that its head says, after these others
 abbrev pub said_column : ℕ → List (List ℕ) → List ℕ → Result Column TableKind
 said_column n before text =
     let rank = rank_said n text in
@@ -84,7 +84,7 @@ choice_column asked all before text =
     if heads_say_ranks asked all then said_column (length (unlabelled asked all)) before text
     else Ok (column.Rank (length before + 1))
 
--- a column without a label, behind these others
+-- a column without a label, after these others
 abbrev pub next_column : Layout → Asked → List (List ℕ) → List (List ℕ) → List ℕ → Result Column TableKind
 next_column layout.Choices asked all before text = choice_column asked all before text
 next_column layout.List asked all [] text = Ok column.List
@@ -103,7 +103,7 @@ is_cell layout.Ranks asked all text = list_all (may_be_rank asked) (unlabelled a
 is_cell layout.Choices asked all text = is_ok (says_in asked text)
 is_cell layout.List asked all text = list_all (λ part. is_ok (says_in asked part)) (parts text)
 
--- The column of a text among all of a head, behind these texts. Where the words don't say that there is a head, none reads
+-- The column of a text among all of a head, after these texts. Where the words don't say that there is a head, none reads
 -- as a cell.
 abbrev pub column_of : Asked → List (List ℕ) → List (List ℕ) → List ℕ → Result Column TableKind
 column_of asked all before text =
@@ -133,7 +133,7 @@ abbrev pub no_column : Asked → List (List ℕ) → Option Fault
 no_column asked texts =
     option_map (fault_at NoColumn) (position (λ label. not (is_in texts label)) asked.labels)
 
--- no text but labels: a column is expected behind the last
+-- no text but labels: a column is expected after the last
 abbrev pub column_expected : Asked → List (List ℕ) → Option Fault
 column_expected asked texts =
     if length (unlabelled asked texts) == 0 then Some (fault_at ColumnExpected (length texts)) else None

@@ -44,7 +44,7 @@ pub record HolderList : Type 0 where
   pub candidates : ℕ
   pub held : List Held
 
--- Nobody has a rank behind so many.
+-- Nobody has a rank after so many.
 abbrev pub IsFreeFrom : ℕ → List Held → Type 0
 IsFreeFrom used held = (k : ℕ) → used ≤ k → k < length held → slice_index_or held k Nobody ≡ Nobody
 

@@ -26,7 +26,7 @@ use Rattle.ballot_table.specs.Texts.{trimmed}
 abbrev pub texts_in : text.Row → List (List ℕ)
 texts_in row = map (λ field. trimmed (text.field_text field.bytes)) row.fields
 
--- where a field of a record begins, from 1, and behind the last where the record ends
+-- where a field of a record begins, from 1, and after the last where the record ends
 abbrev pub byte_at : text.Row → ℕ → ℕ
 byte_at row place = option_map_or (λ field. field.at) (slice_get row.fields (place - 1)) row.end
 
@@ -62,7 +62,7 @@ abbrev pub text_stop : text.Ending → Option TableStop
 text_stop text.AtEnd = None
 text_stop (text.AtFault fault) = Some (stop.Text fault)
 
--- records are judged before what stands behind them is read
+-- records are judged before what is after them is read
 abbrev pub reading_stop : TableAsked → text.Reading → Option TableStop
 reading_stop asked reading = option_or (record_stop asked reading.rows) (text_stop reading.ending)
 

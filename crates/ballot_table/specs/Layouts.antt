@@ -32,7 +32,7 @@ AreNames asked name n = (c : ℕ) → 1 ≤ c → c ≤ n → says_in asked (nam
 abbrev pub AreRankTexts : Asked → (text : ℕ → List ℕ) → (n : ℕ) → Type 0
 AreRankTexts asked text n = (rank : ℕ) → 1 ≤ rank → rank ≤ n → rank_in asked (text rank) ≡ Ok (Some rank)
 
--- a cell for each rank: the names of those who are ranked, and blank cells behind them
+-- a cell for each rank: the names of those who are ranked, and blank cells after them
 abbrev pub choices_row : (name : ℕ → List ℕ) → (n : ℕ) → List ℕ → List (List ℕ)
 choices_row name n ranks = map name ranks ++ replicate (n - length ranks) []
 

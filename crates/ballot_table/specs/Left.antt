@@ -88,7 +88,7 @@ TakesRow asked cols row texts old (Ok done) new = IsRowTaken asked cols texts ol
 TakesRow asked cols row texts old (Err stop) new =
     IsTableStop (option_map (stop_at row) (whole_fault (asked_of asked) asked.treatment asked.empty old.room cols texts)) stop
 
--- All that is still to come is taken in, behind no row.
+-- All that is still to come is taken in, after no row.
 pub record AreRowsTaken (asked : TableAsked) (cols : List Column) (reading : text.Reading) (old new : Rows) : Type 0 where
   pub sound : stop_left asked cols MOST_BALLOTS reading ≡ None
   pub candidates : new.ballots.candidates ≡ old.ballots.candidates

@@ -93,7 +93,7 @@ placed first faults =
     filter_map (λ at. option_map (λ fault. record { row = at.0; fault = fault }) at.1)
     (enumerate_from first faults)
 
--- the faults of rows, each judged behind those before it
+-- the faults of rows, each judged after those before it
 abbrev pub faults_below : Asked → Treatment → Empty → List Column → List (List (List ℕ)) → List (Option Fault)
 faults_below asked treatment empty cols rows =
     map (λ r. whole_fault asked treatment empty r.0 cols r.1) (with_room cols rows)

@@ -52,11 +52,11 @@ ballots_in columns texts = unwrap_or (slice_get (filter_map weight_in (zip colum
 abbrev pub weight_at : List Column → List (List ℕ) → ℕ
 weight_at columns texts = unwrap_or (slice_get (filter_map weight_in (zip columns texts)) 0) 0
 
--- so many more ballots have room behind these rows, by their weights
+-- so many more ballots have room after these rows, by their weights
 abbrev pub room_behind : List Column → List (List (List ℕ)) → ℕ
 room_behind columns before = MOST_BALLOTS - sum_by (weight_at columns) before
 
--- rows, each with the room behind those before it
+-- rows, each with the room after those before it
 abbrev pub with_room : List Column → List (List (List ℕ)) → List (ℕ × List (List ℕ))
 with_room columns rows = map (λ at. (room_behind columns (take at.0 rows), at.1)) (enumerate_from 0 rows)
 
@@ -134,7 +134,7 @@ by_rank says = filter_map said_of (enumerate_from 1 says)
 unfoldable pub said_up_to : (most : ℕ) → List (Option ℕ) → List (Option Says)
 said_up_to most ranks = map (λ rank. said_by_holders (holders rank ranks)) (range_with_len 1 most)
 
--- what stands at these places
+-- what is at these places
 abbrev pub at_places : (places : List ℕ) → List (Option Says) → List (Option Says)
 at_places places says = map (λ place. slice_index_or says place None) places
 
@@ -144,7 +144,7 @@ said_at layout.Ranks columns cells = said_up_to MOST_CANDIDATES (ranks_of cells)
 said_at layout.Choices columns cells = at_places (places_of columns) (chosen_of cells)
 said_at layout.List columns cells = listed_of cells
 
--- the marks of ranks that aren't blank, behind a rank: those between each and the one before it are skipped
+-- the marks of ranks that aren't blank, after a rank: those between each and the one before it are skipped
 abbrev pub marks_behind : (last : ℕ) → List (ℕ × Says) → List Mark
 marks_behind last said =
     map (λ p. record { skipped = p.1.0 - p.0 - 1; says = p.1.1 }) (zip (last ∷ map (λ s. s.0) said) said)

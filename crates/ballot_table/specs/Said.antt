@@ -14,7 +14,7 @@ pub record SaidList : Type 0 where
   pub ranks : List ℕ
   pub marks : List Mark
 
--- the last rank that isn't blank, behind this one
+-- the last rank that isn't blank, after this one
 abbrev pub last_behind : (last : ℕ) → List (ℕ × Says) → ℕ
 last_behind last said = fold (λ rank s. s.0) last said
 
@@ -25,6 +25,6 @@ pub record IsSaying (says : List (Option Says)) (said : SaidList) : Type 0 where
   pub ranks : said.ranks ≡ map (λ s. s.0) (by_rank says)
   pub marks : said.marks ≡ marks_of (by_rank says)
 
--- the rank of the mark at a place, from 0; behind the last there is none
+-- the rank of the mark at a place, from 0; after the last there is none
 abbrev pub rank_at : List (ℕ × Says) → (place : ℕ) → ℕ
 rank_at said place = option_map_or (λ s. s.0) (slice_get said place) 0

@@ -11,7 +11,7 @@ use Rattle.ballot_table.specs.declared.table_stop.TableStop.TheVariants as stop
 use Rattle.ballot_table.specs.Imported.{texts_in}
 use Rattle.ballot_table.specs.Texts.{trimmed}
 
--- the text of a field, which stands in the table or is without its quotes
+-- the text of a field, which is in the table or is without its quotes
 abbrev pub text_of : Field → List ℕ
 text_of (Standing bytes) = trimmed bytes.now
 text_of (Unquoted bytes) = trimmed bytes.items
@@ -26,7 +26,7 @@ pub record Opened : Type 0 where
   pub cells : List Cell
   pub texts : List (List ℕ)
 
--- the record that stands at a place of a sheet
+-- the record that is at a place of a sheet
 abbrev pub row_at : Opened → Place → text.Row
 row_at sheet place =
     record { row = place.row; at = place.at; end = place.end; fields = fields_at sheet.records.bytes sheet.cells }

@@ -21,7 +21,7 @@ pub record Table : Type 0 where
 abbrev pub texts_of : List (List ℕ) → List (List ℕ)
 texts_of fields = map trimmed fields
 
--- the faults of all rows, each judged behind those before it
+-- the faults of all rows, each judged after those before it
 abbrev pub row_faults : Asked → Empty → List Column → List (List (List ℕ)) → List (Option Fault)
 row_faults asked empty cols rows = map (λ r. row_fault asked empty r.0 cols r.1) (with_room cols rows)
 

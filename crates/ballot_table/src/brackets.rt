@@ -1,11 +1,11 @@
-// What stands in brackets at the end of a text.
+// What is in brackets at the end of a text.
 ghost use Rattle.std.specs.Prelude.{◌≡◌, ◌==◌, ◌≤◌, [], ◌∷◌, IsTrue, ◌-◌, not, length};
 ghost use Rattle.std.specs.List.{list_any, ends_with, suffix_len};
 ghost use Rattle.ballot_table.specs.Head.{bracketed};
 
 use crate::edges::trimmed;
 
-/// What stands between the last `[` and the `]` that ends a text, and nothing where these are not there.
+/// What is between the last `[` and the `]` that ends a text, and nothing where these are not there.
 pub(crate) fn bracketed(text: &[u8]) -> &[u8]
     ensures { result.now ≡ bracketed text.now }
 {
@@ -29,7 +29,7 @@ fn is_closed(text: &[u8]) -> bool
     text.ends_with(b"]")
 }
 
-// The place behind the last `[`, or 0.
+// The place after the last `[`, or 0.
 fn behind_opened(bytes: &[u8]) -> usize
     ensures { result ≡ length bytes.now - suffix_len (λ b. not (b == 91)) bytes.now }
 {

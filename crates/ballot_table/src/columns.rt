@@ -116,7 +116,7 @@ fn column_rank(column: Column) -> Option<u32>
     }
 }
 
-/// For each rank from 1 the place at which it stands among ranks, from 0, or how many there are. It is found from the right, so
+/// For each rank from 1 the place at which it is among ranks, from 0, or how many there are. It is found from the right, so
 /// that the first place stays.
 fn places(alloc: Global, ranks: &[u32]) -> Result<Vec<usize>, NoMemory>
     ensures { IfOk result (λ places. places.items
@@ -133,7 +133,7 @@ fn places(alloc: Global, ranks: &[u32]) -> Result<Vec<usize>, NoMemory>
     Ok(places)
 }
 
-/// A rank stands at a place.
+/// A rank is at a place.
 fn place(places: &mut [usize], rank: u32, at: usize)
     ensures none { rank ≡ 0 → places.new ≡ places.old }
     ensures one { 1 ≤ rank → places.new ≡ slice_set places.old (rank - 1) at }

@@ -4,7 +4,7 @@ ghost use Rattle.ballot_table.specs.Sheets.{text_of};
 
 use crate::edges::trimmed;
 
-/// A field of a table: where it stands among the table's bytes, or its bytes without quotes.
+/// A field of a table: where it is among the table's bytes, or its bytes without quotes.
 #[derive(Drop)]
 pub(crate) enum Field<'a> {
     Standing(&'a [u8]),

@@ -163,7 +163,7 @@ fn see(seen: &mut Vec<bool>, column: Column)
     }
 }
 
-/// The column of a text of a head behind these texts, of which so many are no labels.
+/// The column of a text of a head after these texts, of which so many are no labels.
 fn column_of(
     asked: &TableAsked,
     shape: &Shape<'_>,

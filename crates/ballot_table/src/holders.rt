@@ -13,7 +13,7 @@ use std::marker::Model;
 
 const ROOM: usize = MOST_CANDIDATES as usize;
 
-/// Who has each rank of a row, as far as it is read. It takes no memory of its own. Nobody has a rank behind the first `used`,
+/// Who has each rank of a row, as far as it is read. It takes no memory of its own. Nobody has a rank after the first `used`,
 /// so that few ranks are looked at where few are used.
 #[derive(Drop)]
 pub(crate) struct Holders {
@@ -116,7 +116,7 @@ pub(crate) fn greater(a: usize, b: usize) -> usize
     if a < b { b } else { a }
 }
 
-// Nobody has one of the first ranks any more, where nobody has one behind them.
+// Nobody has one of the first ranks any more, where nobody has one after them.
 fn vacate(held: &mut [Held], used: usize)
     requires inside { used ≤ length held.old }
     requires free { IsFreeFrom used held.old }
@@ -128,7 +128,7 @@ fn vacate(held: &mut [Held], used: usize)
     }
 }
 
-// What those say who have each rank, in place of what was said, where nobody has one behind so many.
+// What those say who have each rank, in place of what was said, where nobody has one after so many.
 fn say(held: &[Held], used: usize, said: &mut SaidRanks) -> Result<(), NoMemory>
     requires inside { used ≤ length held.now }
     requires free { IsFreeFrom used held.now }
@@ -140,7 +140,7 @@ fn say(held: &[Held], used: usize, said: &mut SaidRanks) -> Result<(), NoMemory>
     Ok(())
 }
 
-// What those say who have each rank, behind nothing.
+// What those say who have each rank, after nothing.
 fn say_each(ranks: &[Held], said: &mut SaidRanks) -> Result<(), NoMemory>
     requires { IsSaying [] said.old }
     ensures { OnOk result (IsSaying (map says_held ranks.now) said.new) }

@@ -28,7 +28,7 @@ impl Numbers {
         }
     }
 
-    /// Puts a number behind the others.
+    /// Puts a number after the others.
     pub fn push(&mut self, number: u32) -> Result<(), NoMemory>
         ensures ok { OnOk result (self.new ≡ self.old ++ number ∷ []) }
         ensures refused { OnErr result (self.new ≡ self.old) }

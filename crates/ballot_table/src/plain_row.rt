@@ -43,8 +43,8 @@ pub(crate) fn plain_ranking(
     Ok(Some(ranking))
 }
 
-/// Puts the candidate of each cell at its rank, in place of whoever stands there, and gives how many have one. Of those with one
-/// rank the last stays, and what stands at 0 is of no matter.
+/// Puts the candidate of each cell at its rank, in place of whoever is there, and gives how many have one. Of those with one
+/// rank the last stays, and what is at 0 is of no matter.
 #[inline(always)]
 fn place_each(cells: &[Cell], placed: &mut [u32; RANKS]) -> Option<usize>
     requires { All (λ c. c ≡ 0) placed.old }

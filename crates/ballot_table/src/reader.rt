@@ -97,7 +97,7 @@ fn separator(asked: &TableAsked, bytes: &[u8]) -> Result<u8, TableStop>
     }
 }
 
-// Takes in the rows that are still to come, behind no row.
+// Takes in the rows that are still to come, after no row.
 fn take_rows(
     alloc: Global,
     asked: &TableAsked,

@@ -97,7 +97,7 @@ impl RowCells {
         Ok(())
     }
 
-    /// What each rank says is what those say who have it, where the columns are the candidates', and what stands at its
+    /// What each rank says is what those say who have it, where the columns are the candidates', and what is at its
     /// place among what they say, where they are of ranks.
     pub fn say(&mut self, layout: Layout, places: &[usize]) -> Result<(), NoMemory>
         ensures count { self.new.count ≡ self.old.count }
@@ -148,7 +148,7 @@ impl RowCells {
     }
 }
 
-/// What each rank says is what stands at its place.
+/// What each rank says is what is at its place.
 fn say_at(places: &[usize], chosen: &[Option<Says>], said: &mut SaidRanks) -> Result<(), NoMemory>
     ensures { OnOk result (IsSaying (at_places places.now chosen.now) said.new) }
 {

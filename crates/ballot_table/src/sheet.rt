@@ -167,7 +167,7 @@ impl<'a> Sheet<'a> {
         Text::new(alloc, field.text())
     }
 
-    /// A fault of the record that stands at a place, at its byte.
+    /// A fault of the record that is at a place, at its byte.
     pub fn stop_at(&self, place: Place, fault: Fault) -> TableStop
         ensures { result ≡ stop_at (row_at self.now place) fault }
     {
@@ -185,7 +185,7 @@ impl<'a> Sheet<'a> {
         }
     }
 
-    /// The byte at which a field begins, or where the record ends behind its last.
+    /// The byte at which a field begins, or where the record ends after its last.
     fn byte_at(&self, place: Place, column: usize) -> usize
         ensures { result ≡ byte_at (row_at self.now place) column }
     {

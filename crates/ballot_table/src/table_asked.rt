@@ -23,7 +23,7 @@ pub struct TableAsked {
     pub layout: Layout,
     /// The byte between two fields; where none is said, the head shows it.
     pub separator: Option<u8>,
-    /// The first record is the head, whatever stands in it.
+    /// The first record is the head, whatever is in it.
     pub head_is_said: bool,
     /// The candidates stand in brackets at the end of the head's fields.
     pub bracketed: bool,

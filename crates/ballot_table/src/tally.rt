@@ -8,7 +8,7 @@ use plain_ballots::NoMemory;
 /// What became of the rows of a table, in numbers: of rows, and of the ballots that they stand for.
 #[derive(Clone, Copy, Debug, PartialEq, Eq)]
 pub struct Tally {
-    /// All rows behind the head.
+    /// All rows after the head.
     pub rows: u64,
     /// Rows that stand for no ballot because all their fields are blank.
     pub dropped: u64,

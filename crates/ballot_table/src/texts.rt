@@ -29,7 +29,7 @@ impl Texts {
         }
     }
 
-    /// Puts a text behind the others.
+    /// Puts a text after the others.
     pub fn push(&mut self, text: Text) -> Result<(), NoMemory>
         ensures ok { OnOk result (self.new ≡ self.old ++ text ∷ []) }
         ensures refused { OnErr result (self.new ≡ self.old) }

@@ -27,7 +27,7 @@ abbrev pub LeadsOn : Type 0
 LeadsOn =
     (history : List Entry) (e : Entry) → after_all empty (history ++ e ∷ []) ≡ after (after_all empty history) e.call
 
--- what stands after the first calls of a history is what stands in their book
+-- what stands after the first calls of a history is what is in their book
 abbrev pub StandsInTheBook : Type 0
 StandsInTheBook =
     (history more : List Entry) → standing_after (history ++ more) (length history) ≡ standing (after_all empty history)

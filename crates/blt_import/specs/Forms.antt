@@ -72,7 +72,7 @@ table_of asked layout = record {
   treatment = asked.treatment;
 }
 
--- it without what the words list, and with that behind what is there
+-- it without what the words list, and with that after what is there
 abbrev pub without_lists : Asked → TableLayout → TableAsked
 without_lists asked layout = record (table_of asked layout) {
   labels = [];

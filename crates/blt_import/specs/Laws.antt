@@ -13,7 +13,7 @@ abbrev pub TablesHaveOneText : Type 0
 TablesHaveOneText =
     (asked : Asked) (input one other : List ℕ) → OwesText asked input one → OwesText asked input other → one ≡ other
 
--- an input is read as records, of which the first says a head, and the others say what stands below it
+-- an input is read as records, of which the first says a head, and the others say what is below it
 pub record HasRecords (asked : TableAsked) (input : List ℕ) (head : List (List ℕ)) (below : List (List (List ℕ))) : Type 0
   where
     pub byte : ℕ

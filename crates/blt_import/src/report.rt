@@ -20,7 +20,7 @@ pub(crate) fn report(tally: Tally) -> Line
     text
 }
 
-/// Puts the line of a number behind others.
+/// Puts the line of a number after others.
 fn push_number(text: &mut Line, word: &[u8], number: u64)
     requires word { length word.now ≤ 7 }
     requires room { length text.old ≤ 1000 }

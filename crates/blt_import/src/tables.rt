@@ -30,7 +30,7 @@ pub(crate) fn without_lists(alloc: Global, asked: &Asked, layout: Layout) -> Tab
     }
 }
 
-/// Puts what the words list behind what is there.
+/// Puts what the words list after what is there.
 pub(crate) fn fill(alloc: Global, asked: &Asked, table: &mut TableAsked) -> Result<(), NoMemory>
     ensures { OnOk result (table.new ≡ with_lists asked.now table.old) }
 {

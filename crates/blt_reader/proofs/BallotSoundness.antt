@@ -26,7 +26,7 @@ no_ranks candidates =
       different = λ i j d before within. absurd (omega arith);
     }
 
--- a candidate behind others from which it differs
+-- a candidate after others from which it differs
 pub one_rank_more :
     (candidates : ℕ) (ranks : List ℕ) (n : ℕ) → IsRanking candidates ranks → 1 ≤ n → n ≤ candidates
     → list_any (λ r. r == n) ranks ≡ false → IsRanking candidates (ranks ++ n ∷ [])

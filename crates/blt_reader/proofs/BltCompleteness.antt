@@ -25,7 +25,7 @@ use Rattle.blt_reader.proofs.BallotCompleteness.{reads_begun_line, reads_lines, 
 short_names : (n : ℕ) → All (λ (name : List ℕ). length name ≤ MOST_NAME_BYTES) (replicate n [])
 short_names n = All-replicate (λ (name : List ℕ). length name ≤ MOST_NAME_BYTES) n [] (omega arith)
 
--- whatever may stand behind the title
+-- whatever may stand after the title
 module _ (limit : Limit) (behind : Poll → Item → Judged (Progress Expected Poll)) where
   abbrev Table : Progress Expected Poll → Item → Judged (Progress Expected Poll)
   Table = going_on (at_token limit) behind
@@ -272,7 +272,7 @@ module _ (limit : Limit) (behind : Poll → Item → Judged (Progress Expected P
   can_go_on (Name h lines names) items front = names_missing h lines names front.1
   can_go_on (Title h lines names) items front = title_missing h lines names
 
--- strings behind the title change nothing
+-- strings after the title change nothing
 reads_further :
     (limit : Limit) (texts : List (List ℕ)) (poll : Poll)
     → after (at_file_token limit) (Ends poll) (map Text texts) ≡ Ok (Ends poll)

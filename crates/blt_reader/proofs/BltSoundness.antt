@@ -119,7 +119,7 @@ module _ (most : ℕ) (heading : Heading) where
   }
 
 module _ (limit : Limit) where
-  -- behind an item of the ballots
+  -- after an item of the ballots
   ballots_go_on :
       (heading : Heading) (lines : Lines) (x : Item) (next : Progress Expected Poll) (items : List Item)
       (judged : Judged (Progress Lines (List BallotLine))) → IsInBallots limit.most heading lines items

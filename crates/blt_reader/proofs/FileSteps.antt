@@ -1,4 +1,4 @@
--- A whole file: its front up to the title, and the strings behind it.
+-- A whole file: its front up to the title, and the strings after it.
 use Rattle.std.proofs.Common.{◌≡◌, ℕ, List, refl, ◌∙◌, ap, Ok, Err}
 use Rattle.std.specs.Prelude.{Result, IfOk}
 use Rattle.input_text.specs.declared.fault_kind.FaultKind.TheVariants.{Trailing}
@@ -30,7 +30,7 @@ module _ (limit : Limit) where
   abbrev pub Behind : Poll → Scan → Result Poll InputFault
   Behind poll text = outcome (at_file_token limit) ended (Ends poll) text.tokens text.ending
 
-  -- ---- behind the title
+  -- ---- after the title
 
   pub string_more :
       (poll : Poll) (old new : Scan) (bytes : List ℕ) (at begin stop : ℕ) (what : What)

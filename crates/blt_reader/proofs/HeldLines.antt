@@ -1,4 +1,4 @@
--- Lines that are read into a store: the table goes on behind the lines that it holds.
+-- Lines that are read into a store: the table goes on after the lines that it holds.
 use Rattle.std.proofs.Common.{◌≡◌, ℕ, ◌+◌, ◌-◌, ◌<◌, ◌≤◌, List, [], ◌∷◌, ◌++◌, sym, ◌∙◌, ap, subst, arith, Ok, Err}
 use Rattle.std.proofs.Common.{append_assoc, inl, inr}
 use Rattle.std.specs.Prelude.{Result, IfOk}
@@ -30,7 +30,7 @@ count_one_more :
 count_one_more lines count ranks =
     sum_by_push (λ (l : BallotLine). l.count) lines (record { count = count; ranking = ranks })
 
--- at no place behind this one, it is the 0
+-- at no place after this one, it is the 0
 pub is_end : (place : ℕ) (last : ℕ × ℕ) → IsEndOrBehind place last → last.1 ≤ place → last.0 ≡ 0
 is_end place last (inl none) within = none
 is_end place last (inr behind) within = absurd (omega (arith, behind, within))
@@ -39,7 +39,7 @@ module _ {B : Type 0} (holds : B → List BallotLine → Type 0) (bounds : LineB
   abbrev limit : Limit
   limit = record { most = bounds.most; refusal = bounds.refusal }
 
-  -- the store holds lines more, behind which the table goes on as at the start
+  -- the store holds lines more, after which the table goes on as at the start
   abbrev pub HeldSoFar : B → Scan → Type 0
   HeldSoFar store text = ReadsPiece holds bounds old start store text
 
@@ -61,7 +61,7 @@ module _ {B : Type 0} (holds : B → List BallotLine → Type 0) (bounds : LineB
   }
 
   module _ (store : B) (text : Scan) (so : HeldSoFar store text) where
-    -- what the table makes of the start, behind lines that the store held there
+    -- what the table makes of the start, after lines that the store held there
     goes_so :
         (before : List BallotLine) → holds old before → AreLines bounds.candidates bounds.most before
         → reads (at_line bounds.candidates limit) (Between before) start

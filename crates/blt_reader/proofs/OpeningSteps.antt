@@ -98,7 +98,7 @@ or_listed :
 or_listed ws n m true is listed = let found = ap (is_listed ws) (sym (eqb-true n m is)) ∙ listed in rw found refl
 or_listed ws n m false is listed = or_nothing (is_listed ws m)
 
--- a number that stands there already changes nothing
+-- a number that is there already changes nothing
 listed_alike :
     (ws new : List ℕ) (n m : ℕ) → IsListedMore ws n new → (is_listed ws m || ((n == m) || false)) ≡ is_listed new m
 listed_alike ws new n m (inl is) = or_listed ws n m (n == m) refl is.1 ∙ ap (λ (l : List ℕ). is_listed l m) (sym is.0)
@@ -140,7 +140,7 @@ pub listed_each : (P : ℕ → Type 0) (ws more : List ℕ) (n : ℕ) → All P 
 listed_each P ws more n each is (inl same) = subst (All P) (sym same.0) each
 listed_each P ws more n each is (inr pushed) = subst (All P) (sym pushed) (All-push P ws n each is)
 
--- ---- what else stands where a withdrawn candidate or a count is expected
+-- ---- what else is where a withdrawn candidate or a count is expected
 
 abbrev pub NotWithdrawn : ℕ → Item → FaultKind → Type 0
 NotWithdrawn candidates item kind =

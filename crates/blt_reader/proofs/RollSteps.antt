@@ -1,4 +1,4 @@
--- The parts of a file up to its title, one behind another.
+-- The parts of a file up to its title, one after another.
 use Rattle.std.proofs.Common.{◌≡◌, ℕ, ◌<◌, List, [], length, Bool, refl, sym, ◌∙◌, ap, Ok, Err}
 use Rattle.plain_ballots.specs.declared.ballot_line.BallotLine.{BallotLine}
 use Rattle.candidate_roll.specs.declared.limits.TheConstants.{MOST_TITLE_BYTES}

@@ -10,7 +10,7 @@ use Rattle.input_text.specs.Judged.{Judged, Progress, GoesOn, Ends, carried}
 
 -- ---- one ballot line
 
--- a candidate or 0, behind these candidates
+-- a candidate or 0, after these candidates
 abbrev pub at_number : ℕ → List ℕ → ℕ → Judged (Progress (List ℕ) (List ℕ))
 at_number candidates ranks n =
     if n == 0 then Ok (Ends ranks)
@@ -28,7 +28,7 @@ pub record Limit : Type 0 where
   pub most : ℕ
   pub refusal : FaultKind
 
--- Expected is a count, behind these lines; or a candidate or 0, behind these lines, a count and these candidates.
+-- Expected is a count, after these lines; or a candidate or 0, after these lines, a count and these candidates.
 pub data Lines : Type 0 where
   Between : (lines : List BallotLine) → Lines
   Within : (lines : List BallotLine) (count : ℕ) (ranks : List ℕ) → Lines

@@ -43,7 +43,7 @@ pub record IsUpToTitle (most : ℕ) (items : List Item) (poll : Poll) : Type 0 w
   pub names : All (λ name. length name ≤ MOST_NAME_BYTES) poll.roll.names
   pub title : length poll.roll.title ≤ MOST_TITLE_BYTES
 
--- A whole file: strings of any length may stand behind the title, and are not kept.
+-- A whole file: strings of any length may stand after the title, and are not kept.
 pub record IsBlt (most : ℕ) (items : List Item) (poll : Poll) : Type 0 where
   pub front : List Item
   pub further : List (List ℕ)

@@ -41,7 +41,7 @@ at_withdrawn heading n =
     if is_in heading.candidates n then Ok (GoesOn (Withdrawn (record heading { withdrawn = heading.withdrawn ++ n ∷ [] })))
     else Err BadWithdrawn
 
--- within the ballots, behind which the names follow
+-- within the ballots, after which the names follow
 abbrev pub within_ballots : Heading → Judged (Progress Lines (List BallotLine)) → Judged (Progress Expected Poll)
 within_ballots heading = carried (λ lines. Ballots heading lines) (λ lines. Name heading lines [])
 
@@ -74,7 +74,7 @@ at_token limit (Name heading lines names) item = Err NameExpected
 at_token limit (Title heading lines names) (Text title) = at_title heading lines names title
 at_token limit (Title heading lines names) item = Err NameExpected
 
--- strings behind the title are not kept
+-- strings after the title are not kept
 abbrev pub behind_title : Poll → Item → Judged (Progress Expected Poll)
 behind_title poll (Text text) = Ok (Ends poll)
 behind_title poll item = Err Trailing

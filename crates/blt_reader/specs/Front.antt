@@ -1,4 +1,4 @@
--- Front parts of a ballot file, by what is expected behind them.
+-- Front parts of a ballot file, by what is expected after them.
 use Rattle.std.specs.Prelude.{◌≡◌, ◌<◌, ◌≤◌, ℕ, ◌+◌, List, [], ◌∷◌, ◌++◌, length, map, All}
 use Rattle.std.specs.List.{flat_map}
 use Rattle.plain_ballots.specs.declared.limits.TheConstants.{MOST_CANDIDATES}
@@ -28,7 +28,7 @@ abbrev pub begun : Lines → List Item
 begun (Between lines) = flat_map ballot lines
 begun (Within lines count ranks) = flat_map ballot lines ++ (Number count ∷ map Number ranks)
 
--- a line was begun behind others
+-- a line was begun after others
 pub record IsOpenLine (candidates most : ℕ) (lines : List BallotLine) (count : ℕ) (ranks : List ℕ) : Type 0 where
   pub before : AreLines candidates most lines
   pub counted : 1 ≤ count
@@ -82,6 +82,6 @@ abbrev pub AreLinedIn : ℕ → ℕ → Progress Lines (List BallotLine) → Typ
 AreLinedIn candidates most (GoesOn lines) = AreBegun candidates most lines
 AreLinedIn candidates most (Ends lines) = AreLines candidates most lines
 
--- The items are ballot lines up to where this is expected, or up to the 0 behind them.
+-- The items are ballot lines up to where this is expected, or up to the 0 after them.
 abbrev pub IsLineFront : ℕ → ℕ → Progress Lines (List BallotLine) → List Item → Type 0
 IsLineFront candidates most expected items = AreLinedIn candidates most expected × (lined expected ≡ items)

@@ -1,4 +1,4 @@
--- What stands before the ballots of a file, as the code reads it.
+-- What is before the ballots of a file, as the code reads it.
 use Rattle.std.specs.Prelude.{◌≡◌, ◌<◌, ℕ, List, [], ◌∷◌, ◌++◌, length, Bool, true, false, slice_index_or, All, Result, Ok, Err, ◌⊎◌}
 use Rattle.plain_ballots.specs.declared.limits.TheConstants.{MOST_CANDIDATES}
 use Rattle.candidate_roll.specs.Roll.{is_listed, withdrawn_marks}
@@ -15,11 +15,11 @@ use Rattle.blt_reader.specs.BltTable.{Candidates, Withdrawn, Ballots, at_token}
 abbrev pub Marks : List Bool → List ℕ → Type 0
 Marks marks listed = (n : ℕ) → n < length marks → slice_index_or marks n false ≡ is_listed listed n
 
--- a number stands on the list besides, where it did not before
+-- a number is on the list besides, where it did not before
 abbrev pub IsListedMore : List ℕ → ℕ → List ℕ → Type 0
 IsListedMore old n new = ((new ≡ old) × (is_listed old n ≡ true)) ⊎ (new ≡ old ++ n ∷ [])
 
--- Behind these withdrawn candidates a text goes on as at the start. Of equal ones the code keeps one.
+-- After these withdrawn candidates a text goes on as at the start. Of equal ones the code keeps one.
 pub record IsWithdrawn (candidates : ℕ) (start : Scan) (withdrawn : List ℕ) (rest : Scan) : Type 0 where
   pub listed : List ℕ
   pub alike : (n : ℕ) → is_listed listed n ≡ is_listed withdrawn n
@@ -36,7 +36,7 @@ pub record IsOpening (opening : Opening) : Type 0 where
   pub seats : IsIn MOST_CANDIDATES opening.seats
   pub withdrawn : All (IsIn opening.candidates) opening.withdrawn.items
 
--- Behind an opening the first count is expected.
+-- After an opening the first count is expected.
 pub record IsOpened (start : Scan) (opening : Opening) (rest : Scan) : Type 0 where
   pub listed : List ℕ
   pub marks : withdrawn_marks opening.candidates listed ≡ withdrawn_marks opening.candidates opening.withdrawn.items

@@ -36,7 +36,7 @@ Marks candidates named ranks = (n : ℕ) → n ≤ candidates → slice_index_or
 
 -- ---- parts of a ballot file
 
--- the names behind any ballots of so many candidates
+-- the names after any ballots of so many candidates
 abbrev pub ReadsNames : ℕ → Scan → Result (List (List ℕ)) InputStop → Scan → Type 0
 ReadsNames candidates old (Ok names) new = (limit : Limit) (heading : Heading) (lines : List BallotLine) → heading.candidates ≡ candidates
     → reads (at_token limit) (behind_name heading lines []) old ≡ reads (at_token limit) (behind_name heading lines names) new
@@ -44,7 +44,7 @@ ReadsNames candidates old (Err (stop.Fault fault)) new = (limit : Limit) (headin
     → reads (at_token limit) (behind_name heading lines []) old ≡ Err (record { fault = fault; rest = new })
 ReadsNames candidates old (Err stop.NoMemory) new = Unit {0}
 
--- the end of a whole file, behind its title
+-- the end of a whole file, after its title
 abbrev pub ReadsFurther : Scan → Result (Unit {0}) InputFault → Type 0
 ReadsFurther text (Ok done) = (limit : Limit) (poll : Poll) → outcome (at_file_token limit) ended (Ends poll) text.tokens text.ending ≡ Ok poll
 ReadsFurther text (Err fault) = (limit : Limit) (poll : Poll) → outcome (at_file_token limit) ended (Ends poll) text.tokens text.ending ≡ Err fault

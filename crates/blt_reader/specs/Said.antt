@@ -40,14 +40,14 @@ IsFileRefusal limit = IsRefusal (IsBlt limit.most) (at_file_token limit) (GoesOn
 
 -- ---- a roll, which is a file up to its title
 
--- what the front of a text says, read by the table, and the text behind it
+-- what the front of a text says, read by the table, and the text after it
 abbrev pub roll_reading : Limit → Scan → Result (Poll × Scan) Stopped
 roll_reading limit text = reads (at_token limit) Candidates text
 
 abbrev pub IsRollOf : Limit → Scan → Poll → Scan → Type 0
 IsRollOf limit = IsFrontOf (IsUpToTitle limit.most)
 
--- nothing more is expected behind the title
+-- nothing more is expected after the title
 abbrev pub nothing_more : Poll → Item → Judged (Progress Expected Poll)
 nothing_more poll item = Err Trailing
 

@@ -26,7 +26,7 @@ SampleFile =
           ∷ [];
     })
 
--- a byte order mark, carriage returns, a candidate withdrawn twice, an empty ballot, leading zeros, and strings behind
+-- a byte order mark, carriage returns, a candidate withdrawn twice, an empty ballot, leading zeros, and strings after
 -- the title
 abbrev pub MarkedFile : Type 0
 MarkedFile =

@@ -15,7 +15,7 @@ use std::alloc::Global;
 /// A way of reading ballot lines into a store. Whatever way it is, the lines, a refusal and its place are
 /// those of reading one line after another.
 pub trait LineReader<B: BallotStore + Drop> {
-    /// Reads lines up to the 0 behind them into a store that is empty so far. The first count was taken
+    /// Reads lines up to the 0 after them into a store that is empty so far. The first count was taken
     /// already, with its place.
     fn read_lines(
         &self,

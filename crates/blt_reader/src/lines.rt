@@ -20,7 +20,7 @@ use packed_ballots::BallotStore;
 use plain_ballots::Ballots;
 use std::alloc::Global;
 
-/// Ballot lines that were read up to a count behind them.
+/// Ballot lines that were read up to a count after them.
 #[derive(Drop)]
 pub struct LinePiece<B> {
     pub ballots: B,
@@ -28,7 +28,7 @@ pub struct LinePiece<B> {
     pub last: (u32, usize),
 }
 
-/// Ballot lines up to the 0 behind them, of together at most `most` ballots. `refusal` is the kind
+/// Ballot lines up to the 0 after them, of together at most `most` ballots. `refusal` is the kind
 /// of fault of a count that goes past them.
 pub fn read_lines(
     alloc: Global,
@@ -100,7 +100,7 @@ pub fn read_lines_on<B: BallotStore + Drop>(
     }
 }
 
-// A place is a number of 64 bits, so none stands behind the last of them.
+// A place is a number of 64 bits, so none is after the last of them.
 #[inline(always)]
 fn place_fits(at: usize)
     ensures { at ≤ 2 ^ 64 - 1 }
@@ -108,7 +108,7 @@ fn place_fits(at: usize)
     let _ = at;
 }
 
-/// Lines up to the first count that is the 0 behind all lines or stands behind `place`: the store with
+/// Lines up to the first count that is the 0 after all lines or is after `place`: the store with
 /// these lines too, and that count.
 pub fn read_piece<B: BallotStore + Drop>(
     alloc: Global,
@@ -176,7 +176,7 @@ fn read_lines_ahead<B: BallotStore + Drop>(
     })
 }
 
-// Candidates in order of rank, up to the 0 behind them: they stand in front of `ranks`, and are so many.
+// Candidates in order of rank, up to the 0 after them: they stand in front of `ranks`, and are so many.
 #[inline(always)]
 fn read_ranks(
     tokens: &mut Tokens<'_>,
@@ -215,7 +215,7 @@ fn read_ranks(
     }
 }
 
-// As many ranks as are short numbers and may stand there, and whether the 0 behind them was one too.
+// As many ranks as are short numbers and may stand there, and whether the 0 after them was one too.
 // Nothing is called in the loop, so that all of it stays in registers.
 #[inline(never)]
 fn short_ranks(

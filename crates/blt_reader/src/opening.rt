@@ -1,4 +1,4 @@
-// What stands before the ballots of a file.
+// What is before the ballots of a file.
 ghost use Rattle.std.specs.Prelude.{◌≡◌, ◌+◌, ◌<◌, [], length, All, IfOk, IfErr, OnOk};
 ghost use Rattle.input_text.specs.declared.input_stop.InputStop.TheVariants as stop;
 ghost use Rattle.input_text.specs.Range.{IsIn};
@@ -54,7 +54,7 @@ fn read_size(tokens: &mut Tokens<'_>) -> Result<u32, InputFault>
     }
 }
 
-// Withdrawn candidates, up to the first count behind them and its place.
+// Withdrawn candidates, up to the first count after them and its place.
 fn read_withdrawn(
     alloc: Global,
     tokens: &mut Tokens<'_>,
@@ -80,7 +80,7 @@ fn read_withdrawn(
     }
 }
 
-// Puts a number on a list unless it stands there.
+// Puts a number on a list unless it is there.
 fn list_once(named: &mut Named, listed: &mut Vec<u32>, n: u32) -> Result<(), InputStop>
     requires inside { n < length named.old }
     requires marks { Marks named.old listed.old.items }

@@ -20,9 +20,9 @@ use packed_ballots::BallotStore;
 use plain_ballots::{Ballots, MOST_BALLOTS};
 use std::alloc::Global;
 
-/// Reads a file up to its title and no further: an Ok leaves the reader right behind the title.
+/// Reads a file up to its title and no further: an Ok leaves the reader right after the title.
 /// Without `with_ballots` any ballot is refused as [`FaultKind::BallotsInRoll`] at its count. After
-/// an Err the reader stands right behind the last token that it has given: after a refusal of a token
+/// an Err the reader is right after the last token that it has given: after a refusal of a token
 /// that is the refused one, and after want of memory no clause says which of them it is.
 pub fn read_roll(
     alloc: Global,

@@ -21,7 +21,7 @@ use Rattle.blt_writer.proofs.LineOrder.{order, same_place, pairs_head, pairs_tai
 abbrev pub single : List ℕ → BallotLine
 single r = record { count = 1; ranking = r }
 
--- a ballot beside a line, by where its ranking stands: before it, in it, or among those behind it
+-- a ballot beside a line, by where its ranking stands: before it, in it, or among those after it
 abbrev pub placed : Ordering → List ℕ → BallotLine → (ls among : List BallotLine) → List BallotLine
 placed Less r l ls among = single r ∷ (l ∷ ls)
 placed Equal r l ls among = record { count = suc l.count; ranking = l.ranking } ∷ ls
@@ -34,7 +34,7 @@ put r (l ∷ ls) = placed (order r l.ranking) r l ls (put r ls)
 abbrev IsCounted : BallotLine → Type 0
 IsCounted line = 1 ≤ line.count
 
--- ---- what stands before the lines and the ballot stands before all of them
+-- ---- what is before the lines and the ballot is before all of them
 
 before_placed :
     (o : Ordering) (x : BallotLine) (r : List ℕ) (l : BallotLine) (ls among : List BallotLine) → order x.ranking r ≡ Less

@@ -64,7 +64,7 @@ lines_stopped {c} export r e failed wrote lines = record {
   writes = later c _ r wrote (stops (closing_text export.roll) r failed lines.writes);
 }
 
--- nor those behind them, or all were
+-- nor those after them, or all were
 pub closed :
     {S T E : Type 0} {w : S → Option (List ℕ)} {f : S → ℕ} {a b c d : S} (export : Exported) (r : Result T E) (v : Unit {0})
     → Wrote w f a b (opening_text export.roll)

@@ -22,7 +22,7 @@ order one other = slice_cmp nat_cmp one other
 pub before_trans : (a b c : List ℕ) → order a b ≡ Less → order b c ≡ Less → order a c ≡ Less
 before_trans a b c one other = nat_list_cmp_total.trans a b c one other
 
--- rankings of which none stands before the other are one
+-- rankings of which none is before the other are one
 pub same_place : (a b : List ℕ) → order a b ≡ Equal → a ≡ b
 same_place a b is = (bytes_eq-Decides a b).0 (sym (is_eq-slice_cmp a b) ∙ ap is_eq is)
 
@@ -34,7 +34,7 @@ pairs_head R x xs pairs = λ i d inside. pairs 0 (suc i) d (omega arith) (omega 
 pub pairs_tail : {X : Type 0} (R : X → X → Type 0) (x : X) (xs : List X) → AllPairs R (x ∷ xs) → AllPairs R xs
 pairs_tail R x xs pairs = λ i j d rises inside. pairs (suc i) (suc j) d (omega arith) (omega arith)
 
--- what stands before the first of some lines stands before each
+-- what is before the first of some lines is before each
 pub before_all :
     (x y : BallotLine) (ys : List BallotLine) → StandsBefore x y → AllPairs StandsBefore (y ∷ ys)
     → All (StandsBefore x) (y ∷ ys)
@@ -63,7 +63,7 @@ it_is r = ap (λ (b : Bool). cond b 1 0) ((bytes_eq-Decides r r).1 refl)
 it_is_not : (r s : List ℕ) → order r s ≡ Less → is_it r s ≡ 0
 it_is_not r s is = ap (λ (b : Bool). cond b 1 0) (sym (is_eq-slice_cmp r s) ∙ ap is_eq is)
 
--- a ranking that stands before some lines is none of theirs
+-- a ranking that is before some lines is none of theirs
 pub none_later : (x : BallotLine) (ls : List BallotLine) → All (StandsBefore x) ls → weigh (is_it x.ranking) ls ≡ 0
 none_later x [] all = refl
 none_later x (l ∷ ls) all =

@@ -47,7 +47,7 @@ same_ballots r (l ∷ same) behind all =
     ∙ ap (λ (bag : List (List ℕ)). bag ++ plain behind)
     (replicate-append-replicate l.count (ballot_count same) r ∙ ap (λ (n : ℕ). replicate n r) (sym count))))
 
--- what stands before a ranking stands before one that isn't listed before that
+-- what is before a ranking is before one that isn't listed before that
 before_by : (o : Ordering) (a b c : List ℕ) → order b c ≡ o → order a b ≡ Less → (order c b ≡ Less → ⊥) → order a c ≡ Less
 before_by Less a b c is before listed = before_trans a b c before is
 before_by Equal a b c is before listed = subst (λ (q : List ℕ). order a q ≡ Less) (same_place b c is) before
@@ -58,7 +58,7 @@ not_equal Less a r is other = refl
 not_equal Equal a r is other = absurd (other (same_place a r is))
 not_equal Greater a r is other = refl
 
--- so all ballots behind stand behind it
+-- so all ballots after stand after it
 behind_later :
     (r : List ℕ) (behind : List BallotLine) → AreListed behind → BeginsOther r behind
     → All (λ (l : BallotLine). order l.ranking r ≡ Less → ⊥) behind → All (IsLater r) (plain behind)

@@ -25,7 +25,7 @@ and_true : (a b : Bool) → b ≡ true → (a && b) ≡ a
 and_true true b is = is
 and_true false b is = refl
 
--- a number of a range stands in it
+-- a number of a range is in it
 in_range : (a n c : ℕ) → a ≤ c → c < a + n → list_any (λ d. d == c) (range_with_len a n) ≡ true
 in_range a zero c low high = absurd (omega arith)
 in_range a (suc n) c low high =

@@ -62,7 +62,7 @@ all_parts r (ls ∷ lists) =
     (IsPermutation-trans _ _ _ (IsPermutation-append_right rest _ _ (all_parts r lists))
     (IsPermutation-shift rest theirs others))))
 
--- ---- all that is left stands behind the ranking
+-- ---- all that is left is after the ranking
 
 abbrev pub IsLater : (r s : List ℕ) → Type 0
 IsLater r s = order r s ≡ Less
@@ -92,7 +92,7 @@ lines_all P (l ∷ ls) counted all =
     behind_of P zero r rs all = all
     behind_of P (suc n) r rs all = behind_of P n r rs (All-tail P r (replicate n r ++ rs) all)
 
--- not before and not the same is behind
+-- not before and not the same is after
 pub later_by : (o : Ordering) (a r : List ℕ) → order a r ≡ o → (o ≡ Less → ⊥) → is_eq o ≡ false → order r a ≡ Less
 later_by Less a r is from other = absurd (from refl)
 later_by Equal a r is from other = cc
@@ -155,7 +155,7 @@ least_taken r lists rest from rising are =
     one_more (sum_by (had r) lists) r (all_plain lists) (all_plain (map (left r) lists)) rest
     (all_parts r lists) (all_later r lists from rising) are
 
--- ---- what is left stands in order, and is shorter
+-- ---- what is left is in order, and is shorter
 
 rising_by :
     (b : Bool) (line : BallotLine) (ls : List BallotLine) → AllPairs StandsBefore (line ∷ ls)

@@ -56,7 +56,7 @@ longer {old} {now} r n next so_far takes rest are =
     subst (AreLinesOf (all_plain old)) (sym (append_assoc so_far.done (written (line n r)) rest))
     (so_far.so_far (written (line n r) ++ rest) (one_less r n now next takes so_far.order rest are))
 
--- what is left stands in order, and is not too much
+-- what is left is in order, and is not too much
 pub merging_left :
     {S : Type 0} {w : S → Option (List ℕ)} {f : S → ℕ} {a b : S} {old now : List (List BallotLine)} (r : List ℕ) (n : ℕ)
     (next : List (List BallotLine)) → IsMerging w f a b old now → TakesLeast r n now next

@@ -1,4 +1,4 @@
--- A minus and digits with a separator behind them are read as a minus number.
+-- A minus and digits with a separator after them are read as a minus number.
 use Rattle.std.proofs.Common.{◌≡◌, ℕ, zero, suc, ◌+◌, ◌-◌, ◌^◌, ◌<◌, ◌≤◌, ◌==◌, ◌||◌, min, Bool, true, false}
 use Rattle.std.proofs.Common.{List, [], ◌∷◌, ◌++◌, length, drop, take, refl, ap, ◌∙◌, arith, append_assoc}
 use Rattle.std.proofs.Common.{length-append}

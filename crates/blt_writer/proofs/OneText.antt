@@ -43,7 +43,7 @@ first_weight l ls =
     let one : l.count * is_it l.ranking l.ranking ≡ l.count * 1 = ap (λ (n : ℕ). l.count * n) (it_is l.ranking) in
     omega (arith, one, weigh-cons (is_it l.ranking) l ls)
 
--- a line that stands before all others' is not among them
+-- a line that is before all others' is not among them
 not_before :
     (x y : BallotLine) (xs ys : List BallotLine) → AreRising (x ∷ xs) → AreRising (y ∷ ys) → WeighTheSame (x ∷ xs) (y ∷ ys)
     → StandsBefore x y → ⊥
@@ -66,7 +66,7 @@ same_first x y xs ys one other same is =
     ap (λ (n : ℕ). let l : BallotLine = record { count = n; ranking = x.ranking } in l) many
     ∙ ap (λ (r : List ℕ). let l : BallotLine = record { count = y.count; ranking = r } in l) is
 
--- and then so do those behind them
+-- and then so do those after them
 same_behind :
     (x y : BallotLine) (xs ys : List BallotLine) → WeighTheSame (x ∷ xs) (y ∷ ys) → x ≡ y → WeighTheSame xs ys
 same_behind x y xs ys same is f =

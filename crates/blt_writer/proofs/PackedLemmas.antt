@@ -1,4 +1,4 @@
--- Rankings that are packed one behind another.
+-- Rankings that are packed one after another.
 use Rattle.std.proofs.Common.{◌≡◌, ℕ, ◌+◌, ◌<◌, ◌≤◌, List, [], ◌∷◌, ◌++◌, All, length, take, drop, replicate}
 use Rattle.std.proofs.Common.{refl, ap, sym, subst, ◌∙◌, arith, append_assoc}
 use Rattle.std.specs.Prelude.{IsPermutation, slice_index}
@@ -24,7 +24,7 @@ ranking_new packed ranking =
     ap (drop (length packed + 1)) parted ∙ drop_at (packed ++ n ∷ []) ranking (length packed + 1) (length_push packed n) in
     ap (λ (k : ℕ). take k (drop (length packed + 1) all)) first ∙ (ap (take n) behind ∙ take_all n ranking (omega arith))
 
--- and stays there when others come in behind it
+-- and stays there when others come in after it
 pub ranking_kept :
     (packed more : List ℕ) (start : ℕ) → start + slice_index packed start < length packed
     → ranking_at (packed ++ more) start ≡ ranking_at packed start

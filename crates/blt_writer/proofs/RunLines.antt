@@ -1,4 +1,4 @@
--- The lines of a run of entries of one ranking, and those behind it.
+-- The lines of a run of entries of one ranking, and those after it.
 use Rattle.std.proofs.Common.{◌≡◌, ◌≢◌, ℕ, zero, suc, ◌+◌, ◌<◌, ◌≤◌, List, [], ◌∷◌, ◌++◌, length, take, drop}
 use Rattle.std.proofs.Common.{get_or, All, arith, refl, ap, sym}
 use Rattle.std.proofs.Common.{subst, ◌∙◌}
@@ -12,12 +12,12 @@ use Rattle.plain_ballots.specs.Ballots.{ballot_count}
 use Rattle.blt_writer.specs.declared.entry.Entry.{Entry}
 use Rattle.blt_writer.specs.Packed.{ranking_at, line_of, entry_lines, IsEntry, IsRun}
 
--- the first line behind those of a ranking has another
+-- the first line after those of a ranking has another
 abbrev pub BeginsOther : (r : List ℕ) → List BallotLine → Type 0
 BeginsOther r [] = Unit {0}
 BeginsOther r (l ∷ lines) = l.ranking ≢ r
 
--- the lines of one ranking, of which there are some, and those behind them
+-- the lines of one ranking, of which there are some, and those after them
 pub record AreParted (r : List ℕ) (now : List BallotLine) (first : BallotLine) (same behind : List BallotLine) : Type 0 where
   pub parts : now ≡ first ∷ (same ++ behind)
   pub alike : All (λ (l : BallotLine). l.ranking ≡ r) (first ∷ same)
@@ -44,7 +44,7 @@ count_of_lines packed (e ∷ entries) =
       count_of_lines packed entries,
     )
 
--- the lines of a run, with those behind it
+-- the lines of a run, with those after it
 parted_by :
     (packed : List ℕ) (n : ℕ) (first : Entry) (entries : List Entry)
     → ((i : ℕ) → i < suc n → ranking_at packed (get_or (first ∷ entries) i first).start ≡ ranking_at packed first.start)

@@ -13,7 +13,7 @@ use Rattle.plain_ballots.specs.Ballots.{plain}
 use Rattle.plain_ballots.proofs.PlainLemmas.{plain-append}
 use Rattle.blt_writer.specs.Walk.{below, ends_at, line_at, lines_behind, lines_from, IsNode, AreNodes, IsRest}
 
--- the lines of siblings behind a front that leads to them, and of all below them
+-- the lines of siblings after a front that leads to them, and of all below them
 abbrev pub lines_of : (front : List ℕ) → Forest → List BallotLine
 lines_of p Bare = []
 lines_of p (Grown c n inner next) =
@@ -41,7 +41,7 @@ length_kept p d (Grown c n inner next) =
 nodes_are : (d : ℕ) (f : Forest) → nodes_of (rows_of d f) ≡ f
 nodes_are d f = read-rows_of (length (rows_of d f)) d f (omega arith)
 
--- the rows right behind a row, as many as it has below it
+-- the rows right after a row, as many as it has below it
 below_is :
     (d : ℕ) (inner : Forest) (rest : List PlanRow)
     → take ((length (rows_of d inner) + 1) - 1) (rows_of d inner ++ rest) ≡ rows_of d inner
@@ -138,7 +138,7 @@ plain-lines_of p (Grown c n inner next) =
     ∙ (ap (λ (l : List (List ℕ)). l ++ map add (ballots_of next)) under
     ∙ sym (map-append add (map (λ r. c ∷ r) (ended ++ deep)) (ballots_of next))))))
 
--- ---- each row has those below it right behind
+-- ---- each row has those below it right after
 
 pub nodes_of_rows :
     (n low d : ℕ) (f : Forest) (rest : List PlanRow) → IsGrown n low d f → AreNodes rest
@@ -172,7 +172,7 @@ below_root n low d (Grown c m inner next) some =
 
 -- ---- siblings, one after the other
 
--- the first of some siblings, and its next siblings behind those below it
+-- the first of some siblings, and its next siblings after those below it
 pub record IsStep (d : ℕ) (rows : List PlanRow) (row : PlanRow) : Type 0 where
   pub some : 1 ≤ row.skip
   pub inside : row.skip ≤ length rows

@@ -39,14 +39,14 @@ pairs_append R (x ∷ xs) ys one other between =
     (All-append (R x) xs ys (pairs_head R x xs one) (All-head (λ x. All (R x) ys) x xs between))
     (pairs_append R xs ys (pairs_tail R x xs one) other (All-tail (λ x. All (R x) ys) x xs between))
 
--- a line with this front, and a candidate above `low` behind it
+-- a line with this front, and a candidate above `low` after it
 record IsAbove (front : List ℕ) (low : ℕ) (line : BallotLine) : Type 0 where
   candidate : ℕ
   rest : List ℕ
   ranking : line.ranking ≡ front ++ candidate ∷ rest
   above : low < candidate
 
--- a line with this front, and this candidate behind it
+-- a line with this front, and this candidate after it
 record HasFront (front : List ℕ) (c : ℕ) (line : BallotLine) : Type 0 where
   rest : List ℕ
   ranking : line.ranking ≡ front ++ c ∷ rest
@@ -81,7 +81,7 @@ all_above p n low d (Grown c m inner next) grown =
     })
     (lines_of p next) others))
 
--- a line stands before those with a higher candidate behind the same front
+-- a line is before those with a higher candidate after the same front
 before_higher :
     (p : List ℕ) (c : ℕ) (line other : BallotLine) → HasFront p c line → IsAbove p c other
     → StandsBefore line other
@@ -118,7 +118,7 @@ rising_lines p n low d (Grown c m inner next) grown =
     (λ other above. before_higher p c line other (deeper p c line is) above) (lines_of p next) others)
     (lines_of q inner) under))
 
--- the empty ranking stands before all
+-- the empty ranking is before all
 pub root_first :
     (m n low d : ℕ) (f : Forest) → IsGrown n low d f
     → AllPairs StandsBefore (record { count = m; ranking = [] } ∷ lines_of [] f)

@@ -47,7 +47,7 @@ pieces_alike b behind =
     (branch (b == 45) _ _ _
     (branch (b == 34) _ _ _ (letters_alike (is_ascii_lowercase b) (b ∷ behind))))))
 
--- the same piece, where what is behind it is cut alike
+-- the same piece, where what is after it is cut alike
 same_beginning :
     (at end : ℕ) (p : Piece) (without with_words : ℕ → Scan)
     → ((n : ℕ) → NoWords (items_of (with_words n).tokens) → (with_words n).ending ≡ AtEnd end → without n ≡ with_words n)

@@ -33,13 +33,13 @@ abbrev pub left : (ranking : List ℕ) → List BallotLine → List BallotLine
 left ranking [] = []
 left ranking (line ∷ lines) = if bytes_eq line.ranking ranking then lines else line ∷ lines
 
--- whether the one list begins with a ranking that stands before the other's first, or before its end
+-- whether the one list begins with a ranking that is before the other's first, or before its end
 abbrev pub is_ahead : (one other : List BallotLine) → Bool
 is_ahead [] other = false
 is_ahead (line ∷ lines) [] = true
 is_ahead (line ∷ lines) (other ∷ others) = is_lt (slice_cmp nat_cmp line.ranking other.ranking)
 
--- no line stands before this ranking, where lines stand in order
+-- no line is before this ranking, where lines stand in order
 abbrev pub IsFrom : (ranking : List ℕ) → List BallotLine → Type 0
 IsFrom ranking [] = ⊤
 IsFrom ranking (line ∷ lines) = ¬ (slice_cmp nat_cmp line.ranking ranking ≡ Less)

@@ -6,7 +6,7 @@ use Rattle.std.specs.Cmp.Lexicographic.{slice_cmp}
 use Rattle.plain_ballots.specs.declared.ballot_line.BallotLine.{BallotLine}
 use Rattle.plain_ballots.specs.Ballots.{plain}
 
--- The one ranking stands before the other: in the lexicographic order of candidate numbers, and before its own
+-- The one ranking is before the other: in the lexicographic order of candidate numbers, and before its own
 -- extensions.
 abbrev pub StandsBefore : BallotLine → BallotLine → Type 0
 StandsBefore one other = slice_cmp nat_cmp one.ranking other.ranking ≡ Less

@@ -9,7 +9,7 @@ use Rattle.plain_ballots.specs.declared.limits.TheConstants.{MOST_CANDIDATES}
 use Rattle.plain_ballots.specs.declared.ballot_line.BallotLine.{BallotLine}
 use Rattle.blt_writer.specs.declared.entry.Entry.{Entry}
 
--- The ranking that stands at a place: a byte that says its length, and its candidates behind it.
+-- The ranking that is at a place: a byte that says its length, and its candidates after it.
 abbrev pub ranking_at : (packed : List ℕ) (start : ℕ) → List ℕ
 ranking_at packed start = take (slice_index packed start) (drop (start + 1) packed)
 
@@ -26,7 +26,7 @@ line_of packed entry = record { count = entry.count; ranking = ranking_at packed
 abbrev pub entry_lines : (packed : List ℕ) → List Entry → List BallotLine
 entry_lines packed entries = map (line_of packed) entries
 
--- an entry of at least one ballot, whose ranking stands among the packed ones and has this front
+-- an entry of at least one ballot, whose ranking is among the packed ones and has this front
 pub record IsEntry (packed : List ℕ) (entry : Entry) : Type 0 where
   pub inside : entry.start + slice_index packed entry.start < length packed
   pub candidates : All (λ c. (1 ≤ c) × (c ≤ MOST_CANDIDATES)) (ranking_at packed entry.start)
@@ -43,11 +43,11 @@ abbrev pub is_tied : (packed : List ℕ) → (one other : Entry) → Bool
 is_tied packed one other =
     (one.front == other.front) && bytes_eq (ranking_at packed one.start) (ranking_at packed other.start)
 
--- no line stands before one that is listed before it
+-- no line is before one that is listed before it
 abbrev pub AreListed : List BallotLine → Type 0
 AreListed lines = AllPairs (λ one other. slice_cmp nat_cmp other.ranking one.ranking ≢ Less) lines
 
--- The first so many entries have one ranking, and the one behind them has another.
+-- The first so many entries have one ranking, and the one after them has another.
 pub record IsRun (packed : List ℕ) (entries : List Entry) (n : ℕ) : Type 0 where
   pub some : 1 ≤ n
   pub within : n ≤ length entries

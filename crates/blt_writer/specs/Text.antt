@@ -5,7 +5,7 @@ use Rattle.candidate_roll.specs.Roll.{RollList, is_withdrawn}
 use Rattle.plain_ballots.specs.declared.ballot_line.BallotLine.{BallotLine}
 use Rattle.blt_writer.specs.Order.{AreLinesOf}
 
--- a number and the byte behind it
+-- a number and the byte after it
 abbrev pub number_then : (behind n : ℕ) → List ℕ
 number_then behind n = decimal n ++ behind ∷ []
 
@@ -32,7 +32,7 @@ abbrev pub opening_text : RollList → List ℕ
 opening_text roll =
     head_text (length roll.names) roll.seats ++ flat_map withdrawn_text (withdrawn_numbers roll.withdrawn)
 
--- the lines behind the ballots
+-- the lines after the ballots
 abbrev pub closing_text : RollList → List ℕ
 closing_text roll = codes "0\n" ++ (flat_map quoted roll.names ++ quoted roll.title)
 

@@ -37,7 +37,7 @@ abbrev pub lines_from : (path : List ℕ) → List PlanRow → List BallotLine
 lines_from path [] = []
 lines_from path (row ∷ behind) = line_at path row behind ∷ lines_behind path behind
 
--- a row with the rows of all nodes below it right behind
+-- a row with the rows of all nodes below it right after
 pub record IsNode (row : PlanRow) (behind : List PlanRow) : Type 0 where
   pub some : 1 ≤ row.skip
   pub inside : row.skip ≤ length behind + 1

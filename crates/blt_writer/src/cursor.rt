@@ -17,7 +17,7 @@ use std::marker::Model;
 pub(crate) struct Cursor {
     plan: Plan,
     at: usize,
-    /// The candidates that lead to the row, and others behind them.
+    /// The candidates that lead to the row, and others after them.
     path: [u16; ROOM],
 }
 

@@ -18,7 +18,7 @@ pub(crate) fn write_opening<K: Sink>(roll: &Roll, sink: &mut K) -> Result<(), Fa
     write_withdrawn(roll, sink)
 }
 
-/// Writes the lines behind the ballots.
+/// Writes the lines after the ballots.
 pub(crate) fn write_closing<K: Sink>(roll: &Roll, sink: &mut K) -> Result<(), Failed>
     ensures { Writes K.written K.faults sink.old sink.new (closing_text roll.now) result }
 {

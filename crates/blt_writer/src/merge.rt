@@ -74,7 +74,7 @@ fn first_ahead(cursors: &[Cursor]) -> usize
     first
 }
 
-/// Whether the one cursor's next ranking stands before the other's, if it has any.
+/// Whether the one cursor's next ranking is before the other's, if it has any.
 fn is_ahead(one: &Cursor, other: &Cursor) -> bool
     ensures { result ≡ is_ahead one.now other.now }
 {

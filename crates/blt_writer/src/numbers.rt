@@ -9,7 +9,7 @@ use byte_edge::{Failed, Sink};
 use itoa::Buffer;
 use piece_text::write_bytes;
 
-/// Writes a number and the byte behind it.
+/// Writes a number and the byte after it.
 pub(crate) fn write_number<K: Sink>(n: u64, behind: u8, sink: &mut K) -> Result<(), Failed>
     ensures { Writes K.written K.faults sink.old sink.new (number_then behind n) result }
 {

@@ -1,4 +1,4 @@
-// Rankings packed into bytes, one behind another.
+// Rankings packed into bytes, one after another.
 ghost use Rattle.std.specs.Prelude.{◌≡◌, ℕ, ◌≤◌, ◌∷◌, ◌++◌, All, length, IfOk, OnErr, OnOk, slice_index};
 ghost use Rattle.plain_ballots.specs.declared.limits.TheConstants.{MOST_CANDIDATES};
 ghost use Rattle.blt_writer.specs.Packed.{front, ranking_at};
@@ -8,7 +8,7 @@ use crate::entry::Entry;
 use plain_ballots::BallotLine;
 use std::mem;
 
-/// Packs the ranking of a line behind the others.
+/// Packs the ranking of a line after the others.
 pub(crate) fn pack(line: &BallotLine, ranks: &mut Vec<u8>) -> Result<Entry, NoMemory>
     requires candidates { All (λ c. (1 ≤ c) × (c ≤ MOST_CANDIDATES)) line.now.ranking }
     requires short { length line.now.ranking ≤ MOST_CANDIDATES }
@@ -28,7 +28,7 @@ pub(crate) fn pack(line: &BallotLine, ranks: &mut Vec<u8>) -> Result<Entry, NoMe
     })
 }
 
-/// Puts the length of a ranking behind the others, and then its candidates. The list is taken out meanwhile, so
+/// Puts the length of a ranking after the others, and then its candidates. The list is taken out meanwhile, so
 /// that its length is not written to memory with each candidate.
 fn push_ranking(ranks: &mut Vec<u8>, candidates: &[u32]) -> Result<(), NoMemory>
     requires candidates { All (λ c. (1 ≤ c) × (c ≤ MOST_CANDIDATES)) candidates.now }
@@ -47,7 +47,7 @@ fn push_ranking(ranks: &mut Vec<u8>, candidates: &[u32]) -> Result<(), NoMemory>
     Ok(())
 }
 
-/// The first eight candidates as the digits of a number, with zeros behind a shorter ranking.
+/// The first eight candidates as the digits of a number, with zeros after a shorter ranking.
 fn front_of(candidates: &[u32]) -> u64
     requires { All (λ c. (1 ≤ c) × (c ≤ MOST_CANDIDATES)) candidates.now }
     ensures { result ≡ front 8 candidates.now }
@@ -59,7 +59,7 @@ fn front_of(candidates: &[u32]) -> u64
     front
 }
 
-/// The candidate at a place from 0, and 0 behind the last.
+/// The candidate at a place from 0, and 0 after the last.
 fn candidate_at(candidates: &[u32], place: usize) -> u64
     requires { All (λ c. (1 ≤ c) × (c ≤ MOST_CANDIDATES)) candidates.now }
     ensures value { result ≡ slice_index candidates.now place }
@@ -71,7 +71,7 @@ fn candidate_at(candidates: &[u32], place: usize) -> u64
     }
 }
 
-/// The ranking that stands at a place.
+/// The ranking that is at a place.
 #[inline]
 pub(crate) fn ranking_at(ranks: &[u8], start: u32) -> &[u8]
     ensures { result.now ≡ ranking_at ranks.now start }

@@ -47,7 +47,7 @@ impl Page {
         }
     }
 
-    /// Puts the line of so many ballots with this ranking behind what stands there.
+    /// Puts the line of so many ballots with this ranking after what is there.
     pub fn add(&mut self, count: u64, ranking: &[u8])
         requires short { length ranking.now ≤ 255 }
         requires room { length self.old + 1100 ≤ 16384 }
@@ -58,7 +58,7 @@ impl Page {
         self.len = put_bytes(b"0\n", &mut self.bytes, behind_ranks);
     }
 
-    /// Makes room for a line: where there is too little, what stands here is written.
+    /// Makes room for a line: where there is too little, what is here is written.
     #[inline]
     pub fn make_room<K: Sink>(&mut self, sink: &mut K) -> Result<(), Failed>
         ensures handed { HandsOver K.written K.faults sink.old sink.new self.old self.new result }
@@ -70,7 +70,7 @@ impl Page {
         self.flush(sink)
     }
 
-    /// Writes what stands here.
+    /// Writes what is here.
     pub fn flush<K: Sink>(&mut self, sink: &mut K) -> Result<(), Failed>
         ensures written { Writes K.written K.faults sink.old sink.new self.old result }
         ensures empty { self.new ≡ [] }
@@ -81,7 +81,7 @@ impl Page {
     }
 }
 
-/// Writes a count and a space at a place, and gives the place behind them.
+/// Writes a count and a space at a place, and gives the place after them.
 fn put_count(numbers: &ShortNumbers, count: u64, bytes: &mut [u8], at: usize) -> usize
     requires sound { AreTexts numbers.now.texts numbers.now.lens }
     requires room { at + 21 ≤ length bytes.old }
@@ -97,7 +97,7 @@ fn put_count(numbers: &ShortNumbers, count: u64, bytes: &mut [u8], at: usize) ->
     put_bytes(b" ", bytes, behind)
 }
 
-/// Writes candidates at a place, a space behind each, and gives the place behind them.
+/// Writes candidates at a place, a space after each, and gives the place after them.
 fn put_ranks(numbers: &ShortNumbers, ranking: &[u8], bytes: &mut [u8], at: usize) -> usize
     requires sound { AreTexts numbers.now.texts numbers.now.lens }
     requires room { at + 4 * length ranking.now ≤ length bytes.old }
@@ -112,7 +112,7 @@ fn put_ranks(numbers: &ShortNumbers, ranking: &[u8], bytes: &mut [u8], at: usize
     behind
 }
 
-/// Writes a text at a place, and gives the place behind it.
+/// Writes a text at a place, and gives the place after it.
 fn put_bytes(text: &[u8], bytes: &mut [u8], at: usize) -> usize
     requires room { at + length text.now ≤ length bytes.old }
     ensures text { take result bytes.new ≡ take at bytes.old ++ text.now }

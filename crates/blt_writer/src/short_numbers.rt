@@ -5,7 +5,7 @@ ghost use Rattle.blt_writer.specs.Text.{number_then};
 
 use itoa::Buffer;
 
-/// The numbers that fit into a byte, each as text with a space behind it. Each text has four bytes of its
+/// The numbers that fit into a byte, each as text with a space after it. Each text has four bytes of its
 /// own, so that all four can be copied without a look at its length.
 #[derive(Drop)]
 pub(crate) struct ShortNumbers {
@@ -42,7 +42,7 @@ impl ShortNumbers {
         self.lens[n as usize] = text.len() as u8 + 1;
     }
 
-    /// Writes a number and a space at a place, and gives the place behind them. Four bytes from the place on
+    /// Writes a number and a space at a place, and gives the place after them. Four bytes from the place on
     /// may change.
     #[inline]
     pub fn put(&self, n: u8, bytes: &mut [u8], at: usize) -> usize

@@ -24,7 +24,7 @@ pub fn longer_sights_begin_alike()
     ensures left { LeftBehindTheMarks }
 {}
 
-/// Each call stands at the place of its mark.
+/// Each call is at the place of its mark.
 pub fn each_call_stands_at_its_mark()
     ensures length { AsManyAsMarks }
     ensures change { ChangeAtItsMark }

@@ -12,7 +12,7 @@ pub record IsName (most : ℕ) (bytes : List ℕ) : Type 0 where
   pub short : length bytes ≤ most
   pub printable : All (λ b. (32 ≤ b) × (b ≢ 34)) bytes
 
--- the first control byte or quote stands at this place, from 0, and there are not too many bytes
+-- the first control byte or quote is at this place, from 0, and there are not too many bytes
 pub record IsBadByteAt (most : ℕ) (bytes : List ℕ) (place : ℕ) : Type 0 where
   pub short : length bytes ≤ most
   pub inside : place < length bytes

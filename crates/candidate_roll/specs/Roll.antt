@@ -6,7 +6,7 @@ use Rattle.candidate_roll.specs.declared.roll_stop.RollStop.{RollStop}
 use Rattle.candidate_roll.specs.declared.roll_stop.RollStop.TheVariants.{BadCount, BadSeats, NoMemory}
 
 -- the seats, the names of the candidates in the order of their numbers, the title, and who was withdrawn:
--- candidate c's mark stands at place c - 1
+-- candidate c's mark is at place c - 1
 pub record RollList : Type 0 where
   pub seats : ℕ
   pub names : List (List ℕ)
@@ -25,7 +25,7 @@ pub record IsRoll (roll : RollList) : Type 0 where
 abbrev pub is_withdrawn : List Bool → ℕ → Bool
 is_withdrawn withdrawn c = slice_index_or withdrawn (c - 1) false
 
--- whether candidate c stands in a list of candidates
+-- whether candidate c is in a list of candidates
 abbrev pub is_listed : List ℕ → ℕ → Bool
 is_listed listed c = list_any (λ d. d == c) listed
 

@@ -1,4 +1,4 @@
--- The states of all candidates: candidate c's stands at place c - 1.
+-- The states of all candidates: candidate c's is at place c - 1.
 use Rattle.std.specs.Prelude.{ℕ, List, slice_index_or}
 use Rattle.candidate_roll.specs.declared.state.State.{State}
 use Rattle.candidate_roll.specs.declared.state.State.TheVariants.{Withdrawn}

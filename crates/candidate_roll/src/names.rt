@@ -5,7 +5,7 @@ use crate::{MOST_NAME_BYTES, Name, NoMemory, PushBack};
 use std::alloc::Global;
 use std::marker::Model;
 
-/// The names of all candidates: candidate c's stands at index c - 1.
+/// The names of all candidates: candidate c's is at index c - 1.
 #[derive(Debug, Drop)]
 pub struct Names {
     list: Vec<Name<MOST_NAME_BYTES>>,

@@ -6,7 +6,7 @@ use crate::{NoMemory, State};
 use std::alloc::Global;
 use std::marker::Model;
 
-/// The states of all candidates: candidate c's stands at index c - 1.
+/// The states of all candidates: candidate c's is at index c - 1.
 #[derive(Debug, Drop)]
 pub struct States {
     list: Vec<State>,

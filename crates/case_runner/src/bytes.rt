@@ -6,7 +6,7 @@ use crate::text::{Text, text_named};
 /// How often a piece is repeated at most.
 const MOST_COPIES: usize = 100_000_000;
 
-/// A number, and what comes after the space behind it.
+/// A number, and what comes after the space after it.
 fn numbered(rest: &str) -> Result<(usize, &str), LineFault> {
     let (number, piece) = first_word(rest);
     match number.parse::<usize>() {

@@ -3,7 +3,7 @@ ghost use Rattle.std.specs.Prelude.{◌≡◌, ◌==◌, ◌||◌, nat_eq, slice
 ghost use Rattle.std.specs.Char.{is_ascii_punctuation};
 ghost use Rattle.std.specs.List.{before_first, after_first};
 
-/// The first word of a line, and what comes after the space behind it.
+/// The first word of a line, and what comes after the space after it.
 pub(crate) fn first_word(line: &str) -> (&str, &str)
     ensures word { result.0.now ≡ before_first (λ b. b == 32) line.now }
     ensures rest { result.1.now ≡ after_first (λ b. b == 32) line.now }

@@ -56,7 +56,7 @@ fn difference(found: &[u8], wanted: &[u8]) -> usize {
     at
 }
 
-/// The number of the line, from 1, on which the byte behind these is.
+/// The number of the line, from 1, on which the byte after these is.
 fn line_after(bytes: &[u8]) -> usize {
     let mut line = 1usize;
     for byte in bytes {

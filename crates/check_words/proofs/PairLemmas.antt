@@ -13,7 +13,7 @@ use Rattle.check_words.specs.declared.check_option.CheckOption.{CheckOption}
 use Rattle.check_words.specs.declared.check_option.CheckOption.TheVariants.{Lots, Rule, Places, Omega}
 use Rattle.check_words.specs.declared.values.Values.{Values}
 
--- the letter behind the hyphens
+-- the letter after the hyphens
 letter : Word → ℕ
 letter word = get_or word 2 0
 
@@ -42,7 +42,7 @@ itself Rule = refl
 itself Places = refl
 itself Omega = refl
 
--- Pairs at the front of words are those that the words begin with, and behind them the words are pairs too.
+-- Pairs at the front of words are those that the words begin with, and after them the words are pairs too.
 pub behind_done :
     (done pairs : List Said) (rest : List Word) → flat_map words_of done ++ rest ≡ flat_map words_of pairs
     → (behind : List Said) × (pairs ≡ done ++ behind) × (rest ≡ flat_map words_of behind)
@@ -98,7 +98,7 @@ pub some_words : {A : Type 0} (text : A → Word) (items : List A) → 1 ≤ len
 some_words text [] some e = omega (arith, some)
 some_words text (item ∷ items) some e = absurd cc
 
--- behind the pairs so far no pair comes
+-- after the pairs so far no pair comes
 pub no_pair :
     (words rest : List Word) (values : Values) → IsReadUpTo words rest values → rest ≢ []
     → ((option : CheckOption) (value : Word) (behind : List Word) → rest ≢ flag_of option ∷ value ∷ behind)
@@ -122,7 +122,7 @@ just_once P [] is = absurd is
 just_once P (word ∷ []) is = omega arith
 just_once P (word ∷ again ∷ values) is = absurd is
 
--- each option stands once at most
+-- each option comes once at most
 said_once :
     (values : CheckOption → List Word) (asked : Asked) → Says values asked → (option : CheckOption)
     → length (values option) ≤ 1
@@ -135,7 +135,7 @@ some_length : (values : List Word) → values ≢ [] → 1 ≤ length values
 some_length [] some = absurd (some refl)
 some_length (word ∷ values) some = omega arith
 
--- behind the pairs so far an option comes that stood before
+-- after the pairs so far an option comes that stood before
 pub stands_twice :
     (words rest behind : List Word) (values : Values) (option : CheckOption) (value : Word)
     → IsReadUpTo words rest values → rest ≡ flag_of option ∷ value ∷ behind → values_in values option ≢ []

@@ -4,7 +4,7 @@ use Rattle.meek_words.specs.Numerals.{Word}
 use Rattle.check_words.specs.Options.{flag_of, same_option}
 use Rattle.check_words.specs.declared.check_option.CheckOption.{CheckOption}
 
--- an option, and the word behind it
+-- an option, and the word after it
 pub record Said : Type 0 where
   pub option : CheckOption
   pub value : Word

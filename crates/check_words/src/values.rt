@@ -19,7 +19,7 @@ pub(crate) struct Values<'a> {
     pub(crate) omega: Option<&'a str>,
 }
 
-/// The values that words say, none where they are no pairs or an option stands twice.
+/// The values that words say, none where they are no pairs or an option comes twice.
 #[tactic(auto, using(crate::proofs::PairLemmas::read_more, crate::proofs::PairLemmas::no_pair, crate::proofs::PairLemmas::stands_twice))]
 pub(crate) fn values_of<'a>(words: &'a [String]) -> Option<Values<'a>>
     ensures found { IfSome result (AreValuesOf (map string_bytes words.entry.now)) }
@@ -45,7 +45,7 @@ pub(crate) fn values_of<'a>(words: &'a [String]) -> Option<Values<'a>>
     Some(values)
 }
 
-/// The first option, its value, and the words behind them.
+/// The first option, its value, and the words after them.
 fn first_pair(words: &[String]) -> Option<(CheckOption, &str, &[String])>
     ensures cut { IfSome result (λ cut.
         map string_bytes words.now ≡ flag_of cut.0 ∷ cut.1.now ∷ map string_bytes cut.2.now) }

@@ -8,7 +8,7 @@ use crate::{Asked, words_ask_one_thing};
 use meek_words::WordsStop;
 use std::alloc::Global;
 
-/// What the words behind the tool's name ask for: options in any order, each with its value as the next word.
+/// What the words after the tool's name ask for: options in any order, each with its value as the next word.
 pub fn read_check_words(alloc: Global, words: &[String]) -> Result<Asked, WordsStop>
     ensures accepted { IfOk result (Asks (map string_bytes words.now)) }
     ensures one { (asked : Asked) → Asks (map string_bytes words.now) asked

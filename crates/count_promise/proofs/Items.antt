@@ -16,7 +16,7 @@ module _ {X : Type 0} where
   some_none : (x : X) → Some x ≡ None → ⊥
   some_none x off = cc
 
-  -- the first that passes stands behind others that don't
+  -- the first that passes is after others that don't
   pub find_here :
       (test : X → Bool) (xs : List X) (i : ℕ) (x : X) → i < length xs → find test (take i xs) ≡ None
       → x ≡ get_or xs i x → test x ≡ true → find test xs ≡ Some x
@@ -71,7 +71,7 @@ module _ {X : Type 0} where
       ∙ ap (λ (l : List ℕ). flat_map g (take i xs) ++ l) (append-nil (g (get_or xs i x)))
       ∙ ap (λ (y : X). flat_map g (take i xs) ++ g y) (sym is)
 
-  -- a text with one more of these behind it
+  -- a text with one more of these after it
   pub texts_step :
       (g : X → List ℕ) (xs : List X) (i : ℕ) (x : X) (old text new : List ℕ)
       → text ≡ old ++ flat_map g (take i xs) → x ≡ get_or xs i x → i < length xs

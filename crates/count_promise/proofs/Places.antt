@@ -67,7 +67,7 @@ group_more test p =
     ∙ ap (λ (k : ℕ). listed 1 (each_place p test) ++ cond (test p) (32 ∷ decimal k) [])
     (omega (arith, length-map-range_with_len test 0 p)))
 
--- a text with one place more of the list behind it
+-- a text with one place more of the list after it
 pub group_step :
     (test : ℕ → Bool) (p : ℕ) (old text new : List ℕ) → text ≡ old ++ listed 1 (each_place p test)
     → test p ≡ true → new ≡ text ++ 32 ∷ decimal (p + 1)

@@ -1,8 +1,8 @@
--- Texts pushed one behind another.
+-- Texts pushed one after another.
 use Rattle.std.proofs.Common.{◌≡◌, ◌∙◌, ℕ, List, ◌++◌, ap, append_assoc, subst}
 use Rattle.std.specs.Prelude.{OnOk, Result}
 
--- one part more behind what was pushed
+-- one part more after what was pushed
 pub pushed :
     (old front part before after : List ℕ) → before ≡ old ++ front → after ≡ before ++ part
     → after ≡ old ++ (front ++ part)

@@ -6,7 +6,7 @@ use sheet_reader::{sheets_are_read_back, written_values_are_read};
 
 /// What the sheet of a count promises is so, whoever voted: groups of voters have the seats that
 /// `proportional within` gives them, by the quota of the ballots that rank somebody who runs, and no
-/// iteration leaves more over than that. The line that no lot decided anything stands where there is no
+/// iteration leaves more over than that. The line that no lot decided anything is where there is no
 /// tie, and then each other order of lots gives the same sheet. The call does nothing.
 pub fn promises_hold()
     ensures seats { PromisesHold }

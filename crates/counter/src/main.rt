@@ -1,5 +1,5 @@
 //! A count as a program: the words `count --lots LIST`, a ballot file on standard input, its sheet on standard output. It
-//! stands on fewer crates than the program of days, so the first count in a checkout builds this one.
+//! is on fewer crates than the program of days, so the first count in a checkout builds this one.
 #![tactic(auto)]
 
 use ballot_count::run_count;

@@ -55,7 +55,7 @@ read-quoted fields field (x ∷ xs) rest =
           | inr other ↦ rw other.0 (rw other.0 refl)
         ]
 
--- a field with a comma behind it
+-- a field with a comma after it
 read-field :
     (fields : List (List ℕ)) (field rest : List ℕ)
     → read fields (Outside []) (field_text field ++ 44 ∷ rest) ≡ read (fields ++ field ∷ []) (Outside []) rest

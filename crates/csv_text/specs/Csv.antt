@@ -6,7 +6,7 @@ use Rattle.std.specs.List.{flat_map, join_with_byte, list_any}
 abbrev pub is_mark : ℕ → Bool
 is_mark b = b == 44 || b == 34 || b == 13 || b == 10
 
--- a byte within quotes: a quote stands twice
+-- a byte within quotes: a quote is doubled
 abbrev pub within_quotes : ℕ → List ℕ
 within_quotes b = if b == 34 then 34 ∷ 34 ∷ [] else b ∷ []
 
@@ -16,7 +16,7 @@ quoted field = 34 ∷ (flat_map within_quotes field ++ 34 ∷ [])
 abbrev pub field_text : List ℕ → List ℕ
 field_text field = if list_any is_mark field then quoted field else field
 
--- a field behind others
+-- a field after others
 abbrev pub behind_comma : List ℕ → List ℕ
 behind_comma field = 44 ∷ field_text field
 

@@ -1,14 +1,14 @@
 -- How comma-separated text is read.
 use Rattle.std.specs.Prelude.{ℕ, ◌==◌, if◌then◌else◌, List, [], ◌∷◌, ◌++◌}
 
--- where a reader is, with the bytes of the field so far: outside quotes, within them, or behind a quote, which either ended the field or is the
+-- where a reader is, with the bytes of the field so far: outside quotes, within them, or after a quote, which either ended the field or is the
 -- first of two
 pub data Place : Type 0 where
   Outside : (field : List ℕ) → Place
   Within : (field : List ℕ) → Place
   BehindQuote : (field : List ℕ) → Place
 
--- The records of a text, behind these fields of the first one.
+-- The records of a text, after these fields of the first one.
 abbrev pub read : (fields : List (List ℕ)) → Place → List ℕ → List (List (List ℕ))
 read fields place [] = []
 read fields (Outside field) (b ∷ rest) =

@@ -1,4 +1,4 @@
--- An input is split at one place, the first line `end` behind which no further sheet begins.
+-- An input is split at one place, the first line `end` after which no further sheet begins.
 use Rattle.std.proofs.Common.{◌≡◌, ℕ, ◌+◌, ◌<◌, ◌≤◌, List, length, take, drop, refl, sym, ap, ◌∙◌, arith, inl, inr}
 use Rattle.std.proofs.lemmas.Bool.{cases_lt}
 use Rattle.sheet_check.specs.Input.{HasEndAt}
@@ -39,7 +39,7 @@ text_once input text file other_text other one again =
     one.text_is
     ∙ (ap (λ (at : ℕ). take (at + 4) input) (same_place input text file other_text other one again) ∙ sym again.text_is)
 
--- and so is the file behind it
+-- and so is the file after it
 pub file_once :
     (input text file other_text other : List ℕ) → IsDaySplit input text file
     → IsDaySplit input other_text other → other ≡ file

@@ -5,7 +5,7 @@ use Rattle.day_audit.specs.Input.{GoesOn, HasNoLastEnd, IsLastEnd}
 use Rattle.day_audit.specs.Worked.{WorkedEnds, two_sheets}
 use Rattle.day_audit.proofs.Splits.{last_fits}
 
--- another byte stands in the line
+-- another byte is in the line
 no_end :
     (input : List ℕ) (at i : ℕ) → get_or (take 4 (drop at input)) i 0 ≢ get_or (codes "end\n") i 0
     → ¬ IsLastEnd input at

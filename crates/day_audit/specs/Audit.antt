@@ -26,7 +26,7 @@ pub record EndsInText (input : List ℕ) (fault : InputFault) : Type 0 where
   pub no_end : HasNoLastEnd input
   pub fault_is : fault ≡ record { kind = Ended; at = length input }
 
--- Nothing ends a text, or the day file behind it is refused.
+-- Nothing ends a text, or the day file after it is refused.
 abbrev pub IsRefusedAudit : (input : List ℕ) → InputFault → Type 0
 IsRefusedAudit input fault =
     EndsInText input fault

@@ -1,4 +1,4 @@
--- The day file behind a text: it may be as long as it may be alone, and its faults have their places in the file.
+-- The day file after a text: it may be as long as it may be alone, and its faults have their places in the file.
 use Rattle.std.specs.Prelude.{◌≡◌, ◌⊎◌, ℕ, ◌<◌, ◌≤◌, List, length, true}
 use Rattle.input_text.specs.declared.input_fault.InputFault.{InputFault}
 use Rattle.input_text.specs.Scan.{scan}

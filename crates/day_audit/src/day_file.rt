@@ -1,4 +1,4 @@
-// The day file behind a text.
+// The day file after a text.
 ghost use Rattle.std.specs.Prelude.{◌≡◌, ◌≤◌, length, IfOk};
 ghost use Rattle.input_text.specs.Reads.{IfFault};
 ghost use Rattle.day_reader.specs.Said.{AreScripts};
@@ -9,7 +9,7 @@ use day_reader::{Day, read_day};
 use std::alloc::Global;
 use tool_edge::DAY_LIMIT;
 
-/// Reads the day file behind a text: Ok where it has no refusal, with the day that it says. A file that is longer
+/// Reads the day file after a text: Ok where it has no refusal, with the day that it says. A file that is longer
 /// than a day file may be is not read at all.
 pub fn read_day_file(alloc: Global, file: &[u8]) -> Result<Day, BltStop>
     ensures says { IfOk result (IsDayFile file.now) }

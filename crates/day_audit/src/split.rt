@@ -6,7 +6,7 @@ ghost use Rattle.day_audit.specs.Input.{GoesOn, HasNoLastEnd, IsDaySplit, IsLast
 use blt_reader::{FaultKind, InputFault};
 use sheet_check::has_end_at;
 
-/// The bytes up to and including the first line `end` behind which no further sheet begins, and those behind
+/// The bytes up to and including the first line `end` after which no further sheet begins, and those after
 /// it; none where there is no such line.
 #[tactic(auto, using(crate::proofs::Splits::nowhere, crate::proofs::Splits::split_at_end, crate::proofs::Splits::last_fits))]
 pub fn text_and_file(input: &[u8]) -> Option<(&[u8], &[u8])>
@@ -30,7 +30,7 @@ pub fn ended(len: usize) -> InputFault
     }
 }
 
-/// Whether a line `end` stands at this place, and no further sheet behind it.
+/// Whether a line `end` is at this place, and no further sheet after it.
 #[tactic(auto, using(crate::proofs::Splits::end_fits))]
 fn is_last_end(input: &[u8], at: usize) -> bool
     requires { at < length input.now }

@@ -25,7 +25,7 @@ use std::alloc::Global;
 use std::thread::Threads;
 use tool_edge::{End, Opened, finish, open, refuse, refuse_input};
 
-/// Audits the text of a day at the front of the input by the day file behind it, or an input that is the summary of a
+/// Audits the text of a day at the front of the input by the day file after it, or an input that is the summary of a
 /// made day, and writes the verdict.
 pub fn audit<R: Threads + Sync, S: Source, K: Sink>(
     rt: &R,
@@ -67,7 +67,7 @@ fn audit_input<R: Threads + Sync, K: Sink>(
     }
 }
 
-/// Audits the text of a day, with its file behind it.
+/// Audits the text of a day, with its file after it.
 #[tactic(auto, using(crate::proofs::Audits::ended_early, crate::proofs::Audits::refused_behind, crate::proofs::Audits::judged))]
 fn audit_day<R: Threads + Sync, K: Sink>(rt: &R, alloc: Global, input: &[u8], sink: &mut K) -> End
     requires { length input.now ≤ SHEET_LIMIT }

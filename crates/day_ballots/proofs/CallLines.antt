@@ -21,7 +21,7 @@ use Rattle.day_replay.proofs.Lists.{inside}
 use Rattle.day_replay.proofs.DayLines.{line_of_a_call}
 use Rattle.day_ballots.specs.Found.{IsFirstOther}
 
--- the line of a call stands at its place
+-- the line of a call is at its place
 call_line :
     (history : List Entry) (k : ℕ) (e : Entry) → slice_get history k ≡ Some e
     → line_at k (entries_text history) ≡ ended (entry_line (k + 1) e)
@@ -61,7 +61,7 @@ module _ (text : List ℕ) (history : List Entry) where
         first.differs (same first.line e (omega (arith, number)) at ∙ sym (call_line history first.line e at));
   }
 
-  -- It is behind the n-th call, or behind all.
+  -- It is after the n-th call, or after all.
   pub behind :
       (n d : ℕ) → IsFirstDifference text (entries_text history) d → (d ≤ n → d ≤ length history → ⊥)
       → BeginsAs n text history

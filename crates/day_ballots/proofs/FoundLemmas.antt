@@ -1,4 +1,4 @@
--- What is found by the history that goes with a text for as long as any does is what stands there.
+-- What is found by the history that goes with a text for as long as any does is what is there.
 use Rattle.std.proofs.Common.{◌≡◌, ◌⊎◌, ℕ, ◌-◌, ◌<◌, ◌≤◌, List, length, take, refl, sym, ap, ◌∙◌, subst}
 use Rattle.std.proofs.Common.{arith, inl, inr}
 use Rattle.std.specs.Prelude.{slice_get, Some, IsPermutation}
@@ -43,7 +43,7 @@ module _ (day : Day) (text : List ℕ) (history : List Entry) (is : IsHistoryOf 
   goes : (n : ℕ) → BeginsAs n text history → GoesAlong day text n history
   goes n lines = record { calls = is; lines = lines }
 
-  -- ---- what stands at a freeze
+  -- ---- what is at a freeze
 
   stands_here : (n : ℕ) (version : VersionState) → IsFound n text history versions version → StandsIn version history
   stands_here n version found =

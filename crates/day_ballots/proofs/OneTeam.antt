@@ -68,7 +68,7 @@ module _ (first second : Call) where
         ∙ (sym (append-nil (own_calls 1 before)) ∙ sym (own_append 1 before (clerk_freeze ∷ []))))
         ∙ (ap (λ (l : List Entry). calls_of (own_calls 1 l)) (sym is.ends.last) ∙ is.whole 1 (omega arith))
 
-  -- what stands before the clerk's freeze, by its calls and their replies
+  -- what is before the clerk's freeze, by its calls and their replies
   two_entries :
       (es : List Entry) → ((n : ℕ) (e : Entry) → slice_get es n ≡ Some e → e.caller ≡ 1) → calls_of es ≡ first ∷ second ∷ []
       → IsLegal (es ++ clerk_freeze ∷ [])

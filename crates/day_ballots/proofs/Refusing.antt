@@ -20,7 +20,7 @@ module _ (day : Day) (text : List ℕ) where
   along_less n k history few along =
       record { calls = along.calls; lines = begins_less text history n k few along.lines }
 
-  -- A freeze behind lawful lines is written.
+  -- A freeze after lawful lines is written.
   pub not_none :
       (n : ℕ) (history : List Entry) (fault : BallotsFault) → IsAtFreeze day text n history
       → ¬ IsNoneAt day text n fault

@@ -36,7 +36,7 @@ abbrev pub IsFileAfter : Day → List Entry → ℕ → (bytes : List ℕ) → T
 IsFileAfter day history n bytes =
     IsBltText (plain (standing_after history n)) (roll_with day.roll (struck_after history n)) bytes
 
--- the file of what stands at the freeze of line n
+-- the file of what is at the freeze of line n
 abbrev pub IsFileAt : Day → (text : List ℕ) → (n : ℕ) → (bytes : List ℕ) → Type 0
 IsFileAt day text n bytes = (history : List Entry) × IsAtFreeze day text n history × IsFileAfter day history n bytes
 
@@ -59,7 +59,7 @@ ballots_refusals = record { line = refusal_line; too_long = λ most. File (too_l
 
 -- ---- the input
 
--- The input is this text, and behind it the file of this day.
+-- The input is this text, and after it the file of this day.
 pub record Says (input text : List ℕ) (day : Day) : Type 0 where
   pub file : List ℕ
   pub split : IsDaySplit input text file
@@ -75,7 +75,7 @@ abbrev pub IsRefusedAt : (n : ℕ) → (input : List ℕ) → BallotsFault → T
 IsRefusedAt n input (File fault) = IsRefusedAudit input fault
 IsRefusedAt n input fault = (text : List ℕ) × (day : Day) × Says input text day × IsNoneAt day text n fault
 
--- the file of what stands at the freeze of line n of the input's text
+-- the file of what is at the freeze of line n of the input's text
 pub record OwesBallots (n : ℕ) (input bytes : List ℕ) : Type 0 where
   pub text : List ℕ
   pub day : Day

@@ -11,9 +11,9 @@ use tool_edge::Fault;
 /// Why an input has no ballots to write at the line that was asked for.
 #[derive(Clone, Copy, Debug, PartialEq, Eq)]
 pub enum BallotsFault {
-    /// It is no text with a day file behind it.
+    /// It is no text with a day file after it.
     File(InputFault),
-    /// This line, from 1, is the first that no history of the day has there, and not behind the one asked for.
+    /// This line, from 1, is the first that no history of the day has there, and not after the one asked for.
     False(u64),
     /// This line, from 1, is the one asked for, and that of no freeze.
     NoFreeze(u64),

@@ -14,7 +14,7 @@ pub(crate) fn frozen_at(mut frozen: Vec<Frozen>, at: u64) -> Option<Frozen>
     Some(frozen.swap_remove(place))
 }
 
-/// Where it stands among those of all freezes.
+/// Where it is among those of all freezes.
 fn place_of(frozen: &[Frozen], at: u64) -> Option<usize>
     ensures { MatchOption result (All (λ version. version.at ≢ at) frozen.now)
         (λ place. (place < length frozen.now) × ((d : VersionState) → (slice_index_or frozen.now place d).at ≡ at)) }

@@ -1,7 +1,7 @@
-//! The ballot file of what stands at a freeze of a day, out of the day's text and its day file.
+//! The ballot file of what is at a freeze of a day, out of the day's text and its day file.
 //!
 //! [`ballots`] is the whole tool: [`takes_line`] reads its words, the day's calls are made again along the lines
-//! of the text, and what stands at the freeze of a line is written in canonical form. An input with nothing to
+//! of the text, and what is at the freeze of a line is written in canonical form. An input with nothing to
 //! write is refused with a [`BallotsFault`]. [`freezes_are_counted`] says that the file is read as these ballots,
 //! and that its sheet is the freeze's.
 #![tactic(auto)]

@@ -18,8 +18,8 @@ use sheet_input::SHEET_LIMIT;
 use std::alloc::Global;
 use tool_edge::{End, Opened, open, refuse};
 
-/// Writes the canonical ballot file of what stands at the freeze of a line: the input is the text of a day, and
-/// behind it the day file. The candidates struck by then are withdrawn in it besides. Sheets are not compared.
+/// Writes the canonical ballot file of what is at the freeze of a line: the input is the text of a day, and
+/// after it the day file. The candidates struck by then are withdrawn in it besides. Sheets are not compared.
 pub fn ballots<S: Source, K: Sink>(
     alloc: Global,
     words: &[String],

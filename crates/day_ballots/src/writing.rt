@@ -15,7 +15,7 @@ use day_replay::{Frozen, follow};
 use std::alloc::Global;
 use tool_edge::{End, close, refuse};
 
-/// Writes the file of what stands at the freeze of a line of a text, or why there is none. The day's calls are
+/// Writes the file of what is at the freeze of a line of a text, or why there is none. The day's calls are
 /// made again in the order that the text's lines say.
 pub(crate) fn write_at<K: Sink>(
     alloc: Global,

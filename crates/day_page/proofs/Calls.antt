@@ -1,4 +1,4 @@
--- What is written of each call, one behind another.
+-- What is written of each call, one after another.
 use Rattle.std.proofs.Common.{◌≡◌, ◌∙◌, ap, sym, ℕ, ◌+◌, ◌≤◌, List, get_or, length, take, arith}
 use Rattle.std.specs.Prelude.{Some, slice_get}
 use Rattle.std.specs.List.{flat_map}

@@ -88,7 +88,7 @@ first_at :
 first_at n last e all rest true same = ap (λ (l : List ℕ). n ∷ l) same
 first_at n last e all rest false same = same
 
--- the clerk's freeze behind these calls is at the end
+-- the clerk's freeze after these calls is at the end
 ends_at :
     (n : ℕ) (before : List Entry)
     → places_from n (before ++ clerk_freeze ∷ []) ≡ places_from n before ++ (n + length before) ∷ []

@@ -1,4 +1,4 @@
--- The JSON of a day as a text of what it says. 93 is the bracket behind a list, and 125 the brace behind the whole.
+-- The JSON of a day as a text of what it says. 93 is the bracket after a list, and 125 the brace after the whole.
 use Rattle.std.proofs.Common.{◌≡◌, ◌∙◌, refl, sym, ap, subst, ℕ, ◌+◌, ◌<◌, ◌≤◌, ◌^◌, List, [], ◌∷◌, ◌++◌, arith}
 use Rattle.std.proofs.Common.{Bool, true, false, append_assoc, drop, get_or, inl, inr, length, length-append, map}
 use Rattle.std.specs.Prelude.{All, codes, decimal, nat_eq}
@@ -37,7 +37,7 @@ others_written (piece ∷ pieces) rest =
     ∙ ap (λ (l : List ℕ). piece ++ l) (others_written pieces rest)
     ∙ sym (append_assoc piece (others_closed pieces 93) rest))
 
--- pieces with a comma between two, and the bracket behind them
+-- pieces with a comma between two, and the bracket after them
 list_written : (pieces : List (List ℕ)) (rest : List ℕ) → listed pieces ++ 93 ∷ rest ≡ closed pieces 93 ++ rest
 list_written [] rest = refl
 list_written (piece ∷ pieces) rest =

@@ -1,4 +1,4 @@
--- What stands on a page of its day.
+-- What is on a page of its day.
 use Rattle.std.proofs.Common.{◌≡◌, ◌∙◌, refl, ap, ℕ, Bool, true, false, List, [], ◌∷◌, ◌++◌, map, length}
 use Rattle.std.proofs.Common.{append-nil, append_assoc, sym}
 use Rattle.std.specs.Prelude.{if◌then◌else◌, codes, decimal, nat_eq}
@@ -45,7 +45,7 @@ below_main path places v =
 
 -- ---- calls
 
--- four cells, each with nothing behind its text
+-- four cells, each with nothing after its text
 cells_said :
     (a b c d : List ℕ)
     → (a ++ []) ++ 32 ∷ ((b ++ []) ++ 32 ∷ ((c ++ []) ++ 32 ∷ (d ++ [])))

@@ -1,4 +1,4 @@
--- Items of a list of JSON, one behind another.
+-- Items of a list of JSON, one after another.
 use Rattle.std.proofs.Common.{◌≡◌, ◌∙◌, ap, sym, subst, ℕ, ◌+◌, ◌<◌, ◌≤◌, List, [], ◌∷◌, ◌++◌, arith}
 use Rattle.std.proofs.Common.{append-nil, append_assoc, get_or, length, map, take}
 use Rattle.std.specs.Prelude.{Some, slice_get}

@@ -9,7 +9,7 @@ use Rattle.sheet_page.specs.Prints.{Prints}
 use Rattle.sheet_page.proofs.Pens.{item_more}
 use Rattle.day_page.specs.Lists.{own_first}
 
--- the own one, and behind it the others
+-- the own one, and after it the others
 pub own_then_others :
     {X : Type 0} (g : X → List ℕ) (items own others : List X) → own ≡ drop (length items - 1) items
     → others ≡ take (length items - 1) items

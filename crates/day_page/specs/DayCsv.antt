@@ -24,6 +24,6 @@ table_records history = table_head ∷ map (λ e. entry_record e.0 e.1) (numbere
 abbrev pub day_csv : DayTextList → List ℕ
 day_csv v = csv_text (table_records v.history)
 
--- the table behind a byte order mark, by which spreadsheets know that it is UTF-8
+-- the table after a byte order mark, by which spreadsheets know that it is UTF-8
 abbrev pub marked_day_csv : DayTextList → List ℕ
 marked_day_csv v = 0xEF ∷ 0xBB ∷ 0xBF ∷ day_csv v

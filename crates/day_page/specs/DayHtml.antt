@@ -17,7 +17,7 @@ day_name = codes "A day of ballot entry"
 abbrev pub day_heading : Trees
 day_heading = el (codes "h1") [] (words day_name ∷ [])
 
--- calls with their answers, what stands in the end, and sheets
+-- calls with their answers, what is in the end, and sheets
 abbrev pub content_with : (places : ℕ) → List Entry → List FrozenSheet → DayEndList → Trees
 content_with places history sheets end =
     el (codes "main") [] (

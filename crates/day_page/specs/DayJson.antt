@@ -32,7 +32,7 @@ call_json n e = answered_json n e.caller (call_text e.call) (reply_text e.reply)
 abbrev pub calls_json : List Entry → List ℕ
 calls_json history = codes "{\"calls\":[" ++ listed (map (λ e. call_json e.0 e.1) (numbered history))
 
--- ---- what stands in the end
+-- ---- what is in the end
 
 -- a batch that was entered, with its last revision, and whether it stands
 abbrev pub batch_json : BatchEnd → List ℕ
@@ -67,7 +67,7 @@ freezes_json places calls sheets = codes "],\"freezes\":[" ++ (listed (map (free
 
 -- ---- the whole day
 
--- calls, what stands in the end, and sheets
+-- calls, what is in the end, and sheets
 abbrev pub json_with : (places : ℕ) → List Entry → List FrozenSheet → DayEndList → List ℕ
 json_with places history sheets end = calls_json history ++ (end_json end ++ freezes_json places (length history) sheets)
 

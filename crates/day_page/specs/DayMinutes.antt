@@ -32,7 +32,7 @@ calls_text history =
     codes "A day of ballot entry\n\nCalls\nNumber Who     Call               Answer\n"
     ++ flat_map (λ e. answered_line e.0 e.1) (numbered history)
 
--- ---- what stands in the end
+-- ---- what is in the end
 
 abbrev pub batch_line : BatchEnd → List ℕ
 batch_line b = codes "Batch " ++ (decimal b.number ++ (fate b.stands ++ (decimal b.revision ++ codes ".\n")))
@@ -68,7 +68,7 @@ freeze_text places calls s = titled_text places s.freeze (whose calls s.freeze) 
 
 -- ---- the whole text
 
--- calls, what stands in the end, and sheets
+-- calls, what is in the end, and sheets
 abbrev pub minutes_with : (places : ℕ) → List Entry → List FrozenSheet → DayEndList → List ℕ
 minutes_with places history sheets end =
     calls_text history ++ (end_text end ++ flat_map (freeze_text places (length history)) (own_first sheets))

@@ -1,4 +1,4 @@
--- What stands in the end of a day, on a page.
+-- What is in the end of a day, on a page.
 use Rattle.std.specs.Prelude.{ℕ, Bool, true, false, List, [], ◌∷◌, codes, decimal, length}
 use Rattle.page_tree.specs.Trees.{Trees}
 use Rattle.day_text.specs.declared.batch_end.BatchEnd.{BatchEnd}

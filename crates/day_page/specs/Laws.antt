@@ -53,7 +53,7 @@ row_said row = spaced (texts_along (codes "th" ∷ []) row ++ texts_along (codes
 abbrev pub PagesSayTheirCalls : Type 0
 PagesSayTheirCalls = (places : ℕ) (v : DayTextList) → map row_said (rows_of places v) ≡ entry_lines v.history
 
--- ---- what stands in the end
+-- ---- what is in the end
 
 -- what became of a batch: as long as it stands the book has its ballots
 abbrev pub fate_said : {X : Type 0} → Option X → List ℕ

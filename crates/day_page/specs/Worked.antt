@@ -8,7 +8,7 @@ use Rattle.day_page.specs.DayCsv.{day_csv}
 use Rattle.day_page.specs.DayJson.{json_with}
 use Rattle.day_page.specs.DayMinutes.{minutes_with}
 
--- what stands in the end of the day that is worked by hand with the form of its text
+-- what is in the end of the day that is worked by hand with the form of its text
 abbrev pub end : DayEndList
 end = record {
   batches = record { number = 2; revision = 2; stands = true } ∷ record { number = 3; revision = 2; stands = false } ∷ [];
@@ -19,7 +19,7 @@ end = record {
 abbrev pub text : List (List ℕ) → List ℕ
 text lines = flat_map ended lines
 
--- The day has a freeze of team 1, a candidate who is struck behind it, and the office's own freeze. Both sheets have no iteration.
+-- The day has a freeze of team 1, a candidate who is struck after it, and the office's own freeze. Both sheets have no iteration.
 abbrev pub WorkedDay : Type 0
 WorkedDay =
     minutes_with 9 values.history values.sheets end
@@ -97,7 +97,7 @@ WorkedTable =
     ∷ codes "9,clerk,freeze,frozen"
     ∷ [])
 
--- The same day as JSON, without the line feed behind it.
+-- The same day as JSON, without the line feed after it.
 abbrev pub WorkedJson : Type 0
 WorkedJson =
     json_with 9 values.history values.sheets end

@@ -26,7 +26,7 @@ pub(crate) fn write_day_csv<const P: usize, K: Sink>(
     pen.end()
 }
 
-/// Writes the same table behind a byte order mark.
+/// Writes the same table after a byte order mark.
 pub(crate) fn write_marked_day_csv<const P: usize, K: Sink>(
     day: &DayText<P>,
     sink: &mut K,

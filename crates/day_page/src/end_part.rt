@@ -1,4 +1,4 @@
-// What stands in the end of a day, on a page.
+// What is in the end of a day, on a page.
 ghost use Rattle.std.specs.Prelude.{◌≡◌};
 ghost use Rattle.page_tree.specs.Print.{printed};
 ghost use Rattle.sheet_page.specs.Prints.{Prints};
@@ -9,7 +9,7 @@ use byte_edge::Sink;
 use day_text::{BatchEnd, DayEnd};
 use sheet_page::{Cell, Pen, Piece};
 
-/// Writes the part of a page that says what stands in the end.
+/// Writes the part of a page that says what is in the end.
 pub(crate) fn write_end<const P: usize, K: Sink>(pen: &mut Pen<'_, P, K>, end: &DayEnd)
     ensures { Prints K.Sink pen.old pen.new (printed (end_part end.now)) }
 {

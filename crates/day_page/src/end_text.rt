@@ -1,4 +1,4 @@
-// What stands in the end of a day, as lines of a text.
+// What is in the end of a day, as lines of a text.
 ghost use Rattle.std.specs.Prelude.{◌≡◌};
 ghost use Rattle.std.specs.List.{flat_map};
 ghost use Rattle.sheet_page.specs.Prints.{Prints};
@@ -9,7 +9,7 @@ use byte_edge::Sink;
 use day_text::{BatchEnd, DayEnd};
 use sheet_page::{Pen, Piece};
 
-/// Writes what stands in the end.
+/// Writes what is in the end.
 pub(crate) fn write_end<const P: usize, K: Sink>(pen: &mut Pen<'_, P, K>, end: &DayEnd)
     ensures { Prints K.Sink pen.old pen.new (end_text end.now) }
 {

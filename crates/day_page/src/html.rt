@@ -17,7 +17,7 @@ use day_text::{DayEnd, DaySheets, DayText};
 use page_tree::Attribute;
 use sheet_page::{Cell, Pen, Piece, write_style};
 
-/// Writes a day as a page, with what stands in its end.
+/// Writes a day as a page, with what is in its end.
 pub(crate) fn write_html<const P: usize, K: Sink>(
     day: &DayText<P>,
     end: &DayEnd,
@@ -34,7 +34,7 @@ pub(crate) fn write_html<const P: usize, K: Sink>(
     pen.end()
 }
 
-/// All behind the line that says that it is HTML.
+/// All after the line that says that it is HTML.
 fn write_page<const P: usize, K: Sink>(pen: &mut Pen<'_, P, K>, day: &DayText<P>, end: &DayEnd)
     requires printable { All (IsPrintableSheet P) day.now.sheets }
     requires end { end.now ≡ day_end day.now.history }
@@ -91,7 +91,7 @@ fn write_body<const P: usize, K: Sink>(pen: &mut Pen<'_, P, K>, day: &DayText<P>
     pen.close(b"body");
 }
 
-/// The calls with their answers, what stands in the end, and the sheet of each freeze.
+/// The calls with their answers, what is in the end, and the sheet of each freeze.
 fn write_content<const P: usize, K: Sink>(pen: &mut Pen<'_, P, K>, day: &DayText<P>, end: &DayEnd)
     requires printable { All (IsPrintableSheet P) day.now.sheets }
     requires end { end.now ≡ day_end day.now.history }
@@ -100,7 +100,7 @@ fn write_content<const P: usize, K: Sink>(pen: &mut Pen<'_, P, K>, day: &DayText
     write_content_of(pen, &day.history, end, &day.sheets);
 }
 
-/// Calls with their answers, what stands in the end, and sheets.
+/// Calls with their answers, what is in the end, and sheets.
 fn write_content_of<const P: usize, K: Sink>(
     pen: &mut Pen<'_, P, K>,
     history: &Entries,

@@ -16,7 +16,7 @@ use day_text::{BatchEnd, DayEnd, DaySheet, DaySheets, DayText};
 use sheet_page::{Cell, Pen, Piece, comma_at, truth, write_sheet_json};
 use sheet_reader::SheetValuesAt;
 
-/// Writes a day as JSON, in one line, with what stands in its end.
+/// Writes a day as JSON, in one line, with what is in its end.
 pub(crate) fn write_day_json<const P: usize, K: Sink>(
     day: &DayText<P>,
     end: &DayEnd,
@@ -40,7 +40,7 @@ fn write_day<const P: usize, K: Sink>(pen: &mut Pen<'_, P, K>, day: &DayText<P>,
     write_day_of(pen, &day.history, end, &day.sheets);
 }
 
-/// Calls with their answers, what stands in the end, and sheets.
+/// Calls with their answers, what is in the end, and sheets.
 fn write_day_of<const P: usize, K: Sink>(
     pen: &mut Pen<'_, P, K>,
     history: &Entries,
@@ -56,7 +56,7 @@ fn write_day_of<const P: usize, K: Sink>(
     write_freezes(pen, calls, sheets);
 }
 
-/// What stands before the item at a place of a list.
+/// What is before the item at a place of a list.
 fn write_comma<const P: usize, K: Sink>(pen: &mut Pen<'_, P, K>, place: usize)
     ensures { Prints K.Sink pen.old pen.new (comma_at place) }
 {
@@ -111,7 +111,7 @@ fn write_answered<'x, const P: usize, K: Sink>(
     ]);
 }
 
-/// The lists of what stands in the end.
+/// The lists of what is in the end.
 fn write_end<const P: usize, K: Sink>(pen: &mut Pen<'_, P, K>, end: &DayEnd)
     ensures { Prints K.Sink pen.old pen.new (end_json end.now) }
 {

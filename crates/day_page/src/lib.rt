@@ -1,4 +1,4 @@
-//! The text of a day shown to people and to programs: its calls, what stands in the end, and the sheet of each freeze;
+//! The text of a day shown to people and to programs: its calls, what is in the end, and the sheet of each freeze;
 //! as a page for a browser, as a text for a terminal, a mail or the minutes, or as JSON; and its calls alone as a
 //! table for spreadsheets. People have the office's own sheet first, which is that of the last freeze.
 //!

@@ -18,7 +18,7 @@ use day_text::{DayEnd, DaySheet, DaySheets, DayText};
 use sheet_page::{Pen, Piece};
 use sheet_reader::SheetValuesAt;
 
-/// Writes a day as a text, with what stands in its end.
+/// Writes a day as a text, with what is in its end.
 pub(crate) fn write_day_minutes<const P: usize, K: Sink>(
     day: &DayText<P>,
     end: &DayEnd,
@@ -32,7 +32,7 @@ pub(crate) fn write_day_minutes<const P: usize, K: Sink>(
     write_minutes_of(&day.history, end, &day.sheets, sink)
 }
 
-/// Writes calls, what stands in their end, and sheets.
+/// Writes calls, what is in their end, and sheets.
 fn write_minutes_of<const P: usize, K: Sink>(
     history: &Entries,
     end: &DayEnd,

@@ -103,7 +103,7 @@ fn show_day<const P: usize, K: Sink>(
     close(sink, wrote)
 }
 
-/// Writes the values of a day, with what stands in its end.
+/// Writes the values of a day, with what is in its end.
 fn write_day<const P: usize, K: Sink>(
     format: Format,
     day: &DayText<P>,

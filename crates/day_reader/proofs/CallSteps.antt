@@ -1,4 +1,4 @@
--- The parts of a call, one behind another.
+-- The parts of a call, one after another.
 use Rattle.std.proofs.Common.{◌≡◌, ℕ, [], refl, sym, ◌∙◌, ap, Ok, Err}
 use Rattle.plain_ballots.specs.Ballots.{BallotList}
 use Rattle.batch_core.specs.declared.change.Change.TheVariants.{Enter, Correct, Withdraw}

@@ -64,7 +64,7 @@ module _ (shared : Shared) where
         ∙ in_teams (teams.teams_rest shared.lines Candidates before script) (GoesOn (TeamNumber []))
         (GoesOn (InTeam before script)) (teams.reads_teams shared.lines Candidates before [] script are)
 
-    -- behind some teams
+    -- after some teams
     and_then :
         (before : List Script) (script : Script) (items : List Item) (last : Progress InTeams (List Script))
         → AreTeams Candidates (and_team before script)

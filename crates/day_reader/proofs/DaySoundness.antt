@@ -56,7 +56,7 @@ is_day head teams items is are behind = record {
   scripts = refl;
 }
 
--- the word of a team or of the end, behind the head
+-- the word of a team or of the end, after the head
 head_goes :
     (head : Head) (next : Progress Expected Day) (items : List Item) (keyword : Keyword) → IsHead head
     → IsBehind head.roll (head_items head) items → behind_head head keyword ≡ Ok next → Goes items (word keyword) next
@@ -73,7 +73,7 @@ head_goes head next items keyword is behind e = absurd (refused e)
 
 module _ (roll : RollList) (lots : List ℕ) (next : Progress Expected Day) (items : List Item)
     (are : AreAllLots (length roll.names) lots) where
-  -- the word of the places behind the lots, or the end of a head without a scale
+  -- the word of the places after the lots, or the end of a head without a scale
   lots_end :
       (keyword : Keyword) → IsBehind roll (lots_items lots) items → behind_lots roll lots keyword ≡ Ok next
       → Goes items (word keyword) next
@@ -83,7 +83,7 @@ module _ (roll : RollList) (lots : List ℕ) (next : Progress Expected Day) (ite
       head_goes (record { roll = roll; lots = lots; scale = None }) next items keyword (record { lots = are; scale = tt })
       (subst (λ (l : List Item). IsBehind roll l items) (sym (append-nil (lots_items lots))) is) e
 
-  -- the word `omega` behind the places
+  -- the word `omega` after the places
   places_end :
       (places : ℕ) (keyword : Keyword) → IsPlaces places
       → IsBehind roll (lots_items lots ++ word key.Places ∷ Number places ∷ []) items

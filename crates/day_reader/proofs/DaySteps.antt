@@ -1,4 +1,4 @@
--- The parts of a day file, one behind another.
+-- The parts of a day file, one after another.
 use Rattle.std.proofs.Common.{◌≡◌, ℕ, List, [], length, Bool, true, false, refl, sym, ◌∙◌, ap, subst, Ok, Err}
 use Rattle.std.specs.Prelude.{Result, IfOk, IfErr}
 use Rattle.candidate_roll.specs.Roll.{RollList}
@@ -156,7 +156,7 @@ module _ (roll : RollList) (candidates : ℕ) (all : length roll.names ≡ candi
         (record { roll = roll; lots = lots; places = read.places; omega = n; scripts = scripts }, new))
         (sym is.omega)
 
--- ---- behind the end
+-- ---- after the end
 
 abbrev Behind : Day → Scan → Result Day InputFault
 Behind day text = outcome at_file_token ended (Ends day) text.tokens text.ending

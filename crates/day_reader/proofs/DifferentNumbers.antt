@@ -91,7 +91,7 @@ stands_in : (numbers : List ℕ) (n : ℕ) → list_any (λ c. c == n) numbers �
 stands_in [] n = refl
 stands_in (c ∷ numbers) n = rw (turned c n, stands_in numbers n) refl
 
--- where there are fewer, one can come behind them
+-- where there are fewer, one can come after them
 pub one_is_missing :
     (greatest : ℕ) (numbers : List ℕ) → length numbers < greatest
     → (n : ℕ) × IsIn greatest n × (list_any (λ c. c == n) numbers ≡ false)

@@ -1,4 +1,4 @@
--- The table of day files accepts all that stands before the teams.
+-- The table of day files accepts all that is before the teams.
 use Rattle.std.proofs.Common.{◌≡◌, ◌≢◌, ℕ, zero, suc, ◌+◌, ◌==◌, List, [], ◌∷◌, ◌++◌, length, map, false, All}
 use Rattle.std.proofs.Common.{AllPairs, refl, sym, ◌∙◌, ap, subst, arith, append_assoc, Ok}
 use Rattle.std.specs.Prelude.{Option, Some, None}
@@ -219,7 +219,7 @@ module _ (is : RollList) where
 
 -- ---- the head
 
--- what is expected behind a head
+-- what is expected after a head
 abbrev pub behind_scale : RollList → List ℕ → Option Scale → Expected
 behind_scale is lots None = BehindLots is lots
 behind_scale is lots (Some scale) = BehindOmega is lots scale

@@ -1,4 +1,4 @@
--- What stands between the lots and the first team, state by state: the places, omega, and the word of a team or of the end.
+-- What is between the lots and the first team, state by state: the places, omega, and the word of a team or of the end.
 use Rattle.std.proofs.Common.{◌≡◌, ℕ, List, Bool, refl, sym, ◌∙◌, ap, Ok, Err}
 use Rattle.std.specs.Prelude.{Some, None, Result}
 use Rattle.fixed_place.specs.declared.omega.TheConstants.{MOST_OMEGA}
@@ -34,7 +34,7 @@ module _ (roll : RollList) (lots : List ℕ) where
   unfolding at_token
   lots_rule item = refl
 
-  -- the word of the places, of a team or of the end, behind the lots
+  -- the word of the places, of a team or of the end, after the lots
   abbrev pub behind_the_lots : State Keyword
   behind_the_lots = record {
     expected = BehindLots roll lots;
@@ -49,7 +49,7 @@ module _ (roll : RollList) (lots : List ℕ) where
   unfolding at_token
   places_rule item = refl
 
-  -- the places behind their word
+  -- the places after their word
   abbrev pub at_places : State ℕ
   at_places = record {
     expected = Places roll lots;
@@ -65,7 +65,7 @@ module _ (roll : RollList) (lots : List ℕ) where
     unfolding at_token
     omega_word_rule item = refl
 
-    -- the word `omega` behind the places
+    -- the word `omega` after the places
     abbrev pub behind_the_places : State Keyword
     behind_the_places = record {
       expected = BehindPlaces roll lots places;
@@ -80,7 +80,7 @@ module _ (roll : RollList) (lots : List ℕ) where
     unfolding at_token
     omega_rule item = refl
 
-    -- omega behind its word
+    -- omega after its word
     abbrev pub at_omega : State ℕ
     at_omega = record {
       expected = Omega roll lots places;
@@ -98,7 +98,7 @@ module _ (roll : RollList) (lots : List ℕ) where
     unfolding at_token
     head_rule item = refl
 
-    -- the word of a team or of the end, behind omega
+    -- the word of a team or of the end, after omega
     abbrev pub behind_the_omega : State Keyword
     behind_the_omega = record {
       expected = BehindOmega roll lots scale;
@@ -109,14 +109,14 @@ module _ (roll : RollList) (lots : List ℕ) where
 
   -- ---- words that may not stand there
 
-  -- another word than that of the places is the first behind a head without a scale
+  -- another word than that of the places is the first after a head without a scale
   pub not_places :
       (keyword : Keyword) → (keyword ≡ key.Places → ⊥)
       → behind_lots roll lots keyword ≡ behind_head (record { roll = roll; lots = lots; scale = None }) keyword
   not_places key.Places not = absurd (not refl)
   not_places keyword not = refl
 
-  -- another word than `omega` may not stand behind the places
+  -- another word than `omega` may not stand after the places
   pub no_omega :
       (places : ℕ) (keyword : Keyword) → (keyword ≡ key.Omega → ⊥)
       → behind_places roll lots places keyword ≡ Err WordExpected
@@ -125,7 +125,7 @@ module _ (roll : RollList) (lots : List ℕ) where
 
 -- ---- a team or the end
 
--- A word in a state that goes on as behind this head.
+-- A word in a state that goes on as after this head.
 module _ (head : Head) (state : State Keyword) {old new : Scan} where
   -- the word of a team leads to the first team, and that of the end to a day without teams
   pub head_leads :
@@ -156,7 +156,7 @@ module _ (head : Head) (state : State Keyword) {old new : Scan} where
   head_fails key.End fault is same begins = absurd (refused begins)
   head_fails keyword fault is same begins = refused_word keyword fault is same begins
 
--- ---- behind the lots
+-- ---- after the lots
 
 -- the word of the places leads to the places
 pub reads_scale_part :

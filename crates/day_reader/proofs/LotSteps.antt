@@ -1,4 +1,4 @@
--- The lots of a day, one number behind another, and the marks of the candidates that have had theirs.
+-- The lots of a day, one number after another, and the marks of the candidates that have had theirs.
 use Rattle.std.proofs.Common.{◌≡◌, ◌≢◌, ℕ, ◌<◌, ◌≤◌, ◌==◌, List, [], ◌∷◌, ◌++◌, length, Bool, true, false}
 use Rattle.std.proofs.Common.{refl, sym, ◌∙◌, ap, subst, arith, Ok, Err, set, inl, inr, get_or-set_other}
 use Rattle.std.specs.Prelude.{Result, ◌||◌, ◌-◌, IfOk, IfErr}
@@ -53,7 +53,7 @@ module _ (candidates : ℕ) (lots : List ℕ) (old new : Scan) where
     bad_lot : at_lot candidates lots (Number n) ≡ Err BadLots → IsBad
     bad_lot refuses = refused_at (at_lot candidates) lots old new _ BadLots given refuses
 
-    -- 0 stands before all candidates have had their lots
+    -- 0 is before all candidates have had their lots
     pub lots_missing : n ≡ 0 → length lots ≢ candidates → IsBad
     lots_missing none few = bad_lot (rw (eq-eqb n 0 none, ne_eqb (length lots) candidates few) refl)
 

@@ -32,7 +32,7 @@ use Rattle.day_reader.proofs.DifferentNumbers.{no_numbers, one_number_more}
 
 -- ---- one item more
 
--- The items with this one behind them are a front part for this progress.
+-- The items with this one after them are a front part for this progress.
 abbrev pub Goes : List Item → Item → Progress Expected Day → Type 0
 Goes items x next = IsFileFront next (items ++ x ∷ [])
 
@@ -42,7 +42,7 @@ pub arrives :
     → ◌≡◌ {A = Judged (Progress Expected Day)} (Ok found) (Ok next) → Goes items x found → Goes items x next
 arrives items x same goes = subst (Goes items x) (same_value same) goes
 
--- an item more behind the roll
+-- an item more after the roll
 pub behind_more :
     (roll : RollList) {part more : List Item} (items : List Item) (x : Item) → IsBehind roll part items
     → more ≡ part ++ x ∷ [] → IsBehind roll more (items ++ x ∷ [])
@@ -82,7 +82,7 @@ roll_goes shared expected next x items (Ok (Ends poll)) front judged e =
     (without_lines (items ++ x ∷ []) poll (roll_goes_on shared (GoesOn expected) (Ends poll) x items front judged))
 roll_goes shared expected next x items (Err kind) front judged e = absurd (refused e)
 
--- the word `lots` behind the title
+-- the word `lots` after the title
 pub title_goes :
     (roll : RollList) (next : Progress Expected Day) (items : List Item) (keyword : Keyword)
     → IsBlt 0 items (record { roll = roll; lines = [] }) → behind_title roll keyword ≡ Ok next
@@ -94,7 +94,7 @@ title_goes roll next items keyword is e = absurd (refused e)
 
 -- ---- the lots
 
--- Behind these lots of different candidates.
+-- After these lots of different candidates.
 module _ (roll : RollList) (lots : List ℕ) (items : List Item) (are : AreDifferent (length roll.names) lots)
     (is : IsBehind roll (word key.Lots ∷ map Number lots) items) where
   abbrev LotFront : Progress (List ℕ) (List ℕ) → List Item → Type 0

@@ -43,7 +43,7 @@ module _ {A : Type 0} (state : State A) {old new : Scan} where
       refused_at at_token state.expected old new is.token kind is.given
       (state.rule is.token.item ∙ ap (λ (j : Judged A). then_on j state.leads) is.accepted ∙ refuses)
 
--- a word that stands in a text is accepted as that word
+-- a word that is in a text is accepted as that word
 abbrev pub is_word :
     {old new : Scan} {at : ℕ} (keyword : Keyword) → old ≡ with_front (record { at = at; item = word keyword }) new
     → Accepts as_keyword old keyword new

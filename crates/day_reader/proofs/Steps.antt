@@ -19,7 +19,7 @@ use Rattle.day_reader.specs.CallTable.{as_tested}
 use Rattle.day_reader.specs.Reads.{Leads, LeadsOrWants}
 use Rattle.day_reader.proofs.Keywords.{reads_word}
 
--- what is said behind this progress
+-- what is said after this progress
 abbrev pub onward : {S V : Type 0} → (S → Item → Judged (Progress S V)) → Progress S V → Scan → Result (V × Scan) Stopped
 onward table (GoesOn expected) text = reads table expected text
 onward table (Ends value) text = Ok (value, text)
@@ -70,7 +70,7 @@ module _ {S V : Type 0} (table : S → Item → Judged (Progress S V)) (expected
       ≡ Err (record { fault = record { kind = kind; at = at }; rest = new })
   word_refused kind e = refused_at table expected old new _ kind given (word_judged ∙ e)
 
--- ---- a front that an inner table reads, behind whose end anything may come
+-- ---- a front that an inner table reads, after whose end anything may come
 
 module _ {S V T W : Type 0} (inner : S → Item → Judged (Progress S V))
     (outer : T → Item → Judged (Progress T W)) (inside : S → T) (behind : V → Progress T W)
@@ -171,7 +171,7 @@ pub leads :
 leads same onward rest (Ok found) is = same ∙ is
 leads same onward rest (Err fault) is = same ∙ is
 
--- behind a token that was given fewer are left
+-- after a token that was given fewer are left
 pub fewer_left :
     (old mid new : Reader) (token : Placed) → old.rest ≡ with_front token mid.rest → IsBehind mid new
     → tokens_left new < tokens_left old

@@ -183,7 +183,7 @@ module _ (rightly : ExpectsLinesRightly) (candidates : ℕ) where
       ∙ ap (λ (calls : List Call). Ok (GoesOn (InTeam before (record script { calls = calls }))))
       (append_assoc script.calls (one ∷ []) more)
 
-  -- a team behind its word
+  -- a team after its word
   abbrev pub team_rest : Script → List Item
   team_rest script = Number script.team ∷ flat_map call_items script.calls
 
@@ -208,7 +208,7 @@ module _ (rightly : ExpectsLinesRightly) (candidates : ℕ) where
 
   -- ---- all teams
 
-  -- teams behind the word of the first, up to the last
+  -- teams after the word of the first, up to the last
   abbrev pub teams_rest : List Script → Script → List Item
   teams_rest [] script = team_rest script
   teams_rest (first ∷ more) script = team_rest first ++ word key.Team ∷ teams_rest more script
@@ -253,7 +253,7 @@ module _ (rightly : ExpectsLinesRightly) (candidates : ℕ) where
       ∙ reads_teams more (and_team before first) script all
       ∙ ap (λ (teams : List Script). Ok (GoesOn (InTeam teams script))) (append_assoc before (first ∷ []) more)
 
-  -- behind the last team the next one may begin
+  -- after the last team the next one may begin
   pub reads_next :
       (before : List Script) (script : Script) → length (and_team before script) < 16
       → ReadsTeams (InTeam before script) (word key.Team ∷ []) (GoesOn (TeamNumber (and_team before script)))

@@ -1,4 +1,4 @@
--- What stands behind the title: strings that are passed over, and the word `lots`.
+-- What is after the title: strings that are passed over, and the word `lots`.
 use Rattle.std.proofs.Common.{◌≡◌, ℕ, List, [], refl, sym, ◌∙◌, ap, Ok, Err}
 use Rattle.std.specs.Prelude.{Result}
 use Rattle.candidate_roll.specs.Roll.{RollList}
@@ -19,7 +19,7 @@ use Rattle.day_reader.specs.Reads.{Leads, IsLotsWord}
 use Rattle.day_reader.proofs.Keywords.{reads_word}
 use Rattle.day_reader.proofs.Steps.{word_leads}
 
--- a text that ends behind the title is refused at its end
+-- a text that ends after the title is refused at its end
 pub title_ends :
     (roll : RollList) (old new : Scan) (fault : InputFault) → IsEnded old fault new
     → reads at_token (BehindTitle roll) old ≡ Err (record { fault = fault; rest = new })
@@ -69,7 +69,7 @@ not_lots : (roll : RollList) (keyword : Keyword) → (keyword ≡ key.Lots → �
 not_lots roll key.Lots not = absurd (not refl)
 not_lots roll keyword not = refl
 
--- another word than `lots` may not stand behind the title
+-- another word than `lots` may not stand after the title
 pub another_word :
     (item : Item) (keyword : Keyword) → item ≡ word keyword → (keyword ≡ key.Lots → ⊥) → (roll : RollList)
     → then_on (as_keyword item) (behind_title roll) ≡ Err WordExpected

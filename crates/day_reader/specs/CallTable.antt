@@ -31,7 +31,7 @@ as_batch = as_between 1 LAST_NUMBER BadBatch
 abbrev pub as_revision : Item → Judged ℕ
 as_revision = as_between 1 LAST_NUMBER BadRevision
 
--- ---- a call behind its word
+-- ---- a call after its word
 
 pub data InCall : Type 0 where
   -- a batch number

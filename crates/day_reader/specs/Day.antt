@@ -19,7 +19,7 @@ pub record AreDifferent (greatest : ℕ) (numbers : List ℕ) : Type 0 where
 
 -- ---- lots
 
--- each of so many candidates stands once
+-- each of so many candidates appears once
 pub record AreAllLots (candidates : ℕ) (lots : List ℕ) : Type 0 where
   pub numbers : AreDifferent candidates lots
   pub all : length lots ≡ candidates
@@ -30,7 +30,7 @@ lots_items lots = word key.Lots ∷ map Number lots ++ Number 0 ∷ []
 
 -- ---- places and omega
 
--- the places behind the point, and omega in units of the last place
+-- the places after the point, and omega in units of the last place
 pub record Scale : Type 0 where
   pub places : ℕ
   pub omega : ℕ
@@ -72,7 +72,7 @@ by_number teams = flat_map (λ number. filter (λ script. script.team == number)
 
 -- ---- the file
 
--- A ballot file without ballots, an order of lots in which each candidate stands once, maybe the places and omega, the
+-- A ballot file without ballots, an order of lots in which each candidate appears once, maybe the places and omega, the
 -- teams in any order, and the word `end`.
 pub record IsDay (items : List Item) (day : Day) : Type 0 where
   pub roll_items : List Item

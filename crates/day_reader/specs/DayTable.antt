@@ -25,14 +25,14 @@ at_lot_number candidates lots n =
     else (if nat_le n candidates then (if list_any (λ c. c == n) lots then Err BadLots else Ok (GoesOn (lots ++ n ∷ [])))
     else Err BadLots)
 
--- a candidate or 0, behind these lots
+-- a candidate or 0, after these lots
 abbrev pub at_lot : ℕ → List ℕ → Item → Judged (Progress (List ℕ) (List ℕ))
 at_lot candidates lots (Number n) = at_lot_number candidates lots n
 at_lot candidates lots item = Err BadNumber
 
 -- ---- the whole file
 
--- what stands before the teams
+-- what is before the teams
 pub record Head : Type 0 where
   pub roll : RollList
   pub lots : List ℕ
@@ -95,7 +95,7 @@ at_token (Omega roll lots places) item = then_on (as_between 1 MOST_OMEGA BadOme
 at_token (BehindOmega roll lots scale) item = then_on (as_keyword item) (behind_head (record { roll = roll; lots = lots; scale = Some scale }))
 at_token (Teams head expected) item = carried_to (λ more. GoesOn (Teams head more)) (λ teams. Ends (day_of head teams)) (at_teams (length head.roll.names) expected item)
 
--- nothing stands behind the end
+-- nothing is after the end
 abbrev pub behind_end : Day → Item → Judged (Progress Expected Day)
 behind_end day item = Err Trailing
 

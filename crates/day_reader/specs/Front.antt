@@ -1,4 +1,4 @@
--- Front parts of a day file, by what is expected behind them.
+-- Front parts of a day file, by what is expected after them.
 use Rattle.std.specs.Prelude.{◌≡◌, ◌<◌, ◌≤◌, ℕ, ⊤, List, [], ◌∷◌, ◌++◌, length, map, Some}
 use Rattle.batch_core.specs.declared.limits.TheConstants.{LAST_NUMBER, MOST_OF_BATCH, MOST_TEAMS}
 use Rattle.std.specs.List.{flat_map}

@@ -21,7 +21,7 @@ letters_of Strike = codes "strike"
 letters_of Freeze = codes "freeze"
 letters_of End = codes "end"
 
--- the word as it stands in a file
+-- the word as it is in a file
 abbrev pub word : Keyword → Item
 word keyword = Word (letters_of keyword)
 

@@ -37,16 +37,16 @@ abbrev pub IsLotsWord : Item → ℕ → Result (Unit {0}) InputFault → Type 0
 IsLotsWord item at (Ok done) = item ≡ word key.Lots
 IsLotsWord item at (Err fault) = (fault ≡ record { kind = WordExpected; at = at }) × ((roll : RollList) → then_on (as_keyword item) (behind_title roll) ≡ Err WordExpected)
 
--- the strings behind the title, up to the word `lots`
+-- the strings after the title, up to the word `lots`
 abbrev pub ReadsToLots : Scan → Result (Unit {0}) InputFault → Scan → Type 0
 ReadsToLots old result new = (roll : RollList) → Leads (reads at_token (BehindTitle roll) old) result (λ _. reads at_token (Lot roll []) new) new
 
--- the strings behind the title, and the lots of so many candidates
+-- the strings after the title, and the lots of so many candidates
 abbrev pub ReadsOrder : ℕ → Scan → Result (List ℕ) InputStop → Scan → Type 0
 ReadsOrder candidates old result new = (roll : RollList) → length roll.names ≡ candidates
     → LeadsOrWants (reads at_token (BehindTitle roll) old) result (λ lots. reads at_token (BehindLots roll lots) new) new
 
--- a team behind the head, or the end
+-- a team after the head, or the end
 abbrev pub team_or_end : Head → Bool → Scan → Result (Day × Scan) Stopped
 team_or_end head true text = reads at_token (Teams head (TeamNumber [])) text
 team_or_end head false text = Ok (day_of head [], text)
@@ -57,7 +57,7 @@ BeginsTeam key.Team at result = result ≡ Ok true
 BeginsTeam key.End at result = result ≡ Ok false
 BeginsTeam keyword at result = result ≡ Err (record { kind = WordExpected; at = at })
 
--- the places and omega behind the word `places`
+-- the places and omega after the word `places`
 pub record IsPlaced (old : Scan) (read : code.Scale) (new : Scan) : Type 0 where
   pub same : (roll : RollList) (lots : List ℕ) → reads at_token (Places roll lots) old
       ≡ team_or_end (record { roll = roll; lots = lots; scale = Some (record { places = read.places; omega = read.omega }) }) read.team_follows new
@@ -79,7 +79,7 @@ ReadsScale old (Err fault) new = (roll : RollList) (lots : List ℕ) → reads a
 
 -- ---- the teams
 
--- the next team behind these teams, or the end
+-- the next team after these teams, or the end
 abbrev pub next_team : ℕ → List Script → Bool → Scan → Result (List Script × Scan) Stopped
 next_team candidates teams true text = reads (at_teams candidates) (TeamNumber teams) text
 next_team candidates teams false text = Ok (teams, text)
@@ -87,7 +87,7 @@ next_team candidates teams false text = Ok (teams, text)
 abbrev pub team_numbers : List Script → List ℕ
 team_numbers teams = map (λ script. script.team) teams
 
--- a call behind its word, in whichever team
+-- a call after its word, in whichever team
 abbrev pub ReadsCall : ℕ → ℕ → Keyword → ℕ → Scan → Result Call InputStop → Scan → Type 0
 ReadsCall candidates count keyword at old result new = (before : List Script) (script : Script) → freezes (and_team before script) ≡ count
     → LeadsOrWants (reads (at_teams candidates) (InTeam before script) (with_front (record { at = at; item = word keyword }) old)) result (λ call. reads (at_teams candidates) (InTeam before (with_call script call)) new) new
@@ -107,7 +107,7 @@ with_scripts head scripts = record {
   scripts = scripts;
 }
 
--- all teams behind a head, by rising number
+-- all teams after a head, by rising number
 abbrev pub ReadsScripts : ℕ → Bool → Scan → Result (List Script) InputStop → Scan → Type 0
 ReadsScripts candidates team_follows old result new = (head : Head) → length head.roll.names ≡ candidates
     → LeadsOrWants (team_or_end head team_follows old) result (λ scripts. Ok (with_scripts head scripts, new)) new
@@ -119,7 +119,7 @@ ReadsBehindLots candidates old result new = (roll : RollList) (lots : List ℕ) 
 
 -- ---- the whole file
 
--- nothing stands behind the end
+-- nothing is after the end
 abbrev pub IsAtEnd : Scan → Result (Unit {0}) InputFault → Type 0
 IsAtEnd text (Ok done) = (day : Day) → outcome at_file_token ended (Ends day) text.tokens text.ending ≡ Ok day
 IsAtEnd text (Err fault) = (day : Day) → outcome at_file_token ended (Ends day) text.tokens text.ending ≡ Err fault

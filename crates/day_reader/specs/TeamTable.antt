@@ -14,7 +14,7 @@ use Rattle.day_reader.specs.Keyword.{as_keyword}
 use Rattle.day_reader.specs.Call.{freezes}
 use Rattle.day_reader.specs.CallTable.{as_tested, is_between, InCall, EnterBatch, CorrectBatch, WithdrawBatch, StrikeCandidate, at_call}
 
--- what is expected behind these teams
+-- what is expected after these teams
 pub data InTeams : Type 0 where
   -- the number of the next team
   TeamNumber : (before : List Script) → InTeams

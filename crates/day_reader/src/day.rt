@@ -9,7 +9,7 @@ use lot_order::Lots;
 pub struct Day {
     pub roll: Roll,
     pub lots: Lots,
-    /// How many places behind the point the count has, from 6 to 9.
+    /// How many places after the point the count has, from 6 to 9.
     pub places: u32,
     pub omega: Omega,
     pub scripts: Scripts,

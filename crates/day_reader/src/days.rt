@@ -54,7 +54,7 @@ fn read_to_end(alloc: Global, tokens: &mut Tokens<'_>) -> Result<Day, InputStop>
     read_behind_lots(alloc, tokens, roll, lots)
 }
 
-// What stands behind the lots, up to the word `end`.
+// What is after the lots, up to the word `end`.
 fn read_behind_lots(
     alloc: Global,
     tokens: &mut Tokens<'_>,
@@ -89,7 +89,7 @@ fn read_scaled_scripts(
     Ok((scale, scripts))
 }
 
-// Nothing may stand behind the end.
+// Nothing may stand after the end.
 #[tactic(auto, using(input_text::proofs::Reading::behind_trans))]
 fn read_nothing(tokens: &mut Tokens<'_>) -> Result<(), InputFault>
     ensures { IsAtEnd tokens.old.rest result }

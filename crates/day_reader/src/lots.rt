@@ -57,7 +57,7 @@ fn lots_word(tokens: &Tokens<'_>, token: Token) -> Result<(), InputFault>
     }
 }
 
-/// Candidates, each of them once, and the 0 behind them.
+/// Candidates, each of them once, and the 0 after them.
 #[tactic(auto, using(input_text::proofs::Reading::behind_trans))]
 fn read_lots(alloc: Global, tokens: &mut Tokens<'_>, candidates: u32) -> Result<Lots, InputStop>
     requires { candidates ≤ MOST_CANDIDATES }

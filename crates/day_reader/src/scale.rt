@@ -11,7 +11,7 @@ use crate::words::next_keyword;
 use fixed_place::Omega;
 use input_text::{FaultKind, InputFault, Tokens};
 
-/// The places behind the point, omega, and whether a team follows them or
+/// The places after the point, omega, and whether a team follows them or
 /// the end.
 #[derive(Clone, Copy)]
 pub(crate) struct Scale {
@@ -20,7 +20,7 @@ pub(crate) struct Scale {
     pub team_follows: bool,
 }
 
-/// What stands between the lots and the number of the first team, or the end.
+/// What is between the lots and the number of the first team, or the end.
 #[tactic(auto, using(input_text::proofs::Reading::behind_trans))]
 pub(crate) fn read_scale(tokens: &mut Tokens<'_>) -> Result<Scale, InputFault>
     ensures reads { ReadsScale tokens.old.rest result tokens.new.rest }

@@ -52,7 +52,7 @@ fn read_teams(
     Ok(teams)
 }
 
-// A team behind its word, up to the word of the next one or the end.
+// A team after its word, up to the word of the next one or the end.
 #[tactic(auto, using(input_text::proofs::Reading::behind_trans))]
 fn read_team(
     alloc: Global,

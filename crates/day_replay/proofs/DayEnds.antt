@@ -9,7 +9,7 @@ use Rattle.day_lines.specs.DayHistory.{IsHistoryOf, clerk_freeze}
 use Rattle.day_replay.proofs.Lists.{got_ahead, got_behind}
 use Rattle.day_replay.proofs.Own.{none_by}
 
--- an item of a front stands there in the list
+-- an item of a front is there in the list
 pub in_front : (xs : List Entry) (n k : ℕ) → k < n → slice_get (take n xs) k ≡ slice_get xs k
 in_front [] zero k below = absurd (omega (arith, below))
 in_front [] (suc n) k below = refl
@@ -18,7 +18,7 @@ in_front (x ∷ xs) (suc n) zero below = refl
 in_front (x ∷ xs) (suc n) (suc k) below = in_front xs n k (omega (arith, below))
 
 module _ (scripts : List Script) where
-  -- behind the clerk's call there is none
+  -- after the clerk's call there is none
   nothing_behind :
       (history other : List Entry) (e : Entry) (rest : List Entry) → IsHistoryOf scripts history
       → IsHistoryOf scripts other → history ≡ other ++ e ∷ rest → ⊥

@@ -16,7 +16,7 @@ use Rattle.day_lines.specs.EntryText.{caller_text, call_text, reply_text, entry_
 use Rattle.sheet_text.specs.Lines.{ended}
 use Rattle.sheet_check.specs.Difference.{first_line, behind_line, line_at}
 
--- whether no line feed stands in a text
+-- whether no line feed is in a text
 abbrev no_feed : List ℕ → Bool
 no_feed [] = true
 no_feed (b ∷ bs) = cond (b == 10) false (no_feed bs)
@@ -62,7 +62,7 @@ number : (n : ℕ) → NoFeed (decimal n)
 unfolding digits
 number n = digits_none 64 n [] refl
 
--- a number behind a word
+-- a number after a word
 numbered : (word : List ℕ) (n : ℕ) → NoFeed word → NoFeed (word ++ decimal n)
 numbered word n none = both word (decimal n) none (number n)
 
@@ -119,7 +119,7 @@ line_first (b ∷ line) rest none = by (b == 10) none (line_first line rest)
     by true wrong later = absurd (cc)
     by false none later = (ap (λ (l : List ℕ). b ∷ l) (later none).0, (later none).1)
 
--- The line of a call stands at its place.
+-- The line of a call is at its place.
 pub line_of_a_call :
     (n : ℕ) (history : List Entry) (more : List ℕ) (k : ℕ) (e : Entry) → slice_get history k ≡ Some e
     → line_at k (flat_map ended (map (λ (x : ℕ × Entry). entry_line x.0 x.1) (enumerate_from n history)) ++ more)

@@ -121,7 +121,7 @@ frozen_more n history versions caller v are at of is = record {
 
 -- ---- a freeze
 
--- what stands in the book of a history stands at the next freeze
+-- what is in the book of a history is at the next freeze
 pub stands_now :
     (leads : LeadsOn) (book : BookList) (history : List Entry) (caller : ℕ) (v : VersionState)
     → state_of book ≡ after_all empty history → IsStanding book (length history + 1) v

@@ -17,7 +17,7 @@ front_is n caller rest =
     append_assoc (decimal n) (32 ∷ (caller_text caller ++ 32 ∷ [])) rest
     ∙ ap (λ (l : List ℕ). decimal n ++ 32 ∷ l) (append_assoc (caller_text caller) (32 ∷ []) rest)
 
--- two callers of one line have the same text behind the number
+-- two callers of one line have the same text after the number
 both :
     (n one other : ℕ) (line : List ℕ) → (a : Says n one line) → (b : Says n other line)
     → caller_text one ++ 32 ∷ a.0 ≡ caller_text other ++ 32 ∷ b.0
@@ -81,7 +81,7 @@ same_caller n (suc one) (suc other) line some few fewer a b =
     let small = fewer (omega arith) in
     one_team n one other line (omega (arith, few)) (omega (arith, small)) a b
 
--- how a team's line goes on behind its number
+-- how a team's line goes on after its number
 team_front :
     (n team : ℕ) (rest : List ℕ)
     → call_front n (suc team) ++ rest ≡ (decimal n ++ codes " team ") ++ ((decimal (suc team) ++ 32 ∷ []) ++ rest)

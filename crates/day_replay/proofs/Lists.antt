@@ -9,7 +9,7 @@ module _ {X : Type 0} where
   inside (y ∷ ys) zero x at = omega arith
   inside (y ∷ ys) (suc n) x at = let here = inside ys n x at in omega (arith, here)
 
-  -- a list is what stands before one of its items, the item, and what stands behind it
+  -- a list is what is before one of its items, the item, and what is after it
   pub parted : (xs : List X) (n : ℕ) (x : X) → slice_get xs n ≡ Some x → xs ≡ take n xs ++ x ∷ drop (suc n) xs
   parted [] n x at = absurd (cc)
   parted (y ∷ ys) zero x at = ap (λ (o : Option X). unwrap_or o x ∷ ys) at

@@ -80,7 +80,7 @@ module _ (scripts : List Script) (numbers : All IsNumbered scripts) (replies : A
       first [] c ys is = team_small scripts e.caller c ys numbers is
       first (x ∷ xs) c ys is = team_small scripts e.caller x (xs ++ c ∷ ys) numbers is
 
-  -- behind the same calls the same caller makes the same call
+  -- after the same calls the same caller makes the same call
   same_call :
       (one other : List Entry) (n : ℕ) (a b : Entry) → IsHistoryOf scripts one → IsHistoryOf scripts other
       → take n other ≡ take n one → slice_get one n ≡ Some a → slice_get other n ≡ Some b
@@ -154,7 +154,7 @@ module _ (scripts : List Script) (numbers : All IsNumbered scripts) (replies : A
         (caller_small other n e others at) said.1 (says_its_caller (n + 1) e (line_at n text) line) in
         made ∙ ap (λ (x : Entry). Some x) (same_call history other n f e is others same made at said.0 caller)
 
-    -- behind the last such call only the clerk's is left
+    -- after the last such call only the clerk's is left
     behind_the_lines :
         (other : List Entry) (e : Entry) → IsHistoryOf scripts other → take (length front) other ≡ front
         → slice_get other (length front) ≡ Some e → line_at (length front) text ≡ ended (entry_line (length front + 1) e)

@@ -108,7 +108,7 @@ said_more text old new team said some called says k e at = by (cases_lt k (lengt
 
 -- ---- the lines that are left
 
--- The line of the next call, and what stands behind it.
+-- The line of the next call, and what is after it.
 pub record IsNextLine (text line rest : List ℕ) (n : ℕ) : Type 0 where
   pub line_is : line ≡ line_at n text
   pub rest_is : (k : ℕ) → line_at k rest ≡ line_at (n + 1 + k) text

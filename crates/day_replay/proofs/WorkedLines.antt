@@ -13,7 +13,7 @@ use Rattle.day_lines.specs.DayHistory.{clerk_freeze}
 use Rattle.day_replay.specs.Nearest.{BeginsAs}
 use Rattle.day_replay.specs.Worked.{WorkedLines, WorkedCallers, made_by, enter, correct, morning, morning_text, entered_line}
 
--- what stands at a place of a list of known entries
+-- what is at a place of a list of known entries
 got : (e x : Entry) → Some x ≡ Some e → x ≡ e
 got e x at = ap (λ (o : Option Entry). unwrap_or o x) at
 

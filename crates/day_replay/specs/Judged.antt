@@ -30,7 +30,7 @@ abbrev pub BeginAlike : ℕ → (one other : List ℕ) → Type 0
 BeginAlike n one other = (k : ℕ) → k < n → line_at k one ≡ line_at k other
 
 -- Of the texts that are lawful, line n, from 1, is false: the lines before it begin one of them, and none has this line
--- behind them.
+-- after them.
 pub record IsFalseAt (IsLawful : List ℕ → Type 0) (text : List ℕ) (n : ℕ) : Type 0 where
   pub nearest : List ℕ
   pub lawful : IsLawful nearest

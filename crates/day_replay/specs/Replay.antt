@@ -34,7 +34,7 @@ pub record IsLedOn (caller : ℕ) (asked : Call) (old new : ReplayState) : Type 
   pub candidates : new.candidates ≡ old.candidates
   pub history : new.history ≡ old.history ++ answered old.history caller asked ∷ []
 
--- What stands in a book, for a freeze that is the call of this number.
+-- What is in a book, for a freeze that is the call of this number.
 pub record IsStanding (book : BookList) (at : ℕ) (version : VersionState) : Type 0 where
   pub at_is : version.at ≡ at
   pub candidates : version.candidates ≡ book.candidates

@@ -28,7 +28,7 @@ pub struct Followed {
 }
 
 /// The history of these scripts whose calls are those of a text's lines for as long as they are those of
-/// any history of the scripts. Behind them each team makes the calls that it has left, one team after the
+/// any history of the scripts. After them each team makes the calls that it has left, one team after the
 /// other, and last the clerk freezes. What a line says of a reply isn't read.
 pub fn follow(
     alloc: Global,

@@ -68,7 +68,7 @@ impl Left {
     }
 }
 
-/// Puts calls behind others that stand from their end.
+/// Puts calls after others that stand from their end.
 fn put_behind(list: &mut Calls, mut calls: Calls) -> Result<(), NoMemory>
     ensures { OnOk result (reverse list.new ≡ calls ++ reverse list.old) }
 {

@@ -9,7 +9,7 @@ use crate::left::Left;
 use batch_core::MOST_TEAMS;
 use line_text::Line;
 
-/// The first line of a text, with its line feed, and what stands behind it.
+/// The first line of a text, with its line feed, and what is after it.
 pub(crate) fn next_line(text: &[u8]) -> (&[u8], &[u8])
     ensures line { result.0.now ≡ first_line text.now }
     ensures rest { result.1.now ≡ behind_line text.now }
@@ -65,7 +65,7 @@ fn begins_with(text: &[u8], number: u32) -> bool
     behind(text, front.bytes()).is_some()
 }
 
-/// What stands behind this front.
+/// What is after this front.
 fn behind<'a>(text: &'a [u8], front: &[u8]) -> Option<&'a [u8]>
     ensures { MatchOption result ((rest : List ℕ) → text.now ≢ front.now ++ rest)
         (λ rest. text.now ≡ front.now ++ rest.now) }

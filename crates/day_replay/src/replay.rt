@@ -116,7 +116,7 @@ impl Replay {
     }
 }
 
-/// What stands in a book, for a freeze that is the call of this number.
+/// What is in a book, for a freeze that is the call of this number.
 fn stand(alloc: Global, book: &Book, at: u64) -> Result<Frozen, NoMemory>
     requires candidates { (1 ≤ book.now.candidates) × (book.now.candidates ≤ MOST_CANDIDATES) }
     requires few { ballot_count (standing (state_of book.now)) ≤ MOST_STANDING }

@@ -22,7 +22,7 @@ pub stopped_in_line :
 stopped_in_line w f a b places at due r failed sheet stopped =
     (ended (sheet_line at) ++ sheet.0, (sheet.0, sheet.1, refl), stops sheet.0 r failed stopped)
 
--- behind the line the sheet was written, or a front of it
+-- after the line the sheet was written, or a front of it
 pub wrote_sheet :
     {S T E : Type 0} (w : S → Option (List ℕ)) (f : S → ℕ) (a b c : S) (places at : ℕ) (due : CountDue) (r : Result T E)
     → WroteBytes w f a b (ended (sheet_line at)) → WritesSome (IsSheetDue places due) w f b c r

@@ -36,7 +36,7 @@ names_spelled (name ∷ names) are =
     parts (34 ∷ (name ++ 34 ∷ 10 ∷ [])) (flat_map (λ n. 34 ∷ (n ++ 34 ∷ 10 ∷ [])) names) (Text name ∷ []) (map Text names)
     (strings name 10 are.0 refl) (names_spelled names are.1)
 
--- ---- numbers with their digits, each with a space behind it
+-- ---- numbers with their digits, each with a space after it
 
 record Digits : Type 0 where
   value : ℕ

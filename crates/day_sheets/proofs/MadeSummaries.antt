@@ -135,7 +135,7 @@ made_separate number =
 
 -- ---- what is summed up
 
--- what is counted behind all calls of a history
+-- what is counted after all calls of a history
 abbrev due_after : Terms → (length : ℕ) → List Entry → CountDue
 due_after terms n history =
     due_of terms.omega terms.lots (roll_with terms.roll (struck_after history n)) (plain (standing_after history n))

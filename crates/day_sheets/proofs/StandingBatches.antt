@@ -173,7 +173,7 @@ none_in (suc n) a =
     let rest = none_in n (a + 1) in
     omega (arith, count_first (λ b. false) a n, rest)
 
--- nothing stands in the empty book
+-- nothing is in the empty book
 pub none_stand : standing_batches empty ≡ 0
 none_stand = none_in last_batch 1
 

@@ -12,7 +12,7 @@ unfolding text_of_lines
 text_more lines line =
     flat_map-append ended lines (line ∷ []) ∙ ap (λ (l : List ℕ). text_of_lines lines ++ l) (append-nil (ended line))
 
--- a line behind the lines so far
+-- a line after the lines so far
 one_more :
     (lines : List (List ℕ)) (line text more : List ℕ) → text ≡ text_of_lines lines → more ≡ text ++ ended line
     → more ≡ text_of_lines (lines ++ line ∷ [])

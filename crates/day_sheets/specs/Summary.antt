@@ -1,4 +1,4 @@
--- The summary of a made day: what stands at the end, and the outcome of its count.
+-- The summary of a made day: what is at the end, and the outcome of its count.
 use Rattle.std.specs.Prelude.{◌≡◌, ℕ, ◌≤◌, Bool, false, List, [], ◌∷◌, ◌++◌, length, map, count_by, codes, decimal, Option, Some, None, IsPermutation}
 use Rattle.std.specs.Option.{is_some}
 use Rattle.std.specs.List.{range_with_len}

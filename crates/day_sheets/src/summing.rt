@@ -1,4 +1,4 @@
-// The count of what stands at the end, and its summary.
+// The count of what is at the end, and its summary.
 ghost use Rattle.std.specs.Prelude.{◌≡◌, ◌≤◌};
 ghost use Rattle.batch_core.specs.Histories.{IsLegal};
 ghost use Rattle.vote_spread.specs.declared.limits.TheConstants.{MOST_WORKERS};

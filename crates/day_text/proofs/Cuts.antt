@@ -79,7 +79,7 @@ without_none d xs ys text p is = by xs (subst (λ (l : List ℕ). IsWithout d l)
     by [] h = itself d d refl (first_other d d ys h).0
     by (x ∷ xs) h = by xs (first_other x d (xs ++ d ∷ ys) h).1
 
--- what stands behind the same front
+-- what is after the same front
 pub behind_front : (front xs ys : List ℕ) → front ++ xs ≡ front ++ ys → xs ≡ ys
 behind_front [] xs ys e = e
 behind_front (b ∷ front) xs ys e = behind_front front xs ys (heads b b (front ++ xs) (front ++ ys) e).1
@@ -105,14 +105,14 @@ numeral_here text n small is =
 pub utf8_numeral : (text : List ℕ) (n : ℕ) → IsNumeralOf text n → IsUtf8 text
 utf8_numeral text n is = IsUtf8-from_ascii text (IsAscii-from_digits text is.digits)
 
--- the number before a space, and what stands behind it
+-- the number before a space, and what is after it
 pub number_cut :
     (text front back other : List ℕ) (n : ℕ) → text ≡ front ++ 32 ∷ back → IsWithout 32 front → n < 2 ^ 64
     → text ≡ decimal n ++ 32 ∷ other → (front ≡ decimal n) × (back ≡ other)
 number_cut text front back other n is w small e =
     cut_once 32 front (decimal n) back other w (decimal_without 32 n (omega arith) small) (sym is ∙ e)
 
--- what stands behind a number and a space
+-- what is after a number and a space
 pub spaced_behind :
     (text front behind rest : List ℕ) (n : ℕ) → text ≡ front ++ behind → front ≡ decimal n → text ≡ decimal n ++ 32 ∷ rest
     → behind ≡ 32 ∷ rest
@@ -124,11 +124,11 @@ pub spaced_is :
     → text ≡ decimal n ++ 32 ∷ rest
 spaced_is text front behind rest n is of e = is ∙ (λ i. of i ++ e i)
 
--- what stands behind a word
+-- what is after a word
 pub behind_word : (word text rest other : List ℕ) → text ≡ word ++ rest → text ≡ word ++ other → rest ≡ other
 behind_word word text rest other one two = behind_front word rest other (sym one ∙ two)
 
--- a word, a number and what stands behind are read in one way
+-- a word, a number and what is after are read in one way
 pub numbered_once :
     (word : List ℕ) (m n : ℕ) (rest other : List ℕ) → m < 2 ^ 64 → n < 2 ^ 64
     → numbered_text word m rest ≡ numbered_text word n other → (m ≡ n) × (rest ≡ other)
@@ -139,7 +139,7 @@ numbered_once word m n rest other small few e =
     (behind_front word (decimal m ++ 32 ∷ rest) (decimal n ++ 32 ∷ other) e) in
     (decimal_injective m n small few cut.0, cut.1)
 
--- the numbers of a batch and of a revision behind a word
+-- the numbers of a batch and of a revision after a word
 pub revised_is :
     (word : List ℕ) (batch revision : ℕ) (rest : List ℕ)
     → (word ++ (decimal batch ++ 32 ∷ decimal revision)) ++ 32 ∷ rest ≡ revised_text word batch revision rest

@@ -115,7 +115,7 @@ call_once (Strike c1) (Strike c2) rest other p q e =
 abbrev code_of : List ℕ → ℕ
 code_of text = get_or text 0 0 + 256 * get_or text 1 0 + 65536 * get_or text 2 0
 
--- what stands behind the first space
+-- what is after the first space
 abbrev behind_space : List ℕ → List ℕ
 behind_space [] = []
 behind_space (b ∷ text) = if b == 32 then text else behind_space text
@@ -160,7 +160,7 @@ reply_once one two p q e =
 
 -- ---- a line
 
--- what stands behind the number of a line
+-- what is after the number of a line
 abbrev pub behind_number : Entry → List ℕ
 behind_number e = caller_text e.caller ++ 32 ∷ (call_text e.call ++ 32 ∷ reply_text e.reply)
 
@@ -182,7 +182,7 @@ entry_once n e f p q is =
     let reply = reply_once e.reply f.reply p.reply q.reply call.1 in
     λ i. record { caller = caller.0 i; call = call.0 i; reply = reply i }
 
--- what was read behind the number of a line
+-- what was read after the number of a line
 pub behind_line_number :
     (n : ℕ) (e : Entry) (line rest : List ℕ) → line ≡ decimal n ++ 32 ∷ rest → line ≡ entry_line n e → rest ≡ behind_number e
 behind_line_number n e line rest read is =

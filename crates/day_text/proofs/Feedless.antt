@@ -43,7 +43,7 @@ pub number : (n : ℕ) → IsWithout 10 (decimal n)
 unfolding digits
 number n = digits_none 64 n [] refl
 
--- a number behind a word
+-- a number after a word
 pub numbered : (word : List ℕ) (n : ℕ) → IsWithout 10 word → IsWithout 10 (word ++ decimal n)
 numbered word n none = without-append 10 word (decimal n) none (number n)
 

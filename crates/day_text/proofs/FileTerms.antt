@@ -45,7 +45,7 @@ behind_first : (x c : ℕ) (lots : List ℕ) → x ≢ c → IsNone c lots → I
 behind_first x c lots other none zero d inside = other
 behind_first x c lots other none (suc k) d inside = none k d (omega (arith, inside))
 
--- whether a number stands in a list
+-- whether a number is in a list
 stands : (c : ℕ) (lots : List ℕ) → Contains lots c ⊎ IsNone c lots
 stands c [] = inr (λ k d inside. absurd (omega (arith, inside)))
 stands c (x ∷ lots) =

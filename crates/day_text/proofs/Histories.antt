@@ -36,7 +36,7 @@ entries_push n (x ∷ history) e =
     ∙ sym (append_assoc (ended (entry_line n x)) (entries_from (n + 1) history)
     (ended (entry_line (n + suc (length history)) e)))
 
--- a line, its end, and what stands behind
+-- a line, its end, and what is after
 pub line_front : (line more rest : List ℕ) → (ended line ++ more) ++ rest ≡ line ++ 10 ∷ (more ++ rest)
 line_front line more rest = append_assoc (ended line) more rest ∙ append_assoc line (10 ∷ []) (more ++ rest)
 
@@ -82,7 +82,7 @@ All-append-front P [] ys all = All-nil P
 All-append-front P (x ∷ xs) ys all =
     All-cons P x xs (All-head P x (xs ++ ys) all) (All-append-front P xs ys (All-tail P x (xs ++ ys) all))
 
--- What is left of a history behind calls that were read.
+-- What is left of a history after calls that were read.
 pub record Behind (n : ℕ) (done history : List Entry) (rest other : List ℕ) : Type 0 where
   pub left : List Entry
   pub whole : history ≡ done ++ left

@@ -35,7 +35,7 @@ pub its_calls :
     → BeginsWithCalls bytes v.history (sheets_text places v.sheets)
 its_calls places bytes v is = record { calls = is.calls; ends = is.ends; text_is = is.text }
 
--- and what stands behind them are its sheets
+-- and what is after them are its sheets
 pub its_sheets :
     (places : ℕ) (bytes behind : List ℕ) (history : List Entry) (freezes : List ℕ) (v : DayTextList)
     → BeginsWithCalls bytes history behind → freezes ≡ freeze_places history → HasDayForm places bytes v

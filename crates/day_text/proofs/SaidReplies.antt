@@ -88,7 +88,7 @@ module _ (candidates : ℕ) (few : candidates ≤ MOST_CANDIDATES) where
   abbrev IsAskedBy : Entry → Type 0
   IsAskedBy e = IsAsked candidates e.caller e.call
 
-  -- the calls behind others
+  -- the calls after others
   said_behind :
       (before history : List Entry) → AreLawful candidates before → All IsAskedBy history
       → IsAnsweredBy (after_all empty before) history → All IsSaidEntry (without_ballots history)

@@ -11,11 +11,11 @@ use Rattle.sheet_reader.specs.Cut.{IsWithout}
 use Rattle.day_text.specs.SheetParts.{IsInner, IsSheetCut}
 use Rattle.day_text.proofs.Cuts.{cut_once, without_none, behind_front}
 
--- the last line of a sheet, and what stands behind it
+-- the last line of a sheet, and what is after it
 abbrev pub closed : List ℕ → List ℕ
 closed rest = codes "end" ++ 10 ∷ rest
 
--- a line, its end, and what stands behind
+-- a line, its end, and what is after
 line_front : (line : List ℕ) (lines : List (List ℕ)) (rest : List ℕ)
     → text_of_lines (line ∷ lines) ++ rest ≡ line ++ 10 ∷ (text_of_lines lines ++ rest)
 unfolding text_of_lines

@@ -67,11 +67,11 @@ listed_none c (false ∷ marks) = listed_none (c + 1) marks
 
 -- ---- lines
 
--- another byte stands in it than in `end`
+-- another byte is in it than in `end`
 pub inner_at : (k : ℕ) (line : List ℕ) → IsWithout 10 line → get_or line k 0 ≢ get_or (codes "end") k 0 → IsInner line
 inner_at k line none other = record { whole = none; other = λ is. other (ap (λ (l : List ℕ). get_or l k 0) is) }
 
--- a space stands in it
+-- a space is in it
 pub inner_spaced : (front back line : List ℕ) → line ≡ front ++ 32 ∷ back → IsWithout 10 line → IsInner line
 inner_spaced front back line is none =
     record { whole = none; other = λ same. without_none 32 front back (codes "end") refl (sym same ∙ is) }

@@ -41,7 +41,7 @@ line_end text number end rest digits n is of same line =
 abbrev pub body_of : (places : ℕ) → FrozenSheet → List ℕ
 body_of places s = text_of_lines (lines_of places s.values)
 
--- what stands behind the line of a sheet
+-- what is after the line of a sheet
 pub behind_line :
     (places n : ℕ) (text : List ℕ) (s : FrozenSheet) (rest : List ℕ) → BeginsWithSheet places n text s rest
     → text ≡ ended (sheet_line n) ++ (body_of places s ++ rest)
@@ -167,7 +167,7 @@ module _ (says : FormSaysItsValues) (places : ℕ) (some : 6 ≤ places) (few : 
       same_sheets one two rest other p.printable q.printable (p.freezes_are ∙ sym q.freezes_are)
       (sym p.text_is ∙ q.text_is)
 
-  -- the sheet that comes next behind those that were read
+  -- the sheet that comes next after those that were read
   next_sheet :
       (done sheets : List FrozenSheet) (rest other : List ℕ) (n : ℕ) (more : List ℕ) → All (IsPrintableSheet places) done
       → All (IsPrintableSheet places) sheets → sheet_places sheets ≡ sheet_places done ++ n ∷ more

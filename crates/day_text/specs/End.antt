@@ -1,4 +1,4 @@
--- What stands in the end of a history, by its calls alone.
+-- What is in the end of a history, by its calls alone.
 use Rattle.std.specs.Prelude.{◌≡◌, ℕ, ◌≤◌, ◌-◌, ⊤, List, [], ◌∷◌, All, Option, Some, None, is_some, length, slice_index_or}
 use Rattle.batch_core.specs.declared.limits.TheConstants.{LAST_NUMBER}
 use Rattle.std.specs.List.{flat_map, range_with_len}
@@ -42,7 +42,7 @@ abbrev pub IsRevised : Option BatchEnd → Type 0
 IsRevised None = ⊤
 IsRevised (Some end) = end.revision ≤ LAST_NUMBER
 
--- a table of all batch numbers: that of batch b stands at index b - 1
+-- a table of all batch numbers: that of batch b is at index b - 1
 pub record IsTable (table : List (Option BatchEnd)) : Type 0 where
   pub long : length table ≡ LAST_NUMBER
   pub revised : All IsRevised table

@@ -13,7 +13,7 @@ use Rattle.day_text.specs.Said.{IsSaidEntry}
 abbrev pub IsUpTo : (most n : ℕ) → Type 0
 IsUpTo most n = (1 ≤ n) × (n ≤ most)
 
--- a word, which brings its space, then a number, a space, and what stands behind
+-- a word, which brings its space, then a number, a space, and what is after
 abbrev pub numbered_text : (word : List ℕ) → (n : ℕ) → (rest : List ℕ) → List ℕ
 numbered_text word n rest = word ++ (decimal n ++ 32 ∷ rest)
 

@@ -1,4 +1,4 @@
--- A day worked by hand: its text, and what stands in the end.
+-- A day worked by hand: its text, and what is in the end.
 use Rattle.std.specs.Prelude.{◌≡◌, ℕ, List, [], ◌∷◌, true, false, codes}
 use Rattle.candidate_roll.specs.declared.state.State.TheVariants.{Elected, Withdrawn}
 use Rattle.batch_core.specs.declared.change.Change.TheVariants.{Enter, Correct, Withdraw}
@@ -64,7 +64,7 @@ text =
 abbrev pub WorkedText : Type 0
 WorkedText = HasDayForm 9 text values
 
--- Of the first three batches the first was never entered, the second stands at revision 2, and the third is gone at
+-- Of the first three batches the first was never entered, the second is at revision 2, and the third is gone at
 -- revision 2.
 abbrev pub WorkedEnd : Type 0
 WorkedEnd =

@@ -33,7 +33,7 @@ pub record SaysHistory (terms : Terms) (history : List Entry) (v : DayTextList) 
   pub calls : v.history ≡ without_ballots history
   pub sheets : All (SaysCountAt terms history) v.sheets
 
--- What a history that is printed must be: its numbers are in range, it ends with the clerk's freeze, and what stands at
+-- What a history that is printed must be: its numbers are in range, it ends with the clerk's freeze, and what is at
 -- any of its calls can be counted.
 pub record MayBePrinted (terms : Terms) (history : List Entry) : Type 0 where
   pub calls : All IsSaidEntry (without_ballots history)

@@ -15,7 +15,7 @@ use batch_core::{Call, Change, LAST_NUMBER, MOST_TEAMS, Reply};
 use plain_ballots::{Ballots, MOST_CANDIDATES};
 use std::alloc::Global;
 
-/// Who calls, and what stands behind the space that follows.
+/// Who calls, and what is after the space that follows.
 pub(crate) fn read_caller(text: &[u8]) -> Option<(u32, &[u8])>
     ensures { MatchOption result
         ((caller : ℕ) (rest : List ℕ) → caller ≤ MOST_TEAMS → text.now ≢ caller_text caller ++ 32 ∷ rest)
@@ -27,7 +27,7 @@ pub(crate) fn read_caller(text: &[u8]) -> Option<(u32, &[u8])>
     numbered(text, b"team ", MOST_TEAMS)
 }
 
-/// A call, without ballots, and what stands behind the space that follows.
+/// A call, without ballots, and what is after the space that follows.
 pub(crate) fn read_call(alloc: Global, text: &[u8]) -> Option<(Call, &[u8])>
     ensures { MatchOption result
         ((call : Calls) (rest : List ℕ) → IsSaidCall call → text.now ≢ call_text call ++ 32 ∷ rest)
@@ -45,7 +45,7 @@ pub(crate) fn read_call(alloc: Global, text: &[u8]) -> Option<(Call, &[u8])>
     }
 }
 
-/// A change, without ballots, and what stands behind the space that follows.
+/// A change, without ballots, and what is after the space that follows.
 fn read_change(alloc: Global, text: &[u8]) -> Option<(Change, &[u8])>
     ensures { MatchOption result
         ((change : Changes) (rest : List ℕ) → IsSaidChange change → text.now ≢ change_text change ++ 32 ∷ rest)
@@ -70,7 +70,7 @@ fn read_change(alloc: Global, text: &[u8]) -> Option<(Change, &[u8])>
     }
 }
 
-/// The numbers of a batch and of its revision behind a word, which brings its space, and what stands behind the
+/// The numbers of a batch and of its revision after a word, which brings its space, and what is after the
 /// space that follows.
 fn revised<'a>(text: &'a [u8], word: &[u8]) -> Option<(u32, u32, &'a [u8])>
     ensures { MatchOption result

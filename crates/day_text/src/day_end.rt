@@ -1,4 +1,4 @@
-// What stands in the end of a day.
+// What is in the end of a day.
 use crate::BatchEnd;
 use std::marker::Model;
 

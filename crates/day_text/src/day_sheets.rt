@@ -30,7 +30,7 @@ impl<const P: usize> DaySheets<P> {
         }
     }
 
-    /// Puts a sheet behind the others.
+    /// Puts a sheet after the others.
     pub fn push(&mut self, sheet: DaySheet<P>) -> Result<(), DayStop>
         ensures ok { OnOk result (self.new ≡ self.old ++ sheet.entry ∷ []) }
         ensures refused { OnErr result (self.new ≡ self.old) }

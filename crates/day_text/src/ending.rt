@@ -10,7 +10,7 @@ use crate::{BatchEnd, DayEnd};
 use batch_core::{Call, Change, Entries, LAST_NUMBER, NoMemory, a_book_answers_a_history};
 use std::alloc::Global;
 
-/// What stands in the end of a history: for each batch its last revision, and who is struck. A change of a batch
+/// What is in the end of a history: for each batch its last revision, and who is struck. A change of a batch
 /// beyond the last is passed over.
 pub fn end_of_day(alloc: Global, history: &Entries) -> Result<DayEnd, NoMemory>
     ensures { IfOk result (λ end. end ≡ day_end history.now.items) }
@@ -119,7 +119,7 @@ fn none_entered(alloc: Global) -> Result<Vec<Option<BatchEnd>>, NoMemory>
     Ok(table)
 }
 
-/// Puts one item more behind the others, where there is one.
+/// Puts one item more after the others, where there is one.
 fn push_any(batches: &mut Vec<BatchEnd>, end: Option<BatchEnd>) -> Result<(), NoMemory>
     ensures { OnOk result (batches.new.items ≡ batches.old.items ++ if_any end) }
 {

@@ -13,7 +13,7 @@ use crate::entry_reader::{is_clerks_freeze, read_entry};
 use batch_core::{Call, Entries};
 use std::alloc::Global;
 
-/// The calls of a day up to the clerk's freeze, and what stands behind its line.
+/// The calls of a day up to the clerk's freeze, and what is after its line.
 pub(crate) fn read_history(alloc: Global, text: &[u8]) -> Result<(Entries, &[u8]), DayStop>
     ensures { MatchResult result
         (λ read. BeginsWithCalls text.now read.0.items read.1.now)

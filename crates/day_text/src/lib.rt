@@ -1,6 +1,6 @@
 //! The text of a day as it is read: [`read_day_text`] gives the values that a text writes, where it is the text
 //! of a day of so many places at all: all answered calls, and the sheet of each freeze; [`day_places`] says at how
-//! many places it is, and [`end_of_day`] what stands in the end of its history.
+//! many places it is, and [`end_of_day`] what is in the end of its history.
 #![tactic(auto)]
 
 mod batch_end;

@@ -42,7 +42,7 @@ pub(crate) fn read_number(text: &[u8], most: u32) -> Option<u32>
     }
 }
 
-/// The number from 1 to the greatest behind a word, which brings its space, and what stands behind the space
+/// The number from 1 to the greatest after a word, which brings its space, and what is after the space
 /// that follows.
 pub(crate) fn numbered<'a>(text: &'a [u8], word: &[u8], most: u32) -> Option<(u32, &'a [u8])>
     ensures { MatchOption result
@@ -61,7 +61,7 @@ pub(crate) fn numbered<'a>(text: &'a [u8], word: &[u8], most: u32) -> Option<(u3
     }
 }
 
-/// The number from 1 to the greatest behind a word, which brings its space, at the end of a text.
+/// The number from 1 to the greatest after a word, which brings its space, at the end of a text.
 pub(crate) fn last_number(text: &[u8], word: &[u8], most: u32) -> Option<u32>
     ensures { MatchOption result
         ((n : ℕ) → IsUpTo most n → text.now ≢ word.now ++ decimal n)
@@ -76,7 +76,7 @@ pub(crate) fn last_number(text: &[u8], word: &[u8], most: u32) -> Option<u32>
     }
 }
 
-/// What stands behind this number and a space.
+/// What is after this number and a space.
 pub(crate) fn behind_number(text: &[u8], n: u64) -> Option<&[u8]>
     ensures { MatchOption result ((rest : List ℕ) → text.now ≢ decimal n ++ 32 ∷ rest)
         (λ rest. text.now ≡ decimal n ++ 32 ∷ rest.now) }

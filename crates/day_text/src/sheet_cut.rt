@@ -7,7 +7,7 @@ ghost use Rattle.day_text.specs.SheetParts.{IsSheetCut};
 use crate::cut::{cut, is_same, strip};
 use itoa::Buffer;
 
-/// The text up to and including its first line `end`, and what stands behind it.
+/// The text up to and including its first line `end`, and what is after it.
 pub(crate) fn cut_sheet(text: &[u8]) -> Option<(&[u8], &[u8])>
     ensures { MatchOption result
         ((sheet : List ℕ) (rest : List ℕ) → ¬ (IsSheetCut text.now sheet rest))
@@ -23,7 +23,7 @@ pub(crate) fn cut_sheet(text: &[u8]) -> Option<(&[u8], &[u8])>
     None
 }
 
-/// What stands behind the line that names the freeze of a sheet.
+/// What is after the line that names the freeze of a sheet.
 pub(crate) fn behind_sheet_line(text: &[u8], freeze: u64) -> Option<&[u8]>
     ensures { MatchOption result
         ((rest : List ℕ) → text.now ≢ ended (sheet_line freeze) ++ rest)

@@ -9,7 +9,7 @@ use crate::{DaySheet, DaySheets, DayStop};
 use sheet_reader::{SheetStop, read_sheet, written_values_are_read};
 use std::alloc::Global;
 
-/// The sheets of the freezes of these lines, and what stands behind them.
+/// The sheets of the freezes of these lines, and what is after them.
 pub(crate) fn read_sheets<'a, const P: usize>(
     alloc: Global,
     freezes: &[u64],
@@ -36,7 +36,7 @@ pub(crate) fn read_sheets<'a, const P: usize>(
     Ok((sheets, rest))
 }
 
-/// The sheet of the freeze of this line, and what stands behind it.
+/// The sheet of the freeze of this line, and what is after it.
 fn read_one<'a, const P: usize>(
     alloc: Global,
     freeze: u64,

@@ -6,7 +6,7 @@ use crate::{Amount, NoMemory};
 use std::alloc::Global;
 use std::marker::Model;
 
-/// One amount of votes for each candidate: candidate c's stands at index c - 1.
+/// One amount of votes for each candidate: candidate c's is at index c - 1.
 #[derive(Debug, Drop)]
 pub struct Amounts<const P: usize> {
     list: Vec<Amount<P>>,

@@ -6,7 +6,7 @@ use crate::{Keep, NoMemory};
 use std::alloc::Global;
 use std::marker::Model;
 
-/// One keep value for each candidate: candidate c's stands at index c - 1.
+/// One keep value for each candidate: candidate c's is at index c - 1.
 #[derive(Debug, Drop)]
 pub struct Keeps<const P: usize> {
     list: Vec<Keep<P>>,

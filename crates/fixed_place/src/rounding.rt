@@ -18,7 +18,7 @@ pub fn mul_up<const P: usize>(a: Amount<P>, k: Keep<P>) -> Amount<P>
     Amount::from_units(kept as u64)
 }
 
-/// What goes on of a weight behind a candidate of keep value `k`: its share `1 - k`, rounded down,
+/// What goes on of a weight after a candidate of keep value `k`: its share `1 - k`, rounded down,
 /// which is just what is left of it.
 #[tactic(auto, using(crate::proofs::RoundingLemmas::roundings))]
 pub fn rounding_law<const P: usize>(w: Amount<P>, k: Keep<P>) -> Amount<P>

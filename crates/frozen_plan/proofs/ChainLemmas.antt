@@ -79,7 +79,7 @@ positive :
 positive bytes at zero line is some = absurd (omega (arith, some, ap length (rest_none bytes at line is)))
 positive bytes at (suc c) line is some = omega arith
 
--- where a rank is left, it stands before what is left behind it
+-- where a rank is left, it is before what is left after it
 one_rank :
     (bytes : List ℕ) (at : ℕ) (line : PackedLine) → 1 ≤ length (rest_of bytes at line)
     → rest_of bytes at line ≡ rank_of bytes at line ∷ rest_of bytes (at + 1) line
@@ -94,7 +94,7 @@ one_less bytes at end line left inside =
     let some : 1 ≤ length (rest_of bytes at line) = omega (arith, left, inside) in
     omega (arith, left, ap length (one_rank bytes at line some))
 
--- a row more, and those of the ranks behind it
+-- a row more, and those of the ranks after it
 pub one_row :
     (bytes : List ℕ) (at end n : ℕ) (line : PackedLine) (rows now : List PlanRow)
     → at + length (rest_of bytes at line) ≡ end → at < end

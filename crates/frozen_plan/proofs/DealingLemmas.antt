@@ -14,7 +14,7 @@ use Rattle.plain_ballots.specs.Ballots.{plain, ballot_count}
 use Rattle.frozen_plan.specs.Plan.{PlanRows, plan_ballots, all_ballots}
 use Rattle.frozen_plan.specs.Dealing.{dealt, share, AreOfShares}
 
--- no shard behind the one that gets the line has any of it
+-- no shard after the one that gets the line has any of it
 none_behind :
     (piece : ℕ → List (List ℕ)) (k : ℕ) → ((s : ℕ) → s ≢ k → piece s ≡ []) → (n s : ℕ) → k < s
     → flat_map piece (range_with_len s n) ≡ []
@@ -107,7 +107,7 @@ share-append n s i (line ∷ lines) more =
     (share-append n s (i + 1) lines more ∙ ap (λ (k : ℕ). share n s (i + 1) lines ++ share n s k more) (omega arith))
     ∙ sym (append_assoc (dealt n s i line) (share n s (i + 1) lines) (share n s (i + suc (length lines)) more))
 
--- the line at place i comes behind those before it
+-- the line at place i comes after those before it
 pub share_more :
     (n s : ℕ) (lines : List BallotLine) (i : ℕ) (line : BallotLine) → i < length lines
     → line ≡ get_or lines i line

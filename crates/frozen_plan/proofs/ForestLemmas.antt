@@ -1,9 +1,9 @@
--- Siblings put behind others.
+-- Siblings put after others.
 use Rattle.std.proofs.Common.{◌≡◌, ℕ, ◌+◌, List, [], ◌∷◌, ◌++◌, length, map, replicate, refl, ap, sym, ◌∙◌, append_assoc}
 use Rattle.frozen_plan.specs.declared.plan_row.PlanRow.{PlanRow}
 use Rattle.frozen_plan.specs.Forest.{Forest, Bare, Grown, ballots_of, through, rows_of, IsGrown}
 
--- the siblings of one forest and behind them those of another
+-- the siblings of one forest and after them those of another
 abbrev pub join : Forest → Forest → Forest
 join Bare g = g
 join (Grown c n inner next) g = Grown c n inner (join next g)

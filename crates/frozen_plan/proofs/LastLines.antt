@@ -66,7 +66,7 @@ dealt_turn candidates i m k behind line shares d new some as_many turn takes bef
     (not_dealt_before candidates m s i behind line (get_or shares s e) (λ same. other.1 (sym same ∙ sym turn)) kept))
     (eqb_tells s k))
 
--- lines are dealt from the last on: those behind the ones that are left are in their shares, and the turn is
+-- lines are dealt from the last on: those after the ones that are left are in their shares, and the turn is
 -- that of the first of them
 pub record IsDealing (n : ℕ) (lines : List BallotLine) (m : ℕ) (left : BallotList) (shares : List BallotList)
     (at : ℕ) : Type 0 where

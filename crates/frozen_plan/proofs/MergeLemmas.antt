@@ -28,7 +28,7 @@ rests_push bytes lines line =
     let own : PackedLine → List (List ℕ) = λ l. replicate l.count (rest_of bytes 0 l) in
     flat_map-append own lines (line ∷ []) ∙ ap (λ (l : List (List ℕ)). rests bytes 0 lines ++ l) (append-nil (own line))
 
--- an equal line has its ballots behind those of the line that it is put to
+-- an equal line has its ballots after those of the line that it is put to
 rests_both : (bytes : List ℕ) (lines : List PackedLine) (last line : PackedLine) → rest_of bytes 0 last ≡ rest_of bytes 0 line
     → rests bytes 0
     (lines ++ record { front = last.front; start = last.start; count = last.count + line.count } ∷ [])
@@ -158,7 +158,7 @@ module _ (bytes : List ℕ) (old now : List PackedLine) (i last : ℕ) (so_far :
   front : take (last + 1) now ≡ take last now ++ one ∷ []
   front = take_more now last nothing (omega (arith, within))
 
-  -- the ballots of the line come behind the others
+  -- the ballots of the line come after the others
   with_line : rests bytes 0 (take (last + 1) now) ++ own ≡ rests bytes 0 (take (i + 1) old)
   with_line =
       ap (λ (l : List (List ℕ)). l ++ own) so_far.ballots

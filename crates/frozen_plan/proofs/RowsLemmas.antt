@@ -17,7 +17,7 @@ filled_row old low now first row at place is =
     ap (λ (l : List PlanRow). set l at row) (is ∙ append_assoc old (first ∷ []) low)
     ∙ (set_at old first low row at (sym place) ∙ ap (λ (l : List PlanRow). old ++ row ∷ l) (sym (append-nil low)))
 
--- how many rows stand behind the place
+-- how many rows stand after the place
 pub rows_behind :
     (old low now : List PlanRow) (first : PlanRow) (at : ℕ) → at ≡ length old
     → now ≡ (old ++ first ∷ []) ++ low → length now - at ≡ length low + 1

@@ -23,7 +23,7 @@ use Rattle.frozen_plan.proofs.ShareLemmas.{own_line}
 
 -- ---- whose turn it is
 
--- so many turns behind the turn t of n it is another's
+-- so many turns after the turn t of n it is another's
 other_turn : (n t r m : ℕ) → t < n → 1 ≤ m → m < n → (r * n + t + m) % n ≢ t
 other_turn n t r m within some few same = ⊎_elim
     (λ (left : (_) × (n ≤ t + m)).

@@ -12,7 +12,7 @@ abbrev pub share : (shards s i : ℕ) → List BallotLine → List (List ℕ)
 share shards s i [] = []
 share shards s i (line ∷ lines) = dealt shards s i line ++ share shards s (i + 1) lines
 
--- the plans stand for the shares of shard s and those behind it
+-- the plans stand for the shares of shard s and those after it
 abbrev pub AreOfShares : (shards s : ℕ) → List BallotLine → List PlanRows → Type 0
 AreOfShares shards s lines [] = ⊤
 AreOfShares shards s lines (plan ∷ plans) =

@@ -1,9 +1,9 @@
--- The nodes of a trie: siblings, each with what stands below it. A node is the beginning of rankings that leads to it.
+-- The nodes of a trie: siblings, each with what is below it. A node is the beginning of rankings that leads to it.
 use Rattle.std.specs.Prelude.{ℕ, ◌+◌, ◌-◌, ◌≤◌, ◌<◌, List, [], ◌∷◌, ◌++◌, length, map, replicate, take, drop, zero, suc}
 use Rattle.plain_ballots.specs.declared.limits.TheConstants.{MOST_CANDIDATES}
 use Rattle.frozen_plan.specs.declared.plan_row.PlanRow.{PlanRow}
 
--- the first sibling's candidate, how many ballots end at it, the nodes below it and those behind it
+-- the first sibling's candidate, how many ballots end at it, the nodes below it and those after it
 pub data Forest : Type 0 where
   Bare : Forest
   Grown : (candidate ends : ℕ) (inner next : Forest) → Forest

@@ -9,7 +9,7 @@ use crate::{NoMemory, PlanRow};
 use packed_ballots::{PackedLine, rank_at};
 use plain_ballots::MOST_CANDIDATES;
 
-/// Appends the nodes of a line by what stands in its ranking from place `at` from 0 on, and gives how
+/// Appends the nodes of a line by what is in its ranking from place `at` from 0 on, and gives how
 /// many ballots it has.
 pub(crate) fn push_line(
     ranks: &[u8],
@@ -35,7 +35,7 @@ pub(crate) fn push_line(
     Ok(ballots)
 }
 
-/// The place from 0 behind a line's last rank, which is at `at` or behind it.
+/// The place from 0 after a line's last rank, which is at `at` or after it.
 fn end_of(ranks: &[u8], line: PackedLine, at: u16) -> u16
     requires short { at + length (rest_of ranks.now at line) ≤ MOST_CANDIDATES }
     ensures { result ≡ at + length (rest_of ranks.now at line) }

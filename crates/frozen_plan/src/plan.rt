@@ -42,7 +42,7 @@ impl Plan {
     }
 
     /// The root, whose beginning has no candidate, and then the nodes below it, each with those
-    /// below it right behind.
+    /// below it right after.
     pub fn rows(&self) -> &[PlanRow]
         ensures rows { result.now ≡ self.now.rows }
         ensures plan { IsPlan self.now.candidates self.now.rows }

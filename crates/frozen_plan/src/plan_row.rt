@@ -3,7 +3,7 @@ ghost use Rattle.std.specs.Prelude.{◌≡◌, IfOk};
 
 use crate::NoMemory;
 
-/// A node of a trie: the beginning of some rankings. Its candidate stands at place `depth` of them.
+/// A node of a trie: the beginning of some rankings. Its candidate is at place `depth` of them.
 #[derive(Clone, Copy, Debug, PartialEq, Eq)]
 pub struct PlanRow {
     /// How many candidates the beginning has.

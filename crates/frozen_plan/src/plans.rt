@@ -37,7 +37,7 @@ impl Plans {
         Plans { list }
     }
 
-    /// Puts a plan behind the others.
+    /// Puts a plan after the others.
     pub fn push(&mut self, item: Plan) -> Result<(), PushBack<Plan>>
         ensures ok { OnOk result (self.new ≡ self.old ++ item ∷ []) }
         ensures refused { OnErr result (self.new ≡ self.old) }

@@ -15,7 +15,7 @@ use Rattle.import_words.specs.declared.pair.Pair.{Pair}
 abbrev pub HasValue : Said → Type 0
 HasValue said = said.value ≢ []
 
--- behind a pair the words are pairs too
+-- after a pair the words are pairs too
 pub left_more :
     (rest : List Word) (option : ImportOption) (value : Word) (behind : List Word)
     → rest ≡ flag_of option ∷ value ∷ behind → (pairs : List Said) × ArePairs rest pairs

@@ -20,7 +20,7 @@ module _ (texts : List (Bor Word)) (i : ℕ) (d : Bor Word) (within : i < length
       ap texts_in (take_more texts i d within)
       ∙ map-append (λ (t : Bor Word). t.now) (take i texts) (get_or texts i d ∷ [])
 
-  -- words that are the texts so far, with the next one behind them
+  -- words that are the texts so far, with the next one after them
   pub pushed :
       (old new : List Word) (word : Word) → new ≡ old ++ word ∷ [] → old ≡ texts_in (take i texts)
       → word ≡ (get_or texts i d).now

@@ -1,4 +1,4 @@
--- Where an option that may stand once stands twice, the values say nothing.
+-- Where an option that may come once comes twice, the values say nothing.
 use Rattle.std.proofs.Common.{◌≡◌, ◌≤◌, true, false, codes, Option, Some, None, List, [], length, ap, arith}
 use Rattle.candidate_roll.specs.declared.limits.TheConstants.{MOST_TITLE_BYTES}
 use Rattle.candidate_roll.specs.Name.{IsName}

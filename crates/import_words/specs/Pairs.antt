@@ -6,7 +6,7 @@ use Rattle.import_words.specs.Options.{flag_of, is_column, same_option}
 use Rattle.import_words.specs.declared.import_option.ImportOption.{ImportOption}
 use Rattle.import_words.specs.declared.import_option.ImportOption.TheVariants as options
 
--- an option, and the word behind it
+-- an option, and the word after it
 pub record Said : Type 0 where
   pub option : ImportOption
   pub value : Word

@@ -15,9 +15,9 @@ use std::alloc::Global;
 /// What the words say of the cells that are marks.
 #[derive(Debug, Drop)]
 pub struct CellWords {
-    /// What stands in a cell without a mark.
+    /// What is in a cell without a mark.
     pub blanks: Labels,
-    /// What stands in a cell for more than one candidate.
+    /// What is in a cell for more than one candidate.
     pub overs: Labels,
     /// What stands for the ranks from the first on; where there are none, ranks are numbers.
     pub ranks: Labels,
@@ -58,7 +58,7 @@ impl CellWords {
     }
 }
 
-/// Puts labels behind others.
+/// Puts labels after others.
 fn append(alloc: Global, all: &mut Labels, labels: &[Label]) -> Result<(), WordsStop>
     ensures ok { OnOk result (all.new ≡ all.old ++ labels.now) }
     ensures memory { OnErr result (result ≡ Err WordsStop.NoMemory) }
@@ -69,7 +69,7 @@ fn append(alloc: Global, all: &mut Labels, labels: &[Label]) -> Result<(), Words
     Ok(())
 }
 
-/// Puts names behind labels, where they are labels too.
+/// Puts names after labels, where they are labels too.
 fn append_names(
     alloc: Global,
     all: &mut Labels,

@@ -29,7 +29,7 @@ impl Labels {
         }
     }
 
-    /// Puts a label behind the others. Where there is no memory, it is dropped.
+    /// Puts a label after the others. Where there is no memory, it is dropped.
     pub fn push(&mut self, label: Label) -> Result<(), WordsStop>
         ensures ok { OnOk result (self.new ≡ self.old ++ label ∷ []) }
         ensures refused { OnErr result (self.new ≡ self.old) }

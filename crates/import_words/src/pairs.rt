@@ -15,7 +15,7 @@ use crate::values::Values;
 use meek_words::WordsStop;
 use std::alloc::Global;
 
-/// The first pair, and the words behind it.
+/// The first pair, and the words after it.
 fn first_pair(words: &[String]) -> Option<(Pair<'_>, &[String])>
     ensures cut { IfSome result (λ cut. ((said_in cut.0).value ≢ [])
         × (map string_bytes words.now

@@ -16,7 +16,7 @@ pub struct TableWords {
     /// Where none is said, the table shows it.
     pub separator: Option<Separator>,
     pub names: HeadNames,
-    /// The first record is the head, whatever stands in it.
+    /// The first record is the head, whatever is in it.
     pub head_is_said: bool,
     /// The head of the column that says for how many ballots a row stands.
     pub weight: Option<Label>,

@@ -45,7 +45,7 @@ begins letters bytes at inside =
     let place : 0 + at ≡ at = omega arith in
     skipped letters 0 at bytes (omega arith) ∙ rw (place, split) refl
 
--- and goes on behind it
+-- and goes on after it
 pub goes_on :
     (letters : Bool) (bytes : List ℕ) (at n : ℕ) → 0 < n → at + n ≤ length bytes
     → cut letters (at + 1) (n - 1) (drop (at + 1) bytes) ≡ cut letters 0 (at + n) bytes
@@ -127,7 +127,7 @@ over_separator letters bytes at inside is =
 digit_is_no_separator : (b : ℕ) → is_ascii_digit b ≡ true → (is_separator b ≡ false) × ((b == 35) ≡ false)
 digit_is_no_separator b is = (grind arith, grind arith)
 
--- where a digit stands at the front there is a number
+-- where a digit is at the front there is a number
 digit_piece :
     (letters : Bool) (xs : List ℕ) → 0 < prefix_len is_ascii_digit xs → (is_digit : Bool)
     → is_ascii_digit (get_or xs 0 0) ≡ is_digit → piece letters xs ≡ number_piece xs

@@ -1,4 +1,4 @@
--- Tables that follow files: what is expected behind each list, and which lists can go on to a file.
+-- Tables that follow files: what is expected after each list, and which lists can go on to a file.
 use Rattle.std.proofs.Common.{◌≡◌, List, [], ◌∷◌, ◌++◌, refl, sym, ◌∙◌, ap, subst, append_assoc, Ok, Err}
 use Rattle.std.specs.Prelude.{is_ok, IsOk, Option, Some, ◌↔◌}
 use Rattle.std.proofs.lemmas.Bool.{false≢true}

@@ -7,7 +7,7 @@ use Rattle.std.proofs.lemmas.List.{length-append, get_or_append_left, get_or_at}
 use Rattle.std.proofs.lemmas.List.Elements.{All-from_get_or}
 use Rattle.std.proofs.lemmas.List.Folds.{list_any_none}
 
--- A number that stands among different ones doesn't stand before.
+-- A number that is among different ones doesn't stand before.
 pub not_before :
     (before behind : List ℕ) (n : ℕ) → AllPairs (λ a b. a ≢ b) (before ++ n ∷ behind)
     → list_any (λ r. r == n) before ≡ false

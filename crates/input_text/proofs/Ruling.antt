@@ -105,7 +105,7 @@ module _ {S V : Type 0} {table : S → Item → Judged S} {whole : S → Option 
   on_front token front tokens ending last (Err kind) e rest = absurd (refused e)
   on_front token front tokens ending last (Ok next) e rest = rest next e
 
-  -- behind a front that is accepted the text goes on
+  -- after a front that is accepted the text goes on
   outcome_behind :
       (front tokens : List Placed) (ending : Ending) (expected last : S) → after table expected (items_of front) ≡ Ok last
       → outcome table whole expected (front ++ tokens) ending ≡ outcome table whole last tokens ending

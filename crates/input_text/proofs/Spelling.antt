@@ -16,7 +16,7 @@ use Rattle.input_text.proofs.Cutting.{skipped}
 use Rattle.input_text.specs.Written.{Spells, Each, IsWhole}
 use Rattle.input_text.proofs.WrittenRuns.{run_len, run_is, drop_front, take_front, digits_of, no_digit, no_letter}
 
--- a token at the front, and what is behind it
+-- a token at the front, and what is after it
 lexed :
     (at : ℕ) (b : ℕ) (behind : List ℕ) (item : Item) (n : ℕ) → piece true (b ∷ behind) ≡ Lexeme item (suc n)
     → n ≤ length behind
@@ -38,7 +38,7 @@ gapped : (at s : ℕ) (rest : List ℕ) → is_separator s ≡ true → cut true
 unfolding cut
 gapped at s rest is = ap (λ (p : Piece). beginning at p (λ m. cut true (at + 1) (m - 1) rest)) (gap_piece s rest is)
 
--- a token of these bytes, and the separator behind it
+-- a token of these bytes, and the separator after it
 both : (b : ℕ) (bytes : List ℕ) (s : ℕ) (item : Item) → is_separator s ≡ true
     → ((rest : List ℕ) → piece true (b ∷ (bytes ++ s ∷ rest)) ≡ Lexeme item (suc (length bytes)))
     → (at : ℕ) (rest : List ℕ) → cut true at 0 (b ∷ (bytes ++ s ∷ rest))

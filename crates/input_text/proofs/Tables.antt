@@ -17,7 +17,7 @@ module _ {S : Type 0} (table : S → Item → Judged S) where
   then_rest (Ok next) last xs ys e rest = rest next e
   then_rest (Err kind) last xs ys e rest = absurd (refused e)
 
-  -- behind a part that is accepted the rest goes on
+  -- after a part that is accepted the rest goes on
   pub in_parts :
       (start middle : S) (xs ys : List Item) → after table start xs ≡ Ok middle
       → after table start (xs ++ ys) ≡ after table middle ys
@@ -101,7 +101,7 @@ module _ {S V T : Type 0} (inner : S → Item → Judged (Progress S V)) (outer 
 
 -- ---- texts within another table
 
--- where the front is read, go on with what is behind it
+-- where the front is read, go on with what is after it
 abbrev pub behind_front : {V W : Type 0} → Result (V × Scan) Stopped → (V → Scan → Result W InputFault) → Result W InputFault
 behind_front (Ok read) next = next read.0 read.1
 behind_front (Err stopped) next = Err stopped.fault

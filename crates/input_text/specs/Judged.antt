@@ -14,7 +14,7 @@ abbrev pub then_on : {A B : Type 0} → Judged A → (A → Judged B) → Judged
 then_on (Ok a) next = next a
 then_on (Err kind) next = Err kind
 
--- what is expected behind these items, or why the first that is refused is refused
+-- what is expected after these items, or why the first that is refused is refused
 abbrev pub after : {S : Type 0} → (S → Item → Judged S) → S → List Item → Judged S
 after table expected [] = Ok expected
 after table expected (item ∷ items) = then_on (table expected item) (λ next. after table next items)
@@ -53,7 +53,7 @@ abbrev pub ended : {S V : Type 0} → Progress S V → Option V
 ended (Ends value) = Some value
 ended (GoesOn expected) = None
 
--- A table within another: it goes on there at a place of the other, and behind its end the other goes on.
+-- A table within another: it goes on there at a place of the other, and after its end the other goes on.
 abbrev pub carried : {S V T W : Type 0} → (S → T) → (V → T) → Judged (Progress S V) → Judged (Progress T W)
 carried inside behind (Ok (GoesOn expected)) = Ok (GoesOn (inside expected))
 carried inside behind (Ok (Ends value)) = Ok (GoesOn (behind value))
@@ -65,7 +65,7 @@ carried_to inside behind (Ok (GoesOn next)) = Ok (inside next)
 carried_to inside behind (Ok (Ends value)) = Ok (behind value)
 carried_to inside behind (Err kind) = Err kind
 
--- a refusal, and the text behind the last token that was formed
+-- a refusal, and the text after the last token that was formed
 pub record Stopped : Type 0 where
   pub fault : InputFault
   pub rest : Scan
@@ -75,7 +75,7 @@ on_progress at (Ok (GoesOn expected)) rest next = next expected
 on_progress at (Ok (Ends value)) rest next = Ok (value, rest)
 on_progress at (Err kind) rest next = Err (record { fault = record { kind = kind; at = at }; rest = rest })
 
--- the value that the front of a text says, with the text behind it; or the first refusal
+-- the value that the front of a text says, with the text after it; or the first refusal
 unfoldable pub front_of : {S V : Type 0} → (S → Item → Judged (Progress S V)) → S → List Placed → Ending → Result (V × Scan) Stopped
 front_of table expected [] ending = Err (record { fault = ended_by ending; rest = ends ending })
 front_of table expected (token ∷ tokens) ending = on_progress token.at (table expected token.item) (record { tokens = tokens; ending = ending }) (λ next. front_of table next tokens ending)
@@ -83,11 +83,11 @@ front_of table expected (token ∷ tokens) ending = on_progress token.at (table 
 abbrev pub reads : {S V : Type 0} → (S → Item → Judged (Progress S V)) → S → Scan → Result (V × Scan) Stopped
 reads table expected text = front_of table expected text.tokens text.ending
 
--- The table with another behind its end.
+-- The table with another after its end.
 abbrev pub going_on : {S V : Type 0} → (S → Item → Judged (Progress S V)) → (V → Item → Judged (Progress S V)) → Progress S V → Item → Judged (Progress S V)
 going_on table behind (GoesOn expected) item = table expected item
 going_on table behind (Ends value) item = behind value item
 
--- The table with nothing behind its end.
+-- The table with nothing after its end.
 abbrev pub closed : {S V : Type 0} → (S → Item → Judged (Progress S V)) → Progress S V → Item → Judged (Progress S V)
 closed table = going_on table (λ value item. Err Trailing)

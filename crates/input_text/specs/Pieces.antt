@@ -18,7 +18,7 @@ IsWithin len (code.Lexeme what n) = (0 < n) × (n ≤ len)
 IsWithin len (code.Wrong n) = n ≤ len
 IsWithin len (code.Unclosed n) = n ≡ len
 
--- a token stands at the front of the bytes
+-- a token is at the front of the bytes
 abbrev pub HoldsToken : List ℕ → Piece → Type 0
 HoldsToken bytes (code.Lexeme what n) = IsTokenAt bytes 0 n what
 HoldsToken bytes other = Unit {0}

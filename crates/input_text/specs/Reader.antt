@@ -41,7 +41,7 @@ IsTextAt bytes at stop what.Word = (at ≤ stop) × (stop ≤ length bytes) × A
 abbrev pub IsTextOf : List ℕ → Token → Type 0
 IsTextOf bytes token = IsTextAt bytes token.at token.stop token.what
 
--- A token of these bytes goes from its first byte up to where it stops: a number stops behind the last of its digits, and
+-- A token of these bytes goes from its first byte up to where it stops: a number stops after the last of its digits, and
 -- a string and a word are those bytes.
 abbrev pub IsTokenAt : List ℕ → ℕ → ℕ → What → Type 0
 IsTokenAt bytes at stop (what.Number n) = stop ≡ at + prefix_len is_ascii_digit (drop at bytes)
@@ -49,7 +49,7 @@ IsTokenAt bytes at stop (what.Minus n) = stop ≡ at + 1 + prefix_len is_ascii_d
 IsTokenAt bytes at stop what.Text = IsTextAt bytes at stop what.Text
 IsTokenAt bytes at stop what.Word = IsTextAt bytes at stop what.Word
 
--- a token that was given stands in the bytes
+-- a token that was given is in the bytes
 abbrev pub GivesToken : List ℕ → Next → Type 0
 GivesToken bytes (next.Token token) = IsTokenAt bytes token.at token.stop token.what
 GivesToken bytes other = Unit {0}

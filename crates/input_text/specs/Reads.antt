@@ -8,7 +8,7 @@ use Rattle.input_text.specs.Token.{Item, Number, Placed, Scan, with_front}
 use Rattle.input_text.specs.Reader.{Reader}
 use Rattle.input_text.specs.Judged.{Judged, ended_by, Progress, reads}
 
--- A reader of the same bytes, behind tokens that it has given.
+-- A reader of the same bytes, after tokens that it has given.
 pub record IsBehind (old new : Reader) : Type 0 where
   pub bytes : new.bytes ≡ old.bytes
   pub given : List Placed

@@ -20,7 +20,7 @@ module _ {V : Type 0} (IsFile : List Item → V → Type 0) where
     pub ending : text.ending ≡ AtEnd at
     pub file : IsFile (items_of text.tokens) value
 
-  -- The front of the text is a file, and this rest stands behind it.
+  -- The front of the text is a file, and this rest is after it.
   pub record IsFrontOf (text : Scan) (value : V) (rest : Scan) : Type 0 where
     pub front : List Placed
     pub tokens : text.tokens ≡ front ++ rest.tokens
@@ -29,7 +29,7 @@ module _ {V : Type 0} (IsFile : List Item → V → Type 0) where
 
   module _ {S : Type 0} (table : S → Item → Judged S) (start : S) where
     -- The first token by which the list stops being open decides: its place, and its judgement by what the table expects
-    -- behind the list before it.
+    -- after the list before it.
     pub record ByToken (text : Scan) (fault : InputFault) : Type 0 where
       pub front : List Placed
       pub token : Placed

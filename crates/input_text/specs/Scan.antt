@@ -10,7 +10,7 @@ use Rattle.input_text.specs.Token.{Item, Number, Minus, Text, Word, AtEnd, AtFau
 abbrev pub is_separator : ℕ → Bool
 is_separator b = b == 9 || b == 10 || b == 13 || b == 32
 
--- a byte of a comment behind its '#'
+-- a byte of a comment after its '#'
 abbrev pub is_in_line : ℕ → Bool
 is_in_line b = not (b == 10 || b == 13)
 
@@ -22,24 +22,24 @@ is_in_string b = nat_le 32 b && not (b == 34)
 abbrev pub number : List ℕ → ℕ
 number digits = min (digits_value 10 digits) 4294967295
 
--- a byte that may stand right behind a token
+-- a byte that may stand right after a token
 abbrev pub may_end : ℕ → Bool
 may_end b = is_separator b || b == 35
 
--- A separator, a '#' or the end stands at the front.
+-- A separator, a '#' or the end is at the front.
 abbrev pub may_follow : List ℕ → Bool
 may_follow [] = true
 may_follow (b ∷ rest) = may_end b
 
--- What stands at the front of a text: n bytes that belong to no token, a token of n bytes, a byte that may not
--- stand there behind n others, or a string that is not closed within the n bytes up to the end.
+-- What is at the front of a text: n bytes that belong to no token, a token of n bytes, a byte that may not
+-- stand there after n others, or a string that is not closed within the n bytes up to the end.
 pub data Piece : Type 0 where
   Gap : (n : ℕ) → Piece
   Lexeme : (item : Item) (n : ℕ) → Piece
   Wrong : (n : ℕ) → Piece
   Unclosed : (n : ℕ) → Piece
 
--- The first n bytes are a token if what is behind them may follow one.
+-- The first n bytes are a token if what is after them may follow one.
 abbrev pub token : Item → ℕ → List ℕ → Piece
 token item n bytes = if may_follow (drop n bytes) then Lexeme item n else Wrong n
 
@@ -47,7 +47,7 @@ token item n bytes = if may_follow (drop n bytes) then Lexeme item n else Wrong 
 unfoldable pub number_piece : List ℕ → Piece
 number_piece bytes = token (Number (number (take_while is_ascii_digit bytes))) (prefix_len is_ascii_digit bytes) bytes
 
--- a '-', and digits right behind it
+-- a '-', and digits right after it
 unfoldable pub minus_piece : List ℕ → Piece
 minus_piece behind =
     let n = prefix_len is_ascii_digit behind in
@@ -77,7 +77,7 @@ piece letters (b ∷ behind) =
     else (if letters && is_ascii_lowercase b then word_piece (b ∷ behind)
     else Wrong 0)))))
 
--- What a piece at this place gives, where the text goes on as `rest` says behind its bytes.
+-- What a piece at this place gives, where the text goes on as `rest` says after its bytes.
 abbrev pub beginning : ℕ → Piece → (ℕ → Scan) → Scan
 beginning at (Gap n) rest = rest n
 beginning at (Lexeme item n) rest = with_front (record { at = at; item = item }) (rest n)

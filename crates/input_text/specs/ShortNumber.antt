@@ -5,7 +5,7 @@ use Rattle.std.specs.Char.{is_ascii_digit}
 use Rattle.input_text.specs.Scan.{is_separator, number, cut}
 use Rattle.input_text.specs.Reader.{Reader}
 
--- digits, and a separator right behind them: together so many bytes
+-- digits, and a separator right after them: together so many bytes
 pub record IsShortNumber (bytes : List ℕ) (n len : ℕ) : Type 0 where
   pub inside : len ≤ length bytes
   pub some : 1 < len
@@ -13,7 +13,7 @@ pub record IsShortNumber (bytes : List ℕ) (n len : ℕ) : Type 0 where
   pub value : n ≡ number (take_while is_ascii_digit bytes)
   pub ends : is_separator (slice_index bytes (len - 1)) ≡ true
 
--- no number of at most so many bytes stands there so
+-- no number of at most so many bytes is there so
 abbrev pub HasNoNumberWithin : ℕ → List ℕ → Type 0
 HasNoNumberWithin most bytes = (n len : ℕ) → len ≤ most → ¬ IsShortNumber bytes n len
 

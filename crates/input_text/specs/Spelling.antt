@@ -1,4 +1,4 @@
--- A text as its tokens, joined one behind another with what stands between them.
+-- A text as its tokens, joined one after another with what is between them.
 use Rattle.std.specs.Prelude.{◌≡◌, ℕ, ◌+◌, ◌≤◌, List, [], ◌∷◌, ◌++◌, length, drop, Bool, true, false}
 use Rattle.std.specs.List.{AllPass}
 use Rattle.std.specs.Char.{is_ascii_digit, is_ascii_lowercase}
@@ -18,7 +18,7 @@ abbrev pub IsLineEnd : List ℕ → Type 0
 IsLineEnd [] = Unit {0}
 IsLineEnd (b ∷ behind) = is_in_line b ≡ false
 
--- Nothing but separators and comments stands before this rest of a text. A comment goes up to the end of its line.
+-- Nothing but separators and comments is before this rest of a text. A comment goes up to the end of its line.
 pub data GoesOver (rest : List ℕ) : List ℕ → Type 0 where
   Nothing : GoesOver rest rest
   Separator : (b : ℕ) (behind : List ℕ) → is_separator b ≡ true → GoesOver rest behind → GoesOver rest (b ∷ behind)
@@ -26,7 +26,7 @@ pub data GoesOver (rest : List ℕ) : List ℕ → Type 0 where
       (line behind : List ℕ) → AllPass is_in_line line → IsLineEnd behind → GoesOver rest behind
       → GoesOver rest (35 ∷ (line ++ behind))
 
--- A text that ends at place `stop` goes, behind separators and comments, on with the bytes of a token at its place, and
+-- A text that ends at place `stop` goes, after separators and comments, on with the bytes of a token at its place, and
 -- then with a rest that may follow a token.
 pub record Begins (stop : ℕ) (token : Placed) (text bytes rest : List ℕ) : Type 0 where
   pub gap : GoesOver (bytes ++ rest) text
@@ -40,7 +40,7 @@ IsText stop [] text = GoesOver [] text
 IsText stop (token ∷ tokens) text =
     (bytes : List ℕ) × (rest : List ℕ) × Begins stop token text bytes rest × IsText stop tokens rest
 
--- What is cut up to its end is those tokens, behind a byte order mark where one stands at the front.
+-- What is cut up to its end is those tokens, after a byte order mark where one is at the front.
 abbrev pub CutsToTokens : Type 0
 CutsToTokens =
     (bytes : List ℕ) (letters : Bool) (tokens : List Placed) (end : ℕ)

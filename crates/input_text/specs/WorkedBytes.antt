@@ -1,4 +1,4 @@
--- What each of the 256 bytes makes of a text, worked by hand: where a token may begin, right behind a token, in a string
+-- What each of the 256 bytes makes of a text, worked by hand: where a token may begin, right after a token, in a string
 -- and in a comment.
 use Rattle.std.specs.Prelude.{◌≡◌, ℕ, List, [], ◌∷◌, ◌++◌, true, false, map, replicate, codes}
 use Rattle.std.specs.List.{range_with_len}
@@ -14,7 +14,7 @@ of_each f = map f (range_with_len 0 256)
 abbrev pub nothing : (len : ℕ) → Scan
 nothing len = ends (AtEnd len)
 
--- a token at the front and nothing behind it
+-- a token at the front and nothing after it
 abbrev pub one : Item → (len : ℕ) → Scan
 one item len = with_front (record { at = 0; item = item }) (nothing len)
 
@@ -46,7 +46,7 @@ AtTheStartWithoutWords =
     ++ replicate 18 (wrong 0) ++ replicate 1 (nothing 1) ++ replicate 1 (wrong 0) ++ replicate 1 (unclosed 1)
     ++ replicate 1 (nothing 1) ++ replicate 12 (wrong 0) ++ numbers_from 0 1 ++ replicate 198 (wrong 0)
 
--- Behind a number stands a separator, a '#' or a further digit.
+-- After a number stands a separator, a '#' or a further digit.
 abbrev pub BehindANumber : Type 0
 BehindANumber =
     of_each (λ b. scan (codes "1" ++ b ∷ []) true)
@@ -54,7 +54,7 @@ BehindANumber =
     ++ replicate 18 (wrong 1) ++ replicate 1 (one (Number 1) 2) ++ replicate 2 (wrong 1) ++ replicate 1 (one (Number 1) 2)
     ++ replicate 12 (wrong 1) ++ numbers_from 10 2 ++ replicate 198 (wrong 1)
 
--- Behind a string stands a separator or a '#'.
+-- After a string stands a separator or a '#'.
 abbrev pub BehindAString : Type 0
 BehindAString =
     of_each (λ b. scan (codes "\"\"" ++ b ∷ []) true)
@@ -69,7 +69,7 @@ InAString =
     ≡ replicate 32 (wrong 1) ++ map (λ b. one (Text (b ∷ [])) 3) (range_with_len 32 2) ++ replicate 1 (wrong 2)
     ++ map (λ b. one (Text (b ∷ [])) 3) (range_with_len 35 221)
 
--- In a comment stands each byte but line feed and carriage return, which end it: the 1 behind these is a number.
+-- In a comment stands each byte but line feed and carriage return, which end it: the 1 after these is a number.
 abbrev pub InAComment : Type 0
 InAComment =
     let number_behind : Scan = with_front (record { at = 2; item = Number 1 }) (nothing 3) in

@@ -5,7 +5,7 @@ ghost use Rattle.input_text.specs.FaultWords.{kind_word};
 /// Why an input is refused. docs/FORMATS.md says at which token each comes.
 ///
 /// The first eleven are of ballot files. A roll that is read alone ends with its title, so `Trailing` is
-/// never said of it, and without ballots `BallotsInRoll` stands in the place of whatever may be wrong
+/// never said of it, and without ballots `BallotsInRoll` is in the place of whatever may be wrong
 /// with a ballot. `BadLots` is said of lots, and `TooLong` of a whole input. The others are of files of a
 /// day alone.
 #[derive(Clone, Copy, Debug, PartialEq, Eq)]

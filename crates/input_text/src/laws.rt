@@ -2,7 +2,7 @@
 ghost use Rattle.input_text.specs.Spelling.{CutsToTokens};
 ghost use Rattle.input_text.specs.Written.{NumbersAreRead, DigitsAreRead, WordsAreRead, StringsAreRead, PartsFollow, NothingIsRead, WholeIsRead};
 
-/// A text that is written from items, each with a separator behind it, is cut into just these items.
+/// A text that is written from items, each with a separator after it, is cut into just these items.
 pub fn written_items_are_read()
     ensures numbers { NumbersAreRead }
     ensures digits { DigitsAreRead }

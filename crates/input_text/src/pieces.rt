@@ -89,7 +89,7 @@ fn number_piece(bytes: &[u8]) -> Piece
     }
 }
 
-// A '-', and digits right behind it. The bytes begin with the '-'.
+// A '-', and digits right after it. The bytes begin with the '-'.
 #[tactic(auto, using(crate::proofs::Runs::run_passes), unfolding(crate::specs::Scan::minus_piece))]
 fn minus_piece(bytes: &[u8]) -> Piece
     requires { 0 < length bytes.now }
@@ -148,7 +148,7 @@ fn word_piece(bytes: &[u8]) -> Piece
     }
 }
 
-/// What stands at the front.
+/// What is at the front.
 #[tactic(auto, unfolding(crate::specs::Scan::piece))]
 pub(crate) fn first_piece(bytes: &[u8], letters: bool) -> Piece
     requires { 0 < length bytes.now }

@@ -5,7 +5,7 @@ ghost use Rattle.std.specs.Char.{is_ascii_digit};
 ghost use Rattle.input_text.specs.Scan.{is_separator, may_end};
 ghost use Rattle.input_text.specs.ShortNumber.{IsShortNumber, HasNoNumberWithin};
 
-/// A number of one to three digits with one separator behind it: its value, and how long both are. It is
+/// A number of one to three digits with one separator after it: its value, and how long both are. It is
 /// looked for where four bytes are left at least, and not with three digits where these are `rare`. There
 /// is no branch on how many digits there are, since that changes from token to token.
 #[inline(always)]
@@ -60,7 +60,7 @@ fn number_of_three(bytes: &[u8]) -> Option<(u32, usize)>
     }
 }
 
-// How long a number and the separator behind it are, where its second and its third byte are digits or not.
+// How long a number and the separator after it are, where its second and its third byte are digits or not.
 #[inline(always)]
 fn short_len(two: bool, three: bool) -> usize
     ensures { result ≡ 2 + bool_byte two + bool_byte (two && three) }

@@ -1,6 +1,6 @@
 use crate::What;
 
-/// A token, with the place of its first byte and the place behind its last.
+/// A token, with the place of its first byte and the place after its last.
 #[derive(Clone, Copy, Debug, PartialEq, Eq)]
 pub struct Token {
     pub at: usize,

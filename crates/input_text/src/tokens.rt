@@ -31,8 +31,8 @@ impl<'a> Model for Tokens<'a> {
     ghost invariant = { λ t. t.at ≤ length t.bytes.now };
 }
 
-// The place behind one separator, where one stands at this place. So a token is begun at its first byte
-// where one separator stands before it.
+// The place after one separator, where one is at this place. So a token is begun at its first byte
+// where one separator is before it.
 fn past_separator(bytes: &[u8], at: usize) -> usize
     requires { at ≤ length bytes.now }
     ensures within { result ≤ length bytes.now }
@@ -45,7 +45,7 @@ fn past_separator(bytes: &[u8], at: usize) -> usize
     }
 }
 
-// What comes from a place on, and a place from which all that is behind it comes.
+// What comes from a place on, and a place from which all that is after it comes.
 fn next_from(bytes: &[u8], letters: bool, from: usize) -> (Next, usize)
     requires { from ≤ length bytes.now }
     ensures within { result.1 ≤ length bytes.now }
@@ -74,7 +74,7 @@ fn fault(kind: FaultKind, at: usize) -> Next
     Next::Fault(InputFault::new(kind, at))
 }
 
-// A number from a place on and its place, or why there is none, and the place behind. What is
+// A number from a place on and its place, or why there is none, and the place after. What is
 // taken and given are values, so that a loop over numbers can keep its place in a register.
 #[tactic(auto, using(crate::proofs::Reading::behind_next))]
 #[inline(never)]
@@ -103,7 +103,7 @@ fn number_from(
 }
 
 impl<'a> Tokens<'a> {
-    /// The tokens of an input, behind its byte order mark. `letters` says whether it may have words.
+    /// The tokens of an input, after its byte order mark. `letters` says whether it may have words.
     pub fn new(bytes: &'a [u8], letters: bool) -> Self
         ensures { result ≡ record { bytes = bytes.entry.now; rest = scan bytes.entry.now letters } }
     {
@@ -124,7 +124,7 @@ impl<'a> Tokens<'a> {
         Tokens { bytes, at, letters }
     }
 
-    /// Whether this reader stands where another one of the same input does. Then both give the same.
+    /// Whether this reader is at the place of another one of the same input. Then both give the same.
     pub fn stands_with(&self, other: &Tokens<'_>) -> bool
         requires { self.now.bytes ≡ other.now.bytes }
         ensures { result ≡ true → self.now ≡ other.now }
@@ -132,7 +132,7 @@ impl<'a> Tokens<'a> {
         self.at == other.at && self.letters == other.letters
     }
 
-    /// A reader of its own that stands where this one does.
+    /// A reader of its own that is at the place of this one.
     #[inline(always)]
     pub fn same(&self) -> Tokens<'a>
         ensures { result ≡ self.now }
@@ -203,9 +203,9 @@ impl<'a> Tokens<'a> {
         }
     }
 
-    /// The same where it is a number of one to three digits with one separator behind it, or of one or two
+    /// The same where it is a number of one to three digits with one separator after it, or of one or two
     /// where numbers of three are `rare`. Else nothing is taken, nor where less than four bytes are left, nor
-    /// where this reader stands before a separator. A loop that takes short numbers so calls nothing.
+    /// where this reader is before a separator. A loop that takes short numbers so calls nothing.
     #[inline(always)]
     pub fn next_short(&mut self, rare: bool) -> Option<(u32, usize)>
         ensures number { IfSome result (λ found. self.old.rest ≡ with_front (record { at = found.1; item = Number found.0 }) self.new.rest) }

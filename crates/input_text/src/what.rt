@@ -2,7 +2,7 @@
 #[derive(Clone, Copy, Debug, PartialEq, Eq)]
 pub enum What {
     Number(u32),
-    /// The number behind a `-`.
+    /// The number after a `-`.
     Minus(u32),
     Text,
     Word,

@@ -16,7 +16,7 @@ length-count n fits = length-decimal-le 20 n (omega arith) (omega arith) fits
 pub length-candidate : (n : ℕ) → n ≤ 250 → length (decimal n) ≤ 3
 length-candidate n few = length-decimal-le 3 n (omega arith) (omega arith) (omega arith)
 
--- an amount or a keep value has at most 10 digits before the point, and as many behind it as there are places
+-- an amount or a keep value has at most 10 digits before the point, and as many after it as there are places
 pub length-text_of : (places units : ℕ) → places ≤ 9 → units ≤ most places → length (text_of places units) ≤ 20
 unfolding text_of
 length-text_of places units few small =

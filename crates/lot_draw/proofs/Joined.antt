@@ -8,7 +8,7 @@ use Rattle.std.proofs.lemmas.List.{take_more, map-append}
 use Rattle.line_text.proofs.Lengths.{length-candidate}
 use Rattle.lot_draw.specs.DrawnLine.{behind}
 
--- one more piece behind others
+-- one more piece after others
 join-push :
     (c : ℕ) (x : List ℕ) (xs : List (List ℕ)) (y : List ℕ)
     → join_with_byte c ((x ∷ xs) ++ y ∷ []) ≡ join_with_byte c (x ∷ xs) ++ c ∷ y
@@ -30,5 +30,5 @@ joined-more (x ∷ order) (suc i) below =
     ∙ ap (join_with_byte 44) (map-append decimal (take (suc i) (x ∷ order)) (get_or order i 0 ∷ []))
     ∙ join-push 44 (decimal x) (map decimal (take i order)) (decimal (get_or order i 0))
 
--- a number of a candidate behind some text
+-- a number of a candidate after some text
 pub ruleset rooms = (length-candidate, length-append)

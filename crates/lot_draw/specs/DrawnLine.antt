@@ -6,7 +6,7 @@ use Rattle.std.specs.List.{join_with_byte}
 abbrev pub drawn_line : List ℕ → List ℕ
 drawn_line order = join_with_byte 44 (map decimal order) ++ 10 ∷ []
 
--- a candidate behind so many others
+-- a candidate after so many others
 abbrev pub behind : ℕ → ℕ → List ℕ
 behind zero c = decimal c
 behind (suc others) c = 44 ∷ decimal c

@@ -18,7 +18,7 @@ pub fn push_drawn(line: &mut Line, order: &[u32])
     line.push_bytes(b"\n");
 }
 
-/// Appends a candidate behind so many others.
+/// Appends a candidate after so many others.
 #[tactic(auto, using(crate::proofs::Joined::rooms))]
 fn push_behind(line: &mut Line, others: usize, candidate: u32)
     requires number { candidate ≤ MOST_CANDIDATES }

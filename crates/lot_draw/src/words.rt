@@ -15,7 +15,7 @@ const BLANK: u8 = 32;
 const LAST_PRINTED: u8 = 126;
 
 /// The seed and the number of candidates of words that are just `--seed` and `--candidates`, in either
-/// order, each with its value behind it.
+/// order, each with its value after it.
 pub fn takes_draw(alloc: Global, words: &[String]) -> Result<(&str, u32), WordsStop>
     ensures taken { IfOk result (λ asked. TakesDraw (map string_bytes words.entry.now)
         (record { seed = asked.0.now; candidates = asked.1 })) }

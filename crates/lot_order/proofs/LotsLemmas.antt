@@ -1,4 +1,4 @@
--- The first of the marked, and who stands in an order.
+-- The first of the marked, and who is in an order.
 use Rattle.std.proofs.Common.{◌≡◌, ◌≢◌, not, ap, sym, subst, ℕ, ◌+◌, ◌-◌, ◌<◌, ◌≤◌, Bool, true, false, cond}
 use Rattle.std.proofs.Common.{List, [], ◌∷◌, length, get_or, Contains, arith, ◌∙◌, inl, inr, zero, suc}
 use Rattle.std.proofs.lemmas.List.{get_or_past, get_or_default}
@@ -54,11 +54,11 @@ place_in-here x c order same = ap (λ b. cond (not b) (1 + place_in order c) 0) 
 place_in-past : (x c : ℕ) (order : List ℕ) → x ≢ c → place_in (x ∷ order) c ≡ 1 + place_in order c
 place_in-past x c order other = ap (λ b. cond (not b) (1 + place_in order c) 0) (ne_eqb x c other)
 
--- who stands in front is before each other one
+-- who is in front is before each other one
 front_before : (x c f : ℕ) (order : List ℕ) → x ≡ f → x ≢ c → place_in (x ∷ order) f < place_in (x ∷ order) c
 front_before x c f order same other = omega (arith, place_in-here x f order same, place_in-past x c order other)
 
--- one before another is so behind a third too
+-- one before another is so after a third too
 behind_both :
     (x a b : ℕ) (order : List ℕ) → x ≢ a → x ≢ b → place_in order a < place_in order b
     → place_in (x ∷ order) a < place_in (x ∷ order) b

@@ -28,7 +28,7 @@ AreLots-more n order i sound below some few new = record {
       (subst (Contains (take i order)) same (Contains-get_or (take i order) k d inside))));
 }
 
--- who stands in an order that grows by c, other than c, stood in it before
+-- who is in an order that grows by c, other than c, stood in it before
 stood_before : (order : List ℕ) (c d : ℕ) → c ≢ d → Contains (order ++ c ∷ []) d → Contains order d
 stood_before order c d other found =
     elim (Contains-push_cases order c d found) [ inl before ↦ before | inr here ↦ absurd (other here) ]

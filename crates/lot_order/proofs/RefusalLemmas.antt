@@ -17,7 +17,7 @@ record IsFaultAt (n : ℕ) (order : List ℕ) (place : ℕ) : Type 0 where
 whole : (n : ℕ) (order : List ℕ) → AreLots n order → AreLots n (take (length order) order)
 whole n order sound = subst (AreLots n) (sym (take_all (length order) order (omega arith))) sound
 
--- who stands at a place of a front of lots is a candidate
+-- who is at a place of a front of lots is a candidate
 candidate_at :
     (n : ℕ) (order : List ℕ) (m place : ℕ) → AreLots n (take m order) → 1 ≤ place → place ≤ m
     → place ≤ length order → (1 ≤ number_at order place) × (number_at order place ≤ n)
@@ -61,7 +61,7 @@ same_place n order a b one other =
       | inr (inr more) ↦ absurd (other.breaks (a - 1) (omega arith) one.sound_before)
     ]
 
--- who stands at one place isn't out of range and there before
+-- who is at one place isn't out of range and there before
 not_both : (n : ℕ) (order : List ℕ) (a b : ℕ) → IsOutOfRangeAt n order a → IsTwiceAt n order b → ⊥
 not_both n order a b out twice =
     let same : a ≡ b = same_place n order a b (out_of_range_fault n order a out) (twice_fault n order b twice) in

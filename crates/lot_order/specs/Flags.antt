@@ -1,4 +1,4 @@
--- A mark for each candidate: candidate c's stands at place c - 1.
+-- A mark for each candidate: candidate c's is at place c - 1.
 use Rattle.std.specs.Prelude.{ℕ, Bool, false, List, slice_index_or}
 
 -- the mark at a place; nobody is marked past the end

@@ -6,7 +6,7 @@ use Rattle.lot_order.specs.Flags.{mark_at}
 use Rattle.lot_order.specs.declared.lots_stop.LotsStop.{LotsStop}
 use Rattle.lot_order.specs.declared.lots_stop.LotsStop.TheVariants.{NotAll, Twice, OutOfRange, NoMemory}
 
--- each candidate stands in the order just once, and nobody else does
+-- each candidate is in the order just once, and nobody else does
 pub record IsOrder (order : List ℕ) : Type 0 where
   pub few : length order ≤ MOST_CANDIDATES
   pub candidates : (i : ℕ) → i < length order → (1 ≤ slice_index order i) × (slice_index order i ≤ length order)
@@ -27,7 +27,7 @@ pub record AreLots (n : ℕ) (order : List ℕ) : Type 0 where
   pub numbers : All (λ c. (1 ≤ c) × (c ≤ n)) order
   pub different : AllPairs (λ a b. a ≢ b) order
 
--- the number that stands at a place from 1
+-- the number that is at a place from 1
 abbrev pub number_at : List ℕ → ℕ → ℕ
 number_at order place = slice_index order (place - 1)
 

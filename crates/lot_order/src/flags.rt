@@ -6,7 +6,7 @@ use crate::NoMemory;
 use std::alloc::Global;
 use std::marker::Model;
 
-/// A mark for each candidate: candidate c's stands at index c - 1.
+/// A mark for each candidate: candidate c's is at index c - 1.
 #[derive(Debug, Drop)]
 pub struct Flags {
     list: Vec<bool>,

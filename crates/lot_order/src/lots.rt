@@ -30,7 +30,7 @@ impl Model for Lots {
 }
 
 impl Lots {
-    /// An order in which each candidate from 1 to `candidates` stands once. A roll has at most 250
+    /// An order in which each candidate from 1 to `candidates` appears once. A roll has at most 250
     /// candidates, so no caller has more.
     pub fn try_new(alloc: Global, order: &[u32], candidates: u32) -> Result<Lots, LotsStop>
         requires few { candidates ≤ MOST_CANDIDATES }
@@ -53,7 +53,7 @@ impl Lots {
         self.order.len() as u32
     }
 
-    /// The marked candidate that stands first.
+    /// The marked candidate that is first.
     pub fn first_of(&self, tied: &Flags) -> u32
         requires lengths { length tied.now ≡ length self.now }
         requires marked { (p : ℕ) × (mark_at tied.now p ≡ true) }
@@ -87,7 +87,7 @@ impl Lots {
     }
 }
 
-/// Whether each candidate stands in the order once.
+/// Whether each candidate is in the order once.
 fn check_order(order: &[u32], candidates: u32) -> Result<(), LotsStop>
     requires { candidates ≤ MOST_CANDIDATES }
     ensures ok { OnOk result (IsOrder order.now × (length order.now ≡ candidates)) }
@@ -102,7 +102,7 @@ fn check_order(order: &[u32], candidates: u32) -> Result<(), LotsStop>
     }
 }
 
-/// Marks who stands in the order, or answers the first place at fault.
+/// Marks who is in the order, or answers the first place at fault.
 fn mark_seen(order: &[u32], candidates: usize, seen: &mut [bool]) -> Result<(), LotsStop>
     requires { length seen.old ≡ candidates }
     ensures sound { OnOk result (AreLots candidates order.now) }

@@ -6,7 +6,7 @@
 pub enum LotsStop {
     /// No place is at fault, and this is the least candidate without a place.
     NotAll(u32),
-    /// The place has a candidate that stands before it.
+    /// The place has a candidate that is before it.
     Twice(usize),
     /// The place has no candidate's number.
     OutOfRange(usize),

@@ -17,7 +17,7 @@ use std::thread::Threads;
 use tool_edge::{contests_are_not_refused, contests_are_refused_once, refuse_words};
 
 /// Does what the words ask for: reads the source to its end, judges it, and writes what is owed to the
-/// sink, with one flush behind the last byte. The words are read first, then the source, which a trial
+/// sink, with one flush after the last byte. The words are read first, then the source, which a trial
 /// leaves as it is; want of memory may end a run before its first byte is written, and never after it.
 pub fn meek<R: Threads + Wait + Sync, S: Source, K: Sink, G: Gate + Sync>(
     rt: &R,

@@ -28,7 +28,7 @@ leads_one rule s old new going iterates same = record {
       (going, (new.situation, iterates, here));
 }
 
--- and behind rows that led there it leads from where they began
+-- and after rows that led there it leads from where they began
 pub leads_more :
     (rule : Rule) (s : ℕ) (start mid new : Progress) (done more : List Row) → RowsLead rule s start done mid
     → RowsLead rule s mid more new → RowsLead rule s start (done ++ more) new

@@ -24,7 +24,7 @@ pub record IsSameElection (old new : Progress) : Type 0 where
   pub lots : new.lots ≡ old.lots
   pub ballots : new.ballots ≡ old.ballots
 
--- the count was just begun: it stands where its roll opens, with the omega that it keeps
+-- the count was just begun: it is where its roll opens, with the omega that it keeps
 abbrev pub HasJustBegun : (s : ℕ) → Progress → Type 0
 HasJustBegun s count = count.situation ≡ opening s count.situation.omega count.roll.seats count.roll.withdrawn
 
@@ -32,7 +32,7 @@ HasJustBegun s count = count.situation ≡ opening s count.situation.omega count
 abbrev pub HasRest : Rule → (s : ℕ) → Progress → Type 0
 HasRest rule s count = (rows : List Row) × (last : List State) × Rows rule s count.ballots count.lots count.situation rows last
 
--- These rows lead from the earlier to the later standing: rows that lead on from there lead, behind these,
+-- These rows lead from the earlier to the later standing: rows that lead on from there lead, after these,
 -- from the earlier one to the same end.
 pub record RowsLead (rule : Rule) (s : ℕ) (old : Progress) (done : List Row) (new : Progress) : Type 0 where
   pub same : IsSameElection old new

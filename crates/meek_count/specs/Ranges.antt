@@ -6,7 +6,7 @@ use Rattle.meek_rule.specs.Row.{Row, HasRoomFor}
 use Rattle.meek_rule.specs.declared.step.Step.{Step}
 use Rattle.meek_rule.specs.declared.step.Step.TheVariants.{Elected, Iterate, Defeat}
 
--- A candidate that a step defeats stands among the tied; another step has no tied.
+-- A candidate that a step defeats is among the tied; another step has no tied.
 abbrev pub HasTiedFor : (n : ℕ) → Step → (tied : List Bool) → Type 0
 HasTiedFor n Elected tied = tied ≡ replicate n false
 HasTiedFor n Iterate tied = tied ≡ replicate n false

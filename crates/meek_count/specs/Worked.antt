@@ -100,7 +100,7 @@ AtSixPlaces =
     IsCount 6 1 ten_four_three three_for_two (1 ∷ 2 ∷ 3 ∷ []) at_six_places (IsElected ∷ IsElected ∷ Defeated ∷ [])
 
 -- A WITHDRAWN CANDIDATE, A TRANSFER AND A DEFEAT, with two seats: after the transfer the fourth misses the quota by one
--- unit, and stands above the third by more than the surplus, so the third alone is tied.
+-- unit, and is above the third by more than the surplus, so the third alone is tied.
 
 abbrev pub sample_ballots : List (List ℕ)
 sample_ballots =

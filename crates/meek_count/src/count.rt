@@ -158,7 +158,7 @@ impl<'e, const P: usize, D: Spread<P> + Drop> Count<'e, P, D> {
     }
 }
 
-/// Distributes the ballots, unless the tally stands at these keep values already.
+/// Distributes the ballots, unless the tally is at these keep values already.
 fn distribute<const P: usize, D: Spread<P>>(
     spread: &mut D,
     keeps: &Keeps<P>,

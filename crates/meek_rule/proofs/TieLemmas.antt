@@ -140,7 +140,7 @@ first_marked-marked (c ∷ order) marks some =
           rw later (first_marked-marked order marks (omega arith))
     ]
 
--- the tied candidate that stands first in the lots is hopeful
+-- the tied candidate that is first in the lots is hopeful
 pub loser-hopeful :
     (states : List State) (votes lots : List ℕ) (u : ℕ) → IsOrder lots → length lots ≡ length states
     → 1 ≤ hopeful_count states

@@ -59,11 +59,11 @@ module _ (rule : Rule) (s : ℕ) (keeps : List ℕ) where
   abbrev given_of : (w : ℕ) → List ℕ → (c : ℕ) → ℕ
   given_of w ranks c = given_under rule s keeps w ranks c
 
-  -- what candidate c is given behind the candidate at place i
+  -- what candidate c is given after the candidate at place i
   abbrev given_behind : (w : ℕ) → List ℕ → (i c : ℕ) → ℕ
   given_behind w ranks i c = given_of (w - kept_of w (get_or ranks i 0)) (drop (i + 1) ranks) c
 
-  -- the weight behind one more candidate
+  -- the weight after one more candidate
   weight-push : (w : ℕ) (ranks : List ℕ) (c : ℕ)
       → weight_of w (ranks ++ c ∷ []) ≡ weight_of w ranks - kept_of (weight_of w ranks) c
   weight-push w [] c = refl
@@ -99,20 +99,20 @@ module _ (rule : Rule) (s : ℕ) (keeps : List ℕ) where
         | false ↦ omega arith
       ]
 
-  -- what the next candidate takes, and what is given behind it
+  -- what the next candidate takes, and what is given after it
   given-step : (w : ℕ) (ranks : List ℕ) (i c : ℕ) → i < length ranks
       → given_of w (drop i ranks) c
       ≡ cond (get_or ranks i 0 == c) (kept_of w (get_or ranks i 0)) 0 + given_behind w ranks i c
   given-step w ranks i c below = ap (λ xs. given_of w xs c) (drop_more ranks i 0 below)
 
-  -- the candidate that comes next has what it keeps, and what is given behind it
+  -- the candidate that comes next has what it keeps, and what is given after it
   given-here : (w : ℕ) (ranks : List ℕ) (i c : ℕ) → i < length ranks → get_or ranks i 0 ≡ c
       → given_of w (drop i ranks) c ≡ kept_of w (get_or ranks i 0) + given_behind w ranks i c
   given-here w ranks i c below at =
       given-step w ranks i c below
       ∙ ap (λ b. cond b (kept_of w (get_or ranks i 0)) 0 + given_behind w ranks i c) (eq-eqb _ _ at)
 
-  -- the others have what is given behind it
+  -- the others have what is given after it
   given-past : (w : ℕ) (ranks : List ℕ) (i c : ℕ) → i < length ranks → get_or ranks i 0 ≢ c
       → given_of w (drop i ranks) c ≡ given_behind w ranks i c
   given-past w ranks i c below other =

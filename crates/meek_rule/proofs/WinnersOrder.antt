@@ -10,7 +10,7 @@ use Rattle.meek_rule.specs.Winners.{comes_before}
 use Rattle.meek_rule.proofs.TestLemmas.{or_cases, or_left, or_right}
 use Rattle.meek_rule.proofs.StrictOrder.{IsStrictOrder}
 
--- a candidate of an order stands at its place
+-- a candidate of an order is at its place
 pub place_found : (lots : List ℕ) (c i : ℕ) → i < length lots → get_or lots i 0 ≡ c → get_or lots (place_in lots c) 0 ≡ c
 place_found [] c i below at = absurd (omega arith)
 place_found (d ∷ lots) c zero below at = rw (eq-eqb d c at) at

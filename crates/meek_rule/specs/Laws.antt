@@ -30,7 +30,7 @@ abbrev pub NotRankedNothingGiven : Type 0
 NotRankedNothingGiven =
     (rule : Rule) (s : ℕ) (keeps : List ℕ) (w : ℕ) (ranks : List ℕ) (c : ℕ) → ¬ (Contains ranks c) → given_under rule s keeps w ranks c ≡ 0
 
--- The weight behind one more candidate and what that candidate keeps are together the weight before it. So a weight never
+-- The weight after one more candidate and what that candidate keeps are together the weight before it. So a weight never
 -- rises, and nothing of it is lost.
 abbrev pub WeightFallsByWhatIsKept : Type 0
 WeightFallsByWhatIsKept =

@@ -1,4 +1,4 @@
--- Lists with an item for each candidate: candidate c's stands at place c - 1.
+-- Lists with an item for each candidate: candidate c's is at place c - 1.
 use Rattle.std.specs.Prelude.{ℕ, Bool, List, map, count_by}
 use Rattle.std.specs.List.{range_with_len}
 

@@ -10,7 +10,7 @@ use Rattle.meek_rule.specs.Winners.{AreWinners}
 use Rattle.meek_rule.specs.Surplus.{surplus}
 use Rattle.meek_rule.specs.Iteration.{nobody}
 
--- The row before a step is taken: what follows from the votes stands in it, and nobody is capped or tied.
+-- The row before a step is taken: what follows from the votes is in it, and nobody is capped or tied.
 pub record IsCounted (now : Situation) (votes lots : List ℕ) (row : Row) : Type 0 where
   pub round : row.round ≡ now.round
   pub iteration : row.iteration ≡ now.iteration

@@ -12,7 +12,7 @@ abbrev pub kept_under : Rule → (s : ℕ) → List ℕ → (w : ℕ) → (c : �
 kept_under Meek s keeps w c = up s w (slice_index keeps (c - 1))
 kept_under Warren s prices w c = min w (slice_index prices (c - 1))
 
--- the weight of a ballot behind these candidates, where it was w before them
+-- the weight of a ballot after these candidates, where it was w before them
 abbrev pub weight_under : Rule → (s : ℕ) → List ℕ → (w : ℕ) → List ℕ → ℕ
 weight_under rule s keeps w [] = w
 weight_under rule s keeps w (r ∷ ranks) = weight_under rule s keeps (w - kept_under rule s keeps w r) ranks

@@ -11,7 +11,7 @@ use std::alloc::Global;
 use std::marker::Model;
 
 /// What is written down of an iteration. States and keep values are those before it; of each list,
-/// candidate c's item stands at index c - 1. Amounts are in units of 10^-P votes.
+/// candidate c's item is at index c - 1. Amounts are in units of 10^-P votes.
 #[derive(Debug, Drop)]
 pub struct Row<const P: usize> {
     pub round: u32,

@@ -2,7 +2,7 @@
 use Rattle.std.specs.Prelude.{ℕ, zero, suc, ◌+◌, ◌*◌, ◌/◌, ◌%◌, ◌==◌, List, map, if◌then◌else◌}
 use Rattle.std.specs.List.{range_with_len}
 
--- the number behind a number
+-- the number after a number
 unfoldable pub next : ℕ → ℕ
 next x = (x * 1103515245 + 12345) % 2147483648
 

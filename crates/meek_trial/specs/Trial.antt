@@ -3,11 +3,11 @@ use Rattle.std.specs.Prelude.{ℕ, ◌+◌, ◌-◌, ◌*◌, ◌/◌, ◌%◌, 
 use Rattle.std.specs.List.{flat_map, range_with_len}
 use Rattle.meek_trial.specs.Draws.{drawn, ranking}
 
--- a number and the byte behind it
+-- a number and the byte after it
 abbrev pub number_then : (s n : ℕ) → List ℕ
 number_then s n = decimal n ++ s ∷ []
 
--- each number and a space behind it
+-- each number and a space after it
 abbrev pub spaced : List ℕ → List ℕ
 spaced numbers = flat_map (number_then 32) numbers
 
@@ -17,7 +17,7 @@ spaced numbers = flat_map (number_then 32) numbers
 abbrev pub ballot : (l x : ℕ) → List ℕ
 ballot l x = (number_then 32 (1 + l % 9) ++ spaced (ranking x)) ++ codes "0\n"
 
--- n ballot lines, of which the first is drawn behind the k-th number
+-- n ballot lines, of which the first is drawn after the k-th number
 unfoldable pub ballots : (number k n : ℕ) → List ℕ
 ballots number k n = flat_map (λ l. ballot l (drawn number (k + l + 1))) (range_with_len 0 n)
 

@@ -42,7 +42,7 @@ fn put_ballot(text: &mut Vec<u8>, l: u64, x: u64) -> Result<(), NoMemory>
     put_line(text, &line)
 }
 
-/// Appends the candidates of a ballot, each with a space behind it.
+/// Appends the candidates of a ballot, each with a space after it.
 #[tactic(auto, using(crate::proofs::Rooms::rooms))]
 fn push_ranking(line: &mut Line, x: u64)
     requires { length line.old ≤ 30 }

@@ -34,7 +34,7 @@ pub(crate) fn put_numbered(text: &mut Vec<u8>, word: &[u8], number: u64) -> Resu
     put_line(text, &line)
 }
 
-/// Appends a number and the byte behind it.
+/// Appends a number and the byte after it.
 #[tactic(auto, using(crate::proofs::Rooms::rooms))]
 pub(crate) fn push_number(line: &mut Line, n: u64, behind: &[u8])
     requires room { length line.old ≤ 1000 }

@@ -22,7 +22,7 @@ between rows pending position =
     record
     { held = held rows pending; waiting = idle; position = position; is_trailing = false; stopped = None }
 
--- behind an option that waits for its value
+-- after an option that waits for its value
 abbrev pub waiting_for : OptionName → List Row → ℕ → Walk
 waiting_for name rows position =
     record (between rows (Some (id_of (Some name), [])) position) { waiting = option (id_of (Some name)) }
@@ -31,7 +31,7 @@ pub command_line_simple : is_simple command_line ≡ true
 unfolding clap_on_literals
 command_line_simple = refl
 
--- `--name=value` is one use, behind that of what was pending
+-- `--name=value` is one use, after that of what was pending
 pub one_word_walked :
     (name : OptionName) (rows : List Row) (pending : Option (Text × List Text)) (position : ℕ) (value : Word)
     → walked shape.rules [] (between rows pending position) (flag_of name ++ 61 ∷ value)

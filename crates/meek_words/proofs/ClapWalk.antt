@@ -20,7 +20,7 @@ use Rattle.meek_words.proofs.ClapSteps.{shape, held, between, waiting_for, one_w
 use Rattle.meek_words.proofs.ClapSteps.{flag_walked, flag_passes, value_walked, value_passes, plain_walked}
 use Rattle.meek_words.proofs.ClapSteps.{plain_passes}
 
--- the walk stands behind these parts: their rows are there once what is pending is used
+-- the walk is after these parts: their rows are there once what is pending is used
 pub record Stand (done : List Part) : Type 0 where
   pub rows : List Row
   pub pending : Option (Text × List Text)
@@ -197,7 +197,7 @@ pub record WalksTo (done parts : List Part) (stand : Stand done) : Type 0 where
   pub last : Stand all
   pub goes : GoesOver (walk_at done stand) (flat_map words_of parts) (walk_at all last)
 
--- an option that stands once does not stand before
+-- an option that comes once is not there before
 unused :
     (done : List Part) (part : Part) (parts : List Part)
     → length (values_of (option_of part) (done ++ part ∷ parts)) ≤ 1 → values_of (option_of part) done ≡ []

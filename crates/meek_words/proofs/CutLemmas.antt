@@ -12,7 +12,7 @@ use Rattle.meek_words.specs.Parts.{Part, OneWord, TwoWords, Plain, IsValue, word
 use Rattle.meek_words.specs.declared.option_name.OptionName.{OptionName}
 use Rattle.meek_words.specs.declared.option_name.OptionName.TheVariants.{Lots, Shards, Workers}
 
--- what stands before a word's first equals sign, and what stands behind it
+-- what is before a word's first equals sign, and what is after it
 abbrev pub at_equals : Word → Word × Option Word
 at_equals [] = ([], None)
 at_equals (b ∷ rest) = cond (nat_eq b 61) ([], Some rest) (b ∷ (at_equals rest).0, (at_equals rest).1)
@@ -41,7 +41,7 @@ cut_by None behind word rest = if_value word (Plain word, rest)
 cut_by (Some name) (Some value) word rest = if_value value (OneWord name value, rest)
 cut_by (Some name) None word rest = cut_two name rest
 
--- the first part of words, and the words behind it
+-- the first part of words, and the words after it
 abbrev pub first_part : List Word → Cut
 first_part [] = None
 first_part (word ∷ rest) = cut_by (flagged (at_equals word).0) (at_equals word).1 word rest

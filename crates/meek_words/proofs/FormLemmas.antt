@@ -102,7 +102,7 @@ says_once (Trial n s w) parts h (Some Shards) = shards_once (given_of parts) s w
 says_once (Trial n s w) parts h (Some Workers) = workers_once (given_of parts) s w h.0
 says_once (Trial n s w) parts h None = once_at_most (IsTrialNumber n) (values_of None parts) h.2
 
--- behind the first word of a form stand its parts
+-- after the first word of a form stand its parts
 pub form_parts :
     (first : Word) (behind : List Word) (command : Command) (form : HasForm (first ∷ behind) command)
     → AreParts behind form.parts

@@ -93,7 +93,7 @@ once_more old new done part once first noted option =
     (λ e. ap (stands old) (same_option-true option (option_of part) e) ∙ first)
     ∙ ap (λ b. cond b 1 0) (sym (noted option))
 
--- what stood and stands again stands twice
+-- what stood and stands again comes twice
 pub twice :
     (stood : Stood) (done behind : List Part) (part : Part) → StoodOnce stood done
     → stands stood (option_of part) ≡ true
@@ -108,7 +108,7 @@ twice stood done behind part once again few =
     ∙ length-append (values_of option (done ++ part ∷ [])) (values_of option behind) in
     omega (arith, one, two, all, few)
 
--- what is left behind a front of parts is parts
+-- what is left after a front of parts is parts
 pub parts_left :
     (words : List Word) (done parts : List Part) (rest : List Word) → IsFront words done rest
     → AreParts words parts

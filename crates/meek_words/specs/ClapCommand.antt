@@ -21,7 +21,7 @@ option_rule name = record (new_rule name) { long = Some name; action = Some Set 
 abbrev pub plain_rule : Rule
 plain_rule = record (new_rule (codes "plain")) { action = Some Set }
 
--- a command without help and version, whose words begin behind the program's name
+-- a command without help and version, whose words begin after the program's name
 abbrev pub bare : App
 bare = on_top (λ s. record s {
   no_binary_name = true;

@@ -24,7 +24,7 @@ first_word (Count lots shards workers) = codes "count"
 first_word (Day shards workers) = codes "day"
 first_word (Trial number shards workers) = codes "trial"
 
--- what stands behind the first word says the rest of the command: `count` has its lots, `trial` a
+-- what is after the first word says the rest of the command: `count` has its lots, `trial` a
 -- number from 1 to 1,000, and none has anything else
 abbrev pub Says : Command → Given → Type 0
 Says (Count lots shards workers) given =

@@ -1,4 +1,4 @@
--- How the words behind a command's first word are cut into options and plain words.
+-- How the words after a command's first word are cut into options and plain words.
 use Rattle.std.specs.Prelude.{◌≡◌, ◌≢◌, ◌≤◌, Bool, true, false, Option, Some, None}
 use Rattle.std.specs.Prelude.{List, [], ◌∷◌, ◌++◌, length, codes, All, filter, map}
 use Rattle.std.specs.List.{flat_map}
@@ -61,7 +61,7 @@ same_option _ _ = false
 abbrev pub values_of : Option OptionName → List Part → List Word
 values_of option parts = map value_of (filter (λ part. same_option option (option_of part)) parts)
 
--- the words are these parts one after another; each has a value, and no option stands twice, nor do
+-- the words are these parts one after another; each has a value, and no option comes twice, nor do
 -- two plain words
 pub record AreParts (words : List Word) (parts : List Part) : Type 0 where
   pub spelled : words ≡ flat_map words_of parts

@@ -39,7 +39,7 @@ impl Command {
     ghost use Rattle.meek_words.specs.Values.{given_by};
     ghost use Rattle.meek_words.specs.declared.command.Command.{Command};
 
-    /// The command of a first word and of the values behind it.
+    /// The command of a first word and of the values after it.
     pub(crate) fn from_values(
         alloc: Global,
         first: &str,

@@ -30,7 +30,7 @@ impl LotWords {
         }
     }
 
-    /// Puts a number behind the others.
+    /// Puts a number after the others.
     pub fn push(&mut self, item: u32) -> Result<(), PushBack<u32>>
         ensures ok { OnOk result (self.new ≡ self.old ++ item ∷ []) }
         ensures refused { OnErr result (self.new ≡ self.old) }

@@ -42,7 +42,7 @@ fn is_value(word: &str) -> bool
     }
 }
 
-/// The option of the first part, if it has one, and the words behind that part.
+/// The option of the first part, if it has one, and the words after that part.
 fn first_part(words: &[String]) -> Option<(Option<OptionName>, &[String])>
     ensures cut { IfSome result (λ cut. (part : Part) × HasValue part × (option_of part ≡ cut.0)
         × (map string_bytes words.now ≡ words_of part ++ map string_bytes cut.1.now)) }

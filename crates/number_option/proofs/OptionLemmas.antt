@@ -32,7 +32,7 @@ unlike xs ys is same =
     let none : not true ≡ true = ap not (sym equal) ∙ is in
     absurd (cc)
 
--- words that begin with another option have no number behind this one
+-- words that begin with another option have no number after this one
 pub other_option :
     (option : Word) (greatest : ℕ) (words : List Word) (first second : Word) → words ≡ first ∷ second ∷ []
     → ¬ (first ≡ option) → (n : ℕ) → ¬ TakesNumber option greatest words n
@@ -42,7 +42,7 @@ other_option option greatest words first second is other n taken =
 same_word : (option one other : Word) → option ∷ one ∷ [] ≡ option ∷ other ∷ [] → one ≡ other
 same_word option one other same = ap (λ (ws : List Word). get_or ws 1 []) same
 
--- the number behind the option
+-- the number after the option
 pub asked_of_number :
     (option : Word) (greatest : ℕ) (words : List Word) (word given : Word) (result : Result ℕ WordsStop)
     → words ≡ option ∷ word ∷ [] → given ≡ word → IfOk result (Says greatest given)

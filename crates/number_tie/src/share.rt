@@ -1,4 +1,4 @@
-//! What one holder of a part of a tie knows of it. It stands in proofs alone.
+//! What one holder of a part of a tie knows of it. It is in proofs alone.
 
 /// A share of a tie. No value of it is ever made.
 pub struct Share {

@@ -59,7 +59,7 @@ first_byte separator b field bytes (inr is) =
     subst (λ (q : ℕ). (eqb q 13 ≡ false) × (eqb q 10 ≡ false)) quote (refl, refl)
 
 module _ (separator : ℕ) (is_apart : IsApart separator) (tail : List ℕ) where
-  -- a separator behind a field's text
+  -- a separator after a field's text
   behind_text :
       (b : ℕ) (field text rest : List ℕ) → IsField separator field text → eqb b 13 ≡ false → eqb b 10 ≡ false
       → IsWithin ((text ++ b ∷ rest) ++ tail)

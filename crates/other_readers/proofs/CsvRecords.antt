@@ -25,7 +25,7 @@ unfolding Reached
 one_more separator state next text left fields records reads others =
     (others.0, others.1, ((fields, next, left), reads, refl, others.2), others.3)
 
--- behind a carriage return a line feed is passed over
+-- after a carriage return a line feed is passed over
 past_feed :
     (separator : ℕ) (text : List ℕ) (records : List (List (List ℕ)))
     → AreRecords (parted_by separator) StartRecord text records

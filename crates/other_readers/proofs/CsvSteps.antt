@@ -62,7 +62,7 @@ quoted_bytes separator fields field (b ∷ bytes) rest =
     ∙ quoted_bytes separator fields (field ++ b ∷ []) bytes rest
     ∙ ap (λ (f : List ℕ). next_record (parted_by separator) AfterQuote fields f rest) (append_assoc field (b ∷ []) bytes)
 
--- behind a closing quote what is no quote does as it does in a field
+-- after a closing quote what is no quote does as it does in a field
 pub behind_quote :
     (separator : ℕ) (fields : List (List ℕ)) (field rest : List ℕ) → IsUnquoted rest
     → next_record (parted_by separator) AfterQuote fields field rest
@@ -109,7 +109,7 @@ pub at_feed :
 unfolding next_record
 at_feed separator fields field rest unlike = rw unlike refl
 
--- so does a carriage return, behind which a line feed is passed over
+-- so does a carriage return, after which a line feed is passed over
 pub at_return :
     (separator : ℕ) (fields : List (List ℕ)) (field rest : List ℕ) → eqb 13 separator ≡ false
     → next_record (parted_by separator) InField fields field (13 ∷ rest)

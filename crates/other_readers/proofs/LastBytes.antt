@@ -5,7 +5,7 @@ use Rattle.std.specs.List.{flat_map, list_all}
 use Rattle.table_text.specs.Spelling.{AreFields, IsField, is_plain, within_quotes}
 use Rattle.other_readers.proofs.Bytes.{first_plain, others_plain}
 
--- the last byte, behind another one
+-- the last byte, after another one
 abbrev pub last_of : ℕ → List ℕ → ℕ
 last_of before [] = before
 last_of before (b ∷ bytes) = last_of b bytes

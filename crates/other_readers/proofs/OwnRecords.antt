@@ -6,7 +6,7 @@ use Rattle.other_readers.specs.Laws.{CsvTextReadsAlike}
 use Rattle.other_readers.proofs.LastBytes.{fields_last, last_behind, last_of}
 use Rattle.other_readers.proofs.OwnSteps.{record_read}
 
--- what stands behind a line feed ends as the whole does
+-- what is after a line feed ends as the whole does
 behind_feed :
     (front rest : List ℕ) → last_of 10 (front ++ 10 ∷ rest) ≡ 10 → last_of 10 rest ≡ 10
 behind_feed front rest ends = sym (last_behind 10 front 10 rest) ∙ ends

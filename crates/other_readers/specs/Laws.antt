@@ -14,7 +14,7 @@ use Rattle.table_text.specs.Spelling.{Spelled, is_text}
 abbrev pub parted_by : (separator : ℕ) → Config
 parted_by separator = record default_config { delimiter = separator }
 
--- The reader of `csv` finds in an input, both behind a byte order mark, the records that it is spelled as, and no others.
+-- The reader of `csv` finds in an input, both after a byte order mark, the records that it is spelled as, and no others.
 abbrev pub CsvReadsAlike : Type 0
 CsvReadsAlike =
     (separator : ℕ) (records : List (List (List ℕ))) (input : List ℕ) → IsSeparator separator

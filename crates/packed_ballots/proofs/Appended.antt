@@ -1,4 +1,4 @@
--- Lines of other ballots behind these.
+-- Lines of other ballots after these.
 use Rattle.std.proofs.Common.{◌≡◌, ℕ, ◌+◌, ◌≤◌, ◌<◌, List, [], ◌∷◌, ◌++◌, All, length, map, drop, get_or}
 use Rattle.std.proofs.Common.{arith, refl, ap, sym, ◌∙◌, append_assoc}
 use Rattle.std.proofs.Math.Seq.{drop-append-add}
@@ -42,7 +42,7 @@ lines_appended bytes more lines others kept =
     ∙ (ap (λ (l : List BallotLine). l ++ lines_of (bytes ++ more) came) (lines_kept bytes more lines kept)
     ∙ ap (λ (l : List BallotLine). lines_of bytes lines ++ l) (lines_raised bytes more others))
 
--- lines of rankings of n candidates, and some others behind them
+-- lines of rankings of n candidates, and some others after them
 module _ (n : ℕ) (bytes more : List ℕ) (lines others : List PackedLine)
     (is : IsPacked n bytes lines) (are : IsPacked n more others) (some : 1 ≤ length others) where
   abbrev new : List ℕ

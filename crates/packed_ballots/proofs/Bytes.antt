@@ -20,7 +20,7 @@ whole [] all = refl
 whole (zero ∷ ranks) all = let none : 1 ≤ 0 = all 0 0 (omega arith) in absurd (omega (arith, none))
 whole (suc c ∷ ranks) all = ap (λ (l : List ℕ). suc c ∷ l) (whole ranks (All-tail (λ (r : ℕ). 1 ≤ r) (suc c) ranks all))
 
--- a ranking is the same when further bytes come in behind
+-- a ranking is the same when further bytes come in after
 pub rest_kept :
     (bytes more : List ℕ) (line : PackedLine) → IsKept bytes line
     → rest_of (bytes ++ more) 0 line ≡ rest_of bytes 0 line

@@ -32,7 +32,7 @@ drop_until (suc k) [] le = refl
 drop_until (suc k) (zero ∷ bytes) le = absurd (omega arith)
 drop_until (suc k) (suc c ∷ bytes) le = drop_until k bytes (omega arith)
 
--- ranks and a 0 behind them, at the front of bytes, are the ranking there
+-- ranks and a 0 after them, at the front of bytes, are the ranking there
 pub stands_at :
     (bytes own ranks : List ℕ) → own ≡ take (length ranks + 1) bytes → length own ≡ length ranks + 1
     → take (length ranks) own ≡ ranks → get_or own (length ranks) 0 ≡ 0 → All (λ r. 1 ≤ r) ranks

@@ -13,7 +13,7 @@ use Rattle.packed_ballots.specs.Packed.{rest_of, rests, line_count, line_of, lin
 use Rattle.packed_ballots.specs.Taking.{AddsTo}
 use Rattle.packed_ballots.proofs.Bytes.{rest_kept, rest_new, lines_kept}
 
--- lines of rankings of n candidates, and a new one behind them
+-- lines of rankings of n candidates, and a new one after them
 module _ (n : ℕ) (bytes : List ℕ) (lines : List PackedLine) (ranking : List ℕ) (line : PackedLine) (few : n ≤ 250)
     (is : IsPacked n bytes lines) (ranks : IsRanking n ranking) (start : line.start ≡ length bytes)
     (some : 1 ≤ line.count) (front : line.front ≡ front_of ranking) where
@@ -105,7 +105,7 @@ module _ (n : ℕ) (bytes : List ℕ) (lines : List PackedLine) (place count : �
         fronts = All-set front lines place more (of_one front is.fronts) is.fronts;
       }
 
-  -- a line stands between those before it and those behind it
+  -- a line is between those before it and those after it
   parted :
       (all : List PackedLine) (line : PackedLine) → take place all ≡ take place lines
       → drop place all ≡ line ∷ drop (place + 1) lines → rest_of bytes 0 line ≡ ranking

@@ -13,7 +13,7 @@ use Rattle.plain_ballots.specs.Ranking.{IsRanking}
 use Rattle.plain_ballots.proofs.PlainLemmas.{plain-append, length-plain}
 use Rattle.packed_ballots.specs.Taking.{TakesIn}
 
--- a line behind the others has its ballots behind theirs
+-- a line after the others has its ballots after theirs
 pub plain-push :
     (lines : List BallotLine) (line : BallotLine)
     → plain (lines ++ line ∷ []) ≡ plain lines ++ replicate line.count line.ranking

@@ -12,7 +12,7 @@ until_zero [] = []
 until_zero (zero ∷ bytes) = []
 until_zero (suc c ∷ bytes) = suc c ∷ until_zero bytes
 
--- the candidate at a place from 0 of a line's ranking, and 0 behind its last one
+-- the candidate at a place from 0 of a line's ranking, and 0 after its last one
 abbrev pub rank_of : (bytes : List ℕ) (at : ℕ) → PackedLine → ℕ
 rank_of bytes at line = slice_index bytes (line.start + at)
 
@@ -39,7 +39,7 @@ lines_of bytes lines = map (line_of bytes) lines
 abbrev pub raised : (by : ℕ) → PackedLine → PackedLine
 raised by line = record { front = line.front; start = line.start + by; count = line.count }
 
--- the first n ranks as digits to base 256, the first of them the highest, with 0 behind the last one
+-- the first n ranks as digits to base 256, the first of them the highest, with 0 after the last one
 abbrev pub digits : (n : ℕ) → List ℕ → ℕ
 digits zero ranks = 0
 digits (suc n) [] = 0
@@ -49,7 +49,7 @@ digits (suc n) (rank ∷ ranks) = rank * 256 ^ n + digits n ranks
 abbrev pub front_of : List ℕ → ℕ
 front_of ranks = digits 8 ranks
 
--- a 0 stands behind all bytes, and the line's ranking begins before it or at it
+-- a 0 is after all bytes, and the line's ranking begins before it or at it
 pub record IsKept (bytes : List ℕ) (line : PackedLine) : Type 0 where
   pub front : List ℕ
   pub ended : bytes ≡ front ++ 0 ∷ []

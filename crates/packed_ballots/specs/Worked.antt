@@ -35,7 +35,7 @@ plain_lines ballots =
     record { count = ballots; ranking = first } ∷ record { count = 1; ranking = [] }
     ∷ record { count = 3; ranking = third } ∷ []
 
--- What stands in these bytes. 1 times 256 to the 7th, and 2 times 256 to the 6th, and 3 times 256 to the 5th,
+-- What is in these bytes. 1 times 256 to the 7th, and 2 times 256 to the 6th, and 3 times 256 to the 5th,
 -- are 72057594037927936, 562949953421312 and 3298534883328; and 5 4 3 2 1 6 7 8 are the bytes of the front of the
 -- third line, whose ninth rank has no place in it.
 pub record ThreeLines : Type 0 where
@@ -50,7 +50,7 @@ pub record ThreeLines : Type 0 where
   pub front_of_none : front_of [] ≡ 0
   pub front_of_nine : front_of third ≡ 361417177238472456
 
--- Five ballots more of the first ranking make seven of it, or a line behind the others.
+-- Five ballots more of the first ranking make seven of it, or a line after the others.
 pub record FiveMore : Type 0 where
   pub equal : TakesIn 5 first (plain_lines 2) (plain_lines 7)
   pub own :

@@ -1,10 +1,10 @@
-// The lines of other ballots behind these.
+// The lines of other ballots after these.
 ghost use Rattle.std.specs.Prelude.{◌≡◌, ◌+◌, ◌^◌, ◌≤◌, ◌<◌, ◌++◌, All, length, map, vec_len, vec_capacity, OnErr, OnOk};
 ghost use Rattle.packed_ballots.specs.Packed.{raised};
 
 use crate::{NoMemory, PackedLine};
 
-/// Puts other lines behind these, and the bytes of their ranks behind these.
+/// Puts other lines after these, and the bytes of their ranks after these.
 pub(crate) fn append_lines(
     bytes: &mut Vec<u8>,
     lines: &mut Vec<PackedLine>,
@@ -28,7 +28,7 @@ pub(crate) fn append_lines(
     Ok(())
 }
 
-/// Puts lines behind the others, where there is room for them, each with its ranking so many bytes further.
+/// Puts lines after the others, where there is room for them, each with its ranking so many bytes further.
 fn put_raised(lines: &mut Vec<PackedLine>, others: &[PackedLine], by: u32)
     requires inside { All (λ line. line.start + by < 2 ^ 32) others.now }
     requires room { vec_len lines.old + length others.now ≤ vec_capacity lines.old }

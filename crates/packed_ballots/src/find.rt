@@ -51,7 +51,7 @@ fn has_ranks(bytes: &[u8], line: PackedLine, ranks: &[u32]) -> bool
     }
 }
 
-/// Whether these ranks stand among the bytes from a place on, and a 0 behind them.
+/// Whether these ranks stand among the bytes from a place on, and a 0 after them.
 fn stand_at(bytes: &[u8], from: usize, ranks: &[u32]) -> bool
     requires { All (λ rank. 1 ≤ rank) ranks.now }
     ensures { result ≡ true → until_zero (drop from bytes.now) ≡ ranks.now }

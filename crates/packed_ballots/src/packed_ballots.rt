@@ -81,7 +81,7 @@ impl PackedBallots {
     }
 
     /// Takes in so many ballots with a ranking: the first `len` of these numbers. They go to a line of this
-    /// ranking where one is found in a few looks, and else they are a line of their own behind the others.
+    /// ranking where one is found in a few looks, and else they are a line of their own after the others.
     #[inline]
     pub fn take(&mut self, count: u32, ranks: &[u32], len: usize) -> Result<(), NoMemory>
         requires inside { len ≤ length ranks.now }
@@ -118,7 +118,7 @@ impl PackedBallots {
         Ok(packed)
     }
 
-    /// Puts the lines of other ballots behind these, with their ranks. Equal lines of both stay two.
+    /// Puts the lines of other ballots after these, with their ranks. Equal lines of both stay two.
     pub fn append(&mut self, other: PackedBallots) -> Result<(), NoMemory>
         requires candidates { other.candidates ≡ self.old.candidates }
         requires few { ballot_count self.old.lines + ballot_count other.lines ≤ MOST_BALLOTS }
@@ -156,7 +156,7 @@ impl PackedBallots {
         self.take(line.count, ranks, ranks.len())
     }
 
-    /// Puts ballots of a ranking behind the others, as a line of their own.
+    /// Puts ballots of a ranking after the others, as a line of their own.
     fn put(&mut self, count: u32, front: u64, ranks: &[u32]) -> Result<(), NoMemory>
         requires front { front ≡ front_of ranks.now }
         requires ranking { IsRanking self.old.candidates ranks.now }

@@ -1,10 +1,10 @@
-// A line behind the others.
+// A line after the others.
 ghost use Rattle.std.specs.Prelude.{◌≡◌, ◌+◌, ◌≤◌, [], ◌∷◌, ◌++◌, All, length, vec_len, vec_capacity, OnErr, OnOk};
 ghost use Rattle.plain_ballots.specs.declared.limits.TheConstants.{MOST_CANDIDATES};
 
 use crate::{NoMemory, PackedLine};
 
-/// Puts a line of its own for so many ballots with these ranks behind the others.
+/// Puts a line of its own for so many ballots with these ranks after the others.
 pub(crate) fn put_line(
     bytes: &mut Vec<u8>,
     lines: &mut Vec<PackedLine>,
@@ -33,7 +33,7 @@ pub(crate) fn put_line(
     Ok(())
 }
 
-/// Puts ranks behind the others, where there is room for them.
+/// Puts ranks after the others, where there is room for them.
 fn put_ranks(bytes: &mut Vec<u8>, ranks: &[u32])
     requires small { All (λ rank. rank ≤ MOST_CANDIDATES) ranks.now }
     requires room { vec_len bytes.old + length ranks.now ≤ vec_capacity bytes.old }

@@ -7,7 +7,7 @@ pub escaped-nil : (escape : ℕ → List ℕ) → escaped escape [] ≡ []
 unfolding escaped
 escaped-nil escape = refl
 
--- one text behind another
+-- one text after another
 pub escaped-append :
     (escape : ℕ → List ℕ) (xs ys : List ℕ) → escaped escape (xs ++ ys) ≡ escaped escape xs ++ escaped escape ys
 unfolding escaped

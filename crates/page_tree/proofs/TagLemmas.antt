@@ -114,7 +114,7 @@ attributes-within (attribute ∷ attributes) are =
     (attribute-within attribute (All-head P attribute attributes are))
     (attributes-within attributes (All-tail P attribute attributes are))
 
--- what is open behind the start of an element
+-- what is open after the start of an element
 abbrev started : List (List ℕ) → (name : List ℕ) → List (List ℕ)
 started begun name = cond (is_void name) begun (name ∷ begun)
 

@@ -18,7 +18,7 @@ entity b =
 abbrev pub shown : List ℕ → List ℕ
 shown text = escaped entity (readable text)
 
--- an attribute behind a space (32), its value between quotes (34)
+-- an attribute after a space (32), its value between quotes (34)
 abbrev pub attribute_text : Attribute → List ℕ
 attribute_text attribute = 32 ∷ (attribute.name ++ (codes "=\"" ++ (shown attribute.value ++ 34 ∷ [])))
 

@@ -13,7 +13,7 @@ named name =
     else if bytes_eq name (codes "#39") then 39 ∷ []
     else []
 
--- The text that bytes are read as, behind a front of an entity's name, or in no entity. An entity begins with `&` (38) and ends with a
+-- The text that bytes are read as, after a front of an entity's name, or in no entity. An entity begins with `&` (38) and ends with a
 -- semicolon (59).
 abbrev pub read_text : Option (List ℕ) → List ℕ → List ℕ
 read_text entity [] = []
@@ -22,7 +22,7 @@ read_text (Some name) (b ∷ rest) = if b == 59 then named name ++ read_text Non
 
 -- ---- tags
 
--- the elements that are open behind the end of one: it has to be the last that was opened
+-- the elements that are open after the end of one: it has to be the last that was opened
 abbrev pub ended : List (List ℕ) → (name : List ℕ) → Option (List (List ℕ))
 ended [] name = None
 ended (last ∷ begun) name = if bytes_eq last name then Some begun else None
@@ -36,7 +36,7 @@ abbrev pub is_none_begun : List (List ℕ) → Bool
 is_none_begun [] = true
 is_none_begun (last ∷ begun) = false
 
--- the elements that are open behind a tag; 47 is the slash of an end
+-- the elements that are open after a tag; 47 is the slash of an end
 abbrev pub behind_tag : List (List ℕ) → (tag : List ℕ) → Option (List (List ℕ))
 behind_tag begun [] = None
 behind_tag begun (b ∷ tag) =
@@ -44,7 +44,7 @@ behind_tag begun (b ∷ tag) =
     else if is_void (tag_name (b ∷ tag)) then Some begun
     else Some (tag_name (b ∷ tag) ∷ begun)
 
--- Whether the elements of bytes nest and are closed, where these are open and so much of a tag was read. No `<` (60) stands within a tag, and
+-- Whether the elements of bytes nest and are closed, where these are open and so much of a tag was read. No `<` (60) is within a tag, and
 -- no `>` (62) outside one.
 abbrev pub nests : Option (List (List ℕ)) → Option (List ℕ) → List ℕ → Bool
 nests None tag bytes = false

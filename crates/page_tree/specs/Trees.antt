@@ -8,15 +8,15 @@ pub record Attribute : Type 0 where
   pub name : List ℕ
   pub value : List ℕ
 
--- Trees, one behind another: none, or a text, an element with what stands within it, or an element that can have nothing within
--- it, and the trees behind it.
+-- Trees, one after another: none, or a text, an element with what is within it, or an element that can have nothing within
+-- it, and the trees after it.
 pub data Trees : Type 0 where
   Nothing : Trees
   Text : (text : List ℕ) (behind : Trees) → Trees
   Element : (name : List ℕ) (attributes : List Attribute) (within behind : Trees) → Trees
   Void : (name : List ℕ) (attributes : List Attribute) (behind : Trees) → Trees
 
--- trees and others behind them
+-- trees and others after them
 abbrev pub followed : Trees → Trees → Trees
 followed Nothing others = others
 followed (Text text behind) others = Text text (followed behind others)

@@ -58,7 +58,7 @@ stopped_within second stopped =
       rose = stopped.rose;
     }
 
--- behind bytes that were written, further ones
+-- after bytes that were written, further ones
 pub later :
     {S T E : Type 0} {w : S → Option (List ℕ)} {f : S → ℕ} {a b : S} {first : List ℕ} (c : S)
     (second : List ℕ) (r : Result T E) → Wrote w f a b first → Writes w f b c second r

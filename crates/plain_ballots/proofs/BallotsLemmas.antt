@@ -1,4 +1,4 @@
--- Sound lists of ballots, one behind the other.
+-- Sound lists of ballots, one after the other.
 use Rattle.std.proofs.Common.{◌≡◌, ℕ, ◌+◌, ◌≤◌, All, List, [], ◌∷◌, ◌++◌, arith, subst}
 use Rattle.std.proofs.lemmas.List.Sums.{sum_by-append, sum_by_push}
 use Rattle.std.proofs.lemmas.List.{get_or_append_left, length-append}

@@ -13,7 +13,7 @@ record IsFaultAt (n : ℕ) (ranks : List ℕ) (place : ℕ) : Type 0 where
   sound_before : IsRanking n (before ranks place)
   breaks : (m : ℕ) → place ≤ m → ¬ (IsRanking n (take m ranks))
 
--- who stands at a place of a front that is a ranking is a candidate
+-- who is at a place of a front that is a ranking is a candidate
 candidate_at :
     (n : ℕ) (ranks : List ℕ) (m place : ℕ) → IsRanking n (take m ranks) → 1 ≤ place → place ≤ m
     → place ≤ length ranks → (1 ≤ rank_at ranks place) × (rank_at ranks place ≤ n)
@@ -57,7 +57,7 @@ same_place n ranks a b one other =
       | inr (inr more) ↦ absurd (other.breaks (a - 1) (omega arith) one.sound_before)
     ]
 
--- who stands at one place isn't out of range and there before
+-- who is at one place isn't out of range and there before
 not_both : (n : ℕ) (ranks : List ℕ) (a b : ℕ) → IsOutOfRangeAt n ranks a → IsRepeatedAt n ranks b → ⊥
 not_both n ranks a b out repeated =
     let same : a ≡ b = same_place n ranks a b (out_of_range_fault n ranks a out) (repeated_fault n ranks b repeated) in

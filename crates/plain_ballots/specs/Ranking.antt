@@ -13,7 +13,7 @@ pub record IsRanking (n : ℕ) (ranks : List ℕ) : Type 0 where
   pub numbers : All (λ r. (1 ≤ r) × (r ≤ n)) ranks
   pub different : AllPairs (λ a b. a ≢ b) ranks
 
--- the number that stands at a place from 1
+-- the number that is at a place from 1
 abbrev pub rank_at : List ℕ → ℕ → ℕ
 rank_at ranks place = slice_index ranks (place - 1)
 
@@ -21,14 +21,14 @@ rank_at ranks place = slice_index ranks (place - 1)
 abbrev pub before : List ℕ → ℕ → List ℕ
 before ranks place = take (place - 1) ranks
 
--- a ranking of n candidates stands before this place from 1, and no candidate's number at it
+-- a ranking of n candidates is before this place from 1, and no candidate's number at it
 pub record IsOutOfRangeAt (n : ℕ) (ranks : List ℕ) (place : ℕ) : Type 0 where
   pub from_one : 1 ≤ place
   pub inside : place ≤ length ranks
   pub sound_before : IsRanking n (before ranks place)
   pub no_candidate : ¬ ((1 ≤ rank_at ranks place) × (rank_at ranks place ≤ n))
 
--- a ranking of n candidates stands before this place from 1, and one of its candidates again at it
+-- a ranking of n candidates is before this place from 1, and one of its candidates again at it
 pub record IsRepeatedAt (n : ℕ) (ranks : List ℕ) (place : ℕ) : Type 0 where
   pub from_one : 1 ≤ place
   pub inside : place ≤ length ranks

@@ -9,7 +9,7 @@ use crate::NoMemory;
 pub enum RankStop {
     /// The place has no candidate's number.
     OutOfRange(usize),
-    /// The place has a candidate that stands before it.
+    /// The place has a candidate that is before it.
     Repeated(usize),
     NoMemory,
 }

@@ -36,7 +36,7 @@ impl Ranking {
         Ranking::of_front(alloc, ranks, ranks.len())
     }
 
-    /// A ranking of the first `len` of these numbers, which were looked at already. What stands behind them
+    /// A ranking of the first `len` of these numbers, which were looked at already. What is after them
     /// is of no matter: whoever reads many rankings can read each of them into the same list.
     #[inline]
     pub fn of_front(alloc: Global, ranks: &[u32], len: usize) -> Result<Ranking, NoMemory>

@@ -9,7 +9,7 @@ use std::alloc::Global;
 pub(crate) const FEW: usize = 7;
 
 /// Ranks, few of which lie in the value itself, as those of most ballots do, and take no memory of their
-/// own. The numbers behind the first `len` of the few mean nothing. The few stand in the variant itself
+/// own. The numbers after the first `len` of the few mean nothing. The few stand in the variant itself
 /// and not in a type of their own, so that its tag and `len` take no more room together than one rank.
 #[derive(Drop)]
 pub(crate) enum Ranks {

@@ -1,4 +1,4 @@
--- The lines of a text behind a line feed follow those before it.
+-- The lines of a text after a line feed follow those before it.
 use Rattle.std.proofs.Common.{◌≡◌, ℕ, ◌+◌, ◌-◌, ◌≤◌, Bool, true, false, cond, eqb, ◌&&◌, List, [], ◌∷◌, ◌++◌}
 use Rattle.std.proofs.Common.{length, take, drop, refl, ap, sym, ◌∙◌, subst, arith}
 use Rattle.std.specs.List.{ends_with, onto_first, slice_split, starts_with}
@@ -25,7 +25,7 @@ one_feed (x ∷ []) is =
     ]) refl is
 one_feed (x ∷ y ∷ xs) is = absurd (cc (is, never (eqb 10 x)))
 
--- what stands before it
+-- what is before it
 pub before_feed : (head : List ℕ) → ends_with nat_eq head (10 ∷ []) ≡ true → (before : List ℕ) × (head ≡ before ++ 10 ∷ [])
 before_feed head ended =
     let k = length head - 1 in
@@ -33,7 +33,7 @@ before_feed head ended =
 
 -- ---- the byte order mark
 
--- the mark stands before the line feed, and is the same whatever stands behind this
+-- the mark is before the line feed, and is the same whatever is after this
 record MarkIsBefore (before rest : List ℕ) : Type 0 where
   same : mark_len (before ++ 10 ∷ rest) ≡ mark_len (before ++ 10 ∷ [])
   within : mark_len (before ++ 10 ∷ []) ≤ length before
@@ -72,7 +72,7 @@ split_front (b ∷ bs) rest =
           ∙ ap (λ xs. onto_first b xs ++ slice_split is_feed rest) (sym parts.2)
     ]
 
--- the lines behind some pieces follow those of these pieces
+-- the lines after some pieces follow those of these pieces
 record LinesBehind (row at : ℕ) (pieces : List (List ℕ)) (other : List ℕ) (others : List (List ℕ)) : Type 0 where
   row_behind : ℕ
   at_behind : ℕ
@@ -102,7 +102,7 @@ lines_behind row at (piece ∷ next ∷ pieces) other others =
           (sym (first_of_two row at piece next (pieces ++ [] ∷ [])));
     }
 
--- the lines of a text behind a line feed follow those before it
+-- the lines of a text after a line feed follow those before it
 pub record LinesFollow (head rest : List ℕ) : Type 0 where
   pub row : ℕ
   pub at : ℕ

@@ -38,7 +38,7 @@ first_few :
 first_few None others is = absurd (cc is)
 first_few (Some n) others is = is
 
--- what an entry says of it, and those behind it
+-- what an entry says of it, and those after it
 one_few :
     (asked : Asked) (known : Option ℕ) (key : Key) (value : List ℕ) (others : List ℕ)
     → value_fault asked known key value ≡ None

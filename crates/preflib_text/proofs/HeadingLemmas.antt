@@ -16,7 +16,7 @@ use Rattle.preflib_text.specs.Refusals.{metadata_fault, metadata_faults}
 abbrev pub AreMetadata : List Line → Type 0
 AreMetadata lines = All (λ line. is_metadata line ≡ true) lines
 
--- the first of what is behind others without a fault
+-- the first of what is after others without a fault
 pub first_behind : (before rest : List (Option PrefFault)) → first_of before ≡ None
     → first_of (before ++ rest) ≡ first_of rest
 first_behind [] rest none = refl
@@ -24,7 +24,7 @@ first_behind (None ∷ before) rest none = first_behind before rest none
 first_behind (Some fault ∷ before) rest none = absurd (cc none)
 
 module _ (asked : Asked) where
-  -- faults of lines behind these
+  -- faults of lines after these
   abbrev faults_behind : (before rest : List Line) → List (Option PrefFault)
   faults_behind before [] = []
   faults_behind before (line ∷ lines) = metadata_fault asked before line ∷ faults_behind (before ++ line ∷ []) lines
@@ -54,7 +54,7 @@ module _ (asked : Asked) where
       (parted_behind ls back (before ++ l ∷ [])
       ∙ ap (λ xs. faults_behind (before ++ l ∷ []) ls ++ faults_behind xs back) (append_assoc before (l ∷ []) ls))
 
-  -- the faults of some lines and of one behind them
+  -- the faults of some lines and of one after them
   parted : (before back : List Line) (line : Line) → metadata_faults asked (before ++ line ∷ back)
       ≡ metadata_faults asked before ++ metadata_fault asked before line ∷ faults_behind (before ++ line ∷ []) back
   parted before back line =
@@ -111,7 +111,7 @@ pub drop_front : (before rest : List Line) → drop (length before) (before ++ r
 drop_front [] rest = refl
 drop_front (l ∷ ls) rest = drop_front ls rest
 
--- the front and what is behind it are all
+-- the front and what is after it are all
 pub front_and_behind : (lines : List Line) → front lines ++ behind lines ≡ lines
 front_and_behind [] = refl
 front_and_behind (l ∷ ls) =

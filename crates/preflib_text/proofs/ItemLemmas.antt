@@ -77,7 +77,7 @@ says_closed Nobody rest = refl
 says_closed (One n) rest = refl
 says_closed More rest = refl
 
--- some candidate was read in braces behind which something is expected
+-- some candidate was read in braces after which something is expected
 abbrev pub Fits : Expected → Braced → Type 0
 Fits Count b = ⊥
 Fits BehindCount b = ⊥
@@ -96,7 +96,7 @@ says_on Nobody rest fits = absurd fits
 says_on (One n) rest fits = refl
 says_on More rest fits = refl
 
--- the items that end behind what is read
+-- the items that end after what is read
 unfoldable pub left : Expected → Stand → List Placed → List Item
 left AtItem s rest = items_with false rest
 left BehindItem s rest = items_with false rest
@@ -173,7 +173,7 @@ module _ (room n : ℕ) (s : Stand) (at : ℕ) (ps : List Placed) where
   places_next BehindNumber Close = refl
   places_next e part = sym (append-nil s.places)
 
-  -- the count stands first
+  -- the count is first
   pub count_next : (e : Expected) (part : Part) → Fits e s.braced → (next_by e s at part).count ≡ s.count
   count_next Count part fits = absurd fits
   count_next BehindCount part fits = absurd fits

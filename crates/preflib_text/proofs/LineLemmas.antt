@@ -70,7 +70,7 @@ module _ (bytes : List ℕ) (row at : ℕ) (inside : at < length bytes) where
       ∙ ap (λ xs. record { row = row; at = at; bytes = rest }
       ∷ lines_of (row + 1) (length bytes) (slice_split is_feed xs)) (sym (drop_all (length bytes) bytes (omega arith)))
 
-  -- a line feed stands behind the line
+  -- a line feed is after the line
   pub to_feed : (stop : ℕ) → stop ≡ position_or_len is_feed rest → stop < length rest
       → lines_from bytes row at
       ≡ record { row = row; at = at; bytes = without_return (take stop rest) }

@@ -50,7 +50,7 @@ written n small = record {
 
 -- ---- its part of a line
 
--- no digit stands in front
+-- no digit is in front
 abbrev pub NoDigitFirst : List ℕ → Type 0
 NoDigitFirst [] = ⊤
 NoDigitFirst (b ∷ bs) = is_digit b ≡ false

@@ -39,7 +39,7 @@ module _ (bytes : List ℕ) where
       ≡ cons_option (part_at bytes i) (filter_map (part_at bytes) (range_with_len (i + 1) n))
   one_place i m n is = ap (λ k. filter_map (part_at bytes) (range_with_len i k)) is
 
-  -- the part at a place, and those behind it
+  -- the part at a place, and those after it
   step : (i : ℕ) → i ≤ length bytes → parts_from bytes i ≡ cons_option (part_at bytes i) (parts_from bytes (i + 1))
   step i inside =
       one_place i (length bytes + 1 - i) (length bytes - i) (omega arith)
@@ -66,7 +66,7 @@ module _ (bytes : List ℕ) where
     byte =
         ap (λ k. get_or bytes k 0) (omega arith) ∙ sym (get_or-drop i bytes 0 0) ∙ ap (λ xs. get_or xs 0 0) is
 
-    -- what is read behind the byte ends in it
+    -- what is read after the byte ends in it
     pub ends_more : ends_in_digit (take (i + 1) bytes) ≡ is_digit b
     ends_more =
         ap ends_in_digit (take_more bytes i 0 inside)
@@ -133,7 +133,7 @@ module _ (bytes : List ℕ) where
         | false ↦ λ digit. ap (parts_from bytes) (omega arith)
       ] refl
 
-  -- behind the bytes that pass a test stands none that does
+  -- after the bytes that pass a test stands none that does
   passed : (p : ℕ → Bool) → p 0 ≡ false → (rest : List ℕ) (i : ℕ) → drop i bytes ≡ rest
       → p (slice_index bytes (i + prefix_len p rest)) ≡ false
   passed p none [] i is =

@@ -66,7 +66,7 @@ parts_end bytes =
 
 -- ---- what is read
 
--- what is read behind a stand: these items, and no other count
+-- what is read after a stand: these items, and no other count
 record IsRead (s t : Stand) (items : List Item) : Type 0 where
   marks_are : t.marks ≡ s.marks ++ marks_of items
   places_are : t.places ≡ s.places ++ ats items

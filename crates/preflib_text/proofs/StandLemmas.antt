@@ -1,4 +1,4 @@
--- What is expected behind the parts of an order, and the candidates in them, as they are read.
+-- What is expected after the parts of an order, and the candidates in them, as they are read.
 use Rattle.std.proofs.Common.{◌≡◌, ℕ, ◌+◌, Bool, true, false, List, [], ◌∷◌, ◌++◌, map, fold, take, length}
 use Rattle.std.proofs.Common.{Option, Some, None, Result, Ok, Err, refl, ap, sym, ◌∙◌, subst}
 use Rattle.std.specs.List.{filter_map, cons_option, last_or, enumerate_from}
@@ -51,7 +51,7 @@ module _ (room n : ℕ) (s : Stand) (at : ℕ) where
   abbrev IsSound : Expected → Part → Type 0
   IsSound e p = part_fault room n s.listed e p ≡ None
 
-  -- what is expected behind a part that may stand behind an item's parts
+  -- what is expected after a part that may stand after an item's parts
   behind_more : (b : Bool) (l : Option Part) (p : Part) → behind b l ≡ s.expected → IsSound (behind b l) p
       → behind (braced b p) (Some p) ≡ (next_by (behind b l) s at p).expected
   behind_more true (Some (Number m)) Comma is sound = refl
@@ -69,7 +69,7 @@ module _ (room n : ℕ) (s : Stand) (at : ℕ) where
   behind_more false (Some l) End is sound = is
   behind_more false (Some l) p is sound = absurd (cc sound)
 
-  -- the candidates behind it
+  -- the candidates after it
   listed_behind : (b : Bool) (l : Option Part) (p : Part) → IsSound (behind b l) p
       → (next_by (behind b l) s at p).listed ≡ s.listed ++ one_number p
   listed_behind true (Some (Number m)) Comma sound = sym (append-nil s.listed)

@@ -89,7 +89,7 @@ same_voters_fault None ballots line few = refl
 same_voters_fault (Some n) ballots line few =
     ap (λ b. cond b None (Some (in_line line WrongTotal 0))) (same_total n ballots few)
 
--- ---- the line behind the metadata, and the end
+-- ---- the line after the metadata, and the end
 
 module _ (bytes : List ℕ) (middle : Coming)
     (read : AreBehind (record { bytes = bytes; row = 1; rest = lines bytes }) middle)

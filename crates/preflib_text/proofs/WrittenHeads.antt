@@ -1,4 +1,4 @@
--- Orders that are written behind metadata.
+-- Orders that are written after metadata.
 use Rattle.std.proofs.Common.{◌≡◌, ℕ, ◌+◌, ◌-◌, ◌<◌, ◌≤◌, Bool, true, false, cond, eqb, ◌&&◌, List, [], ◌∷◌, ◌++◌}
 use Rattle.std.proofs.Common.{length, map, take, drop, Option, Some, None, All, refl, ap, sym, ◌∙◌, subst, arith}
 use Rattle.std.specs.List.{join_with_byte, list_any, range_with_len, slice_get, slice_split, starts_with}
@@ -94,7 +94,7 @@ module _ (n : ℕ) (few : n ≤ MOST_CANDIDATES) where
       ap (λ bs. starts_with nat_eq bs (35 ∷ [])) same
       ∙ digit_first (decimal o.count) (58 ∷ 32 ∷ join_with_byte 44 (map decimal o.ranking)) count.some count.each
 
--- ---- metadata with orders behind them
+-- ---- metadata with orders after them
 
 either_way : (a b : Bool) (w x y z : PrefFault) (rest : Option PrefFault) → cond a (Some w) (cond b (Some x) rest) ≡ None
     → cond a (Some y) (cond b (Some z) rest) ≡ None

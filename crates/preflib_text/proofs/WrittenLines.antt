@@ -25,13 +25,13 @@ use Rattle.preflib_text.proofs.NumberLemmas.{written, number_part, behind_number
 use Rattle.preflib_text.proofs.PartLemmas.{at_end, at_sign, behind, ends_more, over_blank}
 use Rattle.preflib_text.proofs.ReadLemmas.{all_parts}
 
--- ---- a candidate behind others
+-- ---- a candidate after others
 
 differs : (c d : ℕ) (t : Bool) → eqb d c ≡ t → d ≢ c → t ≡ false
 differs c d true is other = absurd (other (eqb-true d c is))
 differs c d false is other = refl
 
--- a candidate stands behind others of a ranking, and is none of them
+-- a candidate is after others of a ranking, and is none of them
 none_before : (others ranks : List ℕ) (c : ℕ) → AllPairs (λ a b. a ≢ b) (others ++ c ∷ ranks)
     → list_any (λ d. eqb d c) others ≡ false
 none_before others ranks c pairs =
@@ -50,7 +50,7 @@ counts : (room k : ℕ) → 1 ≤ k → k ≤ room → count_fault room k ≡ No
 counts room k low high = grind (arith, nat_tests)
 
 module _ (room n k : ℕ) where
-  -- an order as far as it is read, before an item and behind it
+  -- an order as far as it is read, before an item and after it
   abbrev at_item : List ℕ → List Mark → List ℕ → Stand
   at_item listed marks places = record {
     candidates = n;
@@ -66,7 +66,7 @@ module _ (room n k : ℕ) where
   abbrev behind_item : List ℕ → List Mark → List ℕ → Stand
   behind_item listed marks places = record (at_item listed marks places) { expected = BehindItem }
 
-  -- parts are read to their end, and are these marks behind the count
+  -- parts are read to their end, and are these marks after the count
   pub record ReadsMarks (s : Stand) (ps : List Placed) (marks : List Mark) : Type 0 where
     pub last : Stand
     pub read_is : read room s ps ≡ Ok last

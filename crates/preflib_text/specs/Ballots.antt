@@ -17,7 +17,7 @@ use Rattle.preflib_text.specs.Metadata.{Entry, entry_of}
 abbrev pub is_metadata : Line → Bool
 is_metadata line = starts_with nat_eq line.bytes (35 ∷ [])
 
--- the lines at the front of a text that are metadata, and all lines behind them, which are orders
+-- the lines at the front of a text that are metadata, and all lines after them, which are orders
 abbrev pub metadata : List ℕ → List Line
 metadata bytes = take_while is_metadata (lines bytes)
 
@@ -31,7 +31,7 @@ entries_of lines = map (λ line. entry_of line.bytes) lines
 abbrev pub entries : List ℕ → List Entry
 entries bytes = entries_of (metadata bytes)
 
--- where a text ends: at its length, in the row behind its last line
+-- where a text ends: at its length, in the row after its last line
 abbrev pub end_line : List ℕ → Line
 end_line bytes = record { row = length (lines bytes) + 1; at = length bytes; bytes = [] }
 
@@ -39,11 +39,11 @@ end_line bytes = record { row = length (lines bytes) + 1; at = length bytes; byt
 abbrev pub line_behind : List ℕ → Line
 line_behind bytes = unwrap_or (slice_get (order_lines bytes) 0) (end_line bytes)
 
--- so many more ballots have room behind these lines
+-- so many more ballots have room after these lines
 abbrev pub room_behind : List Line → ℕ
 room_behind before = MOST_BALLOTS - sum_by count_of before
 
--- lines, each with the room behind those before it
+-- lines, each with the room after those before it
 abbrev pub with_room : List Line → List (ℕ × Line)
 with_room lines = map (λ at. (room_behind (take at.0 lines), at.1)) (enumerate_from 0 lines)
 

@@ -15,14 +15,14 @@ use Rattle.preflib_text.specs.Items.{order_of, count_of}
 use Rattle.preflib_text.specs.Refusals.{whole_fault}
 use Rattle.preflib_text.specs.Tallies.{tally}
 
--- the faults of lines behind so many ballots
+-- the faults of lines after so many ballots
 abbrev pub faults_behind : Treat → (candidates counted : ℕ) → List Line → List (Option PrefFault)
 faults_behind equal candidates counted [] = []
 faults_behind equal candidates counted (line ∷ lines) =
     whole_fault equal candidates (MOST_BALLOTS - counted, line)
     ∷ faults_behind equal candidates (counted + count_of line) lines
 
--- the ballots of lines behind others
+-- the ballots of lines after others
 abbrev pub ballots_behind : Treat → List (List ℕ) → List Line → Option (List (List ℕ))
 ballots_behind equal before lines = option_map (λ rest. before ++ rest) (ballots equal (map order_of lines))
 

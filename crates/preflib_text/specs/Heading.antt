@@ -11,7 +11,7 @@ use Rattle.preflib_text.specs.Lines.{form_fault}
 use Rattle.preflib_text.specs.Reading.{Coming, Takes, end_of}
 use Rattle.preflib_text.specs.Refusals.{metadata_faults}
 
--- of lines, those of metadata at the front, and all behind these
+-- of lines, those of metadata at the front, and all after these
 abbrev pub front : List Line → List Line
 front lines = take_while is_metadata lines
 

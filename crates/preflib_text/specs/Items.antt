@@ -30,7 +30,7 @@ item_in (p ∷ rest) = option_map (λ says. record { at = p.at; says = says }) (
 abbrev pub item_at : List Placed → ℕ → Option Item
 item_at placed i = if in_braces (parts_of (take i placed)) then None else item_in (drop i placed)
 
--- the items of a line, which stand behind its count and its colon
+-- the items of a line, which stand after its count and its colon
 abbrev pub items : Line → List Item
 items line = let placed = drop 2 (parts line.bytes) in filter_map (item_at placed) (range_with_len 0 (length placed))
 

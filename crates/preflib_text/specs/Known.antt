@@ -65,12 +65,12 @@ seen_key code.Other = Other
 abbrev pub key_seen : Entry → Key
 key_seen entry = seen_key (kept_key entry.key)
 
--- why this can't be said of a key behind what is known
+-- why this can't be said of a key after what is known
 abbrev pub fault_behind : Asked → Known → Key → List ℕ → Option PrefKind
 fault_behind asked known key value =
     if is_said known key then Some Repeated else value_fault asked known.candidates key value
 
--- why a line of metadata can't stand behind what is known
+-- why a line of metadata can't stand after what is known
 abbrev pub line_fault : Asked → Known → Line → Option PrefFault
 line_fault asked known line =
     let entry = entry_of line.bytes in

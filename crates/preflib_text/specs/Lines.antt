@@ -15,7 +15,7 @@ mark_len bytes = if starts_with nat_eq bytes (0xEF ∷ 0xBB ∷ 0xBF ∷ []) the
 abbrev pub without_return : List ℕ → List ℕ
 without_return bytes = if ends_with nat_eq bytes (13 ∷ []) then take (length bytes - 1) bytes else bytes
 
--- The lines that stand between line feeds. The last has no line feed behind it, and where it is empty it is none.
+-- The lines that stand between line feeds. The last has no line feed after it, and where it is empty it is none.
 abbrev pub lines_of : (row at : ℕ) → List (List ℕ) → List Line
 lines_of row at [] = []
 lines_of row at ([] ∷ []) = []

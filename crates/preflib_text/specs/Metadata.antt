@@ -38,11 +38,11 @@ key_of text =
 abbrev pub is_colon : ℕ → Bool
 is_colon b = b == 58
 
--- the key in what stands behind the `#`: what comes before the first colon, or none that is used without a colon
+-- the key in what is after the `#`: what comes before the first colon, or none that is used without a colon
 abbrev pub key_in : List ℕ → Key
 key_in text = if list_any is_colon text then key_of (trimmed (before_first is_colon text)) else Other
 
--- The value stands behind the first colon.
+-- The value is after the first colon.
 abbrev pub entry_of : List ℕ → Entry
 entry_of bytes =
     let text = drop 1 bytes in
@@ -98,7 +98,7 @@ value_fault asked candidates (Name n) value =
     if is_candidate candidates n then name_fault value else Some NoSuchCandidate
 value_fault asked candidates Other value = None
 
--- Why an entry can't stand behind these: what is said already is judged first.
+-- Why an entry can't stand after these: what is said already is judged first.
 abbrev pub entry_fault : Asked → List Entry → Entry → Option PrefKind
 entry_fault asked before entry =
     if list_any (λ other. is_same other.key entry.key) before then Some Repeated

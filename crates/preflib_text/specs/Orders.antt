@@ -14,7 +14,7 @@ use Rattle.preflib_text.specs.declared.pref_kind.PrefKind.TheVariants.{TooManyBa
 use Rattle.preflib_text.specs.Faults.{Line, in_line, first_of}
 use Rattle.preflib_text.specs.Parts.{Part, Number, Colon, Comma, Open, Close, Wrong, End, Placed, parts}
 
--- whether a part stands within braces that follows another, which may stand within them itself
+-- whether a part is within braces that follows another, which may stand within them itself
 abbrev pub braced : Bool → Part → Bool
 braced inside Open = true
 braced inside Close = false
@@ -23,7 +23,7 @@ braced inside other = inside
 abbrev pub in_braces : List Part → Bool
 in_braces before = fold braced false before
 
--- what is expected behind the last of an order's items so far
+-- what is expected after the last of an order's items so far
 abbrev pub behind : (in_braces : Bool) → (last : Option Part) → Expected
 behind true (Some (Number n)) = BehindNumber
 behind true other = AtNumber
@@ -31,7 +31,7 @@ behind false None = AtItem
 behind false (Some Comma) = AtItem
 behind false (Some other) = BehindItem
 
--- What is expected behind these parts.
+-- What is expected after these parts.
 abbrev pub expected : List Part → Expected
 expected [] = AtCount
 expected (count ∷ []) = BehindCount
@@ -57,7 +57,7 @@ number_fault candidates others n =
     else if list_any (λ c. c == n) others then Some Repeated
     else None
 
--- why a part can't stand where this is expected, behind these candidates
+-- why a part can't stand where this is expected, after these candidates
 abbrev pub part_fault : (room candidates : ℕ) → (others : List ℕ) → Expected → Part → Option PrefKind
 part_fault room candidates others e Wrong = Some BadByte
 part_fault room candidates others AtCount (Number n) = count_fault room n
@@ -71,7 +71,7 @@ part_fault room candidates others BehindNumber Comma = None
 part_fault room candidates others BehindNumber Close = None
 part_fault room candidates others e part = Some BadNumber
 
--- why a part can't stand behind these
+-- why a part can't stand after these
 abbrev pub fault_behind : (room candidates : ℕ) → List Part → Part → Option PrefKind
 fault_behind room candidates before part = part_fault room candidates (listed before) (expected before) part
 

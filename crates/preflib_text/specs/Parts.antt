@@ -1,4 +1,4 @@
--- The parts of a line that is an order: numbers and signs, with blanks before and behind them.
+-- The parts of a line that is an order: numbers and signs, with blanks before and after them.
 use Rattle.std.specs.Prelude.{ℕ, ◌+◌, ◌==◌, ◌&&◌, if◌then◌else◌, Bool, false}
 use Rattle.std.specs.Prelude.{List, [], ◌∷◌, length, take, drop, take_while, Option, Some, None}
 use Rattle.std.specs.List.{filter_map, range_with_len, last_or}

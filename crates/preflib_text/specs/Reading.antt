@@ -71,7 +71,7 @@ parts_from bytes at = filter_map (parts.part_at bytes) (range_with_len at (lengt
 abbrev pub IsFresh : List ℕ → ℕ → Type 0
 IsFresh bytes at = is_digit (slice_index bytes at) ≡ true → parts.ends_in_digit (take at bytes) ≡ false
 
--- the parts behind a part: none are behind the end
+-- the parts after a part: none are after the end
 abbrev pub behind_part : List ℕ → Part → (stop : ℕ) → List parts.Placed
 behind_part bytes code.End stop = []
 behind_part bytes other stop = parts_from bytes stop

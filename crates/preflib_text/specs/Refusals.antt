@@ -19,7 +19,7 @@ use Rattle.preflib_text.specs.Lines.{form_fault}
 use Rattle.preflib_text.specs.Metadata.{entry_of, entry_fault}
 use Rattle.preflib_text.specs.Orders.{order_fault}
 
--- why a line of metadata can't stand behind these: its form, and then what it says, at the place of what it says
+-- why a line of metadata can't stand after these: its form, and then what it says, at the place of what it says
 abbrev pub metadata_fault : Asked → (before : List Line) → Line → Option PrefFault
 metadata_fault asked before line =
     let entry = entry_of line.bytes in
@@ -64,7 +64,7 @@ behind_metadata asked bytes =
     option_or (option_and_then form_fault (slice_get (order_lines bytes) 0))
     (head_fault asked (entries bytes) (line_behind bytes))
 
--- the faults of orders, each judged behind those before it
+-- the faults of orders, each judged after those before it
 abbrev pub order_faults : Treat → (candidates : ℕ) → List Line → List (Option PrefFault)
 order_faults equal candidates lines = map (whole_fault equal candidates) (with_room lines)
 

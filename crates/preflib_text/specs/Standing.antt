@@ -64,7 +64,7 @@ marking s at says = record s {
   places = s.places ++ at ∷ [];
 }
 
--- what stands behind a part that may stand where this is expected
+-- what is after a part that may stand where this is expected
 abbrev pub next_by : Expected → Stand → (at : ℕ) → parts.Part → Stand
 next_by expected.Count s at (parts.Number n) = record s { expected = expected.BehindCount; count = n }
 next_by expected.BehindCount s at parts.Colon = record s { expected = expected.Item }
@@ -100,7 +100,7 @@ abbrev pub IsPartStop : Option PrefKind → PartStop → Type 0
 IsPartStop fault (part_stop.Fault kind) = fault ≡ Some kind
 IsPartStop fault part_stop.NoMemory = ⊤
 
--- what is read behind a part, unless it is misplaced
+-- what is read after a part, unless it is misplaced
 abbrev pub unless_misplaced : Option PrefKind → (at : ℕ) → Result Stand Misplaced → Result Stand Misplaced
 unless_misplaced (Some kind) at rest = Err (record { kind = kind; at = at })
 unless_misplaced None at rest = rest

@@ -3,11 +3,11 @@ use Rattle.std.specs.Prelude.{ℕ, ◌+◌, ◌-◌, ◌*◌, ◌==◌, ◌||◌
 use Rattle.std.specs.Prelude.{List, [], ◌∷◌, length, take, drop, fold, Option, Some, None}
 use Rattle.std.specs.List.{list_all, prefix_len, suffix_len}
 
--- a tab and a space, which may stand before and behind whatever a line says
+-- a tab and a space, which may stand before and after whatever a line says
 abbrev pub is_blank : ℕ → Bool
 is_blank b = b == 9 || b == 32
 
--- what stands behind the blanks at the front
+-- what is after the blanks at the front
 abbrev pub behind_blanks : List ℕ → List ℕ
 behind_blanks bytes = drop (prefix_len is_blank bytes) bytes
 

@@ -5,11 +5,11 @@ use Rattle.preflib_text.specs.declared.pref_kind.PrefKind.TheVariants.{BadByte, 
 use Rattle.preflib_text.specs.declared.pref_kind.PrefKind.TheVariants.{TooManyBallots, EqualRank}
 use Rattle.preflib_text.specs.Worked.{plainly, three, ann_ben_cid, Refuses, Says}
 
--- lines behind three candidates, whose first byte is 103 in line 5, have a fault at a byte of line 5, from 0
+-- lines after three candidates, whose first byte is 103 in line 5, have a fault at a byte of line 5, from 0
 abbrev pub RefusesAt : List ℕ → PrefKind → (at : ℕ) → Type 0
 RefusesAt lines kind at = Refuses (three ++ lines) kind (103 + at) 5 (at + 1)
 
--- lines behind three candidates stand for these ballots
+-- lines after three candidates stand for these ballots
 abbrev pub Counts : List ℕ → List (List ℕ) → Type 0
 Counts lines rankings = Says plainly (three ++ lines) ann_ben_cid [] rankings
 

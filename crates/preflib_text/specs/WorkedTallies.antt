@@ -7,11 +7,11 @@ use Rattle.preflib_text.specs.Ballots.{orders}
 use Rattle.preflib_text.specs.Tallies.{tally}
 use Rattle.preflib_text.specs.Worked.{three}
 
--- lines behind three candidates have this tally
+-- lines after three candidates have this tally
 abbrev pub Tallies : Treat → List ℕ → Tally → Type 0
 Tallies equal lines numbers = tally equal (orders (three ++ lines)) ≡ numbers
 
--- 3 ballots with an item behind a candidate, 1 ballot with it in front of one, and 2 with none
+-- 3 ballots with an item after a candidate, 1 ballot with it in front of one, and 2 with none
 abbrev pub some_equal : List ℕ
 some_equal = codes "3: 2,{1,3}\n1: {1,2},3\n2: 1\n"
 

@@ -26,7 +26,7 @@ HasVoters bytes n = (said : ℕ) → voters (entries bytes) ≡ Some said → sa
 abbrev pub order_line : BallotLine → List ℕ
 order_line line = decimal line.count ++ 58 ∷ 32 ∷ join_with_byte 44 (map decimal line.ranking)
 
--- the lines behind the metadata, whatever ends them, are just these orders, one after another
+-- the lines after the metadata, whatever ends them, are just these orders, one after another
 abbrev pub HasOrders : List ℕ → List BallotLine → Type 0
 HasOrders bytes orders = map (λ line. line.bytes) (order_lines bytes) ≡ map order_line orders
 
@@ -38,13 +38,13 @@ RanksSomebody line = 1 ≤ length line.ranking
 abbrev pub once : List ℕ → BallotLine
 once ranks = record { count = 1; ranking = ranks }
 
--- metadata alone; a line feed (10) ends the last of them, so that orders can stand behind it
+-- metadata alone; a line feed (10) ends the last of them, so that orders can stand after it
 pub record IsHead (asked : Asked) (bytes : List ℕ) (n : ℕ) : Type 0 where
   pub sound : HasMetadata asked bytes n
   pub no_orders : order_lines bytes ≡ []
   pub ended : ends_with nat_eq bytes (10 ∷ []) ≡ true
 
--- orders as lines of a text, each with a line feed (10) behind it
+-- orders as lines of a text, each with a line feed (10) after it
 abbrev pub order_text : List BallotLine → List ℕ
 order_text orders = flat_map (λ order. order_line order ++ 10 ∷ []) orders
 
@@ -63,7 +63,7 @@ OrdersSayRankings =
     → All (IsRanking n) rankings → All (λ ranks. 1 ≤ length ranks) rankings → length rankings ≤ MOST_BALLOTS
     → SaysBallots asked bytes rankings
 
--- A text that is written from ballots, behind its metadata, says just these.
+-- A text that is written from ballots, after its metadata, says just these.
 abbrev pub WrittenOrdersSayBallots : Type 0
 WrittenOrdersSayBallots =
     (asked : Asked) (head : List ℕ) (n : ℕ) (orders : List BallotLine)

@@ -10,7 +10,7 @@ pub(crate) fn trimmed(bytes: &[u8]) -> &[u8]
     before_blanks(behind_blanks(bytes))
 }
 
-/// What stands behind the blanks at the front.
+/// What is after the blanks at the front.
 pub(crate) fn behind_blanks(bytes: &[u8]) -> &[u8]
     ensures { result.now ≡ behind_blanks bytes.now }
 {
@@ -21,7 +21,7 @@ pub(crate) fn behind_blanks(bytes: &[u8]) -> &[u8]
     &bytes[at..]
 }
 
-// What stands before the blanks at the end.
+// What is before the blanks at the end.
 fn before_blanks(bytes: &[u8]) -> &[u8]
     ensures { result.now ≡ take (length bytes.now - suffix_len is_blank bytes.now) bytes.now }
 {

@@ -4,7 +4,7 @@
 #[derive(Clone, Copy)]
 pub(crate) enum Expected {
     Count,
-    /// The colon behind the count.
+    /// The colon after the count.
     BehindCount,
     Item,
     BehindItem,

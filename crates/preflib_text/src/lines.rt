@@ -28,7 +28,7 @@ impl<'a> Model for Lines<'a> {
 }
 
 impl<'a> Lines<'a> {
-    /// The lines behind a byte order mark.
+    /// The lines after a byte order mark.
     pub fn new(bytes: &'a [u8]) -> Lines<'a>
         ensures { result ≡ record { bytes = bytes.entry.now; row = 1; rest = lines bytes.entry.now } }
     {
@@ -73,7 +73,7 @@ impl<'a> Lines<'a> {
         }
     }
 
-    /// Where the text ends, if no line is to come: at its length, in the row behind the last line.
+    /// Where the text ends, if no line is to come: at its length, in the row after the last line.
     pub fn end(&self) -> Line<'a>
         ensures { result ≡ end_of self.now }
     {
@@ -97,7 +97,7 @@ fn mark_len(bytes: &[u8]) -> usize
     }
 }
 
-// The line at a place before the end of a text, and the place behind its line end.
+// The line at a place before the end of a text, and the place after its line end.
 fn line_from<'a>(bytes: &'a [u8], row: usize, at: usize) -> (Line<'a>, usize)
     requires { at < length bytes.now }
     ensures line { lines_from bytes.now row at ≡ result.0 ∷ lines_from bytes.now (row + 1) result.1 }

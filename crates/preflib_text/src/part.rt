@@ -25,7 +25,7 @@ pub(crate) enum Part {
     End,
 }
 
-/// A part, the place of its first byte in the line, and the place behind it.
+/// A part, the place of its first byte in the line, and the place after it.
 #[derive(Clone, Copy)]
 pub(crate) struct Found {
     pub part: Part,

@@ -41,7 +41,7 @@ pub fn read_preflib(
     })
 }
 
-/// How many candidates there are, where these lines stand behind the metadata.
+/// How many candidates there are, where these lines stand after the metadata.
 fn candidates(asked: &PrefAsked<'_>, head: &Head<'_>, lines: &Lines<'_>) -> Result<u32, PrefFault>
     requires { option_map_or is_few head.now.candidates true ≡ true }
     ensures candidates { IfOk result (λ n. head.now.candidates ≡ Some n) }

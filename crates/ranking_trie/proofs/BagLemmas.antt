@@ -78,7 +78,7 @@ placed before here there after rest whole result more is all parts same =
     (ap (λ l. before ++ l) parts ∙ all)
     (siblings_more before here there after more same))
 
--- ballots put in behind others
+-- ballots put in after others
 pub put_behind :
     (before here there more : List (List ℕ)) → IsPermutation there (more ++ here)
     → IsPermutation (before ++ there) (more ++ (before ++ here))

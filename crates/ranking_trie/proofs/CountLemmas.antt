@@ -21,7 +21,7 @@ count_of-append s xs ys = sum_by-append (one_for s) xs ys
 pub count_of-cons : (s x : List ℕ) (xs : List (List ℕ)) → count_of s (x ∷ xs) ≡ one_for s x + count_of s xs
 count_of-cons s x xs = sum_by-cons (one_for s) x xs
 
--- no ballot behind a candidate names nobody
+-- no ballot after a candidate names nobody
 pub count_of-blank_map : (c : ℕ) (xs : List (List ℕ)) → count_of [] (map (λ r. c ∷ r) xs) ≡ 0
 count_of-blank_map c [] = refl
 count_of-blank_map c (x ∷ xs) = count_of-blank_map c xs
@@ -68,7 +68,7 @@ count_of-same c s (x ∷ xs) =
       count_of-same c s xs,
     )
 
--- no sibling behind a candidate has its ballots
+-- no sibling after a candidate has its ballots
 pub count_of-rising : (c low : ℕ) (s : List ℕ) (f : Forest) → c ≤ low → IsRising low f → count_of (c ∷ s) (bag f) ≡ 0
 count_of-rising c low s Empty less rising = refl
 count_of-rising c low s (Grow d n p inner next) less rising =
@@ -95,7 +95,7 @@ node_has c d n s inner next same rising =
       count_of-rising d d s next (omega arith) rising,
     ))
 
--- behind another's,
+-- after another's,
 pub behind_has :
     (c d n : ℕ) (s : List ℕ) (inner next : Forest) → d < c
     → count_of (c ∷ s) (bag next) ≡ count_of (c ∷ s) (below d n (bag inner) ++ bag next)

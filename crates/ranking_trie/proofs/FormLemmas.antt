@@ -60,7 +60,7 @@ own_before : (c : ℕ) (r s : List ℕ) → IsAbove c s → before (c ∷ r) s
 own_before c r [] above = absurd above
 own_before c r (d ∷ s) above = cmp-less c d r s above
 
--- the line of a node stands before those below it
+-- the line of a node is before those below it
 pub listed_follow :
     (n : ℕ) (lines : List BallotLine) → AllByRecursion (λ line. IsAbove 0 line.ranking) lines
     → Follows line_before lines → Follows line_before (line_of n [] ++ lines)

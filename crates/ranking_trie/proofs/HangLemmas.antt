@@ -79,7 +79,7 @@ linked nodes mid new passed was rest before to first begin size lies last at_fir
           }
     ]
 
--- the first node to spare, and those behind it
+-- the first node to spare, and those after it
 pub record IsSpare (a : Arena) (next : Forest) : Type 0 where
   pub some : 1 ≤ a.free
   pub within : a.free ≤ length a.nodes.items
@@ -166,7 +166,7 @@ node_found a first c before at apart rising p above some own =
       next_rising = node.3;
     }
 
--- siblings behind a candidate that has no node
+-- siblings after a candidate that has no node
 pub rising_behind :
     (nodes : List Node) (c at : ℕ) → BeginsAt nodes at → IsRising (c - 1) (forest_at nodes at)
     → (1 ≤ at → (node_at nodes at).candidate ≢ c) → IsRising c (forest_at nodes at)

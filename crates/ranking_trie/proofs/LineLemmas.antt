@@ -22,7 +22,7 @@ use Rattle.ranking_trie.proofs.BagLemmas.{IsPermutation-shift}
 abbrev pub ballots_of : BallotLine → List (List ℕ)
 ballots_of line = replicate line.count line.ranking
 
--- the line at i comes behind those before it
+-- the line at i comes after those before it
 pub plain_more :
     (lines : List BallotLine) (i : ℕ) (line : BallotLine) → i < length lines → line ≡ get_or lines i line
     → plain (take (i + 1) lines) ≡ plain (take i lines) ++ ballots_of line

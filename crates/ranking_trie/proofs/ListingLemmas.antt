@@ -15,7 +15,7 @@ use Rattle.ranking_trie.proofs.BagLemmas.{map-replicate}
 use Rattle.ranking_trie.proofs.LineLemmas.{ballots_of}
 use Rattle.ranking_trie.proofs.ListLemmas.{All-right, All-unmap}
 
--- lines behind ranks that go on
+-- lines after ranks that go on
 pub behind_both :
     (front back : List ℕ) (lines : List BallotLine)
     → map (behind front) (map (behind back) lines) ≡ map (behind (front ++ back)) lines
@@ -26,7 +26,7 @@ behind_both front back (line ∷ lines) =
     ap (λ (l : BallotLine). l ∷ map (behind front) (map (behind back) lines)) here
     ∙ ap (λ (ls : List BallotLine). behind (front ++ back) line ∷ ls) (behind_both front back lines)
 
--- the line of a node, behind the ranks down to it
+-- the line of a node, after the ranks down to it
 pub line_behind : (front : List ℕ) (n : ℕ) → map (behind front) (line_of n []) ≡ line_of n front
 line_behind front zero = refl
 line_behind front (suc n) = ap (λ (r : List ℕ). record { count = suc n; ranking = r } ∷ []) (append-nil front)

@@ -11,7 +11,7 @@ use Rattle.std.specs.FinMap.{slice_cmp-IsAntisymmetric, nat_cmp-IsAntisymmetric}
 use Rattle.std.proofs.lemmas.Bool.Decides.{nat_tests}
 use Rattle.ranking_trie.specs.BallotBag.{AreInOrder}
 
--- one ranking stands before the other
+-- one ranking is before the other
 abbrev pub before : List ℕ → List ℕ → Type 0
 before r s = slice_cmp nat_cmp r s ≡ Less
 
@@ -93,7 +93,7 @@ pub follows-replicate : {X : Type 0} (R : X → X → Type 0) (n : ℕ) (x : X) 
 follows-replicate R zero x same = tt
 follows-replicate R (suc n) x same = (each-replicate (R x) n x same, follows-replicate R n x same)
 
--- neighbours in order, and each before all behind it
+-- neighbours in order, and each before all after it
 neighbours :
     (xs : List (List ℕ)) (k : ℕ) (d : List ℕ) → Follows upto xs → suc k < length xs
     → upto (get_or xs k d) (get_or xs (suc k) d)

@@ -32,7 +32,7 @@ pub last_rank : (ranks : List ℕ) (at : ℕ) → at < length ranks → length r
 last_rank ranks at inside past =
     drop_more ranks at 0 inside ∙ ap (λ (l : List ℕ). get_or ranks at 0 ∷ l) (drop_all (at + 1) ranks past)
 
--- the ballots that have the ranks from a place on are at the rank's node those that have the ranks behind it
+-- the ballots that have the ranks from a place on are at the rank's node those that have the ranks after it
 pub count_on :
     (ranks : List ℕ) (at before place : ℕ) (f : Forest) (h : HasNode f (get_or ranks at 0) before place)
     → at < length ranks

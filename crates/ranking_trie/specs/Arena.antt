@@ -14,7 +14,7 @@ forest_in arena p = forest_at arena.nodes.items p
 abbrev pub times_in : Arena → (first place : ℕ) → ℕ
 times_in arena first q = times q (forest_in arena first) + times q (forest_in arena arena.free)
 
--- nodes one behind another, with none below
+-- nodes one after another, with none below
 abbrev pub IsChain : Forest → Type 0
 IsChain Empty = Unit {0}
 IsChain (Grow c n p inner next) = (inner ≡ Empty) × IsChain next
@@ -60,7 +60,7 @@ pub record IsPassed (nodes : List Node) (first c before at : ℕ) : Type 0 where
   pub under : top 0 passed < c
   pub rest : BeginsAt nodes at
 
--- siblings among which a candidate's node lies at a place, behind the last one before it
+-- siblings among which a candidate's node lies at a place, after the last one before it
 pub record HasNode (forest : Forest) (c before place : ℕ) : Type 0 where
   pub ends : ℕ
   pub passed : Forest

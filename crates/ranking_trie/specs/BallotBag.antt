@@ -19,7 +19,7 @@ pub record IsSoundBag (n total : ℕ) (ballots : List (List ℕ)) : Type 0 where
   pub few : length ballots ≤ MOST_BALLOTS
   pub rankings : All (λ r. IsRanking n r) ballots
 
--- rankings in the lexicographic order of candidate numbers: one stands before its own extensions
+-- rankings in the lexicographic order of candidate numbers: one is before its own extensions
 abbrev pub AreInOrder : List (List ℕ) → Type 0
 AreInOrder ballots = IsSorted (slice_cmp nat_cmp) ballots
 

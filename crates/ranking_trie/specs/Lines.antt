@@ -23,7 +23,7 @@ abbrev pub line_of : (count : ℕ) → (ranking : List ℕ) → List BallotLine
 line_of zero ranking = []
 line_of (suc n) ranking = record { count = suc n; ranking = ranking } ∷ []
 
--- a line whose ranking goes on behind other ranks
+-- a line whose ranking goes on after other ranks
 abbrev pub behind : (ranks : List ℕ) → BallotLine → BallotLine
 behind ranks line = record { count = line.count; ranking = ranks ++ line.ranking }
 

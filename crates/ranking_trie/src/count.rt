@@ -25,7 +25,7 @@ pub(crate) fn count(ends: u32, forest: Siblings, ranks: &[u32]) -> u32
     ends
 }
 
-/// The node of a candidate among siblings: how many ballots end at it, and what stands below it.
+/// The node of a candidate among siblings: how many ballots end at it, and what is below it.
 fn find(forest: Siblings, c: u32) -> Option<(u32, Siblings)>
     requires { IsRising 0 (forest_of forest) }
     ensures rising { IfSome result (λ node. IsRising 0 (forest_of node.1)) }

@@ -1,6 +1,6 @@
 // A node of a trie.
 
-/// What stands at a place of the list of nodes: a candidate, how many ballots end there, the place
+/// What is at a place of the list of nodes: a candidate, how many ballots end there, the place
 /// of the first node below it, and that of its next sibling. Places count from 1, and 0 is none.
 #[derive(Clone, Copy, Drop)]
 pub(crate) struct Node {

@@ -25,7 +25,7 @@ impl<'a> Model for Siblings<'a> {
     ghost invariant = { λ s. BeginsAt s.nodes.now s.first };
 }
 
-/// The first of siblings: its candidate, how many ballots end at it, and what is below and behind
+/// The first of siblings: its candidate, how many ballots end at it, and what is below and after
 /// it.
 #[derive(Drop)]
 pub struct Sibling<'a> {

@@ -30,7 +30,7 @@ use Rattle.rule_laws.proofs.Struck.{count-struck}
 abbrev pub is_running : (withdrawn : List Bool) → ℕ → Bool
 is_running withdrawn c = not (is_withdrawn withdrawn c)
 
--- what passes in a list stands in what is filtered of it
+-- what passes in a list is in what is filtered of it
 pub filtered_at :
     (test : ℕ → Bool) (xs : List ℕ) (k : ℕ) → k < length xs → test (get_or xs k 0) ≡ true
     → (j : ℕ) × (j < length (filter test xs)) × (get_or (filter test xs) j 0 ≡ get_or xs k 0)
@@ -55,7 +55,7 @@ filtered_at test (x ∷ xs) (suc k) below passes =
           (rest.0, omega (arith, rest.1), ap (λ (ys : List ℕ). get_or ys rest.0 0) dropped ∙ rest.2)
     ]
 
--- who stands nowhere before stands here first
+-- who stands nowhere before is here first
 pub place_in-own :
     (xs : List ℕ) (k : ℕ) → k < length xs → ((j : ℕ) → j < k → get_or xs j 0 ≢ get_or xs k 0)
     → place_in xs (get_or xs k 0) ≡ k

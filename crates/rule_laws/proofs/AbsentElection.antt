@@ -31,7 +31,7 @@ filter-total test xs n long =
     ∙ count_by-total test (λ p. get_or xs p 0) n)
 
 module _ (lots : List ℕ) (order : IsOrder lots) where
-  -- who stands at a place of the lots, and where a candidate stands
+  -- who is at a place of the lots, and where a candidate stands
   own_place : (k : ℕ) → k < length lots → place_in lots (get_or lots k 0) ≡ k
   own_place k below =
       place_in-own lots k below (λ j less same.

@@ -46,7 +46,7 @@ first-given rule s keeps withdrawn w (r ∷ ranks) c pos few whole nothing first
           omega arith
     ]
 
--- and stands on the ballot, and was not withdrawn
+-- and is on the ballot, and was not withdrawn
 pub first-runs :
     (withdrawn : List Bool) (ranks : List ℕ) (c : ℕ) → is_first withdrawn ranks c ≡ true
     → Contains ranks c × (is_withdrawn withdrawn c ≡ false)

@@ -56,7 +56,7 @@ member_part n members r k some within member =
     let part = total-part n (r - 1) (of_members members (λ p. cond (r == p + 1) k 0)) (omega arith) in
     omega arith
 
--- Where a member with keep value 1 stands at place j, and above it only members and candidates that keep
+-- Where a member with keep value 1 is at place j, and above it only members and candidates that keep
 -- nothing, the members
 -- are given the whole weight.
 pub stays_with_members : (rule : Rule) (s : ℕ) (keeps : List ℕ) (w : ℕ) (ranks : List ℕ) (n : ℕ) (members : ℕ → Bool) (j : ℕ)

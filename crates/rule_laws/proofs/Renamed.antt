@@ -37,7 +37,7 @@ both_later a b =
       | inr most ↦ le-ltb (1 + a) (1 + b) (omega arith) ∙ sym (le-ltb a b most)
     ]
 
--- two that stand in the same order behind what may be themselves
+-- two that stand in the same order after what may be themselves
 step_later :
     (x y : Bool) (a b c d : ℕ) → nat_lt a b ≡ nat_lt c d
     → nat_lt (cond (not x) (1 + a) 0) (cond (not y) (1 + b) 0)

@@ -17,7 +17,7 @@ use Rattle.meek_rule.specs.Row.{Row}
 use Rattle.meek_count.specs.Laws.{IsElection}
 use Rattle.meek_count.specs.Rows.{IsCountUnder}
 
--- Some candidates are the members of a set: candidate c's mark stands at place c - 1.
+-- Some candidates are the members of a set: candidate c's mark is at place c - 1.
 
 -- A ballot that ranks each member who was not withdrawn, and above none of them anybody else who was not.
 pub record IsSolid (n : ℕ) (withdrawn members : List Bool) (ranking : List ℕ) : Type 0 where

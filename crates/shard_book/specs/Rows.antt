@@ -39,7 +39,7 @@ kept_by entries row = record { revision = row.revision; standing = ballots_at en
 abbrev pub IsRow : List Entry → Row → Type 0
 IsRow entries row = (row.revision ≤ LAST_NUMBER) × (is_some (ballots_at entries row.place) ≡ is_some row.place)
 
--- some batch with the row's revision, which stands where the row has a place
+-- some batch with the row's revision, at which the row has a place
 abbrev pub outline : Row → Batch
 outline row = record { revision = row.revision; standing = option_map (λ place. record { candidates = 0; lines = [] }) row.place }
 

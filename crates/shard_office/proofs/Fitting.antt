@@ -206,7 +206,7 @@ module _ (o : OfficeState) (last : ℕ) (taken : List PassState) (seats : List S
               ∙ looked_further owner_of_entry q.caller (entries_of q.sight t) b.0 (taken_in q.caller s.joined)
               knew knows
 
-  -- and no other caller stands in it
+  -- and no other caller is in it
   nobody_else : (p : ℕ) → 1 ≤ p → has p (callers_of taken) ≡ false → NoneBy p H
   nobody_else p one none =
       no_calls p [] marks lists

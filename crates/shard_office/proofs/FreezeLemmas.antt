@@ -71,7 +71,7 @@ all_pieces g (p ∷ ps) a each =
     (all_pieces g ps (a + 1) (λ i q e. subst (λ k. IsPermutation (plan_ballots q.rows) (g k))
     (let h : a + suc i ≡ a + 1 + i = omega arith in h) (each (suc i) q e)))
 
--- what stands in each shard is what stands after all of its entries
+-- what is in each shard is what stands after all of its entries
 whole_standing : (n : ℕ) (l : List Entry) → n ≡ length l → standing_after l n ≡ standing (after_all empty l)
 whole_standing n l is = ap (λ es. standing (after_all empty es)) (take_all n l (omega arith))
 

@@ -117,7 +117,7 @@ module _ (shards : ℕ) (history : List Entry) (some : 1 ≤ shards) (legal : Is
     front_is : length now.marks - 1 ≡ length front
     front_is = let e = ap length last ∙ length-append front (m ∷ []) in omega arith
 
-    -- what stands at the place of its mark
+    -- what is at the place of its mark
     pub stands :
         (e : Entry) → slice_get (weave (front ++ m ∷ R) P) (length front) ≡ Some e
         → slice_get history (length now.marks - 1) ≡ Some e
@@ -165,7 +165,7 @@ module _ (shards : ℕ) (history : List Entry) (some : 1 ≤ shards) (legal : Is
       ∙ stands now front (Freeze caller) is.marks.1 on (freeze_entry caller)
       (freeze_at caller front on.marks.0 P (enough_front now front (Freeze caller) is.marks.1 on))
 
-  -- a version of the sight stands in the history
+  -- a version of the sight is in the history
   pub version_stands : (version : VersionState) → IsVersionOf version (sight_in shards history) → StandsIn version history
   version_stands version is =
       let at = version.at in

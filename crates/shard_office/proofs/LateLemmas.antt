@@ -1,4 +1,4 @@
--- Of a pass that was taken in nothing comes behind what a whole clerk has seen.
+-- Of a pass that was taken in nothing comes after what a whole clerk has seen.
 use Rattle.std.proofs.Common.{◌≡◌, ◌≢◌, ℕ, ◌+◌, ◌≤◌, zero, suc, Bool, true, false, cond, ◌||◌, List, [], ◌∷◌}
 use Rattle.std.proofs.Common.{◌++◌, ◌==◌, length, refl, sym, ap, ◌∙◌, subst, ⊎_elim, arith, length-append}
 use Rattle.std.proofs.Common.{append-nil, eq-eqb}

@@ -103,7 +103,7 @@ seen_more seats i x y between at grew j t = (⊎_elim
     ∙ ap (λ b. by_shard (lists_of seats) t ++ cond b between []) (sym h.0)))
     (eqb_tells t (i + 1))) j
 
--- and one entry behind it
+-- and one entry after it
 pub seen_one :
     (seats : List ShardSeat) (i : ℕ) (x y : ShardSeat) (between : List Entry) (e : Entry)
     → slice_get seats i ≡ Some x → y.seen ≡ (x.seen ++ between) ++ e ∷ []

@@ -44,7 +44,7 @@ module _ {A : Type 0} where
   map_same f (z ∷ zs) zero x y e same = let is : z ≡ x = cc in λ i. (same ∙ ap f (sym is)) i ∷ map f zs
   map_same f (z ∷ zs) (suc s) x y e same = λ i. f z ∷ map_same f zs s x y e same i
 
-  -- what stands at a place of a list's image, where the element is read at that place
+  -- what is at a place of a list's image, where the element is read at that place
   pub found :
       {B : Type 0} (f : A → B) (l : List A) (s : ℕ) (t : B) (x : A) → slice_get (map f l) s ≡ Some t
       → x ≡ get_or l s x → slice_get l s ≡ Some x

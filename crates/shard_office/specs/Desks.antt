@@ -1,4 +1,4 @@
--- What stands on a caller's desk.
+-- What is on a caller's desk.
 use Rattle.std.specs.Prelude.{◌≡◌, false}
 use Rattle.shard_office.specs.declared.desk.Desk.{Desk}
 use Rattle.shard_office.specs.Sight.{Sight}

@@ -36,7 +36,7 @@ HistoriesBeginAlike =
     (shards : ℕ) (history longer : List Entry) → 1 ≤ shards → IsLegal history → IsLegal longer
     → GoesOn (sight_in shards history) (sight_in shards longer) → Begins history longer
 
--- a change stands in every history at the place that its mark has among the marks
+-- a change is in every history at the place that its mark has among the marks
 abbrev pub ChangesStandAtTheirMarks : Type 0
 ChangesStandAtTheirMarks =
     (shards s : ℕ) (e : Entry) (before now : Sight) (history : List Entry) → 1 ≤ shards → IsLegal history
@@ -69,7 +69,7 @@ VersionsStandInHistories =
     (shards : ℕ) (version : VersionState) (history : List Entry) → 1 ≤ shards → IsLegal history
     → IsVersionOf version (sight_in shards history) → StandsIn version history
 
--- a pass that was taken in has no call behind what the clerk has seen
+-- a pass that was taken in has no call after what the clerk has seen
 abbrev pub NobodyCallsLater : Type 0
 NobodyCallsLater =
     (o : OfficeState) (now : Sight) (pass : PassState) (more history : List Entry) → IsTaken o now pass → FitsHistory pass history

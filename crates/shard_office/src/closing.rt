@@ -75,7 +75,7 @@ impl Closing {
     }
 }
 
-/// Puts a list behind the others, or back where it came from.
+/// Puts a list after the others, or back where it came from.
 fn hand_over(item: Entries, rest: &mut Vec<Entries>, lists: &mut EntryLists) -> Result<(), NoMemory>
     requires { vec_len rest.old < vec_capacity rest.old }
     ensures rest { OnOk result (rest.new ≡ rest.old) }

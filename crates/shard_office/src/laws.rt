@@ -9,7 +9,7 @@ pub fn histories_go_on()
     ensures alike { HistoriesBeginAlike }
 {}
 
-/// A call stands at the place of its mark in every history that goes on from what its caller has seen.
+/// A call is at the place of its mark in every history that goes on from what its caller has seen.
 pub fn calls_stand_at_their_marks()
     ensures change { ChangesStandAtTheirMarks }
     ensures strike { StrikesStandAtTheirMarks }

@@ -11,8 +11,8 @@
 //! 5. When no pass is out, [`Office::close`] gives the history; where memory runs out it gives a
 //!    [`Closing`], which may be tried again.
 //!
-//! Batches are dealt out among the office's shards, each behind a lock of its own. A change is kept
-//! as an entry of its shard; the order of all calls is kept as marks, behind one more lock. Contracts
+//! Batches are dealt out among the office's shards, each after a lock of its own. A change is kept
+//! as an entry of its shard; the order of all calls is kept as marks, after one more lock. Contracts
 //! see of a pass what it has seen of all this, its sight, which only grows: marks, and entries of each
 //! shard. Its own calls are those of its caller in the history that its sight shows.
 //!

@@ -188,7 +188,7 @@ impl Office {
         )
     }
 
-    /// Freezes what stands, for a pass: while all turns are held what stands in each shard is copied
+    /// Freezes what stands, for a pass: while all turns are held what is in each shard is copied
     /// into a plan, with the list of the struck, and the freeze is marked. Where much stands the office's
     /// workers make the plans, each those of some shards, in threads of their own where such can be had.
     ///

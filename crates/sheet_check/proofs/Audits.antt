@@ -52,7 +52,7 @@ not_refused either lots input fault (sheet, file, split, contest) (inr (other_sh
     (subst (λ (f : List ℕ). IsRefusedFileBehind (length other_sheet) lots f fault)
     (file_once input sheet file other_sheet other split other_split) refused)
 
--- what stands behind the sheet is refused with one fault
+-- what is after the sheet is refused with one fault
 behind_once :
     FilesAreNotRefused → ContestsAreRefusedOnce → (before : ℕ) (lots file : List ℕ) (fault other : InputFault)
     → IsRefusedBehind before lots file fault → IsRefusedBehind before lots file other → fault ≡ other
@@ -113,7 +113,7 @@ pub ended_early :
 ended_early asked input fault end sink short ends finishes =
     inr (BadInput fault, fault_line fault, (inr (short, inl ends), refl, refl), finishes)
 
--- What stands behind the sheet is refused.
+-- What is after the sheet is refused.
 pub refused_behind :
     (asked : Asked) (input sheet file : List ℕ) (before : ℕ) (stop : InputStop) (end : End InputFault) (sink : Writing)
     → length input ≤ SHEET_LIMIT

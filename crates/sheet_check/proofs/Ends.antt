@@ -10,7 +10,7 @@ end_fits input at stands =
     let four : length (codes "end" ++ 10 ∷ []) ≡ 4 = refl in
     omega (arith, ap length stands.is_end, four, length-take 4 (drop at input), length-drop at input)
 
--- so where it stands at no place in the input it stands nowhere
+-- so where it is at no place in the input it stands nowhere
 pub nowhere : (input : List ℕ) → ((k : ℕ) → k < length input → ¬ HasEndAt input k) → HasNoEnd input
 nowhere input none at stands = none at (omega (arith, end_fits input at stands)) stands
 

@@ -1,4 +1,4 @@
--- A ballot file behind a sheet that is no longer than a ballot file may be.
+-- A ballot file after a sheet that is no longer than a ballot file may be.
 use Rattle.std.proofs.Common.{ℕ, ◌≤◌, List, length, inr, Ok, Err}
 use Rattle.std.specs.Prelude.{Result}
 use Rattle.input_text.specs.declared.input_stop.InputStop.{InputStop}

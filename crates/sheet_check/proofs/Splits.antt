@@ -15,7 +15,7 @@ first_end_once input a b one other =
       ]
     ]
 
--- so the file behind the sheet is one
+-- so the file after the sheet is one
 pub file_once :
     (input sheet file other_sheet other : List ℕ) → IsSplit input sheet file → IsSplit input other_sheet other
     → other ≡ file

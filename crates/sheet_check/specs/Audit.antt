@@ -34,7 +34,7 @@ pub record EndsInSheet (input : List ℕ) (fault : InputFault) : Type 0 where
   pub no_end : HasNoEnd input
   pub fault_is : fault ≡ record { kind = Ended; at = length input }
 
--- No line is `end`, or what stands behind the first such line is refused.
+-- No line is `end`, or what is after the first such line is refused.
 abbrev pub IsRefusedAudit : (lots input : List ℕ) → InputFault → Type 0
 IsRefusedAudit lots input fault =
     EndsInSheet input fault

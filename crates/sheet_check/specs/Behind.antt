@@ -1,4 +1,4 @@
--- A ballot file behind a sheet: it has a limit of its own, and its faults stand at their places in the whole.
+-- A ballot file after a sheet: it has a limit of its own, and its faults stand at their places in the whole.
 use Rattle.std.specs.Prelude.{◌≡◌, ◌⊎◌, ℕ, ◌<◌, ◌≤◌, List, length, Result, Ok, Err}
 use Rattle.input_text.specs.declared.input_fault.InputFault.{InputFault}
 use Rattle.input_text.specs.declared.input_stop.InputStop.{InputStop}

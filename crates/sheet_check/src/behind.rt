@@ -1,4 +1,4 @@
-// A ballot file behind a sheet.
+// A ballot file after a sheet.
 ghost use Rattle.std.specs.Prelude.{◌≡◌, ◌+◌, ◌≤◌, length};
 ghost use Rattle.tool_edge.specs.Contest.{behind};
 ghost use Rattle.tool_edge.specs.Refusals.{too_long};
@@ -10,7 +10,7 @@ use blt_reader::{BltStop, FaultKind};
 use std::alloc::Global;
 use tool_edge::{Contest, FILE_LIMIT};
 
-/// Reads a ballot file that stands behind so many bytes, and takes these lots for it. A fault of the file
+/// Reads a ballot file that is after so many bytes, and takes these lots for it. A fault of the file
 /// has its place in the whole.
 pub(crate) fn read_file_behind(
     alloc: Global,
@@ -27,7 +27,7 @@ pub(crate) fn read_file_behind(
     Contest::read_behind(alloc, before, lots, file)
 }
 
-/// The fault of a ballot file behind so many bytes that is too long: the first byte too many.
+/// The fault of a ballot file after so many bytes that is too long: the first byte too many.
 fn too_long_behind(before: usize) -> BltStop
     requires { before ≤ SHEET_LIMIT }
     ensures { result ≡ BltStop.Fault (behind before (too_long FILE_LIMIT)) }

@@ -4,7 +4,7 @@
 //! [`judge`] gives the verdict on a text and an election by the [`Terms`] of a count;
 //! [`verdicts_are_unique`] says that each text has one, and [`sheets_are_true`] that the verdict on a sheet
 //! is that it is true by the terms of its count, and by no other places. [`Comparing`] is the sink that compares, for any text. [`check`]
-//! is the whole tool, over an input that is a sheet and behind it a ballot file.
+//! is the whole tool, over an input that is a sheet and after it a ballot file.
 #![tactic(auto)]
 
 mod behind;

@@ -4,7 +4,7 @@ ghost use Rattle.sheet_check.specs.Input.{HasEndAt, HasNoEnd, IsSplit};
 
 use crate::comparing::is_same;
 
-/// The bytes up to and including the first line `end`, and those behind it; none where no line is `end`.
+/// The bytes up to and including the first line `end`, and those after it; none where no line is `end`.
 #[tactic(auto, using(crate::proofs::Ends::end_fits, crate::proofs::Ends::nowhere, crate::proofs::Ends::split_at_end))]
 pub(crate) fn split(input: &[u8]) -> Option<(&[u8], &[u8])>
     ensures { MatchOption result (HasNoEnd input.now) (λ parts. IsSplit input.now parts.0.now parts.1.now) }
@@ -17,7 +17,7 @@ pub(crate) fn split(input: &[u8]) -> Option<(&[u8], &[u8])>
     None
 }
 
-/// Whether a line `end`, with its line feed, stands at this place of an input.
+/// Whether a line `end`, with its line feed, is at this place of an input.
 pub fn has_end_at(input: &[u8], at: usize) -> bool
     requires { at < length input.now }
     ensures { MatchBool result (HasEndAt input.now at) (¬ (HasEndAt input.now at)) }

@@ -23,7 +23,7 @@ use tool_edge::{
     files_are_not_refused, finish, open, refuse, refuse_input,
 };
 
-/// Checks the sheet at the front of the input against the ballot file behind it, counted with the lots,
+/// Checks the sheet at the front of the input against the ballot file after it, counted with the lots,
 /// the rule, the places and the omega of the words, and writes the verdict.
 pub fn check<R: Threads + Sync, S: Source, K: Sink>(
     rt: &R,

@@ -20,7 +20,7 @@ enough (suc fuel) (suc more) size (round ∷ rounds) some low high =
     ap (λ (l : List (List ℕ)). take size all ∷ l)
     (enough fuel more size (drop size all) some (omega (arith, less)) (omega (arith, less)))
 
--- a block, and those of the rounds behind it
+-- a block, and those of the rounds after it
 pub cut-step :
     (size : ℕ) (rounds : List ℕ) → 0 < size → 0 < length rounds
     → cut size rounds ≡ take size rounds ∷ cut size (drop size rounds)
@@ -47,7 +47,7 @@ joined_from (suc fuel) size (round ∷ rounds) some low =
 pub joined : (size : ℕ) (rounds : List ℕ) → 0 < size → flat_map (λ (block : List ℕ). block) (cut size rounds) ≡ rounds
 joined size rounds some = joined_from (length rounds) size rounds some (omega arith)
 
--- what is written of a block, and of those behind it
+-- what is written of a block, and of those after it
 pub text-step :
     (text : List ℕ → List ℕ) (size : ℕ) (all block others : List ℕ) → 0 < size → 0 < length all
     → block ≡ take size all → others ≡ drop size all

@@ -45,7 +45,7 @@ parts rows first j from within =
     ap (λ (k : ℕ). rounds_in rows first k) whole ∙ rounds_in-cut rows first (j - first) (length rows - j)
     ∙ ap (λ (k : ℕ). rounds_in rows first (j - first) ++ rounds_in rows k (length rows - j)) here
 
--- a block that is full, and the rounds behind it
+-- a block that is full, and the rounds after it
 pub full_block :
     (rows : List Row) (first j size : ℕ) → first ≤ j → j ≤ length rows
     → length (rounds_in rows first (j - first)) ≡ size
@@ -64,7 +64,7 @@ behind_full rows first j size from within full =
     ∙ ap (λ (k : ℕ). drop k (rounds_in rows first (j - first) ++ rounds_in rows j (length rows - j))) (sym full)
     ∙ drop-append_seam (rounds_in rows first (j - first)) (rounds_in rows j (length rows - j)))
 
--- the last block, and nothing behind it
+-- the last block, and nothing after it
 pub last_block :
     (rows : List Row) (first size : ℕ) → length (rounds_in rows first (length rows - first)) ≤ size
     → rounds_in rows first (length rows - first) ≡ take size (rounds_in rows first (length rows - first))

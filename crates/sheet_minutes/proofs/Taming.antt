@@ -18,7 +18,7 @@ tame_by false c is = is
 tame : (c : ℕ) → is_control (tamed c) ≡ false
 tame c = tame_by (is_control c) c refl
 
--- a tame character of a text, or a space behind it
+-- a tame character of a text, or a space after it
 tame_at : (cs : List ℕ) (k : ℕ) → is_control (get_or (map tamed cs) k 32) ≡ false
 tame_at [] zero = refl
 tame_at [] (suc k) = refl

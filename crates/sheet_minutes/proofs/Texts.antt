@@ -37,7 +37,7 @@ columns_read text count reads =
     ap (λ (l : List ℕ). length (lossy_chars l)) (sym reads.is)
     ∙ ap length (lossy_chars-encode reads.chars reads.scalar) ∙ reads.many
 
--- ---- one text behind another
+-- ---- one text after another
 
 scalars-append : (xs ys : List ℕ) → scalars xs ≡ true → scalars ys ≡ true → scalars (xs ++ ys) ≡ true
 scalars-append [] ys one other = other

@@ -13,7 +13,7 @@ row_at rows i = slice_index_or rows i (blank 0)
 abbrev pub ends_round : List Row → (i : ℕ) → Bool
 ends_round rows i = nat_eq (i + 1) (length rows) || not (nat_eq (row_at rows i).round (row_at rows (i + 1)).round)
 
--- what the candidates are behind the iteration at a place: as before the next one, or as in the end
+-- what the candidates are after the iteration at a place: as before the next one, or as in the end
 abbrev pub states_behind : SheetList → (i : ℕ) → List State
 states_behind v i = if nat_eq (i + 1) (length v.rows) then v.last else (row_at v.rows (i + 1)).states
 

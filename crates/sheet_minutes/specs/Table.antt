@@ -46,7 +46,7 @@ mark Elected = 69
 mark Defeated = 68
 mark Withdrawn = 87
 
--- what stands at the left of a line: of a candidate its number and so many columns of its name
+-- what is at the left of a line: of a candidate its number and so many columns of its name
 abbrev pub label : SheetList → Entry → List ℕ
 label v Round = codes "Round               "
 label v Quota = codes "Quota               "
@@ -54,7 +54,7 @@ label v LeftOver = codes "On no candidate     "
 label v (Candidate p) =
     at_right NUMBER_COLUMNS (decimal (p + 1)) ++ 32 ∷ encode_utf8_all (name_columns (slice_index_or v.names p []))
 
--- What a line says of the round whose last iteration stands at a place: of a candidate what it is behind the round, and its vote at
+-- What a line says of the round whose last iteration is at a place: of a candidate what it is after the round, and its vote at
 -- the end of it. The numbers stand at the right.
 abbrev pub cell : (places : ℕ) → SheetList → (width : ℕ) → Entry → (i : ℕ) → List ℕ
 cell places v width Round i = at_right (width + MARK_COLUMNS) (decimal (row_at v.rows i).round)

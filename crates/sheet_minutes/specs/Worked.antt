@@ -17,7 +17,7 @@ text lines = flat_map ended lines
 
 -- ---- the whole text
 
--- two candidates with a ballot each and one seat; candidate 2 stands first in the lots
+-- two candidates with a ballot each and one seat; candidate 2 is first in the lots
 abbrev pub ATie : Type 0
 ATie =
     minutes_text 9 tie_sheet
@@ -65,7 +65,7 @@ five_rounds = record {
   last = Defeated ∷ [];
 }
 
--- Four rounds fill a block, and the fifth stands in one of its own.
+-- Four rounds fill a block, and the fifth is in one of its own.
 abbrev pub FiveRounds : Type 0
 FiveRounds =
     table_text 9 five_rounds

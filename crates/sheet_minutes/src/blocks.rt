@@ -35,7 +35,7 @@ pub(crate) fn write_blocks<const P: usize, K: Sink>(
     Ok(())
 }
 
-/// The place behind so many rounds, from the iteration at `first` on, or behind all.
+/// The place after so many rounds, from the iteration at `first` on, or after all.
 fn block_end<const P: usize>(rows: &[Row<P>], first: usize, size: usize) -> usize
     requires inside { first < length rows.now }
     requires some { 0 < size }

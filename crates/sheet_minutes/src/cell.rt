@@ -21,7 +21,7 @@ use meek_rule::Row;
 use piece_text::write_bytes;
 use sheet_reader::SheetValuesAt;
 
-/// Writes what a line says of the round whose last iteration stands at a place.
+/// Writes what a line says of the round whose last iteration is at a place.
 pub(crate) fn write_cell<const P: usize, K: Sink>(
     values: &SheetValuesAt<P>,
     width: usize,
@@ -79,7 +79,7 @@ fn write_left_over<const P: usize, K: Sink>(
     write_right_votes(width, left, sink)
 }
 
-/// Writes what the candidate at a place is behind a round, and its vote at the end of it.
+/// Writes what the candidate at a place is after a round, and its vote at the end of it.
 fn write_standing<const P: usize, K: Sink>(
     row: &Row<P>,
     behind: &States,

@@ -1,4 +1,4 @@
-// What stands at the top.
+// What is at the top.
 ghost use Rattle.piece_text.specs.Writing.{Writes};
 ghost use Rattle.sheet_minutes.specs.Minutes.{heading};
 

@@ -1,4 +1,4 @@
-// What stands at the left of a line.
+// What is at the left of a line.
 ghost use Rattle.std.specs.Prelude.{◌+◌, ◌++◌, ◌∷◌, ◌<◌, decimal, length, slice_index_or, []};
 ghost use Rattle.std.specs.Str.{encode_utf8_all};
 ghost use Rattle.piece_text.specs.Writing.{Writes};

@@ -1,7 +1,7 @@
 // What holds of every table, and of every text.
 ghost use Rattle.sheet_minutes.specs.Laws.{RoundsStandOnce, TablesFit, TextsAreTame};
 
-/// Each round stands in one block, in order, and no line of a block is longer than 80 columns. The call does
+/// Each round is in one block, in order, and no line of a block is longer than 80 columns. The call does
 /// nothing.
 pub fn tables_fit()
     ensures rounds { RoundsStandOnce }

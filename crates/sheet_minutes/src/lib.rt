@@ -5,7 +5,7 @@
 //! of every table, [`texts_are_tame`] that no control character of a name is written, and
 //! [`worked_minutes`] has texts worked by hand. What a table of rounds has in its lines and columns is said
 //! here once, also for other texts: [`ends_round`] where a column is, [`states_behind`] and [`left_over`]
-//! what stands in it, and [`Entry`] what a line is about.
+//! what is in it, and [`Entry`] what a line is about.
 #![tactic(auto)]
 
 mod block;

@@ -9,7 +9,7 @@ use crate::plain::write_char;
 use bstr::{ByteSlice, Chars};
 use byte_edge::{Failed, Sink};
 
-/// Writes the first columns of a name, with spaces behind a shorter one.
+/// Writes the first columns of a name, with spaces after a shorter one.
 pub(crate) fn write_name<K: Sink>(name: &[u8], sink: &mut K) -> Result<(), Failed>
     ensures { Writes K.written K.faults sink.old sink.new (encode_utf8_all (name_columns name.now)) result }
 {
@@ -20,7 +20,7 @@ pub(crate) fn write_name<K: Sink>(name: &[u8], sink: &mut K) -> Result<(), Faile
     Ok(())
 }
 
-/// The next character, or a space behind the last.
+/// The next character, or a space after the last.
 fn next_column(rest: &mut Chars<'_>) -> char
     ensures first { result ≡ slice_index_or rest.old 0 32 }
     ensures others { rest.new ≡ drop 1 rest.old }

@@ -32,7 +32,7 @@ pub fn ends_round<const P: usize>(rows: &[Row<P>], i: usize) -> bool
     row.round != next.round
 }
 
-/// What the candidates are behind the iteration at a place: as before the next one, or as in the end.
+/// What the candidates are after the iteration at a place: as before the next one, or as in the end.
 pub fn states_behind<const P: usize>(values: &SheetValuesAt<P>, i: usize) -> &States
     requires printable { IsPrintable P values.now }
     requires place { i < length values.now.rows }

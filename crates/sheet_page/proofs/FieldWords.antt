@@ -41,7 +41,7 @@ states_say Withdrawn IsElected e = absurd (omega (arith, ap letter e))
 states_say Withdrawn Defeated e = absurd (omega (arith, ap letter e))
 states_say Withdrawn Withdrawn e = refl
 
--- the candidate that a step defeats stands among n, at this place
+-- the candidate that a step defeats is among n, at this place
 defeated_place : (n c : ℕ) (tied : List Bool) → length tied ≡ n → HasTiedFor n (Defeat c) tied → c - 1 < n
 defeated_place n c tied long is =
     elim (cases_Bool (nat_lt (c - 1) n)) [

@@ -1,4 +1,4 @@
--- Where a text of JSON ends, whatever stands behind it.
+-- Where a text of JSON ends, whatever is after it.
 use Rattle.std.proofs.Common.{◌≡◌, ◌∙◌, refl, sym, ap, ℕ, ◌+◌, ◌*◌, ◌<◌, ◌≤◌, ◌^◌, ◌==◌, ◌||◌, Bool, true}
 use Rattle.std.proofs.Common.{false, cond, not, arith, List, [], ◌∷◌, ◌++◌}
 use Rattle.std.proofs.Common.{decimal, subst, length, inl, inr}
@@ -34,7 +34,7 @@ text_and text rest = Some (text, rest)
 none : (t r a : List ℕ) → no_text ≡ text_and t r → no_text ≡ text_and t (r ++ a)
 none t r a e = cc
 
--- bytes behind what a string has behind it
+-- bytes after what a string has after it
 abbrev behind : List ℕ → Read → Read
 behind a None = None
 behind a (Some read) = Some (read.0, read.1 ++ a)
@@ -50,7 +50,7 @@ rest_in (Some read) = read.1
 there : (text rest t r a : List ℕ) → text_and text rest ≡ text_and t r → text_and text (rest ++ a) ≡ text_and t (r ++ a)
 there text rest t r a e = ap (behind a) e
 
--- bytes behind a string change nothing of its text
+-- bytes after a string change nothing of its text
 read-front :
     (bytes : List ℕ) (spot : Spot) (text t r a : List ℕ) → read_on text spot bytes ≡ Some (t, r)
     → read_on text spot (bytes ++ a) ≡ Some (t, r ++ a)

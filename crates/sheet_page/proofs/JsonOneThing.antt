@@ -46,17 +46,17 @@ not-first y k q a b is text e =
 no-name : (key name a b : List ℕ) → IsString key name → 125 ∷ a ≡ name ++ b → ⊥
 no-name key name a b is e = omega (arith, begin-alike 5 0 (125 ∷ []) name a b refl (string-begins key name is) e)
 
--- pieces as the whole of a text, and what stands behind it
+-- pieces as the whole of a text, and what is after it
 whole :
     {s t u v : List ℕ} (a b : List ℕ) → s ≡ u → t ≡ v → s ++ a ≡ t ++ b → u ++ a ≡ v ++ b
 whole a b is other e = sym (ap (λ (l : List ℕ). l ++ a) is) ∙ e ∙ ap (λ (l : List ℕ). l ++ b) other
 
--- a key, a colon and a value, and what stands behind them
+-- a key, a colon and a value, and what is after them
 parted :
     (piece name text rest : List ℕ) → piece ≡ name ++ 58 ∷ text → piece ++ rest ≡ name ++ 58 ∷ (text ++ rest)
 parted piece name text rest is = ap (λ (l : List ℕ). l ++ rest) is ∙ append_assoc name (58 ∷ text) rest
 
--- ---- one value, whatever stands behind it
+-- ---- one value, whatever is after it
 
 mutual
   pub value-one :

@@ -1,4 +1,4 @@
--- Parts of a text of JSON, one behind another.
+-- Parts of a text of JSON, one after another.
 use Rattle.std.proofs.Common.{◌≡◌, ◌∙◌, refl, sym, ap, ℕ, ◌+◌, ◌<◌, ◌≤◌, List, [], ◌∷◌, ◌++◌, map, arith}
 use Rattle.std.proofs.Common.{append_assoc, append-nil}
 use Rattle.std.specs.Prelude.{zero, suc}
@@ -11,7 +11,7 @@ use Rattle.sheet_page.specs.JsonValues.{items_of, said}
 use Rattle.sheet_page.specs.Values.{all_places}
 use Rattle.sheet_page.proofs.JsonReads.{strings_read}
 
--- parts one behind another, and bytes behind them
+-- parts one after another, and bytes after them
 abbrev pub onto : List (List ℕ) → List ℕ → List ℕ
 onto [] rest = rest
 onto (part ∷ parts) rest = part ++ onto parts rest
@@ -32,7 +32,7 @@ comma zero some = absurd (omega (arith, some))
 comma (suc a) some = refl
 
 module _ (j g : ℕ → List ℕ) (is : (p : ℕ) → j p ≡ comma_at p ++ g p) (rest : List ℕ) where
-  -- what stands behind the first item of a list, from this place on
+  -- what is after the first item of a list, from this place on
   others-written :
       (a n : ℕ) → 1 ≤ a
       → flat_map j (range_with_len a n) ++ 93 ∷ rest ≡ others_closed (map g (range_with_len a n)) 93 ++ rest

@@ -54,7 +54,7 @@ hex_is d small =
 
 -- ---- a byte
 
--- the number that two digits behind two zeros give
+-- the number that two digits after two zeros give
 abbrev number : (first second : ℕ) → ℕ
 number first second = (0 * 16 + hex_value first) * 16 + hex_value second
 
@@ -106,7 +106,7 @@ read_escaped done (b ∷ bytes) rest =
     ∙ read_escaped (done ++ b ∷ []) bytes rest
     ∙ ap (λ (l : List ℕ). Some (l, rest)) (append_assoc done (b ∷ []) bytes)
 
--- a whole string, and bytes behind it
+-- a whole string, and bytes after it
 pub strings_read : (text rest : List ℕ) → read_string (string_text text ++ rest) ≡ Some (readable text, rest)
 strings_read text rest =
     ap (read_on [] Between) (append_assoc (escaped escape (readable text)) (34 ∷ []) rest) ∙ read_escaped [] (readable text) rest

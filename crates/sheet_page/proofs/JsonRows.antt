@@ -1,4 +1,4 @@
--- What the JSON of an iteration says of it. 44 is the comma, and 93 the bracket behind a list.
+-- What the JSON of an iteration says of it. 44 is the comma, and 93 the bracket after a list.
 use Rattle.std.proofs.Common.{◌≡◌, ◌∙◌, refl, sym, ap, ℕ, ◌+◌, ◌/◌, ◌%◌, ◌<◌, ◌≤◌, zero, suc, List, [], ◌∷◌, ◌++◌}
 use Rattle.std.proofs.Common.{true, get_or, length, append_assoc, arith}
 use Rattle.std.proofs.lemmas.Bool.{and_parts, ltb-true}

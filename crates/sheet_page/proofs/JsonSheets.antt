@@ -1,4 +1,4 @@
--- What JSON says of a sheet. 93 is the bracket behind a list, and 125 the brace behind the whole.
+-- What JSON says of a sheet. 93 is the bracket after a list, and 125 the brace after the whole.
 use Rattle.std.proofs.Common.{◌≡◌, ◌∙◌, refl, sym, ap, subst, ℕ, ◌+◌, ◌<◌, zero, suc, List, [], ◌∷◌, ◌++◌}
 use Rattle.std.proofs.Common.{get_or, map, length, arith}
 use Rattle.std.proofs.Math.ListN.{length-map}
@@ -58,7 +58,7 @@ heads_of v w =
     Bytes (codes "{\"title\":") ∷ Strings v.title w.title ∷ Bytes (codes ",\"seats\":") ∷ Numbers v.seats w.seats
     ∷ Bytes (codes "\"ballots\":") ∷ Numbers v.ballots w.ballots ∷ Bytes (codes "\"candidates\":[") ∷ []
 
--- what stands behind the list of candidates
+-- what is after the list of candidates
 abbrev behind : (places : ℕ) → SheetList → List ℕ
 behind places v = flat_map (iteration_at places v) (all_places (length v.rows)) ++ 93 ∷ 125 ∷ 10 ∷ []
 

@@ -15,7 +15,7 @@ use Rattle.sheet_page.specs.Values.{all_places}
 use Rattle.sheet_page.proofs.AmountTexts.{heads}
 use Rattle.sheet_page.proofs.JsonReads.{strings_read}
 
--- ---- a number, and a comma behind it
+-- ---- a number, and a comma after it
 
 abbrev IsDigit : ℕ → Type 0
 IsDigit b = (48 ≤ b) × (b ≤ 57)
@@ -50,7 +50,7 @@ numbers_cut n m rest others small few e =
 
 -- ---- a string, and a truth
 
--- what was read, and what stands behind it
+-- what was read, and what is after it
 abbrev text_in : Option (List ℕ × List ℕ) → List ℕ
 text_in None = []
 text_in (Some reading) = reading.0
@@ -77,14 +77,14 @@ truths_cut false false rest others e = (refl, append_cancel_left (truth false) r
 
 -- ---- parts of two texts
 
--- what stands at a place of two texts: the same bytes, or numbers with a comma behind each, or strings, or truths
+-- what is at a place of two texts: the same bytes, or numbers with a comma after each, or strings, or truths
 pub data Twin : Type 0 where
   Bytes : (bytes : List ℕ) → Twin
   Numbers : (n m : ℕ) → Twin
   Strings : (t u : List ℕ) → Twin
   Truths : (a b : Bool) → Twin
 
--- the parts of the one text, and what stands behind them
+-- the parts of the one text, and what is after them
 abbrev pub left : List Twin → List ℕ → List ℕ
 left [] rest = rest
 left (Bytes bytes ∷ twins) rest = bytes ++ left twins rest
@@ -135,7 +135,7 @@ twins_cut (Truths a b ∷ twins) rest others fit e =
 
 -- ---- lists of items
 
--- Items of two lists, with a bracket behind each list: no item begins with the bracket, and items at one
+-- Items of two lists, with a bracket after each list: no item begins with the bracket, and items at one
 -- place that begin the same bytes
 -- say the same.
 module _

@@ -91,7 +91,7 @@ json_not_text same =
     let first : 106 ≡ 116 = first_byte 106 116 (codes "son") (codes "ext") same in
     omega (arith, first)
 
--- names of formats that are behind `--as`, and nothing behind them
+-- names of formats that are after `--as`, and nothing after them
 unlike : (a b : Word) → (a ≡ b → ⊥) → codes "--as" ∷ a ∷ [] ≡ codes "--as" ∷ b ∷ [] → ⊥
 unlike a b apart same = apart (second a b same)
   where
@@ -133,7 +133,7 @@ not_none MarkedCsv words none some = cc
 not_none Json words none some = cc
 not_none Text words none some = cc
 
--- and begin with `--as`, unless the mark stands first: 97 and 109 are the letters behind the hyphens
+-- and begin with `--as`, unless the mark is first: 97 and 109 are the letters after the hyphens
 third_letter : (a b : ℕ) (front other : List ℕ) (words more : List Word)
     → (45 ∷ 45 ∷ a ∷ front) ∷ words ≡ (45 ∷ 45 ∷ b ∷ other) ∷ more → a ≡ b
 third_letter a b front other words more same = cc

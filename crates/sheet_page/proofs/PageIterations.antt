@@ -24,7 +24,7 @@ use Rattle.sheet_page.proofs.PageTexts.{in_page_at}
 use Rattle.sheet_page.proofs.PageWalks.{no_part, no_parts, picked, behind_nothing, found, found_each, found_if}
 use Rattle.sheet_page.proofs.WholeRounds.{of_round, all_rounds}
 
--- what stands in an iteration
+-- what is in an iteration
 abbrev iteration_within : (places : ℕ) → SheetList → Row → Trees
 iteration_within places v row = all (iteration_head places row ∷ each (standing_at places row) (all_places (length v.names)) ∷ [])
 
@@ -51,7 +51,7 @@ module _ (places : ℕ)
           found_if h (codes "dl") [] (is_of_round v.rows last i) (iteration places v (row_at v.rows i))
           ∙ ap (λ x. if is_of_round v.rows last i then x ∷ [] else []) (is (row_at v.rows i))
 
-  -- all of them, one behind another
+  -- all of them, one after another
   row_by_row : flat_map said (all_places (length v.rows)) ≡ map g v.rows
   row_by_row =
       flat_map_single (λ i. g (row_at v.rows i)) (all_places (length v.rows))
@@ -77,7 +77,7 @@ module _ (places : ℕ)
 
 -- ---- the candidates of an iteration
 
--- what the elements of a name say, behind the line of the iteration
+-- what the elements of a name say, after the line of the iteration
 standings : (places : ℕ) (name : List ℕ) (v : SheetList) (row : Row) →
     texts_along (name ∷ []) (followed (each (standing_at places row) (all_places (length v.names))) Nothing)
     ≡ flat_map (λ p. if concerns row p then texts_along (name ∷ []) (standing_of places row p) else []) (all_places (length v.names))

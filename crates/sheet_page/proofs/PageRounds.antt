@@ -12,7 +12,7 @@ use Rattle.sheet_page.proofs.PageWalks.{shifted, ends_behind, first_ends}
 use Rattle.sheet_page.proofs.RoundPlaces.{number_of}
 use Rattle.sheet_page.proofs.WholeRounds.{of_round}
 
--- ---- a round behind a first iteration
+-- ---- a round after a first iteration
 
 tests_shifted : (p q : ℕ → Bool) → ((i : ℕ) → p (suc i) ≡ q i) → (a n : ℕ)
     → list_all p (range_with_len (suc a) n) ≡ list_all q (range_with_len a n)
@@ -59,7 +59,7 @@ module _ {X Y : Type 0} (f : Row → List X) (say : List X → Y) where
   abbrev has : List Row → (last : ℕ) → List X
   has rows last = of_round rows (λ i. f (row_at rows i)) last
 
-  -- what is said of it, if x stands before the first round
+  -- what is said of it, if x is before the first round
   abbrev said_at : List X → List Row → (last : ℕ) → List Y
   said_at x rows last = if ends_round rows last then say ((if is_of_round rows last 0 then x else []) ++ has rows last) ∷ [] else []
 

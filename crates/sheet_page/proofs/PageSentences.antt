@@ -106,7 +106,7 @@ end_texts v =
 
 -- ---- of the promise
 
--- the text of trees behind one another
+-- the text of trees after one another
 text_followed : (trees others : Trees) → text_in (followed trees others) ≡ text_in trees ++ text_in others
 text_followed Nothing others = refl
 text_followed (Text text behind) others =
@@ -172,7 +172,7 @@ bound_text places v (Some row) =
 
 -- ---- of a page
 
--- what stands in the part of the result
+-- what is in the part of the result
 abbrev result_within : SheetList → Trees
 result_within v = all (result_title ∷ end_list v ∷ outcome_list v ∷ [])
 

@@ -30,7 +30,7 @@ use Rattle.sheet_page.proofs.PageWalks.{no_part, no_parts, behind_nothing, found
 -- ---- what a line says of the rounds
 
 module _ (places : ℕ) (name : List ℕ) (v : SheetList) (entry : Entry) where
-  -- the cells of a line, behind its head
+  -- the cells of a line, after its head
   abbrev behind : Trees
   behind = followed (cells Alone places v entry) Nothing
 
@@ -72,7 +72,7 @@ module _ (places : ℕ) (name : List ℕ) (v : SheetList) (entry : Entry) where
 
 -- ---- amounts
 
--- both parts of a text, and what stands behind it
+-- both parts of a text, and what is after it
 two_parts : (text : List ℕ) (n : ℕ) (behind : List ℕ) → take n text ++ ((drop n text ++ []) ++ behind) ≡ text ++ behind
 two_parts text n behind =
     ap (λ l. take n text ++ (l ++ behind)) (append-nil (drop n text))
@@ -93,7 +93,7 @@ vote_said places row p =
 
 -- ---- the lines
 
--- what stands in the lines of the quotas, of what is left, and of a candidate
+-- what is in the lines of the quotas, of what is left, and of a candidate
 abbrev quotas_within : (places : ℕ) → SheetList → Trees
 quotas_within places v = all (line_head (codes "Quota") ∷ cells Alone places v Quota ∷ [])
 

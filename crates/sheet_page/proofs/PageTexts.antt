@@ -1,4 +1,4 @@
--- What stands on a page of its sheet.
+-- What is on a page of its sheet.
 use Rattle.std.proofs.Common.{◌≡◌, ◌∙◌, refl, sym, ap, ℕ, ◌+◌, Bool, true, false, List, [], ◌∷◌, ◌++◌}
 use Rattle.std.proofs.Common.{map, length, append-nil, append_assoc}
 use Rattle.std.specs.Prelude.{if◌then◌else◌, codes, decimal, nat_eq}
@@ -125,7 +125,7 @@ module _ (places : ℕ) {X : Type 0} (h : Trees → X) (path : List (List ℕ)) 
 abbrev items : Trees → List (List ℕ)
 items = found text_in (codes "li") []
 
--- a candidate with its number, and what stands behind it
+-- a candidate with its number, and what is after it
 pub called_apart : (name : List ℕ) (number : ℕ) (behind : List ℕ)
     → (name ++ []) ++ (codes " (" ++ (decimal number ++ (codes ")" ++ behind)))
     ≡ (name ++ (codes " (" ++ (decimal number ++ codes ")"))) ++ behind

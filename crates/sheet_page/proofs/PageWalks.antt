@@ -39,7 +39,7 @@ picked test f (x ∷ xs) = by (test x) (picked test f xs)
     by true more = ap (λ ys. f x ∷ ys) more
     by false more = more
 
--- ---- trees one behind another
+-- ---- trees one after another
 
 pub behind_nothing : (trees : Trees) → followed trees Nothing ≡ trees
 behind_nothing Nothing = refl
@@ -82,7 +82,7 @@ module _ {X : Type 0} (h : Trees → X) (name : List ℕ) (path : List (List ℕ
   found_each tree (x ∷ items) =
       found_followed (tree x) (each tree items) ∙ ap (λ l. found (tree x) ++ l) (found_each tree items)
 
-  -- in a tree that stands there if a test holds
+  -- in a tree that is there if a test holds
   pub found_if : (b : Bool) (tree : Trees) → found (if b then tree else Nothing) ≡ (if b then found tree else [])
   found_if true tree = refl
   found_if false tree = refl
@@ -116,7 +116,7 @@ pub first_ends : (row next : Row) (rows : List Row) → ends_round (row ∷ next
 first_ends row next rows =
     ap (λ b. b || not (nat_eq row.round next.round)) (ne_eqb 1 (length (row ∷ next ∷ rows)) (λ e. omega (arith, e)))
 
--- an iteration with what the candidates are behind it
+-- an iteration with what the candidates are after it
 abbrev settled_in : List Row → (last : List State) → (i : ℕ) → Row
 settled_in rows last i = settled (row_at rows i) (if nat_eq (i + 1) (length rows) then last else (row_at rows (i + 1)).states)
 

@@ -34,7 +34,7 @@ items-more g xs i d below =
     ∙ flat_map-append g (take i xs) (get_or xs i d ∷ [])
     ∙ ap (λ (l : List ℕ). flat_map g (take i xs) ++ l) (append-nil (g (get_or xs i d)))
 
--- behind bytes that were handed to the sink, what a pen writes
+-- after bytes that were handed to the sink, what a pen writes
 behind :
     {places : ℕ} {S : Type 0} (k : Ghosts S) (a : S) (q r : Pen places S) (first second : List ℕ)
     (done : Result (Unit {0}) Failed) → q.done ≡ done → Writes k.written k.faults a q.sink.now first done
@@ -47,7 +47,7 @@ behind {places} {S} k a q r first second (Err stop) is stopped next =
     (subst (λ (s : Result (Unit {0}) Failed). Writes k.written k.faults a q.sink.now (first ++ second) s) (sym is)
     (stops {T = Unit {0}} second (Err stop) refl stopped))
 
--- one piece of writing behind another
+-- one piece of writing after another
 pub later :
     {places : ℕ} {S : Type 0} {k : Ghosts S} {p q r : Pen places S} {first second : List ℕ}
     → Prints k p q first → Prints k q r second → Prints k p r (first ++ second)

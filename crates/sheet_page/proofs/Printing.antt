@@ -5,7 +5,7 @@ use Rattle.page_tree.specs.Trees.{Attribute, Trees, Nothing, Text, Element, Void
 use Rattle.page_tree.specs.Print.{attribute_text, shown, opening, closing, printed}
 use Rattle.sheet_page.specs.Trees.{all, each, el}
 
--- what trees that stand behind one another print
+-- what trees that stand after one another print
 pub printed-followed : (trees others : Trees) → printed (followed trees others) ≡ printed trees ++ printed others
 printed-followed Nothing others = refl
 printed-followed (Text text behind) others =
@@ -23,17 +23,17 @@ printed-followed (Void name attributes behind) others =
     ap (λ (l : List ℕ). opening name attributes ++ l) (printed-followed behind others)
     ∙ sym (append_assoc (opening name attributes) (printed behind) (printed others))
 
--- the pieces of attributes, and others behind them
+-- the pieces of attributes, and others after them
 abbrev pub attribute_parts : List Attribute → List (List ℕ) → List (List ℕ)
 attribute_parts [] rest = rest
 attribute_parts (attribute ∷ attributes) rest = attribute_text attribute ∷ attribute_parts attributes rest
 
--- the pieces of the start of an element, and others behind them: one piece if it has no attributes
+-- the pieces of the start of an element, and others after them: one piece if it has no attributes
 abbrev pub started : (name : List ℕ) → List Attribute → List (List ℕ) → List (List ℕ)
 started name [] rest = opening name [] ∷ rest
 started name (attribute ∷ attributes) rest = (60 ∷ name) ∷ attribute_parts (attribute ∷ attributes) ((62 ∷ []) ∷ rest)
 
--- the pieces of a tree, and others behind them
+-- the pieces of a tree, and others after them
 abbrev pub parts : Trees → List (List ℕ) → List (List ℕ)
 parts Nothing rest = rest
 parts (Text text behind) rest = shown text ∷ parts behind rest
@@ -85,7 +85,7 @@ joined-parts (Void name attributes behind) rest =
 pub leaf : (trees : Trees) → joined (parts trees []) ≡ printed trees
 leaf trees = joined-parts trees [] ∙ append-nil (printed trees)
 
--- trees one behind another, and bytes behind them
+-- trees one after another, and bytes after them
 abbrev pub onto : List Trees → List ℕ → List ℕ
 onto [] rest = rest
 onto (tree ∷ trees) rest = printed tree ++ onto trees rest
@@ -105,7 +105,7 @@ wrapped name attributes trees =
     ap (λ (l : List ℕ). opening name attributes ++ l)
     (ap (onto trees) (sym (append-nil (closing name))) ∙ onto-all trees (closing name ++ []))
 
--- two trees, one behind the other
+-- two trees, one after the other
 pub printed-two : (tree other : Trees) → printed tree ++ printed other ≡ printed (all (tree ∷ other ∷ []))
 printed-two tree other =
     sym (printed-followed tree (followed other Nothing)
@@ -126,7 +126,7 @@ pub enclosed :
 enclosed name attributes within =
     ap (λ (l : List ℕ). opening name attributes ++ (printed within ++ l)) (sym (append-nil (closing name)))
 
--- trees, tree by tree, with the last one behind them
+-- trees, tree by tree, with the last one after them
 pub one_by_one : (trees : List Trees) (last : Trees) → onto trees (printed last) ≡ printed (all (trees ++ last ∷ []))
 one_by_one [] last = sym (printed-followed last Nothing ∙ append-nil (printed last))
 one_by_one (tree ∷ trees) last =

@@ -44,7 +44,7 @@ same_runs f g k (suc n) (suc m) rest others nf ng some few small fresh also e =
     fresh also first.1 in
     (ap suc more.0, (λ i. first.0 i ∷ more.1 i), more.2)
 
--- two iterations with what stands behind them
+-- two iterations with what is after them
 pub same_iterations : (f g : ℕ → List (List ℕ)) (n m : ℕ) (rest others : List (List (List ℕ))) → IsNumbered f → IsNumbered g
     → 1 ≤ n → n ≤ 250 → 1 ≤ m → m ≤ 250 → IsFresh rest → IsFresh others
     → map f (all_places n) ++ rest ≡ map g (all_places m) ++ others

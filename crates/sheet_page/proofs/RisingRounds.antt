@@ -31,7 +31,7 @@ module _
       let high : number rows k ≤ number rows last = rises rows never k last (last - k) (omega arith) (omega arith) in
       eq-eqb _ _ (omega (arith, low, high, same)))
 
-  -- behind the end of a round its number doesn't come again
+  -- after the end of a round its number doesn't come again
   not_behind : ends_round rows last ≡ true → last < i → ⊥
   not_behind ends behind =
       let low : number rows last ≤ number rows (last + 1) = never last (omega arith) in

@@ -154,7 +154,7 @@ sheet-written places v =
     (list-written (iteration_at places v) (λ i. members (iteration_pieces places v.seats (row_at v.rows i)))
     (λ i. iteration-written places v.seats i (row_at v.rows i)) (125 ∷ []) (length v.rows)))
 
--- the line with the line feed behind each part
+-- the line with the line feed after each part
 pub json-opened :
     (places : ℕ) (v : SheetList)
     → json_of places v

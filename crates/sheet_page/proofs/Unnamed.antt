@@ -87,7 +87,7 @@ unnamed_followed (Element name attributes within behind) others =
 unnamed_followed (Void name attributes behind) others =
     ap (λ t. Void name (without_names attributes) t) (unnamed_followed behind others)
 
--- trees one behind another, each like its other
+-- trees one after another, each like its other
 both :
     (a b c d : Trees) → unnamed a ≡ unnamed b → unnamed c ≡ unnamed d
     → unnamed (followed a c) ≡ unnamed (followed b d)
@@ -98,7 +98,7 @@ both a b c d first rest =
 behind : (a c d : Trees) → unnamed c ≡ unnamed d → unnamed (followed a c) ≡ unnamed (followed a d)
 behind a c d rest = both a a c d refl rest
 
--- and nothing behind them
+-- and nothing after them
 alone : (a b : Trees) → unnamed a ≡ unnamed b → unnamed (followed a Nothing) ≡ unnamed (followed b Nothing)
 alone a b first = both a b Nothing Nothing first refl
 
@@ -144,7 +144,7 @@ module _ (names other : PartNames) (places : ℕ) (v : SheetList) where
   cell_alike LeftOver i = refl
   cell_alike (Candidate p) i = refl
 
-  -- a line of the table, behind its head
+  -- a line of the table, after its head
   row_alike :
       (head : Trees) (entry : Entry)
       → unnamed (el (codes "tr") [] (head ∷ cells names places v entry ∷ []))

@@ -14,7 +14,7 @@ use Rattle.sheet_page.proofs.RoundPlaces.{is_of, is_before}
 -- ---- ranges
 
 module _ {X : Type 0} where
-  -- what stands in a range, and in the range behind it
+  -- what is in a range, and in the range after it
   in_two : (f : ℕ → List X) (a n m : ℕ)
       → flat_map f (range_with_len a (n + m)) ≡ flat_map f (range_with_len a n) ++ flat_map f (range_with_len (a + n) m)
   in_two f a zero m =
@@ -185,7 +185,7 @@ module _ {X : Type 0} (rows : List Row) (f : ℕ → List X) where
       let same : k + 1 ≡ suc k = omega arith in
       (next.0, subst (λ n. IsCut next.0 n) same next.1)
 
-  -- behind the last iteration every round has ended
+  -- after the last iteration every round has ended
   pub all_rounds : flat_map at_last (all_places (length rows)) ≡ flat_map f (all_places (length rows))
   all_rounds =
       let last = cuts (length rows) (omega arith) in

@@ -7,7 +7,7 @@ use Rattle.sheet_page.specs.Values.{all_places}
 abbrev pub most_bars : ℕ
 most_bars = 24
 
--- A candidate stands in a round, where it keeps anything: who was defeated in an earlier round, or withdrew, keeps nothing.
+-- A candidate is in a round, where it keeps anything: who was defeated in an earlier round, or withdrew, keeps nothing.
 abbrev pub stands : Row → (p : ℕ) → Bool
 stands row p = not (nat_eq (slice_index row.keeps p) 0)
 

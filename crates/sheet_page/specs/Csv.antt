@@ -41,6 +41,6 @@ csv_records places v = csv_head ∷ flat_map (row_records places v) v.rows
 abbrev pub csv_of : (places : ℕ) → SheetList → List ℕ
 csv_of places v = csv_text (csv_records places v)
 
--- the table behind a byte order mark, by which spreadsheets know that it is UTF-8
+-- the table after a byte order mark, by which spreadsheets know that it is UTF-8
 abbrev pub marked_csv_of : (places : ℕ) → SheetList → List ℕ
 marked_csv_of places v = 0xEF ∷ 0xBB ∷ 0xBF ∷ csv_of places v

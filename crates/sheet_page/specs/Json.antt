@@ -12,7 +12,7 @@ use Rattle.sheet_words.specs.Facts.{by_lots, last_seats}
 use Rattle.sheet_page.specs.JsonText.{string_text}
 use Rattle.sheet_page.specs.Values.{all_places, name_at, step_word, defeats}
 
--- parts one behind another
+-- parts one after another
 abbrev pub joined : List (List ℕ) → List ℕ
 joined parts = flat_map (λ part. part) parts
 
@@ -20,7 +20,7 @@ abbrev pub truth : Bool → List ℕ
 truth true = codes "true"
 truth false = codes "false"
 
--- what stands before the item at a place of a list
+-- what is before the item at a place of a list
 abbrev pub comma_at : (p : ℕ) → List ℕ
 comma_at zero = []
 comma_at (suc p) = 44 ∷ []

@@ -20,12 +20,12 @@ mutual
     NoMember : Members
     Member : (key : List ℕ) (value : Json) (others : Members) → Members
 
--- further pieces with a comma before each, and the bracket behind them
+-- further pieces with a comma before each, and the bracket after them
 abbrev pub others_closed : List (List ℕ) → (bracket : ℕ) → List ℕ
 others_closed [] bracket = bracket ∷ []
 others_closed (piece ∷ pieces) bracket = 44 ∷ (piece ++ others_closed pieces bracket)
 
--- pieces with a comma between two, and the bracket behind them
+-- pieces with a comma between two, and the bracket after them
 abbrev pub closed : List (List ℕ) → (bracket : ℕ) → List ℕ
 closed [] bracket = bracket ∷ []
 closed (piece ∷ pieces) bracket = piece ++ others_closed pieces bracket

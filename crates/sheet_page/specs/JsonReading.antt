@@ -1,7 +1,7 @@
 -- How a string of JSON is read (RFC 8259). 34 is the quote, 92 the backslash, and 117 is `u`.
 use Rattle.std.specs.Prelude.{ℕ, ◌+◌, ◌-◌, ◌*◌, ◌==◌, ◌||◌, ◌&&◌, not, nat_lt, Bool, if◌then◌else◌, List, [], ◌∷◌, ◌++◌, Option, Some, None}
 
--- where a reader is: between two characters, behind a backslash, or behind `\u` and so many digits of the number, which give this so far
+-- where a reader is: between two characters, after a backslash, or after `\u` and so many digits of the number, which give this so far
 pub data Spot : Type 0 where
   Between : Spot
   BehindBackslash : Spot
@@ -17,7 +17,7 @@ is_hex b = is_within 48 57 b || is_within 65 70 b || is_within 97 102 b
 abbrev pub hex_value : ℕ → ℕ
 hex_value b = if nat_lt b 58 then b - 48 else if nat_lt b 71 then b - 55 else b - 87
 
--- the letters behind a backslash that stand for a byte: a quote, a backslash, a slash, and b, f, n, r, t
+-- the letters after a backslash that stand for a byte: a quote, a backslash, a slash, and b, f, n, r, t
 abbrev pub is_short : ℕ → Bool
 is_short b = b == 34 || b == 92 || b == 47 || b == 98 || b == 102 || b == 110 || b == 114 || b == 116
 
@@ -30,7 +30,7 @@ short b =
     else if b == 116 then 9
     else b
 
--- The text of a string with the bytes before this spot, and what stands behind its last quote. Nothing is read where a control byte, an
+-- The text of a string with the bytes before this spot, and what is after its last quote. Nothing is read where a control byte, an
 -- unknown escape or the end comes first; and this reader takes numbers of ASCII alone.
 abbrev pub read_on : (text : List ℕ) → Spot → List ℕ → Option (List ℕ × List ℕ)
 read_on text spot [] = None
@@ -49,7 +49,7 @@ read_on text (InNumber digits number) (b ∷ rest) =
     else if nat_lt (number * 16 + hex_value b) 128 then read_on (text ++ (number * 16 + hex_value b) ∷ []) Between rest
     else None
 
--- the text of a string, and what stands behind it
+-- the text of a string, and what is after it
 abbrev pub read_string : List ℕ → Option (List ℕ × List ℕ)
 read_string [] = None
 read_string (b ∷ rest) = if b == 34 then read_on [] Between rest else None

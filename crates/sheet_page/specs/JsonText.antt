@@ -6,7 +6,7 @@ use Rattle.page_tree.specs.Escaping.{readable, escaped}
 abbrev pub hex_digit : ℕ → ℕ
 hex_digit n = if nat_lt n 10 then 48 + n else 87 + n
 
--- a byte within quotes: a quote or a backslash stands behind a backslash, and a control byte is written by its number
+-- a byte within quotes: a quote or a backslash is after a backslash, and a control byte is written by its number
 abbrev pub escape : ℕ → List ℕ
 escape b =
     if b == 34 then codes "\\\""

@@ -51,7 +51,7 @@ TablesSayTheirSheets =
 
 -- ---- JSON
 
--- Whatever bytes a text holds, and whatever stands behind its string: who reads the string has the text, with the replacement sign for each piece
+-- Whatever bytes a text holds, and whatever is after its string: who reads the string has the text, with the replacement sign for each piece
 -- that is no UTF-8, and knows where the string ends.
 abbrev pub StringsAreReadBack : Type 0
 StringsAreReadBack = (text rest : List ℕ) → read_string (string_text text ++ rest) ≡ Some (readable text, rest)

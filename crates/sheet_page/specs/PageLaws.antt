@@ -59,7 +59,7 @@ PagesListTheirElected = (places : ℕ) (v : SheetList) → ListsItsElected place
 abbrev pub at_nine : {X : Type 0} → (places : ℕ) → X → List X
 at_nine places x = if nat_eq places 9 then x ∷ [] else []
 
--- The last iteration of each round, with what the candidates are behind it: as before the next one, or as in the end. A round
+-- The last iteration of each round, with what the candidates are after it: as before the next one, or as in the end. A round
 -- goes on as long as its number stays.
 abbrev pub round_ends : List Row → (last : List State) → List Row
 round_ends [] last = []
@@ -184,7 +184,7 @@ PagesHaveTheirIterations = (places : ℕ) (v : SheetList) → HasItsIterations p
 
 -- ---- pictures
 
--- what stands within each picture of a page
+-- what is within each picture of a page
 abbrev pub pictures_of : (places : ℕ) → SheetList → List Trees
 pictures_of places v = along (below (codes "svg" ∷ [])) (page places v)
 

@@ -11,7 +11,7 @@ text_in (Text text behind) = text ++ text_in behind
 text_in (Element name attributes within behind) = text_in within ++ text_in behind
 text_in (Void name attributes behind) = text_in behind
 
--- what stands within each element of this name, in their order; those within others are not looked for
+-- what is within each element of this name, in their order; those within others are not looked for
 abbrev pub children : (name : List ℕ) → Trees → List Trees
 children name Nothing = []
 children name (Text text behind) = children name behind
@@ -19,7 +19,7 @@ children name (Element other attributes within behind) =
     if bytes_eq other name then within ∷ children name behind else children name behind
 children name (Void other attributes behind) = children name behind
 
--- what stands within each element that these names lead to, each name within the one before
+-- what is within each element that these names lead to, each name within the one before
 abbrev pub along : (path : List (List ℕ)) → Trees → List Trees
 along [] trees = trees ∷ []
 along (name ∷ path) trees = flat_map (along path) (children name trees)

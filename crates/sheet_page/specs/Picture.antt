@@ -48,7 +48,7 @@ rectangle y length state =
     ∷ at (codes "height") (codes "12") ∷ []
     ) []
 
--- a candidate's vote at the end of a round, and what it is behind it
+-- a candidate's vote at the end of a round, and what it is after it
 abbrev pub label_at : (places : ℕ) → SheetList → Row → (p : ℕ) → Trees
 label_at places v row p = label places (bars_before row p * 36 + 16) (name_at v p) (p + 1) (state_word (state_at row.states p)) (slice_index row.votes p)
 

@@ -5,7 +5,7 @@ use Rattle.meek_rule.specs.Row.{Row}
 use Rattle.sheet_reader.specs.Values.{SheetList}
 use Rattle.sheet_minutes.specs.Rounds.{row_at, states_behind}
 
--- an iteration, with what the candidates are behind it
+-- an iteration, with what the candidates are after it
 abbrev pub settled : Row → (behind : List State) → Row
 settled row behind = record row { states = behind }
 

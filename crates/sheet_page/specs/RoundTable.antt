@@ -17,14 +17,14 @@ use Rattle.sheet_page.specs.Values.{all_places, name_at}
 
 -- ---- amounts
 
--- The text of an amount in two parts: up to the second digit behind the point, and the other digits.
+-- The text of an amount in two parts: up to the second digit after the point, and the other digits.
 abbrev pub main_digits : (places : ℕ) → (text : List ℕ) → List ℕ
 main_digits places text = take (length text - (places - 2)) text
 
 abbrev pub other_digits : (places : ℕ) → (text : List ℕ) → List ℕ
 other_digits places text = drop (length text - (places - 2)) text
 
--- an amount, the second part in smaller type, and what stands behind it
+-- an amount, the second part in smaller type, and what is after it
 abbrev pub figure : (main other : List ℕ) → List Trees → List Trees
 figure main other behind = words main ∷ el (codes "small") [] (words other ∷ []) ∷ behind
 
@@ -39,7 +39,7 @@ abbrev pub standing_cell : (main other state : List ℕ) → Trees
 standing_cell main other state =
     el (codes "td") [] (figure main other (words (codes " ") ∷ el (codes "em") [] (words state ∷ []) ∷ []))
 
--- a candidate's vote at the end of a round, and what it is behind it
+-- a candidate's vote at the end of a round, and what it is after it
 abbrev pub vote_cell : (places : ℕ) → Row → (p : ℕ) → Trees
 vote_cell places row p =
     standing_cell (main_digits places (text_of places (slice_index row.votes p))) (other_digits places (text_of places (slice_index row.votes p)))

@@ -86,8 +86,8 @@ abbrev pub promise_lines : (places : ℕ) → SheetList → List (List ℕ)
 promise_lines places v = lots_said v ++ bound_said places v (first_defeat (scale places) v.rows) ∷ []
 
 -- The part of each round has the sentences of its iterations, each once and in their order; the part of the result has those of
--- the end, and what became of each candidate; behind it stands at nine places that of the promise; and no other part has any. A round
--- has the iterations that stand one behind another, and together the rounds have all.
+-- the end, and what became of each candidate; after it is at nine places that of the promise; and no other part has any. A round
+-- has the iterations that stand one after another, and together the rounds have all.
 pub record SaysItsDecisions (places : ℕ) (v : SheetList) : Type 0 where
   pub items :
       items_of places v

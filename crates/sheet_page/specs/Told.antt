@@ -18,7 +18,7 @@ use Rattle.sheet_page.specs.Values.{all_places}
 abbrev pub spoken : (text : List ℕ) → Trees
 spoken text = if list_all is_ascii text then words text else isolated text
 
--- a sentence as an item of a list, its texts one behind another
+-- a sentence as an item of a list, its texts one after another
 abbrev pub item : (texts : List (List ℕ)) → Trees
 item texts = el (codes "li") [] (map spoken texts)
 

@@ -4,7 +4,7 @@ use Rattle.std.specs.List.{flat_map}
 use Rattle.page_tree.specs.Trees.{Attribute, Trees, Nothing, Text, Element, Void, followed}
 use Rattle.page_tree.specs.Print.{printed}
 
--- trees one behind another
+-- trees one after another
 abbrev pub all : List Trees → Trees
 all [] = Nothing
 all (tree ∷ trees) = followed tree (all trees)

@@ -13,7 +13,7 @@ use Rattle.sheet_page.specs.Promised.{promise_part}
 use Rattle.sheet_page.specs.SentenceLaws.{lots_said, promise_lines}
 
 -- Control bytes stand by their numbers, with digits of base 16 in small letters. A quote and a backslash stand
--- behind a backslash; a slash and the byte 127 stand as they are.
+-- after a backslash; a slash and the byte 127 stand as they are.
 pub record WorkedStrings : Type 0 where
   pub controls : escaped escape (0 ∷ 9 ∷ 10 ∷ 26 ∷ 31 ∷ []) ≡ codes "\\u0000\\u0009\\u000a\\u001a\\u001f"
   pub others : escaped escape (codes "a/b \"c\" \\d" ++ 127 ∷ []) ≡ codes "a/b \\\"c\\\" \\\\d" ++ 127 ∷ []
@@ -23,8 +23,8 @@ abbrev pub worked_value : Json
 worked_value =
     object ((codes "list", array (Whole 10 ∷ Truth false ∷ array [] ∷ [])) ∷ (codes "marks", Text (codes "\"\\/")) ∷ [])
 
--- An object and lists are written with commas between two. A string may have a slash behind a backslash, though none of a sheet has. No comma
--- stands behind the last of a list, and no zero before a number.
+-- An object and lists are written with commas between two. A string may have a slash after a backslash, though none of a sheet has. No comma
+-- is after the last of a list, and no zero before a number.
 pub record WorkedTexts : Type 0 where
   pub whole : IsTextOf worked_value (codes "{\"list\":[10,false,[]],\"marks\":\"\\\"\\\\\\/\"}")
   pub no_comma_at_the_end : ¬ IsTextOf (array (Whole 1 ∷ [])) (codes "[1,]")

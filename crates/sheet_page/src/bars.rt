@@ -61,7 +61,7 @@ fn write_bar_at<const P: usize, K: Sink>(
     }
 }
 
-/// A candidate's vote at the end of a round, and what it is behind it.
+/// A candidate's vote at the end of a round, and what it is after it.
 fn write_bar<const P: usize, K: Sink>(
     pen: &mut Pen<'_, P, K>,
     values: &SheetValuesAt<P>,

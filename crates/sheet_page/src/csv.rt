@@ -35,7 +35,7 @@ pub(crate) fn write_csv<const P: usize, K: Sink>(
     pen.end()
 }
 
-/// Writes the same table behind a byte order mark.
+/// Writes the same table after a byte order mark.
 pub(crate) fn write_marked_csv<const P: usize, K: Sink>(
     values: &SheetValuesAt<P>,
     sink: &mut K,

@@ -2,7 +2,7 @@
 ghost use Rattle.std.specs.Prelude.{◌≡◌, ◌≤◌};
 ghost use Rattle.sheet_page.specs.RoundTable.{main_digits, other_digits};
 
-/// The text of an amount up to the second digit behind the point.
+/// The text of an amount up to the second digit after the point.
 pub(crate) fn main_digits<const P: usize>(text: &[u8]) -> &[u8]
     requires places { 2 ≤ P }
     ensures { result.now ≡ main_digits P text.now }
@@ -11,7 +11,7 @@ pub(crate) fn main_digits<const P: usize>(text: &[u8]) -> &[u8]
     &text[..end]
 }
 
-/// The digits of the text of an amount behind these.
+/// The digits of the text of an amount after these.
 pub(crate) fn other_digits<const P: usize>(text: &[u8]) -> &[u8]
     requires places { 2 ≤ P }
     ensures { result.now ≡ other_digits P text.now }

@@ -17,7 +17,7 @@ use candidate_roll::States;
 use fixed_place::Amount;
 use meek_rule::Row;
 
-/// A candidate's vote in the last iteration of a round, and what it is behind it.
+/// A candidate's vote in the last iteration of a round, and what it is after it.
 pub(crate) fn write_vote<const P: usize, K: Sink>(
     pen: &mut Pen<'_, P, K>,
     row: &Row<P>,
@@ -52,7 +52,7 @@ pub(crate) fn write_amount<const P: usize, K: Sink>(pen: &mut Pen<'_, P, K>, amo
     );
 }
 
-/// Digits as a cell, those behind the first places small.
+/// Digits as a cell, those after the first places small.
 fn write_figure<'x, const P: usize, K: Sink>(
     pen: &mut Pen<'_, P, K>,
     main: &'x [u8],

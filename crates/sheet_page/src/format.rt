@@ -5,7 +5,7 @@ pub enum Format {
     Html,
     /// A table of all iterations, for spreadsheets.
     Csv,
-    /// The same table behind a byte order mark, which tells spreadsheets that it is UTF-8.
+    /// The same table after a byte order mark, which tells spreadsheets that it is UTF-8.
     MarkedCsv,
     /// All values, for programs.
     Json,

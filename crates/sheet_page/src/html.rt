@@ -36,7 +36,7 @@ pub(crate) fn write_html<const P: usize, K: Sink>(
     pen.end()
 }
 
-/// All behind the line that says that it is HTML.
+/// All after the line that says that it is HTML.
 fn write_page<const P: usize, K: Sink>(pen: &mut Pen<'_, P, K>, values: &SheetValuesAt<P>)
     requires printable { IsPrintable P values.now }
     ensures { Prints K.Sink pen.old pen.new (printed (page P values.now)) }

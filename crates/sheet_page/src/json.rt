@@ -106,7 +106,7 @@ fn write_iterations<const P: usize, K: Sink>(pen: &mut Pen<'_, P, K>, values: &S
     }
 }
 
-/// An iteration, behind a comma if it isn't the first.
+/// An iteration, after a comma if it isn't the first.
 fn write_iteration<const P: usize, K: Sink>(
     pen: &mut Pen<'_, P, K>,
     seats: u32,
@@ -240,7 +240,7 @@ fn write_lost<'x, const P: usize, K: Sink>(
     ]);
 }
 
-/// What stands before the item at a place of a list, from 0.
+/// What is before the item at a place of a list, from 0.
 pub fn comma_at(p: usize) -> &'static [u8]
     ensures { result.now ≡ comma_at p }
 {

@@ -16,7 +16,7 @@ pub(crate) fn write_string<K: Sink>(text: &[u8], sink: &mut K) -> Result<(), Fai
     write_bytes(b"\"", sink)
 }
 
-/// What stands within the quotes of a string: no quote and no backslash alone, and no control byte.
+/// What is within the quotes of a string: no quote and no backslash alone, and no control byte.
 struct InQuotes;
 
 impl Escapes for InQuotes {

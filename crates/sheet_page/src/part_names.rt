@@ -10,7 +10,7 @@ use line_text::Line;
 pub enum PartNames {
     /// The sheet has a page of its own.
     Alone,
-    /// It stands among the sheets of a day, and its freeze is in this line of the text of the day.
+    /// It is among the sheets of a day, and its freeze is in this line of the text of the day.
     OfFreeze(u64),
 }
 

@@ -29,7 +29,7 @@ use sheet_minutes::write_minutes;
 use sheet_reader::SheetValuesAt;
 use sheet_words::{Voice, write_end, write_outcomes, write_sentences_of};
 
-/// Writes pieces, with amounts of `P` places, to a sink one after another, up to the first failure: behind it nothing more is
+/// Writes pieces, with amounts of `P` places, to a sink one after another, up to the first failure: after it nothing more is
 /// written.
 #[derive(Drop)]
 pub struct Pen<'s, const P: usize, K> {
@@ -193,7 +193,7 @@ fn write_begin<K: Sink>(name: &[u8], sink: &mut K) -> Result<(), Failed>
     write_bytes(name, sink)
 }
 
-/// Writes an attribute behind a space.
+/// Writes an attribute after a space.
 fn write_with<const P: usize, K: Sink>(
     name: &[u8],
     cell: &Cell<'_, P>,

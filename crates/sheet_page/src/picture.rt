@@ -24,7 +24,7 @@ use meek_rule::Row;
 use sheet_minutes::left_over;
 use sheet_reader::SheetValuesAt;
 
-/// Writes the quota and the picture of a round, by its last iteration and the states behind it; `full`
+/// Writes the quota and the picture of a round, by its last iteration and the states after it; `full`
 /// units have the whole width.
 pub(crate) fn write_round_picture<const P: usize, K: Sink>(
     pen: &mut Pen<'_, P, K>,

@@ -20,6 +20,6 @@ pub enum Piece<'a, const P: usize> {
     Begin(&'a [u8]),
     /// An attribute, by its name.
     With(&'a [u8], Cell<'a, P>),
-    /// The end of a start, behind its attributes.
+    /// The end of a start, after its attributes.
     Within,
 }

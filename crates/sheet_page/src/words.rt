@@ -7,7 +7,7 @@ ghost use Rattle.sheet_page.specs.Words.{TakesFormat, words_of};
 use crate::Format;
 use meek_words::WordsStop;
 
-/// The format of words that are none at all, or just `--as` and a format's name; before or behind these may
+/// The format of words that are none at all, or just `--as` and a format's name; before or after these may
 /// stand `--mark`, if the name is that of the table.
 pub fn takes_format(words: &[String]) -> Result<Format, WordsStop>
     ensures { IsAsked TakesFormat (map string_bytes words.now) result }
@@ -63,7 +63,7 @@ fn are_words(
     first.as_str() == one && second.as_str() == two && third.as_str() == three
 }
 
-/// The format that a name behind `--as` stands for.
+/// The format that a name after `--as` stands for.
 fn format_of(name: &str) -> Option<Format>
     ensures { MatchOption result ((format : Format) → ¬ (codes "--as" ∷ name.now ∷ [] ≡ words_of format))
         (λ format. codes "--as" ∷ name.now ∷ [] ≡ words_of format) }

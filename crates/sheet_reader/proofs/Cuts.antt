@@ -147,7 +147,7 @@ four_parts a b c e a' b' c' e' text is other p p' q q' r r' =
     let three = cut_once 32 c c' e e' r r' two.1 in
     (one.0, two.0, three.0, three.1)
 
--- the second part is what stands behind the first space
+-- the second part is what is after the first space
 pub behind :
     (d : ℕ) (xs ys back other text : List ℕ) → text ≡ xs ++ d ∷ back → IsWithout d xs → IsWithout d ys
     → text ≡ ys ++ d ∷ other → back ≡ other

@@ -12,12 +12,12 @@ use Rattle.sheet_text.specs.Lines.{listed, marked_lines}
 pub heads : {A : Type 0} (a b : A) (xs ys : List A) → a ∷ xs ≡ b ∷ ys → (a ≡ b) × (xs ≡ ys)
 heads a b xs ys e = (cc, cc)
 
--- behind the same front
+-- after the same front
 pub behind_front : (front xs ys : List ℕ) → front ++ xs ≡ front ++ ys → xs ≡ ys
 behind_front [] xs ys e = e
 behind_front (b ∷ front) xs ys e = behind_front front xs ys (heads b b (front ++ xs) (front ++ ys) e).1
 
--- behind fronts of the same length
+-- after fronts of the same length
 pub behind_as_long : {A : Type 0} (xs ys a b : List A) → length xs ≡ length ys → xs ++ a ≡ ys ++ b → (xs ≡ ys) × (a ≡ b)
 behind_as_long [] [] a b l e = (refl, e)
 behind_as_long [] (y ∷ ys) a b l e = absurd (omega (arith, l))
@@ -73,7 +73,7 @@ next_place {X} f g p n all left rest below read other =
           (length-each_place f p ∙ sym (length-each_place g p)) whole).1,
     )
 
--- behind all places
+-- after all places
 pub behind_places :
     {X : Type 0} (f g : ℕ → X) (n : ℕ) (left rest : List X) → each_place n f ++ left ≡ each_place n g ++ rest
     → left ≡ rest
@@ -150,7 +150,7 @@ with_line word list marks lines new rest other first is = by (list_any (λ mark.
         absurd (other list new (sym (sym first ∙ is
         ∙ ap (λ (ls : List (List ℕ)). ls ++ rest) (marked_or_not word marks false e))))
 
--- who stands among the tied is a candidate
+-- who is among the tied is a candidate
 pub inside : (marks : List Bool) (p : ℕ) → mark_at marks p ≡ true → p < length marks
 inside [] p e = absurd cc
 inside (m ∷ marks) zero e = omega arith

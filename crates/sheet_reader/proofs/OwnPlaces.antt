@@ -20,7 +20,7 @@ use Rattle.sheet_reader.proofs.ReadSheet.{behind_counts, behind_title, outcomes_
 use Rattle.sheet_reader.proofs.RowLines.{row_not_result, rows_cons}
 use Rattle.sheet_reader.proofs.SheetLines.{form_lines}
 
--- an amount has as many digits behind its point as there are places
+-- an amount has as many digits after its point as there are places
 amount_says :
     (one other u w : ℕ) → one ≤ 9 → other ≤ 9 → u ≤ most one → w ≤ most other → text_of one u ≡ text_of other w
     → one ≡ other

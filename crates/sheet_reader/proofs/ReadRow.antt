@@ -1,5 +1,5 @@
 -- An iteration that is read part by part: its numbers, the lines of its candidates, its amounts, what it decided. Each part
--- is as long as that of any other iteration of as many candidates, so behind it the same is left to be read.
+-- is as long as that of any other iteration of as many candidates, so after it the same is left to be read.
 use Rattle.std.proofs.Common.{◌≡◌, ℕ, List, ◌∷◌, ◌++◌, length, sym, ◌∙◌}
 use Rattle.meek_rule.specs.Row.{Row}
 use Rattle.sheet_text.specs.Lines.{row_lines}
@@ -7,7 +7,7 @@ use Rattle.sheet_reader.specs.Form.{IsPrintableRow}
 use Rattle.sheet_reader.specs.Parts.{number_line_of, standing_lines, amount_lines_of, decision_lines_of}
 use Rattle.sheet_reader.proofs.RowLines.{row_is}
 
--- what stands behind the amounts of a row, behind the lines of its candidates, and behind its numbers
+-- what is after the amounts of a row, after the lines of its candidates, and after its numbers
 abbrev pub behind_amounts : Row → (rest : List (List ℕ)) → List (List ℕ)
 behind_amounts row rest = decision_lines_of row.elected row.capped row.step row.tied ++ rest
 
@@ -23,7 +23,7 @@ pub in_parts :
     → lines ≡ row_lines places row ++ rest → lines ≡ number_line_of row.round row.iteration ∷ behind_numbers places n row rest
 in_parts places row rest {n} all is = is ∙ row_is places n row rest all
 
--- behind three lines, as those of the amounts
+-- after three lines, as those of the amounts
 pub behind_three : {X : Type 0} {a b c a' b' c' : X} {xs ys : List X} → a ∷ b ∷ c ∷ xs ≡ a' ∷ b' ∷ c' ∷ ys → xs ≡ ys
 behind_three e = cc
 

@@ -20,7 +20,7 @@ pub record AreRows (places n : ℕ) (lines rest : List (List ℕ)) : Type 0 wher
   pub printable : All (IsPrintableRow places n) rows
   pub lines_are : lines ≡ rows_lines places rows ++ codes "result" ∷ rest
 
--- What is left of them behind some iterations.
+-- What is left of them after some iterations.
 rows_left :
     (places n : ℕ) (rows others : List Row) (left rest : List (List ℕ)) → All (IsPrintableRow places n) rows
     → All (IsPrintableRow places n) others → rows_lines places rows ++ left ≡ rows_lines places others ++ codes "result" ∷ rest

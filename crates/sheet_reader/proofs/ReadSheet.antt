@@ -32,7 +32,7 @@ pub at_title :
     → HasForm places bytes v → lines ≡ (codes "title " ++ v.title) ∷ behind_title places v
 at_title places bytes v lines fits e is = e ∙ form_lines places bytes v fits is
 
--- what stands behind the head that was read
+-- what is after the head that was read
 pub at_rows :
     (places : ℕ) (bytes title : List ℕ) (v : SheetList) (seats n ballots : ℕ) (lines new : List (List ℕ)) → places ≤ 9
     → lines ≡ lines_in bytes → HasForm places bytes v

@@ -78,7 +78,7 @@ decision_is elected capped step tied rest =
     ∙ ap (λ (ls : List (List ℕ)). marked_lines (codes "elected") elected ++ ls)
     (append_assoc (marked_lines (codes "capped") capped) (step_line step tied ∷ []) rest)
 
--- behind the lines of marks
+-- after the lines of marks
 pub marks_once : (word : List ℕ) (marks others : List Bool) (rest behind : List (List ℕ))
     → ((text : List ℕ) (more : List (List ℕ)) → rest ≢ (word ++ text) ∷ more)
     → ((text : List ℕ) (more : List (List ℕ)) → behind ≢ (word ++ text) ∷ more)
@@ -129,7 +129,7 @@ row_is places n row rest long =
     ∙ ap (λ (ls : List (List ℕ)). number_line_of row.round row.iteration ∷ ls)
     (append_assoc (standing_lines places n row.states row.keeps row.votes) behind rest)
 
--- what stands behind an iteration
+-- what is after an iteration
 pub behind_row :
     (places n : ℕ) (row other : Row) (rest behind : List (List ℕ)) → length row.states ≡ n → length other.states ≡ n
     → row_lines places row ++ rest ≡ row_lines places other ++ behind → rest ≡ behind

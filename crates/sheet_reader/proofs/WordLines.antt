@@ -31,25 +31,25 @@ pub line_is :
     → lines ≡ (word ++ other) ∷ new
 line_is word text other lines new is e = is ∙ ap (λ (t : List ℕ). (word ++ t) ∷ new) e
 
--- the number before a space, and what stands behind it
+-- the number before a space, and what is after it
 pub number_cut :
     (text front back other : List ℕ) (n : ℕ) → text ≡ front ++ 32 ∷ back → IsWithout 32 front → n < 2 ^ 64
     → text ≡ decimal n ++ 32 ∷ other → (front ≡ decimal n) × (back ≡ other)
 number_cut text front back other n is w small e =
     cut_once 32 front (decimal n) back other w (decimal_without 32 n (omega arith) small) (sym is ∙ e)
 
--- the word of a state before a space, and what stands behind it
+-- the word of a state before a space, and what is after it
 pub state_cut :
     (text front back other : List ℕ) (state : State) → text ≡ front ++ 32 ∷ back → IsWithout 32 front
     → text ≡ state_word state ++ 32 ∷ other → (front ≡ state_word state) × (back ≡ other)
 state_cut text front back other state is w e =
     cut_once 32 front (state_word state) back other w (word_without_space state) (sym is ∙ e)
 
--- what stands behind the same front
+-- what is after the same front
 pub behind_word : (word text rest other : List ℕ) → text ≡ word ++ rest → text ≡ word ++ other → rest ≡ other
 behind_word word text rest other one two = behind_front word rest other (sym one ∙ two)
 
--- too long to be a name, or with a byte that stands in none
+-- too long to be a name, or with a byte that is in none
 pub too_long : (most : ℕ) (bytes : List ℕ) → most < length bytes → IsName most bytes → ⊥
 too_long most bytes long is = omega (arith, long, is.short)
 
@@ -69,7 +69,7 @@ title_read (Err Malformed) most word text lines new is h =
     (subst (λ (t : List ℕ). IsName most t) (sym (same_line word text name lines new rest is e).0) named)
 title_read (Err NoMemory) most word text lines new is h = tt
 
--- what stands behind the word of a defeat
+-- what is after the word of a defeat
 pub at_defeat :
     (n : ℕ) (text defeat list : List ℕ) → text ≡ codes "step defeat " ++ defeat → text ≡ defeat_line n list
     → defeat ≡ decimal n ++ 32 ∷ (codes "tied" ++ list)
@@ -88,7 +88,7 @@ defeat_once n m text list other small few one two =
     (decimal_without 32 n (omega arith) small) (decimal_without 32 m (omega arith) few) d in
     (decimal_injective n m small few c.0, behind_front (codes "tied") list other c.1)
 
--- the number of a candidate who stands among the tied
+-- the number of a candidate who is among the tied
 pub defeated_small :
     (n len : ℕ) (tied : List Bool) → len ≤ MOST_CANDIDATES → length tied ≡ len → HasTiedFor len (Defeat n) tied → n ≤ len
 defeated_small n len tied few long has = omega (arith, has.0, long, inside tied (n - 1) has.1)

@@ -7,7 +7,7 @@ abbrev pub in_front : ℕ → List (List ℕ) → List (List ℕ)
 in_front b [] = []
 in_front b (line ∷ lines) = (b ∷ line) ∷ lines
 
--- the lines that end in a text; what stands behind the last line feed is no line
+-- the lines that end in a text; what is after the last line feed is no line
 abbrev pub lines_in : List ℕ → List (List ℕ)
 lines_in [] = []
 lines_in (b ∷ bytes) = if b == 10 then [] ∷ lines_in bytes else in_front b (lines_in bytes)

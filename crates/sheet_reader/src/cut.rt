@@ -2,7 +2,7 @@
 ghost use Rattle.std.specs.Prelude.{◌≡◌, ◌≢◌, ◌∷◌, ◌++◌, ℕ, List, IsTrue, MatchOption, ◌↔◌};
 ghost use Rattle.sheet_reader.specs.Cut.{IsWithout};
 
-/// What stands before the first such byte, and what stands behind it.
+/// What is before the first such byte, and what is after it.
 pub(crate) fn cut(text: &[u8], byte: u8) -> Option<(&[u8], &[u8])>
     ensures { MatchOption result (IsWithout byte text.now)
         (λ parts. (text.now ≡ parts.0.now ++ byte ∷ parts.1.now) × IsWithout byte parts.0.now) }
@@ -15,7 +15,7 @@ pub(crate) fn cut(text: &[u8], byte: u8) -> Option<(&[u8], &[u8])>
     None
 }
 
-/// What stands behind this front.
+/// What is after this front.
 pub(crate) fn strip<'a>(text: &'a [u8], front: &[u8]) -> Option<&'a [u8]>
     ensures { MatchOption result ((rest : List ℕ) → text.now ≢ front.now ++ rest)
         (λ rest. text.now ≡ front.now ++ rest.now) }

@@ -116,7 +116,7 @@ fn read_defeat(text: &[u8], tied: &mut Flags) -> Option<u32>
     Some(c as u32)
 }
 
-/// The number of a defeated candidate, and the list behind it.
+/// The number of a defeated candidate, and the list after it.
 fn defeat_parts(text: &[u8]) -> Option<(u64, &[u8])>
     ensures { MatchOption result
         ((c : ℕ) (list : List ℕ) → c < 2 ^ 64 → text.now ≢ defeat_line c list)

@@ -14,7 +14,7 @@ use candidate_roll::{MOST_TITLE_BYTES, Name, NameStop};
 use plain_ballots::{MOST_BALLOTS, MOST_CANDIDATES};
 use std::alloc::Global;
 
-/// What stands in a sheet before its iterations.
+/// What is in a sheet before its iterations.
 #[derive(Drop)]
 pub(crate) struct Head {
     pub title: Name<MOST_TITLE_BYTES>,

@@ -5,7 +5,7 @@ ghost use Rattle.sheet_reader.specs.LineList.{IsOfLines, lines_in};
 use crate::cut::{cut, is_same, strip};
 use std::marker::Model;
 
-/// The lines of a text that are left to be read. What stands behind the last line feed is no line.
+/// The lines of a text that are left to be read. What is after the last line feed is no line.
 #[derive(Drop)]
 pub(crate) struct Lines<'a> {
     rest: &'a [u8],
@@ -40,7 +40,7 @@ impl<'a> Lines<'a> {
         Some(line)
     }
 
-    /// What stands behind a word in the next line, which is read only where it begins with the word.
+    /// What is after a word in the next line, which is read only where it begins with the word.
     pub(crate) fn next_after(&mut self, word: &[u8]) -> Option<&'a [u8]>
         ensures { MatchOption result
             ((self.new ≡ self.old) × ((text : List ℕ) (rest : List (List ℕ)) → self.old ≢ (word.now ++ text) ∷ rest))

@@ -18,7 +18,7 @@ use crate::standing::read_state;
 use candidate_roll::{MOST_NAME_BYTES, Name, Names, State, States};
 use std::alloc::Global;
 
-/// The last states and the names of `n` candidates, where the sheet ends behind them.
+/// The last states and the names of `n` candidates, where the sheet ends after them.
 pub(crate) fn read_end(
     alloc: Global,
     lines: &mut Lines<'_>,

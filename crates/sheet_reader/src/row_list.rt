@@ -33,7 +33,7 @@ impl<const P: usize> RowList<P> {
         }
     }
 
-    /// Puts an iteration behind the others.
+    /// Puts an iteration after the others.
     pub fn push(&mut self, item: Row<P>) -> Result<(), PushBack<Row<P>>>
         ensures ok { OnOk result (self.new ≡ self.old ++ item.entry ∷ []) }
         ensures refused { OnErr result (self.new ≡ self.old) }

@@ -11,7 +11,7 @@ pub(crate) trait RowSink<const P: usize> {
     /// what taking an iteration makes of it
     ghost takes: { Self → Iteration → Self → Type 0 };
 
-    /// Takes the iteration that stands in the row. The next one is read into what it leaves there, which
+    /// Takes the iteration that is in the row. The next one is read into what it leaves there, which
     /// has as much room.
     fn take(&mut self, alloc: Global, row: &mut Row<P>) -> Result<(), NoMemory>
         requires places { (6 ≤ P) × (P ≤ 9) }

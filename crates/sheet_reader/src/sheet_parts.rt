@@ -19,7 +19,7 @@ use line_text::Line;
 use meek_rule::Row;
 use std::alloc::Global;
 
-/// What stands in a sheet around its iterations.
+/// What is in a sheet around its iterations.
 #[derive(Drop)]
 pub(crate) struct SheetParts {
     pub title: Name<MOST_TITLE_BYTES>,

@@ -124,7 +124,7 @@ module _ {S : Type 0} {w : S → Option (List ℕ)} {f : S → ℕ} {a b : S} (r
         let none : Stopped w f a b (lines_up_to places start.roll (length start.ballots) []) = rw append-nil stopped in
         stopped_in_sheet rule places start begun r start [] (leads_none rule (scale places) start) rest failed none
 
-    -- and so the count stands where it was begun
+    -- and so the count is where it was begun
     pub stands_in_head : OnErr r (StandsWhereItStopped rule places start start (w a) (w b))
     stands_in_head = on_err r (inl (refl, stopped.part))
 
@@ -155,7 +155,7 @@ module _ {S : Type 0} {w : S → Option (List ℕ)} {f : S → ℕ} {a b : S} (r
           let up_to : Stopped w f a c lines = rw lines_up_to-one (stopped_later so_far.wrote own_row) in
           stopped_in_sheet rule places start begun r next (so_far.done ++ next.row ∷ []) led rest failed up_to
 
-      -- and so the count stands behind the iteration of that row
+      -- and so the count is after the iteration of that row
       pub stands_in_row : OnErr r (StandsWhereItStopped rule places start next (w a) (w c))
       stands_in_row =
           on_err r (inr (inl (record {
@@ -177,7 +177,7 @@ module _ {S : Type 0} {w : S → Option (List ℕ)} {f : S → ℕ} {a b : S} (r
       let result = subst (λ (n : List (List ℕ)). Writes w f b c (result_lines n last) r) same writes in
       owes_sheet rule places start begun r so_far.done last whole (later c _ r so_far.wrote result)
 
--- a stop behind the last iteration
+-- a stop after the last iteration
 pub stands_ended :
     {T E : Type 0} (rule : Rule) (places : ℕ) (start now : Progress) (old new : Option (List ℕ))
     (r : Result T E) → HasEnded now → OnErr r (StandsWhereItStopped rule places start now old new)

@@ -54,7 +54,7 @@ stopped_later {w} {f} {a} {b} {c} {first} {second} done next =
       };
     }
 
--- behind lines that were written, further ones
+-- after lines that were written, further ones
 pub later :
     {S T E : Type 0} {w : S → Option (List ℕ)} {f : S → ℕ} {a b : S} {first : List (List ℕ)} (c : S)
     (second : List (List ℕ)) (r : Result T E) → Wrote w f a b first → Writes w f b c second r

@@ -23,7 +23,7 @@ sheet_lines places roll ballots rows last =
     lines_up_to places roll ballots rows ++ result_lines roll.names last
 
 -- The text is the sheet of these ballots by a rule, at so many places and with this omega: that of the rows and the
--- last states of their count. Where a price stands in place of a keep value it is printed in its place.
+-- last states of their count. Where a price is in place of a keep value it is printed in its place.
 abbrev pub IsSheetUnder : Rule → (places omega : ℕ) → List (List ℕ) → RollList → (lots : List ℕ) → List ℕ → Type 0
 IsSheetUnder rule places omega ballots roll lots text =
     (rows : List Row) × (last : List State)

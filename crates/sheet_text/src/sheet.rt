@@ -14,7 +14,7 @@ use meek_count::{Count, Turn};
 use meek_rule::Spread;
 
 /// Runs a count that was just begun to its end, and writes its sheet as it goes, each line with its line
-/// feed as one piece. The sheet is that of the rule of the count's spread. After a failure the count stands where the writing stopped.
+/// feed as one piece. The sheet is that of the rule of the count's spread. After a failure the count is where the writing stopped.
 pub fn write_sheet<const P: usize, D: Spread<P> + Drop, K: Sink>(
     count: &mut Count<'_, P, D>,
     sink: &mut K,

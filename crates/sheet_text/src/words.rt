@@ -20,7 +20,7 @@ pub(crate) fn word_of(state: State) -> &'static [u8]
     }
 }
 
-/// Begins the line of the candidate at place `p`: its number and its state, with a space behind.
+/// Begins the line of the candidate at place `p`: its number and its state, with a space after.
 #[tactic(auto, using(crate::proofs::Rooms::rooms))]
 pub(crate) fn begin_candidate(line: &mut Line, p: usize, state: State)
     requires { p < MOST_CANDIDATES }

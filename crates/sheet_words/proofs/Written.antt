@@ -15,7 +15,7 @@ use Rattle.sheet_reader.specs.Values.{SheetList}
 use Rattle.sheet_words.specs.Groups.{all_places}
 use Rattle.sheet_words.specs.Manner.{Manner, said, told}
 
--- texts that stand behind others
+-- texts that stand after others
 pub said-append : (m : Manner) (xs ys : List (List ℕ)) → said m (xs ++ ys) ≡ said m xs ++ said m ys
 unfolding said
 said-append m xs ys = flat_map-append m.voiced xs ys
@@ -43,7 +43,7 @@ pub name_is :
 name_is v w p name same got =
     sym (get_or_from_slice_get v.names p name [] (subst (λ (u : SheetList). slice_get u.names p ≡ Some name) same got))
 
--- behind texts that were said, further ones
+-- after texts that were said, further ones
 pub later :
     {S T E : Type 0} {w : S → Option (List ℕ)} {f : S → ℕ} {a b : S} (m : Manner) (xs : List (List ℕ)) (c : S)
     (ys : List (List ℕ)) (r : Result T E) → Wrote w f a b (said m xs) → Writes w f b c (said m ys) r
@@ -75,7 +75,7 @@ pub said-map :
 unfolding said
 said-map m text xs = sym (flat_map-map m.voiced text xs)
 
--- the sentences of some items, which stand behind those of others
+-- the sentences of some items, which stand after those of others
 pub mapped-append :
     {X Y : Type 0} (g : Y → List ℕ) (h : X → Y) (xs ys : List X)
     → flat_map g (map h (xs ++ ys)) ≡ flat_map g (map h xs) ++ flat_map g (map h ys)

@@ -37,7 +37,7 @@ is_in row LeftByLot p = is_passed_by_lot row p
 is_in row Capped p = mark_at row.capped p
 is_in row Tied p = mark_at row.tied p
 
--- how many of a group stand at the place `first` or behind it
+-- how many of a group stand at the place `first` or after it
 abbrev pub members_from : Row → Group → (first : ℕ) → ℕ
 members_from row group first = count_by (is_in row group) (range_with_len first (length row.states - first))
 

@@ -46,13 +46,13 @@ pub record HasOneSentence (places : ℕ) (says : Decision → Bool) (v : SheetLi
   pub one : count_by says (decisions_of row) ≡ 1
   pub named : (d : Decision) → says d ≡ true → Names v p (sentence places v row d)
 
--- Whoever is elected in an iteration stands in its one sentence on who is elected.
+-- Whoever is elected in an iteration is in its one sentence on who is elected.
 abbrev pub WinnersHaveOneSentence : Type 0
 WinnersHaveOneSentence =
     (places : ℕ) (v : SheetList) (row : Row) (p : ℕ)
     → p < length row.states → mark_at row.elected p ≡ true → HasOneSentence places says_elected v row p
 
--- Whoever is defeated in an iteration stands in its one sentence on who is defeated.
+-- Whoever is defeated in an iteration is in its one sentence on who is defeated.
 abbrev pub LosersHaveOneSentence : Type 0
 LosersHaveOneSentence =
     (places : ℕ) (v : SheetList) (row : Row) (c : ℕ) → row.step ≡ Defeat c → HasOneSentence places (says_defeated c) v row (c - 1)

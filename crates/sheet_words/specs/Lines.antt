@@ -11,7 +11,7 @@ use Rattle.sheet_words.specs.Sentences.{decisions_of, sentence, sentences_at_end
 abbrev pub numbers : Row → List (List ℕ)
 numbers row = codes "Round " ∷ decimal row.round ∷ codes ", iteration " ∷ decimal row.iteration ∷ codes ": " ∷ []
 
--- a decision of an iteration, behind the numbers of it
+-- a decision of an iteration, after the numbers of it
 abbrev pub numbered : (places : ℕ) → SheetList → Row → Decision → List (List ℕ)
 numbered places v row decision = numbers row ++ sentence places v row decision
 

@@ -2,7 +2,7 @@
 use Rattle.std.specs.Prelude.{ℕ, List, [], ◌∷◌, ◌++◌}
 use Rattle.std.specs.List.{flat_map}
 
--- what stands before a sentence, what is written for each text of it, and what stands behind it
+-- what is before a sentence, what is written for each text of it, and what is after it
 pub record Manner : Type 0 where
   pub opening : List ℕ
   pub voiced : List ℕ → List ℕ

@@ -1,4 +1,4 @@
--- The texts of a sentence, by what stands in them.
+-- The texts of a sentence, by what is in them.
 use Rattle.std.specs.Prelude.{ℕ, List, decimal}
 use Rattle.sheet_words.specs.declared.part.Part.{Part}
 use Rattle.sheet_words.specs.declared.part.Part.TheVariants.{Words, Number}

@@ -15,11 +15,11 @@ numbered_name name number = name ∷ codes " (" ∷ decimal number ∷ codes ")"
 abbrev pub called : SheetList → (p : ℕ) → List (List ℕ)
 called v p = numbered_name (slice_index_or v.names p []) (p + 1)
 
--- votes, and what stands behind them
+-- votes, and what is after them
 abbrev pub with_votes : (places votes : ℕ) → (behind : List ℕ) → List (List ℕ)
 with_votes places votes behind = codes " with " ∷ text_of places votes ∷ codes " votes" ∷ behind ∷ []
 
--- what stands behind a candidate of a list with so many still to come
+-- what is after a candidate of a list with so many still to come
 abbrev pub separator : (still : ℕ) → List ℕ
 separator still = if nat_eq still 0 then [] else if nat_eq still 1 then codes " and " else codes ", "
 

@@ -41,7 +41,7 @@ decisions_of row = elections row ++ (caps row ++ defeats_of row row.step)
 
 -- ---- their sentences
 
--- the quota, which so many reached, and what stands behind it
+-- the quota, which so many reached, and what is after it
 abbrev pub at_quota : (places count quota : ℕ) → (behind : List ℕ) → List (List ℕ)
 at_quota places count quota behind =
     for_one_or_more (codes " reaches the quota of ") (codes " reach the quota of ") count ∷ text_of places quota ∷ behind ∷ []

@@ -42,7 +42,7 @@ only c n = each_place n (λ p. nat_eq (p + 1) c)
 abbrev pub two_of : (c d n : ℕ) → List Bool
 two_of c d n = each_place n (λ p. nat_eq (p + 1) c || nat_eq (p + 1) d)
 
--- two candidates with a ballot each and one seat; candidate 2 stands first in the lots
+-- two candidates with a ballot each and one seat; candidate 2 is first in the lots
 abbrev pub tie_sheet : SheetList
 tie_sheet = record {
   title = codes "A tie";

@@ -46,7 +46,7 @@ pub(crate) fn say_arrival<const P: usize, V: Voice, K: Sink>(
     say_quota(voice, members(row, Group::Reached), row.quota, b".", sink)
 }
 
-/// Says that so many reached the quota, and what stands behind it.
+/// Says that so many reached the quota, and what is after it.
 fn say_quota<const P: usize, V: Voice, K: Sink>(
     voice: &V,
     count: usize,

@@ -34,7 +34,7 @@ pub(crate) fn members<const P: usize>(row: &Row<P>, group: Group) -> usize
     members_from(row, group, 0)
 }
 
-/// How many of a group stand at a place or behind it.
+/// How many of a group stand at a place or after it.
 pub(crate) fn members_from<const P: usize>(row: &Row<P>, group: Group, first: usize) -> usize
     requires room { HasRoomFor (length row.now.states) row.now }
     ensures { result ≡ members_from row.now group first }

@@ -111,7 +111,7 @@ pub(crate) fn say_listing<const P: usize, V: Voice, K: Sink>(
     Ok(())
 }
 
-/// Says the candidate at a place, if it is of the group, with what stands behind it.
+/// Says the candidate at a place, if it is of the group, with what is after it.
 fn say_member<const P: usize, V: Voice, K: Sink>(
     voice: &V,
     values: &SheetValuesAt<P>,
@@ -155,7 +155,7 @@ fn say_name<V: Voice, K: Sink>(
     )
 }
 
-/// Says a candidate's votes, and what stands behind them.
+/// Says a candidate's votes, and what is after them.
 fn say_votes<const P: usize, V: Voice, K: Sink>(
     voice: &V,
     votes: Amount<P>,
@@ -190,7 +190,7 @@ fn say_with_votes<'x, V: Voice, K: Sink>(
     )
 }
 
-/// What stands behind a candidate of a list with so many still to come.
+/// What is after a candidate of a list with so many still to come.
 fn separator(still: usize) -> &'static [u8]
     ensures { result.now ≡ separator still }
 {

@@ -19,7 +19,7 @@ use byte_edge::{Failed, Sink};
 use meek_rule::Row;
 use sheet_reader::SheetValuesAt;
 
-/// Writes a decision of an iteration, behind the numbers of it.
+/// Writes a decision of an iteration, after the numbers of it.
 pub(crate) fn write_decision<const P: usize, V: Voice, K: Sink>(
     voice: &V,
     values: &SheetValuesAt<P>,

@@ -6,11 +6,11 @@ ghost use Rattle.sheet_words.specs.Manner.{Manner, lines};
 use byte_edge::{Failed, Sink};
 use piece_text::write_bytes;
 
-/// A way to write sentences: what stands before each and behind it, and how its texts are written.
+/// A way to write sentences: what is before each and after it, and how its texts are written.
 pub trait Voice {
     ghost manner: { Manner };
 
-    /// Writes what stands before a sentence.
+    /// Writes what is before a sentence.
     fn begin<K: Sink>(&self, sink: &mut K) -> Result<(), Failed>
         ensures { Writes K.written K.faults sink.old sink.new manner.opening result };
 
@@ -18,7 +18,7 @@ pub trait Voice {
     fn say<K: Sink>(&self, text: &[u8], sink: &mut K) -> Result<(), Failed>
         ensures { Writes K.written K.faults sink.old sink.new (manner.voiced text.now) result };
 
-    /// Writes what stands behind a sentence.
+    /// Writes what is after a sentence.
     fn end<K: Sink>(&self, sink: &mut K) -> Result<(), Failed>
         ensures { Writes K.written K.faults sink.old sink.new manner.closing result };
 }

@@ -124,13 +124,13 @@ module _ (s : ℕ) (fit : IsSeparator s) where
   with_first field front [] rest is are = absurd are
   with_first field front (other ∷ more) rest is are = (front, rest, refl, is, are)
 
-  -- Fields behind these are fields with them.
+  -- Fields after these are fields with them.
   abbrev pub AreBefore : List Field → List ℕ → Type 0
   AreBefore fields front =
       (more : List (List ℕ)) (rest : List ℕ) → AreFields s more rest
       → AreFields s (map text_of fields ++ more) (front ++ rest)
 
-  -- where a reader stands, behind the fields that this front spells
+  -- where a reader stands, after the fields that this front spells
   pub record Stands (start : ℕ) (fields : List Field) (from : ℕ) (bytes : List ℕ) (part : Part) (at : ℕ)
       (front : List ℕ)
       : Type 0 where

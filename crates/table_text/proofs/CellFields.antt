@@ -24,7 +24,7 @@ module _ (s : ℕ) (bytes : List ℕ) (row start : ℕ) (cells : List Cell) (cel
   abbrev here : Stand
   here = in_field row start (fields_at bytes cells) cell.at (slice_range bytes cell.at cell.stop) Plain
 
-  -- behind a field and a separator the next field begins
+  -- after a field and a separator the next field begins
   pub begun_more :
       cell.stop < length bytes → get_or bytes cell.stop 0 ≡ s
       → IsBegun s bytes row start (cells ++ cell ∷ []) (cell.stop + 1)
@@ -40,7 +40,7 @@ module _ (s : ℕ) (bytes : List ℕ) (row start : ℕ) (cells : List Cell) (cel
       (drop (stop + 1) bytes))
       (sym (map_push (field_at bytes) cells cell)))))
 
-  -- the record ends behind a field
+  -- the record ends after a field
   pub ends_at : EndsAt s bytes row start (cells ++ cell ∷ []) cell.stop
   ends_at = record {
     stand = here;

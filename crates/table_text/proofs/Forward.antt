@@ -155,7 +155,7 @@ abbrev pub text_of : Field → List ℕ
 text_of field = field_text field.bytes
 
 module _ (s : ℕ) (fit : IsSeparator s) (row start : ℕ) where
-  -- fields are gone over, behind those that were read before
+  -- fields are gone over, after those that were read before
   pub record Gone (done : List Field) (at : ℕ) (texts : List (List ℕ)) (text rest : List ℕ) : Type 0 where
     pub before : List Field
     pub from : ℕ

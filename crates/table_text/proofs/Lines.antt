@@ -1,4 +1,4 @@
--- What is read behind a record.
+-- What is read after a record.
 use Rattle.std.proofs.Common.{◌≡◌, ℕ, zero, suc, ◌+◌, ◌<◌, ◌≤◌, List, [], ◌∷◌, length, drop, get_or, Bool}
 use Rattle.std.proofs.Common.{true, false, cond, ◌==◌, refl, sym, ◌∙◌, ap, subst, arith, Ok, Err, add-zero}
 use Rattle.std.specs.Prelude.{Result}

@@ -152,7 +152,7 @@ module _ (s b : ℕ) (rest : List ℕ) where
       (λ low. let P : ℕ → Type 0 = λ n. (nat_lt n 32 ≡ true) × ((n == 9) ≡ false) in
       subst P (sym (eqb-true b 13 low)) (refl, refl)) is
 
--- ---- a mark behind a field
+-- ---- a mark after a field
 
 closing_parts_tests :
     (q p f r w : Bool) → closes (chosen q p f r w) ≡ true → p ≡ true → chosen q p f r w ≡ marks.Parts

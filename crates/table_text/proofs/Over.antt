@@ -61,7 +61,7 @@ module _ (s : ℕ) (bytes : List ℕ) (at : ℕ) where
         ∙ ap (λ (m : Move). moved here stop (get_or bytes stop 0) m
         (λ next. read s next (stop + 1) (drop (stop + 1) bytes))) is)
 
-    -- behind its closing quote the field ends there
+    -- after its closing quote the field ends there
     pub over_closed :
         closes (mark s (get_or bytes stop 0) (drop (stop + 1) bytes)) ≡ true
         → GoesOver s bytes first at stop BehindQuote → GoesOver s bytes first at stop Plain

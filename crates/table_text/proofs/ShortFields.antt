@@ -122,7 +122,7 @@ module _ (s : ℕ) (bytes : List ℕ) (at : ℕ) (long : at + 2 < length bytes) 
     same_field stop stop_is number number_is stops numbers is =
         subst (λ (n : ℕ). Is stop n) numbers (subst (λ (n : ℕ). Is n number_is) stops is)
 
-    -- what digits and a separator behind them are
+    -- what digits and a separator after them are
     pub digits_are : (found : ℕ × ℕ) → AreDigits a b found → get_or bytes (at + found.0) 0 ≡ s → Is (at + found.0) found.1
     digits_are found (inl is) ends =
         let stops : at ≡ at + found.0 = omega (arith, is.digits) in

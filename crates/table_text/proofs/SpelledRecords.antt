@@ -17,7 +17,7 @@ use Rattle.table_text.proofs.Forward.{Gone, fields_over}
 pub later : (row : ℕ) → 1 ≤ row → 1 < next_count row
 later row some = omega arith
 
--- the record that ends behind these fields
+-- the record that ends after these fields
 abbrev pub row_of : Stand → Row
 row_of stand = record {
   row = stand.row;
@@ -90,7 +90,7 @@ module _ (s : ℕ) (fit : IsSeparator s) where
         ne_eqb (gone.from + length gone.last) at
         (λ e. absurd (omega (arith, e, gone.place, nonempty front some)))
 
-    -- the record, and then what is read behind it
+    -- the record, and then what is read after it
     joined :
         (behind : Reading)
         → read s (in_field row at gone.before gone.from gone.last Plain) (at + length front) (end ++ rest)

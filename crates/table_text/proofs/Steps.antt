@@ -57,7 +57,7 @@ module _ (row start : ℕ) (fields : List Field) (from : ℕ) (bytes : List ℕ)
   front_plain s at (b ∷ rest) unlike =
       front_moves at b (mark s b rest) (λ next. read s next (at + 1) rest) (mark-no_quote s b rest unlike)
 
-  -- behind its closing quote a field ends as one without quotes
+  -- after its closing quote a field ends as one without quotes
   pub behind_plain :
       (s at : ℕ) (rest : List ℕ) → Parted s rest
       → read s (in_field row start fields from bytes BehindQuote) at rest

@@ -5,7 +5,7 @@ use Rattle.table_text.specs.declared.fronts.TheConstants.{ROOM}
 use Rattle.table_text.specs.Short.{AreDigits}
 
 -- At each of the bytes from a place on begins the short number that was found there, as far as two bytes tell it, and two
--- bytes more stand behind each.
+-- bytes more stand after each.
 pub record AreFronts (bytes : List ℕ) (fronts : Fronts) : Type 0 where
   pub each : (k : ℕ) → k < fronts.len
       → AreDigits (slice_index bytes (fronts.at + k)) (slice_index bytes (fronts.at + k + 1))

@@ -16,14 +16,14 @@ pub record Reader : Type 0 where
   pub bytes : List ℕ
   pub rest : Reading
 
--- the field that stands there
+-- the field that is there
 abbrev pub field_at : List ℕ → Cell → Field
 field_at bytes cell = record { at = cell.at; bytes = slice_range bytes cell.at cell.stop }
 
 abbrev pub fields_at : List ℕ → List Cell → List Field
 fields_at bytes cells = map (field_at bytes) cells
 
--- It stands within these bytes, with its number.
+-- It is within these bytes, with its number.
 pub record IsCellOf (bytes : List ℕ) (cell : Cell) : Type 0 where
   pub ordered : cell.at ≤ cell.stop
   pub inside : cell.stop ≤ length bytes
@@ -39,14 +39,14 @@ Gives old (Err stop.NoMemory) cells new = new ≡ old
 
 -- ---- a field
 
--- a mark behind which no field goes on
+-- a mark after which no field goes on
 abbrev pub closes : Mark → Bool
 closes marks.Parts = true
 closes marks.Feeds = true
 closes marks.Returns = true
 closes other = false
 
--- The text ends there, or a separator or a line end stands there.
+-- The text ends there, or a separator or a line end is there.
 abbrev pub IsParted : (separator : ℕ) → List ℕ → ℕ → Type 0
 IsParted separator bytes stop =
     stop < length bytes → closes (mark separator (slice_index bytes stop) (drop (stop + 1) bytes)) ≡ true
@@ -56,21 +56,21 @@ abbrev pub in_field : (row start : ℕ) → List Field → (from : ℕ) → List
 in_field row start fields from bytes part =
     record { row = row; start = start; fields = fields; from = from; bytes = bytes; part = part }
 
--- Whatever stands before it, a field goes from the one place to the other.
+-- Whatever is before it, a field goes from the one place to the other.
 abbrev pub GoesOver : (separator : ℕ) → List ℕ → Part → (at stop : ℕ) → Part → Type 0
 GoesOver separator bytes first at stop last =
     (row start : ℕ) (fields : List Field)
     → read separator (in_field row start fields at [] first) at (drop at bytes)
     ≡ read separator (in_field row start fields at (slice_range bytes at stop) last) stop (drop stop bytes)
 
--- Whatever stands before it, a field that begins there has this flaw.
+-- Whatever is before it, a field that begins there has this flaw.
 abbrev pub HasFlaw : (separator : ℕ) → List ℕ → Part → (at : ℕ) → Flaw → Type 0
 HasFlaw separator bytes first at flaw =
     (row start : ℕ) (fields : List Field)
     → read separator (in_field row start fields at [] first) at (drop at bytes)
     ≡ fault (in_field row start fields at [] first) flaw.kind flaw.at
 
--- A field stands there that begins at a place.
+-- A field is there that begins at a place.
 pub record IsFieldAt (separator : ℕ) (bytes : List ℕ) (at : ℕ) (cell : Cell) : Type 0 where
   pub begins : cell.at ≡ at
   pub stands : IsCellOf bytes cell
@@ -110,7 +110,7 @@ abbrev pub IsEnded : (separator : ℕ) → List ℕ → ℕ → Type 0
 IsEnded separator bytes end =
     end < length bytes → ends_line (mark separator (slice_index bytes end) (drop (end + 1) bytes)) ≡ true
 
--- Behind a record that ends there, the next one begins at the other place.
+-- After a record that ends there, the next one begins at the other place.
 abbrev pub LineEnds : (separator : ℕ) → List ℕ → (end rest : ℕ) → Type 0
 LineEnds separator bytes end rest =
     (stand : Stand) → stand.part ≡ Plain → 1 ≤ stand.row → (end ≡ length bytes → is_empty stand ≡ false)
@@ -123,7 +123,7 @@ IsBroken separator bytes row start (stop.Fault fault) =
     left separator bytes row start ≡ ends (AtFault fault)
 IsBroken separator bytes row start stop.NoMemory = Unit {0}
 
--- The answer at a place, with the place and the row of what is to come behind it.
+-- The answer at a place, with the place and the row of what is to come after it.
 abbrev pub GivesFrom :
     (separator : ℕ) → List ℕ → (row at : ℕ) → Result (Step × ℕ × ℕ) TextStop → List Cell → Type 0
 GivesFrom separator bytes row at (Ok found) cells =

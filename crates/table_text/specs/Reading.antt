@@ -16,7 +16,7 @@ pub record Field : Type 0 where
   pub at : ℕ
   pub bytes : List ℕ
 
--- a record: its number from 1, the place of its first byte, the place behind its last, and its fields
+-- a record: its number from 1, the place of its first byte, the place after its last, and its fields
 pub record Row : Type 0 where
   pub row : ℕ
   pub at : ℕ
@@ -40,7 +40,7 @@ with_row row reading = record { rows = row ∷ reading.rows; ending = reading.en
 
 -- ---- a field's text
 
--- What stands within quotes. Of two quotes behind one another the first is left out, and so is the closing one.
+-- What is within quotes. Of two quotes after one another the first is left out, and so is the closing one.
 abbrev pub unquoted : (behind_quote : Bool) → List ℕ → List ℕ
 unquoted behind_quote [] = []
 unquoted true (b ∷ bytes) = b ∷ unquoted false bytes
@@ -148,7 +148,7 @@ fault stand kind at =
 abbrev pub is_empty : Stand → Bool
 is_empty stand = stand.from + length stand.bytes == stand.start
 
--- The record, before what is read behind it. One of no bytes is refused at its place.
+-- The record, before what is read after it. One of no bytes is refused at its place.
 abbrev pub with_record : Stand → Reading → Reading
 with_record stand behind =
     if is_empty stand
@@ -160,7 +160,7 @@ with_record stand behind =
       fields = fields_with_last stand;
     }) behind
 
--- the text ends behind a field
+-- the text ends after a field
 abbrev pub after_field : Stand → (at : ℕ) → Reading
 after_field stand at =
     if is_empty stand then (if stand.row == 1 then fault stand Ended at else ends AtEnd)

@@ -13,7 +13,7 @@ is_mark separator b = b == separator || b == 34 || b == 10 || b == 13
 abbrev pub is_plain : (separator : ℕ) → ℕ → Bool
 is_plain separator b = not (is_mark separator b) && is_text b
 
--- a byte within quotes: a quote stands twice
+-- a byte within quotes: a quote is doubled
 abbrev pub within_quotes : ℕ → List ℕ
 within_quotes b = if b == 34 then 34 ∷ 34 ∷ [] else b ∷ []
 

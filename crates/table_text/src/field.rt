@@ -30,7 +30,7 @@ pub(crate) fn any_cell(bytes: &[u8], separator: u8, at: usize) -> Result<Cell, F
     }
 }
 
-// The place behind the field that begins at a place.
+// The place after the field that begins at a place.
 #[inline]
 fn field_stop(bytes: &[u8], separator: u8, at: usize) -> Result<usize, Flaw>
     requires { at ≤ length bytes.now }

@@ -33,7 +33,7 @@ impl Fronts {
         }
     }
 
-    /// Whether it is known what begins at a place; if it isn't, it is found, unless too few bytes stand behind it.
+    /// Whether it is known what begins at a place; if it isn't, it is found, unless too few bytes stand after it.
     #[inline(always)]
     pub fn reach(&mut self, bytes: &[u8], at: usize) -> bool
         requires { AreFronts bytes.now self.old }
@@ -77,7 +77,7 @@ impl Fronts {
         self.len = len;
     }
 
-    /// The field that begins at a place, where it is a short number with a separator behind it, as most fields of a table of
+    /// The field that begins at a place, where it is a short number with a separator after it, as most fields of a table of
     /// ranks are. How many digits it has decides no branch: whoever runs over such a table can't foresee it.
     #[inline(always)]
     pub fn short_cell(&self, bytes: &[u8], separator: u8, at: usize) -> Option<Cell>

@@ -9,7 +9,7 @@ use crate::fronts::Fronts;
 use crate::short::stands_apart;
 use crate::{Cells, MAX_COUNT, NoMemory, TextFault, TextStop};
 
-/// The place behind the record that begins at a place. The places of its fields are then in `cells`.
+/// The place after the record that begins at a place. The places of its fields are then in `cells`.
 #[inline]
 pub(crate) fn record_end(
     bytes: &[u8],
@@ -45,8 +45,8 @@ pub(crate) fn record_end(
     }
 }
 
-/// Puts the places of the next fields behind the others, as long as they are short numbers with a separator behind them, and
-/// gives the place of the field behind them.
+/// Puts the places of the next fields after the others, as long as they are short numbers with a separator after them, and
+/// gives the place of the field after them.
 fn short_cells(
     bytes: &[u8],
     separator: u8,
@@ -77,7 +77,7 @@ fn short_cells(
     Ok(at)
 }
 
-// The fault of a field behind so many others of its record.
+// The fault of a field after so many others of its record.
 fn fault(flaw: Flaw, row: u32, fields: usize) -> TextFault
     ensures { result ≡ record { kind = flaw.kind; at = flaw.at; row = row; column = next_count fields } }
 {

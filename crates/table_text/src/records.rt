@@ -34,7 +34,7 @@ impl<'a> Model for Records<'a> {
     ghost invariant = { λ r. (r.at ≤ length r.bytes.now) × (1 ≤ r.row) × AreFronts r.bytes.now r.fronts };
 }
 
-// What comes from a place on, with the place and the row of what is to come behind it.
+// What comes from a place on, with the place and the row of what is to come after it.
 #[inline(always)]
 fn next_from(
     bytes: &[u8],
@@ -91,7 +91,7 @@ fn refused(kind: TextKind, at: usize, row: u32) -> TextStop
     })
 }
 
-// The place behind the line end of a record that ends at a place.
+// The place after the line end of a record that ends at a place.
 #[inline(always)]
 fn behind_line(bytes: &[u8], separator: u8, end: usize) -> usize
     requires inside { end ≤ length bytes.now }
@@ -109,7 +109,7 @@ fn behind_line(bytes: &[u8], separator: u8, end: usize) -> usize
 }
 
 impl<'a> Records<'a> {
-    /// The records of a text, behind its byte order mark.
+    /// The records of a text, after its byte order mark.
     pub fn new(bytes: &'a [u8], separator: u8) -> Self
         ensures { result ≡ record { bytes = bytes.entry.now; rest = read_text separator bytes.entry.now } }
     {
@@ -147,7 +147,7 @@ impl<'a> Records<'a> {
         Ok(step)
     }
 
-    /// The text of a field that stands in the bytes as it is: one without quotes, which is its own text.
+    /// The text of a field that is in the bytes as it is: one without quotes, which is its own text.
     #[inline]
     pub fn standing(&self, cell: Cell) -> Option<&'a [u8]>
         requires { IsCellOf self.now.bytes cell }

@@ -1,4 +1,4 @@
-/// What was read: a record, from its first byte up to right behind its last, without its line end; or nothing
+/// What was read: a record, from its first byte up to right after its last, without its line end; or nothing
 /// more.
 #[derive(Clone, Copy, Debug, PartialEq, Eq)]
 pub enum Step {

@@ -28,7 +28,7 @@ pub(crate) fn put_text(bytes: &[u8], into: &mut Vec<u8>) -> Result<(), NoMemory>
     }
 }
 
-// Adds the bytes behind a first quote, without the closing one and with one quote for each two.
+// Adds the bytes after a first quote, without the closing one and with one quote for each two.
 fn put_unquoted(bytes: &[u8], into: &mut Vec<u8>) -> Result<(), NoMemory>
     ensures { OnOk result (into.new.items ≡ into.old.items ++ unquoted false bytes.now) }
 {

@@ -1,6 +1,6 @@
 use crate::TextKind;
 
-/// The greatest row and the greatest column that a fault names. Those behind it are named by it too.
+/// The greatest row and the greatest column that a fault names. Those after it are named by it too.
 pub const MAX_COUNT: u32 = u32::MAX;
 
 /// Why a text is no table, and where: the byte from 0, the record and the field from 1.

@@ -3,7 +3,7 @@
 pub enum TextKind {
     /// A control byte, or a carriage return outside quotes that no line feed follows.
     BadByte,
-    /// A quote within a field that begins without one, or a byte right behind a closing quote.
+    /// A quote within a field that begins without one, or a byte right after a closing quote.
     BadQuote,
     /// A record of no bytes.
     EmptyLine,

@@ -9,7 +9,7 @@ front_push [] m = refl
 front_push (x ∷ []) m = refl
 front_push (x ∷ (y ∷ ms)) m = ap (λ zs. x ∷ zs) (front_push (y ∷ ms) m)
 
--- a list that ends in m ends in m behind all but its last
+-- a list that ends in m ends in m after all but its last
 pub with_last : (ms rest : List Move) (m : Move) → ms ≡ rest ++ m ∷ [] → ms ≡ front ms ++ m ∷ []
 with_last ms rest m e = e ∙ (ap (λ xs. xs ++ m ∷ []) (sym (front_push rest m)) ∙ ap (λ xs. front xs ++ m ∷ []) (sym e))
 

@@ -28,7 +28,7 @@ one_longer xs ys [] m e long last = let none : List Move = [] in absurd (omega (
 one_longer xs ys (x ∷ []) m e long last = last ∙ ap (λ zs. zs ++ m ∷ []) (ap front e ∙ front_push ys x)
 one_longer xs ys (x ∷ (y ∷ rest)) m e long last = absurd (omega (arith, ap length e, length-append ys (x ∷ (y ∷ rest))))
 
--- a note with no more moves than another begins it; one with a move more begins it with that move behind
+-- a note with no more moves than another begins it; one with a move more begins it with that move after
 pub told_begins :
     (n k : ℕ) (last other : Option Move) (xs ys zs : List Move) → IsCounted n last xs → IsCounted k other ys
     → n < 2 ^ 64 - 1 → k < 2 ^ 64 - 1

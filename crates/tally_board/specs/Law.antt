@@ -22,7 +22,7 @@ head_of b = record { tracked = true; key = 0; book = b }
 abbrev pub Opened : Step Line → View Line ℕ → ℕ → View Line ℕ → Type 0
 Opened s v found w = (key : ℕ) × (w.1.0 ≡ nib may_make key 0)
 
--- the move was put behind all lines, and it spent the pen's key, which no line had spent
+-- the move was put after all lines, and it spent the pen's key, which no line had spent
 abbrev pub Added : Step Line → View Line ℕ → ℕ → View Line ℕ → Type 0
 Added s v found w = (log : List Line) × IsPrefix v.0 log × IsUnspent v.1.0.key log
     × (w.0 ≡ log ++ record { key = v.1.0.key; step = s.ask.step; next = s.ask.next } ∷ [])

@@ -1,4 +1,4 @@
-// What a scribe or a watcher knows of a board. It stands in proofs alone.
+// What a scribe or a watcher knows of a board. It is in proofs alone.
 use crate::{Move, Note};
 use std::collections::LinkedList;
 

@@ -1,4 +1,4 @@
-// What a chronicle's book keeps of a move. It stands in proofs alone.
+// What a chronicle's book keeps of a move. It is in proofs alone.
 use crate::Move;
 
 /// A move, with the key that it spends, and the key that the next move of its board is to spend. No

@@ -49,7 +49,7 @@ impl Note {
         }
     }
 
-    /// Whether its moves begin those of another note with this move behind them. It may be false where
+    /// Whether its moves begin those of another note with this move after them. It may be false where
     /// they do, but only if they are as many as the greatest number.
     pub(crate) fn begins(&self, before: &Note, last: Option<Move>) -> bool
         requires { before.now.board ≡ self.now.board }

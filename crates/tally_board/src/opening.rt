@@ -85,7 +85,7 @@ fn seat(scribe: &mut Scribe) -> Option<Watcher>
     }
 }
 
-/// Puts so many new watchers behind those of the list.
+/// Puts so many new watchers after those of the list.
 fn fill(scribe: &mut Scribe, list: &mut Watchers, count: u32) -> Result<(), NoBoard>
     requires { scribe.old ≡ new_desk scribe.old.board scribe.old.candidates }
     ensures scribe { scribe.new ≡ scribe.old }

@@ -6,7 +6,7 @@ use crate::{Move, NoMemory};
 use std::alloc::Global;
 use std::marker::Model;
 
-/// One number of ballots for each candidate: candidate c's stands at index c - 1.
+/// One number of ballots for each candidate: candidate c's is at index c - 1.
 #[derive(Debug, Drop)]
 pub struct Totals {
     list: Vec<u64>,

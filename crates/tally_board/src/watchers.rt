@@ -5,7 +5,7 @@ use crate::{NoMemory, Watcher};
 use std::alloc::Global;
 use std::marker::Model;
 
-/// Watchers, one behind the other.
+/// Watchers, one after the other.
 #[derive(Drop)]
 pub struct Watchers {
     list: Vec<Watcher>,

@@ -68,7 +68,7 @@ nothing_shown hall n few candidates shard shards entries board kept =
           ∙ ap (λ (es : List Entry). first (plain (standing (after_all empty es))) c) (sym entries)));
     }
 
--- the totals in the end are those of what stands in the end
+-- the totals in the end are those of what is in the end
 pub shown_lines :
     StandsInTheBook → (hall : Hall) → IsShown hall → (n : ℕ) → hall.book.candidates ≡ n → (t : List ℕ)
     → t ≡ totals_after hall.scribe.candidates hall.scribe.published

@@ -77,7 +77,7 @@ pub held :
     → first (plain (lines_of (book.batches k))) c ≤ first (plain (standing book)) c
 held book k c range = one_of (λ b. lines_of (book.batches b)) c k last_batch 1 range.0 (numbered k range)
 
--- after the last entry there stands what stands in the book
+-- after the last entry there stands what is in the book
 pub last_is : StandsInTheBook → (es : List Entry) → standing_after es (length es) ≡ standing (after_all empty es)
 last_is stands es =
     subst (λ (l : List Entry). standing_after l (length es) ≡ standing (after_all empty es)) (append-nil es) (stands es [])

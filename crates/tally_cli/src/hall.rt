@@ -1,4 +1,4 @@
-// The book of a day, and the board that shows what stands in it.
+// The book of a day, and the board that shows what is in it.
 ghost use Rattle.std.specs.Prelude.{◌≡◌, ◌-◌, [], ◌∷◌, ◌++◌, length, map, slice_set, OnOk};
 ghost use Rattle.batch_core.specs.declared.limits.TheConstants.{LAST_NUMBER};
 ghost use Rattle.batch_core.specs.Lawful.{IsInRange, IsLawful};

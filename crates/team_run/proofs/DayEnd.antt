@@ -52,7 +52,7 @@ AreTaken clerk =
     (k : ℕ) (pass : PassState) → slice_get clerk.taken k ≡ Some pass
     → IsTaken clerk.desk.office clerk.desk.sight pass
 
--- a version of a pass that was taken in stands before the clerk's
+-- a version of a pass that was taken in is before the clerk's
 before_last :
     (clerk : ClerkState) (before : Sight) (last v : VersionState) → AreTaken clerk
     → IsFreeze clerk.desk.office.shards 0 last before clerk.desk.sight

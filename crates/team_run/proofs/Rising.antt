@@ -1,4 +1,4 @@
--- Rising lists of numbers, and where one stands within another.
+-- Rising lists of numbers, and where one is within another.
 use Rattle.std.proofs.Common.{◌≡◌, ◌⊎◌, ℕ, ◌+◌, ◌≤◌, List}
 use Rattle.std.proofs.Common.{[], ◌∷◌, length, ⊎_elim, refl}
 use Rattle.std.proofs.Common.{subst, arith}
@@ -27,7 +27,7 @@ pub lower : (n m : ℕ) (xs : List ℕ) → n ≤ m → Rise m xs → Rise n xs
 lower n m [] less rise = tt
 lower n m (z ∷ zs) less rise = ((let a = rise.0 in omega (arith, a, less)), rise.1)
 
--- what stands in a list and is above its first stands in its rest
+-- what is in a list and is above its first is in its rest
 behind : (y : ℕ) (ys xs : List ℕ) → Rise (y + 1) xs → StandAmong (y ∷ ys) xs → StandAmong ys xs
 behind y ys [] rise in' = tt
 behind y ys (x ∷ xs) rise in' = (

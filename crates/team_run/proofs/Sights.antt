@@ -80,7 +80,7 @@ module _ (shards caller : ℕ) (v : VersionState) (before now : Sight) (f : IsFr
       ap length f.marks.1 in
       let one = length-append ahead (Freeze caller ∷ []) in let last = at_the_end in omega arith
 
-  -- a freeze stands behind all that was seen before
+  -- a freeze is after all that was seen before
   pub later : length before.marks < v.at
   later = let long = length-append before.marks f.marks.0 in let one = one_more in omega arith
 

@@ -20,7 +20,7 @@ abbrev pub freezes_from : ℕ → List Entry → List ℕ
 freezes_from place history = map (λ e. e.0) (filter (λ e. is_freeze e.1.call) (enumerate_from place history))
 
 -- The history of these scripts: each team's calls are its whole script, nobody else has called but the clerk, whose
--- freeze is the last call. The versions are those of all freezes in their order, each with what stands there.
+-- freeze is the last call. The versions are those of all freezes in their order, each with what is there.
 pub record HasEnded (scripts : List Script) (versions : List VersionState) (history : List Entry) : Type 0 where
   pub legal : IsLegal history
   pub before : List Entry

@@ -10,7 +10,7 @@ pub fn scripts_of_a_day_may_run()
 {}
 
 /// After the clerk's freeze nobody calls: the history is that of the scripts, and each version has
-/// what stands at its place.
+/// what is at its place.
 pub fn days_end_with_the_clerk()
     ensures { DaysEnd }
 {

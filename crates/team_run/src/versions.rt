@@ -31,7 +31,7 @@ impl Versions {
         }
     }
 
-    /// Puts a version behind the others.
+    /// Puts a version after the others.
     pub fn push(&mut self, item: Version) -> Result<(), PushBack<Version>>
         ensures ok { OnOk result (self.new ≡ self.old ++ item ∷ []) }
         ensures refused { OnErr result (self.new ≡ self.old) }

@@ -102,7 +102,7 @@ fn with_ballots(alloc: Global, before: &[u8], after: &[u8]) -> Result<Vec<u8>, F
     Ok(text)
 }
 
-// The words of a run, what stands before its ballots and after them, and what passes the gate in a distribution. The sheet of
+// The words of a run, what is before its ballots and after them, and what passes the gate in a distribution. The sheet of
 // a freeze is counted in lanes too.
 const LANES: [(&str, &[u8], &[u8], u64); 3] = [
     (

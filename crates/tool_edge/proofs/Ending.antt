@@ -9,7 +9,7 @@ use Rattle.tool_edge.specs.declared.end.End.TheVariants.{Done}
 use Rattle.tool_edge.specs.Streams.{writing}
 use Rattle.tool_edge.specs.Finishing.{Finishes, Wrote, Closes}
 
--- A text was written piece by piece, and the run was closed behind it.
+-- A text was written piece by piece, and the run was closed after it.
 pub closed :
     {T E F K : Type 0} (written : K → Option (List ℕ)) (faults : K → ℕ) (old mid new : K) (bytes : List ℕ) (r : Result T E)
     (end : End F) → Wrote bytes r (writing written faults old mid) → Closes r end (writing written faults mid new)

@@ -1,4 +1,4 @@
--- A fault of a ballot file stands in it, or at most two bytes behind it. So a place in what stands behind a sheet is
+-- A fault of a ballot file is in it, or at most two bytes after it. So a place in what is after a sheet is
 -- one in the whole, too.
 use Rattle.std.proofs.Common.{ℕ, ◌+◌, ◌-◌, ◌^◌, ◌<◌, ◌≤◌, ◌==◌, ◌&&◌, zero, suc, List, [], ◌∷◌, ◌++◌, length, drop}
 use Rattle.std.proofs.Common.{Bool, true, false, cond, ap, subst, arith, inl, inr}
@@ -18,7 +18,7 @@ use Rattle.tool_edge.specs.Contest.{IsRefusedFile}
 
 -- ---- one piece
 
--- the piece has no fault further behind than this
+-- the piece has no fault further after than this
 abbrev IsNear : ℕ → Piece → Type 0
 IsNear len (Gap n) = Unit {0}
 IsNear len (Lexeme item n) = Unit {0}
@@ -92,7 +92,7 @@ abbrev EndsBefore : ℕ → Ending → Type 0
 EndsBefore place (AtEnd at) = at ≤ place
 EndsBefore place (AtFault fault) = fault.at ≤ place
 
--- No token, no fault and no end of the text stands behind this place.
+-- No token, no fault and no end of the text is after this place.
 record IsBefore (place : ℕ) (text : Scan) : Type 0 where
   tokens : AreBefore place text.tokens
   ending : EndsBefore place text.ending

@@ -28,7 +28,7 @@ alike xs ys is = (bytes_eq-Decides xs ys).0 (not_unlike (pointwise nat_eq xs ys)
 same_word : (one other : Word) → codes "--lots" ∷ one ∷ [] ≡ codes "--lots" ∷ other ∷ [] → one ≡ other
 same_word one other same = cc
 
--- the list behind the option
+-- the list after the option
 pub asked_of_list :
     (words : List Word) (word : Word) (result : Result (List ℕ) WordsStop) → words ≡ codes "--lots" ∷ word ∷ []
     → IfOk result (IsLotList word) → (result ≡ Err BadWords → (lots : List ℕ) → IsLotList word lots → ⊥)

@@ -26,7 +26,7 @@ abbrev pub IsRefusedFile : (input : List ℕ) → InputFault → Type 0
 IsRefusedFile input fault = IsFileRefusal of_a_file (scan input false) fault
 
 -- The place in the list, from 1, of the first number that is no candidate or has stood before; where there is none
--- and a candidate is missing, the place behind the last.
+-- and a candidate is missing, the place after the last.
 abbrev pub IsBadPlace : ℕ → List ℕ → ℕ → Type 0
 IsBadPlace n lots place =
     IsTwiceAt n lots place
@@ -87,9 +87,9 @@ abbrev pub ReadsStored :
 ReadsStored holds among lots input (Ok contest) = IsStoredContest holds among lots input contest
 ReadsStored holds among lots input (Err stop) = ReadsContest lots input (Err stop)
 
--- ---- a file behind other bytes
+-- ---- a file after other bytes
 
--- a fault of what stands behind so many bytes, at its place in the whole
+-- a fault of what is after so many bytes, at its place in the whole
 abbrev pub behind : ℕ → InputFault → InputFault
 behind before fault = record { kind = fault.kind; at = before + fault.at }
 
@@ -97,7 +97,7 @@ abbrev pub stop_behind : ℕ → InputStop → InputStop
 stop_behind before (Fault fault) = Fault (behind before fault)
 stop_behind before NoMemory = NoMemory
 
--- The file behind so many bytes is refused at its place in the whole, or else the lots at their place in the list.
+-- The file after so many bytes is refused at its place in the whole, or else the lots at their place in the list.
 abbrev pub IsRefusedBehind : (before : ℕ) → (lots file : List ℕ) → InputFault → Type 0
 IsRefusedBehind before lots file fault =
     ((of_file : InputFault) × IsRefusedFile file of_file × (fault ≡ behind before of_file)) ⊎ HasBadLots lots file fault

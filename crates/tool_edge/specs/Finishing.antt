@@ -30,7 +30,7 @@ abbrev pub Wrote : {T E : Type 0} → (bytes : List ℕ) → Result T E → Writ
 Wrote bytes (Ok done) sink = NoWriteFailed sink × Appends sink.written sink.written_then bytes
 Wrote bytes (Err stop) sink = Rose sink.faults sink.faults_then × AppendsFront sink.written sink.written_then bytes
 
--- the end behind a piece of writing: no more bytes are taken, and a flush that fails is a fault
+-- the end after a piece of writing: no more bytes are taken, and a flush that fails is a fault
 abbrev pub Closes : {T E F : Type 0} → Result T E → End F → Writing → Type 0
 Closes (Ok done) end sink =
     Keeps sink.written sink.written_then

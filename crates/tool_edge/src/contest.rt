@@ -38,7 +38,7 @@ impl Contest {
         Ok(Contest { election, lots })
     }
 
-    /// The same of a ballot file that stands behind so many bytes: a fault of the file has its place in the whole.
+    /// The same of a ballot file that is after so many bytes: a fault of the file has its place in the whole.
     pub fn read_behind(
         alloc: Global,
         before: usize,
@@ -92,7 +92,7 @@ fn lots_for(alloc: Global, roll: &Roll, lots: &[u32]) -> Result<Lots, BltStop>
     }
 }
 
-/// A fault of what stands behind so many bytes gets its place in the whole.
+/// A fault of what is after so many bytes gets its place in the whole.
 fn stop_behind(before: usize, stop: BltStop) -> BltStop
     requires { OnFault stop (λ fault. before + fault.at < 2 ^ 64) }
     ensures { result ≡ stop_behind before stop }

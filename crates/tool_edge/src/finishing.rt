@@ -1,4 +1,4 @@
-// The end of a run: its last bytes, and the flush behind them.
+// The end of a run: its last bytes, and the flush after them.
 ghost use Rattle.std.specs.Prelude.{◌≡◌};
 ghost use Rattle.tool_edge.specs.Streams.{writing};
 ghost use Rattle.tool_edge.specs.Finishing.{Finishes, Closes};

@@ -4,7 +4,7 @@
 //! A tool reads its words ([`takes_lots`], [`takes_nothing`]), then the whole source ([`open`], or
 //! [`read_input`] where it reads words of its own), judges the input ([`Contest::read`] for a ballot file
 //! with an order of lots, or [`StoredContest::read`] where its ballots go into a store, by
-//! [`StoredContest::read_by`] in a way of the tool's), and writes what is owed, with one flush behind the
+//! [`StoredContest::read_by`] in a way of the tool's), and writes what is owed, with one flush after the
 //! last byte ([`finish`], [`close`]); a refusal is one line ([`refuse`], [`refuse_input`], [`refuse_words`]), and a tool may have
 //! a [`Fault`] of its own. How that ended is an [`End`], which has the exit status. [`words_of`] gives a
 //! `main` its words.

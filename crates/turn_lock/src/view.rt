@@ -1,4 +1,4 @@
-//! What a seat knows of its lock. It stands in proofs alone.
+//! What a seat knows of its lock. It is in proofs alone.
 use std::collections::LinkedList;
 
 /// What a seat that was taken in had given. No value of it is ever made.

@@ -53,7 +53,7 @@ module _ {classes : List Class} {stems : List Stem} {from to i : ℕ} {depths : 
   -- The rows of the stem are made as well.
   module _ {new : List Stem} (lt : i < to) (inside : to ≤ length stems)
       (entered : Entered classes (leb from i) stem (get_or depths (stem.depth - 1) 0) rows new) where
-    -- what the rows have given, with what is behind the stem still to be given
+    -- what the rows have given, with what is after the stem still to be given
     visited :
         {s : ℕ} {keeps : List ℕ} → AreOf s keeps classes
         → (f : Follows s keeps stems from to i under.depth depths rows) (c : ℕ)
@@ -82,7 +82,7 @@ module _ {classes : List Class} {stems : List Stem} {from to i : ℕ} {depths : 
         past-other s keeps f.weights stem e (omega arith)
         ∙ (f.same e (omega arith) ∙ sym (entered.above s keeps (get_or depths e 0) are rise))
 
-    -- something is left behind the stem
+    -- something is left after the stem
     pub underway-next :
         (below : ℕ) → Leaves classes (get_or depths (stem.depth - 1) 0) stem.candidate rows new (Some below)
         → IsUnderway classes stems from to (i + 1) (set depths stem.depth below) new
@@ -123,7 +123,7 @@ module _ {classes : List Class} {stems : List Stem} {from to i : ℕ} {depths : 
               };
         }
 
-    -- nothing is left behind it
+    -- nothing is left after it
     pub underway-jump :
         Leaves classes (get_or depths (stem.depth - 1) 0) stem.candidate rows new None
         → IsUnderway classes stems from to (i + stem.skip) depths new

@@ -1,4 +1,4 @@
--- The candidate that stands first in parts.
+-- The candidate that is first in parts.
 use Rattle.std.proofs.Common.{◌≡◌, ℕ, ◌+◌, ◌≤◌, true, List, [], ◌∷◌, ◌++◌, length, Option, Some, None, IfSome}
 use Rattle.std.proofs.Common.{◌⊎◌, ⊎_elim, arith, ap, sym, subst, ◌∙◌}
 use Rattle.std.specs.List.{All, flat_map}

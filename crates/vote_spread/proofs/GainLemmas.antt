@@ -37,12 +37,12 @@ walk_from n m d (stem ∷ stems) walk from = (
   walk.1,
 )
 
--- what stands behind some stems of a walk is a walk
+-- what is after some stems of a walk is a walk
 pub walk_behind : (n m : ℕ) (sub rest : List Stem) → IsWalk n m (sub ++ rest) → (d : ℕ) × IsWalk n d rest
 walk_behind n m [] rest walk = (m, walk)
 walk_behind n m (stem ∷ sub) rest walk = walk_behind n (stem.depth + 1) sub rest walk.1
 
--- weights behind a stem: at its own depth, and at the others
+-- weights after a stem: at its own depth, and at the others
 pub past-here :
     (s : ℕ) (keeps ws : List ℕ) (stem : Stem) → stem.depth < length ws
     → get_or (past s keeps ws stem) stem.depth 0 ≡ left s keeps ws stem
@@ -86,7 +86,7 @@ gains_agree n m s keeps c ws vs (stem ∷ stems) walk deep same agree =
     ap (λ (x : ℕ). x ∷ gains s keeps c (past s keeps ws stem) stems) gives
     ∙ ap (λ (t : List ℕ). gain s keeps c vs stem ∷ t) tail
 
--- what is given behind a subtree hangs only on the weights above it
+-- what is given after a subtree hangs only on the weights above it
 pub gains_behind :
     (n m a s : ℕ) (keeps : List ℕ) (c : ℕ) (ws vs : List ℕ) (sub rest : List Stem) → IsWalk n m (sub ++ rest)
     → All (λ r. a ≤ r.depth) sub → IsFrom a rest → 250 < length ws → length ws ≡ length vs

@@ -123,7 +123,7 @@ share_rises len k lanes some =
     let q : len * k / lanes < len * (k + 1) / lanes + 1 = lt_of_mul-lt-mul_right lanes less in
     omega arith
 
--- what two parts behind each other give together
+-- what two parts after each other give together
 parts_together : (xs : List ℕ) (a b : ℕ) → a ≤ b → sum (take a xs) + sum (drop a (take b xs)) ≡ sum (take b xs)
 parts_together xs a b le =
     ap (λ (l : List ℕ). sum l + sum (drop a (take b xs))) (sym (take-take a b xs le))

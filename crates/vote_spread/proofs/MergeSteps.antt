@@ -1,4 +1,4 @@
--- What stands at each step of merging: the nodes that were taken out, and one branch for them.
+-- What is at each step of merging: the nodes that were taken out, and one branch for them.
 use Rattle.std.proofs.Common.{◌≡◌, ℕ, ◌+◌, ◌-◌, ◌*◌, ◌<◌, ◌≤◌, List, [], ◌∷◌, ◌++◌, length, map, drop, get_or, set}
 use Rattle.std.proofs.Common.{sum_by, arith, ap, sym, subst, ◌∙◌}
 use Rattle.std.specs.List.{All, flat_map}
@@ -82,7 +82,7 @@ merged_alone {d = d} {nodes = nodes} {rows = rows} {old = old} {new = new} e one
     subst (λ (l : List (List PlanRow)). HasMerged d l old new) (sym (only nodes rows e one is))
     (merged_one d rows old new has)
 
--- nodes that go on alike are one branch with the rows behind the first node's first as its tail
+-- nodes that go on alike are one branch with the rows after the first node's first as its tail
 pub record IsOneBranch (d c ballots : ℕ) (nodes : List (List PlanRow)) (rows : List PlanRow) : Type 0 where
   pub short : length rows ≤ 250
   pub known : All (λ r. r.candidate ≤ 250) rows
@@ -112,7 +112,7 @@ one_branch {d = d} {c = c} {ballots = ballots} {nodes = nodes} {opened = opened}
           (tailed.merged old);
     }
 
--- A branch for nodes was put behind others, at this place, and stems for what is below the nodes behind it.
+-- A branch for nodes was put after others, at this place, and stems for what is below the nodes after it.
 pub record IsOpenBranch (d c ballots : ℕ) (nodes : List (List PlanRow)) (at : ℕ) (old now : List Stem) : Type 0 where
   pub place : at ≡ length old
   pub below :
@@ -145,7 +145,7 @@ module _ {d c ballots at : ℕ} {nodes : List (List PlanRow)} {old now : List St
         branch.place,
       )
 
-  -- it is closed behind them
+  -- it is closed after them
   pub branch_closed :
       (f : Stem) → 1 ≤ d → 1 ≤ length nodes → AreParts d nodes → All (IsAlone c) nodes
       → ballots ≡ sum_by first_ballots nodes

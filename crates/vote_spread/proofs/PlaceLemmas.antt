@@ -19,11 +19,11 @@ pub record IsAt (n : ℕ) (stems : List Stem) (i depth : ℕ) : Type 0 where
 abbrev pub Ahead : (s : ℕ) (keeps : List ℕ) (stems : List Stem) (i : ℕ) (weights : List ℕ) → Type 0
 Ahead s keeps stems i weights = (c : ℕ) → drop i (gains s keeps c (opening s) stems) ≡ gains s keeps c weights (drop i stems)
 
--- the stems of a subtree, behind its first
+-- the stems of a subtree, after its first
 abbrev pub subtree : List Stem → ℕ → Stem → List Stem
 subtree stems i stem = take (stem.skip - 1) (drop (i + 1) stems)
 
--- The stem at place i, with what stands behind it parted into its subtree and the rest.
+-- The stem at place i, with what is after it parted into its subtree and the rest.
 pub record IsParted (n : ℕ) (stems : List Stem) (i depth : ℕ) (stem : Stem) : Type 0 where
   pub walk : IsWalk n depth ((stem ∷ subtree stems i stem) ++ drop (i + stem.skip) stems)
   pub placed : IsPlaced n depth stem (drop (i + 1) stems)
@@ -68,13 +68,13 @@ module _ {n : ℕ} {stems : List Stem} {i depth : ℕ} {stem : Stem} (here : IsP
   abbrev rest : List Stem
   rest = drop (i + stem.skip) stems
 
-  -- the walk goes on behind the subtree
+  -- the walk goes on after the subtree
   pub at_past : IsAt n stems (i + stem.skip) stem.depth
   at_past =
       let next = walk_behind n depth (stem ∷ sub) rest here.walk in
       record { inside = here.inside; walk = walk_from n next.0 stem.depth rest next.1 here.behind }
 
-  -- and behind the stem
+  -- and after the stem
   pub at_next : IsAt n stems (i + 1) (stem.depth + 1)
   at_next =
       let e : (stem ∷ sub) ++ rest ≡ stem ∷ drop (i + 1) stems = ap (λ l. stem ∷ l) (sym here.cut) in
@@ -105,7 +105,7 @@ module _ {n : ℕ} {stems : List Stem} {i depth : ℕ} {stem : Stem} (here : IsP
         sym (drop-drop 1 i (gains s keeps c (opening s) stems))
         ∙ ap (drop 1) (ahead c ∙ ap (gains s keeps c ws) here.at)
 
-    -- what the stem gives to a candidate stands at its place
+    -- what the stem gives to a candidate is at its place
     pub gain_at : (c : ℕ) → get_or (gains s keeps c (opening s) stems) i 0 ≡ gain s keeps c ws stem
     gain_at c =
         let e : i + 0 ≡ i = omega arith in
@@ -113,7 +113,7 @@ module _ {n : ℕ} {stems : List Stem} {i depth : ℕ} {stem : Stem} (here : IsP
         ∙ (sym (get_or-drop i (gains s keeps c (opening s) stems) 0 0)
         ∙ ap (λ l. get_or l 0 0) (ahead c ∙ ap (gains s keeps c ws) here.at))
 
-    -- what the stems behind it give
+    -- what the stems after it give
     gains_on : (c : ℕ)
         → drop (i + 1) (gains s keeps c (opening s) stems) ≡ gains s keeps c (past s keeps ws stem) (sub ++ rest)
     gains_on c = ahead_next c ∙ ap (gains s keeps c (past s keeps ws stem)) here.cut

@@ -9,7 +9,7 @@ use Rattle.frozen_plan.proofs.TrieLemmas.{grown_more}
 use Rattle.vote_spread.specs.Packed.{AreRows}
 use Rattle.vote_spread.proofs.RowLemmas.{rows_of_forest}
 
--- the rows behind the root of a plan
+-- the rows after the root of a plan
 behind_root : (n : ℕ) (rows : List PlanRow) → IsPlan n rows → drop 1 rows ≡ rows_of 1 (forest_of rows)
 behind_root n rows plan = ap (drop 1) plan.preorder
 

@@ -12,13 +12,13 @@ use Rattle.vote_spread.specs.Stem.{Stem}
 use Rattle.vote_spread.specs.Rows.{row_stem, seen, Continues, Leaves}
 use Rattle.vote_spread.proofs.TotalLemmas.{row_continues, row_leaves, passes_continues, passes_leaves}
 
--- a row behind others
+-- a row after others
 pushed :
     (old new : List Row) (row : Row) → new ≡ old ++ row ∷ []
     → seen new ≡ seen old ++ row_stem row.depth row.candidate row.ballots ∷ []
 pushed old new row is = ap seen is ∙ map_push (λ (r : Row). row_stem r.depth r.candidate r.ballots) old row
 
--- The row of a candidate of class x stands behind the others where it keeps anything.
+-- The row of a candidate of class x is after the others where it keeps anything.
 pub record IsPut (x : Class) (classes : List Class) (at candidate ballots : ℕ) (old new : List Row) : Type 0 where
   pub class : (d : Class) → get_or classes (candidate - 1) d ≡ x
   pub depth : at < 250
@@ -65,7 +65,7 @@ put_continues Shares classes at candidate ballots old new put =
 put_continues Keeps classes at candidate ballots old new put =
     row_put classes at candidate ballots old new put.depth put.number put.known (put.stands refl)
 
--- and what it leaves stands there
+-- and what it leaves is there
 pub put_leaves :
     (x : Class) (classes : List Class) (at candidate ballots : ℕ) (old new : List Row)
     → IsPut x classes at candidate ballots old new → leaves_some x ≡ true

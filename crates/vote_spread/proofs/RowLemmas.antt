@@ -23,7 +23,7 @@ rows_of_forest n d low f grown few =
       few = subst (λ (g : Forest). through g ≤ 999999999) (sym same) few;
     }
 
--- Rows parted behind the first node and those below it.
+-- Rows parted after the first node and those below it.
 pub record IsParted (n d skip : ℕ) (rows : List PlanRow) : Type 0 where
   pub some : 1 ≤ skip
   pub inside : skip ≤ length rows

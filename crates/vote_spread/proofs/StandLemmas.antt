@@ -25,7 +25,7 @@ stand-nothing n d = record {
   gives = λ s keeps c weights rest is walk long. omega arith;
 }
 
--- siblings behind siblings
+-- siblings after siblings
 pub stand-append :
     (n d : ℕ) (xs ys : List Stem) (some more : List (List ℕ)) → StandFor n d xs some → StandFor n d ys more
     → StandFor n d (xs ++ ys) (some ++ more)
@@ -76,7 +76,7 @@ pub deeper_walk : (n d : ℕ) (stems : List Stem) → IsWalk n d stems → IsWal
 deeper_walk n d [] walk = tt
 deeper_walk n d (stem ∷ stems) walk = walk_from n d (d + 1) (stem ∷ stems) walk (omega (arith, walk.0.not_too_deep))
 
--- what stands behind a node is as it would be without the node
+-- what is after a node is as it would be without the node
 behind_node :
     (n d s : ℕ) (keeps : List ℕ) (c : ℕ) (weights : List ℕ) (stem : Stem) (rest : List Stem) → stem.depth ≡ d
     → IsWalk n d rest → 250 < length weights

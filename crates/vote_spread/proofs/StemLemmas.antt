@@ -7,7 +7,7 @@ use Rattle.vote_spread.specs.declared.branch.Branch.{Branch}
 use Rattle.vote_spread.specs.Stem.{Stem, stem_of, stems_of, closed_stem}
 use Rattle.vote_spread.specs.Walk.{HaveTails}
 
--- tails that stand are not moved by more behind them
+-- tails that stand are not moved by more after them
 pub stems_of-more :
     (tails more : List ℕ) (branches : List Branch) → HaveTails (length tails) branches
     → stems_of (tails ++ more) branches ≡ stems_of tails branches
@@ -23,7 +23,7 @@ stems_of-more tails more (b ∷ branches) have =
     ∷ stems_of (tails ++ more) branches) cut
     ∙ ap (λ l. stem_of tails b ∷ l) (stems_of-more tails more branches (λ k d lt. have (suc k) d (omega arith)))
 
--- a branch behind others, with its tail behind theirs
+-- a branch after others, with its tail after theirs
 pub stems_of-push :
     (tails tail : List ℕ) (branches : List Branch) (b : Branch) → HaveTails (length tails) branches
     → b.tail ≡ length tails → b.length ≡ length tail

@@ -161,7 +161,7 @@ taken_few c (rows ∷ parts) =
     omega
     (arith, front_few c rows, taken_few c parts, length-append (front c rows) (flat_map (front c) parts))
 
--- room that is enough for all parts at m + 1 depths is enough for their nodes at one, and behind these at m
+-- room that is enough for all parts at m + 1 depths is enough for their nodes at one, and after these at m
 pub room_below :
     (m parts nodes room : ℕ) → nodes ≤ parts → (m + 1) * parts ≤ room
     → (nodes ≤ room) × (m * nodes ≤ room - nodes)

@@ -1,4 +1,4 @@
--- What rows give in all, and the weights behind them, as rows are added.
+-- What rows give in all, and the weights after them, as rows are added.
 use Rattle.std.proofs.Common.{◌≡◌, ℕ, ◌+◌, ◌-◌, ◌*◌, ◌<◌, ◌≤◌, ◌==◌, Bool, true, false, cond, List, [], ◌∷◌}
 use Rattle.std.proofs.Common.{◌++◌, length, get_or, replicate, sum, arith, refl, ap, sym, ◌∙◌, Some, None}
 use Rattle.std.proofs.lemmas.List.{length-set, length-replicate}
@@ -67,7 +67,7 @@ row_continues classes at candidate ballots rows shallow number known =
           * given s keeps (get_or (behind s keeps (opening s) rows) n 0) (candidate ∷ []) c) here;
     }
 
--- what is left behind it
+-- what is left after it
 pub row_leaves :
     (s : ℕ) (keeps : List ℕ) (at candidate ballots : ℕ) (rows : List Stem) → at < 250
     → left_at s keeps (rows ++ row_stem (at + 1) candidate ballots ∷ []) (at + 1)
@@ -114,7 +114,7 @@ passes_leaves classes at candidate d rows number known is = (
       omega arith,
 )
 
--- ranks that go on behind a candidate
+-- ranks that go on after a candidate
 pub continues_then :
     (classes : List Class) (ballots at below candidate : ℕ) (ranks : List ℕ) (old mid new : List Stem)
     → Continues classes ballots at (candidate ∷ []) old mid → Leaves classes at candidate old mid (Some below)
@@ -139,7 +139,7 @@ continues_then classes ballots at below candidate ranks old mid new one leaves t
       omega arith;
 }
 
--- ranks behind a candidate that leaves nothing
+-- ranks after a candidate that leaves nothing
 pub continues_end :
     (classes : List Class) (ballots at candidate : ℕ) (ranks : List ℕ) (old new : List Stem)
     → Continues classes ballots at (candidate ∷ []) old new → Leaves classes at candidate old new None

@@ -62,7 +62,7 @@ lower below le climbs = record {
   low = λ a lt. climbs.low a (omega arith);
 }
 
--- One depth is written behind those that were climbed, at most one above the depth before it.
+-- One depth is written after those that were climbed, at most one above the depth before it.
 module _ {depth : ℕ} {depths : List ℕ} (climbs : Climbs depth depths) (at below : ℕ) (one : 1 ≤ at)
     (le : at ≤ depth) (shallow : at ≤ 250) where
   written : get_or (set depths at below) at 0 ≡ below

@@ -75,7 +75,7 @@ part-le s keeps c stems from to =
     let two = sum_by-take-drop (λ x. x) (take to all) from in
     omega arith
 
--- a stem counts where it stands in the part
+-- a stem counts where it is in the part
 pub still_visit :
     (s : ℕ) (keeps : List ℕ) (c : ℕ) (stems : List Stem) (from to i : ℕ) → i < to → to ≤ length stems
     → still s keeps c stems from to i

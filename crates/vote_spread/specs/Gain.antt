@@ -4,7 +4,7 @@ use Rattle.vote_spread.specs.declared.depths.TheConstants.{DEPTHS}
 use Rattle.meek_rule.specs.Weights.{kept, given}
 use Rattle.vote_spread.specs.Stem.{Stem}
 
--- the weight with which a stem is reached, where `weights` has for each depth the weight behind the candidate there
+-- the weight with which a stem is reached, where `weights` has for each depth the weight after the candidate there
 abbrev pub reached : (weights : List ℕ) → Stem → ℕ
 reached weights stem = slice_index weights (stem.depth - 1)
 
@@ -12,7 +12,7 @@ reached weights stem = slice_index weights (stem.depth - 1)
 abbrev pub left : (s : ℕ) (keeps : List ℕ) (weights : List ℕ) → Stem → ℕ
 left s keeps weights stem = reached weights stem - kept s keeps (reached weights stem) stem.candidate
 
--- the weights behind a stem
+-- the weights after a stem
 abbrev pub past : (s : ℕ) (keeps : List ℕ) (weights : List ℕ) → Stem → List ℕ
 past s keeps weights stem = slice_set weights stem.depth (left s keeps weights stem)
 

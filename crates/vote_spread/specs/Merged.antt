@@ -17,7 +17,7 @@ abbrev pub front : (c : ℕ) → List PlanRow → List (List PlanRow)
 front c [] = []
 front c (row ∷ rows) = if row.candidate == c then take row.skip (row ∷ rows) ∷ [] else []
 
--- and those behind
+-- and those after
 abbrev pub behind : (c : ℕ) → List PlanRow → List PlanRow
 behind c [] = []
 behind c (row ∷ rows) = if row.candidate == c then drop row.skip (row ∷ rows) else row ∷ rows
@@ -56,7 +56,7 @@ pub record AreOfAll (n d : ℕ) (rows : List PlanRow) : Type 0 where
   pub low : ℕ
   pub grown : IsGrown n low d (nodes_of rows)
 
--- stems for the ballots of all parts were added behind others, whatever the number of candidates
+-- stems for the ballots of all parts were added after others, whatever the number of candidates
 pub record HasMerged (d : ℕ) (parts : List (List PlanRow)) (old new : List Stem) : Type 0 where
   pub added : List Stem
   pub is : new ≡ old ++ added

@@ -27,7 +27,7 @@ pub record AreRows (n d : ℕ) (rows : List PlanRow) : Type 0 where
   pub grown : IsGrown n low d (nodes_of rows)
   pub few : through (nodes_of rows) ≤ MOST_BALLOTS
 
--- stems for the ballots of rows at depth d were added behind others, whatever the number of candidates
+-- stems for the ballots of rows at depth d were added after others, whatever the number of candidates
 pub record HasAdded (d : ℕ) (rows : List PlanRow) (old new : List Stem) : Type 0 where
   pub added : List Stem
   pub is : new ≡ old ++ added

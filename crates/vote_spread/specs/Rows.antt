@@ -23,7 +23,7 @@ pub record IsRow (n : ℕ) (row : Stem) : Type 0 where
   pub candidate : 1 ≤ row.candidate
   pub known : row.candidate ≤ n
 
--- the weights behind rows, for each depth
+-- the weights after rows, for each depth
 abbrev pub behind : (s : ℕ) (keeps : List ℕ) (weights : List ℕ) → List Stem → List ℕ
 behind s keeps weights [] = weights
 behind s keeps weights (row ∷ rows) = behind s keeps (past s keeps weights row) rows
@@ -47,7 +47,7 @@ pub record Continues (classes : List Class) (ballots at : ℕ) (ranks : List ℕ
 abbrev pub rest : (s : ℕ) (keeps : List ℕ) → List Stem → (at candidate : ℕ) → ℕ
 rest s keeps rows at candidate = left_at s keeps rows at - kept s keeps (left_at s keeps rows at) candidate
 
--- what a candidate leaves of the weight at depth `at` stands at the depth below, or is nothing
+-- what a candidate leaves of the weight at depth `at` is at the depth below, or is nothing
 abbrev pub Leaves : (classes : List Class) (at candidate : ℕ) (old new : List Stem) → Option ℕ → Type 0
 Leaves classes at candidate old new (Some below) = (at ≤ below) × (below ≤ at + 1) × ((s : ℕ) (keeps : List ℕ) → AreOf s keeps classes → left_at s keeps new below ≡ rest s keeps old at candidate)
 Leaves classes at candidate old new None = (s : ℕ) (keeps : List ℕ) → AreOf s keeps classes → rest s keeps old at candidate ≡ 0

@@ -12,7 +12,7 @@ pub record Stem : Type 0 where
   pub skip : ℕ
   pub tail : List ℕ
 
--- a branch whose tail stands among these
+-- a branch whose tail is among these
 abbrev pub stem_of : (tails : List ℕ) → Branch → Stem
 stem_of tails b =
     record { depth = b.depth; candidate = b.candidate; ballots = b.ballots; skip = b.skip; tail = take b.length (drop b.tail tails) }
@@ -25,6 +25,6 @@ abbrev pub stem_of_row : (depth : ℕ) → PlanRow → List PlanRow → Stem
 stem_of_row depth row rows =
     record { depth = depth; candidate = row.candidate; ballots = row.ballots; skip = 1; tail = map (λ r. r.candidate) rows }
 
--- a stem that takes in those behind it, `skip` together
+-- a stem that takes in those after it, `skip` together
 abbrev pub closed_stem : Stem → (skip : ℕ) → Stem
 closed_stem stem skip = record { depth = stem.depth; candidate = stem.candidate; ballots = stem.ballots; skip = skip; tail = stem.tail }

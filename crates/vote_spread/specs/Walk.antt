@@ -10,7 +10,7 @@ IsFrom d [] = Unit {0}
 IsFrom d (stem ∷ stems) = stem.depth ≤ d
 
 -- A stem before other stems: its depth is from 1 to m and with its tail at most 250, its candidates are among n, the
--- stems below it stand right behind it and are deeper, and those behind them are not.
+-- stems below it stand right after it and are deeper, and those after them are not.
 pub record IsPlaced (n m : ℕ) (stem : Stem) (stems : List Stem) : Type 0 where
   pub below_root : 1 ≤ stem.depth
   pub not_too_deep : stem.depth ≤ m

@@ -50,7 +50,7 @@ impl Branches {
         self.list.len()
     }
 
-    /// Puts a node at a depth behind the others, and the candidates that follow on all its ballots.
+    /// Puts a node at a depth after the others, and the candidates that follow on all its ballots.
     pub(crate) fn push(
         &mut self,
         depth: u16,
@@ -79,7 +79,7 @@ impl Branches {
         Ok(())
     }
 
-    /// Says of a node that all behind it are below it.
+    /// Says of a node that all after it are below it.
     pub(crate) fn close(&mut self, at: usize)
         requires { at < length self.old }
         ensures { (d : _) → self.new ≡ slice_set self.old at (closed_stem (slice_index_or self.old at d) (length self.old - at)) }

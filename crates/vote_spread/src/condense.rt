@@ -64,7 +64,7 @@ fn counted(branch: Branch, counts: bool) -> Branch
     }
 }
 
-/// The candidates behind a branch.
+/// The candidates after a branch.
 fn tail_of(branch: Branch, tails: &[u8]) -> &[u8]
     requires { branch.tail + branch.length ≤ length tails.now }
     ensures { result.now ≡ (stem_of tails.now branch).tail }
@@ -73,7 +73,7 @@ fn tail_of(branch: Branch, tails: &[u8]) -> &[u8]
     &tails[at..at + branch.length as usize]
 }
 
-/// Puts the rows of a branch and of its tail behind the others, and gives the depth below which its
+/// Puts the rows of a branch and of its tail after the others, and gives the depth below which its
 /// weight stands, if anything is left of it.
 fn enter(branch: Branch, tail: &[u8], at: u8, classes: &[Class], rows: &mut Vec<Row>) -> Option<u8>
     requires candidate { (1 ≤ branch.candidate) × (branch.candidate ≤ length classes.now) }
@@ -90,7 +90,7 @@ fn enter(branch: Branch, tail: &[u8], at: u8, classes: &[Class], rows: &mut Vec<
     Some(below)
 }
 
-/// Puts the rows of a tail behind the others, as far as anything is left.
+/// Puts the rows of a tail after the others, as far as anything is left.
 fn follow(ballots: u32, tail: &[u8], at: u8, classes: &[Class], rows: &mut Vec<Row>)
     requires ranks { All (λ r. (1 ≤ r) × (r ≤ length classes.now)) tail.now }
     requires depth { at + length tail.now ≤ MOST_CANDIDATES }
@@ -108,8 +108,8 @@ fn follow(ballots: u32, tail: &[u8], at: u8, classes: &[Class], rows: &mut Vec<R
     }
 }
 
-/// Puts the row of a candidate behind the others, where it keeps anything of what stands behind
-/// depth `at`. Gives the depth behind which the rest stands, if there is any.
+/// Puts the row of a candidate after the others, where it keeps anything of what is after
+/// depth `at`. Gives the depth after which the rest stands, if there is any.
 fn put(ballots: u32, candidate: u8, at: u8, classes: &[Class], rows: &mut Vec<Row>) -> Option<u8>
     requires candidate { (1 ≤ candidate) × (candidate ≤ length classes.now) }
     requires depth { at < MOST_CANDIDATES }
@@ -134,7 +134,7 @@ fn put(ballots: u32, candidate: u8, at: u8, classes: &[Class], rows: &mut Vec<Ro
     }
 }
 
-/// Puts a row behind the others if it is to stand there. It is written in either case, and left out
+/// Puts a row after the others if it is to stand there. It is written in either case, and left out
 /// again, so that no jump depends on which it is: none of the two is foretold well.
 fn push_where(stands: bool, row: Row, rows: &mut Vec<Row>)
     requires room { vec_len rows.old < vec_capacity rows.old }

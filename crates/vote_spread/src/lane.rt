@@ -109,7 +109,7 @@ impl Lane {
 /// memory that another reads.
 const APART: usize = 16;
 
-/// So many zeros, with room behind them that is never used.
+/// So many zeros, with room after them that is never used.
 pub(crate) fn zeros(alloc: Global, len: usize) -> Result<Vec<u64>, NoMemory>
     requires { len < 2 ^ 32 }
     ensures { IfOk result (λ list. list.items ≡ replicate len 0) }

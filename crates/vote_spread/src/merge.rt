@@ -14,7 +14,7 @@ use crate::part::Part;
 use frozen_plan::PlanRow;
 
 /// Packs siblings of several plans at a depth and all below them. Those of one candidate are one branch.
-/// In the room lie the nodes that are on their way, those of each depth behind those above.
+/// In the room lie the nodes that are on their way, those of each depth after those above.
 #[cycle(merge)]
 pub(crate) fn merge<'a>(
     parts: &mut [Part<'a>],
@@ -119,7 +119,7 @@ fn take_nodes<'a>(candidate: u16, parts: &mut [Part<'a>], room: &mut [Part<'a>])
 }
 
 /// Takes the next sibling of a part out to place `at` of the room, where it is of this candidate, and
-/// gives the place behind.
+/// gives the place after.
 fn take_node<'a>(candidate: u16, part: &mut Part<'a>, at: usize, room: &mut [Part<'a>]) -> usize
     requires rows { (d : ℕ) × AreRows MOST_CANDIDATES d part.old }
     requires room { at < length room.old }

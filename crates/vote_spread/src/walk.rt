@@ -25,7 +25,7 @@ pub(crate) fn walk(rows: &[Row], leaving: &Leaving, weights: &mut [u64], tally: 
     }
 }
 
-/// Sets the weight behind a row, and adds to the tally what its ballots give to its candidate.
+/// Sets the weight after a row, and adds to the tally what its ballots give to its candidate.
 fn visit(row: Row, leaving: &Leaving, weights: &mut [u64], tally: &mut [u64])
     requires depth { (1 ≤ row.depth) × (row.depth < length weights.old) }
     requires candidate { (1 ≤ row.candidate) × (row.candidate ≤ length tally.old) }

@@ -81,13 +81,13 @@ paid-ends prices rest c (suc n) xs =
     sum_by-cons (λ (r : List ℕ). given_under Warren 1 prices rest r c) [] (replicate n [] ++ xs)
     ∙ (zero-add _ ∙ paid-ends prices rest c n xs)
 
--- siblings behind siblings
+-- siblings after siblings
 pub paid-append :
     (prices : List ℕ) (rest c : ℕ) (xs ys : List (List ℕ))
     → paid prices rest (xs ++ ys) c ≡ paid prices rest xs c + paid prices rest ys c
 paid-append prices rest c xs ys = sum_by-append (λ (r : List ℕ). given_under Warren 1 prices rest r c) xs ys
 
--- a node of candidate k at which n ballots end, with those below it, and the siblings behind it
+-- a node of candidate k at which n ballots end, with those below it, and the siblings after it
 pub paid-grown :
     (prices : List ℕ) (rest c k n : ℕ) (inner next : Forest)
     → paid prices rest (ballots_of (Grown k n inner next)) c

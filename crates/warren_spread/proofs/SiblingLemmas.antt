@@ -23,7 +23,7 @@ siblings_of n d low f grown = record {
   grown = subst (IsGrown n low d) (sym (nodes_are d f)) grown;
 }
 
--- the rows below the first node, and those behind them
+-- the rows below the first node, and those after them
 abbrev pub IsCut : ℕ → List PlanRow → PlanRow → Type 0
 IsCut n rows node =
     (node.skip ≤ length rows)
@@ -80,7 +80,7 @@ cut n rows e are some =
     subst (λ (l : List PlanRow). IsCut n l (get_or l 0 e)) (sym are.preorder)
     (parted_forest n are.depth are.low (nodes_of rows) e are.grown (omega (arith, ap length are.preorder)))
 
--- the rows behind the root of a plan
+-- the rows after the root of a plan
 behind_root : (n : ℕ) (rows : List PlanRow) → IsPlan n rows → drop 1 rows ≡ rows_of 1 (forest_of rows)
 behind_root n rows plan = ap (drop 1) plan.preorder
 

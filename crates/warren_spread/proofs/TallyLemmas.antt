@@ -11,7 +11,7 @@ use Rattle.meek_rule.specs.Weights.{vote_under, votes_under}
 use Rattle.warren_spread.specs.Paid.{paid}
 use Rattle.warren_spread.proofs.PaidLemmas.{paid-append, paid-le, vote-paid}
 
--- the plan that comes next, and those behind it
+-- the plan that comes next, and those after it
 pub paid-next :
     (prices : List ℕ) (rest c : ℕ) (plans : List PlanRows) (i : ℕ) (e : PlanRows) → i < length plans
     → paid prices rest (all_ballots (drop i plans)) c
@@ -29,7 +29,7 @@ ballots-next plans i e below =
     ap (λ (l : List PlanRows). length (all_ballots l)) (drop_more plans i e below)
     ∙ length-append (plan_ballots (get_or plans i e).rows) (all_ballots (drop (i + 1) plans))
 
--- behind the last plan there are no ballots
+-- after the last plan there are no ballots
 pub no-ballots-left : (plans : List PlanRows) (i : ℕ) → length plans ≤ i → all_ballots (drop i plans) ≡ []
 no-ballots-left plans i past = ap all_ballots (drop_all i plans past)
 

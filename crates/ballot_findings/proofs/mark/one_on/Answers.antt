@@ -16,9 +16,9 @@ returns-clause-is c =
           let was = c.requires.is.line in
           omega (arith, more, ended, was);
       column =
-          c.column_behind.ensures.value
+          c.column_after.ensures.value
           ∙ (ap (λ (n : ℕ). if is_break (slice_index text at) then 1 else n + 1) c.requires.is.column
           ∙ sym (column_more text at c.requires.inside));
       few_lines = omega (arith, c.lines_ended.ensures.few, c.requires.is.few_lines);
-      few_columns = omega (arith, c.column_behind.ensures.few, c.requires.is.few_columns);
+      few_columns = omega (arith, c.column_after.ensures.few, c.requires.is.few_columns);
     }

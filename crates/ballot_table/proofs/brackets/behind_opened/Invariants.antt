@@ -2,7 +2,7 @@ use Rattle.std.proofs.Common.{◌≡◌, ◌+◌, ◌≤◌, eqb, not, length, t
 use Rattle.std.specs.List.{suffix_len}
 use Rattle.ballot_table.proofs.brackets.behind_opened.Given as goal
 
--- no byte behind opens brackets
+-- no byte after opens brackets
 abbrev pub invariant-loop-end : goal.invariant-loop-end
 invariant-loop-end l = record {
   inside : l.end ≤ length l.bytes;

@@ -3,7 +3,7 @@ use Rattle.std.specs.List.{suffix_len}
 use Rattle.ballot_table.specs.Texts.{is_edge}
 use Rattle.ballot_table.proofs.edges.without_end.Given as goal
 
--- all bytes behind are at the edge
+-- all bytes after are at the edge
 abbrev pub invariant-loop-end : goal.invariant-loop-end
 invariant-loop-end l = record {
   inside : l.end ≤ length l.bytes;

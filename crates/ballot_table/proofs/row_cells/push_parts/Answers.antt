@@ -14,7 +14,7 @@ use Rattle.ballot_table.proofs.PartLemmas.{ArePushed, all_pushed, part_faulty, p
 use Rattle.ballot_table.proofs.row_cells.push_parts.Goals as goal
 use Rattle.ballot_table.proofs.row_cells.push_parts.Goals.{In-Some, In-None}
 
--- this turn's part is the next between the semicolons, behind those so far
+-- this turn's part is the next between the semicolons, after those so far
 record Next (c : In-Some) : Type 0 where
   inside : length c.loop-part.yielded < length (pieces_of c.args.list.now)
   here : c.in-Some.part.now ≡ get_or (pieces_of c.args.list.now) (length c.loop-part.yielded) c.in-Some.part.now
@@ -64,7 +64,7 @@ loop-part-preserved c =
     c.in-Ok.says c.loop-part.invariant
     (ap (says_in asked) (sym c.trimmed.ensures) ∙ sym c.in-Ok.ensures) c.in_ok-push-in-Ok.ensures)
 
--- behind the last part
+-- after the last part
 whole : (c : In-None)
     → (fault_one (all_of (map (says_in (asked_of c.args.asked.now)) (parts c.args.list.now))) ≡ None)
     × SaysAll (sound_one (all_of (map (says_in (asked_of c.args.asked.now)) (parts c.args.list.now)))) c.args.said.now

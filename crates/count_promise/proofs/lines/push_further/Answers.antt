@@ -8,7 +8,7 @@ use Rattle.count_promise.specs.Quota.{promised_quota}
 use Rattle.count_promise.specs.Lines.{amount_line, greatest_line, promise_lines, whose_quota}
 use Rattle.count_promise.proofs.lines.push_further.Goals as goal
 
--- four texts behind one
+-- four texts after one
 behind : (old a b c d : List ℕ) → old ++ a ++ b ++ c ++ d ≡ old ++ (a ++ b ++ c ++ d)
 behind old a b c d =
     ap (λ (l : List ℕ). l ++ d)

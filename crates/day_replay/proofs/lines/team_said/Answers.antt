@@ -7,7 +7,7 @@ use Rattle.day_replay.proofs.Fronts.{team_line, says_begins, begins_says}
 use Rattle.day_replay.proofs.Taking.{none_beyond}
 use Rattle.day_replay.proofs.lines.team_said.Goals as goal
 
--- what stands in the front
+-- what is in the front
 front_of :
     (n : ℕ) (empty number front : List ℕ) → empty ≡ [] → number ≡ empty ++ decimal n
     → front ≡ number ++ codes " team " → front ≡ decimal n ++ codes " team "

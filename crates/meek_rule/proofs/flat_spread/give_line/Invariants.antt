@@ -3,7 +3,7 @@ use Rattle.fixed_place.specs.Rounding.{scale}
 use Rattle.meek_rule.specs.Weights.{given}
 use Rattle.meek_rule.proofs.flat_spread.give_line.Given as goal
 
--- what the ranks behind are still to give is what is missing
+-- what the ranks after are still to give is what is missing
 abbrev pub invariant-loop-rank : goal.invariant-loop-rank
 invariant-loop-rank g l =
     let s = scale g.row.P in

@@ -3,7 +3,7 @@ use Rattle.std.specs.List.{suffix_len}
 use Rattle.preflib_text.specs.Texts.{is_blank}
 use Rattle.preflib_text.proofs.blanks.before_blanks.Given as goal
 
--- all bytes behind are blank
+-- all bytes after are blank
 abbrev pub invariant-loop-end : goal.invariant-loop-end
 invariant-loop-end l = record {
   inside : l.end ≤ length l.bytes;

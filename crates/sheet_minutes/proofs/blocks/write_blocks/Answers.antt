@@ -12,7 +12,7 @@ use Rattle.sheet_minutes.proofs.Ends.{some_round}
 use Rattle.sheet_minutes.proofs.Measures.{some_room}
 use Rattle.sheet_minutes.proofs.blocks.write_blocks.Goals as goal
 
--- a block and those behind it are the blocks from there on
+-- a block and those after it are the blocks from there on
 next_block :
     (places : ℕ) (v : SheetList) (width first end : ℕ) (items : List Row) → items ≡ v.rows → width ≤ 20 → first < length items
     → rounds_in items first (end - first) ≡ take (ROUND_COLUMNS / (width + MARK_COLUMNS)) (rounds_in items first (length items - first))

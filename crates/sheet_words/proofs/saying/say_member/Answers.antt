@@ -10,7 +10,7 @@ use Rattle.sheet_words.specs.Phrases.{called, member, separator, with_votes}
 use Rattle.sheet_words.proofs.Written.{later, stops, said_nothing}
 use Rattle.sheet_words.proofs.saying.say_member.Goals as goal
 
--- the votes of a candidate, and what stands behind them
+-- the votes of a candidate, and what is after them
 abbrev votes_of : (places : ℕ) → Row → Group → (p : ℕ) → List (List ℕ)
 votes_of places row group p = with_votes places (slice_index row.votes p) (separator (members_from row group (p + 1)))
 

@@ -3,7 +3,7 @@ use Rattle.vote_spread.specs.Rows.{seen}
 use Rattle.vote_spread.proofs.FollowLemmas.{Missing}
 use Rattle.vote_spread.proofs.condense.follow.Given as goal
 
--- what the candidates behind are still to get is what is missing
+-- what the candidates after are still to get is what is missing
 abbrev pub invariant-loop-rank : goal.invariant-loop-rank
 invariant-loop-rank l = record {
   capacity : vec_capacity l.rows ≡ vec_capacity l.fn.rows;

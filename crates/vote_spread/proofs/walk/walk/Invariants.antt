@@ -4,7 +4,7 @@ use Rattle.vote_spread.specs.Gain.{gains}
 use Rattle.vote_spread.specs.Rows.{seen, total}
 use Rattle.vote_spread.proofs.walk.walk.Given as goal
 
--- what the rows behind are still to give is what is missing
+-- what the rows after are still to give is what is missing
 abbrev pub invariant-loop-row : goal.invariant-loop-row
 invariant-loop-row l =
     let s = l.leaving.one in

@@ -4,7 +4,7 @@ use Rattle.lot_order.specs.Lots.{first_marked}
 use Rattle.lot_order.proofs.LotsLemmas.{first_marked-order}
 use Rattle.lot_order.proofs.lots.Lots.first_of.Goals as goal
 
--- someone marked stands in the order
+-- someone marked is in the order
 pub unreachable-requires : goal.unreachable-requires
 unreachable-requires c =
     let marks = c.args.tied.now in

@@ -4,7 +4,7 @@ use Rattle.plain_ballots.specs.Ranking.{IsRanking}
 use Rattle.plain_ballots.proofs.BallotsLemmas.{IsSound-push, ballot_count-push}
 use Rattle.plain_ballots.proofs.ballots.Ballots.push_line.Goals as goal
 
--- with the line behind it the list is sound, and its total is the sum
+-- with the line after it the list is sound, and its total is the sum
 pub invariant_of-self : goal.invariant_of-self
 invariant_of-self c =
     let candidates = ap (λ (b : BallotList). b.candidates) (sym c.self.view_is) in

@@ -7,7 +7,7 @@ use Rattle.preflib_text.specs.Texts.{behind_blanks, trimmed}
 use Rattle.preflib_text.proofs.EntryLemmas.{none_passes, some_passes}
 use Rattle.preflib_text.proofs.entry.Entry.of.Goals as goal
 
--- what stands behind the `#`, as the code has it
+-- what is after the `#`, as the code has it
 text_is : (bytes : List ℕ) → take (length bytes - 1) (drop 1 bytes) ≡ drop 1 bytes
 text_is bytes = take_rest bytes 1
 
