@@ -16,10 +16,13 @@ pub(crate) struct Case<'a> {
     pub(crate) write: usize,
     /// How many bytes the sink takes in all.
     pub(crate) room: usize,
-    /// The numbers of the reads, and of the writes and flushes, that fail.
+    /// The numbers of the reads, of those of the second input, and of the writes and flushes, that fail.
     pub(crate) failing_reads: Vec<u64>,
+    pub(crate) failing_file_reads: Vec<u64>,
     pub(crate) failing_writes: Vec<u64>,
     pub(crate) input: Vec<u8>,
+    /// The second input, where the tool is to run over two.
+    pub(crate) file: Option<Vec<u8>>,
     pub(crate) output: Vec<u8>,
     /// The exit status, once it was read.
     pub(crate) status: Option<u8>,
@@ -97,8 +100,10 @@ impl<'a> Case<'a> {
             write: 1_400,
             room: 1_000_000,
             failing_reads: Vec::new(alloc),
+            failing_file_reads: Vec::new(alloc),
             failing_writes: Vec::new(alloc),
             input: Vec::new(alloc),
+            file: None,
             output: Vec::new(alloc),
             status: None,
             calls: None,
@@ -112,6 +117,7 @@ impl<'a> Case<'a> {
             "words" => push_words(alloc, &mut self.words, rest),
             "word" => push_word(alloc, &mut self.words, rest),
             "failing-reads" => push_numbers(&mut self.failing_reads, rest),
+            "failing-file-reads" => push_numbers(&mut self.failing_file_reads, rest),
             "failing-writes" => push_numbers(&mut self.failing_writes, rest),
             "status" => put_status(&mut self.status, rest),
             "read" => put(&mut self.read, rest, 1),

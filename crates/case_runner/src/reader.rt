@@ -15,6 +15,7 @@ enum Part {
     Text,
     Words,
     Input,
+    File,
     Output,
 }
 
@@ -62,7 +63,7 @@ impl<'a> CaseReader<'a> {
                 self.texts.push(replace(&mut self.text, next))?;
                 Ok(false)
             }
-            Part::Words | Part::Input | Part::Output => match self.case.status {
+            Part::Words | Part::Input | Part::File | Part::Output => match self.case.status {
                 Some(_) => Ok(true),
                 None => Err(LineFault::NoStatus),
             },
@@ -93,6 +94,16 @@ impl<'a> CaseReader<'a> {
         Ok(())
     }
 
+    /// Begins the second input of a case whose tool takes two.
+    fn begin_file(&mut self, alloc: Global) -> Result<(), LineFault> {
+        if !self.case.tool.takes_two() || self.case.file.is_some() {
+            return Err(LineFault::BadLine);
+        }
+        self.case.file = Some(Vec::new(alloc));
+        self.part = Part::File;
+        Ok(())
+    }
+
     /// Takes the tool of the cases from here on.
     fn take_tool(&mut self, name: &str) -> Result<(), LineFault> {
         self.tool = Tool::named(name);
@@ -108,6 +119,10 @@ impl<'a> CaseReader<'a> {
         match self.part {
             Part::Text => push_marked(&mut self.text.bytes, texts, mark, rest),
             Part::Input => push_marked(&mut self.case.input, texts, mark, rest),
+            Part::File => match &mut self.case.file {
+                Some(file) => push_marked(file, texts, mark, rest),
+                None => Err(LineFault::BadLine),
+            },
             Part::Output => push_marked(&mut self.case.output, texts, mark, rest),
             Part::Nothing | Part::Words => Err(LineFault::BadLine),
         }
@@ -118,6 +133,7 @@ impl<'a> CaseReader<'a> {
         match (self.part, word) {
             (Part::Nothing | Part::Text, _) => return Err(LineFault::BadLine),
             (_, "input") => self.part = Part::Input,
+            (_, "file") => return self.begin_file(alloc),
             (_, "output") => self.part = Part::Output,
             _ => return self.case.take(alloc, word, rest),
         }

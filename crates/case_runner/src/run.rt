@@ -7,12 +7,12 @@ use blt_import::import;
 use blt_normal::normal;
 use byte_edge::{FreeGate, MemorySink, MemorySource, NoMemory};
 use count_promise::promise;
-use day_audit::audit;
-use day_ballots::ballots;
+use day_audit::{audit, audit_two};
+use day_ballots::{ballots, ballots_two};
 use day_page::page;
 use lot_draw::draw_in_public;
 use meek_cli::meek;
-use sheet_check::check;
+use sheet_check::{check, check_two};
 use std::alloc::Global;
 use std::process::ExitCode;
 use std::sync::Wait;
@@ -59,10 +59,34 @@ fn call<R: Threads + Wait + Sync>(
     (code, 0)
 }
 
+/// Calls a tool over two inputs, and gives its exit status.
+fn call_two<R: Threads + Sync>(
+    rt: &R,
+    alloc: Global,
+    case: &Case<'_>,
+    of_text: &mut MemorySource,
+    of_file: &mut MemorySource,
+    sink: &mut MemorySink,
+) -> ExitCode {
+    let words = case.words.as_slice();
+    match case.tool {
+        Tool::Audit => audit_two(rt, alloc, words, of_text, of_file, sink).exit_code(),
+        Tool::Ballots => ballots_two(alloc, words, of_text, of_file, sink).exit_code(),
+        _ => check_two(rt, alloc, words, of_text, of_file, sink).exit_code(),
+    }
+}
+
 /// What a case's run reads.
 fn source_of(alloc: Global, case: &Case<'_>) -> Result<MemorySource, NoMemory> {
     let input = case.input.to_vec(alloc)?;
     let failing = case.failing_reads.to_vec(alloc)?;
+    Ok(MemorySource::new(input, case.read.max(1), failing))
+}
+
+/// What a case's run reads as its second input.
+fn file_of(alloc: Global, case: &Case<'_>, file: &[u8]) -> Result<MemorySource, NoMemory> {
+    let input = file.to_vec(alloc)?;
+    let failing = case.failing_file_reads.to_vec(alloc)?;
     Ok(MemorySource::new(input, case.read.max(1), failing))
 }
 
@@ -80,6 +104,11 @@ pub(crate) fn run<R: Threads + Wait + Sync>(
 ) -> Result<Ran, NoMemory> {
     let mut source = source_of(alloc, case)?;
     let mut sink = sink_of(alloc, case)?;
+    if let Some(file) = &case.file {
+        let mut of_file = file_of(alloc, case, file.as_slice())?;
+        let code = call_two(rt, alloc, case, &mut source, &mut of_file, &mut sink);
+        return Ok(Ran { code, sink, calls: 0 });
+    }
     let words = case.words.as_slice();
     let (code, calls) = call(rt, alloc, case.tool, words, &mut source, &mut sink);
     Ok(Ran { code, sink, calls })

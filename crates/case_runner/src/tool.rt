@@ -37,4 +37,12 @@ impl Tool {
         };
         Some(tool)
     }
+
+    /// Whether it has a call over two inputs besides.
+    pub(crate) fn takes_two(self) -> bool {
+        match self {
+            Tool::Check | Tool::Audit | Tool::Ballots => true,
+            _ => false,
+        }
+    }
 }

@@ -28,7 +28,7 @@ use Rattle.day_audit.proofs.WordLemmas.{ask_one}
 -- ---- soundness
 
 -- a file that says a day is not refused
-not_both :
+pub not_both :
     AcceptsDays → RefusesByTheRule → (file : List ℕ) (day : DayFile) (fault : InputFault) → IsDayFile file day
     → IsRefusedDayFile file fault → ⊥
 not_both days refusals file day fault is (inl (long, why)) = omega (arith, long, is.short)

@@ -7,7 +7,10 @@ use Rattle.tool_edge.specs.Refusals.{file_refusals}
 use Rattle.tool_edge.specs.declared.end.End.{End}
 use Rattle.tool_edge.specs.declared.end.End.TheVariants.{Done}
 use Rattle.tool_edge.specs.Tool.{Tool, no_history}
+use Rattle.tool_edge.specs.Words.{TakesNothing}
+use Rattle.tool_edge.specs.declared.opening.TheConstants.{DAY_LIMIT}
 use Rattle.sheet_input.specs.declared.sheet_limit.TheConstants.{SHEET_LIMIT}
+use Rattle.sheet_check.specs.TwoInputs.{TextTool}
 use Rattle.day_audit.specs.declared.audit_asked.AuditAsked.{AuditAsked}
 use Rattle.day_audit.specs.declared.audit_asked.AuditAsked.TheVariants as of
 use Rattle.day_replay.specs.declared.day_verdict.DayVerdict.{DayVerdict}
@@ -83,4 +86,25 @@ audits_days = record {
   refusals = file_refusals;
   Owes = λ asked input history. Owes asked input;
   no_calls = no_history;
+}
+
+-- ---- over a text and a day file, each an input of its own
+
+-- the line of the verdict on a whole text by the day of a whole file
+pub record OwesAuditOfTwo (text file bytes : List ℕ) : Type 0 where
+  pub day : Day
+  pub says : IsDayFile file day
+  pub verdict : DayVerdict
+  pub right : IsDayVerdict day text verdict
+  pub line : bytes ≡ verdict_line of.Day verdict
+
+abbrev pub audits_two : TextTool (Unit {0}) InputFault
+audits_two = record {
+  Takes = TakesNothing;
+  text_limit = SHEET_LIMIT;
+  file_limit = DAY_LIMIT;
+  Accepts = λ asked text file. (day : Day) × IsDayFile file day;
+  Refuses = λ asked text. IsRefusedDayFile;
+  refusals = file_refusals;
+  Owes = λ asked. OwesAuditOfTwo;
 }

@@ -3,7 +3,7 @@ use Rattle.std.specs.Prelude.{◌≡◌, ℕ, List, [], ◌∷◌, ◌++◌, Som
 use Rattle.input_text.specs.declared.fault_kind.FaultKind.TheVariants.{Ended}
 use Rattle.day_audit.specs.declared.audit_asked.AuditAsked.TheVariants.{Day, Trial}
 use Rattle.day_replay.specs.declared.day_verdict.DayVerdict.TheVariants.{True, False}
-use Rattle.day_audit.specs.Audit.{EndsInText, audits_days, verdict_line}
+use Rattle.day_audit.specs.Audit.{EndsInText, audits_days, audits_two, verdict_line}
 use Rattle.day_audit.specs.Input.{HasNoLastEnd, IsDaySplit}
 use Rattle.day_audit.specs.Words.{TakesAudit}
 
@@ -30,11 +30,13 @@ pub record WorkedEnds : Type 0 where
   pub no_line_feed : HasNoLastEnd (codes "end")
   pub ended : EndsInText (codes "end\nsheet 2\n") (record { kind = Ended; at = 12 })
 
--- ---- how long an input may be: 2^30 bytes
+-- ---- how long an input may be: 2^30 bytes, and a day file of its own 2^24
 
 pub record WorkedLengths : Type 0 where
   pub of_a_day : audits_days.limit Day ≡ Some 1073741824
   pub of_a_trial : audits_days.limit (Trial 7) ≡ Some 1073741824
+  pub of_a_text : audits_two.text_limit ≡ 1073741824
+  pub of_a_day_file : audits_two.file_limit ≡ 16777216
 
 -- ---- words
 

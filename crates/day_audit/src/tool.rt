@@ -84,7 +84,7 @@ fn audit_day<R: Threads + Sync, K: Sink>(rt: &R, alloc: Global, input: &[u8], si
 }
 
 /// Judges a text that is held to be the text of a day, and writes the verdict.
-fn judge_day<R: Threads + Sync, K: Sink>(
+pub(crate) fn judge_day<R: Threads + Sync, K: Sink>(
     rt: &R,
     alloc: Global,
     text: &[u8],

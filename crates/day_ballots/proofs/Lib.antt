@@ -4,6 +4,7 @@ mod Refusing
 mod Sound
 mod FoundLemmas
 mod Owing
+mod TwoOwing
 mod Ranked
 mod Counted
 mod OneTeam

@@ -22,7 +22,9 @@ use Rattle.day_audit.specs.declared.audit_asked.AuditAsked.TheVariants.{Day as O
 use Rattle.day_replay.specs.declared.day_verdict.DayVerdict.TheVariants.{False as NotTrueAt}
 use Rattle.day_audit.specs.Audit.{verdict_line, IsRefusedAudit}
 use Rattle.day_audit.specs.Input.{IsDaySplit}
-use Rattle.day_audit.specs.DayFile.{IsDayFile}
+use Rattle.day_audit.specs.DayFile.{IsDayFile, IsRefusedDayFile}
+use Rattle.sheet_check.specs.TwoInputs.{TextTool}
+use Rattle.tool_edge.specs.declared.opening.TheConstants.{DAY_LIMIT}
 use Rattle.day_ballots.specs.declared.ballots_fault.BallotsFault.{BallotsFault}
 use Rattle.day_ballots.specs.declared.ballots_fault.BallotsFault.TheVariants.{File, False, NoFreeze}
 use Rattle.day_ballots.specs.Along.{IsAtFreeze, IsFalseCall, HasNoFreeze}
@@ -94,6 +96,36 @@ exports_freezes = record {
   refusals = ballots_refusals;
   Owes = λ n input history bytes. OwesBallots n input bytes;
   no_calls = no_history;
+}
+
+-- ---- over a text and a day file, each an input of its own
+
+-- The file says a day, along which the text is lawful up to line n, and line n is a freeze.
+abbrev pub HasFreezeOfTwo : (n : ℕ) → (text file : List ℕ) → Type 0
+HasFreezeOfTwo n text file = (day : Day) × IsDayFile file day × ((history : List Entry) × IsAtFreeze day text n history)
+
+-- The file is refused, or says a day of which the text has nothing to write at line n.
+abbrev pub IsRefusedOfTwo : (n : ℕ) → (text file : List ℕ) → BallotsFault → Type 0
+IsRefusedOfTwo n text file (File fault) = IsRefusedDayFile file fault
+IsRefusedOfTwo n text file fault = (day : Day) × IsDayFile file day × IsNoneAt day text n fault
+
+-- the file of what is at the freeze of line n of a whole text
+pub record OwesBallotsOfTwo (n : ℕ) (text file bytes : List ℕ) : Type 0 where
+  pub day : Day
+  pub says : IsDayFile file day
+  pub history : List Entry
+  pub at : IsAtFreeze day text n history
+  pub written : IsFileAfter day history n bytes
+
+abbrev pub exports_two : TextTool ℕ BallotsFault
+exports_two = record {
+  Takes = TakesLine;
+  text_limit = SHEET_LIMIT;
+  file_limit = DAY_LIMIT;
+  Accepts = HasFreezeOfTwo;
+  Refuses = IsRefusedOfTwo;
+  refusals = ballots_refusals;
+  Owes = OwesBallotsOfTwo;
 }
 
 -- ---- parts of a run

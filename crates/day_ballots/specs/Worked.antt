@@ -7,7 +7,7 @@ use Rattle.day_lines.specs.DayHistory.{clerk_freeze}
 use Rattle.day_replay.specs.Worked.{made_by, enter, correct, entered_line}
 use Rattle.day_ballots.specs.declared.ballots_fault.BallotsFault.TheVariants.{False, NoFreeze}
 use Rattle.day_ballots.specs.Along.{GoesAlong, IsFreezeAt, IsAtFreeze, IsFalseCall, HasNoFreeze}
-use Rattle.day_ballots.specs.Ballots.{IsNoneAt, exports_freezes, refusal_line}
+use Rattle.day_ballots.specs.Ballots.{IsNoneAt, exports_freezes, exports_two, refusal_line}
 use Rattle.day_ballots.specs.Words.{TakesLine}
 
 abbrev pub one_team : Day
@@ -64,9 +64,11 @@ pub record WorkedAnswers : Type 0 where
   pub false_line : refusal_line (False 2) ≡ codes "day false at line 2\n"
   pub no_freeze_line : refusal_line (NoFreeze 12) ≡ codes "refused NoFreeze at 12\n"
 
--- An input may have 2^30 bytes.
-abbrev pub LongestInput : Type 0
-LongestInput = exports_freezes.limit 4 ≡ Some 1073741824
+-- An input may have 2^30 bytes, and a day file of its own 2^24.
+pub record LongestInput : Type 0 where
+  pub of_both : exports_freezes.limit 4 ≡ Some 1073741824
+  pub of_a_text : exports_two.text_limit ≡ 1073741824
+  pub of_a_day_file : exports_two.file_limit ≡ 16777216
 
 pub record WorkedLineWords : Type 0 where
   pub first : TakesLine (codes "--at" ∷ codes "1" ∷ []) 1

@@ -56,7 +56,7 @@ fn write_ballots<K: Sink>(alloc: Global, at: u32, input: &[u8], sink: &mut K) ->
 }
 
 /// Refuses an input whose day file was not read.
-fn refuse_file<K: Sink>(sink: &mut K, stop: BltStop) -> End<BallotsFault>
+pub(crate) fn refuse_file<K: Sink>(sink: &mut K, stop: BltStop) -> End<BallotsFault>
     ensures { RefusesFile stop result (writing K.written K.faults sink.old sink.new) }
 {
     match stop {

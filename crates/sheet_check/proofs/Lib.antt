@@ -9,3 +9,5 @@ mod Splits
 mod ShortFiles
 mod Words
 mod Audits
+pub mod TwoRuns
+mod TwoAudits

@@ -10,8 +10,9 @@ use Rattle.blt_reader.specs.Poll.{Poll}
 use Rattle.tool_edge.specs.declared.end.End.{End}
 use Rattle.tool_edge.specs.declared.end.End.TheVariants.{Done}
 use Rattle.tool_edge.specs.Refusals.{file_refusals}
-use Rattle.tool_edge.specs.Contest.{SaysContest}
+use Rattle.tool_edge.specs.Contest.{SaysContest, IsRefusedContest}
 use Rattle.tool_edge.specs.Tool.{Tool, no_history}
+use Rattle.tool_edge.specs.Tools.{IsContestFile}
 use Rattle.sheet_input.specs.declared.sheet_limit.TheConstants.{SHEET_LIMIT}
 use Rattle.sheet_check.specs.declared.terms.Terms.{Terms}
 use Rattle.sheet_check.specs.declared.verdict.Verdict.{Verdict}
@@ -20,6 +21,7 @@ use Rattle.sheet_check.specs.Judged.{IsVerdict}
 use Rattle.sheet_check.specs.Input.{HasNoEnd, IsSplit}
 use Rattle.sheet_check.specs.Behind.{IsShortContest, IsRefusedFileBehind}
 use Rattle.sheet_check.specs.Terms.{terms_of}
+use Rattle.sheet_check.specs.TwoInputs.{TextTool}
 
 -- ---- what is accepted
 
@@ -79,4 +81,23 @@ audits = record {
   refusals = file_refusals;
   Owes = λ asked input history. OwesAudit asked input;
   no_calls = no_history;
+}
+
+-- ---- the tool over a sheet and a ballot file, each an input of its own
+
+-- the verdict on a whole text by a whole file, as the words ask for it
+pub record OwesVerdictOfTwo (asked : Asked) (sheet file bytes : List ℕ) : Type 0 where
+  pub poll : Poll
+  pub says : SaysContest asked.lots file poll
+  pub verdict : OwesVerdict poll (terms_of asked) sheet bytes
+
+abbrev pub audits_two : TextTool Asked InputFault
+audits_two = record {
+  Takes = Asks;
+  text_limit = SHEET_LIMIT;
+  file_limit = FILE_LIMIT;
+  Accepts = λ asked sheet. IsContestFile asked.lots;
+  Refuses = λ asked sheet. IsRefusedContest asked.lots;
+  refusals = file_refusals;
+  Owes = OwesVerdictOfTwo;
 }

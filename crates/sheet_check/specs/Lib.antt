@@ -5,4 +5,6 @@ pub mod Judged
 pub mod Laws
 pub mod Input
 pub mod Behind
+pub mod TwoInputs
 pub mod Audit
+pub mod Worked

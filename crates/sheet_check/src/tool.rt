@@ -98,7 +98,7 @@ fn ended(len: usize) -> InputFault
 }
 
 /// Judges a text that is held to be the sheet of an election by these terms, and writes the verdict.
-fn write_verdict<R: Threads + Sync, K: Sink>(
+pub(crate) fn write_verdict<R: Threads + Sync, K: Sink>(
     rt: &R,
     alloc: Global,
     sheet: &[u8],

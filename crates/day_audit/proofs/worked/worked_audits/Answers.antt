@@ -12,7 +12,8 @@ pub returns-clause-ends : goal.returns-clause-ends
 returns-clause-ends c = worked_ends
 
 pub returns-clause-lengths : goal.returns-clause-lengths
-returns-clause-lengths c = record { of_a_day = refl; of_a_trial = refl }
+returns-clause-lengths c =
+    record { of_a_day = refl; of_a_trial = refl; of_a_text = refl; of_a_day_file = refl }
 
 pub returns-clause-words : goal.returns-clause-words
 returns-clause-words c = worked_words

@@ -13,7 +13,7 @@ pub returns-clause-answers : goal.returns-clause-answers
 returns-clause-answers c = worked_answers
 
 pub returns-clause-longest : goal.returns-clause-longest
-returns-clause-longest c = refl
+returns-clause-longest c = record { of_both = refl; of_a_text = refl; of_a_day_file = refl }
 
 pub returns-clause-words : goal.returns-clause-words
 returns-clause-words c = worked_line_words

@@ -1,0 +1,3 @@
+pub mod Words
+pub mod Source
+pub mod Worked
