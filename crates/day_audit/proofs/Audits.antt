@@ -46,7 +46,7 @@ one_day days file day other is also =
     cc
 
 -- and a file is refused once
-refused_alike :
+pub refused_alike :
     RefusesByTheRule → (file : List ℕ) (fault other : InputFault) → IsRefusedDayFile file fault
     → IsRefusedDayFile file other → fault ≡ other
 refused_alike refusals file fault other (inl (long, why)) (inl (again, also)) = why ∙ sym also

@@ -1,5 +1,5 @@
 -- What is owed for a text and a day file of two inputs.
-use Rattle.std.proofs.Common.{◌≡◌, ℕ, ◌≤◌, List, [], length, refl, sym, subst, inl, inr}
+use Rattle.std.proofs.Common.{◌≡◌, ℕ, ◌≤◌, List, length, refl, sym, subst, inl, inr}
 use Rattle.input_text.specs.declared.input_fault.InputFault.{InputFault}
 use Rattle.input_text.specs.declared.input_stop.InputStop.{InputStop}
 use Rattle.input_text.specs.declared.input_stop.InputStop.TheVariants.{Fault, NoMemory as NoInputRead}

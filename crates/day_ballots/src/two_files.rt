@@ -40,7 +40,14 @@ pub fn ballots_two<T: Source, S: Source, K: Sink>(
         text: SHEET_LIMIT,
         file: DAY_LIMIT,
     };
-    match open_two(alloc, takes_line(alloc, words), limits, of_text, of_file, sink) {
+    match open_two(
+        alloc,
+        takes_line(alloc, words),
+        limits,
+        of_text,
+        of_file,
+        sink,
+    ) {
         Ok(inputs) => write_inputs(alloc, inputs, sink),
         Err(end) => end,
     }

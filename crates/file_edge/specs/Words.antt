@@ -1,5 +1,5 @@
 -- Which words of a command name files. 45 is the hyphen, 61 the equals sign.
-use Rattle.std.specs.Prelude.{ℕ, Bool, true, not, ◌&&◌, ◌||◌, ◌==◌, ltb, List, ◌++◌, take, drop, map, filter, zip, fold, length, slice_index, codes, bytes_eq}
+use Rattle.std.specs.Prelude.{ℕ, ◌-◌, Bool, true, not, ◌&&◌, ◌||◌, ◌==◌, ltb, List, [], ◌++◌, get_or, take, drop, map, filter, zip, fold, length, slice_index, codes, bytes_eq}
 
 -- It begins with a hyphen, and is longer than that.
 abbrev pub is_option : List ℕ → Bool
@@ -16,6 +16,10 @@ takes_value word = is_option word && (not (bytes_eq word (codes "--mark")) && no
 -- of two words in a row, whether the later one names a file
 abbrev pub names_file : List ℕ × List ℕ → Bool
 names_file pair = not (is_option pair.1) && not (takes_value pair.0)
+
+-- whether the word at a place, from 0, names one; the first never does
+abbrev pub is_file_at : List (List ℕ) → ℕ → Bool
+is_file_at words at = ltb 0 at && names_file (get_or words (at - 1) [], get_or words at [])
 
 -- each word but the first, with the one before it
 abbrev pub in_a_row : List (List ℕ) → List (List ℕ × List ℕ)

@@ -1,5 +1,5 @@
 -- Words of commands, and the files that they name, by hand.
-use Rattle.std.specs.Prelude.{◌≡◌, List, [], ◌∷◌, codes}
+use Rattle.std.specs.Prelude.{◌≡◌, [], ◌∷◌, codes}
 use Rattle.file_edge.specs.Words.{files_of, words_of}
 
 pub record WorkedWords : Type 0 where

@@ -1,9 +1,8 @@
 // The words of a command, and the files that they name.
-ghost use Rattle.std.specs.Prelude.{◌≡◌, map, string_bytes, IsTrue, ◌↔◌, OnOk, IfOk};
-ghost use Rattle.file_edge.specs.Words.{files_of, is_option, has_value, names_file, takes_value, words_of};
+ghost use Rattle.std.specs.Prelude.{◌≡◌, ◌<◌, ◌++◌, ◌∷◌, [], cond, length, map, string_bytes, IfOk, OnOk};
+ghost use Rattle.file_edge.specs.Words.{files_of, is_file_at, is_option, has_value, names_file, takes_value, words_of};
 
-use byte_edge::NoMemory;
-use std::alloc::Global;
+use std::alloc::{AllocError, Global};
 
 /// The words of a command without the names of files, and these.
 #[derive(Drop)]
@@ -13,9 +12,26 @@ pub struct Given {
     pub files: Vec<String>,
 }
 
+impl Given {
+    /// Puts a word at the end of the files or of the other words.
+    fn push(&mut self, is_file: bool, word: String) -> Result<(), AllocError>
+        ensures words { OnOk result (map string_bytes self.new.words.items
+            ≡ map string_bytes self.old.words.items ++ cond is_file [] (string_bytes word ∷ [])) }
+        ensures files { OnOk result (map string_bytes self.new.files.items
+            ≡ map string_bytes self.old.files.items ++ cond is_file (string_bytes word ∷ []) []) }
+    {
+        if is_file {
+            self.files.push(word)?;
+        } else {
+            self.words.push(word)?;
+        }
+        Ok(())
+    }
+}
+
 /// Parts the words of a command, of which the first is its name. A word names a file where it is no option and no option
 /// that takes a value is right before it.
-pub fn part(alloc: Global, words: &[String]) -> Result<Given, NoMemory>
+pub fn part(alloc: Global, words: &[String]) -> Result<Given, AllocError>
     ensures words { IfOk result (λ given. map string_bytes given.words.items ≡ words_of (map string_bytes words.now)) }
     ensures files { IfOk result (λ given. map string_bytes given.files.items ≡ files_of (map string_bytes words.now)) }
 {
@@ -24,14 +40,18 @@ pub fn part(alloc: Global, words: &[String]) -> Result<Given, NoMemory>
         files: Vec::new(alloc),
     };
     for at in 0..words.len() {
-        let word = words[at].clone()?;
-        if at > 0 && names_file(words[at - 1].as_str(), word.as_str()) {
-            given.files.push(word)?;
-        } else {
-            given.words.push(word)?;
-        }
+        let is_file = is_file_at(words, at);
+        given.push(is_file, words[at].clone()?)?;
     }
     Ok(given)
+}
+
+/// Whether the word at a place names a file.
+fn is_file_at(words: &[String], at: usize) -> bool
+    requires { at < length words.now }
+    ensures { result ≡ is_file_at (map string_bytes words.now) at }
+{
+    at > 0 && names_file(words[at - 1].as_str(), words[at].as_str())
 }
 
 /// Whether the later of two words in a row names a file.

@@ -1,6 +1,6 @@
 -- Whole runs over a text and a file, from their parts.
-use Rattle.std.proofs.Common.{◌≡◌, ℕ, List, refl, sym, ◌∙◌, subst, inl, inr}
-use Rattle.std.specs.Prelude.{Option, Some, Result, Ok, Err}
+use Rattle.std.proofs.Common.{◌≡◌, ℕ, List, refl, subst, inl, inr}
+use Rattle.std.specs.Prelude.{Option, Result, Ok}
 use Rattle.meek_words.specs.Numerals.{Word}
 use Rattle.meek_words.specs.declared.words_stop.WordsStop.{WordsStop}
 use Rattle.tool_edge.specs.declared.end.End.{End}
@@ -8,9 +8,9 @@ use Rattle.tool_edge.specs.Streams.{Reading, Writing, writing}
 use Rattle.tool_edge.specs.Opening.{ReadsWhole}
 use Rattle.tool_edge.specs.Words.{IsAsked}
 use Rattle.tool_edge.specs.Finishing.{FinishesOwed}
-use Rattle.tool_edge.specs.Tool.{IsOwedFor, IsRun, IsSound, no_history}
+use Rattle.tool_edge.specs.Tool.{IsOwedFor, IsSound, no_history}
 use Rattle.tool_edge.proofs.Running.{stopped_at_source, worked_on}
-use Rattle.sheet_check.specs.TwoInputs.{TextTool, over_file, EndsBeforeFile, GoesOnToFile, IsRunOfTwo, StopsOpeningTwo}
+use Rattle.sheet_check.specs.TwoInputs.{TextTool, over_file, IsRunOfTwo, StopsOpeningTwo}
 
 module _ {A F : Type 0} (tool : TextTool A F) where
   -- The text or the file was not read to its end.

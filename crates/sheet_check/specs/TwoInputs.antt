@@ -1,6 +1,6 @@
 -- A text and the file by which it is judged, each an input of its own. The text is read first, whole: no byte of it is the
 -- file's, so nothing has to be said of where the one ends and the other begins.
-use Rattle.std.specs.Prelude.{◌≡◌, ◌⊎◌, ℕ, List, Some, Result, Ok, Err}
+use Rattle.std.specs.Prelude.{◌≡◌, ◌⊎◌, ℕ, List, Some, Result, Ok}
 use Rattle.meek_words.specs.Numerals.{Word}
 use Rattle.meek_words.specs.declared.words_stop.WordsStop.{WordsStop}
 use Rattle.tool_edge.specs.declared.end.End.{End}

@@ -9,9 +9,9 @@ ghost use Rattle.tool_edge.specs.declared.opening.TheConstants.{FILE_LIMIT};
 ghost use Rattle.sheet_check.specs.Audit.{audits_two};
 ghost use Rattle.sheet_check.specs.TwoInputs.{IsRunOfTwo, over_file};
 
+use crate::Terms;
 use crate::tool::write_verdict;
 use crate::two_inputs::{TwoInputs, TwoLimits, open_two};
-use crate::Terms;
 use blt_reader::BltStop;
 use byte_edge::{Sink, Source};
 use check_words::{Asked, read_check_words, words_ask_one_thing};
