@@ -18,8 +18,9 @@ use lot_draw::draw_in_public;
 use meek_cli::meek;
 use sheet_check::{check, check_two};
 use std::alloc::Global;
-use std::io::{self, BufWriter};
+use std::io::{self, BufWriter, Input, Eprint};
 use std::process::ExitCode;
+use std::rt::Files;
 use std::sync::Wait;
 use std::thread::Threads;
 use tally_cli::tally;
@@ -38,10 +39,10 @@ fn main(rt: HostRuntime) -> ExitCode {
     };
     let mut sink = StdSink::new(writer);
     if most_files(words.as_slice()) == 0 {
-        return run_on_input(&rt, words.as_slice(), &mut sink);
+        return run_on_input(&rt, rt.alloc(), words.as_slice(), &mut sink);
     }
     match part(rt.alloc(), words.as_slice()) {
-        Ok(given) => run_given(&rt, words.as_slice(), &given, &mut sink),
+        Ok(given) => run_given(&rt, rt.alloc(), words.as_slice(), &given, &mut sink),
         Err(_) => no_memory(),
     }
 }
@@ -65,37 +66,54 @@ fn most_files(words: &[String]) -> usize {
 }
 
 /// Runs a command on the files of its words. One that is given more than it takes refuses its words, whatever they are.
-fn run_given<K: Sink>(rt: &HostRuntime, words: &[String], given: &Given, sink: &mut K) -> ExitCode {
+fn run_given<R: Threads + Wait + Sync + Files + Input + Eprint, K: Sink>(
+    rt: &R,
+    alloc: Global,
+    words: &[String],
+    given: &Given,
+    sink: &mut K,
+) -> ExitCode {
     match given.files.as_slice() {
-        [] => run_on_input(rt, words, sink),
-        [one] => run_on_file(rt, given.words.as_slice(), one.as_str(), sink),
+        [one] => run_on_file(rt, alloc, given.words.as_slice(), one.as_str(), sink),
         [text, file] if most_files(words) == 2 => {
-            run_on_two(rt, given.words.as_slice(), text.as_str(), file.as_str(), sink)
+            let names = (text.as_str(), file.as_str());
+            run_on_two(rt, alloc, given.words.as_slice(), names, sink)
         }
-        _ => run_on_input(rt, words, sink),
+        _ => run_on_input(rt, alloc, words, sink),
     }
 }
 
 /// Runs a command on the standard input.
-fn run_on_input<K: Sink>(rt: &HostRuntime, words: &[String], sink: &mut K) -> ExitCode {
+fn run_on_input<R: Threads + Wait + Sync + Input, K: Sink>(
+    rt: &R,
+    alloc: Global,
+    words: &[String],
+    sink: &mut K,
+) -> ExitCode {
     let mut source = StdSource::new(rt.reader());
-    run(rt, rt.alloc(), words, &mut source, sink)
+    run(rt, alloc, words, &mut source, sink)
 }
 
 /// Runs a command on a file.
-fn run_on_file<K: Sink>(rt: &HostRuntime, words: &[String], name: &str, sink: &mut K) -> ExitCode {
+fn run_on_file<R: Threads + Wait + Sync + Files + Input + Eprint, K: Sink>(
+    rt: &R,
+    alloc: Global,
+    words: &[String],
+    name: &str,
+    sink: &mut K,
+) -> ExitCode {
     match open(rt, name) {
-        Ok(mut source) => run(rt, rt.alloc(), words, &mut source, sink),
+        Ok(mut source) => run(rt, alloc, words, &mut source, sink),
         Err(why) => not_opened(rt, name, &why),
     }
 }
 
 /// Runs a command on a text and the file by which it is judged.
-fn run_on_two<K: Sink>(
-    rt: &HostRuntime,
+fn run_on_two<R: Threads + Wait + Sync + Files + Input + Eprint, K: Sink>(
+    rt: &R,
+    alloc: Global,
     words: &[String],
-    text: &str,
-    file: &str,
+    (text, file): (&str, &str),
     sink: &mut K,
 ) -> ExitCode {
     let mut of_text = match open(rt, text) {
@@ -103,13 +121,13 @@ fn run_on_two<K: Sink>(
         Err(why) => return not_opened(rt, text, &why),
     };
     match open(rt, file) {
-        Ok(mut of_file) => run_two(rt, rt.alloc(), words, &mut of_text, &mut of_file, sink),
+        Ok(mut of_file) => run_two(rt, alloc, words, &mut of_text, &mut of_file, sink),
         Err(why) => not_opened(rt, file, &why),
     }
 }
 
 /// Says why a file can't be opened. The program ends as where reading failed.
-fn not_opened(rt: &HostRuntime, name: &str, why: &io::Error) -> ExitCode {
+fn not_opened<R: Eprint>(rt: &R, name: &str, why: &io::Error) -> ExitCode {
     let _ = eprintln!(rt; "meek: {name:?} can't be opened: {why}");
     let end: End = End::SourceFault;
     end.exit_code()
