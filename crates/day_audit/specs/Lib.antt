@@ -2,4 +2,5 @@ pub mod Words
 pub mod Input
 pub mod DayFile
 pub mod Audit
+pub mod Laws
 pub mod Worked

@@ -1,10 +1,10 @@
-mod Cuts
-mod EntryLines
-mod Feedless
+pub mod Cuts
+pub mod EntryLines
+pub mod Feedless
 mod Histories
 mod Freezes
-mod SheetLines
-mod SheetCuts
+pub mod SheetLines
+pub mod SheetCuts
 mod SheetTexts
 mod Readings
 mod OwnNumbers
