@@ -107,7 +107,11 @@ pub(crate) fn run<R: Threads + Wait + Sync>(
     if let Some(file) = &case.file {
         let mut of_file = file_of(alloc, case, file.as_slice())?;
         let code = call_two(rt, alloc, case, &mut source, &mut of_file, &mut sink);
-        return Ok(Ran { code, sink, calls: 0 });
+        return Ok(Ran {
+            code,
+            sink,
+            calls: 0,
+        });
     }
     let words = case.words.as_slice();
     let (code, calls) = call(rt, alloc, case.tool, words, &mut source, &mut sink);

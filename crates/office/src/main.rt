@@ -18,7 +18,7 @@ use lot_draw::draw_in_public;
 use meek_cli::meek;
 use sheet_check::{check, check_two};
 use std::alloc::Global;
-use std::io::{self, BufWriter, Input, Eprint};
+use std::io::{self, BufWriter, Eprint, Input};
 use std::process::ExitCode;
 use std::rt::Files;
 use std::sync::Wait;
@@ -60,7 +60,8 @@ fn most_files(words: &[String]) -> usize {
     };
     match name.as_str() {
         "check" | "audit" | "ballots" => 2,
-        "count" | "day" | "warren" | "look" | "normal" | "import" | "tally" | "page" | "promise" => 1,
+        "count" | "day" | "warren" | "look" | "normal" | "import" | "tally" | "page" | "promise" =>
+            1,
         _ => 0,
     }
 }
