@@ -9,9 +9,10 @@ is_option word = ltb 1 (length word) && (slice_index word 0 == 45)
 abbrev pub has_value : List ℕ → Bool
 has_value word = fold (λ found byte. found || (byte == 61)) (not true) word
 
--- The next word is its value: so of each option that has none in itself, but for `--mark`, which stands alone.
+-- The next word is its value: so of each option of two hyphens that has none in itself, but for `--mark`, which takes none.
 abbrev pub takes_value : List ℕ → Bool
-takes_value word = is_option word && (not (bytes_eq word (codes "--mark")) && not (has_value word))
+takes_value word =
+    is_option word && ((slice_index word 1 == 45) && (not (bytes_eq word (codes "--mark")) && not (has_value word)))
 
 -- of two words in a row, whether the later one names a file
 abbrev pub names_file : List ℕ × List ℕ → Bool

@@ -13,6 +13,8 @@ pub record WorkedWords : Type 0 where
   pub two_words : words_of (codes "check" ∷ codes "a.sheet" ∷ codes "--lots=1,2" ∷ codes "-" ∷ []) ≡ codes "check" ∷ codes "--lots=1,2" ∷ []
   -- meek page --as csv --mark a.sheet
   pub after_mark : files_of (codes "page" ∷ codes "--as" ∷ codes "csv" ∷ codes "--mark" ∷ codes "a.sheet" ∷ []) ≡ codes "a.sheet" ∷ []
+  -- meek import --title -5 a.csv
+  pub after_a_value : files_of (codes "import" ∷ codes "--title" ∷ codes "-5" ∷ codes "a.csv" ∷ []) ≡ codes "a.csv" ∷ []
   -- meek audit -- a, where the last word is a value
   pub value : files_of (codes "audit" ∷ codes "--" ∷ codes "a" ∷ []) ≡ []
   pub name_alone : words_of (codes "look" ∷ []) ≡ codes "look" ∷ []
