@@ -18,6 +18,8 @@ mod ListRows
 mod HolderLemmas
 mod RankRows
 mod HeadLemmas
+mod HeadRecordLemmas
+mod ColumnNameLemmas
 mod HeldLemmas
 mod NumberLemmas
 mod RowLemmas

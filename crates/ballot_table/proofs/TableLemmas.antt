@@ -11,19 +11,23 @@ use Rattle.plain_ballots.specs.declared.limits.TheConstants.{MOST_BALLOTS}
 use Rattle.table_text.specs.Reading as text
 use Rattle.ballot_table.specs.declared.column.Column.{Column}
 use Rattle.ballot_table.specs.declared.fault.Fault.{Fault}
+use Rattle.ballot_table.specs.declared.head.Head.{Head}
 use Rattle.ballot_table.specs.declared.imported.Imported.{Imported}
 use Rattle.ballot_table.specs.declared.table_asked.TableAsked.{TableAsked}
 use Rattle.ballot_table.specs.declared.table_stop.TableStop.{TableStop}
 use Rattle.ballot_table.specs.declared.table_stop.TableStop.TheVariants as stop
-use Rattle.ballot_table.specs.Head.{head_fault, columns}
-use Rattle.ballot_table.specs.Imported.{texts_in, stops, stop_at, text_stop, separator, stop_by, reading_stop, refusal, IsTableStop, IsImported}
-use Rattle.ballot_table.specs.Left.{Reads, rooms, stop_left, ballots_left, tally_left}
+use Rattle.ballot_table.specs.Head.{head_fault, columns, names_of}
+use Rattle.ballot_table.specs.Imported.{Headed, headed, texts_in, stops, stop_at, stop_under, text_stop, separator, stop_by, reading_stop}
+use Rattle.ballot_table.specs.Imported.{record_stop, refusal, IsTableStop, IsImported}
+use Rattle.ballot_table.specs.Left.{Reads, ReadsRows, rooms, stop_left, ballots_left, tally_left}
 use Rattle.ballot_table.specs.Report.{tally_of}
 use Rattle.ballot_table.specs.Asked.{asked_of}
+use Rattle.ballot_table.specs.Finding.{IsHead}
 use Rattle.ballot_table.specs.Refusals.{whole_fault}
 use Rattle.ballot_table.specs.Rows.{weight_at, row_of, with_room, room_behind}
 use Rattle.ballot_table.specs.Sheets.{Opened, Turns}
 use Rattle.ballot_table.specs.Table.{ballots, rows_of}
+use Rattle.ballot_table.proofs.LeftLemmas.{same_stop}
 
 abbrev Texts : Type 0
 Texts = List (List ℕ)
@@ -80,8 +84,7 @@ module _ (a : TableAsked) (bytes : List ℕ) (byte : ℕ) (separated : separator
       byte = byte;
       separated = separated;
       head = read.head;
-      below = read.below;
-      records = ap (λ (r : text.Reading). r.rows) (sym is) ∙ read.records;
+      records = ap (λ (r : text.Reading). headed a.heads r.rows) (sym is) ∙ read.records;
       names = read.names;
       candidates = read.candidates;
       ballots_are = read.ballots_are;
@@ -97,55 +100,106 @@ stops_there a old new stop.NoMemory is = tt
 stops_there a old new (stop.Word _ _) is = elim is [ ]
 stops_there a old new (stop.Record _ _ _ _) is = elim is [ ]
 
-module _ (a : TableAsked) (head : text.Row) (rest : text.Reading) (texts : List (List ℕ)) (texts_are : texts ≡ texts_in head)
+-- What a head comes to, and the rows below it.
+module _ (a : TableAsked) (head : Headed) (ending : text.Ending) where
+  abbrev below : List (List (List ℕ))
+  below = map texts_in head.below
+
+  abbrev cols : List Column
+  cols = columns (asked_of a) head.names
+
+  abbrev left : text.Reading
+  left = record { rows = head.below; ending = ending }
+
+  abbrev faults : List (ℕ × List (List ℕ)) → List (Option Fault)
+  faults rs = map (λ (r : ℕ × List (List ℕ)). whole_fault (asked_of a) a.treatment a.empty r.0 cols r.1) rs
+
+  abbrev by_stop : Option TableStop → Option TableStop
+  by_stop o = option_or (slice_get (cons_option o (stops head.below (faults (with_room cols below)))) 0) (text_stop ending)
+
+  abbrev by_head : Option Fault → Option TableStop
+  by_head o = by_stop (option_map (stop_at head.told) o)
+
+  pub stopped_head : (found : TableStop) → option_map (stop_at head.told) (head_fault (asked_of a) head.names) ≡ Some found
+      → option_or (record_stop a head) (text_stop ending) ≡ Some found
+  stopped_head found some = ap by_stop some
+
+  pub stopped_below : (found : List Column) → head_fault (asked_of a) head.names ≡ None
+      → found ≡ columns (asked_of a) head.names
+      → option_or (record_stop a head) (text_stop ending) ≡ stop_left a found MOST_BALLOTS left
+  stopped_below found none found_are =
+      ap by_head none
+      ∙ ap (λ (rs : List (ℕ × List (List ℕ))). option_or (slice_get (stops head.below (faults rs)) 0) (text_stop ending))
+      (with_room_is cols below)
+      ∙ ap (λ (cs : List Column). stop_left a cs MOST_BALLOTS left) (sym found_are)
+
+  pub same_ballots : (found : List Column) → found ≡ columns (asked_of a) head.names
+      → ballots a.treatment (rows_of (asked_of a) a.empty cols below) ≡ ballots_left a found MOST_BALLOTS head.below
+  same_ballots found found_are =
+      ap (λ (rs : List (ℕ × List (List ℕ))). ballots a.treatment
+      (filter_map (λ (r : ℕ × List (List ℕ)). row_of (asked_of a) a.empty r.0 cols r.1) rs)) (with_room_is cols below)
+      ∙ ap (λ (cs : List Column). ballots_left a cs MOST_BALLOTS head.below) (sym found_are)
+
+  pub same_tally : (found : List Column) → found ≡ columns (asked_of a) head.names
+      → tally_left a found MOST_BALLOTS head.below
+      ≡ tally_of a.treatment a.empty below (rows_of (asked_of a) a.empty cols below)
+  same_tally found found_are =
+      ap (λ (cs : List Column). tally_left a cs MOST_BALLOTS head.below) found_are
+      ∙ sym (ap (λ (rs : List (ℕ × List (List ℕ))). tally_of a.treatment a.empty below
+      (filter_map (λ (r : ℕ × List (List ℕ)). row_of (asked_of a) a.empty r.0 cols r.1) rs)) (with_room_is cols below))
+
+-- Records come to what their head and the rows below it come to.
+module _ (a : TableAsked) (reading : text.Reading) (head : Headed) (is : headed a.heads reading.rows ≡ Some head) where
+  pub head_refused : (found : TableStop)
+      → IsTableStop (option_map (stop_at head.told) (head_fault (asked_of a) head.names)) found
+      → IsTableStop (reading_stop a reading) found
+  head_refused found =
+      same_stop (option_map (stop_at head.told) (head_fault (asked_of a) head.names)) (reading_stop a reading) found
+      (λ some. ap (stop_under a reading) is ∙ stopped_head a head reading.ending found some)
+
+  module _ (rest : text.Reading) (rest_is : rest ≡ record { rows = head.below; ending = reading.ending })
+      (found : List Column) (none : head_fault (asked_of a) head.names ≡ None)
+      (found_are : found ≡ columns (asked_of a) head.names) (names : List (List ℕ))
+      (names_are : names ≡ names_of (asked_of a) head.names)
+    where
+      whole : reading_stop a reading ≡ stop_left a found MOST_BALLOTS rest
+      whole =
+          ap (stop_under a reading) is ∙ stopped_below a head reading.ending found none found_are
+          ∙ ap (stop_left a found MOST_BALLOTS) (sym rest_is)
+
+      pub rows_below : (r : Result Imported TableStop) → ReadsRows a found names rest r → Reads a reading r
+      rows_below (Ok imported) read = record {
+        sound = whole ∙ read.sound;
+        head = head;
+        records = is;
+        names = read.names_are ∙ names_are;
+        candidates = read.candidates;
+        ballots_are =
+            same_ballots a head reading.ending found found_are
+            ∙ ap (λ (r : text.Reading). ballots_left a found MOST_BALLOTS r.rows) (sym rest_is) ∙ read.ballots_are;
+        tally_is =
+            read.tally_is ∙ ap (λ (r : text.Reading). tally_left a found MOST_BALLOTS r.rows) rest_is
+            ∙ same_tally a head reading.ending found found_are;
+      }
+      rows_below (Err stop) read =
+          same_stop (stop_left a found MOST_BALLOTS rest) (reading_stop a reading) stop (λ some. whole ∙ some) read
+
+-- The same of a head whose texts were found.
+module _ (a : TableAsked) (reading : text.Reading) (head : Headed) (is : headed a.heads reading.rows ≡ Some head)
+    (texts : List (List ℕ)) (same : texts ≡ head.names)
   where
-    abbrev below : List (List (List ℕ))
-    below = map texts_in rest.rows
+    pub found_refused : (found : TableStop)
+        → IsTableStop (option_map (stop_at head.told) (head_fault (asked_of a) texts)) found
+        → IsTableStop (reading_stop a reading) found
+    found_refused found stops =
+        head_refused a reading head is found
+        (subst (λ (ts : List (List ℕ)). IsTableStop (option_map (stop_at head.told) (head_fault (asked_of a) ts)) found) same
+        stops)
 
-    abbrev cols : List Column
-    cols = columns (asked_of a) (texts_in head)
-
-    abbrev faults : List (ℕ × List (List ℕ)) → List (Option Fault)
-    faults rs = map (λ (r : ℕ × List (List ℕ)). whole_fault (asked_of a) a.treatment a.empty r.0 cols r.1) rs
-
-    abbrev by_head : Option Fault → Option TableStop
-    by_head o = option_or
-        (slice_get (cons_option (option_map (stop_at head) o) (stops rest.rows (faults (with_room cols below)))) 0)
-        (text_stop rest.ending)
-
-    pub refused_head : (fault : Fault) → head_fault (asked_of a) texts ≡ Some fault
-        → reading_stop a (text.with_row head rest) ≡ Some (stop_at head fault)
-    refused_head fault some =
-        ap by_head (sym (ap (head_fault (asked_of a)) texts_are) ∙ some)
-
-    pub refused_left :
-        (found : List Column) → head_fault (asked_of a) texts ≡ None
-        → found ≡ columns (asked_of a) texts
-        → reading_stop a (text.with_row head rest) ≡ stop_left a found MOST_BALLOTS rest
-    refused_left found none found_are =
-        ap by_head (sym (ap (head_fault (asked_of a)) texts_are) ∙ none)
-        ∙ ap (λ (rs : List (ℕ × List (List ℕ))). option_or (slice_get (stops rest.rows (faults rs)) 0)
-        (text_stop rest.ending))
-        (with_room_is cols below)
-        ∙ ap (λ (cs : List Column). stop_left a cs MOST_BALLOTS rest)
-        (sym (found_are ∙ ap (columns (asked_of a)) texts_are))
-
-    pub same_ballots : (found : List Column) → found ≡ columns (asked_of a) texts
-        → ballots a.treatment (rows_of (asked_of a) a.empty (columns (asked_of a) (texts_in head))
-        (map texts_in rest.rows))
-        ≡ ballots_left a found MOST_BALLOTS rest.rows
-    same_ballots found found_are =
-        ap (λ (rs : List (ℕ × List (List ℕ))). ballots a.treatment
-        (filter_map (λ (r : ℕ × List (List ℕ)). row_of (asked_of a) a.empty r.0 cols r.1) rs)) (with_room_is cols below)
-        ∙ ap (λ (cs : List Column). ballots_left a cs MOST_BALLOTS rest.rows)
-        (sym (found_are ∙ ap (columns (asked_of a)) texts_are))
-
-    pub same_tally : (found : List Column) → found ≡ columns (asked_of a) texts
-        → tally_left a found MOST_BALLOTS rest.rows
-        ≡ tally_of a.treatment a.empty (map texts_in rest.rows)
-        (rows_of (asked_of a) a.empty (columns (asked_of a) (texts_in head)) (map texts_in rest.rows))
-    same_tally found found_are =
-        ap (λ (cs : List Column). tally_left a cs MOST_BALLOTS rest.rows)
-        (found_are ∙ ap (columns (asked_of a)) texts_are)
-        ∙ sym (ap (λ (rs : List (ℕ × List (List ℕ))). tally_of a.treatment a.empty (map texts_in rest.rows)
-        (filter_map (λ (r : ℕ × List (List ℕ)). row_of (asked_of a) a.empty r.0 cols r.1) rs)) (with_room_is cols below))
+    pub found_read : (rest : text.Reading) → rest ≡ record { rows = head.below; ending = reading.ending }
+        → (found : Head) → head_fault (asked_of a) texts ≡ None → IsHead (asked_of a) texts found
+        → (names : List (List ℕ)) → names ≡ names_of (asked_of a) texts
+        → (r : Result Imported TableStop) → ReadsRows a found.columns.items names rest r → Reads a reading r
+    found_read rest rest_is found none found_is names names_are r =
+        rows_below a reading head is rest rest_is found.columns.items (sym (ap (head_fault (asked_of a)) same) ∙ none)
+        (found_is.columns_are ∙ ap (columns (asked_of a)) same) names (names_are ∙ ap (names_of (asked_of a)) same) r

@@ -6,8 +6,10 @@ use Rattle.ballot_table.specs.declared.table_asked.TableAsked.{TableAsked}
 -- the layout, and the texts that have a meaning of their own
 pub record Asked : Type 0 where
   pub layout : Layout
-  -- the words say that the first record is the head
+  -- the words say that there is a head, whatever is in it, or that there is none
   pub head_is_said : Bool
+  -- So many records are the head. Where it is none, the columns are named by their numbers.
+  pub heads : ℕ
   -- candidates stand in brackets at the end of the head's fields
   pub bracketed : Bool
   -- heads of the weight's column and of those that are passed over, in the order of the words
@@ -27,6 +29,7 @@ abbrev pub asked_of : TableAsked → Asked
 asked_of asked = record {
   layout = asked.layout;
   head_is_said = asked.head_is_said;
+  heads = asked.heads;
   bracketed = asked.bracketed;
   labels = asked.labels;
   weight = asked.weight;

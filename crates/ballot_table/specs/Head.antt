@@ -59,9 +59,10 @@ abbrev pub unless : {X : Type 0} → Option TableKind → X → Result X TableKi
 unless None x = Ok x
 unless (Some kind) x = Err kind
 
--- each head that is no label says a rank
+-- each head that is no label says a rank; a column's number is none
 abbrev pub heads_say_ranks : Asked → List (List ℕ) → Bool
-heads_say_ranks asked all = list_all (λ text. is_some (said_number text)) (unlabelled asked all)
+heads_say_ranks asked all =
+    not (asked.heads == 0) && list_all (λ text. is_some (said_number text)) (unlabelled asked all)
 
 abbrev pub rank_among : ℕ → Option ℕ → ℕ
 rank_among n None = 0

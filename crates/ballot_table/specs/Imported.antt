@@ -1,7 +1,7 @@
 -- What a text comes to as a table: its ballots, or the first fault.
-use Rattle.std.specs.Prelude.{◌≡◌, ℕ, ◌-◌, min, Bool, true, false, if◌then◌else◌, List, [], ◌∷◌, length, map}
+use Rattle.std.specs.Prelude.{◌≡◌, ℕ, ◌+◌, ◌-◌, min, Bool, true, false, if◌then◌else◌, List, [], ◌∷◌, length, map, take, drop}
 use Rattle.std.specs.Prelude.{Option, Some, None, Result, Ok, Err, ⊤}
-use Rattle.std.specs.List.{filter_map, slice_get, zip}
+use Rattle.std.specs.List.{filter_map, last_or, slice_get, zip}
 use Rattle.std.specs.Option.{option_map, option_map_or, option_or}
 use Rattle.plain_ballots.specs.Ballots.{plain}
 use Rattle.table_text.specs.declared.text_fault.TextFault.{TextFault}
@@ -12,11 +12,12 @@ use Rattle.ballot_table.specs.declared.fault.Fault.{Fault}
 use Rattle.ballot_table.specs.declared.table_asked.TableAsked.{TableAsked}
 use Rattle.ballot_table.specs.declared.imported.Imported.{Imported}
 use Rattle.ballot_table.specs.declared.table_kind.TableKind.{TableKind}
-use Rattle.ballot_table.specs.declared.table_kind.TableKind.TheVariants.{NoColumn, BadWithdrawn}
+use Rattle.ballot_table.specs.declared.table_kind.TableKind.TheVariants.{NoColumn, BadWithdrawn, HeadExpected}
 use Rattle.ballot_table.specs.declared.table_stop.TableStop.{TableStop}
 use Rattle.ballot_table.specs.declared.table_stop.TableStop.TheVariants as stop
 use Rattle.ballot_table.specs.Head.{head_fault, columns, names_of}
 use Rattle.ballot_table.specs.Asked.{asked_of}
+use Rattle.ballot_table.specs.ColumnNames.{column_names}
 use Rattle.ballot_table.specs.Refusals.{faults_below}
 use Rattle.ballot_table.specs.Report.{tally_of}
 use Rattle.ballot_table.specs.Table.{rows_of, ballots}
@@ -46,25 +47,55 @@ stop_at row fault =
 abbrev pub stops : List text.Row → List (Option Fault) → List TableStop
 stops rows faults = filter_map (λ p. option_map (stop_at p.0) p.1) (zip rows faults)
 
--- the faults of a head and of the rows below it
-abbrev pub faults_in : TableAsked → text.Row → List text.Row → List (Option Fault)
-faults_in asked head below =
-    let all = asked_of asked in
-    head_fault all (texts_in head)
-    ∷ faults_below all asked.treatment asked.empty (columns all (texts_in head)) (map texts_in below)
+-- The names of a table's columns, the record at which faults of the head are told, and the rows.
+pub record Headed : Type 0 where
+  pub names : List (List ℕ)
+  pub told : text.Row
+  pub below : List text.Row
 
--- the first fault of records, of which the first is the head
-abbrev pub record_stop : TableAsked → List text.Row → Option TableStop
-record_stop asked [] = None
-record_stop asked (head ∷ below) = slice_get (stops (head ∷ below) (faults_in asked head below)) 0
+-- So many of these records are the head, with this column's number for each field of this one.
+abbrev pub headed_at : ℕ → List text.Row → (told : text.Row) → Headed
+headed_at n rows told = record {
+  names = column_names (length told.fields) (map texts_in (take n rows));
+  told = told;
+  below = drop n rows;
+}
+
+-- Records of which so many are the head, where there are so many. The last of them has the columns; where none is the head,
+-- the first of the rows has them.
+abbrev pub headed : ℕ → List text.Row → Option Headed
+headed n rows = option_map (headed_at n rows) (slice_get rows (n - 1))
+
+-- the faults of a head and of the rows below it
+abbrev pub faults_in : TableAsked → Headed → List (Option Fault)
+faults_in asked head =
+    let all = asked_of asked in
+    head_fault all head.names
+    ∷ faults_below all asked.treatment asked.empty (columns all head.names) (map texts_in head.below)
+
+-- the first fault of a head and of the rows below it
+abbrev pub record_stop : TableAsked → Headed → Option TableStop
+record_stop asked head = slice_get (stops (head.told ∷ head.below) (faults_in asked head)) 0
 
 abbrev pub text_stop : text.Ending → Option TableStop
 text_stop text.AtEnd = None
 text_stop (text.AtFault fault) = Some (stop.Text fault)
 
--- records are judged before what is after them is read
+-- one more record of the head is expected after this one
+abbrev pub expected_after : text.Row → TableStop
+expected_after row = stop_at row (record { kind = HeadExpected; place = length (texts_in row) + 1 })
+
+-- it is expected after the last
+abbrev pub head_ended : List text.Row → Option TableStop
+head_ended rows = option_map expected_after (last_or None rows)
+
+-- Records are judged before what is after them is read, and those of the head when all of them are.
+abbrev pub stop_under : TableAsked → text.Reading → Option Headed → Option TableStop
+stop_under asked reading (Some head) = option_or (record_stop asked head) (text_stop reading.ending)
+stop_under asked reading None = option_or (text_stop reading.ending) (head_ended reading.rows)
+
 abbrev pub reading_stop : TableAsked → text.Reading → Option TableStop
-reading_stop asked reading = option_or (record_stop asked reading.rows) (text_stop reading.ending)
+reading_stop asked reading = stop_under asked reading (headed asked.heads reading.rows)
 
 -- the byte between two fields: what is asked for, or what the head shows
 abbrev pub separator : Option ℕ → List ℕ → Result ℕ TextFault
@@ -84,20 +115,19 @@ abbrev pub IsTableStop : Option TableStop → TableStop → Type 0
 IsTableStop first stop.NoMemory = ⊤
 IsTableStop first found = first ≡ Some found
 
--- The text is a head and rows, whose names, ballots and numbers these are.
+-- The text is a head and rows below it, whose names, ballots and numbers these are.
 pub record IsImported (asked : TableAsked) (bytes : List ℕ) (imported : Imported) : Type 0 where
   pub byte : ℕ
   pub separated : separator asked.separator bytes ≡ Ok byte
-  pub head : text.Row
-  pub below : List text.Row
-  pub records : (text.read_text byte bytes).rows ≡ head ∷ below
-  pub names : imported.names ≡ names_of (asked_of asked) (texts_in head)
+  pub head : Headed
+  pub records : headed asked.heads (text.read_text byte bytes).rows ≡ Some head
+  pub names : imported.names ≡ names_of (asked_of asked) head.names
   pub candidates : imported.ballots.candidates ≡ length imported.names
   pub ballots_are :
       ballots asked.treatment
-      (rows_of (asked_of asked) asked.empty (columns (asked_of asked) (texts_in head)) (map texts_in below))
+      (rows_of (asked_of asked) asked.empty (columns (asked_of asked) head.names) (map texts_in head.below))
       ≡ Some (plain imported.ballots.lines)
   pub tally_is :
       imported.tally
-      ≡ tally_of asked.treatment asked.empty (map texts_in below)
-      (rows_of (asked_of asked) asked.empty (columns (asked_of asked) (texts_in head)) (map texts_in below))
+      ≡ tally_of asked.treatment asked.empty (map texts_in head.below)
+      (rows_of (asked_of asked) asked.empty (columns (asked_of asked) head.names) (map texts_in head.below))

@@ -15,7 +15,7 @@ use Rattle.ballot_table.specs.declared.table_asked.TableAsked.{TableAsked}
 use Rattle.ballot_table.specs.declared.table_stop.TableStop.{TableStop}
 use Rattle.ballot_table.specs.declared.tally.Tally.{Tally}
 use Rattle.ballot_table.specs.Head.{columns, names_of}
-use Rattle.ballot_table.specs.Imported.{texts_in, stop_at, stops, text_stop, reading_stop, IsTableStop}
+use Rattle.ballot_table.specs.Imported.{Headed, headed, texts_in, stop_at, stops, text_stop, reading_stop, IsTableStop}
 use Rattle.ballot_table.specs.Asked.{asked_of}
 use Rattle.ballot_table.specs.Refusals.{whole_fault}
 use Rattle.ballot_table.specs.Report.{tally_of, one_dropped, counted_if, plus, ranks_nobody}
@@ -100,22 +100,37 @@ abbrev pub TakesRows : TableAsked → List Column → text.Reading → (old : Ro
 TakesRows asked cols reading old (Ok done) new = AreRowsTaken asked cols reading old new
 TakesRows asked cols reading old (Err stop) new = IsTableStop (stop_left asked cols MOST_BALLOTS reading) stop
 
+-- Rows under these columns, without a fault, are read for these candidates.
+pub record AreRowsRead (asked : TableAsked) (cols : List Column) (names : List (List ℕ)) (reading : text.Reading)
+    (imported : Imported) : Type 0
+  where
+    pub sound : stop_left asked cols MOST_BALLOTS reading ≡ None
+    pub names_are : imported.names ≡ names
+    pub candidates : imported.ballots.candidates ≡ length imported.names
+    pub ballots_are : ballots_left asked cols MOST_BALLOTS reading.rows ≡ Some (plain imported.ballots.lines)
+    pub tally_is : imported.tally ≡ tally_left asked cols MOST_BALLOTS reading.rows
+
+-- They are read so, or refused for their first fault; or memory is wanted.
+abbrev pub ReadsRows :
+    TableAsked → List Column → (names : List (List ℕ)) → text.Reading → Result Imported TableStop → Type 0
+ReadsRows asked cols names reading (Ok imported) = AreRowsRead asked cols names reading imported
+ReadsRows asked cols names reading (Err stop) = IsTableStop (stop_left asked cols MOST_BALLOTS reading) stop
+
 -- Records are a head and rows without a fault, whose names, ballots and numbers these are.
 pub record IsRead (asked : TableAsked) (reading : text.Reading) (imported : Imported) : Type 0 where
   pub sound : reading_stop asked reading ≡ None
-  pub head : text.Row
-  pub below : List text.Row
-  pub records : reading.rows ≡ head ∷ below
-  pub names : imported.names ≡ names_of (asked_of asked) (texts_in head)
+  pub head : Headed
+  pub records : headed asked.heads reading.rows ≡ Some head
+  pub names : imported.names ≡ names_of (asked_of asked) head.names
   pub candidates : imported.ballots.candidates ≡ length imported.names
   pub ballots_are :
       ballots asked.treatment
-      (rows_of (asked_of asked) asked.empty (columns (asked_of asked) (texts_in head)) (map texts_in below))
+      (rows_of (asked_of asked) asked.empty (columns (asked_of asked) head.names) (map texts_in head.below))
       ≡ Some (plain imported.ballots.lines)
   pub tally_is :
       imported.tally
-      ≡ tally_of asked.treatment asked.empty (map texts_in below)
-      (rows_of (asked_of asked) asked.empty (columns (asked_of asked) (texts_in head)) (map texts_in below))
+      ≡ tally_of asked.treatment asked.empty (map texts_in head.below)
+      (rows_of (asked_of asked) asked.empty (columns (asked_of asked) head.names) (map texts_in head.below))
 
 -- They are read so, or refused for their first fault; or memory is wanted.
 abbrev pub Reads : TableAsked → text.Reading → Result Imported TableStop → Type 0

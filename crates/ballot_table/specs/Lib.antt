@@ -5,6 +5,7 @@ pub mod Faults
 pub mod Head
 pub mod Cells
 pub mod Rows
+pub mod ColumnNames
 pub mod Held
 pub mod Said
 pub mod Finding
@@ -19,6 +20,7 @@ pub mod Left
 pub mod Laws
 pub mod Layouts
 pub mod Worked
+pub mod WorkedNames
 pub mod WorkedTexts
 pub mod WorkedReports
 pub mod PlainRows

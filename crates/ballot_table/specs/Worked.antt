@@ -29,6 +29,7 @@ abbrev pub plainly : Layout → Asked
 plainly layout = record {
   layout = layout;
   head_is_said = false;
+  heads = 1;
   bracketed = false;
   labels = [];
   weight = None;

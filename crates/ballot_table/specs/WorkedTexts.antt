@@ -1,5 +1,5 @@
 -- Texts worked by hand, from their bytes on.
-use Rattle.std.specs.Prelude.{◌≡◌, ℕ, false, [], ◌∷◌, Option, Some, None, codes}
+use Rattle.std.specs.Prelude.{◌≡◌, ℕ, true, false, [], ◌∷◌, Option, Some, None, codes}
 use Rattle.table_text.specs.declared.text_kind.TextKind.{TextKind}
 use Rattle.table_text.specs.declared.text_kind.TextKind.TheVariants.{Ended, UnclearSeparator}
 use Rattle.ballot_marks.specs.Laws.{strict}
@@ -8,7 +8,7 @@ use Rattle.ballot_table.specs.declared.table_asked.TableAsked.{TableAsked}
 use Rattle.ballot_table.specs.declared.layout.Layout.TheVariants.{Ranks, List as Lists}
 use Rattle.ballot_table.specs.declared.table_kind.TableKind.{TableKind}
 use Rattle.ballot_table.specs.declared.table_kind.TableKind.TheVariants.{BadRank, UnequalRow, EqualRank, Repeated}
-use Rattle.ballot_table.specs.declared.table_kind.TableKind.TheVariants.{NameExpected, ColumnExpected, BadWithdrawn}
+use Rattle.ballot_table.specs.declared.table_kind.TableKind.TheVariants.{NameExpected, ColumnExpected, BadWithdrawn, HeadExpected}
 use Rattle.ballot_table.specs.declared.table_stop.TableStop.{TableStop}
 use Rattle.ballot_table.specs.declared.table_stop.TableStop.TheVariants as stop
 use Rattle.ballot_table.specs.Imported.{refusal}
@@ -19,6 +19,7 @@ plain_ranks = record {
   layout = Ranks;
   separator = None;
   head_is_said = false;
+  heads = 1;
   bracketed = false;
   labels = [];
   weight = None;
@@ -53,6 +54,18 @@ pub record WorkedTexts : Type 0 where
   pub no_rank : refusal plain_ranks (codes "Ann,Ben\n1,0\n") ≡ at_byte BadRank 10 2 2
   pub before_what_follows : refusal plain_ranks (codes "Ann,Ben\n1,0\n\"") ≡ at_byte BadRank 10 2 2
   pub equal_ranks : refusal plain_ranks (codes "Ann,Ben,Cid,Dee\n1,2,2,3\n") ≡ at_byte EqualRank 20 2 3
+  pub no_head :
+      refusal (record plain_ranks { head_is_said = true; heads = 0 }) (codes "2,1\n1,2,3\n") ≡ at_byte UnequalRow 8 2 3
+  pub first_row :
+      refusal (record plain_ranks { head_is_said = true; heads = 0 }) (codes "2,x\n1,2\n") ≡ at_byte BadRank 2 1 2
+  pub lower_head :
+      refusal (record plain_ranks { head_is_said = true; heads = 2 }) (codes "Vote,\nAnn,\n1,2\n")
+      ≡ at_byte NameExpected 10 2 2
+  pub one_head_too_few :
+      refusal (record plain_ranks { head_is_said = true; heads = 2 }) (codes "Ann,Ben\n") ≡ at_byte HeadExpected 7 1 3
+  pub below_two :
+      refusal (record plain_ranks { head_is_said = true; heads = 2 }) (codes "Vote,Vote\nAnn,Ben\n1,0\n")
+      ≡ at_byte BadRank 20 3 2
   pub in_a_list :
       refusal (record plain_ranks { layout = Lists; candidates = codes "Ann" ∷ codes "Ben" ∷ [] })
       (codes "Order\nBen;Ann;\nBen;Ben\n")

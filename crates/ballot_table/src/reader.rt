@@ -1,20 +1,21 @@
 // The reader of tables.
 ghost use Rattle.std.specs.Prelude.{◌≡◌, ◌≤◌, [], Some, None, Ok, length, sum_by, OnOk, IfOk, IfErr};
 ghost use Rattle.plain_ballots.specs.declared.limits.TheConstants.{MOST_BALLOTS, MOST_CANDIDATES};
-ghost use Rattle.table_text.specs.Reading.{with_row};
-ghost use Rattle.ballot_table.specs.Imported.{IsImported, IsTableStop, refusal, separator, texts_in};
-ghost use Rattle.ballot_table.specs.Left.{Reads, TakesRows};
+ghost use Rattle.table_text.specs.Reading.{read_text};
+ghost use Rattle.ballot_table.specs.Imported.{IsImported, IsTableStop, refusal, separator};
+ghost use Rattle.ballot_table.specs.Left.{Reads, ReadsRows, TakesRows};
 ghost use Rattle.ballot_table.specs.Report.{no_rows};
-ghost use Rattle.ballot_table.specs.Sheets.{row_at};
 ghost use Rattle.ballot_table.specs.Asked.{asked_of};
 ghost use Rattle.ballot_table.specs.Finding.{candidates_at, candidates_in};
 
+use crate::column_names::{lowest_names, numbered};
 use crate::columns::Columns;
-use crate::head::{Head, names};
-use crate::record_stop::RecordStop;
+use crate::head::Head;
+use crate::head_records::HeadRecords;
+use crate::named_head::NamedHead;
 use crate::rows::Rows;
-use crate::sheet::{Place, Sheet};
-use crate::{Imported, TableAsked, TableStop, Text};
+use crate::sheet::Sheet;
+use crate::{Imported, TableAsked, TableStop};
 use std::alloc::Global;
 use table_text::find_separator;
 
@@ -26,21 +27,41 @@ pub fn read_table(alloc: Global, asked: &TableAsked, bytes: &[u8]) -> Result<Imp
     ensures stop { IfErr result (IsTableStop (refusal asked.now bytes.now)) }
 {
     match separator(asked, bytes) {
-        Ok(separator) => {
-            let mut sheet = Sheet::new(alloc, bytes, separator);
-            read_sheet(alloc, asked, &mut sheet)
-        }
+        Ok(separator) => read_separated(alloc, asked, bytes, separator),
         Err(stop) => Err(stop),
     }
 }
 
-// What the records that are still to come come to, of which the first is the head.
-fn read_sheet(
+// What a text comes to whose fields this byte separates. Without a head its first record is looked at before it is read as a row.
+fn read_separated(
+    alloc: Global,
+    asked: &TableAsked,
+    bytes: &[u8],
+    separator: u8,
+) -> Result<Imported, TableStop>
+    requires { length asked.now.candidates ≤ MOST_CANDIDATES }
+    ensures { Reads asked.now (read_text separator bytes.now) result }
+{
+    let mut sheet = Sheet::new(alloc, bytes, separator);
+    if asked.heads == 0 {
+        let mut rows = Sheet::new(alloc, bytes, separator);
+        read_numbered(alloc, asked, &mut sheet, &mut rows)
+    } else {
+        read_headed(alloc, asked, &mut sheet)
+    }
+}
+
+// What the rows come to that are still to come, where there is no head: the first record of a sheet has as many fields as
+// there are columns.
+fn read_numbered(
     alloc: Global,
     asked: &TableAsked,
     sheet: &mut Sheet<'_>,
+    rows: &mut Sheet<'_>,
 ) -> Result<Imported, TableStop>
-    requires { length asked.now.candidates ≤ MOST_CANDIDATES }
+    requires names { length asked.now.candidates ≤ MOST_CANDIDATES }
+    requires none { asked.now.heads ≡ 0 }
+    requires same { rows.old.records.rest ≡ sheet.old.records.rest }
     ensures { Reads asked.now sheet.old.records.rest result }
 {
     let place = match sheet.next() {
@@ -48,32 +69,52 @@ fn read_sheet(
         Ok(None) => return Err(TableStop::NoMemory),
         Err(stop) => return Err(stop),
     };
-    match sheet.texts(alloc) {
-        Ok(texts) => read_below(alloc, asked, texts.items(), place, sheet),
-        Err(_) => Err(TableStop::NoMemory),
+    let Ok(names) = numbered(alloc, sheet.len()) else {
+        return Err(TableStop::NoMemory);
+    };
+    match NamedHead::read(alloc, asked, names.items(), sheet, place) {
+        Ok(head) => read_rows(alloc, asked, head, rows),
+        Err(stop) => Err(stop),
     }
 }
 
-// What a head of these texts, at a place, and the records below it come to.
-fn read_below(
+// What the records come to that are still to come, of which the first are the head.
+fn read_headed(
     alloc: Global,
     asked: &TableAsked,
-    texts: &[Text],
-    place: Place,
     sheet: &mut Sheet<'_>,
 ) -> Result<Imported, TableStop>
     requires names { length asked.now.candidates ≤ MOST_CANDIDATES }
-    requires texts { texts.now ≡ texts_in (row_at sheet.old place) }
-    ensures { Reads asked.now (with_row (row_at sheet.old place) sheet.old.records.rest) result }
+    requires some { 1 ≤ asked.now.heads }
+    ensures { Reads asked.now sheet.old.records.rest result }
 {
-    let head = match Head::read(alloc, asked, texts) {
-        Ok(head) => head,
-        Err(RecordStop::Fault(fault)) => return Err(sheet.stop_at(place, fault)),
-        Err(RecordStop::NoMemory) => return Err(TableStop::NoMemory),
+    let records = match HeadRecords::read(alloc, asked, sheet) {
+        Ok(records) => records,
+        Err(stop) => return Err(stop),
     };
-    let Ok(names) = names(alloc, asked, texts) else {
+    let Ok(names) = lowest_names(alloc, sheet.len(), records.texts.as_slice()) else {
         return Err(TableStop::NoMemory);
     };
+    match NamedHead::read(alloc, asked, names.items(), sheet, records.place) {
+        Ok(head) => read_rows(alloc, asked, head, sheet),
+        Err(stop) => Err(stop),
+    }
+}
+
+// What the rows come to that are still to come, under a head without a fault.
+fn read_rows(
+    alloc: Global,
+    asked: &TableAsked,
+    named: NamedHead,
+    sheet: &mut Sheet<'_>,
+) -> Result<Imported, TableStop>
+    requires names { length asked.now.candidates ≤ MOST_CANDIDATES }
+    requires few { sum_by candidates_at named.head.columns.items ≤ MOST_CANDIDATES }
+    requires candidates { candidates_in (asked_of asked.now) named.head.columns.items ≡ named.head.candidates }
+    requires named { named.head.candidates ≡ length named.names }
+    ensures { ReadsRows asked.now named.head.columns.items named.names sheet.old.records.rest result }
+{
+    let NamedHead { head, names } = named;
     let mut taken = Rows::new(alloc, head.candidates);
     match take_rows(alloc, asked, &head, sheet, &mut taken) {
         Ok(()) => match taken.imported(names) {

@@ -23,8 +23,10 @@ pub struct TableAsked {
     pub layout: Layout,
     /// The byte between two fields; where none is said, the head shows it.
     pub separator: Option<u8>,
-    /// The first record is the head, whatever is in it.
+    /// There is a head, whatever is in it, or there is none.
     pub head_is_said: bool,
+    /// So many records are the head. Where it is none, the columns are named by their numbers.
+    pub heads: u32,
     /// The candidates stand in brackets at the end of the head's fields.
     pub bracketed: bool,
     /// The heads of the weight's column and of those that are passed over, in the order of the words.

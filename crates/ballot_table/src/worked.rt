@@ -1,5 +1,6 @@
 // Tables worked by hand.
 ghost use Rattle.ballot_table.specs.Worked.{WorkedHeads, WorkedRows, WorkedRefusals};
+ghost use Rattle.ballot_table.specs.WorkedNames.{WorkedNames};
 ghost use Rattle.ballot_table.specs.WorkedReports.{WorkedReports};
 ghost use Rattle.ballot_table.specs.WorkedTexts.{WorkedTexts};
 
@@ -8,6 +9,11 @@ pub fn worked_tables()
     ensures heads { WorkedHeads }
     ensures rows { WorkedRows }
     ensures refusals { WorkedRefusals }
+{}
+
+/// Columns worked by hand have the names that are defined.
+pub fn worked_names()
+    ensures { WorkedNames }
 {}
 
 /// Texts worked by hand are refused, each at its byte, its row and its column, or are not.

@@ -11,7 +11,8 @@ use Rattle.ballot_table.specs.declared.table_asked.TableAsked.{TableAsked}
 use Rattle.ballot_table.specs.declared.table_stop.TableStop.{TableStop}
 use Rattle.ballot_table.specs.Asked.{asked_of}
 use Rattle.ballot_table.specs.Head.{columns, names_of}
-use Rattle.ballot_table.specs.Imported.{IsImported, faults_in, reading_stop, record_stop, refusal, separator, stop_at, stop_by, text_stop, texts_in}
+use Rattle.ballot_table.specs.Imported.{Headed, headed, IsImported, faults_in, reading_stop, record_stop, refusal, separator}
+use Rattle.ballot_table.specs.Imported.{stop_at, stop_by, stop_under, text_stop, texts_in}
 use Rattle.ballot_table.specs.declared.imported.Imported.{Imported}
 use Rattle.ballot_table.specs.Laws.{FaultOrTable, IsCounted, RecordsHaveNoOrder}
 use Rattle.ballot_table.specs.Refusals.{fault_of_table, whole_fault}
@@ -29,12 +30,6 @@ use Rattle.blt_import.specs.Laws.{HasRecords, RecordsHaveOneText}
 use Rattle.blt_import.specs.Owed.{HasNoFault, IsTextOf, OwesText, Says, roll_of}
 use Rattle.blt_import.proofs.OneText.{one_byte, one_some}
 
-one_head : {x y : text.Row} {xs ys : List text.Row} → x ∷ xs ≡ y ∷ ys → x ≡ y
-one_head same = cc
-
-one_tail : {x y : text.Row} {xs ys : List text.Row} → x ∷ xs ≡ y ∷ ys → xs ≡ ys
-one_tail same = cc
-
 -- Where none of some faults, each with its record, is found, none is found with its number.
 none_found : {F S T : Type 0} (stop : text.Row → F → S) (place : ℕ → F → T) (rows : List text.Row)
     (faults : List (Option F)) (n : ℕ) → length faults ≡ length rows
@@ -47,36 +42,35 @@ none_found stop place (row ∷ rows) (None ∷ faults) n same none =
 none_found stop place (row ∷ rows) (Some fault ∷ faults) n same none = cc
 
 module _ (asked : TableAsked) where
-  -- as many faults are judged as there are records
-  as_many : (first : text.Row) (rest : List text.Row)
-      → length (faults_in asked first rest) ≡ length (first ∷ rest)
-  as_many first rest =
+  -- as many faults are judged as there are rows, and one for the head
+  as_many : (head : Headed) → length (faults_in asked head) ≡ length (head.told ∷ head.below)
+  as_many head =
       let all = asked_of asked in
-      let cols = columns all (texts_in first) in
-      let rows = map texts_in rest in
+      let cols = columns all head.names in
+      let rows = map texts_in head.below in
       ap suc
       (length-map (with_room cols rows)
       (λ (r : ℕ × List (List ℕ)). whole_fault all asked.treatment asked.empty r.0 cols r.1)
       ∙ length-map (enumerate_from 0 rows) (λ (at : ℕ × List (List ℕ)). (room_behind cols (take at.0 rows), at.1))
       ∙ length-enumerate_from 0 rows
-      ∙ length-map rest texts_in)
+      ∙ length-map head.below texts_in)
 
   first_none : (one other : Option TableStop) → option_or one other ≡ None → one ≡ None
   first_none None other none = refl
   first_none (Some stop) other none = cc
 
   -- a text that is not refused has a table without a fault
-  no_fault : (input : List ℕ) (byte : ℕ) (first : text.Row) (rest : List text.Row) → refusal asked input ≡ None
-      → separator asked.separator input ≡ Ok byte → (text.read_text byte input).rows ≡ first ∷ rest
-      → fault_of_table (asked_of asked) asked.treatment asked.empty (texts_in first) (map texts_in rest) ≡ None
-  no_fault input byte first rest sound separated records =
+  no_fault : (input : List ℕ) (byte : ℕ) (head : Headed) → refusal asked input ≡ None
+      → separator asked.separator input ≡ Ok byte → headed asked.heads (text.read_text byte input).rows ≡ Some head
+      → fault_of_table (asked_of asked) asked.treatment asked.empty head.names (map texts_in head.below) ≡ None
+  no_fault input byte head sound separated records =
       let reading = text.read_text byte input in
       let read : reading_stop asked reading ≡ None = ap (stop_by asked input) (sym separated) ∙ sound in
-      let judged : record_stop asked reading.rows ≡ None =
-      first_none (record_stop asked reading.rows) (text_stop reading.ending) read in
-      none_found stop_at (λ row fault. record { row = row; fault = fault }) (first ∷ rest) (faults_in asked first rest) 1
-      (as_many first rest)
-      (ap (record_stop asked) (sym records) ∙ judged)
+      let judged : record_stop asked head ≡ None =
+      first_none (record_stop asked head) (text_stop reading.ending) (ap (stop_under asked reading) (sym records) ∙ read) in
+      none_found stop_at (λ row fault. record { row = row; fault = fault }) (head.told ∷ head.below) (faults_in asked head)
+      1
+      (as_many head) judged
 
   -- the ballots of an input's table, by its texts
   record IsCountedAs (head : List (List ℕ)) (below : List (List (List ℕ))) (imported : Imported) : Type 0 where
@@ -91,13 +85,14 @@ module _ (asked : TableAsked) where
       → IsCountedAs head below imported
   counted_as input head below imported sound records is =
       let byte = one_byte is.byte records.byte _ is.separated records.separated in
-      let rows : is.head ∷ is.below ≡ records.first ∷ records.rest =
-      sym is.records ∙ ap (λ n. (text.read_text n input).rows) byte ∙ records.records in
-      let head_is : texts_in is.head ≡ head = ap texts_in (one_head rows) ∙ records.head_is in
-      let below_is : map texts_in is.below ≡ below = ap (map texts_in) (one_tail rows) ∙ records.below_is in
-      let found = no_fault input is.byte is.head is.below sound is.separated is.records in
+      let same : is.head ≡ records.parts = one_some is.head records.parts
+      (sym is.records ∙ ap (λ n. headed asked.heads (text.read_text n input).rows) byte ∙ records.records) in
+      let head_is : is.head.names ≡ head = ap (λ (h : Headed). h.names) same ∙ records.head_is in
+      let below_is : map texts_in is.head.below ≡ below =
+      ap (λ (h : Headed). map texts_in h.below) same ∙ records.below_is in
+      let found = no_fault input is.byte is.head sound is.separated is.records in
       subst (λ hs. IsCountedAs hs below imported) head_is
-      (subst (λ bs. IsCountedAs (texts_in is.head) bs imported) below_is
+      (subst (λ bs. IsCountedAs is.head.names bs imported) below_is
       record { names = is.names; sound = found; ballots_are = is.ballots_are })
 
   -- the ballots of records in another order are the same, in another order

@@ -8,10 +8,10 @@ use Rattle.table_text.specs.Reading as text
 use Rattle.table_text.specs.declared.text_fault.TextFault.{TextFault}
 use Rattle.ballot_table.specs.declared.table_asked.TableAsked.{TableAsked}
 use Rattle.ballot_table.specs.Head.{columns, names_of}
-use Rattle.ballot_table.specs.Imported.{texts_in}
+use Rattle.ballot_table.specs.Imported.{Headed, headed, texts_in}
 use Rattle.ballot_table.specs.Asked.{asked_of}
 use Rattle.ballot_table.specs.declared.tally.Tally.{Tally}
-use Rattle.ballot_table.specs.Report.{no_rows, tally_of}
+use Rattle.ballot_table.specs.Report.{tally_of}
 use Rattle.ballot_table.specs.Table.{ballots, rows_of}
 use Rattle.preflib_text.specs.declared.tally.Tally.{Tally as OrderTally}
 use Rattle.blt_writer.specs.Laws.{OneBagHasOneText}
@@ -25,23 +25,20 @@ use Rattle.blt_import.specs.Owed.{IsTextOf, Says, roll_of}
 use Rattle.blt_import.specs.Forms.{Form, Table, Preflib, form_of}
 use Rattle.blt_import.specs.Report.{report_text, tally_of_orders}
 
--- what records say, of which the first is the head
+-- what a head and rows say
 module _ (asked : TableAsked) where
-  abbrev names_in : List text.Row → List (List ℕ)
-  names_in [] = []
-  names_in (head ∷ below) = names_of (asked_of asked) (texts_in head)
+  abbrev names_in : Headed → List (List ℕ)
+  names_in head = names_of (asked_of asked) head.names
 
-  abbrev ballots_in : List text.Row → Option (List (List ℕ))
-  ballots_in [] = None
-  ballots_in (head ∷ below) =
+  abbrev ballots_in : Headed → Option (List (List ℕ))
+  ballots_in head =
       ballots asked.treatment
-      (rows_of (asked_of asked) asked.empty (columns (asked_of asked) (texts_in head)) (map texts_in below))
+      (rows_of (asked_of asked) asked.empty (columns (asked_of asked) head.names) (map texts_in head.below))
 
-  abbrev tally_in : List text.Row → Tally
-  tally_in [] = no_rows
-  tally_in (head ∷ below) =
-      tally_of asked.treatment asked.empty (map texts_in below)
-      (rows_of (asked_of asked) asked.empty (columns (asked_of asked) (texts_in head)) (map texts_in below))
+  abbrev tally_in : Headed → Tally
+  tally_in head =
+      tally_of asked.treatment asked.empty (map texts_in head.below)
+      (rows_of (asked_of asked) asked.empty (columns (asked_of asked) head.names) (map texts_in head.below))
 
 pub one_byte : (m n : ℕ) (r : Result ℕ TextFault) → r ≡ Ok m → r ≡ Ok n → m ≡ n
 one_byte m n r one other = let same = sym one ∙ other in cc
@@ -64,12 +61,12 @@ one_read : (form : Form) (input : List ℕ) (one other : Read) → Says form inp
 one_read (Table form) input one other (a, says, names_a, title_a, ballots_a, tally_a)
     (b, also, names_b, title_b, ballots_b, tally_b) =
     let byte = one_byte says.byte also.byte _ says.separated also.separated in
-    let rows : says.head ∷ says.below ≡ also.head ∷ also.below =
-    sym says.records ∙ ap (λ n. (text.read_text n input).rows) byte ∙ also.records in
-    let names : a.names ≡ b.names = says.names ∙ ap (names_in form.table) rows ∙ sym also.names in
+    let head : says.head ≡ also.head = one_some says.head also.head
+    (sym says.records ∙ ap (λ n. headed form.table.heads (text.read_text n input).rows) byte ∙ also.records) in
+    let names : a.names ≡ b.names = says.names ∙ ap (names_in form.table) head ∙ sym also.names in
     let some : Some (plain a.ballots.lines) ≡ Some (plain b.ballots.lines) =
-    sym says.ballots_are ∙ ap (ballots_in form.table) rows ∙ also.ballots_are in
-    let tally : a.tally ≡ b.tally = says.tally_is ∙ ap (tally_in form.table) rows ∙ sym also.tally_is in
+    sym says.ballots_are ∙ ap (ballots_in form.table) head ∙ also.ballots_are in
+    let tally : a.tally ≡ b.tally = says.tally_is ∙ ap (tally_in form.table) head ∙ sym also.tally_is in
     record {
       names = names_a ∙ names ∙ sym names_b;
       title = title_a ∙ sym title_b;

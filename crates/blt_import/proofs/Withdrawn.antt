@@ -14,7 +14,7 @@ use Rattle.ballot_table.specs.declared.table_kind.TableKind.TheVariants.{BadWith
 use Rattle.ballot_table.specs.Asked.{Asked, asked_of}
 use Rattle.ballot_table.specs.Faults.{first_fault}
 use Rattle.ballot_table.specs.Head.{bad_withdrawn, column_expected, columns, columns_of, fault_at, head_fault, names_of, no_column}
-use Rattle.ballot_table.specs.Imported.{IsImported, record_stop, refusal, stop_at, stop_by, text_stop, texts_in}
+use Rattle.ballot_table.specs.Imported.{IsImported, record_stop, refusal, stop_at, stop_by, stop_under, text_stop, texts_in}
 use Rattle.ballot_table.specs.Refusals.{faults_below}
 
 or_none : {X : Type 0} (a b : Option X) → option_or a b ≡ None → (a ≡ None) × (b ≡ None)
@@ -51,15 +51,15 @@ head_none at row (Some fault) rows faults is = absurd (cc is)
 module _ (asked : TableAsked) where
   head_sound :
       (bytes : List ℕ) (table : Imported) (is : IsImported asked bytes table) → refusal asked bytes ≡ None
-      → head_fault (asked_of asked) (texts_in is.head) ≡ None
+      → head_fault (asked_of asked) is.head.names ≡ None
   head_sound bytes table is none =
       let reading = text.read_text is.byte bytes in
       let read : stop_by asked bytes (Ok is.byte) ≡ None = sym (ap (stop_by asked bytes) is.separated) ∙ none in
-      let whole = (or_none (record_stop asked reading.rows) (text_stop reading.ending) read).0 in
-      let first : record_stop asked (is.head ∷ is.below) ≡ None = sym (ap (record_stop asked) is.records) ∙ whole in
+      let whole = sym (ap (stop_under asked reading) is.records) ∙ read in
+      let first : record_stop asked is.head ≡ None = (or_none (record_stop asked is.head) (text_stop reading.ending) whole).0 in
       let all = asked_of asked in
-      head_none stop_at is.head (head_fault all (texts_in is.head)) is.below
-      (faults_below all asked.treatment asked.empty (columns all (texts_in is.head)) (map texts_in is.below)) first
+      head_none stop_at is.head.told (head_fault all is.head.names) is.head.below
+      (faults_below all asked.treatment asked.empty (columns all is.head.names) (map texts_in is.head.below)) first
 
 -- a number that is not refused is a candidate's
 candidate : (n c : ℕ) → (c == 0 || nat_lt n c) ≡ false → (1 ≤ c) × (c ≤ n)
@@ -89,4 +89,4 @@ pub withdrawn_are_candidates :
     → All (λ c. (1 ≤ c) × (c ≤ length table.names)) asked.withdrawn
 withdrawn_are_candidates asked bytes table is none =
     subst (λ (names : List (List ℕ)). All (λ c. (1 ≤ c) × (c ≤ length names)) asked.withdrawn) (sym is.names)
-    (withdrawn_in (asked_of asked) (texts_in is.head) (head_sound asked bytes table is none))
+    (withdrawn_in (asked_of asked) is.head.names (head_sound asked bytes table is none))

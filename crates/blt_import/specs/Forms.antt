@@ -11,6 +11,8 @@ use Rattle.import_words.specs.declared.empty_rows.EmptyRows.{EmptyRows}
 use Rattle.import_words.specs.declared.empty_rows.EmptyRows.TheVariants as rows
 use Rattle.import_words.specs.declared.head_names.HeadNames.{HeadNames}
 use Rattle.import_words.specs.declared.head_names.HeadNames.TheVariants.{Whole, Bracketed}
+use Rattle.import_words.specs.declared.head_words.HeadWords.{HeadWords}
+use Rattle.import_words.specs.declared.head_words.HeadWords.TheVariants as head_words
 use Rattle.import_words.specs.declared.layout.Layout.{Layout}
 use Rattle.import_words.specs.declared.layout.Layout.TheVariants as words
 use Rattle.import_words.specs.declared.separator.Separator.{Separator}
@@ -36,6 +38,18 @@ abbrev pub is_bracketed : HeadNames → Bool
 is_bracketed Whole = false
 is_bracketed Bracketed = true
 
+-- the head, whatever is in it, or that there is none
+abbrev pub is_head_said : HeadWords → Bool
+is_head_said head_words.Unsaid = false
+is_head_said head_words.Absent = true
+is_head_said (head_words.Records n) = true
+
+-- So many records are the head: one, where nothing is said.
+abbrev pub records_of : HeadWords → ℕ
+records_of head_words.Unsaid = 1
+records_of head_words.Absent = 0
+records_of (head_words.Records n) = n
+
 abbrev pub empty_of : EmptyRows → Empty
 empty_of rows.Refuse = empty.Refuse
 empty_of rows.Keep = empty.Keep
@@ -59,7 +73,8 @@ abbrev pub table_of : Asked → TableLayout → TableAsked
 table_of asked layout = record {
   layout = layout;
   separator = option_map byte_of asked.table.separator;
-  head_is_said = asked.table.head_is_said;
+  head_is_said = is_head_said asked.table.head;
+  heads = records_of asked.table.head;
   bracketed = is_bracketed asked.table.names;
   labels = asked.table.columns;
   weight = asked.table.weight;

@@ -1,8 +1,8 @@
 -- What holds of inputs and what is written of them.
-use Rattle.std.specs.Prelude.{◌≡◌, ℕ, List, ◌∷◌, map, Ok, IsPermutation}
+use Rattle.std.specs.Prelude.{◌≡◌, ℕ, List, map, Some, Ok, IsPermutation}
 use Rattle.table_text.specs.Reading as text
 use Rattle.ballot_table.specs.declared.table_asked.TableAsked.{TableAsked}
-use Rattle.ballot_table.specs.Imported.{separator, texts_in}
+use Rattle.ballot_table.specs.Imported.{Headed, headed, separator, texts_in}
 use Rattle.import_words.specs.declared.asked.Asked.{Asked}
 use Rattle.import_words.specs.declared.output.Output.TheVariants.{Blt}
 use Rattle.blt_import.specs.Forms.{Table, TableForm, form_of}
@@ -13,16 +13,15 @@ abbrev pub TablesHaveOneText : Type 0
 TablesHaveOneText =
     (asked : Asked) (input one other : List ℕ) → OwesText asked input one → OwesText asked input other → one ≡ other
 
--- an input is read as records, of which the first says a head, and the others say what is below it
+-- an input is read as records that are a head, whose columns have these names, and rows that say this
 pub record HasRecords (asked : TableAsked) (input : List ℕ) (head : List (List ℕ)) (below : List (List (List ℕ))) : Type 0
   where
     pub byte : ℕ
     pub separated : separator asked.separator input ≡ Ok byte
-    pub first : text.Row
-    pub rest : List text.Row
-    pub records : (text.read_text byte input).rows ≡ first ∷ rest
-    pub head_is : texts_in first ≡ head
-    pub below_is : map texts_in rest ≡ below
+    pub parts : Headed
+    pub records : headed asked.heads (text.read_text byte input).rows ≡ Some parts
+    pub head_is : parts.names ≡ head
+    pub below_is : map texts_in parts.below ≡ below
 
 -- Tables of one head with the same records below it, in whatever order, have one ballot file.
 abbrev pub RecordsHaveOneText : Type 0

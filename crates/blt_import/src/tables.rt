@@ -1,11 +1,11 @@
 // From the words to what the reader of tables is asked.
 ghost use Rattle.std.specs.Prelude.{◌≡◌, ◌++◌, IfOk, OnOk};
 ghost use Rattle.std.specs.Option.{option_map};
-ghost use Rattle.blt_import.specs.Forms.{byte_of, empty_of, is_bracketed, named_for, with_lists, without_lists};
+ghost use Rattle.blt_import.specs.Forms.{byte_of, empty_of, is_bracketed, is_head_said, named_for, records_of, with_lists, without_lists};
 
 use ballot_table::{Empty, Layout, Numbers, TableAsked, Text, Texts};
 use candidate_roll::Names;
-use import_words::{Asked, EmptyRows, HeadNames, Label, Separator};
+use import_words::{Asked, EmptyRows, HeadNames, HeadWords, Label, Separator};
 use plain_ballots::NoMemory;
 use std::alloc::Global;
 
@@ -16,7 +16,8 @@ pub(crate) fn without_lists(alloc: Global, asked: &Asked, layout: Layout) -> Tab
     TableAsked {
         layout,
         separator: separator_of(asked.table.separator),
-        head_is_said: asked.table.head_is_said,
+        head_is_said: is_head_said(asked.table.head),
+        heads: records_of(asked.table.head),
         bracketed: is_bracketed(asked.table.names),
         labels: Texts::new(alloc),
         weight: None,
@@ -71,6 +72,27 @@ fn is_bracketed(names: HeadNames) -> bool
     ensures { result ≡ is_bracketed names }
 {
     matches!(names, HeadNames::Bracketed)
+}
+
+/// Whether it is said that there is a head, whatever is in it, or that there is none.
+fn is_head_said(head: HeadWords) -> bool
+    ensures { result ≡ is_head_said head }
+{
+    match head {
+        HeadWords::Unsaid => false,
+        HeadWords::Absent | HeadWords::Records(_) => true,
+    }
+}
+
+/// How many records are the head.
+fn records_of(head: HeadWords) -> u32
+    ensures { result ≡ records_of head }
+{
+    match head {
+        HeadWords::Unsaid => 1,
+        HeadWords::Absent => 0,
+        HeadWords::Records(records) => records,
+    }
 }
 
 fn empty_of(empty: EmptyRows) -> Empty

@@ -1,5 +1,5 @@
 -- Words ask for one thing at most.
-use Rattle.std.proofs.Common.{◌≡◌, ◌∙◌, refl, sym, ap, subst, true, false, codes, ℕ, Option, Some, None, List, [], ◌∷◌, inl, inr, ◌-◌}
+use Rattle.std.proofs.Common.{◌≡◌, ◌∙◌, refl, sym, ap, subst, codes, ℕ, Option, Some, None, List, [], ◌∷◌, inl, inr, ◌-◌}
 use Rattle.std.specs.List.{flat_map}
 use Rattle.candidate_roll.specs.declared.limits.TheConstants.{MOST_TITLE_BYTES}
 use Rattle.meek_words.specs.Numerals.{Word, HaveOneLotList, IsLotList, IsNumeralUpTo, number_of}
@@ -9,7 +9,7 @@ use Rattle.ballot_marks.specs.declared.choice.Treat.TheVariants as treats
 use Rattle.ballot_marks.specs.declared.treatment.Treatment.{Treatment}
 use Rattle.import_words.specs.Pairs.{ArePairs, Given, Said, given_of, words_of}
 use Rattle.import_words.specs.Options.{flag_of}
-use Rattle.import_words.specs.Settings.{IsAtMostOnce, IsOnce, IsDigit, SaysSkipped, IsSeparator, IsTreatment}
+use Rattle.import_words.specs.Settings.{IsAtMostOnce, IsOnce, IsCount, IsDigit, SaysHead, SaysSkipped, IsSeparator, IsTreatment}
 use Rattle.import_words.specs.Settings.{layout_word, output_word, treat_word, rows_word, separator_word, head_word}
 use Rattle.import_words.specs.Asks.{AreDistinguished, AreFor, Asks, IsRankList, IsWeight, Says, SaysCells, SaysRoll, SaysTable}
 use Rattle.import_words.specs.Laws.{AskOneThing}
@@ -18,6 +18,8 @@ use Rattle.import_words.specs.declared.layout.Layout.TheVariants as layouts
 use Rattle.import_words.specs.declared.output.Output.TheVariants as outputs
 use Rattle.import_words.specs.declared.empty_rows.EmptyRows.TheVariants as rows
 use Rattle.import_words.specs.declared.head_names.HeadNames.TheVariants as heads
+use Rattle.import_words.specs.declared.head_words.HeadWords.{HeadWords}
+use Rattle.import_words.specs.declared.head_words.HeadWords.TheVariants as head_words
 use Rattle.import_words.specs.declared.separator.Separator.{Separator}
 use Rattle.import_words.specs.declared.asked.Asked.{Asked}
 use Rattle.import_words.specs.declared.roll_words.RollWords.{RollWords}
@@ -59,6 +61,22 @@ one_digit word m n one other =
     let same : one.digit ∷ [] ≡ other.digit ∷ [] = sym one.alone ∙ other.alone in
     let digit : one.digit ≡ other.digit = cc in
     one.value ∙ ap (λ d. d - 48) digit ∙ sym other.value
+
+one_count : (word : Word) (m n : ℕ) → IsCount word m → IsCount word n → m ≡ n
+one_count word m n one other =
+    let same : one.digit ∷ [] ≡ other.digit ∷ [] = sym one.alone ∙ other.alone in
+    let digit : one.digit ≡ other.digit = cc in
+    one.value ∙ ap (λ d. d - 48) digit ∙ sym other.value
+
+one_head_words : (word : Word) (a b : HeadWords) → SaysHead word a → SaysHead word b → a ≡ b
+one_head_words word head_words.Unsaid b one other = absurd one
+one_head_words word head_words.Absent head_words.Unsaid one other = absurd other
+one_head_words word head_words.Absent head_words.Absent one other = refl
+one_head_words word head_words.Absent (head_words.Records n) one other = let e = sym one ∙ other.alone in cc
+one_head_words word (head_words.Records m) head_words.Unsaid one other = absurd other
+one_head_words word (head_words.Records m) head_words.Absent one other = let e = sym one.alone ∙ other in cc
+one_head_words word (head_words.Records m) (head_words.Records n) one other =
+    ap (λ k. head_words.Records k) (one_count word m n one other)
 
 one_skipped : (word : Word) (a b : Option ℕ) → SaysSkipped word a → SaysSkipped word b → a ≡ b
 one_skipped word None None one other = refl
@@ -108,15 +126,15 @@ one_table given a b one other =
     let separator = said_separator given.separator a.separator b.separator one.separator other.separator in
     let names = one_at_most heads.Whole (λ n word. word ≡ head_word n)
     (λ word m n e f. one_head m n (sym e ∙ f)) given.names a.names b.names one.names other.names in
-    let head = one_at_most false (λ said word. (word ≡ codes "1") × (said ≡ true))
-    (λ word m n e f. e.1 ∙ sym f.1) given.head a.head_is_said b.head_is_said one.head other.head in
+    let head = one_at_most head_words.Unsaid (λ said word. SaysHead word said) one_head_words given.head a.head b.head one.head
+    other.head in
     let weight = one_weight given.weight a.weight b.weight one.weight other.weight in
     let ignored = one.ignored.0 ∙ sym other.ignored.0 in
     let columns = one.columns.0 ∙ sym other.columns.0 in
     λ i. record {
       separator = separator i;
       names = names i;
-      head_is_said = head i;
+      head = head i;
       weight = weight i;
       ignored = ignored i;
       columns = columns i;

@@ -1,5 +1,5 @@
 -- Where an option that may come once comes twice, the values say nothing.
-use Rattle.std.proofs.Common.{◌≡◌, ◌≤◌, true, false, codes, Option, Some, None, List, [], length, ap, arith}
+use Rattle.std.proofs.Common.{◌≡◌, ◌≤◌, Option, Some, None, List, [], length, ap, arith}
 use Rattle.candidate_roll.specs.declared.limits.TheConstants.{MOST_TITLE_BYTES}
 use Rattle.candidate_roll.specs.Name.{IsName}
 use Rattle.plain_ballots.specs.declared.limits.TheConstants.{MOST_CANDIDATES}
@@ -7,10 +7,11 @@ use Rattle.meek_words.specs.Numerals.{Word, IsLotList, IsNumeralUpTo, number_of}
 use Rattle.ballot_marks.specs.declared.choice.Treat.TheVariants as treats
 use Rattle.import_words.specs.Asks.{IsRankList, IsWeight, Says}
 use Rattle.import_words.specs.Pairs.{Given}
-use Rattle.import_words.specs.Settings.{IsSeparator, SaysSkipped, head_word, layout_word, output_word, rows_word, treat_word}
+use Rattle.import_words.specs.Settings.{IsSeparator, SaysHead, SaysSkipped, head_word, layout_word, output_word, rows_word, treat_word}
 use Rattle.import_words.specs.declared.asked.Asked.{Asked}
 use Rattle.import_words.specs.declared.empty_rows.EmptyRows.TheVariants as rows
 use Rattle.import_words.specs.declared.head_names.HeadNames.TheVariants as heads
+use Rattle.import_words.specs.declared.head_words.HeadWords.TheVariants as head_words
 use Rattle.import_words.specs.declared.output.Output.TheVariants as outputs
 use Rattle.import_words.specs.declared.separator.Separator.{Separator}
 use Rattle.import_words.proofs.ExitLemmas.{no_twice, not_twice}
@@ -60,8 +61,8 @@ module _ (given : Given) (asked : Asked) (says : Says given asked) where
   weight = weight_twice given.weight asked.table.weight says.table.weight
 
   pub head : 2 ≤ length given.head → ⊥
-  head = no_twice (asked.table.head_is_said ≡ false) (λ (word : Word). (word ≡ codes "1") × (asked.table.head_is_said ≡ true))
-      given.head says.table.head
+  head = no_twice (asked.table.head ≡ head_words.Unsaid) (λ (word : Word). SaysHead word asked.table.head) given.head
+      says.table.head
 
   pub names : 2 ≤ length given.names → ⊥
   names = no_twice (asked.table.names ≡ heads.Whole) (λ (word : Word). word ≡ head_word asked.table.names)

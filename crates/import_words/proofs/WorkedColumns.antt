@@ -9,7 +9,10 @@ use Rattle.import_words.specs.Asks.{Asks}
 use Rattle.import_words.specs.Labels.{AreDifferent, IsLabel}
 use Rattle.import_words.specs.Options.{is_of}
 use Rattle.import_words.specs.Pairs.{Said}
-use Rattle.import_words.specs.Worked.{AcceptedWords, ignore_key, one_seat, weight_num, with_columns}
+use Rattle.import_words.specs.Settings.{SaysHead}
+use Rattle.import_words.specs.Worked.{AcceptedWords, headed, ignore_key, one_seat, weight_num, with_columns}
+use Rattle.import_words.specs.declared.head_words.HeadWords.{HeadWords}
+use Rattle.import_words.specs.declared.head_words.HeadWords.TheVariants as head_words
 use Rattle.import_words.specs.declared.layout.Layout.TheVariants as layouts
 use Rattle.import_words.specs.declared.import_option.ImportOption.TheVariants as options
 use Rattle.import_words.proofs.DifferentLemmas.{apart}
@@ -122,8 +125,49 @@ ignored_first = record {
   };
 }
 
+-- what is said of the head
+accepted_head : (word : Word) (said_head : HeadWords) → word ≢ [] → SaysHead word said_head
+    → Asks (one_seat (codes "ranks") ++ codes "--head" ∷ word ∷ []) (headed said_head)
+accepted_head word said_head some says = record {
+  pairs = seat_of (codes "ranks") ++ said options.Head word ∷ [];
+  are = record {
+    spelled = refl;
+    values = All-from_recursion HasValue (seat_of (codes "ranks") ++ said options.Head word ∷ [])
+        ((λ e. cc), ((λ e. cc), (some, tt)));
+  };
+  fit = All-from_recursion (λ (s : Said). IsTrue (is_of layouts.Ranks s.option))
+      (seat_of (codes "ranks") ++ said options.Head word ∷ []) (refl, (refl, (refl, tt)));
+  says = record {
+    layout = refl;
+    output = refl;
+    empty = refl;
+    treatment = (refl, refl, refl);
+    roll = record {
+      seats = (one_is_seats, refl);
+      title = refl;
+      withdrawn = refl;
+      candidates = (refl, All-nil (IsName MOST_NAME_BYTES));
+    };
+    table = record {
+      separator = refl;
+      names = refl;
+      head = says;
+      weight = refl;
+      ignored = (refl, All-nil IsLabel);
+      columns = (refl, All-nil IsLabel);
+      different = none_different;
+    };
+    cells = record { blanks = (refl, All-nil IsLabel); overs = (refl, All-nil IsLabel); ranks = refl };
+    enough = λ named. absurd (false≢true named);
+    distinguished = record { labels = All-nil IsLabel; different = none_different };
+  };
+}
+
 pub accepted_words : AcceptedWords
 accepted_words = record {
+  no_head = accepted_head (codes "none") head_words.Absent (λ e. cc) refl;
+  two_heads = accepted_head (codes "2") (head_words.Records 2) (λ e. cc)
+      (record { digit = 50; alone = refl; least = omega arith; most = omega arith; value = refl });
   ranks = accepted_ranks;
   preflib = accepted_preflib;
   choices = accepted_choices;

@@ -14,9 +14,11 @@ use Rattle.import_words.specs.Asks.{Asks, AreFor, Says}
 use Rattle.import_words.specs.Labels.{AreDifferent, IsLabel}
 use Rattle.import_words.specs.Options.{flag_of, is_named, is_of, is_table}
 use Rattle.import_words.specs.Pairs.{Said, given_of, words_of}
-use Rattle.import_words.specs.Settings.{layout_word}
+use Rattle.import_words.specs.Settings.{SaysHead, layout_word}
 use Rattle.import_words.specs.Worked.{AskNothing, RefusedWords, ann_ben_cid, one_seat, plain}
 use Rattle.import_words.specs.declared.asked.Asked.{Asked}
+use Rattle.import_words.specs.declared.head_words.HeadWords.{HeadWords}
+use Rattle.import_words.specs.declared.head_words.HeadWords.TheVariants as head_words
 use Rattle.import_words.specs.declared.layout.Layout.{Layout}
 use Rattle.import_words.specs.declared.layout.Layout.TheVariants as layouts
 use Rattle.import_words.specs.declared.import_option.ImportOption.{ImportOption}
@@ -69,6 +71,24 @@ no_equals_sign asked (first ∷ pairs) e =
     let flag : codes "--layout=ranks" ≡ flag_of first.option = cc in
     no_option (codes "--layout=ranks") refl first.option flag
 
+-- a value that says nothing of the head
+no_head_of : (word : Word) → ((head : HeadWords) → SaysHead word head → ⊥)
+    → AskNothing (one_seat (codes "ranks") ++ codes "--head" ∷ word ∷ [])
+no_head_of word none =
+    refused _ (seat_of (codes "ranks") ++ said options.Head word ∷ []) refl
+    (λ asked fit says. none asked.table.head says.table.head)
+
+no_count : (b : ℕ) → b ≤ 48 → (head : HeadWords) → SaysHead (b ∷ []) head → ⊥
+no_count b small head_words.Unsaid says = says
+no_count b small head_words.Absent says = omega (arith, ap length says)
+no_count b small (head_words.Records n) says =
+    let same : b ≡ says.digit = cc says.alone in omega (arith, same, says.least)
+
+no_long : (head : HeadWords) → SaysHead (codes "10") head → ⊥
+no_long head_words.Unsaid says = says
+no_long head_words.Absent says = omega (arith, ap length says)
+no_long (head_words.Records n) says = omega (arith, ap length says.alone)
+
 pub refused_words : RefusedWords
 refused_words = record {
   none = refused _ [] refl (λ asked fit says. says.layout);
@@ -114,6 +134,8 @@ refused_words = record {
       (λ asked fit says.
       let value : number_of (codes "251") ≡ 251 = refl in
       omega (arith, says.roll.seats.0.most, value));
+  head_of_nought = no_head_of (codes "0") (λ head says. no_count 48 (omega arith) head says);
+  head_of_ten = no_head_of (codes "10") (λ head says. no_long head says);
 }
 
 -- one digit writes a number of seats

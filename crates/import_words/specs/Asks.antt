@@ -46,7 +46,7 @@ IsWeight values (Some label) = (values ≡ label ∷ []) × IsLabel label
 pub record SaysTable (given : Given) (table : TableWords) : Type 0 where
   pub separator : IsSeparator given.separator table.separator
   pub names : IsForNames given.names table.names
-  pub head : IsForHead given.head table.head_is_said
+  pub head : IsForHead given.head table.head
   pub weight : IsWeight given.weight table.weight
   pub ignored : AreLabels given.ignored table.ignored
   pub columns : AreLabels given.columns table.columns

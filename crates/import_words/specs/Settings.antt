@@ -1,5 +1,5 @@
 -- Options whose value is one of a few words.
-use Rattle.std.specs.Prelude.{◌≡◌, ◌⊎◌, ◌≤◌, ◌-◌, ℕ, Bool, true, false, Option, Some, None, List, [], ◌∷◌, codes}
+use Rattle.std.specs.Prelude.{◌≡◌, ◌⊎◌, ◌≤◌, ◌-◌, ℕ, Option, Some, None, List, [], ◌∷◌, codes}
 use Rattle.meek_words.specs.Numerals.{Word}
 use Rattle.ballot_marks.specs.declared.choice.Treat.{Treat}
 use Rattle.ballot_marks.specs.declared.choice.Treat.TheVariants as treats
@@ -16,6 +16,8 @@ use Rattle.import_words.specs.declared.separator.Separator.{Separator}
 use Rattle.import_words.specs.declared.separator.Separator.TheVariants as separators
 use Rattle.import_words.specs.declared.head_names.HeadNames.{HeadNames}
 use Rattle.import_words.specs.declared.head_names.HeadNames.TheVariants as heads
+use Rattle.import_words.specs.declared.head_words.HeadWords.{HeadWords}
+use Rattle.import_words.specs.declared.head_words.HeadWords.TheVariants as head_words
 
 -- just one value, of which P holds
 abbrev pub IsOnce : (Word → Type 0) → List Word → Type 0
@@ -77,9 +79,22 @@ IsSeparator values (Some separator) = values ≡ separator_word separator ∷ []
 abbrev pub IsForNames : List Word → HeadNames → Type 0
 IsForNames values names = IsAtMostOnce (names ≡ heads.Whole) (λ word. word ≡ head_word names) values
 
--- the head is said to be the first record, or nothing is said of it
-abbrev pub IsForHead : List Word → Bool → Type 0
-IsForHead values said = IsAtMostOnce (said ≡ false) (λ word. (word ≡ codes "1") × (said ≡ true)) values
+-- one digit from 1 on (49 to 57) and its number
+pub record IsCount (word : Word) (number : ℕ) : Type 0 where
+  pub digit : ℕ
+  pub alone : word ≡ digit ∷ []
+  pub least : 49 ≤ digit
+  pub most : digit ≤ 57
+  pub value : number ≡ digit - 48
+
+-- there is no head, or so many records are it
+abbrev pub SaysHead : Word → HeadWords → Type 0
+SaysHead word head_words.Unsaid = ⊥
+SaysHead word head_words.Absent = word ≡ codes "none"
+SaysHead word (head_words.Records n) = IsCount word n
+
+abbrev pub IsForHead : List Word → HeadWords → Type 0
+IsForHead values said = IsAtMostOnce (said ≡ head_words.Unsaid) (λ word. SaysHead word said) values
 
 -- one digit (48 to 57) and its number
 pub record IsDigit (word : Word) (number : ℕ) : Type 0 where

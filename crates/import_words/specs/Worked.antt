@@ -1,5 +1,5 @@
 -- Words worked by hand.
-use Rattle.std.specs.Prelude.{Some, None, false, List, [], ◌∷◌, ◌++◌, codes}
+use Rattle.std.specs.Prelude.{Some, None, List, [], ◌∷◌, ◌++◌, codes}
 use Rattle.meek_words.specs.Numerals.{Word}
 use Rattle.ballot_marks.specs.declared.choice.Treat.TheVariants as treats
 use Rattle.import_words.specs.Asks.{Asks}
@@ -9,6 +9,8 @@ use Rattle.import_words.specs.declared.layout.Layout.TheVariants as layouts
 use Rattle.import_words.specs.declared.output.Output.TheVariants as outputs
 use Rattle.import_words.specs.declared.empty_rows.EmptyRows.TheVariants as rows
 use Rattle.import_words.specs.declared.head_names.HeadNames.TheVariants as heads
+use Rattle.import_words.specs.declared.head_words.HeadWords.{HeadWords}
+use Rattle.import_words.specs.declared.head_words.HeadWords.TheVariants as head_words
 
 -- whatever is meant, these words do not ask for it
 abbrev pub AskNothing : List Word → Type 0
@@ -40,6 +42,8 @@ pub record RefusedWords : Type 0 where
   pub blank_before_a_label : AskNothing (one_seat (codes "ranks") ++ codes "--blank" ∷ codes " NA" ∷ [])
   pub no_seat : AskNothing (seats (codes "ranks") (codes "0"))
   pub a_seat_too_many : AskNothing (seats (codes "ranks") (codes "251"))
+  pub head_of_nought : AskNothing (one_seat (codes "ranks") ++ codes "--head" ∷ codes "0" ∷ [])
+  pub head_of_ten : AskNothing (one_seat (codes "ranks") ++ codes "--head" ∷ codes "10" ∷ [])
 
 -- a layout, one seat and these candidates, and nothing else said
 abbrev pub plain : Layout → List Word → Asked
@@ -49,7 +53,7 @@ plain layout candidates = record {
   empty = rows.Refuse;
   treatment = record { skipped = None; equal = treats.Refuse; repeated = treats.Refuse };
   roll = record { seats = 1; title = []; withdrawn = []; candidates = candidates };
-  table = record { separator = None; names = heads.Whole; head_is_said = false; weight = None; ignored = []; columns = [] };
+  table = record { separator = None; names = heads.Whole; head = head_words.Unsaid; weight = None; ignored = []; columns = [] };
   cells = record { blanks = []; overs = []; ranks = [] };
 }
 
@@ -71,7 +75,7 @@ with_columns columns = record {
   table = record {
     separator = None;
     names = heads.Whole;
-    head_is_said = false;
+    head = head_words.Unsaid;
     weight = Some (codes "Num");
     ignored = codes "Key" ∷ [];
     columns = columns;
@@ -79,7 +83,15 @@ with_columns columns = record {
   cells = record { blanks = []; overs = []; ranks = [] };
 }
 
+-- a table of ranks of which this is said of the head
+abbrev pub headed : HeadWords → Asked
+headed said = record (plain layouts.Ranks []) {
+  table = record { separator = None; names = heads.Whole; head = said; weight = None; ignored = []; columns = [] };
+}
+
 pub record AcceptedWords : Type 0 where
+  pub no_head : Asks (one_seat (codes "ranks") ++ codes "--head" ∷ codes "none" ∷ []) (headed head_words.Absent)
+  pub two_heads : Asks (one_seat (codes "ranks") ++ codes "--head" ∷ codes "2" ∷ []) (headed (head_words.Records 2))
   pub ranks : Asks (one_seat (codes "ranks")) (plain layouts.Ranks [])
   pub preflib : Asks (one_seat (codes "preflib")) (plain layouts.Preflib [])
   pub choices :

@@ -1,6 +1,6 @@
 //! Options whose value is one of a few words.
-ghost use Rattle.std.specs.Prelude.{◌≡◌, ℕ, Bool, Option, IfSome, IfNone};
-ghost use Rattle.import_words.specs.Settings.{IsForEmpty, IsForHead, IsForNames, IsLayout, IsDigit, IsOutput, IsSeparator, IsSkipped, IsTreat, IsTreatment};
+ghost use Rattle.std.specs.Prelude.{◌≡◌, ℕ, Option, IfSome, IfNone};
+ghost use Rattle.import_words.specs.Settings.{IsForEmpty, IsForHead, IsForNames, IsLayout, IsCount, IsDigit, IsOutput, IsSeparator, IsSkipped, IsTreat, IsTreatment};
 ghost use Rattle.import_words.specs.Values.{given_by, words_in};
 ghost use Rattle.ballot_marks.specs.declared.choice.Treat.{Treat};
 ghost use Rattle.ballot_marks.specs.declared.treatment.Treatment.{Treatment};
@@ -9,9 +9,10 @@ ghost use Rattle.import_words.specs.declared.output.Output.{Output};
 ghost use Rattle.import_words.specs.declared.empty_rows.EmptyRows.{EmptyRows};
 ghost use Rattle.import_words.specs.declared.separator.Separator.{Separator};
 ghost use Rattle.import_words.specs.declared.head_names.HeadNames.{HeadNames};
+ghost use Rattle.import_words.specs.declared.head_words.HeadWords.{HeadWords};
 
 use crate::values::Values;
-use crate::{EmptyRows, HeadNames, Layout, Output, Separator};
+use crate::{EmptyRows, HeadNames, HeadWords, Layout, Output, Separator};
 use ballot_marks::{Treat, Treatment};
 
 pub(crate) fn layout(value: Option<&str>) -> Option<Layout>
@@ -76,14 +77,30 @@ pub(crate) fn head_names(value: Option<&str>) -> Option<HeadNames>
     }
 }
 
-/// Whether the first record is said to be the head.
-pub(crate) fn head_is_said(value: Option<&str>) -> Option<bool>
-    ensures said { IfSome result (λ said. IsForHead (words_in value.entry) said) }
-    ensures none { IfNone result ((said : Bool) → ¬ (IsForHead (words_in value.entry) said)) }
+/// What is said of the head.
+pub(crate) fn head_words(value: Option<&str>) -> Option<HeadWords>
+    ensures said { IfSome result (λ head. IsForHead (words_in value.entry) head) }
+    ensures none { IfNone result ((head : HeadWords) → ¬ (IsForHead (words_in value.entry) head)) }
 {
-    match value {
-        None => Some(false),
-        Some("1") => Some(true),
+    let Some(word) = value else {
+        return Some(HeadWords::Unsaid);
+    };
+    match word {
+        "none" => Some(HeadWords::Absent),
+        _ => match count(word.as_bytes()) {
+            Some(records) => Some(HeadWords::Records(records)),
+            None => None,
+        },
+    }
+}
+
+/// The number from 1 on that a single digit writes.
+fn count(word: &[u8]) -> Option<u32>
+    ensures count { IfSome result (λ n. IsCount word.now n) }
+    ensures none { IfNone result ((n : ℕ) → ¬ (IsCount word.now n)) }
+{
+    match word {
+        [digit] if *digit >= b'1' && *digit <= b'9' => Some(u32::from(*digit - b'0')),
         _ => None,
     }
 }

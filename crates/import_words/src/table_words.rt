@@ -6,7 +6,7 @@ ghost use Rattle.import_words.specs.declared.table_words.TableWords.{TableWords}
 
 use crate::different::are_different;
 use crate::values::Values;
-use crate::{HeadNames, Label, Labels, Separator, reading, settings};
+use crate::{HeadNames, HeadWords, Label, Labels, Separator, reading, settings};
 use meek_words::WordsStop;
 use std::alloc::Global;
 
@@ -16,8 +16,7 @@ pub struct TableWords {
     /// Where none is said, the table shows it.
     pub separator: Option<Separator>,
     pub names: HeadNames,
-    /// The first record is the head, whatever is in it.
-    pub head_is_said: bool,
+    pub head: HeadWords,
     /// The head of the column that says for how many ballots a row stands.
     pub weight: Option<Label>,
     /// The heads of the columns that are not read.
@@ -34,7 +33,7 @@ impl TableWords {
     {
         let separator = settings::separator(values.separator).ok_or(WordsStop::BadWords)?;
         let names = settings::head_names(values.names).ok_or(WordsStop::BadWords)?;
-        let head_is_said = settings::head_is_said(values.head).ok_or(WordsStop::BadWords)?;
+        let head = settings::head_words(values.head).ok_or(WordsStop::BadWords)?;
         let weight = reading::weight(alloc, values.weight)?;
         let ignored = reading::labels(alloc, values.ignored.as_slice())?;
         let columns = reading::labels(alloc, values.columns.as_slice())?;
@@ -44,7 +43,7 @@ impl TableWords {
         Ok(TableWords {
             separator,
             names,
-            head_is_said,
+            head,
             weight,
             ignored,
             columns,

@@ -5,6 +5,6 @@ pub returns-in_err-names-clause-refused : goal.returns-in_err-names-clause-refus
 returns-in_err-names-clause-refused c _ table says =
     where_none _ c.in_err-names.ensures.ok_part c.head_names.ensures.none table.names says.names
 
-pub returns-in_err-head_is_said-clause-refused : goal.returns-in_err-head_is_said-clause-refused
-returns-in_err-head_is_said-clause-refused c _ table says =
-    where_none _ c.in_err-head_is_said.ensures.ok_part c.head_is_said.ensures.none table.head_is_said says.head
+pub returns-in_err-head-clause-refused : goal.returns-in_err-head-clause-refused
+returns-in_err-head-clause-refused c _ table says =
+    where_none _ c.in_err-head.ensures.ok_part c.head_words.ensures.none table.head says.head
