@@ -50,7 +50,7 @@ fn call<R: Threads + Wait + Sync>(
         Tool::Warren => warren(alloc, words, source, sink).exit_code(),
         Tool::Check => check(rt, alloc, words, source, sink).exit_code(),
         Tool::Audit => audit(rt, alloc, words, source, sink).exit_code(),
-        Tool::Ballots => ballots(alloc, words, source, sink).exit_code(),
+        Tool::Ballots => ballots(rt, alloc, words, source, sink).exit_code(),
         Tool::Page => page(alloc, words, source, sink).exit_code(),
         Tool::Promise => promise(alloc, words, source, sink).exit_code(),
         Tool::Tally => tally(rt, alloc, words, source, sink).exit_code(),

@@ -58,7 +58,7 @@ fn run<R: Threads + Wait + Sync, S: Source, K: Sink>(
         "warren" => warren(alloc, rest, source, sink).exit_code(),
         "check" => check(rt, alloc, rest, source, sink).exit_code(),
         "audit" => audit(rt, alloc, rest, source, sink).exit_code(),
-        "ballots" => ballots(alloc, rest, source, sink).exit_code(),
+        "ballots" => ballots(rt, alloc, rest, source, sink).exit_code(),
         "page" => page(alloc, rest, source, sink).exit_code(),
         "promise" => promise(alloc, rest, source, sink).exit_code(),
         "tally" => tally(rt, alloc, rest, source, sink).exit_code(),
