@@ -16,7 +16,8 @@ use Rattle.batch_core.specs.declared.call.Call.TheVariants.{Change as Changes, F
 use Rattle.batch_core.specs.declared.reply.Reply.{Reply}
 use Rattle.batch_core.specs.declared.reply.Reply.TheVariants.{Entered, Corrected, Withdrawn, Frozen, Exists, Unknown, Gone, Stale, Spent, Struck, AlreadyStruck}
 use Rattle.batch_core.specs.declared.entry.Entry.{Entry}
-use Rattle.batch_core.specs.Book.{BookState, empty, after, batch_of, ballots_of, ballot_lines, change_after, change_reply, lines_of, reply, standing, last_batch}
+use Rattle.batch_core.specs.Book.{BookState, empty, after, batch_of, ballots_of, ballot_lines}
+use Rattle.batch_core.specs.Book.{change_after, change_reply, lines_of, reply, standing, last_batch}
 use Rattle.batch_core.specs.Histories.{after_all}
 use Rattle.batch_core.specs.Laws.{LeadsOn}
 use Rattle.batch_core.specs.Lawful.{IsInRange, IsLawful}
