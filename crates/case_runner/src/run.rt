@@ -50,7 +50,7 @@ fn call<R: Threads + Wait + Sync>(
         Tool::Warren => warren(alloc, words, source, sink).exit_code(),
         Tool::Check => check(rt, alloc, words, source, sink).exit_code(),
         Tool::Audit => audit(rt, alloc, words, source, sink).exit_code(),
-        Tool::Ballots => ballots(alloc, words, source, sink).exit_code(),
+        Tool::Ballots => ballots(rt, alloc, words, source, sink).exit_code(),
         Tool::Page => page(alloc, words, source, sink).exit_code(),
         Tool::Promise => promise(alloc, words, source, sink).exit_code(),
         Tool::Tally => tally(rt, alloc, words, source, sink).exit_code(),
@@ -71,7 +71,7 @@ fn call_two<R: Threads + Sync>(
     let words = case.words.as_slice();
     match case.tool {
         Tool::Audit => audit_two(rt, alloc, words, of_text, of_file, sink).exit_code(),
-        Tool::Ballots => ballots_two(alloc, words, of_text, of_file, sink).exit_code(),
+        Tool::Ballots => ballots_two(rt, alloc, words, of_text, of_file, sink).exit_code(),
         _ => check_two(rt, alloc, words, of_text, of_file, sink).exit_code(),
     }
 }

@@ -23,3 +23,14 @@ pub fn read_day_file(alloc: Global, file: &[u8]) -> Result<Day, BltStop>
     }
     read_day(alloc, file)
 }
+
+/// Reads a whole day file, as [`read_day_file`] does, and lets its bytes go.
+pub fn read_whole_day(alloc: Global, file: Vec<u8>) -> Result<Day, BltStop>
+    ensures says { IfOk result (IsDayFile file.items) }
+    ensures refused { IfFault result (IsRefusedDayFile file.items) }
+    ensures scripts { IfOk result (λ day. AreScripts (length day.roll.names) day.scripts) }
+    ensures lots { IfOk result (λ day. length day.lots ≡ length day.roll.names) }
+    ensures places { IfOk result (λ day. (6 ≤ day.places) × (day.places ≤ 9)) }
+{
+    read_day_file(alloc, file.as_slice())
+}

@@ -17,7 +17,7 @@ mod words;
 mod worked;
 
 pub use audit_asked::AuditAsked;
-pub use day_file::read_day_file;
+pub use day_file::{read_day_file, read_whole_day};
 pub use laws::true_texts_are_split;
 pub use split::{ended, text_and_file};
 pub use tool::audit;

@@ -8,7 +8,7 @@ ghost use Rattle.tool_edge.specs.declared.opening.TheConstants.{DAY_LIMIT};
 ghost use Rattle.sheet_check.specs.TwoInputs.{IsRunOfTwo, over_file};
 ghost use Rattle.day_audit.specs.Audit.{audits_two};
 
-use crate::day_file::read_day_file;
+use crate::day_file::read_whole_day;
 use crate::tool::judge_day;
 use byte_edge::{Sink, Source};
 use day_reader::{accepts_days, refuses_by_the_rule};
@@ -44,7 +44,7 @@ pub fn audit_two<R: Threads + Sync, T: Source, S: Source, K: Sink>(
     }
 }
 
-/// Audits what was read.
+/// Audits what was read. The bytes of the day file are let go before anything is made of the day.
 #[tactic(auto, using(crate::proofs::TwoAudits::judged, crate::proofs::TwoAudits::refused))]
 fn audit_inputs<R: Threads + Sync, K: Sink>(
     rt: &R,
@@ -56,8 +56,9 @@ fn audit_inputs<R: Threads + Sync, K: Sink>(
     ensures { FinishesOwed (IsOwedFor (over_file audits_two inputs.text.items) inputs.asked inputs.file.items no_history) result
         (writing K.written K.faults sink.old sink.new) }
 {
-    match read_day_file(alloc, inputs.file.as_slice()) {
-        Ok(day) => judge_day(rt, alloc, inputs.text.as_slice(), day, sink),
+    let TwoInputs { text, file, .. } = inputs;
+    match read_whole_day(alloc, file) {
+        Ok(day) => judge_day(rt, alloc, text.as_slice(), day, sink),
         Err(stop) => refuse_input(sink, stop),
     }
 }

@@ -1,10 +1,9 @@
 -- What is found by the history that goes with a text for as long as any does is what is there.
-use Rattle.std.proofs.Common.{◌≡◌, ◌⊎◌, ℕ, ◌-◌, ◌<◌, ◌≤◌, List, length, take, refl, sym, ap, ◌∙◌, subst}
+use Rattle.std.proofs.Common.{◌≡◌, ◌⊎◌, ℕ, ◌-◌, ◌<◌, ◌≤◌, List, length, take, sym, ap, ◌∙◌, subst}
 use Rattle.std.proofs.Common.{arith, inl, inr}
 use Rattle.std.specs.Prelude.{slice_get, Some, IsPermutation}
 use Rattle.std.proofs.lemmas.Bool.{cases_lt}
 use Rattle.std.proofs.lemmas.List.{take_all, take-take}
-use Rattle.std.proofs.lemmas.List.Elements.{All-contains}
 use Rattle.std.proofs.lemmas.List.Sorted.{IsPermutation-trans}
 use Rattle.plain_ballots.specs.Ballots.{plain}
 use Rattle.candidate_roll.specs.Roll.{RollList}
@@ -16,7 +15,6 @@ use Rattle.frozen_version.specs.Versions.{VersionState, StandsIn}
 use Rattle.blt_writer.specs.Text.{IsBltText}
 use Rattle.day_lines.specs.DayHistory.{IsHistoryOf}
 use Rattle.day_lines.specs.DayText.{roll_with}
-use Rattle.day_sheets.specs.Frozen.{AreFrozen}
 use Rattle.day_replay.specs.Nearest.{BeginsAs, IsNearest}
 use Rattle.day_replay.proofs.DayEnds.{in_front, no_more}
 use Rattle.day_ballots.specs.declared.ballots_fault.BallotsFault.{BallotsFault}
@@ -24,7 +22,7 @@ use Rattle.day_ballots.specs.declared.ballots_fault.BallotsFault.TheVariants.{Fi
 use Rattle.day_ballots.specs.Along.{GoesAlong, IsFreezeAt, IsAtFreeze, IsFalseCall}
 use Rattle.day_ballots.specs.Found.{IsFirstOther, IsFound, IsNotFound}
 use Rattle.day_ballots.specs.Ballots.{IsFileAt, IsNoneAt}
-use Rattle.day_ballots.proofs.FreezePlaces.{no_freeze, within}
+use Rattle.day_ballots.proofs.FreezePlaces.{within}
 use Rattle.day_ballots.proofs.Refusing.{along_less}
 
 -- The text of some ballots is that of the same ballots in another order.
@@ -38,22 +36,17 @@ text_moved one other roll text moved (lines, are, is) = (
 )
 
 module _ (day : Day) (text : List ℕ) (history : List Entry) (is : IsHistoryOf day.scripts history)
-    (near : IsNearest day.scripts text history) (candidates : ℕ) (versions : List VersionState)
-    (frozen : AreFrozen candidates history versions) where
+    (near : IsNearest day.scripts text history) where
   goes : (n : ℕ) → BeginsAs n text history → GoesAlong day text n history
   goes n lines = record { calls = is; lines = lines }
 
   -- ---- what is at a freeze
 
-  stands_here : (n : ℕ) (version : VersionState) → IsFound n text history versions version → StandsIn version history
-  stands_here n version found =
-      All-contains (λ (v : VersionState). StandsIn v history) versions version frozen.stand found.one
-
   pub file_at :
-      (n : ℕ) (version : VersionState) (bytes : List ℕ) → IsFound n text history versions version
-      → IsBltText (all_ballots version.plans) (roll_with day.roll version.struck) bytes → IsFileAt day text n bytes
-  file_at n version bytes found written =
-      let stands = stands_here n version found in
+      (n : ℕ) (version : VersionState) (bytes : List ℕ) → IsFound n text history → version.at ≡ n
+      → StandsIn version history → IsBltText (all_ballots version.plans) (roll_with day.roll version.struck) bytes
+      → IsFileAt day text n bytes
+  file_at n version bytes found at stands written =
       let in_order =
       text_moved (all_ballots version.plans) (plain (standing_after history version.at))
       (roll_with day.roll version.struck) bytes
@@ -61,13 +54,11 @@ module _ (day : Day) (text : List ℕ) (history : List Entry) (is : IsHistoryOf 
       let struck =
       subst
       (λ (l : List ℕ). IsBltText (plain (standing_after history version.at)) (roll_with day.roll l) bytes)
-      stands.struck in_order in
-      let freeze : IsFreezeAt history version.at =
-      record { some = stands.some; entry = _; there = stands.freeze.1; freezes = refl } in (
+      stands.struck in_order in (
         history,
-        record { along = goes n found.lines; freeze = subst (IsFreezeAt history) found.at freeze },
+        record { along = goes n found.lines; freeze = found.freeze },
         subst (λ (k : ℕ). IsBltText (plain (standing_after history k))
-            (roll_with day.roll (struck_after history k)) bytes) found.at struck,
+            (roll_with day.roll (struck_after history k)) bytes) at struck,
       )
 
   -- ---- why there is none
@@ -132,13 +123,13 @@ module _ (day : Day) (text : List ℕ) (history : List Entry) (is : IsHistoryOf 
           let same = no_more day.scripts other history false.so_far.1.calls is front in
           omega (arith, ap length same, short, more)
 
-  pub none_at : (n : ℕ) (fault : BallotsFault) → IsNotFound n text history versions fault → IsNoneAt day text n fault
+  pub none_at : (n : ℕ) (fault : BallotsFault) → IsNotFound n text history fault → IsNoneAt day text n fault
   none_at n (File fault) not = not
   none_at n (False line) first = (first.asked, false_at n line first)
-  none_at n (NoFreeze line) (same, lines, none) = (
+  none_at n (NoFreeze line) (same, lines, not) = (
     same,
     record {
       none_false = λ k few. none_false n k lines few;
-      no_freeze = λ other at. no_freeze candidates n history versions frozen none (freeze_here n other at);
+      no_freeze = λ other at. not (freeze_here n other at);
     },
   )

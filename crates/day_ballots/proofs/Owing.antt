@@ -10,7 +10,7 @@ use Rattle.candidate_roll.specs.Roll.{RollList}
 use Rattle.frozen_plan.specs.Plan.{PlanRows, all_ballots}
 use Rattle.batch_core.specs.declared.entry.Entry.{Entry}
 use Rattle.day_reader.specs.declared.day.Day.{Day}
-use Rattle.frozen_version.specs.Versions.{VersionState}
+use Rattle.frozen_version.specs.Versions.{VersionState, StandsIn}
 use Rattle.blt_writer.specs.Exported.{Exported}
 use Rattle.blt_writer.specs.Text.{IsBltText}
 use Rattle.tool_edge.specs.declared.end.End.{End}
@@ -20,7 +20,6 @@ use Rattle.tool_edge.specs.Finishing.{Finishes, FinishesOwed, Wrote}
 use Rattle.tool_edge.specs.Tool.{IsOwedFor, no_history}
 use Rattle.day_lines.specs.DayHistory.{IsHistoryOf}
 use Rattle.day_lines.specs.DayText.{roll_with}
-use Rattle.day_sheets.specs.Frozen.{AreFrozen}
 use Rattle.day_replay.specs.Nearest.{IsNearest}
 use Rattle.sheet_input.specs.declared.sheet_limit.TheConstants.{SHEET_LIMIT}
 use Rattle.day_audit.specs.Audit.{EndsInText}
@@ -83,30 +82,29 @@ at_line n input text file day end sink short split says (inr (due, bytes, owed, 
 
 -- ---- a line of the text
 
-module _ (day : Day) (text : List ℕ) (history : List Entry) (candidates : ℕ) (versions : List VersionState)
-    (is : IsHistoryOf day.scripts history) (near : IsNearest day.scripts text history)
-    (frozen : AreFrozen candidates history versions) (n : ℕ) (end : End BallotsFault) (sink : Writing) where
+module _ (day : Day) (text : List ℕ) (history : List Entry) (is : IsHistoryOf day.scripts history)
+    (near : IsNearest day.scripts text history) (n : ℕ) (end : End BallotsFault) (sink : Writing) where
   pub refused_at :
-      (fault : BallotsFault) → IsNotFound n text history versions fault
+      (fault : BallotsFault) → IsNotFound n text history fault
       → Finishes (BadInput fault) (refusal_line fault) end sink → FinishesOwed (IsOwedAtLine day text n) end sink
   refused_at fault not finishes =
       inr (
         BadInput fault,
         refusal_line fault,
-        (none_at day text history is near candidates versions frozen n fault not, refl),
+        (none_at day text history is near n fault not, refl),
         finishes,
       )
 
   pub written_at :
-      (version : VersionState) → IsFound n text history versions version
+      (version : VersionState) → IsFound n text history → version.at ≡ n → StandsIn version history
       → FinishesOwed (IsOwedFile day.roll version) end sink → FinishesOwed (IsOwedAtLine day text n) end sink
-  written_at version found (inl nothing) = inl nothing
-  written_at version found (inr (due, bytes, (done, written), finishes)) =
+  written_at version found at stands (inl nothing) = inl nothing
+  written_at version found at stands (inr (due, bytes, (done, written), finishes)) =
       inr (
         due,
         bytes,
         subst (λ (d : End BallotsFault). IsOwedAtLine day text n d bytes) (sym done)
-            (file_at day text history is near candidates versions frozen n version bytes found written),
+            (file_at day text history is near n version bytes found at stands written),
         finishes,
       )
 

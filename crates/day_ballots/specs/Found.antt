@@ -1,8 +1,8 @@
--- What is found at a line of a text, by one history and what stood at its freezes.
-use Rattle.std.specs.Prelude.{◌≡◌, ◌≢◌, ℕ, ◌+◌, ◌≤◌, List, length, All, Contains}
+-- What is found at a line of a text, by one history.
+use Rattle.std.specs.Prelude.{◌≡◌, ℕ, ◌+◌, ◌≤◌, List, length}
 use Rattle.batch_core.specs.declared.entry.Entry.{Entry}
-use Rattle.frozen_version.specs.Versions.{VersionState}
 use Rattle.day_replay.specs.Nearest.{BeginsAs}
+use Rattle.day_ballots.specs.Along.{IsFreezeAt}
 use Rattle.day_ballots.specs.declared.ballots_fault.BallotsFault.{BallotsFault}
 use Rattle.day_ballots.specs.declared.ballots_fault.BallotsFault.TheVariants.{File, False, NoFreeze}
 
@@ -15,15 +15,13 @@ pub record IsFirstOther (n : ℕ) (text : List ℕ) (history : List Entry) (k : 
   pub so_far : BeginsAs before text history
   pub differs : ¬ BeginsAs k text history
 
--- The lines of the first n calls stand in the text, and the version is that of a freeze which is the n-th.
-pub record IsFound (n : ℕ) (text : List ℕ) (history : List Entry) (versions : List VersionState) (version : VersionState) : Type 0 where
+-- The lines of the first n calls stand in the text, and the n-th is a freeze.
+pub record IsFound (n : ℕ) (text : List ℕ) (history : List Entry) : Type 0 where
   pub lines : BeginsAs n text history
-  pub one : Contains versions version
-  pub at : version.at ≡ n
+  pub freeze : IsFreezeAt history n
 
 -- A line of the calls up to the n-th is another than in the text, or the n-th call is no freeze.
-abbrev pub IsNotFound : (n : ℕ) → (text : List ℕ) → List Entry → List VersionState → BallotsFault → Type 0
-IsNotFound n text history versions (File fault) = ⊥
-IsNotFound n text history versions (False line) = IsFirstOther n text history line
-IsNotFound n text history versions (NoFreeze line) =
-    (line ≡ n) × BeginsAs n text history × All (λ version. version.at ≢ n) versions
+abbrev pub IsNotFound : (n : ℕ) → (text : List ℕ) → List Entry → BallotsFault → Type 0
+IsNotFound n text history (File fault) = ⊥
+IsNotFound n text history (False line) = IsFirstOther n text history line
+IsNotFound n text history (NoFreeze line) = (line ≡ n) × BeginsAs n text history × ¬ IsFreezeAt history n

@@ -1,23 +1,23 @@
 // What is found at a line of a text.
-ghost use Rattle.std.specs.Prelude.{IfErr, IfOk};
+ghost use Rattle.std.specs.Prelude.{IfErr, OnOk};
 ghost use Rattle.day_ballots.specs.Found.{IsFound, IsNotFound};
 
 use crate::BallotsFault;
 use crate::calls::first_other;
-use crate::freezes::frozen_at;
-use day_replay::{Followed, Frozen};
+use crate::freezes::is_freeze_at;
+use call_register::History;
 
-/// What stood at the freeze that is the call of this number, where the text has the lines of all calls up to it.
-pub(crate) fn find(text: &[u8], followed: Followed, at: u64) -> Result<Frozen, BallotsFault>
-    ensures found { IfOk result (IsFound at text.now followed.history followed.frozen.items) }
-    ensures not_found { IfErr result (IsNotFound at text.now followed.history followed.frozen.items) }
+/// Whether the text has the lines of all calls up to this number, and the last of them is a freeze.
+pub(crate) fn find(text: &[u8], history: &History, at: u64) -> Result<(), BallotsFault>
+    ensures found { OnOk result (IsFound at text.now history.now) }
+    ensures not_found { IfErr result (IsNotFound at text.now history.now) }
 {
-    let Followed { history, frozen } = followed;
-    if let Some(line) = first_other(text, &history, at) {
+    if let Some(line) = first_other(text, history, at) {
         return Err(BallotsFault::False(line));
     }
-    match frozen_at(frozen, at) {
-        Some(found) => Ok(found),
-        None => Err(BallotsFault::NoFreeze(at)),
+    if is_freeze_at(history, at) {
+        Ok(())
+    } else {
+        Err(BallotsFault::NoFreeze(at))
     }
 }

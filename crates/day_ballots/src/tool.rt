@@ -16,11 +16,13 @@ use day_reader::{accepts_days, refuses_by_the_rule};
 use number_option::words_have_one_number;
 use sheet_input::SHEET_LIMIT;
 use std::alloc::Global;
+use std::thread::Threads;
 use tool_edge::{End, Opened, open, refuse};
 
 /// Writes the canonical ballot file of what is at the freeze of a line: the input is the text of a day, and
 /// after it the day file. The candidates struck by then are withdrawn in it besides. Sheets are not compared.
-pub fn ballots<S: Source, K: Sink>(
+pub fn ballots<R: Threads + Sync, S: Source, K: Sink>(
+    rt: &R,
     alloc: Global,
     words: &[String],
     source: &mut S,
@@ -37,11 +39,17 @@ pub fn ballots<S: Source, K: Sink>(
         Ok(opened) => opened,
         Err(end) => return end,
     };
-    write_ballots(alloc, at, input.as_slice(), sink)
+    write_ballots(rt, alloc, at, input.as_slice(), sink)
 }
 
 /// Writes the ballots of a line of the input's text.
-fn write_ballots<K: Sink>(alloc: Global, at: u32, input: &[u8], sink: &mut K) -> End<BallotsFault>
+fn write_ballots<R: Threads + Sync, K: Sink>(
+    rt: &R,
+    alloc: Global,
+    at: u32,
+    input: &[u8],
+    sink: &mut K,
+) -> End<BallotsFault>
     requires { length input.now ≤ SHEET_LIMIT }
     ensures { FinishesOwed (IsOwedFor exports_freezes at input.now no_history) result
         (writing K.written K.faults sink.old sink.new) }
@@ -50,7 +58,7 @@ fn write_ballots<K: Sink>(alloc: Global, at: u32, input: &[u8], sink: &mut K) ->
         return refuse(sink, BallotsFault::File(ended(input.len())));
     };
     match read_day_file(alloc, file) {
-        Ok(day) => write_at(alloc, at, text, day, sink),
+        Ok(day) => write_at(rt, alloc, at, text, day, sink),
         Err(stop) => refuse_file(sink, stop),
     }
 }

@@ -11,13 +11,15 @@ use blt_writer::{Export, write_blt};
 use byte_edge::Sink;
 use candidate_roll::Roll;
 use day_reader::Day;
-use day_replay::{Frozen, follow};
+use day_replay::{Frozen, follow, frozen_at};
 use std::alloc::Global;
+use std::thread::Threads;
 use tool_edge::{End, close, refuse};
 
 /// Writes the file of what is at the freeze of a line of a text, or why there is none. The day's calls are
 /// made again in the order that the text's lines say.
-pub(crate) fn write_at<K: Sink>(
+pub(crate) fn write_at<R: Threads + Sync, K: Sink>(
+    rt: &R,
     alloc: Global,
     at: u32,
     text: &[u8],
@@ -28,13 +30,17 @@ pub(crate) fn write_at<K: Sink>(
     ensures { FinishesOwed (IsOwedAtLine day text.now at) result (writing K.written K.faults sink.old sink.new) }
 {
     let Day { roll, scripts, .. } = day;
-    let Ok(followed) = follow(alloc, roll.candidates(), scripts, text) else {
+    let candidates = roll.candidates();
+    let Ok(history) = follow(alloc, candidates, scripts, text) else {
         return End::NoMemory;
     };
-    match find(text, followed, at as u64) {
-        Ok(frozen) => write_frozen(alloc, &roll, frozen, sink),
-        Err(fault) => refuse(sink, fault),
+    if let Err(fault) = find(text, &history, at as u64) {
+        return refuse(sink, fault);
     }
+    let Ok(frozen) = frozen_at(rt, alloc, candidates, &history, at as usize) else {
+        return End::NoMemory;
+    };
+    write_frozen(alloc, &roll, frozen, sink)
 }
 
 /// Writes the file of what stood. All memory is taken before the first byte.

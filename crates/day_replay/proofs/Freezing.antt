@@ -1,43 +1,82 @@
--- What stood at the freezes of a history, as calls are added.
-use Rattle.std.proofs.Common.{◌≡◌, ℕ, ◌+◌, ◌-◌, Bool, true, false, cond, List, [], ◌∷◌, ◌++◌, length, filter, map, take}
+-- What stood at the freezes of a history.
+use Rattle.std.proofs.Common.{◌≡◌, ℕ, ◌+◌, ◌-◌, ◌<◌, ◌≤◌, Bool, true, false, cond, List, [], ◌∷◌, ◌++◌, length, filter, map, take, get_or}
 use Rattle.std.proofs.Common.{refl, sym, ap, ◌∙◌, subst, arith}
-use Rattle.std.specs.Prelude.{slice_get, IsPermutation}
+use Rattle.std.specs.Prelude.{All, Some, slice_get, IsPermutation, unwrap_or, Option}
 use Rattle.std.specs.List.{enumerate_from}
-use Rattle.std.proofs.lemmas.List.{append-nil, append_assoc, map-append, length-append, take-append-le, take_all}
-use Rattle.std.proofs.lemmas.List.Elements.{All-push, All-weaker}
+use Rattle.std.proofs.lemmas.List.{append-nil, append_assoc, map-append, length-take-le, take_all}
+use Rattle.std.proofs.lemmas.List.Elements.{All-nil, All-push}
+use Rattle.std.proofs.lemmas.Option.{slice_get-get_or}
 use Rattle.plain_ballots.specs.Ballots.{plain}
+use Rattle.batch_core.specs.declared.call.Call.{Call}
+use Rattle.batch_core.specs.declared.call.Call.TheVariants.{Change, Freeze, Strike}
+use Rattle.batch_core.specs.declared.reply.Reply.TheVariants.{Frozen}
 use Rattle.batch_core.specs.declared.entry.Entry.{Entry}
-use Rattle.batch_core.specs.Book.{BookList, BookState, empty, standing, state_of}
-use Rattle.batch_core.specs.Histories.{after_all}
-use Rattle.batch_core.specs.Laws.{LeadsOn}
+use Rattle.batch_core.specs.Book.{BookState, empty, after, reply, standing}
+use Rattle.batch_core.specs.Histories.{IsLegal, after_all}
+use Rattle.batch_core.specs.Laws.{AnswersEachCall, LeadsOn}
 use Rattle.call_register.specs.Weaving.{freeze_entry}
 use Rattle.frozen_plan.specs.Plan.{all_ballots}
 use Rattle.day_reader.specs.Call.{is_freeze}
 use Rattle.frozen_version.specs.Versions.{VersionState, StandsIn}
 use Rattle.day_lines.specs.DayText.{freeze_places}
 use Rattle.day_sheets.specs.Frozen.{AreFrozen}
-use Rattle.day_replay.specs.Replay.{IsStanding}
-use Rattle.day_replay.proofs.Lists.{inside, got_behind, got_ahead}
+use Rattle.day_replay.proofs.HistoryFronts.{front_more, reply_here, book_here}
+use Rattle.day_replay.proofs.Lists.{inside}
 
--- ---- as calls are added
+-- ---- at a freeze
 
--- what stood at a freeze stays
-stands_on : (v : VersionState) (history more : List Entry) → StandsIn v history → StandsIn v (history ++ more)
-stands_on v history more is =
-    let front = take-append-le v.at history more is.inside in
-    record {
-      some = is.some;
-      inside = let long = length-append history more in let within = is.inside in omega (arith, long, within);
-      freeze = (
-        is.freeze.0,
-        got_ahead history more (v.at - 1) (inside history (v.at - 1) (freeze_entry is.freeze.0) is.freeze.1) ∙ is.freeze.1,
-      );
-      ballots =
-          subst
-          (λ (l : List Entry). IsPermutation (all_ballots v.plans) (plain (standing (after_all empty l))))
-          (sym front) is.ballots;
-      struck = is.struck ∙ ap (λ (l : List Entry). (after_all empty l).struck) (sym front);
-    }
+freeze_is : (asked : Call) → is_freeze asked ≡ true → asked ≡ Freeze
+freeze_is Freeze is = refl
+freeze_is (Change change) is = absurd (cc)
+freeze_is (Strike c) is = absurd (cc)
+
+pub item_at : {X : Type 0} (xs : List X) (n : ℕ) (x : X) → slice_get xs n ≡ Some x → x ≡ get_or xs n x
+item_at {X = X} xs n x at =
+    ap (λ (o : Option X). unwrap_or o x) (sym at ∙ slice_get-get_or xs n x (inside xs n x at))
+
+-- what stands after the calls before a freeze is what is at the freeze
+module _ (leads : LeadsOn) (answers : AnswersEachCall) (history : List Entry) (legal : IsLegal history) (n : ℕ) (e : Entry)
+    (at : slice_get history n ≡ Some e) (freezes : is_freeze e.call ≡ true) where
+  below : n < length history
+  below = inside history n e at
+
+  here : e ≡ get_or history n e
+  here = item_at history n e at
+
+  abbrev earlier : List Entry
+  earlier = take n history
+
+  asked : e.call ≡ Freeze
+  asked = freeze_is e.call freezes
+
+  answer : e.reply ≡ Frozen
+  answer = reply_here history n e below here answers legal ∙ ap (reply (after_all empty earlier)) asked
+
+  entry : e ≡ freeze_entry e.caller
+  entry = λ i. record { caller = e.caller; call = asked i; reply = answer i }
+
+  book : (k : ℕ) → k ≡ n + 1 → after_all empty earlier ≡ after_all empty (take k history)
+  book k is =
+      sym (ap (after (after_all empty earlier)) asked)
+      ∙ (sym (book_here history n e below here leads) ∙ ap (λ (m : ℕ). after_all empty (take m history)) (sym is))
+
+  pub stands_at :
+      (v : VersionState) → v.at ≡ n + 1
+      → IsPermutation (all_ballots v.plans) (plain (standing (after_all empty (take n history))))
+      → v.struck ≡ (after_all empty (take n history)).struck → StandsIn v history
+  stands_at v is ballots struck = record {
+    some = omega (arith, is);
+    inside = omega (arith, is, below);
+    freeze = (
+      e.caller,
+      (let place : v.at - 1 ≡ n = omega (arith, is) in ap (slice_get history) place ∙ (at ∙ ap (λ (x : Entry). Some x) entry)),
+    );
+    ballots =
+        subst (λ (b : BookState). IsPermutation (all_ballots v.plans) (plain (standing b))) (book v.at is) ballots;
+    struck = struck ∙ ap (λ (b : BookState). b.struck) (book v.at is);
+  }
+
+-- ---- at all freezes
 
 -- the places of the freezes, where the first call has this place
 abbrev places_from : ℕ → List Entry → List ℕ
@@ -86,66 +125,58 @@ places_on place (x ∷ xs) e =
     kept true = refl
     kept false = refl
 
-pub frozen_on :
-    (n : ℕ) (history : List Entry) (versions : List VersionState) (e : Entry) → AreFrozen n history versions
-    → is_freeze e.call ≡ false → AreFrozen n (history ++ e ∷ []) versions
-frozen_on n history versions e are other = record {
-  places =
-      are.places
-      ∙ (sym (append-nil (freeze_places history))
-      ∙ (ap (λ (b : Bool). freeze_places history ++ place_if b (1 + length history)) (sym other)
-      ∙ sym (places_on 1 history e)));
-  stand =
-      All-weaker (λ (v : VersionState). StandsIn v history) (λ (v : VersionState). StandsIn v (history ++ e ∷ []))
-      (λ v is. stands_on v history (e ∷ []) is) versions are.stand;
+-- what stood at the freezes among the first k calls
+pub record AreSoFar (n : ℕ) (history : List Entry) (k : ℕ) (versions : List VersionState) : Type 0 where
+  pub places : map (λ version. version.at) versions ≡ freeze_places (take k history)
+  pub stand : All (λ version. StandsIn version history) versions
+  pub of_all : All (λ version. version.candidates ≡ n) versions
+
+pub none_so_far : (n : ℕ) (history : List Entry) → AreSoFar n history 0 []
+none_so_far n history = record {
+  places = refl;
+  stand = All-nil (λ (v : VersionState). StandsIn v history);
+  of_all = All-nil (λ (v : VersionState). v.candidates ≡ n);
+}
+
+module _ (n : ℕ) (history : List Entry) (k : ℕ) (e : Entry) (versions : List VersionState) (below : k < length history)
+    (at : e ≡ get_or history k e) (are : AreSoFar n history k versions) where
+  grown : freeze_places (take (k + 1) history) ≡ freeze_places (take k history) ++ place_if (is_freeze e.call) (k + 1)
+  grown =
+      let long : length (take k history) ≡ k = length-take-le k history (omega (arith, below)) in
+      let place : 1 + length (take k history) ≡ k + 1 = omega (arith, long) in
+      ap freeze_places (front_more history k e below at)
+      ∙ (places_on 1 (take k history) e
+      ∙ ap (λ (m : ℕ). freeze_places (take k history) ++ place_if (is_freeze e.call) m) place)
+
+  -- a call that is no freeze
+  pub no_more : is_freeze e.call ≡ false → AreSoFar n history (k + 1) versions
+  no_more not = record {
+    places =
+        are.places
+        ∙ (sym (append-nil (freeze_places (take k history)))
+        ∙ (ap (λ (b : Bool). freeze_places (take k history) ++ place_if b (k + 1)) (sym not) ∙ sym grown));
+    stand = are.stand;
+    of_all = are.of_all;
+  }
+
+  -- a freeze
+  pub one_more :
+      (v : VersionState) → is_freeze e.call ≡ true → v.at ≡ k + 1 → v.candidates ≡ n → StandsIn v history
+      → AreSoFar n history (k + 1) (versions ++ v ∷ [])
+  one_more v freezes is of stands = record {
+    places =
+        map-append (λ (w : VersionState). w.at) versions (v ∷ [])
+        ∙ ((λ i. are.places i ++ is i ∷ [])
+        ∙ (ap (λ (b : Bool). freeze_places (take k history) ++ place_if b (k + 1)) (sym freezes) ∙ sym grown));
+    stand = All-push (λ (w : VersionState). StandsIn w history) versions v are.stand stands;
+    of_all = All-push (λ (w : VersionState). w.candidates ≡ n) versions v are.of_all of;
+  }
+
+pub all_frozen :
+    (n : ℕ) (history : List Entry) (k : ℕ) (versions : List VersionState) → AreSoFar n history k versions
+    → length history ≤ k → AreFrozen n history versions
+all_frozen n history k versions are all = record {
+  places = are.places ∙ ap freeze_places (take_all k history all);
+  stand = are.stand;
   of_all = are.of_all;
 }
-
-pub frozen_more :
-    (n : ℕ) (history : List Entry) (versions : List VersionState) (caller : ℕ) (v : VersionState)
-    → AreFrozen n history versions
-    → v.at ≡ 1 + length history → v.candidates ≡ n → StandsIn v (history ++ freeze_entry caller ∷ [])
-    → AreFrozen n (history ++ freeze_entry caller ∷ []) (versions ++ v ∷ [])
-frozen_more n history versions caller v are at of is = record {
-  places =
-      map-append (λ (w : VersionState). w.at) versions (v ∷ [])
-      ∙ ((λ i. are.places i ++ at i ∷ []) ∙ sym (places_on 1 history (freeze_entry caller)));
-  stand =
-      All-push (λ (w : VersionState). StandsIn w (history ++ freeze_entry caller ∷ [])) versions v
-      (All-weaker (λ (w : VersionState). StandsIn w history)
-      (λ (w : VersionState). StandsIn w (history ++ freeze_entry caller ∷ []))
-      (λ w stood. stands_on w history (freeze_entry caller ∷ []) stood) versions are.stand)
-      is;
-  of_all = All-push (λ (w : VersionState). w.candidates ≡ n) versions v are.of_all of;
-}
-
--- ---- a freeze
-
--- what is in the book of a history is at the next freeze
-pub stands_now :
-    (leads : LeadsOn) (book : BookList) (history : List Entry) (caller : ℕ) (v : VersionState)
-    → state_of book ≡ after_all empty history → IsStanding book (length history + 1) v
-    → StandsIn v (history ++ freeze_entry caller ∷ [])
-stands_now leads book history caller v led stands = record {
-  some = omega (arith, stands.at_is);
-  inside = omega (arith, stands.at_is, long);
-  freeze = (
-    caller,
-    (let at : v.at - 1 ≡ length history = omega (arith, stands.at_is) in
-        ap (slice_get whole) at ∙ got_behind history (freeze_entry caller) []),
-  );
-  ballots = subst (λ (b : BookState). IsPermutation (all_ballots v.plans) (plain (standing b))) now stands.ballots;
-  struck = stands.struck ∙ ap (λ (b : BookState). b.struck) now;
-}
-  where
-    whole : List Entry
-    whole = history ++ freeze_entry caller ∷ []
-
-    long : length whole ≡ length history + 1
-    long = length-append history (freeze_entry caller ∷ [])
-
-    now : state_of book ≡ after_all empty (take v.at whole)
-    now =
-        led
-        ∙ (sym (leads history (freeze_entry caller))
-        ∙ ap (after_all empty) (sym (take_all v.at whole (omega (arith, stands.at_is, long)))))

@@ -2,6 +2,10 @@ pub mod Lists
 pub mod Own
 mod Fronts
 mod Nearest
+mod HistoryFronts
+mod BareBooks
+mod PlaceLemmas
+mod PackedLines
 mod Freezing
 mod Replaying
 mod Rooms
@@ -10,6 +14,7 @@ mod Taking
 mod Putting
 mod Way
 mod Stands
+mod Stood
 mod WorkedLines
 mod WorkedOrders
 pub mod DayLines

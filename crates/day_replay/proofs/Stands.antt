@@ -1,37 +1,31 @@
 -- What stands for a freeze: few enough ballots, of the candidates of the office.
-use Rattle.std.proofs.Common.{◌≡◌, ℕ, ◌≤◌, Bool, true, false, cond, List, [], ◌∷◌, ◌++◌, length, sym, ap, subst, arith}
-use Rattle.std.specs.Prelude.{All, IsPermutation}
+use Rattle.std.proofs.Common.{ℕ, ◌≤◌, Bool, true, false, cond, List, [], ◌∷◌, ◌++◌, arith}
+use Rattle.std.specs.Prelude.{All}
 use Rattle.std.proofs.lemmas.List.Elements.{All-nil, All-head, All-tail, All-push, All-weaker}
-use Rattle.std.proofs.lemmas.List.Sorted.{length_permutation}
-use Rattle.plain_ballots.specs.declared.ballot_line.BallotLine.{BallotLine}
 use Rattle.plain_ballots.specs.declared.limits.TheConstants.{MOST_CANDIDATES}
-use Rattle.plain_ballots.specs.Ballots.{ballot_count, plain}
-use Rattle.plain_ballots.proofs.PlainLemmas.{length-plain}
+use Rattle.plain_ballots.specs.Ballots.{ballot_count}
 use Rattle.batch_core.specs.declared.call.Call.{Call}
 use Rattle.batch_core.specs.declared.call.Call.TheVariants.{Change as Changes, Freeze, Strike}
 use Rattle.batch_core.specs.declared.entry.Entry.{Entry}
-use Rattle.batch_core.specs.Book.{BookList, BookState, empty, after, is_struck, standing, state_of}
+use Rattle.batch_core.specs.Book.{BookState, empty, after, is_struck, standing}
 use Rattle.batch_core.specs.Histories.{after_all}
 use Rattle.batch_core.specs.Lawful.{MayStep, AreLawful}
 use Rattle.batch_core.proofs.LawfulLemmas.{standing_total, kept_all}
-use Rattle.frozen_plan.specs.Plan.{PlanRows, all_ballots}
 use Rattle.day_reader.specs.Said.{IsAnswerable}
 use Rattle.batch_core.specs.declared.limits.TheConstants.{MOST_STANDING}
 
 -- ---- calls that an office of so many candidates answers
 
-pub may_step : (n : ℕ) (asked : Call) → n ≤ MOST_CANDIDATES → IsAnswerable n asked → MayStep n asked
+may_step : (n : ℕ) (asked : Call) → n ≤ MOST_CANDIDATES → IsAnswerable n asked → MayStep n asked
 may_step n (Changes change) most is = is
 may_step n Freeze most is = tt
 may_step n (Strike c) most is = (is.0, omega (arith, is.1, most))
 
 -- few enough ballots stand after them
 pub few_stand :
-    (n : ℕ) (book : BookList) (history : List Entry) → n ≤ MOST_CANDIDATES → state_of book ≡ after_all empty history
-    → All (λ e. IsAnswerable n e.call) history → ballot_count (standing (state_of book)) ≤ MOST_STANDING
-few_stand n book history most led answerable =
-    subst (λ (b : BookState). ballot_count (standing b) ≤ MOST_STANDING) (sym led)
-    (standing_total n (after_all empty history) (kept_all n history lawful))
+    (n : ℕ) (history : List Entry) → n ≤ MOST_CANDIDATES → All (λ e. IsAnswerable n e.call) history
+    → ballot_count (standing (after_all empty history)) ≤ MOST_STANDING
+few_stand n history most answerable = standing_total n (after_all empty history) (kept_all n history lawful)
   where
     lawful : AreLawful n history
     lawful =
@@ -63,16 +57,5 @@ module _ (n : ℕ) where
       after_each (after book e.call) es (after_one book e.call all (All-head P e es answerable)) (All-tail P e es answerable)
 
   pub struck_in_range :
-      (book : BookList) (history : List Entry) → state_of book ≡ after_all empty history
-      → All (λ e. IsAnswerable n e.call) history → All IsOne book.struck
-  struck_in_range book history led answerable =
-      subst (λ (b : BookState). All IsOne b.struck) (sym led) (after_each empty history (All-nil IsOne) answerable)
-
--- ---- what is kept of a freeze
-
--- the plans of ballots are those of as many
-pub few_ballots :
-    (plans : List PlanRows) (lines stood : List BallotLine) → IsPermutation (all_ballots plans) (plain lines) → lines ≡ stood
-    → ballot_count stood ≤ MOST_STANDING → length (all_ballots plans) ≤ MOST_STANDING
-few_ballots plans lines stood are same few =
-    omega (arith, length_permutation (all_ballots plans) (plain lines) are, length-plain lines, ap ballot_count same, few)
+      (history : List Entry) → All (λ e. IsAnswerable n e.call) history → All IsOne (after_all empty history).struck
+  struck_in_range history answerable = after_each empty history (All-nil IsOne) answerable

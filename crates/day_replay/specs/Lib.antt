@@ -1,4 +1,6 @@
 pub mod Calls
+pub mod Bare
+pub mod Places
 pub mod Replay
 pub mod Saying
 pub mod Nearest

@@ -1,31 +1,22 @@
 // A text that is followed, call by call.
-ghost use Rattle.std.specs.Prelude.{◌≡◌, ◌+◌, ◌≤◌, [], ◌++◌, List, ℕ, IfOk, OnOk, length};
+ghost use Rattle.std.specs.Prelude.{◌≡◌, ◌+◌, ◌≤◌, [], ◌++◌, List, ℕ, All, IfOk, OnOk, length};
 ghost use Rattle.batch_core.specs.declared.limits.TheConstants.{MOST_TEAMS};
 ghost use Rattle.plain_ballots.specs.declared.limits.TheConstants.{MOST_CANDIDATES};
 ghost use Rattle.batch_core.specs.declared.entry.Entry.{Entry};
 ghost use Rattle.day_reader.specs.declared.script.Script.{Script};
-ghost use Rattle.day_reader.specs.Said.{AreScripts};
+ghost use Rattle.day_reader.specs.Said.{AreScripts, IsAnswerable};
 ghost use Rattle.day_lines.specs.DayHistory.{IsHistoryOf};
-ghost use Rattle.day_sheets.specs.Frozen.{AreFrozen};
 ghost use Rattle.day_replay.specs.Calls.{AreAnswerable, HasCalled, IsUnderWay, calls_left, left_of};
 ghost use Rattle.day_replay.specs.Nearest.{IsNearest, HasFollowed};
 
 use crate::NoMemory;
-use crate::frozen::Frozen;
 use crate::left::Left;
 use crate::lines::{next_line, team_said};
 use crate::replay::Replay;
-use batch_core::{a_book_answers_a_history, a_legal_history_has_the_books_replies};
+use batch_core::{Call, a_book_answers_a_history, a_legal_history_has_the_books_replies};
 use call_register::History;
 use day_reader::Scripts;
 use std::alloc::Global;
-
-/// A history, and what stood after each of its freezes, by rising place.
-#[derive(Drop)]
-pub struct Followed {
-    pub history: History,
-    pub frozen: Vec<Frozen>,
-}
 
 /// The history of these scripts whose calls are those of a text's lines for as long as they are those of
 /// any history of the scripts. After them each team makes the calls that it has left, one team after the
@@ -35,12 +26,12 @@ pub fn follow(
     candidates: u32,
     scripts: Scripts,
     text: &[u8],
-) -> Result<Followed, NoMemory>
+) -> Result<History, NoMemory>
     requires candidates { (1 ≤ candidates) × (candidates ≤ MOST_CANDIDATES) }
     requires scripts { AreScripts candidates scripts }
-    ensures history { IfOk result (λ followed. IsHistoryOf scripts followed.history) }
-    ensures frozen { IfOk result (λ followed. AreFrozen candidates followed.history followed.frozen.items) }
-    ensures nearest { IfOk result (λ followed. IsNearest scripts text.now followed.history) }
+    ensures history { IfOk result (IsHistoryOf scripts) }
+    ensures answerable { IfOk result (All (λ e. IsAnswerable candidates e.call)) }
+    ensures nearest { IfOk result (IsNearest scripts text.now) }
 {
     a_book_answers_a_history();
     a_legal_history_has_the_books_replies();
@@ -48,9 +39,8 @@ pub fn follow(
     let mut replay = Replay::new(alloc, candidates);
     follow_lines(alloc, &mut replay, &mut left, text)?;
     make_the_rest(alloc, &mut replay, &mut left)?;
-    replay.freeze(alloc, 0)?;
-    let (history, frozen) = replay.finish();
-    Ok(Followed { history, frozen })
+    replay.answer(alloc, 0, Call::Freeze)?;
+    Ok(replay.finish())
 }
 
 /// Makes the calls that the lines of a text say one after another, up to the first line that names no team

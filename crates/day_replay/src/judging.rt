@@ -8,7 +8,8 @@ ghost use Rattle.day_replay.specs.Judged.{DiffersFromNearest, IsDayVerdict, day_
 
 use crate::comparing::first_difference;
 use crate::frozen_sheets::{places_of, rolls_of};
-use crate::{DayVerdict, Followed, Frozen, NoMemory, follow};
+use crate::standing::versions_of;
+use crate::{DayVerdict, Frozen, NoMemory, follow};
 use candidate_roll::Roll;
 use day_lines::Terms;
 use day_reader::{Day, Scripts};
@@ -81,7 +82,9 @@ fn difference_in<R: Threads + Sync>(
     requires scripts { AreScripts (length terms.now.roll.names) scripts }
     ensures { IfOk result (DiffersFromNearest terms.now scripts text.now) }
 {
-    let Followed { history, frozen } = follow(alloc, terms.roll.candidates(), scripts, text)?;
+    let candidates = terms.roll.candidates();
+    let history = follow(alloc, candidates, scripts, text)?;
+    let frozen = versions_of(rt, alloc, candidates, &history)?;
     let rolls = rolls_of(alloc, &terms.roll, frozen.as_slice())?;
     let places = places_of(alloc, frozen.as_slice())?;
     let due = DayText {

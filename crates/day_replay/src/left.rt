@@ -68,8 +68,20 @@ impl Left {
     }
 }
 
-/// Puts calls after others that stand from their end.
-fn put_behind(list: &mut Calls, mut calls: Calls) -> Result<(), NoMemory>
+/// Puts calls after others that stand from their end. Where there are none, the list of the calls is turned round.
+fn put_behind(list: &mut Calls, calls: Calls) -> Result<(), NoMemory>
+    ensures { OnOk result (reverse list.new ≡ calls ++ reverse list.old) }
+{
+    if list.len() > 0 {
+        return push_behind(list, calls);
+    }
+    *list = calls;
+    list.reverse();
+    Ok(())
+}
+
+/// Puts calls one by one after others that stand from their end.
+fn push_behind(list: &mut Calls, mut calls: Calls) -> Result<(), NoMemory>
     ensures { OnOk result (reverse list.new ≡ calls ++ reverse list.old) }
 {
     'calls: while let Some(call) = calls.pop() {

@@ -35,6 +35,12 @@ impl From<frozen_plan::NoMemory> for NoMemory {
     }
 }
 
+impl From<packed_ballots::NoMemory> for NoMemory {
+    fn from(_: packed_ballots::NoMemory) -> NoMemory {
+        NoMemory
+    }
+}
+
 impl From<candidate_roll::NoMemory> for NoMemory {
     fn from(_: candidate_roll::NoMemory) -> NoMemory {
         NoMemory

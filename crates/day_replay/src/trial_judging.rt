@@ -1,20 +1,19 @@
 // A text judged as the summary of a made day.
-ghost use Rattle.std.specs.Prelude.{◌≡◌, ◌≤◌, ◌++◌, ◌∷◌, [], List, IfOk, IfSome, IfNone, length};
+ghost use Rattle.std.specs.Prelude.{◌≡◌, ◌≤◌, IfOk, length};
 ghost use Rattle.batch_core.specs.Histories.{IsLegal};
 ghost use Rattle.day_reader.specs.Said.{AreScripts};
 ghost use Rattle.meek_trial.specs.declared.day.TheConstants.{MOST_TRIAL};
 ghost use Rattle.sheet_check.specs.Comparison.{IsCompared};
-ghost use Rattle.frozen_version.specs.Versions.{VersionState};
+ghost use Rattle.frozen_version.specs.Versions.{StandsIn};
 ghost use Rattle.day_lines.specs.DayHistory.{IsHistoryOf};
 ghost use Rattle.day_lines.specs.DayText.{terms_of};
-ghost use Rattle.day_sheets.specs.Frozen.{AreFrozen};
 ghost use Rattle.day_sheets.specs.MadeDay.{made_day};
 ghost use Rattle.day_sheets.specs.Standing.{HaveNumbers};
 ghost use Rattle.day_sheets.specs.Summary.{AreLastStanding, IsSummary};
 ghost use Rattle.day_replay.specs.Judged.{DiffersFromSummary, IsTrialVerdict};
 
 use crate::comparing::crew_of;
-use crate::{DayVerdict, Followed, Frozen, NoMemory, follow};
+use crate::{DayVerdict, Frozen, NoMemory, follow, frozen_at};
 use byte_edge::FreeGate;
 use candidate_roll::Roll;
 use day_lines::Terms;
@@ -88,12 +87,14 @@ fn summary_difference<R: Threads + Sync>(
     requires scripts { AreScripts (length terms.now.roll.names) scripts }
     ensures { IfOk result (DiffersFromSummary number terms.now scripts text.now) }
 {
-    let Followed { history, frozen } = follow(alloc, terms.roll.candidates(), scripts, b"")?;
+    let candidates = terms.roll.candidates();
+    let history = follow(alloc, candidates, scripts, b"")?;
+    let calls = history.entries().items().len();
+    let version = frozen_at(rt, alloc, candidates, &history, calls)?;
     let summary = SummaryText {
         number,
         history: &history,
     };
-    let version = last_of(frozen);
     difference_from(rt, alloc, text, terms, &summary, version)
 }
 
@@ -109,8 +110,9 @@ fn difference_from<R: Threads + Sync>(
     requires terms { terms.now ≡ terms_of (made_day summary.now.number) }
     requires scripts { AreScripts (length terms.now.roll.names) (made_day summary.now.number).scripts }
     requires history { IsHistoryOf (made_day summary.now.number).scripts summary.now.history.now }
-    requires frozen { (before : List VersionState)
-        × AreFrozen (length terms.now.roll.names) summary.now.history.now (before ++ version ∷ []) }
+    requires at { version.at ≡ length summary.now.history.now }
+    requires stands { StandsIn version summary.now.history.now }
+    requires candidates { version.candidates ≡ length terms.now.roll.names }
     ensures { IfOk result (IsCompared (IsSummary summary.now.number terms.now summary.now.history.now) text.now) }
 {
     let roll = terms.roll.with_struck(alloc, version.struck())?;
@@ -144,16 +146,5 @@ fn compare_summary<R: Threads + Sync>(
     )? {
         Ok(()) => Ok(sink.difference_from_whole()),
         Err(_) => Ok(Some(sink.difference_from_front())),
-    }
-}
-
-/// What stood at the last freeze.
-fn last_of(mut frozen: Vec<Frozen>) -> Frozen
-    requires { 1 ≤ length frozen.items }
-    ensures { (before : List VersionState) × (frozen.items ≡ before ++ result ∷ []) }
-{
-    match frozen.pop() {
-        Some(version) => version,
-        None => unreachable!(),
     }
 }

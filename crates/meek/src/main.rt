@@ -149,7 +149,7 @@ fn run_two<R: Threads + Wait + Sync, T: Source, S: Source, K: Sink>(
     match name.as_str() {
         "check" => check_two(rt, alloc, rest, of_text, of_file, sink).exit_code(),
         "audit" => audit_two(rt, alloc, rest, of_text, of_file, sink).exit_code(),
-        "ballots" => ballots_two(alloc, rest, of_text, of_file, sink).exit_code(),
+        "ballots" => ballots_two(rt, alloc, rest, of_text, of_file, sink).exit_code(),
         _ => run_meek(rt, alloc, words, of_file, sink),
     }
 }
@@ -173,7 +173,7 @@ fn run<R: Threads + Wait + Sync, S: Source, K: Sink>(
         "warren" => warren(alloc, rest, source, sink).exit_code(),
         "check" => check(rt, alloc, rest, source, sink).exit_code(),
         "audit" => audit(rt, alloc, rest, source, sink).exit_code(),
-        "ballots" => ballots(alloc, rest, source, sink).exit_code(),
+        "ballots" => ballots(rt, alloc, rest, source, sink).exit_code(),
         "page" => page(alloc, rest, source, sink).exit_code(),
         "promise" => promise(alloc, rest, source, sink).exit_code(),
         "tally" => tally(rt, alloc, rest, source, sink).exit_code(),

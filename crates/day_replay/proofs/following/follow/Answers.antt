@@ -25,7 +25,7 @@ returns-clause-history c =
     subst (IsUnderWay c.args.scripts c.in_ok-left.left.teams.items) (sym (ap (λ (r : ReplayState). r.history) c.new-replay.ensures))
     (begins c.args.scripts c.in_ok-left.left.teams.items c.in_ok-left.ensures.calls) in
     let way = c.in_ok-make_the_rest.ensures.way c.args.scripts (c.in_ok-follow_lines.ensures.way c.args.scripts start) in
-    subst (IsHistoryOf c.args.scripts) (sym (c.finish-history.ensures.history ∙ c.in_ok-freeze.ensures.history))
+    subst (IsHistoryOf c.args.scripts) (sym (c.finish.ensures.history ∙ c.in_ok-answer.ensures.history))
     (ends c.a_book_answers_a_history.ensures.legal c.args.scripts c.make_the_rest.new.left.teams.items
     c.make_the_rest.new.replay.history way c.in_ok-make_the_rest.ensures.none)
 
@@ -37,10 +37,10 @@ returns-clause-nearest c =
     let way = c.in_ok-follow_lines.ensures.way c.args.scripts start in
     let rest = c.in_ok-make_the_rest.ensures.more in
     let front = c.follow_lines.new.replay.history in
-    let goes : c.finish-history.result.0 ≡ front ++ (rest.0 ++ clerk_freeze ∷ []) =
-    c.finish-history.ensures.history
-    ∙ (c.in_ok-freeze.ensures.history
+    let goes : c.finish.result ≡ front ++ (rest.0 ++ clerk_freeze ∷ []) =
+    c.finish.ensures.history
+    ∙ (c.in_ok-answer.ensures.history
     ∙ (ap (λ (l : List Entry). l ++ clerk_freeze ∷ []) rest.1 ∙ append_assoc front rest.0 (clerk_freeze ∷ []))) in
     nearest c.args.scripts c.requires.scripts.numbers c.a_legal_history_has_the_books_replies.ensures c.args.text.now
-    c.follow_lines.new.left.teams.items c.finish-history.result.0 front (rest.0 ++ clerk_freeze ∷ []) (returns-clause-history c) goes way
+    c.follow_lines.new.left.teams.items c.finish.result front (rest.0 ++ clerk_freeze ∷ []) (returns-clause-history c) goes way
     c.in_ok-follow_lines.ensures.followed

@@ -17,12 +17,15 @@ difference_at-requires-clause-freezes g c κs within =
 
 pub difference_at-requires-clause-frozen : goal.difference_at-requires-clause-frozen
 difference_at-requires-clause-frozen g c κs within =
-    subst (λ (n : ℕ). AreFrozen n c.in_ok-history.field-0.history c.in_ok-history.field-0.frozen.items)
-    c.candidates.ensures.value c.in_ok-history.ensures.frozen
+    subst (λ (n : ℕ). AreFrozen n c.in_ok-history.history c.in_ok-frozen.frozen.items)
+    c.candidates-candidates.ensures.value c.in_ok-frozen.ensures
+
+pub versions_of-requires-clause-legal : goal.versions_of-requires-clause-legal
+versions_of-requires-clause-legal g c κs within = c.in_ok-history.ensures.history.legal
 
 pub returns : goal.returns
 returns g c =
-    let history = c.in_ok-history.field-0.history in
+    let history = c.in_ok-history.history in
     let terms = c.args.terms.now in
     let text = c.args.text.now in
     let followed = c.in_ok-history.ensures in
