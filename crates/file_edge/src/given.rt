@@ -73,10 +73,7 @@ fn is_option(word: &str) -> bool
 fn takes_value(word: &str) -> bool
     ensures { result ≡ takes_value word.now }
 {
-    is_option(word)
-        && word.as_bytes()[1] == b'-'
-        && word != "--mark"
-        && !has_value(word.as_bytes())
+    is_option(word) && word.as_bytes()[1] == b'-' && word != "--mark" && !has_value(word.as_bytes())
 }
 
 /// Whether an option has its value in itself, after an equals sign.
