@@ -1,18 +1,21 @@
--- Which words of a command name files. 45 is the hyphen, 61 the equals sign.
-use Rattle.std.specs.Prelude.{ℕ, ◌-◌, Bool, true, not, ◌&&◌, ◌||◌, ◌==◌, ltb, List, [], ◌++◌, get_or, take, drop, map, filter, zip, fold, length, slice_index, codes, bytes_eq}
+-- Which words of a command name files. 45 is the hyphen, 61 the equals sign; digits are 48 to 57.
+use Rattle.std.specs.Prelude.{ℕ, ◌-◌, Bool, true, not, ◌&&◌, ◌||◌, ◌==◌, ltb, List, [], ◌++◌, get_or, take, drop, map, filter, zip, fold, length, slice_index, codes, bytes_eq, leb}
 
--- It begins with a hyphen, and is longer than that.
+-- a digit
+abbrev pub is_digit : ℕ → Bool
+is_digit byte = leb 48 byte && leb byte 57
+
+-- It begins with a hyphen that goes on, and not with a digit: -5 is a value.
 abbrev pub is_option : List ℕ → Bool
-is_option word = ltb 1 (length word) && (slice_index word 0 == 45)
+is_option word = ltb 1 (length word) && ((slice_index word 0 == 45) && not (is_digit (slice_index word 1)))
 
 -- It has its value in itself, after an equals sign.
 abbrev pub has_value : List ℕ → Bool
 has_value word = fold (λ found byte. found || (byte == 61)) (not true) word
 
--- The next word is its value: so of each option of two hyphens that has none in itself, but for `--mark`, which takes none.
+-- The next word is its value: so of each option that has none in itself, but for `--mark`, which takes none.
 abbrev pub takes_value : List ℕ → Bool
-takes_value word =
-    is_option word && ((slice_index word 1 == 45) && (not (bytes_eq word (codes "--mark")) && not (has_value word)))
+takes_value word = is_option word && (not (bytes_eq word (codes "--mark")) && not (has_value word))
 
 -- of two words in a row, whether the later one names a file
 abbrev pub names_file : List ℕ × List ℕ → Bool

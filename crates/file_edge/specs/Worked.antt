@@ -15,6 +15,8 @@ pub record WorkedWords : Type 0 where
   pub after_mark : files_of (codes "page" ∷ codes "--as" ∷ codes "csv" ∷ codes "--mark" ∷ codes "a.sheet" ∷ []) ≡ codes "a.sheet" ∷ []
   -- meek import --title -5 a.csv
   pub after_a_value : files_of (codes "import" ∷ codes "--title" ∷ codes "-5" ∷ codes "a.csv" ∷ []) ≡ codes "a.csv" ∷ []
+  -- meek count -lots 1,2, in which an option has one hyphen
+  pub one_hyphen : files_of (codes "count" ∷ codes "-lots" ∷ codes "1,2" ∷ []) ≡ []
   -- meek audit -- a, where the last word is a value
   pub value : files_of (codes "audit" ∷ codes "--" ∷ codes "a" ∷ []) ≡ []
   pub name_alone : words_of (codes "look" ∷ []) ≡ codes "look" ∷ []

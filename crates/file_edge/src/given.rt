@@ -1,6 +1,6 @@
 // The words of a command, and the files that they name.
 ghost use Rattle.std.specs.Prelude.{◌≡◌, ◌<◌, ◌++◌, ◌∷◌, [], cond, length, map, string_bytes, IfOk, OnOk};
-ghost use Rattle.file_edge.specs.Words.{files_of, is_file_at, is_option, has_value, names_file, takes_value, words_of};
+ghost use Rattle.file_edge.specs.Words.{files_of, is_digit, is_file_at, is_option, has_value, names_file, takes_value, words_of};
 
 use std::alloc::{AllocError, Global};
 
@@ -61,19 +61,25 @@ fn names_file(before: &str, word: &str) -> bool
     !is_option(word) && !takes_value(before)
 }
 
-/// Whether a word is an option: it begins with a hyphen, and is longer than that.
+/// Whether a word is an option: it begins with a hyphen that goes on, and not with a digit.
 fn is_option(word: &str) -> bool
     ensures { result ≡ is_option word.now }
 {
     let bytes = word.as_bytes();
-    bytes.len() > 1 && bytes[0] == b'-'
+    bytes.len() > 1 && bytes[0] == b'-' && !is_digit(bytes[1])
+}
+
+fn is_digit(byte: u8) -> bool
+    ensures { result ≡ is_digit byte }
+{
+    byte >= b'0' && byte <= b'9'
 }
 
 /// Whether the next word is the value of an option.
 fn takes_value(word: &str) -> bool
     ensures { result ≡ takes_value word.now }
 {
-    is_option(word) && word.as_bytes()[1] == b'-' && word != "--mark" && !has_value(word.as_bytes())
+    is_option(word) && word != "--mark" && !has_value(word.as_bytes())
 }
 
 /// Whether an option has its value in itself, after an equals sign.
