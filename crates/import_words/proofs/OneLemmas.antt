@@ -131,6 +131,7 @@ one_table given a b one other =
     let weight = one_weight given.weight a.weight b.weight one.weight other.weight in
     let ignored = one.ignored.0 ∙ sym other.ignored.0 in
     let columns = one.columns.0 ∙ sym other.columns.0 in
+    let chosen = one.chosen.0 ∙ sym other.chosen.0 in
     λ i. record {
       separator = separator i;
       names = names i;
@@ -138,6 +139,7 @@ one_table given a b one other =
       weight = weight i;
       ignored = ignored i;
       columns = columns i;
+      chosen = chosen i;
     }
 
 one_cells : (given : Given) (a b : CellWords) → SaysCells given a → SaysCells given b → a ≡ b

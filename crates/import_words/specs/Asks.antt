@@ -42,7 +42,8 @@ abbrev pub IsWeight : List Word → Option Word → Type 0
 IsWeight values None = values ≡ []
 IsWeight values (Some label) = (values ≡ label ∷ []) × IsLabel label
 
--- the columns of weights and the ignored ones, which are different, also stand in the order of the words
+-- The heads of columns of weights, of the ignored ones and of those that are read are different, and also stand in the order of
+-- the words.
 pub record SaysTable (given : Given) (table : TableWords) : Type 0 where
   pub separator : IsSeparator given.separator table.separator
   pub names : IsForNames given.names table.names
@@ -50,6 +51,7 @@ pub record SaysTable (given : Given) (table : TableWords) : Type 0 where
   pub weight : IsWeight given.weight table.weight
   pub ignored : AreLabels given.ignored table.ignored
   pub columns : AreLabels given.columns table.columns
+  pub chosen : AreLabels given.chosen table.chosen
   pub different : AreDifferent table.columns
 
 -- the pieces between the commas (44) of a word, not too many, each of them a label

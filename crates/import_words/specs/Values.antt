@@ -36,6 +36,7 @@ given_by values = record {
   weight = words_in values.weight;
   ignored = texts_in values.ignored.items;
   columns = texts_in values.columns.items;
+  chosen = texts_in values.chosen.items;
   blanks = texts_in values.blanks.items;
   names = words_in values.names;
   ranks = words_in values.ranks;

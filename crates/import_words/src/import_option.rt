@@ -26,6 +26,7 @@ pub(crate) enum ImportOption {
     Over,
     Repeated,
     Head,
+    Column,
 }
 
 impl ImportOption {
@@ -53,6 +54,7 @@ impl ImportOption {
             "--over" => Some(ImportOption::Over),
             "--repeated" => Some(ImportOption::Repeated),
             "--head" => Some(ImportOption::Head),
+            "--column" => Some(ImportOption::Column),
             _ => None,
         }
     }
@@ -70,11 +72,14 @@ impl ImportOption {
         self.place() == other.place()
     }
 
-    /// Whether the value is the head of a column that is no mark.
+    /// Whether the value is the head of a column.
     pub(crate) fn is_column(self) -> bool
         ensures { result ≡ is_column self }
     {
-        matches!(self, ImportOption::Weight | ImportOption::Ignore)
+        matches!(
+            self,
+            ImportOption::Weight | ImportOption::Ignore | ImportOption::Column
+        )
     }
 
     /// Whether words for a layout may have the option.
@@ -96,6 +101,7 @@ impl ImportOption {
             | ImportOption::Blank
             | ImportOption::Head => !matches!(layout, Layout::Preflib),
             ImportOption::Names | ImportOption::Ranks => matches!(layout, Layout::Ranks),
+            ImportOption::Column => matches!(layout, Layout::Choices),
             ImportOption::Candidate | ImportOption::Over | ImportOption::Repeated => {
                 matches!(layout, Layout::Choices | Layout::List)
             }

@@ -177,6 +177,7 @@ pub(crate) fn values<'a>(alloc: Global, pairs: &[Pair<'a>]) -> Result<Values<'a>
         weight: single.weight,
         ignored: each(alloc, pairs, ImportOption::Ignore)?,
         columns: columns(alloc, pairs)?,
+        chosen: each(alloc, pairs, ImportOption::Column)?,
         blanks: each(alloc, pairs, ImportOption::Blank)?,
         names: single.names,
         ranks: single.ranks,

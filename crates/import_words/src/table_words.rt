@@ -10,7 +10,7 @@ use crate::{HeadNames, HeadWords, Label, Labels, Separator, reading, settings};
 use meek_words::WordsStop;
 use std::alloc::Global;
 
-/// What the words say of a table's fields and of the columns that are no marks.
+/// What the words say of a table's fields and columns.
 #[derive(Debug, Drop)]
 pub struct TableWords {
     /// Where none is said, the table shows it.
@@ -21,7 +21,9 @@ pub struct TableWords {
     pub weight: Option<Label>,
     /// The heads of the columns that are not read.
     pub ignored: Labels,
-    /// The heads of both, in the order of the words.
+    /// The heads of the columns of the ranks from the first on; where there are none, all columns are read that have no label.
+    pub chosen: Labels,
+    /// The heads of all three, in the order of the words.
     pub columns: Labels,
 }
 
@@ -37,6 +39,7 @@ impl TableWords {
         let weight = reading::weight(alloc, values.weight)?;
         let ignored = reading::labels(alloc, values.ignored.as_slice())?;
         let columns = reading::labels(alloc, values.columns.as_slice())?;
+        let chosen = reading::labels(alloc, values.chosen.as_slice())?;
         if !are_different(columns.items()) {
             return Err(WordsStop::BadWords);
         }
@@ -46,6 +49,7 @@ impl TableWords {
             head,
             weight,
             ignored,
+            chosen,
             columns,
         })
     }
