@@ -26,7 +26,7 @@ flag_of options.Candidate = codes "--candidate"
 flag_of options.Over = codes "--over"
 flag_of options.Repeated = codes "--repeated"
 flag_of options.Head = codes "--head"
-flag_of options.Column = codes "--column"
+flag_of options.Column = codes "--columns"
 
 -- the places of the options, by which they are told apart
 abbrev pub place_of : ImportOption → ℕ

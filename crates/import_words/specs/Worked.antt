@@ -43,10 +43,10 @@ pub record RefusedWords : Type 0 where
   pub no_seat : AskNothing (seats (codes "ranks") (codes "0"))
   pub a_seat_too_many : AskNothing (seats (codes "ranks") (codes "251"))
   pub head_of_nought : AskNothing (one_seat (codes "ranks") ++ codes "--head" ∷ codes "0" ∷ [])
-  pub column_of_ranks : AskNothing (one_seat (codes "ranks") ++ codes "--column" ∷ codes "r1" ∷ [])
+  pub column_of_ranks : AskNothing (one_seat (codes "ranks") ++ codes "--columns" ∷ codes "r1" ∷ [])
   pub column_twice :
       AskNothing
-      (one_seat (codes "choices") ++ ann_ben_cid ++ codes "--ignore" ∷ codes "r1" ∷ codes "--column" ∷ codes "r1" ∷ [])
+      (one_seat (codes "choices") ++ ann_ben_cid ++ codes "--ignore" ∷ codes "r1" ∷ codes "--columns" ∷ codes "r1" ∷ [])
   pub head_of_ten : AskNothing (one_seat (codes "ranks") ++ codes "--head" ∷ codes "10" ∷ [])
 
 -- a layout, one seat and these candidates, and nothing else said

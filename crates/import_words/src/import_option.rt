@@ -54,7 +54,7 @@ impl ImportOption {
             "--over" => Some(ImportOption::Over),
             "--repeated" => Some(ImportOption::Repeated),
             "--head" => Some(ImportOption::Head),
-            "--column" => Some(ImportOption::Column),
+            "--columns" => Some(ImportOption::Column),
             _ => None,
         }
     }
