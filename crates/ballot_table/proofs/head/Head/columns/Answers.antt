@@ -58,9 +58,9 @@ loop-at-preserved c =
     column sound_is next in
     record {
       columns = subst (λ (cs : List Column). AreColumns a texts (l.at + 1) cs
-          (l.others + c.other_at.result)) (sym pushed)
+          (l.others + c.other_at-others.result)) (sym pushed)
           (subst (λ (n : ℕ). AreColumns a texts (l.at + 1) (l.columns.items ++ column ∷ []) (l.others + n))
-          (sym (c.other_at.ensures ∙ ap (other_at (asked_of a)) c.bytes-2.ensures)) more);
+          (sym (c.other_at-others.ensures ∙ ap (other_at (asked_of a)) c.bytes-in-Ok.ensures)) more);
       seen = λ choices say.
           subst (λ (before : List (List ℕ)). IsSeen (length (unlabelled (asked_of a) texts)) before c.see.new.seen.items)
           (sym (unlabelled_more a texts l.at text c.loop-at-test.true c.index-texts-at.is))
