@@ -38,7 +38,7 @@ all_options =
     options.Layout ∷ options.Seats ∷ options.Title ∷ options.Withdrawn ∷ options.As ∷ options.Equal
     ∷ options.Skipped ∷ options.Empty ∷ options.Separator ∷ options.Weight ∷ options.Ignore ∷ options.Blank
     ∷ options.Names ∷ options.Ranks ∷ options.Candidate ∷ options.Over ∷ options.Repeated ∷ options.Head
-    ∷ options.Column ∷ []
+    ∷ options.Columns ∷ []
 
 pub each_option : (option : ImportOption) → found flag_of all_options (flag_of option) ≡ Some option
 each_option options.Layout = refl
@@ -59,7 +59,7 @@ each_option options.Candidate = refl
 each_option options.Over = refl
 each_option options.Repeated = refl
 each_option options.Head = refl
-each_option options.Column = refl
+each_option options.Columns = refl
 
 pub one_option : (one other : ImportOption) → flag_of one ≡ flag_of other → one ≡ other
 one_option one other same = told_apart flag_of all_options each_option one other same

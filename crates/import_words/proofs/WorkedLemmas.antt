@@ -136,15 +136,17 @@ refused_words = record {
       omega (arith, says.roll.seats.0.most, value));
   head_of_nought = no_head_of (codes "0") (λ head says. no_count 48 (omega arith) head says);
   column_of_ranks =
-      refused _ (seat_of (codes "ranks") ++ said options.Column (codes "r1") ∷ []) refl
+      refused _ (seat_of (codes "ranks") ++ said options.Columns (codes "r1") ∷ []) refl
       (λ asked fit says. false≢true (told (λ l. is_choices l ≡ true) layouts.Ranks asked
       (one_layout layouts.Ranks asked.layout says.layout) (fit 2 (said options.Layout []) (omega arith))));
   column_twice =
       refused _
-      (seat_of (codes "choices") ++ candidates ++ said options.Ignore (codes "r1") ∷ said options.Column (codes "r1") ∷ [])
+      (seat_of (codes "choices") ++ candidates ++ said options.Ignore (codes "r1") ∷ said options.Columns (codes "r1") ∷ [])
       refl
       (λ asked fit says.
-      subst AreDifferent says.table.columns.0 says.table.different 0 1 [] (omega arith) (omega arith) refl);
+      let all : asked.table.columns ≡ codes "r1" ∷ codes "r1" ∷ [] =
+      says.table.columns.0 ∙ ap (λ (heads : List Word). codes "r1" ∷ heads) says.table.chosen.pieces in
+      subst AreDifferent all says.table.different 0 1 [] (omega arith) (omega arith) refl);
   head_of_ten = no_head_of (codes "10") (λ head says. no_long head says);
 }
 
@@ -222,7 +224,7 @@ accepted_plain layout unnamed some = record {
       weight = refl;
       ignored = (refl, All-nil IsLabel);
       columns = (refl, All-nil IsLabel);
-      chosen = (refl, All-nil IsLabel);
+      chosen = refl;
       different = none_different;
     };
     cells = record { blanks = (refl, All-nil IsLabel); overs = (refl, All-nil IsLabel); ranks = refl };
@@ -314,7 +316,7 @@ accepted_choices = record {
       weight = refl;
       ignored = (refl, All-nil IsLabel);
       columns = (refl, All-nil IsLabel);
-      chosen = (refl, All-nil IsLabel);
+      chosen = refl;
       different = none_different;
     };
     cells = record { blanks = (refl, All-nil IsLabel); overs = (refl, All-nil IsLabel); ranks = refl };

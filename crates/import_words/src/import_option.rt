@@ -26,7 +26,7 @@ pub(crate) enum ImportOption {
     Over,
     Repeated,
     Head,
-    Column,
+    Columns,
 }
 
 impl ImportOption {
@@ -54,7 +54,7 @@ impl ImportOption {
             "--over" => Some(ImportOption::Over),
             "--repeated" => Some(ImportOption::Repeated),
             "--head" => Some(ImportOption::Head),
-            "--columns" => Some(ImportOption::Column),
+            "--columns" => Some(ImportOption::Columns),
             _ => None,
         }
     }
@@ -72,14 +72,11 @@ impl ImportOption {
         self.place() == other.place()
     }
 
-    /// Whether the value is the head of a column.
+    /// Whether the value is the head of one column.
     pub(crate) fn is_column(self) -> bool
         ensures { result ≡ is_column self }
     {
-        matches!(
-            self,
-            ImportOption::Weight | ImportOption::Ignore | ImportOption::Column
-        )
+        matches!(self, ImportOption::Weight | ImportOption::Ignore)
     }
 
     /// Whether words for a layout may have the option.
@@ -101,7 +98,7 @@ impl ImportOption {
             | ImportOption::Blank
             | ImportOption::Head => !matches!(layout, Layout::Preflib),
             ImportOption::Names | ImportOption::Ranks => matches!(layout, Layout::Ranks),
-            ImportOption::Column => matches!(layout, Layout::Choices),
+            ImportOption::Columns => matches!(layout, Layout::Choices),
             ImportOption::Candidate | ImportOption::Over | ImportOption::Repeated => {
                 matches!(layout, Layout::Choices | Layout::List)
             }

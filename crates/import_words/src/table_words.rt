@@ -4,6 +4,7 @@ ghost use Rattle.import_words.specs.Asks.{SaysTable};
 ghost use Rattle.import_words.specs.Values.{given_by};
 ghost use Rattle.import_words.specs.declared.table_words.TableWords.{TableWords};
 
+use crate::cells::append;
 use crate::different::are_different;
 use crate::values::Values;
 use crate::{HeadNames, HeadWords, Label, Labels, Separator, reading, settings};
@@ -23,7 +24,7 @@ pub struct TableWords {
     pub ignored: Labels,
     /// The heads of the columns of the ranks from the first on; where there are none, all columns are read that have no label.
     pub chosen: Labels,
-    /// The heads of all three, in the order of the words.
+    /// The heads of the first two in the order of the words, and then those of the third.
     pub columns: Labels,
 }
 
@@ -38,8 +39,9 @@ impl TableWords {
         let head = settings::head_words(values.head).ok_or(WordsStop::BadWords)?;
         let weight = reading::weight(alloc, values.weight)?;
         let ignored = reading::labels(alloc, values.ignored.as_slice())?;
-        let columns = reading::labels(alloc, values.columns.as_slice())?;
-        let chosen = reading::labels(alloc, values.chosen.as_slice())?;
+        let mut columns = reading::labels(alloc, values.columns.as_slice())?;
+        let chosen = reading::ranks(alloc, values.chosen)?;
+        append(alloc, &mut columns, chosen.items())?;
         if !are_different(columns.items()) {
             return Err(WordsStop::BadWords);
         }

@@ -14,9 +14,9 @@ pub(crate) struct Values<'a> {
     pub(crate) separator: Option<&'a str>,
     pub(crate) weight: Option<&'a str>,
     pub(crate) ignored: Vec<&'a str>,
-    /// Of the two before and the one after, in the order of the words.
+    /// Of the two before, in the order of the words.
     pub(crate) columns: Vec<&'a str>,
-    pub(crate) chosen: Vec<&'a str>,
+    pub(crate) chosen: Option<&'a str>,
     pub(crate) blanks: Vec<&'a str>,
     pub(crate) names: Option<&'a str>,
     pub(crate) ranks: Option<&'a str>,
