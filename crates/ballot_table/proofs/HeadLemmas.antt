@@ -4,7 +4,8 @@ use Rattle.std.proofs.Common.{◌-◌, ◌<◌, ◌≤◌, Bool, true, false, co
 use Rattle.std.proofs.Common.{◌++◌, map, take, drop, length}
 use Rattle.std.proofs.Common.{Option, Some, None, Result, Ok, Err, get_or, refl, ap, sym, ◌∙◌, arith}
 use Rattle.std.proofs.Common.{sum_by, add-one, append_assoc}
-use Rattle.std.specs.List.{list_any, enumerate_from, filter_map, slice_get}
+use Rattle.std.specs.Option.{is_some}
+use Rattle.std.specs.List.{list_all, list_any, enumerate_from, filter_map, slice_get}
 use Rattle.std.proofs.Math.Seq.{drop-cons}
 use Rattle.std.proofs.Math.Bool.{or-true, or-false}
 use Rattle.std.proofs.lemmas.Bool.{eqb-false}
@@ -26,11 +27,11 @@ use Rattle.ballot_table.specs.declared.table_asked.TableAsked.{TableAsked}
 use Rattle.ballot_table.specs.declared.layout.Layout.{Layout}
 use Rattle.ballot_table.specs.declared.layout.Layout.TheVariants as layout
 use Rattle.ballot_table.specs.Head.{name_of, names_in, names_of, unlabelled, column_of, columns_of, columns}
-use Rattle.ballot_table.specs.Head.{heads_say_ranks, is_cell, labelled, next_column, rank_among, rank_said}
+use Rattle.ballot_table.specs.Head.{are_chosen, chosen_column, heads_say_ranks, is_cell, labelled, next_column, rank_among, rank_said}
 use Rattle.ballot_table.specs.Head.{said_column}
 use Rattle.ballot_table.specs.Asked.{asked_of}
-use Rattle.ballot_table.specs.Finding.{candidates_at, candidates_in, others_at, named_by, among, with_seen, IsNext, IsSeen}
-use Rattle.ballot_table.specs.Texts.{is_in, said_number}
+use Rattle.ballot_table.specs.Finding.{candidates_at, candidates_in, other_at, named_by, among, with_seen, IsNext, IsSeen}
+use Rattle.ballot_table.specs.Texts.{is_in, number_in, said_number}
 
 -- some kept text has this name
 named_if : (b : Bool) (f : List ℕ → List ℕ) (x : List ℕ) (kept : List (List ℕ)) (any : Bool) (name : List ℕ)
@@ -139,7 +140,7 @@ module _ (a : TableAsked) (texts : List (List ℕ)) (at : ℕ) (text : List ℕ)
 
     pub column_more : (column : Column) → column_of (asked_of a) texts (take at texts) text ≡ Ok column
         → IsNext (asked_of a) others text column
-        → AreColumns a texts (at + 1) (found ++ column ∷ []) (others + others_at column)
+        → AreColumns a texts (at + 1) (found ++ column ∷ []) (others + other_at (asked_of a) text)
     column_more column sound_is next = record {
       fault =
           so_far.fault ∙ ap (first_from (at + 1)) with_next
@@ -149,8 +150,7 @@ module _ (a : TableAsked) (texts : List (List ℕ)) (at : ℕ) (text : List ℕ)
           ∙ ap (λ r. found ++ sound (r ∷ columns_from a texts (at + 1) (drop (at + 1) texts))) sound_is
           ∙ sym (append_assoc found (column ∷ []) (sound (columns_from a texts (at + 1) (drop (at + 1) texts))));
       counted =
-          ap (λ (n : ℕ). others + n) next.counted
-          ∙ ap (λ (n : ℕ). n + cond (is_in a.labels text) 0 1) so_far.counted
+          ap (λ (n : ℕ). n + cond (is_in a.labels text) 0 1) so_far.counted
           ∙ ap (λ (n : ℕ). length (unlabelled (asked_of a) (take at texts)) + n) (one (is_in a.labels text))
           ∙ sym (length-append (unlabelled (asked_of a) (take at texts))
           (cond (not (is_in a.labels text)) (text ∷ []) []))
@@ -158,11 +158,11 @@ module _ (a : TableAsked) (texts : List (List ℕ)) (at : ℕ) (text : List ℕ)
       sum =
           sum_by_push candidates_at found column ∙ ap (λ (n : ℕ). n + candidates_at column) so_far.sum
           ∙ ap (λ (n : ℕ). named_by a.layout others + n) next.named
-          ∙ named_more a.layout others (others_at column);
+          ∙ named_more a.layout others (other_at (asked_of a) text);
       few = next.few;
       inside =
           let before = so_far.inside in
-          let here : others_at column ≤ 1 = at_most (is_in a.labels text) next.counted in
+          let here : other_at (asked_of a) text ≤ 1 = at_most (is_in a.labels text) in
           omega (arith, before, here);
     }
       where
@@ -170,9 +170,9 @@ module _ (a : TableAsked) (texts : List (List ℕ)) (at : ℕ) (text : List ℕ)
         one true = refl
         one false = refl
 
-        at_most : (b : Bool) → others_at column ≡ cond b 0 1 → others_at column ≤ 1
-        at_most true is_none = omega (arith, is_none)
-        at_most false is_one = omega (arith, is_one)
+        at_most : (b : Bool) → cond b 0 1 ≤ 1
+        at_most true = omega arith
+        at_most false = omega arith
 
 -- after the last text
 module _ (a : TableAsked) (texts : List (List ℕ)) (at : ℕ) (end : length texts ≤ at) (found : List Column) (others : ℕ)
@@ -265,10 +265,19 @@ rank_within n (Some rank) = by_test (leb_tells rank n)
     by_test (inl is) = subst (λ (b : Bool). cond b rank 0 ≤ n) (sym is.0) is.1
     by_test (inr is) = subst (λ (b : Bool). cond b rank 0 ≤ n) (sym is.0) (omega arith)
 
--- a column without a rank leaves what is seen
-label_seen : (b : Bool) (seen : List Bool) → with_seen (cond b column.Weight column.PassedOver) seen ≡ seen
-label_seen true seen = refl
-label_seen false seen = refl
+-- a label leaves what is seen, where no columns are named that are read
+label_seen : (b : Bool) (chosen : List (List ℕ)) (text : List ℕ) (seen : List Bool)
+    → are_chosen layout.Choices chosen ≡ false
+    → with_seen (cond b column.Weight (chosen_column (number_in chosen text))) seen ≡ seen
+label_seen true chosen text seen none = refl
+label_seen false [] text seen none = refl
+label_seen false (head ∷ heads) text seen none = absurd (cc none)
+
+-- where heads say ranks, the words don't name columns
+none_chosen : (nought : Bool) (chosen all : Bool) → (not nought && not chosen && all) ≡ true → chosen ≡ false
+none_chosen true chosen all say = absurd (cc say)
+none_chosen false true all say = absurd (cc say)
+none_chosen false false all say = refl
 
 module _ (a : TableAsked) (all front : List (List ℕ)) (text : List ℕ) (column_is : Column) (seen : List Bool) where
   abbrev n : ℕ
@@ -315,9 +324,15 @@ module _ (a : TableAsked) (all front : List (List ℕ)) (text : List ℕ) (colum
       → column_of (asked_of a) all front text ≡ Ok column_is → IsSeen n before seen
       → IsSeen n (more (is_in a.labels text)) (with_seen column_is seen)
   seen_column choices say is so_far =
+      let none : are_chosen layout.Choices a.chosen ≡ false =
+      ap (λ (l : Layout). are_chosen l a.chosen) (sym choices)
+      ∙ none_chosen (eqb a.heads 0) (are_chosen a.layout a.chosen)
+      (list_all (λ text. is_some (said_number text)) (unlabelled (asked_of a) all)) say in
       by_label (is_in a.labels text) (is_in front text) (not a.head_is_said && is_cell a.layout (asked_of a) all text)
       (labelled (asked_of a) text) (next_column a.layout (asked_of a) all before text)
-      (label_seen _ seen)
+      (label_seen _ a.chosen text seen none)
       (ap (λ (l : Layout). next_column l (asked_of a) all before text) choices
+      ∙ ap (λ (b : Bool). cond b (Ok column.PassedOver)
+      (cond (heads_say_ranks (asked_of a) all) (said_column n before text) (Ok (column.Rank (length before + 1))))) none
       ∙ ap (λ (b : Bool). cond b (said_column n before text) (Ok (column.Rank (length before + 1)))) say)
       is so_far

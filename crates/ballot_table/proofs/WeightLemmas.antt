@@ -17,9 +17,9 @@ use Rattle.ballot_table.specs.declared.table_kind.TableKind.TheVariants.{BadColu
 use Rattle.ballot_table.specs.Asked.{Asked}
 use Rattle.ballot_table.specs.Cells.{fault_one}
 use Rattle.ballot_table.specs.Faults.{fault_of, sound}
-use Rattle.ballot_table.specs.Head.{column_of, heads_say_ranks, is_cell, labelled, next_column, rank_said, unless, unlabelled}
+use Rattle.ballot_table.specs.Head.{are_chosen, chosen_column, column_of, heads_say_ranks, is_cell, labelled, next_column, rank_said, unless, unlabelled}
 use Rattle.ballot_table.specs.Rows.{weight_in}
-use Rattle.ballot_table.specs.Texts.{is_in}
+use Rattle.ballot_table.specs.Texts.{is_in, number_in}
 use Rattle.ballot_table.proofs.BehindLemmas.{each}
 
 -- ---- fields without a fault
@@ -82,9 +82,19 @@ not_weight : (fault : Option TableKind) (n : ℕ) → unless fault (column.Candi
 not_weight None n is = cc is
 not_weight (Some kind) n is = cc is
 
-weight_or : (is_weights : Bool) → cond is_weights column.Weight column.PassedOver ≡ column.Weight → is_weights ≡ true
-weight_or true is = refl
-weight_or false is = absurd (cc is)
+chosen_is_none : (o : Option ℕ) → chosen_column o ≡ column.Weight → ⊥
+chosen_is_none None is = cc is
+chosen_is_none (Some rank) is = cc is
+
+weight_or : (is_weights : Bool) (o : Option ℕ) → cond is_weights column.Weight (chosen_column o) ≡ column.Weight
+    → is_weights ≡ true
+weight_or true o is = refl
+weight_or false o is = absurd (chosen_is_none o is)
+
+not_passed : (passed : Bool) (next : Result Column TableKind) → (next ≡ Ok column.Weight → ⊥)
+    → cond passed (Ok column.PassedOver) next ≡ Ok column.Weight → ⊥
+not_passed true next none is = cc is
+not_passed false next none is = none is
 
 module _ (asked : Asked) (whole : List (List ℕ)) where
   -- a column without a label is not the weight's
@@ -92,9 +102,11 @@ module _ (asked : Asked) (whole : List (List ℕ)) where
       → next_column l asked whole before text ≡ Ok column.Weight → ⊥
   no_weight layout.Choices before text is =
       let rank = rank_said (length (unlabelled asked whole)) text in
-      not_rank (heads_say_ranks asked whole)
-      (eqb rank 0 || list_any (λ other. eqb (rank_said (length (unlabelled asked whole)) other) rank) before) rank
-      (length before + 1) is
+      let bad = eqb rank 0 || list_any (λ other. eqb (rank_said (length (unlabelled asked whole)) other) rank) before in
+      not_passed (are_chosen layout.Choices asked.chosen)
+      (cond (heads_say_ranks asked whole) (cond bad (Err BadColumns) (Ok (column.Rank rank)))
+      (Ok (column.Rank (length before + 1))))
+      (not_rank (heads_say_ranks asked whole) bad rank (length before + 1)) is
   no_weight layout.List [] text is = cc is
   no_weight layout.List (other ∷ others) text is = cc is
   no_weight layout.Ranks before text is = not_weight _ _ is
@@ -132,7 +144,7 @@ module _ (asked : Asked) (whole : List (List ℕ)) where
       (not_guarded (not asked.head_is_said && is_cell asked.layout asked whole text)
       (next_column asked.layout asked whole (unlabelled asked front) text)
       (no_weight asked.layout (unlabelled asked front) text)) is in
-      let both = first_labelled asked.weight front text parts.0 (weight_or _ parts.1) in
+      let both = first_labelled asked.weight front text parts.0 (weight_or _ (number_in asked.chosen text) parts.1) in
       record { before = both.0; behind = both.1 }
 
   still_has : (weight : Option (List ℕ)) (front : List (List ℕ)) (text : List ℕ) → has_weight weight front ≡ true

@@ -12,8 +12,10 @@ pub record Asked : Type 0 where
   pub heads : ℕ
   -- candidates stand in brackets at the end of the head's fields
   pub bracketed : Bool
-  -- heads of the weight's column and of those that are passed over, in the order of the words
+  -- heads of the weight's column, of those that are passed over and of those that are read, in the order of the words
   pub labels : List (List ℕ)
+  -- of choices the heads of the columns that are read, in order of rank; with none all are that have no label
+  pub chosen : List (List ℕ)
   pub weight : Option (List ℕ)
   -- texts of blank cells, and of ranks that more than one candidate has
   pub blank : List (List ℕ)
@@ -32,6 +34,7 @@ asked_of asked = record {
   heads = asked.heads;
   bracketed = asked.bracketed;
   labels = asked.labels;
+  chosen = asked.chosen;
   weight = asked.weight;
   blank = asked.blank;
   over = asked.over;

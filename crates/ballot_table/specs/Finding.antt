@@ -29,11 +29,9 @@ abbrev pub candidates_at : Column → ℕ
 candidates_at (column.Candidate c) = 1
 candidates_at other = 0
 
--- a column whose head is no label
-abbrev pub others_at : Column → ℕ
-others_at column.Weight = 0
-others_at column.PassedOver = 0
-others_at other = 1
+-- one where a text is no label
+abbrev pub other_at : Asked → List ℕ → ℕ
+other_at asked text = if is_in asked.labels text then 0 else 1
 
 -- how many candidates so many heads name that are no labels
 abbrev pub named_by : Layout → ℕ → ℕ
@@ -52,9 +50,8 @@ candidates_in asked columns = among asked.layout (length asked.candidates) (sum_
 
 -- the column of a text after so many that are no labels
 pub record IsNext (asked : Asked) (others : ℕ) (text : List ℕ) (next : Column) : Type 0 where
-  pub counted : others_at next ≡ (if is_in asked.labels text then 0 else 1)
-  pub named : candidates_at next ≡ named_by asked.layout (others_at next)
-  pub few : named_by asked.layout (others + others_at next) ≤ MOST_CANDIDATES
+  pub named : candidates_at next ≡ named_by asked.layout (other_at asked text)
+  pub few : named_by asked.layout (others + other_at asked text) ≤ MOST_CANDIDATES
 
 -- what the texts of a head say together
 pub record IsShape (asked : Asked) (all : List (List ℕ)) (shape : Shape) : Type 0 where

@@ -1,5 +1,5 @@
 -- The head of a table: what its columns are of.
-use Rattle.std.specs.Prelude.{ℕ, ◌+◌, ◌-◌, ◌==◌, ◌||◌, ◌&&◌, not, nat_lt, nat_le, Bool, false, if◌then◌else◌}
+use Rattle.std.specs.Prelude.{ℕ, ◌+◌, ◌-◌, ◌==◌, ◌||◌, ◌&&◌, not, nat_lt, nat_le, Bool, true, false, if◌then◌else◌}
 use Rattle.std.specs.Prelude.{List, [], ◌∷◌, length, take, map, filter, position, Option, Some, None, Result}
 use Rattle.std.specs.Prelude.{Ok, Err}
 use Rattle.std.specs.List.{enumerate_from, list_any, list_all, after_last, ends_with}
@@ -18,7 +18,7 @@ use Rattle.ballot_table.specs.declared.table_kind.TableKind.TheVariants.{TooMany
 use Rattle.ballot_table.specs.declared.table_kind.TableKind.TheVariants.{BadName, TooLongName, BadWithdrawn}
 use Rattle.ballot_table.specs.declared.table_kind.TableKind.TheVariants.{BadColumns, HeadExpected}
 use Rattle.ballot_table.specs.Asked.{Asked}
-use Rattle.ballot_table.specs.Texts.{trimmed, is_in, number, parts, said_number}
+use Rattle.ballot_table.specs.Texts.{trimmed, is_in, number, number_in, parts, said_number}
 use Rattle.ballot_table.specs.Cells.{rank_in, says_in}
 use Rattle.ballot_table.specs.declared.fault.Fault.{Fault}
 use Rattle.ballot_table.specs.Faults.{first_fault, sound}
@@ -49,20 +49,34 @@ name_fault before (b ∷ bs) =
 abbrev pub unlabelled : Asked → List (List ℕ) → List (List ℕ)
 unlabelled asked texts = filter (λ text. not (is_in asked.labels text)) texts
 
--- a labelled column, of the weight or passed over
+-- whether the words name the columns of choices that are read
+abbrev pub are_chosen : Layout → List (List ℕ) → Bool
+are_chosen layout.Choices (head ∷ heads) = true
+are_chosen other heads = false
+
+-- the column of a rank, or one that is passed over
+abbrev pub chosen_column : Option ℕ → Column
+chosen_column None = column.PassedOver
+chosen_column (Some rank) = column.Rank rank
+
+-- a labelled column: of the weight, of the rank that is its label's place among those that are read, or passed over
 abbrev pub labelled : Asked → List ℕ → Column
 labelled asked text =
-    if option_map_or (λ label. bytes_eq label text) asked.weight false then column.Weight else
-    column.PassedOver
+    if option_map_or (λ label. bytes_eq label text) asked.weight false then column.Weight
+    else chosen_column (number_in asked.chosen text)
 
 abbrev pub unless : {X : Type 0} → Option TableKind → X → Result X TableKind
 unless None x = Ok x
 unless (Some kind) x = Err kind
 
--- each head that is no label says a rank; a column's number is none
+-- whether ranks are where heads say them: where the words don't name the columns, and there are heads and not just numbers
+abbrev pub are_by_heads : Asked → Bool
+are_by_heads asked = not (asked.heads == 0) && not (are_chosen asked.layout asked.chosen)
+
+-- each head that is no label says a rank
 abbrev pub heads_say_ranks : Asked → List (List ℕ) → Bool
 heads_say_ranks asked all =
-    not (asked.heads == 0) && list_all (λ text. is_some (said_number text)) (unlabelled asked all)
+    are_by_heads asked && list_all (λ text. is_some (said_number text)) (unlabelled asked all)
 
 abbrev pub rank_among : ℕ → Option ℕ → ℕ
 rank_among n None = 0
@@ -79,10 +93,12 @@ said_column n before text =
     if rank == 0 || list_any (λ other. rank_said n other == rank) before then Err BadColumns
     else Ok (column.Rank rank)
 
--- the column of a rank of choices: by its head where each head says a rank, and else by its place
+-- A column of choices without a label is passed over where the words name those that are read. Else it is of a rank: by its
+-- head where each head says a rank, and by its place where one doesn't.
 abbrev pub choice_column : Asked → List (List ℕ) → List (List ℕ) → List ℕ → Result Column TableKind
 choice_column asked all before text =
-    if heads_say_ranks asked all then said_column (length (unlabelled asked all)) before text
+    if are_chosen layout.Choices asked.chosen then Ok column.PassedOver
+    else if heads_say_ranks asked all then said_column (length (unlabelled asked all)) before text
     else Ok (column.Rank (length before + 1))
 
 -- a column without a label, after these others
@@ -98,10 +114,10 @@ next_column layout.Ranks asked all before text =
 abbrev pub may_be_rank : Asked → List ℕ → Bool
 may_be_rank asked text = is_some (number text) || is_ok (rank_in asked text)
 
--- a head reads as a cell of its column: of ranks where all heads without a label do
+-- a head reads as a cell of its column, which isn't passed over: of ranks where all heads without a label do
 abbrev pub is_cell : Layout → Asked → List (List ℕ) → List ℕ → Bool
 is_cell layout.Ranks asked all text = list_all (may_be_rank asked) (unlabelled asked all)
-is_cell layout.Choices asked all text = is_ok (says_in asked text)
+is_cell layout.Choices asked all text = not (are_chosen layout.Choices asked.chosen) && is_ok (says_in asked text)
 is_cell layout.List asked all text = list_all (λ part. is_ok (says_in asked part)) (parts text)
 
 -- The column of a text among all of a head, after these texts. Where the words don't say that there is a head, none reads
@@ -134,10 +150,10 @@ abbrev pub no_column : Asked → List (List ℕ) → Option Fault
 no_column asked texts =
     option_map (fault_at NoColumn) (position (λ label. not (is_in texts label)) asked.labels)
 
--- no text but labels: a column is expected after the last
+-- no text but labels, of which none is of a column that is read: one is expected after the last
 abbrev pub column_expected : Asked → List (List ℕ) → Option Fault
 column_expected asked texts =
-    if length (unlabelled asked texts) == 0 then Some (fault_at ColumnExpected (length texts)) else None
+    if length (unlabelled asked texts) == 0 && not (are_chosen asked.layout asked.chosen) then Some (fault_at ColumnExpected (length texts)) else None
 
 -- the first of the withdrawn who is no candidate
 abbrev pub bad_withdrawn : Asked → List (List ℕ) → Option Fault

@@ -21,6 +21,7 @@ pub mod Laws
 pub mod Layouts
 pub mod Worked
 pub mod WorkedNames
+pub mod WorkedChosen
 pub mod WorkedTexts
 pub mod WorkedReports
 pub mod PlainRows

@@ -32,6 +32,7 @@ plainly layout = record {
   heads = 1;
   bracketed = false;
   labels = [];
+  chosen = [];
   weight = None;
   blank = [];
   over = [];

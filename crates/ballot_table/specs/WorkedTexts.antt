@@ -22,6 +22,7 @@ plain_ranks = record {
   heads = 1;
   bracketed = false;
   labels = [];
+  chosen = [];
   weight = None;
   blank = [];
   over = [];

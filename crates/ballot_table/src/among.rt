@@ -1,5 +1,5 @@
 // A text among others.
-ghost use Rattle.std.specs.Prelude.{◌≡◌, ◌<◌, length, position, IfSome};
+ghost use Rattle.std.specs.Prelude.{◌≡◌, ◌<◌, ◌≤◌, length, position, IfSome};
 ghost use Rattle.std.specs.Str.{bytes_eq};
 ghost use Rattle.ballot_table.specs.Texts.{is_in, number_in};
 
@@ -15,7 +15,8 @@ pub(crate) fn is_in(texts: &[Text], text: &[u8]) -> bool
 
 /// The place of a text among these, from 1.
 pub(crate) fn number_in(texts: &[Text], text: &[u8]) -> Option<usize>
-    ensures { result ≡ number_in texts.now text.now }
+    ensures number { result ≡ number_in texts.now text.now }
+    ensures inside { IfSome result (λ number. number ≤ length texts.now) }
 {
     match place_in(texts, text) {
         Some(place) => Some(place + 1),

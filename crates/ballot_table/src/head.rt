@@ -14,7 +14,7 @@ ghost use Rattle.ballot_table.specs.Head.{column_of, columns_of, is_cell, next_c
 ghost use Rattle.ballot_table.specs.Head.{unlabelled, no_column, column_expected, bad_withdrawn, head_fault};
 ghost use Rattle.ballot_table.specs.JudgedRows.{IsRowStop};
 ghost use Rattle.ballot_table.specs.Asked.{asked_of};
-ghost use Rattle.ballot_table.specs.Finding.{candidates_at, others_at, among, named_by, with_seen, IsHead, IsNext, IsSeen, IsSeenBy, IsShape};
+ghost use Rattle.ballot_table.specs.Finding.{candidates_at, other_at, among, named_by, with_seen, IsHead, IsNext, IsSeen, IsSeenBy, IsShape};
 ghost use Rattle.ballot_table.specs.Texts.{is_in, parts};
 
 use crate::among::is_in;
@@ -58,7 +58,7 @@ impl Head {
         ensures sound { OnOk result (first_fault (columns_of (asked_of asked.now) texts.now) ≡ None) }
         ensures head { IfOk result (IsHead (asked_of asked.now) texts.now) }
     {
-        if texts.len() > i32::MAX as usize {
+        if texts.len() > i32::MAX as usize || asked.chosen.len() > i32::MAX as usize {
             return Err(RecordStop::NoMemory);
         }
         let shape = Shape::of(asked, texts);
@@ -68,7 +68,7 @@ impl Head {
         for (at, text) in texts.iter().enumerate() {
             match column_of(asked, &shape, &seen, &texts[..at], others, text.bytes()) {
                 Ok(column) => {
-                    others += others_at(column);
+                    others += other_at(asked, text.bytes());
                     see(&mut seen, column);
                     if columns.push(column).is_err() {
                         return Err(RecordStop::NoMemory);
@@ -96,7 +96,7 @@ impl Head {
         if let Some(place) = missing(asked.labels.items(), texts) {
             return Err(fault_at(TableKind::NoColumn, place));
         }
-        if self.others == 0 {
+        if self.others == 0 && !asked.are_chosen() {
             return Err(Fault {
                 kind: TableKind::ColumnExpected,
                 place: texts.len() + 1,
@@ -109,13 +109,11 @@ impl Head {
     }
 }
 
-fn others_at(column: Column) -> u32
-    ensures { result ≡ others_at column }
+/// One where a text is no label.
+fn other_at(asked: &TableAsked, text: &[u8]) -> u32
+    ensures { result ≡ other_at (asked_of asked.now) text.now }
 {
-    match column {
-        Column::Candidate(_) | Column::Rank(_) | Column::List => 1,
-        Column::Weight | Column::PassedOver => 0,
-    }
+    if asked.is_label(text) { 0 } else { 1 }
 }
 
 /// The first label that no text is.
@@ -178,6 +176,7 @@ fn column_of(
     requires counted { others ≡ length (unlabelled (asked_of asked.now) before.now) }
     requires few { named_by asked.now.layout others ≤ MOST_CANDIDATES }
     requires room { others < u32.MAX }
+    requires chosen { length asked.now.chosen < 2 ^ 31 }
     ensures column { result ≡ column_of (asked_of asked.now) shape.now.texts.now before.now text.now }
     ensures next { IfOk result (IsNext (asked_of asked.now) others text.now) }
 {
@@ -196,9 +195,9 @@ fn label_column(
     before: &[Text],
     text: &[u8],
 ) -> Result<Column, TableKind>
-    requires { is_in asked.now.labels text.now ≡ true }
+    requires label { is_in asked.now.labels text.now ≡ true }
+    requires chosen { length asked.now.chosen < 2 ^ 31 }
     ensures column { result ≡ column_of (asked_of asked.now) shape.now.texts.now before.now text.now }
-    ensures other { IfOk result (λ column. others_at column ≡ 0) }
     ensures named { IfOk result (λ column. candidates_at column ≡ 0) }
 {
     if is_in(before, text) {
@@ -216,7 +215,7 @@ fn is_cell(asked: &TableAsked, shape: &Shape<'_>, text: &[u8]) -> bool
 {
     match asked.layout {
         Layout::Ranks => shape.may_be_ranks,
-        Layout::Choices => asked.may_be_said(text),
+        Layout::Choices => !asked.are_chosen() && asked.may_be_said(text),
         Layout::List => is_list(asked, text),
     }
 }
@@ -249,11 +248,11 @@ fn next_column(
     requires few { named_by asked.now.layout others ≤ MOST_CANDIDATES }
     requires room { others < u32.MAX }
     ensures column { result ≡ next_column asked.now.layout (asked_of asked.now) shape.now.texts.now (unlabelled (asked_of asked.now) before.now) text.now }
-    ensures other { IfOk result (λ column. others_at column ≡ 1) }
     ensures named { IfOk result (λ column. candidates_at column ≡ named_by asked.now.layout 1) }
     ensures few { OnOk result (named_by asked.now.layout (others + 1) ≤ MOST_CANDIDATES) }
 {
     match asked.layout {
+        Layout::Choices if asked.are_chosen() => Ok(Column::PassedOver),
         Layout::Choices if shape.say_ranks => said_column(shape.others, seen, text),
         Layout::Choices => Ok(Column::Rank(others + 1)),
         Layout::List if others == 0 => Ok(Column::List),

@@ -60,4 +60,4 @@ pub use table_stop::TableStop;
 pub use tally::Tally;
 pub use text::Text;
 pub use texts::Texts;
-pub use worked::{worked_names, worked_reports, worked_tables, worked_texts};
+pub use worked::{worked_chosen, worked_names, worked_reports, worked_tables, worked_texts};

@@ -54,7 +54,7 @@ fn others(asked: &TableAsked, texts: &[Text]) -> u32
 fn say_ranks(asked: &TableAsked, texts: &[Text]) -> bool
     ensures { result ≡ heads_say_ranks (asked_of asked.now) texts.now }
 {
-    asked.heads != 0 && each_says_rank(asked, texts)
+    asked.are_by_heads() && each_says_rank(asked, texts)
 }
 
 fn each_says_rank(asked: &TableAsked, texts: &[Text]) -> bool

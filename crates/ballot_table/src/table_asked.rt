@@ -1,9 +1,9 @@
 // What the words say of a table.
-ghost use Rattle.std.specs.Prelude.{◌≡◌, ◌≤◌, ◌↔◌, length, IsTrue};
+ghost use Rattle.std.specs.Prelude.{◌≡◌, ◌≤◌, ◌<◌, ◌^◌, ◌↔◌, length, IsTrue};
 ghost use Rattle.plain_ballots.specs.declared.limits.TheConstants.{MOST_CANDIDATES};
 ghost use Rattle.ballot_table.specs.Cells.{is_blank, rank_in, says_in};
 ghost use Rattle.ballot_table.specs.Finding.{among};
-ghost use Rattle.ballot_table.specs.Head.{name_of, labelled, may_be_rank};
+ghost use Rattle.ballot_table.specs.Head.{are_by_heads, are_chosen, chosen_column, name_of, labelled, may_be_rank};
 ghost use Rattle.std.specs.Result.{is_ok};
 ghost use Rattle.ballot_table.specs.Asked.{asked_of};
 ghost use Rattle.ballot_table.specs.PlainRows.{HasPlainRanks};
@@ -29,8 +29,10 @@ pub struct TableAsked {
     pub heads: u32,
     /// The candidates stand in brackets at the end of the head's fields.
     pub bracketed: bool,
-    /// The heads of the weight's column and of those that are passed over, in the order of the words.
+    /// The heads of the weight's column, of those that are passed over and of those that are read, in the order of the words.
     pub labels: Texts,
+    /// Of choices the heads of the columns that are read, in order of rank; where there are none, all are that have no label.
+    pub chosen: Texts,
     pub weight: Option<Text>,
     /// What blank cells say.
     pub blank: Texts,
@@ -55,12 +57,41 @@ impl TableAsked {
 
     /// The column of a label.
     pub(crate) fn labelled(&self, text: &[u8]) -> Column
+        requires { length self.now.chosen < 2 ^ 31 }
         ensures { result ≡ labelled (asked_of self.now) text.now }
     {
         match &self.weight {
             Some(label) if label.is(text) => Column::Weight,
-            _ => Column::PassedOver,
+            _ => self.chosen_column(text),
         }
+    }
+
+    /// The column of the rank that is a label's place among those that are read, or else one that is passed over.
+    fn chosen_column(&self, text: &[u8]) -> Column
+        requires { length self.now.chosen < 2 ^ 31 }
+        ensures { result ≡ chosen_column (number_in self.now.chosen text.now) }
+    {
+        match number_in(self.chosen.items(), text) {
+            Some(rank) => Column::Rank(rank as u32),
+            None => Column::PassedOver,
+        }
+    }
+
+    /// Whether the words name the columns of choices that are read.
+    pub(crate) fn are_chosen(&self) -> bool
+        ensures { result ≡ are_chosen self.now.layout self.now.chosen }
+    {
+        match self.layout {
+            Layout::Choices => self.chosen.len() > 0,
+            Layout::Ranks | Layout::List => false,
+        }
+    }
+
+    /// Whether ranks are where heads say them.
+    pub(crate) fn are_by_heads(&self) -> bool
+        ensures { result ≡ are_by_heads (asked_of self.now) }
+    {
+        self.heads != 0 && !self.are_chosen()
     }
 
     /// The name that a head's text says.

@@ -1,5 +1,6 @@
 // Tables worked by hand.
 ghost use Rattle.ballot_table.specs.Worked.{WorkedHeads, WorkedRows, WorkedRefusals};
+ghost use Rattle.ballot_table.specs.WorkedChosen.{WorkedChosen};
 ghost use Rattle.ballot_table.specs.WorkedNames.{WorkedNames};
 ghost use Rattle.ballot_table.specs.WorkedReports.{WorkedReports};
 ghost use Rattle.ballot_table.specs.WorkedTexts.{WorkedTexts};
@@ -14,6 +15,11 @@ pub fn worked_tables()
 /// Columns worked by hand have the names that are defined.
 pub fn worked_names()
     ensures { WorkedNames }
+{}
+
+/// Heads of choices worked by hand, whose columns the words name, have the columns and the faults that are defined.
+pub fn worked_chosen()
+    ensures { WorkedChosen }
 {}
 
 /// Texts worked by hand are refused, each at its byte, its row and its column, or are not.

@@ -68,7 +68,7 @@ named_for table.Ranks names = []
 named_for table.Choices names = names
 named_for table.List names = names
 
--- The heads of columns that are no marks stand in the order of the words.
+-- The heads of columns that are named stand in the order of the words.
 abbrev pub table_of : Asked → TableLayout → TableAsked
 table_of asked layout = record {
   layout = layout;
@@ -77,6 +77,7 @@ table_of asked layout = record {
   heads = records_of asked.table.head;
   bracketed = is_bracketed asked.table.names;
   labels = asked.table.columns;
+  chosen = asked.table.chosen;
   weight = asked.table.weight;
   blank = asked.cells.blanks;
   over = asked.cells.overs;
@@ -91,6 +92,7 @@ table_of asked layout = record {
 abbrev pub without_lists : Asked → TableLayout → TableAsked
 without_lists asked layout = record (table_of asked layout) {
   labels = [];
+  chosen = [];
   blank = [];
   over = [];
   ranks = [];
@@ -102,6 +104,7 @@ without_lists asked layout = record (table_of asked layout) {
 abbrev pub with_lists : Asked → TableAsked → TableAsked
 with_lists asked table = record table {
   labels = table.labels ++ asked.table.columns;
+  chosen = table.chosen ++ asked.table.chosen;
   weight = asked.table.weight;
   blank = table.blank ++ asked.cells.blanks;
   over = table.over ++ asked.cells.overs;

@@ -20,6 +20,7 @@ pub(crate) fn without_lists(alloc: Global, asked: &Asked, layout: Layout) -> Tab
         heads: records_of(asked.table.head),
         bracketed: is_bracketed(asked.table.names),
         labels: Texts::new(alloc),
+        chosen: Texts::new(alloc),
         weight: None,
         blank: Texts::new(alloc),
         over: Texts::new(alloc),
@@ -38,6 +39,7 @@ pub(crate) fn fill(alloc: Global, asked: &Asked, table: &mut TableAsked) -> Resu
     table.weight = text_of(alloc, &asked.table.weight)?;
     table.candidates = named_for(alloc, table.layout, &asked.roll.candidates)?;
     push_texts(alloc, &mut table.labels, asked.table.columns.items())?;
+    push_texts(alloc, &mut table.chosen, asked.table.chosen.items())?;
     push_texts(alloc, &mut table.blank, asked.cells.blanks.items())?;
     push_texts(alloc, &mut table.over, asked.cells.overs.items())?;
     push_texts(alloc, &mut table.ranks, asked.cells.ranks.items())?;

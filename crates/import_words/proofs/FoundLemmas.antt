@@ -37,7 +37,8 @@ abbrev pub all_options : List ImportOption
 all_options =
     options.Layout ∷ options.Seats ∷ options.Title ∷ options.Withdrawn ∷ options.As ∷ options.Equal
     ∷ options.Skipped ∷ options.Empty ∷ options.Separator ∷ options.Weight ∷ options.Ignore ∷ options.Blank
-    ∷ options.Names ∷ options.Ranks ∷ options.Candidate ∷ options.Over ∷ options.Repeated ∷ options.Head ∷ []
+    ∷ options.Names ∷ options.Ranks ∷ options.Candidate ∷ options.Over ∷ options.Repeated ∷ options.Head
+    ∷ options.Columns ∷ []
 
 pub each_option : (option : ImportOption) → found flag_of all_options (flag_of option) ≡ Some option
 each_option options.Layout = refl
@@ -58,6 +59,7 @@ each_option options.Candidate = refl
 each_option options.Over = refl
 each_option options.Repeated = refl
 each_option options.Head = refl
+each_option options.Columns = refl
 
 pub one_option : (one other : ImportOption) → flag_of one ≡ flag_of other → one ≡ other
 one_option one other same = told_apart flag_of all_options each_option one other same

@@ -1,5 +1,5 @@
 -- Words ask for one thing at most.
-use Rattle.std.proofs.Common.{◌≡◌, ◌∙◌, refl, sym, ap, subst, codes, ℕ, Option, Some, None, List, [], ◌∷◌, inl, inr, ◌-◌}
+use Rattle.std.proofs.Common.{◌≡◌, ◌∙◌, refl, sym, ap, subst, codes, ℕ, Option, Some, None, List, [], ◌∷◌, ◌++◌, inl, inr, ◌-◌}
 use Rattle.std.specs.List.{flat_map}
 use Rattle.candidate_roll.specs.declared.limits.TheConstants.{MOST_TITLE_BYTES}
 use Rattle.meek_words.specs.Numerals.{Word, HaveOneLotList, IsLotList, IsNumeralUpTo, number_of}
@@ -11,7 +11,8 @@ use Rattle.import_words.specs.Pairs.{ArePairs, Given, Said, given_of, words_of}
 use Rattle.import_words.specs.Options.{flag_of}
 use Rattle.import_words.specs.Settings.{IsAtMostOnce, IsOnce, IsCount, IsDigit, SaysHead, SaysSkipped, IsSeparator, IsTreatment}
 use Rattle.import_words.specs.Settings.{layout_word, output_word, treat_word, rows_word, separator_word, head_word}
-use Rattle.import_words.specs.Asks.{AreDistinguished, AreFor, Asks, IsRankList, IsWeight, Says, SaysCells, SaysRoll, SaysTable}
+use Rattle.import_words.specs.Asks.{AreDistinguished, AreFor, AreRanks, Asks, IsRankList, IsWeight, Says, SaysCells, SaysRoll, SaysTable}
+use Rattle.import_words.specs.Labels.{AreDifferent}
 use Rattle.import_words.specs.Laws.{AskOneThing}
 use Rattle.plain_ballots.specs.declared.limits.TheConstants.{MOST_CANDIDATES}
 use Rattle.import_words.specs.declared.layout.Layout.TheVariants as layouts
@@ -121,6 +122,19 @@ one_weight values None (Some s) one other = let e = sym one ∙ other.0 in cc
 one_weight values (Some s) None one other = let e = sym one.0 ∙ other in cc
 one_weight values (Some s) (Some t) one other = let e = sym one.0 ∙ other.0 in cc
 
+pub one_ranks : (values : List Word) (a b : List Word) → AreRanks values a → AreRanks values b → a ≡ b
+one_ranks values a b one other =
+    one_at_most [] (λ r word. IsRankList word r) (λ word m n e f. e.pieces ∙ sym f.pieces) values a b one other
+
+-- where values say columns that are different, these that they say are too
+pub one_different : (given : Given) (table : TableWords) (chosen columns : List Word) → AreRanks given.chosen chosen
+    → columns ≡ given.columns ++ chosen → SaysTable given table → AreDifferent columns
+one_different given table chosen columns are all says =
+    subst AreDifferent
+    (says.columns.0
+    ∙ ap (λ (heads : List Word). given.columns ++ heads) (one_ranks given.chosen table.chosen chosen says.chosen are)
+    ∙ sym all) says.different
+
 one_table : (given : Given) (a b : TableWords) → SaysTable given a → SaysTable given b → a ≡ b
 one_table given a b one other =
     let separator = said_separator given.separator a.separator b.separator one.separator other.separator in
@@ -130,7 +144,9 @@ one_table given a b one other =
     other.head in
     let weight = one_weight given.weight a.weight b.weight one.weight other.weight in
     let ignored = one.ignored.0 ∙ sym other.ignored.0 in
-    let columns = one.columns.0 ∙ sym other.columns.0 in
+    let chosen = one_ranks given.chosen a.chosen b.chosen one.chosen other.chosen in
+    let columns =
+    one.columns.0 ∙ ap (λ (heads : List Word). given.columns ++ heads) chosen ∙ sym other.columns.0 in
     λ i. record {
       separator = separator i;
       names = names i;
@@ -138,14 +154,14 @@ one_table given a b one other =
       weight = weight i;
       ignored = ignored i;
       columns = columns i;
+      chosen = chosen i;
     }
 
 one_cells : (given : Given) (a b : CellWords) → SaysCells given a → SaysCells given b → a ≡ b
 one_cells given a b one other =
     let blanks = one.blanks.0 ∙ sym other.blanks.0 in
     let overs = one.overs.0 ∙ sym other.overs.0 in
-    let ranks = one_at_most [] (λ r word. IsRankList word r)
-    (λ word m n e f. e.pieces ∙ sym f.pieces) given.ranks a.ranks b.ranks one.ranks other.ranks in
+    let ranks = one_ranks given.ranks a.ranks b.ranks one.ranks other.ranks in
     λ i. record { blanks = blanks i; overs = overs i; ranks = ranks i }
 
 -- where values say cells and a roll, they tell them apart as they tell apart what else they say

@@ -71,6 +71,11 @@ module _ (given : Given) (asked : Asked) (says : Says given asked) where
   pub ranks : 2 ≤ length given.ranks → ⊥
   ranks = no_twice (asked.cells.ranks ≡ []) (λ (word : Word). IsRankList word asked.cells.ranks) given.ranks says.cells.ranks
 
+  pub chosen : 2 ≤ length given.chosen → ⊥
+  chosen =
+      no_twice (asked.table.chosen ≡ []) (λ (word : Word). IsRankList word asked.table.chosen) given.chosen
+      says.table.chosen
+
   pub repeated : 2 ≤ length given.repeated → ⊥
   repeated = no_twice (asked.treatment.repeated ≡ treats.Refuse)
       (λ (word : Word). word ≡ treat_word asked.treatment.repeated) given.repeated says.treatment.2

@@ -82,6 +82,7 @@ weight_first = record {
       weight = (refl, num_labelled);
       ignored = (refl, All-from_recursion IsLabel (codes "Key" ∷ []) (key_labelled, tt));
       columns = (refl, two_labelled (codes "Num") (codes "Key") num_labelled key_labelled);
+      chosen = refl;
       different = two_different (codes "Num") (codes "Key") key_num;
     };
     cells = record { blanks = (refl, All-nil IsLabel); overs = (refl, All-nil IsLabel); ranks = refl };
@@ -117,6 +118,7 @@ ignored_first = record {
       weight = (refl, num_labelled);
       ignored = (refl, All-from_recursion IsLabel (codes "Key" ∷ []) (key_labelled, tt));
       columns = (refl, two_labelled (codes "Key") (codes "Num") key_labelled num_labelled);
+      chosen = refl;
       different = two_different (codes "Key") (codes "Num") num_key;
     };
     cells = record { blanks = (refl, All-nil IsLabel); overs = (refl, All-nil IsLabel); ranks = refl };
@@ -155,6 +157,7 @@ accepted_head word said_head some says = record {
       weight = refl;
       ignored = (refl, All-nil IsLabel);
       columns = (refl, All-nil IsLabel);
+      chosen = refl;
       different = none_different;
     };
     cells = record { blanks = (refl, All-nil IsLabel); overs = (refl, All-nil IsLabel); ranks = refl };

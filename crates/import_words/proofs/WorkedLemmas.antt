@@ -12,7 +12,7 @@ use Rattle.meek_words.specs.Numerals.{Word, IsNumeralUpTo, number_of}
 use Rattle.candidate_roll.specs.Name.{IsName, IsPrintable}
 use Rattle.import_words.specs.Asks.{Asks, AreFor, Says}
 use Rattle.import_words.specs.Labels.{AreDifferent, IsLabel}
-use Rattle.import_words.specs.Options.{flag_of, is_named, is_of, is_table}
+use Rattle.import_words.specs.Options.{flag_of, is_choices, is_named, is_of, is_table}
 use Rattle.import_words.specs.Pairs.{Said, given_of, words_of}
 use Rattle.import_words.specs.Settings.{SaysHead, layout_word}
 use Rattle.import_words.specs.Worked.{AskNothing, RefusedWords, ann_ben_cid, one_seat, plain}
@@ -135,6 +135,18 @@ refused_words = record {
       let value : number_of (codes "251") ≡ 251 = refl in
       omega (arith, says.roll.seats.0.most, value));
   head_of_nought = no_head_of (codes "0") (λ head says. no_count 48 (omega arith) head says);
+  column_of_ranks =
+      refused _ (seat_of (codes "ranks") ++ said options.Columns (codes "r1") ∷ []) refl
+      (λ asked fit says. false≢true (told (λ l. is_choices l ≡ true) layouts.Ranks asked
+      (one_layout layouts.Ranks asked.layout says.layout) (fit 2 (said options.Layout []) (omega arith))));
+  column_twice =
+      refused _
+      (seat_of (codes "choices") ++ candidates ++ said options.Ignore (codes "r1") ∷ said options.Columns (codes "r1") ∷ [])
+      refl
+      (λ asked fit says.
+      let all : asked.table.columns ≡ codes "r1" ∷ codes "r1" ∷ [] =
+      says.table.columns.0 ∙ ap (λ (heads : List Word). codes "r1" ∷ heads) says.table.chosen.pieces in
+      subst AreDifferent all says.table.different 0 1 [] (omega arith) (omega arith) refl);
   head_of_ten = no_head_of (codes "10") (λ head says. no_long head says);
 }
 
@@ -212,6 +224,7 @@ accepted_plain layout unnamed some = record {
       weight = refl;
       ignored = (refl, All-nil IsLabel);
       columns = (refl, All-nil IsLabel);
+      chosen = refl;
       different = none_different;
     };
     cells = record { blanks = (refl, All-nil IsLabel); overs = (refl, All-nil IsLabel); ranks = refl };
@@ -303,6 +316,7 @@ accepted_choices = record {
       weight = refl;
       ignored = (refl, All-nil IsLabel);
       columns = (refl, All-nil IsLabel);
+      chosen = refl;
       different = none_different;
     };
     cells = record { blanks = (refl, All-nil IsLabel); overs = (refl, All-nil IsLabel); ranks = refl };

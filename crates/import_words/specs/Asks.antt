@@ -42,26 +42,33 @@ abbrev pub IsWeight : List Word → Option Word → Type 0
 IsWeight values None = values ≡ []
 IsWeight values (Some label) = (values ≡ label ∷ []) × IsLabel label
 
--- the columns of weights and the ignored ones, which are different, also stand in the order of the words
-pub record SaysTable (given : Given) (table : TableWords) : Type 0 where
-  pub separator : IsSeparator given.separator table.separator
-  pub names : IsForNames given.names table.names
-  pub head : IsForHead given.head table.head
-  pub weight : IsWeight given.weight table.weight
-  pub ignored : AreLabels given.ignored table.ignored
-  pub columns : AreLabels given.columns table.columns
-  pub different : AreDifferent table.columns
-
 -- the pieces between the commas (44) of a word, not too many, each of them a label
 pub record IsRankList (word : Word) (labels : List Word) : Type 0 where
   pub pieces : labels ≡ slice_split (λ b. nat_eq b 44) word
   pub few : length labels ≤ MOST_CANDIDATES
   pub all : All IsLabel labels
 
--- labels of ranks; where none are said ranks are numbers
+-- labels for the ranks from the first on; where none are said there are none
 abbrev pub AreRanks : List Word → List Word → Type 0
 AreRanks values ranks = IsAtMostOnce (ranks ≡ []) (λ word. IsRankList word ranks) values
 
+-- labels that are values of their own, and others after them
+abbrev pub AreFollowed : List Word → List Word → List Word → Type 0
+AreFollowed values others labels = (labels ≡ values ++ others) × All IsLabel values
+
+-- The heads of columns of weights and of the ignored ones, in the order of the words, and of those that are read, in order of
+-- rank, are different.
+pub record SaysTable (given : Given) (table : TableWords) : Type 0 where
+  pub separator : IsSeparator given.separator table.separator
+  pub names : IsForNames given.names table.names
+  pub head : IsForHead given.head table.head
+  pub weight : IsWeight given.weight table.weight
+  pub ignored : AreLabels given.ignored table.ignored
+  pub chosen : AreRanks given.chosen table.chosen
+  pub columns : AreFollowed given.columns table.chosen table.columns
+  pub different : AreDifferent table.columns
+
+-- where no labels of ranks are said, ranks are numbers
 pub record SaysCells (given : Given) (cells : CellWords) : Type 0 where
   pub blanks : AreLabels given.blanks cells.blanks
   pub overs : AreLabels given.overs cells.overs

@@ -26,6 +26,7 @@ flag_of options.Candidate = codes "--candidate"
 flag_of options.Over = codes "--over"
 flag_of options.Repeated = codes "--repeated"
 flag_of options.Head = codes "--head"
+flag_of options.Columns = codes "--columns"
 
 -- the places of the options, by which they are told apart
 abbrev pub place_of : ImportOption → ℕ
@@ -47,11 +48,12 @@ place_of options.Candidate = 14
 place_of options.Over = 15
 place_of options.Repeated = 16
 place_of options.Head = 17
+place_of options.Columns = 18
 
 abbrev pub same_option : ImportOption → ImportOption → Bool
 same_option option other = nat_eq (place_of option) (place_of other)
 
--- an option whose value is the head of a column that is no mark
+-- an option whose value is the head of one column
 abbrev pub is_column : ImportOption → Bool
 is_column options.Weight = true
 is_column options.Ignore = true
@@ -61,6 +63,11 @@ is_column option = false
 abbrev pub is_ranks : Layout → Bool
 is_ranks layouts.Ranks = true
 is_ranks layout = false
+
+-- a table with a column for each rank
+abbrev pub is_choices : Layout → Bool
+is_choices layouts.Choices = true
+is_choices layout = false
 
 -- a table whose cells name candidates
 abbrev pub is_named : Layout → Bool
@@ -84,6 +91,7 @@ is_of layout options.Blank = is_table layout
 is_of layout options.Head = is_table layout
 is_of layout options.Names = is_ranks layout
 is_of layout options.Ranks = is_ranks layout
+is_of layout options.Columns = is_choices layout
 is_of layout options.Candidate = is_named layout
 is_of layout options.Over = is_named layout
 is_of layout options.Repeated = is_named layout

@@ -23,7 +23,7 @@ pub record ArePairs (words : List Word) (pairs : List Said) : Type 0 where
 abbrev pub values_of : ImportOption → List Said → List Word
 values_of option pairs = map (λ said. said.value) (filter (λ said. same_option option said.option) pairs)
 
--- the heads of columns that are no marks, in order
+-- the heads of columns of weights and of the ignored ones, in order
 abbrev pub columns_of : List Said → List Word
 columns_of pairs = map (λ said. said.value) (filter (λ said. is_column said.option) pairs)
 
@@ -41,6 +41,7 @@ pub record Given : Type 0 where
   pub weight : List Word
   pub ignored : List Word
   pub columns : List Word
+  pub chosen : List Word
   pub blanks : List Word
   pub names : List Word
   pub ranks : List Word
@@ -63,6 +64,7 @@ given_of pairs = record {
   weight = values_of options.Weight pairs;
   ignored = values_of options.Ignore pairs;
   columns = columns_of pairs;
+  chosen = values_of options.Columns pairs;
   blanks = values_of options.Blank pairs;
   names = values_of options.Names pairs;
   ranks = values_of options.Ranks pairs;

@@ -36,6 +36,7 @@ given_by values = record {
   weight = words_in values.weight;
   ignored = texts_in values.ignored.items;
   columns = texts_in values.columns.items;
+  chosen = words_in values.chosen;
   blanks = texts_in values.blanks.items;
   names = words_in values.names;
   ranks = words_in values.ranks;
@@ -61,3 +62,4 @@ pub record AreSingle (values : SingleValues) (pairs : List Said) : Type 0 where
   pub ranks : words_in values.ranks ≡ values_of options.Ranks pairs
   pub repeated : words_in values.repeated ≡ values_of options.Repeated pairs
   pub head : words_in values.head ≡ values_of options.Head pairs
+  pub chosen : words_in values.chosen ≡ values_of options.Columns pairs

@@ -43,6 +43,10 @@ pub record RefusedWords : Type 0 where
   pub no_seat : AskNothing (seats (codes "ranks") (codes "0"))
   pub a_seat_too_many : AskNothing (seats (codes "ranks") (codes "251"))
   pub head_of_nought : AskNothing (one_seat (codes "ranks") ++ codes "--head" ∷ codes "0" ∷ [])
+  pub column_of_ranks : AskNothing (one_seat (codes "ranks") ++ codes "--columns" ∷ codes "r1" ∷ [])
+  pub column_twice :
+      AskNothing
+      (one_seat (codes "choices") ++ ann_ben_cid ++ codes "--ignore" ∷ codes "r1" ∷ codes "--columns" ∷ codes "r1" ∷ [])
   pub head_of_ten : AskNothing (one_seat (codes "ranks") ++ codes "--head" ∷ codes "10" ∷ [])
 
 -- a layout, one seat and these candidates, and nothing else said
@@ -53,7 +57,7 @@ plain layout candidates = record {
   empty = rows.Refuse;
   treatment = record { skipped = None; equal = treats.Refuse; repeated = treats.Refuse };
   roll = record { seats = 1; title = []; withdrawn = []; candidates = candidates };
-  table = record { separator = None; names = heads.Whole; head = head_words.Unsaid; weight = None; ignored = []; columns = [] };
+  table = record { separator = None; names = heads.Whole; head = head_words.Unsaid; weight = None; ignored = []; columns = []; chosen = [] };
   cells = record { blanks = []; overs = []; ranks = [] };
 }
 
@@ -79,6 +83,7 @@ with_columns columns = record {
     weight = Some (codes "Num");
     ignored = codes "Key" ∷ [];
     columns = columns;
+    chosen = [];
   };
   cells = record { blanks = []; overs = []; ranks = [] };
 }
@@ -86,7 +91,7 @@ with_columns columns = record {
 -- a table of ranks of which this is said of the head
 abbrev pub headed : HeadWords → Asked
 headed said = record (plain layouts.Ranks []) {
-  table = record { separator = None; names = heads.Whole; head = said; weight = None; ignored = []; columns = [] };
+  table = record { separator = None; names = heads.Whole; head = said; weight = None; ignored = []; columns = []; chosen = [] };
 }
 
 pub record AcceptedWords : Type 0 where

@@ -59,7 +59,7 @@ impl CellWords {
 }
 
 /// Puts labels after others.
-fn append(alloc: Global, all: &mut Labels, labels: &[Label]) -> Result<(), WordsStop>
+pub(crate) fn append(alloc: Global, all: &mut Labels, labels: &[Label]) -> Result<(), WordsStop>
     ensures ok { OnOk result (all.new ≡ all.old ++ labels.now) }
     ensures memory { OnErr result (result ≡ Err WordsStop.NoMemory) }
 {

@@ -26,6 +26,7 @@ pub(crate) enum ImportOption {
     Over,
     Repeated,
     Head,
+    Columns,
 }
 
 impl ImportOption {
@@ -53,6 +54,7 @@ impl ImportOption {
             "--over" => Some(ImportOption::Over),
             "--repeated" => Some(ImportOption::Repeated),
             "--head" => Some(ImportOption::Head),
+            "--columns" => Some(ImportOption::Columns),
             _ => None,
         }
     }
@@ -70,7 +72,7 @@ impl ImportOption {
         self.place() == other.place()
     }
 
-    /// Whether the value is the head of a column that is no mark.
+    /// Whether the value is the head of one column.
     pub(crate) fn is_column(self) -> bool
         ensures { result ≡ is_column self }
     {
@@ -96,6 +98,7 @@ impl ImportOption {
             | ImportOption::Blank
             | ImportOption::Head => !matches!(layout, Layout::Preflib),
             ImportOption::Names | ImportOption::Ranks => matches!(layout, Layout::Ranks),
+            ImportOption::Columns => matches!(layout, Layout::Choices),
             ImportOption::Candidate | ImportOption::Over | ImportOption::Repeated => {
                 matches!(layout, Layout::Choices | Layout::List)
             }

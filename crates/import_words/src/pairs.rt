@@ -102,7 +102,7 @@ fn each<'a>(
     Ok(values)
 }
 
-/// The values of the options that say a column, in the order of the words.
+/// The values of the options that say one column, in the order of the words.
 fn columns<'a>(alloc: Global, pairs: &[Pair<'a>]) -> Result<Vec<&'a str>, WordsStop>
     ensures values { IfOk result (λ values. texts_in values.items ≡ columns_of (pairs_in pairs.now)) }
     ensures memory { OnErr result (result ≡ Err WordsStop.NoMemory) }
@@ -137,6 +137,7 @@ fn single_values<'a>(pairs: &[Pair<'a>]) -> Option<SingleValues<'a>>
     let ranks = at_most_one(pairs, ImportOption::Ranks)?;
     let repeated = at_most_one(pairs, ImportOption::Repeated)?;
     let head = at_most_one(pairs, ImportOption::Head)?;
+    let chosen = at_most_one(pairs, ImportOption::Columns)?;
     Some(SingleValues {
         layout,
         seats,
@@ -152,6 +153,7 @@ fn single_values<'a>(pairs: &[Pair<'a>]) -> Option<SingleValues<'a>>
         ranks,
         repeated,
         head,
+        chosen,
     })
 }
 
@@ -177,6 +179,7 @@ pub(crate) fn values<'a>(alloc: Global, pairs: &[Pair<'a>]) -> Result<Values<'a>
         weight: single.weight,
         ignored: each(alloc, pairs, ImportOption::Ignore)?,
         columns: columns(alloc, pairs)?,
+        chosen: single.chosen,
         blanks: each(alloc, pairs, ImportOption::Blank)?,
         names: single.names,
         ranks: single.ranks,

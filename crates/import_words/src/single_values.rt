@@ -17,4 +17,5 @@ pub(crate) struct SingleValues<'a> {
     pub(crate) ranks: Option<&'a str>,
     pub(crate) repeated: Option<&'a str>,
     pub(crate) head: Option<&'a str>,
+    pub(crate) chosen: Option<&'a str>,
 }

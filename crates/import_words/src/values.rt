@@ -16,6 +16,7 @@ pub(crate) struct Values<'a> {
     pub(crate) ignored: Vec<&'a str>,
     /// Of the two before, in the order of the words.
     pub(crate) columns: Vec<&'a str>,
+    pub(crate) chosen: Option<&'a str>,
     pub(crate) blanks: Vec<&'a str>,
     pub(crate) names: Option<&'a str>,
     pub(crate) ranks: Option<&'a str>,

@@ -20,6 +20,7 @@ returns-clause-single c = record {
   ranks = c.in_ok-ranks.ensures.one;
   repeated = c.in_ok-repeated.ensures.one;
   head = c.in_ok-head.ensures.one;
+  chosen = c.in_ok-chosen.ensures.one;
 }
 
 pub returns-in_err-layout-clause-none : goal.returns-in_err-layout-clause-none
@@ -91,3 +92,8 @@ pub returns-in_err-head-clause-none : goal.returns-in_err-head-clause-none
 returns-in_err-head-clause-none c =
     none_anyway c.from_residual-in_err-head.result
     (λ asked says. twice.head (given_of (pairs_in c.args.pairs.now)) asked says c.in_err-head.ensures.more)
+
+pub returns-in_err-chosen-clause-none : goal.returns-in_err-chosen-clause-none
+returns-in_err-chosen-clause-none c =
+    none_anyway c.from_residual-in_err-chosen.result
+    (λ asked says. twice.chosen (given_of (pairs_in c.args.pairs.now)) asked says c.in_err-chosen.ensures.more)

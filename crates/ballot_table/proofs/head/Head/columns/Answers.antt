@@ -5,7 +5,7 @@ use Rattle.ballot_table.specs.declared.column.Column.{Column}
 use Rattle.ballot_table.specs.Head.{column_of, unlabelled}
 use Rattle.ballot_table.specs.Texts.{is_in}
 use Rattle.ballot_table.specs.Asked.{asked_of}
-use Rattle.ballot_table.specs.Finding.{IsNext, IsSeen, IsSeenBy, IsShape}
+use Rattle.ballot_table.specs.Finding.{other_at, IsNext, IsSeen, IsSeenBy, IsShape}
 use Rattle.ballot_table.proofs.HeadLemmas.{AreColumns, columns_begun, none_seen, seen_column, unlabelled_more}
 use Rattle.ballot_table.proofs.HeadLemmas.{all_columns, all_counted, as_many_columns, as_many_names}
 use Rattle.ballot_table.proofs.HeadLemmas.{column_fault, column_more, no_column_fault}
@@ -58,9 +58,9 @@ loop-at-preserved c =
     column sound_is next in
     record {
       columns = subst (λ (cs : List Column). AreColumns a texts (l.at + 1) cs
-          (l.others + c.others_at-others.result)) (sym pushed)
+          (l.others + c.other_at-others.result)) (sym pushed)
           (subst (λ (n : ℕ). AreColumns a texts (l.at + 1) (l.columns.items ++ column ∷ []) (l.others + n))
-          (sym c.others_at-others.ensures) more);
+          (sym (c.other_at-others.ensures ∙ ap (other_at (asked_of a)) c.bytes-in-Ok.ensures)) more);
       seen = λ choices say.
           subst (λ (before : List (List ℕ)). IsSeen (length (unlabelled (asked_of a) texts)) before c.see.new.seen.items)
           (sym (unlabelled_more a texts l.at text c.loop-at-test.true c.index-texts-at.is))
