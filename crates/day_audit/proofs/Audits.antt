@@ -22,7 +22,7 @@ use Rattle.day_audit.specs.declared.audit_asked.AuditAsked.TheVariants.{Day, Tri
 use Rattle.day_audit.specs.Audit.{Accepts, Refuses, Owes, IsAudit, EndsInText, IsRefusedAudit, IsOwedLine, audits_days}
 use Rattle.day_replay.specs.Judged.{IsDayVerdict, IsTrialVerdict}
 use Rattle.day_audit.proofs.Splits.{file_once}
-use Rattle.number_option.specs.Taken.{HaveOneNumber}
+use Rattle.number_word.specs.Taken.{HaveOneNumber}
 use Rattle.day_audit.proofs.WordLemmas.{ask_one}
 
 -- ---- soundness

@@ -5,7 +5,7 @@ use Rattle.meek_trial.specs.declared.day.TheConstants.{MOST_TRIAL}
 use Rattle.meek_words.specs.Numerals.{Word}
 use Rattle.meek_words.specs.declared.words_stop.WordsStop.{WordsStop}
 use Rattle.meek_words.specs.declared.words_stop.WordsStop.TheVariants.{BadWords, NoMemory}
-use Rattle.number_option.specs.Taken.{TakesNumber, HaveOneNumber}
+use Rattle.number_word.specs.Taken.{TakesNumber, HaveOneNumber}
 use Rattle.tool_edge.specs.Words.{IsAsked}
 use Rattle.day_audit.specs.declared.audit_asked.AuditAsked.{AuditAsked}
 use Rattle.day_audit.specs.declared.audit_asked.AuditAsked.TheVariants.{Day, Trial}

@@ -2,7 +2,7 @@
 use Rattle.std.specs.Prelude.{◌≡◌, ◌≤◌, ⊤, List, [], codes}
 use Rattle.meek_trial.specs.declared.day.TheConstants.{MOST_TRIAL}
 use Rattle.meek_words.specs.Numerals.{Word}
-use Rattle.number_option.specs.Taken.{TakesNumber}
+use Rattle.number_word.specs.Taken.{TakesNumber}
 use Rattle.day_audit.specs.declared.audit_asked.AuditAsked.{AuditAsked}
 use Rattle.day_audit.specs.declared.audit_asked.AuditAsked.TheVariants.{Day, Trial}
 

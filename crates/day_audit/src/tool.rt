@@ -19,7 +19,7 @@ use crate::words::takes_audit;
 use byte_edge::{Sink, Source};
 use day_reader::{Day, accepts_days, refuses_by_the_rule};
 use day_replay::{judge, judge_trial};
-use number_option::words_have_one_number;
+use number_word::words_have_one_number;
 use sheet_input::SHEET_LIMIT;
 use std::alloc::Global;
 use std::thread::Threads;

@@ -6,7 +6,7 @@ ghost use Rattle.day_audit.specs.Words.{TakesAudit};
 use crate::AuditAsked;
 use meek_trial::MOST_TRIAL;
 use meek_words::WordsStop;
-use number_option::takes_number;
+use number_word::takes_number;
 use std::alloc::Global;
 
 /// What words ask for: no words, or just `--trial` and the number of a made day.

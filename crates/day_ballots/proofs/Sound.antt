@@ -12,7 +12,7 @@ use Rattle.day_audit.proofs.Audits.{one_day, not_refused, refused_once}
 use Rattle.day_ballots.specs.declared.ballots_fault.BallotsFault.{BallotsFault}
 use Rattle.day_ballots.specs.declared.ballots_fault.BallotsFault.TheVariants.{File, False, NoFreeze}
 use Rattle.day_ballots.specs.Ballots.{Says, IsNoneAt, HasFreezeAt, IsRefusedAt, exports_freezes}
-use Rattle.number_option.specs.Taken.{HaveOneNumber}
+use Rattle.number_word.specs.Taken.{HaveOneNumber}
 use Rattle.day_ballots.specs.declared.words.TheConstants.{LAST_LINE}
 use Rattle.day_ballots.proofs.Refusing.{not_none, none_once}
 

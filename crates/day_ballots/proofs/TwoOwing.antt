@@ -6,7 +6,7 @@ use Rattle.input_text.specs.declared.input_stop.InputStop.TheVariants.{Fault, No
 use Rattle.input_text.specs.Reads.{OnFault}
 use Rattle.day_reader.specs.declared.day.Day.{Day}
 use Rattle.day_reader.specs.Said.{AcceptsDays, RefusesByTheRule}
-use Rattle.number_option.specs.Taken.{HaveOneNumber}
+use Rattle.number_word.specs.Taken.{HaveOneNumber}
 use Rattle.tool_edge.specs.declared.end.End.{End}
 use Rattle.tool_edge.specs.declared.end.End.TheVariants.{Done, SourceFault, BadWords, BadInput, SinkFault, NoMemory}
 use Rattle.tool_edge.specs.declared.opening.TheConstants.{DAY_LIMIT}

@@ -13,7 +13,7 @@ use blt_reader::BltStop;
 use byte_edge::{Sink, Source};
 use day_audit::{ended, read_day_file, text_and_file};
 use day_reader::{accepts_days, refuses_by_the_rule};
-use number_option::words_have_one_number;
+use number_word::words_have_one_number;
 use sheet_input::SHEET_LIMIT;
 use std::alloc::Global;
 use std::thread::Threads;

@@ -14,7 +14,7 @@ use crate::{BallotsFault, takes_line};
 use byte_edge::{Sink, Source};
 use day_audit::read_whole_day;
 use day_reader::{accepts_days, refuses_by_the_rule};
-use number_option::words_have_one_number;
+use number_word::words_have_one_number;
 use sheet_check::{TwoInputs, TwoLimits, open_two};
 use sheet_input::SHEET_LIMIT;
 use std::alloc::Global;

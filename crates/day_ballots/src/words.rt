@@ -5,7 +5,7 @@ ghost use Rattle.tool_edge.specs.Words.{IsAsked};
 ghost use Rattle.day_ballots.specs.Words.{TakesLine};
 
 use meek_words::WordsStop;
-use number_option::takes_number;
+use number_word::takes_number;
 use std::alloc::Global;
 
 /// The greatest number of a line that can be asked for: nine digits.

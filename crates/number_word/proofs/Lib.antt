@@ -1,1 +1,2 @@
 mod ListsOfOne
+mod OptionLemmas

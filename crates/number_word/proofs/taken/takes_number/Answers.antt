@@ -1,8 +1,8 @@
 use Rattle.std.proofs.Common.{◌≡◌, [], ◌∷◌, map, length, sym, ◌∙◌, ap, arith}
 use Rattle.std.specs.String.{string_bytes}
 use Rattle.meek_words.specs.Numerals.{Word}
-use Rattle.number_option.proofs.OptionLemmas.{two_items, alike, unlike, other_option, asked_of_number}
-use Rattle.number_option.proofs.taken.takes_number.Goals as goal
+use Rattle.number_word.proofs.OptionLemmas.{two_items, alike, unlike, other_option, asked_of_number}
+use Rattle.number_word.proofs.taken.takes_number.Goals as goal
 
 -- The words are the option and a number.
 pub returns : goal.returns

@@ -8,7 +8,7 @@ use Rattle.meek_words.specs.declared.words_stop.WordsStop.{WordsStop}
 use Rattle.meek_words.specs.declared.words_stop.WordsStop.TheVariants.{BadWords, NoMemory}
 use Rattle.number_word.specs.Number.{Says}
 use Rattle.tool_edge.specs.Words.{IsAsked}
-use Rattle.number_option.specs.Taken.{TakesNumber, HaveOneNumber}
+use Rattle.number_word.specs.Taken.{TakesNumber, HaveOneNumber}
 
 -- a list of two elements
 pub two_items :

@@ -1,10 +1,10 @@
 // An option and its number.
 ghost use Rattle.std.specs.Prelude.{map, string_bytes};
 ghost use Rattle.tool_edge.specs.Words.{IsAsked};
-ghost use Rattle.number_option.specs.Taken.{TakesNumber};
+ghost use Rattle.number_word.specs.Taken.{TakesNumber};
 
+use crate::read_number;
 use meek_words::WordsStop;
-use number_word::read_number;
 use std::alloc::Global;
 
 /// The number, from 1 to the greatest, of words that are just an option and a numeral.
